@@ -1,0 +1,11 @@
+pub mod Terms
+pub mod Solutions
+pub mod Arithmetic
+pub mod Programs
+pub mod Closure
+pub mod Trees
+pub mod Candidates
+pub mod Lines
+pub mod Listing
+pub mod Output
+pub mod Views
