@@ -1,0 +1,6 @@
+//! Texts, read into programs.
+#![tactic(auto)]
+
+pub mod loaded;
+
+pub use loaded::{Clause, Loaded};
