@@ -2,6 +2,16 @@
 //! system's crates hand to each other.
 #![tactic(auto)]
 
+pub mod goal;
+pub mod level;
+pub mod list;
+pub mod numbers;
+pub mod relation;
 pub mod text;
 
+pub use goal::{CallList, ClauseList, Cut, Goal, GoalList, Reduction, ReductionList};
+pub use level::{Level, Side};
+pub use list::ListOf;
+pub use numbers::{ClauseNo, NameNo, NodeNo};
+pub use relation::Relation;
 pub use text::Text;

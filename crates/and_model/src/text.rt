@@ -31,7 +31,9 @@ impl Text {
     pub fn new(alloc: Global) -> Text
         ensures { result ≡ [] }
     {
-        Text { items: Vec::new(alloc) }
+        Text {
+            items: Vec::new(alloc),
+        }
     }
 
     /// Its bytes. Takes no memory.
