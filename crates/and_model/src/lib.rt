@@ -2,6 +2,7 @@
 //! system's crates hand to each other.
 #![tactic(auto)]
 
+pub mod code;
 pub mod goal;
 pub mod level;
 pub mod list;
@@ -9,6 +10,7 @@ pub mod numbers;
 pub mod relation;
 pub mod text;
 
+pub use code::{Code, codes_are_in_total_order};
 pub use goal::{CallList, ClauseList, Cut, Goal, GoalList, Reduction, ReductionList};
 pub use level::{Level, Side};
 pub use list::ListOf;
