@@ -7,6 +7,7 @@ pub mod goal;
 pub mod level;
 pub mod list;
 pub mod numbers;
+pub mod reference;
 pub mod relation;
 pub mod text;
 
@@ -15,5 +16,6 @@ pub use goal::{CallList, ClauseList, Cut, Goal, GoalList, Reduction, ReductionLi
 pub use level::{Level, Side};
 pub use list::ListOf;
 pub use numbers::{ClauseNo, NameNo, NodeNo};
+pub use reference::{Ref, word_read_back, words_tell_references_apart};
 pub use relation::Relation;
 pub use text::Text;
