@@ -9,3 +9,5 @@ pub mod Lines
 pub mod Listing
 pub mod Output
 pub mod Views
+pub mod Codes
+pub mod Words

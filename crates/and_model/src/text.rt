@@ -1,12 +1,12 @@
 //! Bytes in a list.
 
-ghost use Rattle.std.specs.Prelude.{◌≡◌, ◌<◌, ℕ, List, IfOk, OnErr, length, slice_index, [], ◌∷◌, ◌++◌, ◌^◌};
+ghost use Rattle.std.specs.Prelude.{◌≡◌, ◌<◌, ℕ, List, IfOk, OnErr, length, slice_index, slice_get, Some, [], ◌∷◌, ◌++◌, ◌^◌};
 
 use std::alloc::{AllocError, Global};
 use std::marker::Model;
 
 /// A text: a list of bytes.
-#[derive(Drop)]
+#[derive(Drop, Debug)]
 pub struct Text {
     items: Vec<u8>,
 }
@@ -50,11 +50,35 @@ impl Text {
         self.items.len()
     }
 
+    /// The byte at a place, counted from 0. Takes no memory.
+    pub fn at(&self, place: usize) -> &u8
+        requires { place < length self.now }
+        ensures { slice_get self.now place ≡ Some result.now }
+    {
+        &self.items[place]
+    }
+
     /// Puts these bytes at the end. After want of memory the text is spent.
     pub fn append(&mut self, bytes: &[u8]) -> Result<(), AllocError>
         ensures { IfOk result (λ _. self.new ≡ self.old ++ bytes.now) }
     {
         self.items.extend_from_slice(bytes)?;
+        Ok(())
+    }
+}
+
+#[cfg(test)]
+mod tests {
+    use crate::Text;
+    use std::test::Fail;
+
+    #[test]
+    fn a_text_holds_its_bytes(rt: HostRuntime) -> Result<(), Fail> {
+        let mut text = Text::of(rt.alloc(), b"ab")?;
+        text.append(b"c")?;
+        assert_eq!(rt; text.bytes(), b"abc".as_slice());
+        assert_eq!(rt; text.len(), 3);
+        assert_eq!(rt; *text.at(2), b'c');
         Ok(())
     }
 }

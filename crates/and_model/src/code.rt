@@ -1,0 +1,127 @@
+//! Codes of proof trees, and their order.
+
+ghost use Rattle.std.specs.Prelude.{◌≡◌, ◌<◌, ◌↔◌, ◌⊎◌, ℕ, List, [], ◌∷◌, ◌++◌, length, slice_get, Some, OnOk, OnErr, IfOk};
+ghost use Rattle.std.specs.Ordering.{nat_cmp};
+ghost use Rattle.std.specs.Cmp.Lexicographic.{slice_cmp};
+ghost use Rattle.and_model.specs.Codes.{Precedes};
+
+use crate::numbers::ClauseNo;
+use std::alloc::{AllocError, Global};
+use std::cmp::Ordering;
+use std::marker::Model;
+
+/// The code of a proof tree: the numbers of its clauses in preorder, without the query. It keeps the
+/// allocator that it was made with.
+#[derive(Drop, Debug)]
+pub struct Code {
+    clauses: Vec<ClauseNo>,
+}
+
+impl Model for Code {
+    ghost use Rattle.std.specs.Prelude.{List, ℕ};
+    ghost use Rattle.and_model.specs.Codes.{numbers_of};
+
+    ghost Value = { List ℕ };
+
+    ghost view = { λ code. numbers_of code.clauses.items };
+}
+
+impl Code {
+    /// The code without clauses. Takes no memory.
+    pub fn new(alloc: Global) -> Code
+        ensures { result ≡ [] }
+    {
+        Code {
+            clauses: Vec::new(alloc),
+        }
+    }
+
+    /// How many clauses it has. Takes no memory.
+    pub fn len(&self) -> usize
+        ensures { result ≡ length self.now }
+    {
+        self.clauses.len()
+    }
+
+    /// The clause at a place, counted from 0. Takes no memory.
+    pub fn at(&self, place: usize) -> &ClauseNo
+        requires { place < length self.now }
+        ensures { slice_get self.now place ≡ Some result.now.0 }
+    {
+        &self.clauses[place]
+    }
+
+    /// Puts the clause at the end. An error is want of memory.
+    pub fn push(&mut self, clause: ClauseNo) -> Result<(), AllocError>
+        ensures ok { OnOk result (self.new ≡ self.old ++ clause.0 ∷ []) }
+        ensures unchanged { OnErr result (self.new ≡ self.old) }
+    {
+        self.clauses.push(clause)?;
+        Ok(())
+    }
+
+    /// Another code of the same clauses, on the same allocator. An error is want of memory.
+    pub fn copy(&self) -> Result<Code, AllocError>
+        ensures { IfOk result (λ code. code ≡ self.now) }
+    {
+        let clauses = Vec::from_slice(*self.clauses.allocator(), &self.clauses)?;
+        Ok(Code { clauses })
+    }
+
+    /// How it stands to another code in the lexicographic order, in which a proper prefix is the
+    /// smaller. Takes no memory.
+    pub fn order(&self, other: &Code) -> Ordering
+        ensures less { (result ≡ Ordering.Less) ↔ Precedes self.now other.now }
+        ensures equal { (result ≡ Ordering.Equal) ↔ (self.now ≡ other.now) }
+        ensures greater { (result ≡ Ordering.Greater) ↔ Precedes other.now self.now }
+
+        // The same, in the word that std's sorts and maps have for it.
+        ensures value { result ≡ slice_cmp nat_cmp self.now other.now }
+    {
+        self.clauses.cmp(&other.clauses)
+    }
+}
+
+/// The order of codes is a strict total order: of two codes, exactly one comes before the other or
+/// they are equal, and what comes before a code comes before all that follow it.
+pub fn codes_are_in_total_order()
+    ensures irreflexive { (one : List ℕ) → Precedes one one → ⊥ }
+    ensures asymmetric { (one other : List ℕ) → Precedes one other → Precedes other one → ⊥ }
+    ensures total { (one other : List ℕ) → Precedes one other ⊎ (one ≡ other) ⊎ Precedes other one }
+    ensures transitive { (one two three : List ℕ) → Precedes one two → Precedes two three → Precedes one three }
+{}
+
+#[cfg(test)]
+mod tests {
+    use crate::{ClauseNo, Code};
+    use std::alloc::{AllocError, Global};
+    use std::cmp::Ordering;
+    use std::test::Fail;
+
+    fn code_of(alloc: Global, numbers: &[u16]) -> Result<Code, AllocError> {
+        let mut code = Code::new(alloc);
+        for number in numbers {
+            code.push(ClauseNo(*number))?;
+        }
+        Ok(code)
+    }
+
+    #[test]
+    fn codes_stand_in_lexicographic_order(rt: HostRuntime) -> Result<(), Fail> {
+        let alloc = rt.alloc();
+        let empty = code_of(alloc, &[])?;
+        let one = code_of(alloc, &[1])?;
+        let one_three = code_of(alloc, &[1, 3])?;
+        let two = code_of(alloc, &[2])?;
+        assert_eq!(rt; empty.order(&one), Ordering::Less);
+        assert_eq!(rt; one.order(&one_three), Ordering::Less);
+        assert_eq!(rt; one_three.order(&two), Ordering::Less);
+        assert_eq!(rt; two.order(&one_three), Ordering::Greater);
+
+        let copied = one_three.copy()?;
+        assert_eq!(rt; copied.order(&one_three), Ordering::Equal);
+        assert_eq!(rt; copied.len(), 2);
+        assert_eq!(rt; *copied.at(1), ClauseNo(3));
+        Ok(())
+    }
+}
