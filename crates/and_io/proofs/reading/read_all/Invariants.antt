@@ -1,0 +1,14 @@
+use Rattle.std.proofs.Common.{◌+◌, ◌-◌, ◌≤◌, length}
+use Rattle.and_io.specs.Flow.{Takes}
+use Rattle.and_io.proofs.reading.read_all.Given as goal
+
+abbrev pub invariant-reading : goal.invariant-reading
+invariant-reading g l =
+    record {
+      within : length l.text ≤ l.limit + 1;
+      taken : Takes (g.S.Source.left l.initial.source) (g.S.Source.left l.source) l.text;
+      count : g.S.Source.faults l.initial.source ≤ g.S.Source.faults l.source;
+    }
+
+abbrev pub decreases-reading : goal.decreases-reading
+decreases-reading g l = l.limit + 1 - length l.text

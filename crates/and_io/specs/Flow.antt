@@ -1,0 +1,30 @@
+-- What a call on a source or a sink may do to the bytes that are told, and to the count of faults.
+-- All of it is this project's own. Bytes that are not told are `None`.
+use Rattle.std.specs.Prelude.{◌≡◌, ℕ, ◌<◌, ◌≤◌, ◌⊎◌, List, ◌++◌, length, Option, Some, None}
+
+-- The count of faults rose, or stands at its last value, where it has one
+abbrev pub Rose : Option ℕ → ℕ → ℕ → Type 0
+Rose None old new = old < new
+Rose (Some last) old new = (old < new) ⊎ (new ≡ last)
+
+-- These bytes were the front of what was left, and the rest is left. A source that does not tell its
+-- bytes never tells them later
+abbrev pub Takes : Option (List ℕ) → Option (List ℕ) → List ℕ → Type 0
+Takes None new bytes = new ≡ None
+Takes (Some old) new bytes = (rest : List ℕ) × (new ≡ Some rest) × (old ≡ bytes ++ rest)
+
+-- These are all the bytes that are left, where that is told
+abbrev pub AreAll : Option (List ℕ) → List ℕ → Type 0
+AreAll None bytes = Unit {0}
+AreAll (Some left) bytes = left ≡ bytes
+
+-- Some front of what was left was taken, of at most so many bytes
+abbrev pub TakesAtMost : ℕ → Option (List ℕ) → Option (List ℕ) → Type 0
+TakesAtMost most old new = (bytes : List ℕ) × Takes old new bytes × (length bytes ≤ most)
+
+-- These bytes stand behind what was held, where that is told before and after. A sink that does not
+-- tell its bytes never tells them later
+abbrev pub Gains : Option (List ℕ) → Option (List ℕ) → List ℕ → Type 0
+Gains None new bytes = new ≡ None
+Gains (Some old) None bytes = Unit {0}
+Gains (Some old) (Some new) bytes = new ≡ old ++ bytes

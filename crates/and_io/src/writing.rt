@@ -1,0 +1,33 @@
+//! Writing all bytes, and counting those that went.
+ghost use Rattle.std.specs.Prelude.{◌≡◌, ℕ, ◌<◌, ◌≤◌, length, take, OnOk, OnErr, IfErr};
+ghost use Rattle.and_io.specs.Flow.{Rose, Gains};
+
+use crate::outside::{Failed, Sink};
+
+/// The sink failed after so many bytes.
+#[derive(Clone, Copy, Debug, PartialEq, Eq)]
+pub struct Stopped {
+    pub written: usize,
+}
+
+/// Writes all bytes. Where the sink fails, it has gained the first `written` of them. Takes no
+/// memory.
+pub fn write_all_counted<K: Sink>(sink: &mut K, bytes: &[u8]) -> Result<(), Stopped>
+    // The bytes.
+    ensures all { OnOk result (Gains (K.held sink.old) (K.held sink.new) bytes.now) }
+    ensures before_the_end { IfErr result (λ s. s.written < length bytes.now) }
+    ensures first { IfErr result (λ s. Gains (K.held sink.old) (K.held sink.new) (take s.written bytes.now)) }
+
+    // The faults.
+    ensures count { K.faults sink.old ≤ K.faults sink.new }
+    ensures cause { OnErr result (Rose K.last (K.faults sink.old) (K.faults sink.new)) }
+{
+    let mut written = 0;
+    'writing: while written < bytes.len() {
+        match sink.write(&bytes[written..]) {
+            Ok(n) => written += n,
+            Err(Failed) => return Err(Stopped { written }),
+        }
+    }
+    Ok(())
+}
