@@ -2,7 +2,17 @@
 use Rattle.std.proofs.Common.{◌≡◌, ℕ, ◌+◌, ◌≤◌, List, [], ◌++◌, Option, Some, None, length, take, drop, ◌-◌, arith, ap, sym, ◌∙◌, append_assoc, append-nil, refl}
 use Rattle.std.proofs.lemmas.Grind.{common_steps}
 use Rattle.std.proofs.Math.Seq.{take-add}
-use Rattle.and_io.specs.Flow.{Takes, AreAll, Gains}
+use Rattle.and_io.specs.Flow.{Stays, Takes, AreAll, Gains}
+
+-- a count that stays in each of two calls stays in both
+pub stays_on : (last : Option ℕ) (a b c : ℕ) → Stays last a b → Stays last b c → Stays last a c
+stays_on None a b c first then = tt
+stays_on (Some last) a b c first then = λ at. then (first at)
+
+-- it stays where nothing is done
+pub stays_there : (last : Option ℕ) (a : ℕ) → Stays last a a
+stays_there None a = tt
+stays_there (Some last) a = λ at. at
 
 -- what two calls gain stands in their order
 pub gains_more : (a b c : Option (List ℕ)) (xs ys zs : List ℕ) → xs ++ ys ≡ zs → Gains a b xs → Gains b c ys → Gains a c zs

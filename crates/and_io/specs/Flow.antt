@@ -7,6 +7,11 @@ abbrev pub Rose : Option ℕ → ℕ → ℕ → Type 0
 Rose None old new = old < new
 Rose (Some last) old new = (old < new) ⊎ (new ≡ last)
 
+-- At its last value, where it has one, the count stays
+abbrev pub Stays : Option ℕ → ℕ → ℕ → Type 0
+Stays None old new = Unit {0}
+Stays (Some last) old new = old ≡ last → new ≡ last
+
 -- These bytes were the front of what was left, and the rest is left. A source that does not tell its
 -- bytes never tells them later
 abbrev pub Takes : Option (List ℕ) → Option (List ℕ) → List ℕ → Type 0

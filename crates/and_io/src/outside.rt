@@ -1,7 +1,7 @@
 //! What the system asks of the world outside: where its bytes come from, where they go, and who may
 //! look on.
 ghost use Rattle.std.specs.Prelude.{◌≡◌, ℕ, ◌<◌, ◌≤◌, List, [], Option, length, take, IfOk, OnErr};
-ghost use Rattle.and_io.specs.Flow.{Rose, Takes, AreAll, Gains};
+ghost use Rattle.and_io.specs.Flow.{Rose, Stays, Takes, AreAll, Gains};
 
 /// A read or a write failed, and this was counted.
 #[derive(Clone, Copy, Debug, PartialEq, Eq)]
@@ -29,6 +29,7 @@ pub trait Source {
 
         // The faults.
         ensures count { faults self.old ≤ faults self.new }
+        ensures stays { Stays last (faults self.old) (faults self.new) }
         ensures cause { OnErr result (Rose last (faults self.old) (faults self.new)) };
 }
 
@@ -54,6 +55,7 @@ pub trait Sink {
 
         // The faults.
         ensures count { faults self.old ≤ faults self.new }
+        ensures stays { Stays last (faults self.old) (faults self.new) }
         ensures cause { OnErr result (Rose last (faults self.old) (faults self.new)) };
 }
 

@@ -1,6 +1,6 @@
 //! Reading to the end, up to a limit.
-ghost use Rattle.std.specs.Prelude.{◌≡◌, ℕ, ◌+◌, ◌-◌, ◌<◌, ◌≤◌, ◌^◌, ◌↔◌, length, IfOk, IfSome, IsErrOf};
-ghost use Rattle.and_io.specs.Flow.{Rose, TakesAtMost};
+ghost use Rattle.std.specs.Prelude.{◌+◌, ◌-◌, ◌<◌, ◌≤◌, ◌^◌, ◌↔◌, length, IfOk, IfSome, IsErrOf};
+ghost use Rattle.and_io.specs.Flow.{Rose, Stays, TakesAtMost};
 ghost use Rattle.and_io.specs.ReadAll.{ReadsUpTo, IsOver};
 
 use crate::outside::{Failed, Source};
@@ -38,13 +38,18 @@ pub fn read_all<S: Source>(
 
     // The bytes.
     ensures read { IfOk result (ReadsUpTo limit (S.left source.old) (S.left source.new)) }
-    ensures over { IfOk result (λ read. IfSome (S.left source.old) (λ all. IsOver read ↔ (limit < length all))) }
-    ensures taken_at_failed { IsErrOf result ReadStop.Failed → TakesAtMost limit (S.left source.old) (S.left source.new) }
-    ensures taken_at_memory { IsErrOf result ReadStop.Memory → TakesAtMost (limit + 1) (S.left source.old) (S.left source.new) }
+    ensures over { IfOk result (λ read.
+        IfSome (S.left source.old) (λ all. IsOver read ↔ (limit < length all))) }
+    ensures taken_at_failed { IsErrOf result ReadStop.Failed →
+        TakesAtMost limit (S.left source.old) (S.left source.new) }
+    ensures taken_at_memory { IsErrOf result ReadStop.Memory →
+        TakesAtMost (limit + 1) (S.left source.old) (S.left source.new) }
 
     // The faults.
     ensures count { S.faults source.old ≤ S.faults source.new }
-    ensures cause { IsErrOf result ReadStop.Failed → Rose S.last (S.faults source.old) (S.faults source.new) }
+    ensures stays { Stays S.last (S.faults source.old) (S.faults source.new) }
+    ensures cause { IsErrOf result ReadStop.Failed →
+        Rose S.last (S.faults source.old) (S.faults source.new) }
 {
     let mut text = Text::new(alloc);
     let mut piece = [0u8; PIECE];

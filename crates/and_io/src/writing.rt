@@ -1,6 +1,6 @@
 //! Writing all bytes, and counting those that went.
-ghost use Rattle.std.specs.Prelude.{◌≡◌, ℕ, ◌<◌, ◌≤◌, length, take, OnOk, OnErr, IfErr};
-ghost use Rattle.and_io.specs.Flow.{Rose, Gains};
+ghost use Rattle.std.specs.Prelude.{◌<◌, ◌≤◌, length, take, OnOk, OnErr, IfErr};
+ghost use Rattle.and_io.specs.Flow.{Rose, Stays, Gains};
 
 use crate::outside::{Failed, Sink};
 
@@ -16,10 +16,12 @@ pub fn write_all_counted<K: Sink>(sink: &mut K, bytes: &[u8]) -> Result<(), Stop
     // The bytes.
     ensures all { OnOk result (Gains (K.held sink.old) (K.held sink.new) bytes.now) }
     ensures before_the_end { IfErr result (λ s. s.written < length bytes.now) }
-    ensures first { IfErr result (λ s. Gains (K.held sink.old) (K.held sink.new) (take s.written bytes.now)) }
+    ensures first { IfErr result (λ s.
+        Gains (K.held sink.old) (K.held sink.new) (take s.written bytes.now)) }
 
     // The faults.
     ensures count { K.faults sink.old ≤ K.faults sink.new }
+    ensures stays { Stays K.last (K.faults sink.old) (K.faults sink.new) }
     ensures cause { OnErr result (Rose K.last (K.faults sink.old) (K.faults sink.new)) }
 {
     let mut written = 0;

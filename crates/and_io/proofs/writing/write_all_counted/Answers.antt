@@ -1,6 +1,6 @@
 use Rattle.std.proofs.Common.{arith}
 use Rattle.std.proofs.lemmas.Grind.{common_steps}
-use Rattle.and_io.proofs.Flows.{gains_more, next_piece}
+use Rattle.and_io.proofs.Flows.{stays_on, gains_more, next_piece}
 use Rattle.and_io.proofs.writing.write_all_counted.Goals as goal
 
 pub writing-preserved : goal.writing-preserved
@@ -10,4 +10,5 @@ writing-preserved g c =
       gained = gains_more _ _ _ _ _ _ (next_piece c.writing.written c.in-Ok.n c.args.bytes.now c.in-Ok.ensures.within c.writing.invariant.within)
         c.writing.invariant.gained c.in-Ok.ensures.gains;
       count = omega arith;
+      stays = stays_on _ _ _ _ c.writing.invariant.stays c.in-Ok.ensures.stays;
     }

@@ -1,5 +1,5 @@
 use Rattle.std.proofs.Common.{◌-◌, ◌≤◌, length, take}
-use Rattle.and_io.specs.Flow.{Gains}
+use Rattle.and_io.specs.Flow.{Stays, Gains}
 use Rattle.and_io.proofs.writing.write_all_counted.Given as goal
 
 abbrev pub invariant-writing : goal.invariant-writing
@@ -8,6 +8,7 @@ invariant-writing g l =
       within : l.written ≤ length l.bytes;
       gained : Gains (g.K.Sink.held l.initial.sink) (g.K.Sink.held l.sink) (take l.written l.bytes);
       count : g.K.Sink.faults l.initial.sink ≤ g.K.Sink.faults l.sink;
+      stays : Stays g.K.Sink.last (g.K.Sink.faults l.initial.sink) (g.K.Sink.faults l.sink);
     }
 
 abbrev pub decreases-writing : goal.decreases-writing
