@@ -1,7 +1,6 @@
 -- What the source and the sink that never fail keep.
-use Rattle.std.proofs.Common.{◌≡◌, ℕ, ◌+◌, ◌-◌, ◌≤◌, List, ◌++◌, length, take, drop, min, nat_lt, Bool, ◌||◌, refl, ap, sym, ◌∙◌, arith, length-drop}
+use Rattle.std.proofs.Common.{◌≡◌, ℕ, ◌+◌, ◌-◌, ◌≤◌, List, ◌++◌, length, take, drop, min, nat_lt, Bool, ◌||◌, ap, sym, ◌∙◌, arith, length-drop}
 use Rattle.std.proofs.lemmas.List.{take-append-drop, drop-drop, take_at, take_all, take_min}
-use Rattle.std.proofs.lemmas.Grind.{common_steps}
 use Rattle.std.proofs.Math.Seq.{take-append-add}
 use Rattle.and_io.specs.Sure.{Shelf, shelved}
 

@@ -1,5 +1,5 @@
 -- What the source and the sink that never fail keep. All of it is this project's own.
-use Rattle.std.specs.Prelude.{◌≡◌, ℕ, ◌+◌, List, ◌++◌, length, take, drop, min, Bool, Option, Some, None, if◌then◌else◌, nat_lt, ◌||◌}
+use Rattle.std.specs.Prelude.{ℕ, ◌+◌, List, ◌++◌, length, take, min, Bool, Option, Some, None, if◌then◌else◌, nat_lt, ◌||◌}
 
 -- The bytes that a source has left, and how many it gives at a time
 pub record Supply : Type 0 where
@@ -25,5 +25,5 @@ abbrev pub shelved : Shelf → List ℕ → Shelf
 shelved s bytes = record {
   bytes = take s.room (s.bytes ++ bytes);
   room = s.room;
-  past = s.past || nat_lt s.room (length s.bytes + length bytes)
+  past = s.past || nat_lt s.room (length s.bytes + length bytes);
 }

@@ -83,3 +83,56 @@ impl Gate for Quiet {
 
     fn publish(&self, _team: u32) {}
 }
+
+#[cfg(test)]
+mod tests {
+    use super::*;
+    use std::sync::{Mutex, Wait};
+    use std::test::Fail;
+
+    /// A gate that counts its calls, and may wait for its lock.
+    #[derive(Drop)]
+    struct Turnstile<R: Wait> {
+        rt: R,
+        calls: Mutex<u32>,
+    }
+
+    impl<R: Wait> Turnstile<R> {
+        fn count(&self) {
+            let mut calls = self.calls.lock(&self.rt);
+            *calls = calls.saturating_add(1);
+        }
+    }
+
+    impl<R: Wait + Sync> Gate for Turnstile<R> {
+        fn reduce(&self, _worker: u32) {
+            self.count();
+        }
+
+        fn claim(&self, _team: u32) {
+            self.count();
+        }
+
+        fn publish(&self, _team: u32) {
+            self.count();
+        }
+    }
+
+    fn pass<G: Gate>(gate: &G) {
+        gate.claim(0);
+        gate.reduce(1);
+        gate.publish(0);
+    }
+
+    #[test]
+    fn a_gate_may_wait(rt: HostRuntime) -> Result<(), Fail> {
+        let gate = Turnstile {
+            rt,
+            calls: Mutex::new(0),
+        };
+        pass(&gate);
+        pass(&Quiet);
+        assert_eq!(rt; *gate.calls.lock(&rt), 3);
+        Ok(())
+    }
+}

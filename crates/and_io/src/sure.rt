@@ -122,3 +122,34 @@ impl Sink for SureSink {
         Ok(from.len())
     }
 }
+
+#[cfg(test)]
+mod tests {
+    use super::*;
+    use crate::writing::write_all_counted;
+    use std::test::Fail;
+
+    #[test]
+    fn gives_a_piece_at_a_time(rt: HostRuntime) -> Result<(), Fail> {
+        let mut source = SureSource::new(Text::of(rt.alloc(), b"hello")?, 3);
+        let mut into = [0u8; 4];
+        assert_eq!(rt; source.read(&mut into), Ok(3));
+        assert_eq!(rt; into.as_slice(), b"hel\0".as_slice());
+        assert_eq!(rt; source.read(&mut into), Ok(2));
+        assert_eq!(rt; into.as_slice(), b"lol\0".as_slice());
+        assert_eq!(rt; source.read(&mut into), Ok(0));
+        Ok(())
+    }
+
+    #[test]
+    fn takes_more_than_it_has_room_for(rt: HostRuntime) -> Result<(), Fail> {
+        let mut sink = SureSink::new(rt.alloc(), 4)?;
+        assert_eq!(rt; write_all_counted(&mut sink, b"abc"), Ok(()));
+        assert_eq!(rt; sink.held(), b"abc".as_slice());
+        assert_eq!(rt; write_all_counted(&mut sink, b"def"), Ok(()));
+        assert_eq!(rt; sink.held(), b"abcd".as_slice());
+        assert_eq!(rt; write_all_counted(&mut sink, b"g"), Ok(()));
+        assert_eq!(rt; sink.held(), b"abcd".as_slice());
+        Ok(())
+    }
+}

@@ -8,7 +8,7 @@ writing-preserved g c =
     record {
       within = let step = c.in-Ok.ensures.within in grind (arith, common_steps);
       gained = gains_more _ _ _ _ _ _ (next_piece c.writing.written c.in-Ok.n c.args.bytes.now c.in-Ok.ensures.within c.writing.invariant.within)
-        c.writing.invariant.gained c.in-Ok.ensures.gains;
+          c.writing.invariant.gained c.in-Ok.ensures.gains;
       count = omega arith;
       stays = stays_on _ _ _ _ c.writing.invariant.stays c.in-Ok.ensures.stays;
     }

@@ -8,7 +8,10 @@ returns-clause-front c =
     let n = c.min-n.ensures in
     let copied = c.copy_from_slice.ensures.len ∙ length-take c.min-n.result c.args.into.now in
     let whole = c.bytes.ensures in
-    let was = ap (λ s. let s : Supply = s in s.bytes) (sym c.self.view_is) in
-    (_, refl, was ∙ given_then_rest c.self.inside.at c.min-n.result c.self.inside.text c.copy_from_slice.new.self _
-      (omega (arith, copied))
-      (c.copy_from_slice.ensures.after ∙ ap (take c.min-n.result) (to_the_end c.self.inside.at c.bytes.result.now ∙ ap (drop c.self.inside.at) whole)))
+    let was = ap (λ s. let s : Supply = s in s.bytes) (sym c.self.view_is) in (
+      _,
+      refl,
+      was ∙ given_then_rest c.self.inside.at c.min-n.result c.self.inside.text c.copy_from_slice.new.self _
+          (omega (arith, copied))
+          (c.copy_from_slice.ensures.after ∙ ap (take c.min-n.result) (to_the_end c.self.inside.at c.bytes.result.now ∙ ap (drop c.self.inside.at) whole)),
+    )
