@@ -51,7 +51,8 @@ impl Source for SureSource {
 
     fn read(&mut self, into: &mut [u8]) -> Result<usize, Failed>
         ensures given { result ≡ Ok (given_into (length into.old) self.old) }
-        ensures front { IfOk result (λ n. Takes (Some self.old.bytes) (Some self.new.bytes) (take n into.new)) }
+        ensures front { IfOk result (λ n.
+            Takes (Some self.old.bytes) (Some self.new.bytes) (take n into.new)) }
         ensures end { IfOk result (λ n. n ≡ 0 → 0 < length into.old → self.old.bytes ≡ []) }
         ensures piece { self.new.piece ≡ self.old.piece }
     {

@@ -4,9 +4,10 @@ ghost use Rattle.and_io.specs.Flow.{Rose, Stays, Gains};
 
 use crate::outside::{Failed, Sink};
 
-/// The sink failed after so many bytes.
+/// The sink failed before it had taken all bytes.
 #[derive(Clone, Copy, Debug, PartialEq, Eq)]
 pub struct Stopped {
+    /// How many it had taken.
     pub written: usize,
 }
 
