@@ -1,2 +1,2 @@
-pub mod Flows
-pub mod Sures
+pub mod FlowLemmas
+pub mod SureLemmas

@@ -1,6 +1,6 @@
 use Rattle.std.proofs.Common.{◌+◌, ◌≤◌, length, take, ◌++◌, refl, arith}
 use Rattle.std.proofs.lemmas.Grind.{common_steps}
-use Rattle.and_io.proofs.Flows.{takes_more}
+use Rattle.and_io.proofs.FlowLemmas.{takes_more}
 use Rattle.and_io.proofs.reading.read_all.Goals as goal
 
 pub returns-then-is_err-clause-taken_at_memory : goal.returns-then-is_err-clause-taken_at_memory

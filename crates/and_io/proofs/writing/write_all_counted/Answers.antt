@@ -1,6 +1,6 @@
 use Rattle.std.proofs.Common.{arith}
 use Rattle.std.proofs.lemmas.Grind.{common_steps}
-use Rattle.and_io.proofs.Flows.{stays_on, gains_more, next_piece}
+use Rattle.and_io.proofs.FlowLemmas.{stays_on, gains_more, next_piece}
 use Rattle.and_io.proofs.writing.write_all_counted.Goals as goal
 
 pub writing-preserved : goal.writing-preserved

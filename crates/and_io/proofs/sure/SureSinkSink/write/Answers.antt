@@ -1,7 +1,7 @@
 use Rattle.std.proofs.Common.{◌≡◌, ◌-◌, ◌≤◌, ◌++◌, length, take, min, vec_len, ap, ◌∙◌, arith}
 use Rattle.std.proofs.lemmas.Grind.{common_steps}
 use Rattle.and_io.specs.Sure.{shelved}
-use Rattle.and_io.proofs.Sures.{shelf_grows}
+use Rattle.and_io.proofs.SureLemmas.{shelf_grows}
 use Rattle.and_io.proofs.sure.SureSinkSink.write.Goals as goal
 
 pub returns-clause-shelved : goal.returns-clause-shelved

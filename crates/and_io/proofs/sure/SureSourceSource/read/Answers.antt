@@ -1,6 +1,6 @@
 use Rattle.std.proofs.Common.{length-take, refl, sym, ap, ◌∙◌, take, drop, arith}
 use Rattle.and_io.specs.Sure.{Supply}
-use Rattle.and_io.proofs.Sures.{to_the_end, given_then_rest}
+use Rattle.and_io.proofs.SureLemmas.{to_the_end, given_then_rest}
 use Rattle.and_io.proofs.sure.SureSourceSource.read.Goals as goal
 
 pub returns-clause-front : goal.returns-clause-front
