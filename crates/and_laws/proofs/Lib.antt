@@ -1,0 +1,9 @@
+pub mod Substitutions
+pub mod Solving
+pub mod Closing
+pub mod Bodies
+pub mod Order
+pub mod Picking
+pub mod Keeping
+pub mod PrefixLemmas
+pub mod Splitting
