@@ -1,5 +1,9 @@
 pub mod Substitutions
 pub mod Solving
+pub mod Equality
+pub mod Occurrences
+pub mod Unifying
+pub mod Deciding
 pub mod Closing
 pub mod Bodies
 pub mod Order

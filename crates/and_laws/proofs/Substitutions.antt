@@ -2,11 +2,11 @@
 use Rattle.std.proofs.Common.{ℕ, ◌≡◌, refl, ap, sym, ◌∙◌, Bool, true, false, true≢false, ◌&&◌}
 use Rattle.and_model.specs.Terms.{Path, Term, Terms, variable, number, compound, none, more, is_ground, are_ground, Substitution, apply, apply_all}
 
-and_left : (a b : Bool) → a && b ≡ true → a ≡ true
+pub and_left : (a b : Bool) → a && b ≡ true → a ≡ true
 and_left true b e = refl
 and_left false b e = absurd (true≢false (sym e))
 
-and_right : (a b : Bool) → a && b ≡ true → b ≡ true
+pub and_right : (a b : Bool) → a && b ≡ true → b ≡ true
 and_right true b e = e
 and_right false b e = absurd (true≢false (sym e))
 
