@@ -11,3 +11,8 @@ pub mod Picking
 pub mod Keeping
 pub mod PrefixLemmas
 pub mod Splitting
+pub mod Agreeing
+pub mod Keys
+pub mod Rising
+pub mod Counting
+pub mod Reaching
