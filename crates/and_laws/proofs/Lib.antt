@@ -16,3 +16,4 @@ pub mod Keys
 pub mod Rising
 pub mod Counting
 pub mod Reaching
+pub mod Printing
