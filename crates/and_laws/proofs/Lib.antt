@@ -17,3 +17,4 @@ pub mod Rising
 pub mod Counting
 pub mod Reaching
 pub mod Printing
+pub mod Listings
