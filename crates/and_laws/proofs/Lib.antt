@@ -18,3 +18,5 @@ pub mod Counting
 pub mod Reaching
 pub mod Printing
 pub mod Listings
+pub mod Pairwise
+pub mod Codes
