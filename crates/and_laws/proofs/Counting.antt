@@ -1,17 +1,17 @@
 -- The numbers of forks and failures of a tree, and the list of its forks, are determined.
-use Rattle.std.proofs.Common.{ℕ, ◌≡◌, ◌+◌, ◌<◌, List, [], ◌∷◌, ◌++◌, refl, ap, sym, ◌∙◌, subst, inl, inr, ◌⊎◌}
+use Rattle.std.proofs.Common.{ℕ, ◌≡◌, ◌+◌, ◌<◌, List, [], ◌∷◌, ◌++◌, refl, ap, sym, ◌∙◌, subst, inl, inr, ◌⊎◌, arith}
 use Rattle.and_model.specs.Programs.{Program}
 use Rattle.and_model.specs.Trees.{Agenda, Tree, IsWhole, Open, decided}
 use Rattle.and_model.specs.Reached
 use Rattle.and_model.specs.Reached.{Shut, Dead, Split, Steps, SplitClauses, Numbers, NumbersOfSplits, Fork, Forks, ForksOfSplits}
-use Rattle.and_laws.proofs.Rising.{rises_same}
+use Rattle.and_laws.proofs.Ordered.{same_elements}
 use Rattle.and_laws.proofs.Order.{whole_has_none}
 use Rattle.and_laws.proofs.Splitting.{split_same}
 use Rattle.and_laws.proofs.Agreeing.{two_ends, one_shut}
 
 -- A tree is split by one list of clauses.
 pub split_clauses_same : {P : Program} {ag : Agenda} (t : Tree P ag) (cs ds : List ℕ) → SplitClauses t cs → SplitClauses t ds → cs ≡ ds
-split_clauses_same t cs ds a b = rises_same cs ds a.0 b.0 (λ c h. (b.1 c).1 ((a.1 c).0 h)) (λ c h. (a.1 c).1 ((b.1 c).0 h))
+split_clauses_same t cs ds a b = same_elements (λ c d. c < d) (λ c d h k. absurd (omega arith)) cs ds a.0 b.0 (λ c h. (b.1 c).1 ((a.1 c).0 h)) (λ c h. (a.1 c).1 ((b.1 c).0 h))
 
 -- A whole Shut tree and one with open goals are not both reached by Steps.
 whole_or_open : {P : Program} {ag : Agenda} (t r s : Tree P ag) → Steps t r → Shut r → IsWhole r → Steps t s → Shut s → Open s → ⊥

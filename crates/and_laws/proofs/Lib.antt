@@ -13,10 +13,11 @@ pub mod PrefixLemmas
 pub mod Splitting
 pub mod Agreeing
 pub mod Keys
-pub mod Rising
+pub mod Pairwise
+pub mod Ordered
 pub mod Counting
 pub mod Reaching
 pub mod Printing
 pub mod Listings
-pub mod Pairwise
 pub mod Codes
+pub mod Members

@@ -1,3 +1,5 @@
 pub mod Prefixes
 pub mod Fitting
 pub mod CodeOrder
+pub mod Entries
+pub mod Explorations
