@@ -21,3 +21,4 @@ pub mod Printing
 pub mod Listings
 pub mod Codes
 pub mod Members
+pub mod Exploring

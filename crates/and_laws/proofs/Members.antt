@@ -24,7 +24,7 @@ whole_same t u w b = same_size b (omega (arith, ap length (whole_below b w).0))
 same_or_above : (c d : ℕ) → c ≤ d → (c ≡ d) ⊎ (suc c ≤ d)
 same_or_above c d h = elim (cases_lt c d) [ inl l ↦ inr (omega arith) | inr l ↦ inl (omega arith) ]
 
-abbrev entry : {P : Program} → QueryTree P → Outcome → Entry
+abbrev pub entry : {P : Program} → QueryTree P → Outcome → Entry
 entry u o = record { code = code u; outcome = o }
 
 module _ (P : Program) (limit : ℕ) where
