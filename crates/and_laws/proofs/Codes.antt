@@ -33,7 +33,7 @@ pub whole_prefix : {P : Program} {ag : Agenda} (t u : Tree P ag) → IsWhole t �
 whole_prefix t u w v p = whole_codes t u p.0 [] w v (sym p.1 ∙ sym (append-nil (code u)))
 
 -- The clauses up to the leftmost open goal are the first clauses of the tree.
-decided_code : {P : Program} {ag : Agenda} (t : Tree P ag) → IsPrefix (decided t) (code t)
+pub decided_code : {P : Program} {ag : Agenda} (t : Tree P ag) → IsPrefix (decided t) (code t)
 decided_code done = ([], refl)
 decided_code (left t) = (code t, refl)
 decided_code (by c h t) = prefix_cons c (decided t) (code t) (decided_code t)

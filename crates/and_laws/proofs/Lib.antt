@@ -22,3 +22,4 @@ pub mod Listings
 pub mod Codes
 pub mod Members
 pub mod Exploring
+pub mod Unfolding
