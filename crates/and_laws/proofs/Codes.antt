@@ -23,7 +23,7 @@ whole_codes {P} (by {q = q} {rest = rest} c h t) (by d k u) xs ys w v e =
     let same : c ≡ d = cc in
     let tail : code t ++ xs ≡ code u ++ ys = cc in
     let after : code t ≡ code u =
-      (subst (λ n. (u : Tree P (agenda q 0 (clause_at P n).body rest)) → IsWhole u → code t ++ xs ≡ code u ++ ys → code t ≡ code u) same (λ u' v' e'. whole_codes t u' xs ys w v' e')) u v tail in
+    (subst (λ n. (u : Tree P (agenda q 0 (clause_at P n).body rest)) → IsWhole u → code t ++ xs ≡ code u ++ ys → code t ≡ code u) same (λ u' v' e'. whole_codes t u' xs ys w v' e')) u v tail in
     cc
 whole_codes (equate t) (equate u) xs ys w v e = whole_codes t u xs ys w v e
 whole_codes (reckon t) (reckon u) xs ys w v e = whole_codes t u xs ys w v e
@@ -85,7 +85,7 @@ module _ (P : Program) (limit : ℕ) where
         let i = lists_from_in_order t' o' (suc c') js m r in
         let j = lists_in_order (reduce t' o' c' k) ks l in
         let begins : All (Begins (decided t' ++ c' ∷ [])) ks =
-          λ n x h. prefix_then (decided t' ++ c' ∷ []) (decided (reduce t' o' c' k)) (get_or ks n x).code (reduce_decided t' o' c' k m) (j.0 n x h) in (
+        λ n x h. prefix_then (decided t' ++ c' ∷ []) (decided (reduce t' o' c' k)) (get_or ks n x).code (reduce_decided t' o' c' k m) (j.0 n x h) in (
           All-append (BeginsFrom t' c') ks js (λ n x h. (c', omega arith, begins n x h)) (later t' c' js i.0),
           all_pairs_join Before ks js j.1 i.1 (before_later t' c' ks js begins i.0),
         )

@@ -10,14 +10,14 @@ use Rattle.and_laws.specs.Prefixes.{IsPrefix}
 use Rattle.and_laws.specs.Entries.{IsWithin}
 use Rattle.and_laws.specs.Explorations.{Explores, ExploresSplits, stepped, heavy, dead, ended, forked, none, more}
 use Rattle.and_laws.proofs.PrefixLemmas.{same_after}
-use Rattle.and_laws.proofs.Order.{below_self, below_weight, below_then, blank_below, reduce_above}
+use Rattle.and_laws.proofs.Order.{below_self, below_weight, below_then, blank_below, reduce_above, whole_same}
 use Rattle.and_laws.proofs.Keeping.{step_keeps, dead_has_none}
 use Rattle.and_laws.proofs.Splitting.{split_divides, split_code, split_same}
 use Rattle.and_laws.proofs.Agreeing.{step_above}
 use Rattle.and_laws.proofs.Listings.{one_outcome, ends_outcome}
 use Rattle.and_laws.proofs.Ordered.{contains_first, contains_more, contains_none, contains_cases}
 use Rattle.and_laws.proofs.Pairwise.{all_none, all_pairs_none, all_pairs_join, all_pairs_first, all_pairs_rest}
-use Rattle.and_laws.proofs.Members.{entry, whole_same}
+use Rattle.and_laws.proofs.Members.{entry}
 
 -- A split goes up.
 split_above : {P : Program} (t : QueryTree P) (c : ℕ) (next : QueryTree P) → Split t c next → Below P (query_agenda P) t next
@@ -92,7 +92,7 @@ module _ (P : Program) (limit : ℕ) where
 
   -- No code is found twice.
   mutual
-    found_once : (t : QueryTree P) (es : List Entry) → Explores P limit t es → AllPairs Differ es
+    pub found_once : (t : QueryTree P) (es : List Entry) → Explores P limit t es → AllPairs Differ es
     found_once t es (stepped t' v ks st x) = found_once v ks x
     found_once t es (heavy t' w) = all_pairs_none Differ
     found_once t es (dead t' d) = all_pairs_none Differ

@@ -9,16 +9,12 @@ use Rattle.and_model.specs.Trees.{Tree, QueryTree, query_agenda, blank, IsWhole,
 use Rattle.and_model.specs.Listing.{Outcome, Ends, Entry, Lists, ListsFrom, Listing, answered, nothing, calls, no_more, other, heavy, light, of_query, too_heavy}
 use Rattle.and_laws.specs.CodeOrder.{Before}
 use Rattle.and_laws.specs.Entries.{IsWithin}
-use Rattle.and_laws.proofs.Order.{below_self, below_weight, below_then, blank_below, reduce_weight, reduce_above, same_proof, same_size, whole_below, whole_has_none}
+use Rattle.and_laws.proofs.Order.{below_self, below_weight, below_then, blank_below, reduce_weight, reduce_above, same_proof, whole_same}
 use Rattle.and_laws.proofs.Picking.{picked}
 use Rattle.and_laws.proofs.Deciding.{of_bounds}
 use Rattle.and_laws.proofs.Listings.{one_outcome, ends_outcome, some_listing}
 use Rattle.and_laws.proofs.Ordered.{contains_first, contains_none, contains_cases, same_elements}
 use Rattle.and_laws.proofs.Codes.{listing_in_order}
-
--- What a whole tree is below is that tree.
-pub whole_same : {P : Program} (t u : QueryTree P) → IsWhole t → Below P (query_agenda P) t u → t ≡ u
-whole_same t u w b = same_size b (omega (arith, ap length (whole_below b w).0))
 
 -- a number that is not above another is it, or is below
 same_or_above : (c d : ℕ) → c ≤ d → (c ≡ d) ⊎ (suc c ≤ d)
@@ -55,8 +51,8 @@ module _ (P : Program) (limit : ℕ) where
       listed_from t p c ls (light t' p' c' ks js k g l r) d h n b = elim (same_or_above c' d n) [
         | inl s ↦
             let here : (x : Of P (call_of t' p') c') → Below P (query_agenda P) (reduce t' p' c' x) u =
-              subst (λ y. (x : Of P (call_of t' p') y) → Below P (query_agenda P) (reduce t' p' y x) u) (sym s)
-              (λ x. subst (λ z. Below P (query_agenda P) (reduce t' p' d z) u) (same_proof h x) b) in
+            subst (λ y. (x : Of P (call_of t' p') y) → Below P (query_agenda P) (reduce t' p' y x) u) (sym s)
+            (λ x. subst (λ z. Below P (query_agenda P) (reduce t' p' d z) u) (same_proof h x) b) in
             Contains-append_left ks js (entry u o) (listed (reduce t' p' c' k) ks l (here k))
         | inr l2 ↦ Contains-append_right ks js (entry u o) (listed_from t' p' (suc c') js r d h l2 b)
       ]
@@ -104,5 +100,5 @@ pub entries_listing : (P : Program) (limit : ℕ) (ls : List Entry) → AllPairs
 entries_listing P limit ls order has =
     let r = some_listing P limit in
     let same : r.0 ≡ ls = same_elements Before before_strict r.0 ls (listing_in_order P limit r.0 r.1) order
-      (λ e i. (has e).1 ((listing_entries P limit r.0 r.1 e).0 i)) (λ e i. (listing_entries P limit r.0 r.1 e).1 ((has e).0 i)) in
+    (λ e i. (has e).1 ((listing_entries P limit r.0 r.1 e).0 i)) (λ e i. (listing_entries P limit r.0 r.1 e).1 ((has e).0 i)) in
     subst (λ l. Listing P limit l) same r.1

@@ -123,7 +123,11 @@ open_or_whole (by c h t) = open_or_whole t
 open_or_whole (equate t) = open_or_whole t
 open_or_whole (reckon t) = open_or_whole t
 
--- What a whole tree is below has the same clauses, equations, arithmetic and weight.
+-- A tree with no open goal is whole.
+pub none_whole : {P : Program} {ag : Agenda} (t : Tree P ag) → (Open t → ⊥) → IsWhole t
+none_whole t none = elim (open_or_whole t) [ inl o ↦ absurd (none o) | inr w ↦ w ]
+
+-- What a whole tree is below has the same clauses, equations, arithmetic and weight,
 pub whole_below : {P : Program} {ag : Agenda} {t u : Tree P ag} → Below P ag t u → IsWhole t → (code t ≡ code u) × (equations t ≡ equations u) × (arithmetics t ≡ arithmetics u) × (taken_weight t ≡ taken_weight u)
 whole_below both_done w = (refl, refl, refl, refl)
 whole_below (both_left b) w = elim w [ ]
@@ -131,6 +135,10 @@ whole_below {P} (both_by {q = q} {g = g} c h k b) w = let r = whole_below b w in
 whole_below (grown c h t b) w = elim w [ ]
 whole_below (both_equate {a = a} {b = b'} b) w = let r = whole_below b w in (r.0, ap (λ l. (a, b') ∷ l) r.1, r.2, r.3)
 whole_below (both_reckon {a = a} b) w = let r = whole_below b w in (r.0, r.1, ap (λ l. a ∷ l) r.2, r.3)
+
+-- so it is that tree.
+pub whole_same : {P : Program} {ag : Agenda} (t u : Tree P ag) → IsWhole t → Below P ag t u → t ≡ u
+whole_same t u w b = same_size b (omega (arith, ap length (whole_below b w).0))
 
 -- Whole trees of one code are below each other,
 pub code_below : {P : Program} {ag : Agenda} (t u : Tree P ag) → IsWhole t → IsWhole u → code t ≡ code u → Below P ag t u

@@ -91,8 +91,8 @@ module _ (s t : Substitution) where
   first_seen_pairs seen told (v ∷ vs) [] p q = elim q [ ]
   first_seen_pairs seen told (v ∷ vs) (w ∷ ws) p q =
       let next : Pairs (cond (has v seen) seen (seen ++ v ∷ [])) (cond (has w told) told (told ++ w ∷ [])) =
-        subst (λ b. Pairs (cond (has v seen) seen (seen ++ v ∷ [])) (cond b told (told ++ w ∷ []))) (has_same v w seen told q.0 p)
-        (elim (has v seen) as (λ b. Pairs (cond b seen (seen ++ v ∷ [])) (cond b told (told ++ w ∷ []))) [ true ↦ p | false ↦ pairs_join seen told (v ∷ []) (w ∷ []) p (q.0, tt) ]) in
+      subst (λ b. Pairs (cond (has v seen) seen (seen ++ v ∷ [])) (cond b told (told ++ w ∷ []))) (has_same v w seen told q.0 p)
+      (elim (has v seen) as (λ b. Pairs (cond b seen (seen ++ v ∷ [])) (cond b told (told ++ w ∷ []))) [ true ↦ p | false ↦ pairs_join seen told (v ∷ []) (w ∷ []) p (q.0, tt) ]) in
       first_seen_pairs (cond (has v seen) seen (seen ++ v ∷ [])) (cond (has w told) told (told ++ w ∷ [])) vs ws next q.1
 
   -- a variable that s gives back is given a variable
@@ -209,7 +209,7 @@ module _ (s t : Substitution) where
       goals_same [] = refl
       goals_same (g ∷ gs) =
           let one : shown names vs (apply s (goal_term g)) ≡ shown names ws (apply t (goal_term g)) =
-            shown_twin names vs ws known (apply s (goal_term g)) (apply t (goal_term g)) (apply_through s t forth (goal_term g)) (apply_through t s back (goal_term g)) in
+          shown_twin names vs ws known (apply s (goal_term g)) (apply t (goal_term g)) (apply_through s t forth (goal_term g)) (apply_through t s back (goal_term g)) in
           rw (one, goals_same gs) refl
 
       waiting_same : (gs : List Arithmetic) → with_waiting names vs (map (λ g. apply s (goal_term g)) gs) ≡ with_waiting names ws (map (λ g. apply t (goal_term g)) gs)

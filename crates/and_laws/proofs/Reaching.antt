@@ -7,7 +7,7 @@ use Rattle.and_model.specs.Reached.{CandidateOf, Step, Shut, Split, ReachedBy, R
 use Rattle.and_model.specs.Limits.{Cut, query_alone, at_goal, OverLimit}
 use Rattle.and_laws.specs.Fitting.{AllFit}
 use Rattle.and_laws.proofs.Deciding.{closes_total, others}
-use Rattle.and_laws.proofs.Order.{blank_below, below_weight, below_size, whole_below, open_or_whole, reduce_weight, reduce_size, blank_weighs}
+use Rattle.and_laws.proofs.Order.{blank_below, below_weight, below_size, whole_below, whole_same, open_or_whole, reduce_weight, reduce_size, blank_weighs}
 use Rattle.and_laws.proofs.Picking.{Picked, picked, picked_candidate, closed_grows}
 use Rattle.and_laws.proofs.Splitting.{leftmost}
 
@@ -108,13 +108,12 @@ climbs P limit u out fits (suc n) t near reached b = elim (open_or_whole t) [
 ]
 
 -- Every outcome within the limit is reached.
-pub every_outcome_reached : (P : Program) (limit : ℕ) (u : QueryTree P) → HasOutcome u → weight u ≤ limit
-    → (v : QueryTree P) × Reached P limit v × IsWhole v × Below P (query_agenda P) v u
+pub every_outcome_reached : (P : Program) (limit : ℕ) (u : QueryTree P) → HasOutcome u → weight u ≤ limit → Reached P limit u
 every_outcome_reached P limit u out fits =
-    let start : QueryTree P = blank (query_agenda P) in
-    let none_taken : taken_weight start ≡ 0 = blank_weighs P (query_agenda P) in
-    climbs P limit u out (λ t o c h r b es gs y k. let w = below_weight b in omega arith)
-    (length (code u)) start (omega arith) (reached_start P limit (omega arith)) (blank_below u)
+    let none_taken : taken_weight (blank {P = P} (query_agenda P)) ≡ 0 = blank_weighs P (query_agenda P) in
+    let r = climbs P limit u out (λ t o c h r b es gs y k. let w = below_weight b in omega arith)
+    (length (code u)) (blank (query_agenda P)) (omega arith) (reached_start P limit (omega arith)) (blank_below u) in
+    subst (λ v. Reached P limit v) (whole_same r.0 u r.2 r.3) r.1
 
 -- A reached tree weighs at most the limit.
 pub reached_within : (P : Program) (limit : ℕ) (key : List ℕ) (t : QueryTree P) → ReachedBy P limit key t → weight t ≤ limit

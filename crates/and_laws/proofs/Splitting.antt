@@ -47,18 +47,11 @@ split_divides {P} {ag} t u b out shut any =
     let r : Picked t u o = picked b out.2 o in
     (r.0, reduce t o r.0 r.1, (shut, es, gs, x, o, m, r.1, picked_candidate b out o r es gs x, refl), r.2 r.1, leftmost_code t u o r.0 r.1 m (r.2 r.1))
 
--- and which one is told by its code,
+-- and which one is told by its code.
 pub split_code : {P : Program} {ag : Agenda} (t u next : Tree P ag) (c : ℕ) → Split t c next → Below P ag next u → IsPrefix (decided t ++ c ∷ []) (code u)
 split_code {P} {ag} t u next c sp b =
     let o : Open t = sp.4 in
     leftmost_code t u o c sp.6 sp.5 (subst (λ v. Below P ag v u) sp.8 b)
-
--- so it is above one alone.
-pub split_unique : {P : Program} {ag : Agenda} (t u v n m : Tree P ag) (c d : ℕ) → Split t c n → Below P ag n u → Split t d m → Below P ag m v → code u ≡ code v → c ≡ d
-split_unique t u v n m c d p b q k e =
-    let x = split_code t u n c p b in
-    let y = split_code t v m d q k in
-    same_after (decided t) x.0 y.0 c d (sym x.1 ∙ e ∙ y.1)
 
 -- Reducing the leftmost goal by one clause gives one tree,
 pub reduce_same : {P : Program} {ag : Agenda} (t : Tree P ag) (o p : Open t) (c : ℕ) (h : Of P (call_of t o) c) (k : Of P (call_of t p) c) → IsLeftmost t o → IsLeftmost t p → Below P ag (reduce t o c h) (reduce t p c k)
@@ -74,3 +67,11 @@ reduce_same (reckon t) o p c h k m n = both_reckon (reduce_same t o p c h k m n)
 pub split_same : {P : Program} {ag : Agenda} (t u v : Tree P ag) (c : ℕ) → Split t c u → Split t c v → u ≡ v
 split_same t u v c a b =
     a.8 ∙ same_trees (reduce t a.4 c a.6) (reduce t b.4 c b.6) (reduce_same t a.4 b.4 c a.6 b.6 a.5 b.5) (reduce_same t b.4 a.4 c b.6 a.6 b.5 a.5) ∙ sym b.8
+
+-- So a tree is above one split alone.
+pub split_one : {P : Program} {ag : Agenda} (t u next other : Tree P ag) (c d : ℕ) → Split t c next → Below P ag next u → Split t d other → Below P ag other u → (c ≡ d) × (next ≡ other)
+split_one t u next other c d p b q k =
+    let x = split_code t u next c p b in
+    let y = split_code t u other d q k in
+    let clauses : c ≡ d = same_after (decided t) x.0 y.0 c d (sym x.1 ∙ y.1) in
+    (clauses, split_same t next other d (subst (λ z. Split t z next) clauses p) q)

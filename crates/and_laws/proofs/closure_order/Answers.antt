@@ -1,0 +1,8 @@
+use Rattle.and_laws.proofs.Closing
+use Rattle.and_laws.proofs.closure_order.Goals as goal
+
+pub returns-clause-some_order : goal.returns-clause-some_order
+returns-clause-some_order c = λ es ds gs ws x. Closing.closes_anyhow es gs ds ws x
+
+pub returns-clause-any_order : goal.returns-clause-any_order
+returns-clause-any_order c = λ es ds cs gs ws vs x y. Closing.closure_order es gs ds ws cs vs x y
