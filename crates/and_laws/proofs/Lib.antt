@@ -23,3 +23,6 @@ pub mod Codes
 pub mod Members
 pub mod Exploring
 pub mod Unfolding
+pub mod Rows
+pub mod RowsNumbers
+pub mod RowsLimit
