@@ -23,6 +23,8 @@ pub mod Codes
 pub mod Members
 pub mod Exploring
 pub mod Unfolding
+pub mod Agreement
+pub mod Placing
 pub mod Rows
 pub mod RowsNumbers
 pub mod RowsLimit

@@ -92,7 +92,7 @@ next_taken : {P : Program} {ag : Agenda} {t u : Tree P ag} → Below P ag t u �
     → (o : Open t) × IsLeftmost t o × (h : Of P (call_of t o) c) × Below P ag (reduce t o c h) u
 next_taken both_done c x = let e = x.1 in absurd (cc)
 next_taken (both_left b) c x = let e = x.1 in absurd (cc)
-next_taken (both_by d k k' b) c x = let r = next_taken b c (x.0, (let e = x.1 in cc)) in (r.0, r.1, r.2, both_by d k k' r.3)
+next_taken (both_by d k k' {t = t} b) c x = let r = next_taken b c (x.0, (let e = x.1 in cc)) in (r.0, r.1, r.2, both_by d k k' {t = reduce t r.0 c r.2} r.3)
 next_taken {P} (grown {q = q} {g = g} {rest = rest} d k t {u = u} b) c x =
     let e : d ≡ c = (let f = x.1 in cc) in
     subst (λ z. (o : Open (left {q = q} {g = g} t)) × IsLeftmost (left {q = q} {g = g} t) o × (h : Of P (call_of (left {q = q} {g = g} t) o) z) × Below P (goal q g rest) (reduce (left t) o z h) (by d k u)) e

@@ -3,3 +3,4 @@ pub mod Fitting
 pub mod CodeOrder
 pub mod Entries
 pub mod Explorations
+pub mod Paths
