@@ -1,12 +1,11 @@
 -- Codes in order: no whole code is a proper prefix of another, and a listing goes by the lexicographic order of codes.
-use Rattle.std.proofs.Common.{ℕ, ◌≡◌, ◌<◌, ◌≤◌, List, [], ◌∷◌, ◌++◌, refl, ap, sym, ◌∙◌, subst, inl, inr, ◌⊎◌, arith, suc, get_or, append-nil, All, AllPairs, nat_cmp, Ordering, Less, Equal}
-use Rattle.std.specs.Cmp.{nat_cmp_is}
-use Rattle.std.specs.Cmp.Lexicographic.{slice_cmp}
+use Rattle.std.proofs.Common.{ℕ, ◌≡◌, ◌<◌, ◌≤◌, List, [], ◌∷◌, ◌++◌, refl, ap, sym, ◌∙◌, subst, inl, inr, ◌⊎◌, arith, suc, length, length-append, get_or, append_assoc, append-nil, All, AllPairs}
 use Rattle.std.proofs.lemmas.List.Elements.{All-append, All-cons}
 use Rattle.std.proofs.lemmas.List.Kept.{AllPairs-cons}
 use Rattle.and_model.specs.Terms.{Path, Term}
 use Rattle.and_model.specs.Programs.{Program, clause_at, clause_weight, Of}
 use Rattle.and_model.specs.Trees.{Agenda, goal, agenda, Tree, QueryTree, query_agenda, blank, done, left, by, equate, reckon, code, decided, IsWhole, Open, IsLeftmost, call_of, reduce}
+use Rattle.and_model.specs.Codes.{IsProperPrefix}
 use Rattle.and_model.specs.Listing.{Outcome, Ends, Entry, Lists, ListsFrom, Listing, answered, nothing, calls, no_more, other, heavy, light, of_query, too_heavy}
 use Rattle.and_laws.specs.Prefixes.{IsPrefix}
 use Rattle.and_laws.specs.CodeOrder.{Before}
@@ -29,8 +28,10 @@ whole_codes (equate t) (equate u) xs ys w v e = whole_codes t u xs ys w v e
 whole_codes (reckon t) (reckon u) xs ys w v e = whole_codes t u xs ys w v e
 
 -- so no whole code is a proper prefix of another.
-pub whole_prefix : {P : Program} {ag : Agenda} (t u : Tree P ag) → IsWhole t → IsWhole u → IsPrefix (code t) (code u) → code t ≡ code u
-whole_prefix t u w v p = whole_codes t u p.0 [] w v (sym p.1 ∙ sym (append-nil (code u)))
+pub no_proper_prefix : {P : Program} {ag : Agenda} (t u : Tree P ag) → IsWhole t → IsWhole u → IsProperPrefix (code t) (code u) → ⊥
+no_proper_prefix t u w v (c, rest, goes_on) =
+    let same : code t ≡ code u = whole_codes t u (c ∷ rest) [] w v (sym goes_on ∙ sym (append-nil (code u))) in
+    absurd (omega (arith, ap length same, ap length goes_on, length-append (code t) (c ∷ rest)))
 
 -- The clauses up to the leftmost open goal are the first clauses of the tree.
 pub decided_code : {P : Program} {ag : Agenda} (t : Tree P ag) → IsPrefix (decided t) (code t)
@@ -39,11 +40,6 @@ decided_code (left t) = (code t, refl)
 decided_code (by c h t) = prefix_cons c (decided t) (code t) (decided_code t)
 decided_code (equate t) = decided_code t
 decided_code (reckon t) = decided_code t
-
--- Lists that go on with different elements are ordered by these.
-order_after : (xs ys zs : List ℕ) (c d : ℕ) → c < d → slice_cmp nat_cmp ((xs ++ c ∷ []) ++ ys) ((xs ++ d ∷ []) ++ zs) ≡ Less
-order_after [] ys zs c d h = rw (sym (nat_cmp_is c d Less h)) refl
-order_after (x ∷ xs) ys zs c d h = rw (sym (nat_cmp_is x x Equal refl)) (order_after xs ys zs c d h)
 
 -- the entry's code begins with this list
 abbrev Begins : List ℕ → Entry → Type 0
@@ -62,7 +58,7 @@ before_later t c ks ls a b k x h j y i =
     let p : IsPrefix (decided t ++ c ∷ []) (get_or ks k x).code = a k x h in
     let q : BeginsFrom t (suc c) (get_or ls j y) = b j y i in
     let less : c < q.0 = (let l = q.1 in omega arith) in
-    rw (p.1, q.2.1) (order_after (decided t) p.0 q.2.0 c q.0 less)
+    inr (decided t, c, q.0, p.0, q.2.0, less, p.1 ∙ append_assoc (decided t) (c ∷ []) p.0, q.2.1 ∙ append_assoc (decided t) (q.0 ∷ []) q.2.0)
 
 module _ (P : Program) (limit : ℕ) where
   mutual

@@ -1,12 +1,12 @@
 -- A listing has the entries of all outcomes within the limit, and no others; and a list in order that has these is the listing.
-use Rattle.std.proofs.Common.{ℕ, ◌≡◌, ◌+◌, ◌≤◌, ◌<◌, ◌↔◌, List, [], ◌∷◌, ◌++◌, refl, ap, sym, ◌∙◌, subst, inl, inr, ◌⊎◌, true≢false, arith, suc, length, AllPairs, Contains, nat_cmp}
-use Rattle.std.specs.Cmp.Lexicographic.{slice_cmp}
+use Rattle.std.proofs.Common.{ℕ, ◌≡◌, ◌+◌, ◌≤◌, ◌<◌, ◌↔◌, List, [], ◌∷◌, ◌++◌, refl, ap, sym, ◌∙◌, subst, inl, inr, ◌⊎◌, true≢false, arith, suc, length, AllPairs, Contains}
 use Rattle.std.proofs.lemmas.Bool.{cases_lt}
 use Rattle.std.proofs.lemmas.Cmp.{nat_list_cmp_total}
 use Rattle.std.proofs.lemmas.List.Elements.{Contains-append_left, Contains-append_right, Contains-append_cases}
 use Rattle.and_model.specs.Programs.{Program, clause_at, clause_weight, Of}
 use Rattle.and_model.specs.Trees.{Tree, QueryTree, query_agenda, blank, IsWhole, Open, call_of, reduce, Below, code, weight}
 use Rattle.and_model.specs.Listing.{Outcome, Ends, Entry, Lists, ListsFrom, Listing, answered, nothing, calls, no_more, other, heavy, light, of_query, too_heavy}
+use Rattle.and_model.proofs.CodeOrder.{precedes_less}
 use Rattle.and_laws.specs.CodeOrder.{Before}
 use Rattle.and_laws.specs.Entries.{IsWithin}
 use Rattle.and_laws.proofs.Order.{below_self, below_weight, below_then, blank_below, reduce_weight, reduce_above, same_proof, whole_same}
@@ -93,7 +93,12 @@ listing_entries P limit ls (too_heavy h) e = (
 
 -- one code is not before another that is before it
 before_strict : (x y : Entry) → Before x y → Before y x → ⊥
-before_strict x y p q = let e = nat_list_cmp_total.antisymm x.code y.code in let f = rw (p, q) at e in cc
+before_strict x y p q =
+    let one = precedes_less x.code y.code p in
+    let other = precedes_less y.code x.code q in
+    let both = nat_list_cmp_total.antisymm x.code y.code in
+    let clash = rw (one, other) at both in
+    cc
 
 -- and a list in order that has these entries, and no others, is the listing.
 pub entries_listing : (P : Program) (limit : ℕ) (ls : List Entry) → AllPairs Before ls → ((e : Entry) → Contains ls e ↔ IsWithin P limit e) → Listing P limit ls

@@ -1,10 +1,7 @@
--- The order of codes.
-use Rattle.std.specs.Prelude.{◌≡◌}
-use Rattle.std.specs.Ordering.{nat_cmp}
-use Rattle.std.specs.declared.cmp.Ordering.TheVariants.{Less}
-use Rattle.std.specs.Cmp.Lexicographic.{slice_cmp}
+-- The order of entries by their codes.
+use Rattle.and_model.specs.Codes.{Precedes}
 use Rattle.and_model.specs.Listing.{Entry}
 
--- The code of the first entry is before that of the second in the lexicographic order.
+-- The code of the first entry comes before that of the second in the lexicographic order.
 abbrev pub Before : Entry → Entry → Type 0
-Before x y = slice_cmp nat_cmp x.code y.code ≡ Less
+Before x y = Precedes x.code y.code

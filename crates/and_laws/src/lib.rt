@@ -14,9 +14,12 @@ ghost use Rattle.and_model.specs.Candidates.{Candidate};
 ghost use Rattle.and_model.specs.Trees.{Agenda, Tree, QueryTree, query_agenda, blank, IsWhole, Open, Below, Closed, HasOutcome, code, decided, weight, unfold_code};
 ghost use Rattle.and_model.specs.Reached.{Step, Shut, Dead, Split, Steps, Reached, ReachedBy, Numbers, Fork, Forks};
 ghost use Rattle.and_model.specs.Limits.{Cut, OverLimit};
+ghost use Rattle.and_model.specs.Reductions.{Reduction, Makes};
 ghost use Rattle.and_model.specs.Lines.{line};
+ghost use Rattle.and_model.specs.Codes.{IsProperPrefix};
 ghost use Rattle.and_model.specs.Listing.{Entry, Listing, Exhausted};
 ghost use Rattle.and_laws.specs.Prefixes.{IsPrefix};
+ghost use Rattle.and_laws.specs.Paths.{At};
 ghost use Rattle.and_laws.specs.Fitting.{AllFit};
 ghost use Rattle.and_laws.specs.CodeOrder.{Before};
 ghost use Rattle.and_laws.specs.Entries.{IsWithin};
@@ -153,6 +156,36 @@ pub fn unfolded_codes()
     ensures whole { (P : Program) (t : QueryTree P) → IsWhole t → unfold_code P (code t) ≡ Some t }
 {}
 
+/// Agreement by paths: a tree is below another of the query exactly where that has its clause at each
+/// of its paths, and two trees that have the same clauses at the same paths are one.
+pub fn agreement_by_paths()
+    ensures below {
+        (P : Program) (t u : QueryTree P)
+            → Below P (query_agenda P) t u ↔ ((q : Path) (c : ℕ) → At t q c → At u q c)
+    }
+    ensures same {
+        (P : Program) (t u : QueryTree P)
+            → ((q : Path) (c : ℕ) → At t q c ↔ At u q c) → t ≡ u
+    }
+{}
+
+/// Reductions make one tree: a list of reductions, in whatever order it is written, makes at most one
+/// tree. Each place has a number of its own, which is above its parent's and below the tree's weight.
+pub fn reductions_make_one_tree()
+    ensures one {
+        (P : Program) (rs qs : List Reduction) (t u : QueryTree P) → Makes P rs t → Makes P qs u
+            → ((r : Reduction) → Contains rs r ↔ Contains qs r) → t ≡ u
+    }
+    ensures numbers {
+        (P : Program) (rs : List Reduction) (t : QueryTree P) → Makes P rs t
+            → (r : Reduction) → Contains rs r → (r.parent < r.node) × (r.node < weight t)
+    }
+    ensures own {
+        (P : Program) (rs : List Reduction) (t : QueryTree P) → Makes P rs t
+            → (r other : Reduction) → Contains rs r → Contains rs other → r.node ≡ other.node → r ≡ other
+    }
+{}
+
 // ---- Listings
 
 /// There is at most one listing of a program within a limit.
@@ -168,8 +201,10 @@ pub fn some_listing()
 /// Codes in order: no whole code is a proper prefix of another of the same program, and the codes of
 /// a listing are strictly rising in the lexicographic order.
 pub fn codes_in_order()
-    ensures prefixes { (P : Program) (ag : Agenda) (t u : Tree P ag)
-        → IsWhole t → IsWhole u → IsPrefix (code t) (code u) → code t ≡ code u }
+    ensures prefixes {
+        (P : Program) (ag : Agenda) (t u : Tree P ag)
+            → IsWhole t → IsWhole u → IsProperPrefix (code t) (code u) → ⊥
+    }
     ensures rising { (P : Program) (limit : ℕ) (ls : List Entry) → Listing P limit ls → AllPairs Before ls }
 {}
 
