@@ -1,14 +1,15 @@
 -- Steps agree: however goals with one candidate are reduced, the end is the same.
-use Rattle.std.proofs.Common.{ℕ, ◌≡◌, ◌≢◌, List, refl, sym, ◌∙◌, subst, inl, inr, ◌⊎◌}
+use Rattle.std.proofs.Common.{ℕ, ◌≡◌, List, sym, ◌∙◌, subst, inl, inr}
 use Rattle.and_model.specs.Terms.{Path, Term}
 use Rattle.and_model.specs.Solutions.{Equation, Entails}
 use Rattle.and_model.specs.Programs.{Program, Of}
 use Rattle.and_model.specs.Candidates.{Candidate}
-use Rattle.and_model.specs.Trees.{Agenda, Tree, Open, path, call_of, reduce, Below, Closed}
-use Rattle.and_model.specs.Reached.{CandidateOf, Step, Shut, Dead, Steps, none, more}
+use Rattle.and_model.specs.Trees.{Agenda, Tree, path, call_of, reduce, Below}
+use Rattle.and_model.specs.Reached.{Step, Shut, Dead, Steps, none, more}
 use Rattle.and_laws.proofs.Order.{below_self, below_then, reduce_above, same_trees}
 use Rattle.and_laws.proofs.Picking.{picked_or, picked_sound, IsConsistent, closed_grows, candidate_falls}
 
+-- a Shut tree's closed equations have a solution
 shut_consistent : {P : Program} {ag : Agenda} (u : Tree P ag) → Shut u → IsConsistent u
 shut_consistent u s = (s.0, s.1, s.2, s.3)
 
@@ -50,10 +51,11 @@ dead_below_shut {P} {ag} t u b dead shut =
       ]
     ]
 
--- Steps go up.
+-- A Step goes up,
 pub step_above : {P : Program} {ag : Agenda} (t u : Tree P ag) → Step t u → Below P ag t u
 step_above {P} {ag} t u st = subst (λ v. Below P ag t v) (sym st.6) (reduce_above t st.3 st.4 st.5)
 
+-- and so do Steps.
 pub steps_above : {P : Program} {ag : Agenda} (t u : Tree P ag) → Steps t u → Below P ag t u
 steps_above t u (none t') = below_self t'
 steps_above t u (more t' w v ss st) = below_then (step_above w v st) (steps_above t' w ss)

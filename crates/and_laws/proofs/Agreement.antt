@@ -23,6 +23,7 @@ Apart (goal q g rest) = ((p : Path) → IsPrefix q p → Under rest p → ⊥) �
 Apart (equation a b rest) = Apart rest
 Apart (reckoning a rest) = Apart rest
 
+-- a path through a body's goals goes through the frame and one of the items, or through the rest
 under_body : (q : Path) (i : ℕ) (items : List Item) (rest : Agenda) (p : Path) → Under (agenda q i items rest) p → ((j : ℕ) × (i ≤ j) × IsPrefix (q ++ j ∷ []) p) ⊎ Under rest p
 under_body q i [] rest p u = inr u
 under_body q i (call g ∷ items) rest p (inl b) = inl (i, omega arith, b)
@@ -31,6 +32,7 @@ under_body q i (equal a b ∷ items) rest p u = elim (under_body q (suc i) items
 under_body q i (arithmetic a ∷ items) rest p u = elim (under_body q (suc i) items rest p u) [ inl f ↦ inl (f.0, (let k = f.1 in omega arith), f.2) | inr v ↦ inr v ]
 under_body q i (fail ∷ items) rest p u = elim (under_body q (suc i) items rest p u) [ inl f ↦ inl (f.0, (let k = f.1 in omega arith), f.2) | inr v ↦ inr v ]
 
+-- the goals of a body are apart from each other
 apart_body : (q : Path) (i : ℕ) (items : List Item) (rest : Agenda) → ((p : Path) → IsPrefix q p → Under rest p → ⊥) → Apart rest → Apart (agenda q i items rest)
 apart_body q i [] rest f a = a
 apart_body q i (call g ∷ items) rest f a = (
@@ -44,7 +46,7 @@ apart_body q i (equal b c ∷ items) rest f a = apart_body q (suc i) items rest 
 apart_body q i (arithmetic b ∷ items) rest f a = apart_body q (suc i) items rest f a
 apart_body q i (fail ∷ items) rest f a = apart_body q (suc i) items rest f a
 
--- a tree's clauses are under items goals
+-- a tree's clauses stand under its goals
 at_under : {P : Program} {ag : Agenda} (t : Tree P ag) (p : Path) (d : ℕ) → At t p d → Under ag p
 at_under done p d a = elim a [ ]
 at_under (left t) p d a = inr (at_under t p d a)
@@ -54,6 +56,7 @@ at_under {P} (by {q = q} {rest = rest} c h t) p d (inr a) =
 at_under (equate t) p d a = at_under t p d a
 at_under (reckon t) p d a = at_under t p d a
 
+-- a body before a tree adds no clause,
 pub at_fresh : {P : Program} (q : Path) (i : ℕ) (items : List Item) {rest : Agenda} (t : Tree P rest) (p : Path) (d : ℕ) → At (fresh q i items t) p d → At t p d
 at_fresh q i [] t p d a = a
 at_fresh q i (call g ∷ items) t p d a = at_fresh q (suc i) items t p d a
@@ -61,6 +64,7 @@ at_fresh q i (equal b c ∷ items) t p d a = at_fresh q (suc i) items t p d a
 at_fresh q i (arithmetic b ∷ items) t p d a = at_fresh q (suc i) items t p d a
 at_fresh q i (fail ∷ items) t p d a = at_fresh q (suc i) items t p d a
 
+-- and takes none away
 fresh_at : {P : Program} (q : Path) (i : ℕ) (items : List Item) {rest : Agenda} (t : Tree P rest) (p : Path) (d : ℕ) → At t p d → At (fresh q i items t) p d
 fresh_at q i [] t p d a = a
 fresh_at q i (call g ∷ items) t p d a = fresh_at q (suc i) items t p d a
@@ -68,6 +72,7 @@ fresh_at q i (equal b c ∷ items) t p d a = fresh_at q (suc i) items t p d a
 fresh_at q i (arithmetic b ∷ items) t p d a = fresh_at q (suc i) items t p d a
 fresh_at q i (fail ∷ items) t p d a = fresh_at q (suc i) items t p d a
 
+-- A larger tree has the smaller one's clauses at their paths,
 pub below_agrees : {P : Program} {ag : Agenda} {t u : Tree P ag} → Below P ag t u → (p : Path) (d : ℕ) → At t p d → At u p d
 below_agrees both_done p d a = a
 below_agrees (both_left b) p d a = below_agrees b p d a
@@ -77,10 +82,11 @@ below_agrees {P} (grown {q = q} c h t b) p d a = inr (below_agrees b p d (fresh_
 below_agrees (both_equate b) p d a = below_agrees b p d a
 below_agrees (both_reckon b) p d a = below_agrees b p d a
 
--- at a goal's own path stands only what takes it
+-- at a goal's own path stands nothing of the rest,
 own_path : {P : Program} (q : Path) (g : Term) (rest : Agenda) (t : Tree P rest) (d : ℕ) → Apart (goal q g rest) → At t q d → ⊥
 own_path q g rest t d a x = a.0 q ([], sym (append-nil q)) (at_under t q d x)
 
+-- and nothing of the body that took it
 own_body : {P : Program} (q : Path) (g : Term) (rest : Agenda) (items : List Item) (t : Tree P (agenda q 0 items rest)) (d : ℕ) → Apart (goal q g rest) → At t q d → ⊥
 own_body q g rest items t d a x = elim (under_body q 0 items rest q (at_under t q d x)) [
   | inl y ↦ longer q y.0 y.2.0 y.2.1
@@ -91,6 +97,7 @@ own_body q g rest items t d a x = elim (under_body q 0 items rest q (at_under t 
     longer [] j ys e = cc
     longer (x ∷ xs) j ys e = longer xs j ys (cc)
 
+-- and a tree that has them is larger.
 pub agrees_below : {P : Program} {ag : Agenda} (u t : Tree P ag) → Apart ag → ((p : Path) (d : ℕ) → At t p d → At u p d) → Below P ag t u
 agrees_below done done a f = both_done
 agrees_below (left u) (left t) a f = both_left (agrees_below u t a.1 f)
@@ -108,10 +115,10 @@ agrees_below {P} (by {q = q} {g = g} {rest = rest} c h u) (by d k t) a f =
 agrees_below (equate u) (equate t) a f = both_equate (agrees_below u t a f)
 agrees_below (reckon u) (reckon t) a f = both_reckon (agrees_below u t a f)
 
--- the query's goals are apart
+-- The query's goals are apart.
 pub query_apart : (P : Program) → Apart (query_agenda P)
 query_apart P = apart_body [] 0 P.query.body end (λ p b u. elim u [ ]) tt
 
--- trees with the same clauses at the same paths are the same
+-- So trees with the same clauses at the same paths are one.
 pub same_paths : {P : Program} {ag : Agenda} (t u : Tree P ag) → Apart ag → ((p : Path) (d : ℕ) → At t p d → At u p d) → ((p : Path) (d : ℕ) → At u p d → At t p d) → t ≡ u
 same_paths t u a f b = same_trees t u (agrees_below u t a f) (agrees_below t u a b)

@@ -4,7 +4,7 @@ use Rattle.and_model.specs.Terms.{Path, Substitution}
 use Rattle.and_model.specs.Solutions.{Solves}
 use Rattle.and_model.specs.Programs.{Program, Item, call, equal, arithmetic, fail, Arithmetic, is, compare, Of}
 use Rattle.and_model.specs.Candidates.{In, guard}
-use Rattle.and_model.specs.Trees.{Agenda, agenda, Tree, left, by, equate, reckon, equations, arithmetics, taken_weight, code, Open, path, call_of, fresh, reduce, blank}
+use Rattle.and_model.specs.Trees.{Agenda, agenda, Tree, left, equate, reckon, equations, arithmetics, taken_weight, code, Open, path, call_of, fresh, reduce, blank}
 
 -- The tree's equations are among those of the whole.
 pub fresh_equations : {P : Program} (q : Path) (i : ℕ) (items : List Item) {rest : Agenda} (t : Tree P rest) (s : Substitution) → Solves s (equations (fresh q i items t)) → Solves s (equations t)

@@ -1,12 +1,11 @@
 -- Codes in order: no whole code is a proper prefix of another, and a listing goes by the lexicographic order of codes.
-use Rattle.std.proofs.Common.{ℕ, ◌≡◌, ◌<◌, ◌≤◌, List, [], ◌∷◌, ◌++◌, refl, ap, sym, ◌∙◌, subst, inl, inr, ◌⊎◌, arith, suc, length, length-append, get_or, append_assoc, append-nil, All, AllPairs}
+use Rattle.std.proofs.Common.{ℕ, ◌≡◌, ◌<◌, ◌≤◌, List, [], ◌∷◌, ◌++◌, refl, ap, sym, ◌∙◌, subst, inr, arith, suc, length, length-append, get_or, append_assoc, append-nil, All, AllPairs}
 use Rattle.std.proofs.lemmas.List.Elements.{All-append, All-cons}
 use Rattle.std.proofs.lemmas.List.Kept.{AllPairs-cons}
-use Rattle.and_model.specs.Terms.{Path, Term}
-use Rattle.and_model.specs.Programs.{Program, clause_at, clause_weight, Of}
-use Rattle.and_model.specs.Trees.{Agenda, goal, agenda, Tree, QueryTree, query_agenda, blank, done, left, by, equate, reckon, code, decided, IsWhole, Open, IsLeftmost, call_of, reduce}
+use Rattle.and_model.specs.Programs.{Program, clause_at}
+use Rattle.and_model.specs.Trees.{Agenda, agenda, Tree, QueryTree, query_agenda, blank, done, left, by, equate, reckon, code, decided, IsWhole, Open, IsLeftmost, reduce}
 use Rattle.and_model.specs.Codes.{IsProperPrefix}
-use Rattle.and_model.specs.Listing.{Outcome, Ends, Entry, Lists, ListsFrom, Listing, answered, nothing, calls, no_more, other, heavy, light, of_query, too_heavy}
+use Rattle.and_model.specs.Listing.{Entry, Lists, ListsFrom, Listing, answered, nothing, calls, no_more, other, heavy, light, of_query, too_heavy}
 use Rattle.and_laws.specs.Prefixes.{IsPrefix}
 use Rattle.and_laws.specs.CodeOrder.{Before}
 use Rattle.and_laws.proofs.PrefixLemmas.{prefix_cons, prefix_then, prefix_front}

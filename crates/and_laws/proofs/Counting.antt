@@ -1,9 +1,8 @@
 -- The numbers of forks and failures of a tree, and the list of its forks, are determined.
-use Rattle.std.proofs.Common.{ℕ, ◌≡◌, ◌+◌, ◌<◌, List, [], ◌∷◌, ◌++◌, refl, ap, sym, ◌∙◌, subst, inl, inr, ◌⊎◌, arith}
+use Rattle.std.proofs.Common.{ℕ, ◌≡◌, ◌+◌, ◌<◌, List, [], ◌∷◌, ◌++◌, refl, ap, sym, subst, inl, inr, ◌⊎◌, arith}
 use Rattle.and_model.specs.Programs.{Program}
 use Rattle.and_model.specs.Trees.{Agenda, Tree, IsWhole, Open, decided}
-use Rattle.and_model.specs.Reached
-use Rattle.and_model.specs.Reached.{Shut, Dead, Split, Steps, SplitClauses, Numbers, NumbersOfSplits, Fork, Forks, ForksOfSplits}
+use Rattle.and_model.specs.Reached.{Shut, Dead, Steps, SplitClauses, Numbers, NumbersOfSplits, Fork, Forks, ForksOfSplits}
 use Rattle.and_laws.proofs.Ordered.{same_elements}
 use Rattle.and_laws.proofs.Order.{whole_has_none}
 use Rattle.and_laws.proofs.Splitting.{split_same}

@@ -1,8 +1,8 @@
 -- What unification decides: whether goals are known, that each list of equations has a closure, and which clauses are candidates.
-use Rattle.std.proofs.Common.{ℕ, ◌≡◌, ◌≢◌, ◌≤◌, ◌<◌, List, [], ◌∷◌, ◌++◌, refl, ap, sym, ◌∙◌, subst, inl, inr, ◌⊎◌, true, true≢false, ◌&&◌, arith, zero, suc, length, ltb, leb}
+use Rattle.std.proofs.Common.{ℕ, ◌≡◌, ◌≤◌, ◌<◌, List, [], ◌∷◌, ◌++◌, refl, ap, sym, ◌∙◌, subst, inl, inr, ◌⊎◌, true, true≢false, ◌&&◌, arith, zero, suc, length, ltb, leb}
 use Rattle.std.proofs.lemmas.Bool.{ltb-true, leb-true}
 use Rattle.and_model.specs.Terms.{Path, Term, Terms, are_ground, Substitution, apply_all}
-use Rattle.and_model.specs.Solutions.{Equation, Solvable, MostGeneral}
+use Rattle.and_model.specs.Solutions.{Equation, MostGeneral}
 use Rattle.and_model.specs.Programs.{Program, Arithmetic, clause_at, is_of, Of, head_in, same_predicate}
 use Rattle.and_model.specs.Closure.{needs, added, refutes, Known, Ready, First, first, after, NoneReady, Closes}
 use Rattle.and_model.specs.Candidates.{In, guard, Refuted, Candidate}

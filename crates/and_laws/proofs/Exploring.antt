@@ -1,12 +1,11 @@
 -- Exploring suffices: an exploration finds the entries within the limit, each code once, and no others.
-use Rattle.std.proofs.Common.{ℕ, ◌≡◌, ◌≢◌, ◌≤◌, ◌<◌, ◌↔◌, List, [], ◌∷◌, ◌++◌, refl, ap, sym, ◌∙◌, subst, inl, inr, ◌⊎◌, arith, All, AllPairs, Contains, get_or}
+use Rattle.std.proofs.Common.{ℕ, ◌≡◌, ◌≢◌, ◌≤◌, ◌↔◌, List, [], ◌∷◌, refl, ap, sym, ◌∙◌, subst, inl, inr, arith, All, AllPairs, Contains, get_or}
 use Rattle.std.proofs.lemmas.List.Elements.{All-contains, All-contains_itself, Contains-append_left, Contains-append_right, Contains-append_cases}
 use Rattle.std.proofs.lemmas.List.Kept.{AllPairs-cons}
 use Rattle.and_model.specs.Programs.{Program}
-use Rattle.and_model.specs.Trees.{Tree, QueryTree, query_agenda, blank, Open, reduce, Below, HasOutcome, code, decided, weight}
-use Rattle.and_model.specs.Reached.{Step, Shut, Dead, Split}
+use Rattle.and_model.specs.Trees.{QueryTree, query_agenda, blank, Below, code, decided, weight}
+use Rattle.and_model.specs.Reached.{Split}
 use Rattle.and_model.specs.Listing.{Outcome, Ends, Entry}
-use Rattle.and_laws.specs.Prefixes.{IsPrefix}
 use Rattle.and_laws.specs.Entries.{IsWithin}
 use Rattle.and_laws.specs.Explorations.{Explores, ExploresSplits, stepped, heavy, dead, ended, forked, none, more}
 use Rattle.and_laws.proofs.PrefixLemmas.{same_after}

@@ -1,9 +1,8 @@
 -- Steps keep outcomes, and Dead trees have none.
-use Rattle.std.proofs.Common.{ℕ, ◌≡◌, List, refl, sym, subst, inl, inr}
+use Rattle.std.proofs.Common.{◌≡◌, sym, subst, inl, inr}
 use Rattle.and_model.specs.Programs.{Program, Of}
-use Rattle.and_model.specs.Trees.{Agenda, Tree, Open, call_of, reduce, Below, HasOutcome, code}
+use Rattle.and_model.specs.Trees.{Agenda, Tree, call_of, reduce, Below, HasOutcome}
 use Rattle.and_model.specs.Reached.{Step, Dead}
-use Rattle.and_laws.specs.Prefixes.{IsPrefix}
 use Rattle.and_laws.proofs.Picking.{Picked, picked, picked_candidate, closed_grows}
 
 -- What a Step does, each tree above that has an outcome has done.

@@ -1,13 +1,12 @@
 -- Keys: all trees that are reached by one key come by Steps from one tree.
-use Rattle.std.proofs.Common.{ℕ, ◌≡◌, ◌≤◌, List, [], ◌∷◌, ◌++◌, refl, sym, ◌∙◌, subst, inl, inr, ◌⊎◌}
-use Rattle.and_model.specs.Terms.{Path}
+use Rattle.std.proofs.Common.{ℕ, ◌≡◌, List, [], ◌∷◌, ◌++◌, refl, sym, ◌∙◌, subst, inl, inr, ◌⊎◌}
 use Rattle.and_model.specs.Programs.{Program, clause_at, Of}
 use Rattle.and_model.specs.Trees.{Agenda, goal, Tree, QueryTree, query_agenda, blank, done, left, by, equate, reckon, decided, Open, call_of, fresh, reduce, IsLeftmost, Below, both_done, both_left, both_by, grown, both_equate, both_reckon}
-use Rattle.and_model.specs.Reached.{Step, Shut, Split, Steps, none, more, ReachedBy}
+use Rattle.and_model.specs.Reached.{Shut, Split, Steps, none, more, ReachedBy}
 use Rattle.and_laws.specs.Prefixes.{IsPrefix}
 use Rattle.and_laws.proofs.PrefixLemmas.{prefix_cons, prefix_then, same_last, not_empty}
-use Rattle.and_laws.proofs.Order.{blank_below, same_trees}
-use Rattle.and_laws.proofs.Splitting.{split_same}
+use Rattle.and_laws.proofs.Order.{below_then, blank_below, same_trees}
+use Rattle.and_laws.proofs.Splitting.{reduce_same, split_same}
 use Rattle.and_laws.proofs.Agreeing.{step_shut, step_above}
 
 -- A larger tree goes on from what the smaller has decided.
@@ -28,18 +27,24 @@ reduce_decided (by d k t) o c h m = prefix_cons d (decided t ++ c ∷ []) (decid
 reduce_decided (equate t) o c h m = reduce_decided t o c h m
 reduce_decided (reckon t) o c h m = reduce_decided t o c h m
 
--- Where what the larger tree has decided goes on with c, it has c at the leftmost goal.
-leftmost_taken : {P : Program} {ag : Agenda} {t u : Tree P ag} → Below P ag t u → (o : Open t) (c : ℕ) (h : Of P (call_of t o) c) → IsLeftmost t o → IsPrefix (decided t ++ c ∷ []) (decided u) → Below P ag (reduce t o c h) u
-leftmost_taken both_done o c h m x = elim m [ ]
-leftmost_taken (both_left b) (inl y) c h m x = let e = x.1 in absurd (cc)
-leftmost_taken (both_left b) (inr o) c h m x = elim m [ ]
-leftmost_taken (both_by d k k' {t = t} {u = u} b) o c h m x = both_by d k k' (leftmost_taken b o c h m (x.0, (let e = x.1 in cc)))
-leftmost_taken {P} (grown {q = q} {g = g} {rest = rest} d k t {u = u} b) (inl y) c h m x =
+-- Where the larger tree's decided clauses go on with c after the smaller's, it has c at the leftmost open goal.
+pub next_taken : {P : Program} {ag : Agenda} {t u : Tree P ag} → Below P ag t u → (c : ℕ) → IsPrefix (decided t ++ c ∷ []) (decided u)
+    → (o : Open t) × IsLeftmost t o × (h : Of P (call_of t o) c) × Below P ag (reduce t o c h) u
+next_taken both_done c x = let e = x.1 in absurd (cc)
+next_taken (both_left b) c x = let e = x.1 in absurd (cc)
+next_taken (both_by d k k' {t = t} b) c x = let r = next_taken b c (x.0, (let e = x.1 in cc)) in (r.0, r.1, r.2, both_by d k k' {t = reduce t r.0 c r.2} r.3)
+next_taken {P} (grown {q = q} {g = g} {rest = rest} d k t {u = u} b) c x =
     let e : d ≡ c = (let f = x.1 in cc) in
-    (subst (λ z. (h : Of P g z) → Below P (goal q g rest) (by z h (fresh q 0 (clause_at P z).body t)) (by d k u)) e (λ h'. both_by d h' k b)) h
-leftmost_taken (grown d k t b) (inr o) c h m x = elim m [ ]
-leftmost_taken (both_equate b) o c h m x = both_equate (leftmost_taken b o c h m x)
-leftmost_taken (both_reckon b) o c h m x = both_reckon (leftmost_taken b o c h m x)
+    subst (λ z. (o : Open (left {q = q} {g = g} t)) × IsLeftmost (left {q = q} {g = g} t) o × (h : Of P (call_of (left {q = q} {g = g} t) o) z) × Below P (goal q g rest) (reduce (left t) o z h) (by d k u)) e
+    (inl tt, tt, k, both_by d k k b)
+next_taken (both_equate b) c x = let r = next_taken b c x in (r.0, r.1, r.2, both_equate r.3)
+next_taken (both_reckon b) c x = let r = next_taken b c x in (r.0, r.1, r.2, both_reckon r.3)
+
+-- So it is above the tree with c there.
+leftmost_taken : {P : Program} {ag : Agenda} {t u : Tree P ag} → Below P ag t u → (o : Open t) (c : ℕ) (h : Of P (call_of t o) c) → IsLeftmost t o → IsPrefix (decided t ++ c ∷ []) (decided u) → Below P ag (reduce t o c h) u
+leftmost_taken {P} {ag} {t} {u} b o c h m x =
+    let (p, n, k, above) = next_taken b c x in
+    below_then above (reduce_same t o p c h k m n)
 
 -- What a tree has decided begins with the key by which it is reached.
 pub reached_decided : (P : Program) (limit : ℕ) (key : List ℕ) (t : QueryTree P) → ReachedBy P limit key t → IsPrefix key (decided t)

@@ -13,6 +13,7 @@ pub mod PrefixLemmas
 pub mod Splitting
 pub mod Agreeing
 pub mod Keys
+pub mod Covering
 pub mod Pairwise
 pub mod Ordered
 pub mod Counting

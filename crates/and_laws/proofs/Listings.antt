@@ -1,10 +1,9 @@
 -- There is one listing of a program and a limit, and where no outcome weighs more than the limit, every larger limit has the same.
-use Rattle.std.proofs.Common.{ℕ, ◌≡◌, ◌+◌, ◌≤◌, ◌<◌, ◌↔◌, List, [], ◌∷◌, ◌++◌, refl, ap, sym, ◌∙◌, subst, inl, inr, ◌⊎◌, Bool, true, false, true≢false, arith, zero, suc, length}
+use Rattle.std.proofs.Common.{ℕ, ◌≡◌, ◌+◌, ◌≤◌, ◌<◌, List, [], ◌∷◌, ◌++◌, refl, ap, sym, ◌∙◌, subst, inl, inr, ◌⊎◌, true≢false, arith, zero, suc, length}
 use Rattle.std.proofs.lemmas.Bool.{cases_lt}
-use Rattle.and_model.specs.Terms.{Substitution}
-use Rattle.and_model.specs.Solutions.{Equation, Solvable, Entails, MostGeneral}
+use Rattle.and_model.specs.Solutions.{Equation, Solvable, Entails}
 use Rattle.and_model.specs.Programs.{Program, Arithmetic, clause_at, clause_weight, is_of, Of}
-use Rattle.and_model.specs.Trees.{QueryTree, query_agenda, blank, Open, IsLeftmost, IsWhole, HasOutcome, Closed, call_of, reduce, equations, arithmetics, weight, code}
+use Rattle.and_model.specs.Trees.{QueryTree, query_agenda, blank, Open, IsWhole, HasOutcome, Closed, call_of, reduce, equations, arithmetics, weight, code}
 use Rattle.and_model.specs.Lines.{line}
 use Rattle.and_model.specs.Listing.{Outcome, outcome_of, Ends, Entry, Lists, ListsFrom, Listing, answered, nothing, calls, no_more, other, heavy, light, of_query, too_heavy, Exhausted}
 use Rattle.and_laws.specs.Fitting.{AllFit}

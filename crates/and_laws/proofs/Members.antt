@@ -1,10 +1,10 @@
 -- A listing has the entries of all outcomes within the limit, and no others; and a list in order that has these is the listing.
-use Rattle.std.proofs.Common.{ℕ, ◌≡◌, ◌+◌, ◌≤◌, ◌<◌, ◌↔◌, List, [], ◌∷◌, ◌++◌, refl, ap, sym, ◌∙◌, subst, inl, inr, ◌⊎◌, true≢false, arith, suc, length, AllPairs, Contains}
+use Rattle.std.proofs.Common.{ℕ, ◌≡◌, ◌≤◌, ◌↔◌, List, [], ◌∷◌, refl, ap, sym, ◌∙◌, subst, inl, inr, ◌⊎◌, true≢false, arith, suc, AllPairs, Contains}
 use Rattle.std.proofs.lemmas.Bool.{cases_lt}
 use Rattle.std.proofs.lemmas.Cmp.{nat_list_cmp_total}
 use Rattle.std.proofs.lemmas.List.Elements.{Contains-append_left, Contains-append_right, Contains-append_cases}
 use Rattle.and_model.specs.Programs.{Program, clause_at, clause_weight, Of}
-use Rattle.and_model.specs.Trees.{Tree, QueryTree, query_agenda, blank, IsWhole, Open, call_of, reduce, Below, code, weight}
+use Rattle.and_model.specs.Trees.{QueryTree, query_agenda, blank, Open, call_of, reduce, Below, code, weight}
 use Rattle.and_model.specs.Listing.{Outcome, Ends, Entry, Lists, ListsFrom, Listing, answered, nothing, calls, no_more, other, heavy, light, of_query, too_heavy}
 use Rattle.and_model.proofs.CodeOrder.{precedes_less}
 use Rattle.and_laws.specs.CodeOrder.{Before}

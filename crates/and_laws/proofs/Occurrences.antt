@@ -91,7 +91,7 @@ mutual
   all_within_absent f n vs ws l none a h = tt
   all_within_absent f n vs ws l (more u us) a h = (within_absent f n vs ws l u a.0 h.0, all_within_absent f n vs ws l us a.1 h.1)
 
--- A term within a list is within a larger one,
+-- A term within a list is within a larger one.
 mutual
   pub within_more : (vs ws : Variables) → ((f : Path) (n : ℕ) → Has f n vs → Has f n ws) → (t : Term) → Within vs t → Within ws t
   within_more vs ws k (variable f n) h = k f n h
@@ -102,13 +102,13 @@ mutual
   all_within_more vs ws k none h = tt
   all_within_more vs ws k (more t ts) h = (within_more vs ws k t h.0, all_within_more vs ws k ts h.1)
 
--- and a list that is joined to another is smaller,
+-- A list that is joined to another is within both,
 pub has_left : (vs ws : Variables) (f : Path) (n : ℕ) → Has f n vs → Has f n (vs ++ ws)
 has_left [] ws f n h = elim h [ ]
 has_left (v ∷ vs) ws f n (inl e) = inl e
 has_left (v ∷ vs) ws f n (inr h) = inr (has_left vs ws f n h)
 
--- on either side,
+-- on either side;
 pub has_right : (vs ws : Variables) (f : Path) (n : ℕ) → Has f n ws → Has f n (vs ++ ws)
 has_right [] ws f n h = h
 has_right (v ∷ vs) ws f n h = inr (has_right vs ws f n h)

@@ -1,10 +1,10 @@
 -- The order of trees: one is below another that has clauses for some of its open calls.
-use Rattle.std.proofs.Common.{ℕ, ◌≡◌, ◌+◌, ◌≤◌, List, [], ◌∷◌, ◌++◌, refl, ap, sym, ◌∙◌, subst, inl, inr, ◌⊎◌, Bool, arith, suc, length}
-use Rattle.and_model.specs.Terms.{Path, Substitution}
-use Rattle.and_model.specs.Solutions.{Solves, Entails}
+use Rattle.std.proofs.Common.{ℕ, ◌≡◌, ◌+◌, ◌≤◌, List, [], ◌∷◌, refl, ap, sym, ◌∙◌, subst, inl, inr, ◌⊎◌, Bool, arith, suc, length}
+use Rattle.and_model.specs.Terms.{Path}
+use Rattle.and_model.specs.Solutions.{Entails}
 use Rattle.and_model.specs.Programs.{Program, Item, call, equal, arithmetic, fail, Arithmetic, Clause, clause_at, clause_weight, Of, head_in}
 use Rattle.and_model.specs.Candidates.{In}
-use Rattle.and_model.specs.Trees.{Agenda, end, goal, equation, reckoning, agenda, Tree, done, left, by, equate, reckon, equations, arithmetics, taken_weight, code, decided, IsWhole, Open, call_of, fresh, reduce, blank, Below, both_done, both_left, both_by, grown, both_equate, both_reckon}
+use Rattle.and_model.specs.Trees.{Agenda, end, goal, equation, reckoning, agenda, Tree, done, left, by, equate, reckon, equations, arithmetics, taken_weight, code, IsWhole, Open, call_of, fresh, reduce, blank, Below, both_done, both_left, both_by, grown, both_equate, both_reckon}
 use Rattle.and_laws.proofs.Bodies.{fresh_equations, fresh_arithmetics, fresh_weight, fresh_code, fresh_blank}
 use mathlib.Core.Bool.{Bool-set}
 
@@ -24,7 +24,7 @@ below_fresh q i (equal a c ∷ items) b = both_equate (below_fresh q (suc i) ite
 below_fresh q i (arithmetic a ∷ items) b = both_reckon (below_fresh q (suc i) items b)
 below_fresh q i (fail ∷ items) b = both_equate (below_fresh q (suc i) items b)
 
--- What is above a tree above is above.
+-- What is above a tree that is above another is above that one.
 pub below_then : {P : Program} {ag : Agenda} {t u v : Tree P ag} → Below P ag u v → Below P ag t u → Below P ag t v
 below_then both_done a = a
 below_then (both_left b) (both_left a) = both_left (below_then b a)

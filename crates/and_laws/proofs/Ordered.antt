@@ -1,5 +1,5 @@
 -- Lists in order, and what they contain.
-use Rattle.std.proofs.Common.{ℕ, ◌≡◌, ◌<◌, List, [], ◌∷◌, refl, ap, sym, ◌∙◌, subst, inl, inr, ◌⊎◌, arith, zero, suc, length, All, AllPairs, Contains, get_or}
+use Rattle.std.proofs.Common.{ℕ, ◌≡◌, ◌<◌, List, [], ◌∷◌, refl, sym, ◌∙◌, subst, inl, inr, ◌⊎◌, arith, zero, suc, length, AllPairs, Contains, get_or}
 use Rattle.std.proofs.lemmas.List.Elements.{All-contains}
 use Rattle.and_laws.proofs.Pairwise.{all_pairs_first, all_pairs_rest}
 

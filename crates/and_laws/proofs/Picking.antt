@@ -6,7 +6,7 @@ use Rattle.and_model.specs.Arithmetic.{holds}
 use Rattle.and_model.specs.Programs.{Program, Item, Arithmetic, is, compare, clause_at, Of, head_in}
 use Rattle.and_model.specs.Closure.{added, refutes, Known, ClosesAnyhow}
 use Rattle.and_model.specs.Candidates.{In, guard, Refuted, Candidate}
-use Rattle.and_model.specs.Trees.{Agenda, agenda, Tree, left, by, equations, arithmetics, IsWhole, Open, path, call_of, fresh, reduce, Below, both_done, both_left, both_by, grown, both_equate, both_reckon, Closed, HasOutcome}
+use Rattle.and_model.specs.Trees.{Agenda, agenda, Tree, equations, arithmetics, IsWhole, Open, path, call_of, fresh, reduce, Below, both_done, both_left, both_by, grown, both_equate, both_reckon, Closed, HasOutcome}
 use Rattle.and_model.specs.Reached.{CandidateOf}
 use Rattle.and_laws.proofs.Closing.{closing_keeps, closing_ran, closing_monotone, closes_anyhow, known_more}
 use Rattle.and_laws.proofs.Bodies.{fresh_guard, lift, lift_call, lift_path, lift_reduce}

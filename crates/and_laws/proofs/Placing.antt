@@ -1,9 +1,9 @@
 -- Lists of reductions: each place has a number of its own, above its parent's, and a list makes one tree, in whatever order it is written.
-use Rattle.std.proofs.Common.{ℕ, ◌≡◌, ◌≢◌, ◌+◌, ◌≤◌, ◌<◌, ◌↔◌, List, [], ◌∷◌, ◌++◌, refl, ap, sym, ◌∙◌, subst, inl, inr, ◌⊎◌, arith, Contains}
+use Rattle.std.proofs.Common.{ℕ, ◌≡◌, ◌+◌, ◌≤◌, ◌<◌, ◌↔◌, List, [], ◌∷◌, ◌++◌, refl, ap, sym, ◌∙◌, subst, inl, inr, ◌⊎◌, arith, Contains}
 use Rattle.std.proofs.lemmas.List.Elements.{Contains-append_left, Contains-append_right, Contains-append_cases}
 use Rattle.and_model.specs.Terms.{Path}
 use Rattle.and_model.specs.Programs.{Program, clause_at, clause_weight, Of}
-use Rattle.and_model.specs.Trees.{Agenda, end, goal, equation, reckoning, Tree, QueryTree, query_agenda, blank, done, left, by, equate, reckon, Open, path, call_of, fresh, reduce, weight}
+use Rattle.and_model.specs.Trees.{Agenda, end, goal, equation, reckoning, Tree, QueryTree, query_agenda, blank, done, left, by, equate, reckon, Open, path, call_of, reduce, weight}
 use Rattle.and_model.specs.Reductions.{Reduction, PlaceHas, query, reduced, CallHas, Makes, none, one_more}
 use Rattle.and_laws.specs.Paths.{At}
 use Rattle.and_laws.proofs.Order.{reduce_above, reduce_weight, clause_weighs}

@@ -1,5 +1,5 @@
 -- Prefixes: how they are put together, and what an element after a prefix tells.
-use Rattle.std.proofs.Common.{ℕ, ◌≡◌, List, [], ◌∷◌, ◌++◌, append_assoc, refl, ap, sym, ◌∙◌}
+use Rattle.std.proofs.Common.{ℕ, ◌≡◌, List, [], ◌∷◌, ◌++◌, append_assoc, refl, ap, ◌∙◌}
 use Rattle.and_laws.specs.Prefixes.{IsPrefix}
 
 pub prefix_cons : (c : ℕ) (xs ys : List ℕ) → IsPrefix xs ys → IsPrefix (c ∷ xs) (c ∷ ys)
@@ -11,6 +11,10 @@ prefix_then xs ys zs a b = (a.0 ++ b.0, b.1 ∙ ap (λ l. l ++ b.0) a.1 ∙ appe
 -- the part after the first of two joined lists is a prefix of what both begin
 pub prefix_front : (xs ys zs : List ℕ) → IsPrefix (xs ++ ys) zs → IsPrefix xs zs
 prefix_front xs ys zs b = (ys ++ b.0, b.1 ∙ append_assoc xs ys b.0)
+
+-- a prefix stays one when the list goes on
+pub prefix_more : (xs ys zs : List ℕ) → IsPrefix xs ys → IsPrefix xs (ys ++ zs)
+prefix_more xs ys zs b = (b.0 ++ zs, ap (λ l. l ++ zs) b.1 ∙ append_assoc xs b.0 zs)
 
 -- what comes after one prefix is determined
 pub same_after : (xs zs ws : List ℕ) (c d : ℕ) → (xs ++ c ∷ []) ++ zs ≡ (xs ++ d ∷ []) ++ ws → c ≡ d

@@ -1,9 +1,9 @@
 -- One line: two most general solutions of the same equations differ by a renaming of variables, and a line names its variables by their order.
-use Rattle.std.proofs.Common.{ℕ, ◌≡◌, List, [], ◌∷◌, ◌++◌, refl, ap, sym, ◌∙◌, subst, inl, inr, ◌⊎◌, Bool, true, false, true≢false, cond, ◌&&◌, nat_eq, map, codes, suc, eqb-true, eq-eqb, get_or, decimal}
+use Rattle.std.proofs.Common.{ℕ, ◌≡◌, List, [], ◌∷◌, ◌++◌, refl, ap, sym, ◌∙◌, subst, inl, inr, true, false, true≢false, cond, nat_eq, map, codes, eqb-true, eq-eqb, decimal}
 use Rattle.and_model.specs.Terms.{Path, Term, Terms, variable, number, compound, none, more, variables_of, variables_in, Substitution, apply, apply_all}
 use Rattle.and_model.specs.Solutions.{Equation, Entails, MostGeneral}
 use Rattle.and_model.specs.Programs.{Program, Arithmetic}
-use Rattle.and_model.specs.Lines.{Bytes, same_path, same_variable, has, first_seen, place_of, is_cell, is_nil, shown_name, shown, shown_arguments, shown_rest, shown_elements, shown_tail, goal_term, shown_variables, variables_along, joined, shown_value, with_waiting, values_or_true, line}
+use Rattle.and_model.specs.Lines.{Bytes, same_path, same_variable, has, first_seen, place_of, is_cell, is_nil, shown, shown_arguments, shown_rest, shown_elements, shown_tail, goal_term, shown_variables, variables_along, joined, shown_value, with_waiting, line}
 use Rattle.and_laws.proofs.Substitutions.{Through, apply_through, and_left, and_right}
 use Rattle.and_laws.proofs.Equality.{bool_cases}
 

@@ -1,7 +1,7 @@
 -- Every outcome is reached, and where all reached trees fit the limit, no outcome is beyond it.
-use Rattle.std.proofs.Common.{ℕ, ◌≡◌, ◌≢◌, ◌+◌, ◌≤◌, ◌<◌, List, refl, ap, sym, ◌∙◌, subst, inl, inr, ◌⊎◌, arith, zero, suc, length}
+use Rattle.std.proofs.Common.{ℕ, ◌≡◌, ◌≢◌, ◌+◌, ◌≤◌, List, refl, subst, inl, inr, ◌⊎◌, arith, zero, suc, length}
 use Rattle.and_model.specs.Solutions.{Equation, Entails}
-use Rattle.and_model.specs.Programs.{Program, Arithmetic, clause_at, clause_weight, Of}
+use Rattle.and_model.specs.Programs.{Program, Arithmetic, clause_weight, Of}
 use Rattle.and_model.specs.Trees.{Agenda, Tree, QueryTree, query_agenda, blank, done, left, by, equate, reckon, equations, arithmetics, taken_weight, weight, IsWhole, code, Open, path, call_of, reduce, Below, Closed, HasOutcome}
 use Rattle.and_model.specs.Reached.{CandidateOf, Step, Shut, Split, ReachedBy, Reached}
 use Rattle.and_model.specs.Limits.{Cut, query_alone, at_goal, OverLimit}

@@ -1,24 +1,16 @@
 -- Trials of the definitions on small programs. Expected values are worked out by hand.
-use Rattle.std.proofs.Common.{ℕ, ◌≡◌, ◌≢◌, ◌+◌, ◌-◌, ◌<◌, ◌++◌, List, [], ◌∷◌, refl, ap, sym, ◌∙◌, subst, inl, inr, ◌⊎◌, true, true≢false, arith, zero, suc, pos, codes, length, AllPairs, Contains}
+use Rattle.std.proofs.Common.{ℕ, ◌≡◌, ◌≢◌, ◌++◌, List, [], ◌∷◌, refl, sym, inl, inr, true≢false, arith, zero, suc, pos, codes, length}
 use Rattle.std.specs.Fmt.{digits}
-use Rattle.std.proofs.lemmas.List.Elements.{All-cons}
-use Rattle.std.proofs.lemmas.List.Kept.{AllPairs-cons}
-use Rattle.and_model.specs.Terms.{Path, Term, Terms, variable, number, compound, none, more, Substitution, apply}
-use Rattle.and_model.specs.Solutions.{Equation, Solves, Solvable, MostGeneral}
-use Rattle.and_model.specs.Programs.{Program, Clause, Item, call, clause_at, clause_weight, Of, head_in, builtin_names}
+use Rattle.and_model.specs.Terms.{Path, Term, variable, number, compound, none, more, Substitution, apply}
+use Rattle.and_model.specs.Solutions.{Solves, MostGeneral}
+use Rattle.and_model.specs.Programs.{Program, Clause, Item, call, clause_weight, builtin_names}
 use Rattle.and_model.specs.Closure.{Closes}
-use Rattle.and_model.specs.Candidates.{Candidate, In, guard}
-use Rattle.and_model.specs.Trees.{Tree, QueryTree, query_agenda, blank, Open, path, call_of, reduce, equations, code, decided, weight, IsWhole, Closed, Below}
-use Rattle.and_model.specs.Lines.{line}
-use Rattle.and_model.specs.Listing.{Ends, answer}
-use Rattle.and_model.specs.Reached
-use Rattle.and_model.specs.Reached.{CandidateOf, Step, Shut, Dead, Split, Steps, Reached, ReachedBy, SplitClauses, Numbers, NumbersOfSplits}
-use Rattle.and_model.specs.Limits.{Cut, at_goal, OverLimit}
+use Rattle.and_model.specs.Trees.{QueryTree, query_agenda, blank, Open, reduce, equations, code, weight, HasOutcome}
+use Rattle.and_model.specs.Listing.{Ends, answer, Entry, Lists, Listing, answered, nothing, calls, no_more, other, light, of_query}
+use Rattle.and_model.specs.Reductions.{Reduction, PlaceHas, Makes, one_more}
+use Rattle.and_model.specs.Reached.{CandidateOf, Step, Shut, Split, ReachedBy}
 use Rattle.and_laws.proofs.Deciding.{of_bounds}
-use Rattle.and_laws.proofs.Order.{below_self}
-use Rattle.and_laws.proofs.Agreeing.{dead_below_shut}
-use Rattle.and_laws.proofs.Pairwise.{all_none, all_pairs_none}
-use Rattle.and_laws.proofs.Ordered.{contains_first, contains_more, contains_none, contains_cases}
+use Rattle.and_laws.proofs.Closing.{closing_keeps, closes_anyhow}
 
 -- Two names follow the ones that every program has, and X, Y are the query's variables.
 abbrev pub p : Term → Term
@@ -119,6 +111,62 @@ x_is_two_general = ((refl, (refl, tt)), λ t h r k. goes t h r k)
 early_ends : Ends early_answer (answer (codes "X = 2"))
 unfolding digits
 early_ends = (tt, equations early_answer, [], Closes.waiting (equations early_answer) [] tt, x_is_two, x_is_two_general, refl)
+
+-- The two reductions of the proof, in either order, make its tree. The places are 0, 2 and 3: the query weighs 2, and clause 3 weighs 1.
+abbrev by_three : Reduction
+by_three = record { parent = 0; item = 1; clause = 3; node = 2 }
+
+abbrev by_two : Reduction
+by_two = record { parent = 0; item = 0; clause = 2; node = 3 }
+
+early_made : Makes early (by_three ∷ by_two ∷ []) early_answer × Makes early (by_two ∷ by_three ∷ []) early_answer
+unfolding clause_weight
+early_made =
+    let first : Makes early (by_three ∷ []) early_filtered = one_more [] [] (by_three ∷ []) early_start by_three (inr (inl tt)) refl Makes.none ([], PlaceHas.query, refl) refl refl in (
+      one_more (by_three ∷ []) [] (by_three ∷ by_two ∷ []) early_filtered by_two (inl tt) refl first ([], PlaceHas.query, refl) refl refl,
+      one_more [] (by_three ∷ []) (by_two ∷ by_three ∷ []) early_filtered by_two (inl tt) refl first ([], PlaceHas.query, refl) refl refl,
+    )
+
+-- The listing within the limit 4 has one entry. By clause 1, the proof of q(1) fails.
+abbrev early_one : QueryTree early
+early_one = reduce early_start (inl tt) 1 refl
+
+abbrev early_failed : QueryTree early
+early_failed = reduce early_one (inl tt) 3 refl
+
+early_failed_none : HasOutcome early_failed → ⊥
+early_failed_none out =
+    let keeps = closing_keeps (equations early_failed) [] out.0 out.1 (closes_anyhow (equations early_failed) [] out.0 out.1 out.3) in
+    let solved = keeps out.4.0 out.4.1 in
+    let a = solved.0 in
+    let b = solved.1.0 in
+    cc
+
+abbrev early_other : QueryTree early
+early_other = reduce early_start (inl tt) 2 refl
+
+early_listing : Listing early 4 (record { code = 2 ∷ 3 ∷ []; outcome = answer (codes "X = 2") } ∷ [])
+unfolding clause_weight digits
+early_listing =
+    let entry : Entry = record { code = 2 ∷ 3 ∷ []; outcome = answer (codes "X = 2") } in
+    let failed : Lists early 4 early_one [] =
+    calls early_one (inl tt) [] tt
+    (other early_one (inl tt) 1 [] (omega arith) refl
+    (other early_one (inl tt) 2 [] (omega arith) refl
+    (light early_one (inl tt) 3 [] [] refl (omega arith) (nothing early_failed tt early_failed_none)
+    (no_more early_one (inl tt) 4 (omega arith))))) in
+    let found : Lists early 4 early_other (entry ∷ []) =
+    calls early_other (inl tt) (entry ∷ []) tt
+    (other early_other (inl tt) 1 (entry ∷ []) (omega arith) refl
+    (other early_other (inl tt) 2 (entry ∷ []) (omega arith) refl
+    (light early_other (inl tt) 3 (entry ∷ []) [] refl (omega arith) (answered (reduce early_other (inl tt) 3 refl) (answer (codes "X = 2")) early_ends)
+    (no_more early_other (inl tt) 4 (omega arith))))) in
+    of_query (entry ∷ []) (omega arith)
+    (calls early_start (inl tt) (entry ∷ []) tt
+    (light early_start (inl tt) 1 [] (entry ∷ []) refl (omega arith) failed
+    (light early_start (inl tt) 2 (entry ∷ []) [] refl (omega arith) found
+    (other early_start (inl tt) 3 [] (omega arith) refl
+    (no_more early_start (inl tt) 4 (omega arith))))))
 
 -- ---- two-forks: p(1). p(2). q(3). q(4). ?- p(X), q(Y).
 abbrev forks : Program

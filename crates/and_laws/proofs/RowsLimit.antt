@@ -1,24 +1,13 @@
 -- A trial of the limit. Expected values are worked out by hand.
-use Rattle.std.proofs.Common.{ℕ, ◌≡◌, ◌≢◌, ◌+◌, ◌-◌, ◌<◌, ◌++◌, List, [], ◌∷◌, refl, ap, sym, ◌∙◌, subst, inl, inr, ◌⊎◌, true, true≢false, arith, zero, suc, pos, codes, length, AllPairs, Contains}
-use Rattle.std.specs.Fmt.{digits}
-use Rattle.std.proofs.lemmas.List.Elements.{All-cons}
-use Rattle.std.proofs.lemmas.List.Kept.{AllPairs-cons}
-use Rattle.and_model.specs.Terms.{Path, Term, Terms, variable, number, compound, none, more, Substitution, apply}
-use Rattle.and_model.specs.Solutions.{Equation, Solves, Solvable, MostGeneral}
-use Rattle.and_model.specs.Programs.{Program, Clause, Item, call, clause_at, clause_weight, Of, head_in, builtin_names}
+use Rattle.std.proofs.Common.{ℕ, ◌≡◌, ◌-◌, ◌++◌, [], ◌∷◌, refl, inl, inr, arith, zero, suc, codes, length}
+use Rattle.and_model.specs.Terms.{Term, variable, compound, none, more, Substitution}
+use Rattle.and_model.specs.Programs.{Program, call, clause_weight, builtin_names}
 use Rattle.and_model.specs.Closure.{Closes}
-use Rattle.and_model.specs.Candidates.{Candidate, In, guard}
-use Rattle.and_model.specs.Trees.{Tree, QueryTree, query_agenda, blank, Open, path, call_of, reduce, equations, code, decided, weight, IsWhole, Closed, Below}
-use Rattle.and_model.specs.Lines.{line}
-use Rattle.and_model.specs.Listing.{Ends, answer}
-use Rattle.and_model.specs.Reached
-use Rattle.and_model.specs.Reached.{CandidateOf, Step, Shut, Dead, Split, Steps, Reached, ReachedBy, SplitClauses, Numbers, NumbersOfSplits}
-use Rattle.and_model.specs.Limits.{Cut, at_goal, OverLimit}
-use Rattle.and_laws.proofs.Deciding.{of_bounds}
+use Rattle.and_model.specs.Trees.{QueryTree, query_agenda, blank, reduce, equations, weight}
+use Rattle.and_model.specs.Reached.{CandidateOf, Shut, Dead, Split, ReachedBy}
+use Rattle.and_model.specs.Limits.{at_goal, OverLimit}
 use Rattle.and_laws.proofs.Order.{below_self}
 use Rattle.and_laws.proofs.Agreeing.{dead_below_shut}
-use Rattle.and_laws.proofs.Pairwise.{all_none, all_pairs_none}
-use Rattle.and_laws.proofs.Ordered.{contains_first, contains_more, contains_none, contains_cases}
 use Rattle.and_laws.proofs.Rows.{x, fact, asks}
 
 -- ---- nat-cut: nat(z). nat(s(N)) :- nat(N). ?- nat(X). With the limit 6, the tree of s(s(X)) weighs 6, and a clause more is too much.

@@ -1,22 +1,13 @@
 -- Trials of the numbers of forks and failures. Expected values are worked out by hand.
-use Rattle.std.proofs.Common.{ℕ, ◌≡◌, ◌≢◌, ◌+◌, ◌-◌, ◌<◌, ◌++◌, List, [], ◌∷◌, refl, ap, sym, ◌∙◌, subst, inl, inr, ◌⊎◌, true, true≢false, arith, zero, suc, pos, codes, length, get_or, AllPairs, Contains}
-use Rattle.std.specs.Fmt.{digits}
+use Rattle.std.proofs.Common.{ℕ, ◌≡◌, ◌≢◌, ◌<◌, ◌++◌, List, [], ◌∷◌, refl, sym, subst, inl, inr, ◌⊎◌, true≢false, arith, zero, suc, pos, codes, length, get_or, Contains}
 use Rattle.std.proofs.lemmas.List.Elements.{All-cons}
 use Rattle.std.proofs.lemmas.List.Kept.{AllPairs-cons}
-use Rattle.and_model.specs.Terms.{Path, Term, Terms, variable, number, compound, none, more, Substitution, apply}
-use Rattle.and_model.specs.Solutions.{Equation, Solves, Solvable, MostGeneral}
-use Rattle.and_model.specs.Programs.{Program, Clause, Item, call, clause_at, clause_weight, Of, head_in, builtin_names}
+use Rattle.and_model.specs.Terms.{Term, variable, number, compound, none, more, Substitution}
+use Rattle.and_model.specs.Programs.{Program, call, Of, builtin_names}
 use Rattle.and_model.specs.Closure.{Closes}
-use Rattle.and_model.specs.Candidates.{Candidate, In, guard}
-use Rattle.and_model.specs.Trees.{Tree, QueryTree, query_agenda, blank, Open, path, call_of, reduce, equations, code, decided, weight, IsWhole, Closed, Below}
-use Rattle.and_model.specs.Lines.{line}
-use Rattle.and_model.specs.Listing.{Ends, answer}
-use Rattle.and_model.specs.Reached
-use Rattle.and_model.specs.Reached.{CandidateOf, Step, Shut, Dead, Split, Steps, Reached, ReachedBy, SplitClauses, Numbers, NumbersOfSplits}
-use Rattle.and_model.specs.Limits.{Cut, at_goal, OverLimit}
+use Rattle.and_model.specs.Trees.{QueryTree, query_agenda, blank, Open, call_of, reduce, equations}
+use Rattle.and_model.specs.Reached.{CandidateOf, Step, Shut, Dead, Split, Steps, SplitClauses, Numbers, NumbersOfSplits}
 use Rattle.and_laws.proofs.Deciding.{of_bounds}
-use Rattle.and_laws.proofs.Order.{below_self}
-use Rattle.and_laws.proofs.Agreeing.{dead_below_shut}
 use Rattle.and_laws.proofs.Pairwise.{all_none, all_pairs_none}
 use Rattle.and_laws.proofs.Ordered.{contains_first, contains_more, contains_none, contains_cases}
 use Rattle.and_laws.proofs.Rows.{p, q, x, y, one, two, fact, asks, all_are}
@@ -99,10 +90,13 @@ fails_ended = (equations fails_answer, [], Closes.waiting (equations fails_answe
 two_clauses : {P : Program} (t : QueryTree P) (c d : ℕ) (u v : QueryTree P) → c < d → Split t c u → Split t d v → ((e : ℕ) (next : QueryTree P) → Split t e next → (e ≡ c) ⊎ (e ≡ d)) → SplitClauses t (c ∷ d ∷ [])
 two_clauses {P} t c d u v less a b only = (
   AllPairs-cons (λ m n. m < n) c (d ∷ []) (All-cons (λ n. c < n) d [] less (all_none (λ n. c < n))) (AllPairs-cons (λ m n. m < n) d [] (all_none (λ n. d < n)) (all_pairs_none (λ m n. m < n))),
-  λ e. (has e, λ s. elim (only e s.0 s.1) [
-    | inl i ↦ subst (λ n. Contains (c ∷ d ∷ []) n) (sym i) (contains_first c (d ∷ []))
-    | inr i ↦ subst (λ n. Contains (c ∷ d ∷ []) n) (sym i) (contains_more c d (d ∷ []) (contains_first d []))
-  ]),
+  λ e. (
+    has e,
+    λ s. elim (only e s.0 s.1) [
+      | inl i ↦ subst (λ n. Contains (c ∷ d ∷ []) n) (sym i) (contains_first c (d ∷ []))
+      | inr i ↦ subst (λ n. Contains (c ∷ d ∷ []) n) (sym i) (contains_more c d (d ∷ []) (contains_first d []))
+    ],
+  ),
 )
   where
     has : (e : ℕ) → Contains (c ∷ d ∷ []) e → (next : QueryTree P) × Split t e next
@@ -135,7 +129,7 @@ own k = variable [] k
 abbrev splits : Program
 splits = record {
   clauses = record { head = app nil (own 0) (own 0); body = []; variables = 1; written = codes "L" ∷ []; line = 1 }
-    ∷ record { head = app (cell (own 0) (own 1)) (own 2) (cell (own 0) (own 3)); body = call (app (own 1) (own 2) (own 3)) ∷ []; variables = 4; written = codes "H" ∷ codes "T" ∷ codes "L" ∷ codes "R" ∷ []; line = 1 } ∷ [];
+      ∷ record { head = app (cell (own 0) (own 1)) (own 2) (cell (own 0) (own 3)); body = call (app (own 1) (own 2) (own 3)) ∷ []; variables = 4; written = codes "H" ∷ codes "T" ∷ codes "L" ∷ codes "R" ∷ []; line = 1 } ∷ [];
   query = asks (call (app x y (cell one (cell two nil))) ∷ []) (codes "X" ∷ codes "Y" ∷ []);
   names = builtin_names ++ codes "app" ∷ [];
 }
@@ -245,7 +239,7 @@ splits_numbers =
     let ends_2 : Numbers splits_2 0 0 = Numbers.whole splits_2 ended_2 (Steps.more splits_2 splits_2 ended_2 (Steps.none splits_2) splits_2_step) ended_2_shut tt in
     let by_two : (t : QueryTree splits) → (c : ℕ) (next : QueryTree splits) → Split t c next → (c ≡ 1) ⊎ (c ≡ 2) = λ t c next sp. splits_named (call_of t sp.4) c sp.6 in
     let later : Numbers splits_1 1 0 =
-      Numbers.forked splits_1 splits_1 (1 ∷ 2 ∷ []) 0 0 (Steps.none splits_1) splits_1_shut (inl tt) (two_clauses splits_1 1 2 ended_1 splits_2 (omega arith) splits_1_by_first splits_1_by_second (by_two splits_1))
-      (NumbersOfSplits.more splits_1 ended_1 1 (2 ∷ []) 0 0 0 0 splits_1_by_first ends_1 (NumbersOfSplits.more splits_1 splits_2 2 [] 0 0 0 0 splits_1_by_second ends_2 (NumbersOfSplits.none splits_1))) in
+    Numbers.forked splits_1 splits_1 (1 ∷ 2 ∷ []) 0 0 (Steps.none splits_1) splits_1_shut (inl tt) (two_clauses splits_1 1 2 ended_1 splits_2 (omega arith) splits_1_by_first splits_1_by_second (by_two splits_1))
+    (NumbersOfSplits.more splits_1 ended_1 1 (2 ∷ []) 0 0 0 0 splits_1_by_first ends_1 (NumbersOfSplits.more splits_1 splits_2 2 [] 0 0 0 0 splits_1_by_second ends_2 (NumbersOfSplits.none splits_1))) in
     Numbers.forked splits_0 splits_0 (1 ∷ 2 ∷ []) 1 0 (Steps.none splits_0) splits_0_shut (inl tt) (two_clauses splits_0 1 2 ended_0 splits_1 (omega arith) splits_0_by_first splits_0_by_second (by_two splits_0))
     (NumbersOfSplits.more splits_0 ended_0 1 (2 ∷ []) 0 0 1 0 splits_0_by_first ends_0 (NumbersOfSplits.more splits_0 splits_1 2 [] 1 0 0 0 splits_0_by_second later (NumbersOfSplits.none splits_0)))

@@ -1,6 +1,6 @@
 -- Solutions of lists of equations.
-use Rattle.std.proofs.Common.{◌≡◌, List, [], ◌∷◌, ◌++◌, ap, sym, ◌∙◌}
-use Rattle.and_model.specs.Terms.{Path, Term, Substitution, apply}
+use Rattle.std.proofs.Common.{List, [], ◌∷◌, ◌++◌, ap, sym, ◌∙◌}
+use Rattle.and_model.specs.Terms.{Term, Substitution, apply}
 use Rattle.and_model.specs.Solutions.{Equation, Solves, Solvable, MostGeneral}
 use Rattle.and_laws.proofs.Substitutions.{Through, apply_through, then, apply_then}
 

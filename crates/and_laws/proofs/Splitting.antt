@@ -1,12 +1,11 @@
 -- Splits divide outcomes.
-use Rattle.std.proofs.Common.{ℕ, ◌≡◌, ◌+◌, ◌≤◌, ◌<◌, List, [], ◌∷◌, ◌++◌, refl, sym, ◌∙◌, subst, inl, inr, arith}
-use Rattle.and_model.specs.Terms.{Path}
+use Rattle.std.proofs.Common.{ℕ, ◌≡◌, [], ◌∷◌, ◌++◌, refl, sym, ◌∙◌, subst, inl, inr}
 use Rattle.and_model.specs.Programs.{Program, clause_at, Of}
-use Rattle.and_model.specs.Trees.{Agenda, Tree, done, left, by, equate, reckon, taken_weight, code, decided, Open, call_of, fresh, reduce, IsLeftmost, Below, both_by, both_equate, both_reckon, HasOutcome}
+use Rattle.and_model.specs.Trees.{Agenda, Tree, done, left, by, equate, reckon, code, decided, Open, call_of, fresh, reduce, IsLeftmost, Below, both_by, both_equate, both_reckon, HasOutcome}
 use Rattle.and_model.specs.Reached.{Shut, Split}
 use Rattle.and_laws.specs.Prefixes.{IsPrefix}
 use Rattle.and_laws.proofs.PrefixLemmas.{prefix_cons, same_after}
-use Rattle.and_laws.proofs.Order.{below_self, below_weight, same_trees}
+use Rattle.and_laws.proofs.Order.{below_self, same_trees}
 use Rattle.and_laws.proofs.Picking.{Picked, picked, picked_candidate}
 
 -- A tree above one whose leftmost goal was taken begins with what was decided, and then that clause.
@@ -40,12 +39,12 @@ leftmost_same (reckon t) o p m n = leftmost_same t o p m n
 
 -- A tree with an outcome that is above a Shut tree with open goals is above one of its splits,
 pub split_divides : {P : Program} {ag : Agenda} (t u : Tree P ag) → Below P ag t u → HasOutcome u → Shut t → Open t
-    → (c : ℕ) × (next : Tree P ag) × Split t c next × Below P ag next u × IsPrefix (decided t ++ c ∷ []) (code u)
+    → (c : ℕ) × (next : Tree P ag) × Split t c next × Below P ag next u
 split_divides {P} {ag} t u b out shut any =
     let (es, gs, x, so, two) = shut in
     let (o, m) = leftmost t any in
     let r : Picked t u o = picked b out.2 o in
-    (r.0, reduce t o r.0 r.1, (shut, es, gs, x, o, m, r.1, picked_candidate b out o r es gs x, refl), r.2 r.1, leftmost_code t u o r.0 r.1 m (r.2 r.1))
+    (r.0, reduce t o r.0 r.1, (shut, es, gs, x, o, m, r.1, picked_candidate b out o r es gs x, refl), r.2 r.1)
 
 -- and which one is told by its code.
 pub split_code : {P : Program} {ag : Agenda} (t u next : Tree P ag) (c : ℕ) → Split t c next → Below P ag next u → IsPrefix (decided t ++ c ∷ []) (code u)

@@ -1,11 +1,11 @@
 -- The unfolding of a code: the tree whose calls are taken by these clauses from left to right.
-use Rattle.std.proofs.Common.{ℕ, ◌≡◌, ◌≤◌, List, [], ◌∷◌, ◌++◌, append_assoc, append-nil, refl, ap, sym, ◌∙◌, subst, inl, inr, Bool, true, false, true≢false, Option, Some, None, arith, length}
-use Rattle.and_model.specs.Terms.{Path, Term}
-use Rattle.and_model.specs.Programs.{Program, Item, clause_at, is_of, Of}
-use Rattle.and_model.specs.Trees.{Agenda, end, goal, equation, reckoning, Tree, QueryTree, query_agenda, blank, done, left, by, equate, reckon, code, decided, IsWhole, Open, IsLeftmost, call_of, fresh, reduce, Below, both_done, both_left, both_by, grown, both_equate, both_reckon, taking, mapped, then, extend, extend_all, unfold_code}
-use Rattle.and_laws.specs.Prefixes.{IsPrefix}
+use Rattle.std.proofs.Common.{ℕ, ◌≡◌, List, [], ◌∷◌, ◌++◌, append_assoc, append-nil, refl, ap, sym, ◌∙◌, inl, inr, Bool, true, false, true≢false, Option, Some, None, arith, length}
+use Rattle.and_model.specs.Terms.{Term}
+use Rattle.and_model.specs.Programs.{Program, clause_at, is_of, Of}
+use Rattle.and_model.specs.Trees.{Agenda, end, goal, equation, reckoning, Tree, QueryTree, query_agenda, blank, done, left, by, equate, reckon, code, decided, IsWhole, Open, IsLeftmost, call_of, fresh, reduce, Below, taking, mapped, then, extend, extend_all, unfold_code}
 use Rattle.and_laws.proofs.Bodies.{fresh_code}
-use Rattle.and_laws.proofs.Order.{blank_below, below_self, same_proof, same_size}
+use Rattle.and_laws.proofs.Order.{blank_below, same_proof, same_size}
+use Rattle.and_laws.proofs.Keys.{next_taken}
 use Rattle.and_laws.proofs.Codes.{decided_code}
 
 -- The proof that a clause is of a predicate is found where there is one.
@@ -86,19 +86,6 @@ unfolding_code P cs t e =
     let r = all_extended (blank (query_agenda P)) t cs e (none_decided (blank (query_agenda P)) none ∙ sym none) in
     let codes : code t ≡ cs = r.1 ∙ ap (λ l. l ++ cs) none in
     (codes, r.0 ∙ codes)
-
--- Where the larger tree's decided clauses go on with c after the smaller's, it has c at the leftmost open goal.
-next_taken : {P : Program} {ag : Agenda} {t u : Tree P ag} → Below P ag t u → (c : ℕ) → IsPrefix (decided t ++ c ∷ []) (decided u)
-    → (o : Open t) × IsLeftmost t o × (h : Of P (call_of t o) c) × Below P ag (reduce t o c h) u
-next_taken both_done c x = let e = x.1 in absurd (cc)
-next_taken (both_left b) c x = let e = x.1 in absurd (cc)
-next_taken (both_by d k k' {t = t} b) c x = let r = next_taken b c (x.0, (let e = x.1 in cc)) in (r.0, r.1, r.2, both_by d k k' {t = reduce t r.0 c r.2} r.3)
-next_taken {P} (grown {q = q} {g = g} {rest = rest} d k t {u = u} b) c x =
-    let e : d ≡ c = (let f = x.1 in cc) in
-    subst (λ z. (o : Open (left {q = q} {g = g} t)) × IsLeftmost (left {q = q} {g = g} t) o × (h : Of P (call_of (left {q = q} {g = g} t) o) z) × Below P (goal q g rest) (reduce (left t) o z h) (by d k u)) e
-    (inl tt, tt, k, both_by d k k b)
-next_taken (both_equate b) c x = let r = next_taken b c x in (r.0, r.1, r.2, both_equate r.3)
-next_taken (both_reckon b) c x = let r = next_taken b c x in (r.0, r.1, r.2, both_reckon r.3)
 
 -- A tree whose taken calls come before its open ones is come to by extending any smaller such tree,
 extends_to : {P : Program} {ag : Agenda} (cs : List ℕ) (t u : Tree P ag) → Below P ag t u → decided t ≡ code t → decided u ≡ code u → code u ≡ code t ++ cs → extend_all t cs ≡ Some u

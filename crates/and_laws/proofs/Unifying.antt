@@ -24,10 +24,12 @@ same_decision es ds f b (inr n) = inr (λ so. n (so.0, b so.0 so.1))
 single : Path → ℕ → Term → Substitution
 single f n t = λ g m. elim (variable_or f n g m) [ inl e ↦ t | inr k ↦ variable g m ]
 
+-- the variable's image
 single_same : (f : Path) (n : ℕ) (t : Term) → single f n t f n ≡ t
 unfolding single
 single_same f n t = elim (variable_or f n f n) as (λ d. elim d [ inl e ↦ t | inr k ↦ variable f n ] ≡ t) [ inl e ↦ refl | inr k ↦ absurd (k refl refl) ]
 
+-- and that of another
 single_other : (f : Path) (n : ℕ) (t : Term) (g : Path) (m : ℕ) → (f ≡ g → n ≡ m → ⊥) → single f n t g m ≡ variable g m
 unfolding single
 single_other f n t g m h = elim (variable_or f n g m) as (λ d. elim d [ inl e ↦ t | inr k ↦ variable g m ] ≡ variable g m) [ inl e ↦ absurd (h e.0 e.1) | inr k ↦ refl ]
@@ -78,17 +80,20 @@ abbrev replaced : Path → ℕ → Term → List Equation → List Equation
 replaced f n t [] = []
 replaced f n t (e ∷ es) = (apply (single f n t) e.0, apply (single f n t) e.1) ∷ replaced f n t es
 
+-- they are within the list without the variable,
 replaced_within : (f : Path) (n : ℕ) (t : Term) (vs ws : Variables) → Lacks f n vs ws → Within ws t → (es : List Equation) → EquationsWithin vs es → EquationsWithin ws (replaced f n t es)
 replaced_within f n t vs ws l w [] h = tt
 replaced_within f n t vs ws l w (e ∷ es) h = (within_single f n t vs ws l w e.0 h.0, within_single f n t vs ws l w e.1 h.1, replaced_within f n t vs ws l w es h.2)
 
+-- what gives the variable what it gives the term solves them where it solves the equations,
 replaced_solved : (s : Substitution) (f : Path) (n : ℕ) (t : Term) → s f n ≡ apply s t → (es : List Equation) → Solves s es → Solves s (replaced f n t es)
 replaced_solved s f n t h [] p = tt
 replaced_solved s f n t h (e ∷ es) p =
     let k = single_under s f n t h in
     (sym (apply_through (single f n t) s k e.0) ∙ p.0 ∙ apply_through (single f n t) s k e.1, replaced_solved s f n t h es p.1)
 
-replaced_then : (s : Substitution) (f : Path) (n : ℕ) (t : Term) (es : List Equation) → Solves s (replaced f n t es) → Solves (λ g m. apply s (single f n t g m)) es
+-- and a solution of them, after the replacement, solves the equations
+replaced_then : (s : Substitution) (f : Path) (n : ℕ) (t : Term) (es : List Equation) → Solves s (replaced f n t es) → Solves (then (single f n t) s) es
 replaced_then s f n t [] p = tt
 replaced_then s f n t (e ∷ es) p = (sym (apply_then (single f n t) s e.0) ∙ p.0 ∙ apply_then (single f n t) s e.1, replaced_then s f n t es p.1)
 
@@ -98,7 +103,7 @@ unfolding Decision
 eliminated f n t es a (inr none_is) = inr (λ so. none_is (so.0, replaced_solved so.0 f n t so.1.0 es so.1.1))
 eliminated f n t es a (inl m) =
     let s : Substitution = m.0 in
-    let r : Substitution = λ g k. apply s (single f n t g k) in
+    let r : Substitution = then (single f n t) s in
     inl (
       r,
       (
@@ -124,17 +129,21 @@ zip_or (more t ts) (more u us) =
       | inl z ↦ inl ((t, u) ∷ z.0, λ s e. (cc, z.1 s (cc)), λ s p. (let a = p.0 in let b = z.2 s p.1 in cc), omega (arith, z.3), λ vs a b. (a.0, b.0, z.4 vs a.1 b.1))
     ]
 
+-- a term has a size of at least 1
 size_positive : (t : Term) → 1 ≤ size t
 size_positive (variable f n) = omega arith
 size_positive (number z) = omega arith
 size_positive (compound c ts) = omega arith
 
+-- Below, the variables of the equations are in vs, and equations with fewer variables are decided.
 module _ (vs : Variables) (smaller : (ws : Variables) (ds : List Equation) → suc (length ws) ≤ length vs → EquationsWithin ws ds → Decision ds) where
+  -- a variable against a term without it
   variable_absent : (f : Path) (n : ℕ) (t : Term) (es : List Equation) → Has f n vs → Within vs t → EquationsWithin vs es → Absent f n t → Decision ((variable f n, t) ∷ es)
   variable_absent f n t es h w ws a =
       let o = take_out f n vs h in
       eliminated f n t es a (smaller o.0 (replaced f n t es) (omega (arith, o.2)) (replaced_within f n t vs o.0 o.1 (within_absent f n vs o.0 o.1 t a w) es ws))
 
+  -- a variable against any term: with the variable inside, the two sides never have one size
   variable_step : (f : Path) (n : ℕ) (t : Term) (es : List Equation) → Has f n vs → Within vs t → EquationsWithin vs es → Decision es → Decision ((variable f n, t) ∷ es)
   unfolding Decision
   variable_step f n (variable g m) es h w ws rest =
@@ -149,6 +158,7 @@ module _ (vs : Variables) (smaller : (ws : Variables) (ds : List Equation) → s
         | inr b ↦ inr (λ so. absurd (omega (arith, ap size so.1.0, b so.0)))
       ]
 
+  -- an equation before others, where all smaller lists with variables in vs are decided
   pair_step : (l r : Term) (es : List Equation) (m : ℕ) → Within vs l → Within vs r → EquationsWithin vs es → size l + size r + equations_size es ≤ suc m
       → ((ds : List Equation) → equations_size ds ≤ m → EquationsWithin vs ds → Decision ds) → Decision ((l, r) ∷ es)
   unfolding Decision
@@ -182,6 +192,7 @@ module _ (vs : Variables) (smaller : (ws : Variables) (ds : List Equation) → s
       within_join [] ys p q = q
       within_join (x ∷ xs) ys p q = (p.0, p.1, within_join xs ys p.2 q)
 
+  -- the induction on the size of the equations
   inner : (m : ℕ) (es : List Equation) → equations_size es ≤ m → EquationsWithin vs es → Decision es
   unfolding Decision
   inner m [] h w = inl (λ g k. variable g k, (tt, λ t p f n. refl))
@@ -198,10 +209,12 @@ abbrev equation_variables : List Equation → Variables
 equation_variables [] = []
 equation_variables (e ∷ es) = variables_of e.0 ++ (variables_of e.1 ++ equation_variables es)
 
+-- equations within a list are within a larger one,
 equations_within_more : (vs ws : Variables) → ((f : Path) (n : ℕ) → Has f n vs → Has f n ws) → (es : List Equation) → EquationsWithin vs es → EquationsWithin ws es
 equations_within_more vs ws k [] h = tt
 equations_within_more vs ws k (e ∷ es) h = (within_more vs ws k e.0 h.0, within_more vs ws k e.1 h.1, equations_within_more vs ws k es h.2)
 
+-- so they are within the list of their variables
 equation_variables_within : (es : List Equation) → EquationsWithin (equation_variables es) es
 equation_variables_within [] = tt
 equation_variables_within (e ∷ es) =

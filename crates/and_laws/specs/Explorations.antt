@@ -1,5 +1,5 @@
 -- Explorations of a tree by reductions, as the basic Andorra model goes about them (Santos Costa, Warren and Yang, 1991).
-use Rattle.std.specs.Prelude.{ℕ, ◌≡◌, ◌≢◌, ◌<◌, ◌≤◌, ◌↔◌, List, [], ◌∷◌, ◌++◌, AllPairs, Contains}
+use Rattle.std.specs.Prelude.{ℕ, ◌≢◌, ◌<◌, ◌≤◌, ◌↔◌, List, [], ◌∷◌, ◌++◌, AllPairs, Contains}
 use Rattle.and_model.specs.Programs.{Program}
 use Rattle.and_model.specs.Trees.{QueryTree, Open, code, weight}
 use Rattle.and_model.specs.Reached.{Step, Shut, Dead, Split}

@@ -4,3 +4,4 @@ pub mod CodeOrder
 pub mod Entries
 pub mod Explorations
 pub mod Paths
+pub mod Outcomes

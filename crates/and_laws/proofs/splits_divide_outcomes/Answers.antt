@@ -4,7 +4,7 @@ use Rattle.and_laws.proofs.Order.{below_weight}
 use Rattle.and_laws.proofs.splits_divide_outcomes.Goals as goal
 
 pub returns-clause-one_of_them : goal.returns-clause-one_of_them
-returns-clause-one_of_them c = λ P ag t u b out shut any. let s = split_divides t u b out shut any in (s.0, s.1, s.2, s.3)
+returns-clause-one_of_them c = λ P ag. split_divides
 
 pub returns-clause-only_one : goal.returns-clause-only_one
 returns-clause-only_one c = λ P ag. split_one
