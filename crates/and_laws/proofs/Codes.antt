@@ -48,6 +48,7 @@ Begins xs e = IsPrefix xs e.code
 abbrev BeginsFrom : {P : Program} → QueryTree P → ℕ → Entry → Type 0
 BeginsFrom t c e = (d : ℕ) × (c ≤ d) × IsPrefix (decided t ++ d ∷ []) e.code
 
+-- what begins with a later clause begins with one from an earlier number on
 later : {P : Program} (t : QueryTree P) (c : ℕ) (ls : List Entry) → All (BeginsFrom t (suc c)) ls → All (BeginsFrom t c) ls
 later t c ls a k x h = let b : BeginsFrom t (suc c) (get_or ls k x) = a k x h in (b.0, (let l = b.1 in omega arith), b.2)
 

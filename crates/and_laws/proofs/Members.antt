@@ -20,6 +20,7 @@ use Rattle.and_laws.proofs.Codes.{listing_in_order}
 same_or_above : (c d : ℕ) → c ≤ d → (c ≡ d) ⊎ (suc c ≤ d)
 same_or_above c d h = elim (cases_lt c d) [ inl l ↦ inr (omega arith) | inr l ↦ inl (omega arith) ]
 
+-- the entry of a tree with this outcome
 abbrev pub entry : {P : Program} → QueryTree P → Outcome → Entry
 entry u o = record { code = code u; outcome = o }
 

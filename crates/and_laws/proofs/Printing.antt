@@ -10,7 +10,7 @@ use Rattle.and_laws.proofs.Equality.{bool_cases}
 abbrev Variable : Type 0
 Variable = Path × ℕ
 
--- The test of two variables is true of equal ones alone.
+-- The tests of paths and of variables are true of the same ones alone.
 same_path_true : (q r : Path) → same_path q r ≡ true → q ≡ r
 same_path_true [] [] e = refl
 same_path_true [] (j ∷ r) e = absurd (true≢false (sym e))
@@ -20,14 +20,17 @@ same_path_true (i ∷ q) (j ∷ r) e =
     let rest : q ≡ r = same_path_true q r (and_right (nat_eq i j) (same_path q r) e) in
     cc
 
+-- A path is equal to itself,
 same_path_self : (q : Path) → same_path q q ≡ true
 same_path_self [] = refl
 same_path_self (i ∷ q) = rw (eq-eqb i i refl) (same_path_self q)
 
+-- Equal variables have the same path and number,
 same_variable_true : (v w : Variable) → same_variable v w ≡ true → (v.0 ≡ w.0) × (v.1 ≡ w.1)
 same_variable_true v w e =
     (same_path_true v.0 w.0 (and_left (same_path v.0 w.0) (nat_eq v.1 w.1) e), eqb-true v.1 w.1 (and_right (same_path v.0 w.0) (nat_eq v.1 w.1) e))
 
+-- and variables with the same path and number are equal.
 same_variable_self : (v w : Variable) → v.0 ≡ w.0 → v.1 ≡ w.1 → same_variable v w ≡ true
 same_variable_self v w e f = rw (e, f, same_path_self w.0, eq-eqb w.1 w.1 refl) refl
 
@@ -37,6 +40,7 @@ module _ (s t : Substitution) where
   abbrev Pair : Variable → Variable → Type 0
   Pair v w = (t v.0 v.1 ≡ variable w.0 w.1) × (s w.0 w.1 ≡ variable v.0 v.1)
 
+  -- pairs, one after another
   abbrev Pairs : List Variable → List Variable → Type 0
   Pairs [] [] = Unit {0}
   Pairs [] (w ∷ ws) = ⊥
@@ -72,6 +76,7 @@ module _ (s t : Substitution) where
         ]
       ]
 
+  -- so pairs are found in lists of pairs at the same places
   has_same : (v w : Variable) (vs ws : List Variable) → Pair v w → Pairs vs ws → has v vs ≡ has w ws
   has_same v w [] [] p q = refl
   has_same v w [] (y ∷ ys) p q = elim q [ ]
@@ -101,6 +106,7 @@ module _ (s t : Substitution) where
   variable_pair q k (number z) e f = absurd (cc)
   variable_pair q k (compound c ts) e f = absurd (cc)
 
+  -- the variables of a term that s gives back, and of what t makes of it, are pairs
   mutual
     term_pairs : (x : Term) → apply s (apply t x) ≡ x → Pairs (variables_of x) (variables_of (apply t x))
     term_pairs (variable q k) e = let p = variable_pair q k (t q k) refl e in subst (λ y. Pairs ((q, k) ∷ []) (variables_of y)) (sym p.1) (p.2, tt)
@@ -111,6 +117,7 @@ module _ (s t : Substitution) where
     terms_pairs none e = tt
     terms_pairs (more x xs) e = pairs_join (variables_of x) (variables_of (apply t x)) (variables_in xs) (variables_in (apply_all t xs)) (term_pairs x (cc)) (terms_pairs xs (cc))
 
+  -- what t makes of a list is a list
   is_cell_same : (c : ℕ) (ts : Terms) → is_cell c (apply_all t ts) ≡ is_cell c ts
   is_cell_same c none = refl
   is_cell_same c (more h none) = refl
@@ -180,6 +187,7 @@ module _ (s t : Substitution) where
   twins_join (x ∷ xs) [] us zs p q = elim p [ ]
   twins_join (x ∷ xs) (y ∷ ys) us zs p q = (p.0, p.1, twins_join xs ys us zs p.2 q)
 
+  -- and their variables are pairs
   twins_pairs : (xs ys : List Term) → Twins xs ys → Pairs (variables_along xs) (variables_along ys)
   twins_pairs [] [] p = tt
   twins_pairs [] (y ∷ ys) p = elim p [ ]
@@ -188,12 +196,14 @@ module _ (s t : Substitution) where
       pairs_join (variables_of x) (variables_of y) (variables_along xs) (variables_along ys)
       (subst (λ z. Pairs (variables_of x) (variables_of z)) (sym p.0) (term_pairs x (ap (apply s) (sym p.0) ∙ sym p.1))) (twins_pairs xs ys p.2)
 
-  -- two substitutions that go through each other
+  -- Two substitutions that go through each other
   module _ (forth : Through s t) (back : Through t s) where
+    -- give the query's variables renamed values,
     value_twins : (ones : List (Bytes × ℕ)) → Twins (map (λ (v : Bytes × ℕ). s [] v.1) ones) (map (λ (v : Bytes × ℕ). t [] v.1) ones)
     value_twins [] = tt
     value_twins (v ∷ ones) = (forth [] v.1, back [] v.1, value_twins ones)
 
+    -- and make renamed goals,
     goal_twins : (gs : List Arithmetic) → Twins (map (λ g. apply s (goal_term g)) gs) (map (λ g. apply t (goal_term g)) gs)
     goal_twins [] = tt
     goal_twins (g ∷ gs) = (apply_through s t forth (goal_term g), apply_through t s back (goal_term g), goal_twins gs)
@@ -216,6 +226,7 @@ module _ (s t : Substitution) where
       waiting_same [] = refl
       waiting_same (g ∷ gs) = ap (λ l. codes " with " ++ joined l) (goals_same (g ∷ gs))
 
+    -- so their lines are the same.
     through_line : (P : Program) (gs : List Arithmetic) → line P s gs ≡ line P t gs
     through_line P gs =
         let ones : List (Bytes × ℕ) = shown_variables 0 P.query.written in

@@ -95,7 +95,7 @@ early_weighs : weight early_answer ≡ 4
 unfolding clause_weight
 early_weighs = refl
 
-abbrev x_is_two : Substitution
+abbrev pub x_is_two : Substitution
 x_is_two [] zero = two
 x_is_two [] (suc k) = variable [] (suc k)
 x_is_two (i ∷ r) k = variable (i ∷ r) k

@@ -2,15 +2,19 @@
 use Rattle.std.proofs.Common.{ℕ, ◌≡◌, ◌≢◌, ◌<◌, ◌++◌, List, [], ◌∷◌, refl, sym, subst, inl, inr, ◌⊎◌, true≢false, arith, zero, suc, pos, codes, length, get_or, Contains}
 use Rattle.std.proofs.lemmas.List.Elements.{All-cons}
 use Rattle.std.proofs.lemmas.List.Kept.{AllPairs-cons}
-use Rattle.and_model.specs.Terms.{Term, variable, number, compound, none, more, Substitution}
-use Rattle.and_model.specs.Programs.{Program, call, Of, builtin_names}
+use Rattle.std.specs.Fmt.{digits}
+use Rattle.and_model.specs.Listing.{Ends, answer, Entry}
+use Rattle.and_model.specs.Terms.{Path, Term, variable, number, compound, none, more, Substitution, apply}
+use Rattle.and_model.specs.Solutions.{Solves, MostGeneral}
+use Rattle.and_model.specs.Programs.{Program, call, clause_weight, Of, builtin_names}
 use Rattle.and_model.specs.Closure.{Closes}
 use Rattle.and_model.specs.Trees.{QueryTree, query_agenda, blank, Open, call_of, reduce, equations}
 use Rattle.and_model.specs.Reached.{CandidateOf, Step, Shut, Dead, Split, Steps, SplitClauses, Numbers, NumbersOfSplits}
 use Rattle.and_laws.proofs.Deciding.{of_bounds}
 use Rattle.and_laws.proofs.Pairwise.{all_none, all_pairs_none}
 use Rattle.and_laws.proofs.Ordered.{contains_first, contains_more, contains_none, contains_cases}
-use Rattle.and_laws.proofs.Rows.{p, q, x, y, one, two, fact, asks, all_are}
+use Rattle.and_laws.specs.Explorations.{Explores, ExploresSplits, stepped, dead, ended, forked}
+use Rattle.and_laws.proofs.Rows.{x_is_two, p, q, x, y, one, two, fact, asks, all_are}
 
 -- ---- one-fails: p(1). p(2). q(2). q(3). ?- p(X), q(X). One fork, and its first split fails.
 abbrev fails : Program
@@ -112,6 +116,30 @@ fails_numbers =
     let failed : Numbers fails_one 0 1 = Numbers.dead fails_one fails_one (Steps.none fails_one) fails_dead in
     Numbers.forked fails_start fails_start (1 ∷ 2 ∷ []) 0 1 (Steps.none fails_start) fails_shut (inl tt) (two_clauses fails_start 1 2 fails_one fails_other (omega arith) fails_first fails_second fails_clauses)
     (NumbersOfSplits.more fails_start fails_one 1 (2 ∷ []) 0 1 0 0 fails_first failed (NumbersOfSplits.more fails_start fails_other 2 [] 0 0 0 0 fails_second ends nothing))
+
+-- An exploration finds the one answer, X = 2.
+fails_general : MostGeneral x_is_two (equations fails_answer)
+fails_general = ((refl, (refl, tt)), λ t h r k. goes t h r k)
+  where
+    goes : (t : Substitution) → Solves t (equations fails_answer) → (r : Path) (k : ℕ) → t r k ≡ apply t (x_is_two r k)
+    goes t h [] zero = let e = h.0 in cc
+    goes t h [] (suc k) = refl
+    goes t h (i ∷ r) k = refl
+
+fails_ends : Ends fails_answer (answer (codes "X = 2"))
+unfolding digits
+fails_ends = (tt, equations fails_answer, [], Closes.waiting (equations fails_answer) [] tt, x_is_two, fails_general, refl)
+
+fails_explored : Explores fails 4 fails_start (record { code = 2 ∷ 3 ∷ []; outcome = answer (codes "X = 2") } ∷ [])
+unfolding clause_weight
+fails_explored =
+    let entry : Entry = record { code = 2 ∷ 3 ∷ []; outcome = answer (codes "X = 2") } in
+    let found : Explores fails 4 fails_other (entry ∷ []) = stepped fails_other fails_answer (entry ∷ []) fails_step (ended fails_answer (answer (codes "X = 2")) (omega arith) fails_ends) in
+    forked fails_start (1 ∷ 2 ∷ []) (entry ∷ []) fails_shut (inl tt)
+    (AllPairs-cons (λ m n. m ≢ n) 1 (2 ∷ []) (All-cons (λ n. 1 ≢ n) 2 [] (λ e. cc) (all_none (λ n. 1 ≢ n))) (AllPairs-cons (λ m n. m ≢ n) 2 [] (all_none (λ n. 2 ≢ n)) (all_pairs_none (λ m n. m ≢ n))))
+    (two_clauses fails_start 1 2 fails_one fails_other (omega arith) fails_first fails_second fails_clauses).1
+    (ExploresSplits.more fails_start fails_one 1 (2 ∷ []) [] (entry ∷ []) fails_first (dead fails_one fails_dead)
+    (ExploresSplits.more fails_start fails_other 2 [] (entry ∷ []) [] fails_second found (ExploresSplits.none fails_start)))
 
 -- ---- append-splits: app([],L,L). app([H|T],L,[H|R]) :- app(T,L,R). ?- app(X,Y,[1,2]). Two forks, and nothing fails.
 abbrev nil : Term
