@@ -5,6 +5,9 @@ pub mod Programs
 pub mod Closure
 pub mod Trees
 pub mod Candidates
+pub mod Reached
+pub mod Limits
+pub mod Reductions
 pub mod Lines
 pub mod Listing
 pub mod Output

@@ -1,0 +1,19 @@
+-- Where the limit on the weight of a tree keeps an exploration from going on (this project's own).
+use Rattle.std.specs.Prelude.{ℕ, ◌+◌, ◌<◌, ◌≡◌, ◌⊎◌, List}
+use Rattle.and_model.specs.Solutions.{Equation}
+use Rattle.and_model.specs.Programs.{Program, Arithmetic, clause_at, clause_weight}
+use Rattle.and_model.specs.Trees.{QueryTree, Open, IsLeftmost, Closed, weight}
+use Rattle.and_model.specs.Reached.{CandidateOf, Shut, Dead, Reached}
+
+-- What does not fit: the query by itself, or a partial tree with a clause for one of its open goals.
+pub data Cut (P : Program) : Type 0 where
+  query_alone : Cut P
+  at_goal : (partial : QueryTree P) → Open partial → (clause : ℕ) → Cut P
+
+-- The query weighs more than the limit. Or the tree is reached and not Dead, the clause is the one candidate of the goal, or a candidate of
+-- the leftmost goal of a Shut tree, and the tree and the clause together weigh more than the limit.
+abbrev pub OverLimit : (P : Program) → ℕ → Cut P → Type 0
+OverLimit P limit query_alone = limit < clause_weight P.query
+OverLimit P limit (at_goal t o c) =
+    Reached P limit t × (Dead t → ⊥) × (es : List Equation) × (gs : List Arithmetic) × Closed t es gs
+    × CandidateOf t es o c × (((d : ℕ) → CandidateOf t es o d → d ≡ c) ⊎ (Shut t × IsLeftmost t o)) × (limit < weight t + clause_weight (clause_at P c))
