@@ -1,0 +1,2 @@
+pub mod NamingGoals
+pub mod NamingEquations
