@@ -1,2 +1,3 @@
 pub mod NamingGoals
 pub mod NamingEquations
+pub mod NamingVariables
