@@ -1,3 +1,4 @@
 pub mod NamingGoals
 pub mod NamingEquations
 pub mod NamingVariables
+pub mod NamingCells
