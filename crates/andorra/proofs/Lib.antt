@@ -2,3 +2,4 @@ pub mod NamingGoals
 pub mod NamingEquations
 pub mod NamingVariables
 pub mod NamingCells
+pub mod NamingLimits
