@@ -3,3 +3,4 @@ pub mod NamingEquations
 pub mod NamingVariables
 pub mod NamingCells
 pub mod NamingLimits
+pub mod NamingSolutions
