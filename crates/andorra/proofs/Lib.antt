@@ -4,3 +4,4 @@ pub mod NamingVariables
 pub mod NamingCells
 pub mod NamingLimits
 pub mod NamingSolutions
+pub mod NamingLines
