@@ -5,3 +5,7 @@ pub mod NamingCells
 pub mod NamingLimits
 pub mod NamingSolutions
 pub mod NamingLines
+pub mod NamingSteps
+pub mod NamingBindings
+pub mod NamingLoaded
+pub mod NamingRows
