@@ -33,7 +33,7 @@ under_body q i (arithmetic a ∷ items) rest p u = elim (under_body q (suc i) it
 under_body q i (fail ∷ items) rest p u = elim (under_body q (suc i) items rest p u) [ inl f ↦ inl (f.0, (let k = f.1 in omega arith), f.2) | inr v ↦ inr v ]
 
 -- the goals of a body are apart from each other
-apart_body : (q : Path) (i : ℕ) (items : List Item) (rest : Agenda) → ((p : Path) → IsPrefix q p → Under rest p → ⊥) → Apart rest → Apart (agenda q i items rest)
+pub apart_body : (q : Path) (i : ℕ) (items : List Item) (rest : Agenda) → ((p : Path) → IsPrefix q p → Under rest p → ⊥) → Apart rest → Apart (agenda q i items rest)
 apart_body q i [] rest f a = a
 apart_body q i (call g ∷ items) rest f a = (
   λ p b u. elim (under_body q (suc i) items rest p u) [
@@ -87,7 +87,7 @@ own_path : {P : Program} (q : Path) (g : Term) (rest : Agenda) (t : Tree P rest)
 own_path q g rest t d a x = a.0 q ([], sym (append-nil q)) (at_under t q d x)
 
 -- and nothing of the body that took it
-own_body : {P : Program} (q : Path) (g : Term) (rest : Agenda) (items : List Item) (t : Tree P (agenda q 0 items rest)) (d : ℕ) → Apart (goal q g rest) → At t q d → ⊥
+pub own_body : {P : Program} (q : Path) (g : Term) (rest : Agenda) (items : List Item) (t : Tree P (agenda q 0 items rest)) (d : ℕ) → Apart (goal q g rest) → At t q d → ⊥
 own_body q g rest items t d a x = elim (under_body q 0 items rest q (at_under t q d x)) [
   | inl y ↦ longer q y.0 y.2.0 y.2.1
   | inr v ↦ a.0 q ([], sym (append-nil q)) v

@@ -7,11 +7,11 @@ use Rattle.and_model.specs.Lines.{Bytes, same_path, same_variable, has, first_se
 use Rattle.and_laws.proofs.Substitutions.{Through, apply_through, and_left, and_right}
 use Rattle.and_laws.proofs.Equality.{bool_cases}
 
-abbrev Variable : Type 0
+abbrev pub Variable : Type 0
 Variable = Path × ℕ
 
 -- The tests of paths and of variables are true of the same ones alone.
-same_path_true : (q r : Path) → same_path q r ≡ true → q ≡ r
+pub same_path_true : (q r : Path) → same_path q r ≡ true → q ≡ r
 same_path_true [] [] e = refl
 same_path_true [] (j ∷ r) e = absurd (true≢false (sym e))
 same_path_true (i ∷ q) [] e = absurd (true≢false (sym e))
@@ -21,27 +21,27 @@ same_path_true (i ∷ q) (j ∷ r) e =
     cc
 
 -- A path is equal to itself,
-same_path_self : (q : Path) → same_path q q ≡ true
+pub same_path_self : (q : Path) → same_path q q ≡ true
 same_path_self [] = refl
 same_path_self (i ∷ q) = rw (eq-eqb i i refl) (same_path_self q)
 
 -- Equal variables have the same path and number,
-same_variable_true : (v w : Variable) → same_variable v w ≡ true → (v.0 ≡ w.0) × (v.1 ≡ w.1)
+pub same_variable_true : (v w : Variable) → same_variable v w ≡ true → (v.0 ≡ w.0) × (v.1 ≡ w.1)
 same_variable_true v w e =
     (same_path_true v.0 w.0 (and_left (same_path v.0 w.0) (nat_eq v.1 w.1) e), eqb-true v.1 w.1 (and_right (same_path v.0 w.0) (nat_eq v.1 w.1) e))
 
 -- and variables with the same path and number are equal.
-same_variable_self : (v w : Variable) → v.0 ≡ w.0 → v.1 ≡ w.1 → same_variable v w ≡ true
+pub same_variable_self : (v w : Variable) → v.0 ≡ w.0 → v.1 ≡ w.1 → same_variable v w ≡ true
 same_variable_self v w e f = rw (e, f, same_path_self w.0, eq-eqb w.1 w.1 refl) refl
 
 -- Below, s and t go through each other on some terms: t renames the variables of these terms, and s names them back.
 module _ (s t : Substitution) where
   -- t gives the first variable the second, and s gives it back
-  abbrev Pair : Variable → Variable → Type 0
+  abbrev pub Pair : Variable → Variable → Type 0
   Pair v w = (t v.0 v.1 ≡ variable w.0 w.1) × (s w.0 w.1 ≡ variable v.0 v.1)
 
   -- pairs, one after another
-  abbrev Pairs : List Variable → List Variable → Type 0
+  abbrev pub Pairs : List Variable → List Variable → Type 0
   Pairs [] [] = Unit {0}
   Pairs [] (w ∷ ws) = ⊥
   Pairs (v ∷ vs) [] = ⊥
@@ -90,7 +90,7 @@ module _ (s t : Substitution) where
   place_same v w (x ∷ xs) (y ∷ ys) p q = rw (pair_same v w x y p q.0, place_same v w xs ys p q.1) refl
 
   -- the variables in the order of their first occurrences are pairs too
-  first_seen_pairs : (seen told vs ws : List Variable) → Pairs seen told → Pairs vs ws → Pairs (first_seen seen vs) (first_seen told ws)
+  pub first_seen_pairs : (seen told vs ws : List Variable) → Pairs seen told → Pairs vs ws → Pairs (first_seen seen vs) (first_seen told ws)
   first_seen_pairs seen told [] [] p q = p
   first_seen_pairs seen told [] (w ∷ ws) p q = elim q [ ]
   first_seen_pairs seen told (v ∷ vs) [] p q = elim q [ ]
@@ -171,11 +171,11 @@ module _ (s t : Substitution) where
           rw (is_cell_same c ts, is_nil_same c ts, elements_same ts inside, arguments_same ts inside) refl
 
     -- (with the renamed term by a name of its own)
-    shown_twin : (x y : Term) → y ≡ apply t x → x ≡ apply s y → shown names vs x ≡ shown names ws y
+    pub shown_twin : (x y : Term) → y ≡ apply t x → x ≡ apply s y → shown names vs x ≡ shown names ws y
     shown_twin x y e f = shown_same x (ap (apply s) (sym e) ∙ sym f) ∙ ap (shown names ws) (sym e)
 
   -- lists of terms that are renamed so
-  abbrev Twins : List Term → List Term → Type 0
+  abbrev pub Twins : List Term → List Term → Type 0
   Twins [] [] = Unit {0}
   Twins [] (y ∷ ys) = ⊥
   Twins (x ∷ xs) [] = ⊥
@@ -188,7 +188,7 @@ module _ (s t : Substitution) where
   twins_join (x ∷ xs) (y ∷ ys) us zs p q = (p.0, p.1, twins_join xs ys us zs p.2 q)
 
   -- and their variables are pairs
-  twins_pairs : (xs ys : List Term) → Twins xs ys → Pairs (variables_along xs) (variables_along ys)
+  pub twins_pairs : (xs ys : List Term) → Twins xs ys → Pairs (variables_along xs) (variables_along ys)
   twins_pairs [] [] p = tt
   twins_pairs [] (y ∷ ys) p = elim p [ ]
   twins_pairs (x ∷ xs) [] p = elim p [ ]

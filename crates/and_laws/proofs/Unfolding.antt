@@ -21,7 +21,7 @@ mapped_some f None y e = absurd (cc)
 mapped_some f (Some x) y e = (x, refl, cc)
 
 -- Extending a tree reduces its leftmost open goal.
-extend_leftmost : {P : Program} {ag : Agenda} (t : Tree P ag) (o : Open t) (c : ℕ) (h : Of P (call_of t o) c) → IsLeftmost t o → extend t c ≡ Some (reduce t o c h)
+pub extend_leftmost : {P : Program} {ag : Agenda} (t : Tree P ag) (o : Open t) (c : ℕ) (h : Of P (call_of t o) c) → IsLeftmost t o → extend t c ≡ Some (reduce t o c h)
 extend_leftmost done o c h m = elim m [ ]
 extend_leftmost {P} (left {q = q} {g = g} t) (inl x) c h m = ap (mapped (λ k. by c k (fresh q 0 (clause_at P c).body t))) (taking_is P g c h)
 extend_leftmost (left t) (inr o) c h m = elim m [ ]

@@ -1,0 +1,11 @@
+pub mod NamingGoals
+pub mod NamingEquations
+pub mod NamingVariables
+pub mod NamingCells
+pub mod NamingLimits
+pub mod NamingSolutions
+pub mod NamingLines
+pub mod NamingSteps
+pub mod NamingBindings
+pub mod NamingLoaded
+pub mod NamingRows
