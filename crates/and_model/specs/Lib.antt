@@ -14,3 +14,7 @@ pub mod Output
 pub mod Views
 pub mod Codes
 pub mod Words
+pub mod Prefixes
+pub mod PlainTree
+pub mod Histories
+pub mod Covering
