@@ -1,6 +1,6 @@
 -- What the passes of a store do and learn, and the row of words that they leave (this project's own).
 -- A row is a list of words, each free or set. Each word is set at most once, by one of several passes that work at the same time.
-use Rattle.std.specs.Prelude.{ℕ, suc, ◌+◌, ◌≡◌, ◌≢◌, ◌<◌, ◌≤◌, ◌↔◌, Bool, true, false, not, cond, List, [], ◌∷◌, ◌++◌, map, filter, flat_map, length, sum_by, Option, Some, None, option_to_list, nat_eq, All, AllPairs, Contains}
+use Rattle.std.specs.Prelude.{ℕ, suc, ◌+◌, ◌≡◌, ◌≢◌, ◌<◌, ◌≤◌, ◌↔◌, Bool, true, false, not, cond, List, [], ◌∷◌, ◌++◌, map, filter, flat_map, length, sum_by, Option, Some, option_to_list, nat_eq, All, AllPairs, Contains}
 use Rattle.and_model.specs.Prefixes.{IsPrefix}
 use Rattle.and_model.specs.declared.goal.Goal.{Goal}
 use Rattle.and_model.specs.declared.reference.Ref.{Ref}
@@ -154,38 +154,48 @@ all_took passes = flat_map (λ (p : Pass). p.took) passes
 abbrev pub AreDistinct : List ℕ → Type 0
 AreDistinct ns = AllPairs (λ n m. n ≢ m) ns
 
+-- What holds of a pass, where the row began with this one and the mark stands at this number.
+pub record Fits (first : List Ref) (mark : ℕ) (journal : List Entry) (p : Pass) : Type 0 where
+  -- What it has seen is a prefix of the journal.
+  pub seen : IsPrefix p.seen journal
+  -- What it made is what its own entries say, in order.
+  pub settings : p.mine ≡ settings_of (entries_by p journal)
+  pub frames : p.frames ≡ frames_of (entries_by p journal)
+  pub fails : p.fails ≡ fails_of (entries_by p journal)
+  pub hung : p.hung ≡ hung_of (entries_by p journal)
+  -- Every setting that it knows is in the first row or in what it has seen. The own ones are those that it made. None is known twice.
+  pub known : All (λ (k : Known). Contains (set_in first ++ settings_of p.seen) k.setting) p.known
+  pub own : p.mine ≡ own_of p.known
+  pub known_once : AreDistinct (map (λ (k : Known). k.setting.place) p.known)
+  -- No mark that it found, with the weight that it asked for, is above the mark.
+  pub asked : All (λ (a : Asked). a.mark + a.weight ≤ mark) p.asked
+
+-- The cells whose places a pass closed are those that it set to something that is no half of a number, in order.
+-- (While it sets a cell, between the step that sets the word and the one that closes the place, the last one is missing.)
+abbrev pub HasClosed : Pass → Type 0
+HasClosed p = map (λ (t : Took). t.cell) p.took ≡ map (λ (s : Setting). s.place) (filter (λ (s : Setting). not (is_half s.value)) p.mine)
+
 -- Row first passes journal row: what holds between the opening's row, all passes, the journal and the row at the end.
 pub record Row (first : List Ref) (passes : List Pass) (journal : List Entry) (row : List Ref) : Type 0 where
   -- The set words of the row are those of the opening's row and those of the journal's settings,
   pub set_words : (s : Setting) → Contains (set_in row) s ↔ Contains (set_in first ++ settings_of journal) s
   -- and no place occurs twice.
   pub set_once : AreDistinct (map (λ (s : Setting). s.place) (set_in first ++ settings_of journal))
-  -- What a pass has seen is a prefix of the journal.
-  pub seen : All (λ (p : Pass). IsPrefix p.seen journal) passes
-  -- What a pass made is what its own entries say, in order.
-  pub own_settings : All (λ (p : Pass). p.mine ≡ settings_of (entries_by p journal)) passes
-  pub own_frames : All (λ (p : Pass). p.frames ≡ frames_of (entries_by p journal)) passes
-  pub own_fails : All (λ (p : Pass). p.fails ≡ fails_of (entries_by p journal)) passes
-  pub own_hung : All (λ (p : Pass). p.hung ≡ hung_of (entries_by p journal)) passes
+  -- Each pass has seen, made, learnt and asked for what it may,
+  pub passes_fit : All (Fits first (mark first passes) journal) passes
+  -- and closed what it should.
+  pub closed : All HasClosed passes
   -- Every entry names one of the passes, and no two have one number.
   pub by_a_pass : All (λ (e : Entry). Contains (map (λ (p : Pass). p.number) passes) e.pass) journal
   pub numbered : AreDistinct (map (λ (p : Pass). p.number) passes)
-  -- Every setting that a pass knows is in the opening's row or in what the pass has seen. The own ones are those that it made. None is known twice.
-  pub known : All (λ (p : Pass). All (λ (k : Known). Contains (set_in first ++ settings_of p.seen) k.setting) p.known) passes
-  pub known_own : All (λ (p : Pass). p.mine ≡ own_of p.known) passes
-  pub known_once : All (λ (p : Pass). AreDistinct (map (λ (k : Known). k.setting.place) p.known)) passes
   -- A cell that is set to a cell is set to one with a smaller number.
   pub falls : (s : Setting) → Contains (set_in row) s → (cell : ℕ) → s.value ≡ Cell cell → cell < s.place
   -- Where a cell is set to a number, both words of the pair are set in the opening's row or in earlier entries.
   pub written_first : (s : Setting) → Contains (set_in first) s → (pair : ℕ) → s.value ≡ Number pair → IsWritten (set_in first) pair
   pub written : (before after : List Entry) (e : Entry) → journal ≡ before ++ e ∷ after
       → (s : Setting) → e.made ≡ sets s → (pair : ℕ) → s.value ≡ Number pair → IsWritten (set_in first ++ settings_of before) pair
-  -- No mark that was found, with the weight that was asked for, is above the mark.
-  pub below_mark : All (λ (p : Pass). All (λ (a : Asked). a.mark + a.weight ≤ mark first passes) p.asked) passes
   -- The frames lie side by side from the end of the opening's row, in the order of the journal.
   pub frames : SideBySide (length first) (frames_of journal)
-  -- The cells whose places a pass closed are those that it set to something that is no half of a number, in order.
-  pub closes : All (λ (p : Pass). map (λ (t : Took). t.cell) p.took ≡ map (λ (s : Setting). s.place) (filter (λ (s : Setting). not (is_half s.value)) p.mine)) passes
   -- No waiter was hung twice, and none was taken twice.
   pub hung_once : AreDistinct (map (λ (g : HungGoal). g.waiter) (all_hung passes))
   pub taken_once : AreDistinct (flat_map (λ (t : Took). option_to_list t.waiter) (all_took passes))

@@ -1,0 +1,142 @@
+-- Modes, tried on two small programs.
+use Rattle.std.proofs.Common.{ℕ, zero, suc, ◌≡◌, ◌<◌, ◌≤◌, cond, List, [], ◌∷◌, refl, ap, ◌∙◌, inl, inr, pos, arith, Bool, true, false, ◌||◌, true≢false, sym}
+use Rattle.std.specs.Prelude.{nat_eq, Contains}
+use Rattle.std.proofs.lemmas.List.Elements.{All-contains}
+use Rattle.std.proofs.lemmas.Bool.Decides.{Decides-eqb}
+use Rattle.and_model.specs.Lines.{has}
+use Rattle.and_model.proofs.Tested.{of_one}
+use Rattle.and_model.specs.Terms.{Term, variable, number, compound, none, more}
+use Rattle.and_model.specs.Arithmetic.{plus, less}
+use Rattle.and_model.specs.Programs.{Program, Clause, Item, call, arithmetic, is, compare}
+use Rattle.and_model.specs.Modes.{rank, name_of, arguments_of, count_of, IsAtLeast, Assignment, WellModed, Greatest, Wait, WaitsFor, IsEarlier, IsSafe, WaitsFirst}
+use Rattle.and_model.specs.declared.level.Level.{Level}
+use Rattle.and_model.specs.declared.level.Level.TheVariants.{Any, Ground, Integer}
+use Rattle.and_model.specs.declared.level.Side.{Side}
+use Rattle.and_model.specs.declared.level.Side.TheVariants.{Called, Succeeded}
+
+abbrev v : ℕ → Term
+v k = variable [] k
+
+abbrev one : Term
+one = number (pos 1)
+
+-- the first name after those that every program has
+abbrev inc : Term → Term → Term
+inc a b = compound 27 (more a (more b none))
+
+abbrev next : Term → Term
+next a = compound plus (more a (more one none))
+
+-- inc(X,Y) :- Y is X+1.
+abbrev increment : Clause
+increment = record { head = inc (v 0) (v 1); body = arithmetic (is (v 1) (next (v 0))) ∷ []; variables = 2; written = []; line = 1 }
+
+abbrev asked : List Item → Clause
+asked items = record { head = compound 0 none; body = items; variables = 2; written = []; line = 1 }
+
+-- ?- inc(1,Z), W is Z+1.
+abbrev safe : Program
+safe = record { clauses = increment ∷ []; query = asked (call (inc one (v 0)) ∷ arithmetic (is (v 1) (next (v 0))) ∷ []); names = [] }
+
+-- The first argument is an integer, always. The second is one when the call has succeeded.
+abbrev given_first : Assignment
+given_first name count place side = elim side [ Called ↦ cond (nat_eq place 0) Integer Any | Succeeded ↦ Integer ]
+
+safe_is_well_moded : WellModed safe given_first
+safe_is_well_moded zero below = (((omega arith, (omega arith, tt)), tt), tt)
+safe_is_well_moded (suc zero) below = (tt, (omega arith, (omega arith, tt)))
+safe_is_well_moded (suc (suc c)) below = absurd (omega arith)
+
+top : (l : Level) → rank l ≤ 2
+top Any = omega arith
+top Ground = omega arith
+top Integer = omega arith
+
+only : (k : Clause) → Contains (increment ∷ []) k → increment ≡ k
+only k c = All-contains (λ (k : Clause). increment ≡ k) (increment ∷ []) k (of_one (λ (k : Clause). increment ≡ k) increment refl) c
+
+-- Nothing is above it: the query calls with a free variable in the second place.
+above : (other : Assignment) → WellModed safe other → (place : ℕ) (side : Side) → place < 2 → IsAtLeast (given_first 27 2 place side) (other 27 2 place side)
+above other well zero Called below = top (other 27 2 0 Called)
+above other well zero Succeeded below = top (other 27 2 0 Succeeded)
+above other well (suc zero) Called below = (well 0 (omega arith)).0.0.1.0
+above other well (suc zero) Succeeded below = top (other 27 2 1 Succeeded)
+above other well (suc (suc place)) side below = absurd (omega arith)
+
+safe_greatest : Greatest safe given_first
+safe_greatest = (
+  safe_is_well_moded,
+  λ other well name count place side has.
+      let same = only has.0 has.1 in
+      let is_name : 27 ≡ name = ap (λ (k : Clause). name_of k.head) same ∙ has.2 in
+      let is_count : 2 ≡ count = ap (λ (k : Clause). count_of (arguments_of k.head)) same ∙ has.3 in
+      rw (← is_name, ← is_count) (above other well place side (rw is_count has.4)),
+)
+
+-- No variable waits: each right side is known to be an integer.
+-- a goal with one variable waits for that alone
+or_false : (a : Bool) → (a || false) ≡ true → a ≡ true
+or_false true h = refl
+or_false false h = h
+
+only_first : (k : ℕ) → has ([], k) (([], 0) ∷ []) ≡ true → k ≡ 0
+only_first k h = (Decides-eqb k 0).0 (or_false (nat_eq k 0) h)
+
+not_waiting : (c i k : ℕ) → WaitsFor safe given_first (record { clause = c; item = i; variable = k }) → ⊥
+not_waiting zero zero k waits = true≢false (sym waits.1)
+not_waiting zero (suc zero) zero waits = let e = waits.2 in cc
+not_waiting zero (suc zero) (suc k) waits = let e : suc k ≡ 0 = only_first (suc k) waits.1 in omega arith
+not_waiting zero (suc (suc i)) k waits = true≢false (sym waits.1)
+not_waiting (suc zero) zero zero waits = let e = waits.2 in cc
+not_waiting (suc zero) zero (suc k) waits = let e : suc k ≡ 0 = only_first (suc k) waits.1 in omega arith
+not_waiting (suc zero) (suc i) k waits = true≢false (sym waits.1)
+not_waiting (suc (suc c)) i k waits = let below = waits.0 in omega arith
+
+safe_is_safe : IsSafe safe given_first
+safe_is_safe w waits = not_waiting w.clause w.item w.variable waits
+
+-- ?- inc(A,Z).
+abbrev waiting : Program
+waiting = record { clauses = increment ∷ []; query = asked (call (inc (v 0) (v 1)) ∷ []); names = [] }
+
+abbrev nothing_known : Assignment
+nothing_known name count place side = Any
+
+waiting_is_well_moded : WellModed waiting nothing_known
+waiting_is_well_moded zero below = (((omega arith, (omega arith, tt)), tt), tt)
+waiting_is_well_moded (suc zero) below = (tt, (omega arith, (omega arith, tt)))
+waiting_is_well_moded (suc (suc c)) below = absurd (omega arith)
+
+-- A higher one, in which the first argument is ground, is not well-moded.
+ground_first : Assignment
+ground_first name count place side = cond (nat_eq place 0) Ground Any
+
+higher_is_not : WellModed waiting ground_first → ⊥
+unfolding ground_first
+higher_is_not well = let h = (well 0 (omega arith)).0.0.0 in omega arith
+
+-- X waits in the body, and nothing else does.
+abbrev x_in_body : Wait
+x_in_body = record { clause = 1; item = 0; variable = 0 }
+
+alone : (c i k : ℕ) → WaitsFor waiting nothing_known (record { clause = c; item = i; variable = k }) → record { clause = c; item = i; variable = k } ≡ x_in_body
+alone zero zero k waits = absurd (true≢false (sym waits.1))
+alone zero (suc i) k waits = absurd (true≢false (sym waits.1))
+alone (suc zero) zero zero waits = refl
+alone (suc zero) zero (suc k) waits = let e : suc k ≡ 0 = only_first (suc k) waits.1 in absurd (omega arith)
+alone (suc zero) (suc i) k waits = absurd (true≢false (sym waits.1))
+alone (suc (suc c)) i k waits = let below = waits.0 in absurd (omega arith)
+
+x_waits_first : WaitsFirst waiting nothing_known x_in_body
+x_waits_first = ((omega arith, refl, refl), λ w waits. inl (alone w.clause w.item w.variable waits))
+
+-- On one line the query's waits are last: of `?- Y is X, p(W). p(Z) :- Z < 1.` that of Z is the earlier.
+abbrev one_line : Program
+one_line = record {
+  clauses = record { head = compound 27 (more (v 0) none); body = arithmetic (compare less (v 0) one) ∷ []; variables = 1; written = []; line = 1 } ∷ [];
+  query = asked (arithmetic (is (v 0) (v 1)) ∷ call (compound 27 (more (v 2) none)) ∷ []);
+  names = [];
+}
+
+z_is_earlier : IsEarlier one_line (record { clause = 1; item = 0; variable = 0 }) (record { clause = 0; item = 0; variable = 1 })
+z_is_earlier = inr (inl (refl, omega arith))
