@@ -15,6 +15,7 @@ pub mod Views
 pub mod Codes
 pub mod Words
 pub mod Prefixes
+pub mod Stands
 pub mod Modes
 pub mod Store
 pub mod PlainTree
