@@ -1,6 +1,6 @@
 //! Laws of the choicepoint tree and of its histories.
 
-ghost use Rattle.std.specs.Prelude.{◌≡◌, ◌<◌, ◌+◌, ℕ, List, ◌++◌, length};
+ghost use Rattle.std.specs.Prelude.{◌≡◌, ◌<◌, ◌+◌, ◌↔◌, ℕ, List, ◌++◌, length};
 ghost use Rattle.and_model.specs.Programs.{Program};
 ghost use Rattle.and_model.specs.PlainTree.{State, Event, Reply, Does, opening, keys_left, left_of};
 ghost use Rattle.and_model.specs.Histories.{Entry, Carries};
@@ -9,6 +9,14 @@ ghost use Rattle.and_model.specs.Covering.{HasOutcomeWithin, AreCovering, keys_b
 /// An event has one reply and one next state.
 pub fn one_reply_to_each_event()
     ensures { (s next after : State) (event : Event) (reply answer : Reply) → Does s event reply next → Does s event answer after → (reply ≡ answer) × (next ≡ after) }
+{}
+
+/// A history leads from a state to one state, and two histories that are joined are carried out one
+/// after the other.
+pub fn histories_are_carried_out_in_order()
+    ensures one_state { (s one other : State) (history : List Entry) → Carries s history one → Carries s history other → one ≡ other }
+    ensures in_parts { (s after : State) (front back : List Entry)
+        → Carries s (front ++ back) after ↔ ((middle : State) × Carries s front middle × Carries middle back after) }
 {}
 
 /// Where each fork of a legal history is covering, every code within the limit that has an outcome

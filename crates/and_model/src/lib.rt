@@ -18,7 +18,10 @@ ghost use Rattle.and_model.specs.Views.{term_of};
 
 pub use code::{Code, codes_are_in_total_order};
 pub use goal::{CallList, ClauseList, Cut, Goal, GoalList, Reduction, ReductionList};
-pub use laws_of_histories::{covering_forks, keys_left_are_counted, one_reply_to_each_event};
+pub use laws_of_histories::{
+    covering_forks, histories_are_carried_out_in_order, keys_left_are_counted,
+    one_reply_to_each_event,
+};
 pub use level::{Level, Side};
 pub use list::ListOf;
 pub use numbers::{ClauseNo, NameNo, NodeNo};
