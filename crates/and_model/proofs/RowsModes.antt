@@ -5,10 +5,10 @@ use Rattle.std.proofs.lemmas.List.Elements.{All-contains}
 use Rattle.std.proofs.lemmas.Bool.Decides.{Decides-eqb}
 use Rattle.and_model.specs.Lines.{has}
 use Rattle.and_model.proofs.Tested.{of_one}
-use Rattle.and_model.specs.Terms.{Term, variable, number, compound, none, more}
+use Rattle.and_model.specs.Terms.{Term, Terms, variable, number, compound, none, more}
 use Rattle.and_model.specs.Arithmetic.{plus, less}
-use Rattle.and_model.specs.Programs.{Program, Clause, Item, call, arithmetic, is, compare}
-use Rattle.and_model.specs.Modes.{rank, name_of, arguments_of, count_of, IsAtLeast, Assignment, WellModed, Greatest, Wait, WaitsFor, IsEarlier, IsSafe, WaitsFirst}
+use Rattle.and_model.specs.Programs.{Program, Clause, Item, call, equal, arithmetic, fail, is, compare, clause_at}
+use Rattle.and_model.specs.Modes.{rank, name_of, arguments_of, count_of, IsAtLeast, Assignment, Environment, HaveLevels, CallsHaveLevels, at_entry, after_item, after_items, WellModed, Greatest, Wait, WaitsFor, IsEarlier, IsSafe, WaitsFirst}
 use Rattle.and_model.specs.declared.level.Level.{Level}
 use Rattle.and_model.specs.declared.level.Level.TheVariants.{Any, Ground, Integer}
 use Rattle.and_model.specs.declared.level.Side.{Side}
@@ -95,19 +95,31 @@ not_waiting (suc (suc c)) i k waits = let below = waits.0 in omega arith
 safe_is_safe : IsSafe safe given_first
 safe_is_safe w waits = not_waiting w.clause w.item w.variable waits
 
+-- The lowest assignment is well-moded, whatever the program.
+abbrev lowest : Assignment
+lowest name count place side = Any
+
+have_lowest : (e : Environment) (i : ℕ) (ts : Terms) → HaveLevels e (λ place. Any) i ts
+have_lowest e i none = tt
+have_lowest e i (more t ts) = (omega arith, have_lowest e (suc i) ts)
+
+calls_have_lowest : (e : Environment) (items : List Item) → CallsHaveLevels lowest e items
+calls_have_lowest e [] = tt
+calls_have_lowest e (call g ∷ items) = (have_lowest e 0 (arguments_of g), calls_have_lowest (after_item lowest e (call g)) items)
+calls_have_lowest e (equal a b ∷ items) = calls_have_lowest (after_item lowest e (equal a b)) items
+calls_have_lowest e (arithmetic a ∷ items) = calls_have_lowest (after_item lowest e (arithmetic a)) items
+calls_have_lowest e (fail ∷ items) = calls_have_lowest (after_item lowest e fail) items
+
+lowest_is_well_moded : (P : Program) → WellModed P lowest
+lowest_is_well_moded P c below =
+    let k : Clause = clause_at P c in
+    (calls_have_lowest (at_entry lowest k) k.body, have_lowest (after_items lowest (at_entry lowest k) k.body) 0 (arguments_of k.head))
+
 -- ?- inc(A,Z).
 abbrev waiting : Program
 waiting = record { clauses = increment ∷ []; query = asked (call (inc (v 0) (v 1)) ∷ []); names = [] }
 
-abbrev nothing_known : Assignment
-nothing_known name count place side = Any
-
-waiting_is_well_moded : WellModed waiting nothing_known
-waiting_is_well_moded zero below = (((omega arith, (omega arith, tt)), tt), tt)
-waiting_is_well_moded (suc zero) below = (tt, (omega arith, (omega arith, tt)))
-waiting_is_well_moded (suc (suc c)) below = absurd (omega arith)
-
--- A higher one, in which the first argument is ground, is not well-moded.
+-- A higher one than the lowest, in which the first argument is ground, is not well-moded.
 ground_first : Assignment
 ground_first name count place side = cond (nat_eq place 0) Ground Any
 
@@ -119,7 +131,7 @@ higher_is_not well = let h = (well 0 (omega arith)).0.0.0 in omega arith
 abbrev x_in_body : Wait
 x_in_body = record { clause = 1; item = 0; variable = 0 }
 
-alone : (c i k : ℕ) → WaitsFor waiting nothing_known (record { clause = c; item = i; variable = k }) → record { clause = c; item = i; variable = k } ≡ x_in_body
+alone : (c i k : ℕ) → WaitsFor waiting lowest (record { clause = c; item = i; variable = k }) → record { clause = c; item = i; variable = k } ≡ x_in_body
 alone zero zero k waits = absurd (true≢false (sym waits.1))
 alone zero (suc i) k waits = absurd (true≢false (sym waits.1))
 alone (suc zero) zero zero waits = refl
@@ -127,7 +139,7 @@ alone (suc zero) zero (suc k) waits = let e : suc k ≡ 0 = only_first (suc k) w
 alone (suc zero) (suc i) k waits = absurd (true≢false (sym waits.1))
 alone (suc (suc c)) i k waits = let below = waits.0 in absurd (omega arith)
 
-x_waits_first : WaitsFirst waiting nothing_known x_in_body
+x_waits_first : WaitsFirst waiting lowest x_in_body
 x_waits_first = ((omega arith, refl, refl), λ w waits. inl (alone w.clause w.item w.variable waits))
 
 -- On one line the query's waits are last: of `?- Y is X, p(W). p(Z) :- Z < 1.` that of Z is the earlier.

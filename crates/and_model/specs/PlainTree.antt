@@ -35,6 +35,7 @@ pub data Seen : Type 0 where
   seen_open : (serial : ℕ) → Seen
   seen_taking : (team serial : ℕ) → Seen
 
+-- what a team does
 pub data Event : Type 0 where
   fork : (team : ℕ) (key longer : Key) (clauses : List ℕ) → Event
   publish : (team cell : ℕ) (key : Key) → Event
@@ -44,6 +45,7 @@ pub data Event : Type 0 where
   look : (team cell : ℕ) → Event
   left : (team : ℕ) → Event
 
+-- and what it is answered
 pub data Reply : Type 0 where
   forked : Reply
   done : Reply
@@ -63,12 +65,15 @@ opening teams = record {
   cells = set (replicate (8 * teams) (record { serial = 0; content = free })) 0 (record { serial = 1; content = opened [] });
 }
 
+-- the keys that the team has in hand; none for what is no team
 abbrev pub hand_of : State → ℕ → List Key
 hand_of s team = get_or s.hands team []
 
+-- the cell of that number; one that is free for what is no cell
 abbrev pub cell_of : State → ℕ → Cell
 cell_of s cell = get_or s.cells cell (record { serial = 0; content = free })
 
+-- the tree has the team, and the cell
 abbrev pub IsTeam : State → ℕ → Type 0
 IsTeam s team = team < length s.hands
 
@@ -83,9 +88,11 @@ Holds s team key = Contains (hand_of s team) key
 abbrev pub Owns : (team cell : ℕ) → Type 0
 Owns team cell = (8 * team ≤ cell) × (cell < 8 * team + 8)
 
+-- the cell is open with this key, and was opened so often
 abbrev pub IsOpen : State → (cell serial : ℕ) → Key → Type 0
 IsOpen s cell serial key = cell_of s cell ≡ record { serial = serial; content = opened key }
 
+-- A cell with this serial is opened no more.
 abbrev pub last_serial : ℕ
 last_serial = 2 ^ 48 - 1
 
@@ -109,6 +116,7 @@ with_keys s team key new = record s { hands = set s.hands team (in_place_of key 
 abbrev pub joined : State → (team : ℕ) → Key → State
 joined s team key = record s { hands = set s.hands team (hand_of s team ++ key ∷ []) }
 
+-- the state in which the cell has this serial and content
 abbrev pub with_cell : State → (cell serial : ℕ) → Content → State
 with_cell s cell serial content = record s { cells = set s.cells cell (record { serial = serial; content = content }) }
 
@@ -124,20 +132,25 @@ left_of s = length (keys_left s)
 
 -- Does s event reply next: what the event, where it may come, is answered in the state s, and the state after it.
 pub data Does (s : State) : Event → Reply → State → Type 0 where
+  -- A fork puts the children of the longer key in the place of a key in hand.
   forks : (team : ℕ) (key longer : Key) (clauses : List ℕ) → Holds s team key → IsPrefix key longer
       → Does s (fork team key longer clauses) forked (with_keys s team key (children longer clauses))
+  -- A team publishes a key in hand in one of its own cells. The cell may be used up, or not free; else the key leaves the hand, and the cell is open with it.
   finds_spent : (team cell : ℕ) (key : Key) → IsCell s cell → Owns team cell → Holds s team key → (cell_of s cell).serial ≡ last_serial
       → Does s (publish team cell key) spent s
   finds_not_free : (team cell : ℕ) (key : Key) → IsCell s cell → Owns team cell → Holds s team key → (cell_of s cell).serial ≢ last_serial → (cell_of s cell).content ≢ free
       → Does s (publish team cell key) (not_free (seen_in (cell_of s cell))) s
   publishes : (team cell : ℕ) (key : Key) → IsCell s cell → Owns team cell → Holds s team key → (cell_of s cell).serial ≢ last_serial → (cell_of s cell).content ≡ free
       → Does s (publish team cell key) done (with_cell (with_keys s team key []) cell (suc (cell_of s cell).serial) (opened key))
+  -- A team claims what is open in a cell under that serial: the key joins its hand, and the cell is being taken by it. Else it is told what is there.
   takes : (team cell serial : ℕ) (key : Key) → IsTeam s team → IsOpen s cell serial key
       → Does s (claim team cell serial) (taken key) (with_cell (joined s team key) cell serial (taking team))
   misses : (team cell serial : ℕ) → IsTeam s team → IsCell s cell → ((key : Key) → IsOpen s cell serial key → ⊥)
       → Does s (claim team cell serial) (moved (seen_in (cell_of s cell))) s
+  -- The team that is taking clears the cell.
   clears : (team cell : ℕ) → (cell_of s cell).content ≡ taking team
       → Does s (clear team cell) cleared (with_cell s cell (cell_of s cell).serial free)
+  -- A key in hand ends. The reply tells whether no key is left.
   ends : (team : ℕ) (key : Key) (how : Ending) → Holds s team key
       → Does s (end team key how) (last (nat_eq (left_of (with_keys s team key [])) 0)) (with_keys s team key [])
   looks : (team cell : ℕ) → IsTeam s team → IsCell s cell

@@ -5,6 +5,7 @@
 pub mod code;
 pub mod goal;
 pub mod laws_of_histories;
+pub mod laws_of_stores;
 pub mod level;
 pub mod list;
 pub mod numbers;
@@ -22,6 +23,7 @@ pub use laws_of_histories::{
     covering_forks, histories_are_carried_out_in_order, keys_left_are_counted,
     one_reply_to_each_event,
 };
+pub use laws_of_stores::{a_word_has_one_winner, what_is_known_stays};
 pub use level::{Level, Side};
 pub use list::ListOf;
 pub use numbers::{ClauseNo, NameNo, NodeNo};
