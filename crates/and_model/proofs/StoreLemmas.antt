@@ -1,8 +1,8 @@
 -- What follows from the row of a store: what a pass knows is so in the row, and no word is set by two passes.
 use Rattle.std.proofs.Common.{ℕ, zero, suc, ◌≡◌, ◌≢◌, ◌+◌, Bool, true, false, cond, List, [], ◌∷◌, ◌++◌, map, length, get_or, refl, sym, ap, subst, ◌∙◌, ◌⊎◌, inl, inr, arith}
-use Rattle.std.specs.Prelude.{Contains, nat_eq}
+use Rattle.std.specs.Prelude.{AllPairs, Contains, nat_eq}
 use Rattle.std.proofs.lemmas.Bool.Decides.{Decides-eqb}
-use Rattle.std.proofs.lemmas.List.{map-append, get_or_append_left, get_or-append-add, length-append}
+use Rattle.std.proofs.lemmas.List.{map-append, get_or_append_left, get_or-append-add, length-append, length-map, get_or-map, get_or_default}
 use Rattle.std.proofs.lemmas.List.Elements.{All-contains, Contains-append_left, Contains-append_right, Contains-append_cases}
 use Rattle.std.proofs.lemmas.Grind.{flat_map-append}
 use Rattle.and_model.specs.declared.reference.Ref.{Ref}
@@ -91,10 +91,25 @@ apart_passes p q other (e ∷ journal) distinct s t one two =
         by_side (inr c) = rest one c
     by_both false false of_p of_q one two rest = rest one two
 
-pub one_winner : (first : List Ref) (passes : List Pass) (journal : List Entry) (row : List Ref) → Row first passes journal row
-    → (p q : Pass) → Contains passes p → Contains passes q → p.number ≢ q.number → (s t : Setting) → Contains p.mine s → Contains q.mine t → s.place ≢ t.place
-one_winner first passes journal row holds p q there here other s t one two =
+-- the two passes set no word in common
+abbrev pub SetApart : Pass → Pass → Type 0
+SetApart p q = (s t : Setting) → Contains p.mine s → Contains q.mine t → s.place ≢ t.place
+
+two_numbers : (first : List Ref) (passes : List Pass) (journal : List Entry) (row : List Ref) → Row first passes journal row
+    → (p q : Pass) → Contains passes p → Contains passes q → p.number ≢ q.number → SetApart p q
+two_numbers first passes journal row holds p q there here other s t one two =
     let fits = All-contains (Fits first (mark first passes) journal) passes p holds.passes_fit there in
     let also_fits = All-contains (Fits first (mark first passes) journal) passes q holds.passes_fit here in
     let distinct = apart_back (map place (set_in first)) (map place (settings_of journal)) (subst AreDistinct (map-append place (set_in first) (settings_of journal)) holds.set_once) in
     apart_passes p q other journal distinct s t (subst (λ xs. Contains xs s) fits.settings one) (subst (λ xs. Contains xs t) also_fits.settings two)
+
+number_of : Pass → ℕ
+number_of p = p.number
+
+pub one_winner : (first : List Ref) (passes : List Pass) (journal : List Entry) (row : List Ref) → Row first passes journal row → AllPairs SetApart passes
+unfolding number_of
+one_winner first passes journal row holds i j d before below =
+    let p : Pass = get_or passes i d in
+    let q : Pass = get_or passes j d in
+    let other : p.number ≢ q.number = rw (← get_or-map number_of passes i d 0 (omega arith), ← get_or-map number_of passes j d 0 below) (holds.numbered i j 0 before (rw length-map below)) in
+    two_numbers first passes journal row holds p q (i, (omega arith), get_or_default passes i p d (omega arith)) (j, below, get_or_default passes j q d below) other

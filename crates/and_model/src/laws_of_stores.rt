@@ -1,6 +1,6 @@
 //! Laws of the rows that stores leave.
 
-ghost use Rattle.std.specs.Prelude.{◌≢◌, ℕ, List, Contains};
+ghost use Rattle.std.specs.Prelude.{◌≢◌, List, AllPairs, Contains};
 ghost use Rattle.and_model.specs.declared.reference.Ref.{Ref};
 ghost use Rattle.and_model.specs.Store.{Setting, Entry, Known, Pass, set_in, Row};
 
@@ -13,6 +13,5 @@ pub fn what_is_known_stays()
 /// No word is set by two passes.
 pub fn a_word_has_one_winner()
     ensures { (first : List Ref) (passes : List Pass) (journal : List Entry) (row : List Ref) → Row first passes journal row
-        → (p q : Pass) → Contains passes p → Contains passes q → p.number ≢ q.number
-        → (s t : Setting) → Contains p.mine s → Contains q.mine t → s.place ≢ t.place }
+        → AllPairs (λ (p q : Pass). (s t : Setting) → Contains p.mine s → Contains q.mine t → s.place ≢ t.place) passes }
 {}
