@@ -9,15 +9,8 @@ use Rattle.and_model.specs.Programs.{Program}
 use Rattle.and_model.specs.PlainTree.{Key, free, opened, State, Event, Reply, Does, Holds, opening, children, keys_in, keys_left, left_of}
 use Rattle.and_model.specs.Histories.{Entry, Carries}
 use Rattle.and_model.specs.Covering.{HasOutcomeWithin, begins, keys_begun, IsCovering, AreCovering, brought, replaced, ended, keys_ended}
+use Rattle.and_model.proofs.Tested.{first_true, second_true}
 use Rattle.and_model.proofs.KeptKeys.{keys_are_kept, total_keys}
-
-first_true : (a b : Bool) → (a && b) ≡ true → a ≡ true
-first_true true b is = refl
-first_true false b is = is
-
-second_true : (a b : Bool) → (a && b) ≡ true → b ≡ true
-second_true true b is = is
-second_true false b is = absurd (true≢false (sym is))
 
 -- a code that passes the test begins with the key
 begins_prefix : (code key : List ℕ) → begins code key ≡ true → IsPrefix key code

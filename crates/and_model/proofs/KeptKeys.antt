@@ -6,9 +6,7 @@ use Rattle.std.proofs.lemmas.List.Sums.{sum_by-append, sum_by-set, sum_by-cons}
 use Rattle.std.proofs.lemmas.Map.Made.{Contains-tail}
 use Rattle.and_model.specs.PlainTree.{Key, Content, free, opened, taking, Cell, State, Event, Reply, Does, hand_of, cell_of, Holds, in_place_of, children, with_keys, joined, with_cell, keys_in, keys_left}
 use Rattle.and_model.specs.Covering.{brought, replaced, ended}
-
-contains_none : {X : Type 0} (x : X) → Contains [] x → ⊥
-contains_none x c = let below = c.1 in omega arith
+use Rattle.and_model.proofs.Tested.{none_in}
 
 -- what is read beyond the end is what stands there for nothing
 in_range : {X : Type 0} (xs : List X) (i : ℕ) (d : X) → (get_or xs i d ≡ d → ⊥) → i < length xs
@@ -17,7 +15,7 @@ in_range (x ∷ xs) zero d other = omega arith
 in_range (x ∷ xs) (suc i) d other = let below = in_range xs i d other in omega arith
 
 team_in_range : (s : State) (team : ℕ) (key : Key) → Holds s team key → team < length s.hands
-team_in_range s team key held = in_range s.hands team [] (λ e. contains_none key (subst (λ keys. Contains keys key) e held))
+team_in_range s team key held = in_range s.hands team [] (λ e. none_in key (subst (λ keys. Contains keys key) e held))
 
 -- the sum over lists that were joined
 sum_flat : {A X : Type 0} (f : X → ℕ) (g : A → List X) (xs : List A) → sum_by f (flat_map g xs) ≡ sum_by (λ x. sum_by f (g x)) xs
@@ -31,7 +29,7 @@ sum_set f g xs i y d below = simp sum_flat (sum_by-set (λ x. sum_by f (g x)) xs
 
 module _ (f : Key → ℕ) where
   sum_in_place : (key : Key) (new keys : List Key) → Contains keys key → sum_by f (in_place_of key new keys) + f key ≡ sum_by f keys + sum_by f new
-  sum_in_place key new [] c = absurd (contains_none key c)
+  sum_in_place key new [] c = absurd (none_in key c)
   sum_in_place key new (k ∷ keys) c = by_test (pointwise nat_eq key k) refl (sum_in_place key new keys)
     where
       by_test : (b : Bool) → pointwise nat_eq key k ≡ b → (Contains keys key → sum_by f (in_place_of key new keys) + f key ≡ sum_by f keys + sum_by f new)

@@ -1,4 +1,4 @@
--- Facts of lists that a test finds, for the trials of definitions.
+-- Facts of lists: what is in them, and what a test finds.
 use Rattle.std.proofs.Common.{ℕ, suc, ◌≡◌, ◌≢◌, Bool, true, false, not, ◌&&◌, List, [], ◌∷◌, ◌++◌, refl, sym, ap, ◌∙◌, true≢false, arith}
 use Rattle.std.specs.Prelude.{nat_eq, All, Contains}
 use Rattle.std.specs.List.{list_all}
