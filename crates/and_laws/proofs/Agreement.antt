@@ -4,7 +4,7 @@ use Rattle.std.proofs.Common.{ℕ, ◌≡◌, ◌≤◌, List, [], ◌∷◌, �
 use Rattle.and_model.specs.Terms.{Path, Term}
 use Rattle.and_model.specs.Programs.{Program, Item, call, equal, arithmetic, fail, clause_at, Of}
 use Rattle.and_model.specs.Trees.{Agenda, end, goal, equation, reckoning, agenda, query_agenda, Tree, done, left, by, equate, reckon, fresh, Below, both_done, both_left, both_by, grown, both_equate, both_reckon}
-use Rattle.and_laws.specs.Prefixes.{IsPrefix}
+use Rattle.and_model.specs.Prefixes.{IsPrefix}
 use Rattle.and_laws.specs.Paths.{At}
 use Rattle.and_laws.proofs.PrefixLemmas.{prefix_front, same_after}
 use Rattle.and_laws.proofs.Order.{same_trees}

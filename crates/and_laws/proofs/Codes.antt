@@ -6,7 +6,7 @@ use Rattle.and_model.specs.Programs.{Program, clause_at}
 use Rattle.and_model.specs.Trees.{Agenda, agenda, Tree, QueryTree, query_agenda, blank, done, left, by, equate, reckon, code, decided, IsWhole, Open, IsLeftmost, reduce}
 use Rattle.and_model.specs.Codes.{IsProperPrefix}
 use Rattle.and_model.specs.Listing.{Entry, Lists, ListsFrom, Listing, answered, nothing, calls, no_more, other, heavy, light, of_query, too_heavy}
-use Rattle.and_laws.specs.Prefixes.{IsPrefix}
+use Rattle.and_model.specs.Prefixes.{IsPrefix}
 use Rattle.and_laws.specs.CodeOrder.{Before}
 use Rattle.and_laws.proofs.PrefixLemmas.{prefix_cons, prefix_then, prefix_front}
 use Rattle.and_laws.proofs.Pairwise.{all_none, all_pairs_none, all_pairs_join}

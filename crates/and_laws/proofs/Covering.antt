@@ -3,7 +3,7 @@ use Rattle.std.proofs.Common.{ℕ, ◌≡◌, List, [], ◌∷◌, ◌++◌, sym
 use Rattle.and_model.specs.Programs.{Program}
 use Rattle.and_model.specs.Trees.{QueryTree, query_agenda, HasOutcome, Below, code, decided}
 use Rattle.and_model.specs.Reached.{Step, Dead, Split, ReachedBy}
-use Rattle.and_laws.specs.Prefixes.{IsPrefix}
+use Rattle.and_model.specs.Prefixes.{IsPrefix}
 use Rattle.and_laws.specs.Outcomes.{Covers}
 use Rattle.and_laws.proofs.PrefixLemmas.{prefix_then, prefix_more, same_after}
 use Rattle.and_laws.proofs.Order.{blank_below}

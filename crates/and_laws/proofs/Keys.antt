@@ -3,7 +3,7 @@ use Rattle.std.proofs.Common.{ℕ, ◌≡◌, List, [], ◌∷◌, ◌++◌, ref
 use Rattle.and_model.specs.Programs.{Program, clause_at, Of}
 use Rattle.and_model.specs.Trees.{Agenda, goal, Tree, QueryTree, query_agenda, blank, done, left, by, equate, reckon, decided, Open, call_of, fresh, reduce, IsLeftmost, Below, both_done, both_left, both_by, grown, both_equate, both_reckon}
 use Rattle.and_model.specs.Reached.{Shut, Split, Steps, none, more, ReachedBy}
-use Rattle.and_laws.specs.Prefixes.{IsPrefix}
+use Rattle.and_model.specs.Prefixes.{IsPrefix}
 use Rattle.and_laws.proofs.PrefixLemmas.{prefix_cons, prefix_then, same_last, not_empty}
 use Rattle.and_laws.proofs.Order.{below_then, blank_below, same_trees}
 use Rattle.and_laws.proofs.Splitting.{reduce_same, split_same}

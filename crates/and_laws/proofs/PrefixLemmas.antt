@@ -1,6 +1,6 @@
 -- Prefixes: how they are put together, and what an element after a prefix tells.
 use Rattle.std.proofs.Common.{ℕ, ◌≡◌, List, [], ◌∷◌, ◌++◌, append_assoc, refl, ap, ◌∙◌}
-use Rattle.and_laws.specs.Prefixes.{IsPrefix}
+use Rattle.and_model.specs.Prefixes.{IsPrefix}
 
 pub prefix_cons : (c : ℕ) (xs ys : List ℕ) → IsPrefix xs ys → IsPrefix (c ∷ xs) (c ∷ ys)
 prefix_cons c xs ys b = (b.0, ap (λ l. c ∷ l) b.1)

@@ -3,7 +3,7 @@ use Rattle.std.proofs.Common.{ℕ, ◌≡◌, [], ◌∷◌, ◌++◌, refl, sym
 use Rattle.and_model.specs.Programs.{Program, clause_at, Of}
 use Rattle.and_model.specs.Trees.{Agenda, Tree, done, left, by, equate, reckon, code, decided, Open, call_of, fresh, reduce, IsLeftmost, Below, both_by, both_equate, both_reckon, HasOutcome}
 use Rattle.and_model.specs.Reached.{Shut, Split}
-use Rattle.and_laws.specs.Prefixes.{IsPrefix}
+use Rattle.and_model.specs.Prefixes.{IsPrefix}
 use Rattle.and_laws.proofs.PrefixLemmas.{prefix_cons, same_after}
 use Rattle.and_laws.proofs.Order.{below_self, same_trees}
 use Rattle.and_laws.proofs.Picking.{Picked, picked, picked_candidate}

@@ -1,4 +1,3 @@
-pub mod Prefixes
 pub mod Fitting
 pub mod CodeOrder
 pub mod Entries

@@ -18,7 +18,7 @@ ghost use Rattle.and_model.specs.Reductions.{Reduction, Makes};
 ghost use Rattle.and_model.specs.Lines.{line};
 ghost use Rattle.and_model.specs.Codes.{IsProperPrefix};
 ghost use Rattle.and_model.specs.Listing.{Entry, Listing, Exhausted};
-ghost use Rattle.and_laws.specs.Prefixes.{IsPrefix};
+ghost use Rattle.and_model.specs.Prefixes.{IsPrefix};
 ghost use Rattle.and_laws.specs.Paths.{At};
 ghost use Rattle.and_laws.specs.Outcomes.{Covers};
 ghost use Rattle.and_laws.specs.Fitting.{AllFit};
