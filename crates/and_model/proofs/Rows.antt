@@ -1,12 +1,12 @@
 -- Trials of the definitions.
-use Rattle.std.proofs.Common.{ℕ, ◌≡◌, List, [], ◌∷◌, ◌++◌, refl, length, pos, negsuc, Some, None}
+use Rattle.std.proofs.Common.{◌≡◌, List, [], ◌∷◌, ◌++◌, refl, length, pos, negsuc}
 use Rattle.std.specs.Prelude.{codes, get_or}
 use Rattle.std.specs.Fmt.{digits}
-use Rattle.and_model.specs.Terms.{Term, Terms, variable, number, compound, none, more, Substitution}
+use Rattle.and_model.specs.Terms.{Term, variable, number, compound, none, more, Substitution}
 use Rattle.and_model.specs.Arithmetic.{less}
-use Rattle.and_model.specs.Programs.{Program, Clause, Arithmetic, is, compare, builtin_names}
+use Rattle.and_model.specs.Programs.{Program, is, compare, builtin_names}
 use Rattle.and_model.specs.Lines.{Bytes, shown_name, line}
-use Rattle.and_model.specs.Output.{last_lines, limit_met, complete}
+use Rattle.and_model.specs.Output.{last_lines, limit_met}
 
 names : length builtin_names ≡ 27
 names = refl

@@ -1,9 +1,9 @@
 -- A name with arguments, as contracts see it.
-use Rattle.std.proofs.Common.{ℕ, ◌≡◌, List, [], ◌∷◌, rules, refl, ap, sym, ◌∙◌}
+use Rattle.std.proofs.Common.{◌≡◌, rules, refl, ap, ◌∙◌}
 use Rattle.and_model.specs.Terms
 use Rattle.and_model.specs.Views.{term_of, terms_of_row, terms_of}
 use Rattle.and_model.specs.declared.numbers.NameNo.{NameNo}
-use Rattle.and_model.specs.declared.syntax.Term.{Term, Row_of-Term, end_of-Term, more_of-Term, items-the_row-Term}
+use Rattle.and_model.specs.declared.syntax.Term.{Row_of-Term, end_of-Term, more_of-Term, items-the_row-Term}
 use Rattle.and_model.specs.declared.syntax.Term.TheViews.{Compound, the_lemmas}
 use Rattle.and_model.specs.declared.syntax.Terms.{Terms}
 use Rattle.and_model.specs.declared.syntax.Term.TheBlock.{hidden-the_row-Term-0}

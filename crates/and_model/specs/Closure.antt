@@ -1,5 +1,5 @@
 -- Arithmetic goals that wait until their terms are ground, and what equations become when those that can run have run (this project's own).
-use Rattle.std.specs.Prelude.{ℕ, ℤ, ◌≡◌, Bool, true, false, not, cond, List, [], ◌∷◌, ◌++◌, Option, Some, None}
+use Rattle.std.specs.Prelude.{ℤ, ◌≡◌, Bool, true, false, not, cond, List, [], ◌∷◌, ◌++◌, Option, Some, None}
 use Rattle.and_model.specs.Terms.{Term, Terms, number, none, more, are_ground, Substitution, apply_all}
 use Rattle.and_model.specs.Solutions.{Equation, Solves, Solvable, falsehood}
 use Rattle.and_model.specs.Arithmetic.{value, holds}

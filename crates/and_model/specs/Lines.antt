@@ -1,9 +1,9 @@
 -- How an answer is written (the canonical form of ISO 13211-1, section 7.10.5, with lists in brackets; the line is this project's own).
-use Rattle.std.specs.Prelude.{ℕ, suc, ◌+◌, Bool, true, false, not, cond, ◌&&◌, ◌||◌, List, [], ◌∷◌, ◌++◌, get_or, nat_eq, leb, pos, codes, map, ◌==◌, ℤ}
+use Rattle.std.specs.Prelude.{ℕ, suc, Bool, true, false, not, cond, ◌&&◌, ◌||◌, List, [], ◌∷◌, ◌++◌, get_or, nat_eq, leb, codes, map}
 use Rattle.std.specs.Fmt.{decimal, signed_decimal}
-use Rattle.and_model.specs.Terms.{Path, Term, Terms, variable, number, compound, none, more, variables_of, variables_in, Substitution, apply}
+use Rattle.and_model.specs.Terms.{Path, Term, Terms, variable, number, compound, none, more, variables_of, Substitution, apply}
 use Rattle.and_model.specs.Arithmetic.{Relation, less, greater, at_most, at_least, same, differs}
-use Rattle.and_model.specs.Programs.{Program, Clause, Arithmetic, is, compare}
+use Rattle.and_model.specs.Programs.{Program, Arithmetic, is, compare}
 
 -- A text is a list of bytes.
 abbrev pub Bytes : Type 0

@@ -1,7 +1,7 @@
 -- Outcomes of proofs, and the listing of all within a limit: the answers of the SLD tree, in textual order (Lloyd, sections 7 and 9).
-use Rattle.std.specs.Prelude.{ℕ, suc, ◌+◌, ◌≡◌, ◌<◌, ◌≤◌, ◌↔◌, true, false, List, [], ◌∷◌, ◌++◌, length}
+use Rattle.std.specs.Prelude.{ℕ, suc, ◌+◌, ◌≡◌, ◌<◌, ◌≤◌, ◌↔◌, false, List, [], ◌∷◌, ◌++◌, length}
 use Rattle.and_model.specs.Terms.{Substitution}
-use Rattle.and_model.specs.Solutions.{Equation, Solvable, MostGeneral}
+use Rattle.and_model.specs.Solutions.{Equation, MostGeneral}
 use Rattle.and_model.specs.Programs.{Program, Arithmetic, clause_at, clause_weight, is_of, Of}
 use Rattle.and_model.specs.Trees.{QueryTree, query_agenda, blank, Open, IsLeftmost, IsWhole, HasOutcome, Closed, call_of, reduce, weight, code}
 use Rattle.and_model.specs.Lines.{Bytes, line}

@@ -1,11 +1,11 @@
 -- What a run writes.
-use Rattle.std.specs.Prelude.{ℕ, ◌+◌, ◌-◌, ◌^◌, ◌≡◌, ◌<◌, ◌≤◌, ◌⊎◌, min, List, [], ◌∷◌, ◌++◌, Option, Some, codes}
+use Rattle.std.specs.Prelude.{ℕ, ◌+◌, ◌-◌, ◌^◌, ◌≡◌, ◌<◌, ◌≤◌, ◌⊎◌, min, List, [], ◌∷◌, ◌++◌, Some, codes}
 use Rattle.std.specs.Fmt.{decimal}
 use Rattle.and_model.specs.Solutions.{Equation, Solvable}
 use Rattle.and_model.specs.Programs.{Program, Arithmetic, clause_at, clause_weight, Of}
 use Rattle.and_model.specs.Trees.{QueryTree, unfold_code, Open, IsLeftmost, Closed, call_of, weight}
 use Rattle.and_model.specs.Lines.{Bytes}
-use Rattle.and_model.specs.Listing.{Outcome, line_of, Entry, Listing}
+use Rattle.and_model.specs.Listing.{line_of, Entry, Listing}
 
 -- How a run ends: some branch outgrew the limit; or none did, and the numbers of forks and of failed branches may be told.
 pub data Finish : Type 0 where

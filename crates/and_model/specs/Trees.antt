@@ -1,6 +1,6 @@
 -- Unfoldings of a query, in which some calls may be left open (SLD derivations, Lloyd, section 7; partial trees of the basic Andorra model).
 use Rattle.std.proofs.Common.{inl, inr}
-use Rattle.std.specs.Prelude.{ℕ, suc, ◌+◌, ◌≡◌, Bool, true, false, List, [], ◌∷◌, ◌++◌, ◌⊎◌, Option, Some, None, refl}
+use Rattle.std.specs.Prelude.{ℕ, suc, ◌+◌, ◌≡◌, true, false, List, [], ◌∷◌, ◌++◌, ◌⊎◌, Option, Some, None, refl}
 use Rattle.and_model.specs.Terms.{Path, Term, framed}
 use Rattle.and_model.specs.Solutions.{Equation, Solvable, falsehood}
 use Rattle.and_model.specs.Programs.{Program, Item, call, equal, arithmetic, fail, Arithmetic, clause_at, clause_weight, is_of, Of, head_in, arithmetic_in}

@@ -1,5 +1,5 @@
 -- The terms and clauses that values of the code stand for.
-use Rattle.std.specs.Prelude.{ℕ, ◌≡◌, List, [], ◌∷◌, map}
+use Rattle.std.specs.Prelude.{List, [], ◌∷◌}
 use Rattle.and_model.specs.Terms
 use Rattle.and_model.specs.declared.syntax.Term.{Term, Variable, Number, Compound', Row_of-Term, end_of-Term, more_of-Term}
 
