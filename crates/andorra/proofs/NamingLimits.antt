@@ -1,4 +1,4 @@
--- Trees whose equations have no solution list nothing; and which trees outgrow a limit.
+-- Trees that lead to no outcome list nothing; and which trees outgrow a limit.
 use Rattle.std.proofs.Common.{ℕ, ◌≡◌, ◌≤◌, ◌<◌, ◌+◌, List, [], ◌∷◌, refl, ap, sym, ◌∙◌, subst, inl, inr, arith, suc, zero, length, Bool, true, false, true≢false, Option, Some, None}
 use Rattle.std.specs.Prelude.{◌↔◌}
 use Rattle.std.proofs.lemmas.Bool.{cases_lt}
@@ -10,6 +10,7 @@ use Rattle.and_model.specs.Output.{OverLeft}
 use Rattle.and_laws.proofs.Closing.{closes_anyhow, closing_keeps}
 use Rattle.and_laws.proofs.Deciding.{of_bounds}
 use Rattle.and_laws.proofs.Equality.{bool_cases}
+use Rattle.and_laws.proofs.Keeping.{dead_has_none}
 use Rattle.and_laws.proofs.Order.{below_self, below_then, reduce_above, below_equations, whole_has_none, open_or_whole, same_proof, reduce_weight, clause_weighs}
 use Rattle.and_laws.proofs.Splitting.{leftmost, leftmost_same}
 use Rattle.and_laws.proofs.Unfolding.{extend_leftmost}
@@ -26,7 +27,19 @@ closed_solvable t es gs x so = (so.0, closing_keeps (equations t) (arithmetics t
 pub unsolvable_outcome : {P : Program} {ag : Agenda} (t : Tree P ag) → (Solvable (equations t) → ⊥) → HasOutcome t → ⊥
 unsolvable_outcome t n out = n (closed_solvable t out.0 out.1 out.3 out.4)
 
--- so it lists nothing,
+-- No tree above has an outcome.
+abbrev pub NoOutcomeAbove : {P : Program} {ag : Agenda} → Tree P ag → Type 0
+NoOutcomeAbove {P} {ag} t = (u : Tree P ag) → Below P ag t u → HasOutcome u → ⊥
+
+-- So it is where the equations have no solution,
+pub unsolvable_none : {P : Program} {ag : Agenda} (t : Tree P ag) → (Solvable (equations t) → ⊥) → NoOutcomeAbove t
+unsolvable_none t un u b out = unsolvable_outcome u (unsolvable_above b un) out
+
+-- and where the closed ones have none.
+pub closed_none : {P : Program} {ag : Agenda} (t : Tree P ag) (es : List Equation) (gs : List Arithmetic) → Closed t es gs → (Solvable es → ⊥) → NoOutcomeAbove t
+closed_none t es gs x un u b out = dead_has_none t u b out (es, gs, x, inl un)
+
+-- Such a tree lists nothing,
 module _ (P : Program) (limit : ℕ) where
   nothing_from : (t : QueryTree P) (o : Open t) → ((c : ℕ) (h : Of P (call_of t o) c) → weight t + clause_weight (clause_at P c) ≤ limit → Lists P limit (reduce t o c h) [])
       → (n : ℕ) (c : ℕ) → length P.clauses < n + c → ListsFrom P limit t o c []
@@ -44,22 +57,25 @@ module _ (P : Program) (limit : ℕ) where
         ]
       ]
 
-  nothing_under : (t : QueryTree P) → (Solvable (equations t) → ⊥) → ((o : Open t) (c : ℕ) (h : Of P (call_of t o) c) → weight t + clause_weight (clause_at P c) ≤ limit → Lists P limit (reduce t o c h) [])
+  nothing_under : (t : QueryTree P) → NoOutcomeAbove t → ((o : Open t) (c : ℕ) (h : Of P (call_of t o) c) → weight t + clause_weight (clause_at P c) ≤ limit → Lists P limit (reduce t o c h) [])
       → Lists P limit t []
-  nothing_under t un each =
+  nothing_under t none each =
       elim (open_or_whole t) [
-        | inr whole ↦ nothing t whole (unsolvable_outcome t un)
+        | inr whole ↦ nothing t whole (none t (below_self t))
         | inl any ↦ let m = leftmost t any in calls t m.0 [] m.1 (nothing_from t m.0 (each m.0) (length P.clauses) 1 (omega arith))
       ]
 
   -- by induction on what is left of the limit.
-  nothing_within : (n : ℕ) (t : QueryTree P) → limit < n + weight t → (Solvable (equations t) → ⊥) → Lists P limit t []
-  nothing_within zero t h un = nothing_under t un (λ o c k small. absurd (let w = clause_weighs (clause_at P c) in omega arith))
-  nothing_within (suc n) t h un =
-      nothing_under t un (λ o c k small. nothing_within n (reduce t o c k) (omega (arith, reduce_weight t o c k, clause_weighs (clause_at P c))) (unsolvable_above (reduce_above t o c k) un))
+  nothing_within : (n : ℕ) (t : QueryTree P) → limit < n + weight t → NoOutcomeAbove t → Lists P limit t []
+  nothing_within zero t h none = nothing_under t none (λ o c k small. absurd (let w = clause_weighs (clause_at P c) in omega arith))
+  nothing_within (suc n) t h none =
+      nothing_under t none (λ o c k small. nothing_within n (reduce t o c k) (omega (arith, reduce_weight t o c k, clause_weighs (clause_at P c))) (λ u b. none u (below_then b (reduce_above t o c k))))
+
+pub none_lists : (P : Program) (limit : ℕ) (t : QueryTree P) → NoOutcomeAbove t → Lists P limit t []
+none_lists P limit t none = nothing_within P limit (suc limit) t (omega arith) none
 
 pub unsolvable_lists : (P : Program) (limit : ℕ) (t : QueryTree P) → (Solvable (equations t) → ⊥) → Lists P limit t []
-unsolvable_lists P limit t un = nothing_within P limit (suc limit) t (omega arith) un
+unsolvable_lists P limit t un = none_lists P limit t (unsolvable_none t un)
 
 -- No other clause than one of the leftmost goal's predicate extends a tree,
 none_of : (b : Bool) → b ≡ false → (elim b as (λ x. Option (x ≡ true)) [ true ↦ Some refl | false ↦ None ]) ≡ None

@@ -1,6 +1,6 @@
 -- Terms whose variables are cells, and what bindings of cells say. (The cell n is the variable of number n under the empty path.)
-use Rattle.std.specs.Prelude.{ℕ, ◌+◌, ◌<◌, ◌≡◌, Bool, cond, List, [], ◌∷◌, length, get_or, Option, Some, slice_get, vec_len, true}
-use Rattle.and_model.specs.Terms.{Path, Term, Terms, variable, number, compound, none, more, Substitution, apply}
+use Rattle.std.specs.Prelude.{ℕ, ◌+◌, ◌<◌, ◌≡◌, cond, List, [], ◌∷◌, vec_len, true}
+use Rattle.and_model.specs.Terms.{Path, Term, variable, Substitution, apply}
 use Rattle.and_model.specs.Solutions.{Equation}
 use Rattle.and_model.specs.Lines.{same_variable}
 use Rattle.and_model.specs.Views.{term_of}

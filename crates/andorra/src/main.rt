@@ -1,7 +1,46 @@
-//! Andorra-I for pure Prolog.
+//! Andorra-I for pure Prolog: `andorra run` reads a program from standard input and writes its answers.
 #![tactic(auto)]
 
 mod bindings;
+mod engine;
 mod placed;
+mod printing;
+mod printing_names;
+mod printing_terms;
+mod printing_variables;
+mod rows;
+mod search;
+mod top;
+mod unifying;
 
-fn main(_rt: HostRuntime) {}
+use and_io::{Quiet, StdSink, StdSource};
+use std::alloc::Global;
+use std::env;
+use std::io;
+use std::process::ExitCode;
+use top::{Status, andorra};
+
+/// The words of the command line, without the program's name.
+fn words_of(rt: &HostRuntime, alloc: Global) -> io::Result<Vec<String>> {
+    let mut words = Vec::new(alloc);
+    for word in env::args(rt)?.skip(1) {
+        words.push(word)?;
+    }
+    Ok(words)
+}
+
+fn main(rt: HostRuntime) -> ExitCode {
+    let alloc = rt.alloc();
+    let words = match words_of(&rt, alloc) {
+        Ok(words) => words,
+        Err(error) if error.kind() == io::ErrorKind::OutOfMemory => {
+            return ExitCode::from(Status::Memory as u8);
+        }
+        // A word that is no text is no word of a command.
+        Err(_) => Vec::new(alloc),
+    };
+    let mut source = StdSource::new(rt.stdin());
+    let mut sink = StdSink::new(rt.stdout());
+    let status = andorra(&rt, alloc, &words, &mut source, &mut sink, &Quiet);
+    ExitCode::from(status as u8)
+}

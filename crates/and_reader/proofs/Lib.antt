@@ -1,0 +1,11 @@
+pub mod Rows
+pub mod Lexing
+pub mod Names
+pub mod Parsing
+pub mod Views
+pub mod Grammar
+pub mod Texts
+pub mod Bounded
+pub mod Entries
+pub mod Knowing
+pub mod Loading

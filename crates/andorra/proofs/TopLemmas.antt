@@ -1,0 +1,106 @@
+-- From what the search found to what the top call says of it.
+use Rattle.std.proofs.Common.{ℕ, ◌≡◌, ◌≢◌, ◌<◌, ◌↔◌, Bool, true, false, List, [], ◌∷◌, ◌++◌, length, length-append, take, map, refl, sym, ap, ◌∙◌, subst, arith, Option, Some, None, MatchOption, if◌then◌else◌, IsTrue, codes}
+use Rattle.and_io.specs.Flow.{Gains, Takes, AreAll}
+use Rattle.and_io.specs.ReadAll.{ReadsUpTo}
+use Rattle.and_io.specs.declared.reading.ReadAll.{ReadAll}
+use Rattle.and_io.specs.declared.reading.ReadAll.TheVariants.{Whole, Over}
+use Rattle.and_model.specs.Lines.{Bytes}
+use Rattle.and_model.specs.Programs.{Program}
+use Rattle.and_model.specs.Listing.{Entry, Listing}
+use Rattle.and_model.specs.Output.{lines_of, last_lines, complete, limit_met, OverLeft}
+use Rattle.and_reader.specs.Numbering.{Reads}
+use Rattle.andorra.specs.declared.search.Found.{Found}
+use Rattle.andorra.specs.declared.search.Outgrown.{Outgrown}
+use Rattle.andorra.specs.declared.top.Status.{Status}
+use Rattle.andorra.specs.declared.top.Status.TheVariants.{Answers, NoAnswer, Usage, Refused, ReadFault, WriteFault, Limit, Memory, Floundered}
+use Rattle.andorra.specs.Searching.{NoneOver, IsFound}
+use Rattle.andorra.specs.Top.{limit, FindsAll, FindsSome, IsNoText, WasAnswered, IsLast, Answered, Responds, GainsPrefix, Due, answers, no_text, refusal, Told}
+use Rattle.andorra.proofs.Exhausting.{none_over_exhausts}
+
+not_empty_or : (ls : List Entry) → ((ls ≢ []) → ⊥) → ls ≡ []
+not_empty_or [] h = refl
+not_empty_or (e ∷ es) h = absurd (h (λ q. cc))
+
+finds_all : (P : Program) (bytes lines : Bytes) (ls : List Entry) (has : List Entry → Type 0) → Reads bytes P → Listing P limit ls → NoneOver P limit → lines ≡ lines_of ls ++ last_lines complete → has ls → FindsAll has bytes lines
+finds_all P bytes lines ls has reads listing none is h = (P, ls, reads, (ls, listing, is), none, none_over_exhausts P limit none, listing, h)
+
+last_all : (any : Bool) (P : Program) (bytes lines : Bytes) (ls : List Entry) → Reads bytes P → Listing P limit ls → NoneOver P limit → lines ≡ lines_of ls ++ last_lines complete
+    → (IsTrue any ↔ (ls ≢ [])) → WasAnswered (if any then Answers else NoAnswer) bytes lines
+last_all true P bytes lines ls reads listing none is any = finds_all P bytes lines ls (λ ls. ls ≢ []) reads listing none is (any.0 refl)
+last_all false P bytes lines ls reads listing none is any = finds_all P bytes lines ls (λ ls. ls ≡ []) reads listing none is (not_empty_or ls (λ h. let bad : false ≡ true = any.1 h in absurd (cc)))
+
+-- the last line goes with what was found
+pub replied : (outgrown : Option Outgrown) (P : Program) (f : Found) (status : Status) (bytes lines : Bytes) → outgrown ≡ f.outgrown → Reads bytes P → IsFound P limit f → IsLast f status lines → WasAnswered status bytes lines
+replied None P f status bytes lines is reads found last =
+    let over : NoneOver P limit = subst (λ o. MatchOption o (NoneOver P limit) (λ g. OverLeft P limit g.code g.clause.0)) (sym is) found.4 in
+    let done : (lines ≡ f.lines ++ last_lines complete) × (status ≡ if f.any then Answers else NoAnswer) = subst (λ o. MatchOption o ((lines ≡ f.lines ++ last_lines complete) × (status ≡ if f.any then Answers else NoAnswer)) (λ g. (lines ≡ f.lines ++ last_lines limit_met) × (status ≡ Limit))) (sym is) last in
+    subst (λ s. WasAnswered s bytes lines) (sym done.1)
+      (last_all f.any P bytes lines found.0 reads found.1 over (done.0 ∙ ap (λ l. l ++ last_lines complete) found.2) found.3)
+replied (Some g) P f status bytes lines is reads found last =
+    let over : OverLeft P limit g.code g.clause.0 = subst (λ o. MatchOption o (NoneOver P limit) (λ g. OverLeft P limit g.code g.clause.0)) (sym is) found.4 in
+    let done : (lines ≡ f.lines ++ last_lines limit_met) × (status ≡ Limit) = subst (λ o. MatchOption o ((lines ≡ f.lines ++ last_lines complete) × (status ≡ if f.any then Answers else NoAnswer)) (λ g. (lines ≡ f.lines ++ last_lines limit_met) × (status ≡ Limit))) (sym is) last in
+    subst (λ s. WasAnswered s bytes lines) (sym done.1)
+      (P, g.code, g.clause.0, reads, (found.0, found.1, done.0 ∙ ap (λ l. l ++ last_lines limit_met) found.2), over)
+
+module _ (old new : Option Bytes) (bytes out : Bytes) where
+  -- a text is answered with what is due to it
+  pub is_due : (status : Status) → WasAnswered status bytes out → Due bytes out
+  is_due Answers w = answers w.0 complete out w.2 w.3
+  is_due NoAnswer w = answers w.0 complete out w.2 w.3
+  is_due Usage w = elim w [ ]
+  is_due Refused w = subst (λ o. Due bytes o) (sym w.1) (no_text w.0)
+  is_due ReadFault w = elim w [ ]
+  is_due WriteFault w = elim w [ ]
+  is_due Limit w = answers w.0 limit_met out w.3 w.4
+  is_due Memory w = elim w [ ]
+  is_due Floundered w = elim w [ ]
+
+  -- and where that was written, so it is
+  pub was_written : (status : Status) → WasAnswered status bytes out → Gains old new out → Answered old new status bytes × (status ≢ ReadFault)
+  was_written Answers w g = ((out, w, g), λ e. cc)
+  was_written NoAnswer w g = ((out, w, g), λ e. cc)
+  was_written Usage w g = elim w [ ]
+  was_written Refused w g = ((w.0, subst (λ o. Gains old new o) w.1 g), λ e. cc)
+  was_written ReadFault w g = elim w [ ]
+  was_written WriteFault w g = elim w [ ]
+  was_written Limit w g = ((out, w, g), λ e. cc)
+  was_written Memory w g = elim w [ ]
+  was_written Floundered w g = elim w [ ]
+
+  -- the reply was written, or a prefix of it
+  pub responded : (status result : Status) → WasAnswered status bytes out → (result ≢ WriteFault → (result ≡ status) × Gains old new out) → (result ≡ WriteFault → GainsPrefix old new out)
+      → Answered old new result bytes × (result ≢ ReadFault)
+  responded status WriteFault w ok bad = ((out, is_due status w, bad refl), λ e. cc)
+  responded status Answers w ok bad = let k = ok (λ e. cc) in was_written Answers (subst (λ s. WasAnswered s bytes out) (sym k.0) w) k.1
+  responded status NoAnswer w ok bad = let k = ok (λ e. cc) in was_written NoAnswer (subst (λ s. WasAnswered s bytes out) (sym k.0) w) k.1
+  responded status Usage w ok bad = let k = ok (λ e. cc) in was_written Usage (subst (λ s. WasAnswered s bytes out) (sym k.0) w) k.1
+  responded status Refused w ok bad = let k = ok (λ e. cc) in was_written Refused (subst (λ s. WasAnswered s bytes out) (sym k.0) w) k.1
+  responded status ReadFault w ok bad = let k = ok (λ e. cc) in was_written ReadFault (subst (λ s. WasAnswered s bytes out) (sym k.0) w) k.1
+  responded status Limit w ok bad = let k = ok (λ e. cc) in was_written Limit (subst (λ s. WasAnswered s bytes out) (sym k.0) w) k.1
+  responded status Memory w ok bad = let k = ok (λ e. cc) in was_written Memory (subst (λ s. WasAnswered s bytes out) (sym k.0) w) k.1
+  responded status Floundered w ok bad = let k = ok (λ e. cc) in was_written Floundered (subst (λ s. WasAnswered s bytes out) (sym k.0) w) k.1
+
+-- no text is larger than the largest
+pub too_large : (bytes : Bytes) → 1048576 < length bytes → IsNoText bytes
+too_large bytes h = λ P r. let s = r.1.size in absurd (omega (arith, h, s))
+
+module _ (old new : Option Bytes) where
+  -- what was read is what was left, or more than the largest text
+  pub told : (left rest : Option Bytes) (read : ReadAll) (status : Status) → ReadsUpTo 1048576 left rest read → Responds old new status read → Told left (Answered old new status)
+  told None rest read status r a = tt
+  told (Some bytes) rest (Whole text) status r a = let same : bytes ≡ text = r.1 in subst (λ b. Answered old new status b) (sym same) a.0
+  told (Some bytes) rest (Over text) status r a = over status a
+    where
+      large : 1048576 < length bytes
+      large = let e = r.0.2 in let n = r.1 in omega (arith, ap length e, length-append text r.0.0)
+
+      over : (s : Status) → Responds old new s (Over text) → Answered old new s bytes
+      over Refused g = (too_large bytes large, g)
+      over WriteFault g = (refusal, no_text (too_large bytes large), g)
+      over Answers g = elim g [ ]
+      over NoAnswer g = elim g [ ]
+      over Usage g = elim g [ ]
+      over ReadFault g = elim g [ ]
+      over Limit g = elim g [ ]
+      over Memory g = elim g [ ]
+      over Floundered g = elim g [ ]

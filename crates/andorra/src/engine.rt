@@ -1,0 +1,302 @@
+//! The first engine: one thread, the leftmost goal first, clauses in textual order.
+
+ghost use Rattle.std.specs.Prelude.{◌≡◌, ◌≢◌, ◌<◌, ◌≤◌, ◌^◌, ◌+◌, ℕ, List, [], ◌∷◌, ◌++◌, ◌-◌, Some, None, false, IfOk, IfSome, IsSome, OnOk, All, map, take, length, vec_len};
+ghost use Rattle.and_model.specs.Programs.{clause_weight, same_predicate};
+ghost use Rattle.and_model.specs.Views.{term_of};
+ghost use Rattle.and_reader.specs.Programs.{clause_of, program_of};
+ghost use Rattle.andorra.specs.Cells.{cells_of, made_of};
+ghost use Rattle.andorra.specs.Solved.{IsValid};
+ghost use Rattle.andorra.specs.Search.{AddsAtMost, Arrives, ArePlaced, Goes, Outgrows, GoalsFrom, IsLimited, PutsOn, Takes, Tries, program, stack, turns};
+ghost use Rattle.andorra.specs.Searching.{IsFound};
+ghost use Rattle.andorra.specs.declared.placed.Placed.{Placed};
+
+use crate::bindings::Bindings;
+use crate::placed::Placed;
+use crate::printing::show_line;
+use crate::search::{Choice, Found, Outgrown, Pending, Search};
+use and_model::{ClauseNo, Code, Term, Terms, Text};
+use and_reader::{Clause, Loaded};
+use std::alloc::{AllocError, Global};
+
+/// The same name and number of arguments.
+fn are_of_one_predicate(call: &Term, head: &Term) -> bool
+    ensures { result ≡ same_predicate (term_of call.now) (term_of head.now) }
+{
+    match call {
+        Term::Variable(_) | Term::Number(_) => false,
+        Term::Compound { name, arguments } => match head {
+            Term::Variable(_) | Term::Number(_) => false,
+            Term::Compound {
+                name: other,
+                arguments: others,
+            } => name.0 == other.0 && arguments.items.len() == others.items.len(),
+        },
+    }
+}
+
+/// The weight of a clause without arithmetic.
+fn weight_of(clause: &Clause) -> u32
+    ensures weight { result ≡ clause_weight (clause_of clause.now) }
+    ensures within { result ≤ 256 }
+{
+    1 + clause.variables.len() as u32
+}
+
+/// A clause's head, in the frame at that base.
+fn head_of<'a>(clause: &'a Clause, base: u32) -> Placed<'a>
+    ensures term { result.term.now ≡ clause.now.head }
+    ensures base { result.base ≡ base }
+{
+    Placed {
+        term: &clause.head,
+        base,
+    }
+}
+
+/// Puts a body's calls before what is pending, and gives the place of the first goal. An error is
+/// want of memory.
+fn put_body<'a>(
+    pending: &mut Vec<Pending<'a>>,
+    body: &'a Terms,
+    base: u32,
+    rest: Option<usize>,
+) -> Result<Option<usize>, AllocError>
+    ensures goals { IfOk result (λ first. (gs : List Placed) → GoalsFrom pending.old.items rest gs →
+        (hs : List Placed) × ArePlaced base body.now.items.items hs × GoalsFrom pending.new.items first (hs ++ gs)) }
+    ensures begins { OnOk result (take (vec_len pending.old) pending.new.items ≡ pending.old.items) }
+{
+    let mut first = rest;
+    let mut left = body.items.len();
+    'putting: while 0 < left {
+        left -= 1;
+        let place = pending.len();
+        pending.push(Pending {
+            call: Placed {
+                term: &body.items[left],
+                base,
+            },
+            next: first,
+        })?;
+        first = Some(place);
+    }
+    Ok(first)
+}
+
+impl<'a> Search<'a> {
+    /// Nothing is done yet.
+    fn new(alloc: Global, loaded: &'a Loaded, limit: u32) -> Search<'a>
+        ensures loaded { result.loaded.now ≡ loaded.now }
+        ensures limit { result.limit ≡ limit }
+        ensures valid { IsValid result.bindings }
+        ensures cells { cells_of result.bindings ≡ 0 }
+        ensures made { made_of result.bindings ≡ [] }
+        ensures pending { result.pending.items ≡ [] }
+        ensures choices { result.choices.items ≡ [] }
+        ensures lines { result.found.lines ≡ [] }
+        ensures any { result.found.any ≡ false }
+        ensures outgrown { result.found.outgrown ≡ None }
+    {
+        Search {
+            loaded,
+            limit,
+            bindings: Bindings::new(alloc),
+            pending: Vec::new(alloc),
+            choices: Vec::new(alloc),
+            found: Found {
+                lines: Text::new(alloc),
+                any: false,
+                outgrown: None,
+            },
+        }
+    }
+
+    /// Keeps that the query alone outgrew the limit.
+    fn keep_query(&mut self, alloc: Global)
+        ensures lines { self.new.found.lines ≡ self.old.found.lines }
+        ensures any { self.new.found.any ≡ self.old.found.any }
+        ensures outgrown { IfSome self.new.found.outgrown (λ g. (g.code ≡ []) × (g.clause.0 ≡ 0)) }
+        ensures kept { IsSome self.new.found.outgrown }
+        ensures loaded { self.new.loaded ≡ self.old.loaded }
+        ensures limit { self.new.limit ≡ self.old.limit }
+        ensures bindings { self.new.bindings ≡ self.old.bindings }
+        ensures pending { self.new.pending ≡ self.old.pending }
+        ensures choices { self.new.choices ≡ self.old.choices }
+    {
+        self.found.outgrown = Some(Outgrown {
+            code: Code::new(alloc),
+            clause: ClauseNo(0),
+        });
+    }
+
+    /// Makes a choicepoint of the branch that the search came to, at its first goal.
+    fn choose(&mut self, goal: usize, weight: u32) -> Result<(), AllocError>
+        requires { Arrives self.old (Some goal) weight }
+        ensures goes { OnOk result (Goes self.new) }
+        ensures one { OnOk result (PutsOn weight self.old.choices.items self.new.choices.items) }
+        ensures loaded { self.new.loaded ≡ self.old.loaded }
+        ensures limit { self.new.limit ≡ self.old.limit }
+    {
+        self.choices.push(Choice {
+            goal,
+            clause: 1,
+            weight,
+            made: self.bindings.made(),
+            cells: self.bindings.cells(),
+            goals: self.pending.len(),
+        })?;
+        Ok(())
+    }
+
+    /// Writes the answer that the search came to.
+    fn answer(&mut self, alloc: Global, weight: u32) -> Result<(), AllocError>
+        requires { Arrives self.old None weight }
+        ensures goes { OnOk result (Goes self.new) }
+        ensures same { self.new.choices.items ≡ self.old.choices.items }
+        ensures loaded { self.new.loaded ≡ self.old.loaded }
+        ensures limit { self.new.limit ≡ self.old.limit }
+    {
+        let line = show_line(alloc, self.loaded, &self.bindings)?;
+        self.found.lines.append(line.bytes())?;
+        self.found.lines.append(b"\n")?;
+        self.found.any = true;
+        Ok(())
+    }
+
+    /// Goes on with the branch that the search came to: at its first goal, or, where none is left,
+    /// with its answer.
+    fn enter(
+        &mut self,
+        alloc: Global,
+        goal: Option<usize>,
+        weight: u32,
+    ) -> Result<(), AllocError>
+        requires { Arrives self.old goal weight }
+        ensures goes { OnOk result (Goes self.new) }
+        ensures one { OnOk result (PutsOn weight self.old.choices.items self.new.choices.items) }
+        ensures loaded { self.new.loaded ≡ self.old.loaded }
+        ensures limit { self.new.limit ≡ self.old.limit }
+    {
+        match goal {
+            Some(goal) => self.choose(goal, weight),
+            None => self.answer(alloc, weight),
+        }
+    }
+
+    /// Takes the goal of the topmost choicepoint by a clause of its predicate that fits.
+    fn take(
+        &mut self,
+        alloc: Global,
+        choice: Choice,
+        clause: &'a Clause,
+        weight: u32,
+    ) -> Result<(), AllocError>
+        requires { Takes self.old choice clause.now weight }
+        ensures goes { OnOk result (Goes self.new) }
+        ensures one { OnOk result (PutsOn weight self.old.choices.items self.new.choices.items) }
+        ensures loaded { self.new.loaded ≡ self.old.loaded }
+        ensures limit { self.new.limit ≡ self.old.limit }
+    {
+        self.bindings.retreat(choice.made, choice.cells);
+        self.pending.truncate(choice.goals);
+        let goal = self.pending[choice.goal];
+        self.bindings.grow(clause.variables.len() as u32)?;
+        let head = head_of(clause, choice.cells);
+        if !self.bindings.solve(goal.call, head)? {
+            return Ok(());
+        }
+        let first = put_body(&mut self.pending, &clause.body, choice.cells, goal.next)?;
+        self.enter(alloc, first, weight)
+    }
+
+    /// Keeps a branch that outgrew the limit, unless there is one: the code of the topmost
+    /// choicepoint, and the clause that was tried there.
+    fn outgrow(&mut self, alloc: Global, choice: Choice) -> Result<(), AllocError>
+        requires { Outgrows self.old choice }
+        ensures goes { OnOk result (Goes self.new) }
+        ensures same { self.new.choices.items ≡ self.old.choices.items }
+        ensures loaded { self.new.loaded ≡ self.old.loaded }
+        ensures limit { self.new.limit ≡ self.old.limit }
+    {
+        if self.found.outgrown.is_some() {
+            return Ok(());
+        }
+        let code = code_of(alloc, &self.choices[..self.choices.len() - 1])?;
+        self.found.outgrown = Some(Outgrown {
+            code,
+            clause: ClauseNo(choice.clause as u16),
+        });
+        Ok(())
+    }
+
+    /// Tries the clause that the topmost choicepoint was at.
+    fn try_clause(&mut self, alloc: Global, choice: Choice) -> Result<(), AllocError>
+        requires { Tries self.old choice }
+        ensures goes { OnOk result (Goes self.new) }
+        ensures one { OnOk result (AddsAtMost self.old.limit choice.weight self.old.choices.items self.new.choices.items) }
+        ensures loaded { self.new.loaded ≡ self.old.loaded }
+        ensures limit { self.new.limit ≡ self.old.limit }
+    {
+        let clause = self.loaded.clause(choice.clause);
+        let goal = self.pending[choice.goal];
+        if !are_of_one_predicate(goal.call.term, &clause.head) {
+            return Ok(());
+        }
+        let weight = choice.weight + weight_of(clause);
+        if self.limit < weight {
+            return self.outgrow(alloc, choice);
+        }
+        self.take(alloc, choice, clause, weight)
+    }
+
+    /// Goes on with the topmost choicepoint: with its next clause, or without it where there is none.
+    fn go_on(&mut self, alloc: Global) -> Result<(), AllocError>
+        requires goes { Goes self.old }
+        requires some { 0 < vec_len self.old.choices }
+        ensures goes { OnOk result (Goes self.new) }
+        ensures fewer { OnOk result (turns (length (program self.old).clauses) self.old.limit self.new.choices.items < turns (length (program self.old).clauses) self.old.limit self.old.choices.items) }
+        ensures loaded { self.new.loaded ≡ self.old.loaded }
+        ensures limit { self.new.limit ≡ self.old.limit }
+    {
+        let top = self.choices.len() - 1;
+        let choice = self.choices[top];
+        if self.loaded.clause_count() < choice.clause {
+            self.choices.truncate(top);
+            return Ok(());
+        }
+        self.choices[top].clause += 1;
+        self.try_clause(alloc, choice)
+    }
+}
+
+/// The code of a branch: the clauses that its choicepoints took.
+fn code_of(alloc: Global, choices: &[Choice]) -> Result<Code, AllocError>
+    requires { All (λ c. (1 ≤ c.clause) × (c.clause ≤ 65536)) choices.now }
+    ensures { IfOk result (λ code. code ≡ map (λ c. c.clause - 1) choices.now) }
+{
+    let mut code = Code::new(alloc);
+    for choice in choices {
+        code.push(ClauseNo((choice.clause - 1) as u16))?;
+    }
+    Ok(code)
+}
+
+/// Finds all answers within the limit.
+pub fn find_all<'a>(alloc: Global, loaded: &'a Loaded, limit: u32) -> Result<Found, AllocError>
+    requires { limit ≤ 4194304 }
+    ensures { IfOk result (IsFound (program_of loaded.now) limit) }
+{
+    let mut search = Search::new(alloc, loaded, limit);
+    let query = loaded.query();
+    let weight = weight_of(query);
+    if limit < weight {
+        search.keep_query(alloc);
+        return Ok(search.found);
+    }
+    search.bindings.grow(query.variables.len() as u32)?;
+    let first = put_body(&mut search.pending, &query.body, 0, None)?;
+    search.enter(alloc, first, weight)?;
+    'searching: while !search.choices.is_empty() {
+        search.go_on(alloc)?;
+    }
+    Ok(search.found)
+}

@@ -1,0 +1,273 @@
+//! Terms as they are written.
+
+ghost use Rattle.std.specs.Prelude.{◌≡◌, ◌+◌, ◌++◌, ◌<◌, ◌∷◌, [], suc, true, false, get_or, IfSome, IfNone, OnOk};
+ghost use Rattle.std.specs.Fmt.{decimal, signed_decimal};
+ghost use Rattle.and_model.specs.Terms.{compound, more, none};
+ghost use Rattle.and_model.specs.Lines.{place_of, shown_name, shown, shown_arguments, shown_rest, shown_tail, point_name};
+ghost use Rattle.and_reader.specs.Bounds.{are_bounded};
+ghost use Rattle.andorra.specs.Cells.{placed, IsWithin, cells_of};
+ghost use Rattle.andorra.specs.Solved.{IsValid, IsFreeVariable};
+ghost use Rattle.andorra.specs.Rows.{placed_all};
+ghost use Rattle.andorra.specs.Printing.{values, steps, steps_along, is_list_cell, is_empty_list, names_of, line_variables, substitution_of, value_of, task_text, task_steps, task_is_within, text_ahead, tasks_ahead, tasks_are_within, GoesOn};
+
+use and_model::{NameNo, Term, Text};
+use and_reader::Loaded;
+use indexmap::IndexSet;
+use itoa::Buffer;
+use std::alloc::{AllocError, Global};
+
+use crate::bindings::Bindings;
+use crate::placed::Placed;
+use crate::printing_names::write_name;
+use crate::rows::PlacedTerms;
+
+/// The number of the name of list cells.
+const POINT: u32 = 19;
+/// The number of the name of the empty list.
+const NIL: u32 = 20;
+
+/// What is still to be written when a term is.
+#[derive(Clone, Copy)]
+pub(crate) enum Task<'a> {
+    /// A term.
+    Whole(Placed<'a>),
+    /// The tail of a list after an element.
+    Tail(Placed<'a>),
+    /// The arguments after those that are written, and the bracket behind them.
+    Rest(PlacedTerms<'a>),
+    /// The bracket behind a list.
+    Close,
+}
+
+/// The head and the tail of a list cell.
+fn list_cell(term: Placed<'_>) -> Option<(Placed<'_>, Placed<'_>)>
+    ensures cell { IfSome result (λ c. placed term.entry ≡ compound point_name (more (placed c.0) (more (placed c.1) none))) }
+    ensures other { IfNone result (is_list_cell (placed term.entry) ≡ false) }
+{
+    match term.term {
+        Term::Compound { name, arguments } => {
+            if name.0 != POINT || arguments.items.len() != 2 {
+                return None;
+            }
+            let base = term.base;
+            let (head, tail) = (&arguments.items[0], &arguments.items[1]);
+            Some((Placed { term: head, base }, Placed { term: tail, base }))
+        }
+        Term::Variable(_) | Term::Number(_) => None,
+    }
+}
+
+/// Whether the term is the empty list.
+fn is_nil(term: Placed<'_>) -> bool
+    ensures { result ≡ is_empty_list (placed term.entry) }
+{
+    match term.term {
+        Term::Compound { name, arguments } => name.0 == NIL && arguments.items.is_empty(),
+        Term::Variable(_) | Term::Number(_) => false,
+    }
+}
+
+/// Writes a number. After want of memory the text is spent.
+fn write_number(text: &mut Text, number: i64) -> Result<(), AllocError>
+    ensures { OnOk result (text.new ≡ text.old ++ signed_decimal number) }
+{
+    text.append(Buffer::new().format(number).as_bytes())
+}
+
+/// Puts a term on the stack, and below it the arguments that follow it. After want of memory the
+/// stack is spent.
+fn push_arguments<'a>(
+    work: &mut Vec<Task<'a>>,
+    first: Placed<'a>,
+    rest: PlacedTerms<'a>,
+) -> Result<(), AllocError>
+    ensures { OnOk result (work.new.items ≡ work.old.items ++ Task.Rest rest.entry ∷ Task.Whole first.entry ∷ []) }
+{
+    work.push(Task::Rest(rest))?;
+    work.push(Task::Whole(first))?;
+    Ok(())
+}
+
+/// Puts the head of a list cell on the stack, and below it the tail. After want of memory the stack
+/// is spent.
+fn push_element<'a>(
+    work: &mut Vec<Task<'a>>,
+    head: Placed<'a>,
+    tail: Placed<'a>,
+) -> Result<(), AllocError>
+    ensures { OnOk result (work.new.items ≡ work.old.items ++ Task.Tail tail.entry ∷ Task.Whole head.entry ∷ []) }
+{
+    work.push(Task::Tail(tail))?;
+    work.push(Task::Whole(head))?;
+    Ok(())
+}
+
+/// What terms are written with: the names, the bindings, and the free cells in the order in which a
+/// line names them.
+#[derive(Clone, Copy)]
+pub(crate) struct Printer<'p, 'a> {
+    pub loaded: &'p Loaded,
+    pub bindings: &'p Bindings<'a>,
+    pub cells: &'p IndexSet<u32>,
+}
+
+impl<'a> Printer<'_, 'a> {
+    /// Writes the name of a free cell. After want of memory the text is spent.
+    fn write_cell(&self, text: &mut Text, cell: u32) -> Result<(), AllocError>
+        ensures { OnOk result (text.new ≡ text.old ++ 95 ∷ decimal (place_of ([], cell) (line_variables self.now))) }
+    {
+        let place = self.cells.get_index_of(&cell).unwrap_or(self.cells.len());
+        text.append(b"_")?;
+        text.append(Buffer::new().format(place).as_bytes())?;
+        Ok(())
+    }
+
+    /// Writes arguments in round brackets, or nothing where there are none: as far as the first of
+    /// them, and leaves the others on the stack. After want of memory the text is spent.
+    fn write_arguments(
+        &self,
+        text: &mut Text,
+        work: &mut Vec<Task<'a>>,
+        arguments: PlacedTerms<'a>,
+    ) -> Result<(), AllocError>
+        requires within { are_bounded (cells_of self.now.bindings.now) (placed_all arguments) ≡ true }
+        requires work_within { tasks_are_within (cells_of self.now.bindings.now) work.old.items ≡ true }
+        ensures {
+            let terms = values (substitution_of self.now) arguments.entry in
+            OnOk result (GoesOn self.now text.old text.new work.old.items work.new.items
+                (shown_arguments (names_of self.now) (line_variables self.now) terms) (steps_along terms)) }
+    {
+        if let Some((first, rest)) = arguments.split_first() {
+            text.append(b"(")?;
+            push_arguments(work, first, rest)?;
+        }
+        Ok(())
+    }
+
+    /// Writes arguments after others, and the bracket. After want of memory the text is spent.
+    fn write_rest(
+        &self,
+        text: &mut Text,
+        work: &mut Vec<Task<'a>>,
+        arguments: PlacedTerms<'a>,
+    ) -> Result<(), AllocError>
+        requires within { are_bounded (cells_of self.now.bindings.now) (placed_all arguments) ≡ true }
+        requires work_within { tasks_are_within (cells_of self.now.bindings.now) work.old.items ≡ true }
+        ensures {
+            let terms = values (substitution_of self.now) arguments.entry in
+            OnOk result (GoesOn self.now text.old text.new work.old.items work.new.items
+                (shown_rest (names_of self.now) (line_variables self.now) terms) (steps_along terms)) }
+    {
+        match arguments.split_first() {
+            None => text.append(b")")?,
+            Some((first, rest)) => {
+                text.append(b",")?;
+                push_arguments(work, first, rest)?;
+            }
+        }
+        Ok(())
+    }
+
+    /// Writes a term that is a number, a free cell, or a name with arguments. After want of memory
+    /// the text is spent.
+    fn write_root(
+        &self,
+        text: &mut Text,
+        work: &mut Vec<Task<'a>>,
+        value: Placed<'a>,
+    ) -> Result<(), AllocError>
+        requires valid { IsValid self.now.bindings.now }
+        requires free { IsFreeVariable (substitution_of self.now) (placed value) }
+        requires within { IsWithin (cells_of self.now.bindings.now) value }
+        requires work_within { tasks_are_within (cells_of self.now.bindings.now) work.old.items ≡ true }
+        ensures {
+            let term = value_of self.now value.entry in
+            OnOk result (GoesOn self.now text.old text.new work.old.items work.new.items
+                (shown (names_of self.now) (line_variables self.now) term) (steps term)) }
+    {
+        if let Some((head, tail)) = list_cell(value) {
+            text.append(b"[")?;
+            work.push(Task::Close)?;
+            push_element(work, head, tail)?;
+            return Ok(());
+        }
+        match value.term {
+            Term::Variable(number) => self.write_cell(text, value.base + u32::from(*number))?,
+            Term::Number(number) => write_number(text, *number)?,
+            Term::Compound { name, arguments } => {
+                write_name(text, self.loaded.name(*name))?;
+                let terms = arguments.items.as_slice();
+                let base = value.base;
+                self.write_arguments(text, work, PlacedTerms { terms, base })?;
+            }
+        }
+        Ok(())
+    }
+
+    /// Writes the tail of a list after an element. After want of memory the text is spent.
+    fn write_tail(
+        &self,
+        text: &mut Text,
+        work: &mut Vec<Task<'a>>,
+        term: Placed<'a>,
+    ) -> Result<(), AllocError>
+        requires valid { IsValid self.now.bindings.now }
+        requires within { IsWithin (cells_of self.now.bindings.now) term }
+        requires work_within { tasks_are_within (cells_of self.now.bindings.now) work.old.items ≡ true }
+        ensures {
+            let value = value_of self.now term.entry in
+            OnOk result (GoesOn self.now text.old text.new work.old.items work.new.items
+                (shown_tail (names_of self.now) (line_variables self.now) value) (steps value)) }
+    {
+        let value = self.bindings.value(term);
+        if let Some((head, tail)) = list_cell(value) {
+            text.append(b",")?;
+            push_element(work, head, tail)?;
+        } else if !is_nil(value) {
+            text.append(b"|")?;
+            self.write_root(text, work, value)?;
+        }
+        Ok(())
+    }
+
+    /// Does a task, and puts what it leaves on the stack. After want of memory the text is spent.
+    fn write_task(
+        &self,
+        text: &mut Text,
+        work: &mut Vec<Task<'a>>,
+        task: Task<'a>,
+    ) -> Result<(), AllocError>
+        requires valid { IsValid self.now.bindings.now }
+        requires within { task_is_within (cells_of self.now.bindings.now) task ≡ true }
+        requires work_within { tasks_are_within (cells_of self.now.bindings.now) work.old.items ≡ true }
+        ensures {
+            OnOk result (GoesOn self.now text.old text.new work.old.items work.new.items
+                (task_text self.now task.entry) (task_steps self.now task.entry)) }
+    {
+        match task {
+            Task::Whole(term) => self.write_root(text, work, self.bindings.value(term)),
+            Task::Tail(term) => self.write_tail(text, work, term),
+            Task::Rest(rest) => self.write_rest(text, work, rest),
+            Task::Close => text.append(b"]"),
+        }
+    }
+
+    /// Writes a term as the bindings make it. After want of memory the text is spent.
+    pub fn write_term(
+        &self,
+        alloc: Global,
+        text: &mut Text,
+        term: Placed<'a>,
+    ) -> Result<(), AllocError>
+        requires valid { IsValid self.now.bindings.now }
+        requires within { IsWithin (cells_of self.now.bindings.now) term }
+        ensures { OnOk result (text.new ≡ text.old ++ shown (names_of self.now) (line_variables self.now) (value_of self.now term.entry)) }
+    {
+        let mut work = Vec::new(alloc);
+        work.push(Task::Whole(term))?;
+        while let Some(task) = work.pop() {
+            self.write_task(text, &mut work, task)?;
+        }
+        Ok(())
+    }
+}

@@ -1,0 +1,99 @@
+//! The variables of an answer, in the order in which its line names them.
+
+ghost use Rattle.std.specs.Prelude.{◌≡◌, ◌+◌, ◌++◌, ◌<◌, [], true, map, IfOk, OnOk};
+ghost use Rattle.and_model.specs.Terms.{apply, variables_of, variables_in};
+ghost use Rattle.and_model.specs.Lines.{first_seen};
+ghost use Rattle.and_reader.specs.Bounds.{are_bounded};
+ghost use Rattle.andorra.specs.Cells.{placed, IsWithin, cells_of, made_of, meaning};
+ghost use Rattle.andorra.specs.Solved.{IsValid};
+ghost use Rattle.andorra.specs.Rows.{placed_all};
+ghost use Rattle.andorra.specs.Printing.{cell_variable, values, steps, steps_along, variables_ahead, steps_ahead, rows_are_within};
+
+use and_model::Term;
+use indexmap::IndexSet;
+use std::alloc::{AllocError, Global};
+
+use crate::bindings::Bindings;
+use crate::placed::Placed;
+use crate::rows::PlacedTerms;
+
+/// Notes the term's cell, if it is a free cell, and puts its arguments on the stack. After want of
+/// memory both are spent.
+fn note<'a>(
+    bindings: &Bindings<'a>,
+    cells: &mut IndexSet<u32>,
+    work: &mut Vec<PlacedTerms<'a>>,
+    term: Placed<'a>,
+) -> Result<(), AllocError>
+    requires valid { IsValid bindings.now }
+    requires within { IsWithin (cells_of bindings.now) term }
+    requires work_within { rows_are_within (cells_of bindings.now) work.old.items ≡ true }
+    ensures seen {
+        let s = meaning (made_of bindings.now) in
+        OnOk result (first_seen (map cell_variable cells.new.keys) (variables_ahead s work.new.items)
+            ≡ first_seen (map cell_variable cells.old.keys) (variables_of (apply s (placed term.entry)) ++ variables_ahead s work.old.items)) }
+    ensures fewer {
+        let s = meaning (made_of bindings.now) in
+        OnOk result (steps_ahead s work.new.items < steps (apply s (placed term.entry)) + steps_ahead s work.old.items + 1) }
+    ensures within { OnOk result (rows_are_within (cells_of bindings.now) work.new.items ≡ true) }
+{
+    let value = bindings.value(term);
+    match value.term {
+        Term::Variable(number) => {
+            cells.insert(value.base + u32::from(*number))?;
+        }
+        Term::Number(_) => {}
+        Term::Compound { arguments, .. } => work.push(PlacedTerms {
+            terms: arguments.items.as_slice(),
+            base: value.base,
+        })?,
+    }
+    Ok(())
+}
+
+/// Goes on with a row: with its first term, if it has one, and leaves the others on the stack. After
+/// want of memory the cells and the stack are spent.
+fn note_first<'a>(
+    bindings: &Bindings<'a>,
+    cells: &mut IndexSet<u32>,
+    work: &mut Vec<PlacedTerms<'a>>,
+    row: PlacedTerms<'a>,
+) -> Result<(), AllocError>
+    requires valid { IsValid bindings.now }
+    requires within { are_bounded (cells_of bindings.now) (placed_all row) ≡ true }
+    requires work_within { rows_are_within (cells_of bindings.now) work.old.items ≡ true }
+    ensures seen {
+        let s = meaning (made_of bindings.now) in
+        OnOk result (first_seen (map cell_variable cells.new.keys) (variables_ahead s work.new.items)
+            ≡ first_seen (map cell_variable cells.old.keys) (variables_in (values s row.entry) ++ variables_ahead s work.old.items)) }
+    ensures fewer {
+        let s = meaning (made_of bindings.now) in
+        OnOk result (steps_ahead s work.new.items < steps_along (values s row.entry) + steps_ahead s work.old.items) }
+    ensures within { OnOk result (rows_are_within (cells_of bindings.now) work.new.items ≡ true) }
+{
+    if let Some((first, rest)) = row.split_first() {
+        work.push(rest)?;
+        note(bindings, cells, work, first)?;
+    }
+    Ok(())
+}
+
+/// The free cells in the terms that the bindings make of these, in the order of their first
+/// occurrences. An error is want of memory.
+pub(crate) fn free_cells<'a>(
+    alloc: Global,
+    bindings: &Bindings<'a>,
+    row: PlacedTerms<'a>,
+) -> Result<IndexSet<u32>, AllocError>
+    requires valid { IsValid bindings.now }
+    requires within { are_bounded (cells_of bindings.now) (placed_all row) ≡ true }
+    ensures { IfOk result (λ cells. map cell_variable cells.keys ≡ first_seen [] (variables_in (values (meaning (made_of bindings.now)) row.entry))) }
+{
+    let mut cells = IndexSet::new(alloc);
+    let mut work = Vec::new(alloc);
+    work.push(row)?;
+    while let Some(next) = work.pop() {
+        note_first(bindings, &mut cells, &mut work, next)?;
+    }
+    Ok(cells)
+}
