@@ -80,8 +80,7 @@ stand_body names base q v f i [] (g ∷ gs) a b = elim a [ ]
 stand_body names base q v f i (t ∷ ts) [] a b = elim a [ ]
 stand_body names base q v f i (t ∷ ts) (g ∷ gs) a b =
     let one : is_bounded v (term_of t) ≡ true = and_left (is_bounded v (term_of t)) (are_bounded v (terms_of ts)) b in
-    let rest : are_bounded v (terms_of ts) ≡ true = and_right (is_bounded v (term_of t)) (are_bounded v (terms_of ts)) b in
-    (
+    let rest : are_bounded v (terms_of ts) ≡ true = and_right (is_bounded v (term_of t)) (are_bounded v (terms_of ts)) b in (
       q,
       v,
       subst (λ n. FrameAt names n q v) (sym a.1) f,
@@ -116,9 +115,13 @@ holds_start P k only is pending first gs placed from =
       within = tt;
       same = start_same P only;
       solvable = rw (calls_blank_equations P only) ((λ q n. variable q n), tt);
-      goals = (gs, from, subst (λ ts. StandFor (variables_made t) gs ts) (sym (blank_goals P))
-        (subst (λ (c : programs.Clause). StandFor (variables_made t) gs (body_goals [] 0 c.body)) is
-          (stand_body (variables_made t) 0 [] (vec_len k.variables) (subst (λ (c : programs.Clause). FrameAt (variables_made t) 0 [] c.variables) (sym is) (made_frame t)) 0 k.body.items.items gs placed k.body_bounded)));
+      goals = (
+        gs,
+        from,
+        subst (λ ts. StandFor (variables_made t) gs ts) (sym (blank_goals P))
+            (subst (λ (c : programs.Clause). StandFor (variables_made t) gs (body_goals [] 0 c.body)) is
+            (stand_body (variables_made t) 0 [] (vec_len k.variables) (subst (λ (c : programs.Clause). FrameAt (variables_made t) 0 [] c.variables) (sym is) (made_frame t)) 0 k.body.items.items gs placed k.body_bounded)),
+      );
     }
 
 -- The tree after a step and the bindings before it: the goal's cells equal the head's.
@@ -185,9 +188,9 @@ module _ (P : Program) (k : Clause) (c : ℕ) (only : OnlyCalls P) (is : clause_
       let all : List (Path × ℕ) = names ++ frame (path t o) (clause_at P c).variables in
       let body : calls_of k.body.items.items ≡ (clause_at P c).body = ap (λ (d : programs.Clause). d.body) is in
       let new : SameSolutions (variables_made after) (equations after) (equations_of made2) =
-        same_traded (variables_made after) (equations after) ((placed goal, placed head) ∷ equations_of made) (equations_of made2) (λ s. (solved s).1) (λ s. (solved s).0) step_solutions in
+      same_traded (variables_made after) (equations after) ((placed goal, placed head) ∷ equations_of made) (equations_of made2) (λ s. (solved s).1) (λ s. (solved s).0) step_solutions in
       let new_cells : EquationsOfCells (length (variables_made after)) (equations_of made2) =
-        subst (λ n. EquationsOfCells n (equations_of made2)) step_count (bindings_cells (cells + vec_len k.variables) made2 within) in
+      subst (λ n. EquationsOfCells n (equations_of made2)) step_count (bindings_cells (cells + vec_len k.variables) made2 within) in
       record {
         grown = reduce_left_grown t o c h m b.grown;
         cells_are = step_count;
@@ -198,10 +201,10 @@ module _ (P : Program) (k : Clause) (c : ℕ) (only : OnlyCalls P) (is : clause_
           hs ++ rest,
           from,
           subst (λ ts. StandFor (variables_made after) (hs ++ rest) ts) (sym (reduce_goals t o m (path t o) (call_of t o) later (leftmost_goals t o m).1 c h))
-            (subst (λ ns. StandFor ns (hs ++ rest) (body_goals (path t o) 0 (clause_at P c).body ++ later)) (sym (reduce_variables t o c h m b.grown))
+              (subst (λ ns. StandFor ns (hs ++ rest) (body_goals (path t o) 0 (clause_at P c).body ++ later)) (sym (reduce_variables t o c h m b.grown))
               (stand_both all hs rest (body_goals (path t o) 0 (clause_at P c).body) later
-                (subst (λ is. StandFor all hs (body_goals (path t o) 0 is)) body (stand_body all cells (path t o) (vec_len k.variables) frame_here 0 k.body.items.items hs placed_hs k.body_bounded))
-                (stand_more names (frame (path t o) (clause_at P c).variables) rest later stand.5))),
+              (subst (λ is. StandFor all hs (body_goals (path t o) 0 is)) body (stand_body all cells (path t o) (vec_len k.variables) frame_here 0 k.body.items.items hs placed_hs k.body_bounded))
+              (stand_more names (frame (path t o) (clause_at P c).variables) rest later stand.5))),
         );
       }
 

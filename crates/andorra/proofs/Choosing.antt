@@ -94,7 +94,7 @@ module _ (P : Program) (limit : ℕ) (made : List Binding) (pending : List Pendi
   pub chosen : (goal w n m cells : ℕ) → n ≡ length made → m ≡ length pending → Holds t made cells pending (Some goal) → w ≡ weight t → weight t ≤ limit
       → unfold_code P (code_below cs) ≡ Some t → IsBeyond n cells m cs → Owes P limit f (Lists P limit t) (Clear P limit t) (Remains P limit made pending cs st) (AllClear P limit made pending cs st)
       → let c : Choice = record { goal = goal; clause = 1; weight = w; made = n; cells = cells; goals = m } in
-        (new : Standing P limit made pending (c ∷ cs)) × Owes P limit f no_piece (Unit {0}) (Remains P limit made pending (c ∷ cs) new) (AllClear P limit made pending (c ∷ cs) new)
+      (new : Standing P limit made pending (c ∷ cs)) × Owes P limit f no_piece (Unit {0}) (Remains P limit made pending (c ∷ cs) new) (AllClear P limit made pending (c ∷ cs) new)
   chosen goal w n m cells n_is m_is holds w_is fits code past w2 =
       let c : Choice = record { goal = goal; clause = 1; weight = w; made = n; cells = cells; goals = m } in
       let first = first_of pending goal holds.goals.0 holds.goals.1 in

@@ -45,8 +45,7 @@ standing_same P limit made made2 pending pending2 [] m n g past e f st = (tt, λ
 standing_same P limit made made2 pending pending2 (c ∷ cs) m n g past e f st =
     let e2 : take c.made made2 ≡ take c.made made = same_up_to c.made m made made2 past.0 e in
     let f2 : take c.goals pending2 ≡ take c.goals pending = same_up_to c.goals g pending pending2 past.2 f in
-    let below = standing_same P limit made made2 pending pending2 cs c.made c.cells c.goals (past_beyond c cs st.4) e2 f2 st.5 in
-    (
+    let below = standing_same P limit made made2 pending pending2 cs c.made c.cells c.goals (past_beyond c cs st.4) e2 f2 st.5 in (
       (st.0, st.1, choice_same P limit made made2 pending pending2 st.0 st.1 c e2 f2 st.2, st.3, st.4, below.0),
       λ ls r. (r.0, r.1, r.2, r.3, below.1 r.1 r.4),
       λ a. (a.0, below.2 a.1),
@@ -107,17 +106,19 @@ pub take_up : (P : Program) (limit : ℕ) (made : List Binding) (pending : List 
     → (st : Standing P limit made pending (c ∷ cs)) → Owes P limit f no_piece (Unit {0}) (Remains P limit made pending (c ∷ cs) st) (AllClear P limit made pending (c ∷ cs) st)
     → (new : Standing P limit made pending (next_of c ∷ cs)) × Owes P limit f (GivesAt P limit new.0 new.1 c.clause) (ClearAt P limit new.0 new.1 c.clause) (Remains P limit made pending (next_of c ∷ cs) new) (AllClear P limit made pending (next_of c ∷ cs) new)
 take_up P limit made pending f c cs h st o =
-    let new : Standing P limit made pending (next_of c ∷ cs) = (st.0, st.1, choice_next P limit made pending st.0 st.1 c h st.2, st.3, st.4, st.5) in
-    (new, record {
-      found = o.found;
-      lines = o.lines;
-      any = o.any;
-      listing = λ ks ls p r.
-        let all : ListsFrom P limit st.0 st.1 c.clause (ks ++ r.0) = lists_from_piece P limit st.0 st.1 c.clause ks r.0 h p r.3 in
-        let whole : Listing P limit (o.found ++ ([] ++ ((ks ++ r.0) ++ r.1))) = o.listing [] ((ks ++ r.0) ++ r.1) refl (ks ++ r.0, r.1, refl, all, r.4) in
-        subst (λ z. Listing P limit (o.found ++ z)) (append_assoc ks r.0 r.1 ∙ ap (λ z. ks ++ z) (sym r.2)) whole;
-      over = over f.outgrown o.over;
-    })
+    let new : Standing P limit made pending (next_of c ∷ cs) = (st.0, st.1, choice_next P limit made pending st.0 st.1 c h st.2, st.3, st.4, st.5) in (
+      new,
+      record {
+        found = o.found;
+        lines = o.lines;
+        any = o.any;
+        listing = λ ks ls p r.
+            let all : ListsFrom P limit st.0 st.1 c.clause (ks ++ r.0) = lists_from_piece P limit st.0 st.1 c.clause ks r.0 h p r.3 in
+            let whole : Listing P limit (o.found ++ ([] ++ ((ks ++ r.0) ++ r.1))) = o.listing [] ((ks ++ r.0) ++ r.1) refl (ks ++ r.0, r.1, refl, all, r.4) in
+            subst (λ z. Listing P limit (o.found ++ z)) (append_assoc ks r.0 r.1 ∙ ap (λ z. ks ++ z) (sym r.2)) whole;
+        over = over f.outgrown o.over;
+      },
+    )
   where
     over : (g : Option Outgrown) → MatchOption g (Unit {0} → AllClear P limit made pending (c ∷ cs) st → NoneOver P limit) (λ g. OverLeft P limit g.code g.clause.0)
         → MatchOption g (ClearAt P limit st.0 st.1 c.clause → (ClearFrom P limit st.0 st.1 (suc c.clause) × AllClear P limit made pending cs st.5) → NoneOver P limit) (λ g. OverLeft P limit g.code g.clause.0)
@@ -130,7 +131,7 @@ pub drop_top : (P : Program) (limit : ℕ) (made : List Binding) (pending : List
     → Owes P limit f no_piece (Unit {0}) (Remains P limit made pending cs st.5) (AllClear P limit made pending cs st.5)
 drop_top P limit made pending f c cs h st o =
     owes_less P limit f no_piece no_piece (Unit {0}) (Unit {0}) (Remains P limit made pending (c ∷ cs) st) (Remains P limit made pending cs st.5) (AllClear P limit made pending (c ∷ cs) st) (AllClear P limit made pending cs st.5)
-      (λ ks p. p) (λ u. u) (λ ls r. ([], ls, refl, listing.no_more st.0 st.1 c.clause h, r)) (λ a. (clear_from_end P limit st.0 st.1 c.clause h, a)) o
+    (λ ks p. p) (λ u. u) (λ ls r. ([], ls, refl, listing.no_more st.0 st.1 c.clause h, r)) (λ a. (clear_from_end P limit st.0 st.1 c.clause h, a)) o
 
 module _ (P : Program) (limit : ℕ) (f : Found) (t : QueryTree P) (o : Open t) (c : ℕ) (remains : List Entry → Type 0) (rest : Type 0) where
   -- a clause of another predicate gives nothing
@@ -190,7 +191,7 @@ answered_one P limit f g t o remains rest whole ends clear lines any outgrown w 
       found = w.found ++ e ∷ [];
       lines = lines ∙ ap (λ l. l ++ line_of o ++ 10 ∷ []) w.lines ∙ append_assoc (lines_of w.found) (line_of o) (10 ∷ []) ∙ sym (lines_of-append w.found (e ∷ []));
       any = (λ x. not_empty w.found e, λ x. any);
-      listing = λ ks ls p r. subst (Listing P limit) (sym (append_assoc w.found (e ∷ []) (ks ++ ls)) ) (w.listing (e ∷ []) (ks ++ ls) (listing.answered t o ends) (subst (λ z. remains (z ++ ls)) (sym p) r));
+      listing = λ ks ls p r. subst (Listing P limit) (sym (append_assoc w.found (e ∷ []) (ks ++ ls))) (w.listing (e ∷ []) (ks ++ ls) (listing.answered t o ends) (subst (λ z. remains (z ++ ls)) (sym p) r));
       over = rw outgrown (over f.outgrown w.over);
     }
   where
@@ -204,16 +205,18 @@ pub choose_top : (P : Program) (limit : ℕ) (made : List Binding) (pending : Li
     → Owes P limit f (Lists P limit t) (Clear P limit t) (Remains P limit made pending cs st) (AllClear P limit made pending cs st)
     → (new : Standing P limit made pending (c ∷ cs)) × Owes P limit f no_piece (Unit {0}) (Remains P limit made pending (c ∷ cs) new) (AllClear P limit made pending (c ∷ cs) new)
 choose_top P limit made pending f c cs t o first choice code past st w =
-    let new : Standing P limit made pending (c ∷ cs) = (t, o, choice, code, past, st) in
-    (new, record {
-      found = w.found;
-      lines = w.lines;
-      any = w.any;
-      listing = λ ks ls p r.
-        let from : ListsFrom P limit t o 1 r.0 = subst (λ n. ListsFrom P limit t o n r.0) first r.3 in
-        subst (λ z. Listing P limit (w.found ++ (z ++ ls))) (sym p) (subst (λ z. Listing P limit (w.found ++ z)) (sym r.2) (w.listing r.0 r.1 (listing.calls t o r.0 choice.leftmost from) r.4));
-      over = over f.outgrown w.over;
-    })
+    let new : Standing P limit made pending (c ∷ cs) = (t, o, choice, code, past, st) in (
+      new,
+      record {
+        found = w.found;
+        lines = w.lines;
+        any = w.any;
+        listing = λ ks ls p r.
+            let from : ListsFrom P limit t o 1 r.0 = subst (λ n. ListsFrom P limit t o n r.0) first r.3 in
+            subst (λ z. Listing P limit (w.found ++ (z ++ ls))) (sym p) (subst (λ z. Listing P limit (w.found ++ z)) (sym r.2) (w.listing r.0 r.1 (listing.calls t o r.0 choice.leftmost from) r.4));
+        over = over f.outgrown w.over;
+      },
+    )
   where
     over : (g : Option Outgrown) → MatchOption g (Clear P limit t → AllClear P limit made pending cs st → NoneOver P limit) (λ g. OverLeft P limit g.code g.clause.0)
         → MatchOption g (Unit {0} → (ClearFrom P limit t o c.clause × AllClear P limit made pending cs st) → NoneOver P limit) (λ g. OverLeft P limit g.code g.clause.0)

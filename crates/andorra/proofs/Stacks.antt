@@ -39,8 +39,8 @@ pub cell_seen : (c : ℕ) (keys : List ℕ) (after : List (Path × ℕ)) (t : Te
 cell_seen c keys after t e =
     rw (e, has_cell c keys)
     (elim (list_any (nat_eq c) keys) as (λ b. first_seen (map cell_variable (cond b keys (keys ++ c ∷ []))) after
-          ≡ first_seen (cond b (map cell_variable keys) (map cell_variable keys ++ ([], c) ∷ [])) after)
-     [ true ↦ refl | false ↦ ap (λ seen. first_seen seen after) (map-append cell_variable keys (c ∷ [])) ])
+    ≡ first_seen (cond b (map cell_variable keys) (map cell_variable keys ++ ([], c) ∷ [])) after)
+    [ true ↦ refl | false ↦ ap (λ seen. first_seen seen after) (map-append cell_variable keys (c ∷ [])) ])
 
 module _ {X V : Type 0} (f : X → List V) where
   pub from_top-append : (xs ys : List X) (later : List V) → from_top f (xs ++ ys) later ≡ from_top f ys (from_top f xs later)

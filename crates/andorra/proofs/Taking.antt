@@ -74,9 +74,11 @@ module _ (P : Program) (limit : ℕ) (only : OnlyCalls P) (k : Clause) (c : Choi
       → Owes P limit f piece clear (Remains P limit made pending (next_of c ∷ cs) st) (AllClear P limit made pending (next_of c ∷ cs) st)
       → (new : Standing P limit made2 pending2 (next_of c ∷ cs)) × Owes P limit f piece clear (Remains P limit made2 pending2 (next_of c ∷ cs) new) (AllClear P limit made2 pending2 (next_of c ∷ cs) new)
   stays piece clear made2 pending2 e g owes =
-      let s = standing_same P limit made made2 pending pending2 (next_of c ∷ cs) c.made c.cells c.goals (omega arith, omega arith, omega arith) e g st in
-      (s.0, owes_less P limit f piece piece clear clear (Remains P limit made pending (next_of c ∷ cs) st) (Remains P limit made2 pending2 (next_of c ∷ cs) s.0)
-        (AllClear P limit made pending (next_of c ∷ cs) st) (AllClear P limit made2 pending2 (next_of c ∷ cs) s.0) (λ ks p. p) (λ u. u) s.1 s.2 owes)
+      let s = standing_same P limit made made2 pending pending2 (next_of c ∷ cs) c.made c.cells c.goals (omega arith, omega arith, omega arith) e g st in (
+        s.0,
+        owes_less P limit f piece piece clear clear (Remains P limit made pending (next_of c ∷ cs) st) (Remains P limit made2 pending2 (next_of c ∷ cs) s.0)
+            (AllClear P limit made pending (next_of c ∷ cs) st) (AllClear P limit made2 pending2 (next_of c ∷ cs) s.0) (λ ks p. p) (λ u. u) s.1 s.2 owes,
+      )
 
   -- The goal and the head have no common solution.
   pub take_fails : (goal : Placed) (rest : List Placed) → branch.goals.0 ≡ goal ∷ rest → (head : Placed) → head.term.now ≡ k.head → head.base ≡ c.cells

@@ -58,7 +58,7 @@ module _ (p : Printer) where
   goes_on old new before after bytes most text tasks e f g h was is = record {
     written = rw (e, f, g, text_pushed before tasks) (join old text (text_ahead p tasks) (text_ahead p before));
     fewer = omega (arith, h, ap (tasks_ahead p) f, steps_pushed before tasks);
-    within = rw (f, list_all-append (task_is_within (cells_of p.bindings.now)) before tasks, was) is
+    within = rw (f, list_all-append (task_is_within (cells_of p.bindings.now)) before tasks, was) is;
   }
 
   -- a text was written, and then it goes on
@@ -67,7 +67,7 @@ module _ (p : Printer) where
   then_goes_on old middle new before after text bytes most e g = record {
     written = g.written ∙ rw e (ap (λ bs. bs ++ text_ahead p before) (append_assoc old text bytes));
     fewer = omega (arith, g.fewer);
-    within = g.within
+    within = g.within;
   }
 
   -- the first of some arguments is to be written, and the others after it

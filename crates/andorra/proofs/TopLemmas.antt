@@ -35,12 +35,12 @@ replied None P f status bytes lines is reads found last =
     let over : NoneOver P limit = subst (λ o. MatchOption o (NoneOver P limit) (λ g. OverLeft P limit g.code g.clause.0)) (sym is) found.4 in
     let done : (lines ≡ f.lines ++ last_lines complete) × (status ≡ if f.any then Answers else NoAnswer) = subst (λ o. MatchOption o ((lines ≡ f.lines ++ last_lines complete) × (status ≡ if f.any then Answers else NoAnswer)) (λ g. (lines ≡ f.lines ++ last_lines limit_met) × (status ≡ Limit))) (sym is) last in
     subst (λ s. WasAnswered s bytes lines) (sym done.1)
-      (last_all f.any P bytes lines found.0 reads found.1 over (done.0 ∙ ap (λ l. l ++ last_lines complete) found.2) found.3)
+    (last_all f.any P bytes lines found.0 reads found.1 over (done.0 ∙ ap (λ l. l ++ last_lines complete) found.2) found.3)
 replied (Some g) P f status bytes lines is reads found last =
     let over : OverLeft P limit g.code g.clause.0 = subst (λ o. MatchOption o (NoneOver P limit) (λ g. OverLeft P limit g.code g.clause.0)) (sym is) found.4 in
     let done : (lines ≡ f.lines ++ last_lines limit_met) × (status ≡ Limit) = subst (λ o. MatchOption o ((lines ≡ f.lines ++ last_lines complete) × (status ≡ if f.any then Answers else NoAnswer)) (λ g. (lines ≡ f.lines ++ last_lines limit_met) × (status ≡ Limit))) (sym is) last in
     subst (λ s. WasAnswered s bytes lines) (sym done.1)
-      (P, g.code, g.clause.0, reads, (found.0, found.1, done.0 ∙ ap (λ l. l ++ last_lines limit_met) found.2), over)
+    (P, g.code, g.clause.0, reads, (found.0, found.1, done.0 ∙ ap (λ l. l ++ last_lines limit_met) found.2), over)
 
 module _ (old new : Option Bytes) (bytes out : Bytes) where
   -- a text is answered with what is due to it

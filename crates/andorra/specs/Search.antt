@@ -154,7 +154,7 @@ Tries s c =
     × IsBeyond (vec_len s.bindings.made) (cells_of s.bindings) (vec_len s.pending) (next_of c ∷ cs)
     × (st : Standing (program s) s.limit (made_of s.bindings) s.pending.items (next_of c ∷ cs))
     × Owes (program s) s.limit s.found (GivesAt (program s) s.limit st.0 st.1 c.clause) (ClearAt (program s) s.limit st.0 st.1 c.clause)
-      (Remains (program s) s.limit (made_of s.bindings) s.pending.items (next_of c ∷ cs) st) (AllClear (program s) s.limit (made_of s.bindings) s.pending.items (next_of c ∷ cs) st)
+    (Remains (program s) s.limit (made_of s.bindings) s.pending.items (next_of c ∷ cs) st) (AllClear (program s) s.limit (made_of s.bindings) s.pending.items (next_of c ∷ cs) st)
 
 -- The same where the clause is of the goal's predicate and fits.
 abbrev pub Takes : Search → Choice → Clause → ℕ → Type 0
@@ -164,7 +164,7 @@ Takes s c k heft =
     × (st : Standing (program s) s.limit (made_of s.bindings) s.pending.items (next_of c ∷ cs)) × (h : Of (program s) (call_of st.0 st.1) c.clause)
     × (heft ≡ weight st.0 + clause_weight (clause_at (program s) c.clause)) × (heft ≤ s.limit)
     × Owes (program s) s.limit s.found (Lists (program s) s.limit (reduce st.0 st.1 c.clause h)) (Clear (program s) s.limit (reduce st.0 st.1 c.clause h))
-      (Remains (program s) s.limit (made_of s.bindings) s.pending.items (next_of c ∷ cs) st) (AllClear (program s) s.limit (made_of s.bindings) s.pending.items (next_of c ∷ cs) st)
+    (Remains (program s) s.limit (made_of s.bindings) s.pending.items (next_of c ∷ cs) st) (AllClear (program s) s.limit (made_of s.bindings) s.pending.items (next_of c ∷ cs) st)
 
 -- the choicepoints stay, or one is put on them, at its first clause and of that weight
 abbrev pub PutsOn : ℕ → List Choice → List Choice → Type 0
@@ -190,4 +190,4 @@ Outgrows s c =
     × (st : Standing (program s) s.limit (made_of s.bindings) s.pending.items (next_of c ∷ cs))
     × Of (program s) (call_of st.0 st.1) c.clause × (s.limit < weight st.0 + clause_weight (clause_at (program s) c.clause))
     × Owes (program s) s.limit s.found (GivesAt (program s) s.limit st.0 st.1 c.clause) (ClearAt (program s) s.limit st.0 st.1 c.clause)
-      (Remains (program s) s.limit (made_of s.bindings) s.pending.items (next_of c ∷ cs) st) (AllClear (program s) s.limit (made_of s.bindings) s.pending.items (next_of c ∷ cs) st)
+    (Remains (program s) s.limit (made_of s.bindings) s.pending.items (next_of c ∷ cs) st) (AllClear (program s) s.limit (made_of s.bindings) s.pending.items (next_of c ∷ cs) st)

@@ -88,5 +88,5 @@ Responds old new _ (Over text) = ⊥
 abbrev pub IsLast : Found → Status → Bytes → Type 0
 IsLast f status lines =
     MatchOption f.outgrown
-      ((lines ≡ f.lines ++ last_lines complete) × (status ≡ if f.any then Answers else NoAnswer))
-      (λ g. (lines ≡ f.lines ++ last_lines limit_met) × (status ≡ Limit))
+    ((lines ≡ f.lines ++ last_lines complete) × (status ≡ if f.any then Answers else NoAnswer))
+    (λ g. (lines ≡ f.lines ++ last_lines limit_met) × (status ≡ Limit))

@@ -164,12 +164,7 @@ impl<'a> Search<'a> {
 
     /// Goes on with the branch that the search came to: at its first goal, or, where none is left,
     /// with its answer.
-    fn enter(
-        &mut self,
-        alloc: Global,
-        goal: Option<usize>,
-        weight: u32,
-    ) -> Result<(), AllocError>
+    fn enter(&mut self, alloc: Global, goal: Option<usize>, weight: u32) -> Result<(), AllocError>
         requires { Arrives self.old goal weight }
         ensures goes { OnOk result (Goes self.new) }
         ensures one { OnOk result (PutsOn weight self.old.choices.items self.new.choices.items) }

@@ -10,14 +10,15 @@ mod printing_terms;
 mod printing_variables;
 mod rows;
 mod search;
+#[cfg(test)]
+mod tests;
 mod top;
 mod unifying;
 
 use and_io::{Quiet, StdSink, StdSource};
 use std::alloc::Global;
-use std::env;
-use std::io;
 use std::process::ExitCode;
+use std::{env, io};
 use top::{Status, andorra};
 
 /// The words of the command line, without the program's name.

@@ -10,15 +10,14 @@ ghost use Rattle.andorra.specs.Rows.{in_cells_all};
 ghost use Rattle.andorra.specs.Solved.{IsValid};
 ghost use Rattle.andorra.specs.Printing.{Shows, names_of, line_variables, substitution_of, value_of};
 
-use and_model::{Term, Text};
-use and_reader::{Clause, Loaded};
-use std::alloc::{AllocError, Global};
-
 use crate::bindings::Bindings;
 use crate::placed::Placed;
 use crate::printing_terms::Printer;
 use crate::printing_variables::free_cells;
 use crate::rows::PlacedTerms;
+use and_model::{Term, Text};
+use and_reader::{Clause, Loaded};
+use std::alloc::{AllocError, Global};
 
 /// The query's variables that a line shows, in order: their names, and themselves as terms.
 #[derive(Drop)]

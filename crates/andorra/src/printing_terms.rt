@@ -10,16 +10,15 @@ ghost use Rattle.andorra.specs.Solved.{IsValid, IsFreeVariable};
 ghost use Rattle.andorra.specs.Rows.{placed_all};
 ghost use Rattle.andorra.specs.Printing.{values, steps, steps_along, is_list_cell, is_empty_list, names_of, line_variables, substitution_of, value_of, task_text, task_steps, task_is_within, text_ahead, tasks_ahead, tasks_are_within, GoesOn};
 
+use crate::bindings::Bindings;
+use crate::placed::Placed;
+use crate::printing_names::write_name;
+use crate::rows::PlacedTerms;
 use and_model::{NameNo, Term, Text};
 use and_reader::Loaded;
 use indexmap::IndexSet;
 use itoa::Buffer;
 use std::alloc::{AllocError, Global};
-
-use crate::bindings::Bindings;
-use crate::placed::Placed;
-use crate::printing_names::write_name;
-use crate::rows::PlacedTerms;
 
 /// The number of the name of list cells.
 const POINT: u32 = 19;
@@ -132,10 +131,9 @@ impl<'a> Printer<'_, 'a> {
     ) -> Result<(), AllocError>
         requires within { are_bounded (cells_of self.now.bindings.now) (placed_all arguments) ≡ true }
         requires work_within { tasks_are_within (cells_of self.now.bindings.now) work.old.items ≡ true }
-        ensures {
-            let terms = values (substitution_of self.now) arguments.entry in
+        ensures { let terms = values (substitution_of self.now) arguments.entry in
             OnOk result (GoesOn self.now text.old text.new work.old.items work.new.items
-                (shown_arguments (names_of self.now) (line_variables self.now) terms) (steps_along terms)) }
+            (shown_arguments (names_of self.now) (line_variables self.now) terms) (steps_along terms)) }
     {
         if let Some((first, rest)) = arguments.split_first() {
             text.append(b"(")?;
@@ -153,10 +151,9 @@ impl<'a> Printer<'_, 'a> {
     ) -> Result<(), AllocError>
         requires within { are_bounded (cells_of self.now.bindings.now) (placed_all arguments) ≡ true }
         requires work_within { tasks_are_within (cells_of self.now.bindings.now) work.old.items ≡ true }
-        ensures {
-            let terms = values (substitution_of self.now) arguments.entry in
+        ensures { let terms = values (substitution_of self.now) arguments.entry in
             OnOk result (GoesOn self.now text.old text.new work.old.items work.new.items
-                (shown_rest (names_of self.now) (line_variables self.now) terms) (steps_along terms)) }
+            (shown_rest (names_of self.now) (line_variables self.now) terms) (steps_along terms)) }
     {
         match arguments.split_first() {
             None => text.append(b")")?,
@@ -180,10 +177,9 @@ impl<'a> Printer<'_, 'a> {
         requires free { IsFreeVariable (substitution_of self.now) (placed value) }
         requires within { IsWithin (cells_of self.now.bindings.now) value }
         requires work_within { tasks_are_within (cells_of self.now.bindings.now) work.old.items ≡ true }
-        ensures {
-            let term = value_of self.now value.entry in
+        ensures { let term = value_of self.now value.entry in
             OnOk result (GoesOn self.now text.old text.new work.old.items work.new.items
-                (shown (names_of self.now) (line_variables self.now) term) (steps term)) }
+            (shown (names_of self.now) (line_variables self.now) term) (steps term)) }
     {
         if let Some((head, tail)) = list_cell(value) {
             text.append(b"[")?;
@@ -214,10 +210,9 @@ impl<'a> Printer<'_, 'a> {
         requires valid { IsValid self.now.bindings.now }
         requires within { IsWithin (cells_of self.now.bindings.now) term }
         requires work_within { tasks_are_within (cells_of self.now.bindings.now) work.old.items ≡ true }
-        ensures {
-            let value = value_of self.now term.entry in
+        ensures { let value = value_of self.now term.entry in
             OnOk result (GoesOn self.now text.old text.new work.old.items work.new.items
-                (shown_tail (names_of self.now) (line_variables self.now) value) (steps value)) }
+            (shown_tail (names_of self.now) (line_variables self.now) value) (steps value)) }
     {
         let value = self.bindings.value(term);
         if let Some((head, tail)) = list_cell(value) {
@@ -240,9 +235,8 @@ impl<'a> Printer<'_, 'a> {
         requires valid { IsValid self.now.bindings.now }
         requires within { task_is_within (cells_of self.now.bindings.now) task ≡ true }
         requires work_within { tasks_are_within (cells_of self.now.bindings.now) work.old.items ≡ true }
-        ensures {
-            OnOk result (GoesOn self.now text.old text.new work.old.items work.new.items
-                (task_text self.now task.entry) (task_steps self.now task.entry)) }
+        ensures { OnOk result (GoesOn self.now text.old text.new work.old.items work.new.items
+            (task_text self.now task.entry) (task_steps self.now task.entry)) }
     {
         match task {
             Task::Whole(term) => self.write_root(text, work, self.bindings.value(term)),

@@ -9,13 +9,12 @@ ghost use Rattle.andorra.specs.Solved.{IsValid};
 ghost use Rattle.andorra.specs.Rows.{placed_all};
 ghost use Rattle.andorra.specs.Printing.{cell_variable, values, steps, steps_along, variables_ahead, steps_ahead, rows_are_within};
 
-use and_model::Term;
-use indexmap::IndexSet;
-use std::alloc::{AllocError, Global};
-
 use crate::bindings::Bindings;
 use crate::placed::Placed;
 use crate::rows::PlacedTerms;
+use and_model::Term;
+use indexmap::IndexSet;
+use std::alloc::{AllocError, Global};
 
 /// Notes the term's cell, if it is a free cell, and puts its arguments on the stack. After want of
 /// memory both are spent.
@@ -28,12 +27,10 @@ fn note<'a>(
     requires valid { IsValid bindings.now }
     requires within { IsWithin (cells_of bindings.now) term }
     requires work_within { rows_are_within (cells_of bindings.now) work.old.items ≡ true }
-    ensures seen {
-        let s = meaning (made_of bindings.now) in
+    ensures seen { let s = meaning (made_of bindings.now) in
         OnOk result (first_seen (map cell_variable cells.new.keys) (variables_ahead s work.new.items)
-            ≡ first_seen (map cell_variable cells.old.keys) (variables_of (apply s (placed term.entry)) ++ variables_ahead s work.old.items)) }
-    ensures fewer {
-        let s = meaning (made_of bindings.now) in
+        ≡ first_seen (map cell_variable cells.old.keys) (variables_of (apply s (placed term.entry)) ++ variables_ahead s work.old.items)) }
+    ensures fewer { let s = meaning (made_of bindings.now) in
         OnOk result (steps_ahead s work.new.items < steps (apply s (placed term.entry)) + steps_ahead s work.old.items + 1) }
     ensures within { OnOk result (rows_are_within (cells_of bindings.now) work.new.items ≡ true) }
 {
@@ -62,12 +59,10 @@ fn note_first<'a>(
     requires valid { IsValid bindings.now }
     requires within { are_bounded (cells_of bindings.now) (placed_all row) ≡ true }
     requires work_within { rows_are_within (cells_of bindings.now) work.old.items ≡ true }
-    ensures seen {
-        let s = meaning (made_of bindings.now) in
+    ensures seen { let s = meaning (made_of bindings.now) in
         OnOk result (first_seen (map cell_variable cells.new.keys) (variables_ahead s work.new.items)
-            ≡ first_seen (map cell_variable cells.old.keys) (variables_in (values s row.entry) ++ variables_ahead s work.old.items)) }
-    ensures fewer {
-        let s = meaning (made_of bindings.now) in
+        ≡ first_seen (map cell_variable cells.old.keys) (variables_in (values s row.entry) ++ variables_ahead s work.old.items)) }
+    ensures fewer { let s = meaning (made_of bindings.now) in
         OnOk result (steps_ahead s work.new.items < steps_along (values s row.entry) + steps_ahead s work.old.items) }
     ensures within { OnOk result (rows_are_within (cells_of bindings.now) work.new.items ≡ true) }
 {

@@ -1,6 +1,5 @@
 //! What a leftmost search keeps.
 
-
 use crate::bindings::Bindings;
 use crate::placed::Placed;
 use and_model::{ClauseNo, Code, Text};

@@ -4,8 +4,8 @@ ghost use Rattle.std.specs.Prelude.{◌≡◌, ◌≢◌, ◌⊎◌, ◌≤◌, 
 ghost use Rattle.and_io.specs.Flow.{Rose, Stays, Gains, AreAll};
 ghost use Rattle.andorra.specs.Top.{Answered, GainsPrefix, IsRun, Told, WasAnswered, Responds, IsLast, usage};
 
-use crate::search::Found;
 use crate::engine::find_all;
+use crate::search::Found;
 use and_io::{Gate, ReadAll, ReadStop, Sink, Source, read_all, write_all_counted};
 use and_model::Text;
 use and_reader::{ReadRefusal, read_program};

@@ -15,7 +15,7 @@ free_cells-requires-clause-within c =
     let all = c.args.loaded.now.query.variables.ok.0 in
     rw c.as_slice.ensures.value
     (program_within (program_of c.args.loaded.now) c.in_ok-shown.shown.terms.items _ (ap (λ q. q.written) c.query.ensures) c.in_ok-shown.ensures.terms
-        (cells_of c.args.bindings.now) (omega (arith, c.requires.cells)))
+    (cells_of c.args.bindings.now) (omega (arith, c.requires.cells)))
 
 pub show_values-requires-clause-within : goal.show_values-requires-clause-within
 show_values-requires-clause-within c =
@@ -29,5 +29,5 @@ returns c =
     let seen = c.in_ok-cells.ensures ∙ ap (λ ts. first_seen [] (variables_in (apply_all s (in_cells_all 0 (terms_of ts))))) c.as_slice.ensures.value in
     subst (λ l. IfOk c.show_values.result (λ t. t ≡ l))
     (program_line (program_of c.args.loaded.now) c.in_ok-shown.shown.terms.items _ (ap (λ q. q.written) c.query.ensures) c.in_ok-shown.ensures.terms s
-        (map cell_variable c.in_ok-cells.cells.keys) seen)
+    (map cell_variable c.in_ok-cells.cells.keys) seen)
     c.show_values.ensures

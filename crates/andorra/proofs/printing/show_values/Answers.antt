@@ -37,5 +37,5 @@ loop-index-preserved c =
         | else-index-len w ↦
             after_last value all i v c.loop-index.text _ _ c.loop-index.invariant.written (omega arith) (let a = w.if-index-len.false in let b = c.len.ensures in let d = c.args.shown.now.names.ok.0 in omega arith)
             (w.text-is ∙ written)
-      ]
+      ];
     }

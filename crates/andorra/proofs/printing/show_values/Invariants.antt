@@ -10,5 +10,5 @@ invariant-loop-index l =
     let value : Bytes × ℕ → Bytes = shown_value (names_of l.printer) (line_variables l.printer) (substitution_of l.printer) in
     record {
       items : l.name-items ≡ l.shown.names.items;
-      written : l.text ++ joined (map value (drop l.index all)) ≡ joined (map value all)
+      written : l.text ++ joined (map value (drop l.index all)) ≡ joined (map value all);
     }

@@ -11,5 +11,5 @@ invariant-loop-number l =
     record {
       items : l.name-items ≡ l.query.variables.items;
       names : map (λ n. n.now) l.names.items ++ map (λ v. v.0) rest ≡ map (λ v. v.0) all;
-      terms : map term_of l.terms.items ++ map (λ v. variable [] v.1) rest ≡ map (λ v. variable [] v.1) all
+      terms : map term_of l.terms.items ++ map (λ v. variable [] v.1) rest ≡ map (λ v. variable [] v.1) all;
     }

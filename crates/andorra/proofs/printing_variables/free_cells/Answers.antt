@@ -16,5 +16,5 @@ loop-next-preserved c =
     let e = ahead_was s (cells_of c.args.bindings.now) _ _ c.in-Some.next c.in-Some.ensures.items in
     record {
       seen = c.in_ok-note_first.ensures.seen ∙ ap (first_seen (map cell_variable c.loop-next.cells.keys)) (sym e) ∙ c.loop-next.invariant.seen;
-      within = c.in_ok-note_first.ensures.within
+      within = c.in_ok-note_first.ensures.within;
     }

@@ -9,7 +9,7 @@ abbrev pub invariant-loop-next : goal.invariant-loop-next
 invariant-loop-next l = record {
   seen : first_seen (map cell_variable l.cells.keys) (variables_ahead (meaning (made_of l.bindings)) l.work.items)
       ≡ first_seen [] (variables_in (values (meaning (made_of l.bindings)) l.fn.row));
-  within : rows_are_within (cells_of l.bindings) l.work.items ≡ true
+  within : rows_are_within (cells_of l.bindings) l.work.items ≡ true;
 }
 
 abbrev pub decreases-loop-next : goal.decreases-loop-next

@@ -29,7 +29,7 @@ returns-in_ok-push-in-Compound-clause-seen c =
     let s = meaning (made_of c.args.bindings.now) in
     rw c.in_ok-push-in-Compound.ensures.items
     (ap (first_seen (map cell_variable c.args.cells.now.keys))
-        (ahead_compound s c.args.work.now.items (arguments_of c) _ c.in-Compound.name.0 (sym c.value-value.ensures.same ∙ ap (apply s) (named c))))
+    (ahead_compound s c.args.work.now.items (arguments_of c) _ c.in-Compound.name.0 (sym c.value-value.ensures.same ∙ ap (apply s) (named c))))
 
 pub returns-in_ok-push-in-Compound-clause-fewer : goal.returns-in_ok-push-in-Compound-clause-fewer
 returns-in_ok-push-in-Compound-clause-fewer c =

@@ -9,9 +9,10 @@ one_word : (ws : List (String Global)) (w : String Global) (r : Bool) → 1 ≤ 
 one_word [] w r a b is e = absurd (omega arith)
 one_word (x ∷ y ∷ ws) w r a b is e = absurd (omega arith)
 one_word (x ∷ []) w r a b is e =
-    let d = bytes_eq-Decides (string_bytes w) (codes "run") in
-    (λ t. let same : string_bytes w ≡ codes "run" = d.0 (sym e ∙ t) in ap (λ k. k ∷ []) (ap string_bytes (sym is) ∙ same),
-     λ t. e ∙ d.1 (ap string_bytes is ∙ head t))
+    let d = bytes_eq-Decides (string_bytes w) (codes "run") in (
+      λ t. let same : string_bytes w ≡ codes "run" = d.0 (sym e ∙ t) in ap (λ k. k ∷ []) (ap string_bytes (sym is) ∙ same),
+      λ t. e ∙ d.1 (ap string_bytes is ∙ head t),
+    )
   where
     head : {a b : List ℕ} → a ∷ [] ≡ b ∷ [] → a ≡ b
     head h = cc

@@ -12,7 +12,7 @@ returns-in-Some c =
     let p = c.args.self.now in
     let cell = c.in-Some.ensures.cell in
     let after = c.in_ok-push_element.ensures ∙ ap (λ ts. ts ++ Tail c.in-Some.tail ∷ Whole c.in-Some.head ∷ []) c.in_ok-push.ensures.items
-      ∙ append_assoc c.args.work.now.items (Close ∷ []) (Tail c.in-Some.tail ∷ Whole c.in-Some.head ∷ []) in
+    ∙ append_assoc c.args.work.now.items (Close ∷ []) (Tail c.in-Some.tail ∷ Whole c.in-Some.head ∷ []) in
     goes_on p c.args.text.now c.append.new.self c.args.work.now.items c.push_element.new.work.items _ _ (91 ∷ []) (Close ∷ Tail c.in-Some.tail ∷ Whole c.in-Some.head ∷ [])
     c.in_ok-append.ensures
     after
@@ -35,5 +35,5 @@ returns-in_ok-write_arguments-in-Compound c =
     let named = over_row c.args.value c.in-Compound.name.0 _ row refl c.as_slice-terms.ensures.value (placed_compound c.args.value c.in-Compound.name c.in-Compound.arguments c.in-Compound.is) in
     rw (named_shown p c.args.value row c.in-Compound.name.0 named c.in_default.ensures.other, named_steps p c.args.value row c.in-Compound.name.0 named c.in_default.ensures.other)
     (then_goes_on p c.args.text.now c.write_name.new.text c.write_arguments.new.text c.args.work.now.items c.write_arguments.new.work.items _ _ _
-        (c.in_ok-write_name-in-Compound.ensures ∙ ap (λ n. c.args.text.now ++ shown_name n) c.name.ensures)
-        c.in_ok-write_arguments-in-Compound.ensures)
+    (c.in_ok-write_name-in-Compound.ensures ∙ ap (λ n. c.args.text.now ++ shown_name n) c.name.ensures)
+    c.in_ok-write_arguments-in-Compound.ensures)

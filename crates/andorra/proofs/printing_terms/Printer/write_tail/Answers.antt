@@ -11,9 +11,9 @@ returns-in_ok-push_element c =
     let cell = c.in-Some.ensures.cell in
     rw (sym c.value-value.ensures.same)
     (goes_on p c.args.text.now c.append.new.self c.args.work.now.items c.push_element.new.work.items _ _ (44 ∷ []) (Tail c.in-Some.tail ∷ Whole c.in-Some.head ∷ [])
-        c.in_ok-append.ensures
-        c.in_ok-push_element.ensures
-        (cell_shown_after p value c.in-Some.head c.in-Some.tail cell)
-        (element_steps p value c.in-Some.head c.in-Some.tail cell)
-        c.requires.work_within
-        (element_within p value c.in-Some.head c.in-Some.tail cell (cells_of p.bindings.now) c.value-value.ensures.within))
+    c.in_ok-append.ensures
+    c.in_ok-push_element.ensures
+    (cell_shown_after p value c.in-Some.head c.in-Some.tail cell)
+    (element_steps p value c.in-Some.head c.in-Some.tail cell)
+    c.requires.work_within
+    (element_within p value c.in-Some.head c.in-Some.tail cell (cells_of p.bindings.now) c.value-value.ensures.within))

@@ -13,6 +13,6 @@ loop-task-preserved c =
     let work = text_was p c.loop-task.work.items c.pop.new.self.items c.in-Some.task c.in-Some.ensures.items in
     record {
       written = c.in_ok-write_task.ensures.written ∙ append_assoc c.loop-task.text (task_text p c.in-Some.task) (text_ahead p c.pop.new.self.items)
-        ∙ ap (λ bs. c.loop-task.text ++ bs) (sym work) ∙ c.loop-task.invariant.written;
-      within = c.in_ok-write_task.ensures.within
+          ∙ ap (λ bs. c.loop-task.text ++ bs) (sym work) ∙ c.loop-task.invariant.written;
+      within = c.in_ok-write_task.ensures.within;
     }

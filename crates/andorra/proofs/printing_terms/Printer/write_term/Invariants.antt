@@ -7,7 +7,7 @@ use Rattle.andorra.proofs.printing_terms.Printer.write_term.Given as goal
 abbrev pub invariant-loop-task : goal.invariant-loop-task
 invariant-loop-task l = record {
   written : l.text ++ text_ahead l.self l.work.items ≡ l.fn.text ++ shown (names_of l.self) (line_variables l.self) (value_of l.self l.fn.term);
-  within : tasks_are_within (cells_of l.self.bindings.now) l.work.items ≡ true
+  within : tasks_are_within (cells_of l.self.bindings.now) l.work.items ≡ true;
 }
 
 abbrev pub decreases-loop-task : goal.decreases-loop-task

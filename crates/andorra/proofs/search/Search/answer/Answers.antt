@@ -18,7 +18,7 @@ returns-clause-goes c =
     let two = c.in_ok-append-2.ensures in
     let shown = c.in_ok-line.ensures in
     let lines : c.append-2.new.self ≡ s.found.lines ++ line (program s) (meaning s.bindings.made.items) [] ++ 10 ∷ [] =
-      two ∙ ap (λ l. l ++ 10 ∷ []) (one ∙ ap (λ l. s.found.lines ++ l) (c.bytes.ensures ∙ shown)) in
+    two ∙ ap (λ l. l ++ 10 ∷ []) (one ∙ ap (λ l. s.found.lines ++ l) (c.bytes.ensures ∙ shown)) in
     let k = answer_keeps (program s) s.limit s.bindings.made.items s.pending.items s.found _ (reverse s.choices.items) r.1 looks.2 _ _ _ (loaded_only_calls s.loaded.now)
-      (omega (arith, s.loaded.now.query.variables.ok.0)) r.2 looks.0.triangular looks.1 looks.3 lines refl refl in
+    (omega (arith, s.loaded.now.query.variables.ok.0)) r.2 looks.0.triangular looks.1 looks.3 lines refl refl in
     (r.0, (looks.0, k.0, k.1, k.2))
