@@ -1,6 +1,5 @@
 -- The variables of the terms that are read have numbers.
-use Rattle.std.proofs.Common.{ℕ, zero, suc, ◌+◌, ◌≡◌, ◌<◌, ◌≤◌, ◌&&◌, ◌||◌, Bool, true, false, not, cond, List, [], ◌∷◌, ◌++◌, map, refl, sym, ap, subst, ◌∙◌, length, arith, Option, Some, None, ltb, inl, inr}
-use Rattle.std.specs.List.{list_any, position_or_len}
+use Rattle.std.proofs.Common.{ℕ, suc, ◌+◌, ◌≡◌, ◌<◌, ◌≤◌, ◌||◌, Bool, true, false, not, cond, List, [], ◌∷◌, ◌++◌, map, refl, ap, ◌∙◌, length, arith, Some, inl, inr}
 use Rattle.std.specs.Str.{bytes_eq}
 use Rattle.std.specs.Prelude.{codes}
 use Rattle.std.proofs.lemmas.Bool.{lt-ltb, ltb-true}
@@ -18,7 +17,7 @@ use Rattle.and_reader.specs.Written.{Written, Others, variable, integer, atom, c
 use Rattle.and_reader.specs.Numbering.{Seen, has, place, is_new, variable_number, counted, with_variable, with_name, after, after_others, row, term_in, terms_in, after_goals, goals_in}
 use Rattle.and_reader.specs.Reading.{read_term, read_goals, read_body}
 use Rattle.and_reader.proofs.Lexing.{and_true}
-use Rattle.and_reader.proofs.Grammar.{Grows, grows, others_grow, goals_grow, goal_term, goal_after, goals_are, goals_after, AsItem, AsRow, term_sound, goals_sound}
+use Rattle.and_reader.proofs.Grammar.{others_grow, goals_grow, goal_term, goal_after, goals_are, goals_after, term_sound, goals_sound}
 use Rattle.and_reader.proofs.Texts.{body_sound}
 
 mutual

@@ -1,12 +1,12 @@
 -- A loop over the statements of a text.
-use Rattle.std.proofs.Common.{ℕ, zero, suc, ◌+◌, ◌≡◌, ◌<◌, ◌≤◌, List, [], ◌∷◌, ◌++◌, refl, sym, ap, subst, ◌∙◌, length, arith, Option, Some, None, append_assoc}
+use Rattle.std.proofs.Common.{ℕ, zero, suc, ◌≡◌, ◌<◌, List, [], ◌∷◌, ◌++◌, refl, sym, ap, ◌∙◌, length, arith, Option, Some, None, append_assoc}
 use Rattle.std.proofs.lemmas.List.{append-nil, length-append}
 use Rattle.and_model.specs.Programs.{Clause}
 use Rattle.and_reader.specs.Tokens.{Token}
 use Rattle.and_reader.specs.Written.{tokens_of_statement}
-use Rattle.and_reader.specs.Numbering.{Seen, fresh, Entry, stated, asked, all_stated, all_asked, after_statement}
+use Rattle.and_reader.specs.Numbering.{Seen, fresh, Entry, stated, asked, all_stated, all_asked}
 use Rattle.and_reader.specs.Reading.{◌>>=◌, read_statement, read_text, read_statements}
-use Rattle.and_reader.proofs.Texts.{AsStatement, statement_sound, statement_tokens, text_step}
+use Rattle.and_reader.proofs.Texts.{statement_sound, statement_tokens, text_step}
 
 abbrev pub Read : Type 0
 Read = List Clause × List Clause × Seen

@@ -1,6 +1,6 @@
 -- The terms that are read are those of the grammar.
-use Rattle.std.proofs.Common.{ℕ, zero, suc, ◌+◌, ◌-◌, ◌≡◌, ◌<◌, ◌≤◌, Bool, true, false, not, cond, List, [], ◌∷◌, ◌++◌, map, refl, sym, ap, subst, ◌∙◌, length, arith, Option, Some, None, append_assoc, inl, inr, ◌⊎◌, ℤ, ltb, leb}
-use Rattle.std.proofs.lemmas.List.{append-nil, length-append}
+use Rattle.std.proofs.Common.{ℕ, zero, suc, ◌≡◌, ◌<◌, ◌≤◌, Bool, true, false, cond, List, [], ◌∷◌, ◌++◌, refl, sym, ap, subst, ◌∙◌, length, arith, Option, Some, None, append_assoc, ltb}
+use Rattle.std.proofs.lemmas.List.{length-append}
 use Rattle.std.proofs.lemmas.Bool.{lt-ltb, ltb-true}
 use Rattle.and_model.specs.Terms
 use Rattle.and_model.specs.Terms.{Term, Terms}
@@ -8,9 +8,9 @@ use Rattle.and_model.specs.Lines.{Bytes}
 use Rattle.and_reader.specs.Tokens
 use Rattle.and_reader.specs.Tokens.{Token}
 use Rattle.and_reader.specs.Written.{Written, Others, variable, integer, atom, compound, none, more, tokens_of, tokens_of_others, is_atomic, count, Fits, AllFit, IsAtomic, AllAtomic}
-use Rattle.and_reader.specs.Numbering.{Seen, has, place, is_new, variable_number, counted, including, with_variable, with_name, after, after_others, row, term_in, terms_in, after_goals, goals_in, line_of, Within}
-use Rattle.and_reader.specs.Reading.{◌>>=◌, count_node, new_variable, variable_in, name_in, term_by, Next, further, closed, next_argument, next_goal, rest_by, row_by, arguments_in, read_term, head, name_line, atomic_line, read_atomic, read_goal, read_goals}
-use Rattle.and_reader.proofs.Lexing.{only_then, bind_some, some_is, first_choice, second_choice}
+use Rattle.and_reader.specs.Numbering.{Seen, place, is_new, variable_number, counted, with_variable, with_name, after, after_others, row, term_in, terms_in, after_goals, goals_in, line_of, Within}
+use Rattle.and_reader.specs.Reading.{◌>>=◌, count_node, new_variable, variable_in, name_in, Next, further, closed, next_argument, next_goal, rest_by, row_by, arguments_in, read_term, atomic_line, read_atomic, read_goal, read_goals}
+use Rattle.and_reader.proofs.Lexing.{only_then, bind_some, some_is, first_choice}
 
 -- ---- what was met only grows
 

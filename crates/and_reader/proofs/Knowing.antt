@@ -1,5 +1,5 @@
 -- What is called has clauses, by a set of predicates and by the clauses.
-use Rattle.std.proofs.Common.{ℕ, suc, ◌≡◌, ◌&&◌, ◌||◌, Bool, true, false, List, [], ◌∷◌, map, refl, sym, ap, ◌∙◌, length, Some, None, cond, ℤ, arith}
+use Rattle.std.proofs.Common.{ℕ, suc, ◌≡◌, ◌&&◌, ◌||◌, false, List, [], ◌∷◌, map, refl, sym, ap, ◌∙◌, length, ℤ, arith}
 use Rattle.std.proofs.lemmas.Bool.Decides.{nat_tests}
 use Rattle.std.specs.Prelude.{nat_eq}
 use Rattle.std.specs.List.{list_any, list_all}
@@ -11,7 +11,7 @@ use Rattle.and_model.specs.Programs.{Item, same_predicate, same_count}
 use Rattle.and_model.specs.Views.{term_of}
 use Rattle.and_model.specs.declared.syntax.Term as declared
 use Rattle.indexmap.specs.IndexSet.{contains}
-use Rattle.and_reader.specs.Known.{width, predicate_in, same_key, heads, is_in, all_in}
+use Rattle.and_reader.specs.Known.{width, same_key, heads, is_in, all_in}
 use Rattle.and_reader.specs.Numbering.{row, is_known, knows_all}
 use Rattle.and_reader.specs.Programs.{calls_of, clause_of}
 use Rattle.and_reader.specs.declared.known.Predicate.{Predicate}

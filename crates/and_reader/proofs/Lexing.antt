@@ -1,5 +1,5 @@
 -- The tokens that are read are those that the bytes are written with.
-use Rattle.std.proofs.Common.{ℕ, zero, suc, ◌+◌, ◌-◌, ◌*◌, ◌≡◌, ◌≤◌, ◌<◌, ℤ, pos, Bool, true, false, not, cond, ◌&&◌, ◌||◌, List, [], ◌∷◌, ◌++◌, length, take, drop, get_or, drop-cons, Option, Some, None, refl, sym, ap, subst, ◌∙◌, arith, one-add, inl, inr, ◌⊎◌, append_assoc}
+use Rattle.std.proofs.Common.{ℕ, zero, suc, ◌+◌, ◌-◌, ◌*◌, ◌≡◌, ◌≤◌, ◌<◌, ℤ, pos, Bool, true, false, not, cond, ◌&&◌, ◌||◌, List, [], ◌∷◌, ◌++◌, length, drop, get_or, drop-cons, Option, Some, None, refl, sym, ap, subst, ◌∙◌, arith, one-add, inl, inr, ◌⊎◌, append_assoc}
 use Rattle.std.specs.Prelude.{codes, nat_eq, leb}
 use Rattle.std.specs.List.{prefix_len}
 use Rattle.std.specs.Str.{bytes_eq}
@@ -7,7 +7,7 @@ use Rattle.std.proofs.lemmas.Bool.Decides.{nat_tests}
 use Rattle.std.proofs.lemmas.List.{take-append-drop, append-nil, length-append}
 use Rattle.std.proofs.lemmas.Bool.{eqb-true, leb-true, le-leb}
 use Rattle.std.proofs.lemmas.Slice.Eq.{bytes_eq-Decides}
-use Rattle.and_model.specs.Lines.{Bytes, is_between, is_small, is_word, is_symbol, holds_of_all, is_plain_name}
+use Rattle.and_model.specs.Lines.{Bytes, is_small, is_word, is_symbol, holds_of_all, is_plain_name}
 use Rattle.and_reader.specs.Tokens.{Token, variable, integer, name, functor, close, comma, neck, query, end, is_layout, is_capital, is_digit, is_name, is_reserved, is_numeral, is_variable, begins, number_of, number_behind, goes_on, ends_clause, line_after, IsWritten, Spells, nothing, layout, token}
 use Rattle.and_reader.specs.declared.refusal.ReadRefusal.{ReadRefusal}
 use Rattle.and_reader.specs.declared.refusal.ReadRefusal.TheVariants.{Text, Memory}

@@ -1,5 +1,5 @@
 -- One query, and a program or none.
-use Rattle.std.proofs.Common.{ℕ, ◌≡◌, ◌≤◌, Bool, true, false, List, [], ◌∷◌, map, refl, sym, ap, ◌∙◌, length, get_or, Some, None, cond, leb, arith, Option}
+use Rattle.std.proofs.Common.{◌≡◌, ◌≤◌, Bool, true, false, List, [], ◌∷◌, map, refl, sym, ap, ◌∙◌, length, get_or, Some, None, cond, leb, arith, Option}
 use Rattle.std.proofs.lemmas.Bool.{le-leb}
 use Rattle.and_model.specs.Lines.{Bytes}
 use Rattle.and_model.specs.Programs

@@ -1,12 +1,12 @@
 -- Going over tokens and terms.
-use Rattle.std.proofs.Common.{ℕ, zero, suc, ◌+◌, ◌-◌, ◌≡◌, ◌<◌, ◌≤◌, Bool, true, false, not, cond, List, [], ◌∷◌, ◌++◌, map, refl, sym, ap, ◌∙◌, length, arith, drop, get_or, drop-cons, add-one, Option, Some, None, append_assoc}
-use Rattle.std.proofs.lemmas.List.{drop-map, append-nil}
+use Rattle.std.proofs.Common.{ℕ, zero, suc, ◌+◌, ◌-◌, ◌≡◌, ◌<◌, List, [], ◌∷◌, ◌++◌, map, refl, sym, ap, ◌∙◌, length, arith, drop, get_or, drop-cons, add-one, Option, Some, None, append_assoc}
+use Rattle.std.proofs.lemmas.List.{drop-map}
 use Rattle.and_model.specs.Terms
 use Rattle.and_model.specs.Terms.{Term, Terms}
 use Rattle.and_model.specs.Lines.{Bytes}
 use Rattle.and_reader.specs.Tokens.{Token, name, functor}
 use Rattle.and_reader.specs.Numbering.{Seen, row}
-use Rattle.and_reader.specs.Reading.{◌>>=◌, Next, further, closed, next_argument, rest_by, row_by, read_term, arguments_in, name_in, count_node, read_atomic, read_goal}
+use Rattle.and_reader.specs.Reading.{◌>>=◌, Next, further, closed, next_argument, rest_by, row_by, read_term, arguments_in, name_in}
 
 pub taken : {A B : Type 0} (f : A → B) (xs : List A) (i : ℕ) (x : A) → i < length xs → x ≡ get_or xs i x → drop i (map f xs) ≡ f x ∷ drop (i + 1) (map f xs)
 taken {A} f xs i x lt e =

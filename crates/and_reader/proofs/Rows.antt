@@ -1,10 +1,12 @@
 -- Trials of the definitions.
-use Rattle.std.proofs.Common.{ℕ, ◌≡◌, Bool, List, [], ◌∷◌, ◌++◌, refl, pos, Some, None}
+use Rattle.std.proofs.Common.{◌≡◌, [], ◌∷◌, ◌++◌, refl, sym, ◌∙◌, pos, Some, None}
 use Rattle.std.specs.Prelude.{codes}
 use Rattle.and_model.specs.Terms
 use Rattle.and_model.specs.Programs.{Program, call, builtin_names}
+use Rattle.and_reader.specs.Numbering.{Reads}
 use Rattle.and_reader.specs.Reading.{program_in, tokens_in}
-use Rattle.and_reader.specs.Tokens.{Token, variable, integer, name, functor, close, comma, neck, query, end}
+use Rattle.and_reader.specs.Tokens.{variable, integer, name, functor, close, comma, query, end}
+use Rattle.and_reader.proofs.Texts.{program_sound, program_complete, none_some}
 
 cut : tokens_in 40 1 (codes "p(a1_,\n B0).?- 012") ≡ None
 cut = refl
@@ -24,5 +26,12 @@ reads : program_in (codes "p(a).\n p(X):-p(_).\n?- p(7).") ≡ Some two_facts
 unfolding two_facts
 reads = refl
 
+-- so the bytes are in the grammar, and stand for that program
+is_in_grammar : Reads (codes "p(a).\n p(X):-p(_).\n?- p(7).") two_facts
+is_in_grammar = program_sound (codes "p(a).\n p(X):-p(_).\n?- p(7).") two_facts reads
+
 unknown : program_in (codes "p(X):-q(X). ?- p(7).") ≡ None
 unknown = refl
+
+not_in_grammar : (P : Program) → Reads (codes "p(X):-q(X). ?- p(7).") P → ⊥
+not_in_grammar P h = none_some P (sym unknown ∙ program_complete (codes "p(X):-q(X). ?- p(7).") P h)

@@ -1,21 +1,20 @@
 -- The programs that are read are those of the grammar.
-use Rattle.std.proofs.Common.{ℕ, zero, suc, ◌+◌, ◌≡◌, ◌<◌, ◌≤◌, Bool, true, false, cond, List, [], ◌∷◌, ◌++◌, map, refl, sym, ap, subst, ◌∙◌, length, arith, Option, Some, None, Result, Ok, Err, append_assoc, inl, inr, ◌⊎◌, ℤ, leb}
-use Rattle.std.proofs.lemmas.List.{append-nil, length-append}
+use Rattle.std.proofs.Common.{ℕ, zero, suc, ◌+◌, ◌≡◌, ◌<◌, ◌≤◌, true, cond, List, [], ◌∷◌, ◌++◌, refl, sym, ap, subst, ◌∙◌, length, arith, Option, Some, None, Result, Ok, Err, append_assoc, inl, inr, ◌⊎◌, leb}
+use Rattle.std.proofs.lemmas.List.{length-append}
 use Rattle.std.proofs.lemmas.Bool.{leb-true, le-leb}
-use Rattle.and_model.specs.Terms
-use Rattle.and_model.specs.Terms.{Term, Terms}
+use Rattle.and_model.specs.Terms.{Term}
 use Rattle.and_model.specs.Lines.{Bytes}
-use Rattle.and_model.specs.Programs.{Program, Clause, call}
+use Rattle.and_model.specs.Programs.{Program, Clause}
 use Rattle.and_reader.specs.Tokens
 use Rattle.and_reader.specs.Tokens.{Token, Spells}
-use Rattle.and_reader.specs.Written.{Written, Others, variable, integer, atom, compound, none, more, tokens_of, tokens_of_others, is_atomic, Statement, fact, rule, query, tokens_of_statement, tokens_of_text, IsAtomic, AllAtomic, IsStatement, AreStatements}
-use Rattle.and_reader.specs.Numbering.{Seen, fresh, after, after_goals, goals_in, term_in, line_of, truth, Entry, stated, asked, clause_with, entry_in, entries_in, after_statement, after_text, Within, Keeps, all_stated, all_asked, all_known, start, ReadsAs, Reads}
+use Rattle.and_reader.specs.Written.{Written, Others, variable, integer, atom, compound, more, tokens_of, tokens_of_others, Statement, fact, rule, query, tokens_of_statement, tokens_of_text, IsAtomic, IsStatement, AreStatements}
+use Rattle.and_reader.specs.Numbering.{Seen, fresh, after, after_goals, goals_in, term_in, line_of, truth, Entry, stated, asked, clause_with, entry_in, entries_in, after_statement, after_text, Within, Keeps, all_stated, all_asked, all_known, start, Reads}
 use Rattle.std.specs.Prelude.{IfOk}
 use Rattle.and_reader.specs.declared.refusal.ReadRefusal.{ReadRefusal}
 use Rattle.and_reader.specs.declared.refusal.ReadRefusal.TheVariants.{Text, Memory}
 use Rattle.and_reader.specs.Reading.{◌>>=◌, Gives, read_term, read_goals, read_body, read_query, read_clause, read_statement, read_text, read_statements, atomic_line, query_at, read_by, program_with, program_in, tokens_in}
 use Rattle.and_reader.proofs.Lexing.{only_then, bind_some, some_is, first_choice, tokens_sound, tokens_complete}
-use Rattle.and_reader.proofs.Grammar.{Grows, grows, goals_grow, within_before, AsItem, AsRow, goal_term, goal_after, all_atomic, goals_are, goals_after, regrouped, atomic_sound, line_complete, term_complete, goals_sound, goals_complete}
+use Rattle.and_reader.proofs.Grammar.{goals_grow, within_before, all_atomic, goals_are, goals_after, regrouped, atomic_sound, line_complete, term_complete, goals_sound, goals_complete}
 
 -- the tokens begin with a statement, and this was read
 pub record AsStatement (S : Seen) (ts : List Token) (p : Entry × Seen × List Token) (s : Statement) : Type 0 where
@@ -279,7 +278,7 @@ program_complete bytes P (ss, r) =
 pub one_program : (bytes : Bytes) (P Q : Program) → Reads bytes P → Reads bytes Q → P ≡ Q
 one_program bytes P Q p q = some_is P Q (sym (program_complete bytes P p) ∙ program_complete bytes Q q)
 
-none_some : (P : Program) → ◌≡◌ {A = Option Program} None (Some P) → ⊥
+pub none_some : (P : Program) → ◌≡◌ {A = Option Program} None (Some P) → ⊥
 none_some P e = cc
 
 pub is_read : {X : Type 0} (view : X → Program) (bytes : Bytes) (r : Result X ReadRefusal) → Gives view r (program_in bytes) → IfOk r (λ x. Reads bytes (view x))

@@ -1,8 +1,8 @@
 -- Terms of the code, as the terms that they stand for.
-use Rattle.std.proofs.Common.{◌≡◌, ◌∙◌, List, [], ◌∷◌, map, refl, ap, rules}
+use Rattle.std.proofs.Common.{◌≡◌, ◌∙◌, map, refl, ap, rules}
 use Rattle.and_model.specs.Terms
-use Rattle.and_model.specs.Views.{term_of, terms_of, terms_of_row}
-use Rattle.and_model.specs.declared.syntax.Term.{Term, Row_of-Term, end_of-Term, more_of-Term, items-the_row-Term}
+use Rattle.and_model.specs.Views.{term_of, terms_of_row}
+use Rattle.and_model.specs.declared.syntax.Term.{Row_of-Term, end_of-Term, more_of-Term, items-the_row-Term}
 use Rattle.and_model.specs.declared.syntax.Term.TheViews.{Compound, the_lemmas}
 use Rattle.and_model.specs.declared.syntax.Terms.{Terms}
 use Rattle.and_model.specs.declared.syntax.Term.TheBlock.{hidden-the_row-Term-0}

@@ -1,5 +1,5 @@
 -- The program of a written text: variables are numbered by first occurrence in their clause, names by first occurrence in the text (this project's own).
-use Rattle.std.specs.Prelude.{ℕ, suc, ◌≤◌, ◌≡◌, Bool, true, false, not, cond, ◌||◌, ◌&&◌, List, [], ◌∷◌, ◌++◌, length, map, codes}
+use Rattle.std.specs.Prelude.{ℕ, suc, ◌≤◌, ◌≡◌, Bool, true, not, cond, ◌||◌, List, [], ◌∷◌, ◌++◌, length, map, codes}
 use Rattle.std.specs.Str.{bytes_eq}
 use Rattle.std.specs.List.{list_any, list_all, position_or_len}
 use Rattle.and_model.specs.Lines.{Bytes}

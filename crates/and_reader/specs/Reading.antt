@@ -1,12 +1,12 @@
 -- How the reader goes through a text; laws tie it to the grammar.
-use Rattle.std.specs.Prelude.{ℕ, zero, suc, ◌*◌, ◌+◌, ◌-◌, ◌≡◌, ℤ, pos, Bool, true, false, not, cond, ◌||◌, ◌&&◌, List, [], ◌∷◌, ◌++◌, length, map, take, drop, Option, Some, None, Result, Ok, Err, nat_eq, leb, ltb, codes}
+use Rattle.std.specs.Prelude.{ℕ, zero, suc, ◌≡◌, pos, Bool, cond, List, [], ◌∷◌, ◌++◌, length, take, drop, Option, Some, None, Result, Ok, Err, nat_eq, leb, ltb, codes}
 use Rattle.std.specs.List.{prefix_len}
 use Rattle.std.specs.Str.{bytes_eq}
 use Rattle.and_model.specs.Lines.{Bytes, is_small, is_word, is_symbol}
 use Rattle.and_model.specs.Terms
 use Rattle.and_model.specs.Terms.{Term, Terms}
 use Rattle.and_model.specs.Programs.{Program, Clause}
-use Rattle.and_reader.specs.Tokens.{Token, variable, integer, name, functor, close, comma, neck, query, end, is_layout, is_capital, is_digit, is_reserved, begins, number_of, goes_on, ends_clause, line_after}
+use Rattle.and_reader.specs.Tokens.{Token, variable, integer, name, functor, close, comma, neck, query, end, is_layout, is_capital, is_digit, is_reserved, number_of, goes_on, ends_clause, line_after}
 use Rattle.and_reader.specs.Numbering.{Seen, counted, is_new, with_name, place, row, fresh, Entry, stated, asked, clause_with, truth, all_stated, all_asked, all_known, start}
 use Rattle.and_reader.specs.declared.refusal.ReadRefusal.{ReadRefusal}
 use Rattle.and_reader.specs.declared.refusal.ReadRefusal.TheVariants.{Text, Memory}

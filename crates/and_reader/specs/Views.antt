@@ -1,5 +1,5 @@
 -- What values of the reader stand for.
-use Rattle.std.specs.Prelude.{ℕ, List, [], ◌∷◌, map}
+use Rattle.std.specs.Prelude.{List, map}
 use Rattle.and_reader.specs.Tokens
 use Rattle.and_reader.specs.declared.tokens.Token.{Token}
 use Rattle.and_reader.specs.declared.tokens.Token.TheVariants.{Variable, Integer, Name, Functor, Close, Comma, Neck, Query, End}

@@ -10,9 +10,11 @@ use and_model::{NameNo, Text};
 use indexmap::IndexSet;
 use std::alloc::Global;
 
-pub(crate) const MAX_VARIABLES: usize = 255;
+/// How many variables a clause may have.
+const MAX_VARIABLES: usize = 255;
 
-pub(crate) const MAX_NODES: u32 = 524_288;
+/// How many nodes a text may have.
+const MAX_NODES: u32 = 524_288;
 
 /// The names that every table of names begins with.
 const BUILTIN_NAMES: [&[u8]; 27] = [

@@ -16,8 +16,10 @@ use crate::tokens::read_tokens;
 use and_model::Text;
 use std::alloc::Global;
 
+/// How many bytes a text may have.
 const MAX_BYTES: usize = 1_048_576;
 
+/// How many clauses a program may have, without the query.
 const MAX_CLAUSES: usize = 65_535;
 
 /// The program of the statements, where there is one query and each called predicate has a clause.

@@ -31,6 +31,7 @@ pub(crate) struct Statements {
 }
 
 impl Statements {
+    /// Puts the entry at the end of its kind. An error is want of memory.
     fn add(&mut self, entry: Entry) -> Result<(), AllocFailed<Clause>>
         ensures clauses { OnOk result (map clause_of self.new.clauses.items ≡ map clause_of self.old.clauses.items ++ all_stated (entry_of entry ∷ [])) }
         ensures queries { OnOk result (map clause_of self.new.queries.items ≡ map clause_of self.old.queries.items ++ all_asked (entry_of entry ∷ [])) }

@@ -12,6 +12,7 @@ use crate::tokens::Token;
 use and_model::{Term, Terms};
 use std::alloc::Global;
 
+/// How many arguments a name may have.
 const MAX_ARGUMENTS: usize = 255;
 
 /// How many brackets may be open.
@@ -42,7 +43,7 @@ impl<'t, 'a> Parser<'t, 'a> {
     }
 
     /// The next token, which stays.
-    pub(crate) fn peek(&self) -> Option<Token<'a>>
+    fn peek(&self) -> Option<Token<'a>>
         ensures { head (left self.now) ≡ option_map token_of result }
     {
         match self.tokens.get(self.taken) {
@@ -160,7 +161,7 @@ impl<'t, 'a> Parser<'t, 'a> {
     }
 
     /// An atomic term.
-    pub(crate) fn atomic(&mut self) -> Result<Term, ReadRefusal>
+    fn atomic(&mut self) -> Result<Term, ReadRefusal>
         ensures { Gives (λ t. (term_of t, met self.new, left self.new)) result (read_atomic (met self.old) (left self.old)) }
     {
         match self.line() {

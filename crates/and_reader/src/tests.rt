@@ -10,6 +10,8 @@ fn reads(rt: HostRuntime) {
             assert_eq!(rt; loaded.clause_count(), 3);
             assert_eq!(rt; loaded.query().variables.len(), 2);
             assert_eq!(rt; loaded.query().line, 2);
+            assert_eq!(rt; loaded.clause(3).line, 2);
+            assert_eq!(rt; loaded.name(and_model::NameNo(28)), b"a1".as_slice());
         }
         Err(_) => assert!(rt; false),
     }

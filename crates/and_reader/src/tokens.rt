@@ -25,6 +25,7 @@ pub(crate) enum Token<'a> {
     End,
 }
 
+/// The largest integer of a text.
 const LARGEST: u64 = 9_223_372_036_854_775_807;
 
 fn is_layout_byte(byte: u8) -> bool
@@ -76,6 +77,7 @@ fn word_len(bytes: &[u8]) -> usize
     bytes.len()
 }
 
+/// How many digits the text begins with.
 fn digits_len(bytes: &[u8]) -> usize
     ensures front { result ≡ prefix_len is_digit bytes.now }
     ensures within { result ≤ length bytes.now }
@@ -88,6 +90,7 @@ fn digits_len(bytes: &[u8]) -> usize
     bytes.len()
 }
 
+/// How many symbol characters the text begins with.
 fn symbols_len(bytes: &[u8]) -> usize
     ensures front { result ≡ prefix_len is_symbol bytes.now }
     ensures within { result ≤ length bytes.now }
@@ -100,6 +103,7 @@ fn symbols_len(bytes: &[u8]) -> usize
     bytes.len()
 }
 
+/// Whether the name means something else in the whole language.
 fn is_reserved_name(name: &[u8]) -> bool
     ensures { result ≡ is_reserved name.now }
 {
@@ -148,6 +152,7 @@ fn number(digits: &[u8]) -> Option<i64>
     Some(value as i64)
 }
 
+/// The integer of these digits.
 fn read_integer<'a>(digits: &[u8], rest: &'a [u8]) -> Result<(Token<'a>, &'a [u8]), ReadRefusal>
     ensures { Gives (λ t. (token_of t.0, t.1.now)) result (integer_at digits.now rest.now) }
 {
@@ -160,6 +165,7 @@ fn read_integer<'a>(digits: &[u8], rest: &'a [u8]) -> Result<(Token<'a>, &'a [u8
     }
 }
 
+/// A name, or a functor where a bracket is right behind it.
 fn read_name<'a>(
     line: u32,
     name: &'a [u8],
@@ -176,6 +182,7 @@ fn read_name<'a>(
     }
 }
 
+/// The token that these symbol characters are.
 fn read_symbol<'a>(
     line: u32,
     symbol: &[u8],

@@ -1,4 +1,4 @@
-use Rattle.std.proofs.Common.{ℕ, ◌≡◌, ◌∙◌, Some, ap, sym, length, map, arith}
+use Rattle.std.proofs.Common.{ℕ, ◌≡◌, ◌∙◌, Some, ap, sym, length, arith}
 use Rattle.and_model.specs.Views.{term_of}
 use Rattle.and_reader.specs.Known.{predicate_in}
 use Rattle.and_reader.specs.declared.known.Predicate.{Predicate}

@@ -1,6 +1,5 @@
-use Rattle.std.proofs.Common.{◌≡◌, ◌<◌, ◌↔◌, ap, arith, length, map, true}
+use Rattle.std.proofs.Common.{◌<◌, ap, length, map}
 use Rattle.and_reader.specs.Entries.{entry_of}
-use Rattle.and_reader.specs.Numbering.{fresh}
 use Rattle.and_reader.specs.Parsing.{met, left}
 use Rattle.and_reader.specs.Programs.{clause_of}
 use Rattle.and_reader.specs.Reading.{read_statements}

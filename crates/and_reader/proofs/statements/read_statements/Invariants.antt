@@ -1,4 +1,4 @@
-use Rattle.std.proofs.Common.{ℕ, ◌≡◌, ◌<◌, length, map}
+use Rattle.std.proofs.Common.{◌≡◌, length, map}
 use Rattle.and_reader.specs.Numbering.{fresh}
 use Rattle.and_reader.specs.Parsing.{met, left}
 use Rattle.and_reader.specs.Programs.{clause_of}

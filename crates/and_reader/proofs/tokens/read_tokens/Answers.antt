@@ -1,7 +1,6 @@
-use Rattle.std.proofs.Common.{arith, ◌≡◌, ◌+◌, ◌++◌, ◌∷◌, [], length, suc, true, false, refl, sym, ap, ◌∙◌}
+use Rattle.std.proofs.Common.{arith, ◌≡◌, ◌+◌, ◌++◌, ◌∷◌, [], length, suc, sym, ap, ◌∙◌}
 use Rattle.std.proofs.lemmas.Result.{err_from_is_err_and}
 use Rattle.std.proofs.lemmas.List.{map_push, nil_from_length}
-use Rattle.std.proofs.lemmas.Bool.{eqb-true}
 use Rattle.and_reader.specs.Reading.{token_at, tokens_in}
 use Rattle.and_reader.specs.Views.{token_of, tokens_seen}
 use Rattle.and_reader.proofs.Lexing.{layout_step, token_step, token_shorter, token_fails, all_read, fails_with, line_up}

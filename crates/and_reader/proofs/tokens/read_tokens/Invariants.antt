@@ -1,4 +1,4 @@
-use Rattle.std.proofs.Common.{ℕ, ◌≡◌, ◌≤◌, ◌<◌, ◌+◌, suc, length}
+use Rattle.std.proofs.Common.{◌≤◌, ◌+◌, suc, length}
 use Rattle.and_reader.specs.Reading.{tokens_in}
 use Rattle.and_reader.specs.Views.{tokens_seen}
 use Rattle.and_reader.proofs.Lexing.{Completes}

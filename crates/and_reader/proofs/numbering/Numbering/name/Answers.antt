@@ -1,8 +1,7 @@
-use Rattle.std.proofs.Common.{arith, ◌≡◌, ◌+◌, ◌<◌, ℕ, List, true, refl, ap, ◌∙◌, sym, Some, None, suc, ltb}
+use Rattle.std.proofs.Common.{arith, ◌≡◌, ◌<◌, ℕ, List, ap, ◌∙◌, sym, Some, None, suc, ltb}
 use Rattle.std.proofs.lemmas.Bool.{lt-ltb}
 use Rattle.and_model.specs.Lines.{Bytes}
 use Rattle.and_reader.specs.Numbering.{Seen, place, with_name, including}
-use Rattle.and_reader.specs.Reading.{name_in}
 use Rattle.and_reader.specs.Seen.{seen}
 use Rattle.and_reader.specs.Borrowed.{bytes_of}
 use Rattle.and_reader.proofs.Lexing.{first_choice}

@@ -1,16 +1,15 @@
-use Rattle.std.proofs.Common.{◌≡◌, ◌∙◌, ◌-◌, ◌∷◌, ◌++◌, [], suc, ap, sym, map, refl, arith, Some, ℕ, vec_len, List, cond}
+use Rattle.std.proofs.Common.{◌≡◌, ◌∙◌, ◌-◌, ◌∷◌, ◌++◌, [], ap, sym, map, arith, Some, vec_len, cond}
 use Rattle.std.proofs.lemmas.Result.{err_from_is_err_and}
 use Rattle.and_reader.proofs.Lexing.{fails_with}
 use Rattle.std.proofs.lemmas.List.{map_push}
 use Rattle.and_model.specs.Terms
 use Rattle.and_model.specs.Views.{term_of}
-use Rattle.and_model.specs.declared.syntax.Terms as declared
 use Rattle.and_reader.specs.Parsing.{met, left}
 use Rattle.and_reader.specs.Numbering.{Seen, row}
 use Rattle.and_reader.specs.Seen.{seen}
-use Rattle.and_reader.specs.Reading.{row_by, next_argument, further, closed, read_term, arguments_in}
+use Rattle.and_reader.specs.Reading.{next_argument, further, closed, read_term, arguments_in}
 use Rattle.and_reader.specs.Views.{token_of}
-use Rattle.and_reader.proofs.Parsing.{with_front, atom_read, compound_read, row_further, row_closed, row_other, opens}
+use Rattle.and_reader.proofs.Parsing.{atom_read, compound_read, row_further, row_closed, row_other, opens}
 use Rattle.and_reader.proofs.Views.{compound_of}
 use Rattle.and_reader.proofs.terms.Parser.+term.Goals as goal
 
