@@ -1,8 +1,8 @@
 -- Lists among terms, and how they are written.
-use Rattle.std.proofs.Common.{ℕ, suc, ◌≡◌, ◌+◌, ◌<◌, ◌≤◌, Bool, true, false, not, cond, ◌&&◌, List, [], ◌∷◌, ◌++◌, refl, ap, sym, ◌∙◌, arith, map, length, get_or, nat_eq, nat_lt, ◌⊎◌, inl, inr, ◌≢◌, ◌==◌, Option, Some, None, unwrap_or}
+use Rattle.std.proofs.Common.{ℕ, suc, ◌≡◌, ◌+◌, ◌<◌, ◌≤◌, true, false, not, cond, List, [], ◌∷◌, refl, ap, ◌∙◌, arith, map, length, get_or, nat_eq, nat_lt, ◌⊎◌, inl, inr, ◌≢◌, ◌==◌, Option, Some, None, unwrap_or}
 use Rattle.std.proofs.lemmas.Bool.Decides.{nat_tests}
-use Rattle.std.specs.List.{position, position_or_len, prefix_len}
-use Rattle.and_model.specs.Terms.{Path, Term, Terms, variable, number, compound, none, more, Substitution, apply, apply_all}
+use Rattle.std.specs.List.{position, position_or_len}
+use Rattle.and_model.specs.Terms.{compound, none, more}
 use Rattle.and_model.specs.Views.{terms_of}
 use Rattle.and_model.specs.Views
 use Rattle.and_model.specs.Lines.{place_of, is_cell, is_nil, point_name, nil_name}
@@ -14,7 +14,6 @@ use Rattle.andorra.specs.Cells.{placed, in_cells}
 use Rattle.andorra.specs.Rows.{in_cells_all}
 use Rattle.andorra.specs.Printing.{cell_variable, is_list_cell, is_empty_list}
 use Rattle.andorra.specs.declared.placed.Placed.{Placed}
-use Rattle.andorra.specs.declared.rows.PlacedTerms.{PlacedTerms}
 use Rattle.andorra.proofs.TermViews.{placed_compound}
 
 -- the place of a cell among the variables of the line

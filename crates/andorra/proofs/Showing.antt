@@ -1,11 +1,11 @@
 -- The variables that a line shows, and their values one after another.
-use Rattle.std.proofs.Common.{ℕ, suc, ◌≡◌, ◌+◌, ◌<◌, ◌≤◌, Bool, true, false, true≢false, ◌&&◌, cond, List, [], ◌∷◌, ◌++◌, refl, ap, sym, ◌∙◌, subst, arith, rules, map, length, get_or, drop, drop-cons, add-one, zero-add, append_assoc, append-nil, codes, zero}
+use Rattle.std.proofs.Common.{ℕ, suc, ◌≡◌, ◌+◌, ◌<◌, ◌≤◌, true, false, cond, List, [], ◌∷◌, ◌++◌, refl, ap, sym, ◌∙◌, subst, arith, map, length, get_or, drop, drop-cons, add-one, zero-add, append_assoc, append-nil, codes, zero}
 use Rattle.std.specs.List.{list_all}
 use Rattle.std.specs.Prelude.{ltb}
 use Rattle.std.proofs.lemmas.Bool.{lt-ltb}
 use Rattle.std.proofs.lemmas.List.{drop_all}
 use Rattle.and_laws.proofs.Substitutions.{and_left, and_right}
-use Rattle.and_model.specs.Terms.{Path, Term, Terms, variable, number, compound, none, more, variables_of, variables_in, Substitution, apply, apply_all}
+use Rattle.and_model.specs.Terms.{Path, Term, variable, variables_in, Substitution, apply, apply_all}
 use Rattle.and_model.specs.Programs.{Program}
 use Rattle.and_model.specs.Lines.{Bytes, begins_underscore, first_seen, shown, shown_variables, shown_value, variables_along, joined, values_or_true, line}
 use Rattle.and_model.specs.Views.{term_of, terms_of}

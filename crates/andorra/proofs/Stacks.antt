@@ -1,29 +1,19 @@
 -- Stacks of rows of terms that are still to be gone along.
-use Rattle.std.proofs.Common.{ℕ, suc, ◌≡◌, ◌+◌, ◌<◌, Bool, true, false, true≢false, ◌&&◌, ◌||◌, cond, List, [], ◌∷◌, ◌++◌, refl, ap, sym, ◌∙◌, arith, rules, map, nat_eq, subst, length, append_assoc, ◌≤◌}
-use Rattle.std.specs.List.{list_all, list_any}
+use Rattle.std.proofs.Common.{ℕ, ◌≡◌, ◌+◌, Bool, true, false, ◌&&◌, ◌||◌, cond, List, [], ◌∷◌, ◌++◌, refl, ap, sym, ◌∙◌, arith, map, nat_eq, subst, append_assoc, ◌≤◌}
+use Rattle.std.specs.List.{list_any}
 use Rattle.std.proofs.lemmas.List.{map-append}
-use Rattle.std.proofs.lemmas.List.Folds.{list_all-append}
-use Rattle.and_model.specs.Terms.{Path, Term, Terms, variable, number, compound, none, more, variables_of, variables_in, Substitution, apply, apply_all}
-use Rattle.and_model.specs.Views
-use Rattle.and_model.specs.Views.{terms_of, terms_of_row}
+use Rattle.and_model.specs.Terms.{Path, Term, variable, compound, more, variables_of, variables_in, Substitution, apply, apply_all}
 use Rattle.and_model.specs.Lines.{has, first_seen}
-use Rattle.and_model.specs.declared.syntax.Term as Syntax
-use Rattle.and_model.specs.declared.numbers.NameNo.{NameNo}
-use Rattle.and_model.specs.declared.syntax.Term.{Row_of-Term, Variable, end_of-Term, more_of-Term, items-the_row-Term}
-use Rattle.and_model.specs.declared.syntax.Term.TheViews.{Compound, the_lemmas}
-use Rattle.and_model.specs.declared.syntax.Term.TheBlock.{hidden-the_row-Term-0}
-use Rattle.and_model.specs.declared.syntax.Terms as SyntaxTerms
+use Rattle.and_model.specs.declared.syntax.Term.{Variable}
 use Rattle.indexmap.specs.IndexSet.{insert_key}
-use Rattle.and_reader.specs.Bounds.{is_bounded, are_bounded}
-use Rattle.andorra.specs.Cells.{placed, in_cells}
+use Rattle.and_reader.specs.Bounds.{are_bounded}
+use Rattle.andorra.specs.Cells.{placed}
 use Rattle.andorra.specs.Solved.{IsFreeVariable}
 use Rattle.andorra.specs.Printing.{cell_variable, values, steps, steps_along, from_top, variables_ahead, steps_ahead, rows_are_within}
 use Rattle.andorra.specs.Rows.{placed_all}
 use Rattle.andorra.specs.declared.placed.Placed.{Placed}
 use Rattle.andorra.specs.declared.rows.PlacedTerms.{PlacedTerms}
-use Rattle.and_laws.proofs.Substitutions.{and_left, and_right}
 use Rattle.andorra.proofs.Values.{placed_variable}
-use mathlib.Core.Former.{Count}
 
 -- a free cell stands for itself
 pub free_value : (s : Substitution) (p : Placed) (k : ℕ) → p.term.now ≡ Variable k → IsFreeVariable s (placed p) → apply s (placed p) ≡ variable [] (p.base + k)

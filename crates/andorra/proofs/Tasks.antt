@@ -1,8 +1,8 @@
 -- Steps of writing: what was written, and what the stack of tasks still writes.
-use Rattle.std.proofs.Common.{ℕ, suc, ◌≡◌, ◌+◌, ◌<◌, ◌≤◌, Bool, true, false, true≢false, ◌&&◌, List, [], ◌∷◌, ◌++◌, refl, ap, sym, ◌∙◌, arith, append_assoc, append-nil, get_or}
+use Rattle.std.proofs.Common.{ℕ, suc, ◌≡◌, ◌+◌, ◌<◌, Bool, true, false, true≢false, ◌&&◌, List, [], ◌∷◌, ◌++◌, refl, ap, sym, ◌∙◌, arith, append_assoc, append-nil, get_or}
 use Rattle.std.proofs.lemmas.List.Folds.{list_all-append}
-use Rattle.and_model.specs.Terms.{Term, Terms, compound, none, more, Substitution, apply, apply_all}
-use Rattle.and_model.specs.Lines.{Bytes, is_cell, point_name, shown_name, shown, shown_arguments, shown_rest, shown_tail}
+use Rattle.and_model.specs.Terms.{Terms, compound, none, more, Substitution, apply, apply_all}
+use Rattle.and_model.specs.Lines.{Bytes, is_cell, point_name, shown_name, shown, shown_arguments, shown_tail}
 use Rattle.and_reader.specs.Bounds.{is_bounded, are_bounded}
 use Rattle.andorra.specs.Cells.{placed, cells_of}
 use Rattle.andorra.specs.Printing.{values, steps, steps_along, from_top, names_of, line_variables, substitution_of, value_of, task_text, task_steps, task_is_within, text_ahead, tasks_ahead, tasks_are_within, GoesOn, is_list_cell}

@@ -2,9 +2,8 @@
 use Rattle.std.specs.Prelude.{ℕ, suc, ◌+◌, ◌<◌, ◌≡◌, Bool, true, false, List, [], ◌∷◌, ◌++◌, map}
 use Rattle.std.specs.List.{list_all}
 use Rattle.and_model.specs.Terms.{Path, Term, Terms, variable, number, compound, none, more, variables_in, Substitution, apply, apply_all}
-use Rattle.and_model.specs.Programs.{Program}
 use Rattle.and_model.specs.Views.{term_of}
-use Rattle.and_model.specs.Lines.{Bytes, is_cell, is_nil, shown, shown_tail, shown_rest}
+use Rattle.and_model.specs.Lines.{Bytes, first_seen, is_cell, is_nil, shown, shown_tail, shown_rest}
 use Rattle.and_reader.specs.Bounds.{is_bounded, are_bounded}
 use Rattle.and_reader.specs.Programs.{program_of}
 use Rattle.andorra.specs.Cells.{placed, cells_of, made_of, meaning}
@@ -25,7 +24,8 @@ abbrev pub values : Substitution → PlacedTerms → Terms
 values s r = apply_all s (placed_all r)
 
 abbrev mutual
-  -- how many steps a walk along a term takes at most: one for each part, and one for the end of each row of arguments
+  -- how many steps a walk along a term takes at most: one for each part, and one for the end of
+  -- each row of arguments
   pub steps : Term → ℕ
   steps (variable q k) = 1
   steps (number z) = 1
@@ -54,6 +54,13 @@ steps_ahead s (r ∷ rs) = steps_along (values s r) + steps_ahead s rs
 abbrev pub rows_are_within : ℕ → List PlacedTerms → Bool
 rows_are_within n rows = list_all (λ r. are_bounded n (placed_all r)) rows
 
+-- Going on from cells that were seen and a stack of rows to others: in the end these variables
+-- are seen too before those that are ahead, and fewer steps are left than so many more.
+pub record SeesAlong (s : Substitution) (old new : List ℕ) (before after : List PlacedTerms) (variables : List (Path × ℕ)) (most : ℕ) : Type 0 where
+  pub seen : first_seen (map cell_variable new) (variables_ahead s after)
+      ≡ first_seen (map cell_variable old) (variables ++ variables_ahead s before)
+  pub fewer : steps_ahead s after < most + steps_ahead s before
+
 -- These are the query's variables that a line shows, by their names and as terms.
 pub record Shows (shown : Shown) (variables : List (Bytes × ℕ)) : Type 0 where
   pub names : map (λ n. n.now) shown.names.items ≡ map (λ v. v.0) variables
@@ -73,7 +80,8 @@ substitution_of p = meaning (made_of p.bindings.now)
 abbrev pub value_of : Printer → Placed → Term
 value_of p t = apply (substitution_of p) (placed t)
 
--- what a task writes: a term, the tail of a list, the arguments after those that are written and their bracket, or the bracket of a list
+-- what a task writes: a term, the tail of a list, the arguments after those that are written and
+-- their bracket, or the bracket of a list
 abbrev pub task_text : Printer → Task → Bytes
 task_text p (Whole t) = shown (names_of p) (line_variables p) (value_of p t)
 task_text p (Tail t) = shown_tail (names_of p) (line_variables p) (value_of p t)
@@ -104,11 +112,23 @@ tasks_ahead p (t ∷ ts) = task_steps p t + tasks_ahead p ts
 abbrev pub tasks_are_within : ℕ → List Task → Bool
 tasks_are_within n tasks = list_all (task_is_within n) tasks
 
--- Going on from one text and stack of tasks to others: these bytes were written or are still to be, in fewer steps than so many more.
+abbrev pub TaskWithin : ℕ → Task → Type 0
+TaskWithin n task = task_is_within n task ≡ true
+
+abbrev pub TasksWithin : ℕ → List Task → Type 0
+TasksWithin n tasks = tasks_are_within n tasks ≡ true
+
+-- Going on from one text and stack of tasks to others: what the new ones come to in all is what
+-- the old ones do with these bytes between them, and fewer steps are left than so many more.
 pub record GoesOn (p : Printer) (old new : Bytes) (before after : List Task) (bytes : Bytes) (most : ℕ) : Type 0 where
   pub written : new ++ text_ahead p after ≡ old ++ bytes ++ text_ahead p before
   pub fewer : tasks_ahead p after < most + tasks_ahead p before
-  pub within : tasks_are_within (cells_of p.bindings.now) after ≡ true
+  pub within : TasksWithin (cells_of p.bindings.now) after
+
+-- a task was done, or begun and the rest of it put on the stack
+abbrev pub Does : Printer → Bytes → Bytes → List Task → List Task → Task → Type 0
+Does p old new before after task =
+    GoesOn p old new before after (task_text p task) (task_steps p task)
 
 -- a list cell
 abbrev pub is_list_cell : Term → Bool

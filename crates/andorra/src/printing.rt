@@ -1,14 +1,16 @@
 //! The line of an answer.
 
 ghost use Rattle.std.specs.Prelude.{◌≡◌, ◌≤◌, ◌++◌, [], true, map, codes, IfOk, OnOk};
-ghost use Rattle.and_model.specs.Lines.{begins_underscore, shown, shown_variables, shown_value, values_or_true, line};
+ghost use Rattle.and_model.specs.Lines.{begins_underscore, shown_variables, shown, shown_value};
+ghost use Rattle.and_model.specs.Lines.{values_or_true, line};
 ghost use Rattle.and_model.specs.Views.{terms_of};
 ghost use Rattle.and_reader.specs.Bounds.{are_bounded};
 ghost use Rattle.and_reader.specs.Programs.{program_of};
 ghost use Rattle.andorra.specs.Cells.{IsWithin, cells_of, made_of, meaning};
 ghost use Rattle.andorra.specs.Rows.{in_cells_all};
 ghost use Rattle.andorra.specs.Solved.{IsValid};
-ghost use Rattle.andorra.specs.Printing.{Shows, names_of, line_variables, substitution_of, value_of};
+ghost use Rattle.andorra.specs.Printing.{Shows, names_of, line_variables, substitution_of};
+ghost use Rattle.andorra.specs.Printing.{value_of};
 
 use crate::bindings::Bindings;
 use crate::placed::Placed;
@@ -57,7 +59,9 @@ fn show_value<'a>(
 ) -> Result<(), AllocError>
     requires valid { IsValid printer.now.bindings.now }
     requires within { IsWithin (cells_of printer.now.bindings.now) value }
-    ensures { OnOk result (text.new ≡ text.old ++ name.now ++ codes " = " ++ shown (names_of printer.now) (line_variables printer.now) (value_of printer.now value.entry)) }
+    ensures { let term = value_of printer.now value.entry in
+        let bytes = shown (names_of printer.now) (line_variables printer.now) term in
+        OnOk result (text.new ≡ text.old ++ name.now ++ codes " = " ++ bytes) }
 {
     text.append(name)?;
     text.append(b" = ")?;
@@ -69,10 +73,15 @@ fn show_value<'a>(
 /// memory.
 fn show_values(alloc: Global, printer: &Printer, shown: &Shown) -> Result<Text, AllocError>
     requires valid { IsValid printer.now.bindings.now }
-    requires within { are_bounded (cells_of printer.now.bindings.now) (in_cells_all 0 (terms_of shown.now.terms.items)) ≡ true }
-    requires shown { Shows shown.now (shown_variables 0 (program_of printer.now.loaded.now).query.written) }
-    ensures { IfOk result (λ t. t ≡ values_or_true (map (shown_value (names_of printer.now) (line_variables printer.now) (substitution_of printer.now))
-        (shown_variables 0 (program_of printer.now.loaded.now).query.written))) }
+    requires within { let terms = in_cells_all 0 (terms_of shown.now.terms.items) in
+        are_bounded (cells_of printer.now.bindings.now) terms ≡ true }
+    requires these { let query = (program_of printer.now.loaded.now).query in
+        Shows shown.now (shown_variables 0 query.written) }
+    ensures { let p = printer.now in
+        let query = (program_of p.loaded.now).query in
+        let values = map (shown_value (names_of p) (line_variables p) (substitution_of p))
+        (shown_variables 0 query.written) in
+        IfOk result (λ t. t ≡ values_or_true values) }
 {
     if shown.names.is_empty() {
         return Text::of(alloc, b"true");
@@ -93,7 +102,8 @@ fn show_values(alloc: Global, printer: &Printer, shown: &Shown) -> Result<Text, 
 pub fn show_line(alloc: Global, loaded: &Loaded, bindings: &Bindings) -> Result<Text, AllocError>
     requires valid { IsValid bindings.now }
     requires cells { (program_of loaded.now).query.variables ≤ cells_of bindings.now }
-    ensures { IfOk result (λ t. t ≡ line (program_of loaded.now) (meaning (made_of bindings.now)) []) }
+    ensures { let bound = meaning (made_of bindings.now) in
+        IfOk result (λ t. t ≡ line (program_of loaded.now) bound []) }
 {
     let shown = shown_variables(alloc, loaded.query())?;
     let row = PlacedTerms {

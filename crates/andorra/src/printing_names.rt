@@ -2,7 +2,8 @@
 
 ghost use Rattle.std.specs.Prelude.{◌≡◌, ◌++◌, ◌||◌, OnOk};
 ghost use Rattle.std.specs.List.{list_all};
-ghost use Rattle.and_model.specs.Lines.{is_small, is_word, is_symbol, is_plain_name, is_symbol_name, is_brackets, escaped, shown_name};
+ghost use Rattle.and_model.specs.Lines.{is_small, is_word, is_symbol, is_plain_name};
+ghost use Rattle.and_model.specs.Lines.{is_symbol_name, is_brackets, escaped, shown_name};
 
 use and_model::Text;
 use std::alloc::AllocError;
@@ -57,7 +58,8 @@ fn is_symbol_name(name: &[u8]) -> bool
 
 /// Whether the name is written without quotes.
 fn is_bare(name: &[u8]) -> bool
-    ensures { result ≡ (is_plain_name name.now || is_symbol_name name.now || is_brackets name.now) }
+    ensures { let name = name.now in
+        result ≡ (is_plain_name name || is_symbol_name name || is_brackets name) }
 {
     is_plain_name(name) || is_symbol_name(name) || matches!(name, [b'[', b']'])
 }
@@ -87,3 +89,6 @@ pub fn write_name(text: &mut Text, name: &[u8]) -> Result<(), AllocError>
     }
     text.append(b"'")
 }
+
+#[cfg(test)]
+mod tests;

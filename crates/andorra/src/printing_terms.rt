@@ -1,14 +1,15 @@
 //! Terms as they are written.
 
-ghost use Rattle.std.specs.Prelude.{◌≡◌, ◌+◌, ◌++◌, ◌<◌, ◌∷◌, [], suc, true, false, get_or, IfSome, IfNone, OnOk};
+ghost use Rattle.std.specs.Prelude.{◌≡◌, ◌++◌, ◌∷◌, [], false, IfSome, IfNone, OnOk};
 ghost use Rattle.std.specs.Fmt.{decimal, signed_decimal};
 ghost use Rattle.and_model.specs.Terms.{compound, more, none};
-ghost use Rattle.and_model.specs.Lines.{place_of, shown_name, shown, shown_arguments, shown_rest, shown_tail, point_name};
-ghost use Rattle.and_reader.specs.Bounds.{are_bounded};
+ghost use Rattle.and_model.specs.Lines.{place_of, shown, shown_arguments, point_name};
 ghost use Rattle.andorra.specs.Cells.{placed, IsWithin, cells_of};
 ghost use Rattle.andorra.specs.Solved.{IsValid, IsFreeVariable};
-ghost use Rattle.andorra.specs.Rows.{placed_all};
-ghost use Rattle.andorra.specs.Printing.{values, steps, steps_along, is_list_cell, is_empty_list, names_of, line_variables, substitution_of, value_of, task_text, task_steps, task_is_within, text_ahead, tasks_ahead, tasks_are_within, GoesOn};
+ghost use Rattle.andorra.specs.Rows.{AreAllWithin};
+ghost use Rattle.andorra.specs.Printing.{values, steps_along, is_list_cell, is_empty_list};
+ghost use Rattle.andorra.specs.Printing.{names_of, line_variables, substitution_of, value_of};
+ghost use Rattle.andorra.specs.Printing.{TaskWithin, TasksWithin, GoesOn, Does};
 
 use crate::bindings::Bindings;
 use crate::placed::Placed;
@@ -40,7 +41,8 @@ pub(crate) enum Task<'a> {
 
 /// The head and the tail of a list cell.
 fn list_cell(term: Placed<'_>) -> Option<(Placed<'_>, Placed<'_>)>
-    ensures cell { IfSome result (λ c. placed term.entry ≡ compound point_name (more (placed c.0) (more (placed c.1) none))) }
+    ensures cell { IfSome result (λ c.
+        placed term.entry ≡ compound point_name (more (placed c.0) (more (placed c.1) none))) }
     ensures other { IfNone result (is_list_cell (placed term.entry) ≡ false) }
 {
     match term.term {
@@ -80,7 +82,8 @@ fn push_arguments<'a>(
     first: Placed<'a>,
     rest: PlacedTerms<'a>,
 ) -> Result<(), AllocError>
-    ensures { OnOk result (work.new.items ≡ work.old.items ++ Task.Rest rest.entry ∷ Task.Whole first.entry ∷ []) }
+    ensures { OnOk result (work.new.items
+        ≡ work.old.items ++ Task.Rest rest.entry ∷ Task.Whole first.entry ∷ []) }
 {
     work.push(Task::Rest(rest))?;
     work.push(Task::Whole(first))?;
@@ -94,7 +97,8 @@ fn push_element<'a>(
     head: Placed<'a>,
     tail: Placed<'a>,
 ) -> Result<(), AllocError>
-    ensures { OnOk result (work.new.items ≡ work.old.items ++ Task.Tail tail.entry ∷ Task.Whole head.entry ∷ []) }
+    ensures { OnOk result (work.new.items
+        ≡ work.old.items ++ Task.Tail tail.entry ∷ Task.Whole head.entry ∷ []) }
 {
     work.push(Task::Tail(tail))?;
     work.push(Task::Whole(head))?;
@@ -113,7 +117,8 @@ pub(crate) struct Printer<'p, 'a> {
 impl<'a> Printer<'_, 'a> {
     /// Writes the name of a free cell. After want of memory the text is spent.
     fn write_cell(&self, text: &mut Text, cell: u32) -> Result<(), AllocError>
-        ensures { OnOk result (text.new ≡ text.old ++ 95 ∷ decimal (place_of ([], cell) (line_variables self.now))) }
+        ensures { let place = place_of ([], cell) (line_variables self.now) in
+            OnOk result (text.new ≡ text.old ++ 95 ∷ decimal place) }
     {
         let place = self.cells.get_index_of(&cell).unwrap_or(self.cells.len());
         text.append(b"_")?;
@@ -129,11 +134,12 @@ impl<'a> Printer<'_, 'a> {
         work: &mut Vec<Task<'a>>,
         arguments: PlacedTerms<'a>,
     ) -> Result<(), AllocError>
-        requires within { are_bounded (cells_of self.now.bindings.now) (placed_all arguments) ≡ true }
-        requires work_within { tasks_are_within (cells_of self.now.bindings.now) work.old.items ≡ true }
+        requires within { AreAllWithin (cells_of self.now.bindings.now) arguments }
+        requires work_within { TasksWithin (cells_of self.now.bindings.now) work.old.items }
         ensures { let terms = values (substitution_of self.now) arguments.entry in
+            let bytes = shown_arguments (names_of self.now) (line_variables self.now) terms in
             OnOk result (GoesOn self.now text.old text.new work.old.items work.new.items
-            (shown_arguments (names_of self.now) (line_variables self.now) terms) (steps_along terms)) }
+            bytes (steps_along terms)) }
     {
         if let Some((first, rest)) = arguments.split_first() {
             text.append(b"(")?;
@@ -149,11 +155,10 @@ impl<'a> Printer<'_, 'a> {
         work: &mut Vec<Task<'a>>,
         arguments: PlacedTerms<'a>,
     ) -> Result<(), AllocError>
-        requires within { are_bounded (cells_of self.now.bindings.now) (placed_all arguments) ≡ true }
-        requires work_within { tasks_are_within (cells_of self.now.bindings.now) work.old.items ≡ true }
-        ensures { let terms = values (substitution_of self.now) arguments.entry in
-            OnOk result (GoesOn self.now text.old text.new work.old.items work.new.items
-            (shown_rest (names_of self.now) (line_variables self.now) terms) (steps_along terms)) }
+        requires within { AreAllWithin (cells_of self.now.bindings.now) arguments }
+        requires work_within { TasksWithin (cells_of self.now.bindings.now) work.old.items }
+        ensures { OnOk result (Does self.now text.old text.new work.old.items work.new.items
+            (Task.Rest arguments.entry)) }
     {
         match arguments.split_first() {
             None => text.append(b")")?,
@@ -176,10 +181,9 @@ impl<'a> Printer<'_, 'a> {
         requires valid { IsValid self.now.bindings.now }
         requires free { IsFreeVariable (substitution_of self.now) (placed value) }
         requires within { IsWithin (cells_of self.now.bindings.now) value }
-        requires work_within { tasks_are_within (cells_of self.now.bindings.now) work.old.items ≡ true }
-        ensures { let term = value_of self.now value.entry in
-            OnOk result (GoesOn self.now text.old text.new work.old.items work.new.items
-            (shown (names_of self.now) (line_variables self.now) term) (steps term)) }
+        requires work_within { TasksWithin (cells_of self.now.bindings.now) work.old.items }
+        ensures { OnOk result (Does self.now text.old text.new work.old.items work.new.items
+            (Task.Whole value.entry)) }
     {
         if let Some((head, tail)) = list_cell(value) {
             text.append(b"[")?;
@@ -209,10 +213,9 @@ impl<'a> Printer<'_, 'a> {
     ) -> Result<(), AllocError>
         requires valid { IsValid self.now.bindings.now }
         requires within { IsWithin (cells_of self.now.bindings.now) term }
-        requires work_within { tasks_are_within (cells_of self.now.bindings.now) work.old.items ≡ true }
-        ensures { let value = value_of self.now term.entry in
-            OnOk result (GoesOn self.now text.old text.new work.old.items work.new.items
-            (shown_tail (names_of self.now) (line_variables self.now) value) (steps value)) }
+        requires work_within { TasksWithin (cells_of self.now.bindings.now) work.old.items }
+        ensures { OnOk result (Does self.now text.old text.new work.old.items work.new.items
+            (Task.Tail term.entry)) }
     {
         let value = self.bindings.value(term);
         if let Some((head, tail)) = list_cell(value) {
@@ -233,10 +236,10 @@ impl<'a> Printer<'_, 'a> {
         task: Task<'a>,
     ) -> Result<(), AllocError>
         requires valid { IsValid self.now.bindings.now }
-        requires within { task_is_within (cells_of self.now.bindings.now) task ≡ true }
-        requires work_within { tasks_are_within (cells_of self.now.bindings.now) work.old.items ≡ true }
-        ensures { OnOk result (GoesOn self.now text.old text.new work.old.items work.new.items
-            (task_text self.now task.entry) (task_steps self.now task.entry)) }
+        requires within { TaskWithin (cells_of self.now.bindings.now) task }
+        requires work_within { TasksWithin (cells_of self.now.bindings.now) work.old.items }
+        ensures { OnOk result (Does self.now text.old text.new work.old.items work.new.items
+            task.entry) }
     {
         match task {
             Task::Whole(term) => self.write_root(text, work, self.bindings.value(term)),
@@ -255,7 +258,9 @@ impl<'a> Printer<'_, 'a> {
     ) -> Result<(), AllocError>
         requires valid { IsValid self.now.bindings.now }
         requires within { IsWithin (cells_of self.now.bindings.now) term }
-        ensures { OnOk result (text.new ≡ text.old ++ shown (names_of self.now) (line_variables self.now) (value_of self.now term.entry)) }
+        ensures { let value = value_of self.now term.entry in
+            let bytes = shown (names_of self.now) (line_variables self.now) value in
+            OnOk result (text.new ≡ text.old ++ bytes) }
     {
         let mut work = Vec::new(alloc);
         work.push(Task::Whole(term))?;

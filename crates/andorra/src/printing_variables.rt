@@ -1,13 +1,13 @@
 //! The variables of an answer, in the order in which its line names them.
 
-ghost use Rattle.std.specs.Prelude.{◌≡◌, ◌+◌, ◌++◌, ◌<◌, [], true, map, IfOk, OnOk};
+ghost use Rattle.std.specs.Prelude.{◌≡◌, ◌+◌, [], true, map, IfOk, OnOk};
 ghost use Rattle.and_model.specs.Terms.{apply, variables_of, variables_in};
 ghost use Rattle.and_model.specs.Lines.{first_seen};
-ghost use Rattle.and_reader.specs.Bounds.{are_bounded};
 ghost use Rattle.andorra.specs.Cells.{placed, IsWithin, cells_of, made_of, meaning};
 ghost use Rattle.andorra.specs.Solved.{IsValid};
-ghost use Rattle.andorra.specs.Rows.{placed_all};
-ghost use Rattle.andorra.specs.Printing.{cell_variable, values, steps, steps_along, variables_ahead, steps_ahead, rows_are_within};
+ghost use Rattle.andorra.specs.Rows.{AreAllWithin};
+ghost use Rattle.andorra.specs.Printing.{cell_variable, values, steps, steps_along};
+ghost use Rattle.andorra.specs.Printing.{rows_are_within, SeesAlong};
 
 use crate::bindings::Bindings;
 use crate::placed::Placed;
@@ -28,10 +28,9 @@ fn note<'a>(
     requires within { IsWithin (cells_of bindings.now) term }
     requires work_within { rows_are_within (cells_of bindings.now) work.old.items ≡ true }
     ensures seen { let s = meaning (made_of bindings.now) in
-        OnOk result (first_seen (map cell_variable cells.new.keys) (variables_ahead s work.new.items)
-        ≡ first_seen (map cell_variable cells.old.keys) (variables_of (apply s (placed term.entry)) ++ variables_ahead s work.old.items)) }
-    ensures fewer { let s = meaning (made_of bindings.now) in
-        OnOk result (steps_ahead s work.new.items < steps (apply s (placed term.entry)) + steps_ahead s work.old.items + 1) }
+        let value = apply s (placed term.entry) in
+        OnOk result (SeesAlong s cells.old.keys cells.new.keys work.old.items work.new.items
+        (variables_of value) (steps value + 1)) }
     ensures within { OnOk result (rows_are_within (cells_of bindings.now) work.new.items ≡ true) }
 {
     let value = bindings.value(term);
@@ -57,13 +56,12 @@ fn note_first<'a>(
     row: PlacedTerms<'a>,
 ) -> Result<(), AllocError>
     requires valid { IsValid bindings.now }
-    requires within { are_bounded (cells_of bindings.now) (placed_all row) ≡ true }
+    requires within { AreAllWithin (cells_of bindings.now) row }
     requires work_within { rows_are_within (cells_of bindings.now) work.old.items ≡ true }
     ensures seen { let s = meaning (made_of bindings.now) in
-        OnOk result (first_seen (map cell_variable cells.new.keys) (variables_ahead s work.new.items)
-        ≡ first_seen (map cell_variable cells.old.keys) (variables_in (values s row.entry) ++ variables_ahead s work.old.items)) }
-    ensures fewer { let s = meaning (made_of bindings.now) in
-        OnOk result (steps_ahead s work.new.items < steps_along (values s row.entry) + steps_ahead s work.old.items) }
+        let terms = values s row.entry in
+        OnOk result (SeesAlong s cells.old.keys cells.new.keys work.old.items work.new.items
+        (variables_in terms) (steps_along terms)) }
     ensures within { OnOk result (rows_are_within (cells_of bindings.now) work.new.items ≡ true) }
 {
     if let Some((first, rest)) = row.split_first() {
@@ -81,8 +79,9 @@ pub(crate) fn free_cells<'a>(
     row: PlacedTerms<'a>,
 ) -> Result<IndexSet<u32>, AllocError>
     requires valid { IsValid bindings.now }
-    requires within { are_bounded (cells_of bindings.now) (placed_all row) ≡ true }
-    ensures { IfOk result (λ cells. map cell_variable cells.keys ≡ first_seen [] (variables_in (values (meaning (made_of bindings.now)) row.entry))) }
+    requires within { AreAllWithin (cells_of bindings.now) row }
+    ensures { let terms = values (meaning (made_of bindings.now)) row.entry in
+        IfOk result (λ cells. map cell_variable cells.keys ≡ first_seen [] (variables_in terms)) }
 {
     let mut cells = IndexSet::new(alloc);
     let mut work = Vec::new(alloc);
@@ -92,3 +91,6 @@ pub(crate) fn free_cells<'a>(
     }
     Ok(cells)
 }
+
+#[cfg(test)]
+mod tests;

@@ -1,8 +1,7 @@
-use Rattle.std.proofs.Common.{◌≡◌, [], true, ap, sym, ◌∙◌, subst, arith, map, IfOk}
+use Rattle.std.proofs.Common.{◌≡◌, [], ap, ◌∙◌, subst, arith, map, IfOk}
 use Rattle.and_model.specs.Terms.{variables_in, apply_all}
-use Rattle.and_model.specs.Lines.{first_seen, line}
+use Rattle.and_model.specs.Lines.{first_seen}
 use Rattle.and_model.specs.Views.{terms_of}
-use Rattle.and_reader.specs.Bounds.{are_bounded}
 use Rattle.and_reader.specs.Programs.{program_of}
 use Rattle.andorra.specs.Cells.{cells_of, made_of, meaning}
 use Rattle.andorra.specs.Printing.{cell_variable}

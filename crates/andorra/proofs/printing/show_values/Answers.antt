@@ -1,6 +1,6 @@
-use Rattle.std.proofs.Common.{ℕ, ◌≡◌, ◌+◌, ◌<◌, ◌++◌, ◌∷◌, List, [], ap, sym, ◌∙◌, arith, length, map, get_or, Bor}
-use Rattle.and_model.specs.Terms.{variable, Term}
-use Rattle.and_model.specs.Lines.{Bytes, shown, shown_variables, shown_value}
+use Rattle.std.proofs.Common.{ℕ, ◌≡◌, ◌++◌, ◌∷◌, List, [], ap, ◌∙◌, arith, length, map, get_or, Bor}
+use Rattle.and_model.specs.Terms.{variable}
+use Rattle.and_model.specs.Lines.{Bytes, shown_variables, shown_value}
 use Rattle.and_model.specs.Views.{term_of}
 use Rattle.and_reader.specs.Programs.{program_of}
 use Rattle.andorra.specs.Cells.{cells_of}
@@ -11,7 +11,7 @@ use Rattle.andorra.proofs.printing.show_values.Goals as goal
 
 pub show_value-requires-clause-within : goal.show_value-requires-clause-within
 show_value-requires-clause-within c =
-    let e = same_length _ _ _ _ c.requires.shown.terms in let f = same_length _ _ _ _ c.requires.shown.names in let g = ap length c.deref-name-items.ensures.value in
+    let e = same_length _ _ _ _ c.requires.these.terms in let f = same_length _ _ _ _ c.requires.these.names in let g = ap length c.deref-name-items.ensures.value in
     item_bounded (cells_of c.args.printer.now.bindings.now) 0 c.args.shown.now.terms.items c.loop-index.index c.index-term.result.now c.requires.within (omega arith) c.index-term.ensures
 
 pub loop-index-preserved : goal.loop-index-preserved
@@ -20,12 +20,12 @@ loop-index-preserved c =
     let all : List (Bytes × ℕ) = shown_variables 0 (program_of p.loaded.now).query.written in
     let i = c.loop-index.index in
     let v : Bytes × ℕ = ([], 0) in
-    let e : length c.args.shown.now.terms.items ≡ length all = same_length _ _ _ _ c.requires.shown.terms in
-    let f : length c.args.shown.now.names.items ≡ length all = same_length _ _ _ _ c.requires.shown.names in
+    let e : length c.args.shown.now.terms.items ≡ length all = same_length _ _ _ _ c.requires.these.terms in
+    let f : length c.args.shown.now.names.items ≡ length all = same_length _ _ _ _ c.requires.these.names in
     let g : length c.deref-name-items.result.now ≡ length c.args.shown.now.names.items = ap length c.deref-name-items.ensures.value in
-    let names = ap (map (λ (n : Bor (List ℕ)). n.now)) c.deref-name-items.ensures.value ∙ c.requires.shown.names in
+    let names = ap (map (λ (n : Bor (List ℕ)). n.now)) c.deref-name-items.ensures.value ∙ c.requires.these.names in
     let name = same_item _ _ c.deref-name-items.result.now all i _ v names (omega arith) in
-    let term : term_of c.index-term.result.now ≡ variable [] (get_or all i v).1 = ap term_of c.index-term.ensures ∙ same_item _ _ c.args.shown.now.terms.items all i c.index-term.result.now v c.requires.shown.terms (omega arith) in
+    let term : term_of c.index-term.result.now ≡ variable [] (get_or all i v).1 = ap term_of c.index-term.ensures ∙ same_item _ _ c.args.shown.now.terms.items all i c.index-term.result.now v c.requires.these.terms (omega arith) in
     let written = c.in_ok-show_value.ensures ∙ value_written (names_of p) (line_variables p) (substitution_of p) (get_or all i v) c.loop-index.text _ _ name (query_value (substitution_of p) _ _ term) in
     let value : Bytes × ℕ → Bytes = shown_value (names_of p) (line_variables p) (substitution_of p) in
     record {

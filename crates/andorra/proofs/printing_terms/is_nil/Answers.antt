@@ -1,4 +1,4 @@
-use Rattle.std.proofs.Common.{◌≡◌, ◌==◌, ap, sym, ◌∙◌}
+use Rattle.std.proofs.Common.{◌==◌, ap, sym, ◌∙◌}
 use Rattle.andorra.proofs.Forms.{nil_is}
 use Rattle.andorra.proofs.printing_terms.is_nil.Goals as goal
 

@@ -1,4 +1,4 @@
-use Rattle.std.proofs.Common.{◌≡◌, ◌∙◌, ap, sym, inl, inr, arith, length, vec_len}
+use Rattle.std.proofs.Common.{◌∙◌, sym, inl, inr}
 use Rattle.andorra.proofs.Forms.{cell_is, no_cell}
 use Rattle.andorra.proofs.printing_terms.list_cell.Goals.{then-name-ne-POINT-via-then-name-ne-POINT, then-name-ne-POINT-via-else-name-ne-POINT+then-len-ne2}
 use Rattle.andorra.proofs.printing_terms.list_cell.Goals as goal

@@ -1,5 +1,5 @@
-use Rattle.std.proofs.Common.{◌≡◌, ◌+◌, ◌&&◌, List, true, ap, sym, ◌∙◌, refl, map, arith}
-use Rattle.and_model.specs.Terms.{Term, compound, apply}
+use Rattle.std.proofs.Common.{◌≡◌, true, ap, sym, ◌∙◌, refl, map, arith}
+use Rattle.and_model.specs.Terms.{compound, apply}
 use Rattle.and_model.specs.Lines.{first_seen}
 use Rattle.and_reader.specs.Bounds.{is_bounded, are_bounded}
 use Rattle.andorra.specs.Cells.{placed, cells_of, made_of, meaning}
@@ -13,9 +13,11 @@ use Rattle.andorra.proofs.printing_variables.note.Goals as goal
 pub returns-in_ok-insert-in-Variable-clause-seen : goal.returns-in_ok-insert-in-Variable-clause-seen
 returns-in_ok-insert-in-Variable-clause-seen c =
     let s = meaning (made_of c.args.bindings.now) in
-    let free = free_value s c.value-value.result c.in-Variable.number c.in-Variable.is c.value-value.ensures.free in
-    rw (c.in_ok-insert-in-Variable.ensures.keys, c.from.ensures)
-    (cell_seen _ c.args.cells.now.keys _ (apply s (placed c.args.term)) (sym c.value-value.ensures.same ∙ free))
+    let e = sym c.value-value.ensures.same ∙ free_value s c.value-value.result c.in-Variable.number c.in-Variable.is c.value-value.ensures.free in
+    record {
+      seen = rw (c.in_ok-insert-in-Variable.ensures.keys, c.from.ensures) (cell_seen _ c.args.cells.now.keys _ (apply s (placed c.args.term)) e);
+      fewer = omega arith;
+    }
 
 abbrev arguments_of : goal.In_ok-push-in-Compound → PlacedTerms
 arguments_of c = record { terms = c.as_slice.result; base = c.value-value.result.base }
@@ -27,15 +29,13 @@ named c = over_row c.value-value.result c.in-Compound.name.0 _ (arguments_of c) 
 pub returns-in_ok-push-in-Compound-clause-seen : goal.returns-in_ok-push-in-Compound-clause-seen
 returns-in_ok-push-in-Compound-clause-seen c =
     let s = meaning (made_of c.args.bindings.now) in
-    rw c.in_ok-push-in-Compound.ensures.items
-    (ap (first_seen (map cell_variable c.args.cells.now.keys))
-    (ahead_compound s c.args.work.now.items (arguments_of c) _ c.in-Compound.name.0 (sym c.value-value.ensures.same ∙ ap (apply s) (named c))))
-
-pub returns-in_ok-push-in-Compound-clause-fewer : goal.returns-in_ok-push-in-Compound-clause-fewer
-returns-in_ok-push-in-Compound-clause-fewer c =
-    let s = meaning (made_of c.args.bindings.now) in
+    let before = c.args.work.now.items in
     let e : apply s (placed c.args.term) ≡ compound c.in-Compound.name.0 (values s (arguments_of c)) = sym c.value-value.ensures.same ∙ ap (apply s) (named c) in
-    rw c.in_ok-push-in-Compound.ensures.items (omega (arith, steps_top s c.args.work.now.items (arguments_of c), ap steps e))
+    record {
+      seen = rw c.in_ok-push-in-Compound.ensures.items
+          (ap (first_seen (map cell_variable c.args.cells.now.keys)) (ahead_compound s before (arguments_of c) _ c.in-Compound.name.0 e));
+      fewer = rw c.in_ok-push-in-Compound.ensures.items (omega (arith, steps_top s before (arguments_of c), ap steps e));
+    }
 
 pub returns-in_ok-push-in-Compound-clause-within : goal.returns-in_ok-push-in-Compound-clause-within
 returns-in_ok-push-in-Compound-clause-within c =

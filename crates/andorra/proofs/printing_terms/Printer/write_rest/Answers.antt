@@ -1,4 +1,4 @@
-use Rattle.std.proofs.Common.{◌≡◌, ◌++◌, ◌∷◌, [], ap, ◌∙◌, append-nil}
+use Rattle.std.proofs.Common.{◌∷◌, [], ap, ◌∙◌, append-nil}
 use Rattle.and_model.specs.Lines.{shown_rest}
 use Rattle.andorra.specs.Cells.{cells_of}
 use Rattle.andorra.specs.Printing.{names_of, line_variables}

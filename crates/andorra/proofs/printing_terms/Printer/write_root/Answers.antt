@@ -1,4 +1,4 @@
-use Rattle.std.proofs.Common.{◌≡◌, ◌++◌, ◌∷◌, [], refl, ap, sym, ◌∙◌, append_assoc}
+use Rattle.std.proofs.Common.{◌++◌, ◌∷◌, [], refl, ap, ◌∙◌, append_assoc}
 use Rattle.and_model.specs.Lines.{shown_name}
 use Rattle.andorra.specs.Cells.{cells_of}
 use Rattle.andorra.specs.declared.rows.PlacedTerms.{PlacedTerms}

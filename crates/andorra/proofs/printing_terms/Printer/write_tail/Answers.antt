@@ -1,4 +1,4 @@
-use Rattle.std.proofs.Common.{◌≡◌, ◌++◌, ◌∷◌, [], ap, sym}
+use Rattle.std.proofs.Common.{◌∷◌, [], sym}
 use Rattle.andorra.specs.Cells.{cells_of}
 use Rattle.andorra.specs.declared.printing_terms.Task.TheVariants.{Whole, Tail}
 use Rattle.andorra.proofs.Tasks.{goes_on, cell_shown_after, element_steps, element_within}

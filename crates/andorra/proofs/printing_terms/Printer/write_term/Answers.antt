@@ -1,4 +1,4 @@
-use Rattle.std.proofs.Common.{◌≡◌, ◌++◌, ap, sym, ◌∙◌, arith, append_assoc}
+use Rattle.std.proofs.Common.{◌++◌, ap, sym, ◌∙◌, arith, append_assoc}
 use Rattle.andorra.specs.Printing.{text_ahead, task_text}
 use Rattle.andorra.proofs.Tasks.{text_was, steps_were}
 use Rattle.andorra.proofs.printing_terms.Printer.write_term.Goals as goal
