@@ -1,13 +1,12 @@
 -- The start and the end of a search.
-use Rattle.std.proofs.Common.{inl, ℕ, ◌+◌, ◌≡◌, ◌≢◌, ◌<◌, ◌≤◌, ◌↔◌, Bool, true, false, List, [], ◌∷◌, ◌++◌, length, append-nil, reverse, refl, sym, ap, ◌∙◌, subst, arith, Option, Some, None, MatchOption, IsTrue, true≢false, vec_len}
+use Rattle.std.proofs.Common.{inl, ℕ, ◌≡◌, ◌<◌, ◌≤◌, false, List, [], ◌∷◌, ◌++◌, length, append-nil, reverse, refl, sym, ap, ◌∙◌, subst, arith, Option, Some, None, MatchOption, true≢false, vec_len}
 use Rattle.std.specs.Prelude.{IfSome, IsSome}
 use Rattle.and_model.specs.Programs.{Program, clause_weight}
-use Rattle.and_model.specs.Programs as programs
-use Rattle.and_model.specs.Trees.{QueryTree, query_agenda, blank, weight, taken_weight, unfold_code}
+use Rattle.and_model.specs.Trees.{QueryTree, query_agenda, blank, taken_weight, unfold_code}
 use Rattle.and_model.specs.Listing.{Entry, Listing, Lists, of_query, too_heavy}
-use Rattle.and_model.specs.Output.{OverLeft, lines_of}
+use Rattle.and_model.specs.Output.{OverLeft}
 use Rattle.and_laws.proofs.Order.{blank_weighs}
-use Rattle.and_reader.specs.Programs.{clause_of, program_of}
+use Rattle.and_reader.specs.Programs.{clause_of}
 use Rattle.and_reader.specs.declared.loaded.Clause.{Clause}
 use Rattle.andorra.specs.Cells.{cells_of, made_of}
 use Rattle.andorra.specs.Naming.{Clear}

@@ -1,12 +1,11 @@
 -- What the bindings, cells and goals of a branch stand for, as a clause is taken.
-use Rattle.std.proofs.Common.{ℕ, zero, suc, ◌+◌, ◌≡◌, ◌<◌, ◌≤◌, ◌↔◌, Bool, true, false, ◌&&◌, List, [], ◌∷◌, ◌++◌, length, length-append, append_assoc, append-nil, refl, sym, ap, ◌∙◌, subst, arith, Option, Some, None, slice_get, vec_len, nat_eq}
+use Rattle.std.proofs.Common.{ℕ, suc, ◌+◌, ◌≡◌, ◌↔◌, true, ◌&&◌, List, [], ◌∷◌, ◌++◌, length, refl, sym, ap, ◌∙◌, subst, Option, Some, vec_len, nat_eq}
 use Rattle.std.proofs.Math.Dec.{eqb-suc-zero, eqb-zero-suc, eqb-suc-suc}
-use Rattle.and_model.specs.Terms.{Path, Term, Terms, variable, number, compound, none, more, Substitution, apply, apply_all, framed}
-use Rattle.and_model.specs.Solutions.{Equation, Solves, Solvable, Entails, MostGeneral}
-use Rattle.and_model.specs.Lines.{same_variable}
+use Rattle.and_model.specs.Terms.{Path, Term, Terms, variable, number, compound, none, more, Substitution, apply_all, framed}
+use Rattle.and_model.specs.Solutions.{Solves, Solvable}
 use Rattle.and_model.specs.Programs.{Program, Item, call, clause_at, clause_weight, is_goals, Of, head_in, same_predicate, same_count}
 use Rattle.and_model.specs.Programs as programs
-use Rattle.and_model.specs.Trees.{QueryTree, query_agenda, agenda, end, blank, Open, IsLeftmost, path, call_of, reduce, equations, weight}
+use Rattle.and_model.specs.Trees.{QueryTree, query_agenda, agenda, end, blank, Open, IsLeftmost, path, call_of, reduce, equations}
 use Rattle.and_model.specs.Views.{term_of, terms_of}
 use Rattle.and_model.specs.declared.syntax.Term as syntax
 use Rattle.and_model.specs.declared.syntax.Term.TheViews.{Compound}
@@ -15,24 +14,23 @@ use Rattle.and_model.specs.declared.numbers.NameNo.{NameNo}
 use Rattle.and_model.proofs.TermViews.{term_compound}
 use Rattle.and_laws.proofs.Substitutions.{and_left, and_right}
 use Rattle.and_reader.specs.Bounds.{is_bounded, are_bounded}
-use Rattle.and_reader.specs.Programs.{calls_of, clause_of, program_of}
+use Rattle.and_reader.specs.Programs.{calls_of, clause_of}
 use Rattle.and_reader.specs.declared.loaded.Clause.{Clause}
 use Rattle.andorra.specs.Cells.{placed, in_cells, IsWithin, AreWithin, equations_of, meaning}
-use Rattle.andorra.specs.Naming.{OnlyCalls, AreCalls, IsLeftGrown, goals_of, body_goals, variables_made, frame, naming, named, through, SameSolutions, FrameAt, IsOfCells, EquationsOfCells}
+use Rattle.andorra.specs.Naming.{OnlyCalls, AreCalls, goals_of, body_goals, variables_made, frame, naming, named, SameSolutions, FrameAt, EquationsOfCells}
 use Rattle.andorra.specs.Search.{GoalsFrom, StandFor, Holds, ArePlaced}
 use Rattle.andorra.specs.declared.placed.Placed.{Placed}
 use Rattle.andorra.specs.declared.placed.Binding.{Binding}
 use Rattle.andorra.specs.declared.search.Pending.{Pending}
 use Rattle.andorra.proofs.NamingGoals.{reduce_goals, leftmost_goals}
-use Rattle.andorra.proofs.NamingEquations.{reduce_calls, calls_blank_equations}
-use Rattle.andorra.proofs.NamingVariables.{blank_left_grown, reduce_left_grown, reduce_variables, blank_variables, made_distinct}
-use Rattle.andorra.proofs.NamingCells.{cells_bounded, frame_cells, frame_length, frame_stays, frame_at_end, same_more, same_traded}
+use Rattle.andorra.proofs.NamingEquations.{calls_blank_equations}
+use Rattle.andorra.proofs.NamingVariables.{blank_left_grown, reduce_left_grown, reduce_variables}
+use Rattle.andorra.proofs.NamingCells.{cells_bounded, frame_cells, frame_stays, frame_at_end, same_traded}
 use Rattle.andorra.proofs.NamingSteps.{start_same, start_length, step_same, step_length, step_cells, made_solvable}
 use Rattle.andorra.proofs.NamingLines.{made_frame}
 use Rattle.andorra.proofs.NamingBindings.{bindings_cells}
 use Rattle.andorra.specs.Solved.{IsTriangular}
 use Rattle.andorra.proofs.Triangular.{meaning_general}
-use Rattle.andorra.proofs.NamingSolutions.{same_solvable}
 
 -- a clause's calls are calls, and they weigh nothing
 pub calls_are_calls : (ts : List syntax.Term) → AreCalls (calls_of ts)

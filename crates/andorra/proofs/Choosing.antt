@@ -1,13 +1,13 @@
 -- What the search does where it came to a tree: it makes a choicepoint, or writes the answer.
-use Rattle.std.proofs.Common.{ℕ, suc, ◌+◌, ◌≡◌, ◌<◌, ◌≤◌, List, [], ◌∷◌, ◌++◌, length, length-append, take, get_or, refl, sym, ap, ◌∙◌, subst, arith, Option, Some, None, slice_get, vec_len, true}
+use Rattle.std.proofs.Common.{ℕ, ◌≡◌, ◌≤◌, List, [], ◌∷◌, ◌++◌, length, length-append, take, get_or, refl, sym, ap, ◌∙◌, subst, arith, Option, Some, None, slice_get, true}
 use Rattle.std.proofs.lemmas.List.{take_all}
-use Rattle.std.proofs.lemmas.Option.{get_or_from_slice_get, slice_get_within}
+use Rattle.std.proofs.lemmas.Option.{get_or_from_slice_get}
 use Rattle.and_model.specs.Terms.{Path, Term, variable}
 use Rattle.and_model.specs.Lines.{line}
 use Rattle.and_model.specs.Programs.{Program, clause_at, clause_weight, Of}
 use Rattle.and_model.specs.Programs as programs
-use Rattle.and_model.specs.Trees.{Agenda, Tree, done, left, by, equate, reckon, QueryTree, Open, IsLeftmost, IsWhole, call_of, reduce, equations, weight, taken_weight, unfold_code}
-use Rattle.and_model.specs.Listing.{Entry, Lists, answer, Ends}
+use Rattle.and_model.specs.Trees.{Agenda, Tree, done, left, by, equate, reckon, QueryTree, IsWhole, weight, taken_weight, unfold_code}
+use Rattle.and_model.specs.Listing.{Lists, answer, Ends}
 use Rattle.andorra.specs.Cells.{placed, IsWithin, equations_of, meaning}
 use Rattle.andorra.specs.Naming.{OnlyCalls, Clear, goals_of, variables_made, variables_taken, frame, EquationsOfCells, IsOfCells}
 use Rattle.andorra.specs.Solved.{IsTriangular}

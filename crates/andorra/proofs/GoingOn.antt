@@ -1,10 +1,10 @@
 -- The topmost choicepoint is gone on with.
-use Rattle.std.proofs.Common.{ℕ, suc, ◌+◌, ◌≡◌, ◌<◌, ◌≤◌, List, [], ◌∷◌, ◌++◌, length, take, get_or, slice_set, add-one, reverse, refl, sym, ap, ◌∙◌, subst, arith, Vec, Global}
+use Rattle.std.proofs.Common.{ℕ, suc, ◌+◌, ◌≡◌, ◌<◌, ◌≤◌, List, [], ◌∷◌, ◌++◌, length, take, get_or, slice_set, add-one, reverse, sym, ap, ◌∙◌, subst, arith, Vec, Global}
 use Rattle.std.proofs.lemmas.List.{reverse-append}
-use Rattle.andorra.specs.Search.{Goes, Tries, Looks, IsBeyond, IsPast, Standing, no_piece, program, stack, next_of}
+use Rattle.andorra.specs.Search.{Goes, Tries, Looks, IsBeyond, IsPast, no_piece, program, stack, next_of}
 use Rattle.andorra.specs.declared.search.Choice.{Choice}
 use Rattle.andorra.specs.declared.search.Search.{Search}
-use Rattle.andorra.proofs.Stack.{take_up, drop_top, past_beyond}
+use Rattle.andorra.proofs.Stack.{take_up, drop_top}
 use Rattle.andorra.proofs.Turns.{last_of, last_set, read_same}
 
 -- the last choicepoint is the topmost

@@ -1,7 +1,6 @@
 -- Pending goals: more are put behind, and which come first.
-use Rattle.std.proofs.Common.{ℕ, zero, suc, ◌+◌, ◌-◌, ◌≡◌, ◌<◌, ◌≤◌, List, [], ◌∷◌, ◌++◌, length, take, refl, sym, ap, ◌∙◌, subst, arith, Option, Some, None, slice_get, min}
+use Rattle.std.proofs.Common.{ℕ, zero, suc, ◌≡◌, ◌≤◌, List, [], ◌∷◌, ◌++◌, length, take, refl, ap, ◌∙◌, arith, Option, Some, slice_get, min}
 use Rattle.std.proofs.lemmas.List.{length-take, take-append-le}
-use Rattle.and_model.specs.declared.syntax.Term.{Term}
 use Rattle.andorra.specs.Search.{GoalsFrom, ArePlaced}
 use Rattle.andorra.specs.Search as search
 use Rattle.andorra.specs.declared.placed.Placed.{Placed}

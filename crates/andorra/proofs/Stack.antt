@@ -1,26 +1,23 @@
 -- The choicepoints of a search, and what it still owes.
-use Rattle.std.proofs.Common.{ℕ, suc, ◌+◌, ◌≡◌, ◌≢◌, ◌<◌, ◌≤◌, ◌↔◌, Bool, true, false, List, [], ◌∷◌, ◌++◌, length, take, append_assoc, append-nil, refl, sym, ap, ◌∙◌, subst, arith, inl, inr, ◌⊎◌, Option, Some, None, MatchOption, IsTrue, true≢false}
+use Rattle.std.proofs.Common.{ℕ, suc, ◌+◌, ◌≡◌, ◌≢◌, ◌<◌, ◌≤◌, true, false, List, [], ◌∷◌, ◌++◌, length, take, append_assoc, refl, sym, ap, ◌∙◌, subst, arith, inl, inr, Option, Some, None, MatchOption, true≢false}
 use Rattle.std.proofs.lemmas.Bool.{cases_lt}
 use Rattle.std.proofs.lemmas.List.{take-take}
-use Rattle.and_model.specs.Terms.{Path, Term}
 use Rattle.and_model.specs.Solutions.{Solvable}
-use Rattle.and_model.specs.Lines.{Bytes}
 use Rattle.and_model.specs.Programs.{Program, clause_at, clause_weight, is_of, Of}
-use Rattle.and_model.specs.Trees.{QueryTree, Open, IsLeftmost, IsWhole, call_of, reduce, equations, weight, unfold_code, code}
+use Rattle.and_model.specs.Trees.{QueryTree, Open, IsWhole, call_of, reduce, equations, weight, unfold_code, code}
 use Rattle.and_model.specs.Listing.{Entry, Lists, ListsFrom, Listing, Outcome, answer, line_of}
 use Rattle.and_model.specs.Listing as listing
 use Rattle.and_model.specs.Output.{OverLeft, lines_of}
 use Rattle.and_laws.proofs.Order.{same_proof}
 use Rattle.andorra.specs.Naming.{Clear, ClearFrom}
 use Rattle.andorra.specs.Searching.{NoneOver}
-use Rattle.andorra.specs.Search.{Holds, IsChoice, code_below, IsPast, IsBeyond, Standing, Remains, AllClear, Owes, no_piece, GivesAt, ClearAt, next_of}
-use Rattle.andorra.specs.Search as search
+use Rattle.andorra.specs.Search.{IsChoice, code_below, IsPast, IsBeyond, Standing, Remains, AllClear, Owes, no_piece, GivesAt, ClearAt, next_of}
 use Rattle.andorra.specs.declared.placed.Binding.{Binding}
 use Rattle.andorra.specs.declared.search.Pending.{Pending}
 use Rattle.andorra.specs.declared.search.Choice.{Choice}
 use Rattle.andorra.specs.declared.search.Outgrown.{Outgrown}
 use Rattle.andorra.specs.declared.search.Found.{Found}
-use Rattle.andorra.proofs.NamingLimits.{unsolvable_lists, unsolvable_clear, clear_from_end, clear_from_other, clear_from_light, clear_from_first}
+use Rattle.andorra.proofs.NamingLimits.{unsolvable_lists, unsolvable_clear, clear_from_end, clear_from_first}
 
 -- what is the same up to n is the same up to less
 same_up_to : {A : Type 0} (m n : ℕ) (xs ys : List A) → m ≤ n → take n ys ≡ take n xs → take m ys ≡ take m xs

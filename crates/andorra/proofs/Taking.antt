@@ -1,19 +1,19 @@
 -- A clause takes the goal of the topmost choicepoint: where it can't, nothing is owed for it, and where it can, the search comes to the next tree.
-use Rattle.std.proofs.Common.{ℕ, suc, ◌+◌, ◌-◌, ◌≡◌, ◌<◌, ◌≤◌, ◌↔◌, List, [], ◌∷◌, ◌++◌, length, take, get_or, reverse, min, refl, sym, ap, ◌∙◌, subst, arith, Option, Some, None, slice_get, vec_len, Bool, true, false, true≢false}
-use Rattle.std.proofs.lemmas.List.{length-take, take-take}
+use Rattle.std.proofs.Common.{ℕ, suc, ◌+◌, ◌-◌, ◌≡◌, ◌<◌, ◌≤◌, ◌↔◌, List, [], ◌∷◌, ◌++◌, length, take, min, sym, ap, ◌∙◌, arith, Option, Some, None, vec_len, Bool, true, false, true≢false}
+use Rattle.std.proofs.lemmas.List.{length-take}
 use Rattle.std.proofs.lemmas.Option.{slice_get_within}
 use Rattle.std.specs.Bool.{OnTrue, OnFalse}
 use Rattle.and_model.specs.Terms.{variable, Substitution}
 use Rattle.and_model.specs.Solutions.{Solves, Solvable}
 use Rattle.and_model.specs.Programs.{Program, clause_at, clause_weight, Of}
-use Rattle.and_model.specs.Trees.{QueryTree, query_agenda, blank, Open, IsLeftmost, call_of, reduce, equations, weight, taken_weight, extend, extend_all, then, unfold_code, Tree, Agenda}
+use Rattle.and_model.specs.Trees.{QueryTree, query_agenda, blank, call_of, reduce, equations, weight, extend, extend_all, then, unfold_code, Tree, Agenda}
 use Rattle.and_model.specs.Programs as programs
 use Rattle.and_model.specs.Listing.{Entry, Lists}
 use Rattle.and_laws.proofs.Order.{reduce_weight}
 use Rattle.and_laws.proofs.Unfolding.{extend_leftmost}
 use Rattle.and_reader.specs.Programs.{clause_of}
 use Rattle.and_reader.specs.declared.loaded.Clause.{Clause}
-use Rattle.andorra.specs.Cells.{placed, IsWithin, AreWithin, equations_of}
+use Rattle.andorra.specs.Cells.{placed, AreWithin, equations_of}
 use Rattle.andorra.specs.Naming.{OnlyCalls, Clear}
 use Rattle.andorra.specs.Solved.{IsTriangular}
 use Rattle.andorra.specs.Search.{GoalsFrom, Holds, code_below, next_of, IsBeyond, Standing, Remains, AllClear, Owes, no_piece, ArePlaced}
@@ -24,8 +24,7 @@ use Rattle.andorra.specs.declared.search.Choice.{Choice}
 use Rattle.andorra.specs.declared.search.Found.{Found}
 use Rattle.andorra.proofs.Stack.{standing_same, nothing_unsolvable, owes_less}
 use Rattle.andorra.proofs.Branches.{step_clash, holds_step}
-use Rattle.andorra.proofs.Choosing.{first_of, first_read, made_weigh, Keeps}
-use Rattle.andorra.proofs.NamingSteps.{step_length}
+use Rattle.andorra.proofs.Choosing.{first_of, made_weigh, Keeps}
 
 -- the place of the goal is there
 pub first_within : (pending : List Pending) (place : ℕ) (gs : List Placed) → GoalsFrom pending (Some place) gs → place < length pending

@@ -1,6 +1,6 @@
 -- From what the search found to what the top call says of it.
-use Rattle.std.proofs.Common.{ℕ, ◌≡◌, ◌≢◌, ◌<◌, ◌↔◌, Bool, true, false, List, [], ◌∷◌, ◌++◌, length, length-append, take, map, refl, sym, ap, ◌∙◌, subst, arith, Option, Some, None, MatchOption, if◌then◌else◌, IsTrue, codes}
-use Rattle.and_io.specs.Flow.{Gains, Takes, AreAll}
+use Rattle.std.proofs.Common.{◌≡◌, ◌≢◌, ◌<◌, ◌↔◌, Bool, true, false, List, [], ◌∷◌, ◌++◌, length, length-append, refl, sym, ap, ◌∙◌, subst, arith, Option, Some, None, MatchOption, if◌then◌else◌, IsTrue}
+use Rattle.and_io.specs.Flow.{Gains}
 use Rattle.and_io.specs.ReadAll.{ReadsUpTo}
 use Rattle.and_io.specs.declared.reading.ReadAll.{ReadAll}
 use Rattle.and_io.specs.declared.reading.ReadAll.TheVariants.{Whole, Over}
@@ -14,7 +14,7 @@ use Rattle.andorra.specs.declared.search.Outgrown.{Outgrown}
 use Rattle.andorra.specs.declared.top.Status.{Status}
 use Rattle.andorra.specs.declared.top.Status.TheVariants.{Answers, NoAnswer, Usage, Refused, ReadFault, WriteFault, Limit, Memory, Floundered}
 use Rattle.andorra.specs.Searching.{NoneOver, IsFound}
-use Rattle.andorra.specs.Top.{limit, FindsAll, FindsSome, IsNoText, WasAnswered, IsLast, Answered, Responds, GainsPrefix, Due, answers, no_text, refusal, Told}
+use Rattle.andorra.specs.Top.{limit, FindsAll, IsNoText, WasAnswered, IsLast, Answered, Responds, GainsPrefix, Due, answers, no_text, refusal, Told}
 use Rattle.andorra.proofs.Exhausting.{none_over_exhausts}
 
 not_empty_or : (ls : List Entry) → ((ls ≢ []) → ⊥) → ls ≡ []

@@ -1,6 +1,6 @@
 -- Each turn of a search lowers the bound on the turns that are left.
-use Rattle.std.proofs.Common.{ℕ, zero, suc, ◌+◌, ◌-◌, ◌*◌, ◌^◌, ◌≡◌, ◌<◌, ◌≤◌, ◌⊎◌, List, [], ◌∷◌, ◌++◌, length, take, get_or, slice_set, refl, sym, ap, ◌∙◌, subst, arith, inl, inr}
-use Rattle.std.proofs.Math.Nat.{suc-mul, pow-succ', pow-le-pow_right, one-le-pow, mul-le-mul_left, one-le-mul}
+use Rattle.std.proofs.Common.{ℕ, zero, suc, ◌+◌, ◌-◌, ◌*◌, ◌^◌, ◌≡◌, ◌<◌, ◌≤◌, List, [], ◌∷◌, ◌++◌, length, take, get_or, slice_set, refl, sym, ap, ◌∙◌, arith, inl, inr}
+use Rattle.std.proofs.Math.Nat.{suc-mul, pow-succ', pow-le-pow_right, one-le-pow, one-le-mul}
 use Rattle.andorra.specs.Search.{turns, turns_of, next_of, AddsAtMost}
 use Rattle.andorra.specs.declared.search.Choice.{Choice}
 

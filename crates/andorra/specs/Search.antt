@@ -1,10 +1,9 @@
 -- What a leftmost search has done, and what is left to do (SLD trees: Lloyd, section 7; the form is this project's own).
-use Rattle.std.specs.Prelude.{ℕ, suc, ◌+◌, ◌-◌, ◌*◌, ◌^◌, ◌≡◌, ◌≢◌, ◌<◌, ◌≤◌, ◌↔◌, ◌⊎◌, Bool, true, false, List, [], ◌∷◌, ◌++◌, length, take, reverse, Option, Some, None, slice_get, vec_len, IsTrue, MatchOption}
+use Rattle.std.specs.Prelude.{ℕ, suc, ◌+◌, ◌-◌, ◌*◌, ◌^◌, ◌≡◌, ◌≢◌, ◌<◌, ◌≤◌, ◌↔◌, ◌⊎◌, true, false, List, [], ◌∷◌, ◌++◌, length, take, reverse, Option, Some, None, slice_get, vec_len, IsTrue, MatchOption}
 use Rattle.and_model.specs.Terms.{Path, Term, framed}
 use Rattle.and_model.specs.Solutions.{Solvable}
-use Rattle.and_model.specs.Lines.{Bytes}
 use Rattle.and_model.specs.Programs.{Program, clause_at, clause_weight, is_of, Of}
-use Rattle.and_model.specs.Trees.{QueryTree, Open, IsLeftmost, IsWhole, call_of, reduce, equations, weight, unfold_code}
+use Rattle.and_model.specs.Trees.{QueryTree, Open, IsLeftmost, call_of, reduce, equations, weight, unfold_code}
 use Rattle.and_model.specs.Listing.{Entry, Lists, ListsFrom, Listing}
 use Rattle.and_model.specs.Output.{OverLeft, lines_of}
 use Rattle.and_model.specs.Views.{term_of}
@@ -20,7 +19,6 @@ use Rattle.andorra.specs.declared.placed.Placed.{Placed}
 use Rattle.andorra.specs.declared.placed.Binding.{Binding}
 use Rattle.andorra.specs.declared.search.Pending.{Pending}
 use Rattle.andorra.specs.declared.search.Choice.{Choice}
-use Rattle.andorra.specs.declared.search.Outgrown.{Outgrown}
 use Rattle.andorra.specs.declared.search.Found.{Found}
 use Rattle.andorra.specs.declared.search.Search.{Search}
 

@@ -91,6 +91,3 @@ pub(crate) fn free_cells<'a>(
     }
     Ok(cells)
 }
-
-#[cfg(test)]
-mod tests;

@@ -107,6 +107,14 @@ fn nested_terms(rt: HostRuntime) -> Result<(), Fail> {
 }
 
 #[test]
+fn names_along_the_line(rt: HostRuntime) -> Result<(), Fail> {
+    let text = b"p(f(A,B),B,A). ?- p(X,Y,_Z).";
+    let lines = b"X = f(_0,_1), Y = _1\n% complete\n";
+    assert!(rt; gives(&rt, rt.alloc(), text, lines, Status::Answers)?);
+    Ok(())
+}
+
+#[test]
 fn another_word(rt: HostRuntime) -> Result<(), Fail> {
     let alloc = rt.alloc();
     let words = one_word(alloc, "go")?;

@@ -1,4 +1,4 @@
-use Rattle.std.proofs.Common.{◌≡◌, ap, sym, ◌∙◌, true, nat_eq, ◌&&◌, vec_len, eq-eqb}
+use Rattle.std.proofs.Common.{ap, sym, ◌∙◌, nat_eq, ◌&&◌, vec_len, eq-eqb}
 use Rattle.andorra.proofs.Branches.{same_compounds}
 use Rattle.andorra.proofs.engine.are_of_one_predicate.Goals as goal
 

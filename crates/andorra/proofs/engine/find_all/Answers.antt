@@ -1,7 +1,6 @@
-use Rattle.std.proofs.Common.{ℕ, ◌+◌, ◌≡◌, ◌<◌, ◌≤◌, List, [], ◌∷◌, ◌++◌, length, vec_len, refl, sym, ap, ◌∙◌, subst, arith}
+use Rattle.std.proofs.Common.{◌≡◌, [], vec_len, sym, ap, ◌∙◌, subst, arith}
 use Rattle.std.proofs.lemmas.Bool.Decides.{nat_tests}
 use Rattle.and_model.specs.Programs.{Program, clause_weight}
-use Rattle.and_model.specs.Programs as programs
 use Rattle.and_reader.specs.Programs.{clause_of, program_of}
 use Rattle.and_reader.specs.declared.loaded.Clause.{Clause}
 use Rattle.and_reader.specs.declared.loaded.Loaded.{Loaded}

@@ -1,6 +1,5 @@
-use Rattle.std.proofs.Common.{◌≡◌, ◌+◌, ap, sym, ◌∙◌, arith, vec_len}
-use Rattle.and_model.specs.Programs.{clause_weight, is_goals}
-use Rattle.and_reader.specs.Programs.{calls_of, clause_of}
+use Rattle.std.proofs.Common.{arith}
+use Rattle.and_model.specs.Programs.{clause_weight}
 use Rattle.andorra.proofs.Branches.{calls_no_is}
 use Rattle.andorra.proofs.engine.weight_of.Goals as goal
 

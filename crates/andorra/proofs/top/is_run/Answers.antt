@@ -1,4 +1,4 @@
-use Rattle.std.proofs.Common.{◌≡◌, ◌≤◌, ◌<◌, ℕ, Bool, true, List, [], ◌∷◌, map, length, get_or, String, Global, string_bytes, refl, sym, ap, ◌∙◌, subst, arith, IsTrue, ◌↔◌, codes}
+use Rattle.std.proofs.Common.{◌≡◌, ◌≤◌, ◌<◌, ℕ, Bool, List, [], ◌∷◌, map, length, get_or, String, Global, string_bytes, sym, ap, ◌∙◌, arith, IsTrue, ◌↔◌, codes}
 use Rattle.std.specs.Str.{bytes_eq}
 use Rattle.std.proofs.lemmas.Slice.Eq.{bytes_eq-Decides}
 use Rattle.andorra.specs.Top.{IsRun}

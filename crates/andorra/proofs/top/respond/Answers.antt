@@ -1,5 +1,4 @@
-use Rattle.std.proofs.Common.{ap, sym, subst}
-use Rattle.andorra.specs.Top.{Responds, WasAnswered}
+use Rattle.andorra.specs.Top.{WasAnswered}
 use Rattle.andorra.proofs.TopLemmas.{responded}
 use Rattle.andorra.proofs.top.respond.Goals as goal
 

@@ -1,4 +1,4 @@
-use Rattle.std.proofs.Common.{ap, sym, ◌∙◌, ◌≡◌, ◌≤◌, ◌++◌, ◌∷◌, [], reverse, length, arith, refl, vec_len}
+use Rattle.std.proofs.Common.{ap, ◌∙◌, ◌≡◌, ◌++◌, ◌∷◌, [], reverse, arith, refl}
 use Rattle.and_model.specs.Lines.{line}
 use Rattle.andorra.specs.Cells.{meaning}
 use Rattle.andorra.specs.Search.{program}

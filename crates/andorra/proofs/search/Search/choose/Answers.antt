@@ -1,4 +1,4 @@
-use Rattle.std.proofs.Common.{ap, ◌∙◌, ◌∷◌, [], reverse, length}
+use Rattle.std.proofs.Common.{ap, ◌∙◌, ◌∷◌, [], reverse}
 use Rattle.std.proofs.lemmas.List.{reverse-append}
 use Rattle.andorra.specs.Search.{program}
 use Rattle.andorra.proofs.Choosing.{choose_keeps}

@@ -1,8 +1,8 @@
-use Rattle.std.proofs.Common.{ℕ, suc, ◌+◌, ◌-◌, ◌≡◌, ◌<◌, ◌≤◌, List, [], ◌∷◌, ◌++◌, length, take, get_or, reverse, slice_set, refl, sym, ap, ◌∙◌, subst, arith, Ok, Err}
+use Rattle.std.proofs.Common.{ℕ, suc, ◌+◌, ◌-◌, ◌≡◌, ◌<◌, ◌≤◌, List, [], ◌∷◌, ◌++◌, length, take, reverse, slice_set, sym, ap, ◌∙◌, subst, arith, Ok, Err}
 use Rattle.std.specs.Prelude.{OnOk}
 use Rattle.std.specs.Vec.{with_item}
 use Rattle.std.proofs.lemmas.List.{reverse-append}
-use Rattle.andorra.specs.Search.{Looks, AddsAtMost, no_piece, program, stack, next_of, turns}
+use Rattle.andorra.specs.Search.{Looks, AddsAtMost, no_piece, program, next_of, turns}
 use Rattle.andorra.specs.declared.search.Choice.{Choice}
 use Rattle.andorra.specs.declared.search.Search.{Search}
 use Rattle.andorra.proofs.Turns.{fewer_dropped, fewer_next}

@@ -1,4 +1,4 @@
-use Rattle.std.proofs.Common.{◌≡◌, ◌<◌, ◌≤◌, ◌+◌, ap, sym, ◌∙◌, subst, arith, take, length, vec_len, get_or, reverse, refl, ◌∷◌, ◌↔◌, Some}
+use Rattle.std.proofs.Common.{◌≡◌, ◌≤◌, ◌+◌, ap, sym, ◌∙◌, subst, arith, take, length, vec_len, get_or, ◌∷◌, ◌↔◌, Some}
 use Rattle.std.proofs.lemmas.List.{take-take}
 use Rattle.and_model.specs.Terms.{Substitution}
 use Rattle.and_model.specs.Solutions.{Solves, Solvable}

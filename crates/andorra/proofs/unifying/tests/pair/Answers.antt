@@ -1,7 +1,7 @@
 use Rattle.std.proofs.Common.{◌∙◌, ap}
 use Rattle.and_model.specs.Terms.{compound}
 use Rattle.and_model.specs.Views.{terms_of}
-use Rattle.andorra.proofs.TermViews.{term_compound}
+use Rattle.and_model.proofs.TermViews.{term_compound}
 use Rattle.andorra.proofs.unifying.tests.pair.Goals as goal
 
 pub returns : goal.returns
