@@ -1,0 +1,7 @@
+pub mod AppendCells
+pub mod TwoForks
+pub mod Waiting
+pub mod Values
+pub mod NatCut
+pub mod Endless
+pub mod Readings

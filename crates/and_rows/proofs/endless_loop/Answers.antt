@@ -1,0 +1,8 @@
+use Rattle.and_rows.proofs.Endless
+use Rattle.and_rows.proofs.endless_loop.Goals as goal
+
+pub returns-clause-listing : goal.returns-clause-listing
+returns-clause-listing c = Endless.listing
+
+pub returns-clause-over : goal.returns-clause-over
+returns-clause-over c = Endless.over

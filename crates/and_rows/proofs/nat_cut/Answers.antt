@@ -1,0 +1,17 @@
+use Rattle.and_rows.proofs.NatCut
+use Rattle.and_rows.proofs.nat_cut.Goals as goal
+
+pub returns-clause-weights : goal.returns-clause-weights
+returns-clause-weights c = NatCut.weights
+
+pub returns-clause-listing : goal.returns-clause-listing
+returns-clause-listing c = NatCut.listing
+
+pub returns-clause-over : goal.returns-clause-over
+returns-clause-over c = NatCut.over
+
+pub returns-clause-third : goal.returns-clause-third
+returns-clause-third c = NatCut.third
+
+pub returns-clause-not_exhausted : goal.returns-clause-not_exhausted
+returns-clause-not_exhausted c = NatCut.not_exhausted

@@ -1,0 +1,168 @@
+//! Trials of the definitions: what they say of some small texts, worked out by hand.
+//!
+//! Each function here does nothing. Its contract says what the definitions of `and_model` make of
+//! one row, from its terms to its listing, and is proved in `proofs/`. No other crate stands on this
+//! one.
+#![tactic(auto)]
+
+ghost use Rattle.std.specs.Prelude.{ℕ, ℤ, pos, negsuc, ◌≡◌, ◌<◌, ◌-◌, ◌^◌, List, [], ◌∷◌, length, Some, None, codes};
+ghost use Rattle.and_model.specs.Terms.{Path, Term, variable, number, compound, none};
+ghost use Rattle.and_model.specs.Solutions.{Equation, falsehood};
+ghost use Rattle.and_model.specs.Arithmetic.{value, plus, minus, times, divide, modulo, remainder, least, greatest};
+ghost use Rattle.and_model.specs.Programs.{Program, Arithmetic, clause_at, clause_weight};
+ghost use Rattle.and_model.specs.Closure.{Closes};
+ghost use Rattle.and_model.specs.Candidates.{Candidate};
+ghost use Rattle.and_model.specs.Trees.{QueryTree, Open, call_of, unfold_code, weight};
+ghost use Rattle.and_model.specs.Lines.{Bytes};
+ghost use Rattle.and_model.specs.Listing.{Outcome, answer, floundered, Listing, Exhausted};
+ghost use Rattle.and_model.specs.Output.{OverLeft};
+ghost use Rattle.and_rows.specs.Ending.{UnfoldsTo, CodeEnds, entry};
+ghost use Rattle.and_rows.specs.Texts.{own, at, whole, unary, binary, app, nil, cell, append_text, forks_text, x_is_x, floundered_text, x_below_3, late_text, x_is_too_much, too_much, quotients, naturals, endless_text, lightest, next_lightest};
+
+/// Row append-cells: `app(nil,L,L). app(c(H,T),L,c(H,R)) :- app(T,L,R). ?- app(X,Y,c(1,nil)).`
+///
+/// A clause weighs 1 and 1 for each of its variables, and so does the query. Code `[2]` leaves the
+/// call of the second clause open; the first clause has no call, so nothing follows it.
+pub fn append_cells()
+    ensures weights { (clause_weight (clause_at append_text 1) ≡ 2)
+        × (clause_weight (clause_at append_text 2) ≡ 5)
+        × (clause_weight append_text.query ≡ 3) }
+    ensures first { UnfoldsTo append_text (1 ∷ [])
+        ((app (own 0) (own 1) (cell (whole 1) nil), app nil (at (0 ∷ []) 0) (at (0 ∷ []) 0)) ∷ []) 5 }
+    ensures second { UnfoldsTo append_text (2 ∷ 1 ∷ [])
+        ((
+          app (own 0) (own 1) (cell (whole 1) nil),
+          app (cell (at (0 ∷ []) 0) (at (0 ∷ []) 1)) (at (0 ∷ []) 2) (cell (at (0 ∷ []) 0) (at (0 ∷ []) 3)),
+        )
+        ∷ (
+          app (at (0 ∷ []) 1) (at (0 ∷ []) 2) (at (0 ∷ []) 3),
+          app nil (at (0 ∷ 0 ∷ []) 0) (at (0 ∷ 0 ∷ []) 0),
+        ) ∷ []) 10 }
+    ensures left_open { (t : QueryTree append_text) × (unfold_code append_text (2 ∷ []) ≡ Some t)
+        × (o : Open t) × (call_of t o ≡ app (at (0 ∷ []) 1) (at (0 ∷ []) 2) (at (0 ∷ []) 3)) }
+    ensures no_tree { (unfold_code append_text (1 ∷ 1 ∷ []) ≡ None)
+        × (unfold_code append_text (3 ∷ []) ≡ None) }
+    ensures first_ends { CodeEnds append_text (1 ∷ []) (answer (codes "X = nil, Y = c(1,nil)")) }
+    ensures second_ends { CodeEnds append_text (2 ∷ 1 ∷ []) (answer (codes "X = c(1,nil), Y = nil")) }
+    ensures listing { Listing append_text 10
+        (entry (1 ∷ []) (answer (codes "X = nil, Y = c(1,nil)"))
+        ∷ entry (2 ∷ 1 ∷ []) (answer (codes "X = c(1,nil), Y = nil")) ∷ []) }
+{}
+
+/// Row two-forks: `p(1). p(2). q(3). q(4). ?- p(X), q(Y).` The rightmost call changes fastest, and
+/// a clause of another predicate takes no call.
+pub fn two_forks()
+    ensures listing { Listing forks_text 262144
+        (entry (1 ∷ 3 ∷ []) (answer (codes "X = 1, Y = 3"))
+        ∷ entry (1 ∷ 4 ∷ []) (answer (codes "X = 1, Y = 4"))
+        ∷ entry (2 ∷ 3 ∷ []) (answer (codes "X = 2, Y = 3"))
+        ∷ entry (2 ∷ 4 ∷ []) (answer (codes "X = 2, Y = 4")) ∷ []) }
+    ensures no_tree { (unfold_code forks_text (3 ∷ []) ≡ None)
+        × (unfold_code forks_text (1 ∷ 1 ∷ []) ≡ None)
+        × (unfold_code forks_text (1 ∷ 3 ∷ 3 ∷ []) ≡ None) }
+{}
+
+/// Row floundered: `?- X is X + 0.` Nothing makes X ground, so the goal waits, and no equation is
+/// added. The text has no call, so no limit cuts anything off.
+pub fn floundered_row()
+    ensures closes { Closes [] (x_is_x ∷ []) [] (x_is_x ∷ []) }
+    ensures only { (es : List Equation) (gs : List Arithmetic) → Closes [] (x_is_x ∷ []) es gs
+        → (es ≡ []) × (gs ≡ x_is_x ∷ []) }
+    ensures ends { CodeEnds floundered_text [] (floundered (codes "X = _0 with is(_0,+(_0,0))")) }
+    ensures no_answer { (text : Bytes) → CodeEnds floundered_text [] (answer text) → ⊥ }
+    ensures exhausted { Exhausted floundered_text 4 }
+{}
+
+/// Row late-comparison: `?- X < 3, X = 2.` The comparison is written first, and is run once X is 2.
+/// Alone it waits.
+pub fn late_comparison()
+    ensures closes { Closes ((own 0, whole 2) ∷ []) (x_below_3 ∷ []) ((own 0, whole 2) ∷ []) [] }
+    ensures alone { Closes [] (x_below_3 ∷ []) [] (x_below_3 ∷ []) }
+    ensures ends { CodeEnds late_text [] (answer (codes "X = 2")) }
+{}
+
+/// Row overflow: `?- X is 9223372036854775807 + 1.` has no value, so that falsehood is added and
+/// nothing is listed; and `?- X is -7 // 2, Y is -7 mod 2.` gives values.
+pub fn overflow()
+    ensures closes { Closes [] (x_is_too_much ∷ []) (falsehood ∷ []) [] }
+    ensures no_end { (o : Outcome) → CodeEnds too_much [] o → ⊥ }
+    ensures listing { Listing too_much 262144 [] }
+    ensures quotients { CodeEnds quotients [] (answer (codes "X = -3, Y = 1")) }
+{}
+
+/// Values of terms. `//` truncates toward zero, `mod` has the sign of its right number and `rem` that
+/// of its left one. Where there is no number of 64 bits, there is no value.
+pub fn values_of_terms()
+    ensures numbers { (value (whole (2 ^ 63 - 1)) ≡ Some (pos (2 ^ 63 - 1)))
+        × (value (number (negsuc (2 ^ 63 - 1))) ≡ Some (negsuc (2 ^ 63 - 1)))
+        × (value (whole (2 ^ 63)) ≡ None) × (value (number (negsuc (2 ^ 63))) ≡ None) }
+    ensures sums { (value (binary plus (whole 2) (whole 3)) ≡ Some (pos 5))
+        × (value (binary minus (whole 2) (whole 3)) ≡ Some (negsuc 0))
+        × (value (binary times (whole 2) (number (negsuc 2))) ≡ Some (negsuc 5)) }
+    ensures precedence { value (binary plus (whole 1) (binary times (whole 2) (whole 3))) ≡ Some (pos 7) }
+    ensures quotients { (value (binary divide (number (negsuc 6)) (whole 2)) ≡ Some (negsuc 2))
+        × (value (binary divide (whole 7) (number (negsuc 1))) ≡ Some (negsuc 2))
+        × (value (binary divide (number (negsuc 6)) (number (negsuc 1))) ≡ Some (pos 3)) }
+    ensures moduli { (value (binary modulo (number (negsuc 6)) (whole 2)) ≡ Some (pos 1))
+        × (value (binary modulo (whole 7) (number (negsuc 1))) ≡ Some (negsuc 0))
+        × (value (binary modulo (number (negsuc 6)) (number (negsuc 1))) ≡ Some (negsuc 0)) }
+    ensures remainders { (value (binary remainder (number (negsuc 6)) (whole 2)) ≡ Some (negsuc 0))
+        × (value (binary remainder (whole 7) (number (negsuc 1))) ≡ Some (pos 1))
+        × (value (binary remainder (number (negsuc 6)) (number (negsuc 1))) ≡ Some (negsuc 0)) }
+    ensures least_integer { (value (binary divide (number (negsuc (2 ^ 63 - 1))) (number (negsuc 0))) ≡ None)
+        × (value (binary modulo (number (negsuc (2 ^ 63 - 1))) (number (negsuc 0))) ≡ Some (pos 0))
+        × (value (binary remainder (number (negsuc (2 ^ 63 - 1))) (number (negsuc 0))) ≡ Some (pos 0))
+        × (value (unary minus (number (negsuc (2 ^ 63 - 1)))) ≡ None) }
+    ensures negated { (value (unary minus (whole 7)) ≡ Some (negsuc 6))
+        × (value (unary minus (whole 0)) ≡ Some (pos 0)) }
+    ensures extremes { (value (binary least (whole 3) (number (negsuc 4))) ≡ Some (negsuc 4))
+        × (value (binary greatest (whole 3) (number (negsuc 4))) ≡ Some (pos 3)) }
+    ensures by_zero { (value (binary divide (whole 1) (whole 0)) ≡ None)
+        × (value (binary modulo (whole 1) (whole 0)) ≡ None)
+        × (value (binary remainder (whole 1) (whole 0)) ≡ None) }
+    ensures too_wide { (value (binary plus (whole (2 ^ 63 - 1)) (whole 1)) ≡ None)
+        × (value (binary minus (binary plus (whole (2 ^ 63 - 1)) (whole 1)) (whole 1)) ≡ None) }
+    ensures no_value { (value (own 0) ≡ None) × (value (compound 27 none) ≡ None)
+        × (value (binary plus (whole 1) (own 0)) ≡ None)
+        × (value (binary plus (whole 1) (compound 27 none)) ≡ None)
+        × (value (binary 27 (whole 1) (whole 2)) ≡ None) × (value (unary plus (whole 1)) ≡ None) }
+{}
+
+/// Row nat-cut: `nat(z). nat(s(N)) :- nat(N). ?- nat(X).` The query weighs 2, the first clause 1 and
+/// the second 2. So with the limit 6 two proofs are listed, which weigh 3 and 5, and the code
+/// `[2, 2]` leaves over what weighs 7. The limit 7 lists one more: 6 does not exhaust the text.
+pub fn nat_cut()
+    ensures weights { ((t : QueryTree naturals)
+        × (unfold_code naturals (1 ∷ []) ≡ Some t) × (weight t ≡ 3))
+        × ((t : QueryTree naturals)
+        × (unfold_code naturals (2 ∷ 1 ∷ []) ≡ Some t) × (weight t ≡ 5))
+        × ((t : QueryTree naturals)
+        × (unfold_code naturals (2 ∷ 2 ∷ 1 ∷ []) ≡ Some t) × (weight t ≡ 7)) }
+    ensures listing { Listing naturals 6
+        (entry (1 ∷ []) (answer (codes "X = z")) ∷ entry (2 ∷ 1 ∷ []) (answer (codes "X = s(z)")) ∷ []) }
+    ensures over { OverLeft naturals 6 (2 ∷ 2 ∷ []) 1 }
+    ensures third { Listing naturals 7
+        (entry (1 ∷ []) (answer (codes "X = z")) ∷ entry (2 ∷ 1 ∷ []) (answer (codes "X = s(z)"))
+        ∷ entry (2 ∷ 2 ∷ 1 ∷ []) (answer (codes "X = s(s(z))")) ∷ []) }
+    ensures not_exhausted { Exhausted naturals 6 → ⊥ }
+{}
+
+/// Row endless-loop: `loop(X) :- loop(X). ?- loop(a).` The query weighs 1 and the clause 2. With the
+/// limit 4 nothing is listed, and the code `[1]`, of weight 3, leaves over what weighs 5.
+pub fn endless_loop()
+    ensures listing { Listing endless_text 4 [] }
+    ensures over { OverLeft endless_text 4 (1 ∷ []) 1 }
+{}
+
+/// Readings that do not hold. Clause 0 is the query, which takes no call, and a number past the
+/// clauses takes none. The query is counted once: `?- true.` weighs 1 and has its proof within the
+/// limit 1, while `?- X = 1.`, of weight 2, is left over by itself.
+pub fn wrong_readings()
+    ensures clause_zero { (P : Program) (es : List Equation) (q : Path) (goal : Term)
+        → Candidate P es q goal 0 → ⊥ }
+    ensures past_the_end { (P : Program) (es : List Equation) (q : Path) (goal : Term) (c : ℕ)
+        → length P.clauses < c → Candidate P es q goal c → ⊥ }
+    ensures lightest { Listing lightest 1 (entry [] (answer (codes "true")) ∷ []) }
+    ensures not_twice { Listing lightest 1 [] → ⊥ }
+    ensures next_lightest { Listing next_lightest 1 [] × OverLeft next_lightest 1 [] 0 }
+{}
