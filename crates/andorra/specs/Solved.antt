@@ -1,9 +1,11 @@
 -- What holds of the bindings that a solver makes: they are in triangular form (Baader and Snyder, Unification theory, 2001), and are found by their slots.
-use Rattle.std.specs.Prelude.{ℕ, suc, ◌<◌, ◌^◌, ◌≡◌, Bool, false, ◌||◌, List, [], ◌∷◌, length, get_or, nat_eq}
+use Rattle.std.specs.Prelude.{ℕ, suc, ◌<◌, ◌^◌, ◌≡◌, ◌↔◌, Bool, false, ◌||◌, List, [], ◌∷◌, length, get_or, nat_eq}
 use Rattle.and_model.specs.Terms.{Term, Terms, variable, number, compound, none, more, Substitution, apply}
 use Rattle.and_model.specs.Lines.{same_variable}
-use Rattle.andorra.specs.Cells.{placed, AreWithin, then_bound}
+use Rattle.and_model.specs.Solutions.{Equation, Solves}
+use Rattle.andorra.specs.Cells.{placed, AreWithin, equations_of, then_bound}
 use Rattle.andorra.specs.declared.placed.Binding.{Binding}
+use Rattle.andorra.specs.declared.placed.Placed.{Placed}
 use Rattle.andorra.specs.declared.bindings.Bindings.{Bindings}
 
 abbrev mutual
@@ -49,3 +51,11 @@ pub record IsSolved (slots : List ℕ) (made : List Binding) : Type 0 where
 
 abbrev pub IsValid : Bindings → Type 0
 IsValid b = IsSolved b.slots.items b.made.items
+
+-- the equation between two terms, and what the bindings say
+abbrev pub asked : Placed → Placed → Bindings → List Equation
+asked left right b = (placed left, placed right) ∷ equations_of b.made.items
+
+-- the same substitutions solve both
+abbrev pub AreEquivalent : List Equation → List Equation → Type 0
+AreEquivalent es ds = (s : Substitution) → Solves s es ↔ Solves s ds

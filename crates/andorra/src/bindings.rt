@@ -84,7 +84,8 @@ impl<'a> Bindings<'a> {
     fn bound(&self, cell: u32) -> Option<Placed<'a>>
         requires valid { IsValid self.now }
         requires within { cell < cells_of self.now }
-        ensures found { IfSome result (λ p. slice_get (made_of self.now) (slice_index self.now.slots.items cell) ≡ Some (record { cell = cell; value = p })) }
+        ensures found { let slot = slice_index self.now.slots.items cell in
+            IfSome result (λ p. slice_get (made_of self.now) slot ≡ Some (record { cell = cell; value = p })) }
         ensures free { IfNone result (is_bound cell (made_of self.now) ≡ false) }
     {
         let slot = self.slots[cell as usize];
@@ -99,7 +100,8 @@ impl<'a> Bindings<'a> {
     pub fn value(&self, term: Placed<'a>) -> Placed<'a>
         requires valid { IsValid self.now }
         requires within { IsWithin (cells_of self.now) term }
-        ensures same { apply (meaning (made_of self.now)) (placed result) ≡ apply (meaning (made_of self.now)) (placed term.entry) }
+        ensures same { let m = meaning (made_of self.now) in
+            apply m (placed result) ≡ apply m (placed term.entry) }
         ensures free { IsFreeVariable (meaning (made_of self.now)) (placed result) }
         ensures within { IsWithin (cells_of self.now) result }
     {

@@ -47,7 +47,8 @@ impl<'a> PlacedTerms<'a> {
 
     /// The first term and the others, if there is one.
     pub fn split_first(self) -> Option<(Placed<'a>, PlacedTerms<'a>)>
-        ensures { MatchOption result (placed_all self.entry ≡ none) (λ p. placed_all self.entry ≡ more (placed p.0) (placed_all p.1)) }
+        ensures { MatchOption result (placed_all self.entry ≡ none)
+            (λ p. placed_all self.entry ≡ more (placed p.0) (placed_all p.1)) }
     {
         let (first, rest) = self.terms.split_first()?;
         let first = Placed {

@@ -9,7 +9,7 @@ ghost use Rattle.and_model.specs.Solutions.{Solves, Solvable};
 ghost use Rattle.and_model.specs.Views.{terms_of};
 ghost use Rattle.and_laws.proofs.Occurrences.{size};
 ghost use Rattle.andorra.specs.Cells.{placed, IsWithin, cells_of, made_of, equations_of, meaning};
-ghost use Rattle.andorra.specs.Solved.{IsValid, IsFreeVariable, CanBind, stands_in};
+ghost use Rattle.andorra.specs.Solved.{IsValid, IsFreeVariable, CanBind, AreEquivalent, asked, stands_in};
 ghost use Rattle.andorra.specs.Rows.{RowsWithin, SearchedWithin, SolvesRows, Says, IsFresh, IsLast, stands_in_rows, rows_weight, searched_weight, in_cells_all};
 
 use crate::bindings::Bindings;
@@ -19,15 +19,16 @@ use and_model::{NameNo, Term, Terms};
 use std::alloc::AllocError;
 
 impl<'a> Bindings<'a> {
-    /// Makes the two terms equal by the fewest bindings, and says whether that can be done. Where it
-    /// can't, some bindings may have been made: go back to where there were as many as before. An
-    /// error is want of memory, after which the bindings are spent.
+    /// Makes the two terms equal in the most general way, and says whether that can be done. Where
+    /// it can't, some bindings may have been made: go back to where there were as many as before.
+    /// An error is want of memory, after which the bindings are spent.
     pub fn solve(&mut self, left: Placed<'a>, right: Placed<'a>) -> Result<bool, AllocError>
         requires valid { IsValid self.old }
         requires left_within { IsWithin (cells_of self.old) left }
         requires right_within { IsWithin (cells_of self.old) right }
-        ensures solved { IfOk result (λ b. OnTrue b ((s : Substitution) → Solves s (equations_of (made_of self.new)) ↔ Solves s ((placed left.entry, placed right.entry) ∷ equations_of (made_of self.old)))) }
-        ensures clash { IfOk result (λ b. OnFalse b (Solvable ((placed left.entry, placed right.entry) ∷ equations_of (made_of self.old)) → ⊥)) }
+        ensures solved { IfOk result (λ b. OnTrue b
+            (AreEquivalent (equations_of (made_of self.new)) (asked left.entry right.entry self.old))) }
+        ensures clash { IfOk result (λ b. OnFalse b (Solvable (asked left.entry right.entry self.old) → ⊥)) }
         ensures begins { OnOk result (take (vec_len self.old.made) (made_of self.new) ≡ made_of self.old) }
         ensures cells { OnOk result (cells_of self.new ≡ cells_of self.old) }
         ensures valid { OnOk result (IsValid self.new) }
@@ -57,7 +58,8 @@ impl<'a> Bindings<'a> {
         requires within { RowsWithin (cells_of self.old) self.old.rows.items }
         ensures made { made_of self.new ≡ made_of self.old }
         ensures slots { self.new.slots.items ≡ self.old.slots.items }
-        ensures same { IfOk result (λ p. (s : Substitution) → Solves s (equations_of (made_of self.old)) → SolvesRows s self.old.rows.items ↔ (Says s p × SolvesRows s self.new.rows.items)) }
+        ensures same { IfOk result (λ p. (s : Substitution) → Solves s (equations_of (made_of self.old)) →
+            SolvesRows s self.old.rows.items ↔ (Says s p × SolvesRows s self.new.rows.items)) }
         ensures fresh { IfOk result (λ p. IsFresh (meaning (made_of self.old)) (cells_of self.old) p) }
         ensures within { OnOk result (RowsWithin (cells_of self.old) self.new.rows.items) }
         ensures last { IfOk result (λ p. IsLast p self.new.rows.items) }
@@ -89,10 +91,14 @@ impl<'a> Bindings<'a> {
         requires within { RowsWithin (cells_of self.old) self.old.rows.items }
         ensures made { made_of self.new ≡ made_of self.old }
         ensures slots { self.new.slots.items ≡ self.old.slots.items }
-        ensures same { IfOk result (λ p. (s : Substitution) → Solves s (equations_of (made_of self.old)) → ((apply s (placed left.entry) ≡ apply s (placed right.entry)) × SolvesRows s self.old.rows.items) ↔ (Says s p × SolvesRows s self.new.rows.items)) }
+        ensures same { IfOk result (λ p. (s : Substitution) → Solves s (equations_of (made_of self.old)) →
+            ((apply s (placed left.entry) ≡ apply s (placed right.entry)) × SolvesRows s self.old.rows.items)
+            ↔ (Says s p × SolvesRows s self.new.rows.items)) }
         ensures fresh { IfOk result (λ p. IsFresh (meaning (made_of self.old)) (cells_of self.old) p) }
         ensures within { OnOk result (RowsWithin (cells_of self.old) self.new.rows.items) }
-        ensures less { OnOk result (rows_weight (meaning (made_of self.old)) self.new.rows.items < rows_weight (meaning (made_of self.old)) self.old.rows.items + 2 * size (apply (meaning (made_of self.old)) (placed left.entry))) }
+        ensures less { let m = meaning (made_of self.old) in
+            OnOk result (rows_weight m self.new.rows.items <
+            rows_weight m self.old.rows.items + 2 * size (apply m (placed left.entry))) }
     {
         let left = self.value(left);
         let right = self.value(right);
@@ -170,10 +176,13 @@ impl<'a> Bindings<'a> {
         requires within { RowsWithin (cells_of self.old) self.old.rows.items }
         ensures made { made_of self.new ≡ made_of self.old }
         ensures slots { self.new.slots.items ≡ self.old.slots.items }
-        ensures same { IfOk result (λ p. (s : Substitution) → ((apply s (placed left.entry) ≡ apply s (placed right.entry)) × SolvesRows s self.old.rows.items) ↔ (Says s p × SolvesRows s self.new.rows.items)) }
+        ensures same { IfOk result (λ p. (s : Substitution) →
+            ((apply s (placed left.entry) ≡ apply s (placed right.entry)) × SolvesRows s self.old.rows.items)
+            ↔ (Says s p × SolvesRows s self.new.rows.items)) }
         ensures fresh { IfOk result (λ p. IsFresh (meaning (made_of self.old)) (cells_of self.old) p) }
         ensures within { OnOk result (RowsWithin (cells_of self.old) self.new.rows.items) }
-        ensures less { OnOk result ((s : Substitution) → rows_weight s self.new.rows.items < rows_weight s self.old.rows.items + 2 * size (apply s (placed left.entry))) }
+        ensures less { OnOk result ((s : Substitution) → rows_weight s self.new.rows.items <
+            rows_weight s self.old.rows.items + 2 * size (apply s (placed left.entry))) }
     {
         match right.term {
             Term::Variable(number) => Ok(Step::Bind(Binding {
@@ -233,9 +242,13 @@ impl<'a> Bindings<'a> {
         ensures made { made_of self.new ≡ made_of self.old }
         ensures slots { self.new.slots.items ≡ self.old.slots.items }
         ensures rows { self.new.rows.items ≡ self.old.rows.items }
-        ensures found { IfOk result (λ b. (b || stands_in_rows cell (meaning (made_of self.old)) self.new.searched.items) ≡ (stands_in cell (apply (meaning (made_of self.old)) (placed term.entry)) || stands_in_rows cell (meaning (made_of self.old)) self.old.searched.items)) }
+        ensures found { let m = meaning (made_of self.old) in
+            IfOk result (λ b. (b || stands_in_rows cell m self.new.searched.items) ≡
+            (stands_in cell (apply m (placed term.entry)) || stands_in_rows cell m self.old.searched.items)) }
         ensures within { OnOk result (SearchedWithin (cells_of self.old) self.new.searched.items) }
-        ensures less { OnOk result (searched_weight (meaning (made_of self.old)) self.new.searched.items < searched_weight (meaning (made_of self.old)) self.old.searched.items + 2 * size (apply (meaning (made_of self.old)) (placed term.entry))) }
+        ensures less { let m = meaning (made_of self.old) in
+            OnOk result (searched_weight m self.new.searched.items <
+            searched_weight m self.old.searched.items + 2 * size (apply m (placed term.entry))) }
     {
         let value = self.value(term);
         match value.term {
