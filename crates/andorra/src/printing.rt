@@ -118,3 +118,6 @@ pub fn show_line(alloc: Global, loaded: &Loaded, bindings: &Bindings) -> Result<
     };
     show_values(alloc, &printer, &shown)
 }
+
+#[cfg(test)]
+mod tests;

@@ -91,3 +91,6 @@ pub(crate) fn free_cells<'a>(
     }
     Ok(cells)
 }
+
+#[cfg(test)]
+mod tests;
