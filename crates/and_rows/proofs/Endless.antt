@@ -4,7 +4,6 @@ use Rattle.and_model.specs.Terms.{compound, none, Substitution}
 use Rattle.and_model.specs.Programs.{clause_weight}
 use Rattle.and_model.specs.Closure.{Closes}
 use Rattle.and_model.specs.Trees.{QueryTree, query_agenda, blank, done, left, by, equations}
-use Rattle.and_model.specs.Listing.{Listing, calls, no_more, heavy, light, of_query}
 use Rattle.and_model.specs.Output.{OverLeft}
 use Rattle.and_rows.specs.Texts.{endless_text}
 
@@ -20,14 +19,6 @@ abbrev all_a : Substitution
 all_a r k = compound 28 none
 
 -- It weighs 3, and 5 with the clause once more.
-pub listing : Listing endless_text 4 []
-unfolding clause_weight
-listing =
-    of_query [] (omega arith)
-    (calls start (inl tt) [] tt
-    (light start (inl tt) 1 [] [] refl (omega arith) (calls once (inl tt) [] tt (heavy once (inl tt) 1 [] refl (omega arith) (no_more once (inl tt) 2 (omega arith))))
-    (no_more start (inl tt) 2 (omega arith))))
-
 pub over : OverLeft endless_text 4 (1 ∷ []) 1
 unfolding clause_weight
 over = inr (once, refl, (omega arith), equations once, [], Closes.waiting (equations once) [] tt, (all_a, (refl, tt)), inl tt, tt, refl, omega arith)

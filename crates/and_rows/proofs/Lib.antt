@@ -5,3 +5,4 @@ pub mod Values
 pub mod NatCut
 pub mod Endless
 pub mod Readings
+pub mod Exhausting

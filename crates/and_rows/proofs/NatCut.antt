@@ -19,7 +19,7 @@ at_least_0 = blank (query_agenda naturals)
 abbrev at_least_1 : QueryTree naturals
 at_least_1 = by 2 refl (left done)
 
-abbrev at_least_2 : QueryTree naturals
+abbrev pub at_least_2 : QueryTree naturals
 at_least_2 = by 2 refl (by 2 refl (left done))
 
 -- and the proofs

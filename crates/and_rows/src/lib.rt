@@ -5,7 +5,7 @@
 //! one.
 #![tactic(auto)]
 
-ghost use Rattle.std.specs.Prelude.{ℕ, ℤ, pos, negsuc, ◌≡◌, ◌<◌, ◌-◌, ◌^◌, List, [], ◌∷◌, length, Some, None, codes};
+ghost use Rattle.std.specs.Prelude.{ℕ, ℤ, pos, negsuc, ◌≡◌, ◌<◌, ◌≤◌, ◌-◌, ◌^◌, List, [], ◌∷◌, length, Some, None, codes};
 ghost use Rattle.and_model.specs.Terms.{Path, Term, variable, number, compound, none};
 ghost use Rattle.and_model.specs.Solutions.{Equation, falsehood};
 ghost use Rattle.and_model.specs.Arithmetic.{value, plus, minus, times, divide, modulo, remainder, least, greatest};
@@ -22,7 +22,9 @@ ghost use Rattle.and_rows.specs.Texts.{own, at, whole, unary, binary, app, nil, 
 /// Row append-cells: `app(nil,L,L). app(c(H,T),L,c(H,R)) :- app(T,L,R). ?- app(X,Y,c(1,nil)).`
 ///
 /// A clause weighs 1 and 1 for each of its variables, and so does the query. Code `[2]` leaves the
-/// call of the second clause open; the first clause has no call, so nothing follows it.
+/// call of the second clause open; the first clause has no call, so nothing follows it. The
+/// heavier of the two proofs weighs 10, so each limit from 10 on lists both. Code `[2, 2]` is
+/// never left over, heavy as it is, since its equations have no solution.
 pub fn append_cells()
     ensures weights { (clause_weight (clause_at append_text 1) ≡ 2)
         × (clause_weight (clause_at append_text 2) ≡ 5)
@@ -44,19 +46,22 @@ pub fn append_cells()
         × (unfold_code append_text (3 ∷ []) ≡ None) }
     ensures first_ends { CodeEnds append_text (1 ∷ []) (answer (codes "X = nil, Y = c(1,nil)")) }
     ensures second_ends { CodeEnds append_text (2 ∷ 1 ∷ []) (answer (codes "X = c(1,nil), Y = nil")) }
-    ensures listing { Listing append_text 10
+    ensures listing { (limit : ℕ) → 10 ≤ limit → Listing append_text limit
         (entry (1 ∷ []) (answer (codes "X = nil, Y = c(1,nil)"))
         ∷ entry (2 ∷ 1 ∷ []) (answer (codes "X = c(1,nil), Y = nil")) ∷ []) }
+    ensures exhausted { Exhausted append_text 10 }
+    ensures not_over { (c : ℕ) → OverLeft append_text 14 (2 ∷ 2 ∷ []) c → ⊥ }
 {}
 
 /// Row two-forks: `p(1). p(2). q(3). q(4). ?- p(X), q(Y).` The rightmost call changes fastest, and
-/// a clause of another predicate takes no call.
+/// a clause of another predicate takes no call. The query weighs 3 and each proof 5.
 pub fn two_forks()
-    ensures listing { Listing forks_text 262144
+    ensures listing { (limit : ℕ) → 5 ≤ limit → Listing forks_text limit
         (entry (1 ∷ 3 ∷ []) (answer (codes "X = 1, Y = 3"))
         ∷ entry (1 ∷ 4 ∷ []) (answer (codes "X = 1, Y = 4"))
         ∷ entry (2 ∷ 3 ∷ []) (answer (codes "X = 2, Y = 3"))
         ∷ entry (2 ∷ 4 ∷ []) (answer (codes "X = 2, Y = 4")) ∷ []) }
+    ensures exhausted { Exhausted forks_text 5 }
     ensures no_tree { (unfold_code forks_text (3 ∷ []) ≡ None)
         × (unfold_code forks_text (1 ∷ 1 ∷ []) ≡ None)
         × (unfold_code forks_text (1 ∷ 3 ∷ 3 ∷ []) ≡ None) }
@@ -141,6 +146,7 @@ pub fn nat_cut()
     ensures listing { Listing naturals 6
         (entry (1 ∷ []) (answer (codes "X = z")) ∷ entry (2 ∷ 1 ∷ []) (answer (codes "X = s(z)")) ∷ []) }
     ensures over { OverLeft naturals 6 (2 ∷ 2 ∷ []) 1 }
+    ensures not_over { OverLeft naturals 7 (2 ∷ 2 ∷ []) 1 → ⊥ }
     ensures third { Listing naturals 7
         (entry (1 ∷ []) (answer (codes "X = z")) ∷ entry (2 ∷ 1 ∷ []) (answer (codes "X = s(z)"))
         ∷ entry (2 ∷ 2 ∷ 1 ∷ []) (answer (codes "X = s(s(z))")) ∷ []) }
@@ -148,9 +154,11 @@ pub fn nat_cut()
 {}
 
 /// Row endless-loop: `loop(X) :- loop(X). ?- loop(a).` The query weighs 1 and the clause 2. With the
-/// limit 4 nothing is listed, and the code `[1]`, of weight 3, leaves over what weighs 5.
+/// limit 4 the code `[1]`, of weight 3, leaves over what weighs 5. Yet no limit lists anything: what
+/// is left over need not lead to an answer.
 pub fn endless_loop()
-    ensures listing { Listing endless_text 4 [] }
+    ensures listing { (limit : ℕ) → Listing endless_text limit [] }
+    ensures exhausted { (limit : ℕ) → Exhausted endless_text limit }
     ensures over { OverLeft endless_text 4 (1 ∷ []) 1 }
 {}
 

@@ -1,8 +1,12 @@
 use Rattle.and_rows.proofs.Endless
+use Rattle.and_rows.proofs.Exhausting
 use Rattle.and_rows.proofs.endless_loop.Goals as goal
 
 pub returns-clause-listing : goal.returns-clause-listing
-returns-clause-listing c = Endless.listing
+returns-clause-listing c = Exhausting.endless_listing
 
 pub returns-clause-over : goal.returns-clause-over
 returns-clause-over c = Endless.over
+
+pub returns-clause-exhausted : goal.returns-clause-exhausted
+returns-clause-exhausted c = Exhausting.endless_exhausted

@@ -1,4 +1,5 @@
 use Rattle.and_rows.proofs.TwoForks
+use Rattle.and_rows.proofs.Exhausting
 use Rattle.and_rows.proofs.two_forks.Goals as goal
 
 pub returns-clause-listing : goal.returns-clause-listing
@@ -6,3 +7,6 @@ returns-clause-listing c = TwoForks.listing
 
 pub returns-clause-no_tree : goal.returns-clause-no_tree
 returns-clause-no_tree c = TwoForks.no_tree
+
+pub returns-clause-exhausted : goal.returns-clause-exhausted
+returns-clause-exhausted c = Exhausting.forks_exhausted
