@@ -6,9 +6,10 @@ use Rattle.and_model.specs.Solutions.{Equation, Solves, MostGeneral}
 use Rattle.and_model.specs.Programs.{clause_weight}
 use Rattle.and_model.specs.Closure.{Closes}
 use Rattle.and_model.specs.Trees.{QueryTree, query_agenda, blank, done, left, by, unfold_code}
-use Rattle.and_model.specs.Listing.{Ends, answer, Entry, Lists, Listing, answered, calls, no_more, other, light, of_query}
+use Rattle.and_model.specs.Listing.{Ends, answer, Entry, Lists, Listing, Exhausted, answered, calls, no_more, other, light, of_query}
 use Rattle.and_rows.specs.Ending.{entry}
 use Rattle.and_rows.specs.Texts.{own, whole, p, q, forks_text}
+use Rattle.and_rows.proofs.Exhausting.{settled}
 
 -- the clause 3 takes no p(X), and 1 takes no q(Y), and two calls are taken by two clauses
 pub no_tree : (unfold_code forks_text (3 ∷ []) ≡ None) × (unfold_code forks_text (1 ∷ 1 ∷ []) ≡ None) × (unfold_code forks_text (1 ∷ 3 ∷ 3 ∷ []) ≡ None)
@@ -113,3 +114,6 @@ listing limit above =
     (other start (inl tt) 3 [] (omega arith) refl
     (other start (inl tt) 4 [] (omega arith) refl
     (no_more start (inl tt) 5 (omega arith)))))))
+
+pub exhausted : Exhausted forks_text 5
+exhausted = settled forks_text 5 (e13 ∷ e14 ∷ e23 ∷ e24 ∷ []) listing

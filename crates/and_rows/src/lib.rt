@@ -7,7 +7,7 @@
 
 ghost use Rattle.std.specs.Prelude.{ℕ, ℤ, pos, negsuc, ◌≡◌, ◌<◌, ◌≤◌, ◌-◌, ◌^◌, List, [], ◌∷◌, length, Some, None, codes};
 ghost use Rattle.and_model.specs.Terms.{Path, Term, variable, number, compound, none};
-ghost use Rattle.and_model.specs.Solutions.{Equation, falsehood};
+ghost use Rattle.and_model.specs.Solutions.{Equation, Solvable, falsehood};
 ghost use Rattle.and_model.specs.Arithmetic.{value, plus, minus, times, divide, modulo, remainder, least, greatest};
 ghost use Rattle.and_model.specs.Programs.{Program, Arithmetic, clause_at, clause_weight};
 ghost use Rattle.and_model.specs.Closure.{Closes};
@@ -17,7 +17,7 @@ ghost use Rattle.and_model.specs.Lines.{Bytes};
 ghost use Rattle.and_model.specs.Listing.{Outcome, answer, floundered, Listing, Exhausted};
 ghost use Rattle.and_model.specs.Output.{OverLeft};
 ghost use Rattle.and_rows.specs.Ending.{UnfoldsTo, CodeEnds, entry};
-ghost use Rattle.and_rows.specs.Texts.{own, at, whole, unary, binary, app, nil, cell, append_text, forks_text, x_is_x, floundered_text, x_below_3, late_text, x_is_too_much, too_much, quotients, naturals, endless_text, lightest, next_lightest};
+ghost use Rattle.and_rows.specs.Texts.{own, at, whole, unary, binary, app, nil, cell, append_text, forks_text, x_is_x, floundered_text, x_below_3, late_text, not_below, circle, equal_text, x_is_too_much, too_much, quotients, naturals, endless_text, lightest, next_lightest};
 
 /// Row append-cells: `app(nil,L,L). app(c(H,T),L,c(H,R)) :- app(T,L,R). ?- app(X,Y,c(1,nil)).`
 ///
@@ -50,7 +50,7 @@ pub fn append_cells()
         (entry (1 ∷ []) (answer (codes "X = nil, Y = c(1,nil)"))
         ∷ entry (2 ∷ 1 ∷ []) (answer (codes "X = c(1,nil), Y = nil")) ∷ []) }
     ensures exhausted { Exhausted append_text 10 }
-    ensures not_over { (c : ℕ) → OverLeft append_text 14 (2 ∷ 2 ∷ []) c → ⊥ }
+    ensures not_over { (limit c : ℕ) → OverLeft append_text limit (2 ∷ 2 ∷ []) c → ⊥ }
 {}
 
 /// Row two-forks: `p(1). p(2). q(3). q(4). ?- p(X), q(Y).` The rightmost call changes fastest, and
@@ -79,11 +79,29 @@ pub fn floundered_row()
 {}
 
 /// Row late-comparison: `?- X < 3, X = 2.` The comparison is written first, and is run once X is 2.
-/// Alone it waits.
+/// Alone it waits. `?- X = 3, X < 3.` adds falsehood, and ends with nothing.
 pub fn late_comparison()
     ensures closes { Closes ((own 0, whole 2) ∷ []) (x_below_3 ∷ []) ((own 0, whole 2) ∷ []) [] }
     ensures alone { Closes [] (x_below_3 ∷ []) [] (x_below_3 ∷ []) }
     ensures ends { CodeEnds late_text [] (answer (codes "X = 2")) }
+    ensures refuted { Closes ((own 0, whole 3) ∷ []) (x_below_3 ∷ []) (falsehood ∷ (own 0, whole 3) ∷ []) [] }
+    ensures no_end { (o : Outcome) → CodeEnds not_below [] o → ⊥ }
+{}
+
+/// Row occurs-check: `?- X = f(X).` Terms are finite, and so nothing solves the equation.
+pub fn occurs_check()
+    ensures unsolved { Solvable ((own 0, unary 27 (own 0)) ∷ []) → ⊥ }
+    ensures no_end { (o : Outcome) → CodeEnds circle [] o → ⊥ }
+    ensures listing { (limit : ℕ) → Listing circle limit [] }
+{}
+
+/// Row equal-answers: `p(a). p(a). ?- p(X).` Each proof has its own entry, though their lines are
+/// the same.
+pub fn equal_answers()
+    ensures listing { (limit : ℕ) → 3 ≤ limit → Listing equal_text limit
+        (entry (1 ∷ []) (answer (codes "X = a")) ∷ entry (2 ∷ []) (answer (codes "X = a")) ∷ []) }
+    ensures exhausted { Exhausted equal_text 3 }
+    ensures too_heavy { Listing equal_text 2 [] × OverLeft equal_text 2 [] 1 × OverLeft equal_text 2 [] 2 }
 {}
 
 /// Row overflow: `?- X is 9223372036854775807 + 1.` has no value, so that falsehood is added and

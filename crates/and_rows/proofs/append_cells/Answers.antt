@@ -1,5 +1,5 @@
 use Rattle.and_rows.proofs.AppendCells
-use Rattle.and_rows.proofs.Exhausting
+use Rattle.and_rows.proofs.AppendListing
 use Rattle.and_rows.proofs.append_cells.Goals as goal
 
 pub returns-clause-weights : goal.returns-clause-weights
@@ -24,10 +24,10 @@ pub returns-clause-second_ends : goal.returns-clause-second_ends
 returns-clause-second_ends c = AppendCells.second_ends
 
 pub returns-clause-listing : goal.returns-clause-listing
-returns-clause-listing c = Exhausting.append_listing
+returns-clause-listing c = AppendListing.listing
 
 pub returns-clause-exhausted : goal.returns-clause-exhausted
-returns-clause-exhausted c = Exhausting.append_exhausted
+returns-clause-exhausted c = AppendListing.exhausted
 
 pub returns-clause-not_over : goal.returns-clause-not_over
-returns-clause-not_over c = Exhausting.append_not_over
+returns-clause-not_over c = AppendListing.not_over

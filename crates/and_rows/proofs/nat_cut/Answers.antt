@@ -1,5 +1,4 @@
 use Rattle.and_rows.proofs.NatCut
-use Rattle.and_rows.proofs.Exhausting
 use Rattle.and_rows.proofs.nat_cut.Goals as goal
 
 pub returns-clause-weights : goal.returns-clause-weights
@@ -18,4 +17,4 @@ pub returns-clause-not_exhausted : goal.returns-clause-not_exhausted
 returns-clause-not_exhausted c = NatCut.not_exhausted
 
 pub returns-clause-not_over : goal.returns-clause-not_over
-returns-clause-not_over c = Exhausting.nat_not_over
+returns-clause-not_over c = NatCut.not_over

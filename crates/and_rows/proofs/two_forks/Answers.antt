@@ -1,5 +1,4 @@
 use Rattle.and_rows.proofs.TwoForks
-use Rattle.and_rows.proofs.Exhausting
 use Rattle.and_rows.proofs.two_forks.Goals as goal
 
 pub returns-clause-listing : goal.returns-clause-listing
@@ -9,4 +8,4 @@ pub returns-clause-no_tree : goal.returns-clause-no_tree
 returns-clause-no_tree c = TwoForks.no_tree
 
 pub returns-clause-exhausted : goal.returns-clause-exhausted
-returns-clause-exhausted c = Exhausting.forks_exhausted
+returns-clause-exhausted c = TwoForks.exhausted
