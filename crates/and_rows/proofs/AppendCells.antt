@@ -5,7 +5,7 @@ use Rattle.and_model.specs.Terms.{Path, variable, Substitution, apply}
 use Rattle.and_model.specs.Solutions.{Solves, MostGeneral}
 use Rattle.and_model.specs.Programs.{clause_at, clause_weight}
 use Rattle.and_model.specs.Closure.{Closes}
-use Rattle.and_model.specs.Trees.{QueryTree, query_agenda, blank, done, left, by, Open, call_of, equations, unfold_code}
+use Rattle.and_model.specs.Trees.{QueryTree, done, left, by, Open, call_of, equations, unfold_code}
 use Rattle.and_model.specs.Listing.{Ends, answer}
 use Rattle.and_rows.specs.Ending.{UnfoldsTo, CodeEnds}
 use Rattle.and_rows.specs.Texts.{own, at, whole, app, nil, cell, append_text}
@@ -14,9 +14,6 @@ use Rattle.and_rows.specs.Texts.{own, at, whole, app, nil, cell, append_text}
 pub weights : (clause_weight (clause_at append_text 1) ≡ 2) × (clause_weight (clause_at append_text 2) ≡ 5) × (clause_weight append_text.query ≡ 3)
 unfolding clause_weight
 weights = (refl, refl, refl)
-
-abbrev start : QueryTree append_text
-start = blank (query_agenda append_text)
 
 abbrev pub first_tree : QueryTree append_text
 first_tree = by 1 refl done

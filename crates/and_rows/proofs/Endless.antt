@@ -3,7 +3,7 @@ use Rattle.std.proofs.Common.{ℕ, zero, suc, [], ◌∷◌, ◌++◌, refl, sym
 use Rattle.and_model.specs.Terms.{Path, Term, compound, none, Substitution, framed}
 use Rattle.and_model.specs.Programs.{clause_weight}
 use Rattle.and_model.specs.Closure.{Closes}
-use Rattle.and_model.specs.Trees.{Tree, QueryTree, query_agenda, blank, goal, end, done, left, by, equations, IsWhole}
+use Rattle.and_model.specs.Trees.{Tree, QueryTree, goal, end, done, left, by, equations, IsWhole}
 use Rattle.and_model.specs.Listing.{Listing, Exhausted}
 use Rattle.and_model.specs.Output.{OverLeft}
 use Rattle.and_laws.specs.CodeOrder.{Before}
@@ -13,9 +13,6 @@ use Rattle.and_laws.proofs.Ordered.{contains_none}
 use Rattle.and_laws.proofs.Pairwise.{all_pairs_none}
 use Rattle.and_rows.specs.Texts.{own, loop, endless_text}
 use Rattle.and_rows.proofs.Exhausting.{settled}
-
-abbrev start : QueryTree endless_text
-start = blank (query_agenda endless_text)
 
 -- once around
 abbrev once : QueryTree endless_text
