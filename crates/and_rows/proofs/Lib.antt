@@ -10,3 +10,4 @@ pub mod Values
 pub mod NatCut
 pub mod Endless
 pub mod Readings
+pub mod Written

@@ -5,7 +5,7 @@
 //! one.
 #![tactic(auto)]
 
-ghost use Rattle.std.specs.Prelude.{ℕ, ℤ, pos, negsuc, ◌≡◌, ◌<◌, ◌≤◌, ◌-◌, ◌^◌, List, [], ◌∷◌, length, Some, None, codes};
+ghost use Rattle.std.specs.Prelude.{ℕ, ℤ, pos, negsuc, ◌≡◌, ◌<◌, ◌≤◌, ◌-◌, ◌^◌, List, [], ◌∷◌, ◌++◌, length, Some, None, codes};
 ghost use Rattle.and_model.specs.Terms.{Path, Term, variable, number, compound, none};
 ghost use Rattle.and_model.specs.Solutions.{Equation, Solvable, falsehood};
 ghost use Rattle.and_model.specs.Arithmetic.{value, plus, minus, times, divide, modulo, remainder, least, greatest};
@@ -15,7 +15,7 @@ ghost use Rattle.and_model.specs.Candidates.{Candidate};
 ghost use Rattle.and_model.specs.Trees.{QueryTree, Open, call_of, unfold_code, weight};
 ghost use Rattle.and_model.specs.Lines.{Bytes};
 ghost use Rattle.and_model.specs.Listing.{Outcome, answer, floundered, Listing, Exhausted};
-ghost use Rattle.and_model.specs.Output.{OverLeft};
+ghost use Rattle.and_model.specs.Output.{limit_met, complete, complete_with, counted, last_lines, Output, OverLeft};
 ghost use Rattle.and_rows.specs.Ending.{UnfoldsTo, CodeEnds, entry};
 ghost use Rattle.and_rows.specs.Texts.{own, at, whole, unary, binary, app, nil, cell, append_text, forks_text, x_is_x, floundered_text, x_below_3, late_text, not_below, circle, equal_text, x_is_too_much, too_much, quotients, naturals, endless_text, lightest, next_lightest};
 
@@ -178,6 +178,20 @@ pub fn endless_loop()
     ensures listing { (limit : ℕ) → Listing endless_text limit [] }
     ensures exhausted { (limit : ℕ) → Exhausted endless_text limit }
     ensures over { OverLeft endless_text 4 (1 ∷ []) 1 }
+{}
+
+/// What is written: each answer on a line of its own, and then how the run ended, with the numbers of
+/// forks and of failures where these are told. A count stays at the largest number of 64 bits.
+pub fn written_lines()
+    ensures limit_met { Output naturals 6 limit_met
+        (codes "X = z" ++ 10 ∷ codes "X = s(z)" ++ 10 ∷ codes "% limit met" ++ 10 ∷ []) }
+    ensures complete { Output equal_text 3 complete
+        (codes "X = a" ++ 10 ∷ codes "X = a" ++ 10 ∷ codes "% complete" ++ 10 ∷ []) }
+    ensures nothing { Output circle 262144 complete (codes "% complete" ++ 10 ∷ []) }
+    ensures numbers { last_lines (complete_with 15 44)
+        ≡ codes "% complete" ++ 10 ∷ codes "% forks 15 failed 44" ++ 10 ∷ [] }
+    ensures counts { (counted (2 ^ 64 - 1) ≡ codes "18446744073709551615")
+        × (counted (2 ^ 64) ≡ codes "18446744073709551615") × (counted 0 ≡ codes "0") }
 {}
 
 /// Readings that do not hold. Clause 0 is the query, which takes no call, and a number past the
