@@ -1,13 +1,13 @@
 -- Row append-cells: app(nil,L,L). app(c(H,T),L,c(H,R)) :- app(T,L,R). ?- app(X,Y,c(1,nil)).
-use Rattle.std.proofs.Common.{ℕ, zero, suc, ◌≡◌, [], ◌∷◌, refl, inl, arith, Some, None, codes}
+use Rattle.std.proofs.Common.{ℕ, zero, suc, ◌≡◌, [], ◌∷◌, refl, inl, Some, None, codes}
 use Rattle.std.specs.Fmt.{digits}
 use Rattle.and_model.specs.Terms.{Path, variable, Substitution, apply}
 use Rattle.and_model.specs.Solutions.{Solves, MostGeneral}
 use Rattle.and_model.specs.Programs.{clause_at, clause_weight}
 use Rattle.and_model.specs.Closure.{Closes}
-use Rattle.and_model.specs.Trees.{QueryTree, query_agenda, blank, done, left, by, Open, call_of, equations, unfold_code}
-use Rattle.and_model.specs.Listing.{Ends, answer, Entry, Lists, Listing, answered, calls, no_more, heavy, light, of_query}
-use Rattle.and_rows.specs.Ending.{UnfoldsTo, CodeEnds, entry}
+use Rattle.and_model.specs.Trees.{QueryTree, done, left, by, Open, call_of, equations, unfold_code}
+use Rattle.and_model.specs.Listing.{Ends, answer}
+use Rattle.and_rows.specs.Ending.{UnfoldsTo, CodeEnds}
 use Rattle.and_rows.specs.Texts.{own, at, whole, app, nil, cell, append_text}
 
 -- 1 and L; 1 and H, T, L, R; 1 and X, Y
@@ -15,16 +15,13 @@ pub weights : (clause_weight (clause_at append_text 1) ≡ 2) × (clause_weight 
 unfolding clause_weight
 weights = (refl, refl, refl)
 
-abbrev start : QueryTree append_text
-start = blank (query_agenda append_text)
-
-abbrev first_tree : QueryTree append_text
+abbrev pub first_tree : QueryTree append_text
 first_tree = by 1 refl done
 
 abbrev open_tree : QueryTree append_text
 open_tree = by 2 refl (left done)
 
-abbrev second_tree : QueryTree append_text
+abbrev pub second_tree : QueryTree append_text
 second_tree = by 2 refl (by 1 refl done)
 
 -- 3 + 2
@@ -101,11 +98,11 @@ second_general = ((refl, (refl, tt)), through)
     through t h (zero ∷ suc j ∷ r) k = refl
     through t h (suc i ∷ r) k = refl
 
-first_end : Ends first_tree (answer (codes "X = nil, Y = c(1,nil)"))
+pub first_end : Ends first_tree (answer (codes "X = nil, Y = c(1,nil)"))
 unfolding digits
 first_end = (tt, equations first_tree, [], Closes.waiting (equations first_tree) [] tt, first_answer, first_general, refl)
 
-second_end : Ends second_tree (answer (codes "X = c(1,nil), Y = nil"))
+pub second_end : Ends second_tree (answer (codes "X = c(1,nil), Y = nil"))
 unfolding digits
 second_end = (tt, equations second_tree, [], Closes.waiting (equations second_tree) [] tt, second_answer, second_general, refl)
 
@@ -114,20 +111,3 @@ first_ends = (first_tree, refl, first_end)
 
 pub second_ends : CodeEnds append_text (2 ∷ 1 ∷ []) (answer (codes "X = c(1,nil), Y = nil"))
 second_ends = (second_tree, refl, second_end)
-
--- [2, 2] weighs 13.
-pub listing : Listing append_text 10 (entry (1 ∷ []) (answer (codes "X = nil, Y = c(1,nil)")) ∷ entry (2 ∷ 1 ∷ []) (answer (codes "X = c(1,nil), Y = nil")) ∷ [])
-unfolding clause_weight
-listing =
-    let one : Entry = entry (1 ∷ []) (answer (codes "X = nil, Y = c(1,nil)")) in
-    let two : Entry = entry (2 ∷ 1 ∷ []) (answer (codes "X = c(1,nil), Y = nil")) in
-    let second_found : Lists append_text 10 open_tree (two ∷ []) =
-    calls open_tree (inl tt) (two ∷ []) tt
-    (light open_tree (inl tt) 1 (two ∷ []) [] refl (omega arith) (answered second_tree (answer (codes "X = c(1,nil), Y = nil")) second_end)
-    (heavy open_tree (inl tt) 2 [] refl (omega arith)
-    (no_more open_tree (inl tt) 3 (omega arith)))) in
-    of_query (one ∷ two ∷ []) (omega arith)
-    (calls start (inl tt) (one ∷ two ∷ []) tt
-    (light start (inl tt) 1 (one ∷ []) (two ∷ []) refl (omega arith) (answered first_tree (answer (codes "X = nil, Y = c(1,nil)")) first_end)
-    (light start (inl tt) 2 (two ∷ []) [] refl (omega arith) second_found
-    (no_more start (inl tt) 3 (omega arith)))))

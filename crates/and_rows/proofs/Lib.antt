@@ -1,7 +1,13 @@
+pub mod Exhausting
 pub mod AppendCells
+pub mod AppendListing
 pub mod TwoForks
+pub mod EqualAnswers
 pub mod Waiting
+pub mod Running
+pub mod Circle
 pub mod Values
 pub mod NatCut
 pub mod Endless
 pub mod Readings
+pub mod Written

@@ -1,5 +1,5 @@
 -- Row nat-cut: nat(z). nat(s(N)) :- nat(N). ?- nat(X).
-use Rattle.std.proofs.Common.{ℕ, zero, suc, ◌≡◌, ◌-◌, [], ◌∷◌, refl, inl, inr, arith, Some, codes, length}
+use Rattle.std.proofs.Common.{ℕ, zero, suc, ◌≡◌, ◌-◌, [], ◌∷◌, refl, ap, inl, inr, arith, Some, codes, length}
 use Rattle.std.specs.Fmt.{digits}
 use Rattle.and_model.specs.Terms.{Path, Term, variable, Substitution, apply}
 use Rattle.and_model.specs.Solutions.{Solves, MostGeneral}
@@ -19,7 +19,7 @@ at_least_0 = blank (query_agenda naturals)
 abbrev at_least_1 : QueryTree naturals
 at_least_1 = by 2 refl (left done)
 
-abbrev at_least_2 : QueryTree naturals
+abbrev pub at_least_2 : QueryTree naturals
 at_least_2 = by 2 refl (by 2 refl (left done))
 
 -- and the proofs
@@ -177,3 +177,12 @@ pub not_exhausted : Exhausted naturals 6 → ⊥
 not_exhausted e =
     let same = one_listing naturals 6 (entry_0 ∷ entry_1 ∷ entry_2 ∷ []) (entry_0 ∷ entry_1 ∷ []) ((e 7 (omega arith) (entry_0 ∷ entry_1 ∷ entry_2 ∷ [])).0 third) listing in
     cc
+
+-- Within the limit 7 the code [2, 2] takes the first clause.
+pub not_over : OverLeft naturals 7 (2 ∷ 2 ∷ []) 1 → ⊥
+unfolding clause_weight
+not_over (inl (empty, rest, more)) = cc
+not_over (inr (t, is, fits, es, gs, closed, solved, o, leftmost, of, heavier)) =
+    let same : t ≡ at_least_2 = cc in
+    let weighs : weight t ≡ 6 = ap weight same in
+    omega arith

@@ -1,14 +1,15 @@
 -- Row two-forks: p(1). p(2). q(3). q(4). ?- p(X), q(Y).
-use Rattle.std.proofs.Common.{ℕ, zero, suc, ◌≡◌, List, [], ◌∷◌, refl, inl, arith, None, codes}
+use Rattle.std.proofs.Common.{ℕ, zero, suc, ◌≡◌, ◌≤◌, List, [], ◌∷◌, refl, inl, arith, None, codes}
 use Rattle.std.specs.Fmt.{digits}
 use Rattle.and_model.specs.Terms.{Path, variable, Substitution, apply}
 use Rattle.and_model.specs.Solutions.{Equation, Solves, MostGeneral}
 use Rattle.and_model.specs.Programs.{clause_weight}
 use Rattle.and_model.specs.Closure.{Closes}
 use Rattle.and_model.specs.Trees.{QueryTree, query_agenda, blank, done, left, by, unfold_code}
-use Rattle.and_model.specs.Listing.{Ends, answer, Entry, Lists, Listing, answered, calls, no_more, other, light, of_query}
+use Rattle.and_model.specs.Listing.{Ends, answer, Entry, Lists, Listing, Exhausted, answered, calls, no_more, other, light, of_query}
 use Rattle.and_rows.specs.Ending.{entry}
 use Rattle.and_rows.specs.Texts.{own, whole, p, q, forks_text}
+use Rattle.and_rows.proofs.Exhausting.{settled}
 
 -- the clause 3 takes no p(X), and 1 takes no q(Y), and two calls are taken by two clauses
 pub no_tree : (unfold_code forks_text (3 ∷ []) ≡ None) × (unfold_code forks_text (1 ∷ 1 ∷ []) ≡ None) × (unfold_code forks_text (1 ∷ 3 ∷ 3 ∷ []) ≡ None)
@@ -70,22 +71,22 @@ ends_24 : Ends two_four (answer (codes "X = 2, Y = 4"))
 unfolding digits
 ends_24 = (tt, two 2 4, [], Closes.waiting (two 2 4) [] tt, both 2 4, general 2 4, refl)
 
-abbrev e13 : Entry
+abbrev pub e13 : Entry
 e13 = entry (1 ∷ 3 ∷ []) (answer (codes "X = 1, Y = 3"))
 
-abbrev e14 : Entry
+abbrev pub e14 : Entry
 e14 = entry (1 ∷ 4 ∷ []) (answer (codes "X = 1, Y = 4"))
 
-abbrev e23 : Entry
+abbrev pub e23 : Entry
 e23 = entry (2 ∷ 3 ∷ []) (answer (codes "X = 2, Y = 3"))
 
-abbrev e24 : Entry
+abbrev pub e24 : Entry
 e24 = entry (2 ∷ 4 ∷ []) (answer (codes "X = 2, Y = 4"))
 
 -- the query weighs 3, and each fact 1
-by_one : Lists forks_text 262144 one (e13 ∷ e14 ∷ [])
+by_one : (limit : ℕ) → 5 ≤ limit → Lists forks_text limit one (e13 ∷ e14 ∷ [])
 unfolding clause_weight
-by_one =
+by_one limit above =
     calls one (inl tt) (e13 ∷ e14 ∷ []) tt
     (other one (inl tt) 1 (e13 ∷ e14 ∷ []) (omega arith) refl
     (other one (inl tt) 2 (e13 ∷ e14 ∷ []) (omega arith) refl
@@ -93,9 +94,9 @@ by_one =
     (light one (inl tt) 4 (e14 ∷ []) [] refl (omega arith) (answered one_four (answer (codes "X = 1, Y = 4")) ends_14)
     (no_more one (inl tt) 5 (omega arith))))))
 
-by_two : Lists forks_text 262144 other_one (e23 ∷ e24 ∷ [])
+by_two : (limit : ℕ) → 5 ≤ limit → Lists forks_text limit other_one (e23 ∷ e24 ∷ [])
 unfolding clause_weight
-by_two =
+by_two limit above =
     calls other_one (inl tt) (e23 ∷ e24 ∷ []) tt
     (other other_one (inl tt) 1 (e23 ∷ e24 ∷ []) (omega arith) refl
     (other other_one (inl tt) 2 (e23 ∷ e24 ∷ []) (omega arith) refl
@@ -103,13 +104,16 @@ by_two =
     (light other_one (inl tt) 4 (e24 ∷ []) [] refl (omega arith) (answered two_four (answer (codes "X = 2, Y = 4")) ends_24)
     (no_more other_one (inl tt) 5 (omega arith))))))
 
-pub listing : Listing forks_text 262144 (e13 ∷ e14 ∷ e23 ∷ e24 ∷ [])
+pub listing : (limit : ℕ) → 5 ≤ limit → Listing forks_text limit (e13 ∷ e14 ∷ e23 ∷ e24 ∷ [])
 unfolding clause_weight
-listing =
+listing limit above =
     of_query (e13 ∷ e14 ∷ e23 ∷ e24 ∷ []) (omega arith)
     (calls start (inl tt) (e13 ∷ e14 ∷ e23 ∷ e24 ∷ []) tt
-    (light start (inl tt) 1 (e13 ∷ e14 ∷ []) (e23 ∷ e24 ∷ []) refl (omega arith) by_one
-    (light start (inl tt) 2 (e23 ∷ e24 ∷ []) [] refl (omega arith) by_two
+    (light start (inl tt) 1 (e13 ∷ e14 ∷ []) (e23 ∷ e24 ∷ []) refl (omega arith) (by_one limit above)
+    (light start (inl tt) 2 (e23 ∷ e24 ∷ []) [] refl (omega arith) (by_two limit above)
     (other start (inl tt) 3 [] (omega arith) refl
     (other start (inl tt) 4 [] (omega arith) refl
     (no_more start (inl tt) 5 (omega arith)))))))
+
+pub exhausted : Exhausted forks_text 5
+exhausted = settled forks_text 5 (e13 ∷ e14 ∷ e23 ∷ e24 ∷ []) listing

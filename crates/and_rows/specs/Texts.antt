@@ -84,6 +84,26 @@ x_below_3 = compare less (own 0) (whole 3)
 abbrev pub late_text : Program
 late_text = query_of (arithmetic x_below_3 ∷ equal (own 0) (whole 2) ∷ []) (codes "X" ∷ [])
 
+-- ---- ?- X = 3, X < 3.
+abbrev pub not_below : Program
+not_below = query_of (equal (own 0) (whole 3) ∷ arithmetic x_below_3 ∷ []) (codes "X" ∷ [])
+
+-- ---- occurs-check: ?- X = f(X).
+abbrev pub circle : Program
+circle = record {
+  clauses = [];
+  query = asks (equal (own 0) (unary 27 (own 0)) ∷ []) (codes "X" ∷ []);
+  names = builtin_names ++ codes "f" ∷ [];
+}
+
+-- ---- equal-answers: p(a). p(a). ?- p(X).
+abbrev pub equal_text : Program
+equal_text = record {
+  clauses = fact (p (compound 28 none)) ∷ fact (p (compound 28 none)) ∷ [];
+  query = asks (call (p (own 0)) ∷ []) (codes "X" ∷ []);
+  names = builtin_names ++ codes "p" ∷ codes "a" ∷ [];
+}
+
 -- ---- overflow: ?- X is 9223372036854775807 + 1.
 abbrev pub x_is_too_much : Arithmetic
 x_is_too_much = is (own 0) (binary plus (whole (2 ^ 63 - 1)) (whole 1))

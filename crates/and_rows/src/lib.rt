@@ -5,9 +5,9 @@
 //! one.
 #![tactic(auto)]
 
-ghost use Rattle.std.specs.Prelude.{ℕ, ℤ, pos, negsuc, ◌≡◌, ◌<◌, ◌-◌, ◌^◌, List, [], ◌∷◌, length, Some, None, codes};
+ghost use Rattle.std.specs.Prelude.{ℕ, ℤ, pos, negsuc, ◌≡◌, ◌<◌, ◌≤◌, ◌-◌, ◌^◌, List, [], ◌∷◌, ◌++◌, length, Some, None, codes};
 ghost use Rattle.and_model.specs.Terms.{Path, Term, variable, number, compound, none};
-ghost use Rattle.and_model.specs.Solutions.{Equation, falsehood};
+ghost use Rattle.and_model.specs.Solutions.{Equation, Solvable, falsehood};
 ghost use Rattle.and_model.specs.Arithmetic.{value, plus, minus, times, divide, modulo, remainder, least, greatest};
 ghost use Rattle.and_model.specs.Programs.{Program, Arithmetic, clause_at, clause_weight};
 ghost use Rattle.and_model.specs.Closure.{Closes};
@@ -15,14 +15,16 @@ ghost use Rattle.and_model.specs.Candidates.{Candidate};
 ghost use Rattle.and_model.specs.Trees.{QueryTree, Open, call_of, unfold_code, weight};
 ghost use Rattle.and_model.specs.Lines.{Bytes};
 ghost use Rattle.and_model.specs.Listing.{Outcome, answer, floundered, Listing, Exhausted};
-ghost use Rattle.and_model.specs.Output.{OverLeft};
+ghost use Rattle.and_model.specs.Output.{limit_met, complete, complete_with, counted, last_lines, Output, OverLeft};
 ghost use Rattle.and_rows.specs.Ending.{UnfoldsTo, CodeEnds, entry};
-ghost use Rattle.and_rows.specs.Texts.{own, at, whole, unary, binary, app, nil, cell, append_text, forks_text, x_is_x, floundered_text, x_below_3, late_text, x_is_too_much, too_much, quotients, naturals, endless_text, lightest, next_lightest};
+ghost use Rattle.and_rows.specs.Texts.{own, at, whole, unary, binary, app, nil, cell, append_text, forks_text, x_is_x, floundered_text, x_below_3, late_text, not_below, circle, equal_text, x_is_too_much, too_much, quotients, naturals, endless_text, lightest, next_lightest};
 
 /// Row append-cells: `app(nil,L,L). app(c(H,T),L,c(H,R)) :- app(T,L,R). ?- app(X,Y,c(1,nil)).`
 ///
 /// A clause weighs 1 and 1 for each of its variables, and so does the query. Code `[2]` leaves the
-/// call of the second clause open; the first clause has no call, so nothing follows it.
+/// call of the second clause open; the first clause has no call, so nothing follows it. The
+/// heavier of the two proofs weighs 10, so each limit from 10 on lists both. Code `[2, 2]` is
+/// never left over, heavy as it is, since its equations have no solution.
 pub fn append_cells()
     ensures weights { (clause_weight (clause_at append_text 1) ≡ 2)
         × (clause_weight (clause_at append_text 2) ≡ 5)
@@ -44,19 +46,22 @@ pub fn append_cells()
         × (unfold_code append_text (3 ∷ []) ≡ None) }
     ensures first_ends { CodeEnds append_text (1 ∷ []) (answer (codes "X = nil, Y = c(1,nil)")) }
     ensures second_ends { CodeEnds append_text (2 ∷ 1 ∷ []) (answer (codes "X = c(1,nil), Y = nil")) }
-    ensures listing { Listing append_text 10
+    ensures listing { (limit : ℕ) → 10 ≤ limit → Listing append_text limit
         (entry (1 ∷ []) (answer (codes "X = nil, Y = c(1,nil)"))
         ∷ entry (2 ∷ 1 ∷ []) (answer (codes "X = c(1,nil), Y = nil")) ∷ []) }
+    ensures exhausted { Exhausted append_text 10 }
+    ensures not_over { (limit c : ℕ) → OverLeft append_text limit (2 ∷ 2 ∷ []) c → ⊥ }
 {}
 
 /// Row two-forks: `p(1). p(2). q(3). q(4). ?- p(X), q(Y).` The rightmost call changes fastest, and
-/// a clause of another predicate takes no call.
+/// a clause of another predicate takes no call. The query weighs 3 and each proof 5.
 pub fn two_forks()
-    ensures listing { Listing forks_text 262144
+    ensures listing { (limit : ℕ) → 5 ≤ limit → Listing forks_text limit
         (entry (1 ∷ 3 ∷ []) (answer (codes "X = 1, Y = 3"))
         ∷ entry (1 ∷ 4 ∷ []) (answer (codes "X = 1, Y = 4"))
         ∷ entry (2 ∷ 3 ∷ []) (answer (codes "X = 2, Y = 3"))
         ∷ entry (2 ∷ 4 ∷ []) (answer (codes "X = 2, Y = 4")) ∷ []) }
+    ensures exhausted { Exhausted forks_text 5 }
     ensures no_tree { (unfold_code forks_text (3 ∷ []) ≡ None)
         × (unfold_code forks_text (1 ∷ 1 ∷ []) ≡ None)
         × (unfold_code forks_text (1 ∷ 3 ∷ 3 ∷ []) ≡ None) }
@@ -74,11 +79,29 @@ pub fn floundered_row()
 {}
 
 /// Row late-comparison: `?- X < 3, X = 2.` The comparison is written first, and is run once X is 2.
-/// Alone it waits.
+/// Alone it waits. `?- X = 3, X < 3.` adds falsehood, and ends with nothing.
 pub fn late_comparison()
     ensures closes { Closes ((own 0, whole 2) ∷ []) (x_below_3 ∷ []) ((own 0, whole 2) ∷ []) [] }
     ensures alone { Closes [] (x_below_3 ∷ []) [] (x_below_3 ∷ []) }
     ensures ends { CodeEnds late_text [] (answer (codes "X = 2")) }
+    ensures refuted { Closes ((own 0, whole 3) ∷ []) (x_below_3 ∷ []) (falsehood ∷ (own 0, whole 3) ∷ []) [] }
+    ensures no_end { (o : Outcome) → CodeEnds not_below [] o → ⊥ }
+{}
+
+/// Row occurs-check: `?- X = f(X).` Terms are finite, and so nothing solves the equation.
+pub fn occurs_check()
+    ensures unsolved { Solvable ((own 0, unary 27 (own 0)) ∷ []) → ⊥ }
+    ensures no_end { (o : Outcome) → CodeEnds circle [] o → ⊥ }
+    ensures listing { (limit : ℕ) → Listing circle limit [] }
+{}
+
+/// Row equal-answers: `p(a). p(a). ?- p(X).` Each proof has its own entry, though their lines are
+/// the same.
+pub fn equal_answers()
+    ensures listing { (limit : ℕ) → 3 ≤ limit → Listing equal_text limit
+        (entry (1 ∷ []) (answer (codes "X = a")) ∷ entry (2 ∷ []) (answer (codes "X = a")) ∷ []) }
+    ensures exhausted { Exhausted equal_text 3 }
+    ensures too_heavy { Listing equal_text 2 [] × OverLeft equal_text 2 [] 1 × OverLeft equal_text 2 [] 2 }
 {}
 
 /// Row overflow: `?- X is 9223372036854775807 + 1.` has no value, so that falsehood is added and
@@ -141,6 +164,7 @@ pub fn nat_cut()
     ensures listing { Listing naturals 6
         (entry (1 ∷ []) (answer (codes "X = z")) ∷ entry (2 ∷ 1 ∷ []) (answer (codes "X = s(z)")) ∷ []) }
     ensures over { OverLeft naturals 6 (2 ∷ 2 ∷ []) 1 }
+    ensures not_over { OverLeft naturals 7 (2 ∷ 2 ∷ []) 1 → ⊥ }
     ensures third { Listing naturals 7
         (entry (1 ∷ []) (answer (codes "X = z")) ∷ entry (2 ∷ 1 ∷ []) (answer (codes "X = s(z)"))
         ∷ entry (2 ∷ 2 ∷ 1 ∷ []) (answer (codes "X = s(s(z))")) ∷ []) }
@@ -148,10 +172,26 @@ pub fn nat_cut()
 {}
 
 /// Row endless-loop: `loop(X) :- loop(X). ?- loop(a).` The query weighs 1 and the clause 2. With the
-/// limit 4 nothing is listed, and the code `[1]`, of weight 3, leaves over what weighs 5.
+/// limit 4 the code `[1]`, of weight 3, leaves over what weighs 5. Yet no limit lists anything: what
+/// is left over need not lead to an answer.
 pub fn endless_loop()
-    ensures listing { Listing endless_text 4 [] }
+    ensures listing { (limit : ℕ) → Listing endless_text limit [] }
+    ensures exhausted { (limit : ℕ) → Exhausted endless_text limit }
     ensures over { OverLeft endless_text 4 (1 ∷ []) 1 }
+{}
+
+/// What is written: each answer on a line of its own, and then how the run ended, with the numbers of
+/// forks and of failures where these are told. A count stays at the largest number of 64 bits.
+pub fn written_lines()
+    ensures limit_met { Output naturals 6 limit_met
+        (codes "X = z" ++ 10 ∷ codes "X = s(z)" ++ 10 ∷ codes "% limit met" ++ 10 ∷ []) }
+    ensures complete { Output equal_text 3 complete
+        (codes "X = a" ++ 10 ∷ codes "X = a" ++ 10 ∷ codes "% complete" ++ 10 ∷ []) }
+    ensures nothing { Output circle 262144 complete (codes "% complete" ++ 10 ∷ []) }
+    ensures numbers { last_lines (complete_with 15 44)
+        ≡ codes "% complete" ++ 10 ∷ codes "% forks 15 failed 44" ++ 10 ∷ [] }
+    ensures counts { (counted (2 ^ 64 - 1) ≡ codes "18446744073709551615")
+        × (counted (2 ^ 64) ≡ codes "18446744073709551615") × (counted 0 ≡ codes "0") }
 {}
 
 /// Readings that do not hold. Clause 0 is the query, which takes no call, and a number past the

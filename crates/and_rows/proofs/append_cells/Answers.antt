@@ -1,4 +1,5 @@
 use Rattle.and_rows.proofs.AppendCells
+use Rattle.and_rows.proofs.AppendListing
 use Rattle.and_rows.proofs.append_cells.Goals as goal
 
 pub returns-clause-weights : goal.returns-clause-weights
@@ -23,4 +24,10 @@ pub returns-clause-second_ends : goal.returns-clause-second_ends
 returns-clause-second_ends c = AppendCells.second_ends
 
 pub returns-clause-listing : goal.returns-clause-listing
-returns-clause-listing c = AppendCells.listing
+returns-clause-listing c = AppendListing.listing
+
+pub returns-clause-exhausted : goal.returns-clause-exhausted
+returns-clause-exhausted c = AppendListing.exhausted
+
+pub returns-clause-not_over : goal.returns-clause-not_over
+returns-clause-not_over c = AppendListing.not_over

@@ -6,3 +6,6 @@ returns-clause-listing c = Endless.listing
 
 pub returns-clause-over : goal.returns-clause-over
 returns-clause-over c = Endless.over
+
+pub returns-clause-exhausted : goal.returns-clause-exhausted
+returns-clause-exhausted c = Endless.exhausted

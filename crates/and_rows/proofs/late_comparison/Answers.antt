@@ -9,3 +9,9 @@ returns-clause-alone c = Waiting.late_alone
 
 pub returns-clause-ends : goal.returns-clause-ends
 returns-clause-ends c = Waiting.late_ends
+
+pub returns-clause-refuted : goal.returns-clause-refuted
+returns-clause-refuted c = Waiting.refuted_closes
+
+pub returns-clause-no_end : goal.returns-clause-no_end
+returns-clause-no_end c = Waiting.not_below_no_end

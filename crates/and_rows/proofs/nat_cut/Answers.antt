@@ -15,3 +15,6 @@ returns-clause-third c = NatCut.third
 
 pub returns-clause-not_exhausted : goal.returns-clause-not_exhausted
 returns-clause-not_exhausted c = NatCut.not_exhausted
+
+pub returns-clause-not_over : goal.returns-clause-not_over
+returns-clause-not_over c = NatCut.not_over

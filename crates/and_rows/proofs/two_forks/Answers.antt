@@ -6,3 +6,6 @@ returns-clause-listing c = TwoForks.listing
 
 pub returns-clause-no_tree : goal.returns-clause-no_tree
 returns-clause-no_tree c = TwoForks.no_tree
+
+pub returns-clause-exhausted : goal.returns-clause-exhausted
+returns-clause-exhausted c = TwoForks.exhausted

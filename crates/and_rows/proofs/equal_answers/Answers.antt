@@ -1,0 +1,11 @@
+use Rattle.and_rows.proofs.EqualAnswers
+use Rattle.and_rows.proofs.equal_answers.Goals as goal
+
+pub returns-clause-listing : goal.returns-clause-listing
+returns-clause-listing c = EqualAnswers.listing
+
+pub returns-clause-exhausted : goal.returns-clause-exhausted
+returns-clause-exhausted c = EqualAnswers.exhausted
+
+pub returns-clause-too_heavy : goal.returns-clause-too_heavy
+returns-clause-too_heavy c = EqualAnswers.too_heavy
