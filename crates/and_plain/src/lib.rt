@@ -1,0 +1,12 @@
+//! The definitions, computed: a plain and slow program for small inputs, a reference that the
+//! engine's answers can be held against.
+//!
+//! Each contract here is a definition of `and_model`, read through the views of `specs/Views.antt`.
+#![tactic(auto)]
+
+pub mod arithmetic;
+pub mod data;
+pub mod framing;
+
+pub use arithmetic::{holds, value};
+pub use data::{Agenda, Clause, Equation, Item, Program, Reckoning, Term, Terms};
