@@ -93,3 +93,16 @@ pub enum Agenda {
         rest: Box<Agenda>,
     },
 }
+
+/// What an unfolding comes to.
+#[derive(Drop)]
+pub struct Unfolding {
+    /// Each taken call with the head that took it, and the equations of the bodies.
+    pub equations: Vec<Equation>,
+    /// The arithmetic goals, in preorder.
+    pub goals: Vec<Reckoning>,
+    /// What it weighs, or `u64::MAX` where it weighs more.
+    pub weight: u64,
+    /// Whether no call is left.
+    pub is_whole: bool,
+}

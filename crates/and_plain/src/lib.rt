@@ -5,8 +5,12 @@
 #![tactic(auto)]
 
 pub mod arithmetic;
+pub mod candidates;
 pub mod data;
 pub mod framing;
+pub mod unfolding;
 
 pub use arithmetic::{holds, value};
-pub use data::{Agenda, Clause, Equation, Item, Program, Reckoning, Term, Terms};
+pub use candidates::{clause_at, clause_weight, is_of};
+pub use data::{Agenda, Clause, Equation, Item, Program, Reckoning, Term, Terms, Unfolding};
+pub use unfolding::unfold;
