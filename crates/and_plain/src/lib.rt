@@ -1,0 +1,16 @@
+//! The definitions, computed: a plain and slow program for small inputs, a reference that the
+//! engine's answers can be held against.
+//!
+//! Each contract here is a definition of `and_model`, read through the views of `specs/Views.antt`.
+#![tactic(auto)]
+
+pub mod arithmetic;
+pub mod candidates;
+pub mod data;
+pub mod framing;
+pub mod unfolding;
+
+pub use arithmetic::{holds, value};
+pub use candidates::{clause_at, clause_weight, is_of};
+pub use data::{Agenda, Clause, Equation, Item, Program, Reckoning, Term, Terms, Unfolding};
+pub use unfolding::unfold;
