@@ -1,5 +1,5 @@
 -- Numbers of 64 bits, and remainders of quotients that are rounded down.
-use Rattle.std.proofs.Common.{◌≡◌, ℕ, zero, suc, ◌+◌, ◌-◌, ◌*◌, ◌/◌, ◌%◌, ◌<◌, ◌≤◌, ◌^◌, ℤ, pos, negsuc, ◌+ℤ◌, ◌-ℤ◌, ◌*ℤ◌, neg_ℤ, int_le, FitsSigned, w64, Bool, true, false, leb, Option, Some, None, SomeIff, refl, sym, ap, ◌∙◌, arith, nat_eq, int_lt, if◌then◌else◌, ◌⊎◌, inl, inr, to_z, of_z}
+use Rattle.std.proofs.Common.{◌≡◌, ℕ, zero, suc, ◌-◌, ◌%◌, ◌<◌, ◌^◌, ℤ, pos, negsuc, ◌+ℤ◌, ◌-ℤ◌, ◌*ℤ◌, FitsSigned, w64, true, false, Option, Some, None, SomeIff, refl, sym, ap, ◌∙◌, arith, nat_eq, int_lt, if◌then◌else◌, ◌⊎◌, inl, inr, to_z, of_z}
 use Rattle.std.specs.Int.{int_rem_euclid}
 use Rattle.std.proofs.lemmas.Bool.{le-leb, cases_lt}
 use Rattle.std.proofs.lemmas.Bool.Decides.{leb_tells, nat_tests}

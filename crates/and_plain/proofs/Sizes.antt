@@ -1,5 +1,5 @@
 -- How much is to be done, at most.
-use Rattle.std.proofs.Common.{ℕ, ◌≡◌, suc, ◌+◌, ◌<◌, List, [], ◌∷◌, length, ap, arith, refl, sym, ◌∙◌}
+use Rattle.std.proofs.Common.{ℕ, ◌≡◌, suc, ◌+◌, ◌<◌, List, [], ◌∷◌, length, ap, arith, ◌∙◌}
 use Rattle.and_model.specs.Terms.{Path, Term}
 use Rattle.and_model.specs.Programs.{Program, Item, call, equal, arithmetic, fail, clause_at}
 use Rattle.and_model.specs.Trees.{Agenda, end, goal, equation, reckoning, agenda}

@@ -1,14 +1,14 @@
 -- How the unfolding of what is to be done goes on.
-use Rattle.std.proofs.Common.{ℕ, ◌≡◌, zero, suc, ◌+◌, ◌-◌, ◌^◌, ◌<◌, ◌≤◌, min, ◌↔◌, IsTrue, true, false, Bool, List, [], ◌∷◌, ◌++◌, map, length, Option, Some, None, refl, sym, ap, ◌∙◌, subst, arith, rules, Result, Ok, Err, IfOk}
+use Rattle.std.proofs.Common.{ℕ, ◌≡◌, ◌+◌, ◌↔◌, IsTrue, true, false, Bool, List, [], ◌∷◌, map, length, Option, Some, None, refl, sym, ap, ◌∙◌, subst, arith, rules, Result, Ok, Err, IfOk}
 use Rattle.and_model.specs.Terms.{Path, Term}
-use Rattle.and_model.specs.Programs.{Program, Item, call, equal, arithmetic, fail, Arithmetic, clause_at, clause_weight, is_of, Of, head_in}
-use Rattle.and_model.specs.Trees.{Agenda, end, goal, equation, reckoning, agenda, Tree, QueryTree, done, left, by, equate, reckon, equations, arithmetics, taken_weight, IsWhole, blank, fresh, taking, mapped, then, extend, extend_all, weight, unfold_code, query_agenda}
+use Rattle.and_model.specs.Programs.{Program, Arithmetic, clause_at, clause_weight, is_of, Of, head_in}
+use Rattle.and_model.specs.Trees.{Agenda, end, goal, equation, reckoning, agenda, Tree, done, left, by, equate, reckon, IsWhole, blank, fresh, mapped, then, extend, extend_all, query_agenda}
 use Rattle.and_laws.proofs.Bodies.{fresh_blank}
 use Rattle.and_plain.specs.declared.data.Equation.{Equation}
 use Rattle.and_plain.specs.declared.data.Reckoning.{Reckoning}
 use Rattle.and_plain.specs.declared.data.Unfolding.{Unfolding}
-use Rattle.and_plain.specs.Views.{equation_of, reckoning_of, term_of}
-use Rattle.and_plain.specs.Unfolded.{capped, Tells, IsUnfolding, IsUnfoldingOf, Both, WithEquation, WithGoal, WithCall}
+use Rattle.and_plain.specs.Views.{equation_of, reckoning_of}
+use Rattle.and_plain.specs.Unfolded.{capped, IsUnfolding, IsUnfoldingOf, Both, WithEquation, WithGoal, WithCall}
 
 module _ {P : Program} where
   all_equated : {a b : Term} {rest : Agenda} (t : Tree P rest) (cs : List ℕ) → extend_all (equate {a = a} {b = b} t) cs ≡ mapped equate (extend_all t cs)
@@ -128,7 +128,7 @@ taken_step P q g rest c n cs e (Some u) (Some v) o s k (t, x, (es, gs, m, wh)) (
       ),
     )
 
-on_ok : {T E : Type 0} (P Q : T → Type 0) (r : Result T E) → ((x : T) → P x → Q x) → IfOk r P → IfOk r Q
+pub on_ok : {T E : Type 0} (P Q : T → Type 0) (r : Result T E) → ((x : T) → P x → Q x) → IfOk r P → IfOk r Q
 on_ok P Q (Ok x) f h = f x h
 on_ok P Q (Err e) f h = h
 
@@ -173,7 +173,7 @@ pub not_ended : (P : Program) (cs : List ℕ) → (cs ≡ [] → ⊥) → extend
 not_ended P [] h = absurd (h refl)
 not_ended P (c ∷ cs) h = refl
 
-pub is_empty : (cs : List ℕ) → length cs ≡ 0 → cs ≡ []
+pub is_empty : {A : Type 0} (cs : List A) → length cs ≡ 0 → cs ≡ []
 is_empty [] h = refl
 is_empty (c ∷ cs) h = absurd (omega arith)
 

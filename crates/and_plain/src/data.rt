@@ -106,3 +106,11 @@ pub struct Unfolding {
     /// Whether no call is left.
     pub is_whole: bool,
 }
+
+/// A variable with the term that replaces it.
+#[derive(Drop)]
+pub struct Binding {
+    pub path: Vec<u64>,
+    pub number: u64,
+    pub term: Term,
+}

@@ -6,11 +6,17 @@
 
 pub mod arithmetic;
 pub mod candidates;
+pub mod closing;
 pub mod data;
 pub mod framing;
+pub mod substitution;
 pub mod unfolding;
 
 pub use arithmetic::{holds, value};
 pub use candidates::{clause_at, clause_weight, is_of};
-pub use data::{Agenda, Clause, Equation, Item, Program, Reckoning, Term, Terms, Unfolding};
+pub use closing::{added, is_ground};
+pub use data::{
+    Agenda, Binding, Clause, Equation, Item, Program, Reckoning, Term, Terms, Unfolding,
+};
+pub use substitution::{applied, copied};
 pub use unfolding::unfold;

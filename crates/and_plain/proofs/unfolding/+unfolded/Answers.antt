@@ -1,8 +1,8 @@
-use Rattle.std.proofs.Common.{◌≡◌, rules, refl, sym, ap, ◌∙◌, subst, [], ◌∷◌, length, ◌<◌, ◌+◌, map, arith}
+use Rattle.std.proofs.Common.{◌≡◌, rules, refl, sym, ap, ◌∙◌, subst, [], ◌∷◌, ◌<◌, ◌+◌, map}
 use Rattle.and_model.specs.Terms.{framed}
 use Rattle.and_model.specs.Programs.{Clause, clause_at, clause_weight, head_in}
 use Rattle.and_model.specs.Trees.{agenda}
-use Rattle.and_plain.specs.Views.{item_of, agenda_of, clause_of, equation_of, program_of, term_of, reckoning_of}
+use Rattle.and_plain.specs.Views.{item_of, agenda_of, program_of, term_of, reckoning_of}
 use Rattle.and_plain.specs.Unfolded.{IsUnfoldingOf, capped}
 use Rattle.and_plain.proofs.Sizes.{agenda_size, code_size, taken_smaller}
 use Rattle.and_plain.proofs.Steps.{is_empty, equation_returns, goal_returns, call_returns, not_taken_returns, taken_returns}

@@ -1,4 +1,4 @@
-use Rattle.std.proofs.Common.{rules, refl, true, ◌≡◌, [], length}
+use Rattle.std.proofs.Common.{rules, refl, true, ◌≡◌, length}
 use Rattle.and_plain.proofs.Steps.{not_ended, is_empty, is_ended}
 use Rattle.and_plain.proofs.unfolding.ended.Goals as goal
 
