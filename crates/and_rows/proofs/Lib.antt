@@ -1,4 +1,5 @@
 pub mod Exhausting
+pub mod Forking
 pub mod AppendCells
 pub mod AppendListing
 pub mod TwoForks

@@ -16,7 +16,7 @@ ghost use Rattle.and_model.specs.Trees.{QueryTree, Open, call_of, unfold_code, w
 ghost use Rattle.and_model.specs.Lines.{Bytes};
 ghost use Rattle.and_model.specs.Listing.{Outcome, answer, floundered, Listing, Exhausted};
 ghost use Rattle.and_model.specs.Output.{limit_met, complete, complete_with, counted, last_lines, Output, OverLeft};
-ghost use Rattle.and_rows.specs.Ending.{UnfoldsTo, CodeEnds, entry};
+ghost use Rattle.and_rows.specs.Ending.{UnfoldsTo, CodeEnds, SearchForks, entry};
 ghost use Rattle.and_rows.specs.Texts.{own, at, whole, unary, binary, app, nil, cell, append_text, forks_text, x_is_x, floundered_text, x_below_3, late_text, not_below, circle, equal_text, x_is_too_much, too_much, quotients, naturals, endless_text, lightest, next_lightest};
 
 /// Row append-cells: `app(nil,L,L). app(c(H,T),L,c(H,R)) :- app(T,L,R). ?- app(X,Y,c(1,nil)).`
@@ -96,10 +96,11 @@ pub fn occurs_check()
 {}
 
 /// Row equal-answers: `p(a). p(a). ?- p(X).` Each proof has its own entry, though their lines are
-/// the same.
+/// the same. There is one fork, of both clauses.
 pub fn equal_answers()
     ensures listing { (limit : ℕ) → 3 ≤ limit → Listing equal_text limit
         (entry (1 ∷ []) (answer (codes "X = a")) ∷ entry (2 ∷ []) (answer (codes "X = a")) ∷ []) }
+    ensures forks { SearchForks equal_text (record { key = []; decided = []; candidates = 1 ∷ 2 ∷ [] } ∷ []) }
     ensures exhausted { Exhausted equal_text 3 }
     ensures too_heavy { Listing equal_text 2 [] × OverLeft equal_text 2 [] 1 × OverLeft equal_text 2 [] 2 }
 {}

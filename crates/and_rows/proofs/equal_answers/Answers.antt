@@ -1,4 +1,5 @@
 use Rattle.and_rows.proofs.EqualAnswers
+use Rattle.and_rows.proofs.Forking
 use Rattle.and_rows.proofs.equal_answers.Goals as goal
 
 pub returns-clause-listing : goal.returns-clause-listing
@@ -9,3 +10,6 @@ returns-clause-exhausted c = EqualAnswers.exhausted
 
 pub returns-clause-too_heavy : goal.returns-clause-too_heavy
 returns-clause-too_heavy c = EqualAnswers.too_heavy
+
+pub returns-clause-forks : goal.returns-clause-forks
+returns-clause-forks c = Forking.one_fork
