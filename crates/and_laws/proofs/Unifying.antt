@@ -11,48 +11,48 @@ use Rattle.and_laws.proofs.Occurrences.{Variables, Has, Within, AllWithin, Absen
 -- (In this file f and g are the paths of frames, and n and m the numbers of variables.)
 
 -- what is to be shown of each list
-Decision : List Equation → Type 0
+pub Decision : List Equation → Type 0
 Decision es = ((s : Substitution) × MostGeneral s es) ⊎ (Solvable es → ⊥)
 
 -- lists that entail each other are decided alike
-same_decision : (es ds : List Equation) → Entails es ds → Entails ds es → Decision es → Decision ds
+pub same_decision : (es ds : List Equation) → Entails es ds → Entails ds es → Decision es → Decision ds
 unfolding Decision
 same_decision es ds f b (inl m) = inl (m.0, (f m.0 m.1.0, λ t p. m.1.1 t (b t p)))
 same_decision es ds f b (inr n) = inr (λ so. n (so.0, b so.0 so.1))
 
 -- the substitution that gives the variable this term, and leaves all others
-single : Path → ℕ → Term → Substitution
+pub single : Path → ℕ → Term → Substitution
 single f n t = λ g m. elim (variable_or f n g m) [ inl e ↦ t | inr k ↦ variable g m ]
 
 -- the variable's image
-single_same : (f : Path) (n : ℕ) (t : Term) → single f n t f n ≡ t
+pub single_same : (f : Path) (n : ℕ) (t : Term) → single f n t f n ≡ t
 unfolding single
 single_same f n t = elim (variable_or f n f n) as (λ d. elim d [ inl e ↦ t | inr k ↦ variable f n ] ≡ t) [ inl e ↦ refl | inr k ↦ absurd (k refl refl) ]
 
 -- and that of another
-single_other : (f : Path) (n : ℕ) (t : Term) (g : Path) (m : ℕ) → (f ≡ g → n ≡ m → ⊥) → single f n t g m ≡ variable g m
+pub single_other : (f : Path) (n : ℕ) (t : Term) (g : Path) (m : ℕ) → (f ≡ g → n ≡ m → ⊥) → single f n t g m ≡ variable g m
 unfolding single
 single_other f n t g m h = elim (variable_or f n g m) as (λ d. elim d [ inl e ↦ t | inr k ↦ variable g m ] ≡ variable g m) [ inl e ↦ absurd (h e.0 e.1) | inr k ↦ refl ]
 
 -- a substitution that gives the variable what it gives the term goes through it
-single_under : (s : Substitution) (f : Path) (n : ℕ) (t : Term) → s f n ≡ apply s t → (g : Path) (m : ℕ) → s g m ≡ apply s (single f n t g m)
+pub single_under : (s : Substitution) (f : Path) (n : ℕ) (t : Term) → s f n ≡ apply s t → (g : Path) (m : ℕ) → s g m ≡ apply s (single f n t g m)
 unfolding single
 single_under s f n t h g m = elim (variable_or f n g m) as (λ d. s g m ≡ apply s (elim d [ inl e ↦ t | inr k ↦ variable g m ])) [ inl e ↦ (let same : s g m ≡ s f n = cc in same ∙ h) | inr k ↦ refl ]
 
 -- a term without the variable stays as it is
 mutual
-  absent_stays : (f : Path) (n : ℕ) (t u : Term) → Absent f n u → apply (single f n t) u ≡ u
+  pub absent_stays : (f : Path) (n : ℕ) (t u : Term) → Absent f n u → apply (single f n t) u ≡ u
   absent_stays f n t (variable g m) a = single_other f n t g m a
   absent_stays f n t (number z) a = refl
   absent_stays f n t (compound c ts) a = ap (compound c) (all_absent_stay f n t ts a)
 
-  all_absent_stay : (f : Path) (n : ℕ) (t : Term) (us : Terms) → AllAbsent f n us → apply_all (single f n t) us ≡ us
+  pub all_absent_stay : (f : Path) (n : ℕ) (t : Term) (us : Terms) → AllAbsent f n us → apply_all (single f n t) us ≡ us
   all_absent_stay f n t none a = refl
   all_absent_stay f n t (more u us) a = ap (λ y. more y (apply_all (single f n t) us)) (absent_stays f n t u a.0) ∙ ap (λ ys. more u ys) (all_absent_stay f n t us a.1)
 
 -- a term within a list is afterwards within the list without the variable
 mutual
-  within_single : (f : Path) (n : ℕ) (t : Term) (vs ws : Variables) → Lacks f n vs ws → Within ws t → (u : Term) → Within vs u → Within ws (apply (single f n t) u)
+  pub within_single : (f : Path) (n : ℕ) (t : Term) (vs ws : Variables) → Lacks f n vs ws → Within ws t → (u : Term) → Within vs u → Within ws (apply (single f n t) u)
   within_single f n t vs ws l w (variable g m) h =
       elim (variable_or f n g m) [
         | inl e ↦ (let same : single f n t g m ≡ t = ap (λ x. single f n t x m) (sym e.0) ∙ ap (λ x. single f n t f x) (sym e.1) ∙ single_same f n t in subst (λ x. Within ws x) (sym same) w)
@@ -61,44 +61,44 @@ mutual
   within_single f n t vs ws l w (number z) h = tt
   within_single f n t vs ws l w (compound c ts) h = all_within_single f n t vs ws l w ts h
 
-  all_within_single : (f : Path) (n : ℕ) (t : Term) (vs ws : Variables) → Lacks f n vs ws → Within ws t → (us : Terms) → AllWithin vs us → AllWithin ws (apply_all (single f n t) us)
+  pub all_within_single : (f : Path) (n : ℕ) (t : Term) (vs ws : Variables) → Lacks f n vs ws → Within ws t → (us : Terms) → AllWithin vs us → AllWithin ws (apply_all (single f n t) us)
   all_within_single f n t vs ws l w none h = tt
   all_within_single f n t vs ws l w (more u us) h = (within_single f n t vs ws l w u h.0, all_within_single f n t vs ws l w us h.1)
 
 -- all variables of the equations are in the list
-abbrev EquationsWithin : Variables → List Equation → Type 0
+abbrev pub EquationsWithin : Variables → List Equation → Type 0
 EquationsWithin vs [] = Unit {0}
 EquationsWithin vs (e ∷ es) = Within vs e.0 × Within vs e.1 × EquationsWithin vs es
 
 -- how large equations are
-abbrev equations_size : List Equation → ℕ
+abbrev pub equations_size : List Equation → ℕ
 equations_size [] = 0
 equations_size (e ∷ es) = size e.0 + size e.1 + equations_size es
 
 -- the equations with the variable replaced
-abbrev replaced : Path → ℕ → Term → List Equation → List Equation
+abbrev pub replaced : Path → ℕ → Term → List Equation → List Equation
 replaced f n t [] = []
 replaced f n t (e ∷ es) = (apply (single f n t) e.0, apply (single f n t) e.1) ∷ replaced f n t es
 
 -- they are within the list without the variable,
-replaced_within : (f : Path) (n : ℕ) (t : Term) (vs ws : Variables) → Lacks f n vs ws → Within ws t → (es : List Equation) → EquationsWithin vs es → EquationsWithin ws (replaced f n t es)
+pub replaced_within : (f : Path) (n : ℕ) (t : Term) (vs ws : Variables) → Lacks f n vs ws → Within ws t → (es : List Equation) → EquationsWithin vs es → EquationsWithin ws (replaced f n t es)
 replaced_within f n t vs ws l w [] h = tt
 replaced_within f n t vs ws l w (e ∷ es) h = (within_single f n t vs ws l w e.0 h.0, within_single f n t vs ws l w e.1 h.1, replaced_within f n t vs ws l w es h.2)
 
 -- what gives the variable what it gives the term solves them where it solves the equations,
-replaced_solved : (s : Substitution) (f : Path) (n : ℕ) (t : Term) → s f n ≡ apply s t → (es : List Equation) → Solves s es → Solves s (replaced f n t es)
+pub replaced_solved : (s : Substitution) (f : Path) (n : ℕ) (t : Term) → s f n ≡ apply s t → (es : List Equation) → Solves s es → Solves s (replaced f n t es)
 replaced_solved s f n t h [] p = tt
 replaced_solved s f n t h (e ∷ es) p =
     let k = single_under s f n t h in
     (sym (apply_through (single f n t) s k e.0) ∙ p.0 ∙ apply_through (single f n t) s k e.1, replaced_solved s f n t h es p.1)
 
 -- and a solution of them, after the replacement, solves the equations
-replaced_then : (s : Substitution) (f : Path) (n : ℕ) (t : Term) (es : List Equation) → Solves s (replaced f n t es) → Solves (then (single f n t) s) es
+pub replaced_then : (s : Substitution) (f : Path) (n : ℕ) (t : Term) (es : List Equation) → Solves s (replaced f n t es) → Solves (then (single f n t) s) es
 replaced_then s f n t [] p = tt
 replaced_then s f n t (e ∷ es) p = (sym (apply_then (single f n t) s e.0) ∙ p.0 ∙ apply_then (single f n t) s e.1, replaced_then s f n t es p.1)
 
 -- An equation between a variable and a term that lacks it is decided by the others with the variable replaced.
-eliminated : (f : Path) (n : ℕ) (t : Term) (es : List Equation) → Absent f n t → Decision (replaced f n t es) → Decision ((variable f n, t) ∷ es)
+pub eliminated : (f : Path) (n : ℕ) (t : Term) (es : List Equation) → Absent f n t → Decision (replaced f n t es) → Decision ((variable f n, t) ∷ es)
 unfolding Decision
 eliminated f n t es a (inr none_is) = inr (λ so. none_is (so.0, replaced_solved so.0 f n t so.1.0 es so.1.1))
 eliminated f n t es a (inl m) =
@@ -114,11 +114,11 @@ eliminated f n t es a (inl m) =
     )
 
 -- The sides of an equation can be exchanged.
-flipped : (l r : Term) (es : List Equation) → Decision ((l, r) ∷ es) → Decision ((r, l) ∷ es)
+pub flipped : (l r : Term) (es : List Equation) → Decision ((l, r) ∷ es) → Decision ((r, l) ∷ es)
 flipped l r es = same_decision ((l, r) ∷ es) ((r, l) ∷ es) (λ s p. (sym p.0, p.1)) (λ s p. (sym p.0, p.1))
 
 -- Arguments are equal where each is; lists of two lengths never are.
-zip_or : (ts us : Terms) → ((ds : List Equation) × ((s : Substitution) → apply_all s ts ≡ apply_all s us → Solves s ds) × ((s : Substitution) → Solves s ds → apply_all s ts ≡ apply_all s us)
+pub zip_or : (ts us : Terms) → ((ds : List Equation) × ((s : Substitution) → apply_all s ts ≡ apply_all s us → Solves s ds) × ((s : Substitution) → Solves s ds → apply_all s ts ≡ apply_all s us)
     × (equations_size ds ≡ sizes ts + sizes us) × ((vs : Variables) → AllWithin vs ts → AllWithin vs us → EquationsWithin vs ds)) ⊎ ((s : Substitution) → apply_all s ts ≡ apply_all s us → ⊥)
 zip_or none none = inl ([], λ s e. tt, λ s p. refl, omega arith, λ vs a b. tt)
 zip_or none (more u us) = inr (λ s e. cc)
@@ -130,7 +130,7 @@ zip_or (more t ts) (more u us) =
     ]
 
 -- a term has a size of at least 1
-size_positive : (t : Term) → 1 ≤ size t
+pub size_positive : (t : Term) → 1 ≤ size t
 size_positive (variable f n) = omega arith
 size_positive (number z) = omega arith
 size_positive (compound c ts) = omega arith
@@ -205,17 +205,17 @@ outer zero vs es h w = inner vs (λ ws ds k x. absurd (omega arith)) (equations_
 outer (suc n) vs es h w = inner vs (λ ws ds k x. outer n ws ds (omega arith) x) (equations_size es) es (omega arith) w
 
 -- the variables of equations
-abbrev equation_variables : List Equation → Variables
+abbrev pub equation_variables : List Equation → Variables
 equation_variables [] = []
 equation_variables (e ∷ es) = variables_of e.0 ++ (variables_of e.1 ++ equation_variables es)
 
 -- equations within a list are within a larger one,
-equations_within_more : (vs ws : Variables) → ((f : Path) (n : ℕ) → Has f n vs → Has f n ws) → (es : List Equation) → EquationsWithin vs es → EquationsWithin ws es
+pub equations_within_more : (vs ws : Variables) → ((f : Path) (n : ℕ) → Has f n vs → Has f n ws) → (es : List Equation) → EquationsWithin vs es → EquationsWithin ws es
 equations_within_more vs ws k [] h = tt
 equations_within_more vs ws k (e ∷ es) h = (within_more vs ws k e.0 h.0, within_more vs ws k e.1 h.1, equations_within_more vs ws k es h.2)
 
 -- so they are within the list of their variables
-equation_variables_within : (es : List Equation) → EquationsWithin (equation_variables es) es
+pub equation_variables_within : (es : List Equation) → EquationsWithin (equation_variables es) es
 equation_variables_within [] = tt
 equation_variables_within (e ∷ es) =
     let a : Variables = variables_of e.0 in
