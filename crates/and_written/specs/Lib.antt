@@ -1,0 +1,4 @@
+pub mod Written
+pub mod Clauses
+pub mod Tables
+pub mod Skeletons
