@@ -1,1 +1,4 @@
 pub mod Tokens
+pub mod Words
+pub mod Grammar
+pub mod Refusals
