@@ -14,7 +14,7 @@ use Rattle.std.specs.Str.{bytes_eq}
 use Rattle.and_model.specs.Lines.{Bytes}
 use Rattle.and_written.specs.Written
 use Rattle.and_written.specs.Written.{Written, Many}
-use Rattle.and_texts.specs.Words.{Word, Placed, products, relations, is_one_of}
+use Rattle.and_texts.specs.Words.{Word, Placed, products, sums, relations, is_one_of}
 use Rattle.and_texts.specs.Words as words
 
 -- the operators' priorities, from the tightest on
@@ -50,11 +50,10 @@ pub data IsAtom : Word → Bytes → Type 0 where
 pub data IsFunctor : Word → Bytes → Type 0 where
   name : (c : Bytes) → bytes_eq c (codes ":-") ≡ false → bytes_eq c (codes "?-") ≡ false → IsFunctor (words.name c) c
   quoted : (c : Bytes) → IsFunctor (words.quoted c) c
-  minus : IsFunctor (words.minus words.bracket) (codes "-")
 
 -- an operator of the priority 500
 pub data IsSum : Word → Bytes → Type 0 where
-  plus : IsSum (words.name (codes "+")) (codes "+")
+  name : (c : Bytes) → is_one_of sums c ≡ true → IsSum (words.name c) c
   minus : (b : words.Before) → IsSum (words.minus b) (codes "-")
 
 -- Terms, without limits or with those of a text that is taken: a plain numeral is below 2 ^ 63, at most 256 brackets and prefix minuses are open at once, and a name has at most 255 arguments.

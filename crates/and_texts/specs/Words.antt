@@ -13,7 +13,7 @@ pub data Before : Type 0 where
   stop : Before
   operand : Before
 
--- A word. A name is unquoted, and no minus; an opening bracket tells whether it stands right behind the word before it.
+-- A word. A name is unquoted; a minus that no bracket stands right behind is a word of its own. An opening bracket tells whether it stands right behind the word before it.
 pub data Word : Type 0 where
   variable : Bytes → Word
   integer : ℕ → Word
@@ -42,6 +42,9 @@ is_one_of cs c = list_any (bytes_eq c) cs
 
 abbrev pub products : List Bytes
 products = codes "*" ∷ codes "//" ∷ codes "mod" ∷ codes "rem" ∷ []
+
+abbrev pub sums : List Bytes
+sums = codes "+" ∷ codes "-" ∷ []
 
 abbrev pub relations : List Bytes
 relations = codes "=" ∷ codes "is" ∷ codes "<" ∷ codes ">" ∷ codes "=<" ∷ codes ">=" ∷ codes "=:=" ∷ codes "=\\=" ∷ []
@@ -84,7 +87,8 @@ pub data IsWord (bytes : Bytes) (t : Token) (b : Before) : Kind → Word → Typ
   integer_token : (z : ℕ) → IsWord bytes t b (tokens.integer z) (integer z)
   name_token : IsWord bytes t b tokens.name (name (bytes_of bytes t))
   symbol_token : bytes_eq (bytes_of bytes t) (codes "-") ≡ false → IsWord bytes t b tokens.symbol (name (bytes_of bytes t))
-  minus_token : bytes_eq (bytes_of bytes t) (codes "-") ≡ true → IsWord bytes t b tokens.symbol (minus b)
+  minus_token : bytes_eq (bytes_of bytes t) (codes "-") ≡ true → (b ≡ bracket → ⊥) → IsWord bytes t b tokens.symbol (minus b)
+  functor_token : bytes_eq (bytes_of bytes t) (codes "-") ≡ true → b ≡ bracket → IsWord bytes t b tokens.symbol (name (bytes_of bytes t))
   quoted_token : (text : Bytes) → Quotes (bytes_of bytes t) text → IsWord bytes t b tokens.quoted (quoted text)
   open_bracket_token : IsWord bytes t b tokens.open_bracket (open_bracket (not t.layout_before))
   close_bracket_token : IsWord bytes t b tokens.close_bracket close_bracket
