@@ -9,6 +9,7 @@ pub mod candidates;
 pub mod closing;
 pub mod data;
 pub mod framing;
+pub mod lines;
 pub mod substitution;
 pub mod unfolding;
 
@@ -18,5 +19,6 @@ pub use closing::{added, is_ground};
 pub use data::{
     Agenda, Binding, Clause, Equation, Item, Program, Reckoning, Term, Terms, Unfolding,
 };
+pub use lines::line;
 pub use substitution::{applied, copied};
 pub use unfolding::unfold;
