@@ -10,8 +10,12 @@ pub mod closing;
 pub mod data;
 pub mod framing;
 pub mod lines;
+mod shown_names;
+mod shown_terms;
 pub mod substitution;
+mod texts;
 pub mod unfolding;
+mod variables;
 
 pub use arithmetic::{holds, value};
 pub use candidates::{clause_at, clause_weight, is_of};

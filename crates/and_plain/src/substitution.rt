@@ -100,7 +100,8 @@ fn is_variable(binding: &Binding, path: &[u64], number: u64) -> bool
     is_path(&binding.path, path) && binding.number == number
 }
 
-fn is_path(path: &[u64], other: &[u64]) -> bool
+/// Whether the two paths are the same.
+pub(crate) fn is_path(path: &[u64], other: &[u64]) -> bool
     ensures { result ≡ same_path path.now other.now }
 {
     match (path.split_first(), other.split_first()) {
