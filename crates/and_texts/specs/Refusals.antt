@@ -4,7 +4,7 @@ use Rattle.and_model.specs.Lines.{Bytes}
 use Rattle.and_model.specs.Programs.{Program}
 use Rattle.and_written.specs.Tables.{What, source, arguments, nesting, Table, Asked, empty, clause_fault, query_fault, with_clause, with_query, unknown_of, program_of}
 use Rattle.and_written.specs.Tables as tables
-use Rattle.and_texts.specs.Tokens.{line_at, Answer, no_more, none_for, Token}
+use Rattle.and_texts.specs.Tokens.{line_at, Answer, no_more, one, none_for, Token}
 use Rattle.and_texts.specs.Tokens as tokens
 use Rattle.and_texts.specs.Words.{Word, Placed, AreWords, variable, integer, name, quoted, minus, open_bracket, close_bracket, open_list, close_list, comma, bar, end}
 use Rattle.and_texts.specs.Grammar.{Statement, IsText, CanGoOn}
@@ -53,11 +53,16 @@ with_statement bytes T s = elim s.is_query [ false ↦ with_clause T s.term (lin
 -- The clauses and queries are taken one after another by the one table, which becomes the other.
 pub data Takes (bytes : Bytes) : Table → List Statement → Table → Type 0 where
   nothing : (T : Table) → Takes bytes T [] T
-  one : (T U : Table) (s : Statement) (ss : List Statement) → statement_fault T s ≡ None → Takes bytes (with_statement bytes T s) ss U → Takes bytes T (s ∷ ss) U
+  more : (T U : Table) (s : Statement) (ss : List Statement) → statement_fault T s ≡ None → Takes bytes (with_statement bytes T s) ss U → Takes bytes T (s ∷ ss) U
 
--- The text is these words, and then what no more words can be read of, or nothing.
+-- The tokens from the place p on lead to the place q.
+pub data Leads (bytes : Bytes) : ℕ → List Token → ℕ → Type 0 where
+  nowhere : (p : ℕ) → Leads bytes p [] p
+  along : (p q : ℕ) (t : Token) (ts : List Token) → tokens.Comes bytes p (one t) → Leads bytes t.end ts q → Leads bytes p (t ∷ ts) q
+
+-- The text begins with these words, and a comes next.
 abbrev pub HasWords : Bytes → List Placed → Answer → Type 0
-HasWords bytes ws a = (ts : List Token) × tokens.Tokens bytes 0 ts a × AreWords bytes a ts ws
+HasWords bytes ws a = (ts : List Token) × (q : ℕ) × Leads bytes 0 ts q × tokens.Comes bytes q a × AreWords bytes a ts ws
 
 -- no clause ends among the words
 abbrev pub NoneEnds : List Placed → Type 0
@@ -110,9 +115,9 @@ pub record IsTaken (bytes : Bytes) (ws : List Placed) (T : Table) : Type 0 where
 -- The text is refused: for its size; else at the first word, clause or other place in order at which it is; else at its end.
 pub data IsRefused (bytes : Bytes) : Refusal → Type 0 where
   too_long : 1048576 < length bytes → IsRefused bytes (at bytes 1048576 (too_big source))
-  at_word : (ws vs : List Placed) (p : Placed) (a : Answer) (c : Cause) → length bytes ≤ 1048576 → HasWords bytes (ws ++ p ∷ vs) a
+  at_word : (ws : List Placed) (p : Placed) (a : Answer) (c : Cause) → length bytes ≤ 1048576 → HasWords bytes (ws ++ p ∷ []) a
       → (passed : IsPassed bytes ws) → IsRefusedWord ws passed.begun p c → IsRefused bytes (at bytes p.place c)
-  at_clause : (ws us vs : List Placed) (a : Answer) (T : Table) (s : Statement) (f : tables.Fault) → length bytes ≤ 1048576 → HasWords bytes (ws ++ (us ++ vs)) a
+  at_clause : (ws us : List Placed) (a : Answer) (T : Table) (s : Statement) (f : tables.Fault) → length bytes ≤ 1048576 → HasWords bytes (ws ++ us) a
       → IsTaken bytes ws T → IsText true us (s ∷ []) → statement_fault T s ≡ Some f → IsRefused bytes (at bytes s.place (cause_of f))
   at_token : (ws : List Placed) (f : tokens.Fault) → length bytes ≤ 1048576 → HasWords bytes ws (none_for f) → IsPassed bytes ws → IsRefused bytes (fault_at bytes f)
   unended : (ws : List Placed) → length bytes ≤ 1048576 → HasWords bytes ws no_more → (passed : IsPassed bytes ws) → (passed.begun ≡ [] → ⊥) → IsRefused bytes (at bytes (length bytes) syntax)

@@ -77,7 +77,7 @@ before_kind bytes t tokens.end_of_clause = stop
 -- (A minus before a token that is at fault counts as one before an operand.)
 abbrev pub before : Bytes → List Token → Answer → Before
 before bytes [] no_more = stop
-before bytes [] (one t) = operand
+before bytes [] (one t) = before_kind bytes t t.kind
 before bytes [] (none_for f) = operand
 before bytes (t ∷ ts) a = before_kind bytes t t.kind
 
@@ -98,7 +98,7 @@ pub data IsWord (bytes : Bytes) (t : Token) (b : Before) : Kind → Word → Typ
   bar_token : IsWord bytes t b tokens.bar bar
   end_token : IsWord bytes t b tokens.end_of_clause end
 
--- The tokens, behind which a comes, are these words.
+-- The tokens, behind which a comes next, are these words.
 pub data AreWords (bytes : Bytes) (a : Answer) : List Token → List Placed → Type 0 where
   nothing : AreWords bytes a [] []
   more : (t : Token) (ts : List Token) (w : Word) (ws : List Placed) → IsWord bytes t (before bytes ts a) t.kind w → AreWords bytes a ts ws
