@@ -114,3 +114,13 @@ pub struct Binding {
     pub number: u64,
     pub term: Term,
 }
+
+/// What equations and arithmetic goals come to when every goal that is known has run.
+#[derive(Drop)]
+pub struct Closed {
+    pub equations: Vec<Equation>,
+    /// The goals that wait, in their order.
+    pub waiting: Vec<Reckoning>,
+    /// A most general solution of the equations; `None` where they have none.
+    pub solution: Option<Vec<Binding>>,
+}

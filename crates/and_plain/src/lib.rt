@@ -7,6 +7,7 @@
 pub mod arithmetic;
 pub mod candidates;
 pub mod closing;
+pub mod closure;
 pub mod data;
 pub mod framing;
 pub mod lines;
@@ -20,8 +21,9 @@ mod variables;
 pub use arithmetic::{holds, value};
 pub use candidates::{clause_at, clause_weight, is_of};
 pub use closing::{added, is_ground};
+pub use closure::close;
 pub use data::{
-    Agenda, Binding, Clause, Equation, Item, Program, Reckoning, Term, Terms, Unfolding,
+    Agenda, Binding, Clause, Closed, Equation, Item, Program, Reckoning, Term, Terms, Unfolding,
 };
 pub use lines::line;
 pub use substitution::{applied, copied};
