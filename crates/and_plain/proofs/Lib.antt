@@ -1,3 +1,5 @@
 pub mod Numbers
 pub mod Steps
 pub mod Sizes
+pub mod TakingApart
+pub mod Eliminating

@@ -1,5 +1,5 @@
 -- What solutions and closures, as data, say of equations.
-use Rattle.std.specs.Prelude.{List, map, Option, Some, None, Vec}
+use Rattle.std.specs.Prelude.{◌≡◌, List, ◌∷◌, map, Option, Some, None, Vec}
 use Rattle.std.specs.declared.alloc.Global.{Global}
 use Rattle.and_model.specs.Solutions.{Equation, Solvable, MostGeneral}
 use Rattle.and_model.specs.Programs.{Arithmetic}
@@ -13,6 +13,13 @@ use Rattle.and_plain.specs.Views.{equation_of, reckoning_of}
 abbrev pub IsSolution : List Equation → Option (Vec Binding Global) → Type 0
 IsSolution es None = Solvable es → ⊥
 IsSolution es (Some bs) = MostGeneral (substitution_of bs.items) es
+
+-- One more binding stands before the others; there are none where there were none.
+abbrev pub IsExtended : Binding → Option (Vec Binding Global) → Option (Vec Binding Global) → Type 0
+IsExtended b None None = Unit {0}
+IsExtended b None (Some cs) = ⊥
+IsExtended b (Some bs) None = ⊥
+IsExtended b (Some bs) (Some cs) = cs.items ≡ b ∷ bs.items
 
 -- The data are what the equations and goals close to, with a most general solution of it.
 abbrev pub IsClosure : List Equation → List Arithmetic → Closed → Type 0

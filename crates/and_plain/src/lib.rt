@@ -13,6 +13,8 @@ pub mod framing;
 pub mod lines;
 mod shown_names;
 mod shown_terms;
+pub mod reducing;
+pub mod solving;
 pub mod substitution;
 mod texts;
 pub mod unfolding;
@@ -26,5 +28,6 @@ pub use data::{
     Agenda, Binding, Clause, Closed, Equation, Item, Program, Reckoning, Term, Terms, Unfolding,
 };
 pub use lines::line;
+pub use solving::solve;
 pub use substitution::{applied, copied};
 pub use unfolding::unfold;

@@ -22,7 +22,7 @@ pub fn applied(term: &Term, alloc: Global, bindings: &[Binding]) -> Result<Term,
 
 /// The term in which the binding's variable was replaced by its term.
 #[cycle(replacing)]
-fn replaced(term: &Term, alloc: Global, binding: &Binding) -> Result<Term, AllocError>
+pub(crate) fn replaced(term: &Term, alloc: Global, binding: &Binding) -> Result<Term, AllocError>
     ensures { IfOk result (λ made. term_of made ≡ apply (single_of binding.now) (term_of term.now)) }
 {
     match term {
@@ -101,6 +101,7 @@ fn is_variable(binding: &Binding, path: &[u64], number: u64) -> bool
 }
 
 /// Whether the two paths are the same.
+/// Whether the paths are the same.
 pub(crate) fn is_path(path: &[u64], other: &[u64]) -> bool
     ensures { result ≡ same_path path.now other.now }
 {
