@@ -8,8 +8,11 @@ use Rattle.and_laws.proofs.Occurrences.{Variables, Has, Within, AllWithin, Absen
 use Rattle.and_laws.proofs.Printing.{same_variable_true, same_variable_self}
 use Rattle.and_laws.proofs.Substitutions.{apply_through, then, apply_then}
 use Rattle.and_laws.proofs.Unifying.{EquationsWithin, equation_variables, equations_within_more, equation_variables_within, single as chosen, single_same, single_other, single_under, absent_stays, replaced, replaced_within, replaced_solved, replaced_then}
-use Rattle.and_plain.specs.Substitutions.{single}
-use Rattle.and_plain.specs.Reduced.{Alike, replaced_by}
+use Rattle.and_plain.specs.declared.data.Binding.{Binding}
+use Rattle.and_plain.specs.Views.{term_of}
+use Rattle.and_plain.specs.Substitutions.{single, single_of, substitution_of}
+use Rattle.and_plain.specs.Reduced.{Alike, binding_equation, replaced_by}
+use Rattle.and_plain.specs.Solutions.{IsExtended, IsSolution}
 
 -- The two ways to write the substitution of one variable give the same terms.
 single_is : (f : Path) (n : ℕ) (t : Term) (g : Path) (m : ℕ) → single f n t g m ≡ chosen f n t g m
@@ -78,6 +81,19 @@ module _ (f : Path) (n : ℕ) (t : Term) (ds es rest : List Equation) (a : Absen
 
   pub eliminated_none : (Solvable rest → ⊥) → Solvable ds → ⊥
   eliminated_none h so = replaced_none f n t es a (λ x. h (subst Solvable (sym rest_is) x)) (so.0, l.0 so.0 so.1)
+
+-- With the binding before the others there is a solution of the equations.
+pub extended_solution : (b : Binding) (ds es rest : List Equation) (found made : Option (Vec Binding Global)) → Absent b.path.items b.number (term_of b.term) → Alike ds (binding_equation b ∷ es)
+    → rest ≡ map (replaced_by (single_of b)) es → IsSolution rest found → IsExtended b found made → IsSolution ds made
+extended_solution b ds es rest None None a l is m x = eliminated_none b.path.items b.number (term_of b.term) ds es rest a l is m
+extended_solution b ds es rest None (Some v) a l is m x = absurd x
+extended_solution b ds es rest (Some u) None a l is m x = absurd x
+extended_solution b ds es rest (Some u) (Some v) a l is m x =
+    subst (λ bs. MostGeneral (substitution_of bs) ds) (sym x) (eliminated_general b.path.items b.number (term_of b.term) ds es rest a l is (substitution_of u.items) m)
+
+-- Without bindings it is one where everything solves the equations.
+pub empty_solution : (es : List Equation) (bs : List Binding) → ((s : Substitution) → Solves s es) → bs ≡ [] → MostGeneral (substitution_of bs) es
+empty_solution es bs h e = subst (λ x. MostGeneral (substitution_of x) es) (sym e) (h (substitution_of []), λ t p q k. refl)
 
 -- a list of variables with each once
 abbrev distinct : Variables → Variables
