@@ -46,8 +46,8 @@ replaced_is f n t (e ∷ es) =
     let a : apply (single f n t) e.0 ≡ apply (chosen f n t) e.0 = k e.0 in
     let b : apply (single f n t) e.1 ≡ apply (chosen f n t) e.1 = k e.1 in
     ap (λ x. (x, apply (single f n t) e.1) ∷ map (replaced_by (single f n t)) es) a
-        ∙ ap (λ x. (apply (chosen f n t) e.0, x) ∷ map (replaced_by (single f n t)) es) b
-        ∙ ap (λ xs. (apply (chosen f n t) e.0, apply (chosen f n t) e.1) ∷ xs) (replaced_is f n t es)
+    ∙ ap (λ x. (apply (chosen f n t) e.0, x) ∷ map (replaced_by (single f n t)) es) b
+    ∙ ap (λ xs. (apply (chosen f n t) e.0, apply (chosen f n t) e.1) ∷ xs) (replaced_is f n t es)
 
 -- What solves the replaced equations, after the replacement, solves the equations with the variable's,
 module _ (f : Path) (n : ℕ) (t : Term) (es : List Equation) (a : Absent f n t) where

@@ -3,3 +3,4 @@ pub mod Steps
 pub mod Sizes
 pub mod TakingApart
 pub mod Eliminating
+pub mod FirstKnown

@@ -17,6 +17,7 @@ pub mod reducing;
 pub mod solving;
 pub mod substitution;
 mod texts;
+mod taking;
 pub mod unfolding;
 mod variables;
 

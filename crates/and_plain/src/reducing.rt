@@ -1,6 +1,6 @@
 //! Equations taken apart, until one gives a variable a term.
 
-ghost use Rattle.std.specs.Prelude.{◌≡◌, [], ◌∷◌, map, IfOk, MatchOption};
+ghost use Rattle.std.specs.Prelude.{◌≡◌, ◌∷◌, map, IfOk};
 ghost use Rattle.std.specs.Option.{option_map};
 ghost use Rattle.and_model.specs.Terms.{compound, number, variable};
 ghost use Rattle.and_plain.specs.Reduced.{is_variable, occurs, occurs_among, paired, IsReduced, IsStep};
@@ -8,6 +8,7 @@ ghost use Rattle.and_plain.specs.Views.{equation_of, term_of, terms_of};
 
 use crate::data::{Binding, Equation, Term, Terms};
 use crate::substitution::is_path;
+use crate::taking::take_first;
 use std::alloc::{AllocError, Global};
 
 /// What equations come to.
@@ -41,16 +42,6 @@ pub fn reduce(mut equations: Vec<Equation>) -> Result<Reduced, AllocError>
         Step::Ended(reduced) => Ok(reduced),
         Step::Others(equations) => reduce(equations),
     }
-}
-
-/// The first of the equations, which leaves them.
-fn take_first(equations: &mut Vec<Equation>) -> Option<Equation>
-    ensures { MatchOption result (equations.old.items ≡ []) (λ first. equations.old.items ≡ first ∷ equations.new.items) }
-{
-    if equations.is_empty() {
-        return None;
-    }
-    Some(equations.remove(0))
 }
 
 /// Takes the equation apart, before the others.

@@ -10,7 +10,7 @@ use Rattle.and_plain.proofs.reducing.+reduce.Goals as goal
 
 pub reduce-requires : goal.reduce-requires
 reduce-requires t c =
-    let es = equation_of c.in-Some.equation ∷ map equation_of c.take_first.new.equations.items in
+    let es = equation_of c.in-Some.equation ∷ map equation_of c.take_first.new.items.items in
     let ds = map equation_of c.in-Others.equations.items in
     let k : IsStep es c.in_ok-reduced.field-0 = c.in_ok-reduced.ensures in
     let h : Alike es ds × (equations_size ds < equations_size es) = subst (λ s. IsStep es s) c.in-Others.is k in
@@ -19,7 +19,7 @@ reduce-requires t c =
 
 pub returns-in-Others : goal.returns-in-Others
 returns-in-Others t c =
-    let es = equation_of c.in-Some.equation ∷ map equation_of c.take_first.new.equations.items in
+    let es = equation_of c.in-Some.equation ∷ map equation_of c.take_first.new.items.items in
     let ds = map equation_of c.in-Others.equations.items in
     let k : IsStep es c.in_ok-reduced.field-0 = c.in_ok-reduced.ensures in
     let h : Alike es ds × (equations_size ds < equations_size es) = subst (λ s. IsStep es s) c.in-Others.is k in
