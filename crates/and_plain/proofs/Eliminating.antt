@@ -1,12 +1,12 @@
 -- A variable that is to be a term is replaced in other equations.
-use Rattle.std.proofs.Common.{ℕ, ◌≡◌, ◌<◌, ◌≤◌, Bool, true, false, cond, true≢false, List, [], ◌∷◌, ◌++◌, map, length, Option, Some, None, Vec, Global, refl, ap, sym, ◌∙◌, subst, inl, inr, ◌⊎◌, arith, suc}
+use Rattle.std.proofs.Common.{ℕ, ◌≡◌, ◌<◌, ◌≤◌, true, false, cond, true≢false, List, [], ◌∷◌, ◌++◌, map, length, Option, Some, None, Vec, Global, refl, ap, sym, ◌∙◌, subst, inl, inr, ◌⊎◌, arith}
 use Rattle.and_model.specs.Terms.{Path, Term, Terms, variable, number, compound, none, more, variables_of, variables_in, Substitution, apply, apply_all}
 use Rattle.and_model.specs.Solutions.{Equation, Solves, Solvable, MostGeneral}
 use Rattle.and_model.specs.Lines.{same_variable, has}
 use Rattle.and_laws.proofs.Equality.{bool_cases, variable_or}
 use Rattle.and_laws.proofs.Occurrences.{Variables, Has, Within, AllWithin, Absent, take_out, has_still, within_absent}
 use Rattle.and_laws.proofs.Printing.{same_variable_true, same_variable_self}
-use Rattle.and_laws.proofs.Substitutions.{apply_through, then, apply_then}
+use Rattle.and_laws.proofs.Substitutions.{apply_through, apply_then}
 use Rattle.and_laws.proofs.Unifying.{EquationsWithin, equation_variables, equations_within_more, equation_variables_within, single as chosen, single_same, single_other, single_under, absent_stays, replaced, replaced_within, replaced_solved, replaced_then}
 use Rattle.and_plain.specs.declared.data.Binding.{Binding}
 use Rattle.and_plain.specs.Views.{term_of}

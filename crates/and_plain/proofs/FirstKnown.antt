@@ -1,5 +1,5 @@
 -- The first goal that is known, and the closure.
-use Rattle.std.proofs.Common.{ℕ, ◌≡◌, ◌<◌, true≢false, List, [], ◌∷◌, ◌++◌, map, length, Option, Some, None, Vec, Global, refl, ap, sym, ◌∙◌, subst, arith, suc}
+use Rattle.std.proofs.Common.{◌≡◌, ◌<◌, true≢false, List, [], ◌∷◌, ◌++◌, map, length, Option, Some, None, Vec, Global, refl, ap, sym, ◌∙◌, subst, arith, suc}
 use Rattle.and_model.specs.Terms.{Substitution, apply_all}
 use Rattle.and_model.specs.Solutions.{Equation as SpecEquation, Solvable, MostGeneral}
 use Rattle.and_model.specs.Programs.{Arithmetic}
@@ -14,7 +14,7 @@ use Rattle.and_plain.specs.declared.closure.Found.TheVariants.{Waiting, Known}
 use Rattle.and_plain.specs.Substitutions.{substitution_of}
 use Rattle.and_plain.specs.Views.{equation_of, reckoning_of}
 use Rattle.and_plain.specs.Added.{IsAdded}
-use Rattle.and_plain.specs.Known.{IsFirstKnown, IsFirstUnder, Preceded}
+use Rattle.and_plain.specs.Known.{IsFirstUnder, Preceded}
 use Rattle.and_plain.specs.Solutions.{IsClosure, IsSolution}
 
 -- where no goal is left, none is known

@@ -1,11 +1,11 @@
 -- Equations that are taken apart.
-use Rattle.std.proofs.Common.{ℕ, ◌≡◌, ◌+◌, ◌<◌, ◌≤◌, Bool, true, false, true≢false, ◌||◌, List, ◌∷◌, Option, Some, None, refl, ap, sym, ◌∙◌, subst, map, inl, inr, arith}
+use Rattle.std.proofs.Common.{ℕ, ◌≡◌, ◌+◌, ◌<◌, ◌≤◌, Bool, true, false, true≢false, ◌||◌, List, ◌∷◌, Some, None, refl, ap, sym, ◌∙◌, subst, map, inl, inr, arith}
 use Rattle.and_model.specs.Terms.{Path, Term, Terms, variable, number, compound, none, more, Substitution, apply, apply_all}
-use Rattle.and_model.specs.Solutions.{Equation, Solves, Solvable, Entails}
+use Rattle.and_model.specs.Solutions.{Equation, Solves, Solvable}
 use Rattle.and_laws.proofs.Equality.{bool_cases}
 use Rattle.and_laws.proofs.Occurrences.{Variables, Absent, AllAbsent, Within, AllWithin, size, sizes}
 use Rattle.and_laws.proofs.Printing.{same_variable_true, same_variable_self}
-use Rattle.and_laws.proofs.Unifying.{EquationsWithin, equations_size, size_positive}
+use Rattle.and_laws.proofs.Unifying.{EquationsWithin, equations_size}
 use Rattle.and_plain.specs.declared.reducing.Reduced.{Reduced}
 use Rattle.and_plain.specs.declared.reducing.Reduced.TheVariants.{Clash, Empty, Bound}
 use Rattle.and_plain.specs.declared.reducing.Step.{Step}

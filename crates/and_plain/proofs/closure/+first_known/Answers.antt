@@ -1,5 +1,4 @@
 use Rattle.std.proofs.Common.{◌≡◌, ◌<◌, [], ◌∷◌, map, length, sym, ap, ◌∙◌, subst, refl, None, Some, arith}
-use Rattle.and_model.specs.Programs.{Arithmetic}
 use Rattle.and_plain.specs.Added.{IsAdded}
 use Rattle.and_plain.specs.Known.{IsFirstUnder, Preceded}
 use Rattle.and_plain.specs.Substitutions.{substitution_of}

@@ -1,9 +1,7 @@
 use Rattle.std.proofs.Common.{◌≡◌, ◌<◌, sym, ap, subst, ◌∷◌, map}
-use Rattle.and_model.specs.Solutions.{Equation}
 use Rattle.and_laws.proofs.Unifying.{equations_size}
 use Rattle.and_plain.specs.Reduced.{Alike, IsReduced, IsStep}
 use Rattle.and_plain.specs.Views.{equation_of}
-use Rattle.and_plain.specs.declared.reducing.Step.TheVariants.{Others}
 use Rattle.and_plain.proofs.Steps.{on_ok}
 use Rattle.and_plain.proofs.TakingApart.{alike_reduced}
 use Rattle.and_plain.proofs.reducing.+reduce.Goals as goal

@@ -1,7 +1,7 @@
 use Rattle.std.proofs.Common.{◌≡◌, sym, ap, ◌∙◌, true, false, map}
 use Rattle.and_plain.specs.Reduced.{is_variable, occurs}
 use Rattle.and_plain.specs.Views.{equation_of, term_of}
-use Rattle.and_plain.proofs.TakingApart.{not_occurring, occurring_clash, itself_alike, alike_self}
+use Rattle.and_plain.proofs.TakingApart.{not_occurring, occurring_clash, itself_alike}
 use Rattle.and_plain.proofs.reducing.bind.Goals as goal
 
 pub returns-then-is_variable : goal.returns-then-is_variable

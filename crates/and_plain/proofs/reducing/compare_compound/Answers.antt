@@ -1,4 +1,4 @@
-use Rattle.std.proofs.Common.{◌≡◌, sym, ap, ◌∙◌, map, Option, Some, None, Vec, Global}
+use Rattle.std.proofs.Common.{◌≡◌, sym, ap, ◌∙◌, map, Option, Vec, Global}
 use Rattle.std.specs.Option.{option_map}
 use Rattle.and_model.specs.Terms.{compound}
 use Rattle.and_plain.specs.declared.data.Equation.{Equation}

@@ -1,4 +1,4 @@
-use Rattle.std.proofs.Common.{◌≡◌, ap, subst, ◌∷◌, map, w64}
+use Rattle.std.proofs.Common.{ap, subst, ◌∷◌, map, w64}
 use Rattle.std.proofs.lemmas.Int.{to_z-of_z}
 use Rattle.and_model.specs.Terms.{number, variable}
 use Rattle.and_plain.specs.Reduced.{IsStep}

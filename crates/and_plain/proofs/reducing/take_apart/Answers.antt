@@ -1,4 +1,4 @@
-use Rattle.std.proofs.Common.{◌≡◌, rules, sym, ap, subst, ◌∷◌, map, w64, FitsSigned}
+use Rattle.std.proofs.Common.{rules, sym, ap, subst, ◌∷◌, map, w64, FitsSigned}
 use Rattle.std.proofs.lemmas.Int.{ints, to_z-of_z}
 use Rattle.and_model.specs.Terms.{number}
 use Rattle.and_plain.specs.Reduced.{IsStep}
