@@ -12,6 +12,7 @@ use Rattle.and_plain.specs.declared.reducing.Step.{Step}
 use Rattle.and_plain.specs.declared.reducing.Step.TheVariants.{Ended, Others}
 use Rattle.and_plain.specs.Views.{equation_of, term_of}
 
+-- the term is that variable
 abbrev pub is_variable : Path × ℕ → Term → Bool
 is_variable v (variable q k) = same_variable v (q, k)
 is_variable v (number z) = false
