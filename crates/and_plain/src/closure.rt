@@ -14,7 +14,7 @@ use std::alloc::{AllocError, Global};
 
 /// The first goal that is known.
 #[derive(Drop)]
-pub enum Found {
+enum Found {
     /// No goal is known: these wait.
     Waiting(Vec<Reckoning>),
     /// It adds the equations, and the others are left.

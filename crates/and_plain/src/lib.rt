@@ -14,6 +14,7 @@ pub mod lines;
 mod shown_names;
 mod shown_terms;
 pub mod reducing;
+mod reducing;
 pub mod solving;
 pub mod substitution;
 mod texts;

@@ -13,7 +13,7 @@ use std::alloc::{AllocError, Global};
 
 /// What equations come to.
 #[derive(Drop)]
-pub enum Reduced {
+pub(crate) enum Reduced {
     /// They have no solution.
     Clash,
     /// None is left.
@@ -24,7 +24,7 @@ pub enum Reduced {
 
 /// What equations come to when the first is taken apart.
 #[derive(Drop)]
-pub enum Step {
+enum Step {
     Ended(Reduced),
     /// Smaller equations of the same meaning.
     Others(Vec<Equation>),
@@ -32,7 +32,7 @@ pub enum Step {
 
 /// Takes equations apart, until none is left or one gives a variable a term. An error is want of
 /// memory.
-pub fn reduce(mut equations: Vec<Equation>) -> Result<Reduced, AllocError>
+pub(crate) fn reduce(mut equations: Vec<Equation>) -> Result<Reduced, AllocError>
     ensures { IfOk result (λ reduced. IsReduced (map equation_of equations.items) reduced) }
 {
     let Some(equation) = take_first(&mut equations) else {
