@@ -11,14 +11,13 @@ pub mod closure;
 pub mod data;
 pub mod framing;
 pub mod lines;
+mod reducing;
 mod shown_names;
 mod shown_terms;
-pub mod reducing;
-mod reducing;
 pub mod solving;
 pub mod substitution;
-mod texts;
 mod taking;
+mod texts;
 pub mod unfolding;
 mod variables;
 
