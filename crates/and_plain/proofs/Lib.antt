@@ -4,3 +4,5 @@ pub mod Sizes
 pub mod TakingApart
 pub mod Eliminating
 pub mod FirstKnown
+pub mod Ending
+pub mod Lists

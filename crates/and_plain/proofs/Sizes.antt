@@ -1,5 +1,6 @@
 -- How much is to be done, at most.
-use Rattle.std.proofs.Common.{ℕ, ◌≡◌, suc, ◌+◌, ◌<◌, List, [], ◌∷◌, length, ap, arith, ◌∙◌}
+use Rattle.std.proofs.Common.{ℕ, ◌≡◌, suc, ◌+◌, ◌*◌, ◌<◌, ◌≤◌, List, [], ◌∷◌, length, ap, arith, ◌∙◌}
+use Rattle.std.proofs.Math.Nat.{suc-mul, mul-le-mul_right}
 use Rattle.and_model.specs.Terms.{Path, Term}
 use Rattle.and_model.specs.Programs.{Program, Item, call, equal, arithmetic, fail, clause_at}
 use Rattle.and_model.specs.Trees.{Agenda, end, goal, equation, reckoning, agenda}
@@ -31,3 +32,9 @@ taken_smaller P ag rest inner todo q g c cs others e i d k =
     let f : agenda_size inner ≡ agenda_size rest = ap agenda_size i in
     let h : code_size P cs ≡ length (clause_at P c).body + code_size P others = ap (code_size P) k in
     omega arith
+
+-- a clause that weighs something leaves less of a limit, by whole turns of `n` clauses
+pub after_smaller : (after left w n : ℕ) → after + w ≡ left → 1 ≤ w → after * (n + 3) + (n + 2) < left * (n + 3)
+after_smaller after left w n e h =
+    let up : suc after ≤ left = omega arith in
+    omega (arith, suc-mul after (n + 3), mul-le-mul_right (n + 3) up)

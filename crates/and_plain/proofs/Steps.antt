@@ -86,7 +86,7 @@ call_step P q g rest (Some u) (Some v) (t, x, (es, gs, n, wh)) (ves, vgs, vn, vw
   ),
 )
 
-not_taking : (b : Bool) → b ≡ false → (elim b as (λ b. Option (b ≡ true)) [ true ↦ Some refl | false ↦ None ]) ≡ None
+pub not_taking : (b : Bool) → b ≡ false → (elim b as (λ b. Option (b ≡ true)) [ true ↦ Some refl | false ↦ None ]) ≡ None
 not_taking true h = absurd (cc)
 not_taking false h = refl
 

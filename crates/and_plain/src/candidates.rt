@@ -1,6 +1,6 @@
 //! The clauses of a predicate, and what they weigh.
 
-ghost use Rattle.std.specs.Prelude.{◌≡◌, ◌≤◌, map, length};
+ghost use Rattle.std.specs.Prelude.{◌≡◌, ◌<◌, ◌≤◌, ◌+◌, map, length, MatchOption};
 ghost use Rattle.and_model.specs.Programs.{clause_at, clause_weight, is_goals, is_of, same_count, same_predicate};
 ghost use Rattle.and_plain.specs.Unfolded.{capped};
 ghost use Rattle.and_plain.specs.Views.{clause_of, item_of, program_of, term_of, terms_of};
@@ -72,6 +72,18 @@ pub fn clause_weight(clause: &Clause) -> u64
         .variables
         .saturating_add(1)
         .saturating_add(goals + goals)
+}
+
+/// What is left of the limit after the clause; `None` where the clause weighs more. Takes no
+/// memory.
+#[tactic(auto, unfolding(and_model::specs::Programs::clause_weight))]
+pub(crate) fn left_after(clause: &Clause, limit: u64) -> Option<u64>
+    ensures { MatchOption result (limit < clause_weight (clause_of clause.now))
+        (λ left. left + clause_weight (clause_of clause.now) ≡ limit) }
+{
+    let goals = is_goals(&clause.body) as u64;
+    let left = limit.checked_sub(clause.variables)?;
+    left.checked_sub(1 + goals + goals)
 }
 
 /// How many items are goals of `is`.

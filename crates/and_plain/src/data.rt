@@ -107,6 +107,21 @@ pub struct Unfolding {
     pub is_whole: bool,
 }
 
+/// What a proof ends with: the line of an answer, or of one whose arithmetic waits forever.
+#[derive(Drop)]
+pub struct Outcome {
+    pub line: Vec<u8>,
+    /// Whether arithmetic waits forever.
+    pub floundered: bool,
+}
+
+/// An entry of a listing: the code of a proof, and its outcome.
+#[derive(Drop)]
+pub struct Entry {
+    pub code: Vec<u16>,
+    pub outcome: Outcome,
+}
+
 /// A variable with the term that replaces it.
 #[derive(Drop)]
 pub struct Binding {

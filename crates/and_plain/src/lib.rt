@@ -15,6 +15,9 @@ mod reducing;
 mod shown_names;
 mod shown_terms;
 pub mod solving;
+pub mod listings;
+pub mod outcomes;
+pub mod outputs;
 pub mod substitution;
 mod taking;
 mod texts;
@@ -26,9 +29,13 @@ pub use candidates::{clause_at, clause_weight, is_of};
 pub use closing::{added, is_ground};
 pub use closure::close;
 pub use data::{
-    Agenda, Binding, Clause, Closed, Equation, Item, Program, Reckoning, Term, Terms, Unfolding,
+    Agenda, Binding, Clause, Closed, Entry, Equation, Item, Outcome, Program, Reckoning, Term,
+    Terms, Unfolding,
 };
 pub use lines::line;
 pub use solving::solve;
+pub use listings::listing;
+pub use outcomes::outcome;
+pub use outputs::{Finish, output};
 pub use substitution::{applied, copied};
 pub use unfolding::unfold;
