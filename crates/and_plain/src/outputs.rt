@@ -67,3 +67,6 @@ fn with_numbers(alloc: Global, forks: u64, failed: u64) -> Result<Vec<u8>, Alloc
     let text = format!(in alloc; "% complete\n% forks {forks} failed {failed}\n")?;
     Ok(text.into_bytes())
 }
+
+#[cfg(test)]
+mod tests;
