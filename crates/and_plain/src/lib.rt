@@ -11,13 +11,13 @@ pub mod closure;
 pub mod data;
 pub mod framing;
 pub mod lines;
+pub mod listings;
+pub mod outcomes;
+pub mod outputs;
 mod reducing;
 mod shown_names;
 mod shown_terms;
 pub mod solving;
-pub mod listings;
-pub mod outcomes;
-pub mod outputs;
 pub mod substitution;
 mod taking;
 mod texts;
@@ -33,9 +33,9 @@ pub use data::{
     Terms, Unfolding,
 };
 pub use lines::line;
-pub use solving::solve;
 pub use listings::listing;
 pub use outcomes::outcome;
 pub use outputs::{Finish, output};
+pub use solving::solve;
 pub use substitution::{applied, copied};
 pub use unfolding::unfold;
