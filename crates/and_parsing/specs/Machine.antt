@@ -1,0 +1,328 @@
+-- A machine that takes the words of a text one by one, and says at each whether a text of the grammar can go on with it.
+use Rattle.std.specs.Prelude.{ℕ, zero, suc, ◌+◌, pos, neg_ℤ, Bool, true, false, cond, ◌&&◌, ◌||◌, List, [], ◌∷◌, ◌++◌, length, Option, Some, None, leb, codes}
+use Rattle.std.specs.Str.{bytes_eq}
+use Rattle.and_model.specs.Lines.{Bytes}
+use Rattle.and_written.specs.Written
+use Rattle.and_written.specs.Written.{Written, Many}
+use Rattle.and_texts.specs.Words.{Word, Placed, products, sums, relations, is_one_of}
+use Rattle.and_texts.specs.Words as words
+use Rattle.and_texts.specs.Grammar.{binary, unary, cell, nil, Statement}
+
+-- an infix operator and its left operand, where the right one is to come
+pub record Half : Type 0 where
+  pub left : Written
+  pub operator : Bytes
+
+-- What waits for its operand since the last bracket, comma or bar: at most one operator of each priority, and prefix minuses.
+pub record Pending : Type 0 where
+  pub relation : Option Half
+  pub sum : Option Half
+  pub product : Option Half
+  pub minuses : ℕ
+
+abbrev pub nothing_pending : Pending
+nothing_pending = record { relation = None; sum = None; product = None; minuses = 0 }
+
+abbrev pub with_half : Option Half → Written → Written
+with_half None w = w
+with_half (Some h) w = binary h.operator h.left w
+
+abbrev pub negated : ℕ → Written → Written
+negated zero w = w
+negated (suc n) w = negated n (unary (codes "-") w)
+
+-- what an operand becomes by what is pending, at each priority
+abbrev pub at200 : Pending → Written → Written
+at200 p w = negated p.minuses w
+
+abbrev pub at400 : Pending → Written → Written
+at400 p w = with_half p.product (at200 p w)
+
+abbrev pub at500 : Pending → Written → Written
+at500 p w = with_half p.sum (at400 p w)
+
+abbrev pub at700 : Pending → Written → Written
+at700 p w = with_half p.relation (at500 p w)
+
+-- an open bracket: a plain one, that of a compound's arguments, that of a list's elements, or a list's behind its bar
+pub data Bracket : Type 0 where
+  plain : Bracket
+  arguments : Bytes → Bracket
+  elements : Bracket
+  tail : Bracket
+
+-- An open bracket, with the terms before the last comma or bar in it (the latest first), and what was pending before it.
+pub record Frame : Type 0 where
+  pub bracket : Bracket
+  pub before : List Written
+  pub outside : Pending
+
+-- the part of a clause: its head (or all of a fact), the body behind that head, or the body of a query
+pub data Part : Type 0 where
+  head : Part
+  body : Written → Part
+  query : Part
+
+-- the part, and its terms before the last comma outside of brackets (the latest first)
+pub record Place : Type 0 where
+  pub part : Part
+  pub before : List Written
+
+-- What may come next: an operand; only the integer behind its minus; or what can follow that operand, which may be a name that a bracket makes a compound's.
+pub data Mode : Type 0 where
+  wanted : Mode
+  numeral : Mode
+  operand : Written → Option Bytes → Mode
+
+-- Before the first word of a clause; inside a clause, where brackets are open (the innermost first); right behind the bracket of a list; and behind the end of a clause or query with that term.
+pub data State : Type 0 where
+  start : State
+  inside : Place → List Frame → Pending → Mode → State
+  opened_list : Place → List Frame → Pending → State
+  over : Bool → Written → State
+
+-- how many brackets and prefix minuses are open around these brackets
+abbrev pub depth : List Frame → ℕ
+depth [] = 0
+depth (f ∷ fs) = suc (f.outside.minuses + depth fs)
+
+-- the terms, and then that one, joined by commas
+abbrev pub conjunction : List Written → Written → Written
+conjunction [] w = w
+conjunction (a ∷ more) w = conjunction more (binary (codes ",") a w)
+
+-- the terms, and then those
+abbrev pub many : List Written → Many → Many
+many [] ts = ts
+many (a ∷ more) ts = many more (Written.more a ts)
+
+-- the list of the terms, and then that rest
+abbrev pub list : List Written → Written → Written
+list [] w = w
+list (a ∷ more) w = list more (cell a w)
+
+-- what a name is where an operator can follow
+pub data Role : Type 0 where
+  is_product : Role
+  is_sum : Role
+  is_relation : Role
+  is_neck : Role
+  is_none : Role
+
+abbrev pub role : Bytes → Role
+role c = cond (is_one_of products c) is_product (cond (is_one_of sums c) is_sum (cond (is_one_of relations c) is_relation (cond (bytes_eq c (codes ":-")) is_neck is_none)))
+
+-- `:-` and `?-` are no atoms
+abbrev pub is_reserved : Bytes → Bool
+is_reserved c = bytes_eq c (codes ":-") || bytes_eq c (codes "?-")
+
+-- a word where an operand is wanted
+abbrev pub take_operand : Place → List Frame → Pending → Word → Option State
+take_operand l fs p (words.variable x) = Some (inside l fs p (operand (Written.variable x) None))
+take_operand l fs p (words.integer z) = Some (inside l fs p (operand (Written.integer (pos z)) None))
+take_operand l fs p (words.name c) = cond (is_reserved c) None (Some (inside l fs p (operand (Written.compound c Written.none) (Some c))))
+take_operand l fs p (words.quoted c) = Some (inside l fs p (operand (Written.compound c Written.none) (Some c)))
+take_operand l fs p (words.minus words.integer) = Some (inside l fs p numeral)
+take_operand l fs p (words.minus words.bracket) = None
+take_operand l fs p (words.minus words.stop) = Some (inside l fs p (operand (Written.compound (codes "-") Written.none) None))
+take_operand l fs p (words.minus words.operand) = Some (inside l fs (record p { minuses = suc p.minuses }) wanted)
+take_operand l fs p (words.open_bracket behind) = Some (inside l (record { bracket = plain; before = []; outside = p } ∷ fs) nothing_pending wanted)
+take_operand l fs p words.open_list = Some (opened_list l fs p)
+take_operand l fs p words.close_bracket = None
+take_operand l fs p words.close_list = None
+take_operand l fs p words.comma = None
+take_operand l fs p words.bar = None
+take_operand l fs p words.end = None
+
+-- a product, sum or relation behind an operand: it takes what is pending at its left priority for its left operand
+abbrev pub take_product : Place → List Frame → Pending → Written → Bytes → State
+take_product l fs p w c = inside l fs (record { relation = p.relation; sum = p.sum; product = Some (record { left = at400 p w; operator = c }); minuses = 0 }) wanted
+
+abbrev pub take_sum : Place → List Frame → Pending → Written → Bytes → State
+take_sum l fs p w c = inside l fs (record { relation = p.relation; sum = Some (record { left = at500 p w; operator = c }); product = None; minuses = 0 }) wanted
+
+abbrev pub take_relation : Place → List Frame → Pending → Written → Bytes → Option State
+take_relation l fs p w c = elim p.relation [ None ↦ Some (inside l fs (record { relation = Some (record { left = at500 p w; operator = c }); sum = None; product = None; minuses = 0 }) wanted) | Some h ↦ None ]
+
+-- the `:-` behind a head
+abbrev pub take_neck : Place → List Frame → Written → Option State
+take_neck l (f ∷ fs) a = None
+take_neck l [] a = elim l.part [
+    head ↦ Some (inside (record { part = body (conjunction l.before a); before = [] }) [] nothing_pending wanted)
+  | body h ↦ None
+  | query ↦ None ]
+
+-- a comma behind the term a
+abbrev pub take_comma : Place → List Frame → Written → Option State
+take_comma l [] a = Some (inside (record { part = l.part; before = a ∷ l.before }) [] nothing_pending wanted)
+take_comma l (f ∷ fs) a =
+    let next : Option State = Some (inside l (record { bracket = f.bracket; before = a ∷ f.before; outside = f.outside } ∷ fs) nothing_pending wanted) in
+    elim f.bracket [ plain ↦ next | arguments c ↦ next | elements ↦ next | tail ↦ None ]
+
+-- a bar behind the term a
+abbrev pub take_bar : Place → List Frame → Written → Option State
+take_bar l [] a = None
+take_bar l (f ∷ fs) a = elim f.bracket [
+    plain ↦ None
+  | arguments c ↦ None
+  | elements ↦ Some (inside l (record { bracket = tail; before = a ∷ f.before; outside = f.outside } ∷ fs) nothing_pending wanted)
+  | tail ↦ None ]
+
+-- a closing bracket behind the term a
+abbrev pub take_close_bracket : Place → List Frame → Written → Option State
+take_close_bracket l [] a = None
+take_close_bracket l (f ∷ fs) a = elim f.bracket [
+    plain ↦ Some (inside l fs f.outside (operand (conjunction f.before a) None))
+  | arguments c ↦ Some (inside l fs f.outside (operand (Written.compound c (many f.before (Written.more a Written.none))) None))
+  | elements ↦ None
+  | tail ↦ None ]
+
+abbrev pub take_close_list : Place → List Frame → Written → Option State
+take_close_list l [] a = None
+take_close_list l (f ∷ fs) a = elim f.bracket [
+    plain ↦ None
+  | arguments c ↦ None
+  | elements ↦ Some (inside l fs f.outside (operand (list f.before (cell a nil)) None))
+  | tail ↦ Some (inside l fs f.outside (operand (list f.before a) None)) ]
+
+-- the end of a clause behind the term a
+abbrev pub take_end : Place → List Frame → Written → Option State
+take_end l (f ∷ fs) a = None
+take_end l [] a = elim l.part [
+    head ↦ Some (over false (conjunction l.before a))
+  | body h ↦ Some (over false (binary (codes ":-") h (conjunction l.before a)))
+  | query ↦ Some (over true (unary (codes "?-") (conjunction l.before a))) ]
+
+-- a name where an operator can follow the operand w
+abbrev pub take_name : Place → List Frame → Pending → Written → Bytes → Option State
+take_name l fs p w c = elim (role c) [
+    is_product ↦ Some (take_product l fs p w c)
+  | is_sum ↦ Some (take_sum l fs p w c)
+  | is_relation ↦ take_relation l fs p w c
+  | is_neck ↦ take_neck l fs (at700 p w)
+  | is_none ↦ None ]
+
+-- a bracket behind an operand: it makes a name that of a compound
+abbrev pub take_functor : Place → List Frame → Pending → Option Bytes → Option State
+take_functor l fs p None = None
+take_functor l fs p (Some c) = Some (inside l (record { bracket = arguments c; before = []; outside = p } ∷ fs) nothing_pending wanted)
+
+-- a word behind the operand w
+abbrev pub take_operator : Place → List Frame → Pending → Written → Option Bytes → Word → Option State
+take_operator l fs p w f (words.name c) = take_name l fs p w c
+take_operator l fs p w f (words.minus b) = Some (take_sum l fs p w (codes "-"))
+take_operator l fs p w f (words.open_bracket true) = take_functor l fs p f
+take_operator l fs p w f (words.open_bracket false) = None
+take_operator l fs p w f words.close_bracket = take_close_bracket l fs (at700 p w)
+take_operator l fs p w f words.close_list = take_close_list l fs (at700 p w)
+take_operator l fs p w f words.comma = take_comma l fs (at700 p w)
+take_operator l fs p w f words.bar = take_bar l fs (at700 p w)
+take_operator l fs p w f words.end = take_end l fs (at700 p w)
+take_operator l fs p w f (words.variable x) = None
+take_operator l fs p w f (words.integer z) = None
+take_operator l fs p w f (words.quoted c) = None
+take_operator l fs p w f words.open_list = None
+
+-- the integer behind its minus
+abbrev pub take_numeral : Place → List Frame → Pending → Word → Option State
+take_numeral l fs p (words.integer z) = Some (inside l fs p (operand (Written.integer (neg_ℤ (pos z))) None))
+take_numeral l fs p (words.variable x) = None
+take_numeral l fs p (words.name c) = None
+take_numeral l fs p (words.quoted c) = None
+take_numeral l fs p (words.minus b) = None
+take_numeral l fs p (words.open_bracket behind) = None
+take_numeral l fs p words.close_bracket = None
+take_numeral l fs p words.open_list = None
+take_numeral l fs p words.close_list = None
+take_numeral l fs p words.comma = None
+take_numeral l fs p words.bar = None
+take_numeral l fs p words.end = None
+
+-- the word `?-` begins a query
+abbrev pub begins_query : Word → Bool
+begins_query (words.name c) = bytes_eq c (codes "?-")
+begins_query w = false
+
+abbrev pub closes_list : Word → Bool
+closes_list words.close_list = true
+closes_list w = false
+
+abbrev pub in_part : Part → State
+in_part a = inside (record { part = a; before = [] }) [] nothing_pending wanted
+
+-- the first word behind the bracket of a list, if none closes it
+abbrev pub in_list : Place → List Frame → Pending → State
+in_list l fs p = inside l (record { bracket = elements; before = []; outside = p } ∷ fs) nothing_pending wanted
+
+-- The state behind one more word, without limits; there is none where no clause goes on with it.
+abbrev pub go : State → Word → Option State
+go start x = cond (begins_query x) (Some (in_part query)) (take_operand (record { part = head; before = [] }) [] nothing_pending x)
+go (inside l fs p wanted) x = take_operand l fs p x
+go (inside l fs p numeral) x = take_numeral l fs p x
+go (inside l fs p (operand w f)) x = take_operator l fs p w f x
+go (opened_list l fs p) x =
+    cond (closes_list x) (Some (inside l fs p (operand nil None)))
+    (take_operand l (record { bracket = elements; before = []; outside = p } ∷ fs) nothing_pending x)
+go (over q t) x = None
+
+-- the limits of a text that is taken, where an operand is wanted: of a numeral, and of what is open at once
+abbrev pub operand_exceeds : List Frame → Pending → Word → Bool
+operand_exceeds fs p (words.integer z) = leb 9223372036854775808 z
+operand_exceeds fs p (words.minus words.operand) = leb 256 (p.minuses + depth fs)
+operand_exceeds fs p (words.open_bracket behind) = leb 256 (p.minuses + depth fs)
+operand_exceeds fs p words.open_list = leb 256 (p.minuses + depth fs)
+operand_exceeds fs p x = false
+
+-- the comma is one behind a compound's 255th argument
+abbrev pub comma_exceeds : List Frame → Bool
+comma_exceeds [] = false
+comma_exceeds (f ∷ fs) = elim f.bracket [ plain ↦ false | arguments c ↦ leb 255 (suc (length f.before)) | elements ↦ false | tail ↦ false ]
+
+-- and where an operator can follow: of what is open, and of a compound's arguments
+abbrev pub operator_exceeds : List Frame → Pending → Word → Bool
+operator_exceeds fs p (words.open_bracket behind) = leb 256 (p.minuses + depth fs)
+operator_exceeds fs p words.comma = comma_exceeds fs
+operator_exceeds fs p x = false
+
+-- The word is over a limit.
+abbrev pub exceeds : State → Word → Bool
+exceeds start x = operand_exceeds [] nothing_pending x
+exceeds (inside l fs p wanted) x = operand_exceeds fs p x
+exceeds (inside l fs p numeral) x = false
+exceeds (inside l fs p (operand w f)) x = operator_exceeds fs p x
+exceeds (opened_list l fs p) x = operand_exceeds (record { bracket = elements; before = []; outside = p } ∷ fs) nothing_pending x
+exceeds (over q t) x = false
+
+-- the state behind one more word; there is none where no clause goes on with it, within the limits if they are kept
+abbrev pub step : Bool → State → Word → Option State
+step limited s x = cond (limited && exceeds s x) None (go s x)
+
+abbrev pub and_then : {A B : Type 0} → Option A → (A → Option B) → Option B
+and_then None f = None
+and_then (Some a) f = f a
+
+-- the state behind these words
+abbrev pub run : Bool → State → List Word → Option State
+run limited s [] = Some s
+run limited s (x ∷ xs) = and_then (step limited s x) (λ t. run limited t xs)
+
+-- How far a text is read: its clauses and queries so far; and where one more is begun, the place of its first word and the state behind its last.
+pub data Reading : Type 0 where
+  between : List Statement → Reading
+  within : List Statement → ℕ → State → Reading
+
+abbrev pub at_state : List Statement → ℕ → State → Reading
+at_state ss n (over q t) = between (ss ++ record { is_query = q; term = t; place = n } ∷ [])
+at_state ss n start = within ss n start
+at_state ss n (inside l fs p m) = within ss n (inside l fs p m)
+at_state ss n (opened_list l fs p) = within ss n (opened_list l fs p)
+
+-- a text with one more word
+abbrev pub take_word : Bool → Reading → Placed → Option Reading
+take_word limited (between ss) p = and_then (step limited start p.word) (λ s. Some (at_state ss p.place s))
+take_word limited (within ss n s) p = and_then (step limited s p.word) (λ t. Some (at_state ss n t))
+
+-- a text with these words more
+abbrev pub take_words : Bool → Reading → List Placed → Option Reading
+take_words limited r [] = Some r
+take_words limited r (p ∷ ps) = and_then (take_word limited r p) (λ t. take_words limited t ps)
