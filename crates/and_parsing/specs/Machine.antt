@@ -193,14 +193,13 @@ take_end l [] a = elim l.part [
   | body h ↦ Some (over false (binary (codes ":-") h (conjunction l.before a)))
   | query ↦ Some (over true (unary (codes "?-") (conjunction l.before a))) ]
 
--- a name where an operator can follow the operand w
-abbrev pub take_name : Place → List Frame → Pending → Written → Bytes → Option State
-take_name l fs p w c = elim (role c) [
-    is_product ↦ Some (take_product l fs p w c)
-  | is_sum ↦ Some (take_sum l fs p w c)
-  | is_relation ↦ take_relation l fs p w c
-  | is_neck ↦ take_neck l fs (at700 p w)
-  | is_none ↦ None ]
+-- a name of that role behind the operand w
+abbrev pub take_name : Place → List Frame → Pending → Written → Bytes → Role → Option State
+take_name l fs p w c is_product = Some (take_product l fs p w c)
+take_name l fs p w c is_sum = Some (take_sum l fs p w c)
+take_name l fs p w c is_relation = take_relation l fs p w c
+take_name l fs p w c is_neck = take_neck l fs (at700 p w)
+take_name l fs p w c is_none = None
 
 -- a bracket behind an operand: it makes a name that of a compound
 abbrev pub take_functor : Place → List Frame → Pending → Option Bytes → Option State
@@ -209,7 +208,7 @@ take_functor l fs p (Some c) = Some (inside l (record { bracket = arguments c; b
 
 -- a word behind the operand w
 abbrev pub take_operator : Place → List Frame → Pending → Written → Option Bytes → Word → Option State
-take_operator l fs p w f (words.name c) = take_name l fs p w c
+take_operator l fs p w f (words.name c) = take_name l fs p w c (role c)
 take_operator l fs p w f (words.minus b) = Some (take_sum l fs p w (codes "-"))
 take_operator l fs p w f (words.open_bracket true) = take_functor l fs p f
 take_operator l fs p w f (words.open_bracket false) = None
