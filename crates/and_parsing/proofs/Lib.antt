@@ -1,3 +1,4 @@
 pub mod Examples
 pub mod Steps
 pub mod Derived
+pub mod Accepted
