@@ -2,3 +2,5 @@ pub mod Examples
 pub mod Steps
 pub mod Derived
 pub mod Accepted
+pub mod Closing
+pub mod Texts

@@ -1,5 +1,5 @@
 -- A machine that takes the words of a text one by one, and says at each whether a text of the grammar can go on with it.
-use Rattle.std.specs.Prelude.{ℕ, zero, suc, ◌+◌, pos, neg_ℤ, Bool, true, false, cond, ◌&&◌, ◌||◌, List, [], ◌∷◌, ◌++◌, length, Option, Some, None, leb, codes}
+use Rattle.std.specs.Prelude.{ℕ, zero, suc, ◌+◌, pos, neg_ℤ, Bool, true, false, cond, ◌&&◌, ◌||◌, List, [], ◌∷◌, ◌++◌, length, map, Option, Some, None, leb, codes}
 use Rattle.std.specs.Str.{bytes_eq}
 use Rattle.and_model.specs.Lines.{Bytes}
 use Rattle.and_written.specs.Written
@@ -325,3 +325,14 @@ take_word limited (within ss n s) p = and_then (step limited s p.word) (λ t. So
 abbrev pub take_words : Bool → Reading → List Placed → Option Reading
 take_words limited r [] = Some r
 take_words limited r (p ∷ ps) = and_then (take_word limited r p) (λ t. take_words limited t ps)
+
+-- The state is behind the end of a clause or query.
+abbrev pub is_over : State → Bool
+is_over (over q t) = true
+is_over start = false
+is_over (inside l fs p m) = false
+is_over (opened_list l fs p) = false
+
+-- the words by themselves
+abbrev pub words_of : List Placed → List Word
+words_of ps = map (λ (p : Placed). p.word) ps
