@@ -10,7 +10,7 @@ use Rattle.and_written.specs.Written.{Written, Many}
 use Rattle.and_texts.specs.Words.{Word, products, sums, relations, is_one_of}
 use Rattle.and_texts.specs.Words as words
 use Rattle.and_texts.specs.Grammar.{term0, term200, term400, term500, term700, term1000, binary, unary, cell, nil, IsAtom, IsFunctor, IsSum, Reads, Arguments, Elements, IsClause}
-use Rattle.and_parsing.specs.Machine.{Half, Pending, nothing_pending, with_half, negated, at200, at400, at500, at700, Bracket, plain, arguments, elements, tail, Frame, Part, head, body, query, Place, Mode, wanted, numeral, operand, State, start, inside, opened_list, over, depth, conjunction, many, list, role, take_operand, take_numeral, take_operator, take_name, take_sum, take_relation, take_neck, take_comma, take_bar, take_close_bracket, take_close_list, take_end, take_functor, begins_query, closes_list, operand_exceeds, operator_exceeds, comma_exceeds, go, exceeds, step, and_then, run}
+use Rattle.and_parsing.specs.Machine.{Half, Pending, nothing_pending, with_half, negated, at200, at400, at500, at700, Bracket, plain, arguments, elements, tail, Frame, Part, head, body, query, Outermost, Mode, wanted, numeral, operand, State, start, inside, opened_list, over, depth, conjunction, many, list, role, take_operand, take_numeral, take_operator, take_name, take_sum, take_relation, take_neck, take_comma, take_bar, take_close_bracket, take_close_list, take_end, take_functor, begins_query, closes_list, operand_exceeds, operator_exceeds, comma_exceeds, go, exceeds, step, and_then, run}
 use Rattle.and_parsing.proofs.Steps.{step_tells, shallow_told, by_role}
 
 pub and_then_tells : {A B : Type 0} (o : Option A) (f : A → Option B) (b : B) → and_then o f ≡ Some b → (a : A) × (o ≡ Some a) × (f a ≡ Some b)
@@ -83,7 +83,7 @@ module _ (limited : Bool) (whole : List Word) where
   Outside (body h) b from = (w : Written) → Reads limited 0 term1000 from (words.end ∷ []) w → IsClause limited whole false (binary (codes ":-") h (conjunction b w))
   Outside query b from = (w : Written) → Reads limited 0 term1000 from (words.end ∷ []) w → IsClause limited whole true (unary (codes "?-") (conjunction b w))
 
-  abbrev Within : Place → List Frame → List Word → Type 0
+  abbrev Within : Outermost → List Frame → List Word → Type 0
   Within l [] from = Outside l.part l.before from
   Within l (f ∷ fs) from = (outer at : List Word) × Within l fs outer × Opened (depth fs) f.outside outer at × Inside (f.outside.minuses + depth fs) f.bracket f.before at from
 
@@ -107,7 +107,7 @@ module _ (limited : Bool) (whole : List Word) where
   Keeps (Some s) here = Fits s here
 
   -- a word where an operand is wanted
-  operand_kept : (l : Place) (fs : List Frame) (p : Pending) (x : Word) (here from : List Word) → (limited ≡ true → operand_exceeds fs p x ≡ false)
+  operand_kept : (l : Outermost) (fs : List Frame) (p : Pending) (x : Word) (here from : List Word) → (limited ≡ true → operand_exceeds fs p x ≡ false)
       → Within l fs from → Opened (depth fs) p from (x ∷ here) → Keeps (take_operand l fs p x) here
   operand_kept l fs p (words.variable x) here from low i o = (from, words.variable x ∷ here, i, o, Reads.variable (p.minuses + depth fs) x here, tt)
   operand_kept l fs p (words.integer z) here from low i o =
@@ -149,7 +149,7 @@ module _ (limited : Bool) (whole : List Word) where
   operand_kept l fs p words.bar here from low i o = tt
   operand_kept l fs p words.end here from low i o = tt
 
-  numeral_kept : (l : Place) (fs : List Frame) (p : Pending) (x : Word) (here from : List Word) → Within l fs from → Opened (depth fs) p from (words.minus words.integer ∷ x ∷ here)
+  numeral_kept : (l : Outermost) (fs : List Frame) (p : Pending) (x : Word) (here from : List Word) → Within l fs from → Opened (depth fs) p from (words.minus words.integer ∷ x ∷ here)
       → Keeps (take_numeral l fs p x) here
   numeral_kept l fs p (words.integer z) here from i o =
       (from, words.minus words.integer ∷ words.integer z ∷ here, i, o, Reads.negative (p.minuses + depth fs) z here, tt)
@@ -166,7 +166,7 @@ module _ (limited : Bool) (whole : List Word) where
   numeral_kept l fs p words.end here from i o = tt
 
   -- the words behind a term of the priority 700
-  neck_kept : (l : Place) (fs : List Frame) (a : Written) (here from : List Word) → Within l fs from → Reads limited (depth fs) term700 from (words.name (codes ":-") ∷ here) a → Keeps (take_neck l fs a) here
+  neck_kept : (l : Outermost) (fs : List Frame) (a : Written) (here from : List Word) → Within l fs from → Reads limited (depth fs) term700 from (words.name (codes ":-") ∷ here) a → Keeps (take_neck l fs a) here
   neck_kept l (f ∷ fs) a here from i d = tt
   neck_kept l [] a here from i d = by_part l.part l.before i
     where
@@ -175,7 +175,7 @@ module _ (limited : Bool) (whole : List Word) where
       by_part (body h) b out = tt
       by_part query b out = tt
 
-  comma_kept : (l : Place) (fs : List Frame) (a : Written) (here from : List Word) → (limited ≡ true → comma_exceeds fs ≡ false) → Within l fs from
+  comma_kept : (l : Outermost) (fs : List Frame) (a : Written) (here from : List Word) → (limited ≡ true → comma_exceeds fs ≡ false) → Within l fs from
       → Reads limited (depth fs) term700 from (words.comma ∷ here) a → Keeps (take_comma l fs a) here
   comma_kept l [] a here from low i d = (here, by_part l.part l.before i, fresh 0 here)
     where
@@ -185,8 +185,6 @@ module _ (limited : Bool) (whole : List Word) where
       by_part query b out = λ w t. out (binary (codes ",") a w) (Reads.conjunction 0 from here (words.end ∷ []) a w d t)
   comma_kept l (f ∷ fs) a here from low (outer, at, i, o, inner) d = by_bracket f.bracket f.before low inner
     where
-      n : ℕ
-      n = f.outside.minuses + depth fs
       by_bracket : (k : Bracket) (b : List Written) → (limited ≡ true → comma_exceeds (record { bracket = k; before = b; outside = f.outside } ∷ fs) ≡ false)
           → Inside (f.outside.minuses + depth fs) k b at from → Keeps (take_comma l (record { bracket = k; before = b; outside = f.outside } ∷ fs) a) here
       by_bracket plain b few inner = (here, (outer, at, i, o, λ rest w t. inner rest (binary (codes ",") a w) (Reads.conjunction (suc (f.outside.minuses + depth fs)) from here (words.close_bracket ∷ rest) a w d t)), fresh (suc (f.outside.minuses + depth fs)) here)
@@ -196,7 +194,7 @@ module _ (limited : Bool) (whole : List Word) where
       by_bracket elements b few inner = (here, (outer, at, i, o, λ rest w t. inner rest (cell a w) (Elements.next_element (suc (f.outside.minuses + depth fs)) from here rest a w d t)), fresh (suc (f.outside.minuses + depth fs)) here)
       by_bracket tail b few inner = tt
 
-  bar_kept : (l : Place) (fs : List Frame) (a : Written) (here from : List Word) → Within l fs from → Reads limited (depth fs) term700 from (words.bar ∷ here) a → Keeps (take_bar l fs a) here
+  bar_kept : (l : Outermost) (fs : List Frame) (a : Written) (here from : List Word) → Within l fs from → Reads limited (depth fs) term700 from (words.bar ∷ here) a → Keeps (take_bar l fs a) here
   bar_kept l [] a here from i d = tt
   bar_kept l (f ∷ fs) a here from (outer, at, i, o, inner) d = by_bracket f.bracket f.before inner
     where
@@ -206,7 +204,7 @@ module _ (limited : Bool) (whole : List Word) where
       by_bracket elements b inner = (here, (outer, at, i, o, λ rest w t. inner rest (cell a w) (Elements.tail (suc (f.outside.minuses + depth fs)) from here rest a w d t)), fresh (suc (f.outside.minuses + depth fs)) here)
       by_bracket tail b inner = tt
 
-  close_bracket_kept : (l : Place) (fs : List Frame) (a : Written) (here from : List Word) → Within l fs from → Reads limited (depth fs) term700 from (words.close_bracket ∷ here) a
+  close_bracket_kept : (l : Outermost) (fs : List Frame) (a : Written) (here from : List Word) → Within l fs from → Reads limited (depth fs) term700 from (words.close_bracket ∷ here) a
       → Keeps (take_close_bracket l fs a) here
   close_bracket_kept l [] a here from i d = tt
   close_bracket_kept l (f ∷ fs) a here from (outer, at, i, o, inner) d = by_bracket f.bracket f.before inner
@@ -217,7 +215,7 @@ module _ (limited : Bool) (whole : List Word) where
       by_bracket elements b inner = tt
       by_bracket tail b inner = tt
 
-  close_list_kept : (l : Place) (fs : List Frame) (a : Written) (here from : List Word) → Within l fs from → Reads limited (depth fs) term700 from (words.close_list ∷ here) a
+  close_list_kept : (l : Outermost) (fs : List Frame) (a : Written) (here from : List Word) → Within l fs from → Reads limited (depth fs) term700 from (words.close_list ∷ here) a
       → Keeps (take_close_list l fs a) here
   close_list_kept l [] a here from i d = tt
   close_list_kept l (f ∷ fs) a here from (outer, at, i, o, inner) d = by_bracket f.bracket f.before inner
@@ -228,7 +226,7 @@ module _ (limited : Bool) (whole : List Word) where
       by_bracket elements b inner = (outer, at, i, o, inner here (cell a nil) (Elements.last_element (suc (f.outside.minuses + depth fs)) from here a d), tt)
       by_bracket tail b inner = (outer, at, i, o, inner here a d, tt)
 
-  end_kept : (l : Place) (fs : List Frame) (a : Written) (here from : List Word) → Within l fs from → Reads limited (depth fs) term700 from (words.end ∷ here) a → Keeps (take_end l fs a) here
+  end_kept : (l : Outermost) (fs : List Frame) (a : Written) (here from : List Word) → Within l fs from → Reads limited (depth fs) term700 from (words.end ∷ here) a → Keeps (take_end l fs a) here
   end_kept l (f ∷ fs) a here from i d = tt
   end_kept l [] a here from i d = by_part l.part l.before i
     where
@@ -240,7 +238,7 @@ module _ (limited : Bool) (whole : List Word) where
       by_part query b out = λ e. out a (ended e)
 
   -- a word behind an operand
-  module _ (l : Place) (fs : List Frame) (p : Pending) (w : Written) (from at : List Word) (i : Within l fs from) (o : Opened (depth fs) p from at) where
+  module _ (l : Outermost) (fs : List Frame) (p : Pending) (w : Written) (from at : List Word) (i : Within l fs from) (o : Opened (depth fs) p from at) where
     product_kept : (c : Bytes) (here : List Word) → Reads limited (p.minuses + depth fs) term0 at (words.name c ∷ here) w → is_one_of products c ≡ true
         → Fits (inside l fs (record { relation = p.relation; sum = p.sum; product = Some (record { left = at400 p w; operator = c }); minuses = 0 }) wanted) here
     product_kept c here d e = (from, i, record {
@@ -267,8 +265,6 @@ module _ (limited : Bool) (whole : List Word) where
     relation_kept : (c : Bytes) (here : List Word) → Reads limited (p.minuses + depth fs) term0 at (words.name c ∷ here) w → is_one_of relations c ≡ true → Keeps (take_relation l fs p w c) here
     relation_kept c here d e = by_relation p.relation o.relation
       where
-        n : ℕ
-        n = depth fs
         by_relation : (r : Option Half) → Relates (depth fs) r from o.at_sum → Keeps (elim r [
               None ↦ Some (inside l fs (record { relation = Some (record { left = at500 p w; operator = c }); sum = None; product = None; minuses = 0 }) wanted)
             | Some h ↦ None ]) here
@@ -319,7 +315,7 @@ module _ (limited : Bool) (whole : List Word) where
       by_test true is = (here, (λ w d. subst (λ z. IsClause limited z true (unary (codes "?-") w)) (sym (e ∙ ap (λ y. y ∷ here) (query_word x is))) (IsClause.query here w d)), fresh 0 here)
       by_test false is = operand_kept (record { part = head; before = [] }) [] nothing_pending x here (x ∷ here) low (λ rest w d. subst (λ z. Reads limited 0 term1000 z rest w) (sym e) d) (fresh 0 (x ∷ here))
 
-  list_kept : (l : Place) (fs : List Frame) (p : Pending) (x : Word) (here from : List Word) → (limited ≡ true → exceeds (opened_list l fs p) x ≡ false)
+  list_kept : (l : Outermost) (fs : List Frame) (p : Pending) (x : Word) (here from : List Word) → (limited ≡ true → exceeds (opened_list l fs p) x ≡ false)
       → Within l fs from → Opened (depth fs) p from (words.open_list ∷ x ∷ here) → (limited ≡ true → p.minuses + depth fs < 256) → Keeps (go (opened_list l fs p) x) here
   list_kept l fs p x here from low i o few = by_test (closes_list x) refl
     where

@@ -7,7 +7,7 @@ use Rattle.and_written.specs.Written.{Written}
 use Rattle.and_texts.specs.Words.{Word}
 use Rattle.and_texts.specs.Words as words
 use Rattle.and_texts.specs.Grammar.{binary, unary, cell, nil}
-use Rattle.and_parsing.specs.Machine.{Pending, nothing_pending, at700, Bracket, plain, arguments, elements, tail, Frame, Part, head, body, query, Place, Mode, wanted, numeral, operand, State, start, inside, opened_list, over, conjunction, many, list, run}
+use Rattle.and_parsing.specs.Machine.{Pending, nothing_pending, at700, Bracket, plain, arguments, elements, tail, Frame, Part, head, body, query, Outermost, Mode, wanted, numeral, operand, State, start, inside, opened_list, over, conjunction, many, list, run}
 use Rattle.and_parsing.proofs.Steps.{run_step}
 
 module _ (limited : Bool) where
@@ -18,7 +18,7 @@ module _ (limited : Bool) where
   abbrev then_ends : (s t : State) (x : Word) → ((us : List Word) → run limited s (x ∷ us) ≡ run limited t us) → Ends t → Ends s
   then_ends s t x same (us, q, w, e) = (x ∷ us, q, w, same us ∙ e)
 
-  operand_ends : (l : Place) (fs : List Frame) (p : Pending) (w : Written) (f : Option Bytes) → Ends (inside l fs p (operand w f))
+  operand_ends : (l : Outermost) (fs : List Frame) (p : Pending) (w : Written) (f : Option Bytes) → Ends (inside l fs p (operand w f))
   operand_ends l [] p w f = by_part l.part l.before
     where
       by_part : (k : Part) (b : List Written) → Ends (inside (record { part = k; before = b }) [] p (operand w f))

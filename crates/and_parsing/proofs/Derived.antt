@@ -9,7 +9,7 @@ use Rattle.and_written.specs.Written.{Written, Many}
 use Rattle.and_texts.specs.Words.{Word, Placed}
 use Rattle.and_texts.specs.Words as words
 use Rattle.and_texts.specs.Grammar.{Level, term0, term200, term400, term500, term700, term1000, binary, unary, cell, nil, IsAtom, IsFunctor, IsSum, Reads, Arguments, Elements, IsClause, Statement, IsText}
-use Rattle.and_parsing.specs.Machine.{Half, Pending, nothing_pending, with_half, negated, at700, Bracket, plain, arguments, elements, tail, Frame, Part, head, body, query, Place, Mode, wanted, numeral, operand, State, start, inside, opened_list, over, depth, conjunction, many, list, is_reserved, role, take_name, take_sum, begins_query, closes_list, in_part, in_list, go, exceeds, comma_exceeds, step, and_then, run}
+use Rattle.and_parsing.specs.Machine.{Half, Pending, nothing_pending, with_half, negated, at700, Bracket, plain, arguments, elements, tail, Frame, Part, head, body, query, Outermost, Mode, wanted, numeral, operand, State, start, inside, opened_list, over, depth, conjunction, many, list, is_reserved, role, take_name, take_sum, begins_query, closes_list, in_part, go, exceeds, comma_exceeds, step, and_then, run}
 use Rattle.and_parsing.proofs.Steps.{stepped, run_step, shallow, product_role, sum_role, relation_role}
 
 abbrev pending : Option Half → Option Half → Option Half → ℕ → Pending
@@ -17,6 +17,10 @@ pending r s c m = record { relation = r; sum = s; product = c; minuses = m }
 
 abbrev framed : Bracket → List Written → Pending → List Frame → List Frame
 framed k b p fs = record { bracket = k; before = b; outside = p } ∷ fs
+
+-- where the first element of a list begins
+abbrev in_list : Outermost → List Frame → Pending → State
+in_list l fs p = inside l (framed elements [] p fs) nothing_pending wanted
 
 -- what a term can begin with
 abbrev CanBegin : List Word → Type 0
@@ -39,18 +43,18 @@ functor_begins : {x : Word} {c : Bytes} → IsFunctor x c → (begins_query x �
 functor_begins (IsFunctor.name c e f) = (f, refl)
 functor_begins (IsFunctor.quoted c) = (refl, refl)
 
-atom_step : {x : Word} {c : Bytes} → IsAtom x c → (l : Place) (fs : List Frame) (p : Pending)
+atom_step : {x : Word} {c : Bytes} → IsAtom x c → (l : Outermost) (fs : List Frame) (p : Pending)
     → (f : Option Bytes) × (exceeds (inside l fs p wanted) x ≡ false) × (go (inside l fs p wanted) x ≡ Some (inside l fs p (operand (Written.compound c Written.none) f)))
 atom_step (IsAtom.name c e f) l fs p = (Some c, refl, ap (λ b. cond b None (Some (inside l fs p (operand (Written.compound c Written.none) (Some c))))) (reserved c e f))
 atom_step (IsAtom.quoted c) l fs p = (Some c, refl, refl)
 atom_step IsAtom.minus l fs p = (None, refl, refl)
 
-functor_step : {x : Word} {c : Bytes} → IsFunctor x c → (l : Place) (fs : List Frame) (p : Pending)
+functor_step : {x : Word} {c : Bytes} → IsFunctor x c → (l : Outermost) (fs : List Frame) (p : Pending)
     → (exceeds (inside l fs p wanted) x ≡ false) × (go (inside l fs p wanted) x ≡ Some (inside l fs p (operand (Written.compound c Written.none) (Some c))))
 functor_step (IsFunctor.name c e f) l fs p = (refl, ap (λ b. cond b None (Some (inside l fs p (operand (Written.compound c Written.none) (Some c))))) (reserved c e f))
 functor_step (IsFunctor.quoted c) l fs p = (refl, refl)
 
-sum_step : {x : Word} {c : Bytes} → IsSum x c → (l : Place) (fs : List Frame) (p : Pending) (w : Written) (f : Option Bytes)
+sum_step : {x : Word} {c : Bytes} → IsSum x c → (l : Outermost) (fs : List Frame) (p : Pending) (w : Written) (f : Option Bytes)
     → (exceeds (inside l fs p (operand w f)) x ≡ false) × (go (inside l fs p (operand w f)) x ≡ Some (take_sum l fs p w c))
 sum_step (IsSum.name c e) l fs p w f = (refl, ap (take_name l fs p w c) (sum_role c e))
 sum_step (IsSum.minus b) l fs p w f = (refl, refl)
@@ -82,7 +86,7 @@ elements_begin (Elements.tail n ws us rest a b d e) = begins d
 elements_begin (Elements.next_element n ws us rest a b d e) = begins d
 
 -- So a list with elements, and a clause that is no query, are read as if their first operand were wanted anyway.
-list_begins : (limited : Bool) (l : Place) (fs : List Frame) (p : Pending) (ws : List Word) → CanBegin ws → run limited (opened_list l fs p) ws ≡ run limited (in_list l fs p) ws
+list_begins : (limited : Bool) (l : Outermost) (fs : List Frame) (p : Pending) (ws : List Word) → CanBegin ws → run limited (opened_list l fs p) ws ≡ run limited (in_list l fs p) ws
 list_begins limited l fs p [] h = absurd h
 list_begins limited l fs p (x ∷ xs) h =
     ap (λ b. and_then (cond (limited && exceeds (in_list l fs p) x) None (cond b (Some (inside l fs p (operand nil None))) (go (in_list l fs p) x))) (λ t. run limited t xs)) h.1
@@ -94,35 +98,35 @@ clause_begins limited (x ∷ xs) h =
 
 module _ (limited : Bool) where
   -- where an operand is wanted, the words are taken, and the operand v stands at the rest
-  abbrev Goes : Place → List Frame → Pending → List Word → Pending → Written → Option Bytes → List Word → Type 0
+  abbrev Goes : Outermost → List Frame → Pending → List Word → Pending → Written → Option Bytes → List Word → Type 0
   Goes l fs p ws q v f rest = run limited (inside l fs p wanted) ws ≡ run limited (inside l fs q (operand v f)) rest
 
   -- where a comma joins the terms before it and the next one
-  abbrev Commas : (List Written → Place) → (List Written → List Frame) → Type 0
+  abbrev Commas : (List Written → Outermost) → (List Written → List Frame) → Type 0
   Commas l fs = (b : List Written) (p : Pending) (w : Written) (f : Option Bytes)
       → (comma_exceeds (fs b) ≡ false) × (go (inside (l b) (fs b) p (operand w f)) words.comma ≡ Some (inside (l (at700 p w ∷ b)) (fs (at700 p w ∷ b)) nothing_pending wanted))
 
   -- The words of a term of some priority are taken where nothing tighter is pending, and become that term together with what is left pending.
   abbrev Taken : Level → ℕ → List Word → List Word → Written → Type 0
-  Taken term0 n ws rest w = (l : Place) (fs : List Frame) (p : Pending) → n ≡ p.minuses + depth fs → (f : Option Bytes) × Goes l fs p ws p w f rest
-  Taken term200 n ws rest w = (l : Place) (fs : List Frame) (r s c : Option Half) (m : ℕ) → n ≡ m + depth fs
+  Taken term0 n ws rest w = (l : Outermost) (fs : List Frame) (p : Pending) → n ≡ p.minuses + depth fs → (f : Option Bytes) × Goes l fs p ws p w f rest
+  Taken term200 n ws rest w = (l : Outermost) (fs : List Frame) (r s c : Option Half) (m : ℕ) → n ≡ m + depth fs
       → (k : ℕ) × (v : Written) × (f : Option Bytes) × (negated k v ≡ negated m w) × Goes l fs (pending r s c m) ws (pending r s c k) v f rest
-  Taken term400 n ws rest w = (l : Place) (fs : List Frame) (r s : Option Half) → n ≡ depth fs
+  Taken term400 n ws rest w = (l : Outermost) (fs : List Frame) (r s : Option Half) → n ≡ depth fs
       → (c : Option Half) × (k : ℕ) × (v : Written) × (f : Option Bytes) × (with_half c (negated k v) ≡ w) × Goes l fs (pending r s None 0) ws (pending r s c k) v f rest
-  Taken term500 n ws rest w = (l : Place) (fs : List Frame) (r : Option Half) → n ≡ depth fs
+  Taken term500 n ws rest w = (l : Outermost) (fs : List Frame) (r : Option Half) → n ≡ depth fs
       → (s c : Option Half) × (k : ℕ) × (v : Written) × (f : Option Bytes) × (with_half s (with_half c (negated k v)) ≡ w) × Goes l fs (pending r None None 0) ws (pending r s c k) v f rest
-  Taken term700 n ws rest w = (l : Place) (fs : List Frame) → n ≡ depth fs
+  Taken term700 n ws rest w = (l : Outermost) (fs : List Frame) → n ≡ depth fs
       → (p : Pending) × (v : Written) × (f : Option Bytes) × (at700 p v ≡ w) × Goes l fs nothing_pending ws p v f rest
-  Taken term1000 n ws rest w = (l : List Written → Place) (fs : List Written → List Frame) → ((b : List Written) → n ≡ depth (fs b)) → Commas l fs → (b : List Written)
+  Taken term1000 n ws rest w = (l : List Written → Outermost) (fs : List Written → List Frame) → ((b : List Written) → n ≡ depth (fs b)) → Commas l fs → (b : List Written)
       → (d : List Written) × (p : Pending) × (v : Written) × (f : Option Bytes) × (conjunction d (at700 p v) ≡ conjunction b w)
       × (run limited (inside (l b) (fs b) nothing_pending wanted) ws ≡ run limited (inside (l d) (fs d) p (operand v f)) rest)
 
   abbrev TakenArguments : ℕ → ℕ → List Word → List Word → Many → Type 0
-  TakenArguments n k ws rest ts = (l : Place) (fs : List Frame) (p : Pending) (c : Bytes) (b : List Written) → n ≡ suc (p.minuses + depth fs) → k ≡ length b
+  TakenArguments n k ws rest ts = (l : Outermost) (fs : List Frame) (p : Pending) (c : Bytes) (b : List Written) → n ≡ suc (p.minuses + depth fs) → k ≡ length b
       → run limited (inside l (framed (arguments c) b p fs) nothing_pending wanted) ws ≡ run limited (inside l fs p (operand (Written.compound c (many b ts)) None)) rest
 
   abbrev TakenElements : ℕ → List Word → List Word → Written → Type 0
-  TakenElements n ws rest w = (l : Place) (fs : List Frame) (p : Pending) (b : List Written) → n ≡ suc (p.minuses + depth fs)
+  TakenElements n ws rest w = (l : Outermost) (fs : List Frame) (p : Pending) (b : List Written) → n ≡ suc (p.minuses + depth fs)
       → run limited (inside l (framed elements b p fs) nothing_pending wanted) ws ≡ run limited (inside l fs p (operand (list b w) None)) rest
 
   mutual

@@ -20,31 +20,37 @@ pub record Pending : Type 0 where
   pub product : Option Half
   pub minuses : ℕ
 
+-- where a term begins
 abbrev pub nothing_pending : Pending
 nothing_pending = record { relation = None; sum = None; product = None; minuses = 0 }
 
+-- the operator with both operands, or the right one alone
 abbrev pub with_half : Option Half → Written → Written
 with_half None w = w
 with_half (Some h) w = binary h.operator h.left w
 
+-- a term behind so many prefix minuses
 abbrev pub negated : ℕ → Written → Written
 negated zero w = w
 negated (suc n) w = negated n (unary (codes "-") w)
 
--- what an operand becomes by what is pending, at each priority
+-- what an operand becomes by what is pending up to the priority 200: its minuses
 abbrev pub at200 : Pending → Written → Written
 at200 p w = negated p.minuses w
 
+-- up to 400: the product too
 abbrev pub at400 : Pending → Written → Written
 at400 p w = with_half p.product (at200 p w)
 
+-- up to 500: the sum too
 abbrev pub at500 : Pending → Written → Written
 at500 p w = with_half p.sum (at400 p w)
 
+-- up to 700: the relation too
 abbrev pub at700 : Pending → Written → Written
 at700 p w = with_half p.relation (at500 p w)
 
--- an open bracket: a plain one, that of a compound's arguments, that of a list's elements, or a list's behind its bar
+-- an open bracket: a plain one, that of the arguments of a compound with that name, that of a list's elements, or that of a list behind its bar
 pub data Bracket : Type 0 where
   plain : Bracket
   arguments : Bytes → Bracket
@@ -57,14 +63,14 @@ pub record Frame : Type 0 where
   pub before : List Written
   pub outside : Pending
 
--- the part of a clause: its head (or all of a fact), the body behind that head, or the body of a query
+-- a part of a clause: its head (or all of a fact), the body behind that head, or the body of a query
 pub data Part : Type 0 where
   head : Part
   body : Written → Part
   query : Part
 
--- the part, and its terms before the last comma outside of brackets (the latest first)
-pub record Place : Type 0 where
+-- What stands outside of all brackets: the part of the clause, and its terms before the last comma (the latest first).
+pub record Outermost : Type 0 where
   pub part : Part
   pub before : List Written
 
@@ -77,26 +83,26 @@ pub data Mode : Type 0 where
 -- Before the first word of a clause; inside a clause, where brackets are open (the innermost first); right behind the bracket of a list; and behind the end of a clause or query with that term.
 pub data State : Type 0 where
   start : State
-  inside : Place → List Frame → Pending → Mode → State
-  opened_list : Place → List Frame → Pending → State
+  inside : Outermost → List Frame → Pending → Mode → State
+  opened_list : Outermost → List Frame → Pending → State
   over : Bool → Written → State
 
--- how many brackets and prefix minuses are open around these brackets
+-- how many brackets and prefix minuses are open right behind the innermost of these brackets
 abbrev pub depth : List Frame → ℕ
 depth [] = 0
 depth (f ∷ fs) = suc (f.outside.minuses + depth fs)
 
--- the terms, and then that one, joined by commas
+-- The terms before the last comma, and then that one, joined by commas.
 abbrev pub conjunction : List Written → Written → Written
 conjunction [] w = w
 conjunction (a ∷ more) w = conjunction more (binary (codes ",") a w)
 
--- the terms, and then those
+-- the arguments before the last comma, and then those
 abbrev pub many : List Written → Many → Many
 many [] ts = ts
 many (a ∷ more) ts = many more (Written.more a ts)
 
--- the list of the terms, and then that rest
+-- the list of the elements before the last comma or bar, and then that rest
 abbrev pub list : List Written → Written → Written
 list [] w = w
 list (a ∷ more) w = list more (cell a w)
@@ -109,6 +115,7 @@ pub data Role : Type 0 where
   is_neck : Role
   is_none : Role
 
+-- the role of a name: that of the one list of operators in which it stands
 abbrev pub role : Bytes → Role
 role c = cond (is_one_of products c) is_product (cond (is_one_of sums c) is_sum (cond (is_one_of relations c) is_relation (cond (bytes_eq c (codes ":-")) is_neck is_none)))
 
@@ -116,8 +123,8 @@ role c = cond (is_one_of products c) is_product (cond (is_one_of sums c) is_sum 
 abbrev pub is_reserved : Bytes → Bool
 is_reserved c = bytes_eq c (codes ":-") || bytes_eq c (codes "?-")
 
--- a word where an operand is wanted
-abbrev pub take_operand : Place → List Frame → Pending → Word → Option State
+-- a word where an operand is wanted: the state behind it, if it is one with which an operand begins
+abbrev pub take_operand : Outermost → List Frame → Pending → Word → Option State
 take_operand l fs p (words.variable x) = Some (inside l fs p (operand (Written.variable x) None))
 take_operand l fs p (words.integer z) = Some (inside l fs p (operand (Written.integer (pos z)) None))
 take_operand l fs p (words.name c) = cond (is_reserved c) None (Some (inside l fs p (operand (Written.compound c Written.none) (Some c))))
@@ -134,33 +141,35 @@ take_operand l fs p words.comma = None
 take_operand l fs p words.bar = None
 take_operand l fs p words.end = None
 
--- a product, sum or relation behind an operand: it takes what is pending at its left priority for its left operand
-abbrev pub take_product : Place → List Frame → Pending → Written → Bytes → State
+-- A product behind the operand w: its left operand is what w becomes up to 400.
+abbrev pub take_product : Outermost → List Frame → Pending → Written → Bytes → State
 take_product l fs p w c = inside l fs (record { relation = p.relation; sum = p.sum; product = Some (record { left = at400 p w; operator = c }); minuses = 0 }) wanted
 
-abbrev pub take_sum : Place → List Frame → Pending → Written → Bytes → State
+-- A sum behind w: its left operand is what w becomes up to 500.
+abbrev pub take_sum : Outermost → List Frame → Pending → Written → Bytes → State
 take_sum l fs p w c = inside l fs (record { relation = p.relation; sum = Some (record { left = at500 p w; operator = c }); product = None; minuses = 0 }) wanted
 
-abbrev pub take_relation : Place → List Frame → Pending → Written → Bytes → Option State
+-- A relation behind w, where none is pending: its left operand is what w becomes up to 500.
+abbrev pub take_relation : Outermost → List Frame → Pending → Written → Bytes → Option State
 take_relation l fs p w c = elim p.relation [ None ↦ Some (inside l fs (record { relation = Some (record { left = at500 p w; operator = c }); sum = None; product = None; minuses = 0 }) wanted) | Some h ↦ None ]
 
--- the `:-` behind a head
-abbrev pub take_neck : Place → List Frame → Written → Option State
+-- the `:-` behind the term a, where that ends the head
+abbrev pub take_neck : Outermost → List Frame → Written → Option State
 take_neck l (f ∷ fs) a = None
 take_neck l [] a = elim l.part [
     head ↦ Some (inside (record { part = body (conjunction l.before a); before = [] }) [] nothing_pending wanted)
   | body h ↦ None
   | query ↦ None ]
 
--- a comma behind the term a
-abbrev pub take_comma : Place → List Frame → Written → Option State
+-- a comma behind the term a: another argument, element or term of a conjunction begins
+abbrev pub take_comma : Outermost → List Frame → Written → Option State
 take_comma l [] a = Some (inside (record { part = l.part; before = a ∷ l.before }) [] nothing_pending wanted)
 take_comma l (f ∷ fs) a =
     let next : Option State = Some (inside l (record { bracket = f.bracket; before = a ∷ f.before; outside = f.outside } ∷ fs) nothing_pending wanted) in
     elim f.bracket [ plain ↦ next | arguments c ↦ next | elements ↦ next | tail ↦ None ]
 
--- a bar behind the term a
-abbrev pub take_bar : Place → List Frame → Written → Option State
+-- a bar behind the term a, the last element before it
+abbrev pub take_bar : Outermost → List Frame → Written → Option State
 take_bar l [] a = None
 take_bar l (f ∷ fs) a = elim f.bracket [
     plain ↦ None
@@ -168,8 +177,8 @@ take_bar l (f ∷ fs) a = elim f.bracket [
   | elements ↦ Some (inside l (record { bracket = tail; before = a ∷ f.before; outside = f.outside } ∷ fs) nothing_pending wanted)
   | tail ↦ None ]
 
--- a closing bracket behind the term a
-abbrev pub take_close_bracket : Place → List Frame → Written → Option State
+-- A round bracket that closes behind the term a: what was in it is an operand.
+abbrev pub take_close_bracket : Outermost → List Frame → Written → Option State
 take_close_bracket l [] a = None
 take_close_bracket l (f ∷ fs) a = elim f.bracket [
     plain ↦ Some (inside l fs f.outside (operand (conjunction f.before a) None))
@@ -177,7 +186,8 @@ take_close_bracket l (f ∷ fs) a = elim f.bracket [
   | elements ↦ None
   | tail ↦ None ]
 
-abbrev pub take_close_list : Place → List Frame → Written → Option State
+-- A list's bracket that closes behind the term a: the list is an operand.
+abbrev pub take_close_list : Outermost → List Frame → Written → Option State
 take_close_list l [] a = None
 take_close_list l (f ∷ fs) a = elim f.bracket [
     plain ↦ None
@@ -186,7 +196,7 @@ take_close_list l (f ∷ fs) a = elim f.bracket [
   | tail ↦ Some (inside l fs f.outside (operand (list f.before a) None)) ]
 
 -- the end of a clause behind the term a
-abbrev pub take_end : Place → List Frame → Written → Option State
+abbrev pub take_end : Outermost → List Frame → Written → Option State
 take_end l (f ∷ fs) a = None
 take_end l [] a = elim l.part [
     head ↦ Some (over false (conjunction l.before a))
@@ -194,7 +204,7 @@ take_end l [] a = elim l.part [
   | query ↦ Some (over true (unary (codes "?-") (conjunction l.before a))) ]
 
 -- a name of that role behind the operand w
-abbrev pub take_name : Place → List Frame → Pending → Written → Bytes → Role → Option State
+abbrev pub take_name : Outermost → List Frame → Pending → Written → Bytes → Role → Option State
 take_name l fs p w c is_product = Some (take_product l fs p w c)
 take_name l fs p w c is_sum = Some (take_sum l fs p w c)
 take_name l fs p w c is_relation = take_relation l fs p w c
@@ -202,12 +212,12 @@ take_name l fs p w c is_neck = take_neck l fs (at700 p w)
 take_name l fs p w c is_none = None
 
 -- a bracket behind an operand: it makes a name that of a compound
-abbrev pub take_functor : Place → List Frame → Pending → Option Bytes → Option State
+abbrev pub take_functor : Outermost → List Frame → Pending → Option Bytes → Option State
 take_functor l fs p None = None
 take_functor l fs p (Some c) = Some (inside l (record { bracket = arguments c; before = []; outside = p } ∷ fs) nothing_pending wanted)
 
--- a word behind the operand w
-abbrev pub take_operator : Place → List Frame → Pending → Written → Option Bytes → Word → Option State
+-- a word behind the operand w, which may be the name f
+abbrev pub take_operator : Outermost → List Frame → Pending → Written → Option Bytes → Word → Option State
 take_operator l fs p w f (words.name c) = take_name l fs p w c (role c)
 take_operator l fs p w f (words.minus b) = Some (take_sum l fs p w (codes "-"))
 take_operator l fs p w f (words.open_bracket true) = take_functor l fs p f
@@ -223,7 +233,7 @@ take_operator l fs p w f (words.quoted c) = None
 take_operator l fs p w f words.open_list = None
 
 -- the integer behind its minus
-abbrev pub take_numeral : Place → List Frame → Pending → Word → Option State
+abbrev pub take_numeral : Outermost → List Frame → Pending → Word → Option State
 take_numeral l fs p (words.integer z) = Some (inside l fs p (operand (Written.integer (neg_ℤ (pos z))) None))
 take_numeral l fs p (words.variable x) = None
 take_numeral l fs p (words.name c) = None
@@ -242,16 +252,14 @@ abbrev pub begins_query : Word → Bool
 begins_query (words.name c) = bytes_eq c (codes "?-")
 begins_query w = false
 
+-- the word `]` closes a list
 abbrev pub closes_list : Word → Bool
 closes_list words.close_list = true
 closes_list w = false
 
+-- where a part of a clause begins
 abbrev pub in_part : Part → State
 in_part a = inside (record { part = a; before = [] }) [] nothing_pending wanted
-
--- the first word behind the bracket of a list, if none closes it
-abbrev pub in_list : Place → List Frame → Pending → State
-in_list l fs p = inside l (record { bracket = elements; before = []; outside = p } ∷ fs) nothing_pending wanted
 
 -- The state behind one more word, without limits; there is none where no clause goes on with it.
 abbrev pub go : State → Word → Option State
@@ -264,7 +272,7 @@ go (opened_list l fs p) x =
     (take_operand l (record { bracket = elements; before = []; outside = p } ∷ fs) nothing_pending x)
 go (over q t) x = None
 
--- the limits of a text that is taken, where an operand is wanted: of a numeral, and of what is open at once
+-- Where an operand is wanted, the word is over a limit: a numeral of 2 ^ 63 or more, or a bracket or prefix minus where 256 are open.
 abbrev pub operand_exceeds : List Frame → Pending → Word → Bool
 operand_exceeds fs p (words.integer z) = leb 9223372036854775808 z
 operand_exceeds fs p (words.minus words.operand) = leb 256 (p.minuses + depth fs)
@@ -277,13 +285,13 @@ abbrev pub comma_exceeds : List Frame → Bool
 comma_exceeds [] = false
 comma_exceeds (f ∷ fs) = elim f.bracket [ plain ↦ false | arguments c ↦ leb 255 (suc (length f.before)) | elements ↦ false | tail ↦ false ]
 
--- and where an operator can follow: of what is open, and of a compound's arguments
+-- Behind an operand, the word is over a limit: a bracket where 256 are open, or a comma behind a 255th argument.
 abbrev pub operator_exceeds : List Frame → Pending → Word → Bool
 operator_exceeds fs p (words.open_bracket behind) = leb 256 (p.minuses + depth fs)
 operator_exceeds fs p words.comma = comma_exceeds fs
 operator_exceeds fs p x = false
 
--- The word is over a limit.
+-- In the state, the word is over a limit of a text that is taken.
 abbrev pub exceeds : State → Word → Bool
 exceeds start x = operand_exceeds [] nothing_pending x
 exceeds (inside l fs p wanted) x = operand_exceeds fs p x
@@ -296,6 +304,7 @@ exceeds (over q t) x = false
 abbrev pub step : Bool → State → Word → Option State
 step limited s x = cond (limited && exceeds s x) None (go s x)
 
+-- what the second gives for what the first gives, if both give something
 abbrev pub and_then : {A B : Type 0} → Option A → (A → Option B) → Option B
 and_then None f = None
 and_then (Some a) f = f a
@@ -310,6 +319,7 @@ pub data Reading : Type 0 where
   between : List Statement → Reading
   within : List Statement → ℕ → State → Reading
 
+-- how far the text is read where the clause that began at the place n is in that state
 abbrev pub at_state : List Statement → ℕ → State → Reading
 at_state ss n (over q t) = between (ss ++ record { is_query = q; term = t; place = n } ∷ [])
 at_state ss n start = within ss n start
