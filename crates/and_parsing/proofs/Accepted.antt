@@ -1,6 +1,6 @@
 -- What the machine accepts, the grammar derives.
-use Rattle.std.proofs.Common.{ℕ, zero, suc, ◌+◌, ◌≡◌, ◌<◌, Bool, true, false, true≢false, cond, ◌||◌, List, [], ◌∷◌, length, Option, Some, None, refl, ap, sym, ◌∙◌, subst, zero-add, arith, pos}
-use Rattle.std.specs.Prelude.{leb, codes, neg_ℤ}
+use Rattle.std.proofs.Common.{ℕ, suc, ◌+◌, ◌≡◌, ◌<◌, Bool, true, false, true≢false, cond, ◌||◌, List, [], ◌∷◌, length, Option, Some, None, refl, ap, sym, ◌∙◌, subst, zero-add, arith}
+use Rattle.std.specs.Prelude.{leb, codes}
 use Rattle.std.specs.Str.{bytes_eq}
 use Rattle.std.proofs.lemmas.Bool.{leb-false}
 use Rattle.std.proofs.lemmas.Slice.Eq.{bytes_eq-Decides}
@@ -10,7 +10,7 @@ use Rattle.and_written.specs.Written.{Written, Many}
 use Rattle.and_texts.specs.Words.{Word, products, sums, relations, is_one_of}
 use Rattle.and_texts.specs.Words as words
 use Rattle.and_texts.specs.Grammar.{term0, term200, term400, term500, term700, term1000, binary, unary, cell, nil, IsAtom, IsFunctor, IsSum, Reads, Arguments, Elements, IsClause}
-use Rattle.and_parsing.specs.Machine.{Half, Pending, nothing_pending, with_half, negated, at200, at400, at500, at700, Bracket, plain, arguments, elements, tail, Frame, Part, head, body, query, Outermost, Mode, wanted, numeral, operand, State, start, inside, opened_list, over, depth, conjunction, many, list, role, take_operand, take_numeral, take_operator, take_name, take_sum, take_relation, take_neck, take_comma, take_bar, take_close_bracket, take_close_list, take_end, take_functor, begins_query, closes_list, operand_exceeds, operator_exceeds, comma_exceeds, go, exceeds, step, and_then, run}
+use Rattle.and_parsing.specs.Machine.{Half, Pending, nothing_pending, with_half, negated, at200, at400, at500, at700, Bracket, plain, arguments, elements, tail, Frame, Part, head, body, query, Outermost, wanted, numeral, operand, State, start, inside, opened_list, over, depth, conjunction, many, list, role, take_operand, take_numeral, take_operator, take_name, take_sum, take_relation, take_neck, take_comma, take_bar, take_close_bracket, take_close_list, take_end, take_functor, begins_query, closes_list, operand_exceeds, operator_exceeds, comma_exceeds, go, exceeds, step, and_then, run}
 use Rattle.and_parsing.proofs.Steps.{step_tells, shallow_told, by_role}
 
 pub and_then_tells : {A B : Type 0} (o : Option A) (f : A → Option B) (b : B) → and_then o f ≡ Some b → (a : A) × (o ≡ Some a) × (f a ≡ Some b)

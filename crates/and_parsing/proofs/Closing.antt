@@ -1,5 +1,5 @@
 -- From each state some words lead to the end of the clause.
-use Rattle.std.proofs.Common.{ℕ, ◌≡◌, Bool, true, false, List, [], ◌∷◌, Option, Some, None, refl, ◌∙◌, pos}
+use Rattle.std.proofs.Common.{◌≡◌, Bool, true, false, List, [], ◌∷◌, Option, Some, None, refl, ◌∙◌, pos}
 use Rattle.std.specs.Prelude.{codes, neg_ℤ}
 use Rattle.and_model.specs.Lines.{Bytes}
 use Rattle.and_written.specs.Written
@@ -7,7 +7,7 @@ use Rattle.and_written.specs.Written.{Written}
 use Rattle.and_texts.specs.Words.{Word}
 use Rattle.and_texts.specs.Words as words
 use Rattle.and_texts.specs.Grammar.{binary, unary, cell, nil}
-use Rattle.and_parsing.specs.Machine.{Pending, nothing_pending, at700, Bracket, plain, arguments, elements, tail, Frame, Part, head, body, query, Outermost, Mode, wanted, numeral, operand, State, start, inside, opened_list, over, conjunction, many, list, run}
+use Rattle.and_parsing.specs.Machine.{Pending, nothing_pending, at700, Bracket, plain, arguments, elements, tail, Frame, Part, head, body, query, Outermost, wanted, numeral, operand, State, start, inside, opened_list, over, conjunction, many, list, run}
 use Rattle.and_parsing.proofs.Steps.{run_step}
 
 module _ (limited : Bool) where

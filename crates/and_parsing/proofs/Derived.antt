@@ -1,5 +1,5 @@
 -- What the grammar derives, the machine accepts.
-use Rattle.std.proofs.Common.{ℕ, zero, suc, ◌+◌, ◌≡◌, ◌<◌, Bool, true, false, cond, ◌&&◌, ◌||◌, List, [], ◌∷◌, ◌++◌, map, length, Option, Some, None, refl, ap, sym, ◌∙◌, arith, zero-add, append_assoc, append-nil, pos}
+use Rattle.std.proofs.Common.{ℕ, suc, ◌+◌, ◌≡◌, ◌<◌, Bool, true, false, cond, ◌&&◌, ◌||◌, List, [], ◌∷◌, length, Option, Some, None, refl, ap, sym, ◌∙◌, arith, zero-add, pos}
 use Rattle.std.specs.Prelude.{leb, codes, neg_ℤ}
 use Rattle.std.specs.Str.{bytes_eq}
 use Rattle.std.proofs.lemmas.Bool.{lt-leb}
@@ -8,9 +8,9 @@ use Rattle.and_written.specs.Written
 use Rattle.and_written.specs.Written.{Written, Many}
 use Rattle.and_texts.specs.Words.{Word, Placed}
 use Rattle.and_texts.specs.Words as words
-use Rattle.and_texts.specs.Grammar.{Level, term0, term200, term400, term500, term700, term1000, binary, unary, cell, nil, IsAtom, IsFunctor, IsSum, Reads, Arguments, Elements, IsClause, Statement, IsText}
-use Rattle.and_parsing.specs.Machine.{Half, Pending, nothing_pending, with_half, negated, at700, Bracket, plain, arguments, elements, tail, Frame, Part, head, body, query, Outermost, Mode, wanted, numeral, operand, State, start, inside, opened_list, over, depth, conjunction, many, list, is_reserved, role, take_name, take_sum, begins_query, closes_list, in_part, go, exceeds, comma_exceeds, step, and_then, run}
-use Rattle.and_parsing.proofs.Steps.{stepped, run_step, shallow, product_role, sum_role, relation_role}
+use Rattle.and_texts.specs.Grammar.{Level, term0, term200, term400, term500, term700, term1000, binary, unary, cell, nil, IsAtom, IsFunctor, IsSum, Reads, Arguments, Elements, IsClause}
+use Rattle.and_parsing.specs.Machine.{Half, Pending, nothing_pending, with_half, negated, at700, Bracket, plain, arguments, elements, tail, Frame, Part, head, body, query, Outermost, wanted, numeral, operand, State, start, inside, opened_list, over, depth, conjunction, many, list, is_reserved, take_name, take_sum, begins_query, closes_list, in_part, go, exceeds, comma_exceeds, and_then, run}
+use Rattle.and_parsing.proofs.Steps.{run_step, shallow, product_role, sum_role, relation_role}
 
 abbrev pending : Option Half → Option Half → Option Half → ℕ → Pending
 pending r s c m = record { relation = r; sum = s; product = c; minuses = m }

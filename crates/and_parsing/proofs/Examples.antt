@@ -1,12 +1,12 @@
 -- The machine at some clauses.
-use Rattle.std.proofs.Common.{ℕ, ◌≡◌, pos, Bool, true, false, List, [], ◌∷◌, Option, Some, None, refl}
+use Rattle.std.proofs.Common.{ℕ, ◌≡◌, pos, true, false, List, [], ◌∷◌, Some, None, refl}
 use Rattle.std.specs.Prelude.{codes, neg_ℤ}
 use Rattle.and_written.specs.Written
 use Rattle.and_written.specs.Written.{Written}
 use Rattle.and_texts.specs.Words.{Word}
 use Rattle.and_texts.specs.Words as words
 use Rattle.and_texts.specs.Grammar.{binary, unary, cell}
-use Rattle.and_parsing.specs.Machine.{State, start, over, inside, opened_list, run, step, Pending, Frame, Outermost, nothing_pending, plain, head, wanted}
+use Rattle.and_parsing.specs.Machine.{State, start, over, inside, opened_list, run, step, nothing_pending, plain, head, wanted}
 
 abbrev atom : List ℕ → Written
 atom c = Written.compound c Written.none

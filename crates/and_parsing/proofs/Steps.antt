@@ -1,5 +1,5 @@
 -- Steps of the machine: what they need, and what each of them tells.
-use Rattle.std.proofs.Common.{ℕ, suc, ◌≡◌, ◌<◌, ◌≤◌, Bool, true, false, true≢false, cond, not, ◌&&◌, ◌||◌, List, [], ◌∷◌, ◌++◌, Option, Some, None, refl, ap, sym, ◌∙◌, subst, arith}
+use Rattle.std.proofs.Common.{ℕ, ◌≡◌, ◌<◌, Bool, true, false, true≢false, cond, ◌&&◌, ◌||◌, List, [], ◌∷◌, Option, Some, None, refl, ap, sym, ◌∙◌, arith}
 use Rattle.std.specs.Prelude.{leb, codes}
 use Rattle.std.specs.Str.{bytes_eq}
 use Rattle.std.specs.List.{list_any}
@@ -7,7 +7,6 @@ use Rattle.std.proofs.lemmas.Bool.{lt-leb, leb-false}
 use Rattle.std.proofs.lemmas.Slice.Eq.{bytes_eq-Decides}
 use Rattle.and_model.specs.Lines.{Bytes}
 use Rattle.and_texts.specs.Words.{Word, products, sums, relations, is_one_of}
-use Rattle.and_texts.specs.Words as words
 use Rattle.and_parsing.specs.Machine.{State, Role, is_product, is_sum, is_relation, is_neck, is_none, role, go, exceeds, step, run, and_then}
 
 -- A word that is within the limits leads where it leads without them,

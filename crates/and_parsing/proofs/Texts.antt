@@ -1,13 +1,13 @@
 -- Texts are read clause by clause.
-use Rattle.std.proofs.Common.{ℕ, ◌≡◌, ◌⊎◌, inl, inr, ◌↔◌, Bool, true, false, true≢false, List, [], ◌∷◌, ◌++◌, map, Option, Some, None, refl, ap, sym, ◌∙◌, subst, append_assoc, append-nil}
+use Rattle.std.proofs.Common.{ℕ, ◌≡◌, ◌⊎◌, inl, inr, ◌↔◌, Bool, true, false, true≢false, List, [], ◌∷◌, ◌++◌, Option, Some, None, refl, ap, sym, ◌∙◌, subst, append_assoc, append-nil}
 use Rattle.std.specs.Prelude.{codes}
 use Rattle.and_written.specs.Written.{Written}
 use Rattle.and_texts.specs.Words.{Word, Placed}
 use Rattle.and_texts.specs.Words as words
-use Rattle.and_texts.specs.Grammar.{binary, unary, IsClause, Statement, IsText, CanGoOn}
+use Rattle.and_texts.specs.Grammar.{binary, unary, Statement, IsText, CanGoOn}
 use Rattle.and_texts.specs.Refusals.{NoneEnds}
-use Rattle.and_parsing.specs.Machine.{Pending, Frame, Part, head, body, query, Outermost, Mode, wanted, numeral, operand, State, start, inside, opened_list, over, is_over, at700, conjunction, go, step, and_then, run, Reading, between, within, at_state, take_word, take_words, words_of}
-use Rattle.and_parsing.proofs.Steps.{stepped, step_tells}
+use Rattle.and_parsing.specs.Machine.{Part, head, body, query, wanted, numeral, operand, State, start, inside, opened_list, over, is_over, at700, conjunction, go, step, and_then, run, Reading, between, within, at_state, take_word, take_words, words_of}
+use Rattle.and_parsing.proofs.Steps.{step_tells}
 use Rattle.and_parsing.proofs.Derived.{clause_taken}
 use Rattle.and_parsing.proofs.Accepted.{and_then_tells, clause_accepted}
 use Rattle.and_parsing.proofs.Closing.{state_ends}
