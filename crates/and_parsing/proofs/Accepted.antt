@@ -126,7 +126,10 @@ module _ (limited : Bool) (whole : List Word) where
   operand_kept l fs p (words.minus words.bracket) here from low i o = tt
   operand_kept l fs p (words.minus words.stop) here from low i o =
       (from, words.minus words.stop ∷ here, i, o, Reads.atom (p.minuses + depth fs) (words.minus words.stop) (codes "-") here IsAtom.minus, tt)
-  operand_kept l fs p (words.minus words.operand) here from low i o = (from, i, record {
+  operand_kept l fs p (words.minus words.operand) here from low i o = (
+    from,
+    i,
+    record {
       at_sum = o.at_sum;
       at_product = o.at_product;
       at_minuses = o.at_minuses;
@@ -135,7 +138,8 @@ module _ (limited : Bool) (whole : List Word) where
       product = o.product;
       minuses = λ rest w d. o.minuses rest (unary (codes "-") w) (Reads.negated (p.minuses + depth fs) here rest w (shallow_told limited (p.minuses + depth fs) low)
           (subst (λ k. Reads limited k term200 here rest w) (suc_plus p.minuses (depth fs)) d));
-    })
+    },
+  )
     where
       suc_plus : (m n : ℕ) → suc m + n ≡ suc (m + n)
       suc_plus m n = omega arith
@@ -188,9 +192,18 @@ module _ (limited : Bool) (whole : List Word) where
       by_bracket : (k : Bracket) (b : List Written) → (limited ≡ true → comma_exceeds (record { bracket = k; before = b; outside = f.outside } ∷ fs) ≡ false)
           → Inside (f.outside.minuses + depth fs) k b at from → Keeps (take_comma l (record { bracket = k; before = b; outside = f.outside } ∷ fs) a) here
       by_bracket plain b few inner = (here, (outer, at, i, o, λ rest w t. inner rest (binary (codes ",") a w) (Reads.conjunction (suc (f.outside.minuses + depth fs)) from here (words.close_bracket ∷ rest) a w d t)), fresh (suc (f.outside.minuses + depth fs)) here)
-      by_bracket (arguments c) b few inner =
-          (here, (outer, at, i, o, λ rest ts t. inner rest (Written.more a ts)
-            (Arguments.next_argument (suc (f.outside.minuses + depth fs)) (length b) from here rest a ts d (λ h. leb-false 255 (suc (length b)) (few h)) t)), fresh (suc (f.outside.minuses + depth fs)) here)
+      by_bracket (arguments c) b few inner = (
+        here,
+        (
+          outer,
+          at,
+          i,
+          o,
+          λ rest ts t. inner rest (Written.more a ts)
+              (Arguments.next_argument (suc (f.outside.minuses + depth fs)) (length b) from here rest a ts d (λ h. leb-false 255 (suc (length b)) (few h)) t),
+        ),
+        fresh (suc (f.outside.minuses + depth fs)) here,
+      )
       by_bracket elements b few inner = (here, (outer, at, i, o, λ rest w t. inner rest (cell a w) (Elements.next_element (suc (f.outside.minuses + depth fs)) from here rest a w d t)), fresh (suc (f.outside.minuses + depth fs)) here)
       by_bracket tail b few inner = tt
 
@@ -232,6 +245,7 @@ module _ (limited : Bool) (whole : List Word) where
     where
       ended : here ≡ [] → Reads limited 0 term1000 from (words.end ∷ []) a
       ended e = subst (λ r. Reads limited 0 term1000 from (words.end ∷ r) a) e (Reads.as1000 0 from (words.end ∷ here) a d)
+
       by_part : (k : Part) (b : List Written) → Outside k b from → Keeps (take_end (record { part = k; before = b }) [] a) here
       by_part head b out = λ e. IsClause.fact whole (conjunction b a) (out (words.end ∷ []) a (ended e))
       by_part (body h) b out = λ e. out a (ended e)
@@ -241,7 +255,10 @@ module _ (limited : Bool) (whole : List Word) where
   module _ (l : Outermost) (fs : List Frame) (p : Pending) (w : Written) (from at : List Word) (i : Within l fs from) (o : Opened (depth fs) p from at) where
     product_kept : (c : Bytes) (here : List Word) → Reads limited (p.minuses + depth fs) term0 at (words.name c ∷ here) w → is_one_of products c ≡ true
         → Fits (inside l fs (record { relation = p.relation; sum = p.sum; product = Some (record { left = at400 p w; operator = c }); minuses = 0 }) wanted) here
-    product_kept c here d e = (from, i, record {
+    product_kept c here d e = (
+      from,
+      i,
+      record {
         at_sum = o.at_sum;
         at_product = o.at_product;
         at_minuses = here;
@@ -249,10 +266,14 @@ module _ (limited : Bool) (whole : List Word) where
         sum = o.sum;
         product = λ rest b t. Reads.product (depth fs) o.at_product here rest c (at400 p w) b (complete400 (depth fs) p from at (words.name c ∷ here) w o d) e t;
         minuses = no_minus (depth fs) here;
-      })
+      },
+    )
 
     sum_kept : (x : Word) (c : Bytes) (here : List Word) → IsSum x c → Reads limited (p.minuses + depth fs) term0 at (x ∷ here) w → Fits (take_sum l fs p w c) here
-    sum_kept x c here s d = (from, i, record {
+    sum_kept x c here s d = (
+      from,
+      i,
+      record {
         at_sum = o.at_sum;
         at_product = here;
         at_minuses = here;
@@ -260,16 +281,21 @@ module _ (limited : Bool) (whole : List Word) where
         sum = λ rest b t. Reads.sum (depth fs) o.at_sum here rest x c (at500 p w) b (complete500 (depth fs) p from at (x ∷ here) w o d) s t;
         product = λ rest b t. Reads.as400 (depth fs) here rest b t;
         minuses = no_minus (depth fs) here;
-      })
+      },
+    )
 
     relation_kept : (c : Bytes) (here : List Word) → Reads limited (p.minuses + depth fs) term0 at (words.name c ∷ here) w → is_one_of relations c ≡ true → Keeps (take_relation l fs p w c) here
     relation_kept c here d e = by_relation p.relation o.relation
       where
         by_relation : (r : Option Half) → Relates (depth fs) r from o.at_sum → Keeps (elim r [
-              None ↦ Some (inside l fs (record { relation = Some (record { left = at500 p w; operator = c }); sum = None; product = None; minuses = 0 }) wanted)
-            | Some h ↦ None ]) here
+          | None ↦ Some (inside l fs (record { relation = Some (record { left = at500 p w; operator = c }); sum = None; product = None; minuses = 0 }) wanted)
+          | Some h ↦ None
+        ]) here
         by_relation (Some h) g = tt
-        by_relation None same = (from, i, record {
+        by_relation None same = (
+          from,
+          i,
+          record {
             at_sum = here;
             at_product = here;
             at_minuses = here;
@@ -277,7 +303,8 @@ module _ (limited : Bool) (whole : List Word) where
             sum = λ rest b t. Reads.as500 (depth fs) here rest b t;
             product = λ rest b t. Reads.as400 (depth fs) here rest b t;
             minuses = no_minus (depth fs) here;
-          })
+          },
+        )
 
     name_kept : (c : Bytes) (here : List Word) → Reads limited (p.minuses + depth fs) term0 at (words.name c ∷ here) w → Keeps (take_name l fs p w c (role c)) here
     name_kept c here d = by_role c (λ r. Keeps (take_name l fs p w c r) here) (product_kept c here d) (λ e. sum_kept (words.name c) c here (IsSum.name c e) d) (relation_kept c here d)
@@ -287,9 +314,18 @@ module _ (limited : Bool) (whole : List Word) where
     functor_kept : (f : Option Bytes) (here : List Word) → (limited ≡ true → leb 256 (p.minuses + depth fs) ≡ false) → Named f at (words.open_bracket true ∷ here) → Keeps (take_functor l fs p f) here
     functor_kept None here low named = tt
     functor_kept (Some c) here low (a, is, same) =
-        let n : ℕ = p.minuses + depth fs in
-        (here, (from, at, i, o, λ rest ts t. subst (λ z. Reads limited n term0 z rest (Written.compound c ts)) (sym same)
-          (Reads.compound n a c here rest ts is (shallow_told limited n low) t)), fresh (suc n) here)
+        let n : ℕ = p.minuses + depth fs in (
+          here,
+          (
+            from,
+            at,
+            i,
+            o,
+            λ rest ts t. subst (λ z. Reads limited n term0 z rest (Written.compound c ts)) (sym same)
+                (Reads.compound n a c here rest ts is (shallow_told limited n low) t),
+          ),
+          fresh (suc n) here,
+        )
 
     operator_kept : (f : Option Bytes) (x : Word) (here : List Word) → (limited ≡ true → operator_exceeds fs p x ≡ false)
         → Reads limited (p.minuses + depth fs) term0 at (x ∷ here) w → Named f at (x ∷ here) → Keeps (take_operator l fs p w f x) here

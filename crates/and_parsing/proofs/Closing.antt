@@ -22,12 +22,24 @@ module _ (limited : Bool) where
   operand_ends l [] p w f = by_part l.part l.before
     where
       by_part : (k : Part) (b : List Written) → Ends (inside (record { part = k; before = b }) [] p (operand w f))
-      by_part head b = (words.end ∷ [], false, conjunction b (at700 p w),
-        run_step limited (inside (record { part = head; before = b }) [] p (operand w f)) words.end (over false (conjunction b (at700 p w))) [] (λ _. refl) refl)
-      by_part (body h) b = (words.end ∷ [], false, binary (codes ":-") h (conjunction b (at700 p w)),
-        run_step limited (inside (record { part = body h; before = b }) [] p (operand w f)) words.end (over false (binary (codes ":-") h (conjunction b (at700 p w)))) [] (λ _. refl) refl)
-      by_part query b = (words.end ∷ [], true, unary (codes "?-") (conjunction b (at700 p w)),
-        run_step limited (inside (record { part = query; before = b }) [] p (operand w f)) words.end (over true (unary (codes "?-") (conjunction b (at700 p w)))) [] (λ _. refl) refl)
+      by_part head b = (
+        words.end ∷ [],
+        false,
+        conjunction b (at700 p w),
+        run_step limited (inside (record { part = head; before = b }) [] p (operand w f)) words.end (over false (conjunction b (at700 p w))) [] (λ _. refl) refl,
+      )
+      by_part (body h) b = (
+        words.end ∷ [],
+        false,
+        binary (codes ":-") h (conjunction b (at700 p w)),
+        run_step limited (inside (record { part = body h; before = b }) [] p (operand w f)) words.end (over false (binary (codes ":-") h (conjunction b (at700 p w)))) [] (λ _. refl) refl,
+      )
+      by_part query b = (
+        words.end ∷ [],
+        true,
+        unary (codes "?-") (conjunction b (at700 p w)),
+        run_step limited (inside (record { part = query; before = b }) [] p (operand w f)) words.end (over true (unary (codes "?-") (conjunction b (at700 p w)))) [] (λ _. refl) refl,
+      )
   operand_ends l (f ∷ fs) p w g =
       by_bracket f.bracket f.before (λ v. operand_ends l fs f.outside v None)
     where
@@ -35,30 +47,30 @@ module _ (limited : Bool) where
       by_bracket plain b go_on =
           let v : Written = conjunction b (at700 p w) in
           then_ends (inside l (record { bracket = plain; before = b; outside = f.outside } ∷ fs) p (operand w g)) (inside l fs f.outside (operand v None)) words.close_bracket
-            (λ us. run_step limited (inside l (record { bracket = plain; before = b; outside = f.outside } ∷ fs) p (operand w g)) words.close_bracket (inside l fs f.outside (operand v None)) us (λ _. refl) refl)
-            (go_on v)
+          (λ us. run_step limited (inside l (record { bracket = plain; before = b; outside = f.outside } ∷ fs) p (operand w g)) words.close_bracket (inside l fs f.outside (operand v None)) us (λ _. refl) refl)
+          (go_on v)
       by_bracket (arguments c) b go_on =
           let v : Written = Written.compound c (many b (Written.more (at700 p w) Written.none)) in
           then_ends (inside l (record { bracket = arguments c; before = b; outside = f.outside } ∷ fs) p (operand w g)) (inside l fs f.outside (operand v None)) words.close_bracket
-            (λ us. run_step limited (inside l (record { bracket = arguments c; before = b; outside = f.outside } ∷ fs) p (operand w g)) words.close_bracket (inside l fs f.outside (operand v None)) us (λ _. refl) refl)
-            (go_on v)
+          (λ us. run_step limited (inside l (record { bracket = arguments c; before = b; outside = f.outside } ∷ fs) p (operand w g)) words.close_bracket (inside l fs f.outside (operand v None)) us (λ _. refl) refl)
+          (go_on v)
       by_bracket elements b go_on =
           let v : Written = list b (cell (at700 p w) nil) in
           then_ends (inside l (record { bracket = elements; before = b; outside = f.outside } ∷ fs) p (operand w g)) (inside l fs f.outside (operand v None)) words.close_list
-            (λ us. run_step limited (inside l (record { bracket = elements; before = b; outside = f.outside } ∷ fs) p (operand w g)) words.close_list (inside l fs f.outside (operand v None)) us (λ _. refl) refl)
-            (go_on v)
+          (λ us. run_step limited (inside l (record { bracket = elements; before = b; outside = f.outside } ∷ fs) p (operand w g)) words.close_list (inside l fs f.outside (operand v None)) us (λ _. refl) refl)
+          (go_on v)
       by_bracket tail b go_on =
           let v : Written = list b (at700 p w) in
           then_ends (inside l (record { bracket = tail; before = b; outside = f.outside } ∷ fs) p (operand w g)) (inside l fs f.outside (operand v None)) words.close_list
-            (λ us. run_step limited (inside l (record { bracket = tail; before = b; outside = f.outside } ∷ fs) p (operand w g)) words.close_list (inside l fs f.outside (operand v None)) us (λ _. refl) refl)
-            (go_on v)
+          (λ us. run_step limited (inside l (record { bracket = tail; before = b; outside = f.outside } ∷ fs) p (operand w g)) words.close_list (inside l fs f.outside (operand v None)) us (λ _. refl) refl)
+          (go_on v)
 
   pub state_ends : (s : State) → Ends s
   state_ends start =
       let x : Word = words.variable (codes "X") in
       let t : State = inside (record { part = head; before = [] }) [] nothing_pending (operand (Written.variable (codes "X")) None) in
       then_ends start t x (λ us. run_step limited start x t us (λ _. refl) refl)
-        (operand_ends (record { part = head; before = [] }) [] nothing_pending (Written.variable (codes "X")) None)
+      (operand_ends (record { part = head; before = [] }) [] nothing_pending (Written.variable (codes "X")) None)
   state_ends (inside l fs p wanted) =
       let x : Word = words.variable (codes "X") in
       let t : State = inside l fs p (operand (Written.variable (codes "X")) None) in

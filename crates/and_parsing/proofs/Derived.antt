@@ -134,61 +134,91 @@ module _ (limited : Bool) where
     taken (Reads.variable n x rest) = λ l fs p e. (None, run_step limited (inside l fs p wanted) (words.variable x) (inside l fs p (operand (Written.variable x) None)) rest (λ _. refl) refl)
     taken (Reads.integer n z rest low) = λ l fs p e.
         (None, run_step limited (inside l fs p wanted) (words.integer z) (inside l fs p (operand (Written.integer (pos z)) None)) rest (λ h. lt-leb 9223372036854775808 z (low h)) refl)
-    taken (Reads.negative n z rest) = λ l fs p e.
-        (None, run_step limited (inside l fs p wanted) (words.minus words.integer) (inside l fs p numeral) (words.integer z ∷ rest) (λ _. refl) refl
-          ∙ run_step limited (inside l fs p numeral) (words.integer z) (inside l fs p (operand (Written.integer (neg_ℤ (pos z))) None)) rest (λ _. refl) refl)
+    taken (Reads.negative n z rest) = λ l fs p e. (
+      None,
+      run_step limited (inside l fs p wanted) (words.minus words.integer) (inside l fs p numeral) (words.integer z ∷ rest) (λ _. refl) refl
+          ∙ run_step limited (inside l fs p numeral) (words.integer z) (inside l fs p (operand (Written.integer (neg_ℤ (pos z))) None)) rest (λ _. refl) refl,
+    )
     taken (Reads.atom n a c rest i) = λ l fs p e.
         let (f, low, went) = atom_step i l fs p in
         (f, run_step limited (inside l fs p wanted) a (inside l fs p (operand (Written.compound c Written.none) f)) rest (λ _. low) went)
     taken (Reads.compound n a c ws rest ts i low x) = λ l fs p e.
-        let (small, went) = functor_step i l fs p in
-        (None, run_step limited (inside l fs p wanted) a (inside l fs p (operand (Written.compound c Written.none) (Some c))) (words.open_bracket true ∷ ws) (λ _. small) went
-          ∙ run_step limited (inside l fs p (operand (Written.compound c Written.none) (Some c))) (words.open_bracket true) (inside l (framed (arguments c) [] p fs) nothing_pending wanted) ws
+        let (small, went) = functor_step i l fs p in (
+          None,
+          run_step limited (inside l fs p wanted) a (inside l fs p (operand (Written.compound c Written.none) (Some c))) (words.open_bracket true ∷ ws) (λ _. small) went
+              ∙ run_step limited (inside l fs p (operand (Written.compound c Written.none) (Some c))) (words.open_bracket true) (inside l (framed (arguments c) [] p fs) nothing_pending wanted) ws
               (shallow limited n (p.minuses + depth fs) e low) refl
-          ∙ taken_arguments x l fs p c [] (ap suc e) refl)
+              ∙ taken_arguments x l fs p c [] (ap suc e) refl,
+        )
     taken (Reads.bracketed n behind ws rest w low d) = λ l fs p e.
-        let (b, q, v, f, is, went) = taken d (λ _. l) (λ b. framed plain b p fs) (λ _. ap suc e) (λ b q u g. (refl, refl)) [] in
-        (None, run_step limited (inside l fs p wanted) (words.open_bracket behind) (inside l (framed plain [] p fs) nothing_pending wanted) ws (shallow limited n (p.minuses + depth fs) e low) refl
-          ∙ went
-          ∙ run_step limited (inside l (framed plain b p fs) q (operand v f)) words.close_bracket (inside l fs p (operand (conjunction b (at700 q v)) None)) rest (λ _. refl) refl
-          ∙ ap (λ u. run limited (inside l fs p (operand u None)) rest) is)
-    taken (Reads.empty_list n rest low) = λ l fs p e.
-        (None, run_step limited (inside l fs p wanted) words.open_list (opened_list l fs p) (words.close_list ∷ rest) (shallow limited n (p.minuses + depth fs) e low) refl
-          ∙ run_step limited (opened_list l fs p) words.close_list (inside l fs p (operand nil None)) rest (λ _. refl) refl)
-    taken (Reads.list n ws rest w low x) = λ l fs p e.
-        (None, run_step limited (inside l fs p wanted) words.open_list (opened_list l fs p) ws (shallow limited n (p.minuses + depth fs) e low) refl
+        let (b, q, v, f, is, went) = taken d (λ _. l) (λ b. framed plain b p fs) (λ _. ap suc e) (λ b q u g. (refl, refl)) [] in (
+          None,
+          run_step limited (inside l fs p wanted) (words.open_bracket behind) (inside l (framed plain [] p fs) nothing_pending wanted) ws (shallow limited n (p.minuses + depth fs) e low) refl
+              ∙ went
+              ∙ run_step limited (inside l (framed plain b p fs) q (operand v f)) words.close_bracket (inside l fs p (operand (conjunction b (at700 q v)) None)) rest (λ _. refl) refl
+              ∙ ap (λ u. run limited (inside l fs p (operand u None)) rest) is,
+        )
+    taken (Reads.empty_list n rest low) = λ l fs p e. (
+      None,
+      run_step limited (inside l fs p wanted) words.open_list (opened_list l fs p) (words.close_list ∷ rest) (shallow limited n (p.minuses + depth fs) e low) refl
+          ∙ run_step limited (opened_list l fs p) words.close_list (inside l fs p (operand nil None)) rest (λ _. refl) refl,
+    )
+    taken (Reads.list n ws rest w low x) = λ l fs p e. (
+      None,
+      run_step limited (inside l fs p wanted) words.open_list (opened_list l fs p) ws (shallow limited n (p.minuses + depth fs) e low) refl
           ∙ list_begins limited l fs p ws (elements_begin x)
-          ∙ taken_elements x l fs p [] (ap suc e))
+          ∙ taken_elements x l fs p [] (ap suc e),
+    )
     taken (Reads.negated n ws rest w low d) = λ l fs r s c m e.
         let (k, v, f, is, went) = taken d l fs r s c (suc m) (omega arith) in
         (k, v, f, is, run_step limited (inside l fs (pending r s c m) wanted) (words.minus words.operand) (inside l fs (pending r s c (suc m)) wanted) ws (shallow limited n (m + depth fs) e low) refl ∙ went)
     taken (Reads.product n ws us rest c a b d i t) = λ l fs r s e.
         let (o, k, v, f, is, went) = taken d l fs r s e in
         let q : Pending = pending r s (Some (record { left = with_half o (negated k v); operator = c })) 0 in
-        let (m, u, g, same, on) = taken t l fs r s q.product 0 (e ∙ sym (zero-add (depth fs))) in
-        (q.product, m, u, g, same_binary c (with_half o (negated k v)) (negated m u) a b is same,
-          went ∙ run_step limited (inside l fs (pending r s o k) (operand v f)) (words.name c) (inside l fs q wanted) us (λ _. refl) (ap (take_name l fs (pending r s o k) v c) (product_role c i)) ∙ on)
+        let (m, u, g, same, on) = taken t l fs r s q.product 0 (e ∙ sym (zero-add (depth fs))) in (
+          q.product,
+          m,
+          u,
+          g,
+          same_binary c (with_half o (negated k v)) (negated m u) a b is same,
+          went ∙ run_step limited (inside l fs (pending r s o k) (operand v f)) (words.name c) (inside l fs q wanted) us (λ _. refl) (ap (take_name l fs (pending r s o k) v c) (product_role c i)) ∙ on,
+        )
     taken (Reads.sum n ws us rest x c a b d i t) = λ l fs r e.
         let (o, j, k, v, f, is, went) = taken d l fs r e in
         let z : Written = with_half o (with_half j (negated k v)) in
         let q : Pending = pending r (Some (record { left = z; operator = c })) None 0 in
         let (h, m, u, g, same, on) = taken t l fs r q.sum e in
-        let (low, next) = sum_step i l fs (pending r o j k) v f in
-        (q.sum, h, m, u, g, same_binary c z (with_half h (negated m u)) a b is same,
-          went ∙ run_step limited (inside l fs (pending r o j k) (operand v f)) x (inside l fs q wanted) us (λ _. low) next ∙ on)
+        let (low, next) = sum_step i l fs (pending r o j k) v f in (
+          q.sum,
+          h,
+          m,
+          u,
+          g,
+          same_binary c z (with_half h (negated m u)) a b is same,
+          went ∙ run_step limited (inside l fs (pending r o j k) (operand v f)) x (inside l fs q wanted) us (λ _. low) next ∙ on,
+        )
     taken (Reads.relation n ws us rest c a b d i t) = λ l fs e.
         let (o, j, k, v, f, is, went) = taken d l fs None e in
         let z : Written = with_half o (with_half j (negated k v)) in
         let half : Option Half = Some (record { left = z; operator = c }) in
-        let (y, h, m, u, g, same, on) = taken t l fs half e in
-        (pending half y h m, u, g, same_binary c z (with_half y (with_half h (negated m u))) a b is same,
-          went ∙ run_step limited (inside l fs (pending None o j k) (operand v f)) (words.name c) (inside l fs (pending half None None 0) wanted) us (λ _. refl) (ap (take_name l fs (pending None o j k) v c) (relation_role c i)) ∙ on)
+        let (y, h, m, u, g, same, on) = taken t l fs half e in (
+          pending half y h m,
+          u,
+          g,
+          same_binary c z (with_half y (with_half h (negated m u))) a b is same,
+          went ∙ run_step limited (inside l fs (pending None o j k) (operand v f)) (words.name c) (inside l fs (pending half None None 0) wanted) us (λ _. refl) (ap (take_name l fs (pending None o j k) v c) (relation_role c i)) ∙ on,
+        )
     taken (Reads.conjunction n ws us rest a w d t) = λ l fs e commas b.
         let (p, v, f, is, went) = taken d (l b) (fs b) (e b) in
         let (y, q, u, g, same, on) = taken t l fs e commas (at700 p v ∷ b) in
-        let (low, next) = commas b p v f in
-        (y, q, u, g, same ∙ ap (λ z. conjunction b (binary (codes ",") z w)) is,
-          went ∙ run_step limited (inside (l b) (fs b) p (operand v f)) words.comma (inside (l (at700 p v ∷ b)) (fs (at700 p v ∷ b)) nothing_pending wanted) us (λ _. low) next ∙ on)
+        let (low, next) = commas b p v f in (
+          y,
+          q,
+          u,
+          g,
+          same ∙ ap (λ z. conjunction b (binary (codes ",") z w)) is,
+          went ∙ run_step limited (inside (l b) (fs b) p (operand v f)) words.comma (inside (l (at700 p v ∷ b)) (fs (at700 p v ∷ b)) nothing_pending wanted) us (λ _. low) next ∙ on,
+        )
     taken (Reads.as200 n ws rest w d) = λ l fs r s c m e. let (f, went) = taken d l fs (pending r s c m) e in (m, w, f, refl, went)
     taken (Reads.as400 n ws rest w d) = λ l fs r s e. let (k, v, f, is, went) = taken d l fs r s None 0 (e ∙ sym (zero-add (depth fs))) in (None, k, v, f, is, went)
     taken (Reads.as500 n ws rest w d) = λ l fs r e. let (c, k, v, f, is, went) = taken d l fs r None e in (None, c, k, v, f, is, went)
@@ -199,36 +229,36 @@ module _ (limited : Bool) where
     taken_arguments (Arguments.last_argument n k ws rest w d) l fs p c b e same =
         let (q, v, f, is, went) = taken d l (framed (arguments c) b p fs) e in
         went
-          ∙ run_step limited (inside l (framed (arguments c) b p fs) q (operand v f)) words.close_bracket (inside l fs p (operand (Written.compound c (many b (Written.more (at700 q v) Written.none))) None)) rest (λ _. refl) refl
-          ∙ ap (λ u. run limited (inside l fs p (operand (Written.compound c (many b (Written.more u Written.none))) None)) rest) is
+        ∙ run_step limited (inside l (framed (arguments c) b p fs) q (operand v f)) words.close_bracket (inside l fs p (operand (Written.compound c (many b (Written.more (at700 q v) Written.none))) None)) rest (λ _. refl) refl
+        ∙ ap (λ u. run limited (inside l fs p (operand (Written.compound c (many b (Written.more u Written.none))) None)) rest) is
     taken_arguments (Arguments.next_argument n k ws us rest w ts d low x) l fs p c b e same =
         let (q, v, f, is, went) = taken d l (framed (arguments c) b p fs) e in
         let few : limited ≡ true → leb 255 (suc (length b)) ≡ false = λ h. lt-leb 255 (suc (length b)) (let less : suc k < 255 = low h in omega arith) in
         went
-          ∙ run_step limited (inside l (framed (arguments c) b p fs) q (operand v f)) words.comma (inside l (framed (arguments c) (at700 q v ∷ b) p fs) nothing_pending wanted) us few refl
-          ∙ taken_arguments x l fs p c (at700 q v ∷ b) e (ap suc same)
-          ∙ ap (λ u. run limited (inside l fs p (operand (Written.compound c (many b (Written.more u ts))) None)) rest) is
+        ∙ run_step limited (inside l (framed (arguments c) b p fs) q (operand v f)) words.comma (inside l (framed (arguments c) (at700 q v ∷ b) p fs) nothing_pending wanted) us few refl
+        ∙ taken_arguments x l fs p c (at700 q v ∷ b) e (ap suc same)
+        ∙ ap (λ u. run limited (inside l fs p (operand (Written.compound c (many b (Written.more u ts))) None)) rest) is
 
     taken_elements : {n : ℕ} {ws rest : List Word} {w : Written} → Elements limited n ws rest w → TakenElements n ws rest w
     taken_elements (Elements.last_element n ws rest a d) l fs p b e =
         let (q, v, f, is, went) = taken d l (framed elements b p fs) e in
         went
-          ∙ run_step limited (inside l (framed elements b p fs) q (operand v f)) words.close_list (inside l fs p (operand (list b (cell (at700 q v) nil)) None)) rest (λ _. refl) refl
-          ∙ ap (λ u. run limited (inside l fs p (operand (list b (cell u nil)) None)) rest) is
+        ∙ run_step limited (inside l (framed elements b p fs) q (operand v f)) words.close_list (inside l fs p (operand (list b (cell (at700 q v) nil)) None)) rest (λ _. refl) refl
+        ∙ ap (λ u. run limited (inside l fs p (operand (list b (cell u nil)) None)) rest) is
     taken_elements (Elements.tail n ws us rest a w d t) l fs p b e =
         let (q, v, f, is, went) = taken d l (framed elements b p fs) e in
         let (o, u, g, same, on) = taken t l (framed tail (at700 q v ∷ b) p fs) e in
         went
-          ∙ run_step limited (inside l (framed elements b p fs) q (operand v f)) words.bar (inside l (framed tail (at700 q v ∷ b) p fs) nothing_pending wanted) us (λ _. refl) refl
-          ∙ on
-          ∙ run_step limited (inside l (framed tail (at700 q v ∷ b) p fs) o (operand u g)) words.close_list (inside l fs p (operand (list (at700 q v ∷ b) (at700 o u)) None)) rest (λ _. refl) refl
-          ∙ ap (λ z. run limited (inside l fs p (operand z None)) rest) (ap (λ x. list b x) (same_binary (codes ".") (at700 q v) (at700 o u) a w is same))
+        ∙ run_step limited (inside l (framed elements b p fs) q (operand v f)) words.bar (inside l (framed tail (at700 q v ∷ b) p fs) nothing_pending wanted) us (λ _. refl) refl
+        ∙ on
+        ∙ run_step limited (inside l (framed tail (at700 q v ∷ b) p fs) o (operand u g)) words.close_list (inside l fs p (operand (list (at700 q v ∷ b) (at700 o u)) None)) rest (λ _. refl) refl
+        ∙ ap (λ z. run limited (inside l fs p (operand z None)) rest) (ap (λ x. list b x) (same_binary (codes ".") (at700 q v) (at700 o u) a w is same))
     taken_elements (Elements.next_element n ws us rest a w d x) l fs p b e =
         let (q, v, f, is, went) = taken d l (framed elements b p fs) e in
         went
-          ∙ run_step limited (inside l (framed elements b p fs) q (operand v f)) words.comma (inside l (framed elements (at700 q v ∷ b) p fs) nothing_pending wanted) us (λ _. refl) refl
-          ∙ taken_elements x l fs p (at700 q v ∷ b) e
-          ∙ ap (λ u. run limited (inside l fs p (operand (list b (cell u w)) None)) rest) is
+        ∙ run_step limited (inside l (framed elements b p fs) q (operand v f)) words.comma (inside l (framed elements (at700 q v ∷ b) p fs) nothing_pending wanted) us (λ _. refl) refl
+        ∙ taken_elements x l fs p (at700 q v ∷ b) e
+        ∙ ap (λ u. run limited (inside l fs p (operand (list b (cell u w)) None)) rest) is
 
   -- the terms of a part of a clause
   part_taken : (a : Part) {ws rest : List Word} {w : Written} → Reads limited 0 term1000 ws rest w
@@ -241,19 +271,19 @@ module _ (limited : Bool) where
   clause_taken (IsClause.fact ws h d) =
       let (b, p, v, f, is, went) = part_taken head d in
       clause_begins limited ws (begins d) ∙ went
-        ∙ run_step limited (inside (record { part = head; before = b }) [] p (operand v f)) words.end (over false (conjunction b (at700 p v))) [] (λ _. refl) refl
-        ∙ ap (λ u. Some (over false u)) is
+      ∙ run_step limited (inside (record { part = head; before = b }) [] p (operand v f)) words.end (over false (conjunction b (at700 p v))) [] (λ _. refl) refl
+      ∙ ap (λ u. Some (over false u)) is
   clause_taken (IsClause.rule ws us h w d t) =
       let (b, p, v, f, is, went) = part_taken head d in
       let x : Written = conjunction b (at700 p v) in
       let (c, q, u, g, same, on) = part_taken (body x) t in
       clause_begins limited ws (begins d) ∙ went
-        ∙ run_step limited (inside (record { part = head; before = b }) [] p (operand v f)) (words.name (codes ":-")) (in_part (body x)) us (λ _. refl) refl
-        ∙ on
-        ∙ run_step limited (inside (record { part = body x; before = c }) [] q (operand u g)) words.end (over false (binary (codes ":-") x (conjunction c (at700 q u)))) [] (λ _. refl) refl
-        ∙ ap (λ z. Some (over false z)) (same_binary (codes ":-") x (conjunction c (at700 q u)) h w is same)
+      ∙ run_step limited (inside (record { part = head; before = b }) [] p (operand v f)) (words.name (codes ":-")) (in_part (body x)) us (λ _. refl) refl
+      ∙ on
+      ∙ run_step limited (inside (record { part = body x; before = c }) [] q (operand u g)) words.end (over false (binary (codes ":-") x (conjunction c (at700 q u)))) [] (λ _. refl) refl
+      ∙ ap (λ z. Some (over false z)) (same_binary (codes ":-") x (conjunction c (at700 q u)) h w is same)
   clause_taken (IsClause.query ws w d) =
       let (b, p, v, f, is, went) = part_taken query d in
       run_step limited start (words.name (codes "?-")) (in_part query) ws (λ _. refl) refl ∙ went
-        ∙ run_step limited (inside (record { part = query; before = b }) [] p (operand v f)) words.end (over true (unary (codes "?-") (conjunction b (at700 p v)))) [] (λ _. refl) refl
-        ∙ ap (λ u. Some (over true (unary (codes "?-") u))) is
+      ∙ run_step limited (inside (record { part = query; before = b }) [] p (operand v f)) words.end (over true (unary (codes "?-") (conjunction b (at700 p v)))) [] (λ _. refl) refl
+      ∙ ap (λ u. Some (over true (unary (codes "?-") u))) is

@@ -14,23 +14,23 @@ atom c = Written.compound c Written.none
 -- `a - b * c = d , e .`
 operators : run true start
     (words.name (codes "a") ∷ words.minus words.operand ∷ words.name (codes "b") ∷ words.name (codes "*") ∷ words.name (codes "c") ∷ words.name (codes "=")
-      ∷ words.name (codes "d") ∷ words.comma ∷ words.name (codes "e") ∷ words.end ∷ [])
-  ≡ Some (over false (binary (codes ",")
-      (binary (codes "=") (binary (codes "-") (atom (codes "a")) (binary (codes "*") (atom (codes "b")) (atom (codes "c")))) (atom (codes "d")))
-      (atom (codes "e"))))
+    ∷ words.name (codes "d") ∷ words.comma ∷ words.name (codes "e") ∷ words.end ∷ [])
+    ≡ Some (over false (binary (codes ",")
+    (binary (codes "=") (binary (codes "-") (atom (codes "a")) (binary (codes "*") (atom (codes "b")) (atom (codes "c")))) (atom (codes "d")))
+    (atom (codes "e"))))
 operators = refl
 
 -- `- - 1 .`
 minuses : run true start (words.minus words.operand ∷ words.minus words.integer ∷ words.integer 1 ∷ words.end ∷ [])
-  ≡ Some (over false (unary (codes "-") (Written.integer (neg_ℤ (pos 1)))))
+    ≡ Some (over false (unary (codes "-") (Written.integer (neg_ℤ (pos 1)))))
 minuses = refl
 
 -- `?- f(-, [X|Y]) .`
 brackets : run true start
     (words.name (codes "?-") ∷ words.name (codes "f") ∷ words.open_bracket true ∷ words.minus words.stop ∷ words.comma ∷ words.open_list ∷ words.variable (codes "X")
-      ∷ words.bar ∷ words.variable (codes "Y") ∷ words.close_list ∷ words.close_bracket ∷ words.end ∷ [])
-  ≡ Some (over true (unary (codes "?-") (Written.compound (codes "f") (Written.more (atom (codes "-"))
-      (Written.more (cell (Written.variable (codes "X")) (Written.variable (codes "Y"))) Written.none)))))
+    ∷ words.bar ∷ words.variable (codes "Y") ∷ words.close_list ∷ words.close_bracket ∷ words.end ∷ [])
+    ≡ Some (over true (unary (codes "?-") (Written.compound (codes "f") (Written.more (atom (codes "-"))
+    (Written.more (cell (Written.variable (codes "X")) (Written.variable (codes "Y"))) Written.none)))))
 brackets = refl
 
 -- `a = b = c`

@@ -67,12 +67,15 @@ by_role c M p s r n o = one (is_one_of products c) refl
     four : (b : Bool) → bytes_eq c (codes ":-") ≡ b → M (cond b is_neck is_none)
     four true e = n ((bytes_eq-Decides c (codes ":-")).0 e)
     four false e = o
+
     three : (b : Bool) → is_one_of relations c ≡ b → M (cond b is_relation (cond (bytes_eq c (codes ":-")) is_neck is_none))
     three true e = r e
     three false e = four (bytes_eq c (codes ":-")) refl
+
     two : (b : Bool) → is_one_of sums c ≡ b → M (cond b is_sum (cond (is_one_of relations c) is_relation (cond (bytes_eq c (codes ":-")) is_neck is_none)))
     two true e = s e
     two false e = three (is_one_of relations c) refl
+
     one : (b : Bool) → is_one_of products c ≡ b → M (cond b is_product (cond (is_one_of sums c) is_sum (cond (is_one_of relations c) is_relation (cond (bytes_eq c (codes ":-")) is_neck is_none))))
     one true e = p e
     one false e = two (is_one_of sums c) refl

@@ -59,9 +59,9 @@ module _ (limited : Bool) where
   text_taken ps ss (IsText.statement first others rest whole q w more is clause text) before =
       let s : Statement = statement q w first.place in
       ap (take_words limited (between before)) is
-        ∙ read_through (between before) (between (before ++ s ∷ [])) (between ((before ++ s ∷ []) ++ more)) (first ∷ others) rest
-            (clause_read before first others (over q w) (clause_taken limited clause)) (text_taken rest more text (before ++ s ∷ []))
-        ∙ ap (λ l. Some (between l)) (append_assoc before (s ∷ []) more)
+      ∙ read_through (between before) (between (before ++ s ∷ [])) (between ((before ++ s ∷ []) ++ more)) (first ∷ others) rest
+      (clause_read before first others (over q w) (clause_taken limited clause)) (text_taken rest more text (before ++ s ∷ []))
+      ∙ ap (λ l. Some (between l)) (append_assoc before (s ∷ []) more)
 
   -- What the machine accepts as a text, the grammar derives.
   abbrev FromBetween : List Placed → Type 0
@@ -93,6 +93,7 @@ module _ (limited : Bool) where
     where
       none : FromBetween []
       none before all e = ([], IsText.nothing, (let same : before ≡ all = cc in sym same ∙ sym (append-nil before)))
+
       state : FromState []
       state start n before all e = absurd (cc)
       state (inside l fs p m) n before all e = absurd (cc)
@@ -102,9 +103,12 @@ module _ (limited : Bool) where
     where
       text : FromState ps → FromBetween (p ∷ ps)
       text h before all e =
-          let (others, rest, q, w, ss, parted, ran, text, whole) = from_word p ps h start p.place before all e in
-          (statement q w p.place ∷ ss, IsText.statement p others rest (p ∷ ps) q w ss parted (clause_accepted limited (words_of (p ∷ others)) q w ran) text,
-            whole ∙ append_assoc before (statement q w p.place ∷ []) ss)
+          let (others, rest, q, w, ss, parted, ran, text, whole) = from_word p ps h start p.place before all e in (
+            statement q w p.place ∷ ss,
+            IsText.statement p others rest (p ∷ ps) q w ss parted (clause_accepted limited (words_of (p ∷ others)) q w ran) text,
+            whole ∙ append_assoc before (statement q w p.place ∷ []) ss,
+          )
+
       again : FromState ps → (s : State) (n : ℕ) (before all : List Statement)
           → and_then (and_then (step limited s p.word) (λ t. Some (at_state before n t))) (λ r. take_words limited r ps) ≡ Some (between all)
           → (others rest : List Placed) × (q : Bool) × (w : Written) × (ss : List Statement) × (p ∷ ps ≡ others ++ rest) × (run limited s (words_of others) ≡ Some (over q w))
@@ -112,11 +116,13 @@ module _ (limited : Bool) where
       again h s n before all e =
           let (others, rest, q, w, ss, parted, ran, text, whole) = from_word p ps h s n before all e in
           (p ∷ others, rest, q, w, ss, parted, ran, text, whole)
+
       state : FromState ps → FromState (p ∷ ps)
       state h start n before all e = again h start n before all e
       state h (inside l fs o m) n before all e = again h (inside l fs o m) n before all e
       state h (opened_list l fs o) n before all e = again h (opened_list l fs o) n before all e
       state h (over q w) n before all e = from_over (p ∷ ps) (text h) q w n before all e
+
       step_back : FromState ps → FromBetween (p ∷ ps) × FromState (p ∷ ps)
       step_back h = (text h, state h)
 
@@ -144,7 +150,7 @@ module _ (limited : Bool) where
       let placed = spread us in
       let all : List Statement = ss ++ statement q w n ∷ [] in
       let on : take_words limited r placed.0 ≡ Some (between all) =
-        ap (λ z. take_words limited z placed.0) is ∙ words_read ss n placed.0 s (over q w) (ap (run limited s) placed.1 ∙ ran) in
+      ap (λ z. take_words limited z placed.0) is ∙ words_read ss n placed.0 s (over q w) (ap (run limited s) placed.1 ∙ ran) in
       (placed.0, all, text_accepted (ps ++ placed.0) all (read_through (between []) r (between all) ps placed.0 e on))
     where
       spread : (us : List Word) → (qs : List Placed) × (words_of qs ≡ us)
@@ -161,7 +167,7 @@ module _ (limited : Bool) where
   pub went_on : (ps : List Placed) → CanGoOn limited ps → (r : Reading) × (take_words limited (between []) ps ≡ Some r)
   went_on ps (us, ss, text) =
       let (r, one, more) = and_then_tells (take_words limited (between []) ps) (λ t. take_words limited t us) (between ss)
-        (sym (read_both (between []) ps us) ∙ text_taken (ps ++ us) ss text []) in
+      (sym (read_both (between []) ps us) ∙ text_taken (ps ++ us) ss text []) in
       (r, one)
 
   -- Behind a whole text, and the beginning of a clause in the state s, the machine takes a word as s does.
@@ -192,15 +198,15 @@ module _ (limited : Bool) where
       let (r, n, ran, is) = begun_reads whole begun ss s text e in
       let (m, took) = word_taken ss n s p r unended is in
       let there : CanGoOn limited ((whole ++ begun) ++ p ∷ []) → (t : State) × (step limited s p.word ≡ Some t) = λ c.
-        let (u, all) = went_on ((whole ++ begun) ++ p ∷ []) c in
-        let one : take_words limited r (p ∷ []) ≡ Some u = sym (ap (λ o. and_then o (λ z. take_words limited z (p ∷ []))) ran) ∙ sym (read_both (between []) (whole ++ begun) (p ∷ [])) ∙ all in
-        let (v, two, rest) = and_then_tells (take_word limited r p) (λ z. Some z) u one in
-        let (t, three, same) = and_then_tells (step limited s p.word) (λ t. Some (at_state ss m t)) v (sym took ∙ two) in
-        (t, three) in
+      let (u, all) = went_on ((whole ++ begun) ++ p ∷ []) c in
+      let one : take_words limited r (p ∷ []) ≡ Some u = sym (ap (λ o. and_then o (λ z. take_words limited z (p ∷ []))) ran) ∙ sym (read_both (between []) (whole ++ begun) (p ∷ [])) ∙ all in
+      let (v, two, rest) = and_then_tells (take_word limited r p) (λ z. Some z) u one in
+      let (t, three, same) = and_then_tells (step limited s p.word) (λ t. Some (at_state ss m t)) v (sym took ∙ two) in
+      (t, three) in
       let back : (t : State) × (step limited s p.word ≡ Some t) → CanGoOn limited ((whole ++ begun) ++ p ∷ []) = λ h.
-        let one : take_word limited r p ≡ Some (at_state ss m h.0) = took ∙ ap (λ o. and_then o (λ t. Some (at_state ss m t))) h.1 in
-        goes_on ((whole ++ begun) ++ p ∷ []) (at_state ss m h.0)
-          (read_through (between []) r (at_state ss m h.0) (whole ++ begun) (p ∷ []) ran (ap (λ o. and_then o (λ z. Some z)) one)) in
+      let one : take_word limited r p ≡ Some (at_state ss m h.0) = took ∙ ap (λ o. and_then o (λ t. Some (at_state ss m t))) h.1 in
+      goes_on ((whole ++ begun) ++ p ∷ []) (at_state ss m h.0)
+      (read_through (between []) r (at_state ss m h.0) (whole ++ begun) (p ∷ []) ran (ap (λ o. and_then o (λ z. Some z)) one)) in
       (there, back)
 
   -- Where no clause is over, none ends among the words.
@@ -234,9 +240,10 @@ module _ (limited : Bool) where
   none_ends s t [] e unended = tt
   none_ends s t (p ∷ ps) e unended =
       let (u, one, more) = and_then_tells (step limited s p.word) (λ z. run limited z (words_of ps)) t e in
-      let told = (step_tells limited s p.word u one).1 in
-      ((λ is. let ended : is_over t ≡ true = over_stays u t (words_of ps) (end_is_over s u (subst (λ x. go s x ≡ Some u) is told)) more in absurd (true≢false (sym ended ∙ unended))),
-        none_ends u t ps more unended)
+      let told = (step_tells limited s p.word u one).1 in (
+        (λ is. let ended : is_over t ≡ true = over_stays u t (words_of ps) (end_is_over s u (subst (λ x. go s x ≡ Some u) is told)) more in absurd (true≢false (sym ended ∙ unended))),
+        none_ends u t ps more unended,
+      )
 
   -- Two texts are one, a clause by itself is one, and a text has one list of clauses.
   pub joined : (ps qs : List Placed) (ss ts : List Statement) → IsText limited ps ss → IsText limited qs ts → IsText limited (ps ++ qs) (ss ++ ts)

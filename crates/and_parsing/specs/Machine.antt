@@ -157,9 +157,10 @@ take_relation l fs p w c = elim p.relation [ None ↦ Some (inside l fs (record 
 abbrev pub take_neck : Outermost → List Frame → Written → Option State
 take_neck l (f ∷ fs) a = None
 take_neck l [] a = elim l.part [
-    head ↦ Some (inside (record { part = body (conjunction l.before a); before = [] }) [] nothing_pending wanted)
+  | head ↦ Some (inside (record { part = body (conjunction l.before a); before = [] }) [] nothing_pending wanted)
   | body h ↦ None
-  | query ↦ None ]
+  | query ↦ None
+]
 
 -- a comma behind the term a: another argument, element or term of a conjunction begins
 abbrev pub take_comma : Outermost → List Frame → Written → Option State
@@ -172,36 +173,40 @@ take_comma l (f ∷ fs) a =
 abbrev pub take_bar : Outermost → List Frame → Written → Option State
 take_bar l [] a = None
 take_bar l (f ∷ fs) a = elim f.bracket [
-    plain ↦ None
+  | plain ↦ None
   | arguments c ↦ None
   | elements ↦ Some (inside l (record { bracket = tail; before = a ∷ f.before; outside = f.outside } ∷ fs) nothing_pending wanted)
-  | tail ↦ None ]
+  | tail ↦ None
+]
 
 -- A round bracket that closes behind the term a: what was in it is an operand.
 abbrev pub take_close_bracket : Outermost → List Frame → Written → Option State
 take_close_bracket l [] a = None
 take_close_bracket l (f ∷ fs) a = elim f.bracket [
-    plain ↦ Some (inside l fs f.outside (operand (conjunction f.before a) None))
+  | plain ↦ Some (inside l fs f.outside (operand (conjunction f.before a) None))
   | arguments c ↦ Some (inside l fs f.outside (operand (Written.compound c (many f.before (Written.more a Written.none))) None))
   | elements ↦ None
-  | tail ↦ None ]
+  | tail ↦ None
+]
 
 -- A list's bracket that closes behind the term a: the list is an operand.
 abbrev pub take_close_list : Outermost → List Frame → Written → Option State
 take_close_list l [] a = None
 take_close_list l (f ∷ fs) a = elim f.bracket [
-    plain ↦ None
+  | plain ↦ None
   | arguments c ↦ None
   | elements ↦ Some (inside l fs f.outside (operand (list f.before (cell a nil)) None))
-  | tail ↦ Some (inside l fs f.outside (operand (list f.before a) None)) ]
+  | tail ↦ Some (inside l fs f.outside (operand (list f.before a) None))
+]
 
 -- the end of a clause behind the term a
 abbrev pub take_end : Outermost → List Frame → Written → Option State
 take_end l (f ∷ fs) a = None
 take_end l [] a = elim l.part [
-    head ↦ Some (over false (conjunction l.before a))
+  | head ↦ Some (over false (conjunction l.before a))
   | body h ↦ Some (over false (binary (codes ":-") h (conjunction l.before a)))
-  | query ↦ Some (over true (unary (codes "?-") (conjunction l.before a))) ]
+  | query ↦ Some (over true (unary (codes "?-") (conjunction l.before a)))
+]
 
 -- a name of that role behind the operand w
 abbrev pub take_name : Outermost → List Frame → Pending → Written → Bytes → Role → Option State

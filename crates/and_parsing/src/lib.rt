@@ -52,7 +52,7 @@ pub fn can_go_on()
         → IsText limited whole ss → run limited start (words_of begun) ≡ Some s
         → is_over s ≡ false
         → CanGoOn limited ((whole ++ begun) ++ p ∷ [])
-            ↔ ((t : State) × (step limited s p.word ≡ Some t)) }
+        ↔ ((t : State) × (step limited s p.word ≡ Some t)) }
 {}
 
 /// Clause by clause: two texts, one behind the other, are one; the words of a clause or query are
