@@ -4,3 +4,4 @@ pub mod Derived
 pub mod Accepted
 pub mod Closing
 pub mod Texts
+pub mod Begun

@@ -5,12 +5,12 @@
 //! and the grammar of `and_texts`. The proofs' own lemmas stand in `proofs/`.
 #![tactic(auto)]
 
-ghost use Rattle.std.specs.Prelude.{ℕ, ◌≡◌, ◌++◌, ◌↔◌, Bool, true, false, List, [], ◌∷◌, Some};
+ghost use Rattle.std.specs.Prelude.{ℕ, ◌≡◌, ◌++◌, ◌↔◌, Bool, true, false, List, [], ◌∷◌, Some, None};
 ghost use Rattle.and_written.specs.Written.{Written};
 ghost use Rattle.and_texts.specs.Words.{Word, Placed};
 ghost use Rattle.and_texts.specs.Grammar.{IsClause, IsText, CanGoOn, Statement};
 ghost use Rattle.and_texts.specs.Refusals.{NoneEnds};
-ghost use Rattle.and_parsing.specs.Machine.{State, start, over, is_over, step, run, Reading, between, take_words, words_of};
+ghost use Rattle.and_parsing.specs.Machine.{State, start, over, is_over, go, exceeds, step, run, Reading, between, take_words, words_of};
 
 /// Accepted is derived: words over which the machine comes to the end of a clause or query are
 /// one, with that term; and a text that it takes is one of the grammar, with those statements.
@@ -41,6 +41,7 @@ pub fn each_state_goes_on()
 /// What can go on: words can be continued to a text exactly where the machine takes them all.
 /// Behind a text and the beginning of one more clause, which led to a state s, these can be
 /// continued; and so they can with one more word, exactly where the machine takes that word in s.
+/// A clause that can go on and is not ended has led to such a state.
 pub fn can_go_on()
     ensures words { (limited : Bool) (ws : List Placed)
         → CanGoOn limited ws ↔ ((r : Reading) × (take_words limited (between []) ws ≡ Some r)) }
@@ -53,10 +54,29 @@ pub fn can_go_on()
         → is_over s ≡ false
         → CanGoOn limited ((whole ++ begun) ++ p ∷ [])
         ↔ ((t : State) × (step limited s p.word ≡ Some t)) }
+    ensures unended { (limited : Bool) (whole begun : List Placed) (ss : List Statement)
+        → IsText limited whole ss → NoneEnds begun → CanGoOn limited (whole ++ begun)
+        → (s : State) × (run limited start (words_of begun) ≡ Some s) × (is_over s ≡ false) }
+{}
+
+/// Refused words: behind a text within the limits and the beginning of one more clause, a word
+/// that the state does not take goes on to no text; one that it takes over a limit goes on to a
+/// text, and to none within the limits.
+pub fn refused_words()
+    ensures no_grammar { (whole begun : List Placed) (p : Placed) (ss : List Statement) (s : State)
+        → IsText true whole ss → run true start (words_of begun) ≡ Some s → is_over s ≡ false
+        → go s p.word ≡ None
+        → CanGoOn false ((whole ++ begun) ++ p ∷ []) → ⊥ }
+    ensures over_limit { (whole begun : List Placed) (p : Placed) (ss : List Statement) (s : State)
+        → IsText true whole ss → run true start (words_of begun) ≡ Some s → is_over s ≡ false
+        → (t : State) → go s p.word ≡ Some t → exceeds s p.word ≡ true
+        → CanGoOn false ((whole ++ begun) ++ p ∷ [])
+        × (CanGoOn true ((whole ++ begun) ++ p ∷ []) → ⊥) }
 {}
 
 /// Clause by clause: two texts, one behind the other, are one; the words of a clause or query are
-/// a text; and where the clause that is begun is not over, none ends among its words.
+/// a text; where the clause that is begun is not over, none ends among its words; and words are
+/// in one way a text and the beginning of one more clause.
 pub fn clause_by_clause()
     ensures joined { (limited : Bool) (ps qs : List Placed) (ss ts : List Statement)
         → IsText limited ps ss → IsText limited qs ts → IsText limited (ps ++ qs) (ss ++ ts) }
@@ -65,6 +85,10 @@ pub fn clause_by_clause()
         → IsText limited (p ∷ ps) (record { is_query = q; term = w; place = p.place } ∷ []) }
     ensures none_ends { (limited : Bool) (ps : List Placed) (s : State)
         → run limited start (words_of ps) ≡ Some s → is_over s ≡ false → NoneEnds ps }
+    ensures one_split { (limited : Bool) (whole begun front back : List Placed)
+        → (ss ts : List Statement) → whole ++ begun ≡ front ++ back
+        → IsText limited whole ss → IsText limited front ts → NoneEnds begun → NoneEnds back
+        → (whole ≡ front) × (begun ≡ back) }
 {}
 
 /// Within the limits: what is taken within them is taken without them, to the same state; and so

@@ -1,3 +1,4 @@
+use Rattle.and_parsing.proofs.Begun.{goes_on_begun}
 use Rattle.and_parsing.proofs.Texts.{goes_on, went_on, begun_goes_on, word_goes_on}
 use Rattle.and_parsing.proofs.can_go_on.Goals as goal
 
@@ -9,3 +10,6 @@ returns-clause-begun c = begun_goes_on
 
 pub returns-clause-one_more : goal.returns-clause-one_more
 returns-clause-one_more c = word_goes_on
+
+pub returns-clause-unended : goal.returns-clause-unended
+returns-clause-unended c = goes_on_begun

@@ -1,3 +1,4 @@
+use Rattle.and_parsing.proofs.Begun.{one_split}
 use Rattle.and_parsing.proofs.Texts.{joined, one_clause, none_ends}
 use Rattle.and_parsing.specs.Machine.{start}
 use Rattle.and_parsing.proofs.clause_by_clause.Goals as goal
@@ -10,3 +11,6 @@ returns-clause-one c = one_clause
 
 pub returns-clause-none_ends : goal.returns-clause-none_ends
 returns-clause-none_ends c = λ limited ps s. none_ends limited start s ps
+
+pub returns-clause-one_split : goal.returns-clause-one_split
+returns-clause-one_split c = one_split
