@@ -2,3 +2,4 @@ pub mod Written
 pub mod Clauses
 pub mod Tables
 pub mod Skeletons
+pub mod Simple
