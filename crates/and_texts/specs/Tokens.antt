@@ -122,6 +122,23 @@ abbrev pub closes_comment : Bytes → Bool
 closes_comment [] = false
 closes_comment (b ∷ bs) = (nat_eq b 42 && begins (nat_eq 47) bs) || closes_comment bs
 
+-- The bytes gap, with the rest behind them, are layout and comments.
+pub data Separates : Bytes → Bytes → Type 0 where
+  nothing : (rest : Bytes) → Separates [] rest
+  layout : (b : ℕ) (gap rest : Bytes) → is_layout b ≡ true → Separates gap rest → Separates (b ∷ gap) rest
+  line_comment : (c gap rest whole : Bytes) → whole ≡ 37 ∷ c ++ gap → holds_of_some is_newline c ≡ false → gap ++ rest ≡ [] ⊎ begins is_newline (gap ++ rest) ≡ true
+      → Separates gap rest → Separates whole rest
+  comment : (c gap rest whole : Bytes) → whole ≡ 47 ∷ 42 ∷ c ++ 42 ∷ 47 ∷ gap → closes_comment (c ++ 42 ∷ []) ≡ false → Separates gap rest → Separates whole rest
+
+-- no layout, and no comment that is closed, begins the bytes
+abbrev pub is_separated : Bytes → Bool
+is_separated [] = true
+is_separated (b ∷ bs) = not (is_layout b || nat_eq b 37 || (nat_eq b 47 && begins (nat_eq 42) bs && closes_comment (drop 1 bs)))
+
+abbrev pub is_some : Bytes → Bool
+is_some [] = false
+is_some (b ∷ bs) = true
+
 -- The text is looked at up to its end, or up to the first bytes in it that are not UTF-8: then it is cut.
 module _ (cut : Bool) where
   -- With these bytes behind it a point ends a clause: layout, `%`, or the end of the text.
@@ -165,23 +182,6 @@ module _ (cut : Bool) where
     impure_symbol : (s rest : Bytes) → bs ≡ s ++ rest → begins is_symbol rest ≡ false → is_impure s ≡ true → IsFault p bs (not_pure p)
     impure_character : (b : ℕ) (rest : Bytes) → bs ≡ b ∷ rest → is_impure_character b ≡ true → IsFault p bs (not_pure p)
     other_character : (b : ℕ) (rest : Bytes) → bs ≡ b ∷ rest → (is_word b || is_symbol b || is_solo b || is_impure_character b) ≡ false → IsFault p bs (syntax p)
-
-  -- The bytes gap, with the rest behind them, are layout and comments.
-  pub data Separates : Bytes → Bytes → Type 0 where
-    nothing : (rest : Bytes) → Separates [] rest
-    layout : (b : ℕ) (gap rest : Bytes) → is_layout b ≡ true → Separates gap rest → Separates (b ∷ gap) rest
-    line_comment : (c gap rest whole : Bytes) → whole ≡ 37 ∷ c ++ gap → holds_of_some is_newline c ≡ false → gap ++ rest ≡ [] ⊎ begins is_newline (gap ++ rest) ≡ true
-        → Separates gap rest → Separates whole rest
-    comment : (c gap rest whole : Bytes) → whole ≡ 47 ∷ 42 ∷ c ++ 42 ∷ 47 ∷ gap → closes_comment (c ++ 42 ∷ []) ≡ false → Separates gap rest → Separates whole rest
-
-  -- no layout, and no comment that is closed, begins the bytes
-  abbrev pub is_separated : Bytes → Bool
-  is_separated [] = true
-  is_separated (b ∷ bs) = not (is_layout b || nat_eq b 37 || (nat_eq b 47 && begins (nat_eq 42) bs && closes_comment (drop 1 bs)))
-
-  abbrev pub is_some : Bytes → Bool
-  is_some [] = false
-  is_some (b ∷ bs) = true
 
   -- What comes next, where these bytes stand at the place p.
   pub data Next (p : ℕ) (bs : Bytes) : Answer → Type 0 where

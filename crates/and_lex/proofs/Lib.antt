@@ -1,0 +1,6 @@
+pub mod Choices
+pub mod Quoted
+pub mod Soundness
+pub mod Fronts
+pub mod Separators
+pub mod Numbers

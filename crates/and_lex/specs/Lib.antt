@@ -1,0 +1,4 @@
+pub mod Quoting
+pub mod Reading
+pub mod Scanning
+pub mod Views

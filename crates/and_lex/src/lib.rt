@@ -1,0 +1,16 @@
+//! The tokens of a text, in order, and the places at which none can be read.
+#![tactic(auto)]
+
+mod classes;
+mod found;
+mod gaps;
+mod lexing;
+mod quotes;
+mod tokens;
+
+pub use lexing::Lexer;
+pub use quotes::quoted_text;
+pub use tokens::{Kind, LexFault, Token};
+
+#[cfg(test)]
+mod tests;
