@@ -30,10 +30,10 @@ token_of_len cut p bs k t rest n e len h =
     let dropped : drop n bs ≡ rest = ap (drop n) e ∙ drop_at t rest n len in
     subst (λ (x : Bytes). IsToken cut k x (drop n bs)) (sym taken) (subst (IsToken cut k t) (sym dropped) h)
 
-small_word : (b : ℕ) → is_small b ≡ true → is_word b ≡ true
+pub small_word : (b : ℕ) → is_small b ≡ true → is_word b ≡ true
 small_word b e = rw e refl
 
-capital_word : (b : ℕ) → is_capital b ≡ true → is_word b ≡ true
+pub capital_word : (b : ℕ) → is_capital b ≡ true → is_word b ≡ true
 capital_word b e = grind (arith, nat_tests)
 
 variable_found : (cut : Bool) (p b : ℕ) (bs : Bytes) → is_capital b ≡ true → IsFound cut p (b ∷ bs) (one_token variable (prefix_len is_word (b ∷ bs)))
@@ -76,7 +76,7 @@ comment_of_run (b ∷ d ∷ run) e =
 never_closed : (c : Bytes) → is_separated (47 ∷ 42 ∷ c) ≡ true → closes_comment c ≡ false
 never_closed c e = not_true (closes_comment c) e
 
-false_of : (b : Bool) → (b ≡ true → ⊥) → b ≡ false
+pub false_of : (b : Bool) → (b ≡ true → ⊥) → b ≡ false
 false_of true h = absurd (h refl)
 false_of false h = refl
 
@@ -163,7 +163,7 @@ answer_behind p gap end_of_text = no_more
 answer_behind p gap (one_token k n) = one (record { kind = k; start = p + gap; end = p + gap + n; layout_before = ltb 0 gap })
 answer_behind p gap (one_fault f) = none_for f
 
-some_is : (bs : Bytes) → is_some bs ≡ ltb 0 (length bs)
+pub some_is : (bs : Bytes) → is_some bs ≡ ltb 0 (length bs)
 some_is [] = refl
 some_is (b ∷ bs) = grind (arith, nat_tests)
 

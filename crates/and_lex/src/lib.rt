@@ -4,10 +4,12 @@
 mod classes;
 mod found;
 mod gaps;
+mod laws;
 mod lexing;
 mod quotes;
 mod tokens;
 
+pub use laws::{one_answer, one_row_of_tokens};
 pub use lexing::Lexer;
 pub use quotes::quoted_text;
 pub use tokens::{Kind, LexFault, Token};

@@ -1,0 +1,18 @@
+//! Laws of the definitions of a text's tokens. Each function here does nothing: its contract is
+//! the law.
+
+ghost use Rattle.std.specs.Prelude.{◌≡◌, ℕ, List};
+ghost use Rattle.and_model.specs.Lines.{Bytes};
+ghost use Rattle.and_texts.specs.Tokens.{Token, Answer, Comes, Tokens};
+
+/// One answer: what comes next at a place of a text is one thing.
+pub fn one_answer()
+    ensures { (bytes : Bytes) (place : ℕ) (a b : Answer)
+        → Comes bytes place a → Comes bytes place b → a ≡ b }
+{}
+
+/// One row of tokens: a text has, from a place on, one list of tokens and one end.
+pub fn one_row_of_tokens()
+    ensures { (bytes : Bytes) (place : ℕ) (ts us : List Token) (a b : Answer)
+        → Tokens bytes place ts a → Tokens bytes place us b → (ts ≡ us) × (a ≡ b) }
+{}
