@@ -1,20 +1,19 @@
 -- What stands there is what is found, and so there is one answer.
-use Rattle.std.proofs.Common.{ℕ, zero, suc, ◌+◌, ◌-◌, ◌≡◌, ◌≤◌, ◌<◌, Bool, true, false, not, cond, ltb, ◌&&◌, ◌||◌, List, [], ◌∷◌, ◌++◌, length, take, drop, refl, sym, ap, subst, ◌∙◌, arith, inl, inr, ◌⊎◌, append_assoc}
+use Rattle.std.proofs.Common.{ℕ, suc, ◌+◌, ◌≡◌, ◌≤◌, ◌<◌, Bool, true, false, not, cond, ltb, ◌&&◌, ◌||◌, List, [], ◌∷◌, ◌++◌, length, take, drop, refl, sym, ap, subst, ◌∙◌, arith, inl, inr, append_assoc}
 use Rattle.std.specs.Prelude.{codes, nat_eq, leb, IsUtf8}
-use Rattle.std.specs.List.{prefix_len}
-use Rattle.std.specs.Str.{bytes_eq, IsValidUpTo}
+use Rattle.std.specs.Str.{bytes_eq}
 use Rattle.std.proofs.lemmas.Bool.Decides.{nat_tests}
 use Rattle.std.proofs.lemmas.List.{append-nil, length-append, take_at, drop_at, take_all, append_cancel_left}
 use Rattle.std.proofs.lemmas.Bool.{eqb-true, le-leb, cases_lt}
 use Rattle.std.proofs.lemmas.Slice.Eq.{bytes_eq-Decides}
-use Rattle.and_model.specs.Lines.{Bytes, is_small, is_word, is_symbol, holds_of_all, holds_of_some, is_plain_name, begins_comment}
-use Rattle.and_texts.specs.Tokens.{Kind, variable, name, quoted, symbol, integer, open_bracket, close_bracket, open_list, close_list, comma, bar, end_of_clause, Fault, syntax, not_text, too_wide, not_pure, begins, is_layout, is_capital, is_digit, is_impure, is_impure_character, is_solo, is_variable, is_numeral, is_run, goes_on, ends_clause, number_of, broken, is_separated, Separates, is_some, Token, Answer, no_more, one, none_for, Next, finished, read, stopped, IsFront, Comes, Tokens, ended, faulty, token, IsToken, Names, IsFault, bytes_at_fault, open_comment, open_quote, open_escape, raw_newline, escaped_raw_newline, unknown_escape, numeral_goes_on, wide_numeral, impure_symbol, impure_character, other_character}
+use Rattle.and_model.specs.Lines.{Bytes, is_small, is_word, is_symbol, holds_of_all, holds_of_some, begins_comment}
+use Rattle.and_texts.specs.Tokens.{Kind, variable, name, quoted, symbol, integer, open_bracket, close_bracket, open_list, close_list, comma, bar, end_of_clause, Fault, syntax, not_text, not_pure, begins, is_layout, is_capital, is_digit, is_impure, is_impure_character, is_solo, is_numeral, is_run, goes_on, ends_clause, number_of, broken, is_separated, Separates, is_some, Token, Answer, no_more, one, none_for, Next, finished, read, stopped, IsFront, Comes, Tokens, ended, faulty, token, IsToken, Names, IsFault, bytes_at_fault, open_comment, open_quote, open_escape, raw_newline, escaped_raw_newline, unknown_escape, numeral_goes_on, wide_numeral, impure_symbol, impure_character, other_character}
 use Rattle.and_lex.specs.declared.quotes.QuoteEnd.{QuoteEnd}
 use Rattle.and_lex.specs.declared.quotes.QuoteEnd.TheVariants.{Closed, Open, Newline, Unknown}
 use Rattle.and_lex.specs.Quoting.{quote_end}
-use Rattle.and_lex.specs.Scanning.{Found, end_of_text, one_token, one_fault, numeral_found, symbol_found, quoted_found, found_at_quote_end, single_found, found_at}
+use Rattle.and_lex.specs.Scanning.{end_of_text, one_token, one_fault, numeral_found, symbol_found, found_at_quote_end, found_at}
 use Rattle.and_lex.proofs.Choices.{first_choice, second_choice, and_true, both_true, or_false, both_false, not_true}
-use Rattle.and_lex.proofs.Fronts.{front, behind, front_more, behind_more, parts, len_is}
+use Rattle.and_lex.proofs.Fronts.{front, behind, front_more, parts, len_is}
 use Rattle.and_lex.proofs.Quoted.{names_passed, closed_there, unknown_there}
 use Rattle.and_lex.proofs.Separators.{one_gap}
 use Rattle.and_lex.proofs.Soundness.{small_word, capital_word, false_of, some_is, answer_behind}
@@ -236,7 +235,7 @@ one_answer bytes p a b h k =
     let other : Next (ltb h.0 (length bytes)) p (drop p (take h.0 bytes)) b = subst (λ (n : ℕ). Next (ltb n (length bytes)) p (drop p (take n bytes)) b) same k.2 in
     one_next (ltb h.0 (length bytes)) p (drop p (take h.0 bytes)) a b h.2 other
 
-one_is : (t u : Token) → one t ≡ one u → t ≡ u
+pub one_is : (t u : Token) → one t ≡ one u → t ≡ u
 one_is t u e = cc
 
 fault_is : (f g : Fault) → none_for f ≡ none_for g → f ≡ g

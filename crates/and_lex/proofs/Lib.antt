@@ -5,3 +5,4 @@ pub mod Completeness
 pub mod Fronts
 pub mod Separators
 pub mod Numbers
+pub mod Written

@@ -1,15 +1,15 @@
 -- Quoted tokens: what the bytes behind the opening quote come to.
-use Rattle.std.proofs.Common.{ℕ, zero, suc, ◌+◌, ◌-◌, ◌≡◌, ◌≤◌, ◌<◌, Bool, true, false, not, cond, ◌&&◌, ◌||◌, List, [], ◌∷◌, ◌++◌, length, take, drop, refl, sym, ap, subst, ◌∙◌, arith, inl, inr, ◌⊎◌, append_assoc}
+use Rattle.std.proofs.Common.{ℕ, suc, ◌+◌, ◌-◌, ◌≡◌, ◌≤◌, Bool, true, false, cond, ◌||◌, [], ◌∷◌, ◌++◌, length, take, drop, refl, sym, ap, subst, ◌∙◌, arith, inl, inr, ◌⊎◌, append_assoc}
 use Rattle.std.specs.Prelude.{nat_eq}
 use Rattle.std.proofs.lemmas.Bool.Decides.{nat_tests}
 use Rattle.std.proofs.lemmas.List.{append-nil, length-append, drop_all, take_at}
 use Rattle.std.proofs.lemmas.Bool.{eqb-true}
 use Rattle.and_model.specs.Lines.{Bytes, holds_of_some}
-use Rattle.and_texts.specs.Tokens.{begins, Names, nothing, plain, doubled_quote, escaped_quote, escaped_backslash, escaped_newline, Quotes}
+use Rattle.and_texts.specs.Tokens.{begins, Names, nothing, plain, doubled_quote, escaped_quote, escaped_backslash, escaped_newline}
 use Rattle.and_lex.specs.declared.quotes.QuoteEnd.{QuoteEnd}
 use Rattle.and_lex.specs.declared.quotes.QuoteEnd.TheVariants.{Closed, Open, Newline, Unknown}
 use Rattle.and_lex.specs.Quoting.{quote_end, end_behind_quote, end_behind_backslash, text_between, text_behind_escape}
-use Rattle.and_lex.proofs.Choices.{either_way, first_choice, second_choice, or_false, both_false}
+use Rattle.and_lex.proofs.Choices.{either_way, second_choice, or_false, both_false}
 
 -- one byte, or two that name one
 abbrev pub is_escaped : ℕ → Bool

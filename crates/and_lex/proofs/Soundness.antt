@@ -1,21 +1,21 @@
 -- What is found is what stands there.
-use Rattle.std.proofs.Common.{ℕ, zero, suc, ◌+◌, ◌-◌, ◌≡◌, ◌≤◌, ◌<◌, Bool, true, false, not, cond, ltb, ◌&&◌, ◌||◌, List, [], ◌∷◌, ◌++◌, length, take, drop, Option, Some, None, refl, sym, ap, subst, ◌∙◌, arith, inl, inr, ◌⊎◌, append_assoc}
+use Rattle.std.proofs.Common.{ℕ, suc, ◌+◌, ◌-◌, ◌≡◌, ◌≤◌, ◌<◌, Bool, true, false, ltb, ◌&&◌, [], ◌∷◌, ◌++◌, length, take, drop, refl, sym, ap, subst, ◌∙◌, arith, inl, inr, ◌⊎◌, append_assoc}
 use Rattle.std.specs.Prelude.{codes, nat_eq, leb}
 use Rattle.std.specs.List.{prefix_len}
 use Rattle.std.specs.Str.{bytes_eq}
 use Rattle.std.proofs.lemmas.Bool.Decides.{nat_tests}
 use Rattle.std.proofs.lemmas.List.{take-append-drop, append-nil, length-append, take_at, drop_at, drop-take, length-take-le}
-use Rattle.std.proofs.lemmas.Bool.{eqb-true, leb-true, le-leb}
+use Rattle.std.proofs.lemmas.Bool.{eqb-true, leb-true}
 use Rattle.std.proofs.lemmas.Slice.Eq.{bytes_eq-Decides}
-use Rattle.and_model.specs.Lines.{Bytes, is_small, is_word, is_symbol, holds_of_all, holds_of_some, is_plain_name, begins_comment}
-use Rattle.and_texts.specs.Tokens.{Kind, variable, name, quoted, symbol, integer, open_bracket, close_bracket, open_list, close_list, comma, bar, end_of_clause, Fault, syntax, not_text, too_wide, not_pure, begins, is_layout, is_capital, is_digit, is_impure, is_impure_character, is_solo, is_variable, is_numeral, is_run, goes_on, ends_clause, number_of, broken, is_separated, closes_comment, Separates, is_some, Token, Answer, no_more, one, none_for, Next, finished, read, stopped, IsFront, Comes, IsToken, IsFault, bytes_at_fault, open_comment, open_quote, open_escape, raw_newline, escaped_raw_newline, unknown_escape, numeral_goes_on, wide_numeral, impure_symbol, impure_character, other_character}
+use Rattle.and_model.specs.Lines.{Bytes, is_small, is_word, is_symbol, holds_of_all, is_plain_name, begins_comment}
+use Rattle.and_texts.specs.Tokens.{Kind, variable, name, quoted, symbol, integer, open_bracket, close_bracket, open_list, close_list, comma, bar, end_of_clause, syntax, too_wide, not_pure, is_capital, is_digit, is_impure, is_impure_character, is_variable, is_numeral, is_run, goes_on, ends_clause, number_of, broken, is_separated, closes_comment, Separates, is_some, Answer, no_more, one, none_for, Next, finished, read, stopped, IsFront, Comes, IsToken, IsFault, bytes_at_fault, open_comment, open_quote, open_escape, raw_newline, escaped_raw_newline, unknown_escape, numeral_goes_on, wide_numeral, impure_symbol, impure_character, other_character}
 use Rattle.and_lex.specs.Scanning.{Found, end_of_text, one_token, one_fault, numeral_found, symbol_found, quoted_found, found_at_quote_end, single_found, found_at, IsWithin}
 use Rattle.and_lex.specs.declared.quotes.QuoteEnd.{QuoteEnd}
 use Rattle.and_lex.specs.declared.quotes.QuoteEnd.TheVariants.{Closed, Open, Newline, Unknown}
 use Rattle.and_lex.specs.Quoting.{quote_end}
 use Rattle.and_lex.proofs.Quoted.{IsEnd, quote_sound}
-use Rattle.and_lex.proofs.Choices.{either_way, first_choice, second_choice, and_true, both_true, or_false, both_false, not_true}
-use Rattle.and_lex.proofs.Fronts.{front, behind, front_more, behind_more, parts, all_front, none_behind, len_is, len_more}
+use Rattle.and_lex.proofs.Choices.{either_way, and_true, both_true, not_true}
+use Rattle.and_lex.proofs.Fronts.{front, behind, front_more, parts, all_front, none_behind}
 
 -- what was found begins the bytes
 abbrev pub IsFound : Bool → ℕ → Bytes → Found → Type 0

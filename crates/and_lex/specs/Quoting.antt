@@ -1,5 +1,5 @@
 -- What the bytes behind an opening quote come to, computed plainly.
-use Rattle.std.specs.Prelude.{ℕ, suc, ◌+◌, ◌<◌, Bool, true, false, cond, ◌||◌, List, [], ◌∷◌, nat_eq}
+use Rattle.std.specs.Prelude.{ℕ, suc, ◌<◌, cond, ◌||◌, [], ◌∷◌, nat_eq}
 use Rattle.and_model.specs.Lines.{Bytes, holds_of_some}
 use Rattle.and_lex.specs.declared.quotes.QuoteEnd.{QuoteEnd}
 use Rattle.and_lex.specs.declared.quotes.QuoteEnd.TheVariants.{Closed, Open, Newline, Unknown}

@@ -1,5 +1,5 @@
 -- What a text begins with, computed plainly.
-use Rattle.std.specs.Prelude.{ℕ, suc, ◌+◌, ◌<◌, ◌≤◌, Bool, true, false, not, cond, ◌||◌, ◌&&◌, List, [], ◌∷◌, length, take, drop, Option, Some, None, nat_eq, leb, codes}
+use Rattle.std.specs.Prelude.{ℕ, suc, ◌+◌, ◌<◌, ◌≤◌, Bool, false, not, cond, ◌&&◌, [], ◌∷◌, length, take, drop, Option, Some, None, nat_eq, leb, codes}
 use Rattle.std.specs.List.{prefix_len}
 use Rattle.std.specs.Str.{bytes_eq}
 use Rattle.and_model.specs.Lines.{Bytes, is_small, is_word, is_symbol, begins_comment}

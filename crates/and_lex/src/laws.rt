@@ -1,9 +1,10 @@
 //! Laws of the definitions of a text's tokens. Each function here does nothing: its contract is
 //! the law.
 
-ghost use Rattle.std.specs.Prelude.{◌≡◌, ℕ, List};
+ghost use Rattle.std.specs.Prelude.{◌≡◌, ℕ, Bool, List};
 ghost use Rattle.and_model.specs.Lines.{Bytes};
-ghost use Rattle.and_texts.specs.Tokens.{Token, Answer, Comes, Tokens};
+ghost use Rattle.and_texts.specs.Tokens.{Token, Answer, one, IsToken, Comes, Tokens};
+ghost use Rattle.and_lex.specs.Reading.{token_bytes};
 
 /// One answer: what comes next at a place of a text is one thing.
 pub fn one_answer()
@@ -15,4 +16,11 @@ pub fn one_answer()
 pub fn one_row_of_tokens()
     ensures { (bytes : Bytes) (place : ℕ) (ts us : List Token) (a b : Answer)
         → Tokens bytes place ts a → Tokens bytes place us b → (ts ≡ us) × (a ≡ b) }
+{}
+
+/// A token's bytes: where a token comes next, the bytes from its start up to its end are a token of
+/// its kind. So those of a quoted token name a text.
+pub fn bytes_of_a_token()
+    ensures { (bytes : Bytes) (place : ℕ) (t : Token) → Comes bytes place (one t)
+        → (cut : Bool) × (rest : Bytes) × IsToken cut t.kind (token_bytes bytes t) rest }
 {}

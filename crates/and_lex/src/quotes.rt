@@ -49,7 +49,8 @@ pub fn quoted_text(alloc: Global, token: &[u8]) -> Result<Text, AllocError>
     let mut is_escaped = false;
     for byte in &token[1..token.len() - 1] {
         if is_escaped {
-            text.append(&[if *byte == b'n' { b'\n' } else { *byte }])?;
+            let named = if *byte == b'n' { b'\n' } else { *byte };
+            text.append(&[named])?;
             is_escaped = false;
         } else if matches!(*byte, b'\'' | b'\\') {
             is_escaped = true;

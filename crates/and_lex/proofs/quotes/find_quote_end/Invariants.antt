@@ -1,4 +1,4 @@
-use Rattle.std.proofs.Common.{◌≡◌, ◌≤◌, ◌-◌, length, drop}
+use Rattle.std.proofs.Common.{◌≡◌, ◌-◌, length, drop}
 use Rattle.and_lex.specs.Quoting.{quote_end}
 use Rattle.and_lex.proofs.quotes.find_quote_end.Given as goal
 
