@@ -1,5 +1,5 @@
 -- What values of the lexer stand for.
-use Rattle.std.specs.Prelude.{ℕ, Option, Some, None, Result, Ok, Err}
+use Rattle.std.specs.Prelude.{ℕ, ◌<◌, ◌≤◌, Option, Some, None, Result, Ok, Err}
 use Rattle.and_texts.specs.Tokens
 use Rattle.and_lex.specs.declared.tokens.Kind.{Kind}
 use Rattle.and_lex.specs.declared.tokens.Kind.TheVariants.{Variable, Name, Quoted, Symbol, Integer, Open, Close, OpenList, CloseList, Comma, Bar, End}
@@ -24,6 +24,10 @@ kind_of End = Tokens.end_of_clause
 
 abbrev pub token_of : Token → Tokens.Token
 token_of t = record { kind = kind_of t.kind; start = t.start; end = t.end; layout_before = t.layout_before }
+
+-- the token has bytes, which stand between the two places
+abbrev pub LiesBetween : ℕ → ℕ → Token → Type 0
+LiesBetween low high t = (low ≤ t.start) × (t.start < t.end) × (t.end ≤ high)
 
 abbrev pub fault_of : LexFault → Tokens.Fault
 fault_of (Syntax p) = Tokens.syntax p

@@ -49,7 +49,8 @@ fn is_impure_symbol(symbol: &[u8]) -> bool
 
 /// The number that digits stand for, and `None` where it is above `LARGEST`.
 fn number(digits: &[u8]) -> Option<u64>
-    ensures { result ≡ (if leb (number_of digits.now) LARGEST then Some (number_of digits.now) else None) }
+    ensures { result
+        ≡ (if leb (number_of digits.now) LARGEST then Some (number_of digits.now) else None) }
 {
     let mut value: u64 = 0;
     for digit in digits {

@@ -2,7 +2,7 @@
 
 ghost use Rattle.std.specs.Prelude.{◌≡◌, ◌≤◌, ◌<◌, ◌+◌, ◌^◌, length, IfOk, IfSome, OnErr, IfNone};
 ghost use Rattle.and_texts.specs.Tokens.{Next, Comes};
-ghost use Rattle.and_lex.specs.Views.{answer_of};
+ghost use Rattle.and_lex.specs.Views.{answer_of, LiesBetween};
 
 use crate::found::find_token;
 use crate::gaps::gap_len;
@@ -14,7 +14,7 @@ use std::str;
 fn next_token(is_cut: bool, place: usize, bytes: &[u8]) -> Result<Option<Token>, LexFault>
     requires { place + length bytes.now < 2 ^ 64 }
     ensures next { Next is_cut place bytes.now (answer_of result) }
-    ensures bounds { IfOk result (λ o. IfSome o (λ t. (place ≤ t.start) × (t.start < t.end) × (t.end ≤ place + length bytes.now))) }
+    ensures bounds { IfOk result (λ o. IfSome o (LiesBetween place (place + length bytes.now))) }
 {
     let gap = gap_len(bytes);
     let start = place + gap;
@@ -76,7 +76,8 @@ impl<'a> Lexer<'a> {
         ensures read { IfOk result (λ o. IfSome o (λ t. self.new.place ≡ t.end)) }
         ensures ended { IfOk result (λ o. IfNone o (self.new.place ≡ self.old.place)) }
         ensures stopped { OnErr result (self.new.place ≡ self.old.place) }
-        ensures within { IfOk result (λ o. IfSome o (λ t. (self.old.place ≤ t.start) × (t.start < t.end) × (t.end ≤ length self.old.text))) }
+        ensures within { IfOk result
+            (λ o. IfSome o (LiesBetween self.old.place (length self.old.text))) }
     {
         let is_cut = self.valid < self.text.len();
         let token = next_token(is_cut, self.place, &self.text[self.place..self.valid])?;
