@@ -4,7 +4,7 @@
 ghost use Rattle.std.specs.Prelude.{◌≡◌, ℕ, Bool, List};
 ghost use Rattle.and_model.specs.Lines.{Bytes};
 ghost use Rattle.and_texts.specs.Tokens.{Token, Answer, one, IsToken, Comes, Tokens};
-ghost use Rattle.and_lex.specs.Reading.{token_bytes};
+ghost use Rattle.and_texts.specs.Words.{bytes_of};
 
 /// One answer: what comes next at a place of a text is one thing.
 pub fn one_answer()
@@ -22,5 +22,5 @@ pub fn one_row_of_tokens()
 /// its kind. So those of a quoted token name a text.
 pub fn bytes_of_a_token()
     ensures { (bytes : Bytes) (place : ℕ) (t : Token) → Comes bytes place (one t)
-        → (cut : Bool) × (rest : Bytes) × IsToken cut t.kind (token_bytes bytes t) rest }
+        → (cut : Bool) × (rest : Bytes) × IsToken cut t.kind (bytes_of bytes t) rest }
 {}
