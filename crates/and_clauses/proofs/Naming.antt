@@ -1,0 +1,108 @@
+-- Names in a set, and the bytes that they are.
+use Rattle.std.proofs.Common.{ℕ, zero, suc, ◌+◌, ◌≡◌, ◌<◌, ◌≤◌, Bool, true, false, not, cond, ◌||◌, ltb, leb, List, [], ◌∷◌, ◌++◌, length, map, get_or, take, drop, reverse, Option, Some, None, unwrap_or, refl, sym, ap, ◌∙◌, arith, subst, Vec}
+use Rattle.std.specs.Borrow.{Bor}
+use Rattle.std.specs.Str.{bytes_eq}
+use Rattle.std.specs.List.{list_any, position, position_or_len}
+use Rattle.std.specs.declared.alloc.Global.{Global}
+use Rattle.std.proofs.lemmas.Bool.Decides.{nat_tests}
+use Rattle.std.proofs.Math.ListN.{drop_of_length-le}
+use Rattle.std.proofs.lemmas.List.{append_assoc, map_push, length-map, length-append, drop_more}
+use Rattle.and_model.specs.Lines.{Bytes}
+use Rattle.and_model.specs.Programs.{builtin_names}
+use Rattle.and_written.specs.Written.{has, place, including, is_new, variable_number}
+use Rattle.and_clauses.specs.declared.draft.Part.{Part}
+use Rattle.and_clauses.specs.Nodes.{names_of}
+use Rattle.and_clauses.specs.Numbered.{bytes_of, including_all, met_with, met_by}
+use Rattle.and_clauses.specs.Parts.{Piece, variable, integer, compound, piece, pieces}
+use Rattle.indexmap.specs.IndexSet.{insert_key}
+
+abbrev pub by_items : Bytes → Vec ℕ Global → Bool
+by_items x v = bytes_eq x v.items
+
+abbrev pub same_items : Vec ℕ Global → Vec ℕ Global → Bool
+same_items u v = bytes_eq u.items v.items
+
+pub has_items : (x : Bytes) (ks : List (Vec ℕ Global)) → list_any (by_items x) ks ≡ has x (names_of ks)
+has_items x [] = refl
+has_items x (k ∷ ks) = ap (λ (b : Bool). bytes_eq x k.items || b) (has_items x ks)
+
+pub place_items : (x : Bytes) (ks : List (Vec ℕ Global)) → position_or_len (by_items x) ks ≡ place x (names_of ks)
+place_items x [] = refl
+place_items x (k ∷ ks) = ap (λ (n : ℕ). cond (not (bytes_eq x k.items)) (1 + n) 0) (place_items x ks)
+
+-- a name that is there
+pub including_known : (x : Bytes) (ks : List (Vec ℕ Global)) (b : Bool) → b ≡ list_any (by_items x) ks → b ≡ true → names_of ks ≡ including (names_of ks) x
+including_known x ks b e t = sym (ap (λ (v : Bool). cond v (names_of ks) (names_of ks ++ x ∷ [])) (sym (has_items x ks) ∙ sym e ∙ t))
+
+-- a name that is inserted
+pub including_new : (x : Bytes) (v : Vec ℕ Global) (ks new : List (Vec ℕ Global)) → v.items ≡ x → new ≡ insert_key same_items ks v → names_of new ≡ including (names_of ks) x
+including_new x v ks new is e =
+    let P : Bool → Type 0 = λ b. names_of (cond b ks (ks ++ v ∷ [])) ≡ cond b (names_of ks) (names_of ks ++ v.items ∷ []) in
+    ap names_of e ∙ ap (λ (b : Bool). names_of (cond b ks (ks ++ v ∷ []))) (has_items v.items ks)
+    ∙ (elim (has v.items (names_of ks)) as P [ true ↦ refl | false ↦ map_push (λ (k : Vec ℕ Global). k.items) ks v ])
+    ∙ ap (including (names_of ks)) is
+
+prefix_len-le : (x : Bytes) (names : List Bytes) → place x names ≤ length names
+prefix_len-le x [] = omega arith
+prefix_len-le x (k ∷ names) =
+    let P : Bool → Type 0 = λ b. cond b (1 + place x names) 0 ≤ suc (length names) in
+    let h : place x names ≤ length names = prefix_len-le x names in
+    elim (not (bytes_eq x k)) as P [ true ↦ omega arith | false ↦ omega arith ]
+
+pub place-le : (x : Bytes) (names : List Bytes) → place x names ≤ length names
+place-le x names = prefix_len-le x names
+
+position_else : (p n : ℕ) → p ≤ n → unwrap_or (cond (ltb p n) (Some p) None) n ≡ p
+position_else p n le =
+    let P : Bool → Type 0 = λ b. ltb p n ≡ b → unwrap_or (cond b (Some p) None) n ≡ p in
+    (elim (ltb p n) as P [ true ↦ λ e. refl | false ↦ λ e. grind (arith, nat_tests) ]) refl
+
+pub number_is : (x : Bytes) (ks : List (Vec ℕ Global)) (o : Option ℕ) (r n : ℕ) → o ≡ position (by_items x) ks → r ≡ unwrap_or o n → n ≡ length ks → r ≡ place x (names_of ks)
+number_is x ks o r n at is few =
+    is ∙ ap (λ (m : ℕ). unwrap_or o m) few ∙ ap (λ (q : Option ℕ). unwrap_or q (length ks)) at
+    ∙ position_else (position_or_len (by_items x) ks) (length ks) (let h : place x (names_of ks) ≤ length (names_of ks) = place-le x (names_of ks) in omega (arith, place_items x ks, length-map ks (λ (k : Vec ℕ Global). k.items)))
+    ∙ place_items x ks
+
+-- one more of several that occur in turn
+pub including_more : (old new : List Bytes) (occurring : List (Bor Bytes)) (i : ℕ) (d : Bor Bytes) (total : List Bytes) → i < length occurring → new ≡ including old (get_or occurring i d).now
+    → including_all old (bytes_of (drop i occurring)) ≡ total → including_all new (bytes_of (drop (i + 1) occurring)) ≡ total
+including_more old new occurring i d total lt e h =
+    ap (λ (ns : List Bytes). including_all ns (bytes_of (drop (i + 1) occurring))) e
+    ∙ sym (ap (λ (cs : List (Bor Bytes)). including_all old (bytes_of cs)) (drop_more occurring i d lt)) ∙ h
+
+pub built_in : including_all [] builtin_names ≡ builtin_names
+built_in = refl
+
+pub met_by-grows : (met : List Bytes) (ps : List Piece) → length met ≤ length (met_by met ps)
+met_by-grows met [] = omega arith
+met_by-grows met (p ∷ ps) = omega (arith, met_with-grows met p, met_by-grows (met_with met p) ps)
+  where
+    met_with-grows : (ms : List Bytes) (q : Piece) → length ms ≤ length (met_with ms q)
+    met_with-grows ms (variable x) =
+        let P : Bool → Type 0 = λ b. length ms ≤ length (cond b (ms ++ x ∷ []) ms) in
+        elim (is_new x ms) as P [ true ↦ omega (arith, length-append ms (x ∷ [])) | false ↦ omega arith ]
+    met_with-grows ms (integer z) = omega arith
+    met_with-grows ms (compound c ns) = omega arith
+
+pub met_more : (old new : List Bytes) (parts : List Part) (i : ℕ) (p : Part) (total : List Bytes) → i < length parts → p ≡ get_or parts i p → new ≡ met_with old (piece p)
+    → met_by old (pieces (drop i parts)) ≡ total → met_by new (pieces (drop (i + 1) parts)) ≡ total
+met_more old new parts i p total lt at e h =
+    let opened : drop i parts ≡ p ∷ drop (i + 1) parts = drop_more parts i p lt ∙ ap (λ (q : Part). q ∷ drop (i + 1) parts) (sym at) in
+    ap (λ (ms : List Bytes). met_by ms (pieces (drop (i + 1) parts))) e ∙ sym (ap (λ (qs : List Part). met_by old (pieces qs)) opened) ∙ h
+
+pub too_many : (met total : List Bytes) (ps : List Piece) (n : ℕ) → met_by met ps ≡ total → n ≡ length met → 255 < n → false ≡ leb (length total) 255
+too_many met total ps n e few many =
+    let more : length met ≤ length total = subst (λ (t : List Bytes). length met ≤ length t) e (met_by-grows met ps) in
+    grind (arith, nat_tests)
+
+pub few_enough : (met : List Bytes) (parts : List Part) (i : ℕ) (total : List Bytes) → length parts ≤ i → met_by met (pieces (drop i parts)) ≡ total → length met ≤ 255 → true ≡ leb (length total) 255
+few_enough met parts i total le e few =
+    let same : met ≡ total = sym (ap (λ (qs : List Part). met_by met (pieces qs)) (drop_of_length-le parts le)) ∙ e in
+    let some : length total ≤ 255 = subst (λ (t : List Bytes). length t ≤ 255) same few in
+    grind (arith, nat_tests)
+
+pub variable_number-le : (x : Bytes) (met : List Bytes) → variable_number x met ≤ length met
+variable_number-le x met =
+    let P : Bool → Type 0 = λ b. cond b (length met) (place x met) ≤ length met in
+    let h : place x met ≤ length met = place-le x met in
+    elim (is_new x met) as P [ true ↦ omega arith | false ↦ h ]

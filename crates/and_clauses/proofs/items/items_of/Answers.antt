@@ -1,0 +1,40 @@
+use Rattle.std.proofs.Common.{rules, ◌≡◌, ◌++◌, ◌+◌, ◌≤◌, ℕ, [], ◌∷◌, length, get_or, map, reverse, refl, sym, ap, ◌∙◌, arith}
+use Rattle.and_written.specs.Written.{nodes_in}
+use Rattle.and_clauses.specs.Nodes.{names_of}
+use Rattle.and_clauses.specs.Parts.{pieces, many, written_at}
+use Rattle.and_clauses.proofs.Noting.{last_there}
+use Rattle.and_clauses.proofs.Goaling.{first_part, part_of, goal_at_says, goal_at_has, goal_size, goal_there, owed_first, owed_step, owed_last, owed_refused, first_there, first_few, no_more}
+use Rattle.and_clauses.proofs.items.items_of.Goals as goal
+
+pub loop-number-init : goal.loop-number-init
+loop-number-init c = record {
+  owed = λ ss r. owed_first ss c.args.base c.args.body c.new-items.result.items c.push.new.self.items c.new-items.ensures.items (c.in_ok-push.ensures.items ∙ ap (λ ns. ns ++ c.args.body ∷ []) c.new-pending.ensures.items);
+  there = first_there (length c.args.parts.now) c.args.body c.new-pending.result.items c.push.new.self.items c.in_ok-push.ensures.items c.new-pending.ensures.items c.requires.there;
+  few = first_few c.args.parts.now (length c.args.parts.now) c.args.body c.new-items.result.items c.new-pending.result.items c.push.new.self.items c.new-items.ensures.items c.in_ok-push.ensures.items c.new-pending.ensures.items c.requires.small;
+}
+
+pub part_as_goal-goal-requires-clause-there : goal.part_as_goal-goal-requires-clause-there
+part_as_goal-goal-requires-clause-there c = last_there (length c.args.parts.now) c.loop-number.pending.items c.pop.new.self.items c.in-Some.number c.in-Some.ensures.items c.loop-number.invariant.there
+
+pub loop-number-smaller : goal.loop-number-smaller
+loop-number-smaller c = (goal_size c.args.parts.now c.in-Some.number (get_or c.args.parts.now c.in-Some.number first_part) c.part_as_goal-goal.result c.in_ok-pure.pure c.loop-number.items.items c.take_goal.new.items.items c.loop-number.pending.items c.pop.new.self.items c.take_goal.new.pending.items c.requires.falls (last_there (length c.args.parts.now) c.loop-number.pending.items c.pop.new.self.items c.in-Some.number c.in-Some.ensures.items c.loop-number.invariant.there) (part_of c.args.parts.now c.in-Some.number (last_there (length c.args.parts.now) c.loop-number.pending.items c.pop.new.self.items c.in-Some.number c.in-Some.ensures.items c.loop-number.invariant.there)) (goal_at_has c.args.base c.in-Some.number (names_of c.args.names.now.keys) c.args.parts.now c.part_as_goal-goal.result (last_there (length c.args.parts.now) c.loop-number.pending.items c.pop.new.self.items c.in-Some.number c.in-Some.ensures.items c.loop-number.invariant.there) c.part_as_goal-goal.ensures) c.in-Some.ensures.items c.in_ok-pure.ensures c.if-not-pure.false).0
+
+pub loop-number-preserved : goal.loop-number-preserved
+loop-number-preserved c = record {
+  owed = λ ss r. owed_step ss c.args.base c.args.body c.in-Some.number c.part_as_goal-goal.result c.in_ok-pure.pure c.loop-number.items.items c.take_goal.new.items.items c.loop-number.pending.items c.pop.new.self.items c.take_goal.new.pending.items
+      (goal_at_says ss c.args.base c.in-Some.number (names_of c.args.names.now.keys) c.args.parts.now c.part_as_goal-goal.result r c.requires.falls (last_there (length c.args.parts.now) c.loop-number.pending.items c.pop.new.self.items c.in-Some.number c.in-Some.ensures.items c.loop-number.invariant.there) c.part_as_goal-goal.ensures)
+      c.in-Some.ensures.items c.in_ok-pure.ensures c.if-not-pure.false (c.loop-number.invariant.owed ss r);
+  there = goal_there c.args.parts.now c.in-Some.number (get_or c.args.parts.now c.in-Some.number first_part) c.part_as_goal-goal.result c.in_ok-pure.pure c.loop-number.items.items c.take_goal.new.items.items c.loop-number.pending.items c.pop.new.self.items c.take_goal.new.pending.items c.requires.falls (last_there (length c.args.parts.now) c.loop-number.pending.items c.pop.new.self.items c.in-Some.number c.in-Some.ensures.items c.loop-number.invariant.there) (part_of c.args.parts.now c.in-Some.number (last_there (length c.args.parts.now) c.loop-number.pending.items c.pop.new.self.items c.in-Some.number c.in-Some.ensures.items c.loop-number.invariant.there)) (goal_at_has c.args.base c.in-Some.number (names_of c.args.names.now.keys) c.args.parts.now c.part_as_goal-goal.result (last_there (length c.args.parts.now) c.loop-number.pending.items c.pop.new.self.items c.in-Some.number c.in-Some.ensures.items c.loop-number.invariant.there) c.part_as_goal-goal.ensures) c.in-Some.ensures.items c.in_ok-pure.ensures c.if-not-pure.false c.loop-number.invariant.there;
+  few = omega (arith, (goal_size c.args.parts.now c.in-Some.number (get_or c.args.parts.now c.in-Some.number first_part) c.part_as_goal-goal.result c.in_ok-pure.pure c.loop-number.items.items c.take_goal.new.items.items c.loop-number.pending.items c.pop.new.self.items c.take_goal.new.pending.items c.requires.falls (last_there (length c.args.parts.now) c.loop-number.pending.items c.pop.new.self.items c.in-Some.number c.in-Some.ensures.items c.loop-number.invariant.there) (part_of c.args.parts.now c.in-Some.number (last_there (length c.args.parts.now) c.loop-number.pending.items c.pop.new.self.items c.in-Some.number c.in-Some.ensures.items c.loop-number.invariant.there)) (goal_at_has c.args.base c.in-Some.number (names_of c.args.names.now.keys) c.args.parts.now c.part_as_goal-goal.result (last_there (length c.args.parts.now) c.loop-number.pending.items c.pop.new.self.items c.in-Some.number c.in-Some.ensures.items c.loop-number.invariant.there) c.part_as_goal-goal.ensures) c.in-Some.ensures.items c.in_ok-pure.ensures c.if-not-pure.false).1, c.loop-number.invariant.few);
+}
+
+pub returns-clause-items : goal.returns-clause-items
+returns-clause-items c = λ ss r. owed_last ss c.args.base c.args.body c.loop-number.items.items c.loop-number.pending.items (no_more c.loop-number.pending.items (let h : c.loop-number.pending.len ≡ 0 = search rules in omega arith)) (c.loop-number.invariant.owed ss r)
+
+pub returns-clause-few : goal.returns-clause-few
+returns-clause-few c = omega (arith, c.loop-number.invariant.few)
+
+pub returns-then-not-pure-clause-items : goal.returns-then-not-pure-clause-items
+returns-then-not-pure-clause-items c = λ ss r. owed_refused ss c.args.base c.args.body c.in-Some.number c.part_as_goal-goal.result c.in_ok-pure.pure c.loop-number.items.items c.take_goal.new.items.items c.loop-number.pending.items c.pop.new.self.items c.take_goal.new.pending.items
+    (goal_at_says ss c.args.base c.in-Some.number (names_of c.args.names.now.keys) c.args.parts.now c.part_as_goal-goal.result r c.requires.falls (last_there (length c.args.parts.now) c.loop-number.pending.items c.pop.new.self.items c.in-Some.number c.in-Some.ensures.items c.loop-number.invariant.there) c.part_as_goal-goal.ensures)
+    c.in-Some.ensures.items c.in_ok-pure.ensures c.if-not-pure.true (c.loop-number.invariant.owed ss r)

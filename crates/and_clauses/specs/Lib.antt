@@ -1,0 +1,17 @@
+pub mod Items
+pub mod Parts
+pub mod Nodes
+pub mod Numbered
+pub mod Goals
+pub mod Faults
+pub mod Judged
+pub mod Kept
+pub mod Once
+pub mod Made
+pub mod Drafts
+pub mod Views
+pub mod Predicates
+pub mod Unknown
+pub mod Sealing
+pub mod Shown
+pub mod Loaded

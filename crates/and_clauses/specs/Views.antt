@@ -1,0 +1,38 @@
+-- What drafts and tables stand for.
+use Rattle.std.specs.Prelude.{ℕ, ◌-◌, ◌≡◌, Bool, false, IsTrue, List, [], ◌∷◌, map, length, Option, Some, None, codes}
+use Rattle.std.specs.Str.{bytes_eq}
+use Rattle.and_model.specs.Lines.{Bytes}
+use Rattle.and_model.specs.Programs.{Clause}
+use Rattle.and_written.specs.Written
+use Rattle.and_written.specs.Written.{Written}
+use Rattle.and_written.specs.Tables
+use Rattle.and_written.specs.Tables.{Table}
+use Rattle.and_written.specs.Skeletons.{Shape, node_term, item_of}
+use Rattle.and_clauses.specs.Items.{node_item}
+use Rattle.and_clauses.specs.Nodes.{shapes_of, names_of, entry_clause}
+use Rattle.and_clauses.specs.declared.data.Asked.{Asked}
+use Rattle.and_clauses.specs.declared.table.ClauseTable.{ClauseTable}
+
+abbrev pub asked_of : List Shape → Option Asked → Option Tables.Asked
+asked_of ss None = None
+asked_of ss (Some a) = Some (record { query = entry_clause ss a.query; before = a.before })
+
+-- the one finished term is a compound `?-` of one argument
+abbrev pub is_asking : Written → Bool
+is_asking (Written.variable x) = false
+is_asking (Written.integer z) = false
+is_asking (Written.compound c Written.none) = false
+is_asking (Written.compound c (Written.more t Written.none)) = bytes_eq c (codes "?-")
+is_asking (Written.compound c (Written.more t (Written.more u ts))) = false
+
+abbrev pub IsQuery : List Written → Type 0
+IsQuery ws = (w : Written) × (ws ≡ w ∷ []) × IsTrue (is_asking w)
+
+-- (Node 0, the atom `true`, is not counted.)
+abbrev pub table_of : ClauseTable → Table
+table_of t = record {
+  clauses = map (entry_clause (shapes_of t.nodes.items)) t.clauses.items;
+  asked = asked_of (shapes_of t.nodes.items) t.query;
+  names = names_of t.names.keys;
+  nodes = length t.nodes.items - 1;
+}

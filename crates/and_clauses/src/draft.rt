@@ -1,0 +1,146 @@
+//! One clause as a term, given in postfix order.
+
+ghost use Rattle.std.specs.Prelude.{◌≡◌, ◌<◌, ◌≤◌, ◌-◌, ◌^◌, ◌++◌, [], ◌∷◌, take, length, vec_len, OnOk, OnErr};
+ghost use Rattle.std.proofs.Props.{props};
+ghost use Rattle.and_clauses.specs.Parts.{IsFormed, AllNarrow, AllNarrow-prop, pieces};
+
+use and_model::Text;
+use std::alloc::{AllocError, Global};
+
+/// A part of a draft: an occurrence of a variable, a number, or a name with its arguments, which
+/// are parts with smaller numbers.
+#[derive(Drop)]
+pub(crate) enum Part {
+    Variable(Text),
+    Integer(i64),
+    Compound { name: Text, arguments: Vec<u32> },
+}
+
+/// One clause as a term that is given in postfix order: arguments first, then the name that takes
+/// them.
+#[derive(Drop)]
+pub struct ClauseDraft {
+    alloc: Global,
+    pub(crate) line: u32,
+    pub(crate) parts: Vec<Part>,
+    /// The parts that are whole terms, and no arguments yet.
+    pub(crate) finished: Vec<u32>,
+    ghost few: { vec_len parts ≤ 4294967295 },
+    ghost formed: { IsFormed (pieces parts.items) finished.items } by { Prim.hlevel props },
+    ghost narrow: { AllNarrow (pieces parts.items) } by { AllNarrow-prop (pieces parts.items) },
+}
+
+impl ClauseDraft {
+    ghost use Rattle.std.specs.Prelude.{◌+◌, drop, IsTrue, ◌↔◌};
+    ghost use Rattle.and_written.specs.Written.{variable, integer, compound};
+    ghost use Rattle.and_clauses.specs.Parts.{many};
+    ghost use Rattle.and_clauses.specs.Drafts.{draft_of};
+
+    /// A draft of a clause whose first token is on that line. Takes no memory.
+    pub fn new(alloc: Global, line: u32) -> ClauseDraft
+        ensures { draft_of result ≡ record { line = line; finished = []; parts = 0 } }
+    {
+        ClauseDraft {
+            alloc,
+            line,
+            parts: Vec::new(alloc),
+            finished: Vec::new(alloc),
+        }
+    }
+
+    /// Adds an occurrence of a variable. The name `_` is a new variable each time. An error is
+    /// want of memory, and leaves the draft as it was.
+    pub fn variable(&mut self, name: &[u8]) -> Result<(), AllocError>
+        requires { (draft_of self.old).parts < 2 ^ 32 - 1 }
+        ensures ok { OnOk result (draft_of self.new ≡ record (draft_of self.old) { finished = (draft_of self.old).finished ++ variable name.now ∷ []; parts = (draft_of self.old).parts + 1 }) }
+        ensures err { OnErr result (draft_of self.new ≡ draft_of self.old) }
+    {
+        let name = Text::of(self.alloc, name)?;
+        let start = self.finished.len();
+        add_part(
+            &mut self.parts,
+            &mut self.finished,
+            Part::Variable(name),
+            start,
+        )
+    }
+
+    /// Adds an integer. An error is want of memory, and leaves the draft as it was.
+    pub fn integer(&mut self, value: i64) -> Result<(), AllocError>
+        requires { (draft_of self.old).parts < 2 ^ 32 - 1 }
+        ensures ok { OnOk result (draft_of self.new ≡ record (draft_of self.old) { finished = (draft_of self.old).finished ++ integer value ∷ []; parts = (draft_of self.old).parts + 1 }) }
+        ensures err { OnErr result (draft_of self.new ≡ draft_of self.old) }
+    {
+        let start = self.finished.len();
+        add_part(
+            &mut self.parts,
+            &mut self.finished,
+            Part::Integer(value),
+            start,
+        )
+    }
+
+    /// Makes the last `count` finished terms, in order, the arguments of a name. An error is want
+    /// of memory, and leaves the draft as it was.
+    pub fn compound(&mut self, name: &[u8], count: u8) -> Result<(), AllocError>
+        requires there { count ≤ length (draft_of self.old).finished }
+        requires room { (draft_of self.old).parts < 2 ^ 32 - 1 }
+        ensures ok { OnOk result (let finished = (draft_of self.old).finished in let before = length finished - count in draft_of self.new ≡ record (draft_of self.old) { finished = take before finished ++ compound name.now (many (drop before finished)) ∷ []; parts = (draft_of self.old).parts + 1 }) }
+        ensures err { OnErr result (draft_of self.new ≡ draft_of self.old) }
+    {
+        let start = self.finished.len() - count as usize;
+        let name = Text::of(self.alloc, name)?;
+        let arguments = Vec::from_slice(self.alloc, &self.finished[start..])?;
+        let part = Part::Compound { name, arguments };
+        add_part(&mut self.parts, &mut self.finished, part, start)
+    }
+
+    /// Whether no part can be added, since there are 2^32 - 1. Takes no memory.
+    pub fn is_full(&self) -> bool
+        ensures { IsTrue result ↔ (2 ^ 32 - 1 ≤ (draft_of self.now).parts) }
+    {
+        self.parts.len() >= u32::MAX as usize
+    }
+
+    /// Whether exactly one finished term is there. Takes no memory.
+    pub fn is_whole(&self) -> bool
+        ensures { IsTrue result ↔ (length (draft_of self.now).finished ≡ 1) }
+    {
+        self.finished.len() == 1
+    }
+
+    /// The one finished term, a part. Takes no memory.
+    pub(crate) fn root(&self) -> u32
+        requires { length (draft_of self.now).finished ≡ 1 }
+        ensures there { result < length self.now.parts.items }
+        ensures root { self.now.finished.items ≡ result ∷ [] }
+    {
+        self.finished[0]
+    }
+}
+
+/// Adds a part, to which the finished terms from `start` on belong, as the last finished term. An
+/// error is want of memory, and leaves both lists as they were.
+fn add_part(
+    parts: &mut Vec<Part>,
+    finished: &mut Vec<u32>,
+    part: Part,
+    start: usize,
+) -> Result<(), AllocError>
+    requires start { start ≤ length finished.old.items }
+    requires room { length parts.old.items < 2 ^ 32 - 1 }
+    ensures parts { OnOk result (parts.new.items ≡ parts.old.items ++ part ∷ []) }
+    ensures finished { OnOk result (finished.new.items ≡ take start finished.old.items ++ length parts.old.items ∷ []) }
+    ensures parts_kept { OnErr result (parts.new.items ≡ parts.old.items) }
+    ensures finished_kept { OnErr result (finished.new.items ≡ finished.old.items) }
+{
+    let number = parts.len() as u32;
+    finished.push(number)?;
+    if let Err(refused) = parts.push(part) {
+        finished.pop();
+        return Err(AllocError::from(refused));
+    }
+    finished[start] = number;
+    finished.truncate(start + 1);
+    Ok(())
+}

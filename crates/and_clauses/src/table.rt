@@ -1,0 +1,116 @@
+//! The clauses of a text, in a table.
+
+ghost use Rattle.std.specs.Prelude.{◌≡◌};
+ghost use Rattle.std.proofs.Props.{props};
+ghost use Rattle.and_clauses.specs.Nodes.{shapes_of, names_of};
+ghost use Rattle.and_clauses.specs.Once.{IsKept-prop};
+ghost use Rattle.and_clauses.specs.Kept.{IsKept};
+
+use crate::data::{Asked, Entry, Node, TableFault};
+use crate::draft::ClauseDraft;
+use crate::making::{clause_entry, query_entry};
+use crate::numbering::built_in_names;
+use and_model::{ClauseNo, NameNo};
+use indexmap::IndexSet;
+use std::alloc::{AllocError, Global};
+
+/// How many clauses a text may have, without its query.
+const MAX_CLAUSES: usize = 65_535;
+
+/// The clauses of a text as far as it was read, and its query.
+#[derive(Drop)]
+pub struct ClauseTable {
+    alloc: Global,
+    pub(crate) names: IndexSet<Vec<u8>>,
+    /// Node 0 is the atom `true`, the head of a query.
+    pub(crate) nodes: Vec<Node>,
+    pub(crate) clauses: Vec<Entry>,
+    pub(crate) query: Option<Asked>,
+    ghost kept: { IsKept (shapes_of nodes.items) clauses.items query (names_of names.keys) } by { IsKept-prop (shapes_of nodes.items) clauses.items query (names_of names.keys) },
+}
+
+impl ClauseTable {
+    ghost use Rattle.std.specs.Prelude.{[], ◌∷◌, length, None, Some, IfOk, IfErr, IfSome, OnOk, OnErr};
+    ghost use Rattle.and_written.specs.Written.{Written};
+    ghost use Rattle.and_written.specs.Tables.{empty, clause_fault, query_fault, with_clause, with_query};
+    ghost use Rattle.and_clauses.specs.Faults.{fault_of};
+    ghost use Rattle.and_clauses.specs.Drafts.{draft_of};
+    ghost use Rattle.and_clauses.specs.Views.{table_of, IsQuery};
+
+    /// A table without clauses. An error is want of memory.
+    pub fn new(alloc: Global) -> Result<ClauseTable, AllocError>
+        ensures { IfOk result (λ t. table_of t ≡ empty) }
+    {
+        let mut nodes = Vec::new(alloc);
+        nodes.push(Node::Compound {
+            name: NameNo(0),
+            arguments: Vec::new(alloc),
+        })?;
+        let names = built_in_names(alloc)?;
+        Ok(ClauseTable {
+            alloc,
+            names,
+            nodes,
+            clauses: Vec::new(alloc),
+            query: None,
+        })
+    }
+
+    /// Adds the clause of a draft, and answers its number. A draft that is a compound `:-` of two
+    /// arguments has the first as its head and the second as its body; any other is a head.
+    ///
+    /// Refused, the table is as it was.
+    pub fn add_clause(&mut self, draft: ClauseDraft) -> Result<ClauseNo, TableFault>
+        requires { length (draft_of draft).finished ≡ 1 }
+        ensures ok { (w : Written) → (draft_of draft).finished ≡ w ∷ [] → IfOk result (λ n. (clause_fault (table_of self.old) w ≡ None) × (table_of self.new ≡ with_clause (table_of self.old) w (draft_of draft).line) × (n.0 ≡ length (table_of self.new).clauses)) }
+        ensures fault { (w : Written) → (draft_of draft).finished ≡ w ∷ [] → IfErr result (λ e. IfSome (fault_of e) (λ f. clause_fault (table_of self.old) w ≡ Some f)) }
+        ensures refused { OnErr result (table_of self.new ≡ table_of self.old) }
+    {
+        let known = self.names.len();
+        let kept = self.nodes.len();
+        let room = self.clauses.len() < MAX_CLAUSES;
+        match clause_entry(self.alloc, &mut self.names, &mut self.nodes, &draft, room) {
+            Ok(entry) => match self.clauses.push(entry) {
+                Ok(()) => Ok(ClauseNo(self.clauses.len() as u16)),
+                Err(_) => {
+                    self.names.truncate(known);
+                    self.nodes.truncate(kept);
+                    Err(TableFault::Memory)
+                }
+            },
+            Err(fault) => {
+                self.names.truncate(known);
+                self.nodes.truncate(kept);
+                Err(fault)
+            }
+        }
+    }
+
+    /// Sets the query of a draft, the one argument of a compound `?-`.
+    ///
+    /// Refused, the table is as it was.
+    pub fn set_query(&mut self, draft: ClauseDraft) -> Result<(), TableFault>
+        requires { IsQuery (draft_of draft).finished }
+        ensures ok { (w : Written) → (draft_of draft).finished ≡ w ∷ [] → OnOk result ((query_fault (table_of self.old) w ≡ None) × (table_of self.new ≡ with_query (table_of self.old) w (draft_of draft).line)) }
+        ensures fault { (w : Written) → (draft_of draft).finished ≡ w ∷ [] → IfErr result (λ e. IfSome (fault_of e) (λ f. query_fault (table_of self.old) w ≡ Some f)) }
+        ensures refused { OnErr result (table_of self.new ≡ table_of self.old) }
+    {
+        if self.query.is_some() {
+            return Err(TableFault::SecondQuery);
+        }
+        let known = self.names.len();
+        let kept = self.nodes.len();
+        match query_entry(self.alloc, &mut self.names, &mut self.nodes, &draft) {
+            Ok(query) => {
+                let before = self.clauses.len() as u32;
+                self.query = Some(Asked { query, before });
+                Ok(())
+            }
+            Err(fault) => {
+                self.names.truncate(known);
+                self.nodes.truncate(kept);
+                Err(fault)
+            }
+        }
+    }
+}

@@ -1,0 +1,230 @@
+use crate::data::{ItemNode, TableFault, What};
+use crate::{ClauseDraft, ClauseTable};
+use and_model::{ClauseNo, NodeNo};
+use std::alloc::{AllocError, Global};
+use std::process::Abort;
+use std::test::Fail;
+
+/// A part of a draft.
+#[derive(Clone, Copy)]
+enum Given<'a> {
+    Var(&'a [u8]),
+    Int(i64),
+    Name(&'a [u8], u8),
+}
+
+use Given::{Int, Name, Var};
+
+/// The draft of these parts, in postfix order.
+fn draft(
+    rt: &impl Abort,
+    alloc: Global,
+    line: u32,
+    parts: &[Given],
+) -> Result<ClauseDraft, AllocError> {
+    let mut draft = ClauseDraft::new(alloc, line);
+    for part in parts {
+        assert!(rt; draft.parts.len() < 1000);
+        match part {
+            Var(name) => draft.variable(name)?,
+            Int(value) => draft.integer(*value)?,
+            Name(name, count) => {
+                assert!(rt; *count as usize <= draft.finished.len());
+                draft.compound(name, *count)?
+            }
+        }
+    }
+    assert!(rt; draft.is_whole());
+    Ok(draft)
+}
+
+/// What adding a clause of these parts answers.
+fn added(
+    rt: &impl Abort,
+    alloc: Global,
+    table: &mut ClauseTable,
+    parts: &[Given],
+) -> Result<Result<ClauseNo, TableFault>, AllocError> {
+    let draft = draft(rt, alloc, 1, parts)?;
+    assert!(rt; draft.is_whole());
+    Ok(table.add_clause(draft))
+}
+
+/// What setting the query of these parts answers.
+fn asked(
+    rt: &impl Abort,
+    alloc: Global,
+    table: &mut ClauseTable,
+    parts: &[Given],
+) -> Result<Result<(), TableFault>, AllocError> {
+    let draft = draft(rt, alloc, 1, parts)?;
+    Ok(table.set_query(draft))
+}
+
+fn is_name(table: &ClauseTable, number: usize, name: &[u8]) -> bool {
+    match table.names.get_index(number) {
+        Some(known) => known.as_slice() == name,
+        None => false,
+    }
+}
+
+fn is_clause(answer: Result<ClauseNo, TableFault>, number: u16) -> bool {
+    match answer {
+        Ok(no) => no.0 == number,
+        Err(_) => false,
+    }
+}
+
+fn is_redefinition(answer: Result<ClauseNo, TableFault>, name: &[u8], arity: u8) -> bool {
+    match answer {
+        Err(TableFault::Redefines { name: of, arity: n }) => of.bytes() == name && n == arity,
+        Err(_) => false,
+        Ok(_) => false,
+    }
+}
+
+fn is_impure(answer: Result<ClauseNo, TableFault>) -> bool {
+    matches!(answer, Err(TableFault::NotPure))
+}
+
+#[test]
+fn append_has_two_clauses_and_a_query(rt: HostRuntime) -> Result<(), Fail> {
+    let alloc = rt.alloc();
+    let mut table = ClauseTable::new(alloc)?;
+    // app([],L,L).
+    let base = [Name(b"[]", 0), Var(b"L"), Var(b"L"), Name(b"app", 3)];
+    assert!(rt; is_clause(added(&rt, alloc, &mut table, &base)?, 1));
+    // app([H|T],L,[H|R]) :- app(T,L,R).
+    let step = [
+        Var(b"H"),
+        Var(b"T"),
+        Name(b".", 2),
+        Var(b"L"),
+        Var(b"H"),
+        Var(b"R"),
+        Name(b".", 2),
+        Name(b"app", 3),
+        Var(b"T"),
+        Var(b"L"),
+        Var(b"R"),
+        Name(b"app", 3),
+        Name(b":-", 2),
+    ];
+    assert!(rt; is_clause(added(&rt, alloc, &mut table, &step)?, 2));
+    // ?- app(X,Y,[1,2]).
+    let query = [
+        Var(b"X"),
+        Var(b"Y"),
+        Int(1),
+        Int(2),
+        Name(b"[]", 0),
+        Name(b".", 2),
+        Name(b".", 2),
+        Name(b"app", 3),
+        Name(b"?-", 1),
+    ];
+    assert!(rt; asked(&rt, alloc, &mut table, &query)?.is_ok());
+    assert_eq!(rt; table.nodes.len(), 1 + 4 + 13 + 9);
+    assert!(rt; is_name(&table, 27, b"app"));
+    assert_eq!(rt; table.names.len(), 28);
+    assert!(rt;
+        matches!(
+            asked(&rt, alloc, &mut table, &query)?,
+            Err(TableFault::SecondQuery)
+        )
+    );
+    assert_eq!(rt; table.clauses.len(), 2);
+    let second = &table.clauses[1];
+    assert_eq!(rt; second.head, NodeNo(12));
+    assert_eq!(rt;
+        second.items.as_slice(),
+        [ItemNode::Call { goal: NodeNo(16) }].as_slice()
+    );
+    assert_eq!(rt; second.weight, 5);
+    assert_eq!(rt; second.variables.len(), 4);
+    Ok(())
+}
+
+#[test]
+fn what_is_no_pure_clause_is_refused(rt: HostRuntime) -> Result<(), Fail> {
+    let alloc = rt.alloc();
+    let mut table = ClauseTable::new(alloc)?;
+    let equation = [Var(b"X"), Var(b"Y"), Name(b"=", 2)];
+    assert!(rt; is_redefinition(added(&rt, alloc, &mut table, &equation)?, b"=", 2));
+    assert!(rt; is_impure(added(&rt, alloc, &mut table, &[Int(5)])?));
+    // p :- q, !.
+    let cut = [
+        Name(b"p", 0),
+        Name(b"q", 0),
+        Name(b"!", 0),
+        Name(b",", 2),
+        Name(b":-", 2),
+    ];
+    assert!(rt; is_impure(added(&rt, alloc, &mut table, &cut)?));
+    // p :- X is 1.
+    let is = [
+        Name(b"p", 0),
+        Var(b"X"),
+        Int(1),
+        Name(b"is", 2),
+        Name(b":-", 2),
+    ];
+    assert!(rt; is_impure(added(&rt, alloc, &mut table, &is)?));
+    assert_eq!(rt; table.names.len(), 27);
+    assert_eq!(rt; table.nodes.len(), 1);
+    Ok(())
+}
+
+#[test]
+fn names_are_numbered_as_they_are_first_seen(rt: HostRuntime) -> Result<(), Fail> {
+    let alloc = rt.alloc();
+    let mut table = ClauseTable::new(alloc)?;
+    // f(g(h), i) :- j, true.
+    let clause = [
+        Name(b"h", 0),
+        Name(b"g", 1),
+        Name(b"i", 0),
+        Name(b"f", 2),
+        Name(b"j", 0),
+        Name(b"true", 0),
+        Name(b",", 2),
+        Name(b":-", 2),
+    ];
+    assert!(rt; is_clause(added(&rt, alloc, &mut table, &clause)?, 1));
+    assert!(rt; is_name(&table, 27, b"f"));
+    assert!(rt; is_name(&table, 28, b"g"));
+    assert!(rt; is_name(&table, 29, b"h"));
+    assert!(rt; is_name(&table, 30, b"i"));
+    assert!(rt; is_name(&table, 31, b"j"));
+    assert_eq!(rt; table.clauses.len(), 1);
+    assert_eq!(rt; table.clauses[0].items.len(), 1);
+    Ok(())
+}
+
+#[test]
+fn a_clause_has_at_most_255_variables(rt: HostRuntime) -> Result<(), Fail> {
+    let alloc = rt.alloc();
+    let mut table = ClauseTable::new(alloc)?;
+    for count in [255, 256] {
+        let mut draft = ClauseDraft::new(alloc, 1);
+        draft.compound(b"p", 0)?;
+        for _ in 0..count {
+            assert!(rt; draft.parts.len() < 1000);
+            assert_eq!(rt; draft.finished.len(), 1);
+            draft.variable(b"_")?;
+            assert!(rt; draft.parts.len() < 1000);
+            assert_eq!(rt; draft.finished.len(), 2);
+            draft.compound(b"f", 2)?;
+        }
+        assert!(rt; draft.is_whole());
+        match table.add_clause(draft) {
+            Ok(_) => assert_eq!(rt; count, 255),
+            Err(TableFault::TooBig { what }) => {
+                assert_eq!(rt; what, What::Variables);
+                assert_eq!(rt; count, 256);
+            }
+            Err(_) => assert!(rt; false),
+        }
+    }
+    Ok(())
+}
