@@ -1,0 +1,195 @@
+//! Plain cells: a row of words that one thread alone sets.
+
+ghost use Rattle.std.specs.Prelude.{◌≡◌, ◌≢◌, ◌<◌, ◌≤◌, ◌+◌, ◌++◌, ◌↔◌, true, ℕ, suc, length, replicate, slice_set, IsTrue, IfOk, OnOk, OnErr};
+ghost use Rattle.and_model.specs.declared.reference.Ref.{Ref};
+ghost use Rattle.and_model.specs.Store.{is_half};
+ghost use Rattle.and_model.specs.Words.{HasWord};
+ghost use Rattle.and_cells.specs.Ranges.{CanHold, IsPairInRange};
+ghost use Rattle.and_cells.specs.Seen.{word_at};
+ghost use Rattle.and_cells.specs.Numbers.{number_of};
+ghost use Rattle.and_cells.specs.Rows.{IsSound, AreWords, row_of};
+
+use crate::cells::{Bound, Cells};
+use crate::naming::Naming;
+use crate::number::{halves, joined};
+use and_model::Ref;
+use std::alloc::{AllocError, Global};
+use std::marker::{Model, PhantomData};
+
+/// The most words that a row has.
+pub const MOST_WORDS: u32 = 1 << 22;
+
+/// A row of words that one thread alone sets, so that contracts see the row itself. It takes 8 bytes
+/// a word, and keeps the allocator that it was made with.
+#[derive(Drop)]
+pub struct PlainCells<N: Naming> {
+    words: Vec<u64>,
+    of: PhantomData<N>,
+}
+
+impl<N: Naming> Model for PlainCells<N> {
+    ghost use Rattle.std.specs.Prelude.{List};
+    ghost use Rattle.and_model.specs.declared.reference.Ref.{Ref};
+    ghost use Rattle.and_cells.specs.Rows.{row_of, AreWords, IsSound};
+
+    ghost Value = { List Ref };
+
+    ghost view = { λ cells. row_of cells.words.items };
+
+    ghost invariant = { λ cells. AreWords cells.words.items × IsSound N.program (row_of cells.words.items) };
+}
+
+pub(crate) fn is_unset(word: Ref) -> bool
+    ensures { IsTrue result ↔ (word ≡ Ref.Free) }
+{
+    matches!(word, Ref::Free)
+}
+
+impl<N: Naming> PlainCells<N> {
+    /// So many words, all of them free. An error is want of memory.
+    pub fn with(alloc: Global, words: u32) -> Result<PlainCells<N>, AllocError>
+        requires { words ≤ MOST_WORDS }
+        ensures { IfOk result (λ cells. cells ≡ replicate words Ref.Free) }
+    {
+        let words = Vec::from_elem(alloc, Ref::Free.to_word(), words as usize)?;
+        Ok(PlainCells {
+            words,
+            of: PhantomData,
+        })
+    }
+
+    /// The row that is kept in these words. Takes no memory.
+    pub fn of_words(words: Vec<u64>) -> PlainCells<N>
+        requires words { AreWords words.items }
+        requires sound { IsSound N.program (row_of words.items) }
+        ensures { result ≡ row_of words.items }
+    {
+        PlainCells {
+            words,
+            of: PhantomData,
+        }
+    }
+
+    /// How many words there are. Takes no memory.
+    pub fn len(&self) -> u32
+        ensures value { result ≡ length self.now }
+        ensures sound { IsSound N.program self.now }
+    {
+        self.words.len() as u32
+    }
+
+    /// Puts so many free words at the end. An error is want of memory.
+    pub fn extend(&mut self, by: u32) -> Result<(), AllocError>
+        requires { length self.old + by ≤ MOST_WORDS }
+        ensures ok { OnOk result (self.new ≡ self.old ++ replicate by Ref.Free) }
+        ensures unchanged { OnErr result (self.new ≡ self.old) }
+    {
+        let len = self.words.len() + by as usize;
+        self.words.resize(len, Ref::Free.to_word())?;
+        Ok(())
+    }
+
+    /// Another row of the same words, on the same allocator. An error is want of memory.
+    pub fn copy(&self) -> Result<PlainCells<N>, AllocError>
+        ensures { IfOk result (λ cells. cells ≡ self.now) }
+    {
+        let words = Vec::from_slice(*self.words.allocator(), &self.words)?;
+        Ok(PlainCells {
+            words,
+            of: PhantomData,
+        })
+    }
+
+    /// The word at a place. Takes no memory.
+    pub fn word(&self, place: u32) -> Ref
+        requires { place < length self.now }
+        ensures value { result ≡ word_at self.now place }
+        ensures sound { IsSound N.program self.now }
+    {
+        match Ref::of_word(self.words[place as usize]) {
+            Some(word) => word,
+            None => unreachable!(),
+        }
+    }
+
+    /// The number that a pair of words holds; a word that is no half counts as 0. Takes no memory.
+    pub fn held_number(&self, pair: u32) -> i64
+        requires { IsPairInRange (length self.now) pair }
+        ensures value { result ≡ number_of (word_at self.now pair) (word_at self.now (suc pair)) }
+        ensures sound { IsSound N.program self.now }
+    {
+        joined(self.word(pair), self.word(pair + 1))
+    }
+
+    /// Sets the word at a place.
+    pub(crate) fn set(&mut self, place: u32, to: Ref)
+        requires place { place < length self.old }
+        requires kept { HasWord to }
+        requires free { word_at self.old place ≡ Ref.Free }
+        requires fits { CanHold N.program (length self.old) place to }
+        requires written { (pair : ℕ) → to ≡ Ref.Number pair
+            → (word_at self.old pair ≢ Ref.Free) × (word_at self.old (suc pair) ≢ Ref.Free) }
+        ensures { self.new ≡ slice_set self.old place to }
+    {
+        self.words[place as usize] = to.to_word();
+    }
+
+    /// Sets the word at a place to a half, if it is free, and answers what the word is then.
+    pub(crate) fn fill(&mut self, place: u32, half: Ref) -> Ref
+        requires place { place < length self.old }
+        requires half { HasWord half × (is_half half ≡ true) }
+        ensures free { word_at self.old place ≡ Ref.Free
+            → (self.new ≡ slice_set self.old place half) × (result ≡ half) }
+        ensures found { word_at self.old place ≢ Ref.Free
+            → (self.new ≡ self.old) × (result ≡ word_at self.old place) }
+        ensures fits { CanHold N.program (length self.old) place result }
+        ensures len { length self.new ≡ length self.old }
+        ensures sound { IsSound N.program self.old }
+    {
+        let word = self.word(place);
+        if is_unset(word) {
+            self.set(place, half);
+            return half;
+        }
+        word
+    }
+}
+
+impl<N: Naming> Cells for PlainCells<N> {
+    ghost use Rattle.std.proofs.Common.{rules};
+    ghost use Rattle.and_cells.specs.Rows.{plain};
+
+    ghost Row = { Unit {0} };
+
+    ghost over = { λ _. tt };
+
+    ghost program = { N.program };
+
+    ghost seen = { plain };
+
+    ghost coherent = { Prim.search rules };
+
+    fn look(&mut self, cell: u32) -> Ref {
+        self.word(cell)
+    }
+
+    fn bind(&mut self, cell: u32, to: Ref) -> Bound {
+        let word = self.word(cell);
+        if is_unset(word) {
+            self.set(cell, to);
+            return Bound::Won;
+        }
+        Bound::Already(word)
+    }
+
+    fn write_number(&mut self, pair: u32, value: i64) -> i64 {
+        let (high, low) = halves(value);
+        let high = self.fill(pair, high);
+        let low = self.fill(pair + 1, low);
+        joined(high, low)
+    }
+
+    fn number(&mut self, pair: u32) -> i64 {
+        self.held_number(pair)
+    }
+}

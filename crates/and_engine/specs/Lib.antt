@@ -1,0 +1,9 @@
+pub mod Arguments
+pub mod Bodies
+pub mod Cells
+pub mod Naming
+pub mod Printing
+pub mod Rows
+pub mod Search
+pub mod Searching
+pub mod Solved
