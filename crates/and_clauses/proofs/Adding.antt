@@ -1,9 +1,9 @@
 -- What a whole draft adds to a table.
-use Rattle.std.proofs.Common.{ℕ, zero, suc, pos, ◌+◌, ◌-◌, ◌≡◌, ◌<◌, ◌≤◌, Bool, true, false, not, cond, ◌||◌, ◌&&◌, nat_eq, leb, ltb, List, [], ◌∷◌, ◌++◌, length, map, get_or, take, drop, refl, sym, ap, ◌∙◌, arith, subst, Option, Some, None, IfSome}
+use Rattle.std.proofs.Common.{ℕ, suc, ◌+◌, ◌-◌, ◌≡◌, ◌<◌, ◌≤◌, Bool, true, false, not, cond, ◌||◌, ◌&&◌, nat_eq, leb, ltb, List, [], ◌∷◌, ◌++◌, length, map, get_or, take, refl, sym, ap, ◌∙◌, arith, subst, Option, Some, None, IfSome}
 use Rattle.std.specs.Str.{bytes_eq}
 use Rattle.std.specs.List.{list_any}
 use Rattle.std.proofs.lemmas.Bool.Decides.{nat_tests}
-use Rattle.std.proofs.lemmas.List.{append_assoc, append-nil, length-append, length-map, length-take-le}
+use Rattle.std.proofs.lemmas.List.{append-nil, length-append, length-map, length-take-le}
 use Rattle.and_model.specs.Lines.{Bytes}
 use Rattle.and_model.specs.Terms.{Term, compound, none}
 use Rattle.and_model.specs.Programs.{Clause, Item}
@@ -15,12 +15,12 @@ use Rattle.and_written.specs.Tables.{Table, Fault, not_pure, redefines, second_q
 use Rattle.and_written.specs.Skeletons
 use Rattle.and_written.specs.Skeletons.{Shape, node_term, item_of, AllFall, AllThere}
 use Rattle.and_clauses.specs.Items.{node_item}
-use Rattle.and_clauses.specs.Judged.{size_faults, faults_of_clause, faults_of_query, IsJudged}
+use Rattle.and_clauses.specs.Judged.{faults_of_clause, faults_of_query, IsJudged}
 use Rattle.and_clauses.specs.Goals.{AreItemsOf}
-use Rattle.and_clauses.specs.Kept.{IsWithin, AllWithin, IsEntry, begins_with_true}
+use Rattle.and_clauses.specs.Kept.{AllWithin, IsEntry, begins_with_true}
 use Rattle.and_clauses.specs.Made.{IsTableOf, IsMade}
 use Rattle.and_clauses.specs.Nodes.{entry_clause, shape_of, shapes_of}
-use Rattle.and_clauses.specs.Numbered.{behind, shape_in, shapes_in, met_with, met_by, IsRead}
+use Rattle.and_clauses.specs.Numbered.{behind, shapes_in, met_with, met_by, IsRead}
 use Rattle.and_clauses.specs.Parts
 use Rattle.and_clauses.specs.declared.draft.Part as code
 use Rattle.and_clauses.specs.Parts.{Piece, piece, pieces, many, written_at, before_last, roots, postfix, postfix_all, IsFormed, PiecesFall, IsNarrow, AllNarrow}

@@ -8,7 +8,7 @@ use Rattle.and_written.specs.Written.{Written, Many, nodes_of, nodes_in}
 use Rattle.and_written.specs.Skeletons.{Falls}
 use Rattle.and_clauses.specs.declared.draft.Part.{Part}
 use Rattle.and_clauses.specs.Drafts.{Draft}
-use Rattle.and_clauses.specs.Parts.{Piece, variable, integer, compound, piece, pieces, IsNarrow, AllNarrow, many, nth_written, piece_written, written_behind, written_at, before_last, roots, postfix, postfix_all, IsFormed, PiecesFall, arguments_of}
+use Rattle.and_clauses.specs.Parts.{Piece, compound, piece, pieces, IsNarrow, AllNarrow, many, nth_written, piece_written, written_behind, written_at, before_last, roots, postfix, postfix_all, IsFormed, PiecesFall}
 
 -- terms of parts depend on the parts before them alone
 pub written_behind-append : (ws : List Written) (ps qs : List Piece) → written_behind ws (ps ++ qs) ≡ written_behind (written_behind ws ps) qs

@@ -1,31 +1,27 @@
 -- One step of a way through the goals of a body.
-use Rattle.std.proofs.Common.{ℕ, zero, suc, pos, ◌+◌, ◌≡◌, ◌<◌, ◌≤◌, ◌^◌, Bool, true, false, cond, ◌||◌, ◌&&◌, nat_eq, leb, List, [], ◌∷◌, ◌++◌, length, map, get_or, reverse, refl, sym, ap, ◌∙◌, arith, subst, Option, Some, None}
+use Rattle.std.proofs.Common.{ℕ, zero, suc, pos, ◌+◌, ◌≡◌, ◌<◌, ◌≤◌, Bool, true, false, cond, ◌||◌, nat_eq, List, [], ◌∷◌, ◌++◌, length, map, get_or, reverse, refl, sym, ap, ◌∙◌, arith, subst, Some, None}
 use Rattle.std.specs.List.{list_any}
-use Rattle.std.proofs.lemmas.Bool.Decides.{nat_tests}
 use Rattle.std.proofs.lemmas.List.{append_assoc, append-nil, length-append, length-map, get_or-map, reverse-append, map_push, get_or_default}
 use Rattle.and_model.specs.Lines.{Bytes}
 use Rattle.and_model.specs.Terms
 use Rattle.and_model.specs.Terms.{Term, Terms}
 use Rattle.and_model.specs.Arithmetic as arithmetic
 use Rattle.and_model.specs.Programs as programs
-use Rattle.and_written.specs.Written
 use Rattle.and_written.specs.Written.{Written, nodes_of, nodes_in, place}
 use Rattle.and_written.specs.Clauses
 use Rattle.and_written.specs.Clauses.{Part, impure, parts_of, is_refused, atom_parts, unary_part, binary_part, compare_or, relation_of}
-use Rattle.and_written.specs.Skeletons
 use Rattle.and_written.specs.Skeletons.{Shape, row, node_term, item_of, IsThere, AllThere, NodeItem, after, Falls}
 use Rattle.and_clauses.specs.Items.{node_item}
-use Rattle.and_clauses.specs.Goals.{call_of, atom_goal, unary_goal, is_refused_name, binary_goal, goal_of, piece_goal, goal_at, Takes, AreItemsOf}
+use Rattle.and_clauses.specs.Goals.{call_of, is_refused_name, goal_of, piece_goal, goal_at, Takes, AreItemsOf}
 use Rattle.and_clauses.specs.Numbered.{IsRead}
 use Rattle.and_clauses.specs.Parts
 use Rattle.and_clauses.specs.Parts.{Piece, piece, pieces, many, written_at, nth_written, piece_written, written_behind, arguments_of, PiecesFall}
 use Rattle.and_clauses.specs.declared.draft.Part as code
 use Rattle.and_clauses.specs.declared.draft.Part.TheVariants as variants
 use Rattle.and_clauses.specs.declared.data.ItemNode.{ItemNode}
-use Rattle.and_clauses.specs.declared.data.ItemNode.TheVariants.{Call, Equal, Fail}
 use Rattle.and_clauses.specs.declared.items.Goal.{Goal}
 use Rattle.and_clauses.specs.declared.items.Goal.TheVariants.{Both, Nothing, Item, Refused}
-use Rattle.and_clauses.proofs.Noting.{PiecesFall-at, part_falls, Falls-more, Falls-append, Falls-reverse, Falls-front, Falls-unreverse, last_there, arguments_below}
+use Rattle.and_clauses.proofs.Noting.{PiecesFall-at, part_falls, Falls-more, Falls-append, Falls-front, arguments_below}
 use Rattle.and_clauses.proofs.Shifting.{read_term, part_read, length_read}
 
 Falls-at : (m : ℕ) (ns : List ℕ) (k d : ℕ) → Falls m ns → k < length ns → get_or ns k d < m

@@ -1,13 +1,12 @@
 -- What a draft is as a clause or a query, and what is wrong with it.
-use Rattle.std.proofs.Common.{ℕ, zero, suc, pos, ◌+◌, ◌≡◌, ◌<◌, ◌≤◌, Bool, true, false, not, cond, ◌||◌, nat_eq, ltb, List, [], ◌∷◌, ◌++◌, length, map, get_or, refl, sym, ap, ◌∙◌, arith, subst, Option, Some, None, IfSome, MatchOption}
+use Rattle.std.proofs.Common.{ℕ, suc, ◌+◌, ◌≡◌, ◌<◌, ◌≤◌, Bool, true, false, not, cond, ◌||◌, nat_eq, ltb, List, [], ◌∷◌, ◌++◌, length, map, get_or, refl, sym, ap, ◌∙◌, arith, subst, Option, Some, None, IfSome, MatchOption}
 use Rattle.std.specs.List.{list_any}
 use Rattle.std.proofs.lemmas.Bool.Decides.{nat_tests}
 use Rattle.std.proofs.lemmas.List.{length-map, get_or-map}
-use Rattle.std.specs.declared.alloc.Global.{Global}
 use Rattle.and_model.specs.Lines.{Bytes}
 use Rattle.and_model.specs.Terms
 use Rattle.and_model.specs.Terms.{Term, Terms}
-use Rattle.and_written.specs.Written.{Written, nodes_of, nodes_in, place}
+use Rattle.and_written.specs.Written.{nodes_of, nodes_in, place}
 use Rattle.and_written.specs.Clauses
 use Rattle.and_written.specs.Clauses.{is_built_in, Part, is_refused, parts_of, head_of, body_of, asked_of, is_named, name_of, arity_of, width}
 use Rattle.and_written.specs.Tables.{Fault, first_of, not_pure, redefines, too_big, variables, nodes, clauses}
@@ -20,7 +19,7 @@ use Rattle.and_clauses.specs.Parts.{Piece, variable, integer, compound, piece, p
 use Rattle.and_clauses.specs.declared.draft.Part as code
 use Rattle.and_clauses.specs.declared.judging.Sides.{Sides}
 use Rattle.and_clauses.specs.declared.judging.Functor.{Functor}
-use Rattle.and_clauses.proofs.Noting.{PiecesFall-at, part_falls, arguments_below}
+use Rattle.and_clauses.proofs.Noting.{part_falls, arguments_below}
 use Rattle.and_clauses.proofs.Shifting.{read_term, part_read}
 use Rattle.and_clauses.proofs.Goaling.{first_part, part_of}
 

@@ -1,5 +1,5 @@
 -- What holds of a table holds of it with one more clause or with a query.
-use Rattle.std.proofs.Common.{ℕ, zero, suc, ◌+◌, ◌-◌, ◌≡◌, ◌<◌, ◌≤◌, Bool, true, false, not, leb, ltb, List, [], ◌∷◌, ◌++◌, length, map, get_or, take, refl, sym, ap, ◌∙◌, arith, subst, Option, Some, None, is_some, Vec}
+use Rattle.std.proofs.Common.{ℕ, ◌+◌, ◌-◌, ◌≡◌, ◌<◌, ◌≤◌, Bool, true, false, not, leb, ltb, List, [], ◌∷◌, ◌++◌, length, map, take, refl, sym, ap, ◌∙◌, arith, subst, Option, Some, None, is_some, Vec, IsTrue, codes, drop}
 use Rattle.std.specs.declared.alloc.Global.{Global}
 use Rattle.std.proofs.lemmas.Bool.Decides.{nat_tests}
 use Rattle.std.proofs.lemmas.List.{length-append, length-map, map_push, take-map}
@@ -14,13 +14,13 @@ use Rattle.and_written.specs.Skeletons
 use Rattle.and_written.specs.Skeletons.{Shape, node_term, item_of, NodeItem, call, equal, is, compare, fail, IsThere, AllThere, after}
 use Rattle.and_clauses.specs.Items.{node_item}
 use Rattle.and_clauses.specs.Kept.{begins_with_true, IsEntry, AllEntries, IsAsked, IsKept}
-use Rattle.and_clauses.specs.Made.{IsTableOf, IsMade}
+use Rattle.and_clauses.specs.Made.{IsMade}
 use Rattle.and_clauses.specs.Nodes.{entry_clause, shapes_of, shape_of, names_of}
 use Rattle.and_clauses.specs.Numbered.{Extends}
-use Rattle.and_clauses.specs.Views.{asked_of}
+use Rattle.and_clauses.specs.Parts.{many}
+use Rattle.and_clauses.specs.Views.{asked_of, is_query}
 use Rattle.and_clauses.specs.declared.data.Entry.{Entry}
 use Rattle.and_clauses.specs.declared.data.Asked.{Asked}
-use Rattle.and_clauses.specs.declared.data.ItemNode.{ItemNode}
 use Rattle.and_clauses.specs.declared.data.Node.{Node}
 use Rattle.and_clauses.proofs.NodeTerms.{node_term_front}
 
@@ -188,3 +188,19 @@ unasked ss (Some a) b e f = cc
 
 pub room_there : (n m : ℕ) → n ≡ m → ltb n 65535 ≡ true → m < 65535
 room_there n m e t = grind (arith, nat_tests)
+
+pub one_query : (ws : List Written) → IsTrue (is_query ws) → (w : Written) × (ws ≡ w ∷ [])
+one_query [] e = cc
+one_query (w ∷ []) e = (w, refl)
+one_query (w ∷ v ∷ ws) e = cc
+
+pub one_query_alone : (ws : List Written) → IsTrue (is_query ws) → length ws ≡ 1
+one_query_alone [] e = cc
+one_query_alone (w ∷ []) e = refl
+one_query_alone (w ∷ v ∷ ws) e = cc
+
+-- a whole draft with the name `?-` is a query
+pub asking : (ws asked : List Written) → length ws ≡ 1 → asked ≡ take (length ws - 1) ws ++ Written.compound (codes "?-") (many (drop (length ws - 1) ws)) ∷ [] → IsTrue (is_query asked)
+asking [] asked e now = absurd (omega arith)
+asking (w ∷ []) asked e now = subst (λ (vs : List Written). IsTrue (is_query vs)) (sym now) refl
+asking (w ∷ v ∷ ws) asked e now = absurd (omega arith)

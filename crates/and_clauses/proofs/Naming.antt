@@ -1,12 +1,12 @@
 -- Names in a set, and the bytes that they are.
-use Rattle.std.proofs.Common.{ℕ, zero, suc, ◌+◌, ◌≡◌, ◌<◌, ◌≤◌, Bool, true, false, not, cond, ◌||◌, ltb, leb, List, [], ◌∷◌, ◌++◌, length, map, get_or, take, drop, reverse, Option, Some, None, unwrap_or, refl, sym, ap, ◌∙◌, arith, subst, Vec}
+use Rattle.std.proofs.Common.{ℕ, suc, ◌+◌, ◌≡◌, ◌<◌, ◌≤◌, Bool, true, false, not, cond, ◌||◌, ltb, leb, List, [], ◌∷◌, ◌++◌, length, get_or, drop, Option, Some, None, unwrap_or, refl, sym, ap, ◌∙◌, arith, subst, Vec}
 use Rattle.std.specs.Borrow.{Bor}
 use Rattle.std.specs.Str.{bytes_eq}
 use Rattle.std.specs.List.{list_any, position, position_or_len}
 use Rattle.std.specs.declared.alloc.Global.{Global}
 use Rattle.std.proofs.lemmas.Bool.Decides.{nat_tests}
 use Rattle.std.proofs.Math.ListN.{drop_of_length-le}
-use Rattle.std.proofs.lemmas.List.{append_assoc, map_push, length-map, length-append, drop_more}
+use Rattle.std.proofs.lemmas.List.{map_push, length-map, length-append, drop_more}
 use Rattle.and_model.specs.Lines.{Bytes}
 use Rattle.and_model.specs.Programs.{builtin_names}
 use Rattle.and_written.specs.Written.{has, place, including, is_new, variable_number}

@@ -1,6 +1,6 @@
 -- The terms of nodes in a row: they depend on the nodes before them alone.
-use Rattle.std.proofs.Common.{ℕ, zero, suc, ◌+◌, ◌≡◌, ◌<◌, ◌≤◌, pos, List, [], ◌∷◌, ◌++◌, length, map, get_or, take, drop, refl, sym, ap, ◌∙◌, arith, subst}
-use Rattle.std.proofs.lemmas.List.{append_assoc, append-nil, length-append, get_or_append_left, get_or_at, take-append-drop, drop_more, length-take-le, length_push, get_or_past, get_or-take}
+use Rattle.std.proofs.Common.{ℕ, zero, suc, ◌+◌, ◌≡◌, ◌<◌, pos, List, [], ◌∷◌, ◌++◌, length, map, get_or, take, drop, refl, sym, ap, ◌∙◌, arith, subst}
+use Rattle.std.proofs.lemmas.List.{length-append, get_or_append_left, get_or_at, take-append-drop, drop_more, length-take-le}
 use Rattle.and_model.specs.Terms
 use Rattle.and_model.specs.Terms.{Term, Terms}
 use Rattle.and_written.specs.Skeletons.{Shape, variable, number, compound, row, nth, shape_term, terms_behind, node_term, Falls, IsFalling, AllFall}

@@ -1,11 +1,11 @@
 -- One more node of a draft.
-use Rattle.std.proofs.Common.{ℕ, zero, suc, ◌+◌, ◌≡◌, ◌<◌, ◌≤◌, Bool, true, false, cond, List, [], ◌∷◌, ◌++◌, length, map, get_or, take, drop, refl, sym, ap, ◌∙◌, arith, subst}
+use Rattle.std.proofs.Common.{ℕ, ◌+◌, ◌≡◌, ◌<◌, ◌≤◌, Bool, true, false, cond, List, [], ◌∷◌, ◌++◌, length, map, get_or, take, drop, sym, ap, ◌∙◌, arith}
 use Rattle.std.proofs.lemmas.List.{append_assoc, length-append, map_push, drop_more, take-append-le, length-take}
 use Rattle.and_model.specs.Lines.{Bytes}
 use Rattle.and_written.specs.Written.{is_new}
 use Rattle.and_written.specs.Skeletons.{Shape}
 use Rattle.and_clauses.specs.Nodes.{shape_of, shapes_of}
-use Rattle.and_clauses.specs.Numbered.{behind, shape_in, shapes_in, met_with, met_by}
+use Rattle.and_clauses.specs.Numbered.{behind, shape_in, shapes_in, met_with}
 use Rattle.and_clauses.specs.Parts.{Piece, variable, integer, compound, piece, pieces}
 use Rattle.and_clauses.specs.declared.data.Node.{Node}
 use Rattle.and_clauses.specs.declared.draft.Part as code

@@ -1,10 +1,9 @@
 -- One step of a way through the parts of a term.
 use Rattle.std.proofs.Common.{ℕ, zero, suc, ◌+◌, ◌≡◌, ◌<◌, ◌≤◌, pos, List, [], ◌∷◌, ◌++◌, length, map, get_or, take, drop, reverse, refl, sym, ap, ◌∙◌, arith, subst}
 use Rattle.std.proofs.Math.Seq.{take-length}
-use Rattle.std.proofs.lemmas.List.{append_assoc, append-nil, length-append, get_or_append_left, get_or_at, take-append-drop, drop_more, length-take-le, length-map, get_or-map, reverse-append, reverse-reverse, map-append, take-take, length-take}
+use Rattle.std.proofs.lemmas.List.{length-append, get_or_at, take-append-drop, drop_more, length-take-le, length-map, get_or-map, reverse-append, reverse-reverse, map-append, take-take, length-take}
 use Rattle.and_model.specs.Lines.{Bytes}
-use Rattle.and_written.specs.Written
-use Rattle.and_written.specs.Written.{Written, Many, nodes_of, nodes_in, named, named_all}
+use Rattle.and_written.specs.Written.{Written, nodes_of, nodes_in, named, named_all}
 use Rattle.and_written.specs.Skeletons.{Falls}
 use Rattle.and_clauses.specs.declared.draft.Part.{Part}
 use Rattle.and_clauses.specs.Numbered.{named_by, Extends}

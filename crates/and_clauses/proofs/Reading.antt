@@ -1,6 +1,6 @@
 -- The terms of a draft's nodes are those that the draft was given as.
-use Rattle.std.proofs.Common.{ℕ, zero, suc, ◌+◌, ◌-◌, ◌≡◌, ◌<◌, ◌≤◌, pos, Bool, true, false, cond, List, [], ◌∷◌, ◌++◌, length, map, get_or, take, drop, refl, sym, ap, ◌∙◌, arith, subst}
-use Rattle.std.proofs.lemmas.List.{append_assoc, append-nil, length-append, get_or_append_left, get_or_at, length-map, map-append}
+use Rattle.std.proofs.Common.{ℕ, suc, ◌+◌, ◌≡◌, ◌<◌, pos, List, [], ◌∷◌, ◌++◌, length, map, refl, sym, ap, ◌∙◌, arith}
+use Rattle.std.proofs.lemmas.List.{append_assoc, length-append, get_or_at}
 use Rattle.and_model.specs.Lines.{Bytes}
 use Rattle.and_model.specs.Terms
 use Rattle.and_model.specs.Terms.{Term, Terms}
@@ -9,8 +9,8 @@ use Rattle.and_written.specs.Written.{Written, Many, nodes_of, nodes_in, is_new,
 use Rattle.and_written.specs.Skeletons
 use Rattle.and_written.specs.Skeletons.{Shape, row, nth, shape_term, terms_behind, node_term, Falls, IsFalling, AllFall}
 use Rattle.and_clauses.specs.Numbered.{met_with, met_by, shape_in, shapes_in}
-use Rattle.and_clauses.specs.Parts.{Piece, variable, integer, compound, many, before_last, roots, postfix, postfix_all, PiecesFall}
-use Rattle.and_clauses.proofs.NodeTerms.{terms_behind-append, length-terms_behind, nth-terms_behind, node_term_front}
+use Rattle.and_clauses.specs.Parts.{Piece, variable, integer, compound, before_last, roots, postfix, postfix_all, PiecesFall}
+use Rattle.and_clauses.proofs.NodeTerms.{terms_behind-append, length-terms_behind, node_term_front}
 use Rattle.and_clauses.proofs.Drafting.{length-postfix, length-postfix_all, before_last-below}
 
 pub shapes_in-append : (names met : List Bytes) (ps qs : List Piece) → shapes_in names met (ps ++ qs) ≡ shapes_in names met ps ++ shapes_in names (met_by met ps) qs

@@ -1,11 +1,11 @@
 -- Nodes behind others have the terms that they have alone.
-use Rattle.std.proofs.Common.{ℕ, zero, suc, ◌+◌, ◌≡◌, ◌<◌, ◌≤◌, pos, List, [], ◌∷◌, ◌++◌, length, map, get_or, refl, sym, ap, ◌∙◌, arith, subst}
+use Rattle.std.proofs.Common.{ℕ, zero, suc, ◌+◌, ◌≡◌, ◌<◌, pos, List, [], ◌∷◌, ◌++◌, length, map, get_or, refl, sym, ap, ◌∙◌, arith, subst}
 use Rattle.std.proofs.lemmas.List.{append_assoc, append-nil, length-append, length-map, get_or-append-add}
 use Rattle.and_model.specs.Lines.{Bytes}
 use Rattle.and_model.specs.Terms
 use Rattle.and_model.specs.Terms.{Term, Terms}
 use Rattle.and_written.specs.Written.{place, variable_number}
-use Rattle.and_written.specs.Skeletons.{Shape, variable, number, compound, row, nth, shape_term, terms_behind, node_term, Falls, IsFalling, AllFall}
+use Rattle.and_written.specs.Skeletons.{Shape, variable, number, compound, row, nth, shape_term, terms_behind, node_term, Falls, AllFall}
 use Rattle.and_clauses.specs.Numbered.{behind, IsRead, shape_in, shapes_in, met_with}
 use Rattle.and_clauses.specs.Parts
 use Rattle.and_clauses.specs.Parts.{Piece, PiecesFall}

@@ -10,5 +10,6 @@ pub record Draft : Type 0 where
   pub finished : List Written
   pub parts : ℕ
 
+-- what a draft stands for
 abbrev pub draft_of : ClauseDraft → Draft
 draft_of d = record { line = d.line; finished = map (written_at (pieces d.parts.items)) d.finished.items; parts = length d.parts.items }

@@ -7,6 +7,7 @@ use Rattle.and_clauses.specs.declared.data.What.TheVariants.{Source, Clauses, Ar
 use Rattle.and_clauses.specs.declared.data.TableFault.{TableFault}
 use Rattle.and_clauses.specs.declared.data.TableFault.TheVariants.{SecondQuery, NotPure, Redefines, TooBig, Memory}
 
+-- what there is too much of
 abbrev pub what_of : What → Tables.What
 what_of Source = Tables.source
 what_of Clauses = Tables.clauses

@@ -1,8 +1,7 @@
 -- What the parts of a draft are as goals of a body.
-use Rattle.std.specs.Prelude.{ℕ, suc, ◌+◌, ◌<◌, ◌≡◌, Bool, true, false, cond, ◌||◌, nat_eq, List, [], ◌∷◌, ◌++◌, map, length, get_or, Option, Some, None}
+use Rattle.std.specs.Prelude.{ℕ, ◌+◌, ◌≡◌, Bool, true, false, cond, ◌||◌, nat_eq, List, [], ◌∷◌, ◌++◌, map, get_or, Option, Some, None}
 use Rattle.std.specs.List.{list_any}
 use Rattle.and_model.specs.Lines.{Bytes}
-use Rattle.and_model.specs.Terms.{Term}
 use Rattle.and_written.specs.Written.{place}
 use Rattle.and_written.specs.Clauses
 use Rattle.and_written.specs.Clauses.{Part, is_refused, parts_of}
@@ -14,6 +13,7 @@ use Rattle.and_clauses.specs.declared.data.ItemNode.TheVariants.{Call, Equal, Fa
 use Rattle.and_clauses.specs.declared.items.Goal.{Goal}
 use Rattle.and_clauses.specs.declared.items.Goal.TheVariants.{Both, Nothing, Item, Refused}
 
+-- a call of the term of a node
 abbrev pub call_of : ℕ → Goal
 call_of n = Item (Call (record { 0 = n }))
 
@@ -21,6 +21,7 @@ call_of n = Item (Call (record { 0 = n }))
 abbrev pub atom_goal : ℕ → ℕ → Goal
 atom_goal c n = cond (nat_eq c 0) Nothing (cond (nat_eq c 1) (Item Fail) (cond (nat_eq c 24) Refused (call_of n)))
 
+-- a name with one argument as a goal
 abbrev pub unary_goal : ℕ → ℕ → Goal
 unary_goal c n = cond (nat_eq c 23) Refused (call_of n)
 
@@ -35,12 +36,14 @@ binary_goal c l r n base =
     (cond (nat_eq c 3) (Item (Equal (record { 0 = base + l }) (record { 0 = base + r })))
     (cond (is_refused_name c) Refused (call_of n)))
 
+-- a name with arguments as a goal, whose node is n
 abbrev pub goal_of : ℕ → List ℕ → ℕ → ℕ → Goal
 goal_of c [] n base = atom_goal c n
 goal_of c (a ∷ []) n base = unary_goal c n
 goal_of c (a ∷ b ∷ []) n base = binary_goal c a b n base
 goal_of c (a ∷ b ∷ d ∷ ns) n base = call_of n
 
+-- a part as a goal, whose node is n
 abbrev pub piece_goal : List Bytes → Piece → ℕ → ℕ → Goal
 piece_goal names (variable x) n base = Refused
 piece_goal names (integer z) n base = Refused

@@ -7,6 +7,7 @@ use Rattle.and_written.specs.Skeletons.{NodeItem, call, equal, is, compare, fail
 use Rattle.and_clauses.specs.declared.data.ItemNode.{ItemNode}
 use Rattle.and_clauses.specs.declared.data.ItemNode.TheVariants.{Call, Equal, Is, Compare, Fail}
 
+-- the relation that a value of the code stands for
 abbrev pub relation : Relation → arithmetic.Relation
 relation Less = arithmetic.less
 relation Greater = arithmetic.greater
@@ -15,6 +16,7 @@ relation AtLeast = arithmetic.at_least
 relation Same = arithmetic.same
 relation Differs = arithmetic.differs
 
+-- the item that a value of the code stands for
 abbrev pub node_item : ItemNode → NodeItem
 node_item (Call g) = call g.0
 node_item (Equal l r) = equal l.0 r.0

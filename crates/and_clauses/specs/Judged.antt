@@ -1,5 +1,5 @@
 -- What a draft is as a clause or a query, and what is wrong with it.
-use Rattle.std.specs.Prelude.{ℕ, suc, ◌≡◌, ◌≤◌, Bool, not, cond, ltb, ◌||◌, nat_eq, List, [], ◌∷◌, ◌++◌, map, length, get_or, Option, Some, None}
+use Rattle.std.specs.Prelude.{ℕ, ◌≡◌, Bool, not, cond, ltb, ◌||◌, nat_eq, List, [], ◌∷◌, ◌++◌, map, length, get_or, Option, Some, None}
 use Rattle.std.specs.List.{list_any}
 use Rattle.and_model.specs.Lines.{Bytes}
 use Rattle.and_model.specs.Terms.{Term}
@@ -26,6 +26,7 @@ sides_in c (a ∷ []) n = alone n
 sides_in c (a ∷ b ∷ []) n = cond (nat_eq c 25) (record { head = a; body = Some b }) (alone n)
 sides_in c (a ∷ b ∷ d ∷ ns) n = alone n
 
+-- the head and the body of a part
 abbrev pub sides_of_piece : List Bytes → Piece → ℕ → Sides
 sides_of_piece names (variable x) n = alone n
 sides_of_piece names (integer z) n = alone n
@@ -47,6 +48,7 @@ asked_in (variable x) = None
 asked_in (integer z) = None
 asked_in (compound c ns) = one_in ns
 
+-- the body of the part of that number, as a query
 abbrev pub asked_at : List Piece → ℕ → Option ℕ
 asked_at ps n = asked_in (get_or ps n (variable []))
 
@@ -56,6 +58,7 @@ functor_of names (variable x) = None
 functor_of names (integer z) = None
 functor_of names (compound c ns) = Some (record { name = place c names; arity = length ns })
 
+-- the name of the part of that number, and how many arguments it has
 abbrev pub functor_at : List Bytes → List Piece → ℕ → Option Functor
 functor_at names ps n = functor_of names (get_or ps n (variable []))
 
@@ -70,6 +73,7 @@ faults_of_clause names t ps fits room =
     ∷ (is_built_in (name_of (head_of t)) (arity_of (head_of t)), redefines (get_or names (name_of (head_of t)) []) (arity_of (head_of t)))
     ∷ (size_faults ps fits ++ (not room, too_big clauses) ∷ [])
 
+-- what may be wrong with a query
 abbrev pub faults_of_query : Term → List Piece → Bool → List (Bool × Fault)
 faults_of_query t ps fits = (list_any is_refused (asked_of t), not_pure) ∷ size_faults ps fits
 

@@ -1,7 +1,7 @@
 -- What holds of every table: each node, clause and the query names what is there.
-use Rattle.std.specs.Prelude.{ℕ, suc, ◌+◌, ◌<◌, ◌≤◌, ◌≡◌, Bool, true, false, nat_eq, List, [], ◌∷◌, map, length, Option, Some, None}
+use Rattle.std.specs.Prelude.{ℕ, ◌+◌, ◌<◌, ◌≤◌, ◌≡◌, Bool, true, false, nat_eq, List, [], ◌∷◌, map, length, Option, Some, None}
 use Rattle.and_model.specs.Lines.{Bytes}
-use Rattle.and_written.specs.Skeletons.{Shape, variable, number, compound, NodeItem, call, equal, is, compare, fail, Falls, IsFalling, AllFall, IsThere, AllThere, after}
+use Rattle.and_written.specs.Skeletons.{Shape, variable, number, compound, AllFall, AllThere}
 use Rattle.and_clauses.specs.Items.{node_item}
 use Rattle.and_clauses.specs.declared.data.Entry.{Entry}
 use Rattle.and_clauses.specs.declared.data.Asked.{Asked}
@@ -20,6 +20,7 @@ IsWithin m (variable k) = k < 255
 IsWithin m (number z) = Unit {0}
 IsWithin m (compound c ns) = (c < m) × (length ns ≤ 255)
 
+-- so it is of each node
 abbrev pub AllWithin : ℕ → List Shape → Type 0
 AllWithin m [] = Unit {0}
 AllWithin m (s ∷ ss) = IsWithin m s × AllWithin m ss
@@ -28,6 +29,7 @@ AllWithin m (s ∷ ss) = IsWithin m s × AllWithin m ss
 abbrev pub IsEntry : List Shape → Entry → Type 0
 IsEntry ss e = (e.head.0 < length ss) × AllThere ss 0 (map node_item e.items.items)
 
+-- so it is of each entry
 abbrev pub AllEntries : List Shape → List Entry → Type 0
 AllEntries ss [] = Unit {0}
 AllEntries ss (e ∷ es) = IsEntry ss e × AllEntries ss es
@@ -37,6 +39,7 @@ abbrev pub IsAsked : List Shape → ℕ → Option Asked → Type 0
 IsAsked ss n None = Unit {0}
 IsAsked ss n (Some a) = IsEntry ss a.query × (a.query.head.0 ≡ 0) × (a.before ≤ n)
 
+-- What holds of a table.
 pub record IsKept (ss : List Shape) (es : List Entry) (query : Option Asked) (names : List Bytes) : Type 0 where
   pub begins : begins_with_true ss ≡ true
   pub falls : AllFall 0 ss

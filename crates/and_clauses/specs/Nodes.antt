@@ -11,6 +11,7 @@ use Rattle.and_clauses.specs.declared.data.Entry.{Entry}
 use Rattle.std.specs.declared.vec.Vec.{Vec}
 use Rattle.std.specs.declared.alloc.Global.{Global}
 
+-- the shape of a node
 abbrev pub shape_of : Node → Shape
 shape_of (Variable k) = Skeletons.variable k
 shape_of (Number z) = Skeletons.number z
@@ -20,9 +21,11 @@ shape_of (Compound c ns) = Skeletons.compound c.0 (map (λ n. n.0) ns.items)
 abbrev pub names_of : List (Vec ℕ Global) → List Bytes
 names_of ks = map (λ k. k.items) ks
 
+-- the shapes of nodes in a row
 abbrev pub shapes_of : List Node → List Shape
 shapes_of ns = map shape_of ns
 
+-- the clause that an entry is among nodes
 abbrev pub entry_clause : List Shape → Entry → Clause
 entry_clause ss e = record {
   head = node_term ss e.head.0;

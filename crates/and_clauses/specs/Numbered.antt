@@ -1,5 +1,5 @@
 -- What parts are once their names and variables are numbered.
-use Rattle.std.specs.Prelude.{ℕ, suc, ◌+◌, ◌≡◌, cond, List, [], ◌∷◌, ◌++◌, map, take, length}
+use Rattle.std.specs.Prelude.{ℕ, ◌+◌, ◌≡◌, cond, List, [], ◌∷◌, ◌++◌, map, take, length}
 use Rattle.std.specs.Borrow.{Bor}
 use Rattle.and_model.specs.Lines.{Bytes}
 use Rattle.and_written.specs.Written.{is_new, place, including, variable_number}
@@ -39,6 +39,7 @@ shape_in names met (variable x) = Skeletons.variable (variable_number x met)
 shape_in names met (integer z) = Skeletons.number z
 shape_in names met (compound c ns) = Skeletons.compound (place c names) ns
 
+-- parts in a row under a table of names, where these variables were met before them
 abbrev pub shapes_in : List Bytes → List Bytes → List Piece → List Shape
 shapes_in names met [] = []
 shapes_in names met (p ∷ ps) = shape_in names met p ∷ shapes_in names (met_with met p) ps

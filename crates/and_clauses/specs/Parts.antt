@@ -15,14 +15,17 @@ pub data Piece : Type 0 where
   integer : ℤ → Piece
   compound : Bytes → List ℕ → Piece
 
+-- what a part of the code stands for
 abbrev pub piece : Part → Piece
 piece (Variable x) = variable x
 piece (Integer z) = integer z
 piece (Compound c ns) = compound c ns.items
 
+-- what parts of the code stand for
 abbrev pub pieces : List Part → List Piece
 pieces ps = map piece ps
 
+-- terms in a row
 abbrev pub many : List Written → Many
 many [] = Written.none
 many (w ∷ ws) = Written.more w (many ws)
@@ -78,6 +81,7 @@ IsNarrow (variable x) = Unit {0}
 IsNarrow (integer z) = Unit {0}
 IsNarrow (compound c ns) = length ns ≤ 255
 
+-- so it is of each part
 abbrev pub AllNarrow : List Piece → Type 0
 AllNarrow [] = Unit {0}
 AllNarrow (p ∷ ps) = IsNarrow p × AllNarrow ps

@@ -1,23 +1,21 @@
 -- What drafts and tables stand for.
-use Rattle.std.specs.Prelude.{ℕ, ◌-◌, ◌≡◌, Bool, false, IsTrue, List, [], ◌∷◌, map, length, Option, Some, None, codes}
+use Rattle.std.specs.Prelude.{◌-◌, Bool, false, List, [], ◌∷◌, map, length, Option, Some, None, codes}
 use Rattle.std.specs.Str.{bytes_eq}
-use Rattle.and_model.specs.Lines.{Bytes}
-use Rattle.and_model.specs.Programs.{Clause}
 use Rattle.and_written.specs.Written
 use Rattle.and_written.specs.Written.{Written}
 use Rattle.and_written.specs.Tables
 use Rattle.and_written.specs.Tables.{Table}
-use Rattle.and_written.specs.Skeletons.{Shape, node_term, item_of}
-use Rattle.and_clauses.specs.Items.{node_item}
+use Rattle.and_written.specs.Skeletons.{Shape}
 use Rattle.and_clauses.specs.Nodes.{shapes_of, names_of, entry_clause}
 use Rattle.and_clauses.specs.declared.data.Asked.{Asked}
 use Rattle.and_clauses.specs.declared.table.ClauseTable.{ClauseTable}
 
+-- the query among nodes, if it was set
 abbrev pub asked_of : List Shape → Option Asked → Option Tables.Asked
 asked_of ss None = None
 asked_of ss (Some a) = Some (record { query = entry_clause ss a.query; before = a.before })
 
--- the one finished term is a compound `?-` of one argument
+-- a compound `?-` of one argument
 abbrev pub is_asking : Written → Bool
 is_asking (Written.variable x) = false
 is_asking (Written.integer z) = false
@@ -25,8 +23,11 @@ is_asking (Written.compound c Written.none) = false
 is_asking (Written.compound c (Written.more t Written.none)) = bytes_eq c (codes "?-")
 is_asking (Written.compound c (Written.more t (Written.more u ts))) = false
 
-abbrev pub IsQuery : List Written → Type 0
-IsQuery ws = (w : Written) × (ws ≡ w ∷ []) × IsTrue (is_asking w)
+-- the one finished term is a query
+abbrev pub is_query : List Written → Bool
+is_query [] = false
+is_query (w ∷ []) = is_asking w
+is_query (w ∷ v ∷ ws) = false
 
 -- (Node 0, the atom `true`, is not counted.)
 abbrev pub table_of : ClauseTable → Table

@@ -1,7 +1,6 @@
 //! The clauses of a text, in a table.
 
 ghost use Rattle.std.specs.Prelude.{◌≡◌};
-ghost use Rattle.std.proofs.Props.{props};
 ghost use Rattle.and_clauses.specs.Nodes.{shapes_of, names_of};
 ghost use Rattle.and_clauses.specs.Once.{IsKept-prop};
 ghost use Rattle.and_clauses.specs.Kept.{IsKept};
@@ -30,12 +29,12 @@ pub struct ClauseTable {
 }
 
 impl ClauseTable {
-    ghost use Rattle.std.specs.Prelude.{[], ◌∷◌, length, None, Some, IfOk, IfErr, IfSome, OnOk, OnErr};
+    ghost use Rattle.std.specs.Prelude.{[], ◌∷◌, length, None, Some, IfOk, IfErr, IfSome, OnOk, OnErr, IsTrue};
     ghost use Rattle.and_written.specs.Written.{Written};
     ghost use Rattle.and_written.specs.Tables.{empty, clause_fault, query_fault, with_clause, with_query};
     ghost use Rattle.and_clauses.specs.Faults.{fault_of};
     ghost use Rattle.and_clauses.specs.Drafts.{draft_of};
-    ghost use Rattle.and_clauses.specs.Views.{table_of, IsQuery};
+    ghost use Rattle.and_clauses.specs.Views.{table_of, is_query};
 
     /// A table without clauses. An error is want of memory.
     pub fn new(alloc: Global) -> Result<ClauseTable, AllocError>
@@ -90,7 +89,7 @@ impl ClauseTable {
     ///
     /// Refused, the table is as it was.
     pub fn set_query(&mut self, draft: ClauseDraft) -> Result<(), TableFault>
-        requires { IsQuery (draft_of draft).finished }
+        requires { IsTrue (is_query (draft_of draft).finished) }
         ensures ok { (w : Written) → (draft_of draft).finished ≡ w ∷ [] → OnOk result ((query_fault (table_of self.old) w ≡ None) × (table_of self.new ≡ with_query (table_of self.old) w (draft_of draft).line)) }
         ensures fault { (w : Written) → (draft_of draft).finished ≡ w ∷ [] → IfErr result (λ e. IfSome (fault_of e) (λ f. query_fault (table_of self.old) w ≡ Some f)) }
         ensures refused { OnErr result (table_of self.new ≡ table_of self.old) }

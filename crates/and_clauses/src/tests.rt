@@ -1,3 +1,6 @@
+ghost use Rattle.std.specs.Prelude.{◌≡◌, IfOk, length};
+ghost use Rattle.and_clauses.specs.Drafts.{draft_of};
+
 use crate::data::{ItemNode, TableFault, What};
 use crate::{ClauseDraft, ClauseTable};
 use and_model::{ClauseNo, NodeNo};
@@ -21,7 +24,9 @@ fn draft(
     alloc: Global,
     line: u32,
     parts: &[Given],
-) -> Result<ClauseDraft, AllocError> {
+) -> Result<ClauseDraft, AllocError>
+    ensures { IfOk result (λ d. length (draft_of d).finished ≡ 1) }
+{
     let mut draft = ClauseDraft::new(alloc, line);
     for part in parts {
         assert!(rt; draft.parts.len() < 1000);
@@ -46,18 +51,19 @@ fn added(
     parts: &[Given],
 ) -> Result<Result<ClauseNo, TableFault>, AllocError> {
     let draft = draft(rt, alloc, 1, parts)?;
-    assert!(rt; draft.is_whole());
     Ok(table.add_clause(draft))
 }
 
-/// What setting the query of these parts answers.
+/// What setting the query with a body of these parts answers.
 fn asked(
     rt: &impl Abort,
     alloc: Global,
     table: &mut ClauseTable,
-    parts: &[Given],
+    body: &[Given],
 ) -> Result<Result<(), TableFault>, AllocError> {
-    let draft = draft(rt, alloc, 1, parts)?;
+    let mut draft = draft(rt, alloc, 1, body)?;
+    assert!(rt; draft.parts.len() < 1000);
+    draft.compound(b"?-", 1)?;
     Ok(table.set_query(draft))
 }
 
@@ -121,7 +127,6 @@ fn append_has_two_clauses_and_a_query(rt: HostRuntime) -> Result<(), Fail> {
         Name(b".", 2),
         Name(b".", 2),
         Name(b"app", 3),
-        Name(b"?-", 1),
     ];
     assert!(rt; asked(&rt, alloc, &mut table, &query)?.is_ok());
     assert_eq!(rt; table.nodes.len(), 1 + 4 + 13 + 9);

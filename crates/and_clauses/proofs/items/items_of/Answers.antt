@@ -1,7 +1,5 @@
-use Rattle.std.proofs.Common.{rules, ◌≡◌, ◌++◌, ◌+◌, ◌≤◌, ℕ, [], ◌∷◌, length, get_or, map, reverse, refl, sym, ap, ◌∙◌, arith}
-use Rattle.and_written.specs.Written.{nodes_in}
+use Rattle.std.proofs.Common.{rules, ◌≡◌, ◌++◌, [], ◌∷◌, length, get_or, ap, ◌∙◌, arith}
 use Rattle.and_clauses.specs.Nodes.{names_of}
-use Rattle.and_clauses.specs.Parts.{pieces, many, written_at}
 use Rattle.and_clauses.proofs.Noting.{last_there}
 use Rattle.and_clauses.proofs.Goaling.{first_part, part_of, goal_at_says, goal_at_has, goal_size, goal_there, owed_first, owed_step, owed_last, owed_refused, first_there, first_few, no_more}
 use Rattle.and_clauses.proofs.items.items_of.Goals as goal

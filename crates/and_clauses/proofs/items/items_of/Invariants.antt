@@ -1,5 +1,5 @@
-use Rattle.std.proofs.Common.{◌≡◌, ◌≤◌, ◌+◌, List, map, reverse, length}
-use Rattle.and_written.specs.Written.{nodes_in, nodes_of}
+use Rattle.std.proofs.Common.{◌≤◌, ◌+◌, List, map, reverse, length}
+use Rattle.and_written.specs.Written.{nodes_in}
 use Rattle.and_written.specs.Skeletons.{Shape, Falls}
 use Rattle.and_clauses.specs.Nodes.{names_of}
 use Rattle.and_clauses.specs.Numbered.{IsRead}

@@ -1,4 +1,4 @@
-use Rattle.std.proofs.Common.{ap, ◌∙◌, arith, refl, sym}
+use Rattle.std.proofs.Common.{ap, ◌∙◌}
 use Rattle.and_written.specs.Written.{place}
 use Rattle.and_clauses.specs.Nodes.{names_of}
 use Rattle.and_clauses.specs.Parts.{piece, arguments_of}

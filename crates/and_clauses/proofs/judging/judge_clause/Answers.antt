@@ -1,4 +1,4 @@
-use Rattle.std.proofs.Common.{ℕ, [], ◌∷◌, List, Option, Some, None, ap, sym, ◌∙◌, subst, arith, not, cond}
+use Rattle.std.proofs.Common.{Some, None, ap, sym, ◌∙◌, not, cond}
 use Rattle.and_written.specs.Tables.{too_big, clauses}
 use Rattle.and_clauses.specs.Faults.{what_of, fault_of}
 use Rattle.and_clauses.specs.Nodes.{names_of}

@@ -1,4 +1,4 @@
-use Rattle.std.proofs.Common.{ℕ, [], ◌∷◌, List, Option, Some, None, ap, sym, ◌∙◌, subst, arith}
+use Rattle.std.proofs.Common.{◌∙◌}
 use Rattle.and_clauses.specs.Nodes.{names_of}
 use Rattle.and_clauses.specs.Parts.{pieces}
 use Rattle.and_clauses.proofs.Halving.{asked_stand, query_impure, query_sized, query_items, fitting, few_variables}

@@ -1,4 +1,4 @@
-use Rattle.std.proofs.Common.{◌≡◌, ◌-◌, ◌≤◌, leb, length, arith, ap, ◌∙◌, cond, sym, subst}
+use Rattle.std.proofs.Common.{◌≡◌, ◌-◌, leb, length, ap, ◌∙◌, cond, sym, subst}
 use Rattle.std.proofs.lemmas.Result.{err_from_is_err_and}
 use Rattle.and_clauses.specs.Faults.{fault_of}
 use Rattle.and_clauses.specs.Nodes.{names_of}

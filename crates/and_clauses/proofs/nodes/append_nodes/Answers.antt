@@ -1,6 +1,6 @@
-use Rattle.std.proofs.Common.{◌≡◌, ◌≤◌, ◌+◌, ◌++◌, [], map, length, arith, subst, sym, refl}
+use Rattle.std.proofs.Common.{◌≤◌, ◌+◌, ◌++◌, [], map, length, arith, subst, sym, refl}
 use Rattle.and_clauses.specs.Nodes.{shapes_of, names_of}
-use Rattle.and_clauses.specs.Numbered.{behind, shapes_in, met_by, met_with}
+use Rattle.and_clauses.specs.Numbered.{behind, shapes_in, met_by}
 use Rattle.and_clauses.specs.Parts.{piece, pieces, arguments_of}
 use Rattle.and_clauses.proofs.Naming.{met_more}
 use Rattle.and_clauses.proofs.Goaling.{arguments_fit}

@@ -1,4 +1,4 @@
-use Rattle.std.proofs.Common.{[], ◌+◌, ◌≡◌, length, drop, arith}
+use Rattle.std.proofs.Common.{[], ◌+◌, drop, arith}
 use Rattle.and_clauses.specs.Numbered.{met_by}
 use Rattle.and_clauses.specs.Parts.{pieces}
 use Rattle.and_clauses.proofs.Naming.{too_many, few_enough, met_more}

@@ -1,4 +1,4 @@
-use Rattle.std.proofs.Common.{ℕ, ◌-◌, ◌≡◌, ◌≤◌, [], ◌∷◌, map, refl, length, take, drop, arith, ap, sym, ◌∙◌}
+use Rattle.std.proofs.Common.{◌-◌, ◌≤◌, map, length, take, drop, arith, ap, ◌∙◌}
 use Rattle.and_model.specs.Lines.{Bytes}
 use Rattle.and_written.specs.Written
 use Rattle.and_clauses.specs.declared.draft.Part.TheVariants.{Compound}

@@ -1,5 +1,3 @@
-use Rattle.std.proofs.Common.{◌≡◌, [], ◌∷◌, length, arith, ap, sym, ◌∙◌}
-use Rattle.and_clauses.specs.Parts.{pieces}
 use Rattle.and_clauses.proofs.Drafting.{root_there}
 use Rattle.and_clauses.proofs.draft.ClauseDraft.root.Goals as goal
 

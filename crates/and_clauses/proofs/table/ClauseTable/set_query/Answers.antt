@@ -1,17 +1,18 @@
-use Rattle.std.proofs.Common.{ℕ, ◌≡◌, length, map, take, ltb, refl, sym, ap, ◌∙◌, arith}
+use Rattle.std.proofs.Common.{◌≡◌, length, map, take, ltb, refl, sym, ap, ◌∙◌, arith}
 use Rattle.std.proofs.lemmas.List.{length-map}
 use Rattle.and_clauses.specs.Drafts.{draft_of}
 use Rattle.and_clauses.specs.Made.{IsTableOf}
 use Rattle.and_clauses.specs.Nodes.{entry_clause, shapes_of, names_of}
 use Rattle.and_clauses.specs.Views.{table_of}
-use Rattle.and_clauses.proofs.Keeping.{room_is, unasked, kept_query, table_query, cut_names, table_cut}
+use Rattle.and_clauses.proofs.Keeping.{one_query, one_query_alone, room_is, unasked, kept_query, table_query, cut_names, table_cut}
 use Rattle.and_clauses.proofs.table.ClauseTable.set_query.Goals as goal
 
 pub invariant_of-self : goal.invariant_of-self
 invariant_of-self c =
     let tab : IsTableOf (table_of c.args.self.now) (names_of c.args.self.now.names.keys) (length c.args.self.now.nodes.items) (ltb (length c.args.self.now.clauses.items) 65535) = record { names_are = refl; nodes_are = refl; has_room = room_is (length c.args.self.now.clauses.items) (map (entry_clause (shapes_of c.args.self.now.nodes.items)) c.args.self.now.clauses.items) (sym (length-map c.args.self.now.clauses.items (entry_clause (shapes_of c.args.self.now.nodes.items)))) } in
+    let one = one_query (draft_of c.args.draft).finished c.requires in
     record {
-      kept = kept_query (shapes_of c.args.self.now.nodes.items) (shapes_of c.query_entry.new.nodes.items) c.args.self.now.clauses.items c.args.self.now.query (names_of c.args.self.now.names.keys) (names_of c.query_entry.new.names.keys) c.requires.0 _ c.in-Ok.query c.len-before.result c.args.self.now.kept (c.in-Ok.ensures.ok c.requires.0 (table_of c.args.self.now) (ltb (length c.args.self.now.clauses.items) 65535) c.requires.1 tab (unasked (shapes_of c.args.self.now.nodes.items) c.args.self.now.query c.is_some.result c.is_some.ensures c.if-is_some.false)).1 c.in-Ok.ensures.head (omega arith);
+      kept = kept_query (shapes_of c.args.self.now.nodes.items) (shapes_of c.query_entry.new.nodes.items) c.args.self.now.clauses.items c.args.self.now.query (names_of c.args.self.now.names.keys) (names_of c.query_entry.new.names.keys) one.0 _ c.in-Ok.query c.len-before.result c.args.self.now.kept (c.in-Ok.ensures.ok one.0 (table_of c.args.self.now) (ltb (length c.args.self.now.clauses.items) 65535) one.1 tab (unasked (shapes_of c.args.self.now.nodes.items) c.args.self.now.query c.is_some.result c.is_some.ensures c.if-is_some.false)).1 c.in-Ok.ensures.head (omega arith);
     }
 
 pub returns-in-Ok-clause-ok : goal.returns-in-Ok-clause-ok
@@ -33,3 +34,6 @@ returns-clause-refused c =
     (c.truncate-in-Err.ensures.items ∙ ap (λ n. take n c.query_entry.new.nodes.items) (let e : c.len-kept.result ≡ length c.args.self.now.nodes.items = omega arith in e) ∙ c.in-Err.ensures.nodes_kept)
     refl
     (cut_names c.args.self.now.names.keys c.query_entry.new.names.keys c.truncate.new.self.keys c.len-known.result c.truncate.ensures.keys c.len-known.ensures.len c.in-Err.ensures.names_kept)
+
+pub query_entry-requires-clause-whole : goal.query_entry-requires-clause-whole
+query_entry-requires-clause-whole c = one_query_alone (draft_of c.args.draft).finished c.requires
