@@ -1,5 +1,5 @@
 -- Comparing terms, and rows of terms.
-use Rattle.std.proofs.Common.{ℕ, ◌+◌, ◌*◌, ◌<◌, ◌≡◌, ◌≢◌, ◌↔◌, Bool, true, false, true≢false, not, inl, inr, eqb, eqb-true, eq-eqb, List, [], ◌∷◌, ◌++◌, refl, ap, sym, ◌∙◌, subst, arith}
+use Rattle.std.proofs.Common.{ℕ, ◌+◌, ◌*◌, ◌<◌, ◌≡◌, ◌↔◌, Bool, true, false, true≢false, not, inl, inr, eqb, eqb-true, List, [], ◌∷◌, ◌++◌, refl, ap, sym, ◌∙◌, subst, arith}
 use Rattle.and_model.specs.Terms.{Term, Terms, compound, none, more, Substitution, apply, apply_all}
 use Rattle.and_model.specs.Solutions.{Solves}
 use Rattle.and_written.specs.Simple.{is_bounded, are_bounded}
@@ -51,19 +51,11 @@ pub rows_weight-append : (s : Substitution) (xs ys : List Row) → rows_weight s
 rows_weight-append s [] ys = omega arith
 rows_weight-append s (x ∷ xs) ys = omega (arith, rows_weight-append s xs ys)
 
--- Two names with arguments are apart where the names are,
-pub names_clash : (x y : Term) (c d : ℕ) (ts us : Terms) (rows : List Row) → x ≡ compound c ts → y ≡ compound d us → c ≢ d → (s : Substitution) → ((apply s x ≡ apply s y) × SolvesRows s rows) ↔ (⊥ × SolvesRows s rows)
-names_clash x y c d ts us rows left right n s =
-    (λ e. absurd (n (let f : compound c (apply_all s ts) ≡ compound d (apply_all s us) = sym (ap (apply s) left) ∙ e.0 ∙ ap (apply s) right in cc)), λ e. absurd e.0)
-
--- as the code tells it
-pub differ_named : (a b : ℕ) (r : Bool) → r ≡ not (eqb a b) → r ≡ true → a ≢ b
-differ_named a b r e t h = true≢false (sym t ∙ e ∙ ap not (eq-eqb a b h))
-
+-- Two names are equal, as the code tells it,
 pub same_named : (a b : ℕ) (r : Bool) → r ≡ not (eqb a b) → r ≡ false → a ≡ b
 same_named a b r e t = elim (bool_cases (eqb a b)) [ inl f ↦ eqb-true a b f | inr f ↦ absurd (true≢false (sym (ap not f) ∙ sym e ∙ t)) ]
 
--- and equal where the names and the rows of arguments are.
+-- and two terms with arguments where the names and the rows of arguments are.
 module _ (x y : Term) (c d : ℕ) (row : Row) (left : x ≡ compound c (placed_all row.left)) (right : y ≡ compound d (placed_all row.right)) (rows : List Row) where
   pub arguments_same : c ≡ d → (s : Substitution) → ((apply s x ≡ apply s y) × SolvesRows s rows) ↔ (Unit {0} × SolvesRows s (rows ++ row ∷ []))
   arguments_same n s = (

@@ -114,14 +114,8 @@ name_stays names added q n h = get_or_append_left names added (q, n) n h
 pub naming_stays : (names added : List (Path × ℕ)) (q : Path) (n : ℕ) → n < length names → naming (names ++ added) q n ≡ naming names q n
 naming_stays names added q n h = ap (λ (v : Path × ℕ). variable v.0 v.1) (name_stays names added q n h)
 
-pub named_stays : (names added : List (Path × ℕ)) (x : Term) → IsOfCells (length names) x → named (names ++ added) x ≡ named names x
-named_stays names added x b = apply_cells (length names) (naming (names ++ added)) (naming names) (λ k h. naming_stays names added [] k h) x b
-
 pub through_stays : (names added : List (Path × ℕ)) (u : Substitution) (n : ℕ) → n < length names → through (names ++ added) u [] n ≡ through names u [] n
 through_stays names added u n h = ap (apply u) (naming_stays names added [] n h)
-
-pub apply_through_stays : (names added : List (Path × ℕ)) (u : Substitution) (x : Term) → IsOfCells (length names) x → apply (through (names ++ added) u) x ≡ apply (through names u) x
-apply_through_stays names added u x b = apply_cells (length names) (through (names ++ added) u) (through names u) (λ k h. through_stays names added u k h) x b
 
 pub solves_through_stays : (names added : List (Path × ℕ)) (u : Substitution) (es : List Equation) → EquationsOfCells (length names) es
     → Solves (through (names ++ added) u) es ↔ Solves (through names u) es

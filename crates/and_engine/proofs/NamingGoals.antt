@@ -29,13 +29,6 @@ same_first : (p q : Path) (g h : Term) (xs ys : List (Path × Term)) → (p, g) 
 same_first p q g h xs ys e = let v : Path × Term = (p, g) in let w : Path × Term = (q, h) in let k : v ≡ w = cc in (ap (λ (v : Path × Term). v.0) k, ap (λ (v : Path × Term). v.1) k, cc)
 
 -- The same, where the goals are known.
-pub first_goal : {P : Program} {ag : Agenda} (t : Tree P ag) (o : Open t) → IsLeftmost t o → (q : Path) (g : Term) (rest : List (Path × Term))
-    → goals_of t ≡ (q, g) ∷ rest → (path t o ≡ q) × (call_of t o ≡ g)
-first_goal t o m q g rest e =
-    let r = leftmost_goals t o m in
-    let k = same_first (path t o) q (call_of t o) g r.0 rest (sym r.1 ∙ e) in
-    (k.0, k.1)
-
 pub reduce_goals : {P : Program} {ag : Agenda} (t : Tree P ag) (o : Open t) → IsLeftmost t o → (q : Path) (g : Term) (rest : List (Path × Term))
     → goals_of t ≡ (q, g) ∷ rest → (c : ℕ) (h : Of P (call_of t o) c) → goals_of (reduce t o c h) ≡ body_goals q 0 (clause_at P c).body ++ rest
 reduce_goals {P} t o m q g rest e c h =

@@ -80,10 +80,7 @@ named_general names distinct es cells within same s general =
       | false ↦ λ e. refl
     ]) refl
 
--- What it gives a name is what the other gives its cell, with names for cells; it leaves all else alone.
+-- What it gives a name is what the other gives its cell, with names for cells.
 pub on_names_cell : (names : List (Path × ℕ)) → IsDistinct same_variable names → (s : Substitution) (n : ℕ) → n < length names
     → on_names names s (name_of names [] n).0 (name_of names [] n).1 ≡ named names (s [] n)
 on_names_cell names distinct s n h = rw (has_own names n ([], n) h, place_own names distinct n ([], n) h) refl
-
-pub on_names_other : (names : List (Path × ℕ)) (s : Substitution) (q : Path) (k : ℕ) → has (q, k) names ≡ false → on_names names s q k ≡ variable q k
-on_names_other names s q k e = rw e refl

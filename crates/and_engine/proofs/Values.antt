@@ -1,8 +1,8 @@
 -- The values of placed variables.
-use Rattle.std.proofs.Common.{ℕ, ◌<◌, ◌≡◌, true, false, List, [], length, get_or, refl, ap, sym, ◌∙◌, subst, Some, ℤ}
+use Rattle.std.proofs.Common.{ℕ, ◌<◌, ◌≡◌, true, false, List, [], length, get_or, refl, ap, sym, ◌∙◌, subst, Some}
 use Rattle.std.specs.Prelude.{slice_get}
 use Rattle.std.proofs.lemmas.Bool.{ltb-true}
-use Rattle.and_model.specs.Terms.{Term, Terms, variable, number, compound, Substitution, apply}
+use Rattle.and_model.specs.Terms.{Term, variable, apply}
 use Rattle.and_written.specs.Simple.{is_bounded}
 use Rattle.and_engine.specs.Cells.{placed, IsWithin, meaning}
 use Rattle.and_engine.specs.Solved.{IsFreeVariable, is_bound, IsSolved}
@@ -11,13 +11,6 @@ use Rattle.and_engine.specs.declared.placed.Binding.{Binding}
 use Rattle.and_engine.proofs.Slots.{rank}
 use Rattle.and_engine.proofs.Triangular.{unbound_free}
 use Rattle.and_engine.proofs.Solving.{bound_value, rank_value, value_within}
-
--- what is no variable is no free variable either
-pub free_number : (s : Substitution) (t : Term) (z : ℤ) → t ≡ number z → IsFreeVariable s t
-free_number s t z e = subst (λ x. IsFreeVariable s x) (sym e) tt
-
-pub free_compound : (s : Substitution) (t : Term) (c : ℕ) (ts : Terms) → t ≡ compound c ts → IsFreeVariable s t
-free_compound s t c ts e = subst (λ x. IsFreeVariable s x) (sym e) tt
 
 -- a cell that is placed within n is below n
 pub cell_within : (n cell : ℕ) (t : Term) → t ≡ variable [] cell → is_bounded n t ≡ true → cell < n

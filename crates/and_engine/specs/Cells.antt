@@ -20,6 +20,7 @@ in_cells base t = apply (λ q k. variable [] (base + k)) t
 abbrev pub term_of : Placed → Term
 term_of p = node_term (skeleton_of p.loaded.now).nodes p.node.0
 
+-- that term in its frame
 abbrev pub placed : Placed → Term
 placed p = in_cells p.base (term_of p)
 
@@ -31,14 +32,16 @@ clause_of c = clause_at (program_of c.loaded.now) c.clause.0
 abbrev pub IsWithin : ℕ → Placed → Type 0
 IsWithin n p = is_bounded n (placed p) ≡ true
 
+-- the cells of the bindings, and those of their values, are below n
 abbrev pub AreWithin : ℕ → List Binding → Type 0
 AreWithin n [] = Unit {0}
 AreWithin n (b ∷ bs) = (b.cell < n) × IsWithin n b.value × AreWithin n bs
 
+-- a cell equals its value
 abbrev pub equation_of : Binding → Equation
 equation_of b = (variable [] b.cell, placed b.value)
 
--- what the bindings say: each cell equals its value
+-- what the bindings say
 abbrev pub equations_of : List Binding → List Equation
 equations_of [] = []
 equations_of (b ∷ bs) = equation_of b ∷ equations_of bs
@@ -51,6 +54,7 @@ single q k t = λ r n. cond (same_variable (q, k) (r, n)) t (variable r n)
 abbrev pub then_bound : Substitution → Binding → Substitution
 then_bound s b = λ q k. apply (single [] b.cell (apply s (placed b.value))) (s q k)
 
+-- and so with each of these bindings, in order
 abbrev pub meaning_from : Substitution → List Binding → Substitution
 meaning_from s [] = s
 meaning_from s (b ∷ bs) = meaning_from (then_bound s b) bs
@@ -63,5 +67,6 @@ meaning bs = meaning_from (λ q k. variable q k) bs
 abbrev pub cells_of : Bindings → ℕ
 cells_of b = vec_len b.slots
 
+-- the bindings that were made, in order
 abbrev pub made_of : Bindings → List Binding
 made_of b = b.made.items

@@ -15,12 +15,15 @@ use Rattle.and_engine.specs.declared.rows.Row.{Row}
 use Rattle.and_engine.specs.declared.rows.Step.{Step}
 use Rattle.and_engine.specs.declared.rows.Step.TheVariants.{Equal, Clash, Bind}
 
+-- a clause's terms in a row, whose variable k is the cell `base + k`
 abbrev pub in_cells_all : ℕ → Terms → Terms
 in_cells_all base ts = apply_all (λ q k. variable [] (base + k)) ts
 
+-- the arguments of a term without the first ones, in its frame
 abbrev pub placed_arguments : Arguments → Terms
 placed_arguments a = in_cells_all a.of.base (without a.from (arguments_of (term_of a.of)))
 
+-- the terms of a row, each in its frame
 abbrev pub placed_all : PlacedTerms → Terms
 placed_all Nothing = none
 placed_all (One p) = more (placed p) none
@@ -36,10 +39,12 @@ root_term (Compound name ts) = compound name.0 (placed_all ts)
 abbrev pub AreAllWithin : ℕ → PlacedTerms → Type 0
 AreAllWithin n p = are_bounded n (placed_all p) ≡ true
 
+-- so it is in all rows
 abbrev pub RowsWithin : ℕ → List Row → Type 0
 RowsWithin n [] = Unit {0}
 RowsWithin n (r ∷ rs) = AreAllWithin n r.left × AreAllWithin n r.right × RowsWithin n rs
 
+-- and in all that are searched
 abbrev pub SearchedWithin : ℕ → List PlacedTerms → Type 0
 SearchedWithin n [] = Unit {0}
 SearchedWithin n (p ∷ ps) = AreAllWithin n p × SearchedWithin n ps

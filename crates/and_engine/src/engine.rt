@@ -56,7 +56,9 @@ fn placed_clause(loaded: &Loaded, number: u32, base: u32) -> PlacedClause<'_>
     ensures clause { result.clause.0 ≡ number }
     ensures base { result.base ≡ base }
 {
-    let _clauses = loaded.clause_count();
+    // There are at most 65,535 clauses, so the number fits.
+    let last = loaded.clause_count();
+    prove!(number <= last);
     PlacedClause {
         loaded,
         clause: ClauseNo(number as u16),
