@@ -1,4 +1,6 @@
-append(nil,L,L).
-append(cons(H,T),L,cons(H,R)) :- append(T,L,R).
+% A list taken apart in all ways.
 
-?- append(X,Y,cons(a,cons(b,cons(c,nil)))).
+append([], L, L).
+append([H|T], L, [H|R]) :- append(T, L, R).
+
+?- append(X, Y, [a,b,c]).

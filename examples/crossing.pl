@@ -1,17 +1,21 @@
-opposite(left,right).
-opposite(right,left).
+% The farmer, the wolf, the goat and the cabbage. A state says on which bank each of them is.
 
-cross(state(F,W,G,C),alone,state(O,W,G,C)) :- opposite(F,O).
-cross(state(F,F,G,C),wolf,state(O,O,G,C)) :- opposite(F,O).
-cross(state(F,W,F,C),goat,state(O,W,O,C)) :- opposite(F,O).
-cross(state(F,W,G,F),cabbage,state(O,W,G,O)) :- opposite(F,O).
+opposite(left, right).
+opposite(right, left).
 
-safe(state(S,W,S,C)).
-safe(state(S,S,G,S)) :- opposite(S,G).
+cross(state(F,W,G,C), alone,   state(O,W,G,C)) :- opposite(F, O).
+cross(state(F,F,G,C), wolf,    state(O,O,G,C)) :- opposite(F, O).
+cross(state(F,W,F,C), goat,    state(O,W,O,C)) :- opposite(F, O).
+cross(state(F,W,G,F), cabbage, state(O,W,G,O)) :- opposite(F, O).
 
-plan(State,State,done,Fuel).
-plan(From,To,then(Move,Rest),step(Fuel)) :- cross(From,Move,Next), safe(Next), plan(Next,To,Rest,Fuel).
+% Nobody is eaten where the goat is with the farmer, or alone.
+safe(state(S,_,S,_)).
+safe(state(S,S,G,S)) :- opposite(S, G).
 
-seven(step(step(step(step(step(step(step(none)))))))).
+plan(Goal, Goal, [], _).
+plan(From, Goal, [Move|Moves], [_|Steps]) :-
+    cross(From, Move, Next),
+    safe(Next),
+    plan(Next, Goal, Moves, Steps).
 
-?- seven(_Fuel), plan(state(left,left,left,left),state(right,right,right,right),Moves,_Fuel).
+?- plan(state(left,left,left,left), state(right,right,right,right), Moves, [_,_,_,_,_,_,_]).

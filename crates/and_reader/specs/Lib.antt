@@ -1,12 +1,7 @@
-pub mod Bounds
-pub mod Programs
-pub mod Tokens
-pub mod Written
-pub mod Numbering
 pub mod Views
-pub mod Borrowed
+pub mod Standing
+pub mod Answered
 pub mod Seen
-pub mod Parsing
-pub mod Entries
-pub mod Known
 pub mod Reading
+pub mod Causes
+pub mod RefusalLine

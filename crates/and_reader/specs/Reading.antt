@@ -1,217 +1,72 @@
--- How the reader goes through a text; laws tie it to the grammar.
-use Rattle.std.specs.Prelude.{ℕ, zero, suc, ◌≡◌, pos, Bool, cond, List, [], ◌∷◌, ◌++◌, length, take, drop, Option, Some, None, Result, Ok, Err, nat_eq, leb, ltb, codes}
-use Rattle.std.specs.List.{prefix_len}
-use Rattle.std.specs.Str.{bytes_eq}
-use Rattle.and_model.specs.Lines.{Bytes, is_small, is_word, is_symbol}
-use Rattle.and_model.specs.Terms
-use Rattle.and_model.specs.Terms.{Term, Terms}
-use Rattle.and_model.specs.Programs.{Program, Clause}
-use Rattle.and_reader.specs.Tokens.{Token, variable, integer, name, functor, close, comma, neck, query, end, is_layout, is_capital, is_digit, is_reserved, number_of, goes_on, ends_clause, line_after}
-use Rattle.and_reader.specs.Numbering.{Seen, counted, is_new, with_name, place, row, fresh, Entry, stated, asked, clause_with, truth, all_stated, all_asked, all_known, start}
-use Rattle.and_reader.specs.declared.refusal.ReadRefusal.{ReadRefusal}
-use Rattle.and_reader.specs.declared.refusal.ReadRefusal.TheVariants.{Text, Memory}
+-- How far a text is read.
+use Rattle.std.specs.Prelude.{ℕ, ◌≡◌, ◌++◌, Bool, true, false, List, [], ◌∷◌, Option, Some, None}
+use Rattle.and_model.specs.Lines.{Bytes}
+use Rattle.and_written.specs.Tables.{empty, Table, Fault}
+use Rattle.and_texts.specs.Tokens.{line_at}
+use Rattle.and_texts.specs.Words.{Word, Placed}
+use Rattle.and_texts.specs.Grammar.{Statement, IsText}
+use Rattle.and_texts.specs.Refusals.{Takes, Refusal, at, cause_of, statement_fault, with_statement}
+use Rattle.and_parsing.specs.Machine.{State, start, is_over, run, words_of}
+use Rattle.and_clauses.specs.Drafts.{Draft, draft_of}
+use Rattle.and_clauses.specs.Views.{table_of}
+use Rattle.and_reader.specs.declared.reading.Begun.{Begun}
+use Rattle.and_reader.specs.declared.reading.Reader.{Reader}
+use Rattle.and_reader.specs.Standing.{IsState}
 
-infixl 10 ◌>>=◌
-abbrev pub ◌>>=◌ : {A B : Type 0} → Option A → (A → Option B) → Option B
-None >>= f = None
-(Some x) >>= f = f x
+-- the place of the first of the words, or that one where there are none
+abbrev pub first_place : List Placed → ℕ → ℕ
+first_place [] n = n
+first_place (p ∷ ps) n = p.place
 
--- What a function returned, seen by view, is what reading gives, unless memory ran out.
-abbrev pub Fails : {Y : Type 0} → ReadRefusal → Option Y → Type 0
-Fails Text read = read ≡ None
-Fails Memory read = Unit {0}
+-- The clause of these words is begun: its parser stands for the state behind them, and its line is that of the first of them (or of the place, where there are none yet).
+pub record IsBegun (bytes : Bytes) (place : ℕ) (b : Begun) (words : List Placed) : Type 0 where
+  pub state : State
+  pub ran : run true start (words_of words) ≡ Some state
+  pub unended : is_over state ≡ false
+  pub stands : IsState b.parser state
+  pub first : state ≡ start → words ≡ []
+  pub line : b.line ≡ line_at bytes (first_place words place)
+  pub drafted : (draft_of b.parser.draft).line ≡ b.line
 
-abbrev pub Gives : {X Y : Type 0} → (X → Y) → Result X ReadRefusal → Option Y → Type 0
-Gives view (Ok x) read = read ≡ Some (view x)
-Gives view (Err e) read = Fails e read
+-- The clause that is begun, if one is, is that of these words.
+abbrev pub IsClause : Bytes → Option Begun → List Placed → Type 0
+IsClause bytes None words = words ≡ []
+IsClause bytes (Some b) words = (words ≡ [] → ⊥) × IsBegun bytes 0 b words
 
--- the longest front of such bytes, and what is behind it
-abbrev pub front : (ℕ → Bool) → Bytes → Bytes
-front p bs = take (prefix_len p bs) bs
+-- The reader's table has the clauses and queries of the words before those begun, of which more is said.
+pub record Reads (bytes : Bytes) (r : Reader) (words : List Placed) (IsRest : List Placed → Type 0) : Type 0 where
+  pub text : r.bytes.now ≡ bytes
+  pub line : r.cursor.line ≡ line_at bytes r.cursor.place
+  pub whole : List Placed
+  pub begun : List Placed
+  pub joined : words ≡ whole ++ begun
+  pub statements : List Statement
+  pub spelled : IsText true whole statements
+  pub taken : Takes bytes empty statements (table_of r.table)
+  pub rest : IsRest begun
 
-abbrev pub behind : (ℕ → Bool) → Bytes → Bytes
-behind p bs = drop (prefix_len p bs) bs
+-- the reader has read these words of the text
+abbrev pub IsRead : Bytes → Reader → List Placed → Type 0
+IsRead bytes r words = Reads bytes r words (IsClause bytes r.clause)
 
-abbrev pub Lexed : Type 0
-Lexed = Option (Token × Bytes)
+-- the same, where the clause that is begun was moved out, and its next word stands at the place
+abbrev pub IsReadBefore : Bytes → ℕ → Reader → Begun → List Placed → Type 0
+IsReadBefore bytes place r b words = Reads bytes r words (IsBegun bytes place b)
 
--- a name, or a functor where a bracket is behind it
-abbrev pub name_or_functor : ℕ → Bytes → Bytes → Lexed
-name_or_functor line c [] = Some (name line c, [])
-name_or_functor line c (b ∷ rest) = cond (nat_eq 40 b) (Some (functor line c, rest)) (Some (name line c, b ∷ rest))
+-- words, and behind them one more at that place
+abbrev pub with_word : List Placed → Word → ℕ → List Placed
+with_word words w place = words ++ record { word = w; place = place } ∷ []
 
-abbrev pub name_at : ℕ → Bytes → Bytes → Lexed
-name_at line c rest = cond (is_reserved c) None (name_or_functor line c rest)
+-- The draft is that of the clause or query, whose first token is on the draft's line.
+pub record IsDraftOf (bytes : Bytes) (draft : Draft) (is_query : Bool) (s : Statement) : Type 0 where
+  pub kind : s.is_query ≡ is_query
+  pub term : draft.finished ≡ s.term ∷ []
+  pub line : draft.line ≡ line_at bytes s.place
 
-abbrev pub integer_at : Bytes → Bytes → Lexed
-integer_at ds rest = cond (goes_on rest) None (cond (leb (number_of ds) 9223372036854775807) (Some (integer (pos (number_of ds)), rest)) None)
+-- the clause or query is added to a table, which becomes the other
+abbrev pub IsAdded : Bytes → Table → Statement → Table → Type 0
+IsAdded bytes T s U = (statement_fault T s ≡ None) × (U ≡ with_statement bytes T s)
 
-abbrev pub symbol_at : ℕ → Bytes → Bytes → Lexed
-symbol_at line s rest =
-    cond (bytes_eq s (codes ".")) (cond (ends_clause rest) (Some (end, rest)) None)
-    (cond (bytes_eq s (codes ":-")) (Some (neck, rest))
-    (cond (bytes_eq s (codes "?-")) (Some (query line, rest)) None))
-
--- the token that begins with b, and what is behind it
-abbrev pub token_from : ℕ → ℕ → Bytes → Lexed
-token_from line b bs =
-    cond (is_small b) (name_at line (front is_word (b ∷ bs)) (behind is_word (b ∷ bs)))
-    (cond (is_capital b) (Some (variable (front is_word (b ∷ bs)), behind is_word (b ∷ bs)))
-    (cond (is_digit b) (integer_at (front is_digit (b ∷ bs)) (behind is_digit (b ∷ bs)))
-    (cond (nat_eq b 41) (Some (close, bs))
-    (cond (nat_eq b 44) (Some (comma, bs))
-    (symbol_at line (front is_symbol (b ∷ bs)) (behind is_symbol (b ∷ bs)))))))
-
-abbrev pub token_at : ℕ → Bytes → Lexed
-token_at line [] = None
-token_at line (b ∷ bs) = token_from line b bs
-
--- the tokens of the bytes, by at most n steps
-abbrev pub tokens_in : ℕ → ℕ → Bytes → Option (List Token)
-tokens_in zero line bs = None
-tokens_in (suc n) line [] = Some []
-tokens_in (suc n) line (b ∷ bs) =
-    cond (is_layout b) (tokens_in n (line_after line b) bs)
-    (token_from line b bs >>= λ t. tokens_in n line t.1 >>= λ ts. Some (t.0 ∷ ts))
-
--- what was read, what was met until then, and the tokens behind it
-abbrev pub Read : Type 0 → Type 0
-Read A = Option (A × Seen × List Token)
-
-abbrev pub count_node : Seen → Option Seen
-count_node S = cond (ltb S.nodes 524288) (Some (counted S)) None
-
--- the number of the variable that occurs, where it is new and where it is not
-abbrev pub new_variable : Seen → Bytes → Option (ℕ × Seen)
-new_variable S x = cond (ltb (length S.variables) 255) (Some (length S.variables, record { variables = S.variables ++ x ∷ []; names = S.names; nodes = S.nodes })) None
-
-abbrev pub variable_in : Seen → Bytes → Option (ℕ × Seen)
-variable_in S x = count_node S >>= λ U. cond (is_new x U.variables) (new_variable U x) (Some (place x U.variables, U))
-
-abbrev pub name_in : Seen → Bytes → Option (ℕ × Seen)
-name_in S c = cond (ltb S.nodes 524288) (Some (place c S.names, with_name S c)) None
-
--- a term, where arguments reads those behind a functor
-abbrev pub term_by : (Seen → List Token → Read (List Term)) → Seen → List Token → Read Term
-term_by arguments S [] = None
-term_by arguments S (variable x ∷ ts) = variable_in S x >>= λ v. Some (Terms.variable [] v.0, v.1, ts)
-term_by arguments S (integer z ∷ ts) = count_node S >>= λ U. Some (Terms.number z, U, ts)
-term_by arguments S (name l c ∷ ts) = name_in S c >>= λ n. Some (Terms.compound n.0 Terms.none, n.1, ts)
-term_by arguments S (functor l c ∷ ts) = name_in S c >>= λ n. arguments n.1 ts >>= λ r. Some (Terms.compound n.0 (row r.0), r.1, r.2)
-term_by arguments S (close ∷ ts) = None
-term_by arguments S (comma ∷ ts) = None
-term_by arguments S (neck ∷ ts) = None
-term_by arguments S (query l ∷ ts) = None
-term_by arguments S (end ∷ ts) = None
-
--- the tokens behind a comma, or behind the token that closes a row
-pub data Next : Type 0 where
-  further : List Token → Next
-  closed : List Token → Next
-
-abbrev pub next_argument : List Token → Option Next
-next_argument (comma ∷ ts) = Some (further ts)
-next_argument (close ∷ ts) = Some (closed ts)
-next_argument _ = None
-
-abbrev pub next_goal : List Token → Option Next
-next_goal (comma ∷ ts) = Some (further ts)
-next_goal (end ∷ ts) = Some (closed ts)
-next_goal _ = None
-
--- the others of a row, by what stands next
-abbrev pub rest_by : (Seen → List Token → Read (List Term)) → Seen → Next → Read (List Term)
-rest_by others S (further ts) = others S ts
-rest_by others S (closed ts) = Some ([], S, ts)
-
--- at most n terms with commas between them, and the token that closes them
-abbrev pub row_by : (List Token → Option Next) → (Seen → List Token → Read Term) → ℕ → Seen → List Token → Read (List Term)
-row_by next one zero S ts = None
-row_by next one (suc n) S ts = one S ts >>= λ r. next r.2 >>= λ a. rest_by (row_by next one n) r.1 a >>= λ q. Some (r.0 ∷ q.0, q.1, q.2)
-
--- the arguments behind a functor, where room is how many brackets more may be open
-abbrev pub arguments_in : ℕ → Seen → List Token → Read (List Term)
-arguments_in zero S ts = None
-arguments_in (suc room) S ts = row_by next_argument (term_by (arguments_in room)) 255 S ts
-
-abbrev pub read_term : ℕ → Seen → List Token → Read Term
-read_term room S ts = term_by (arguments_in room) S ts
-
-abbrev pub head : List Token → Option Token
-head [] = None
-head (t ∷ ts) = Some t
-
-abbrev pub name_line : Token → Option ℕ
-name_line (name l c) = Some l
-name_line (functor l c) = Some l
-name_line _ = None
-
--- the line of the name that begins an atomic term
-abbrev pub atomic_line : List Token → Option ℕ
-atomic_line ts = head ts >>= name_line
-
-abbrev pub read_atomic : Seen → List Token → Read Term
-read_atomic S ts = atomic_line ts >>= λ l. read_term 256 S ts
-
-abbrev pub read_goal : Seen → List Token → Read Term
-read_goal S ts = count_node S >>= λ U. read_atomic U ts
-
--- goals up to the end of the clause
-abbrev pub read_goals : Seen → List Token → Read (List Term)
-read_goals S ts = row_by next_goal read_goal (length ts) S ts
-
--- behind a head
-abbrev pub read_body : Seen → List Token → Read (List Term)
-read_body S (neck ∷ ts) = read_goals S ts
-read_body S (end ∷ ts) = Some ([], S, ts)
-read_body S _ = None
-
--- Statements: no variable was met in them before.
-abbrev pub read_query : Seen → ℕ → List Token → Read Entry
-read_query S l ts = read_goals S ts >>= λ r. Some (asked (clause_with r.1 truth r.0 l), fresh r.1, r.2)
-
-abbrev pub read_clause : Seen → List Token → Read Entry
-read_clause S ts =
-    atomic_line ts >>= λ l. read_term 256 S ts >>= λ h. read_body h.1 h.2 >>= λ b. Some (stated (clause_with b.1 h.0 b.0 l), fresh b.1, b.2)
-
-abbrev pub query_line : Token → Option ℕ
-query_line (query l) = Some l
-query_line _ = None
-
--- the line of the query's first token, where that is next
-abbrev pub query_at : List Token → Option ℕ
-query_at ts = head ts >>= query_line
-
-abbrev pub tail : List Token → List Token
-tail [] = []
-tail (t ∷ ts) = ts
-
-abbrev pub read_by : Option ℕ → Seen → List Token → Read Entry
-read_by (Some l) S ts = read_query S l (tail ts)
-read_by None S ts = read_clause S ts
-
-abbrev pub read_statement : Seen → List Token → Read Entry
-read_statement S ts = read_by (query_at ts) S ts
-
--- the statements of the tokens, at most n
-abbrev pub read_text : ℕ → Seen → List Token → Option (List Entry × Seen)
-read_text zero S ts = None
-read_text (suc n) S [] = Some ([], S)
-read_text (suc n) S (t ∷ ts) = read_statement S (t ∷ ts) >>= λ r. read_text n r.1 r.2 >>= λ q. Some (r.0 ∷ q.0, q.1)
-
--- the clauses and the queries
-abbrev pub read_statements : Seen → List Token → Option (List Clause × List Clause × Seen)
-read_statements S ts = read_text (suc (length ts)) S ts >>= λ r. Some (all_stated r.0, all_asked r.0, r.1)
-
--- the program of clauses and queries, where there is one query
-abbrev pub program_with : List Clause → List Clause → List Bytes → Option Program
-program_with cs [] names = None
-program_with cs (q ∷ []) names =
-    cond (leb (length cs) 65535) (cond (all_known (record { clauses = cs; query = q; names = names })) (Some (record { clauses = cs; query = q; names = names })) None) None
-program_with cs (q ∷ r ∷ qs) names = None
-
-abbrev pub program_in : Bytes → Option Program
-program_in bytes =
-    cond (leb (length bytes) 1048576)
-    (tokens_in (suc (length bytes)) 1 bytes >>= λ ts. read_statements start ts >>= λ r. program_with r.0 r.1 r.2.names)
-    None
+-- the clause or query is refused for a fault, at its place
+abbrev pub IsFaultOf : Bytes → Table → Statement → Refusal → Type 0
+IsFaultOf bytes T s r = (f : Fault) × (statement_fault T s ≡ Some f) × (r ≡ at bytes s.place (cause_of f))

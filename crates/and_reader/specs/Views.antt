@@ -1,19 +1,33 @@
--- What values of the reader stand for.
-use Rattle.std.specs.Prelude.{List, map}
-use Rattle.and_reader.specs.Tokens
-use Rattle.and_reader.specs.declared.tokens.Token.{Token}
-use Rattle.and_reader.specs.declared.tokens.Token.TheVariants.{Variable, Integer, Name, Functor, Close, Comma, Neck, Query, End}
+-- What words and names stand for.
+use Rattle.and_model.specs.Lines.{Bytes}
+use Rattle.and_texts.specs.Words
+use Rattle.and_reader.specs.declared.words.Name.{Name}
+use Rattle.and_reader.specs.declared.words.Name.TheVariants as names
+use Rattle.and_reader.specs.declared.words.Before.{Before}
+use Rattle.and_reader.specs.declared.words.Before.TheVariants as before
+use Rattle.and_reader.specs.declared.words.Word.{Word}
+use Rattle.and_reader.specs.declared.words.Word.TheVariants as words
 
-abbrev pub token_of : Token → Tokens.Token
-token_of (Variable x) = Tokens.variable x.now
-token_of (Integer z) = Tokens.integer z
-token_of (Name l c) = Tokens.name l c.now
-token_of (Functor l c) = Tokens.functor l c.now
-token_of Close = Tokens.close
-token_of Comma = Tokens.comma
-token_of Neck = Tokens.neck
-token_of (Query l) = Tokens.query l
-token_of End = Tokens.end
+-- the bytes that a name stands for
+abbrev pub name_of : Name → Bytes
+name_of (names.Written c) = c.now
+name_of (names.Quoted t) = t
 
-abbrev pub tokens_seen : List Token → List Tokens.Token
-tokens_seen ts = map token_of ts
+abbrev pub before_of : Before → Words.Before
+before_of before.Integer = Words.integer
+before_of before.Stop = Words.stop
+before_of before.Operand = Words.operand
+
+abbrev pub word_of : Word → Words.Word
+word_of (words.Variable x) = Words.variable x.now
+word_of (words.Integer z) = Words.integer z
+word_of (words.Name c) = Words.name c.now
+word_of (words.Quoted t) = Words.quoted t
+word_of (words.Minus b) = Words.minus (before_of b)
+word_of (words.OpenBracket behind) = Words.open_bracket behind
+word_of words.CloseBracket = Words.close_bracket
+word_of words.OpenList = Words.open_list
+word_of words.CloseList = Words.close_list
+word_of words.Comma = Words.comma
+word_of words.Bar = Words.bar
+word_of words.End = Words.end

@@ -1,18 +1,21 @@
-//! Texts, read into programs.
+//! Texts as programs: the reader of the whole language.
 #![tactic(auto)]
 
-mod known;
-pub mod loaded;
-mod numbering;
-pub mod read;
-pub mod refusal;
-mod statements;
-mod terms;
-mod tokens;
+mod emitting;
+mod laws;
+mod lines;
+mod operands;
+mod operators;
+mod parser;
+mod reading;
+mod refusal;
+mod state;
+mod words;
 
-pub use loaded::{Clause, Loaded};
-pub use read::{one_program, read_program};
-pub use refusal::ReadRefusal;
+pub use and_clauses::{Loaded, What};
+pub use laws::{one_program, one_refusal};
+pub use reading::read_program;
+pub use refusal::{Cause, ReadRefusal, refusal_text};
 
 #[cfg(test)]
 mod tests;

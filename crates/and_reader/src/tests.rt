@@ -1,113 +1,61 @@
-use super::*;
+//! Texts and what they are refused for.
+
+use crate::{read_program, refusal_text};
+use and_model::ClauseNo;
 use std::alloc::{AllocError, Global};
-use std::test::*;
+use std::test::Fail;
 
-#[test]
-fn reads(rt: HostRuntime) {
-    let text = b"p(a1,B). p(_C, 9223372036854775807) :-\n p(_,B0), q.\tq. ?- p(X,f(g(Y,X))).";
-    match read_program(rt.alloc(), text) {
-        Ok(loaded) => {
-            assert_eq!(rt; loaded.clause_count(), 3);
-            assert_eq!(rt; loaded.query().variables.len(), 2);
-            assert_eq!(rt; loaded.query().line, 2);
-            assert_eq!(rt; loaded.clause(3).line, 2);
-            assert_eq!(rt; loaded.name(and_model::NameNo(28)), b"a1".as_slice());
+/// The line of a refusal, or of how many clauses there are.
+fn told(alloc: Global, bytes: &[u8]) -> Result<String, AllocError> {
+    match read_program(alloc, bytes) {
+        Ok(loaded) => format!(in alloc; "{} clauses\n", loaded.clause_count()),
+        Err(refusal) => {
+            if refusal.is_memory() {
+                return format!(in alloc; "memory\n");
+            }
+            let text = refusal_text(alloc, &refusal)?;
+            String::from_utf8_lossy(alloc, text.bytes())
         }
-        Err(_) => assert!(rt; false),
     }
-}
-
-fn is_refused(alloc: Global, text: &[u8]) -> bool {
-    matches!(read_program(alloc, text), Err(ReadRefusal::Text))
-}
-
-fn is_read(alloc: Global, text: &[u8]) -> bool {
-    matches!(read_program(alloc, text), Ok(_))
-}
-
-const READ: [&[u8]; 4] = [
-    b"p(a). p(b). ?- p(X).",
-    b"p :- p. ?- p.",
-    b"p(0009223372036854775807). ?- p(1).",
-    b"p(X,\n_) :-q(X),\tq(Y). ?- p(1,2).\rq(_).",
-];
-
-const REFUSED: [&[u8]; 24] = [
-    b"",
-    b"p(X).",
-    b"p. ?- p",
-    b"p. ?- p..",
-    b"p :- p.?- p.",
-    b"p. ?- p.q. q.",
-    b"p(a) ?- p(X).",
-    b"p(X). ?- p.",
-    b"p(X) :- q(X). ?- p(1).",
-    b"p(X). ?- p(1). ?- p(1).",
-    b"p (a). ?- p(1).",
-    b"p(a,). ?- p(1).",
-    b"p(). ?- p.",
-    b"p((a)). ?- p(a).",
-    b"X :- p. p. ?- p.",
-    b"p :- X. ?- p.",
-    b"true. ?- true.",
-    b"p. ?- p, 1.",
-    b"p(9223372036854775808). ?- p(1).",
-    b"p(99999999999999999999999999). ?- p(1).",
-    b"p(1a). ?- p(1).",
-    b"p(1.2). ?- p(1).",
-    b"p('a'). ?- p(1).",
-    b"p. % comment\n ?- p.",
-];
-
-#[test]
-fn rows(rt: HostRuntime) {
-    for text in READ {
-        assert!(rt; is_read(rt.alloc(), text));
-    }
-    for text in REFUSED {
-        assert!(rt; is_refused(rt.alloc(), text));
-    }
-}
-
-/// So often the first part, then the second, and so often the third.
-fn repeated(
-    alloc: Global,
-    count: usize,
-    front: &[u8],
-    middle: &[u8],
-    back: &[u8],
-) -> Result<Vec<u8>, AllocError> {
-    let mut bytes = Vec::new(alloc);
-    for _ in 0..count {
-        bytes.extend_from_slice(front)?;
-    }
-    bytes.extend_from_slice(middle)?;
-    for _ in 0..count {
-        bytes.extend_from_slice(back)?;
-    }
-    Ok(bytes)
 }
 
 #[test]
-fn brackets(rt: HostRuntime) -> Result<(), Fail> {
-    let mut nested = repeated(rt.alloc(), 256, b"p(", b"a", b")")?;
-    nested.extend_from_slice(b". ?- p(a).")?;
-    assert!(rt; is_read(rt.alloc(), &nested));
-    let mut nested = repeated(rt.alloc(), 257, b"p(", b"a", b")")?;
-    nested.extend_from_slice(b". ?- p(a).")?;
-    assert!(rt; is_refused(rt.alloc(), &nested));
-    Ok(())
-}
-
-#[test]
-fn large(rt: HostRuntime) -> Result<(), Fail> {
-    let spaces = repeated(rt.alloc(), 1_048_576, b" ", b"", b"")?;
-    assert!(rt; is_refused(rt.alloc(), &spaces));
-    let many = repeated(rt.alloc(), 60_000, b"p(f(X,a),X).\n", b"?- p(A,B).", b"")?;
-    assert!(rt; is_read(rt.alloc(), &many));
-    let many = repeated(rt.alloc(), 65_535, b"p.\n", b"?- p.", b"")?;
-    assert!(rt; is_read(rt.alloc(), &many));
-    let many = repeated(rt.alloc(), 65_536, b"p.\n", b"?- p.", b"")?;
-    assert!(rt; is_refused(rt.alloc(), &many));
+fn rows(rt: HostRuntime) -> Result<(), Fail> {
+    let pairs = [
+        (
+            b"app([],L,L). app([H|T],L,[H|R]) :- app(T,L,R). ?- app(X,Y,[1,2]).".as_slice(),
+            "2 clauses\n",
+        ),
+        (b"p(X) :- q(X). ?- p(1).", "error: line 1: unknown q/1\n"),
+        (b"p(X) :- q(X", "error: line 1: syntax\n"),
+        (b"", "error: line 1: no query\n"),
+        (b"p(a).\n?- p(X)", "error: line 2: syntax\n"),
+        (b"?- X = 1-2-3, Y = 2+3*4, Z = - (1).", "0 clauses\n"),
+        (b"p('it''s'). p([]). p('A b'). ?- p(X).", "3 clauses\n"),
+        (b"p :- q, !.", "error: line 1: not pure\n"),
+        (
+            b"?- X = 9223372036854775808.",
+            "error: line 1: number too wide\n",
+        ),
+        (b"?- X = -9223372036854775808.", "0 clauses\n"),
+        (b"X = Y. ?- true.", "error: line 1: redefines =/2\n"),
+        (b"?- true.\n?- fail.", "error: line 2: second query\n"),
+        (b"\xff", "error: line 1: not text\n"),
+        (b"?- X=-1.", "error: line 1: syntax\n"),
+        (b"?- X = 1 ; X = 2.", "error: line 1: not pure\n"),
+        (b"?- X = f(- +).", "error: line 1: syntax\n"),
+        (b":- p.", "error: line 1: not pure\n"),
+        (b"- :- true. ?- true.", "1 clauses\n"),
+        (b"?- X = [a|b|c].", "error: line 1: syntax\n"),
+        (b"?- X = (a = b).", "0 clauses\n"),
+        (b"?- X = a = b.", "error: line 1: syntax\n"),
+        (b"?- q(X). p :- r.", "error: line 1: unknown q/1\n"),
+        (b"?- X = -.", "error: line 1: syntax\n"),
+        (b"?- X = - .", "0 clauses\n"),
+    ];
+    for (text, expected) in pairs {
+        let line = told(rt.alloc(), text)?;
+        assert_eq!(rt; line.as_str(), expected);
+    }
     Ok(())
 }

@@ -1,5 +1,5 @@
 -- From what the search found to what the top call says of it.
-use Rattle.std.proofs.Common.{◌≡◌, ◌≢◌, ◌<◌, ◌↔◌, Bool, true, false, List, [], ◌∷◌, ◌++◌, length, length-append, refl, sym, ap, ◌∙◌, subst, arith, Option, Some, None, MatchOption, if◌then◌else◌, IsTrue}
+use Rattle.std.proofs.Common.{ℕ, zero, suc, take, ◌≡◌, ◌≢◌, ◌<◌, ◌↔◌, Bool, true, false, List, [], ◌∷◌, ◌++◌, length, length-append, refl, sym, ap, ◌∙◌, subst, arith, Option, Some, None, is_none, IfSome, MatchOption, if◌then◌else◌, IsTrue}
 use Rattle.and_io.specs.Flow.{Gains}
 use Rattle.and_io.specs.ReadAll.{ReadsUpTo}
 use Rattle.and_io.specs.declared.reading.ReadAll.{ReadAll}
@@ -8,14 +8,17 @@ use Rattle.and_model.specs.Lines.{Bytes}
 use Rattle.and_model.specs.Programs.{Program}
 use Rattle.and_model.specs.Listing.{Entry, Listing}
 use Rattle.and_model.specs.Output.{lines_of, last_lines, complete, limit_met, OverLeft}
-use Rattle.and_reader.specs.Numbering.{Reads}
-use Rattle.andorra.specs.declared.search.Found.{Found}
-use Rattle.andorra.specs.declared.search.Outgrown.{Outgrown}
+use Rattle.and_texts.specs.Tokens.{newlines}
+use Rattle.and_texts.specs.Refusals.{Reads, IsRefused, Refusal, at, too_big}
+use Rattle.and_written.specs.Tables.{source}
+use Rattle.and_engine.specs.declared.search.Found.{Found}
+use Rattle.and_engine.specs.declared.search.Outgrown.{Outgrown}
 use Rattle.andorra.specs.declared.top.Status.{Status}
 use Rattle.andorra.specs.declared.top.Status.TheVariants.{Answers, NoAnswer, Usage, Refused, ReadFault, WriteFault, Limit, Memory, Floundered}
-use Rattle.andorra.specs.Searching.{NoneOver, IsFound}
-use Rattle.andorra.specs.Top.{limit, FindsAll, IsNoText, WasAnswered, IsLast, Answered, Responds, GainsPrefix, Due, answers, no_text, refusal, Told}
-use Rattle.andorra.proofs.Exhausting.{none_over_exhausts}
+use Rattle.and_engine.specs.Searching.{NoneOver, IsFound}
+use Rattle.and_reader.specs.RefusalLine.{refusal_line}
+use Rattle.andorra.specs.Top.{limit, FindsAll, IsRefusedBy, WasAnswered, IsLast, Answered, Responds, GainsPrefix, Due, answers, refused, Told}
+use Rattle.and_engine.proofs.Exhausting.{none_over_exhausts}
 
 not_empty_or : (ls : List Entry) → ((ls ≢ []) → ⊥) → ls ≡ []
 not_empty_or [] h = refl
@@ -48,7 +51,7 @@ module _ (old new : Option Bytes) (bytes out : Bytes) where
   is_due Answers w = answers w.0 complete out w.2 w.3
   is_due NoAnswer w = answers w.0 complete out w.2 w.3
   is_due Usage w = elim w [ ]
-  is_due Refused w = subst (λ o. Due bytes o) (sym w.1) (no_text w.0)
+  is_due Refused w = refused out w
   is_due ReadFault w = elim w [ ]
   is_due WriteFault w = elim w [ ]
   is_due Limit w = answers w.0 limit_met out w.3 w.4
@@ -60,7 +63,7 @@ module _ (old new : Option Bytes) (bytes out : Bytes) where
   was_written Answers w g = ((out, w, g), λ e. cc)
   was_written NoAnswer w g = ((out, w, g), λ e. cc)
   was_written Usage w g = elim w [ ]
-  was_written Refused w g = ((w.0, subst (λ o. Gains old new o) w.1 g), λ e. cc)
+  was_written Refused w g = ((out, w, g), λ e. cc)
   was_written ReadFault w g = elim w [ ]
   was_written WriteFault w g = elim w [ ]
   was_written Limit w g = ((out, w, g), λ e. cc)
@@ -80,27 +83,54 @@ module _ (old new : Option Bytes) (bytes out : Bytes) where
   responded status Memory w ok bad = let k = ok (λ e. cc) in was_written Memory (subst (λ s. WasAnswered s bytes out) (sym k.0) w) k.1
   responded status Floundered w ok bad = let k = ok (λ e. cc) in was_written Floundered (subst (λ s. WasAnswered s bytes out) (sym k.0) w) k.1
 
--- no text is larger than the largest
-pub too_large : (bytes : Bytes) → 1048576 < length bytes → IsNoText bytes
-too_large bytes h = λ P r. let s = r.1.size in absurd (omega (arith, h, s))
+-- The line of a refusal that is not for want of memory.
+pub refused_by : (o : Option Refusal) (bytes out : Bytes) → IfSome o (IsRefused bytes) → IfSome o (λ r. out ≡ refusal_line r) → is_none o ≡ false → IsRefusedBy bytes out
+refused_by None bytes out a b e = absurd cc
+refused_by (Some r) bytes out a b e = (r, a, b)
+
+-- Of a text that is larger than the largest, the first bytes beyond that tell as much as the whole.
+module _ (bytes text rest : Bytes) (joined : bytes ≡ text ++ rest) (large : 1048576 < length text) where
+  taken : (n : ℕ) (xs ys : Bytes) → n < length xs → take n (xs ++ ys) ≡ take n xs
+  taken zero xs ys h = refl
+  taken (suc n) [] ys h = absurd (omega arith)
+  taken (suc n) (x ∷ xs) ys h = ap (λ zs. x ∷ zs) (taken n xs ys (omega arith))
+
+  same_refusal : (r : Refusal) → IsRefused text r → r ≡ at bytes 1048576 (too_big source)
+  same_refusal r (IsRefused.too_long h) = ap (λ zs. record { cause = too_big source; line = suc (newlines zs) }) (sym (taken 1048576 text rest large) ∙ ap (take 1048576) (sym joined))
+  same_refusal r (IsRefused.at_word ws p a c h x y z) = absurd (omega (arith, h))
+  same_refusal r (IsRefused.at_clause ws us a T s f h x y z u) = absurd (omega (arith, h))
+  same_refusal r (IsRefused.at_token ws f h x y) = absurd (omega (arith, h))
+  same_refusal r (IsRefused.unended ws h x y z) = absurd (omega (arith, h))
+  same_refusal r (IsRefused.without_query ws T h x y z) = absurd (omega (arith, h))
+  same_refusal r (IsRefused.with_unknown ws T a u h x y z v) = absurd (omega (arith, h))
+
+  too_long : 1048576 < length bytes
+  too_long = omega (arith, large, ap length joined, length-append text rest)
+
+  same_line : (line : Bytes) → IsRefusedBy text line → IsRefusedBy bytes line
+  same_line line (r, is, said) = (at bytes 1048576 (too_big source), IsRefused.too_long too_long, said ∙ ap refusal_line (same_refusal r is))
+
+  no_program : (P : Program) → Reads text P → ⊥
+  no_program P r = let s = r.size in omega (arith, large, s)
+
+  same_due : (due : Bytes) → Due text due → Due bytes due
+  same_due due (answers P finish out r o) = absurd (no_program P r)
+  same_due due (refused line h) = refused line (same_line line h)
+
+  pub same_answer : (old new : Option Bytes) (status : Status) → Answered old new status text → Answered old new status bytes
+  same_answer old new Answers a = absurd (no_program a.1.0 a.1.2)
+  same_answer old new NoAnswer a = absurd (no_program a.1.0 a.1.2)
+  same_answer old new Usage a = a
+  same_answer old new Refused (line, h, g) = (line, same_line line h, g)
+  same_answer old new ReadFault a = a
+  same_answer old new WriteFault (due, d, g) = (due, same_due due d, g)
+  same_answer old new Limit a = absurd (no_program a.1.0 a.1.3)
+  same_answer old new Memory a = a
+  same_answer old new Floundered a = a
 
 module _ (old new : Option Bytes) where
   -- what was read is what was left, or more than the largest text
   pub told : (left rest : Option Bytes) (read : ReadAll) (status : Status) → ReadsUpTo 1048576 left rest read → Responds old new status read → Told left (Answered old new status)
   told None rest read status r a = tt
   told (Some bytes) rest (Whole text) status r a = let same : bytes ≡ text = r.1 in subst (λ b. Answered old new status b) (sym same) a.0
-  told (Some bytes) rest (Over text) status r a = over status a
-    where
-      large : 1048576 < length bytes
-      large = let e = r.0.2 in let n = r.1 in omega (arith, ap length e, length-append text r.0.0)
-
-      over : (s : Status) → Responds old new s (Over text) → Answered old new s bytes
-      over Refused g = (too_large bytes large, g)
-      over WriteFault g = (refusal, no_text (too_large bytes large), g)
-      over Answers g = elim g [ ]
-      over NoAnswer g = elim g [ ]
-      over Usage g = elim g [ ]
-      over ReadFault g = elim g [ ]
-      over Limit g = elim g [ ]
-      over Memory g = elim g [ ]
-      over Floundered g = elim g [ ]
+  told (Some bytes) rest (Over text) status r a = same_answer bytes text r.0.0 r.0.2 (omega (arith, r.1)) old new status a.0

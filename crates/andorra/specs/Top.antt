@@ -5,11 +5,12 @@ use Rattle.and_model.specs.Lines.{Bytes}
 use Rattle.and_model.specs.Programs.{Program}
 use Rattle.and_model.specs.Listing.{Entry, Listing, Exhausted}
 use Rattle.and_model.specs.Output.{Finish, limit_met, complete, last_lines, Output, OverLeft}
-use Rattle.and_reader.specs.Numbering.{Reads}
-use Rattle.andorra.specs.Searching.{NoneOver}
+use Rattle.and_texts.specs.Refusals.{Reads, Refusal, IsRefused}
+use Rattle.and_reader.specs.RefusalLine.{refusal_line}
+use Rattle.and_engine.specs.Searching.{NoneOver}
 use Rattle.and_io.specs.declared.reading.ReadAll.{ReadAll}
 use Rattle.and_io.specs.declared.reading.ReadAll.TheVariants.{Whole, Over}
-use Rattle.andorra.specs.declared.search.Found.{Found}
+use Rattle.and_engine.specs.declared.search.Found.{Found}
 use Rattle.andorra.specs.declared.top.Status.{Status}
 use Rattle.andorra.specs.declared.top.Status.TheVariants.{Answers, NoAnswer, Usage, Refused, ReadFault, WriteFault, Limit, Memory, Floundered}
 
@@ -35,20 +36,17 @@ FindsAll lines bytes out =
 abbrev pub FindsSome : Bytes → Bytes → Type 0
 FindsSome bytes out = (P : Program) × (cs : List ℕ) × (c : ℕ) × Reads bytes P × Output P limit limit_met out × OverLeft P limit cs c
 
--- the bytes are no program's text
-abbrev pub IsNoText : Bytes → Type 0
-IsNoText bytes = (P : Program) → Reads bytes P → ⊥
+-- the text is refused, and the line says why
+abbrev pub IsRefusedBy : Bytes → Bytes → Type 0
+IsRefusedBy bytes line = (r : Refusal) × IsRefused bytes r × (line ≡ refusal_line r)
 
 abbrev pub usage : Bytes
 usage = codes "usage: andorra run" ++ 10 ∷ []
 
-abbrev pub refusal : Bytes
-refusal = codes "error: text" ++ 10 ∷ []
-
 -- what a text is to be answered with
 pub data Due (bytes : Bytes) : Bytes → Type 0 where
   answers : (P : Program) (finish : Finish) (out : Bytes) → Reads bytes P → Output P limit finish out → Due bytes out
-  no_text : IsNoText bytes → Due bytes refusal
+  refused : (line : Bytes) → IsRefusedBy bytes line → Due bytes line
 
 -- a prefix of what was due was gained
 abbrev pub GainsPrefix : Option Bytes → Option Bytes → Bytes → Type 0
@@ -62,7 +60,7 @@ abbrev pub Answered : Option Bytes → Option Bytes → Status → Bytes → Typ
 Answered old new Answers bytes = (out : Bytes) × FindsAll (λ ls. ls ≢ []) bytes out × Gains old new out
 Answered old new NoAnswer bytes = (out : Bytes) × FindsAll (λ ls. ls ≡ []) bytes out × Gains old new out
 Answered old new Usage bytes = ⊥
-Answered old new Refused bytes = IsNoText bytes × Gains old new refusal
+Answered old new Refused bytes = (line : Bytes) × IsRefusedBy bytes line × Gains old new line
 Answered old new ReadFault bytes = new ≡ old
 Answered old new WriteFault bytes = FailsWriting old new bytes
 Answered old new Limit bytes = (out : Bytes) × FindsSome bytes out × Gains old new out
@@ -73,16 +71,17 @@ Answered old new Floundered bytes = ⊥
 abbrev pub WasAnswered : Status → Bytes → Bytes → Type 0
 WasAnswered Answers bytes out = FindsAll (λ ls. ls ≢ []) bytes out
 WasAnswered NoAnswer bytes out = FindsAll (λ ls. ls ≡ []) bytes out
-WasAnswered Refused bytes out = IsNoText bytes × (out ≡ refusal)
+WasAnswered Refused bytes out = IsRefusedBy bytes out
 WasAnswered Limit bytes out = FindsSome bytes out
 WasAnswered _ bytes out = ⊥
 
--- the same, of what was read
+-- what was read: the whole text, or more of it than a text may have
+abbrev pub bytes_read : ReadAll → Bytes
+bytes_read (Whole text) = text
+bytes_read (Over text) = text
+
 abbrev pub Responds : Option Bytes → Option Bytes → Status → ReadAll → Type 0
-Responds old new status (Whole text) = Answered old new status text × (status ≢ ReadFault)
-Responds old new Refused (Over text) = Gains old new refusal
-Responds old new WriteFault (Over text) = GainsPrefix old new refusal
-Responds old new _ (Over text) = ⊥
+Responds old new status read = Answered old new status (bytes_read read) × (status ≢ ReadFault)
 
 -- the lines with the last one, and the status that goes with it
 abbrev pub IsLast : Found → Status → Bytes → Type 0

@@ -1,19 +1,9 @@
 //! Andorra-I for pure Prolog: `andorra run` reads a program from standard input and writes its answers.
 #![tactic(auto)]
 
-mod bindings;
-mod engine;
-mod placed;
-mod printing;
-mod printing_names;
-mod printing_terms;
-mod printing_variables;
-mod rows;
-mod search;
 #[cfg(test)]
 mod tests;
 mod top;
-mod unifying;
 
 use and_io::{Quiet, StdSink, StdSource};
 use std::alloc::Global;

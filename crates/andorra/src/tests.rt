@@ -65,7 +65,7 @@ fn facts(rt: HostRuntime) -> Result<(), Fail> {
             &rt,
             rt.alloc(),
             b"p(a) ?- p(X).",
-            b"error: text\n",
+            b"error: line 1: syntax\n",
             Status::Refused
         )?
     );
@@ -111,6 +111,99 @@ fn names_along_the_line(rt: HostRuntime) -> Result<(), Fail> {
     let text = b"p(f(A,B),B,A). ?- p(X,Y,_Z).";
     let lines = b"X = f(_0,_1), Y = _1\n% complete\n";
     assert!(rt; gives(&rt, rt.alloc(), text, lines, Status::Answers)?);
+    Ok(())
+}
+
+/// Texts with what is written for them, and the status.
+type Row = (&'static [u8], &'static [u8], Status);
+
+fn all_give<R: Threads + Wait + Sync>(
+    rt: &R,
+    alloc: Global,
+    rows: &[Row],
+) -> Result<bool, AllocError> {
+    for (text, written, status) in rows {
+        if !gives(rt, alloc, text, written, *status)? {
+            return Ok(false);
+        }
+    }
+    Ok(true)
+}
+
+#[test]
+fn lists_and_operators(rt: HostRuntime) -> Result<(), Fail> {
+    let rows: [Row; 7] = [
+        (
+            b"app([],L,L). app([H|T],L,[H|R]) :- app(T,L,R). ?- app(X,Y,[1,2]).",
+            b"X = [], Y = [1,2]\nX = [1], Y = [2]\nX = [1,2], Y = []\n% complete\n",
+            Status::Answers,
+        ),
+        (b"?- true.", b"true\n% complete\n", Status::Answers),
+        (b"?- X = f(X).", b"% complete\n", Status::NoAnswer),
+        (
+            b"?- X = f(A,B), Y = B.",
+            b"X = f(_0,_1), A = _0, B = _1, Y = _1\n% complete\n",
+            Status::Answers,
+        ),
+        (
+            b"?- X = [1,2|T].",
+            b"X = [1,2|_0], T = _0\n% complete\n",
+            Status::Answers,
+        ),
+        (
+            b"?- X = 1-2-3, Y = 2+3*4, Z = - (1).",
+            b"X = -(-(1,2),3), Y = +(2,*(3,4)), Z = -(1)\n% complete\n",
+            Status::Answers,
+        ),
+        (
+            b"p('it''s'). p([]). p('A b'). ?- p(X).",
+            b"X = 'it\\'s'\nX = []\nX = 'A b'\n% complete\n",
+            Status::Answers,
+        ),
+    ];
+    assert!(rt; all_give(&rt, rt.alloc(), &rows)?);
+    Ok(())
+}
+
+#[test]
+fn refusals(rt: HostRuntime) -> Result<(), Fail> {
+    let rows: [Row; 10] = [
+        (
+            b"p(X) :- q(X). ?- p(1).",
+            b"error: line 1: unknown q/1\n",
+            Status::Refused,
+        ),
+        (b"", b"error: line 1: no query\n", Status::Refused),
+        (
+            b"p(a).\n?- p(X)",
+            b"error: line 2: syntax\n",
+            Status::Refused,
+        ),
+        (b"p :- q, !.", b"error: line 1: not pure\n", Status::Refused),
+        (
+            b"?- X = 9223372036854775808.",
+            b"error: line 1: number too wide\n",
+            Status::Refused,
+        ),
+        (
+            b"X = Y. ?- true.",
+            b"error: line 1: redefines =/2\n",
+            Status::Refused,
+        ),
+        (
+            b"?- true.\n?- fail.",
+            b"error: line 2: second query\n",
+            Status::Refused,
+        ),
+        (b"\xff", b"error: line 1: not text\n", Status::Refused),
+        (b"?- X=-1.", b"error: line 1: syntax\n", Status::Refused),
+        (
+            b"?- X = 1 ; X = 2.",
+            b"error: line 1: not pure\n",
+            Status::Refused,
+        ),
+    ];
+    assert!(rt; all_give(&rt, rt.alloc(), &rows)?);
     Ok(())
 }
 

@@ -2,13 +2,12 @@
 
 ghost use Rattle.std.specs.Prelude.{◌≡◌, ◌≢◌, ◌⊎◌, ◌≤◌, ◌<◌, ℕ, List, [], map, Some, length, IfOk, IsTrue, ◌↔◌, string_bytes};
 ghost use Rattle.and_io.specs.Flow.{Rose, Stays, Gains, AreAll};
-ghost use Rattle.andorra.specs.Top.{Answered, GainsPrefix, IsRun, Told, WasAnswered, Responds, IsLast, usage};
+ghost use Rattle.andorra.specs.Top.{Answered, GainsPrefix, IsRun, Told, WasAnswered, Responds, IsLast, bytes_read, usage};
 
-use crate::engine::find_all;
-use crate::search::Found;
+use and_engine::{Found, find_all};
 use and_io::{Gate, ReadAll, ReadStop, Sink, Source, read_all, write_all_counted};
 use and_model::Text;
-use and_reader::{ReadRefusal, read_program};
+use and_reader::{read_program, refusal_text};
 use std::alloc::{AllocError, Global};
 use std::sync::Wait;
 use std::thread::Threads;
@@ -43,8 +42,6 @@ pub const LIMIT: u32 = 262_144;
 const LARGEST_TEXT: usize = 1_048_576;
 
 const USAGE: &[u8] = b"usage: andorra run\n";
-
-const REFUSAL: &[u8] = b"error: text\n";
 
 fn is_run(words: &[String]) -> bool
     ensures { IsTrue result ↔ IsRun (map string_bytes words.now) }
@@ -105,11 +102,25 @@ fn answer_to(alloc: Global, text: &[u8]) -> Result<Reply, AllocError>
                 status,
             })
         }
-        Err(ReadRefusal::Text) => Ok(Reply {
-            text: Text::of(alloc, REFUSAL)?,
-            status: Status::Refused,
-        }),
-        Err(ReadRefusal::Memory) => Err(AllocError),
+        Err(refusal) => {
+            if refusal.is_memory() {
+                return Err(AllocError);
+            }
+            Ok(Reply {
+                text: refusal_text(alloc, &refusal)?,
+                status: Status::Refused,
+            })
+        }
+    }
+}
+
+/// What was read.
+fn text_of(read: &ReadAll) -> &Text
+    ensures { result.now ≡ bytes_read read.now }
+{
+    match read {
+        ReadAll::Whole(text) => text,
+        ReadAll::Over(text) => text,
     }
 }
 
@@ -119,12 +130,9 @@ fn respond<K: Sink>(alloc: Global, sink: &mut K, read: &ReadAll) -> Status
     ensures fault { result ≡ Status.WriteFault → Rose K.last (K.faults sink.old) (K.faults sink.new) }
     ensures count { K.faults sink.old ≤ K.faults sink.new }
 {
-    match read {
-        ReadAll::Over(_) => finish(sink, REFUSAL, Status::Refused),
-        ReadAll::Whole(text) => match answer_to(alloc, text.bytes()) {
-            Ok(reply) => finish(sink, reply.text.bytes(), reply.status),
-            Err(AllocError) => Status::Memory,
-        },
+    match answer_to(alloc, text_of(read).bytes()) {
+        Ok(reply) => finish(sink, reply.text.bytes(), reply.status),
+        Err(AllocError) => Status::Memory,
     }
 }
 

@@ -1,0 +1,130 @@
+-- What the machine makes of a word.
+use Rattle.std.proofs.Common.{suc, ◌+◌, ◌≡◌, Bool, true, false, cond, leb, List, [], ◌∷◌, length, refl, ap, ◌∙◌, Option, Some, None, Result, Ok, Err}
+use Rattle.std.specs.Prelude.{codes, ◌&&◌}
+use Rattle.std.specs.Str.{bytes_eq}
+use Rattle.std.proofs.lemmas.Bool.{lt-leb}
+use Rattle.and_model.specs.Lines.{Bytes}
+use Rattle.and_written.specs.Written.{Written}
+use Rattle.and_written.specs.Tables
+use Rattle.and_texts.specs.Words
+use Rattle.and_texts.specs.Words.{is_one_of, products, sums}
+use Rattle.and_texts.specs.Refusals
+use Rattle.and_texts.specs.Refusals.{limit_of}
+use Rattle.and_texts.specs.Grammar.{nil}
+use Rattle.and_parsing.specs.Machine
+use Rattle.and_parsing.specs.Machine.{Outermost, State, start, inside, opened_list, operand, wanted, in_part, nothing_pending, begins_query, closes_list, go, exceeds, step, take_operand, take_operator, operator_exceeds, comma_exceeds, depth, role}
+use Rattle.and_reader.specs.declared.state.Next.{Next}
+use Rattle.and_reader.specs.declared.state.Next.TheVariants as next
+use Rattle.and_reader.specs.declared.state.Parser.{Parser}
+use Rattle.and_reader.specs.declared.refusal.Cause.{Cause}
+use Rattle.and_reader.specs.declared.refusal.Cause.TheVariants as causes
+use Rattle.and_reader.specs.declared.parser.First.TheVariants as firsts
+use Rattle.and_reader.specs.Standing.{IsDirective, Answers, IsNarrow}
+use Rattle.and_reader.specs.Answered.{Answered, TakesComma, takes_bar, first_of, is_functor_bracket}
+
+kept : (s : State) (x : Words.Word) (r : Option State) → exceeds s x ≡ false → go s x ≡ r → step true s x ≡ r
+kept s x r within e = ap (λ (b : Bool). cond (true && b) None (go s x)) within ∙ e
+
+-- an answer piece by piece is one of the whole machine
+pub answers : (s : State) (x : Words.Word) (r : Result Next Cause) (P : Parser) → (IsDirective s x → ⊥) → Answered (go s x) (exceeds s x) x r P → Answers s x r P
+answers s x (Ok next.Inside) P d h = (h.0, kept s x (Some h.0) h.2 h.1, h.3, h.4)
+answers s x (Ok next.Clause) P d h = (h.0, kept s x (Some (Machine.over false h.0)) h.2 h.1, h.3)
+answers s x (Ok next.Query) P d h = (h.0, kept s x (Some (Machine.over true h.0)) h.2 h.1, h.3, h.4)
+answers s x (Err causes.Syntax) P d h = (d, h)
+answers s x (Err causes.NotText) P d h = h
+answers s x (Err causes.TooWide) P d h = h
+answers s x (Err (causes.TooBig what)) P d h = h
+answers s x (Err causes.NotPure) P d h = absurd h
+answers s x (Err (causes.Redefines c n)) P d h = h
+answers s x (Err (causes.Unknown c n)) P d h = h
+answers s x (Err causes.NoQuery) P d h = h
+answers s x (Err causes.SecondQuery) P d h = h
+answers s x (Err causes.Memory) P d h = tt
+
+-- only the start is before a directive
+pub inside_no_directive : (l : Outermost) (fs : List Machine.Frame) (p : Machine.Pending) (m : Machine.Mode) (x : Words.Word) → IsDirective (inside l fs p m) x → ⊥
+inside_no_directive l fs p m x d = let e : inside l fs p m ≡ start = d.0 in cc
+
+pub opened_no_directive : (l : Outermost) (fs : List Machine.Frame) (p : Machine.Pending) (x : Words.Word) → IsDirective (opened_list l fs p) x → ⊥
+opened_no_directive l fs p x d = let e : opened_list l fs p ≡ start = d.0 in cc
+
+-- a bracket right behind a name
+pub functor_step : (l : Outermost) (fs : List Machine.Frame) (p : Machine.Pending) (w : Written) (c : Bytes) (x : Words.Word) → is_functor_bracket x ≡ true
+    → take_operator l fs p w (Some c) x ≡ Some (inside l (record { bracket = Machine.arguments c; before = []; outside = p } ∷ fs) nothing_pending wanted)
+functor_step l fs p w c (Words.open_bracket true) e = refl
+functor_step l fs p w c (Words.open_bracket false) e = absurd cc
+functor_step l fs p w c x e = absurd cc
+
+pub functor_exceeds : (fs : List Machine.Frame) (p : Machine.Pending) (x : Words.Word) → is_functor_bracket x ≡ true → operator_exceeds fs p x ≡ leb 256 (p.minuses + depth fs)
+functor_exceeds fs p (Words.open_bracket b) e = refl
+functor_exceeds fs p x e = absurd cc
+
+pub functor_limit : (x : Words.Word) → is_functor_bracket x ≡ true → Refusals.too_big Tables.nesting ≡ limit_of x
+functor_limit (Words.open_bracket b) e = refl
+functor_limit x e = absurd cc
+
+-- any other word
+pub other_step : (l : Outermost) (fs : List Machine.Frame) (p : Machine.Pending) (w : Written) (c : Bytes) (x : Words.Word) → is_functor_bracket x ≡ false
+    → take_operator l fs p w None x ≡ take_operator l fs p w (Some c) x
+other_step l fs p w c (Words.open_bracket true) e = absurd cc
+other_step l fs p w c (Words.open_bracket false) e = refl
+other_step l fs p w c x e = refl
+
+-- a list that closes at once
+pub closing_step : (l : Outermost) (fs : List Machine.Frame) (p : Machine.Pending) (x : Words.Word) → closes_list x ≡ true → step true (opened_list l fs p) x ≡ Some (inside l fs p (operand nil None))
+closing_step l fs p Words.close_list e = refl
+closing_step l fs p x e = absurd cc
+
+-- the first word of a clause
+query_in : (b d : Bool) → firsts.Query ≡ cond b firsts.Query (cond d firsts.Directive firsts.Other) → b ≡ true
+query_in true d e = refl
+query_in false true e = absurd cc
+query_in false false e = absurd cc
+
+other_in : (b d : Bool) → firsts.Other ≡ cond b firsts.Query (cond d firsts.Directive firsts.Other) → b ≡ false
+other_in true d e = absurd cc
+other_in false d e = refl
+
+pub query_step : (x : Words.Word) → firsts.Query ≡ first_of x → step true start x ≡ Some (in_part Machine.query)
+query_step (Words.name c) e =
+    ap (λ (b : Bool). cond b (Some (in_part Machine.query)) (take_operand (record { part = Machine.head; before = [] }) [] nothing_pending (Words.name c)))
+    (query_in (bytes_eq c (codes "?-")) (bytes_eq c (codes ":-")) e)
+query_step x e = absurd cc
+
+pub other_first : (x : Words.Word) → firsts.Other ≡ first_of x → begins_query x ≡ false
+other_first (Words.name c) e = other_in (bytes_eq c (codes "?-")) (bytes_eq c (codes ":-")) e
+other_first x e = refl
+
+pub other_no_directive : (x : Words.Word) → firsts.Other ≡ first_of x → IsDirective start x → ⊥
+other_no_directive x e d = let f : firsts.Other ≡ firsts.Directive = e ∙ ap first_of d.1 in cc
+
+-- roles
+pub product_role : (c : Bytes) → is_one_of products c ≡ true → role c ≡ Machine.is_product
+product_role c e = ap (λ (b : Bool). cond b Machine.is_product (cond (is_one_of sums c) Machine.is_sum (cond (is_one_of Words.relations c) Machine.is_relation (cond (bytes_eq c (codes ":-")) Machine.is_neck Machine.is_none)))) e
+
+pub sum_role : (c : Bytes) → is_one_of products c ≡ false → is_one_of sums c ≡ true → role c ≡ Machine.is_sum
+sum_role c e f =
+    ap (λ (b : Bool). cond b Machine.is_product (cond (is_one_of sums c) Machine.is_sum (cond (is_one_of Words.relations c) Machine.is_relation (cond (bytes_eq c (codes ":-")) Machine.is_neck Machine.is_none)))) e
+    ∙ ap (λ (b : Bool). cond b Machine.is_sum (cond (is_one_of Words.relations c) Machine.is_relation (cond (bytes_eq c (codes ":-")) Machine.is_neck Machine.is_none))) f
+
+-- a comma or a bar in a bracket
+pub comma_step : (l : Outermost) (fs : List Machine.Frame) (b : Machine.Bracket) (before : List Written) (outside : Machine.Pending) (a : Written) → TakesComma b
+    → Machine.take_comma l (record { bracket = b; before = before; outside = outside } ∷ fs) a
+    ≡ Some (inside l (record { bracket = b; before = a ∷ before; outside = outside } ∷ fs) nothing_pending wanted)
+comma_step l fs Machine.plain before outside a h = refl
+comma_step l fs (Machine.arguments c) before outside a h = refl
+comma_step l fs Machine.elements before outside a h = refl
+comma_step l fs Machine.tail before outside a h = absurd h
+
+pub comma_within : (fs : List Machine.Frame) (b : Machine.Bracket) (before : List Written) (outside : Machine.Pending) → IsNarrow b (suc (length before))
+    → comma_exceeds (record { bracket = b; before = before; outside = outside } ∷ fs) ≡ false
+comma_within fs Machine.plain before outside h = refl
+comma_within fs (Machine.arguments c) before outside h = lt-leb 255 (suc (length before)) h
+comma_within fs Machine.elements before outside h = refl
+comma_within fs Machine.tail before outside h = refl
+
+pub bar_bracket : (b : Machine.Bracket) → takes_bar b ≡ true → b ≡ Machine.elements
+bar_bracket Machine.plain e = absurd cc
+bar_bracket (Machine.arguments c) e = absurd cc
+bar_bracket Machine.elements e = refl
+bar_bracket Machine.tail e = absurd cc

@@ -1,7 +1,0 @@
-use Rattle.std.proofs.Common.{◌≡◌, ◌+◌, drop}
-use Rattle.std.specs.List.{prefix_len}
-use Rattle.and_model.specs.Lines.{is_symbol}
-use Rattle.and_reader.proofs.tokens.symbols_len.Given as goal
-
-abbrev pub invariant-loop-index : goal.invariant-loop-index
-invariant-loop-index l = l.index + prefix_len is_symbol (drop l.index l.bytes) ≡ prefix_len is_symbol l.bytes

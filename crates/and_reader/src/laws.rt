@@ -1,0 +1,20 @@
+//! Laws of the definitions of a text's program and its refusal. Each function here does nothing:
+//! its contract is the law.
+
+ghost use Rattle.std.specs.Prelude.{◌≡◌};
+ghost use Rattle.and_model.specs.Lines.{Bytes};
+ghost use Rattle.and_model.specs.Programs.{Program};
+ghost use Rattle.and_texts.specs.Refusals.{Refusal, Reads, IsRefused};
+
+/// One program: a text that reads as two programs reads as one.
+pub fn one_program()
+    ensures { (bytes : Bytes) (p q : Program) → Reads bytes p → Reads bytes q → p ≡ q }
+{}
+
+/// One refusal: a text that reads as a program is not refused, and a refused text has one refusal.
+pub fn one_refusal()
+    ensures read { (bytes : Bytes) (p : Program) (r : Refusal)
+        → Reads bytes p → IsRefused bytes r → ⊥ }
+    ensures refused { (bytes : Bytes) (r s : Refusal)
+        → IsRefused bytes r → IsRefused bytes s → r ≡ s }
+{}

@@ -1,0 +1,230 @@
+//! Texts as programs.
+
+ghost use Rattle.std.specs.Prelude.{◌≡◌, ◌≤◌, ◌<◌, ◌-◌, ◌^◌, ℕ, List, [], length, Some, None};
+ghost use Rattle.std.specs.Prelude.{IsTrue, IfOk, OnOk, IfErr, IfSome};
+ghost use Rattle.and_model.specs.Lines.{Bytes};
+ghost use Rattle.and_texts.specs.Tokens.{line_at, Answer, no_more};
+ghost use Rattle.and_texts.specs.Words.{Placed};
+ghost use Rattle.and_texts.specs.Grammar.{Statement};
+ghost use Rattle.and_texts.specs.Refusals.{Reads, IsRefused, HasWords, statement_fault};
+ghost use Rattle.and_clauses.specs.Drafts.{draft_of};
+ghost use Rattle.and_clauses.specs.Views.{table_of, is_query as asks};
+ghost use Rattle.and_clauses.specs.Loaded.{program_of};
+ghost use Rattle.and_clauses.specs.Faults.{fault_of};
+ghost use Rattle.and_reader.specs.Views.{word_of as word_shown};
+ghost use Rattle.and_reader.specs.Standing.{IsFit};
+ghost use Rattle.and_reader.specs.Causes.{refusal_of};
+ghost use Rattle.and_reader.specs.Reading.{IsRead, IsReadBefore, with_word};
+ghost use Rattle.and_reader.specs.Reading.{IsDraftOf, IsAdded, IsFaultOf};
+
+use crate::lines::{Cursor, line_at};
+use crate::refusal::{Cause, ReadRefusal, fault_refusal, seal_refusal, table_cause};
+use crate::state::{Next, Parser};
+use crate::words::{Word, word_of};
+use and_clauses::{ClauseDraft, ClauseTable, Loaded, TableFault, What};
+use and_lex::Lexer;
+use std::alloc::Global;
+
+/// How many bytes a text may have.
+const MAX_BYTES: usize = 1_048_576;
+
+/// A text that is read word by word.
+#[derive(Drop)]
+struct Reader<'a> {
+    alloc: Global,
+    bytes: &'a [u8],
+    table: ClauseTable,
+    cursor: Cursor,
+    /// The clause that is begun.
+    clause: Option<Begun<'a>>,
+}
+
+/// A clause that is begun, and the line of its first word.
+#[derive(Drop)]
+struct Begun<'a> {
+    line: u32,
+    parser: Parser<'a>,
+}
+
+/// A refusal for want of memory.
+fn memory() -> ReadRefusal
+    ensures { refusal_of result ≡ None }
+{
+    ReadRefusal {
+        line: 1,
+        cause: Cause::Memory,
+    }
+}
+
+/// Puts a whole clause or query into the table.
+fn put(table: &mut ClauseTable, draft: ClauseDraft, is_query: bool) -> Result<(), TableFault>
+    requires whole { length (draft_of draft).finished ≡ 1 }
+    requires query { IsTrue is_query → IsTrue (asks (draft_of draft).finished) }
+    ensures added { (bytes : Bytes) (s : Statement)
+        → IsDraftOf bytes (draft_of draft) is_query s
+        → OnOk result (IsAdded bytes (table_of table.old) s (table_of table.new)) }
+    ensures refused { (bytes : Bytes) (s : Statement)
+        → IsDraftOf bytes (draft_of draft) is_query s
+        → IfErr result (λ e. IfSome (fault_of e)
+        (λ f. statement_fault (table_of table.old) s ≡ Some f)) }
+{
+    if is_query {
+        table.set_query(draft)
+    } else {
+        match table.add_clause(draft) {
+            Ok(_) => Ok(()),
+            Err(fault) => Err(fault),
+        }
+    }
+}
+
+impl<'a> Reader<'a> {
+    /// The refusal of that cause, at that place.
+    fn at(&self, place: usize, cause: Cause) -> ReadRefusal
+        requires { length self.now.bytes.now < 2 ^ 32 - 1 }
+        ensures { result ≡ record { line = line_at self.now.bytes.now place; cause = cause } }
+    {
+        ReadRefusal {
+            line: line_at(self.bytes, place),
+            cause,
+        }
+    }
+
+    /// Moves the clause that is begun out, or begins one at that place.
+    fn begin(&mut self, place: usize) -> Begun<'a>
+        requires read { (bytes : Bytes) × (words : List Placed) × IsRead bytes self.old words }
+        requires before { self.old.cursor.place ≤ place }
+        requires within { place ≤ length self.old.bytes.now }
+        requires few { length self.old.bytes.now < 2 ^ 32 - 1 }
+        ensures begun { (bytes : Bytes) (words : List Placed)
+            → IsRead bytes self.old words → IsReadBefore bytes place self.new result words }
+        ensures moved { self.new.clause ≡ None }
+        ensures cursor { self.new.cursor.place ≤ place }
+    {
+        if let Some(begun) = self.clause.take() {
+            return begun;
+        }
+        let line = self.cursor.go_to(self.bytes, place);
+        Begun {
+            line,
+            parser: Parser::new(self.alloc, line),
+        }
+    }
+
+    /// Puts the clause or query, which is over, into the table.
+    fn finish(&mut self, begun: Begun<'a>, is_query: bool) -> Result<(), ReadRefusal>
+        requires whole { length (draft_of begun.parser.draft).finished ≡ 1 }
+        requires query { IsTrue is_query → IsTrue (asks (draft_of begun.parser.draft).finished) }
+        ensures added { (bytes : Bytes) (s : Statement)
+            → IsDraftOf bytes (draft_of begun.entry.parser.draft) is_query s
+            → OnOk result (IsAdded bytes (table_of self.old.table) s (table_of self.new.table)) }
+        ensures refused { (bytes : Bytes) (s : Statement)
+            → IsDraftOf bytes (draft_of begun.entry.parser.draft) is_query s
+            → begun.entry.line ≡ line_at bytes s.place
+            → IfErr result (λ e. IfSome (refusal_of e)
+            (IsFaultOf bytes (table_of self.old.table) s)) }
+        ensures text { self.new.bytes ≡ self.old.bytes }
+        ensures cursor { self.new.cursor ≡ self.old.cursor }
+        ensures clause { self.new.clause ≡ self.old.clause }
+    {
+        let Begun { line, parser } = begun;
+        match put(&mut self.table, parser.draft, is_query) {
+            Ok(()) => Ok(()),
+            Err(fault) => Err(ReadRefusal {
+                line,
+                cause: table_cause(fault),
+            }),
+        }
+    }
+
+    /// Takes the word at that place.
+    fn take(&mut self, word: Word<'a>, place: usize) -> Result<(), ReadRefusal>
+        requires read { (bytes : Bytes) × (words : List Placed) × IsRead bytes self.old words }
+        requires fits { IsFit (word_shown word) }
+        requires before { self.old.cursor.place ≤ place }
+        requires within { place ≤ length self.old.bytes.now }
+        requires few { length self.old.bytes.now ≤ 1048576 }
+        ensures taken { (bytes : Bytes) (words : List Placed)
+            → IsRead bytes self.old words
+            → OnOk result (IsRead bytes self.new
+            (with_word words (word_shown word.entry) place)) }
+        ensures refused { (bytes : Bytes) (words : List Placed) (next : Answer)
+            → IsRead bytes self.old words
+            → HasWords bytes (with_word words (word_shown word.entry) place) next
+            → IfErr result (λ e. IfSome (refusal_of e) (IsRefused bytes)) }
+        ensures cursor { OnOk result (self.new.cursor.place ≤ place) }
+    {
+        let mut begun = self.begin(place);
+        match begun.parser.take(word) {
+            Ok(Next::Inside) => {
+                self.clause = Some(begun);
+                Ok(())
+            }
+            Ok(Next::Clause) => self.finish(begun, false),
+            Ok(Next::Query) => self.finish(begun, true),
+            Err(cause) => Err(self.at(place, cause)),
+        }
+    }
+
+    /// Reads the text to its end.
+    fn read(&mut self) -> Result<(), ReadRefusal>
+        requires read { (bytes : Bytes) × IsRead bytes self.old [] }
+        requires first { self.old.cursor.place ≡ 0 }
+        requires few { length self.old.bytes.now ≤ 1048576 }
+        ensures read { OnOk result ((words : List Placed)
+            × HasWords self.old.bytes.now words no_more
+            × IsRead self.old.bytes.now self.new words) }
+        ensures refused { IfErr result (λ e. IfSome (refusal_of e)
+            (IsRefused self.old.bytes.now)) }
+    {
+        let bytes = self.bytes;
+        let mut lexer = Lexer::new(bytes);
+        let mut next = lexer.next();
+        'reading: loop {
+            match next {
+                Ok(None) => return Ok(()),
+                Err(fault) => return Err(fault_refusal(bytes, fault)),
+                Ok(Some(token)) => {
+                    let following = lexer.next();
+                    let Ok(word) = word_of(self.alloc, bytes, &token, &following) else {
+                        return Err(memory());
+                    };
+                    self.take(word, token.start)?;
+                    next = following;
+                }
+            }
+        }
+    }
+}
+
+/// Reads a text. It is a program exactly where the text is in the grammar, and then the grammar's;
+/// any other refusal than want of memory is the text's first.
+pub fn read_program(alloc: Global, bytes: &[u8]) -> Result<Loaded, ReadRefusal>
+    ensures program { IfOk result (λ l. Reads bytes.now (program_of l)) }
+    ensures refused { IfErr result (λ e. IfSome (refusal_of e) (IsRefused bytes.now)) }
+{
+    if bytes.len() > MAX_BYTES {
+        return Err(ReadRefusal {
+            line: line_at(bytes, MAX_BYTES),
+            cause: Cause::TooBig(What::Source),
+        });
+    }
+    let Ok(table) = ClauseTable::new(alloc) else {
+        return Err(memory());
+    };
+    let mut reader = Reader {
+        alloc,
+        bytes,
+        table,
+        cursor: Cursor::new(),
+        clause: None,
+    };
+    reader.read()?;
+    if reader.clause.is_some() {
+        return Err(reader.at(bytes.len(), Cause::Syntax));
+    }
+    match reader.table.seal() {
+        Ok(loaded) => Ok(loaded),
+        Err(fault) => Err(seal_refusal(bytes, fault)),
+    }
+}

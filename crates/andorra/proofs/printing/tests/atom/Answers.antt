@@ -1,8 +1,0 @@
-use Rattle.std.proofs.Common.{◌∙◌, ap}
-use Rattle.and_model.specs.Terms.{compound}
-use Rattle.and_model.specs.Views.{terms_of}
-use Rattle.and_model.proofs.TermViews.{term_compound}
-use Rattle.andorra.proofs.printing.tests.atom.Goals as goal
-
-pub returns : goal.returns
-returns c = term_compound (record { 0 = c.args.name }) (record { items = c.new.result }) ∙ ap (λ ts. compound c.args.name (terms_of ts)) c.new.ensures.items
