@@ -1,0 +1,4 @@
+pub mod Valid
+pub mod Coming
+pub mod Worded
+pub mod Judged
