@@ -9,7 +9,7 @@ ghost use Rattle.and_plain.specs.Views.{equation_of, term_of, terms_of};
 use crate::data::{Binding, Equation, Term, Terms};
 use crate::substitution::is_path;
 use crate::taking::take_first;
-use std::alloc::{AllocError, Global};
+use std::alloc::AllocError;
 
 /// What equations come to.
 #[derive(Drop)]
