@@ -53,7 +53,7 @@ same_term P row r t q u (structure node base s all) e (integer pair) = absurd (c
 same_term P row r t q u (integer pair) e (unbound other low is_free) = absurd (cc)
 same_term P row r t q u (integer pair) e (bound other w u' set rest) = absurd (cc)
 same_term P row r t q u (integer pair) e (structure node base s all) = absurd (cc)
-same_term P row r t q u (integer pair) e (integer other) = ap (number_in row) (ap cell_of e)
+same_term P row r t q u (integer pair) e (integer other) = ap (number_in (word_at row)) (ap cell_of e)
 
 pub one_term : (P : NamedProgram) (row : List Ref) (r : Ref) (t u : Term) → StandsFor P row r t → StandsFor P row r u → t ≡ u
 one_term P row r t u one other = same_term P row r t r u one refl other

@@ -13,13 +13,17 @@ use Rattle.and_cells.specs.Numbers.{number_of}
 use Rattle.and_cells.specs.Seen.{word_at, IsSetTo, LeadsTo}
 use Rattle.and_cells.specs.Rows.{plain}
 
+-- what the word at each place is
+abbrev pub Words : Type 0
+Words = ℕ → Ref
+
 -- the cell as a variable
 abbrev pub cell_variable : ℕ → Term
 cell_variable cell = variable [] cell
 
 -- the number that a pair of words holds
-abbrev pub number_in : List Ref → (pair : ℕ) → Term
-number_in row pair = number (number_of (word_at row pair) (word_at row (suc pair)))
+abbrev pub number_in : Words → (pair : ℕ) → Term
+number_in w pair = number (number_of (w pair) (w (suc pair)))
 
 -- StandsFor P row r t: the whole term of a reference, with chains followed and cells replaced by their terms. A half stands for none.
 pub data StandsFor (P : NamedProgram) (row : List Ref) : Ref → Term → Type 0 where
@@ -32,7 +36,7 @@ pub data StandsFor (P : NamedProgram) (row : List Ref) : Ref → Term → Type 0
       → ((v : Path × ℕ) → Contains (variables_of (node_term P.skeleton.nodes node.0)) v → StandsFor P row (Cell (base + 1 + v.1)) (s v.0 v.1))
       → StandsFor P row (Node node base) (apply s (node_term P.skeleton.nodes node.0))
   -- and a number is that of its pair.
-  integer : (pair : ℕ) → StandsFor P row (Number pair) (number_in row pair)
+  integer : (pair : ℕ) → StandsFor P row (Number pair) (number_in (word_at row) pair)
 
 -- The term of the reference holds this cell: chains and nodes lead to it.
 pub data Holds (P : NamedProgram) (row : List Ref) : Ref → (cell : ℕ) → Type 0 where
@@ -54,12 +58,12 @@ pub record IsSettled (P : NamedProgram) (row : List Ref) : Type 0 where
   pub no_half : (place : ℕ) (r : Ref) (cell : ℕ) → IsSetTo row place r → is_half r ≡ false → Holds P row r cell → is_half (word_at row cell) ≡ false
 
 -- the term of a reference with cells as variables: no chain is followed
-abbrev pub shallow_term : NamedProgram → List Ref → Ref → Option Term
-shallow_term P row Free = None
-shallow_term P row (Cell cell) = Some (cell_variable cell)
-shallow_term P row (Node node base) = Some (apply (λ q k. cell_variable (base + 1 + k)) (node_term P.skeleton.nodes node.0))
-shallow_term P row (Number pair) = Some (number_in row pair)
-shallow_term P row (Half bits) = None
+abbrev pub shallow_term : NamedProgram → Words → Ref → Option Term
+shallow_term P w Free = None
+shallow_term P w (Cell cell) = Some (cell_variable cell)
+shallow_term P w (Node node base) = Some (apply (λ q k. cell_variable (base + 1 + k)) (node_term P.skeleton.nodes node.0))
+shallow_term P w (Number pair) = Some (number_in w pair)
+shallow_term P w (Half bits) = None
 
 -- the cells that a reference names, with no chain followed
 abbrev pub shallow_cells : NamedProgram → Ref → List ℕ
@@ -75,12 +79,12 @@ same_terms (Some t) None = falsehood ∷ []
 same_terms (Some t) (Some u) = (t, u) ∷ []
 
 -- Two references are the same term, and none of the cells that they name is a word of a pair, since that has no term.
-abbrev pub equations_between : NamedProgram → List Ref → Ref → Ref → List Equation
-equations_between P row left right =
-    same_terms (shallow_term P row left) (shallow_term P row right)
-    ++ map (λ (cell : ℕ). falsehood) (filter (λ (cell : ℕ). is_half (word_at row cell)) (shallow_cells P left ++ shallow_cells P right))
+abbrev pub equations_between : NamedProgram → Words → Ref → Ref → List Equation
+equations_between P w left right =
+    same_terms (shallow_term P w left) (shallow_term P w right)
+    ++ map (λ (cell : ℕ). falsehood) (filter (λ (cell : ℕ). is_half (w cell)) (shallow_cells P left ++ shallow_cells P right))
 
 -- the equations of a row: each cell that is set, but to no half, is what it is set to
 abbrev pub equations_of : NamedProgram → List Ref → List Equation
 equations_of P row =
-    flat_map (λ (s : Setting). equations_between P row (Cell s.place) s.value) (filter (λ (s : Setting). not (is_half s.value)) (set_in row))
+    flat_map (λ (s : Setting). equations_between P (word_at row) (Cell s.place) s.value) (filter (λ (s : Setting). not (is_half s.value)) (set_in row))

@@ -1,0 +1,10 @@
+pub mod Structures
+pub mod Joining
+pub mod Told
+pub mod Images
+pub mod Between
+pub mod TermsOfRows
+pub mod Circles
+pub mod TermsOfStructures
+pub mod Ending
+pub mod Settling
