@@ -1,0 +1,179 @@
+-- A walk's visits: what keeps when one is made, and the circle that closes at an open place.
+use Rattle.std.proofs.Common.{ℕ, suc, ◌≡◌, ◌≢◌, ◌<◌, ◌≤◌, ◌⊎◌, inl, inr, Bool, List, [], ◌∷◌, ◌++◌, map, length, reverse, Some, refl, ap, sym, subst, ◌∙◌, arith, append_assoc}
+use Rattle.std.specs.Prelude.{Contains, All}
+use Rattle.std.proofs.lemmas.List.{reverse-append, append-nil}
+use Rattle.std.proofs.lemmas.List.Elements.{All-nil, All-cons, All-head, All-tail}
+use Rattle.and_model.specs.declared.reference.Ref.{Ref}
+use Rattle.and_model.specs.declared.reference.Ref.TheVariants.{Free, Cell, Node, Number, Half}
+use Rattle.and_written.specs.Skeletons.{AllFall}
+use Rattle.and_cells.specs.Ranges.{NamedProgram, IsInRange}
+use Rattle.and_cells.specs.Rows.{IsSound}
+use Rattle.and_cells.specs.Meaning.{Holds, IsCircle}
+use Rattle.and_meaning.specs.Ends.{Ends}
+use Rattle.and_circles.specs.Marked.{Listed, Marked}
+use Rattle.and_circles.specs.Explored.{done_in}
+use Rattle.and_circles.specs.Walks.{IsStep, Follows, AreOnPath, left_in, Owes, nearest_cell, Walks}
+use Rattle.and_circles.specs.declared.marks.Mark.{Mark}
+use Rattle.and_circles.specs.declared.marks.Mark.TheVariants.{Open, Done}
+use Rattle.and_circles.specs.declared.walk.Visit.{Visit}
+use Rattle.and_circles.specs.declared.walk.Visit.TheVariants.{Enter, Leave}
+use Rattle.and_circles.proofs.Members.{none_in, first_in, later_in, first_or_later}
+use Rattle.and_circles.proofs.Parts.{height, part_is_lower, step_holds}
+use Rattle.and_circles.proofs.Paths.{Path, arrived, goes, joined, and_step, ring_is_circle}
+
+-- these are entered next, the last one first
+abbrev pub entered : List Ref → List Visit → List Visit
+entered [] visits = visits
+entered (r ∷ rs) visits = entered rs (Enter r ∷ visits)
+
+-- a visit that is pushed is made first
+pub pushed : (before : List Visit) (v : Visit) → reverse (before ++ v ∷ []) ≡ v ∷ reverse before
+pushed before v = reverse-append before (v ∷ [])
+
+-- so visits that enter are made, the last one first
+pushed_all : (before : List Visit) (rs : List Ref) → reverse (before ++ map Enter rs) ≡ entered rs (reverse before)
+pushed_all before [] = ap reverse (append-nil before)
+pushed_all before (r ∷ rs) =
+    ap reverse (sym (append_assoc before (Enter r ∷ []) (map Enter rs))) ∙ pushed_all (before ++ Enter r ∷ []) rs ∙ ap (entered rs) (pushed before (Enter r))
+
+-- so the visits of a list that grew at its end
+pub reverse_opened : (before : List Visit) (at : Ref) (rs : List Ref) → reverse (before ++ Leave at ∷ map Enter rs) ≡ entered rs (Leave at ∷ reverse before)
+reverse_opened before at rs =
+    ap reverse (sym (append_assoc before (Leave at ∷ []) (map Enter rs))) ∙ pushed_all (before ++ Leave at ∷ []) rs ∙ ap (entered rs) (pushed before (Leave at))
+
+module _ (P : NamedProgram) (row : List Ref) (floor : ℕ) (halves : Bool) (root : Ref) where
+  -- what is entered leaves the places to be left as they are
+  left_entered : (rs : List Ref) (visits : List Visit) → left_in (entered rs visits) ≡ left_in visits
+  left_entered [] visits = refl
+  left_entered (r ∷ rs) visits = left_entered rs (Enter r ∷ visits)
+
+  -- what follows may be entered
+  path_entered : (rs : List Ref) (visits : List Visit) → ((r : Ref) → Contains rs r → Follows P row root visits r × IsInRange P (length row) r) → AreOnPath P row root visits → AreOnPath P row root (entered rs visits)
+  path_entered [] visits follow path = path
+  path_entered (r ∷ rs) visits follow path =
+      let first : Follows P row root visits r × IsInRange P (length row) r = follow r (first_in rs r r refl) in
+      path_entered rs (Enter r ∷ visits) (λ q c. follow q (later_in rs r q c)) (first.0, first.1, path)
+
+  -- what is owed once all of these end is owed while they are entered
+  owes_entered : (E : Ref → Type 0) (rs : List Ref) (visits : List Visit) → (((r : Ref) → Contains rs r → E r) → Owes E root visits) → Owes E root (entered rs visits)
+  owes_entered E [] visits owes = owes (λ r c. absurd (none_in r c))
+  owes_entered E (r ∷ rs) visits owes = owes_entered E rs (Enter r ∷ visits)
+      (λ all ends. owes (λ q c. elim (first_or_later rs r q c) [ inl e ↦ subst E e ends | inr later ↦ all q later ]))
+
+  -- what ends need not be entered
+  pub passed : (marks : Listed) (at : Ref) (visits : List Visit) → Walks P row floor halves root marks (Enter at ∷ visits) → Ends P row floor halves at → Walks P row floor halves root marks visits
+  passed marks at visits w ends = record { falls = w.falls; sound = w.sound; done = w.done; opened = w.opened; path = w.path.2; owes = w.owes ends }
+
+  -- a place is opened, and what it leads to is to be entered
+  pub opens : (marks new : Listed) (at : Ref) (visits : List Visit) (rs : List Ref) → Walks P row floor halves root marks (Enter at ∷ visits) → Marked at Open marks new
+      → ((r : Ref) → Contains rs r → IsStep P row at r × IsInRange P (length row) r) → (((r : Ref) → Contains rs r → Ends P row floor halves r) → Ends P row floor halves at)
+      → Walks P row floor halves root new (entered rs (Leave at ∷ visits))
+  opens marks new at visits rs w marked steps ends = record {
+    falls = w.falls;
+    sound = w.sound;
+    done = λ r c. was_done r (marked.only r Done c);
+    opened = λ r c. subst (λ (ls : List Ref). Contains ls r) (sym (left_entered rs (Leave at ∷ visits))) (was_open r (marked.only r Open c));
+    path = path_entered rs (Leave at ∷ visits) steps w.path;
+    owes = owes_entered (Ends P row floor halves) rs (Leave at ∷ visits) (λ all. let e : Ends P row floor halves at = ends all in (e, w.owes e));
+  }
+    where
+      was_done : (r : Ref) → ((r ≡ at) × (Done ≡ Open)) ⊎ ((r ≢ at) × Contains marks (r, Done)) → Ends P row floor halves r
+      was_done r (inl new_one) = let e : Done ≡ Open = new_one.1 in absurd (cc)
+      was_done r (inr old) = w.done r old.1
+
+      was_open : (r : Ref) → ((r ≡ at) × (Open ≡ Open)) ⊎ ((r ≢ at) × Contains marks (r, Open)) → Contains (at ∷ left_in visits) r
+      was_open r (inl new_one) = first_in (left_in visits) at r (sym new_one.0)
+      was_open r (inr old) = later_in (left_in visits) at r (w.opened r old.1)
+
+  -- a place is left, and done
+  pub leaves : (marks new : Listed) (at : Ref) (visits : List Visit) → Walks P row floor halves root marks (Leave at ∷ visits) → Marked at Done marks new → Walks P row floor halves root new visits
+  leaves marks new at visits w marked = record {
+    falls = w.falls;
+    sound = w.sound;
+    done = λ r c. was_done r (marked.only r Done c);
+    opened = λ r c. was_open r (marked.only r Open c);
+    path = w.path.2;
+    owes = w.owes.1;
+  }
+    where
+      was_done : (r : Ref) → ((r ≡ at) × (Done ≡ Done)) ⊎ ((r ≢ at) × Contains marks (r, Done)) → Ends P row floor halves r
+      was_done r (inl new_one) = subst (Ends P row floor halves) (sym new_one.0) w.owes.0
+      was_done r (inr old) = w.done r old.1
+
+      was_open : (r : Ref) → ((r ≡ at) × (Open ≡ Done)) ⊎ ((r ≢ at) × Contains marks (r, Open)) → Contains (left_in visits) r
+      was_open r (inl new_one) = let e : Open ≡ Done = new_one.1 in absurd (cc)
+      was_open r (inr old) = elim (first_or_later (left_in visits) at r (w.opened r old.1)) [ inl same ↦ absurd (old.0 (sym same)) | inr later ↦ later ]
+
+  -- what a visited reference holds, the root holds
+  pub root_holds : AllFall 0 P.skeleton.nodes → (visits : List Visit) (at : Ref) (c : ℕ) → AreOnPath P row root visits → Follows P row root visits at → Holds P row at c → Holds P row root c
+  root_holds fall [] at c path follows holds = subst (λ (r : Ref). Holds P row r c) follows holds
+  root_holds fall (Enter q ∷ visits) at c path follows holds = root_holds fall visits at c path.2 follows holds
+  root_holds fall (Leave q ∷ visits) at c path follows holds = root_holds fall visits q c path.2 path.0 (step_holds P fall row q at c path.1 follows holds)
+
+  -- from each place that is still to be left a step and a path lead to what is visited
+  from_left : (visits : List Visit) (at r : Ref) → AreOnPath P row root visits → Follows P row root visits at → Contains (left_in visits) r → (next : Ref) × IsStep P row r next × Path P row next at
+  from_left [] at r path follows c = absurd (none_in r c)
+  from_left (Enter q ∷ visits) at r path follows c = from_left visits at r path.2 follows c
+  from_left (Leave q ∷ visits) at r path follows c = by_place (from_left visits q r path.2 path.0) (first_or_later (left_in visits) q r c)
+    where
+      by_place : (Contains (left_in visits) r → (next : Ref) × IsStep P row r next × Path P row next q) → (q ≡ r) ⊎ Contains (left_in visits) r → (next : Ref) × IsStep P row r next × Path P row next at
+      by_place again (inl same) = (at, subst (λ (a : Ref). IsStep P row a at) same follows, arrived at)
+      by_place again (inr later) = let w : (next : Ref) × IsStep P row r next × Path P row next q = again later in (w.0, w.1, and_step P row w.0 q at w.2 follows)
+
+  -- The cell that is left first is on a ring.
+  abbrev Ring : List Visit → Type 0
+  Ring visits = (c : ℕ) × (nearest_cell visits ≡ Some c) × (c < length row) × (next : Ref) × IsStep P row (Cell c) next × Path P row next (Cell c)
+
+  -- The last of the cells that are open is on the ring: below it are only structures, whose parts come before them.
+  ring : AllFall 0 P.skeleton.nodes → (visits : List Visit) (at r : Ref) → AreOnPath P row root visits → Follows P row root visits at → Path P row at r → height r ≤ height at → Contains (left_in visits) r → Ring visits
+  ring fall [] at r path follows back higher c = absurd (none_in r c)
+  ring fall (Enter q ∷ visits) at r path follows back higher c = ring fall visits at r path.2 follows back higher c
+  ring fall (Leave Free ∷ visits) at r path follows back higher c = absurd follows
+  ring fall (Leave (Cell cell) ∷ visits) at r path follows back higher c =
+      (cell, refl, path.1, at, follows, joined P row at r (Cell cell) back (to_cell (first_or_later (left_in visits) (Cell cell) r c)))
+    where
+      to_cell : (Cell cell ≡ r) ⊎ Contains (left_in visits) r → Path P row r (Cell cell)
+      to_cell (inl same) = subst (λ (a : Ref). Path P row a (Cell cell)) same (arrived (Cell cell))
+      to_cell (inr later) = let w : (next : Ref) × IsStep P row r next × Path P row next (Cell cell) = from_left visits (Cell cell) r path.2 path.0 later in goes r w.0 (Cell cell) w.1 w.2
+  ring fall (Leave (Node node base) ∷ visits) at r path follows back higher c =
+      let lower : height at < suc node.0 = part_is_lower P fall row node base at path.1.0.there follows in
+      ring fall visits (Node node base) r path.2 path.0 (goes (Node node base) at r follows back) (omega arith)
+      (elim (first_or_later (left_in visits) (Node node base) r c) [ inl same ↦ absurd (omega (arith, ap height same)) | inr later ↦ later ])
+  ring fall (Leave (Number pair) ∷ visits) at r path follows back higher c = absurd follows
+  ring fall (Leave (Half bits) ∷ visits) at r path follows back higher c = absurd follows
+
+  -- where an open place is entered, the cell that was opened last is on a circle
+  pub closes : (marks : Listed) (at : Ref) (visits : List Visit) → Walks P row floor halves root marks (Enter at ∷ visits) → Contains marks (at, Open) → (c : ℕ) × (nearest_cell visits ≡ Some c) × IsCircle P row c
+  closes marks at visits w is_open =
+      let found : Ring visits = ring w.falls visits at at w.path.2 w.path.0 (arrived at) (omega arith) (w.opened at is_open) in
+      (found.0, found.1, ring_is_circle P w.falls row w.sound found.0 found.3 found.2 found.4 found.5)
+
+  -- what is done is among the places that end
+  done_listed : (ms : Listed) (r : Ref) → All (Ends P row floor halves) (done_in ms) → Contains ms (r, Done) → Ends P row floor halves r
+  done_listed [] r ended c = absurd (none_in (r, Done) c)
+  done_listed ((q, Open) ∷ ms) r ended c = elim (first_or_later ms (q, Open) (r, Done) c) [
+    | inl e ↦ let same : Open ≡ Done = ap (λ (p : Ref × Mark). p.1) e in absurd (cc)
+    | inr later ↦ done_listed ms r ended later
+  ]
+  done_listed ((q, Done) ∷ ms) r ended c = elim (first_or_later ms (q, Done) (r, Done) c) [
+    | inl e ↦ subst (Ends P row floor halves) (ap (λ (p : Ref × Mark). p.0) e) (All-head (Ends P row floor halves) q (done_in ms) ended)
+    | inr later ↦ done_listed ms r (All-tail (Ends P row floor halves) q (done_in ms) ended) later
+  ]
+
+  -- where the walk is at rest it may begin
+  pub begins : (marks : Listed) → AllFall 0 P.skeleton.nodes → IsSound P row → All (Ends P row floor halves) (done_in marks) → ((r : Ref) → Contains marks (r, Open) → ⊥) → IsInRange P (length row) root
+      → Walks P row floor halves root marks (Enter root ∷ [])
+  begins marks fall sound all rest fits = record {
+    falls = fall;
+    sound = sound;
+    done = λ r c. done_listed marks r all c;
+    opened = λ r c. absurd (rest r c);
+    path = (refl, fits, tt);
+    owes = λ ends. ends;
+  }
+
+  -- and when all was visited
+  pub ends_all : (marks : Listed) → ((r : Ref) → Contains marks (r, Done) → Ends P row floor halves r) → All (Ends P row floor halves) (done_in marks)
+  ends_all [] ended = All-nil (Ends P row floor halves)
+  ends_all ((r, Open) ∷ ms) ended = ends_all ms (λ q c. ended q (later_in ms (r, Open) (q, Done) c))
+  ends_all ((r, Done) ∷ ms) ended = All-cons (Ends P row floor halves) r (done_in ms) (ended r (first_in ms (r, Done) (r, Done) refl)) (ends_all ms (λ q c. ended q (later_in ms (r, Done) (q, Done) c)))

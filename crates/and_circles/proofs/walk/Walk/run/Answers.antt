@@ -1,0 +1,29 @@
+use Rattle.std.proofs.Common.{◌≡◌, ◌++◌, [], ◌∷◌, refl, sym, ap, ◌∙◌, subst}
+use Rattle.std.specs.Prelude.{List, reverse}
+use Rattle.and_written.specs.Skeletons.{AllFall}
+use Rattle.and_cells.specs.Ranges.{NamedProgram}
+use Rattle.and_circles.specs.Walks.{Walks}
+use Rattle.and_circles.specs.declared.walk.Visit.{Visit}
+use Rattle.and_circles.specs.declared.walk.Visit.TheVariants.{Enter}
+use Rattle.and_circles.proofs.Walking.{begins}
+use Rattle.and_circles.proofs.Opening.{emptied}
+use Rattle.and_circles.proofs.Turning.{at_end}
+use Rattle.and_circles.proofs.walk.Walk.run.Goals as goal
+
+pub loop-visit-init : goal.loop-visit-init
+loop-visit-init g c =
+    let P = g.N.Naming.program in
+    let w = c.args.self.now in
+    let falls = subst (λ (Q : NamedProgram). AllFall 0 Q.skeleton.nodes) (sym c.requires.program) c.skeleton_is_of_the_program.ensures.skeleton.0 in
+    let pushed : c.push.new.self.items ≡ Enter c.args.root ∷ [] = ◌∙◌ {b = c.args.self.now.visits.items ++ Enter c.args.root ∷ []} c.in_ok-push.ensures.items (ap (λ (vs : List Visit). vs ++ Enter c.args.root ∷ []) c.requires.at_rest.1) in
+    record {
+      walking = subst (λ (vs : List Visit). Walks P c.args.cells.now w.floor w.halves c.args.root w.marks (reverse vs)) (sym pushed)
+          (begins P c.args.cells.now w.floor w.halves c.args.root w.marks falls c.len.ensures.sound c.requires.finished c.requires.at_rest.0 c.requires.in_range);
+      stays = (refl, refl);
+    }
+
+pub returns-clause-ends : goal.returns-clause-ends
+returns-clause-ends g c = λ e.
+    let i = c.loop-visit.invariant in
+    let all = at_end g.N.Naming.program c.args.cells.now c.args.root c.args.self.now c.loop-visit.self i.walking i.stays (emptied c.loop-visit.self.visits c.in_default.ensures.cases.0) in
+    (all.0, (all.1, emptied c.pop.new.self c.in_default.ensures.cases.1), all.2)

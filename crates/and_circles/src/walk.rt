@@ -1,0 +1,279 @@
+//! The walk below a reference, over an explicit list of visits.
+
+ghost use Rattle.std.specs.Prelude.{◌≡◌, ◌<◌, ◌^◌, ◌↔◌, ℕ, List, [], ◌∷◌, Some, None, length, reverse, Contains, IsTrue, OnOk, IfOk, Ok};
+ghost use Rattle.and_model.specs.declared.reference.Ref.{Ref};
+ghost use Rattle.and_cells.specs.Ranges.{IsInRange};
+ghost use Rattle.and_cells.specs.Meaning.{IsCircle};
+ghost use Rattle.and_clauses.specs.Loaded.{skeleton_of};
+ghost use Rattle.and_meaning.specs.Parts.{named, parts_of};
+ghost use Rattle.and_meaning.specs.Ends.{Ends, IsBelow};
+ghost use Rattle.and_circles.specs.Marked.{IsUnmarked};
+ghost use Rattle.and_circles.specs.Explored.{AreFinished, finished};
+ghost use Rattle.and_circles.specs.Walks.{nearest_cell, Opens, IsTaking, IsAtRest, Goes, Stays, Answers};
+ghost use Rattle.and_circles.specs.declared.walk.Visit.{Visit};
+ghost use Rattle.and_circles.specs.declared.explorer.Explored.{Explored};
+ghost use Rattle.and_circles.specs.declared.marks.Mark.{Mark};
+
+use crate::explorer::Explored;
+use crate::marks::{Mark, Marks};
+use and_cells::{Naming, PlainCells};
+use and_clauses::{Loaded, Skeleton};
+use and_model::{NodeNo, Ref};
+use std::alloc::{AllocError, Global};
+
+/// What is still to be done.
+#[derive(Clone, Copy, PartialEq, Eq, Debug)]
+pub(crate) enum Visit {
+    /// Look at what lies below the reference.
+    Enter(Ref),
+    /// All below the reference was looked at.
+    Leave(Ref),
+}
+
+impl Visit {
+    /// The cell that is left, if one is.
+    fn left_cell(self) -> Option<u32>
+        ensures some { (cell : ℕ) → result ≡ Some cell → (visits : List Visit) → nearest_cell (self ∷ visits) ≡ Some cell }
+        ensures none { result ≡ None → (visits : List Visit) → nearest_cell (self ∷ visits) ≡ nearest_cell visits }
+    {
+        match self {
+            Visit::Leave(Ref::Cell(cell)) => Some(cell),
+            _ => None,
+        }
+    }
+}
+
+/// How far a row was walked.
+#[derive(Drop)]
+pub(crate) struct Walk {
+    pub(crate) marks: Marks,
+    /// The next visit is the last of them.
+    pub(crate) visits: Vec<Visit>,
+    /// Cells below it are not looked at, and neither are structures in frames that begin below it.
+    pub(crate) floor: u32,
+    /// Whether words of pairs are ends like others.
+    pub(crate) halves: bool,
+}
+
+impl Walk {
+    /// Nothing was walked yet. Takes no memory.
+    pub(crate) fn new(alloc: Global, floor: u32, halves: bool) -> Walk
+        ensures marks { result.marks ≡ [] }
+        ensures visits { result.visits.items ≡ [] }
+        ensures floor { result.floor ≡ floor }
+        ensures halves { result.halves ≡ halves }
+    {
+        Walk {
+            marks: Marks::new(alloc),
+            visits: Vec::new(alloc),
+            floor,
+            halves,
+        }
+    }
+
+    /// Walks all that lies below a reference, up to the first circle or word of a pair.
+    pub(crate) fn run<N: Naming>(
+        &mut self,
+        loaded: &Loaded,
+        cells: &PlainCells<N>,
+        root: Ref,
+    ) -> Result<Explored, AllocError>
+        requires program { N.program ≡ named loaded.now }
+        requires finished { AreFinished N.program cells.now (finished self.old.marks self.old.floor self.old.halves) }
+        requires at_rest { IsAtRest self.old }
+        requires in_range { IsInRange N.program (length cells.now) root }
+        ensures stays { Stays self.old self.new }
+        ensures ends { result ≡ Ok Explored.Ends
+            → AreFinished N.program cells.now (finished self.new.marks self.old.floor self.old.halves)
+            × IsAtRest self.new
+            × Ends N.program cells.now self.old.floor self.old.halves root }
+        ensures answer { Answers N.program cells.now self.old.halves root result }
+    {
+        // Arguments come before their nodes, and the row is sound: the proof needs both.
+        loaded.skeleton_is_of_the_program();
+        cells.len();
+        self.visits.push(Visit::Enter(root))?;
+        while let Some(visit) = self.visits.pop() {
+            let found = self.turn(loaded, cells, visit)?;
+            match found {
+                Explored::Ends => {}
+                Explored::Circle { .. } => return Ok(found),
+                Explored::Half { .. } => return Ok(found),
+            }
+        }
+        Ok(Explored::Ends)
+    }
+
+    /// Forgets all that was walked.
+    pub(crate) fn forget(&mut self)
+        ensures stays { Stays self.old self.new }
+        ensures marks { self.new.marks ≡ [] }
+        ensures visits { self.new.visits.items ≡ [] }
+    {
+        self.marks.clear();
+        self.visits.clear();
+    }
+
+    /// Makes one visit.
+    fn turn<N: Naming>(
+        &mut self,
+        loaded: &Loaded,
+        cells: &PlainCells<N>,
+        visit: Visit,
+    ) -> Result<Explored, AllocError>
+        requires program { N.program ≡ named loaded.now }
+        requires taking { (root : Ref) × IsTaking N.program cells.now root visit self.old }
+        ensures { Goes N.program cells.now visit self.old self.new result }
+    {
+        match visit {
+            Visit::Enter(at) => self.enter(loaded, cells, at),
+            Visit::Leave(at) => {
+                self.marks.set(at, Mark::Done)?;
+                Ok(Explored::Ends)
+            }
+        }
+    }
+
+    /// Enters a reference: what ends is passed, and what is open closes a circle.
+    fn enter<N: Naming>(
+        &mut self,
+        loaded: &Loaded,
+        cells: &PlainCells<N>,
+        at: Ref,
+    ) -> Result<Explored, AllocError>
+        requires program { N.program ≡ named loaded.now }
+        requires taking { (root : Ref) × IsTaking N.program cells.now root (Visit.Enter at) self.old }
+        ensures { Goes N.program cells.now (Visit.Enter at) self.old self.new result }
+    {
+        if self.is_below(at) {
+            return Ok(Explored::Ends);
+        }
+        match self.marks.of(at) {
+            Some(Mark::Done) => Ok(Explored::Ends),
+            Some(Mark::Open) => Ok(self.circle(cells, at)),
+            None => self.enter_new(loaded, cells, at),
+        }
+    }
+
+    /// Whether a reference is below the floor.
+    fn is_below(&self, at: Ref) -> bool
+        ensures { IsTrue result ↔ IsBelow self.now.floor at }
+    {
+        match at {
+            Ref::Free => false,
+            Ref::Cell(cell) => cell < self.floor,
+            Ref::Node { base, .. } => base < self.floor,
+            Ref::Number(_) => false,
+            Ref::Half(_) => false,
+        }
+    }
+
+    /// The circle that closes where a place is entered that is open.
+    fn circle<N: Naming>(&self, cells: &PlainCells<N>, at: Ref) -> Explored
+        requires taking { (root : Ref) × IsTaking N.program cells.now root (Visit.Enter at) self.now }
+        requires open { Contains self.now.marks (at, Mark.Open) }
+        ensures { (cell : ℕ) × (result ≡ Explored.Circle cell) × IsCircle N.program cells.now cell }
+    {
+        match self.nearest_cell() {
+            Some(cell) => Explored::Circle { cell },
+            None => unreachable!(),
+        }
+    }
+
+    /// The cell that was opened last of those that are open.
+    fn nearest_cell(&self) -> Option<u32>
+        ensures { result ≡ nearest_cell (reverse self.now.visits.items) }
+    {
+        for visit in self.visits.iter().rev() {
+            if let Some(cell) = visit.left_cell() {
+                return Some(cell);
+            }
+        }
+        None
+    }
+
+    /// Enters a place that has no mark.
+    fn enter_new<N: Naming>(
+        &mut self,
+        loaded: &Loaded,
+        cells: &PlainCells<N>,
+        at: Ref,
+    ) -> Result<Explored, AllocError>
+        requires program { N.program ≡ named loaded.now }
+        requires taking { (root : Ref) × IsTaking N.program cells.now root (Visit.Enter at) self.old }
+        requires unmarked { IsUnmarked self.old.marks at }
+        ensures { Goes N.program cells.now (Visit.Enter at) self.old self.new result }
+    {
+        match at {
+            Ref::Cell(cell) => self.enter_cell(cells, cell),
+            Ref::Node { node, base } => {
+                self.open_node(loaded, node, base)?;
+                Ok(Explored::Ends)
+            }
+            Ref::Number(_) => Ok(Explored::Ends),
+            Ref::Free => unreachable!(),
+            Ref::Half(_) => unreachable!(),
+        }
+    }
+
+    /// Enters a cell as its word says.
+    fn enter_cell<N: Naming>(
+        &mut self,
+        cells: &PlainCells<N>,
+        cell: u32,
+    ) -> Result<Explored, AllocError>
+        requires taking { (root : Ref) × IsTaking N.program cells.now root (Visit.Enter (Ref.Cell cell)) self.old }
+        requires unmarked { IsUnmarked self.old.marks (Ref.Cell cell) }
+        ensures { Goes N.program cells.now (Visit.Enter (Ref.Cell cell)) self.old self.new result }
+    {
+        let word = cells.word(cell);
+        match word {
+            Ref::Free => Ok(Explored::Ends),
+            Ref::Half(_) if self.halves => Ok(Explored::Ends),
+            Ref::Half(_) => Ok(Explored::Half { cell }),
+            Ref::Cell(_) => self.follow(cell, word),
+            Ref::Node { .. } => self.follow(cell, word),
+            Ref::Number(_) => self.follow(cell, word),
+        }
+    }
+
+    /// Opens a cell, and goes on to its word.
+    fn follow(&mut self, cell: u32, word: Ref) -> Result<Explored, AllocError>
+        ensures opens { IfOk result (λ found. (found ≡ Explored.Ends) × Opens (Ref.Cell cell) (word ∷ []) self.old self.new) }
+        ensures stays { Stays self.old self.new }
+    {
+        self.open(Ref::Cell(cell))?;
+        self.visits.push(Visit::Enter(word))?;
+        Ok(Explored::Ends)
+    }
+
+    /// Opens a structure, and goes on to its parts.
+    fn open_node(&mut self, loaded: &Loaded, node: NodeNo, base: u32) -> Result<(), AllocError>
+        requires there { node.0 < length (skeleton_of loaded.now).nodes }
+        requires base { base < 2 ^ 22 }
+        ensures opens { OnOk result (Opens (Ref.Node node base) (parts_of (named loaded.now) (Ref.Node node base)) self.old self.new) }
+        ensures stays { Stays self.old self.new }
+    {
+        self.open(Ref::Node { node, base })?;
+        let count = match loaded.skeleton(node) {
+            Skeleton::Compound { count, .. } => count,
+            Skeleton::Variable(_) => 0,
+            Skeleton::Number(_) => 0,
+        };
+        for place in 0..count {
+            let part = loaded.resolve(loaded.argument(node, place), base);
+            self.visits.push(Visit::Enter(part))?;
+        }
+        Ok(())
+    }
+
+    /// A place is on the path from now on, until it is left.
+    fn open(&mut self, at: Ref) -> Result<(), AllocError>
+        ensures opens { OnOk result (Opens at [] self.old self.new) }
+        ensures stays { Stays self.old self.new }
+    {
+        self.marks.set(at, Mark::Open)?;
+        self.visits.push(Visit::Leave(at))?;
+        Ok(())
+    }
+}
