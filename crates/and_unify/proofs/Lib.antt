@@ -1,0 +1,23 @@
+mod Trials
+pub mod ClassLinks
+pub mod MeetingHeads
+pub mod MeetingSteps
+pub mod TurnAgree
+pub mod TurnParts
+pub mod TurnClosed
+pub mod TurnSound
+pub mod TurnFollow
+pub mod TurnPlaces
+pub mod TurnKept
+pub mod TurnStands
+pub mod TurnAnswers
+pub mod TurnArguments
+pub mod TurnPicks
+pub mod SettlingEnds
+pub mod SettlingPairs
+pub mod SettlingSame
+pub mod SettlingPlaces
+pub mod SettlingTerms
+pub mod SettlingDone
+pub mod SettlingGiven
+pub mod SettlingTests

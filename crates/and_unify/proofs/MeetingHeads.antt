@@ -1,0 +1,137 @@
+-- What references to numbers and structures begin with, and whether two of them differ.
+use Rattle.std.proofs.Common.{ℕ, suc, ℤ, ◌≡◌, ◌≢◌, ◌⊎◌, Bool, true, false, List, map, take, pos, Option, Some, refl, sym, ap, subst, ◌∙◌, inl, inr, true≢false, eqb, not, rules, tests, [], ◌+◌}
+use Rattle.std.proofs.lemmas.List.{length-map}
+use Rattle.std.proofs.lemmas.Option.{slice_get_within, get_or_from_slice_get}
+use Rattle.std.proofs.lemmas.Bool.{cases_eq}
+use Rattle.std.proofs.lemmas.Bool.Decides.{Decides-int_eq, Decides-eqb}
+use Rattle.and_model.proofs.Tested.{first_true, second_true}
+use Rattle.and_model.specs.Terms.{Term, Terms, Substitution, number, compound, none, more, apply, apply_all}
+use Rattle.and_model.specs.declared.numbers.NameNo.{NameNo}
+use Rattle.and_model.specs.declared.reference.Ref.{Ref}
+use Rattle.and_model.specs.declared.reference.Ref.TheVariants as reference
+use Rattle.and_written.specs.Clauses.{width}
+use Rattle.and_written.specs.Skeletons as skeletons
+use Rattle.and_written.specs.Skeletons.{Shape, row, nth, shape_term, terms_behind, node_term}
+use Rattle.and_clauses.proofs.NodeTerms.{node_term_at}
+use Rattle.and_clauses.proofs.PredicateLemmas.{width-row}
+use Rattle.and_cells.specs.Ranges.{NamedProgram}
+use Rattle.and_cells.specs.Numbers.{number_of}
+use Rattle.and_cells.specs.Seen.{Seen, Knows, ReadsNumber}
+use Rattle.and_cells.specs.Meaning.{Words, cell_variable, shallow_term}
+use Rattle.and_meaning.specs.Parts.{IsStructure}
+use Rattle.and_meaning.specs.Known.{HasKnown}
+use Rattle.and_unify.specs.Pairs.{DifferAtHeads, AreApart}
+use Rattle.and_unify.specs.Heads.{HasHead}
+use Rattle.and_unify.specs.Meeting.{AreAlike}
+use Rattle.and_unify.specs.contracts.heads.HeadPartialEq.TheImpl as derived
+use Rattle.and_unify.specs.declared.heads.Head.{Head}
+use Rattle.and_unify.specs.declared.heads.Head.TheVariants.{Number, Name}
+
+-- a number that was read from a pair is that of the pair in all words that have what is known
+pub number_head : (P : NamedProgram) (pair : ℕ) (r : Ref) (value result : ℤ) (old new : Seen) → r ≡ reference.Number pair → value ≡ result → ReadsNumber P pair result old new
+    → (w : Words) → HasKnown new w → shallow_term P w r ≡ Some (number value)
+number_head P pair r value result old new is same reads w has =
+    let high : Knows new pair reads.high = (reads.second.adds pair reads.high).1 (inl ((reads.first.adds pair reads.high).1 (inr (refl, refl)))) in
+    let low : Knows new (suc pair) reads.low = (reads.second.adds (suc pair) reads.low).1 (inr (refl, refl)) in
+    ap (shallow_term P w) is
+    ∙ ap (λ h. Some (number (number_of h (w (suc pair))))) (has pair reads.high high)
+    ∙ ap (λ l. Some (number (number_of reads.high l))) (has (suc pair) reads.low low)
+    ∙ ap (λ z. Some (number z)) (sym reads.holds ∙ sym same)
+
+-- what a reference begins with, it begins with later
+pub head_later : (P : NamedProgram) (old new : Seen) (r : Ref) (head : Head) → ((p : ℕ) (q : Ref) → Knows old p q → Knows new p q) → HasHead P old r head → HasHead P new r head
+head_later P old new r (Number z) keeps has = λ w known. has w (λ p q knows. known p q (keeps p q knows))
+head_later P old new r (Name name count) keeps has = has
+
+width_applied : (s : Substitution) (ts : Terms) → width (apply_all s ts) ≡ width ts
+width_applied s none = refl
+width_applied s (more t ts) = ap (λ (n : ℕ). suc n) (width_applied s ts)
+
+-- the term of a structure has its name and number of arguments
+record Structured (P : NamedProgram) (w : Words) (r : Ref) (name count : ℕ) : Type 0 where
+  arguments : Terms
+  term : shallow_term P w r ≡ Some (compound name arguments)
+  counted : width arguments ≡ count
+
+structured : (P : NamedProgram) (w : Words) (r : Ref) (name count : ℕ) → IsStructure P r name count → Structured P w r name count
+structured P w r name count is = record {
+  arguments = apply_all s ts;
+  term = ap (shallow_term P w) is.reference ∙ ap (λ t. Some (apply s t)) node;
+  counted = width_applied s ts ∙ width-row (map (nth front) is.arguments) ∙ length-map is.arguments (nth front) ∙ is.counted;
+}
+  where
+    s : Substitution
+    s = λ q k. cell_variable (is.base + 1 + k)
+
+    front : List Term
+    front = terms_behind [] (take is.node.0 P.skeleton.nodes)
+
+    ts : Terms
+    ts = row (map (nth front) is.arguments)
+
+    node : node_term P.skeleton.nodes is.node.0 ≡ compound name ts
+    node =
+        node_term_at P.skeleton.nodes is.node.0 (skeletons.number (pos 0)) (slice_get_within P.skeleton.nodes is.node.0 _ is.shape)
+        ∙ ap (shape_term front) (get_or_from_slice_get P.skeleton.nodes is.node.0 (skeletons.compound name is.arguments) (skeletons.number (pos 0)) is.shape)
+
+differ_by : (t u p q : Option Term) → t ≡ p → u ≡ q → DifferAtHeads p q → DifferAtHeads t u
+differ_by t u p q left right differ = subst (λ x. DifferAtHeads x u) (sym left) (subst (λ x. DifferAtHeads p x) (sym right) differ)
+
+names_differ : (name called : NameNo) (count many : ℕ) → Name name count ≢ Name called many → (name.0 ≢ called.0) ⊎ (count ≢ many)
+names_differ name called count many differ = by (cases_eq name.0 called.0)
+  where
+    by : (name.0 ≡ called.0) ⊎ (name.0 ≢ called.0) → (name.0 ≢ called.0) ⊎ (count ≢ many)
+    by (inl same) = inr (λ counts. differ (λ i. Name (record { 0 = same i }) (counts i)))
+    by (inr others) = inl others
+
+-- references that begin with different heads are apart
+pub heads_apart : (P : NamedProgram) (s : Seen) (one other : Ref) (left right : Head) → HasHead P s one left → HasHead P s other right → left ≢ right → AreApart P s one other
+heads_apart P s one other (Number z) (Number y) first second differ =
+    inr (inr (λ w has. differ_by _ _ (Some (number z)) (Some (number y)) (first w has) (second w has) (λ e. differ (ap Number e))))
+heads_apart P s one other (Number z) (Name name count) first second differ =
+    inr (inr (λ w has. let b = structured P w other name.0 count second in differ_by _ _ (Some (number z)) (Some (compound name.0 b.arguments)) (first w has) b.term tt))
+heads_apart P s one other (Name name count) (Number y) first second differ =
+    inr (inr (λ w has. let a = structured P w one name.0 count first in differ_by _ _ (Some (compound name.0 a.arguments)) (Some (number y)) a.term (second w has) tt))
+heads_apart P s one other (Name name count) (Name called many) first second differ =
+    inr (inr (λ w has.
+    let a = structured P w one name.0 count first in
+    let b = structured P w other called.0 many second in
+    differ_by _ _ (Some (compound name.0 a.arguments)) (Some (compound called.0 b.arguments)) a.term b.term
+    (elim (names_differ name called count many differ) [ inl names ↦ inl names | inr counts ↦ inr (λ e. counts (sym a.counted ∙ e ∙ b.counted)) ])))
+
+-- two numbers that begin alike are alike
+pub numbers_alike : (P : NamedProgram) (s : Seen) (one other : Ref) (left right : Head) (z : ℤ) → left ≡ Number z → right ≡ Number z → HasHead P s one left → HasHead P s other right → AreAlike P s one other
+numbers_alike P s one other left right z is same first second =
+    let a : HasHead P s one (Number z) = subst (HasHead P s one) is first in
+    let b : HasHead P s other (Number z) = subst (HasHead P s other) same second in
+    inr (λ w has. (z, a w has, b w has))
+
+-- the comparison of heads that the code uses tells any two apart
+abbrev is_same_head : Head → Head → Bool
+is_same_head = derived.eq-value.it
+
+pub same_head : (a b : Head) → is_same_head a b ≡ true → a ≡ b
+same_head (Number z) (Number y) e = ap Number ((Decides-int_eq z y).0 e)
+same_head (Name name count) (Name called many) e =
+    let names : name.0 ≡ called.0 = (Decides-eqb name.0 called.0).0 (first_true (eqb name.0 called.0) (eqb count many) e) in
+    let counts : count ≡ many = (Decides-eqb count many).0 (second_true (eqb name.0 called.0) (eqb count many) e) in
+    (λ i. Name (record { 0 = names i }) (counts i))
+same_head a b e = absurd (true≢false (sym e))
+
+pub same_head_itself : (a : Head) → is_same_head a a ≡ true
+same_head_itself (Number z) = (Decides-int_eq z z).1 refl
+same_head_itself (Name name count) = search (rules, tests)
+
+pub differ_head : (a b : Head) → is_same_head a b ≡ false → a ≢ b
+differ_head a b e is = true≢false (sym (same_head_itself a) ∙ ap (is_same_head a) is ∙ e)
+
+opposite : (b c : Bool) → c ≡ not b → b ≡ not c
+opposite true c e = sym (ap not e)
+opposite false c e = sym (ap not e)
+
+-- what `!=` tells
+pub differ_told : (a b : Head) → true ≡ not (is_same_head a b) → a ≢ b
+differ_told a b e = differ_head a b (opposite (is_same_head a b) true e)
+
+pub same_told : (a b : Head) → false ≡ not (is_same_head a b) → a ≡ b
+same_told a b e = same_head a b (opposite (is_same_head a b) false e)

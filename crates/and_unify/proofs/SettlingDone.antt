@@ -1,0 +1,80 @@
+-- What becomes of a row to which pairs were bound: a most general solution of what it was and of the pairs, or none.
+use Rattle.std.proofs.Common.{ℕ, ◌≡◌, ◌<◌, ◌⊎◌, true, false, List, [], ◌++◌, sym, ◌∙◌, subst, inl, inr, arith}
+use Rattle.std.specs.Prelude.{Contains, All}
+use Rattle.std.proofs.lemmas.List.Elements.{All-weaker}
+use Rattle.and_model.specs.Terms.{Substitution}
+use Rattle.and_model.specs.Solutions.{Solves, Solvable}
+use Rattle.and_model.specs.Store.{is_half}
+use Rattle.and_model.specs.declared.reference.Ref.{Ref}
+use Rattle.and_cells.specs.Ranges.{NamedProgram}
+use Rattle.and_cells.specs.Rows.{plain}
+use Rattle.and_cells.specs.Seen.{word_at}
+use Rattle.and_cells.specs.Meaning.{Words, IsSettled, shallow_cells, equations_of}
+use Rattle.and_laws.proofs.Ordered.{contains_none}
+use Rattle.and_meaning.specs.Known.{HasKnown, SolvesKnown}
+use Rattle.and_meaning.specs.Solved.{AllHaveTerms, IsMostGeneral}
+use Rattle.and_solutions.proofs.Settling.{settled_rows_have_terms}
+use Rattle.and_solutions.proofs.TermsOfRows.{rows_with_terms_are_solutions}
+use Rattle.and_unify.specs.declared.pairs.Pair.{Pair}
+use Rattle.and_unify.specs.Pairs.{equations_of_pairs, AreWritten, NameNoHalf}
+use Rattle.and_unify.specs.Following.{NewFollow}
+use Rattle.and_unify.specs.Settling.{equations_with}
+use Rattle.and_unify.proofs.SettlingPlaces.{all_of}
+use Rattle.and_unify.proofs.SettlingSame.{Grows, same_half, solves_now, solves_new, solves_old, most_general_of}
+use Rattle.and_unify.proofs.SettlingTerms.{Binds, BoundEnd, bound_grows, all_terms}
+
+-- The cells of a list that began empty are cells of the row.
+pub listed_in_row : (words now : ℕ) (start items : List ℕ) → start ≡ [] → now ≡ words → ((cell : ℕ) → Contains items cell → Contains start cell ⊎ (cell < words)) → All (λ (cell : ℕ). cell < now) items
+listed_in_row words now start items none same listed =
+    all_of (λ (cell : ℕ). cell < now) items (λ cell at. elim (listed cell at) [
+      | inl i ↦ absurd (contains_none cell (subst (λ (xs : List ℕ). Contains xs cell) none i))
+      | inr below ↦ omega arith
+    ])
+
+-- What the sides name is no half now if it was none.
+no_half_now : (P : NamedProgram) (old new : List Ref) (pairs : List Pair) → Grows old new → NameNoHalf P (word_at old) pairs → NameNoHalf P (word_at new) pairs
+no_half_now P old new pairs grows none =
+    All-weaker (λ (p : Pair). All (λ (cell : ℕ). is_half (word_at old cell) ≡ false) (shallow_cells P p.left ++ shallow_cells P p.right))
+    (λ (p : Pair). All (λ (cell : ℕ). is_half (word_at new cell) ≡ false) (shallow_cells P p.left ++ shallow_cells P p.right))
+    (λ p each. All-weaker (λ (cell : ℕ). is_half (word_at old cell) ≡ false) (λ (cell : ℕ). is_half (word_at new cell) ≡ false)
+    (λ cell was. sym (same_half old new cell grows) ∙ was) (shallow_cells P p.left ++ shallow_cells P p.right) each)
+    pairs none
+
+-- A half now was one before.
+pub no_new_half : (P : NamedProgram) (old new : List Ref) (pairs : List Pair) (floor : ℕ) (bindings : List ℕ) → Binds P old new pairs floor bindings
+    → (cell : ℕ) → is_half (word_at new cell) ≡ true → is_half (word_at old cell) ≡ true
+no_new_half P old new pairs floor bindings b cell half = same_half old new cell (bound_grows P old new pairs floor bindings b) ∙ half
+
+-- The row is settled,
+pub settled_now : (P : NamedProgram) (old new : List Ref) (pairs : List Pair) (floor : ℕ) (bindings : List ℕ) → Binds P old new pairs floor bindings → BoundEnd P new floor bindings → IsSettled P new
+settled_now P old new pairs floor bindings b ends = let terms = settled_rows_have_terms P new ends.sound in terms.1 (all_terms P old new pairs floor bindings b ends)
+
+-- and a most general solution, where the pairs are equal in each of its solutions.
+pub solved_now : (P : NamedProgram) (old new : List Ref) (pairs : List Pair) (floor : ℕ) (bindings : List ℕ) → Binds P old new pairs floor bindings → BoundEnd P new floor bindings
+    → AreWritten (plain old) pairs → NewFollow P pairs (plain old) (plain new)
+    → ((w : Words) → HasKnown (plain new) w → NameNoHalf P w pairs → (t : Substitution) → SolvesKnown P w (plain new) t → Solves t (equations_of_pairs P w pairs))
+    → IsMostGeneral P new (equations_with P old pairs)
+solved_now P old new pairs floor bindings b ends written follow equal =
+    let grows : Grows old new = bound_grows P old new pairs floor bindings b in
+    let all : AllHaveTerms P new = all_terms P old new pairs floor bindings b ends in
+    let of_pairs : (t : Substitution) → SolvesKnown P (word_at new) (plain new) t → Solves t (equations_of_pairs P (word_at new) pairs) =
+    equal (word_at new) (λ place r set. set.0) (no_half_now P old new pairs grows b.no_half) in
+    most_general_of P new (equations_of P new) (equations_with P old pairs)
+    (λ t s. solves_old P old new pairs t b.old_sound grows written of_pairs s)
+    (λ t s. solves_new P old new pairs t b.old_sound grows written follow s)
+    (rows_with_terms_are_solutions P new ends.sound all)
+
+-- There is no solution where the row has none now,
+pub unsolved_now : (P : NamedProgram) (old new : List Ref) (pairs : List Pair) (floor : ℕ) (bindings : List ℕ) → Binds P old new pairs floor bindings → AreWritten (plain old) pairs
+    → NewFollow P pairs (plain old) (plain new) → (Solvable (equations_of P new) → ⊥) → Solvable (equations_with P old pairs) → ⊥
+unsolved_now P old new pairs floor bindings b written follow none solvable =
+    none (solvable.0, solves_new P old new pairs solvable.0 b.old_sound (bound_grows P old new pairs floor bindings b) written follow solvable.1)
+
+-- nor where the pairs have none under what is known now.
+pub apart_now : (P : NamedProgram) (old new : List Ref) (pairs : List Pair) (floor : ℕ) (bindings : List ℕ) → Binds P old new pairs floor bindings → AreWritten (plain old) pairs
+    → NewFollow P pairs (plain old) (plain new)
+    → ((w : Words) → HasKnown (plain new) w → (t : Substitution) → SolvesKnown P w (plain new) t → Solves t (equations_of_pairs P w pairs) → ⊥)
+    → Solvable (equations_with P old pairs) → ⊥
+apart_now P old new pairs floor bindings b written follow none solvable =
+    let both = solves_now P old new pairs solvable.0 b.old_sound (bound_grows P old new pairs floor bindings b) written follow solvable.1 in
+    none (word_at new) (λ place r set. set.0) solvable.0 both.0 both.1

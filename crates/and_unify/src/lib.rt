@@ -1,0 +1,19 @@
+//! Unification over rows of words, with lists of what is still to be done in place of recursion.
+#![tactic(auto)]
+
+mod classes;
+mod heads;
+mod meeting;
+pub mod pairs;
+pub mod settling;
+mod stepping;
+mod turning;
+pub mod unifying;
+
+pub use and_circles::{Circle, cycle};
+pub use pairs::{Pair, PairList};
+pub use settling::{Settled, settle, settle_further};
+pub use unifying::{Unified, unify};
+
+#[cfg(test)]
+mod tests;

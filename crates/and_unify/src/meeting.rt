@@ -1,0 +1,224 @@
+//! One pair of references, followed to where they lead.
+
+ghost use Rattle.std.specs.Prelude.{◌≡◌, ◌≢◌, ◌⊎◌, ℕ, true, false};
+ghost use Rattle.and_model.specs.Store.{is_half};
+ghost use Rattle.and_model.specs.declared.reference.Ref.{Ref};
+ghost use Rattle.and_cells.specs.Ranges.{IsInRange, IsInRangeOrHalf};
+ghost use Rattle.and_cells.specs.Seen.{Keeps, IsWrittenIfNumber};
+ghost use Rattle.and_meaning.specs.Parts.{named};
+ghost use Rattle.and_unify.specs.Heads.{IsEnd};
+ghost use Rattle.and_unify.specs.Meeting.{IsToBeSet, GoesOn, MeetAlike, MeetFree, MeetStructures, MeetApart};
+
+use crate::heads::{Head, head_of};
+use and_cells::{Bound, Cells, deref};
+use and_clauses::Loaded;
+use and_model::Ref;
+
+/// What became of a pair.
+#[derive(Clone, Copy, PartialEq, Eq, Debug)]
+pub(crate) enum Met {
+    /// Both sides are the same.
+    Same,
+    /// This cell was free, and is now set to the other side.
+    Bound { cell: u32 },
+    /// The sides are structures of one name and number of arguments.
+    Structures { left: Ref, right: Ref },
+    /// The sides are never the same.
+    Apart { left: Ref, right: Ref },
+}
+
+/// What two references call for.
+#[derive(Clone, Copy, PartialEq, Eq, Debug)]
+enum Case {
+    /// One of them is a word of a pair.
+    Half,
+    /// They are one cell.
+    OneCell,
+    /// The left side is this cell, which is to be set to the right side.
+    SetLeft(u32),
+    /// The right side is this cell, which is to be set to the left side.
+    SetRight(u32),
+    /// Neither is a cell or a word of a pair.
+    Compare,
+}
+
+/// What became of two references.
+#[derive(Clone, Copy, PartialEq, Eq, Debug)]
+enum Turn {
+    Done(Met),
+    /// The left side is a cell that was set to this meanwhile.
+    LeftIs(Ref),
+    /// The right side is a cell that was set to this meanwhile.
+    RightIs(Ref),
+}
+
+/// Follows both sides of a pair, and sets a free cell to the other side. Takes no memory.
+pub(crate) fn meet<C: Cells>(loaded: &Loaded, cells: &mut C, left: Ref, right: Ref) -> Met
+    requires program { C.program ≡ named loaded.now }
+    requires left_in_range { IsInRange C.program (C.seen cells.old).words left }
+    requires right_in_range { IsInRange C.program (C.seen cells.old).words right }
+    requires left_written { IsWrittenIfNumber (C.seen cells.old) left }
+    requires right_written { IsWrittenIfNumber (C.seen cells.old) right }
+    ensures over { C.over cells.new ≡ C.over cells.old }
+    ensures keeps { Keeps (C.seen cells.old) (C.seen cells.new) }
+    ensures same { result ≡ Met.Same → MeetAlike C.program left right (C.seen cells.old) (C.seen cells.new) }
+    ensures bound { (cell : ℕ) → result ≡ Met.Bound cell → MeetFree C.program left right cell (C.seen cells.old) (C.seen cells.new) }
+    ensures structures { (one other : Ref) → result ≡ Met.Structures one other
+        → MeetStructures C.program left right (C.seen cells.old) (C.seen cells.new) one other }
+    ensures apart { (one other : Ref) → result ≡ Met.Apart one other
+        → MeetApart C.program left right (C.seen cells.old) (C.seen cells.new) one other }
+{
+    let mut one = deref(cells, left);
+    let mut other = deref(cells, right);
+    loop {
+        match take_turn(loaded, cells, one, other) {
+            Turn::Done(met) => return met,
+            Turn::LeftIs(set) => one = set,
+            Turn::RightIs(set) => other = set,
+        }
+    }
+}
+
+/// Compares two references, or sets one that is a cell to the other. Takes no memory.
+fn take_turn<C: Cells>(loaded: &Loaded, cells: &mut C, one: Ref, other: Ref) -> Turn
+    requires program { C.program ≡ named loaded.now }
+    requires one_in_range { IsInRangeOrHalf C.program (C.seen cells.old).words one }
+    requires other_in_range { IsInRangeOrHalf C.program (C.seen cells.old).words other }
+    requires one_written { IsWrittenIfNumber (C.seen cells.old) one }
+    requires other_written { IsWrittenIfNumber (C.seen cells.old) other }
+    ensures over { C.over cells.new ≡ C.over cells.old }
+    ensures keeps { Keeps (C.seen cells.old) (C.seen cells.new) }
+    ensures same { result ≡ Turn.Done Met.Same → MeetAlike C.program one other (C.seen cells.old) (C.seen cells.new) }
+    ensures bound { (cell : ℕ) → result ≡ Turn.Done (Met.Bound cell) → MeetFree C.program one other cell (C.seen cells.old) (C.seen cells.new) }
+    ensures structures { (p q : Ref) → result ≡ Turn.Done (Met.Structures p q)
+        → MeetStructures C.program one other (C.seen cells.old) (C.seen cells.new) p q }
+    ensures apart { (p q : Ref) → result ≡ Turn.Done (Met.Apart p q)
+        → MeetApart C.program one other (C.seen cells.old) (C.seen cells.new) p q }
+    ensures left_is { (r : Ref) → result ≡ Turn.LeftIs r → GoesOn C.program one r (C.seen cells.old) (C.seen cells.new) }
+    ensures right_is { (r : Ref) → result ≡ Turn.RightIs r → GoesOn C.program other r (C.seen cells.old) (C.seen cells.new) }
+{
+    match case_of(one, other) {
+        Case::Half => Turn::Done(Met::Apart {
+            left: one,
+            right: other,
+        }),
+        Case::OneCell => Turn::Done(Met::Same),
+        Case::SetLeft(cell) => match cells.bind(cell, other) {
+            Bound::Won => Turn::Done(Met::Bound { cell }),
+            Bound::Already(set) => Turn::LeftIs(set),
+        },
+        Case::SetRight(cell) => match cells.bind(cell, one) {
+            Bound::Won => Turn::Done(Met::Bound { cell }),
+            Bound::Already(set) => Turn::RightIs(set),
+        },
+        Case::Compare => Turn::Done(compare(loaded, cells, one, other)),
+    }
+}
+
+/// Compares two references that are numbers or structures. Takes no memory.
+fn compare<C: Cells>(loaded: &Loaded, cells: &mut C, one: Ref, other: Ref) -> Met
+    requires program { C.program ≡ named loaded.now }
+    requires ends { IsEnd one × IsEnd other }
+    requires one_in_range { IsInRange C.program (C.seen cells.old).words one }
+    requires other_in_range { IsInRange C.program (C.seen cells.old).words other }
+    requires one_written { IsWrittenIfNumber (C.seen cells.old) one }
+    requires other_written { IsWrittenIfNumber (C.seen cells.old) other }
+    ensures over { C.over cells.new ≡ C.over cells.old }
+    ensures keeps { Keeps (C.seen cells.old) (C.seen cells.new) }
+    ensures same { result ≡ Met.Same → MeetAlike C.program one other (C.seen cells.old) (C.seen cells.new) }
+    ensures bound { (cell : ℕ) → result ≡ Met.Bound cell → ⊥ }
+    ensures structures { (p q : Ref) → result ≡ Met.Structures p q
+        → MeetStructures C.program one other (C.seen cells.old) (C.seen cells.new) p q }
+    ensures apart { (p q : Ref) → result ≡ Met.Apart p q
+        → MeetApart C.program one other (C.seen cells.old) (C.seen cells.new) p q }
+{
+    if one == other {
+        return Met::Same;
+    }
+    let left_head = head_of(loaded, cells, one);
+    let right_head = head_of(loaded, cells, other);
+    if left_head != right_head {
+        return Met::Apart {
+            left: one,
+            right: other,
+        };
+    }
+    match left_head {
+        Head::Number(_) => Met::Same,
+        Head::Name { .. } => Met::Structures {
+            left: one,
+            right: other,
+        },
+    }
+}
+
+/// What two references call for. Of two cells the one with the larger number is to be set.
+fn case_of(one: Ref, other: Ref) -> Case
+    requires { (one ≢ Ref.Free) × (other ≢ Ref.Free) }
+    ensures half { result ≡ Case.Half → (is_half one ≡ true) ⊎ (is_half other ≡ true) }
+    ensures one_cell { result ≡ Case.OneCell → (one ≡ other) × (is_half one ≡ false) }
+    ensures left { (cell : ℕ) → result ≡ Case.SetLeft cell → IsToBeSet cell one other }
+    ensures right { (cell : ℕ) → result ≡ Case.SetRight cell → IsToBeSet cell other one }
+    ensures ends { result ≡ Case.Compare → IsEnd one × IsEnd other }
+{
+    match one {
+        Ref::Free => unreachable!(),
+        Ref::Cell(cell) => beside_cell(cell, other),
+        Ref::Node { .. } => beside_end(other),
+        Ref::Number(_) => beside_end(other),
+        Ref::Half(_) => Case::Half,
+    }
+}
+
+/// What a cell and a reference call for.
+fn beside_cell(cell: u32, other: Ref) -> Case
+    requires { other ≢ Ref.Free }
+    ensures half { result ≡ Case.Half → is_half other ≡ true }
+    ensures one_cell { result ≡ Case.OneCell → other ≡ Ref.Cell cell }
+    ensures left { (set : ℕ) → result ≡ Case.SetLeft set → IsToBeSet set (Ref.Cell cell) other }
+    ensures right { (set : ℕ) → result ≡ Case.SetRight set → IsToBeSet set other (Ref.Cell cell) }
+    ensures ends { result ≢ Case.Compare }
+{
+    match other {
+        Ref::Free => unreachable!(),
+        Ref::Cell(there) => between_cells(cell, there),
+        Ref::Node { .. } => Case::SetLeft(cell),
+        Ref::Number(_) => Case::SetLeft(cell),
+        Ref::Half(_) => Case::Half,
+    }
+}
+
+/// What two cells call for.
+fn between_cells(left: u32, right: u32) -> Case
+    ensures half { result ≢ Case.Half }
+    ensures one_cell { result ≡ Case.OneCell → right ≡ left }
+    ensures left { (set : ℕ) → result ≡ Case.SetLeft set → IsToBeSet set (Ref.Cell left) (Ref.Cell right) }
+    ensures right { (set : ℕ) → result ≡ Case.SetRight set → IsToBeSet set (Ref.Cell right) (Ref.Cell left) }
+    ensures ends { result ≢ Case.Compare }
+{
+    if left == right {
+        Case::OneCell
+    } else if left < right {
+        Case::SetRight(right)
+    } else {
+        Case::SetLeft(left)
+    }
+}
+
+/// What a number or a structure and a reference call for.
+fn beside_end(other: Ref) -> Case
+    requires { other ≢ Ref.Free }
+    ensures half { result ≡ Case.Half → is_half other ≡ true }
+    ensures one_cell { result ≢ Case.OneCell }
+    ensures left { (set : ℕ) → result ≢ Case.SetLeft set }
+    ensures right { (set : ℕ) → result ≡ Case.SetRight set → other ≡ Ref.Cell set }
+    ensures ends { result ≡ Case.Compare → IsEnd other }
+{
+    match other {
+        Ref::Free => unreachable!(),
+        Ref::Cell(cell) => Case::SetRight(cell),
+        Ref::Node { .. } => Case::Compare,
+        Ref::Number(_) => Case::Compare,
+        Ref::Half(_) => Case::Half,
+    }
+}

@@ -1,0 +1,299 @@
+//! Unification with the occurs check over plain cells.
+
+ghost use Rattle.std.specs.Prelude.{◌≡◌, ◌<◌, ℕ, length, true, false, IfOk, Ok, Contains, All};
+ghost use Rattle.and_model.specs.Store.{is_half};
+ghost use Rattle.and_model.specs.Terms.{Substitution};
+ghost use Rattle.and_model.specs.Solutions.{Solves, Solvable};
+ghost use Rattle.and_model.specs.declared.reference.Ref.{Ref};
+ghost use Rattle.and_written.specs.Skeletons.{AllFall};
+ghost use Rattle.and_cells.specs.Ranges.{IsInRange};
+ghost use Rattle.and_cells.specs.Seen.{word_at, Keeps};
+ghost use Rattle.and_cells.specs.Rows.{plain, IsSound};
+ghost use Rattle.and_cells.specs.Meaning.{IsSettled, equations_of, shallow_cells};
+ghost use Rattle.and_meaning.specs.Parts.{named};
+ghost use Rattle.and_meaning.specs.Ends.{Ends};
+ghost use Rattle.and_meaning.specs.Solved.{IsMostGeneral};
+ghost use Rattle.and_circles.specs.Explored.{AreFinished};
+ghost use Rattle.and_unify.specs.Pairs.{AreInRange, AreWritten, NameNoHalf};
+ghost use Rattle.and_unify.specs.Settling.{equations_with, AreNewFrom};
+ghost use Rattle.and_unify.specs.declared.pairs.Pair.{Pair};
+
+use crate::pairs::PairList;
+use crate::unifying::{Unified, solve};
+use and_cells::{Naming, PlainCells};
+use and_circles::{Explored, Explorer};
+use and_clauses::Loaded;
+use and_model::Ref;
+use std::alloc::{AllocError, Global};
+
+/// What the equations of cells and pairs came to.
+#[derive(Clone, Copy, PartialEq, Eq, Debug)]
+pub enum Settled {
+    /// The cells are a most general solution of what they were and of the pairs.
+    Solved,
+    /// There is no solution. The cells are spent.
+    NoSolution,
+    /// Want of memory. The cells are spent.
+    Memory,
+}
+
+/// Looks for a circle in the cells, and then solves the pairs with the occurs check.
+///
+/// The work is linear in the row, in what the pairs lead to and in what the new bindings lead to; a
+/// place that several lead to counts once.
+pub fn settle<N: Naming>(
+    alloc: Global,
+    loaded: &Loaded,
+    cells: &mut PlainCells<N>,
+    pairs: &mut PairList,
+) -> Settled
+    requires program { N.program ≡ named loaded.now }
+    requires in_range { AreInRange N.program (length cells.old) pairs.old }
+    requires written { AreWritten (plain cells.old) pairs.old }
+    ensures solved { result ≡ Settled.Solved → IsMostGeneral N.program cells.new (equations_with N.program cells.old pairs.old) }
+    ensures settled { result ≡ Settled.Solved → IsSettled N.program cells.new }
+    ensures no_solution { result ≡ Settled.NoSolution → Solvable (equations_with N.program cells.old pairs.old) → ⊥ }
+    ensures keeps { Keeps (plain cells.old) (plain cells.new) }
+    ensures halves { (cell : ℕ) → is_half (word_at cells.new cell) ≡ true → is_half (word_at cells.old cell) ≡ true }
+{
+    let floor = cells.len();
+    laws_of_rows(loaded, cells);
+    match given_ends(alloc, loaded, cells, pairs) {
+        Ok(true) => settle_further(alloc, loaded, cells, floor, pairs),
+        Ok(false) => Settled::NoSolution,
+        Err(_) => Settled::Memory,
+    }
+}
+
+/// The same over cells that are settled, where the words from `floor` on are new.
+///
+/// The work is linear in the places of the left sides, in what the new bindings of cells below
+/// the floor lead to, and in what the others lead to above the floor.
+pub fn settle_further<N: Naming>(
+    alloc: Global,
+    loaded: &Loaded,
+    cells: &mut PlainCells<N>,
+    floor: u32,
+    pairs: &mut PairList,
+) -> Settled
+    requires program { N.program ≡ named loaded.now }
+    requires in_range { AreInRange N.program (length cells.old) pairs.old }
+    requires written { AreWritten (plain cells.old) pairs.old }
+    requires settled { IsSettled N.program cells.old }
+    requires no_half { NameNoHalf N.program (word_at cells.old) pairs.old }
+    requires new { AreNewFrom N.program cells.old pairs.old floor }
+    ensures solved { result ≡ Settled.Solved → IsMostGeneral N.program cells.new (equations_with N.program cells.old pairs.old) }
+    ensures settled { result ≡ Settled.Solved → IsSettled N.program cells.new }
+    ensures no_solution { result ≡ Settled.NoSolution → Solvable (equations_with N.program cells.old pairs.old) → ⊥ }
+    ensures keeps { Keeps (plain cells.old) (plain cells.new) }
+    ensures halves { (cell : ℕ) → is_half (word_at cells.new cell) ≡ true → is_half (word_at cells.old cell) ≡ true }
+{
+    laws_of_rows(loaded, cells);
+    let mut bound = Vec::new(alloc);
+    let mut fuel = u64::MAX;
+    match solve(alloc, loaded, cells, &mut fuel, pairs, &mut bound) {
+        Unified::Same => judge(alloc, loaded, cells, floor, &bound),
+        Unified::Apart { .. } => Settled::NoSolution,
+        // The pairs would have 2^64 places, for which there is no memory.
+        Unified::PutOff => Settled::Memory,
+        Unified::Memory => Settled::Memory,
+    }
+}
+
+/// What holds of each row, and of the nodes of each program.
+fn laws_of_rows<N: Naming>(loaded: &Loaded, cells: &PlainCells<N>)
+    requires program { N.program ≡ named loaded.now }
+    ensures sound { IsSound N.program cells.now }
+    ensures falls { AllFall 0 N.program.skeleton.nodes }
+{
+    let _words = cells.len();
+    loaded.skeleton_is_of_the_program();
+}
+
+/// What cells came to in which these were bound, where those from `floor` on are new.
+fn judge<N: Naming>(
+    alloc: Global,
+    loaded: &Loaded,
+    cells: &PlainCells<N>,
+    floor: u32,
+    bound: &[u32],
+) -> Settled
+    requires program { N.program ≡ named loaded.now }
+    requires in_row { All (λ (cell : ℕ). cell < length cells.now) bound.now }
+    ensures below { result ≡ Settled.Solved → (cell : ℕ) → Contains bound.now cell → cell < floor
+        → is_half (word_at cells.now cell) ≡ false → Ends N.program cells.now 0 false (Ref.Cell cell) }
+    ensures above { result ≡ Settled.Solved → (cell : ℕ) → Contains bound.now cell
+        → is_half (word_at cells.now cell) ≡ false → Ends N.program cells.now floor false (Ref.Cell cell) }
+    ensures no_solution { result ≡ Settled.NoSolution → Solvable (equations_of N.program cells.now) → ⊥ }
+    ensures sound { IsSound N.program cells.now }
+{
+    let words = cells.len();
+    match bound_end(alloc, loaded, cells, 0, bound, floor) {
+        Ok(true) => match bound_end(alloc, loaded, cells, floor, bound, words) {
+            Ok(true) => Settled::Solved,
+            Ok(false) => Settled::NoSolution,
+            Err(_) => Settled::Memory,
+        },
+        Ok(false) => Settled::NoSolution,
+        Err(_) => Settled::Memory,
+    }
+}
+
+/// Whether each path ends that begins at a cell of the list before `end`, where each that comes
+/// below `floor` ends there.
+fn bound_end<N: Naming>(
+    alloc: Global,
+    loaded: &Loaded,
+    cells: &PlainCells<N>,
+    floor: u32,
+    bound: &[u32],
+    end: u32,
+) -> Result<bool, AllocError>
+    requires program { N.program ≡ named loaded.now }
+    requires in_row { All (λ (cell : ℕ). cell < length cells.now) bound.now }
+    ensures ends { result ≡ Ok true → (cell : ℕ) → Contains bound.now cell → cell < end
+        → is_half (word_at cells.now cell) ≡ false → Ends N.program cells.now floor false (Ref.Cell cell) }
+    ensures no_solution { result ≡ Ok false → Solvable (equations_of N.program cells.now) → ⊥ }
+{
+    let mut explorer = Explorer::new(alloc, floor, false);
+    for cell in bound {
+        if end <= *cell {
+            continue;
+        }
+        if !cell_ends(&mut explorer, loaded, cells, *cell)? {
+            return Ok(false);
+        }
+    }
+    Ok(true)
+}
+
+/// Whether each path ends that begins at a cell of the row or at a side of a pair.
+fn given_ends<N: Naming>(
+    alloc: Global,
+    loaded: &Loaded,
+    cells: &PlainCells<N>,
+    pairs: &PairList,
+) -> Result<bool, AllocError>
+    requires program { N.program ≡ named loaded.now }
+    requires sound { IsSound N.program cells.now }
+    requires in_range { AreInRange N.program (length cells.now) pairs.now }
+    ensures cells { result ≡ Ok true → (cell : ℕ) → cell < length cells.now
+        → is_half (word_at cells.now cell) ≡ false → Ends N.program cells.now 0 false (Ref.Cell cell) }
+    ensures sides { result ≡ Ok true
+        → All (λ (p : Pair). Ends N.program cells.now 0 false p.left × Ends N.program cells.now 0 false p.right) pairs.now }
+    ensures no_solution { result ≡ Ok false → Solvable (equations_with N.program cells.now pairs.now) → ⊥ }
+{
+    let mut explorer = Explorer::new(alloc, 0, false);
+    if !row_ends(&mut explorer, loaded, cells)? {
+        return Ok(false);
+    }
+    sides_end(&mut explorer, loaded, cells, pairs)
+}
+
+/// Whether each path ends that begins at a cell of the row.
+fn row_ends<N: Naming>(
+    explorer: &mut Explorer,
+    loaded: &Loaded,
+    cells: &PlainCells<N>,
+) -> Result<bool, AllocError>
+    requires program { N.program ≡ named loaded.now }
+    requires finished { AreFinished N.program cells.now explorer.old }
+    requires no_halves { explorer.old.halves ≡ false }
+    ensures settings { IfOk result (λ _. (explorer.new.floor ≡ explorer.old.floor) × (explorer.new.halves ≡ explorer.old.halves)) }
+    ensures finished { result ≡ Ok true → AreFinished N.program cells.now explorer.new }
+    ensures ends { result ≡ Ok true → (cell : ℕ) → cell < length cells.now
+        → is_half (word_at cells.now cell) ≡ false → Ends N.program cells.now explorer.old.floor false (Ref.Cell cell) }
+    ensures no_solution { result ≡ Ok false → Solvable (equations_of N.program cells.now) → ⊥ }
+{
+    for cell in 0..cells.len() {
+        if !cell_ends(explorer, loaded, cells, cell)? {
+            return Ok(false);
+        }
+    }
+    Ok(true)
+}
+
+/// Whether each path ends that begins at a side of a pair.
+fn sides_end<N: Naming>(
+    explorer: &mut Explorer,
+    loaded: &Loaded,
+    cells: &PlainCells<N>,
+    pairs: &PairList,
+) -> Result<bool, AllocError>
+    requires program { N.program ≡ named loaded.now }
+    requires sound { IsSound N.program cells.now }
+    requires finished { AreFinished N.program cells.now explorer.old }
+    requires no_halves { explorer.old.halves ≡ false }
+    requires in_range { AreInRange N.program (length cells.now) pairs.now }
+    ensures ends { result ≡ Ok true → All (λ (p : Pair). Ends N.program cells.now explorer.old.floor false p.left
+        × Ends N.program cells.now explorer.old.floor false p.right) pairs.now }
+    ensures no_solution { result ≡ Ok false → Solvable (equations_with N.program cells.now pairs.now) → ⊥ }
+{
+    for place in 0..pairs.len() {
+        let pair = *pairs.at(place);
+        if !ends(explorer, loaded, cells, pair.left)? {
+            return Ok(false);
+        }
+        if !ends(explorer, loaded, cells, pair.right)? {
+            return Ok(false);
+        }
+    }
+    Ok(true)
+}
+
+/// Whether each path from a cell ends. A word of a pair has no term, and is not asked.
+fn cell_ends<N: Naming>(
+    explorer: &mut Explorer,
+    loaded: &Loaded,
+    cells: &PlainCells<N>,
+    cell: u32,
+) -> Result<bool, AllocError>
+    requires program { N.program ≡ named loaded.now }
+    requires finished { AreFinished N.program cells.now explorer.old }
+    requires no_halves { explorer.old.halves ≡ false }
+    requires in_row { cell < length cells.now }
+    ensures settings { IfOk result (λ _. (explorer.new.floor ≡ explorer.old.floor) × (explorer.new.halves ≡ explorer.old.halves)) }
+    ensures finished { result ≡ Ok true → AreFinished N.program cells.now explorer.new }
+    ensures ends { result ≡ Ok true → is_half (word_at cells.now cell) ≡ false → Ends N.program cells.now explorer.old.floor false (Ref.Cell cell) }
+    ensures no_solution { result ≡ Ok false → Solvable (equations_of N.program cells.now) → ⊥ }
+{
+    if is_half(cells.word(cell)) {
+        return Ok(true);
+    }
+    ends(explorer, loaded, cells, Ref::Cell(cell))
+}
+
+fn is_half(word: Ref) -> bool
+    ensures { result ≡ is_half word }
+{
+    match word {
+        Ref::Half(_) => true,
+        Ref::Free | Ref::Cell(_) | Ref::Node { .. } | Ref::Number(_) => false,
+    }
+}
+
+/// Whether each path from a reference ends, and none in a word of a pair. Where one does not end so,
+/// and the row has a solution, the reference itself names a word of a pair.
+fn ends<N: Naming>(
+    explorer: &mut Explorer,
+    loaded: &Loaded,
+    cells: &PlainCells<N>,
+    root: Ref,
+) -> Result<bool, AllocError>
+    requires program { N.program ≡ named loaded.now }
+    requires sound { IsSound N.program cells.now }
+    requires finished { AreFinished N.program cells.now explorer.old }
+    requires no_halves { explorer.old.halves ≡ false }
+    requires in_range { IsInRange N.program (length cells.now) root }
+    ensures settings { IfOk result (λ _. (explorer.new.floor ≡ explorer.old.floor) × (explorer.new.halves ≡ explorer.old.halves)) }
+    ensures finished { result ≡ Ok true → AreFinished N.program cells.now explorer.new }
+    ensures ends { result ≡ Ok true → Ends N.program cells.now explorer.old.floor false root }
+    ensures names_half { result ≡ Ok false → (t : Substitution) → Solves t (equations_of N.program cells.now)
+        → (cell : ℕ) × Contains (shallow_cells N.program root) cell × (is_half (word_at cells.now cell) ≡ true) }
+{
+    match explorer.explore(loaded, cells, root)? {
+        Explored::Ends => Ok(true),
+        Explored::Circle { .. } => Ok(false),
+        Explored::Half { .. } => Ok(false),
+    }
+}
