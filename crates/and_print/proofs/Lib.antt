@@ -1,0 +1,10 @@
+pub mod Chaining
+pub mod Parting
+pub mod Placing
+pub mod Owing
+pub mod Doing
+pub mod Joining
+pub mod Reckoning
+pub mod Showing
+pub mod Lining
+pub mod Trials

@@ -1,0 +1,6 @@
+pub mod Given
+pub mod Writing
+pub mod Roots
+pub mod Goals
+pub mod Tasks
+pub mod Flat
