@@ -10,6 +10,8 @@ fn queries_of_equations(rt: HostRuntime) -> Result<(), Fail> {
         (b"?- X = f(Y), Y = g(X).", b"% no solution"),
         (b"?- X = f(a,b), Y = f(a,c), X = Y.", b"% no solution"),
         (b"?- X = f(A,B), A = B.", b"X = f(_0,_0), A = _0, B = _0"),
+        (b"?- X = [a,[]].", b"X = [a,[]]"),
+        (b"?- X = 'it''s', Y = 1-2.", b"X = 'it\\'s', Y = -(1,2)"),
         (b"?- _X = 1.", b"true"),
     ];
     for (text, expected) in rows {

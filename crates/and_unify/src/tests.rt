@@ -9,7 +9,7 @@ ghost use Rattle.and_meaning.specs.Parts.{named};
 ghost use Rattle.and_unify.specs.Pairs.{AreInRange, AreWritten};
 ghost use Rattle.and_unify.specs.Settling.{KeepsBelow};
 
-use crate::{PairList, Settled, Unified, settle, settle_further, unify};
+use crate::{Pair, PairList, Settled, Unified, settle, settle_further, unify};
 use and_cells::{Naming, PlainCells};
 use and_clauses::{ClauseDraft, ClauseTable, ItemNode, Loaded, Skeleton};
 use and_model::{ClauseNo, NodeNo, Ref};
@@ -181,6 +181,20 @@ fn settle_right_sides<N: Naming>(
     let mut cells = PlainCells::<N>::with(alloc, 300)?;
     let mut pairs = right_sides(rt, alloc, loaded, &cells)?;
     Ok(settle(alloc, loaded, &mut cells, &mut pairs))
+}
+
+#[test]
+fn pairs_stay_in_order(rt: HostRuntime) -> Result<(), Fail> {
+    let mut pairs = PairList::new(rt.alloc());
+    pairs.push(Ref::Cell(1), Ref::Cell(2))?;
+    pairs.push(Ref::Cell(3), Ref::Cell(4))?;
+    let last = Pair {
+        left: Ref::Cell(3),
+        right: Ref::Cell(4),
+    };
+    assert_eq!(rt; pairs.len(), 2);
+    assert_eq!(rt; *pairs.at(1), last);
+    Ok(())
 }
 
 #[test]
