@@ -1,13 +1,15 @@
 -- The equations of a query, over a row in which the query's frame is at base 0.
-use Rattle.std.specs.Prelude.{◌+◌, ◌≡◌, List, [], ◌∷◌}
+use Rattle.std.specs.Prelude.{◌+◌, ◌≡◌, List, [], ◌∷◌, ◌⊎◌, codes}
 use Rattle.and_model.specs.Terms.{Substitution}
-use Rattle.and_model.specs.Solutions.{Equation, MostGeneral}
+use Rattle.and_model.specs.Solutions.{Equation, Solvable, MostGeneral}
 use Rattle.and_model.specs.Lines.{Bytes, line}
 use Rattle.and_model.specs.declared.reference.Ref.TheVariants.{Free}
 use Rattle.and_written.specs.Skeletons.{NodeItem, call, equal, is, compare, fail}
-use Rattle.and_clauses.specs.Loaded.{nodes_at}
+use Rattle.and_texts.specs.Refusals.{Reads, Refusal, IsRefused}
+use Rattle.and_clauses.specs.declared.loaded.Loaded.{Loaded}
+use Rattle.and_clauses.specs.Loaded.{nodes_at, program_of}
 use Rattle.and_cells.specs.Ranges.{NamedProgram}
-use Rattle.and_meaning.specs.Parts.{part_at}
+use Rattle.and_meaning.specs.Parts.{named, part_at}
 use Rattle.and_unify.specs.declared.pairs.Pair.{Pair}
 use Rattle.and_unify.specs.Pairs.{equations_of_pairs}
 
@@ -30,3 +32,11 @@ query_equations P = equations_of_pairs P (λ cell. Free) (query_pairs P)
 -- the line of a most general solution of the query's equations
 abbrev pub IsLine : NamedProgram → Bytes → Type 0
 IsLine P t = (s : Substitution) × MostGeneral s (query_equations P) × (t ≡ line P.program (λ q k. s [] (0 + 1 + k)) [])
+
+-- what is written for a program
+abbrev pub IsReply : NamedProgram → Bytes → Type 0
+IsReply P t = IsLine P t ⊎ ((t ≡ codes "% no solution") × (Solvable (query_equations P) → ⊥))
+
+-- what is written for a text
+abbrev pub IsAnswer : Bytes → Bytes → Type 0
+IsAnswer bytes t = ((l : Loaded) × Reads bytes (program_of l) × IsReply (named l) t) ⊎ ((t ≡ codes "% no program") × ((r : Refusal) × IsRefused bytes r))

@@ -7,7 +7,7 @@ ghost use Rattle.and_clauses.specs.Items.{node_item};
 ghost use Rattle.and_clauses.specs.Loaded.{skeleton_of, program_of};
 ghost use Rattle.and_meaning.specs.Parts.{named};
 ghost use Rattle.and_unify.specs.Pairs.{AreInRange};
-ghost use Rattle.and_figures.specs.Query.{IsLine, pairs_in, query_pairs, query_equations};
+ghost use Rattle.and_figures.specs.Query.{IsLine, IsReply, IsAnswer, pairs_in, query_pairs, query_equations};
 
 use and_cells::{Naming, PlainCells};
 use and_clauses::{ItemNode, Loaded};
@@ -90,17 +90,34 @@ pub fn query_line<N: Naming>(alloc: Global, loaded: &Loaded) -> Result<Option<Te
 }
 
 /// The line for a program that was loaded.
-fn line_of(alloc: Global, loaded: &Loaded) -> Result<Option<Text>, AllocError> {
+fn line_of(alloc: Global, loaded: &Loaded) -> Result<Option<Text>, AllocError>
+    ensures some { IfOk result (λ o. IfSome o (IsLine (named loaded.now))) }
+    ensures none { IfOk result (λ o. IfNone o (Solvable (query_equations (named loaded.now)) → ⊥)) }
+{
     query_line::<Brand>(alloc, loaded)
 }
 
-/// What is written for a text.
-pub fn answer(alloc: Global, bytes: &[u8]) -> Result<Text, AllocError> {
-    let Ok(loaded) = read_program(alloc, bytes) else {
-        return Text::of(alloc, b"% no program");
-    };
-    match line_of(alloc, &loaded)? {
+/// What is written for a program. An error is want of memory.
+fn reply(alloc: Global, loaded: &Loaded) -> Result<Text, AllocError>
+    ensures { IfOk result (IsReply (named loaded.now)) }
+{
+    match line_of(alloc, loaded)? {
         Some(line) => Ok(line),
         None => Text::of(alloc, b"% no solution"),
+    }
+}
+
+/// What is written for a text. An error is want of memory.
+pub fn answer(alloc: Global, bytes: &[u8]) -> Result<Text, AllocError>
+    ensures { IfOk result (IsAnswer bytes.now) }
+{
+    match read_program(alloc, bytes) {
+        Ok(loaded) => reply(alloc, &loaded),
+        Err(refusal) => {
+            if refusal.is_memory() {
+                return Err(AllocError);
+            }
+            Text::of(alloc, b"% no program")
+        }
     }
 }
