@@ -1,8 +1,8 @@
 -- The parts of structures: their terms, their cells and their ranges.
-use Rattle.std.proofs.Common.{ℕ, suc, ◌+◌, ◌≡◌, ◌<◌, ◌^◌, pos, List, [], ◌∷◌, length, map, refl, sym, ap, subst, ◌∙◌, inl, inr, arith}
+use Rattle.std.proofs.Common.{ℕ, suc, ◌+◌, ◌≡◌, List, [], ◌∷◌, length, map, refl, sym, ap, subst, ◌∙◌, inl, inr, arith}
 use Rattle.std.specs.Prelude.{Contains}
-use Rattle.std.proofs.lemmas.Option.{same_Some, get_or_from_slice_get}
-use Rattle.std.proofs.lemmas.List.Elements.{Contains-append_left, Contains-append_right, All-contains, All-contains_itself, All-weaker}
+use Rattle.std.proofs.lemmas.Option.{same_Some}
+use Rattle.std.proofs.lemmas.List.Elements.{Contains-append_left, Contains-append_right}
 use Rattle.and_model.specs.Terms
 use Rattle.and_model.specs.Terms.{Path, Term, Terms, Substitution, variables_of, variables_in}
 use Rattle.and_model.specs.declared.numbers.NodeNo.{NodeNo}
@@ -12,13 +12,13 @@ use Rattle.and_written.specs.Skeletons
 use Rattle.and_written.specs.Skeletons.{Shape, row, nth, node_term, shape_term, terms_behind, Falls, IsFalling, AllFall}
 use Rattle.and_clauses.specs.Loaded.{shape_at, arguments_at}
 use Rattle.and_clauses.specs.Shown.{arguments_in, resolved}
-use Rattle.and_clauses.proofs.NodeTerms.{AllFall-at}
-use Rattle.and_cells.specs.Ranges.{NamedProgram, IsInRange, IsNodeInRange}
+use Rattle.and_cells.specs.Ranges.{NamedProgram, IsInRange}
 use Rattle.and_cells.specs.Seen.{Seen, IsWrittenIfNumber}
 use Rattle.and_cells.specs.Meaning.{Words, shallow_cells}
 use Rattle.and_laws.proofs.Ordered.{contains_first, contains_more, contains_cases, contains_none}
 use Rattle.and_meaning.specs.Parts.{IsStructure, parts_of, part_at}
 use Rattle.and_meaning.specs.Joined.{Joined, AllJoined, none, more}
+use Rattle.and_circles.proofs.Parts
 use Rattle.and_solutions.proofs.Structures.{node_term_shape, HaveValues, value_of_structure, shape_of_structure}
 use Rattle.and_solutions.proofs.Images.{contains_image, contains_origin}
 use Rattle.and_unify.specs.declared.pairs.Pair.{Pair}
@@ -85,54 +85,11 @@ cells_of_parts P (Half bits) q cell fall h at = absurd (contains_none q h)
 pub part_whole : (P : NamedProgram) (w : Words) (r q : Ref) → AllFall 0 P.skeleton.nodes → Contains (parts_of P r) q → IsWhole P w r → IsWhole P w q
 part_whole P w r q fall h whole = λ cell at. whole cell (cells_of_parts P r q cell fall h at)
 
--- arguments that fall are below the node
-falls_below : (n : ℕ) (ms : List ℕ) (m : ℕ) → Falls n ms → Contains ms m → m < n
-falls_below n [] m f h = absurd (contains_none m h)
-falls_below n (x ∷ ms) m f h = elim (contains_cases x m ms h) [ inl e ↦ subst (λ y. y < n) (sym e) f.0 | inr i ↦ falls_below n ms m f.1 i ]
-
--- the same of a shape
-argument_falls : (s : Shape) (n m : ℕ) → IsFalling n s → Contains (arguments_in s) m → m < n
-argument_falls (Skeletons.variable k) n m f h = absurd (contains_none m h)
-argument_falls (Skeletons.number z) n m f h = absurd (contains_none m h)
-argument_falls (Skeletons.compound c ms) n m f h = falls_below n ms m f h
-
--- an argument's node is below the node
-argument_below : (P : NamedProgram) (node n : ℕ) → AllFall 0 P.skeleton.nodes → node < length P.skeleton.nodes → Contains (arguments_at P.skeleton node) n → n < node
-argument_below P node n fall there h =
-    let falls : IsFalling (0 + node) (shape_at P.skeleton node) = AllFall-at 0 P.skeleton.nodes node (Skeletons.number (pos 0)) fall there in
-    let same : 0 + node ≡ node = omega arith in
-    argument_falls (shape_at P.skeleton node) node n (subst (λ m. IsFalling m (shape_at P.skeleton node)) same falls) h
-
--- where a node that is in range is found by its shape is in range
-resolved_in_range : (P : NamedProgram) (words base : ℕ) (s : Shape) (node : NodeNo) → shape_at P.skeleton node.0 ≡ s → node_term P.skeleton.nodes node.0 ≡ shape_term (terms_behind [] P.skeleton.nodes) s
-    → IsNodeInRange P words node.0 base → IsInRange P words (resolved s node base)
-resolved_in_range P words base (Skeletons.variable k) node e term fits =
-    let at : Contains (variables_of (node_term P.skeleton.nodes node.0)) ([], k) = subst (λ (u : Term). Contains (variables_of u) ([], k)) (sym term) (contains_first ([], k) []) in
-    All-contains (λ (v : Path × ℕ). base + 1 + v.1 < words) (variables_of (node_term P.skeleton.nodes node.0)) ([], k) fits.cells at
-resolved_in_range P words base (Skeletons.number z) node e term fits =
-    (fits, λ k is. let other : shape_at P.skeleton node.0 ≡ Skeletons.variable k = get_or_from_slice_get P.skeleton.nodes node.0 (Skeletons.variable k) (Skeletons.number (pos 0)) is in absurd (cc))
-resolved_in_range P words base (Skeletons.compound c ns) node e term fits =
-    (fits, λ k is. let other : shape_at P.skeleton node.0 ≡ Skeletons.variable k = get_or_from_slice_get P.skeleton.nodes node.0 (Skeletons.variable k) (Skeletons.number (pos 0)) is in absurd (cc))
-
 -- The parts of what is in range are in range,
 pub part_in_range : (P : NamedProgram) (words : ℕ) (r q : Ref) → AllFall 0 P.skeleton.nodes → IsInRange P words r → Contains (parts_of P r) q → IsInRange P words q
 part_in_range P words Free q fall fits h = absurd (contains_none q h)
 part_in_range P words (Cell c) q fall fits h = absurd (contains_none q h)
-part_in_range P words (Node node base) q fall fits h =
-    let (n, among, is) = part_of_node P node base q h in
-    let there : node.0 < length P.skeleton.nodes = fits.0.there in
-    let nameable : node.0 < 2 ^ 20 = fits.0.nameable in
-    let below : n < node.0 = argument_below P node.0 n fall there among in
-    let vs : List (Path × ℕ) = variables_of (node_term P.skeleton.nodes n) in
-    let whole : (v : Path × ℕ) → Contains vs v → base + 1 + v.1 < words =
-    λ v at. All-contains (λ (v : Path × ℕ). base + 1 + v.1 < words) (variables_of (node_term P.skeleton.nodes node.0)) v fits.0.cells (variables_of_argument P node.0 n v fall among at) in
-    let node_fits : IsNodeInRange P words n base = record {
-      there = omega arith;
-      nameable = omega arith;
-      base_below = fits.0.base_below;
-      cells = All-weaker (Contains vs) (λ (v : Path × ℕ). base + 1 + v.1 < words) whole vs (All-contains_itself vs);
-    } in
-    subst (IsInRange P words) (sym is) (resolved_in_range P words base (shape_at P.skeleton n) (record { 0 = n }) refl (node_term_shape P.skeleton.nodes n fall) node_fits)
+part_in_range P words (Node node base) q fall fits h = Parts.part_in_range P fall words node base q fits h
 part_in_range P words (Number pair) q fall fits h = absurd (contains_none q h)
 part_in_range P words (Half bits) q fall fits h = absurd (contains_none q h)
 
