@@ -39,8 +39,8 @@ pub enum Settled {
 
 /// Looks for a circle in the cells, and then solves the pairs with the occurs check.
 ///
-/// The work is linear in the row, in what the pairs lead to and in what the new bindings lead to; a
-/// place that several lead to counts once.
+/// The row is explored, and what the pairs and then the new bindings lead to. A place is not explored
+/// again for each that leads to it.
 pub fn settle<N: Naming>(
     alloc: Global,
     loaded: &Loaded,
@@ -67,8 +67,8 @@ pub fn settle<N: Naming>(
 
 /// The same over cells that are settled, where the words from `floor` on are new.
 ///
-/// The work is linear in the places of the left sides, in what the new bindings of cells below
-/// the floor lead to, and in what the others lead to above the floor.
+/// Explored are what the new bindings of cells below the floor lead to, and what the others lead to
+/// above the floor, and nothing else of the row. A place is not explored again for each that leads to it.
 pub fn settle_further<N: Naming>(
     alloc: Global,
     loaded: &Loaded,
