@@ -26,6 +26,3 @@ pub mod Exploring
 pub mod Unfolding
 pub mod Agreement
 pub mod Placing
-pub mod Rows
-pub mod RowsNumbers
-pub mod RowsLimit

@@ -1,14 +1,22 @@
 -- One line: two most general solutions of the same equations differ by a renaming of variables, and a line names its variables by their order.
-use Rattle.std.proofs.Common.{ℕ, ◌≡◌, List, [], ◌∷◌, ◌++◌, refl, ap, sym, ◌∙◌, subst, inl, inr, true, false, true≢false, cond, nat_eq, map, codes, eqb-true, eq-eqb, decimal}
+use Rattle.std.proofs.Common.{ℕ, zero, suc, ◌≡◌, ◌+◌, ◌<◌, ◌≤◌, length, arith, ⊎_elim, List, [], ◌∷◌, ◌++◌, refl, ap, sym, ◌∙◌, subst, inl, inr, true, false, true≢false, cond, nat_eq, map, codes, eqb-true, eq-eqb, decimal}
 use Rattle.and_model.specs.Terms.{Path, Term, Terms, variable, number, compound, none, more, variables_of, variables_in, Substitution, apply, apply_all}
 use Rattle.and_model.specs.Solutions.{Equation, Entails, MostGeneral}
 use Rattle.and_model.specs.Programs.{Program, Arithmetic}
-use Rattle.and_model.specs.Lines.{Bytes, same_path, same_variable, has, first_seen, place_of, is_cell, is_nil, shown, shown_arguments, shown_rest, shown_elements, shown_tail, goal_term, shown_variables, variables_along, joined, shown_value, with_waiting, line}
+use Rattle.and_model.specs.Lines.{Bytes, same_path, same_variable, has, first_seen, place_of, is_cell, is_nil, shown, shown_arguments, shown_rest, shown_elements, shown_tail, goal_term, shown_variables, variables_along, joined, shown_value, with_waiting, begins_underscore, line_of, line}
+use Rattle.and_model.specs.Stands.{numbers_below, AreVariants}
+use Rattle.std.proofs.lemmas.Bool.{cases_lt}
+use Rattle.std.proofs.lemmas.List.{length-map, map-append}
 use Rattle.and_laws.proofs.Substitutions.{Through, apply_through, and_left, and_right}
 use Rattle.and_laws.proofs.Equality.{bool_cases}
 
 abbrev pub Variable : Type 0
 Variable = Path × ℕ
+
+-- each of these variables of the query has a number below n
+abbrev AllBelow : ℕ → List (Bytes × ℕ) → Type 0
+AllBelow n [] = Unit {0}
+AllBelow n (v ∷ vs) = (v.1 < n) × AllBelow n vs
 
 -- The tests of paths and of variables are true of the same ones alone.
 pub same_path_true : (q r : Path) → same_path q r ≡ true → q ≡ r
@@ -196,48 +204,123 @@ module _ (s t : Substitution) where
       pairs_join (variables_of x) (variables_of y) (variables_along xs) (variables_along ys)
       (subst (λ z. Pairs (variables_of x) (variables_of z)) (sym p.0) (term_pairs x (ap (apply s) (sym p.0) ∙ sym p.1))) (twins_pairs xs ys p.2)
 
-  -- Two substitutions that go through each other
-  module _ (forth : Through s t) (back : Through t s) where
-    -- give the query's variables renamed values,
-    value_twins : (ones : List (Bytes × ℕ)) → Twins (map (λ (v : Bytes × ℕ). s [] v.1) ones) (map (λ (v : Bytes × ℕ). t [] v.1) ones)
-    value_twins [] = tt
-    value_twins (v ∷ ones) = (forth [] v.1, back [] v.1, value_twins ones)
+  -- what t makes of terms that s gives back are their twins
+  twins_of : (xs : List Term) → map (apply s) (map (apply t) xs) ≡ xs → Twins xs (map (apply t) xs)
+  twins_of [] e = tt
+  twins_of (x ∷ xs) e =
+      let here : apply s (apply t x) ≡ x = cc in
+      let rest : map (apply s) (map (apply t) xs) ≡ xs = cc in
+      (refl, sym here, twins_of xs rest)
 
-    -- and make renamed goals,
-    goal_twins : (gs : List Arithmetic) → Twins (map (λ g. apply s (goal_term g)) gs) (map (λ g. apply t (goal_term g)) gs)
-    goal_twins [] = tt
-    goal_twins (g ∷ gs) = (apply_through s t forth (goal_term g), apply_through t s back (goal_term g), goal_twins gs)
+  -- twins of lists that are joined, where the first parts are equally long
+  twins_apart : (xs ys us zs : List Term) → length xs ≡ length ys → Twins (xs ++ us) (ys ++ zs) → Twins xs ys × Twins us zs
+  twins_apart [] [] us zs e p = (tt, p)
+  twins_apart [] (y ∷ ys) us zs e p = absurd (omega arith)
+  twins_apart (x ∷ xs) [] us zs e p = absurd (omega arith)
+  twins_apart (x ∷ xs) (y ∷ ys) us zs e p = let r = twins_apart xs ys us zs (omega arith) p.2 in ((p.0, p.1, r.0), r.1)
 
-    module _ (names : List Bytes) (vs ws : List Variable) (known : Pairs vs ws) where
-      values_same : (ones : List (Bytes × ℕ)) → map (shown_value names vs s) ones ≡ map (shown_value names ws t) ones
-      values_same [] = refl
-      values_same (v ∷ ones) =
-          let one : shown names vs (s [] v.1) ≡ shown names ws (t [] v.1) = shown_twin names vs ws known (s [] v.1) (t [] v.1) (forth [] v.1) (back [] v.1) in
-          rw (one, values_same ones) refl
+  -- Values f and g of the query's variables
+  module _ (f g : Substitution) where
+    abbrev AreTwins : ℕ → Type 0
+    AreTwins k = (g [] k ≡ apply t (f [] k)) × (f [] k ≡ apply s (g [] k))
 
-      goals_same : (gs : List Arithmetic) → map (shown names vs) (map (λ g. apply s (goal_term g)) gs) ≡ map (shown names ws) (map (λ g. apply t (goal_term g)) gs)
-      goals_same [] = refl
-      goals_same (g ∷ gs) =
-          let one : shown names vs (apply s (goal_term g)) ≡ shown names ws (apply t (goal_term g)) =
-          shown_twin names vs ws known (apply s (goal_term g)) (apply t (goal_term g)) (apply_through s t forth (goal_term g)) (apply_through t s back (goal_term g)) in
-          rw (one, goals_same gs) refl
+    -- are twins at each number below n, where the lists of them are,
+    numbered_twins : (n : ℕ) → Twins (map (f []) (numbers_below n)) (map (g []) (numbers_below n)) → (k : ℕ) → k < n → AreTwins k
+    numbered_twins zero p k lt = absurd (omega arith)
+    numbered_twins (suc n) p k lt =
+        let ns : List ℕ = numbers_below n in
+        let ends : Twins (map (f []) ns ++ f [] n ∷ []) (map (g []) ns ++ g [] n ∷ []) = rw (← map-append (f []) ns (n ∷ []), ← map-append (g []) ns (n ∷ [])) p in
+        let r = twins_apart (map (f []) ns) (map (g []) ns) (f [] n ∷ []) (g [] n ∷ []) (length-map ns (f []) ∙ sym (length-map ns (g []))) ends in
+        ⊎_elim
+        (λ (low : k < n). numbered_twins n r.0 k low)
+        (λ (high : n ≤ k). let last : n ≡ k = omega arith in subst AreTwins last (r.1.0, r.1.1))
+        (cases_lt k n)
 
-      waiting_same : (gs : List Arithmetic) → with_waiting names vs (map (λ g. apply s (goal_term g)) gs) ≡ with_waiting names ws (map (λ g. apply t (goal_term g)) gs)
-      waiting_same [] = refl
-      waiting_same (g ∷ gs) = ap (λ l. codes " with " ++ joined l) (goals_same (g ∷ gs))
+    -- and so are those of variables that are shown.
+    value_twins : (n : ℕ) → ((k : ℕ) → k < n → AreTwins k) → (ones : List (Bytes × ℕ)) → AllBelow n ones
+        → Twins (map (λ (v : Bytes × ℕ). f [] v.1) ones) (map (λ (v : Bytes × ℕ). g [] v.1) ones)
+    value_twins n known [] low = tt
+    value_twins n known (v ∷ ones) low = let one = known v.1 low.0 in (one.0, one.1, value_twins n known ones low.1)
 
-    -- so their lines are the same.
-    through_line : (P : Program) (gs : List Arithmetic) → line P s gs ≡ line P t gs
-    through_line P gs =
-        let ones : List (Bytes × ℕ) = shown_variables 0 P.query.written in
-        let xs : List Term = map (λ (v : Bytes × ℕ). s [] v.1) ones ++ map (λ g. apply s (goal_term g)) gs in
-        let ys : List Term = map (λ (v : Bytes × ℕ). t [] v.1) ones ++ map (λ g. apply t (goal_term g)) gs in
-        let twins : Twins xs ys = twins_join (map (λ (v : Bytes × ℕ). s [] v.1) ones) (map (λ (v : Bytes × ℕ). t [] v.1) ones) (map (λ g. apply s (goal_term g)) gs) (map (λ g. apply t (goal_term g)) gs) (value_twins ones) (goal_twins gs) in
-        let vs : List Variable = first_seen [] (variables_along xs) in
-        let ws : List Variable = first_seen [] (variables_along ys) in
-        let known : Pairs vs ws = first_seen_pairs [] [] (variables_along xs) (variables_along ys) tt (twins_pairs xs ys twins) in
-        rw (values_same P.names vs ws known ones, waiting_same P.names vs ws known gs) refl
+    -- They are written alike,
+    values_same : (names : List Bytes) (vs ws : List Variable) → Pairs vs ws → (ones : List (Bytes × ℕ))
+        → Twins (map (λ (v : Bytes × ℕ). f [] v.1) ones) (map (λ (v : Bytes × ℕ). g [] v.1) ones)
+        → map (shown_value names vs f) ones ≡ map (shown_value names ws g) ones
+    values_same names vs ws known [] p = refl
+    values_same names vs ws known (v ∷ ones) p =
+        let one : shown names vs (f [] v.1) ≡ shown names ws (g [] v.1) = shown_twin names vs ws known (f [] v.1) (g [] v.1) p.0 p.1 in
+        rw (one, values_same names vs ws known ones p.2) refl
 
--- Two most general solutions of equations that entail each other give one line.
+  -- and so are goals that are twins.
+  goals_same : (names : List Bytes) (vs ws : List Variable) → Pairs vs ws → (gs hs : List Term) → Twins gs hs → map (shown names vs) gs ≡ map (shown names ws) hs
+  goals_same names vs ws known [] [] p = refl
+  goals_same names vs ws known [] (h ∷ hs) p = elim p [ ]
+  goals_same names vs ws known (g ∷ gs) [] p = elim p [ ]
+  goals_same names vs ws known (g ∷ gs) (h ∷ hs) p = rw (shown_twin names vs ws known g h p.0 p.1, goals_same names vs ws known gs hs p.2) refl
+
+  waiting_same : (names : List Bytes) (vs ws : List Variable) → Pairs vs ws → (gs hs : List Term) → Twins gs hs → with_waiting names vs gs ≡ with_waiting names ws hs
+  waiting_same names vs ws known [] [] p = refl
+  waiting_same names vs ws known [] (h ∷ hs) p = elim p [ ]
+  waiting_same names vs ws known (g ∷ gs) [] p = elim p [ ]
+  waiting_same names vs ws known (g ∷ gs) (h ∷ hs) p = ap (λ l. codes " with " ++ joined l) (goals_same names vs ws known (g ∷ gs) (h ∷ hs) p)
+
+  -- So their lines are the same.
+  twins_line : (P : Program) (f g : Substitution) (gs hs : List Term)
+      → Twins (map (λ (v : Bytes × ℕ). f [] v.1) (shown_variables 0 P.query.written)) (map (λ (v : Bytes × ℕ). g [] v.1) (shown_variables 0 P.query.written))
+      → Twins gs hs → line_of P f gs ≡ line_of P g hs
+  twins_line P f g gs hs values goals =
+      let ones : List (Bytes × ℕ) = shown_variables 0 P.query.written in
+      let xs : List Term = map (λ (v : Bytes × ℕ). f [] v.1) ones ++ gs in
+      let ys : List Term = map (λ (v : Bytes × ℕ). g [] v.1) ones ++ hs in
+      let twins : Twins xs ys = twins_join (map (λ (v : Bytes × ℕ). f [] v.1) ones) (map (λ (v : Bytes × ℕ). g [] v.1) ones) gs hs values goals in
+      let vs : List Variable = first_seen [] (variables_along xs) in
+      let ws : List Variable = first_seen [] (variables_along ys) in
+      let known : Pairs vs ws = first_seen_pairs [] [] (variables_along xs) (variables_along ys) tt (twins_pairs xs ys twins) in
+      rw (values_same f g P.names vs ws known ones values, waiting_same P.names vs ws known gs hs goals) refl
+
+-- the variables that are shown have numbers from k on, below as many as there are
+shown_below : (k n : ℕ) (written : List Bytes) → k + length written ≤ n → AllBelow n (shown_variables k written)
+shown_below k n [] few = tt
+shown_below k n (w ∷ written) few =
+    let rest : AllBelow n (shown_variables (suc k) written) = shown_below (suc k) n written (omega arith) in
+    let here : k < n = omega arith in
+    elim (begins_underscore w) as (λ b. AllBelow n (cond b (shown_variables (suc k) written) ((w, k) ∷ shown_variables (suc k) written))) [ true ↦ rest | false ↦ (here, rest) ]
+
+-- Values of the query's variables with goals that wait, and variants of them, give one line.
+pub variants_line : (P : Program) (n : ℕ) (f g : Substitution) (gs hs : List Term) → length P.query.written ≤ n → length gs ≡ length hs
+    → AreVariants (map (f []) (numbers_below n) ++ gs) (map (g []) (numbers_below n) ++ hs) → line_of P f gs ≡ line_of P g hs
+variants_line P n f g gs hs few long variants =
+    let t : Substitution = variants.0.0 in
+    let s : Substitution = variants.1.0 in
+    let xs : List Term = map (f []) (numbers_below n) ++ gs in
+    let ys : List Term = map (g []) (numbers_below n) ++ hs in
+    let forth : map (apply t) xs ≡ ys = variants.0.1 in
+    let back : map (apply s) (map (apply t) xs) ≡ xs = ap (map (apply s)) forth ∙ variants.1.1 in
+    let twins : Twins s t xs ys = subst (λ zs. Twins s t xs zs) forth (twins_of s t xs back) in
+    let apart = twins_apart s t (map (f []) (numbers_below n)) (map (g []) (numbers_below n)) gs hs (length-map (numbers_below n) (f []) ∙ sym (length-map (numbers_below n) (g []))) twins in
+    twins_line s t P f g gs hs (value_twins s t f g n (numbered_twins s t f g n apart.0) (shown_variables 0 P.query.written) (shown_below 0 n P.query.written (omega arith))) apart.1
+
+maps_through : (s t : Substitution) → Through s t → (xs : List Term) → map (apply t) (map (apply s) xs) ≡ map (apply t) xs
+maps_through s t h [] = refl
+maps_through s t h (x ∷ xs) = let one : apply t (apply s x) ≡ apply t x = sym (apply_through s t h x) in rw (one, maps_through s t h xs) refl
+
+-- Two most general solutions of equations that entail each other make variants of any terms.
+pub general_variants : (es ds : List Equation) (s t : Substitution) (xs : List Term) → MostGeneral s es → MostGeneral t ds → Entails es ds → Entails ds es
+    → AreVariants (map (apply s) xs) (map (apply t) xs)
+general_variants es ds s t xs m n f b = ((t, maps_through s t (m.1 t (b t n.0)) xs), (s, maps_through t s (n.1 s (f s m.0)) xs))
+
+values_and_goals : (s : Substitution) (ns : List ℕ) (gs : List Arithmetic)
+    → map (apply s) (map (λ k. variable [] k) ns ++ map goal_term gs) ≡ map (s []) ns ++ map (λ g. apply s (goal_term g)) gs
+values_and_goals s [] [] = refl
+values_and_goals s [] (g ∷ gs) = ap (λ (l : List Term). apply s (goal_term g) ∷ l) (values_and_goals s [] gs)
+values_and_goals s (k ∷ ns) gs = ap (λ (l : List Term). s [] k ∷ l) (values_and_goals s ns gs)
+
+-- So they give one line.
 pub one_line : (P : Program) (es ds : List Equation) (s t : Substitution) (gs : List Arithmetic) → MostGeneral s es → MostGeneral t ds → Entails es ds → Entails ds es → line P s gs ≡ line P t gs
-one_line P es ds s t gs m n f b = through_line s t (m.1 t (b t n.0)) (n.1 s (f s m.0)) P gs
+one_line P es ds s t gs m n f b =
+    let size : ℕ = length P.query.written in
+    let xs : List Term = map (λ k. variable [] k) (numbers_below size) ++ map goal_term gs in
+    let variants : AreVariants (map (s []) (numbers_below size) ++ map (λ g. apply s (goal_term g)) gs) (map (t []) (numbers_below size) ++ map (λ g. apply t (goal_term g)) gs) =
+    subst (λ ys. AreVariants ys (map (t []) (numbers_below size) ++ map (λ g. apply t (goal_term g)) gs)) (values_and_goals s (numbers_below size) gs)
+    (subst (λ ys. AreVariants (map (apply s) xs) ys) (values_and_goals t (numbers_below size) gs) (general_variants es ds s t xs m n f b)) in
+    variants_line P size s t (map (λ g. apply s (goal_term g)) gs) (map (λ g. apply t (goal_term g)) gs) (omega arith) (length-map gs (λ g. apply s (goal_term g)) ∙ sym (length-map gs (λ g. apply t (goal_term g)))) variants

@@ -5,7 +5,7 @@
 //! alone, proved for all programs, trees and limits. The proofs' own lemmas stand in `proofs/`.
 #![tactic(auto)]
 
-ghost use Rattle.std.specs.Prelude.{ℕ, ◌≡◌, ◌+◌, ◌<◌, ◌≤◌, ◌≢◌, ◌⊎◌, ◌↔◌, List, [], ◌∷◌, ◌++◌, AllPairs, Contains, Some};
+ghost use Rattle.std.specs.Prelude.{ℕ, ◌≡◌, ◌+◌, ◌<◌, ◌≤◌, ◌≢◌, ◌⊎◌, ◌↔◌, List, [], ◌∷◌, ◌++◌, AllPairs, Contains, Some, map, length};
 ghost use Rattle.and_model.specs.Terms.{Path, Term, Substitution, apply};
 ghost use Rattle.and_model.specs.Solutions.{Equation, Solvable, Entails, MostGeneral};
 ghost use Rattle.and_model.specs.Programs.{Program, Arithmetic};
@@ -15,7 +15,8 @@ ghost use Rattle.and_model.specs.Trees.{Agenda, Tree, QueryTree, query_agenda, b
 ghost use Rattle.and_model.specs.Reached.{Step, Shut, Dead, Split, Steps, Reached, ReachedBy, Numbers, Fork, Forks};
 ghost use Rattle.and_model.specs.Limits.{Cut, OverLimit};
 ghost use Rattle.and_model.specs.Reductions.{Reduction, Makes};
-ghost use Rattle.and_model.specs.Lines.{line};
+ghost use Rattle.and_model.specs.Lines.{line_of, line};
+ghost use Rattle.and_model.specs.Stands.{numbers_below, AreVariants};
 ghost use Rattle.and_model.specs.Codes.{IsProperPrefix};
 ghost use Rattle.and_model.specs.Listing.{Entry, Listing, Exhausted};
 ghost use Rattle.and_model.specs.Prefixes.{IsPrefix};
@@ -40,6 +41,21 @@ pub fn unification()
     ensures composed { (s r : Substitution) (es : List Equation) (a b : Term) → MostGeneral s es
         → MostGeneral r ((apply s a, apply s b) ∷ [])
         → MostGeneral (λ q k. apply r (s q k)) ((a, b) ∷ es) }
+{}
+
+/// Two most general solutions of equations that entail each other make variants of any terms.
+pub fn general_solutions_make_variants()
+    ensures { (es ds : List Equation) (s t : Substitution) (terms : List Term)
+        → MostGeneral s es → MostGeneral t ds → Entails es ds → Entails ds es
+        → AreVariants (map (apply s) terms) (map (apply t) terms) }
+{}
+
+/// Values of the query's variables with goals that wait, and variants of them, give one line.
+pub fn variants_give_one_line()
+    ensures { (P : Program) (n : ℕ) (s t : Substitution) (goals others : List Term)
+        → length P.query.written ≤ n → length goals ≡ length others
+        → AreVariants (map (s []) (numbers_below n) ++ goals) (map (t []) (numbers_below n) ++ others)
+        → line_of P s goals ≡ line_of P t others }
 {}
 
 /// One line: two most general solutions of equations that entail each other give one line.

@@ -1,31 +1,7 @@
 -- The values of ground terms, in 64 bits (ISO 13211-1, section 9, without its exceptions: where there is no number, there is no value).
 use Rattle.std.specs.Prelude.{ℕ, ◌-◌, ◌/◌, ◌^◌, suc, ℤ, pos, negsuc, ◌+ℤ◌, ◌-ℤ◌, ◌*ℤ◌, neg_ℤ, int_div, int_le, int_lt, Bool, false, not, ◌&&◌, List, [], ◌∷◌, Option, Some, None, nat_eq, if◌then◌else◌}
 use Rattle.and_model.specs.Terms.{Term, Terms, variable, number, compound, none, more}
-
--- Where these names stand in every table of names; Programs has the whole list.
-abbrev pub plus : ℕ
-plus = 11
-
-abbrev pub minus : ℕ
-minus = 12
-
-abbrev pub times : ℕ
-times = 13
-
-abbrev pub divide : ℕ
-divide = 14
-
-abbrev pub modulo : ℕ
-modulo = 15
-
-abbrev pub remainder : ℕ
-remainder = 16
-
-abbrev pub least : ℕ
-least = 17
-
-abbrev pub greatest : ℕ
-greatest = 18
+use Rattle.and_model.specs.declared.builtins.TheConstants.{PLUS, MINUS, TIMES, DIVIDE, MODULO, REMAINDER, LEAST, GREATEST}
 
 -- a number of 64 bits with a sign, else none
 abbrev pub in_range : ℤ → Option ℤ
@@ -48,18 +24,18 @@ is_zero (negsuc n) = false
 -- The table of the operations on two numbers. (`int_div` is the quotient, truncated toward zero.)
 unfoldable pub of_two : ℕ → ℤ → ℤ → Option ℤ
 of_two c a b =
-    if nat_eq c plus then in_range (a +ℤ b)
-    else if nat_eq c minus then in_range (a -ℤ b)
-    else if nat_eq c times then in_range (a *ℤ b)
-    else if nat_eq c divide then (if is_zero b then None else in_range (int_div a b))
-    else if nat_eq c modulo then (if is_zero b then None else Some (a -ℤ b *ℤ floor_quotient a b))
-    else if nat_eq c remainder then (if is_zero b then None else Some (a -ℤ b *ℤ int_div a b))
-    else if nat_eq c least then Some (if int_le a b then a else b)
-    else if nat_eq c greatest then Some (if int_le a b then b else a)
+    if nat_eq c PLUS then in_range (a +ℤ b)
+    else if nat_eq c MINUS then in_range (a -ℤ b)
+    else if nat_eq c TIMES then in_range (a *ℤ b)
+    else if nat_eq c DIVIDE then (if is_zero b then None else in_range (int_div a b))
+    else if nat_eq c MODULO then (if is_zero b then None else Some (a -ℤ b *ℤ floor_quotient a b))
+    else if nat_eq c REMAINDER then (if is_zero b then None else Some (a -ℤ b *ℤ int_div a b))
+    else if nat_eq c LEAST then Some (if int_le a b then a else b)
+    else if nat_eq c GREATEST then Some (if int_le a b then b else a)
     else None
 
 unfoldable pub of_one : ℕ → ℤ → Option ℤ
-of_one c a = if nat_eq c minus then in_range (neg_ℤ a) else None
+of_one c a = if nat_eq c MINUS then in_range (neg_ℤ a) else None
 
 -- an operation on values; a part without a value has none
 abbrev pub operated : ℕ → List (Option ℤ) → Option ℤ

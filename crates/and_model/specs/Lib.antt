@@ -2,6 +2,7 @@ pub mod Terms
 pub mod Solutions
 pub mod Arithmetic
 pub mod Programs
+pub mod Simple
 pub mod Closure
 pub mod Trees
 pub mod Candidates
@@ -11,13 +12,8 @@ pub mod Reductions
 pub mod Lines
 pub mod Listing
 pub mod Output
-pub mod Views
 pub mod Codes
 pub mod Words
 pub mod Prefixes
 pub mod Stands
-pub mod Modes
 pub mod Store
-pub mod PlainTree
-pub mod Histories
-pub mod Covering

@@ -4,6 +4,7 @@ use Rattle.std.specs.Fmt.{decimal, signed_decimal}
 use Rattle.and_model.specs.Terms.{Path, Term, Terms, variable, number, compound, none, more, variables_of, Substitution, apply}
 use Rattle.and_model.specs.Arithmetic.{Relation, less, greater, at_most, at_least, same, differs}
 use Rattle.and_model.specs.Programs.{Program, Arithmetic, is, compare}
+use Rattle.and_model.specs.declared.builtins.TheConstants.{IS, LESS, GREATER, AT_MOST, AT_LEAST, SAME, DIFFERS, POINT, NIL}
 
 -- A text is a list of bytes.
 abbrev pub Bytes : Type 0
@@ -70,10 +71,10 @@ abbrev pub shown_name : Bytes → Bytes
 shown_name bs = cond (is_plain_name bs || is_symbol_name bs || is_brackets bs) bs (39 ∷ all_escaped bs ++ 39 ∷ [])
 
 abbrev pub point_name : ℕ
-point_name = 19
+point_name = POINT
 
 abbrev pub nil_name : ℕ
-nil_name = 20
+nil_name = NIL
 
 -- a list cell: two arguments under the name `.`
 abbrev pub is_cell : ℕ → Terms → Bool
@@ -141,16 +142,16 @@ module _ (names : List Bytes) (vs : List (Path × ℕ)) where
 
 -- the names of the comparisons in the table
 abbrev pub relation_name : Relation → ℕ
-relation_name less = 5
-relation_name greater = 6
-relation_name at_most = 7
-relation_name at_least = 8
-relation_name same = 9
-relation_name differs = 10
+relation_name less = LESS
+relation_name greater = GREATER
+relation_name at_most = AT_MOST
+relation_name at_least = AT_LEAST
+relation_name same = SAME
+relation_name differs = DIFFERS
 
 -- an arithmetic goal as a term
 abbrev pub goal_term : Arithmetic → Term
-goal_term (is l r) = compound 4 (more l (more r none))
+goal_term (is l r) = compound IS (more l (more r none))
 goal_term (compare r a b) = compound (relation_name r) (more a (more b none))
 
 abbrev pub begins_underscore : Bytes → Bool
@@ -184,10 +185,13 @@ abbrev pub values_or_true : List Bytes → Bytes
 values_or_true [] = codes "true"
 values_or_true (t ∷ ts) = joined (t ∷ ts)
 
--- The line of an answer: the query's variables under a substitution, and the goals that wait, variables without a value named along the line.
-abbrev pub line : Program → Substitution → List Arithmetic → Bytes
-line P s waiting =
+-- The line of the query's variables under a substitution and of goals that wait (as terms), variables without a value named along the line.
+abbrev pub line_of : Program → Substitution → List Term → Bytes
+line_of P s goals =
     let shown_ones = shown_variables 0 P.query.written in
-    let goals = map (λ g. apply s (goal_term g)) waiting in
     let vs = first_seen [] (variables_along (map (λ (v : Bytes × ℕ). s [] v.1) shown_ones ++ goals)) in
     values_or_true (map (shown_value P.names vs s) shown_ones) ++ with_waiting P.names vs goals
+
+-- The line of an answer: the query's variables, and the goals that wait, under a substitution.
+abbrev pub line : Program → Substitution → List Arithmetic → Bytes
+line P s waiting = line_of P s (map (λ g. apply s (goal_term g)) waiting)

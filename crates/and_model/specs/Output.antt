@@ -38,3 +38,7 @@ OverLeft P limit cs c =
     ((cs ≡ []) × (c ≡ 0) × (limit < clause_weight P.query))
     ⊎ ((t : QueryTree P) × (unfold_code P cs ≡ Some t) × (weight t ≤ limit) × (es : List Equation) × (gs : List Arithmetic) × Closed t es gs × Solvable es
     × (o : Open t) × IsLeftmost t o × Of P (call_of t o) c × (limit < weight t + clause_weight (clause_at P c)))
+
+-- nothing of the program is left over
+abbrev pub NoneOver : Program → (limit : ℕ) → Type 0
+NoneOver P limit = (cs : List ℕ) (c : ℕ) → OverLeft P limit cs c → ⊥

@@ -1,39 +1,43 @@
 -- Programs of pure clauses, and what they weigh (Lloyd, section 2; the weights are this project's own).
-use Rattle.std.specs.Prelude.{ℕ, suc, ◌+◌, ◌≡◌, Bool, true, false, List, [], ◌∷◌, get_or, length, nat_eq, leb, ltb, ◌&&◌, codes}
+use Rattle.std.specs.Prelude.{ℕ, suc, ◌+◌, ◌≡◌, Bool, true, false, List, [], ◌∷◌, get_or, length, nat_eq, leb, ltb, ◌&&◌, codes, map}
 use Rattle.and_model.specs.Terms.{Path, Term, Terms, variable, number, compound, none, more, framed}
 use Rattle.and_model.specs.Arithmetic.{Relation}
+use Rattle.and_model.specs.declared.builtins.TheConstants.{TRUE, FAIL, CONJUNCTION, EQUAL, IS, LESS, GREATER, AT_MOST, AT_LEAST, SAME, DIFFERS, PLUS, MINUS, TIMES, DIVIDE, MODULO, REMAINDER, LEAST, GREATEST, POINT, NIL, DISJUNCTION, IF_THEN, NOT_PROVABLE, CUT, NECK, QUERY}
 
--- The names that every table of names begins with, from number 0 on.
-abbrev pub builtin_names : List (List ℕ)
-builtin_names =
-    codes "true"
-    ∷ codes "fail"
-    ∷ codes ","
-    ∷ codes "="
-    ∷ codes "is"
-    ∷ codes "<"
-    ∷ codes ">"
-    ∷ codes "=<"
-    ∷ codes ">="
-    ∷ codes "=:="
-    ∷ codes "=\\="
-    ∷ codes "+"
-    ∷ codes "-"
-    ∷ codes "*"
-    ∷ codes "//"
-    ∷ codes "mod"
-    ∷ codes "rem"
-    ∷ codes "min"
-    ∷ codes "max"
-    ∷ codes "."
-    ∷ codes "[]"
-    ∷ codes ";"
-    ∷ codes "->"
-    ∷ codes "\\+"
-    ∷ codes "!"
-    ∷ codes ":-"
-    ∷ codes "?-"
+-- The names that every table of names begins with, each with its number, which is its place there.
+abbrev pub numbered_names : List (ℕ × List ℕ)
+numbered_names =
+    (TRUE, codes "true")
+    ∷ (FAIL, codes "fail")
+    ∷ (CONJUNCTION, codes ",")
+    ∷ (EQUAL, codes "=")
+    ∷ (IS, codes "is")
+    ∷ (LESS, codes "<")
+    ∷ (GREATER, codes ">")
+    ∷ (AT_MOST, codes "=<")
+    ∷ (AT_LEAST, codes ">=")
+    ∷ (SAME, codes "=:=")
+    ∷ (DIFFERS, codes "=\\=")
+    ∷ (PLUS, codes "+")
+    ∷ (MINUS, codes "-")
+    ∷ (TIMES, codes "*")
+    ∷ (DIVIDE, codes "//")
+    ∷ (MODULO, codes "mod")
+    ∷ (REMAINDER, codes "rem")
+    ∷ (LEAST, codes "min")
+    ∷ (GREATEST, codes "max")
+    ∷ (POINT, codes ".")
+    ∷ (NIL, codes "[]")
+    ∷ (DISJUNCTION, codes ";")
+    ∷ (IF_THEN, codes "->")
+    ∷ (NOT_PROVABLE, codes "\\+")
+    ∷ (CUT, codes "!")
+    ∷ (NECK, codes ":-")
+    ∷ (QUERY, codes "?-")
     ∷ []
+
+abbrev pub builtin_names : List (List ℕ)
+builtin_names = map (λ (n : ℕ × List ℕ). n.1) numbered_names
 
 -- A goal of arithmetic: `left is right`, or a comparison of two terms.
 pub data Arithmetic : Type 0 where

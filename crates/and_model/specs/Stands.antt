@@ -9,6 +9,7 @@ use Rattle.and_model.specs.Trees.{Agenda, Tree, QueryTree, query_agenda, done, l
 use Rattle.and_model.specs.Reached.{Dead, ReachedBy}
 use Rattle.and_model.specs.Reductions.{Reduction, PlaceHas, Makes}
 use Rattle.and_model.specs.Lines.{goal_term}
+use Rattle.and_model.specs.declared.builtins.TheConstants.{EQUAL, FAIL}
 use Rattle.and_model.specs.declared.goal.Goal.{Goal}
 
 -- What a branch keeps.
@@ -50,9 +51,9 @@ IsFramed rs f = PlaceHas rs f.goal.node f.frame × ClauseHas rs f.goal.node f.go
 -- an item of a body as a term
 abbrev pub item_term : Item → Term
 item_term (call g) = g
-item_term (equal a b) = compound 3 (more a (more b none))
+item_term (equal a b) = compound EQUAL (more a (more b none))
 item_term (arithmetic a) = goal_term a
-item_term fail = compound 1 none
+item_term fail = compound FAIL none
 
 -- the item of its clause that a goal is
 abbrev pub term_of : Program → Goal → Term

@@ -1,5 +1,5 @@
 -- Terms and substitutions (Lloyd, Foundations of Logic Programming, section 4).
-use Rattle.std.specs.Prelude.{ℕ, ℤ, ◌&&◌, Bool, true, false, List, [], ◌∷◌, ◌++◌}
+use Rattle.std.specs.Prelude.{ℕ, suc, ℤ, ◌&&◌, Bool, true, false, List, [], ◌∷◌, ◌++◌}
 
 -- Each clause that is used in a proof has variables of its own. They live in a frame, which is named by the path of the clause
 -- in the proof: the query has the empty path, and the clause that takes call number i of a body has that body's path and then i.
@@ -16,6 +16,11 @@ mutual
   pub data Terms : Type 0 where
     none : Terms
     more : Term → Terms → Terms
+
+-- how many terms there are
+abbrev pub width : Terms → ℕ
+width none = 0
+width (more t ts) = suc (width ts)
 
 abbrev mutual
   -- a term is ground where it has no variable

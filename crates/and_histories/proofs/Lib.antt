@@ -1,0 +1,4 @@
+pub mod Determined
+pub mod Carrying
+pub mod KeptKeys
+pub mod CoveringForks

@@ -1,0 +1,3 @@
+pub mod PlainTree
+pub mod Histories
+pub mod Covering

@@ -1,5 +1,0 @@
-use Rattle.and_model.proofs.laws_of_histories.covering_forks.Goals as goal
-use Rattle.and_model.proofs.CoveringForks
-
-pub returns : goal.returns
-returns c = CoveringForks.covering_forks

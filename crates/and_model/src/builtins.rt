@@ -1,0 +1,65 @@
+//! The numbers of the names that every table of names begins with.
+
+ghost use Rattle.std.specs.Prelude.{ℕ, ◌≡◌, List, [], ◌∷◌, map};
+ghost use Rattle.and_model.specs.Programs.{numbered_names};
+
+/// `true`, the empty body, and the head of a query.
+pub const TRUE: u32 = 0;
+/// `fail`, a goal without a solution.
+pub const FAIL: u32 = 1;
+/// `,`, which joins the goals of a body.
+pub const CONJUNCTION: u32 = 2;
+/// `=`, the equation of two terms.
+pub const EQUAL: u32 = 3;
+/// `is`, which gives a term the value of another.
+pub const IS: u32 = 4;
+/// `<`
+pub const LESS: u32 = 5;
+/// `>`
+pub const GREATER: u32 = 6;
+/// `=<`
+pub const AT_MOST: u32 = 7;
+/// `>=`
+pub const AT_LEAST: u32 = 8;
+/// `=:=`, equal values.
+pub const SAME: u32 = 9;
+/// `=\=`, values that are not equal.
+pub const DIFFERS: u32 = 10;
+/// `+`
+pub const PLUS: u32 = 11;
+/// `-`, of one number or of two.
+pub const MINUS: u32 = 12;
+/// `*`
+pub const TIMES: u32 = 13;
+/// `//`, the quotient, truncated toward zero.
+pub const DIVIDE: u32 = 14;
+/// `mod`, the remainder with the sign of the right number.
+pub const MODULO: u32 = 15;
+/// `rem`, the remainder with the sign of the left number.
+pub const REMAINDER: u32 = 16;
+/// `min`
+pub const LEAST: u32 = 17;
+/// `max`
+pub const GREATEST: u32 = 18;
+/// `.`, of two arguments: a list by its first element and its rest.
+pub const POINT: u32 = 19;
+/// `[]`, the empty list.
+pub const NIL: u32 = 20;
+/// `;`, a disjunction of goals, which no body may have.
+pub const DISJUNCTION: u32 = 21;
+/// `->`, if-then, which no body may have.
+pub const IF_THEN: u32 = 22;
+/// `\+`, not provable, which no body may have.
+pub const NOT_PROVABLE: u32 = 23;
+/// `!`, the cut, which no body may have.
+pub const CUT: u32 = 24;
+/// `:-`, between the head of a clause and its body.
+pub const NECK: u32 = 25;
+/// `?-`, before a query.
+pub const QUERY: u32 = 26;
+
+/// Each of these numbers is the place of its name in every table.
+pub fn numbers_of_names_are_places()
+    ensures { map (λ (n : ℕ × List ℕ). n.0) numbered_names
+        ≡ 0 ∷ 1 ∷ 2 ∷ 3 ∷ 4 ∷ 5 ∷ 6 ∷ 7 ∷ 8 ∷ 9 ∷ 10 ∷ 11 ∷ 12 ∷ 13 ∷ 14 ∷ 15 ∷ 16 ∷ 17 ∷ 18 ∷ 19 ∷ 20 ∷ 21 ∷ 22 ∷ 23 ∷ 24 ∷ 25 ∷ 26 ∷ [] }
+{}

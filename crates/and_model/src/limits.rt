@@ -1,0 +1,20 @@
+//! The limits on programs, and on what a search of their answers may take.
+
+/// The most bytes of a program's text.
+pub const MAX_BYTES: usize = 1_048_576;
+/// The most clauses of a program, without the query.
+pub const MAX_CLAUSES: usize = 65_535;
+/// The most arguments of a term.
+pub const MAX_ARGUMENTS: usize = 255;
+/// The most variables of a clause.
+pub const MAX_VARIABLES: usize = 255;
+/// The most nodes of a program's clauses, in which their terms are kept.
+pub const MAX_NODES: usize = 524_288;
+/// How deep terms of a text may nest.
+pub const MAX_NESTING: u32 = 256;
+/// The limit on the weight of trees where none is given.
+pub const DEFAULT_LIMIT: u32 = 262_144;
+/// The greatest limit on the weight of trees.
+pub const MAX_LIMIT: u32 = 4_194_304;
+/// The most words of a row: a tree has no more variables than it weighs.
+pub const MAX_WORDS: u32 = MAX_LIMIT;
