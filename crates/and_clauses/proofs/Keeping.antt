@@ -7,30 +7,38 @@ use Rattle.and_model.specs.Lines.{Bytes}
 use Rattle.and_model.specs.Terms.{Term}
 use Rattle.and_model.specs.Programs as programs
 use Rattle.and_model.specs.Programs.{Clause, Item}
-use Rattle.and_written.specs.Written.{Written, nodes_of, named}
-use Rattle.and_written.specs.Tables
-use Rattle.and_written.specs.Tables.{Table, with_clause, with_query, clause_of}
-use Rattle.and_written.specs.Skeletons
-use Rattle.and_written.specs.Skeletons.{Shape, node_term, item_of, NodeItem, call, equal, is, compare, fail, IsThere, AllThere, after}
-use Rattle.and_clauses.specs.Items.{node_item}
-use Rattle.and_clauses.specs.Kept.{begins_with_true, IsEntry, AllEntries, IsAsked, IsKept}
-use Rattle.and_clauses.specs.Made.{IsMade}
-use Rattle.and_clauses.specs.Nodes.{entry_clause, shapes_of, shape_of, names_of}
+use Rattle.and_syntax.specs.Written.{Written, nodes_of, named}
+use Rattle.and_syntax.specs.Tables
+use Rattle.and_syntax.specs.Tables.{Table, with_clause, with_query, clause_of}
+use Rattle.and_program.specs.Skeletons
+use Rattle.and_program.specs.Skeletons.{Shape, node_term, item_of, NodeItem, call, equal, is, compare, fail, IsThere, AllThere, after}
+use Rattle.and_program.specs.Items.{node_item}
+use Rattle.and_program.specs.Kept.{begins_with_true, IsEntry, AllEntries}
+use Rattle.and_clauses.specs.Kept.{IsAsked, IsKept}
+use Rattle.and_clauses.specs.Made.{IsTableOf, IsMade}
+use Rattle.and_program.specs.Nodes.{entry_clause, shapes_of, shape_of, names_of}
 use Rattle.and_clauses.specs.Numbered.{Extends}
 use Rattle.and_clauses.specs.Parts.{many}
-use Rattle.and_clauses.specs.Views.{asked_of, is_query}
-use Rattle.and_clauses.specs.declared.data.Entry.{Entry}
+use Rattle.and_clauses.specs.Views.{asked_of, is_query, table_of}
+use Rattle.and_program.specs.declared.entry.Entry.{Entry}
 use Rattle.and_clauses.specs.declared.data.Asked.{Asked}
-use Rattle.and_clauses.specs.declared.data.Node.{Node}
-use Rattle.and_clauses.proofs.NodeTerms.{node_term_front}
+use Rattle.and_clauses.specs.declared.table.ClauseTable.{ClauseTable}
+use Rattle.and_program.specs.declared.node.Node.{Node}
+use Rattle.and_program.proofs.NodeTerms.{node_term_front}
 
 pub one_finished : (ws : List Written) → length ws ≡ 1 → (w : Written) × (ws ≡ w ∷ [])
 one_finished [] e = absurd (omega arith)
 one_finished (w ∷ []) e = (w, refl)
 one_finished (w ∷ v ∷ ws) e = absurd (omega arith)
 
-pub room_is : (n : ℕ) (cs : List Clause) → n ≡ length cs → leb 65535 (length cs) ≡ not (ltb n 65535)
+room_is : (n : ℕ) (cs : List Clause) → n ≡ length cs → leb 65535 (length cs) ≡ not (ltb n 65535)
 room_is n cs e = grind (arith, nat_tests)
+
+-- a table is one of its names and nodes, with room where it has fewer clauses than it may have
+pub table_room : (t : ClauseTable) (n : ℕ) → n ≡ length t.clauses.items → IsTableOf (table_of t) (names_of t.names.keys) (length t.nodes.items) (ltb n 65535)
+table_room t n e =
+    let clause : Entry → Clause = entry_clause (shapes_of t.nodes.items) in
+    record { names_are = refl; nodes_are = refl; has_room = room_is n (map clause t.clauses.items) (e ∙ sym (length-map t.clauses.items clause)) }
 
 begins_more : (ss rest : List Shape) → begins_with_true ss ≡ true → begins_with_true (ss ++ rest) ≡ true
 begins_more [] rest e = cc

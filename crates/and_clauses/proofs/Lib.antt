@@ -1,16 +1,12 @@
-pub mod NodeTerms
 pub mod Drafting
 pub mod Naming
 pub mod Noting
 pub mod Reading
 pub mod Shifting
-pub mod Goaling
+pub mod ConjunctLemmas
 pub mod Halving
 pub mod Noding
 pub mod Adding
 pub mod Keeping
-pub mod PredicateLemmas
 pub mod UnknownLemmas
 pub mod SealingLemmas
-pub mod LoadedLemmas
-pub mod MemberLemmas

@@ -9,11 +9,11 @@ use Rattle.std.proofs.Math.ListN.{drop_of_length-le}
 use Rattle.std.proofs.lemmas.List.{map_push, length-map, length-append, drop_more}
 use Rattle.and_model.specs.Lines.{Bytes}
 use Rattle.and_model.specs.Programs.{builtin_names}
-use Rattle.and_written.specs.Written.{has, place, including, is_new, variable_number}
-use Rattle.and_clauses.specs.declared.draft.Part.{Part}
-use Rattle.and_clauses.specs.Nodes.{names_of}
+use Rattle.and_syntax.specs.Written.{has, place, including, is_new, variable_number}
+use Rattle.and_clauses.specs.declared.draft.DraftPart.{DraftPart}
+use Rattle.and_program.specs.Nodes.{names_of}
 use Rattle.and_clauses.specs.Numbered.{bytes_of, including_all, met_with, met_by}
-use Rattle.and_clauses.specs.Parts.{Piece, variable, integer, compound, piece, pieces}
+use Rattle.and_clauses.specs.Parts.{PartShape, variable, integer, compound, part_shape, part_shapes}
 use Rattle.indexmap.specs.IndexSet.{insert_key}
 
 abbrev pub by_items : Bytes → Vec ℕ Global → Bool
@@ -42,15 +42,12 @@ including_new x v ks new is e =
     ∙ (elim (has v.items (names_of ks)) as P [ true ↦ refl | false ↦ map_push (λ (k : Vec ℕ Global). k.items) ks v ])
     ∙ ap (including (names_of ks)) is
 
-prefix_len-le : (x : Bytes) (names : List Bytes) → place x names ≤ length names
-prefix_len-le x [] = omega arith
-prefix_len-le x (k ∷ names) =
-    let P : Bool → Type 0 = λ b. cond b (1 + place x names) 0 ≤ suc (length names) in
-    let h : place x names ≤ length names = prefix_len-le x names in
-    elim (not (bytes_eq x k)) as P [ true ↦ omega arith | false ↦ omega arith ]
-
 pub place-le : (x : Bytes) (names : List Bytes) → place x names ≤ length names
-place-le x names = prefix_len-le x names
+place-le x [] = omega arith
+place-le x (k ∷ names) =
+    let P : Bool → Type 0 = λ b. cond b (1 + place x names) 0 ≤ suc (length names) in
+    let h : place x names ≤ length names = place-le x names in
+    elim (not (bytes_eq x k)) as P [ true ↦ omega arith | false ↦ omega arith ]
 
 position_else : (p n : ℕ) → p ≤ n → unwrap_or (cond (ltb p n) (Some p) None) n ≡ p
 position_else p n le =
@@ -73,31 +70,31 @@ including_more old new occurring i d total lt e h =
 pub built_in : including_all [] builtin_names ≡ builtin_names
 built_in = refl
 
-pub met_by-grows : (met : List Bytes) (ps : List Piece) → length met ≤ length (met_by met ps)
+pub met_by-grows : (met : List Bytes) (ps : List PartShape) → length met ≤ length (met_by met ps)
 met_by-grows met [] = omega arith
 met_by-grows met (p ∷ ps) = omega (arith, met_with-grows met p, met_by-grows (met_with met p) ps)
   where
-    met_with-grows : (ms : List Bytes) (q : Piece) → length ms ≤ length (met_with ms q)
+    met_with-grows : (ms : List Bytes) (q : PartShape) → length ms ≤ length (met_with ms q)
     met_with-grows ms (variable x) =
         let P : Bool → Type 0 = λ b. length ms ≤ length (cond b (ms ++ x ∷ []) ms) in
         elim (is_new x ms) as P [ true ↦ omega (arith, length-append ms (x ∷ [])) | false ↦ omega arith ]
     met_with-grows ms (integer z) = omega arith
     met_with-grows ms (compound c ns) = omega arith
 
-pub met_more : (old new : List Bytes) (parts : List Part) (i : ℕ) (p : Part) (total : List Bytes) → i < length parts → p ≡ get_or parts i p → new ≡ met_with old (piece p)
-    → met_by old (pieces (drop i parts)) ≡ total → met_by new (pieces (drop (i + 1) parts)) ≡ total
+pub met_more : (old new : List Bytes) (parts : List DraftPart) (i : ℕ) (p : DraftPart) (total : List Bytes) → i < length parts → p ≡ get_or parts i p → new ≡ met_with old (part_shape p)
+    → met_by old (part_shapes (drop i parts)) ≡ total → met_by new (part_shapes (drop (i + 1) parts)) ≡ total
 met_more old new parts i p total lt at e h =
-    let opened : drop i parts ≡ p ∷ drop (i + 1) parts = drop_more parts i p lt ∙ ap (λ (q : Part). q ∷ drop (i + 1) parts) (sym at) in
-    ap (λ (ms : List Bytes). met_by ms (pieces (drop (i + 1) parts))) e ∙ sym (ap (λ (qs : List Part). met_by old (pieces qs)) opened) ∙ h
+    let opened : drop i parts ≡ p ∷ drop (i + 1) parts = drop_more parts i p lt ∙ ap (λ (q : DraftPart). q ∷ drop (i + 1) parts) (sym at) in
+    ap (λ (ms : List Bytes). met_by ms (part_shapes (drop (i + 1) parts))) e ∙ sym (ap (λ (qs : List DraftPart). met_by old (part_shapes qs)) opened) ∙ h
 
-pub too_many : (met total : List Bytes) (ps : List Piece) (n : ℕ) → met_by met ps ≡ total → n ≡ length met → 255 < n → false ≡ leb (length total) 255
+pub too_many : (met total : List Bytes) (ps : List PartShape) (n : ℕ) → met_by met ps ≡ total → n ≡ length met → 255 < n → false ≡ leb (length total) 255
 too_many met total ps n e few many =
     let more : length met ≤ length total = subst (λ (t : List Bytes). length met ≤ length t) e (met_by-grows met ps) in
     grind (arith, nat_tests)
 
-pub few_enough : (met : List Bytes) (parts : List Part) (i : ℕ) (total : List Bytes) → length parts ≤ i → met_by met (pieces (drop i parts)) ≡ total → length met ≤ 255 → true ≡ leb (length total) 255
+pub few_enough : (met : List Bytes) (parts : List DraftPart) (i : ℕ) (total : List Bytes) → length parts ≤ i → met_by met (part_shapes (drop i parts)) ≡ total → length met ≤ 255 → true ≡ leb (length total) 255
 few_enough met parts i total le e few =
-    let same : met ≡ total = sym (ap (λ (qs : List Part). met_by met (pieces qs)) (drop_of_length-le parts le)) ∙ e in
+    let same : met ≡ total = sym (ap (λ (qs : List DraftPart). met_by met (part_shapes qs)) (drop_of_length-le parts le)) ∙ e in
     let some : length total ≤ 255 = subst (λ (t : List Bytes). length t ≤ 255) same few in
     grind (arith, nat_tests)
 

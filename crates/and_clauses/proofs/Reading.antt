@@ -4,24 +4,24 @@ use Rattle.std.proofs.lemmas.List.{append_assoc, length-append, get_or_at}
 use Rattle.and_model.specs.Lines.{Bytes}
 use Rattle.and_model.specs.Terms
 use Rattle.and_model.specs.Terms.{Term, Terms}
-use Rattle.and_written.specs.Written
-use Rattle.and_written.specs.Written.{Written, Many, nodes_of, nodes_in, is_new, place, variable_number, met_after, met_after_all, term_in, terms_in}
-use Rattle.and_written.specs.Skeletons
-use Rattle.and_written.specs.Skeletons.{Shape, row, nth, shape_term, terms_behind, node_term, Falls, IsFalling, AllFall}
+use Rattle.and_syntax.specs.Written
+use Rattle.and_syntax.specs.Written.{Written, Many, nodes_of, nodes_in, is_new, place, variable_number, met_after, met_after_all, term_in, terms_in}
+use Rattle.and_program.specs.Skeletons
+use Rattle.and_program.specs.Skeletons.{Shape, row, nth, shape_term, terms_behind, node_term, Falls, IsFalling, AllFall}
 use Rattle.and_clauses.specs.Numbered.{met_with, met_by, shape_in, shapes_in}
-use Rattle.and_clauses.specs.Parts.{Piece, variable, integer, compound, before_last, roots, postfix, postfix_all, PiecesFall}
-use Rattle.and_clauses.proofs.NodeTerms.{terms_behind-append, length-terms_behind, node_term_front}
+use Rattle.and_clauses.specs.Parts.{PartShape, variable, integer, compound, before_last, roots, postfix, postfix_all, PartsFall}
+use Rattle.and_program.proofs.NodeTerms.{terms_behind-append, length-terms_behind, node_term_front}
 use Rattle.and_clauses.proofs.Drafting.{length-postfix, length-postfix_all, before_last-below}
 
-pub shapes_in-append : (names met : List Bytes) (ps qs : List Piece) → shapes_in names met (ps ++ qs) ≡ shapes_in names met ps ++ shapes_in names (met_by met ps) qs
+pub shapes_in-append : (names met : List Bytes) (ps qs : List PartShape) → shapes_in names met (ps ++ qs) ≡ shapes_in names met ps ++ shapes_in names (met_by met ps) qs
 shapes_in-append names met [] qs = refl
 shapes_in-append names met (p ∷ ps) qs = ap (λ (ss : List Shape). shape_in names met p ∷ ss) (shapes_in-append names (met_with met p) ps qs)
 
-pub met_by-append : (met : List Bytes) (ps qs : List Piece) → met_by met (ps ++ qs) ≡ met_by (met_by met ps) qs
+pub met_by-append : (met : List Bytes) (ps qs : List PartShape) → met_by met (ps ++ qs) ≡ met_by (met_by met ps) qs
 met_by-append met [] qs = refl
 met_by-append met (p ∷ ps) qs = met_by-append (met_with met p) ps qs
 
-pub length-shapes_in : (names met : List Bytes) (ps : List Piece) → length (shapes_in names met ps) ≡ length ps
+pub length-shapes_in : (names met : List Bytes) (ps : List PartShape) → length (shapes_in names met ps) ≡ length ps
 length-shapes_in names met [] = refl
 length-shapes_in names met (p ∷ ps) = ap suc (length-shapes_in names (met_with met p) ps)
 
@@ -52,7 +52,7 @@ mutual
   term_of_postfix names met n ss (Written.variable x) few = last_term ss (Skeletons.variable (variable_number x met)) (n + 0) (few ∙ omega arith)
   term_of_postfix names met n ss (Written.integer z) few = last_term ss (Skeletons.number z) (n + 0) (few ∙ omega arith)
   term_of_postfix names met n ss (Written.compound c ts) few =
-      let ps : List Piece = postfix_all n ts in
+      let ps : List PartShape = postfix_all n ts in
       let inner : List Shape = shapes_in names met ps in
       let s : Shape = Skeletons.compound (place c names) (roots n ts) in
       let size : length (ss ++ inner) ≡ n + nodes_in ts = omega (arith, length-append ss inner, length-shapes_in names met ps, length-postfix_all n ts) in
@@ -64,8 +64,8 @@ mutual
       → row (map (node_term (ss ++ shapes_in names met (postfix_all n ts))) (roots n ts)) ≡ terms_in names met ts
   terms_of_postfix names met n ss Written.none few = refl
   terms_of_postfix names met n ss (Written.more t ts) few =
-      let ps : List Piece = postfix n t in
-      let qs : List Piece = postfix_all (n + nodes_of t) ts in
+      let ps : List PartShape = postfix n t in
+      let qs : List PartShape = postfix_all (n + nodes_of t) ts in
       let first : List Shape = shapes_in names met ps in
       let others : List Shape = shapes_in names (met_by met ps) qs in
       let split : ss ++ shapes_in names met (ps ++ qs) ≡ (ss ++ first) ++ others =
@@ -82,7 +82,7 @@ mutual
       ∙ ap (λ (us : Terms). Terms.more (term_in names met t) us) tail
 
 -- nodes fall as their parts do
-pub AllFall-shapes_in : (names met : List Bytes) (n : ℕ) (ps : List Piece) → PiecesFall n ps → AllFall n (shapes_in names met ps)
+pub AllFall-shapes_in : (names met : List Bytes) (n : ℕ) (ps : List PartShape) → PartsFall n ps → AllFall n (shapes_in names met ps)
 AllFall-shapes_in names met n [] f = tt
 AllFall-shapes_in names met n (variable x ∷ ps) f = (tt, AllFall-shapes_in names (met_with met (variable x)) (suc n) ps f.1)
 AllFall-shapes_in names met n (integer z ∷ ps) f = (tt, AllFall-shapes_in names met (suc n) ps f.1)

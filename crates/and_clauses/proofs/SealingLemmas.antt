@@ -1,5 +1,5 @@
 -- From a table's nodes and entries to its program.
-use Rattle.std.proofs.Common.{ℕ, zero, suc, ◌≡◌, ◌<◌, ◌≤◌, List, [], ◌∷◌, ◌++◌, length, map, get_or, take, drop, Option, Some, Vec, unwrap_or, refl, sym, ap, ◌∙◌, subst, arith, ⊎_elim}
+use Rattle.std.proofs.Common.{ℕ, ◌≡◌, ◌<◌, ◌≤◌, List, [], ◌∷◌, ◌++◌, length, map, get_or, take, drop, Option, Some, Vec, unwrap_or, refl, sym, ap, ◌∙◌, subst, arith, ⊎_elim}
 use Rattle.std.proofs.lemmas.Bool.{cases_lt}
 use Rattle.std.proofs.lemmas.List.{map-append, take-map, drop-map, get_or_past, length-map}
 use Rattle.std.specs.HashMap.{HashMap}
@@ -9,29 +9,27 @@ use Rattle.and_model.specs.Terms
 use Rattle.and_model.specs.Terms.{Term}
 use Rattle.and_model.specs.Programs.{Clause}
 use Rattle.and_model.specs.declared.numbers.ClauseNo.{ClauseNo}
-use Rattle.and_written.specs.Clauses.{arity_of}
-use Rattle.and_written.specs.Skeletons
-use Rattle.and_written.specs.Skeletons.{Shape, row, nth, shape_term, terms_behind, node_term}
-use Rattle.and_written.specs.Tables
-use Rattle.and_written.specs.Tables.{Table, unknown_in, unknown_of}
-use Rattle.and_clauses.specs.declared.data.Node.{Node}
-use Rattle.and_clauses.specs.declared.data.Entry.{Entry}
+use Rattle.and_syntax.specs.Clauses.{arity_of}
+use Rattle.and_program.specs.Skeletons
+use Rattle.and_program.specs.Skeletons.{Shape, row, nth, shape_term, terms_behind, node_term}
+use Rattle.and_syntax.specs.Tables
+use Rattle.and_syntax.specs.Tables.{Table, unknown_in, unknown_of}
+use Rattle.and_program.specs.declared.node.Node.{Node}
+use Rattle.and_program.specs.declared.entry.Entry.{Entry}
 use Rattle.and_clauses.specs.declared.data.SealFault.{SealFault}
 use Rattle.and_clauses.specs.declared.data.SealFault.TheVariants.{NoQuery, Unknown, Memory}
-use Rattle.and_clauses.specs.declared.predicates.Predicate.{Predicate}
+use Rattle.and_program.specs.declared.predicates.Predicate.{Predicate}
 use Rattle.and_clauses.specs.declared.unknown.UnknownCall.{UnknownCall}
-use Rattle.and_clauses.specs.Kept.{IsWithin, AllWithin}
-use Rattle.and_clauses.specs.Nodes.{shapes_of, entry_clause}
-use Rattle.and_clauses.specs.Predicates.{predicate_in, Finds}
+use Rattle.and_program.specs.Kept.{IsWithin, AllWithin, IsProgram}
+use Rattle.and_clauses.specs.Kept.{IsKept}
+use Rattle.and_clauses.specs.declared.data.Asked.{Asked}
+use Rattle.and_program.specs.Nodes.{shapes_of, entry_clause}
+use Rattle.and_program.specs.Predicates.{predicate_in, Finds}
 use Rattle.and_clauses.specs.Unknown.{unknown_at}
 use Rattle.and_clauses.specs.Sealing.{IsUnknown, Refuses}
-use Rattle.and_clauses.proofs.NodeTerms.{node_term_at, length-terms_behind}
-use Rattle.and_clauses.proofs.PredicateLemmas.{width-row}
-
-pub AllWithin-at : (m : ℕ) (ss : List Shape) (n : ℕ) (d : Shape) → AllWithin m ss → n < length ss → IsWithin m (get_or ss n d)
-AllWithin-at m [] n d w lt = absurd (omega arith)
-AllWithin-at m (s ∷ ss) zero d w lt = w.0
-AllWithin-at m (s ∷ ss) (suc n) d w lt = AllWithin-at m ss n d w.1 (omega arith)
+use Rattle.and_program.proofs.NodeTerms.{node_term_at, length-terms_behind}
+use Rattle.and_program.proofs.LoadedLemmas.{AllWithin-at}
+use Rattle.and_program.proofs.PredicateLemmas.{width-row}
 
 arity-shape_term : (m : ℕ) (ts : List Term) (s : Shape) → IsWithin m s → arity_of (shape_term ts s) ≤ 255
 arity-shape_term m ts (Skeletons.variable k) w = omega arith
@@ -86,6 +84,19 @@ first_of_text found q before r ns nodes cs es names same_nodes same_entries judg
     let P : List Node → Type 0 = λ xs. Judged found q before r xs es in
     let Q : List Entry → Type 0 = λ xs. Judged found q before r ns xs in
     subst P same_nodes (subst Q same_entries judged) (map f es) names finds ∙ ap (unknown_in names (map f es)) (in_text-map f es q before)
+
+-- what holds of a table with this query holds of its program
+pub program_kept : (ss : List Shape) (es : List Entry) (a : Asked) (names : List Bytes) → IsKept ss es (Some a) names → IsProgram ss a.query es names
+program_kept ss es a names kept = record {
+  begins = kept.begins;
+  falls = kept.falls;
+  within = kept.within;
+  entries = kept.entries;
+  query_there = kept.asked.0;
+  query_true = kept.asked.1;
+  few_nodes = kept.few_nodes;
+  few_clauses = kept.few_clauses;
+}
 
 pub refuses : (T : Table) (a : Tables.Asked) (u : Tables.Unknown) (fault : SealFault) → T.asked ≡ Some a → Some u ≡ unknown_of T a → IsUnknown u fault → Refuses T fault
 refuses T a u NoQuery asked is h = absurd h

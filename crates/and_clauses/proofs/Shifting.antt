@@ -4,12 +4,12 @@ use Rattle.std.proofs.lemmas.List.{append_assoc, append-nil, length-append, leng
 use Rattle.and_model.specs.Lines.{Bytes}
 use Rattle.and_model.specs.Terms
 use Rattle.and_model.specs.Terms.{Term, Terms}
-use Rattle.and_written.specs.Written.{place, variable_number}
-use Rattle.and_written.specs.Skeletons.{Shape, variable, number, compound, row, nth, shape_term, terms_behind, node_term, Falls, AllFall}
+use Rattle.and_syntax.specs.Written.{place, variable_number}
+use Rattle.and_program.specs.Skeletons.{Shape, variable, number, compound, row, nth, shape_term, terms_behind, node_term, Falls, AllFall}
 use Rattle.and_clauses.specs.Numbered.{behind, IsRead, shape_in, shapes_in, met_with}
 use Rattle.and_clauses.specs.Parts
-use Rattle.and_clauses.specs.Parts.{Piece, PiecesFall}
-use Rattle.and_clauses.proofs.NodeTerms.{terms_behind-append, length-terms_behind, node_term_whole}
+use Rattle.and_clauses.specs.Parts.{PartShape, PartsFall}
+use Rattle.and_program.proofs.NodeTerms.{terms_behind-append, length-terms_behind, node_term_whole}
 use Rattle.and_clauses.proofs.Reading.{length-shapes_in, AllFall-shapes_in}
 
 nth-behind : (old us : List Term) (n m : ℕ) → length old ≡ n → nth (old ++ us) (n + m) ≡ nth us m
@@ -39,21 +39,21 @@ node_term-behind before ss n m few =
     ∙ nth-behind old (terms_behind [] ss) n m size
 
 -- the terms of a draft's nodes, wherever they stand
-pub node_term_read : (ss : List Shape) (base : ℕ) (names : List Bytes) (ps : List Piece) (m : ℕ) → IsRead ss base names ps → node_term ss (base + m) ≡ node_term (shapes_in names [] ps) m
+pub node_term_read : (ss : List Shape) (base : ℕ) (names : List Bytes) (ps : List PartShape) (m : ℕ) → IsRead ss base names ps → node_term ss (base + m) ≡ node_term (shapes_in names [] ps) m
 node_term_read ss base names ps m r = ap (λ (us : List Shape). node_term us (base + m)) r.nodes ∙ node_term-behind r.before (shapes_in names [] ps) base m r.few
 
-pub length_read : (ss : List Shape) (base : ℕ) (names : List Bytes) (ps : List Piece) → IsRead ss base names ps → length ss ≡ base + length ps
+pub length_read : (ss : List Shape) (base : ℕ) (names : List Bytes) (ps : List PartShape) → IsRead ss base names ps → length ss ≡ base + length ps
 length_read ss base names ps r =
     ap length r.nodes ∙ length-append r.before (map (behind base) (shapes_in names [] ps))
     ∙ (let e : length (map (behind base) (shapes_in names [] ps)) ≡ length ps = length-map (shapes_in names [] ps) (behind base) ∙ length-shapes_in names [] ps in omega (arith, r.few))
 
 -- a term of a clause by the terms of its arguments
-abbrev pub read_term : List Bytes → (ℕ → Term) → List Bytes → Piece → Term
+abbrev pub read_term : List Bytes → (ℕ → Term) → List Bytes → PartShape → Term
 read_term names t met (Parts.variable x) = Terms.variable [] (variable_number x met)
 read_term names t met (Parts.integer z) = Terms.number z
 read_term names t met (Parts.compound c ns) = Terms.compound (place c names) (row (map t ns))
 
-shapes_in-at : (names met : List Bytes) (ps : List Piece) (n : ℕ) (d : Shape) (e : Piece) → n < length ps → (met' : List Bytes) × (get_or (shapes_in names met ps) n d ≡ shape_in names met' (get_or ps n e))
+shapes_in-at : (names met : List Bytes) (ps : List PartShape) (n : ℕ) (d : Shape) (e : PartShape) → n < length ps → (met' : List Bytes) × (get_or (shapes_in names met ps) n d ≡ shape_in names met' (get_or ps n e))
 shapes_in-at names met [] n d e lt = absurd (omega arith)
 shapes_in-at names met (p ∷ ps) zero d e lt = (met, refl)
 shapes_in-at names met (p ∷ ps) (suc n) d e lt = shapes_in-at names (met_with met p) ps n d e (omega arith)
@@ -62,13 +62,13 @@ map-same : (f g : ℕ → Term) (ns : List ℕ) → ((n : ℕ) → f n ≡ g n) 
 map-same f g [] h = refl
 map-same f g (n ∷ ns) h = ap (λ (t : Term). t ∷ map f ns) (h n) ∙ ap (λ (ts : List Term). g n ∷ ts) (map-same f g ns h)
 
-read_shape : (names met : List Bytes) (ts : List Term) (t : ℕ → Term) (p : Piece) → ((n : ℕ) → nth ts n ≡ t n) → shape_term ts (shape_in names met p) ≡ read_term names t met p
+read_shape : (names met : List Bytes) (ts : List Term) (t : ℕ → Term) (p : PartShape) → ((n : ℕ) → nth ts n ≡ t n) → shape_term ts (shape_in names met p) ≡ read_term names t met p
 read_shape names met ts t (Parts.variable x) h = refl
 read_shape names met ts t (Parts.integer z) h = refl
 read_shape names met ts t (Parts.compound c ns) h = ap (λ (us : List Term). Terms.compound (place c names) (row us)) (map-same (nth ts) t ns h)
 
 -- the term of a part's node
-pub part_read : (ss : List Shape) (base : ℕ) (names : List Bytes) (ps : List Piece) (n : ℕ) (d : Piece) → IsRead ss base names ps → PiecesFall 0 ps → n < length ps
+pub part_read : (ss : List Shape) (base : ℕ) (names : List Bytes) (ps : List PartShape) (n : ℕ) (d : PartShape) → IsRead ss base names ps → PartsFall 0 ps → n < length ps
     → (met : List Bytes) × (node_term ss (base + n) ≡ read_term names (λ (m : ℕ). node_term ss (base + m)) met (get_or ps n d))
 part_read ss base names ps n d r f lt =
     let rel : List Shape = shapes_in names [] ps in

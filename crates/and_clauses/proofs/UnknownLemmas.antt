@@ -1,47 +1,24 @@
 -- Which calls have no clause.
-use Rattle.std.proofs.Common.{ℕ, ℤ, suc, ◌+◌, ◌≡◌, ◌<◌, ◌&&◌, ◌||◌, Bool, true, false, not, cond, eqb, List, [], ◌∷◌, ◌++◌, length, map, get_or, drop, Option, Some, None, refl, sym, ap, ◌∙◌, arith}
+use Rattle.std.proofs.Common.{ℕ, ℤ, suc, ◌+◌, ◌≡◌, ◌<◌, ◌||◌, Bool, true, false, not, cond, eqb, List, [], ◌∷◌, ◌++◌, length, map, get_or, drop, Option, Some, None, refl, sym, ap, ◌∙◌, arith}
 use Rattle.std.proofs.lemmas.Bool.Decides.{nat_tests}
 use Rattle.std.proofs.lemmas.List.{drop_more, map-append}
 use Rattle.std.specs.List.{list_any}
 use Rattle.and_model.specs.Lines.{Bytes}
 use Rattle.and_model.specs.Terms
 use Rattle.and_model.specs.Terms.{Term, Terms}
-use Rattle.and_model.specs.Programs.{Clause, Item, call, same_predicate, same_count}
+use Rattle.and_model.specs.Programs.{Clause, Item, call, same_predicate}
 use Rattle.and_model.specs.declared.numbers.ClauseNo.{ClauseNo}
-use Rattle.and_written.specs.Clauses.{width}
-use Rattle.and_written.specs.Skeletons.{Shape}
-use Rattle.and_clauses.specs.Nodes.{entry_clause}
-use Rattle.and_clauses.specs.declared.data.Entry.{Entry}
-use Rattle.and_written.specs.Tables.{Unknown, is_known, called, first_unknown, unknown_or, unknown_in}
-use Rattle.and_clauses.specs.declared.predicates.Predicate.{Predicate}
-use Rattle.and_clauses.specs.Predicates.{predicate_in, is_key_of, numbers_from}
-
-zero_suc : (a : ℕ) → false ≡ eqb 0 (suc a)
-zero_suc a = grind (arith, nat_tests)
+use Rattle.and_model.specs.Terms.{width}
+use Rattle.and_program.specs.Skeletons.{Shape}
+use Rattle.and_program.specs.Nodes.{entry_clause}
+use Rattle.and_program.specs.declared.entry.Entry.{Entry}
+use Rattle.and_syntax.specs.Tables.{Unknown, is_known, called, first_unknown, unknown_or, unknown_in}
+use Rattle.and_program.specs.declared.predicates.Predicate.{Predicate}
+use Rattle.and_program.specs.Predicates.{predicate_in, is_key_of, numbers_from}
+use Rattle.and_program.proofs.MemberLemmas.{key, is_key_of-same}
 
 suc_zero : (a : ℕ) → false ≡ eqb (suc a) 0
 suc_zero a = grind (arith, nat_tests)
-
-suc_same : (a b : ℕ) → eqb a b ≡ eqb (suc a) (suc b)
-suc_same a b = grind (arith, nat_tests)
-
-turned : (a b : ℕ) → eqb a b ≡ eqb b a
-turned a b = grind (arith, nat_tests)
-
-same_width : (ts us : Terms) → same_count ts us ≡ eqb (width ts) (width us)
-same_width Terms.none Terms.none = refl
-same_width Terms.none (Terms.more u us) = zero_suc (width us)
-same_width (Terms.more t ts) Terms.none = suc_zero (width ts)
-same_width (Terms.more t ts) (Terms.more u us) = same_width ts us ∙ suc_same (width ts) (width us)
-
-abbrev pub key : ℕ → Terms → Predicate
-key c ts = record { name = record { 0 = c }; arity = width ts }
-
-pub is_key_of-same : (c : ℕ) (ts : Terms) (h : Term) → is_key_of (predicate_in h) (key c ts) ≡ same_predicate (Terms.compound c ts) h
-is_key_of-same c ts (Terms.variable q k) = refl
-is_key_of-same c ts (Terms.number z) = refl
-is_key_of-same c ts (Terms.compound d us) =
-    ap (λ (b : Bool). b && eqb (width us) (width ts)) (turned d c) ∙ ap (λ (b : Bool). eqb c d && b) (turned (width us) (width ts) ∙ sym (same_width ts us))
 
 any_key : (c : ℕ) (ts : Terms) (cs : List Clause) → list_any (λ k. is_key_of (predicate_in k.head) (key c ts)) cs ≡ list_any (λ k. same_predicate (Terms.compound c ts) k.head) cs
 any_key c ts [] = refl

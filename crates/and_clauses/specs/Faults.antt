@@ -1,7 +1,7 @@
 -- What refusals say.
 use Rattle.std.specs.Prelude.{Option, Some, None}
-use Rattle.and_written.specs.Tables
-use Rattle.and_written.specs.Tables.{Fault}
+use Rattle.and_syntax.specs.Tables
+use Rattle.and_syntax.specs.Tables.{Fault}
 use Rattle.and_clauses.specs.declared.data.What.{What}
 use Rattle.and_clauses.specs.declared.data.What.TheVariants.{Source, Clauses, Arguments, Variables, Nodes, Nesting}
 use Rattle.and_clauses.specs.declared.data.TableFault.{TableFault}

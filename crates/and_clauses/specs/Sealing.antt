@@ -1,8 +1,8 @@
 -- When a table is a program, and why it may be none.
 use Rattle.std.specs.Prelude.{◌≡◌, Some, None}
 use Rattle.and_model.specs.Programs.{Program}
-use Rattle.and_written.specs.Tables
-use Rattle.and_written.specs.Tables.{Table, unknown_of, program_of}
+use Rattle.and_syntax.specs.Tables
+use Rattle.and_syntax.specs.Tables.{Table, unknown_of, program_of}
 use Rattle.and_clauses.specs.declared.data.SealFault.{SealFault}
 use Rattle.and_clauses.specs.declared.data.SealFault.TheVariants.{NoQuery, Unknown, Memory}
 

@@ -1,12 +1,12 @@
 -- What drafts and tables stand for.
 use Rattle.std.specs.Prelude.{◌-◌, Bool, false, List, [], ◌∷◌, map, length, Option, Some, None, codes}
 use Rattle.std.specs.Str.{bytes_eq}
-use Rattle.and_written.specs.Written
-use Rattle.and_written.specs.Written.{Written}
-use Rattle.and_written.specs.Tables
-use Rattle.and_written.specs.Tables.{Table}
-use Rattle.and_written.specs.Skeletons.{Shape}
-use Rattle.and_clauses.specs.Nodes.{shapes_of, names_of, entry_clause}
+use Rattle.and_syntax.specs.Written
+use Rattle.and_syntax.specs.Written.{Written}
+use Rattle.and_syntax.specs.Tables
+use Rattle.and_syntax.specs.Tables.{Table}
+use Rattle.and_program.specs.Skeletons.{Shape}
+use Rattle.and_program.specs.Nodes.{shapes_of, names_of, entry_clause}
 use Rattle.and_clauses.specs.declared.data.Asked.{Asked}
 use Rattle.and_clauses.specs.declared.table.ClauseTable.{ClauseTable}
 

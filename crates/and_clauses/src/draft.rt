@@ -2,7 +2,7 @@
 
 ghost use Rattle.std.specs.Prelude.{◌≡◌, ◌<◌, ◌≤◌, ◌-◌, ◌^◌, ◌++◌, [], ◌∷◌, take, length, vec_len, OnOk, OnErr};
 ghost use Rattle.std.proofs.Props.{props};
-ghost use Rattle.and_clauses.specs.Parts.{IsFormed, AllNarrow, AllNarrow-prop, pieces};
+ghost use Rattle.and_clauses.specs.Parts.{IsFormed, AllNarrow, AllNarrow-prop, part_shapes};
 
 use and_model::Text;
 use std::alloc::{AllocError, Global};
@@ -10,7 +10,7 @@ use std::alloc::{AllocError, Global};
 /// A part of a draft: an occurrence of a variable, a number, or a name with its arguments, which
 /// are parts with smaller numbers.
 #[derive(Drop)]
-pub(crate) enum Part {
+pub(crate) enum DraftPart {
     Variable(Text),
     Integer(i64),
     Compound { name: Text, arguments: Vec<u32> },
@@ -22,17 +22,17 @@ pub(crate) enum Part {
 pub struct ClauseDraft {
     alloc: Global,
     pub(crate) line: u32,
-    pub(crate) parts: Vec<Part>,
+    pub(crate) parts: Vec<DraftPart>,
     /// The parts that are whole terms, and no arguments yet.
     pub(crate) finished: Vec<u32>,
     ghost few: { vec_len parts ≤ 4294967295 },
-    ghost formed: { IsFormed (pieces parts.items) finished.items } by { Prim.hlevel props },
-    ghost narrow: { AllNarrow (pieces parts.items) } by { AllNarrow-prop (pieces parts.items) },
+    ghost formed: { IsFormed (part_shapes parts.items) finished.items } by { Prim.hlevel props },
+    ghost narrow: { AllNarrow (part_shapes parts.items) } by { AllNarrow-prop (part_shapes parts.items) },
 }
 
 impl ClauseDraft {
     ghost use Rattle.std.specs.Prelude.{◌+◌, drop, IsTrue, ◌↔◌};
-    ghost use Rattle.and_written.specs.Written.{variable, integer, compound};
+    ghost use Rattle.and_syntax.specs.Written.{variable, integer, compound};
     ghost use Rattle.and_clauses.specs.Parts.{many};
     ghost use Rattle.and_clauses.specs.Drafts.{draft_of};
 
@@ -52,7 +52,10 @@ impl ClauseDraft {
     /// want of memory, and leaves the draft as it was.
     pub fn variable(&mut self, name: &[u8]) -> Result<(), AllocError>
         requires { (draft_of self.old).parts < 2 ^ 32 - 1 }
-        ensures ok { OnOk result (draft_of self.new ≡ record (draft_of self.old) { finished = (draft_of self.old).finished ++ variable name.now ∷ []; parts = (draft_of self.old).parts + 1 }) }
+        ensures ok { let d = draft_of self.old in
+            let finished = d.finished ++ variable name.now ∷ [] in
+            OnOk result (draft_of self.new
+            ≡ record d { finished = finished; parts = d.parts + 1 }) }
         ensures err { OnErr result (draft_of self.new ≡ draft_of self.old) }
     {
         let name = Text::of(self.alloc, name)?;
@@ -60,7 +63,7 @@ impl ClauseDraft {
         add_part(
             &mut self.parts,
             &mut self.finished,
-            Part::Variable(name),
+            DraftPart::Variable(name),
             start,
         )
     }
@@ -68,14 +71,17 @@ impl ClauseDraft {
     /// Adds an integer. An error is want of memory, and leaves the draft as it was.
     pub fn integer(&mut self, value: i64) -> Result<(), AllocError>
         requires { (draft_of self.old).parts < 2 ^ 32 - 1 }
-        ensures ok { OnOk result (draft_of self.new ≡ record (draft_of self.old) { finished = (draft_of self.old).finished ++ integer value ∷ []; parts = (draft_of self.old).parts + 1 }) }
+        ensures ok { let d = draft_of self.old in
+            let finished = d.finished ++ integer value ∷ [] in
+            OnOk result (draft_of self.new
+            ≡ record d { finished = finished; parts = d.parts + 1 }) }
         ensures err { OnErr result (draft_of self.new ≡ draft_of self.old) }
     {
         let start = self.finished.len();
         add_part(
             &mut self.parts,
             &mut self.finished,
-            Part::Integer(value),
+            DraftPart::Integer(value),
             start,
         )
     }
@@ -85,13 +91,16 @@ impl ClauseDraft {
     pub fn compound(&mut self, name: &[u8], count: u8) -> Result<(), AllocError>
         requires there { count ≤ length (draft_of self.old).finished }
         requires room { (draft_of self.old).parts < 2 ^ 32 - 1 }
-        ensures ok { OnOk result (let finished = (draft_of self.old).finished in let before = length finished - count in draft_of self.new ≡ record (draft_of self.old) { finished = take before finished ++ compound name.now (many (drop before finished)) ∷ []; parts = (draft_of self.old).parts + 1 }) }
+        ensures ok { let d = draft_of self.old in let before = length d.finished - count in
+            let term = compound name.now (many (drop before d.finished)) in
+            OnOk result (draft_of self.new
+            ≡ record d { finished = take before d.finished ++ term ∷ []; parts = d.parts + 1 }) }
         ensures err { OnErr result (draft_of self.new ≡ draft_of self.old) }
     {
         let start = self.finished.len() - count as usize;
         let name = Text::of(self.alloc, name)?;
         let arguments = Vec::from_slice(self.alloc, &self.finished[start..])?;
-        let part = Part::Compound { name, arguments };
+        let part = DraftPart::Compound { name, arguments };
         add_part(&mut self.parts, &mut self.finished, part, start)
     }
 
@@ -122,15 +131,16 @@ impl ClauseDraft {
 /// Adds a part, to which the finished terms from `start` on belong, as the last finished term. An
 /// error is want of memory, and leaves both lists as they were.
 fn add_part(
-    parts: &mut Vec<Part>,
+    parts: &mut Vec<DraftPart>,
     finished: &mut Vec<u32>,
-    part: Part,
+    part: DraftPart,
     start: usize,
 ) -> Result<(), AllocError>
     requires start { start ≤ length finished.old.items }
     requires room { length parts.old.items < 2 ^ 32 - 1 }
     ensures parts { OnOk result (parts.new.items ≡ parts.old.items ++ part ∷ []) }
-    ensures finished { OnOk result (finished.new.items ≡ take start finished.old.items ++ length parts.old.items ∷ []) }
+    ensures finished { OnOk result (finished.new.items
+        ≡ take start finished.old.items ++ length parts.old.items ∷ []) }
     ensures parts_kept { OnErr result (parts.new.items ≡ parts.old.items) }
     ensures finished_kept { OnErr result (finished.new.items ≡ finished.old.items) }
 {

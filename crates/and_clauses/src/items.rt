@@ -1,46 +1,47 @@
 //! The items of a body, from the parts of a draft.
 
-ghost use Rattle.std.specs.Prelude.{◌≡◌, ◌<◌, ◌≤◌, ◌+◌, ◌^◌, List, length, IfOk, IfSome, MatchOption, All, true};
-ghost use Rattle.and_written.specs.Written.{nodes_of};
-ghost use Rattle.and_written.specs.Skeletons.{Shape, node_term};
-ghost use Rattle.and_written.specs.Clauses.{is_refused, parts_of};
-ghost use Rattle.std.specs.List.{list_any};
-ghost use Rattle.and_clauses.specs.Nodes.{names_of};
+ghost use Rattle.std.specs.Prelude.{◌≡◌, ◌<◌, ◌≤◌, ◌+◌, ◌^◌, List, length, IfOk, IfSome, All};
+ghost use Rattle.and_syntax.specs.Written.{nodes_of};
+ghost use Rattle.and_program.specs.Skeletons.{Shape, node_term};
+ghost use Rattle.and_syntax.specs.Clauses.{parts_of};
+ghost use Rattle.and_program.specs.Nodes.{names_of};
 ghost use Rattle.and_clauses.specs.Numbered.{IsRead};
-ghost use Rattle.and_clauses.specs.Parts.{pieces, written_at, PiecesFall};
-ghost use Rattle.and_clauses.specs.Goals.{atom_goal, unary_goal, binary_goal, goal_of, goal_at, Takes, AreItemsOf};
+ghost use Rattle.and_clauses.specs.Parts.{part_shapes, written_at, PartsFall};
+ghost use Rattle.and_clauses.specs.Conjuncts.{atom_conjunct, unary_conjunct, binary_conjunct};
+ghost use Rattle.and_clauses.specs.Conjuncts.{conjunct_of, conjunct_at, Takes, GivesItems};
 
-use crate::data::ItemNode;
-use crate::draft::Part;
+use crate::draft::DraftPart;
 use crate::numbering::number_of;
-use and_model::NodeNo;
+use and_model::{NodeNo, builtins};
+use and_program::ItemNode;
 use indexmap::IndexSet;
 use std::alloc::{AllocError, Global};
 
-const TRUE: usize = 0;
+// The numbers of the built-in names, as names are counted here.
+const TRUE: usize = builtins::TRUE as usize;
 
-const FAIL: usize = 1;
+const FAIL: usize = builtins::FAIL as usize;
 
-const AND: usize = 2;
+const AND: usize = builtins::CONJUNCTION as usize;
 
-const EQUAL: usize = 3;
+const EQUAL: usize = builtins::EQUAL as usize;
 
-const IS: usize = 4;
+const IS: usize = builtins::IS as usize;
 
-const DIFFERS: usize = 10;
+const DIFFERS: usize = builtins::DIFFERS as usize;
 
-const OR: usize = 21;
+const OR: usize = builtins::DISJUNCTION as usize;
 
-const IF_THEN: usize = 22;
+const IF_THEN: usize = builtins::IF_THEN as usize;
 
-const NOT: usize = 23;
+const NOT: usize = builtins::NOT_PROVABLE as usize;
 
-const CUT: usize = 24;
+const CUT: usize = builtins::CUT as usize;
 
-/// What a part is as a goal of a body.
+/// What a part is as a conjunct of a body.
 #[derive(Clone, Copy)]
-pub(crate) enum Goal {
-    /// The goals of two other parts, `,`.
+pub(crate) enum Conjunct {
+    /// Those of two other parts, `,`.
     Both { left: u32, right: u32 },
     /// Nothing, `true`.
     Nothing,
@@ -54,23 +55,25 @@ pub(crate) enum Goal {
 pub(crate) fn items_of(
     alloc: Global,
     names: &IndexSet<Vec<u8>>,
-    parts: &[Part],
+    parts: &[DraftPart],
     body: u32,
     base: u32,
 ) -> Result<Option<Vec<ItemNode>>, AllocError>
     requires there { body < length parts.now }
-    requires falls { PiecesFall 0 (pieces parts.now) }
-    requires small { nodes_of (written_at (pieces parts.now) body) ≤ length parts.now }
+    requires falls { PartsFall 0 (part_shapes parts.now) }
+    requires small { nodes_of (written_at (part_shapes parts.now) body) ≤ length parts.now }
     requires room { base + length parts.now < 2 ^ 32 }
     ensures few { IfOk result (λ o. IfSome o (λ items. length items.items ≤ length parts.now)) }
-    ensures items { (ss : List Shape) → IsRead ss base (names_of names.now.keys) (pieces parts.now) → IfOk result (λ o. MatchOption o (list_any is_refused (parts_of (node_term ss (base + body))) ≡ true) (λ items. AreItemsOf ss (parts_of (node_term ss (base + body))) items.items)) }
+    ensures items { (ss : List Shape)
+        → IsRead ss base (names_of names.now.keys) (part_shapes parts.now)
+        → GivesItems ss (parts_of (node_term ss (base + body))) result }
 {
     let mut items = Vec::new(alloc);
     let mut pending = Vec::new(alloc);
     pending.push(body)?;
     while let Some(number) = pending.pop() {
-        let goal = part_as_goal(names, parts, number, base);
-        let pure = take_goal(goal, &mut items, &mut pending)?;
+        let conjunct = part_as_conjunct(names, parts, number, base);
+        let pure = take_conjunct(conjunct, &mut items, &mut pending)?;
         if !pure {
             return Ok(None);
         }
@@ -78,109 +81,115 @@ pub(crate) fn items_of(
     Ok(Some(items))
 }
 
-/// Adds the item of a goal, or the two parts whose goals come next; `false` where it is refused.
-fn take_goal(
-    goal: Goal,
+/// Adds the item of a conjunct, or the two parts that come next; `false` where it is refused.
+fn take_conjunct(
+    conjunct: Conjunct,
     items: &mut Vec<ItemNode>,
     pending: &mut Vec<u32>,
 ) -> Result<bool, AllocError>
-    ensures { IfOk result (λ pure. Takes goal pure items.old.items items.new.items pending.old.items pending.new.items) }
+    ensures { IfOk result (λ pure. Takes conjunct pure items.old.items items.new.items
+        pending.old.items pending.new.items) }
 {
-    match goal {
-        Goal::Both { left, right } => {
+    match conjunct {
+        Conjunct::Both { left, right } => {
             pending.push(right)?;
             pending.push(left)?;
             Ok(true)
         }
-        Goal::Nothing => Ok(true),
-        Goal::Item { item } => {
+        Conjunct::Nothing => Ok(true),
+        Conjunct::Item { item } => {
             items.push(item)?;
             Ok(true)
         }
-        Goal::Refused => Ok(false),
+        Conjunct::Refused => Ok(false),
     }
 }
 
-/// What a part is as a goal.
-fn part_as_goal(names: &IndexSet<Vec<u8>>, parts: &[Part], number: u32, base: u32) -> Goal
+/// What a part is as a conjunct.
+fn part_as_conjunct(
+    names: &IndexSet<Vec<u8>>,
+    parts: &[DraftPart],
+    number: u32,
+    base: u32,
+) -> Conjunct
     requires there { number < length parts.now }
-    requires falls { PiecesFall 0 (pieces parts.now) }
+    requires falls { PartsFall 0 (part_shapes parts.now) }
     requires room { base + length parts.now < 2 ^ 32 }
-    ensures { result ≡ goal_at (names_of names.now.keys) (pieces parts.now) base number }
+    ensures { result ≡ conjunct_at (names_of names.now.keys) (part_shapes parts.now) base number }
 {
     match &parts[number as usize] {
-        Part::Compound { name, arguments } => goal_named(
+        DraftPart::Compound { name, arguments } => conjunct_named(
             number_of(names, name.bytes()),
             arguments,
             NodeNo(base + number),
             base,
         ),
-        Part::Variable(_) => Goal::Refused,
-        Part::Integer(_) => Goal::Refused,
+        DraftPart::Variable(_) => Conjunct::Refused,
+        DraftPart::Integer(_) => Conjunct::Refused,
     }
 }
 
-/// What a name with these arguments is as a goal.
-fn goal_named(name: usize, arguments: &[u32], goal: NodeNo, base: u32) -> Goal
+/// What a name with these arguments is as a conjunct.
+fn conjunct_named(name: usize, arguments: &[u32], goal: NodeNo, base: u32) -> Conjunct
     requires { All (λ n. base + n < 2 ^ 32) arguments.now }
-    ensures { result ≡ goal_of name arguments.now goal.0 base }
+    ensures { result ≡ conjunct_of name arguments.now goal.0 base }
 {
     match arguments {
-        [] => goal_of_atom(name, goal),
-        [_] => goal_of_one(name, goal),
-        [left, right] => goal_of_two(name, *left, *right, goal, base),
-        _ => Goal::Item {
+        [] => conjunct_of_atom(name, goal),
+        [_] => conjunct_of_one(name, goal),
+        [left, right] => conjunct_of_two(name, *left, *right, goal, base),
+        _ => Conjunct::Item {
             item: ItemNode::Call { goal },
         },
     }
 }
 
-/// What an atom is as a goal.
-fn goal_of_atom(name: usize, goal: NodeNo) -> Goal
-    ensures { result ≡ atom_goal name goal.0 }
+/// What an atom is as a conjunct.
+fn conjunct_of_atom(name: usize, goal: NodeNo) -> Conjunct
+    ensures { result ≡ atom_conjunct name goal.0 }
 {
     match name {
-        TRUE => Goal::Nothing,
-        FAIL => Goal::Item {
+        TRUE => Conjunct::Nothing,
+        FAIL => Conjunct::Item {
             item: ItemNode::Fail,
         },
-        CUT => Goal::Refused,
-        _ => Goal::Item {
+        CUT => Conjunct::Refused,
+        _ => Conjunct::Item {
             item: ItemNode::Call { goal },
         },
     }
 }
 
-/// What a name with one argument is as a goal.
-fn goal_of_one(name: usize, goal: NodeNo) -> Goal
-    ensures { result ≡ unary_goal name goal.0 }
+/// What a name with one argument is as a conjunct.
+fn conjunct_of_one(name: usize, goal: NodeNo) -> Conjunct
+    ensures { result ≡ unary_conjunct name goal.0 }
 {
     if name == NOT {
-        Goal::Refused
+        Conjunct::Refused
     } else {
-        Goal::Item {
+        Conjunct::Item {
             item: ItemNode::Call { goal },
         }
     }
 }
 
-/// What a name with two arguments is as a goal.
-fn goal_of_two(name: usize, left: u32, right: u32, goal: NodeNo, base: u32) -> Goal
+/// What a name with two arguments is as a conjunct.
+fn conjunct_of_two(name: usize, left: u32, right: u32, goal: NodeNo, base: u32) -> Conjunct
     requires left { base + left < 2 ^ 32 }
     requires right { base + right < 2 ^ 32 }
-    ensures { result ≡ binary_goal name left right goal.0 base }
+    ensures { result ≡ binary_conjunct name left right goal.0 base }
 {
     match name {
-        AND => Goal::Both { left, right },
-        EQUAL => Goal::Item {
+        AND => Conjunct::Both { left, right },
+        EQUAL => Conjunct::Item {
             item: ItemNode::Equal {
                 left: NodeNo(base + left),
                 right: NodeNo(base + right),
             },
         },
-        IS..=DIFFERS => Goal::Refused,
-        OR | IF_THEN => Goal::Refused,
-        _ => Goal::Item {
+        IS..=DIFFERS => Conjunct::Refused,
+        OR | IF_THEN => Conjunct::Refused,
+        _ => Conjunct::Item {
             item: ItemNode::Call { goal },
         },
     }

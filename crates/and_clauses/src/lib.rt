@@ -7,25 +7,24 @@
 
 pub mod data;
 pub mod draft;
-mod entries;
 mod items;
 mod judging;
-pub mod loaded;
 mod making;
-mod names;
 mod nodes;
 mod numbering;
-mod predicates;
-mod sealing;
 pub mod table;
 mod unknown;
 
-pub use data::{ItemNode, SealFault, Skeleton, TableFault, What};
+pub use data::{SealFault, TableFault, What};
 pub use draft::ClauseDraft;
-pub use loaded::Loaded;
 pub use table::ClauseTable;
+
+// What a sealed table is read by.
+pub use and_program::{ItemNode, Loaded, NodeKind};
 
 #[cfg(test)]
 mod loaded_tests;
+#[cfg(test)]
+mod test_drafts;
 #[cfg(test)]
 mod tests;

@@ -1,43 +1,14 @@
 //! A text's clauses, sealed and read.
 
-use crate::data::{ItemNode, SealFault, Skeleton};
-use crate::{ClauseDraft, ClauseTable, Loaded};
+use crate::data::SealFault;
+use crate::test_drafts::Given::{self, Int, Name, Var};
+use crate::test_drafts::{APPEND_BASE, APPEND_STEP, draft, query_draft};
+use crate::{ClauseTable, Loaded};
 use and_model::{ClauseNo, NameNo, NodeNo, Ref};
+use and_program::{ItemNode, NodeKind};
 use std::alloc::{AllocError, Global};
 use std::process::Abort;
 use std::test::Fail;
-
-/// A part of a draft.
-#[derive(Clone, Copy)]
-enum Given<'a> {
-    Var(&'a [u8]),
-    Int(i64),
-    Name(&'a [u8], u8),
-}
-
-use Given::{Int, Name, Var};
-
-/// The draft of these parts, in postfix order.
-fn draft(
-    rt: &impl Abort,
-    alloc: Global,
-    line: u32,
-    parts: &[Given],
-) -> Result<ClauseDraft, AllocError> {
-    let mut draft = ClauseDraft::new(alloc, line);
-    for part in parts {
-        assert!(rt; draft.parts.len() < 1000);
-        match part {
-            Var(name) => draft.variable(name)?,
-            Int(value) => draft.integer(*value)?,
-            Name(name, count) => {
-                assert!(rt; *count as usize <= draft.finished.len());
-                draft.compound(name, *count)?
-            }
-        }
-    }
-    Ok(draft)
-}
 
 /// Adds the clause of these parts.
 fn add(
@@ -48,7 +19,6 @@ fn add(
     parts: &[Given],
 ) -> Result<(), AllocError> {
     let draft = draft(rt, alloc, line, parts)?;
-    assert!(rt; draft.is_whole());
     assert!(rt; table.add_clause(draft).is_ok());
     Ok(())
 }
@@ -61,10 +31,7 @@ fn ask(
     line: u32,
     parts: &[Given],
 ) -> Result<(), AllocError> {
-    let mut draft = draft(rt, alloc, line, parts)?;
-    assert!(rt; draft.is_whole());
-    assert!(rt; draft.parts.len() < 1000);
-    draft.compound(b"?-", 1)?;
+    let draft = query_draft(rt, alloc, line, parts)?;
     assert!(rt; table.set_query(draft).is_ok());
     Ok(())
 }
@@ -119,26 +86,8 @@ fn the_first_unknown_call_of_the_text_is_named(rt: HostRuntime) -> Result<(), Fa
 /// The program of append, or want of memory.
 fn append(rt: &impl Abort, alloc: Global) -> Result<Loaded, AllocError> {
     let mut table = ClauseTable::new(alloc)?;
-    // app([],L,L).
-    let base = [Name(b"[]", 0), Var(b"L"), Var(b"L"), Name(b"app", 3)];
-    add(rt, alloc, &mut table, 1, &base)?;
-    // app([H|T],L,[H|R]) :- app(T,L,R).
-    let step = [
-        Var(b"H"),
-        Var(b"T"),
-        Name(b".", 2),
-        Var(b"L"),
-        Var(b"H"),
-        Var(b"R"),
-        Name(b".", 2),
-        Name(b"app", 3),
-        Var(b"T"),
-        Var(b"L"),
-        Var(b"R"),
-        Name(b"app", 3),
-        Name(b":-", 2),
-    ];
-    add(rt, alloc, &mut table, 2, &step)?;
+    add(rt, alloc, &mut table, 1, &APPEND_BASE)?;
+    add(rt, alloc, &mut table, 2, &APPEND_STEP)?;
     // ?- app(X,Y,[]).
     let goal = [Var(b"X"), Var(b"Y"), Name(b"[]", 0), Name(b"app", 3)];
     ask(rt, alloc, &mut table, 3, &goal)?;
@@ -179,10 +128,10 @@ fn the_nodes_of_append_are_read(rt: HostRuntime) -> Result<(), Fail> {
     let loaded = append(&rt, rt.alloc())?;
     assert_eq!(rt; loaded.clause_count(), 2);
     let head = loaded.head(ClauseNo(2));
-    let shown = loaded.skeleton(head);
+    let shown = loaded.kind(head);
     assert_eq!(rt;
         shown,
-        Skeleton::Compound {
+        NodeKind::Compound {
             name: NameNo(27),
             count: 3
         }
@@ -195,16 +144,16 @@ fn the_nodes_of_append_are_read(rt: HostRuntime) -> Result<(), Fail> {
             base: 10
         }
     );
-    let shown = loaded.skeleton(list);
+    let shown = loaded.kind(list);
     assert_eq!(rt;
         shown,
-        Skeleton::Compound {
+        NodeKind::Compound {
             name: NameNo(19),
             count: 2
         }
     );
     let tail = loaded.argument(list, 1);
-    assert_eq!(rt; loaded.skeleton(tail), Skeleton::Variable(1));
+    assert_eq!(rt; loaded.kind(tail), NodeKind::Variable(1));
     assert_eq!(rt; loaded.resolve(tail, 10), Ref::Cell(12));
     Ok(())
 }

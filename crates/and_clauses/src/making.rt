@@ -1,29 +1,26 @@
 //! The entries of a table that drafts are made into.
 
-ghost use Rattle.std.specs.Prelude.{◌≡◌, ◌<◌, ◌≤◌, ◌+◌, ◌-◌, [], ◌∷◌, leb, length, take, Bool, true, None, Some, IfOk, OnOk, IfErr, IfSome, if◌then◌else◌};
-ghost use Rattle.and_model.specs.Terms.{compound, none};
-ghost use Rattle.and_written.specs.Written.{Written};
-ghost use Rattle.and_written.specs.Clauses.{head_of, body_of, asked_of};
-ghost use Rattle.and_written.specs.Tables.{Table, clause_fault, query_fault, clause_of, term_with};
-ghost use Rattle.and_clauses.specs.Faults.{fault_of};
-ghost use Rattle.and_clauses.specs.Kept.{begins_with_true};
-ghost use Rattle.and_clauses.specs.Made.{IsTableOf, IsMade};
-ghost use Rattle.and_clauses.specs.Nodes.{shapes_of, names_of};
+ghost use Rattle.std.specs.Prelude.{◌≡◌, ◌<◌, ◌≤◌, ◌+◌, ◌-◌, leb, length, take, Bool, true};
+ghost use Rattle.std.specs.Prelude.{None, IfOk, OnOk, if◌then◌else◌};
+ghost use Rattle.and_syntax.specs.Tables.{Table};
+ghost use Rattle.and_program.specs.Kept.{begins_with_true};
+ghost use Rattle.and_clauses.specs.Made.{IsTableOf};
+ghost use Rattle.and_clauses.specs.Added.{MakesClause, MakesQuery, RefusesClause, RefusesQuery};
+ghost use Rattle.and_program.specs.Nodes.{shapes_of, names_of};
 ghost use Rattle.and_clauses.specs.Numbered.{Extends};
 ghost use Rattle.and_clauses.specs.Drafts.{draft_of};
+ghost use Rattle.and_model.specs.declared.limits.TheConstants.{MAX_NODES};
 
-use crate::data::{Entry, Node, TableFault};
-use crate::draft::{ClauseDraft, Part};
-use crate::entries::entry;
+use crate::data::TableFault;
+use crate::draft::{ClauseDraft, DraftPart};
 use crate::judging::{judge_clause, judge_query};
 use crate::nodes::append_nodes;
 use crate::numbering::note_names;
 use and_model::NodeNo;
+use and_model::limits::MAX_NODES;
+use and_program::{Entry, Node};
 use indexmap::IndexSet;
 use std::alloc::Global;
-
-/// How many nodes a text may have.
-const MAX_NODES: usize = 524_288;
 
 /// The entry of a draft as a clause; `room` says whether one more clause may be there. Its names
 /// and its nodes are added behind those that are there. Refused, some of them may be.
@@ -36,11 +33,17 @@ pub(crate) fn clause_entry(
 ) -> Result<Entry, TableFault>
     requires whole { length (draft_of draft.now).finished ≡ 1 }
     requires some_nodes { 0 < length nodes.old.items }
-    requires few_nodes { length nodes.old.items ≤ 524289 }
+    requires few_nodes { length nodes.old.items ≤ MAX_NODES + 1 }
     requires few_names { length (names_of names.old.keys) ≤ 26 + length nodes.old.items }
-    ensures ok { (w : Written) (T : Table) → (draft_of draft.now).finished ≡ w ∷ [] → IsTableOf T (names_of names.old.keys) (length nodes.old.items) room → IfOk result (λ e. (clause_fault T w ≡ None) × IsMade (shapes_of nodes.old.items) (shapes_of nodes.new.items) (names_of names.old.keys) (names_of names.new.keys) w (clause_of w (draft_of draft.now).line (head_of (term_with T w)) (body_of (term_with T w))) e) }
+    ensures ok { (T : Table)
+        → IsTableOf T (names_of names.old.keys) (length nodes.old.items) room
+        → let draft = draft_of draft.now in let old = nodes.old.items in
+        MakesClause T old nodes.new.items (names_of names.old.keys) (names_of names.new.keys) draft
+        result }
     ensures room { OnOk result (room ≡ true) }
-    ensures fault { (w : Written) (T : Table) → (draft_of draft.now).finished ≡ w ∷ [] → IsTableOf T (names_of names.old.keys) (length nodes.old.items) room → IfErr result (λ e. IfSome (fault_of e) (λ f. clause_fault T w ≡ Some f)) }
+    ensures fault { (T : Table)
+        → IsTableOf T (names_of names.old.keys) (length nodes.old.items) room
+        → RefusesClause T (draft_of draft.now) result }
     ensures names_kept { Extends (names_of names.old.keys) (names_of names.new.keys) }
     ensures nodes_kept { take (length nodes.old.items) nodes.new.items ≡ nodes.old.items }
 {
@@ -52,7 +55,7 @@ pub(crate) fn clause_entry(
     let judged = judge_clause(alloc, names, parts, root, base, fits, room)?;
     let variables = append_nodes(alloc, nodes, names, parts)?;
     let head = NodeNo(base + judged.head);
-    Ok(entry(head, judged.items, variables, draft.line))
+    Ok(Entry::new(head, judged.items, variables, draft.line))
 }
 
 /// The entry of a draft as a query. Its names and its nodes are added behind those that are there.
@@ -65,11 +68,17 @@ pub(crate) fn query_entry(
 ) -> Result<Entry, TableFault>
     requires whole { length (draft_of draft.now).finished ≡ 1 }
     requires begins { begins_with_true (shapes_of nodes.old.items) ≡ true }
-    requires few_nodes { length nodes.old.items ≤ 524289 }
+    requires few_nodes { length nodes.old.items ≤ MAX_NODES + 1 }
     requires few_names { length (names_of names.old.keys) ≤ 26 + length nodes.old.items }
-    ensures ok { (w : Written) (T : Table) (room : Bool) → (draft_of draft.now).finished ≡ w ∷ [] → IsTableOf T (names_of names.old.keys) (length nodes.old.items) room → T.asked ≡ None → IfOk result (λ e. (query_fault T w ≡ None) × IsMade (shapes_of nodes.old.items) (shapes_of nodes.new.items) (names_of names.old.keys) (names_of names.new.keys) w (clause_of w (draft_of draft.now).line (compound 0 none) (asked_of (term_with T w))) e) }
+    ensures ok { (T : Table) (room : Bool)
+        → IsTableOf T (names_of names.old.keys) (length nodes.old.items) room → T.asked ≡ None
+        → let draft = draft_of draft.now in let old = nodes.old.items in
+        MakesQuery T old nodes.new.items (names_of names.old.keys) (names_of names.new.keys) draft
+        result }
     ensures head { IfOk result (λ e. e.head.0 ≡ 0) }
-    ensures fault { (w : Written) (T : Table) (room : Bool) → (draft_of draft.now).finished ≡ w ∷ [] → IsTableOf T (names_of names.old.keys) (length nodes.old.items) room → T.asked ≡ None → IfErr result (λ e. IfSome (fault_of e) (λ f. query_fault T w ≡ Some f)) }
+    ensures fault { (T : Table) (room : Bool)
+        → IsTableOf T (names_of names.old.keys) (length nodes.old.items) room → T.asked ≡ None
+        → RefusesQuery T (draft_of draft.now) result }
     ensures names_kept { Extends (names_of names.old.keys) (names_of names.new.keys) }
     ensures nodes_kept { take (length nodes.old.items) nodes.new.items ≡ nodes.old.items }
 {
@@ -80,13 +89,13 @@ pub(crate) fn query_entry(
     let base = base_of(nodes, fits);
     let items = judge_query(alloc, names, parts, root, base, fits)?;
     let variables = append_nodes(alloc, nodes, names, parts)?;
-    Ok(entry(NodeNo(0), items, variables, draft.line))
+    Ok(Entry::new(NodeNo(0), items, variables, draft.line))
 }
 
 /// Whether the nodes of these parts fit behind those that are there.
-fn do_fit(nodes: &[Node], parts: &[Part]) -> bool
-    requires { length nodes.now ≤ 524289 }
-    ensures { result ≡ leb (length parts.now) (524289 - length nodes.now) }
+fn do_fit(nodes: &[Node], parts: &[DraftPart]) -> bool
+    requires { length nodes.now ≤ MAX_NODES + 1 }
+    ensures { result ≡ leb (length parts.now) (MAX_NODES + 1 - length nodes.now) }
 {
     parts.len() <= MAX_NODES + 1 - nodes.len()
 }
@@ -94,7 +103,7 @@ fn do_fit(nodes: &[Node], parts: &[Part]) -> bool
 /// How many nodes stand before those of a draft that fit. (Nodes that do not fit are only judged,
 /// as if none stood before them.)
 fn base_of(nodes: &[Node], fits: bool) -> u32
-    requires { length nodes.now ≤ 524289 }
+    requires { length nodes.now ≤ MAX_NODES + 1 }
     ensures { result ≡ (if fits then length nodes.now else 0) }
 {
     if fits { nodes.len() as u32 } else { 0 }

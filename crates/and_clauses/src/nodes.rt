@@ -1,15 +1,16 @@
 //! The nodes of a draft's parts, behind those of a table.
 
 ghost use Rattle.std.specs.Prelude.{◌≡◌, ◌≤◌, ◌<◌, ◌+◌, ◌++◌, ◌^◌, [], length, take, map, IfOk, OnOk, All};
-ghost use Rattle.and_clauses.specs.Nodes.{shapes_of, shape_of, names_of};
+ghost use Rattle.and_program.specs.Nodes.{shapes_of, shape_of, names_of};
 ghost use Rattle.and_clauses.specs.Numbered.{behind, shapes_in, shape_in, met_by, met_with};
 ghost use Rattle.and_model.specs.declared.numbers.NodeNo.{NodeNo};
-ghost use Rattle.and_clauses.specs.Parts.{pieces, piece, arguments_of, PiecesFall};
+ghost use Rattle.and_clauses.specs.Parts.{part_shapes, part_shape, arguments_of, PartsFall};
+ghost use Rattle.and_model.specs.declared.limits.TheConstants.{MAX_NODES};
 
-use crate::data::Node;
-use crate::draft::Part;
+use crate::draft::DraftPart;
 use crate::numbering::{number_of, variable_at};
 use and_model::{NameNo, NodeNo, Text};
+use and_program::Node;
 use indexmap::IndexSet;
 use std::alloc::{AllocError, Global};
 
@@ -19,13 +20,16 @@ pub(crate) fn append_nodes(
     alloc: Global,
     nodes: &mut Vec<Node>,
     names: &IndexSet<Vec<u8>>,
-    parts: &[Part],
+    parts: &[DraftPart],
 ) -> Result<Vec<Text>, AllocError>
-    requires falls { PiecesFall 0 (pieces parts.now) }
-    requires few_nodes { length nodes.old.items + length parts.now ≤ 524289 }
-    requires few_names { length (names_of names.now.keys) ≤ 524315 }
-    ensures nodes { OnOk result (shapes_of nodes.new.items ≡ shapes_of nodes.old.items ++ map (behind (length nodes.old.items)) (shapes_in (names_of names.now.keys) [] (pieces parts.now))) }
-    ensures variables { IfOk result (λ variables. variables.items ≡ met_by [] (pieces parts.now)) }
+    requires falls { PartsFall 0 (part_shapes parts.now) }
+    requires few_nodes { length nodes.old.items + length parts.now ≤ MAX_NODES + 1 }
+    requires few_names { length (names_of names.now.keys) ≤ MAX_NODES + 27 }
+    ensures nodes { let old = nodes.old.items in
+        let added = shapes_in (names_of names.now.keys) [] (part_shapes parts.now) in
+        OnOk result (shapes_of nodes.new.items
+        ≡ shapes_of old ++ map (behind (length old)) added) }
+    ensures variables { IfOk result (λ variables. variables.items ≡ met_by [] (part_shapes parts.now)) }
     ensures kept { take (length nodes.old.items) nodes.new.items ≡ nodes.old.items }
 {
     let base = nodes.len() as u32;
@@ -42,22 +46,24 @@ fn node_of(
     alloc: Global,
     names: &IndexSet<Vec<u8>>,
     met: &mut Vec<Text>,
-    part: &Part,
+    part: &DraftPart,
     base: u32,
 ) -> Result<Node, AllocError>
-    requires few_variables { length met.old.items ≤ 524289 }
-    requires few_names { length (names_of names.now.keys) ≤ 524315 }
-    requires below { All (λ n. base + n < 2 ^ 32) (arguments_of (piece part.now)) }
-    ensures node { IfOk result (λ node. shape_of node ≡ behind base (shape_in (names_of names.now.keys) met.old.items (piece part.now))) }
-    ensures met { OnOk result (met.new.items ≡ met_with met.old.items (piece part.now)) }
+    requires few_variables { length met.old.items ≤ MAX_NODES + 1 }
+    requires few_names { length (names_of names.now.keys) ≤ MAX_NODES + 27 }
+    requires below { All (λ n. base + n < 2 ^ 32) (arguments_of (part_shape part.now)) }
+    ensures node { let names = names_of names.now.keys in
+        let shape = shape_in names met.old.items (part_shape part.now) in
+        IfOk result (λ node. shape_of node ≡ behind base shape) }
+    ensures met { OnOk result (met.new.items ≡ met_with met.old.items (part_shape part.now)) }
 {
     match part {
-        Part::Variable(name) => {
+        DraftPart::Variable(name) => {
             let number = variable_at(alloc, met, name.bytes())?;
             Ok(Node::Variable(number as u32))
         }
-        Part::Integer(value) => Ok(Node::Number(*value)),
-        Part::Compound { name, arguments } => {
+        DraftPart::Integer(value) => Ok(Node::Number(*value)),
+        DraftPart::Compound { name, arguments } => {
             let name = NameNo(number_of(names, name.bytes()) as u32);
             let arguments = nodes_behind(alloc, arguments, base)?;
             Ok(Node::Compound { name, arguments })

@@ -2,13 +2,15 @@
 
 ghost use Rattle.std.specs.Prelude.{◌≡◌, ◌<◌, [], ◌∷◌, ◌++◌, length, None, Some, IfOk, OnOk, if◌then◌else◌, leb, reverse};
 ghost use Rattle.and_model.specs.Programs.{builtin_names};
-ghost use Rattle.and_written.specs.Written.{is_new, place, including, named, variable_number};
-ghost use Rattle.and_clauses.specs.Parts.{pieces, piece, arguments_of, written_at, PiecesFall};
-ghost use Rattle.and_clauses.specs.Nodes.{names_of};
+ghost use Rattle.and_syntax.specs.Written.{is_new, place, including, named, variable_number};
+ghost use Rattle.and_clauses.specs.Parts.{part_shapes, part_shape, arguments_of, written_at, PartsFall};
+ghost use Rattle.and_program.specs.Nodes.{names_of};
 ghost use Rattle.and_clauses.specs.Numbered.{bytes_of, including_all, named_by, met_by, met_with, Extends};
+ghost use Rattle.and_model.specs.declared.limits.TheConstants.{MAX_VARIABLES};
 
-use crate::draft::Part;
+use crate::draft::DraftPart;
 use and_model::Text;
+use and_model::limits::MAX_VARIABLES;
 use indexmap::IndexSet;
 use std::alloc::{AllocError, Global};
 
@@ -18,9 +20,6 @@ const BUILT_IN_NAMES: [&[u8]; 27] = [
     b"*", b"//", b"mod", b"rem", b"min", b"max", b".", b"[]", b";", b"->", b"\\+", b"!", b":-",
     b"?-",
 ];
-
-/// How many variables a clause may have.
-const MAX_VARIABLES: usize = 255;
 
 /// The names that every table begins with, by their numbers.
 pub(crate) fn built_in_names(alloc: Global) -> Result<IndexSet<Vec<u8>>, AllocError>
@@ -65,12 +64,12 @@ pub(crate) fn number_of(names: &IndexSet<Vec<u8>>, name: &[u8]) -> usize
 pub(crate) fn note_names(
     alloc: Global,
     names: &mut IndexSet<Vec<u8>>,
-    parts: &[Part],
+    parts: &[DraftPart],
     root: u32,
 ) -> Result<(), AllocError>
     requires there { root < length parts.now }
-    requires falls { PiecesFall 0 (pieces parts.now) }
-    ensures ok { OnOk result (names_of names.new.keys ≡ named (names_of names.old.keys) (written_at (pieces parts.now) root)) }
+    requires falls { PartsFall 0 (part_shapes parts.now) }
+    ensures ok { OnOk result (names_of names.new.keys ≡ named (names_of names.old.keys) (written_at (part_shapes parts.now) root)) }
     ensures kept { Extends (names_of names.old.keys) (names_of names.new.keys) }
 {
     let mut pending = Vec::new(alloc);
@@ -87,19 +86,19 @@ fn note_part(
     alloc: Global,
     names: &mut IndexSet<Vec<u8>>,
     pending: &mut Vec<u32>,
-    part: &Part,
+    part: &DraftPart,
 ) -> Result<(), AllocError>
-    ensures names { OnOk result (names_of names.new.keys ≡ named_by (names_of names.old.keys) (piece part.now)) }
-    ensures pending { OnOk result (reverse pending.new.items ≡ arguments_of (piece part.now) ++ reverse pending.old.items) }
+    ensures names { OnOk result (names_of names.new.keys ≡ named_by (names_of names.old.keys) (part_shape part.now)) }
+    ensures pending { OnOk result (reverse pending.new.items ≡ arguments_of (part_shape part.now) ++ reverse pending.old.items) }
     ensures kept { Extends (names_of names.old.keys) (names_of names.new.keys) }
 {
     match part {
-        Part::Compound { name, arguments } => {
+        DraftPart::Compound { name, arguments } => {
             note_name(alloc, names, name.bytes())?;
             push_reversed(pending, arguments)
         }
-        Part::Variable(_) => Ok(()),
-        Part::Integer(_) => Ok(()),
+        DraftPart::Variable(_) => Ok(()),
+        DraftPart::Integer(_) => Ok(()),
     }
 }
 
@@ -122,7 +121,8 @@ pub(crate) fn variable_at(
     name: &[u8],
 ) -> Result<usize, AllocError>
     ensures number { IfOk result (λ n. n ≡ variable_number name.now met.old.items) }
-    ensures met { OnOk result (met.new.items ≡ (if is_new name.now met.old.items then met.old.items ++ name.now ∷ [] else met.old.items)) }
+    ensures met { let old = met.old.items in
+        OnOk result (met.new.items ≡ (if is_new name.now old then old ++ name.now ∷ [] else old)) }
 {
     if let Some(number) = find(met, name) {
         return Ok(number);
@@ -148,8 +148,8 @@ fn find(variables: &[Text], name: &[u8]) -> Option<usize>
 }
 
 /// Whether the parts have no more variables than a clause may have. An error is want of memory.
-pub(crate) fn has_few_variables(alloc: Global, parts: &[Part]) -> Result<bool, AllocError>
-    ensures { IfOk result (λ few. few ≡ leb (length (met_by [] (pieces parts.now))) 255) }
+pub(crate) fn has_few_variables(alloc: Global, parts: &[DraftPart]) -> Result<bool, AllocError>
+    ensures { IfOk result (λ few. few ≡ leb (length (met_by [] (part_shapes parts.now))) MAX_VARIABLES) }
 {
     let mut met = Vec::new(alloc);
     for part in parts {
@@ -162,16 +162,16 @@ pub(crate) fn has_few_variables(alloc: Global, parts: &[Part]) -> Result<bool, A
 }
 
 /// Adds the variable of a part to those that were met, where it is a new one.
-fn meet(alloc: Global, met: &mut Vec<Text>, part: &Part) -> Result<(), AllocError>
-    ensures { OnOk result (met.new.items ≡ met_with met.old.items (piece part.now)) }
+fn meet(alloc: Global, met: &mut Vec<Text>, part: &DraftPart) -> Result<(), AllocError>
+    ensures { OnOk result (met.new.items ≡ met_with met.old.items (part_shape part.now)) }
 {
     match part {
-        Part::Variable(name) => {
+        DraftPart::Variable(name) => {
             variable_at(alloc, met, name.bytes())?;
             Ok(())
         }
-        Part::Integer(_) => Ok(()),
-        Part::Compound {
+        DraftPart::Integer(_) => Ok(()),
+        DraftPart::Compound {
             name: _,
             arguments: _,
         } => Ok(()),

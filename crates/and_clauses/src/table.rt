@@ -1,20 +1,20 @@
 //! The clauses of a text, in a table.
 
 ghost use Rattle.std.specs.Prelude.{◌≡◌};
-ghost use Rattle.and_clauses.specs.Nodes.{shapes_of, names_of};
-ghost use Rattle.and_clauses.specs.Once.{IsKept-prop};
+ghost use Rattle.and_program.specs.Nodes.{shapes_of, names_of};
+ghost use Rattle.and_clauses.specs.Kept.{IsKept-prop};
 ghost use Rattle.and_clauses.specs.Kept.{IsKept};
 
-use crate::data::{Asked, Entry, Node, TableFault};
+use crate::data::{Asked, SealFault, TableFault};
 use crate::draft::ClauseDraft;
 use crate::making::{clause_entry, query_entry};
 use crate::numbering::built_in_names;
+use crate::unknown::{first_unknown_call, unknown_fault};
+use and_model::limits::MAX_CLAUSES;
 use and_model::{ClauseNo, NameNo};
+use and_program::{Entry, Loaded, Node, clause_numbers};
 use indexmap::IndexSet;
 use std::alloc::{AllocError, Global};
-
-/// How many clauses a text may have, without its query.
-const MAX_CLAUSES: usize = 65_535;
 
 /// The clauses of a text as far as it was read, and its query.
 #[derive(Drop)]
@@ -29,12 +29,13 @@ pub struct ClauseTable {
 }
 
 impl ClauseTable {
-    ghost use Rattle.std.specs.Prelude.{[], ◌∷◌, length, None, Some, IfOk, IfErr, IfSome, OnOk, OnErr, IsTrue};
-    ghost use Rattle.and_written.specs.Written.{Written};
-    ghost use Rattle.and_written.specs.Tables.{empty, clause_fault, query_fault, with_clause, with_query};
-    ghost use Rattle.and_clauses.specs.Faults.{fault_of};
+    ghost use Rattle.std.specs.Prelude.{length, IfOk, IfErr, OnErr, IsTrue};
+    ghost use Rattle.and_syntax.specs.Tables.{empty};
+    ghost use Rattle.and_clauses.specs.Added.{AddsClause, RefusesClause, SetsQuery, RefusesQuery};
     ghost use Rattle.and_clauses.specs.Drafts.{draft_of};
     ghost use Rattle.and_clauses.specs.Views.{table_of, is_query};
+    ghost use Rattle.and_program.specs.Loaded.{program_of};
+    ghost use Rattle.and_clauses.specs.Sealing.{Seals, Refuses};
 
     /// A table without clauses. An error is want of memory.
     pub fn new(alloc: Global) -> Result<ClauseTable, AllocError>
@@ -61,8 +62,8 @@ impl ClauseTable {
     /// Refused, the table is as it was.
     pub fn add_clause(&mut self, draft: ClauseDraft) -> Result<ClauseNo, TableFault>
         requires { length (draft_of draft).finished ≡ 1 }
-        ensures ok { (w : Written) → (draft_of draft).finished ≡ w ∷ [] → IfOk result (λ n. (clause_fault (table_of self.old) w ≡ None) × (table_of self.new ≡ with_clause (table_of self.old) w (draft_of draft).line) × (n.0 ≡ length (table_of self.new).clauses)) }
-        ensures fault { (w : Written) → (draft_of draft).finished ≡ w ∷ [] → IfErr result (λ e. IfSome (fault_of e) (λ f. clause_fault (table_of self.old) w ≡ Some f)) }
+        ensures ok { AddsClause (table_of self.old) (table_of self.new) (draft_of draft) result }
+        ensures fault { RefusesClause (table_of self.old) (draft_of draft) result }
         ensures refused { OnErr result (table_of self.new ≡ table_of self.old) }
     {
         let known = self.names.len();
@@ -90,8 +91,8 @@ impl ClauseTable {
     /// Refused, the table is as it was.
     pub fn set_query(&mut self, draft: ClauseDraft) -> Result<(), TableFault>
         requires { IsTrue (is_query (draft_of draft).finished) }
-        ensures ok { (w : Written) → (draft_of draft).finished ≡ w ∷ [] → OnOk result ((query_fault (table_of self.old) w ≡ None) × (table_of self.new ≡ with_query (table_of self.old) w (draft_of draft).line)) }
-        ensures fault { (w : Written) → (draft_of draft).finished ≡ w ∷ [] → IfErr result (λ e. IfSome (fault_of e) (λ f. query_fault (table_of self.old) w ≡ Some f)) }
+        ensures ok { SetsQuery (table_of self.old) (table_of self.new) (draft_of draft) result }
+        ensures fault { RefusesQuery (table_of self.old) (draft_of draft) result }
         ensures refused { OnErr result (table_of self.new ≡ table_of self.old) }
     {
         if self.query.is_some() {
@@ -110,6 +111,30 @@ impl ClauseTable {
                 self.nodes.truncate(kept);
                 Err(fault)
             }
+        }
+    }
+
+    /// The program of the table, whose query is there and whose calls all have clauses.
+    pub fn seal(self) -> Result<Loaded, SealFault>
+        ensures sealed { IfOk result (λ l. Seals (table_of self) (program_of l)) }
+        ensures refused { IfErr result (λ fault. Refuses (table_of self) fault) }
+    {
+        let ClauseTable {
+            names,
+            nodes,
+            clauses,
+            query,
+            ..
+        } = self;
+        let Some(asked) = query else {
+            return Err(SealFault::NoQuery);
+        };
+        let alloc = *nodes.allocator();
+        let numbers = clause_numbers(alloc, &nodes, &clauses)?;
+        let Asked { query, before } = asked;
+        match first_unknown_call(&nodes, &numbers, &clauses, &query, before as usize) {
+            Some(call) => Err(unknown_fault(alloc, &names, &nodes, call)?),
+            None => Ok(Loaded::new(nodes, clauses, query, names, numbers)),
         }
     }
 }

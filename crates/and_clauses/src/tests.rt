@@ -1,47 +1,14 @@
-ghost use Rattle.std.specs.Prelude.{◌≡◌, IfOk, length};
-ghost use Rattle.and_clauses.specs.Drafts.{draft_of};
+//! Clauses and queries that tables take and refuse.
 
-use crate::data::{ItemNode, TableFault, What};
+use crate::data::{TableFault, What};
+use crate::test_drafts::Given::{self, Int, Name, Var};
+use crate::test_drafts::{APPEND_BASE, APPEND_STEP, draft, query_draft};
 use crate::{ClauseDraft, ClauseTable};
 use and_model::{ClauseNo, NodeNo};
+use and_program::ItemNode;
 use std::alloc::{AllocError, Global};
 use std::process::Abort;
 use std::test::Fail;
-
-/// A part of a draft.
-#[derive(Clone, Copy)]
-enum Given<'a> {
-    Var(&'a [u8]),
-    Int(i64),
-    Name(&'a [u8], u8),
-}
-
-use Given::{Int, Name, Var};
-
-/// The draft of these parts, in postfix order.
-fn draft(
-    rt: &impl Abort,
-    alloc: Global,
-    line: u32,
-    parts: &[Given],
-) -> Result<ClauseDraft, AllocError>
-    ensures { IfOk result (λ d. length (draft_of d).finished ≡ 1) }
-{
-    let mut draft = ClauseDraft::new(alloc, line);
-    for part in parts {
-        assert!(rt; draft.parts.len() < 1000);
-        match part {
-            Var(name) => draft.variable(name)?,
-            Int(value) => draft.integer(*value)?,
-            Name(name, count) => {
-                assert!(rt; *count as usize <= draft.finished.len());
-                draft.compound(name, *count)?
-            }
-        }
-    }
-    assert!(rt; draft.is_whole());
-    Ok(draft)
-}
 
 /// What adding a clause of these parts answers.
 fn added(
@@ -61,9 +28,7 @@ fn asked(
     table: &mut ClauseTable,
     body: &[Given],
 ) -> Result<Result<(), TableFault>, AllocError> {
-    let mut draft = draft(rt, alloc, 1, body)?;
-    assert!(rt; draft.parts.len() < 1000);
-    draft.compound(b"?-", 1)?;
+    let draft = query_draft(rt, alloc, 1, body)?;
     Ok(table.set_query(draft))
 }
 
@@ -97,26 +62,8 @@ fn is_impure(answer: Result<ClauseNo, TableFault>) -> bool {
 fn append_has_two_clauses_and_a_query(rt: HostRuntime) -> Result<(), Fail> {
     let alloc = rt.alloc();
     let mut table = ClauseTable::new(alloc)?;
-    // app([],L,L).
-    let base = [Name(b"[]", 0), Var(b"L"), Var(b"L"), Name(b"app", 3)];
-    assert!(rt; is_clause(added(&rt, alloc, &mut table, &base)?, 1));
-    // app([H|T],L,[H|R]) :- app(T,L,R).
-    let step = [
-        Var(b"H"),
-        Var(b"T"),
-        Name(b".", 2),
-        Var(b"L"),
-        Var(b"H"),
-        Var(b"R"),
-        Name(b".", 2),
-        Name(b"app", 3),
-        Var(b"T"),
-        Var(b"L"),
-        Var(b"R"),
-        Name(b"app", 3),
-        Name(b":-", 2),
-    ];
-    assert!(rt; is_clause(added(&rt, alloc, &mut table, &step)?, 2));
+    assert!(rt; is_clause(added(&rt, alloc, &mut table, &APPEND_BASE)?, 1));
+    assert!(rt; is_clause(added(&rt, alloc, &mut table, &APPEND_STEP)?, 2));
     // ?- app(X,Y,[1,2]).
     let query = [
         Var(b"X"),
@@ -145,7 +92,6 @@ fn append_has_two_clauses_and_a_query(rt: HostRuntime) -> Result<(), Fail> {
         second.items.as_slice(),
         [ItemNode::Call { goal: NodeNo(16) }].as_slice()
     );
-    assert_eq!(rt; second.weight, 5);
     assert_eq!(rt; second.variables.len(), 4);
     Ok(())
 }

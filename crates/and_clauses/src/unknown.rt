@@ -1,20 +1,26 @@
 //! Calls of predicates without a clause.
 
-ghost use Rattle.std.specs.Prelude.{◌≡◌, ◌≤◌, ◌∷◌, ◌++◌, [], List, map, length, None, Some, take, drop};
+ghost use Rattle.std.specs.Prelude.{◌≡◌, ◌≤◌, ◌∷◌, ◌++◌, [], ℕ, List, map, length, None, Some, take, drop, IfOk};
 ghost use Rattle.std.specs.Option.{option_map};
 ghost use Rattle.std.specs.List.{list_any};
 ghost use Rattle.and_model.specs.Lines.{Bytes};
 ghost use Rattle.and_model.specs.Programs.{Clause, same_predicate};
-ghost use Rattle.and_written.specs.Skeletons.{node_term, item_of};
-ghost use Rattle.and_written.specs.Tables.{first_unknown, unknown_in};
-ghost use Rattle.and_clauses.specs.Items.{node_item};
-ghost use Rattle.and_clauses.specs.Nodes.{shapes_of, entry_clause};
-ghost use Rattle.and_clauses.specs.Predicates.{Finds};
+ghost use Rattle.and_program.specs.Skeletons.{node_term, item_of};
+ghost use Rattle.and_syntax.specs.Tables.{first_unknown, unknown_in};
+ghost use Rattle.and_program.specs.Items.{node_item};
+ghost use Rattle.and_program.specs.Kept.{AllWithin};
+ghost use Rattle.and_program.specs.Nodes.{shapes_of, names_of, entry_clause};
+ghost use Rattle.and_program.specs.Predicates.{Finds};
 ghost use Rattle.and_clauses.specs.Unknown.{unknown_at};
+ghost use Rattle.and_clauses.specs.Sealing.{IsUnknown};
 
-use crate::data::{Entry, ItemNode, Node};
-use crate::predicates::{ClauseNumbers, clauses_at, predicate_at};
-use and_model::NodeNo;
+use crate::data::SealFault;
+use and_model::{NameNo, NodeNo, Text};
+use and_program::{
+    ClauseNumbers, Entry, ItemNode, Node, Predicate, clauses_at, name_at, predicate_at,
+};
+use indexmap::IndexSet;
+use std::alloc::{AllocError, Global};
 
 /// A call without a clause, and the line of the clause that calls.
 #[derive(Clone, Copy)]
@@ -25,7 +31,9 @@ pub(crate) struct UnknownCall {
 
 /// Whether the predicate of a goal has a clause.
 fn is_known(nodes: &[Node], found: &ClauseNumbers, goal: NodeNo) -> bool
-    ensures { (cs : List Clause) → Finds found.now cs → result ≡ list_any (λ c. same_predicate (node_term (shapes_of nodes.now) goal.0) c.head) cs }
+    ensures { (cs : List Clause) → Finds found.now cs
+        → let call = node_term (shapes_of nodes.now) goal.0 in
+        result ≡ list_any (λ c. same_predicate call c.head) cs }
 {
     match predicate_at(nodes, goal) {
         Some(predicate) => !clauses_at(found, predicate).is_empty(),
@@ -35,7 +43,10 @@ fn is_known(nodes: &[Node], found: &ClauseNumbers, goal: NodeNo) -> bool
 
 /// The goal of an item, where it is a call without a clause.
 fn unknown_goal(nodes: &[Node], found: &ClauseNumbers, item: &ItemNode) -> Option<NodeNo>
-    ensures { (cs : List Clause) → Finds found.now cs → option_map (λ n. node_term (shapes_of nodes.now) n.0) result ≡ first_unknown cs (item_of (shapes_of nodes.now) (node_item item.now) ∷ []) }
+    ensures { (cs : List Clause) → Finds found.now cs
+        → let shapes = shapes_of nodes.now in
+        option_map (λ n. node_term shapes n.0) result
+        ≡ first_unknown cs (item_of shapes (node_item item.now) ∷ []) }
 {
     match item {
         ItemNode::Call { goal } => {
@@ -54,7 +65,10 @@ fn unknown_goal(nodes: &[Node], found: &ClauseNumbers, item: &ItemNode) -> Optio
 
 /// The first call of a body without a clause.
 fn first_unknown_goal(nodes: &[Node], found: &ClauseNumbers, items: &[ItemNode]) -> Option<NodeNo>
-    ensures { (cs : List Clause) → Finds found.now cs → option_map (λ n. node_term (shapes_of nodes.now) n.0) result ≡ first_unknown cs (map (item_of (shapes_of nodes.now)) (map node_item items.now)) }
+    ensures { (cs : List Clause) → Finds found.now cs
+        → let shapes = shapes_of nodes.now in
+        option_map (λ n. node_term shapes n.0) result
+        ≡ first_unknown cs (map (item_of shapes) (map node_item items.now)) }
 {
     for item in items {
         if let Some(goal) = unknown_goal(nodes, found, item) {
@@ -66,7 +80,10 @@ fn first_unknown_goal(nodes: &[Node], found: &ClauseNumbers, items: &[ItemNode])
 
 /// The first call without a clause in the body of a clause.
 fn unknown_in_entry(nodes: &[Node], found: &ClauseNumbers, entry: &Entry) -> Option<UnknownCall>
-    ensures { (cs : List Clause) (names : List Bytes) → Finds found.now cs → option_map (unknown_at names (shapes_of nodes.now)) result ≡ unknown_in names cs (entry_clause (shapes_of nodes.now) entry.now ∷ []) }
+    ensures { (cs : List Clause) (names : List Bytes) → Finds found.now cs
+        → let shapes = shapes_of nodes.now in
+        option_map (unknown_at names shapes) result
+        ≡ unknown_in names cs (entry_clause shapes entry.now ∷ []) }
 {
     let goal = first_unknown_goal(nodes, found, &entry.items)?;
     Some(UnknownCall {
@@ -81,7 +98,10 @@ fn unknown_in_entries(
     found: &ClauseNumbers,
     entries: &[Entry],
 ) -> Option<UnknownCall>
-    ensures { (cs : List Clause) (names : List Bytes) → Finds found.now cs → option_map (unknown_at names (shapes_of nodes.now)) result ≡ unknown_in names cs (map (entry_clause (shapes_of nodes.now)) entries.now) }
+    ensures { (cs : List Clause) (names : List Bytes) → Finds found.now cs
+        → let shapes = shapes_of nodes.now in
+        option_map (unknown_at names shapes) result
+        ≡ unknown_in names cs (map (entry_clause shapes) entries.now) }
 {
     for entry in entries {
         if let Some(call) = unknown_in_entry(nodes, found, entry) {
@@ -101,7 +121,11 @@ pub(crate) fn first_unknown_call(
     before: usize,
 ) -> Option<UnknownCall>
     requires { before ≤ length clauses.now }
-    ensures { (cs : List Clause) (names : List Bytes) → Finds found.now cs → option_map (unknown_at names (shapes_of nodes.now)) result ≡ unknown_in names cs (map (entry_clause (shapes_of nodes.now)) (take before clauses.now ++ query.now ∷ drop before clauses.now)) }
+    ensures { (cs : List Clause) (names : List Bytes) → Finds found.now cs
+        → let shapes = shapes_of nodes.now in
+        let entries = take before clauses.now ++ query.now ∷ drop before clauses.now in
+        option_map (unknown_at names shapes) result
+        ≡ unknown_in names cs (map (entry_clause shapes) entries) }
 {
     let (earlier, later) = clauses.split_at(before);
     if let Some(call) = unknown_in_entries(nodes, found, earlier) {
@@ -111,4 +135,26 @@ pub(crate) fn first_unknown_call(
         return Some(call);
     }
     unknown_in_entries(nodes, found, later)
+}
+
+/// Names what is called without a clause.
+pub(crate) fn unknown_fault(
+    alloc: Global,
+    names: &IndexSet<Vec<u8>>,
+    nodes: &[Node],
+    call: UnknownCall,
+) -> Result<SealFault, AllocError>
+    requires { (m : ℕ) × AllWithin m (shapes_of nodes.now) }
+    ensures { let unknown = unknown_at (names_of names.now.keys) (shapes_of nodes.now) call in
+        IfOk result (λ fault. IsUnknown unknown fault) }
+{
+    let predicate = predicate_at(nodes, call.goal).unwrap_or(Predicate {
+        name: NameNo(0),
+        arity: 0,
+    });
+    Ok(SealFault::Unknown {
+        name: Text::of(alloc, name_at(names, predicate.name))?,
+        arity: predicate.arity as u8,
+        line: call.line,
+    })
 }

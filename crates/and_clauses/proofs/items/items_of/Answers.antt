@@ -1,7 +1,7 @@
 use Rattle.std.proofs.Common.{rules, ◌≡◌, ◌++◌, [], ◌∷◌, length, get_or, ap, ◌∙◌, arith}
-use Rattle.and_clauses.specs.Nodes.{names_of}
+use Rattle.and_program.specs.Nodes.{names_of}
 use Rattle.and_clauses.proofs.Noting.{last_there}
-use Rattle.and_clauses.proofs.Goaling.{first_part, part_of, goal_at_says, goal_at_has, goal_size, goal_there, owed_first, owed_step, owed_last, owed_refused, first_there, first_few, no_more}
+use Rattle.and_clauses.proofs.ConjunctLemmas.{first_part, part_of, conjunct_at_says, conjunct_at_has, conjunct_size, conjunct_there, owed_first, owed_step, owed_last, owed_refused, first_there, first_few, no_more}
 use Rattle.and_clauses.proofs.items.items_of.Goals as goal
 
 pub loop-number-init : goal.loop-number-init
@@ -11,19 +11,19 @@ loop-number-init c = record {
   few = first_few c.args.parts.now (length c.args.parts.now) c.args.body c.new-items.result.items c.new-pending.result.items c.push.new.self.items c.new-items.ensures.items c.in_ok-push.ensures.items c.new-pending.ensures.items c.requires.small;
 }
 
-pub part_as_goal-goal-requires-clause-there : goal.part_as_goal-goal-requires-clause-there
-part_as_goal-goal-requires-clause-there c = last_there (length c.args.parts.now) c.loop-number.pending.items c.pop.new.self.items c.in-Some.number c.in-Some.ensures.items c.loop-number.invariant.there
+pub part_as_conjunct-conjunct-requires-clause-there : goal.part_as_conjunct-conjunct-requires-clause-there
+part_as_conjunct-conjunct-requires-clause-there c = last_there (length c.args.parts.now) c.loop-number.pending.items c.pop.new.self.items c.in-Some.number c.in-Some.ensures.items c.loop-number.invariant.there
 
 pub loop-number-smaller : goal.loop-number-smaller
-loop-number-smaller c = (goal_size c.args.parts.now c.in-Some.number (get_or c.args.parts.now c.in-Some.number first_part) c.part_as_goal-goal.result c.in_ok-pure.pure c.loop-number.items.items c.take_goal.new.items.items c.loop-number.pending.items c.pop.new.self.items c.take_goal.new.pending.items c.requires.falls (last_there (length c.args.parts.now) c.loop-number.pending.items c.pop.new.self.items c.in-Some.number c.in-Some.ensures.items c.loop-number.invariant.there) (part_of c.args.parts.now c.in-Some.number (last_there (length c.args.parts.now) c.loop-number.pending.items c.pop.new.self.items c.in-Some.number c.in-Some.ensures.items c.loop-number.invariant.there)) (goal_at_has c.args.base c.in-Some.number (names_of c.args.names.now.keys) c.args.parts.now c.part_as_goal-goal.result (last_there (length c.args.parts.now) c.loop-number.pending.items c.pop.new.self.items c.in-Some.number c.in-Some.ensures.items c.loop-number.invariant.there) c.part_as_goal-goal.ensures) c.in-Some.ensures.items c.in_ok-pure.ensures c.if-not-pure.false).0
+loop-number-smaller c = (conjunct_size c.args.parts.now c.in-Some.number (get_or c.args.parts.now c.in-Some.number first_part) c.part_as_conjunct-conjunct.result c.in_ok-pure.pure c.loop-number.items.items c.take_conjunct.new.items.items c.loop-number.pending.items c.pop.new.self.items c.take_conjunct.new.pending.items c.requires.falls (last_there (length c.args.parts.now) c.loop-number.pending.items c.pop.new.self.items c.in-Some.number c.in-Some.ensures.items c.loop-number.invariant.there) (part_of c.args.parts.now c.in-Some.number (last_there (length c.args.parts.now) c.loop-number.pending.items c.pop.new.self.items c.in-Some.number c.in-Some.ensures.items c.loop-number.invariant.there)) (conjunct_at_has c.args.base c.in-Some.number (names_of c.args.names.now.keys) c.args.parts.now c.part_as_conjunct-conjunct.result (last_there (length c.args.parts.now) c.loop-number.pending.items c.pop.new.self.items c.in-Some.number c.in-Some.ensures.items c.loop-number.invariant.there) c.part_as_conjunct-conjunct.ensures) c.in-Some.ensures.items c.in_ok-pure.ensures c.if-not-pure.false).0
 
 pub loop-number-preserved : goal.loop-number-preserved
 loop-number-preserved c = record {
-  owed = λ ss r. owed_step ss c.args.base c.args.body c.in-Some.number c.part_as_goal-goal.result c.in_ok-pure.pure c.loop-number.items.items c.take_goal.new.items.items c.loop-number.pending.items c.pop.new.self.items c.take_goal.new.pending.items
-      (goal_at_says ss c.args.base c.in-Some.number (names_of c.args.names.now.keys) c.args.parts.now c.part_as_goal-goal.result r c.requires.falls (last_there (length c.args.parts.now) c.loop-number.pending.items c.pop.new.self.items c.in-Some.number c.in-Some.ensures.items c.loop-number.invariant.there) c.part_as_goal-goal.ensures)
+  owed = λ ss r. owed_step ss c.args.base c.args.body c.in-Some.number c.part_as_conjunct-conjunct.result c.in_ok-pure.pure c.loop-number.items.items c.take_conjunct.new.items.items c.loop-number.pending.items c.pop.new.self.items c.take_conjunct.new.pending.items
+      (conjunct_at_says ss c.args.base c.in-Some.number (names_of c.args.names.now.keys) c.args.parts.now c.part_as_conjunct-conjunct.result r c.requires.falls (last_there (length c.args.parts.now) c.loop-number.pending.items c.pop.new.self.items c.in-Some.number c.in-Some.ensures.items c.loop-number.invariant.there) c.part_as_conjunct-conjunct.ensures)
       c.in-Some.ensures.items c.in_ok-pure.ensures c.if-not-pure.false (c.loop-number.invariant.owed ss r);
-  there = goal_there c.args.parts.now c.in-Some.number (get_or c.args.parts.now c.in-Some.number first_part) c.part_as_goal-goal.result c.in_ok-pure.pure c.loop-number.items.items c.take_goal.new.items.items c.loop-number.pending.items c.pop.new.self.items c.take_goal.new.pending.items c.requires.falls (last_there (length c.args.parts.now) c.loop-number.pending.items c.pop.new.self.items c.in-Some.number c.in-Some.ensures.items c.loop-number.invariant.there) (part_of c.args.parts.now c.in-Some.number (last_there (length c.args.parts.now) c.loop-number.pending.items c.pop.new.self.items c.in-Some.number c.in-Some.ensures.items c.loop-number.invariant.there)) (goal_at_has c.args.base c.in-Some.number (names_of c.args.names.now.keys) c.args.parts.now c.part_as_goal-goal.result (last_there (length c.args.parts.now) c.loop-number.pending.items c.pop.new.self.items c.in-Some.number c.in-Some.ensures.items c.loop-number.invariant.there) c.part_as_goal-goal.ensures) c.in-Some.ensures.items c.in_ok-pure.ensures c.if-not-pure.false c.loop-number.invariant.there;
-  few = omega (arith, (goal_size c.args.parts.now c.in-Some.number (get_or c.args.parts.now c.in-Some.number first_part) c.part_as_goal-goal.result c.in_ok-pure.pure c.loop-number.items.items c.take_goal.new.items.items c.loop-number.pending.items c.pop.new.self.items c.take_goal.new.pending.items c.requires.falls (last_there (length c.args.parts.now) c.loop-number.pending.items c.pop.new.self.items c.in-Some.number c.in-Some.ensures.items c.loop-number.invariant.there) (part_of c.args.parts.now c.in-Some.number (last_there (length c.args.parts.now) c.loop-number.pending.items c.pop.new.self.items c.in-Some.number c.in-Some.ensures.items c.loop-number.invariant.there)) (goal_at_has c.args.base c.in-Some.number (names_of c.args.names.now.keys) c.args.parts.now c.part_as_goal-goal.result (last_there (length c.args.parts.now) c.loop-number.pending.items c.pop.new.self.items c.in-Some.number c.in-Some.ensures.items c.loop-number.invariant.there) c.part_as_goal-goal.ensures) c.in-Some.ensures.items c.in_ok-pure.ensures c.if-not-pure.false).1, c.loop-number.invariant.few);
+  there = conjunct_there c.args.parts.now c.in-Some.number (get_or c.args.parts.now c.in-Some.number first_part) c.part_as_conjunct-conjunct.result c.in_ok-pure.pure c.loop-number.items.items c.take_conjunct.new.items.items c.loop-number.pending.items c.pop.new.self.items c.take_conjunct.new.pending.items c.requires.falls (last_there (length c.args.parts.now) c.loop-number.pending.items c.pop.new.self.items c.in-Some.number c.in-Some.ensures.items c.loop-number.invariant.there) (part_of c.args.parts.now c.in-Some.number (last_there (length c.args.parts.now) c.loop-number.pending.items c.pop.new.self.items c.in-Some.number c.in-Some.ensures.items c.loop-number.invariant.there)) (conjunct_at_has c.args.base c.in-Some.number (names_of c.args.names.now.keys) c.args.parts.now c.part_as_conjunct-conjunct.result (last_there (length c.args.parts.now) c.loop-number.pending.items c.pop.new.self.items c.in-Some.number c.in-Some.ensures.items c.loop-number.invariant.there) c.part_as_conjunct-conjunct.ensures) c.in-Some.ensures.items c.in_ok-pure.ensures c.if-not-pure.false c.loop-number.invariant.there;
+  few = omega (arith, (conjunct_size c.args.parts.now c.in-Some.number (get_or c.args.parts.now c.in-Some.number first_part) c.part_as_conjunct-conjunct.result c.in_ok-pure.pure c.loop-number.items.items c.take_conjunct.new.items.items c.loop-number.pending.items c.pop.new.self.items c.take_conjunct.new.pending.items c.requires.falls (last_there (length c.args.parts.now) c.loop-number.pending.items c.pop.new.self.items c.in-Some.number c.in-Some.ensures.items c.loop-number.invariant.there) (part_of c.args.parts.now c.in-Some.number (last_there (length c.args.parts.now) c.loop-number.pending.items c.pop.new.self.items c.in-Some.number c.in-Some.ensures.items c.loop-number.invariant.there)) (conjunct_at_has c.args.base c.in-Some.number (names_of c.args.names.now.keys) c.args.parts.now c.part_as_conjunct-conjunct.result (last_there (length c.args.parts.now) c.loop-number.pending.items c.pop.new.self.items c.in-Some.number c.in-Some.ensures.items c.loop-number.invariant.there) c.part_as_conjunct-conjunct.ensures) c.in-Some.ensures.items c.in_ok-pure.ensures c.if-not-pure.false).1, c.loop-number.invariant.few);
 }
 
 pub returns-clause-items : goal.returns-clause-items
@@ -33,6 +33,6 @@ pub returns-clause-few : goal.returns-clause-few
 returns-clause-few c = omega (arith, c.loop-number.invariant.few)
 
 pub returns-then-not-pure-clause-items : goal.returns-then-not-pure-clause-items
-returns-then-not-pure-clause-items c = λ ss r. owed_refused ss c.args.base c.args.body c.in-Some.number c.part_as_goal-goal.result c.in_ok-pure.pure c.loop-number.items.items c.take_goal.new.items.items c.loop-number.pending.items c.pop.new.self.items c.take_goal.new.pending.items
-    (goal_at_says ss c.args.base c.in-Some.number (names_of c.args.names.now.keys) c.args.parts.now c.part_as_goal-goal.result r c.requires.falls (last_there (length c.args.parts.now) c.loop-number.pending.items c.pop.new.self.items c.in-Some.number c.in-Some.ensures.items c.loop-number.invariant.there) c.part_as_goal-goal.ensures)
+returns-then-not-pure-clause-items c = λ ss r. owed_refused ss c.args.base c.args.body c.in-Some.number c.part_as_conjunct-conjunct.result c.in_ok-pure.pure c.loop-number.items.items c.take_conjunct.new.items.items c.loop-number.pending.items c.pop.new.self.items c.take_conjunct.new.pending.items
+    (conjunct_at_says ss c.args.base c.in-Some.number (names_of c.args.names.now.keys) c.args.parts.now c.part_as_conjunct-conjunct.result r c.requires.falls (last_there (length c.args.parts.now) c.loop-number.pending.items c.pop.new.self.items c.in-Some.number c.in-Some.ensures.items c.loop-number.invariant.there) c.part_as_conjunct-conjunct.ensures)
     c.in-Some.ensures.items c.in_ok-pure.ensures c.if-not-pure.true (c.loop-number.invariant.owed ss r)

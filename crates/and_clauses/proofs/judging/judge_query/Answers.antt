@@ -1,6 +1,6 @@
 use Rattle.std.proofs.Common.{◌∙◌}
-use Rattle.and_clauses.specs.Nodes.{names_of}
-use Rattle.and_clauses.specs.Parts.{pieces}
+use Rattle.and_program.specs.Nodes.{names_of}
+use Rattle.and_clauses.specs.Parts.{part_shapes}
 use Rattle.and_clauses.proofs.Halving.{asked_stand, query_impure, query_sized, query_items, fitting, few_variables}
 use Rattle.and_clauses.proofs.judging.judge_query.Goals as goal
 
@@ -23,4 +23,4 @@ returns-clause-ok c = λ ss r. (
 )
 
 pub returns-clause-few : goal.returns-clause-few
-returns-clause-few c = (rw c.in-Some.is at c.in_ok-items.ensures.few, fitting (pieces c.args.parts.now) c.args.fits (rw c.in_default-2.is at c.in_ok-what.ensures), few_variables (pieces c.args.parts.now) c.args.fits (rw c.in_default-2.is at c.in_ok-what.ensures))
+returns-clause-few c = (rw c.in-Some.is at c.in_ok-items.ensures.few, fitting (part_shapes c.args.parts.now) c.args.fits (rw c.in_default-2.is at c.in_ok-what.ensures), few_variables (part_shapes c.args.parts.now) c.args.fits (rw c.in_default-2.is at c.in_ok-what.ensures))

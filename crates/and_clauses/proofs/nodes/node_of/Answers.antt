@@ -1,5 +1,5 @@
 use Rattle.std.proofs.Common.{arith}
-use Rattle.and_clauses.specs.Nodes.{names_of}
+use Rattle.and_program.specs.Nodes.{names_of}
 use Rattle.and_clauses.proofs.Naming.{variable_number-le, place-le}
 use Rattle.and_clauses.proofs.nodes.node_of.Goals as goal
 

@@ -1,5 +1,5 @@
 use Rattle.std.proofs.Common.{◌≡◌, ◌+◌, drop}
-use Rattle.and_written.specs.Written.{has, place}
+use Rattle.and_syntax.specs.Written.{has, place}
 use Rattle.and_clauses.proofs.numbering.find.Given as goal
 
 abbrev pub invariant-loop-number : goal.invariant-loop-number

@@ -1,5 +1,5 @@
 use Rattle.std.proofs.Common.{◌≡◌, [], drop}
-use Rattle.and_clauses.specs.Nodes.{names_of}
+use Rattle.and_program.specs.Nodes.{names_of}
 use Rattle.and_clauses.specs.Numbered.{bytes_of, including_all}
 use Rattle.and_clauses.proofs.numbering.name_set.Given as goal
 

@@ -1,7 +1,7 @@
 use Rattle.std.proofs.Common.{[], ◌∷◌, take, drop, ◌∙◌, ap, map, List, Option, None}
-use Rattle.and_written.specs.Tables.{Unknown, unknown_in}
-use Rattle.and_clauses.specs.Nodes.{shapes_of, entry_clause}
-use Rattle.and_clauses.specs.declared.data.Entry.{Entry}
+use Rattle.and_syntax.specs.Tables.{Unknown, unknown_in}
+use Rattle.and_program.specs.Nodes.{shapes_of, entry_clause}
+use Rattle.and_program.specs.declared.entry.Entry.{Entry}
 use Rattle.and_clauses.proofs.UnknownLemmas.{either, text_order}
 use Rattle.and_clauses.proofs.unknown.first_unknown_call.Goals as goal
 

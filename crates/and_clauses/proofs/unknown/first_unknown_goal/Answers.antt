@@ -1,10 +1,10 @@
 use Rattle.std.proofs.Common.{refl, map}
-use Rattle.and_written.specs.Skeletons.{item_of}
-use Rattle.and_written.specs.Tables.{first_unknown}
-use Rattle.and_clauses.specs.Items.{node_item}
-use Rattle.and_clauses.specs.Nodes.{shapes_of}
+use Rattle.and_program.specs.Skeletons.{item_of}
+use Rattle.and_syntax.specs.Tables.{first_unknown}
+use Rattle.and_program.specs.Items.{node_item}
+use Rattle.and_program.specs.Nodes.{shapes_of}
 use Rattle.and_clauses.proofs.UnknownLemmas.{first_unknown-cons, ends_here, goes_on}
-use Rattle.and_clauses.specs.declared.data.ItemNode.TheVariants.{Call}
+use Rattle.and_program.specs.declared.item.ItemNode.TheVariants.{Call}
 use Rattle.and_clauses.proofs.unknown.first_unknown_goal.Goals as goal
 
 pub returns-in-Some : goal.returns-in-Some

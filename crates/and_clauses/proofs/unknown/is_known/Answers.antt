@@ -1,6 +1,6 @@
 use Rattle.std.proofs.Common.{◌∙◌, ap, not, eqb, length}
-use Rattle.and_clauses.specs.Nodes.{shapes_of}
-use Rattle.and_written.specs.Skeletons.{node_term}
+use Rattle.and_program.specs.Nodes.{shapes_of}
+use Rattle.and_program.specs.Skeletons.{node_term}
 use Rattle.and_clauses.proofs.UnknownLemmas.{is_called, is_not_called}
 use Rattle.and_clauses.proofs.unknown.is_known.Goals as goal
 

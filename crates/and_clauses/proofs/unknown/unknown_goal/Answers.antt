@@ -1,7 +1,7 @@
 use Rattle.std.proofs.Common.{ap}
-use Rattle.and_written.specs.Skeletons.{node_term, item_of}
-use Rattle.and_clauses.specs.Items.{node_item}
-use Rattle.and_clauses.specs.Nodes.{shapes_of}
+use Rattle.and_program.specs.Skeletons.{node_term, item_of}
+use Rattle.and_program.specs.Items.{node_item}
+use Rattle.and_program.specs.Nodes.{shapes_of}
 use Rattle.and_clauses.proofs.UnknownLemmas.{called_item}
 use Rattle.and_clauses.proofs.unknown.unknown_goal.Goals as goal
 

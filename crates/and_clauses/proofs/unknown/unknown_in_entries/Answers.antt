@@ -1,6 +1,6 @@
 use Rattle.std.proofs.Common.{[], ◌∷◌, ◌∙◌, ap, refl, map}
-use Rattle.and_written.specs.Tables.{unknown_in}
-use Rattle.and_clauses.specs.Nodes.{shapes_of, entry_clause}
+use Rattle.and_syntax.specs.Tables.{unknown_in}
+use Rattle.and_program.specs.Nodes.{shapes_of, entry_clause}
 use Rattle.and_clauses.proofs.UnknownLemmas.{unknown_in-cons, ends_here, goes_on}
 use Rattle.and_clauses.proofs.unknown.unknown_in_entries.Goals as goal
 

@@ -1,14 +1,14 @@
 use Rattle.std.proofs.Common.{◌-◌, ◌≤◌, map, length, take, drop, arith, ap, ◌∙◌}
 use Rattle.and_model.specs.Lines.{Bytes}
-use Rattle.and_written.specs.Written
-use Rattle.and_clauses.specs.declared.draft.Part.TheVariants.{Compound}
-use Rattle.and_clauses.specs.Parts.{pieces, written_at, compound, many}
+use Rattle.and_syntax.specs.Written
+use Rattle.and_clauses.specs.declared.draft.DraftPart.TheVariants.{Compound}
+use Rattle.and_clauses.specs.Parts.{part_shapes, written_at, compound, many}
 use Rattle.and_clauses.proofs.Drafting.{Stepped, stepped_compound, drafted, tail_is}
 use Rattle.and_clauses.proofs.draft.ClauseDraft.compound.Goals as goal
 
 pub invariant_of-self : goal.invariant_of-self
 invariant_of-self c =
-    let s : Stepped c.add_part.result c.args.self.now.parts.items c.add_part.new.parts.items c.add_part.new.finished.items (take (length (map (written_at (pieces c.args.self.now.parts.items)) c.args.self.now.finished.items) - c.args.count) (map (written_at (pieces c.args.self.now.parts.items)) c.args.self.now.finished.items)) (Written.compound c.args.name.now (many (drop (length (map (written_at (pieces c.args.self.now.parts.items)) c.args.self.now.finished.items) - c.args.count) (map (written_at (pieces c.args.self.now.parts.items)) c.args.self.now.finished.items)))) =
+    let s : Stepped c.add_part.result c.args.self.now.parts.items c.add_part.new.parts.items c.add_part.new.finished.items (take (length (map (written_at (part_shapes c.args.self.now.parts.items)) c.args.self.now.finished.items) - c.args.count) (map (written_at (part_shapes c.args.self.now.parts.items)) c.args.self.now.finished.items)) (Written.compound c.args.name.now (many (drop (length (map (written_at (part_shapes c.args.self.now.parts.items)) c.args.self.now.finished.items) - c.args.count) (map (written_at (part_shapes c.args.self.now.parts.items)) c.args.self.now.finished.items)))) =
     stepped_compound c.add_part.result c.args.self.now.parts.items c.add_part.new.parts.items c.args.self.now.finished.items c.add_part.new.finished.items (Compound c.in_ok-name.name c.in_ok-arguments.arguments) c.args.name.now c.in_ok-arguments.arguments.items c.args.count (c.len.result - c.args.count)
     c.args.self.now.formed c.args.self.now.narrow (omega arith) c.add_part.ensures.parts c.add_part.ensures.finished c.add_part.ensures.parts_kept c.add_part.ensures.finished_kept
     (omega arith) c.requires.there (omega arith) (ap (λ (x : Bytes). compound x c.in_ok-arguments.arguments.items) c.in_ok-name.ensures) (c.in_ok-arguments.ensures.items ∙ tail_is (c.len.result - c.args.count) c.args.self.now.finished.items c.deref.result.now c.deref.ensures.value) in
@@ -17,7 +17,7 @@ invariant_of-self c =
 
 pub returns-clause-ok : goal.returns-clause-ok
 returns-clause-ok c =
-    let s : Stepped c.add_part.result c.args.self.now.parts.items c.add_part.new.parts.items c.add_part.new.finished.items (take (length (map (written_at (pieces c.args.self.now.parts.items)) c.args.self.now.finished.items) - c.args.count) (map (written_at (pieces c.args.self.now.parts.items)) c.args.self.now.finished.items)) (Written.compound c.args.name.now (many (drop (length (map (written_at (pieces c.args.self.now.parts.items)) c.args.self.now.finished.items) - c.args.count) (map (written_at (pieces c.args.self.now.parts.items)) c.args.self.now.finished.items)))) =
+    let s : Stepped c.add_part.result c.args.self.now.parts.items c.add_part.new.parts.items c.add_part.new.finished.items (take (length (map (written_at (part_shapes c.args.self.now.parts.items)) c.args.self.now.finished.items) - c.args.count) (map (written_at (part_shapes c.args.self.now.parts.items)) c.args.self.now.finished.items)) (Written.compound c.args.name.now (many (drop (length (map (written_at (part_shapes c.args.self.now.parts.items)) c.args.self.now.finished.items) - c.args.count) (map (written_at (part_shapes c.args.self.now.parts.items)) c.args.self.now.finished.items)))) =
     stepped_compound c.add_part.result c.args.self.now.parts.items c.add_part.new.parts.items c.args.self.now.finished.items c.add_part.new.finished.items (Compound c.in_ok-name.name c.in_ok-arguments.arguments) c.args.name.now c.in_ok-arguments.arguments.items c.args.count (c.len.result - c.args.count)
     c.args.self.now.formed c.args.self.now.narrow (omega arith) c.add_part.ensures.parts c.add_part.ensures.finished c.add_part.ensures.parts_kept c.add_part.ensures.finished_kept
     (omega arith) c.requires.there (omega arith) (ap (λ (x : Bytes). compound x c.in_ok-arguments.arguments.items) c.in_ok-name.ensures) (c.in_ok-arguments.ensures.items ∙ tail_is (c.len.result - c.args.count) c.args.self.now.finished.items c.deref.result.now c.deref.ensures.value) in

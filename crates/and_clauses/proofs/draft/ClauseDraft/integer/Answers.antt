@@ -1,15 +1,15 @@
 use Rattle.std.proofs.Common.{ℤ, to_z, of_z, w64, ◌≡◌, ◌≤◌, [], ◌∷◌, map, refl, length, arith, ap, sym}
 use Rattle.std.proofs.lemmas.Int.{to_z-of_z}
-use Rattle.and_written.specs.Written
-use Rattle.and_clauses.specs.declared.draft.Part.TheVariants.{Integer}
-use Rattle.and_clauses.specs.Parts.{pieces, written_at, integer}
+use Rattle.and_syntax.specs.Written
+use Rattle.and_clauses.specs.declared.draft.DraftPart.TheVariants.{Integer}
+use Rattle.and_clauses.specs.Parts.{part_shapes, written_at, integer}
 use Rattle.and_clauses.proofs.Drafting.{Stepped, stepped_leaf, drafted}
 use Rattle.and_clauses.proofs.draft.ClauseDraft.integer.Goals as goal
 
 pub invariant_of-self : goal.invariant_of-self
 invariant_of-self c =
     let back : to_z w64 (of_z w64 c.args.value) ≡ c.args.value = to_z-of_z w64 c.args.value c.ranges.value in
-    let s : Stepped c.add_part.result c.args.self.now.parts.items c.add_part.new.parts.items c.add_part.new.finished.items (map (written_at (pieces c.args.self.now.parts.items)) c.args.self.now.finished.items) (Written.integer c.args.value) =
+    let s : Stepped c.add_part.result c.args.self.now.parts.items c.add_part.new.parts.items c.add_part.new.finished.items (map (written_at (part_shapes c.args.self.now.parts.items)) c.args.self.now.finished.items) (Written.integer c.args.value) =
     stepped_leaf c.add_part.result c.args.self.now.parts.items c.add_part.new.parts.items c.args.self.now.finished.items c.add_part.new.finished.items (Integer (to_z w64 (of_z w64 c.args.value))) (Written.integer c.args.value) c.len-start.result
     c.args.self.now.formed c.args.self.now.narrow (omega arith) c.add_part.ensures.parts c.add_part.ensures.finished c.add_part.ensures.parts_kept c.add_part.ensures.finished_kept
     (omega arith) tt (ap Written.integer back) (λ n. ap (λ (z : ℤ). integer z ∷ []) (sym back)) refl in
@@ -19,7 +19,7 @@ invariant_of-self c =
 pub returns-clause-ok : goal.returns-clause-ok
 returns-clause-ok c =
     let back : to_z w64 (of_z w64 c.args.value) ≡ c.args.value = to_z-of_z w64 c.args.value c.ranges.value in
-    let s : Stepped c.add_part.result c.args.self.now.parts.items c.add_part.new.parts.items c.add_part.new.finished.items (map (written_at (pieces c.args.self.now.parts.items)) c.args.self.now.finished.items) (Written.integer c.args.value) =
+    let s : Stepped c.add_part.result c.args.self.now.parts.items c.add_part.new.parts.items c.add_part.new.finished.items (map (written_at (part_shapes c.args.self.now.parts.items)) c.args.self.now.finished.items) (Written.integer c.args.value) =
     stepped_leaf c.add_part.result c.args.self.now.parts.items c.add_part.new.parts.items c.args.self.now.finished.items c.add_part.new.finished.items (Integer (to_z w64 (of_z w64 c.args.value))) (Written.integer c.args.value) c.len-start.result
     c.args.self.now.formed c.args.self.now.narrow (omega arith) c.add_part.ensures.parts c.add_part.ensures.finished c.add_part.ensures.parts_kept c.add_part.ensures.finished_kept
     (omega arith) tt (ap Written.integer back) (λ n. ap (λ (z : ℤ). integer z ∷ []) (sym back)) refl in

@@ -1,14 +1,14 @@
 use Rattle.std.proofs.Common.{◌≤◌, [], ◌∷◌, map, refl, length, arith, ap, sym}
 use Rattle.and_model.specs.Lines.{Bytes}
-use Rattle.and_written.specs.Written
-use Rattle.and_clauses.specs.declared.draft.Part.TheVariants.{Variable}
-use Rattle.and_clauses.specs.Parts.{pieces, written_at, variable}
+use Rattle.and_syntax.specs.Written
+use Rattle.and_clauses.specs.declared.draft.DraftPart.TheVariants.{Variable}
+use Rattle.and_clauses.specs.Parts.{part_shapes, written_at, variable}
 use Rattle.and_clauses.proofs.Drafting.{Stepped, stepped_leaf, drafted}
 use Rattle.and_clauses.proofs.draft.ClauseDraft.variable.Goals as goal
 
 pub invariant_of-self : goal.invariant_of-self
 invariant_of-self c =
-    let s : Stepped c.add_part.result c.args.self.now.parts.items c.add_part.new.parts.items c.add_part.new.finished.items (map (written_at (pieces c.args.self.now.parts.items)) c.args.self.now.finished.items) (Written.variable c.args.name.now) =
+    let s : Stepped c.add_part.result c.args.self.now.parts.items c.add_part.new.parts.items c.add_part.new.finished.items (map (written_at (part_shapes c.args.self.now.parts.items)) c.args.self.now.finished.items) (Written.variable c.args.name.now) =
     stepped_leaf c.add_part.result c.args.self.now.parts.items c.add_part.new.parts.items c.args.self.now.finished.items c.add_part.new.finished.items (Variable c.in_ok-name.name) (Written.variable c.args.name.now) c.len-start.result
     c.args.self.now.formed c.args.self.now.narrow (omega arith) c.add_part.ensures.parts c.add_part.ensures.finished c.add_part.ensures.parts_kept c.add_part.ensures.finished_kept
     (omega arith) tt (ap Written.variable c.in_ok-name.ensures) (λ n. ap (λ (x : Bytes). variable x ∷ []) (sym c.in_ok-name.ensures)) refl in
@@ -17,7 +17,7 @@ invariant_of-self c =
 
 pub returns-clause-ok : goal.returns-clause-ok
 returns-clause-ok c =
-    let s : Stepped c.add_part.result c.args.self.now.parts.items c.add_part.new.parts.items c.add_part.new.finished.items (map (written_at (pieces c.args.self.now.parts.items)) c.args.self.now.finished.items) (Written.variable c.args.name.now) =
+    let s : Stepped c.add_part.result c.args.self.now.parts.items c.add_part.new.parts.items c.add_part.new.finished.items (map (written_at (part_shapes c.args.self.now.parts.items)) c.args.self.now.finished.items) (Written.variable c.args.name.now) =
     stepped_leaf c.add_part.result c.args.self.now.parts.items c.add_part.new.parts.items c.args.self.now.finished.items c.add_part.new.finished.items (Variable c.in_ok-name.name) (Written.variable c.args.name.now) c.len-start.result
     c.args.self.now.formed c.args.self.now.narrow (omega arith) c.add_part.ensures.parts c.add_part.ensures.finished c.add_part.ensures.parts_kept c.add_part.ensures.finished_kept
     (omega arith) tt (ap Written.variable c.in_ok-name.ensures) (λ n. ap (λ (x : Bytes). variable x ∷ []) (sym c.in_ok-name.ensures)) refl in

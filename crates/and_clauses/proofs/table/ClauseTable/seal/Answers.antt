@@ -1,13 +1,14 @@
-use Rattle.std.proofs.Common.{ap, sym, refl, subst, length, List, Option, Some, None}
-use Rattle.and_clauses.specs.Kept.{AllWithin, IsKept}
-use Rattle.and_clauses.specs.Nodes.{shapes_of, names_of, entry_clause}
+use Rattle.std.proofs.Common.{ap, sym, subst, length, List, Option, Some, None}
+use Rattle.and_program.specs.Kept.{AllWithin}
+use Rattle.and_clauses.specs.Kept.{IsKept}
+use Rattle.and_program.specs.Nodes.{shapes_of, names_of, entry_clause}
 use Rattle.and_clauses.specs.Sealing.{IsUnknown}
 use Rattle.and_clauses.specs.Unknown.{unknown_at}
 use Rattle.and_clauses.specs.Views.{table_of, asked_of}
-use Rattle.and_clauses.specs.declared.data.Node.{Node}
+use Rattle.and_program.specs.declared.node.Node.{Node}
 use Rattle.and_clauses.specs.declared.data.Asked.{Asked}
-use Rattle.and_written.specs.Tables
-use Rattle.and_clauses.proofs.SealingLemmas.{Finds-same, first_of_text, refuses}
+use Rattle.and_syntax.specs.Tables
+use Rattle.and_clauses.proofs.SealingLemmas.{Finds-same, first_of_text, program_kept, refuses}
 use Rattle.and_clauses.proofs.table.ClauseTable.seal.Goals as goal
 
 pub unknown_fault-requires : goal.unknown_fault-requires
@@ -16,14 +17,16 @@ unknown_fault-requires c =
     let P : List Node → Type 0 = λ xs. AllWithin m (shapes_of xs) in
     (m, subst P (sym c.deref-in-Some-first_unknown_call.ensures.value) c.args.self.kept.within)
 
-pub invariant_of-result : goal.invariant_of-result
-invariant_of-result c =
+pub new-requires-clause-kept : goal.new-requires-clause-kept
+new-requires-clause-kept c =
     let t = c.args.self in
     let P : Option Asked → Type 0 = λ q. IsKept (shapes_of t.nodes.items) t.clauses.items q (names_of t.names.keys) in
-    record {
-      kept = subst P c.in-Some.is t.kept;
-      found = Finds-same c.in_ok-numbers.numbers c.deref.result.now t.nodes.items c.deref-2.result.now t.clauses.items c.deref.ensures.value c.deref-2.ensures.value c.in_ok-numbers.ensures;
-    }
+    program_kept (shapes_of t.nodes.items) t.clauses.items c.in-Some.asked (names_of t.names.keys) (subst P c.in-Some.is t.kept)
+
+pub new-requires-clause-found : goal.new-requires-clause-found
+new-requires-clause-found c =
+    let t = c.args.self in
+    Finds-same c.in_ok-numbers.numbers c.deref.result.now t.nodes.items c.deref-2.result.now t.clauses.items c.deref.ensures.value c.deref-2.ensures.value c.in_ok-numbers.ensures
 
 pub returns-in_ok-unknown_fault-in-Some-first_unknown_call-clause-refused :
     goal.returns-in_ok-unknown_fault-in-Some-first_unknown_call-clause-refused
@@ -45,4 +48,4 @@ returns-in-None-clause-sealed c =
     let q = c.in-Some.asked.query in
     let found = Finds-same c.in_ok-numbers.numbers c.deref.result.now t.nodes.items c.deref-2.result.now t.clauses.items c.deref.ensures.value c.deref-2.ensures.value c.in_ok-numbers.ensures in
     let first = first_of_text c.in_ok-numbers.numbers q c.in-Some.asked.before None c.deref-3.result.now t.nodes.items c.deref-4.result.now t.clauses.items (names_of t.names.keys) c.deref-3.ensures.value c.deref-4.ensures.value c.in-None.ensures found in
-    (record { query = entry_clause ss q; before = c.in-Some.asked.before }, ap (asked_of ss) c.in-Some.is, sym first, refl)
+    (record { query = entry_clause ss q; before = c.in-Some.asked.before }, ap (asked_of ss) c.in-Some.is, sym first, c.new.ensures)

@@ -1,32 +1,31 @@
-use Rattle.std.proofs.Common.{◌≡◌, length, map, take, ltb, refl, sym, ap, ◌∙◌, arith}
+use Rattle.std.proofs.Common.{◌≡◌, length, take, ltb, refl, ap, ◌∙◌, arith}
 use Rattle.std.proofs.lemmas.List.{length-map}
 use Rattle.and_clauses.specs.Drafts.{draft_of}
-use Rattle.and_clauses.specs.Made.{IsTableOf}
-use Rattle.and_clauses.specs.Nodes.{entry_clause, shapes_of, names_of}
+use Rattle.and_program.specs.Nodes.{entry_clause, shapes_of, names_of}
 use Rattle.and_clauses.specs.Views.{table_of}
-use Rattle.and_clauses.proofs.Keeping.{one_query, one_query_alone, room_is, unasked, kept_query, table_query, cut_names, table_cut}
+use Rattle.and_clauses.proofs.Keeping.{one_query, one_query_alone, table_room, unasked, kept_query, table_query, cut_names, table_cut}
 use Rattle.and_clauses.proofs.table.ClauseTable.set_query.Goals as goal
 
 pub invariant_of-self : goal.invariant_of-self
 invariant_of-self c =
-    let tab : IsTableOf (table_of c.args.self.now) (names_of c.args.self.now.names.keys) (length c.args.self.now.nodes.items) (ltb (length c.args.self.now.clauses.items) 65535) = record { names_are = refl; nodes_are = refl; has_room = room_is (length c.args.self.now.clauses.items) (map (entry_clause (shapes_of c.args.self.now.nodes.items)) c.args.self.now.clauses.items) (sym (length-map c.args.self.now.clauses.items (entry_clause (shapes_of c.args.self.now.nodes.items)))) } in
+    let tab = table_room c.args.self.now (length c.args.self.now.clauses.items) refl in
     let one = one_query (draft_of c.args.draft).finished c.requires in
     record {
-      kept = kept_query (shapes_of c.args.self.now.nodes.items) (shapes_of c.query_entry.new.nodes.items) c.args.self.now.clauses.items c.args.self.now.query (names_of c.args.self.now.names.keys) (names_of c.query_entry.new.names.keys) one.0 _ c.in-Ok.query c.len-before.result c.args.self.now.kept (c.in-Ok.ensures.ok one.0 (table_of c.args.self.now) (ltb (length c.args.self.now.clauses.items) 65535) one.1 tab (unasked (shapes_of c.args.self.now.nodes.items) c.args.self.now.query c.is_some.result c.is_some.ensures c.if-is_some.false)).1 c.in-Ok.ensures.head (omega arith);
+      kept = kept_query (shapes_of c.args.self.now.nodes.items) (shapes_of c.query_entry.new.nodes.items) c.args.self.now.clauses.items c.args.self.now.query (names_of c.args.self.now.names.keys) (names_of c.query_entry.new.names.keys) one.0 _ c.in-Ok.query c.len-before.result c.args.self.now.kept (c.in-Ok.ensures.ok (table_of c.args.self.now) (ltb (length c.args.self.now.clauses.items) 65535) tab (unasked (shapes_of c.args.self.now.nodes.items) c.args.self.now.query c.is_some.result c.is_some.ensures c.if-is_some.false) one.0 one.1).1 c.in-Ok.ensures.head (omega arith);
     }
 
 pub returns-in-Ok-clause-ok : goal.returns-in-Ok-clause-ok
 returns-in-Ok-clause-ok c = λ w fin.
-    let tab : IsTableOf (table_of c.args.self.now) (names_of c.args.self.now.names.keys) (length c.args.self.now.nodes.items) (ltb (length c.args.self.now.clauses.items) 65535) = record { names_are = refl; nodes_are = refl; has_room = room_is (length c.args.self.now.clauses.items) (map (entry_clause (shapes_of c.args.self.now.nodes.items)) c.args.self.now.clauses.items) (sym (length-map c.args.self.now.clauses.items (entry_clause (shapes_of c.args.self.now.nodes.items)))) } in
-    let ok = c.in-Ok.ensures.ok w (table_of c.args.self.now) (ltb (length c.args.self.now.clauses.items) 65535) fin tab (unasked (shapes_of c.args.self.now.nodes.items) c.args.self.now.query c.is_some.result c.is_some.ensures c.if-is_some.false) in (
+    let tab = table_room c.args.self.now (length c.args.self.now.clauses.items) refl in
+    let ok = c.in-Ok.ensures.ok (table_of c.args.self.now) (ltb (length c.args.self.now.clauses.items) 65535) tab (unasked (shapes_of c.args.self.now.nodes.items) c.args.self.now.query c.is_some.result c.is_some.ensures c.if-is_some.false) w fin in (
       ok.0,
       table_query c.args.self.now.nodes.items c.query_entry.new.nodes.items c.args.self.now.clauses.items c.args.self.now.query (names_of c.args.self.now.names.keys) (names_of c.query_entry.new.names.keys) w _ c.in-Ok.query c.len-before.result c.args.self.now.kept ok.1 (omega (arith, length-map c.args.self.now.clauses.items (entry_clause (shapes_of c.args.self.now.nodes.items)))),
     )
 
 pub returns-clause-fault : goal.returns-clause-fault
 returns-clause-fault c = λ w fin.
-    let tab : IsTableOf (table_of c.args.self.now) (names_of c.args.self.now.names.keys) (length c.args.self.now.nodes.items) (ltb (length c.args.self.now.clauses.items) 65535) = record { names_are = refl; nodes_are = refl; has_room = room_is (length c.args.self.now.clauses.items) (map (entry_clause (shapes_of c.args.self.now.nodes.items)) c.args.self.now.clauses.items) (sym (length-map c.args.self.now.clauses.items (entry_clause (shapes_of c.args.self.now.nodes.items)))) } in
-    c.in-Err.ensures.fault w (table_of c.args.self.now) (ltb (length c.args.self.now.clauses.items) 65535) fin tab (unasked (shapes_of c.args.self.now.nodes.items) c.args.self.now.query c.is_some.result c.is_some.ensures c.if-is_some.false)
+    let tab = table_room c.args.self.now (length c.args.self.now.clauses.items) refl in
+    c.in-Err.ensures.fault (table_of c.args.self.now) (ltb (length c.args.self.now.clauses.items) 65535) tab (unasked (shapes_of c.args.self.now.nodes.items) c.args.self.now.query c.is_some.result c.is_some.ensures c.if-is_some.false) w fin
 
 pub returns-clause-refused : goal.returns-clause-refused
 returns-clause-refused c =

@@ -1,0 +1,4 @@
+pub mod NodeTerms
+pub mod PredicateLemmas
+pub mod LoadedLemmas
+pub mod MemberLemmas
