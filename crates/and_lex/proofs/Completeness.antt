@@ -1,5 +1,5 @@
 -- What stands there is what is found, and so there is one answer.
-use Rattle.std.proofs.Common.{ℕ, suc, ◌+◌, ◌≡◌, ◌≤◌, ◌<◌, Bool, true, false, not, cond, ltb, ◌&&◌, ◌||◌, List, [], ◌∷◌, ◌++◌, length, take, drop, refl, sym, ap, subst, ◌∙◌, arith, inl, inr, append_assoc}
+use Rattle.std.proofs.Common.{ℕ, suc, ◌+◌, ◌≡◌, ◌≤◌, ◌<◌, Bool, true, false, true≢false, not, cond, ltb, ◌&&◌, ◌||◌, List, [], ◌∷◌, ◌++◌, length, take, drop, refl, sym, ap, subst, ◌∙◌, arith, inl, inr, append_assoc}
 use Rattle.std.specs.Prelude.{codes, nat_eq, leb, IsUtf8}
 use Rattle.std.specs.Str.{bytes_eq}
 use Rattle.std.proofs.lemmas.Bool.Decides.{nat_tests}
@@ -7,7 +7,7 @@ use Rattle.std.proofs.lemmas.List.{append-nil, length-append, take_at, drop_at, 
 use Rattle.std.proofs.lemmas.Bool.{eqb-true, le-leb, cases_lt}
 use Rattle.std.proofs.lemmas.Slice.Eq.{bytes_eq-Decides}
 use Rattle.and_model.specs.Lines.{Bytes, is_small, is_word, is_symbol, holds_of_all, holds_of_some, begins_comment}
-use Rattle.and_texts.specs.Tokens.{Kind, variable, name, quoted, symbol, integer, open_bracket, close_bracket, open_list, close_list, comma, bar, end_of_clause, Fault, syntax, not_text, not_pure, begins, is_layout, is_capital, is_digit, is_impure, is_impure_character, is_solo, is_numeral, is_run, goes_on, ends_clause, number_of, broken, is_separated, Separates, is_some, Token, Answer, no_more, one, none_for, Next, finished, read, stopped, IsFront, Comes, Tokens, ended, faulty, token, IsToken, Names, IsFault, bytes_at_fault, open_comment, open_quote, open_escape, raw_newline, escaped_raw_newline, unknown_escape, numeral_goes_on, wide_numeral, impure_symbol, impure_character, other_character}
+use Rattle.and_language.specs.Tokens.{Kind, variable, name, quoted, symbol, integer, open_bracket, close_bracket, open_list, close_list, comma, bar, end_of_clause, Fault, syntax, not_text, not_pure, begins, is_layout, is_capital, is_digit, is_impure, is_impure_character, is_solo, is_numeral, is_run, goes_on, ends_clause, number_of, broken, is_separated, Separates, is_some, Token, Answer, one, none_for, Next, finished, read, stopped, IsFront, Comes, HasTokens, no_token, token, is_last, IsToken, Names, IsFault, bytes_at_fault, open_comment, open_quote, open_escape, raw_newline, escaped_raw_newline, unknown_escape, numeral_goes_on, wide_numeral, impure_symbol, impure_character, other_character}
 use Rattle.and_lex.specs.declared.quotes.QuoteEnd.{QuoteEnd}
 use Rattle.and_lex.specs.declared.quotes.QuoteEnd.TheVariants.{Closed, Open, Newline, Unknown}
 use Rattle.and_lex.specs.Quoting.{quote_end}
@@ -241,17 +241,15 @@ one_is t u e = cc
 fault_is : (f g : Fault) → none_for f ≡ none_for g → f ≡ g
 fault_is f g e = cc
 
-pub one_row : (bytes : Bytes) {p : ℕ} {ts us : List Token} {a b : Answer} → Tokens bytes p ts a → Tokens bytes p us b → (ts ≡ us) × (a ≡ b)
-one_row bytes (ended p c) (ended q d) = (refl, refl)
-one_row bytes (ended p c) (faulty q g d) = (refl, one_answer bytes p no_more (none_for g) c d)
-one_row bytes (ended p c) (token q u us b d l) = absurd (cc (one_answer bytes p no_more (one u) c d))
-one_row bytes (faulty p f c) (ended q d) = (refl, one_answer bytes p (none_for f) no_more c d)
-one_row bytes (faulty p f c) (faulty q g d) = (refl, one_answer bytes p (none_for f) (none_for g) c d)
-one_row bytes (faulty p f c) (token q u us b d l) = absurd (cc (one_answer bytes p (none_for f) (one u) c d))
-one_row bytes (token p t ts a c k) (ended q d) = absurd (cc (one_answer bytes p (one t) no_more c d))
-one_row bytes (token p t ts a c k) (faulty q g d) = absurd (cc (one_answer bytes p (one t) (none_for g) c d))
-one_row bytes (token p t ts a c k) (token q u us b d l) =
+not_last : (t : Token) (a : Answer) → is_last a ≡ true → a ≡ one t → ⊥
+not_last t a last e = absurd (true≢false (sym last ∙ ap is_last e))
+
+pub one_list : (bytes : Bytes) (a b : Answer) {p : ℕ} {ts us : List Token} → is_last a ≡ true → is_last b ≡ true → HasTokens bytes a p ts → HasTokens bytes b p us → (ts ≡ us) × (a ≡ b)
+one_list bytes a b i j (no_token p c) (no_token q d) = (refl, one_answer bytes p a b c d)
+one_list bytes a b i j (no_token p c) (token q u us d l) = absurd (not_last u a i (one_answer bytes p a (one u) c d))
+one_list bytes a b i j (token p t ts c k) (no_token q d) = absurd (not_last t b j (one_answer bytes p b (one t) d c))
+one_list bytes a b i j (token p t ts c k) (token q u us d l) =
     let same : t ≡ u = one_is t u (one_answer bytes p (one t) (one u) c d) in
-    let later : Tokens bytes t.end us b = subst (λ (v : Token). Tokens bytes v.end us b) (sym same) l in
-    let rest = one_row bytes k later in
+    let later : HasTokens bytes b t.end us = subst (λ (v : Token). HasTokens bytes b v.end us) (sym same) l in
+    let rest = one_list bytes a b i j k later in
     (ap (λ (v : Token). v ∷ ts) same ∙ ap (λ (vs : List Token). u ∷ vs) rest.0, rest.1)

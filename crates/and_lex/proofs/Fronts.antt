@@ -3,7 +3,7 @@ use Rattle.std.proofs.Common.{ℕ, suc, ◌≡◌, Bool, true, false, [], ◌∷
 use Rattle.std.specs.List.{prefix_len}
 use Rattle.std.proofs.lemmas.List.{take-append-drop}
 use Rattle.and_model.specs.Lines.{Bytes, holds_of_all}
-use Rattle.and_texts.specs.Tokens.{begins}
+use Rattle.and_language.specs.Tokens.{begins}
 use Rattle.and_lex.proofs.Choices.{and_true}
 
 abbrev pub front : (ℕ → Bool) → Bytes → Bytes

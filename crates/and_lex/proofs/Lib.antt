@@ -6,3 +6,5 @@ pub mod Fronts
 pub mod Separators
 pub mod Numbers
 pub mod Written
+pub mod Valid
+pub mod Coming

@@ -1,7 +1,7 @@
 -- Numbers that are written with digits.
 use Rattle.std.proofs.Common.{ℕ, suc, ◌+◌, ◌-◌, ◌*◌, ◌≡◌, ◌≤◌, ◌<◌, [], ◌∷◌, length, drop, get_or, drop-cons, arith}
 use Rattle.and_model.specs.Lines.{Bytes}
-use Rattle.and_texts.specs.Tokens.{number_of, number_behind}
+use Rattle.and_language.specs.Tokens.{number_of, number_behind}
 
 number_grows : (n : ℕ) (bs : Bytes) → n ≤ number_behind n bs
 number_grows n [] = omega arith

@@ -5,7 +5,7 @@ use Rattle.std.proofs.lemmas.Bool.Decides.{nat_tests}
 use Rattle.std.proofs.lemmas.List.{append-nil, length-append, drop_all, take_at}
 use Rattle.std.proofs.lemmas.Bool.{eqb-true}
 use Rattle.and_model.specs.Lines.{Bytes, holds_of_some}
-use Rattle.and_texts.specs.Tokens.{begins, Names, nothing, plain, doubled_quote, escaped_quote, escaped_backslash, escaped_newline}
+use Rattle.and_language.specs.Tokens.{begins, Names, nothing, plain, doubled_quote, escaped_quote, escaped_backslash, escaped_newline}
 use Rattle.and_lex.specs.declared.quotes.QuoteEnd.{QuoteEnd}
 use Rattle.and_lex.specs.declared.quotes.QuoteEnd.TheVariants.{Closed, Open, Newline, Unknown}
 use Rattle.and_lex.specs.Quoting.{quote_end, end_behind_quote, end_behind_backslash, text_between, text_behind_escape}

@@ -5,7 +5,7 @@ use Rattle.std.specs.List.{prefix_len}
 use Rattle.std.proofs.lemmas.List.{take-append-drop, append-nil, length-append, drop_more, take_at, drop-drop, append_cancel_left}
 use Rattle.std.proofs.lemmas.Bool.{eqb-true}
 use Rattle.and_model.specs.Lines.{Bytes, holds_of_some}
-use Rattle.and_texts.specs.Tokens.{begins, is_layout, is_newline, closes_comment, Separates, nothing, layout, line_comment, comment, is_separated}
+use Rattle.and_language.specs.Tokens.{begins, is_layout, is_newline, closes_comment, Separates, nothing, layout, line_comment, comment, is_separated}
 use Rattle.and_lex.specs.Scanning.{is_no_newline, ends_comment, comment_end, comment_len, piece_len}
 use Rattle.and_lex.proofs.Choices.{either_way, first_choice, second_choice, and_true, or_false, both_false, not_true}
 

@@ -8,7 +8,7 @@ use Rattle.std.proofs.lemmas.List.{take-append-drop, append-nil, length-append, 
 use Rattle.std.proofs.lemmas.Bool.{eqb-true, leb-true}
 use Rattle.std.proofs.lemmas.Slice.Eq.{bytes_eq-Decides}
 use Rattle.and_model.specs.Lines.{Bytes, is_small, is_word, is_symbol, holds_of_all, is_plain_name, begins_comment}
-use Rattle.and_texts.specs.Tokens.{Kind, variable, name, quoted, symbol, integer, open_bracket, close_bracket, open_list, close_list, comma, bar, end_of_clause, syntax, too_wide, not_pure, is_capital, is_digit, is_impure, is_impure_character, is_variable, is_numeral, is_run, goes_on, ends_clause, number_of, broken, is_separated, closes_comment, Separates, is_some, Answer, no_more, one, none_for, Next, finished, read, stopped, IsFront, Comes, IsToken, IsFault, bytes_at_fault, open_comment, open_quote, open_escape, raw_newline, escaped_raw_newline, unknown_escape, numeral_goes_on, wide_numeral, impure_symbol, impure_character, other_character}
+use Rattle.and_language.specs.Tokens.{Kind, variable, name, quoted, symbol, integer, open_bracket, close_bracket, open_list, close_list, comma, bar, end_of_clause, syntax, too_wide, not_pure, is_capital, is_digit, is_impure, is_impure_character, is_variable, is_numeral, is_run, goes_on, ends_clause, number_of, broken, is_separated, closes_comment, Separates, is_some, Answer, no_more, one, none_for, Next, finished, read, stopped, IsFront, Comes, IsToken, IsFault, bytes_at_fault, open_comment, open_quote, open_escape, raw_newline, escaped_raw_newline, unknown_escape, numeral_goes_on, wide_numeral, impure_symbol, impure_character, other_character}
 use Rattle.and_lex.specs.Scanning.{Found, end_of_text, one_token, one_fault, numeral_found, symbol_found, quoted_found, found_at_quote_end, single_found, found_at, IsWithin}
 use Rattle.and_lex.specs.declared.quotes.QuoteEnd.{QuoteEnd}
 use Rattle.and_lex.specs.declared.quotes.QuoteEnd.TheVariants.{Closed, Open, Newline, Unknown}

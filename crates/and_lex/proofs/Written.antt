@@ -3,8 +3,8 @@ use Rattle.std.proofs.Common.{ℕ, ◌+◌, ◌-◌, ◌≡◌, Bool, ltb, ◌++
 use Rattle.std.proofs.lemmas.List.{length-append, length-take, length-drop, take_at, drop_at, drop-drop, drop-take, take-take, nil_from_length}
 use Rattle.std.proofs.lemmas.Bool.{cases_lt}
 use Rattle.and_model.specs.Lines.{Bytes}
-use Rattle.and_texts.specs.Tokens.{Token, Answer, one, Next, finished, read, stopped, Comes, IsToken}
-use Rattle.and_texts.specs.Words.{bytes_of}
+use Rattle.and_language.specs.Tokens.{Token, Answer, one, Next, finished, read, stopped, Comes, IsToken}
+use Rattle.and_language.specs.Words.{bytes_of}
 use Rattle.and_lex.proofs.Completeness.{one_is}
 
 -- a part of a front is a part of the whole, or is empty

@@ -3,7 +3,7 @@ use Rattle.std.specs.Prelude.{ℕ, suc, ◌+◌, ◌<◌, ◌≤◌, Bool, false
 use Rattle.std.specs.List.{prefix_len}
 use Rattle.std.specs.Str.{bytes_eq}
 use Rattle.and_model.specs.Lines.{Bytes, is_small, is_word, is_symbol, begins_comment}
-use Rattle.and_texts.specs.Tokens.{Kind, variable, name, quoted, symbol, integer, open_bracket, close_bracket, open_list, close_list, comma, bar, end_of_clause, Fault, syntax, not_text, too_wide, not_pure, begins, is_layout, is_newline, is_capital, is_digit, is_impure, is_impure_character, goes_on, ends_clause, number_of, broken}
+use Rattle.and_language.specs.Tokens.{Kind, variable, name, quoted, symbol, integer, open_bracket, close_bracket, open_list, close_list, comma, bar, end_of_clause, Fault, syntax, not_text, too_wide, not_pure, begins, is_layout, is_newline, is_capital, is_digit, is_impure, is_impure_character, goes_on, ends_clause, number_of, broken}
 use Rattle.and_lex.specs.declared.quotes.QuoteEnd.{QuoteEnd}
 use Rattle.and_lex.specs.declared.quotes.QuoteEnd.TheVariants.{Closed, Open, Newline, Unknown}
 use Rattle.and_lex.specs.Quoting.{quote_end}

@@ -1,6 +1,6 @@
 -- What values of the lexer stand for.
 use Rattle.std.specs.Prelude.{ℕ, ◌<◌, ◌≤◌, Option, Some, None, Result, Ok, Err}
-use Rattle.and_texts.specs.Tokens
+use Rattle.and_language.specs.Tokens
 use Rattle.and_lex.specs.declared.tokens.Kind.{Kind}
 use Rattle.and_lex.specs.declared.tokens.Kind.TheVariants.{Variable, Name, Quoted, Symbol, Integer, Open, Close, OpenList, CloseList, Comma, Bar, End}
 use Rattle.and_lex.specs.declared.tokens.Token.{Token}

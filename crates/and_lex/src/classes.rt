@@ -3,7 +3,7 @@
 ghost use Rattle.std.specs.Prelude.{◌≡◌, ◌≤◌, length};
 ghost use Rattle.std.specs.List.{prefix_len};
 ghost use Rattle.and_model.specs.Lines.{is_small, is_word, is_symbol};
-ghost use Rattle.and_texts.specs.Tokens.{is_layout, is_capital, is_digit, is_impure_character};
+ghost use Rattle.and_language.specs.Tokens.{is_layout, is_capital, is_digit, is_impure_character};
 ghost use Rattle.and_lex.specs.Scanning.{is_no_newline};
 
 pub(crate) fn is_layout_byte(byte: u8) -> bool

@@ -1,8 +1,8 @@
 //! What a text begins with, behind layout and comments.
 
 ghost use Rattle.std.specs.Prelude.{◌≡◌, ◌≤◌, ◌<◌, ◌+◌, ◌^◌, length, leb, Some, None, if◌then◌else◌};
-ghost use Rattle.and_texts.specs.Tokens;
-ghost use Rattle.and_texts.specs.Tokens.{goes_on, ends_clause, is_impure, number_of};
+ghost use Rattle.and_language.specs.Tokens;
+ghost use Rattle.and_language.specs.Tokens.{goes_on, ends_clause, is_impure, number_of};
 ghost use Rattle.and_lex.specs.Scanning.{numeral_found, symbol_found, quoted_found, single_found, found_at, IsWithin};
 ghost use Rattle.and_lex.specs.Views.{found_of, fault_of};
 

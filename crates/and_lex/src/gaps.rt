@@ -1,7 +1,7 @@
 //! Layout and comments.
 
 ghost use Rattle.std.specs.Prelude.{◌≡◌, ◌≤◌, ◌+◌, length, take, drop, true, IfSome, IsTrue};
-ghost use Rattle.and_texts.specs.Tokens.{Separates, is_separated};
+ghost use Rattle.and_language.specs.Tokens.{Separates, is_separated};
 ghost use Rattle.and_lex.specs.Scanning.{ends_comment, comment_end, piece_len};
 
 use crate::classes::{is_layout_byte, line_len};

@@ -1,10 +1,10 @@
 //! Laws of the definitions of a text's tokens. Each function here does nothing: its contract is
 //! the law.
 
-ghost use Rattle.std.specs.Prelude.{◌≡◌, ℕ, Bool, List};
+ghost use Rattle.std.specs.Prelude.{◌≡◌, ℕ, Bool, true, List};
 ghost use Rattle.and_model.specs.Lines.{Bytes};
-ghost use Rattle.and_texts.specs.Tokens.{Token, Answer, one, IsToken, Comes, Tokens};
-ghost use Rattle.and_texts.specs.Words.{bytes_of};
+ghost use Rattle.and_language.specs.Tokens.{Token, Answer, one, is_last, IsToken, Comes, HasTokens};
+ghost use Rattle.and_language.specs.Words.{bytes_of};
 
 /// One answer: what comes next at a place of a text is one thing.
 pub fn one_answer()
@@ -12,10 +12,12 @@ pub fn one_answer()
         → Comes bytes place a → Comes bytes place b → a ≡ b }
 {}
 
-/// One row of tokens: a text has, from a place on, one list of tokens and one end.
-pub fn one_row_of_tokens()
+/// One list of tokens: a text has, from a place on, one list of tokens up to its end or a fault,
+/// and one such end.
+pub fn one_list_of_tokens()
     ensures { (bytes : Bytes) (place : ℕ) (ts us : List Token) (a b : Answer)
-        → Tokens bytes place ts a → Tokens bytes place us b → (ts ≡ us) × (a ≡ b) }
+        → is_last a ≡ true → is_last b ≡ true
+        → HasTokens bytes a place ts → HasTokens bytes b place us → (ts ≡ us) × (a ≡ b) }
 {}
 
 /// A token's bytes: where a token comes next, the bytes from its start up to its end are a token of

@@ -1,7 +1,7 @@
 //! The tokens of a text, one after the other.
 
 ghost use Rattle.std.specs.Prelude.{◌≡◌, ◌≤◌, ◌<◌, ◌+◌, ◌^◌, length, IfOk, IfSome, OnErr, IfNone};
-ghost use Rattle.and_texts.specs.Tokens.{Next, Comes};
+ghost use Rattle.and_language.specs.Tokens.{Next, Comes};
 ghost use Rattle.and_lex.specs.Views.{answer_of, LiesBetween};
 
 use crate::found::find_token;
@@ -41,7 +41,7 @@ pub struct Lexer<'a> {
 
 impl<'a> Model for Lexer<'a> {
     ghost use Rattle.std.specs.Prelude.{◌≤◌};
-    ghost use Rattle.and_texts.specs.Tokens.{IsFront};
+    ghost use Rattle.and_language.specs.Tokens.{IsFront};
     ghost use Rattle.and_lex.specs.Reading.{Reading};
 
     ghost Value = { Reading };

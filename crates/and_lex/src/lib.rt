@@ -9,7 +9,7 @@ mod lexing;
 mod quotes;
 mod tokens;
 
-pub use laws::{bytes_of_a_token, one_answer, one_row_of_tokens};
+pub use laws::{bytes_of_a_token, one_answer, one_list_of_tokens};
 pub use lexing::Lexer;
 pub use quotes::quoted_text;
 pub use tokens::{Kind, LexFault, Token};

@@ -2,7 +2,7 @@
 
 ghost use Rattle.std.specs.Prelude.{◌≡◌, ◌≤◌, ◌+◌, length, IfOk};
 ghost use Rattle.and_model.specs.Lines.{Bytes};
-ghost use Rattle.and_texts.specs.Tokens.{Quotes};
+ghost use Rattle.and_language.specs.Tokens.{Quotes};
 ghost use Rattle.and_lex.specs.Quoting.{quote_end, EndsWithin};
 
 use and_model::Text;

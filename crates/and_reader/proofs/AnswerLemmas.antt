@@ -4,23 +4,24 @@ use Rattle.std.specs.Prelude.{codes, ◌&&◌}
 use Rattle.std.specs.Str.{bytes_eq}
 use Rattle.std.proofs.lemmas.Bool.{lt-leb}
 use Rattle.and_model.specs.Lines.{Bytes}
-use Rattle.and_written.specs.Written.{Written}
-use Rattle.and_written.specs.Tables
-use Rattle.and_texts.specs.Words
-use Rattle.and_texts.specs.Words.{is_one_of, products, sums}
-use Rattle.and_texts.specs.Refusals
-use Rattle.and_texts.specs.Refusals.{limit_of}
-use Rattle.and_texts.specs.Grammar.{nil}
-use Rattle.and_parsing.specs.Machine
-use Rattle.and_parsing.specs.Machine.{Outermost, State, start, inside, opened_list, operand, wanted, in_part, nothing_pending, begins_query, closes_list, go, exceeds, step, take_operand, take_operator, operator_exceeds, comma_exceeds, depth, role}
+use Rattle.and_syntax.specs.Written.{Written}
+use Rattle.and_syntax.specs.Tables
+use Rattle.and_language.specs.Words
+use Rattle.and_language.specs.Words.{is_one_of, products, sums}
+use Rattle.and_language.specs.Refusals
+use Rattle.and_language.specs.Refusals.{limit_of}
+use Rattle.and_language.specs.Grammar.{nil}
+use Rattle.and_automaton.specs.Machine
+use Rattle.and_automaton.specs.Machine.{Outermost, State, start, inside, opened_list, operand, wanted, in_part, nothing_pending, begins_query, closes_list, go, exceeds, step, take_operand, take_operator, operator_exceeds, comma_exceeds, depth, role}
 use Rattle.and_reader.specs.declared.state.Next.{Next}
 use Rattle.and_reader.specs.declared.state.Next.TheVariants as next
-use Rattle.and_reader.specs.declared.state.Parser.{Parser}
+use Rattle.and_reader.specs.declared.parser.Parser.{Parser}
 use Rattle.and_reader.specs.declared.refusal.Cause.{Cause}
 use Rattle.and_reader.specs.declared.refusal.Cause.TheVariants as causes
-use Rattle.and_reader.specs.declared.parser.First.TheVariants as firsts
+use Rattle.and_reader.specs.declared.words.First.TheVariants as firsts
 use Rattle.and_reader.specs.Standing.{IsDirective, Answers, IsNarrow}
 use Rattle.and_reader.specs.Answered.{Answered, TakesComma, takes_bar, first_of, is_functor_bracket}
+use Rattle.and_model.specs.declared.limits.TheConstants.{MAX_ARGUMENTS, MAX_NESTING}
 
 kept : (s : State) (x : Words.Word) (r : Option State) → exceeds s x ≡ false → go s x ≡ r → step true s x ≡ r
 kept s x r within e = ap (λ (b : Bool). cond (true && b) None (go s x)) within ∙ e
@@ -55,7 +56,7 @@ functor_step l fs p w c (Words.open_bracket true) e = refl
 functor_step l fs p w c (Words.open_bracket false) e = absurd cc
 functor_step l fs p w c x e = absurd cc
 
-pub functor_exceeds : (fs : List Machine.Frame) (p : Machine.Pending) (x : Words.Word) → is_functor_bracket x ≡ true → operator_exceeds fs p x ≡ leb 256 (p.minuses + depth fs)
+pub functor_exceeds : (fs : List Machine.Frame) (p : Machine.Pending) (x : Words.Word) → is_functor_bracket x ≡ true → operator_exceeds fs p x ≡ leb MAX_NESTING (p.minuses + depth fs)
 functor_exceeds fs p (Words.open_bracket b) e = refl
 functor_exceeds fs p x e = absurd cc
 
@@ -98,15 +99,6 @@ other_first x e = refl
 pub other_no_directive : (x : Words.Word) → firsts.Other ≡ first_of x → IsDirective start x → ⊥
 other_no_directive x e d = let f : firsts.Other ≡ firsts.Directive = e ∙ ap first_of d.1 in cc
 
--- roles
-pub product_role : (c : Bytes) → is_one_of products c ≡ true → role c ≡ Machine.is_product
-product_role c e = ap (λ (b : Bool). cond b Machine.is_product (cond (is_one_of sums c) Machine.is_sum (cond (is_one_of Words.relations c) Machine.is_relation (cond (bytes_eq c (codes ":-")) Machine.is_neck Machine.is_none)))) e
-
-pub sum_role : (c : Bytes) → is_one_of products c ≡ false → is_one_of sums c ≡ true → role c ≡ Machine.is_sum
-sum_role c e f =
-    ap (λ (b : Bool). cond b Machine.is_product (cond (is_one_of sums c) Machine.is_sum (cond (is_one_of Words.relations c) Machine.is_relation (cond (bytes_eq c (codes ":-")) Machine.is_neck Machine.is_none)))) e
-    ∙ ap (λ (b : Bool). cond b Machine.is_sum (cond (is_one_of Words.relations c) Machine.is_relation (cond (bytes_eq c (codes ":-")) Machine.is_neck Machine.is_none))) f
-
 -- a comma or a bar in a bracket
 pub comma_step : (l : Outermost) (fs : List Machine.Frame) (b : Machine.Bracket) (before : List Written) (outside : Machine.Pending) (a : Written) → TakesComma b
     → Machine.take_comma l (record { bracket = b; before = before; outside = outside } ∷ fs) a
@@ -119,7 +111,7 @@ comma_step l fs Machine.tail before outside a h = absurd h
 pub comma_within : (fs : List Machine.Frame) (b : Machine.Bracket) (before : List Written) (outside : Machine.Pending) → IsNarrow b (suc (length before))
     → comma_exceeds (record { bracket = b; before = before; outside = outside } ∷ fs) ≡ false
 comma_within fs Machine.plain before outside h = refl
-comma_within fs (Machine.arguments c) before outside h = lt-leb 255 (suc (length before)) h
+comma_within fs (Machine.arguments c) before outside h = lt-leb MAX_ARGUMENTS (suc (length before)) h
 comma_within fs Machine.elements before outside h = refl
 comma_within fs Machine.tail before outside h = refl
 

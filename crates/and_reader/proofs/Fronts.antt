@@ -1,14 +1,14 @@
 -- Of two fronts of a text's words one begins the other.
 use Rattle.std.proofs.Common.{◌≡◌, ℕ, true≢false, List, [], ◌∷◌, ◌++◌, sym, refl, ap, ◌∙◌, subst}
 use Rattle.and_model.specs.Lines.{Bytes}
-use Rattle.and_texts.specs.Tokens
-use Rattle.and_texts.specs.Tokens.{Token, Answer, no_more, one, none_for, Comes, Quotes}
-use Rattle.and_texts.specs.Words.{Before, bracket, Word, Placed, before, IsWord, AreWords, variable_token, integer_token, name_token, symbol_token, minus_token, functor_token, quoted_token, open_bracket_token, close_bracket_token, open_list_token, close_list_token, comma_token, bar_token, end_token}
-use Rattle.and_texts.specs.Words as words
-use Rattle.and_texts.specs.Refusals.{Leads, nowhere, along, HasWords}
+use Rattle.and_language.specs.Tokens
+use Rattle.and_language.specs.Tokens.{Token, Answer, no_more, one, none_for, Comes, HasTokens, no_token, token, Quotes}
+use Rattle.and_language.specs.Words.{Before, bracket, Word, Placed, before, IsWord, AreWords, variable_token, integer_token, name_token, symbol_token, minus_token, functor_token, quoted_token, open_bracket_token, close_bracket_token, open_list_token, close_list_token, comma_token, bar_token, end_token}
+use Rattle.and_language.specs.Words as words
+use Rattle.and_language.specs.Refusals.{HasWords}
 use Rattle.and_lex.specs.Quoting.{text_between}
 use Rattle.and_lex.proofs.Quoted.{names_text, inner_bytes}
-use Rattle.and_lex.proofs.Completeness.{one_answer}
+use Rattle.and_lex.proofs.Completeness.{one_answer, one_is}
 
 -- a quoted token names one text
 one_text : (bs s t : Bytes) → Quotes bs s → Quotes bs t → s ≡ t
@@ -40,14 +40,14 @@ one_word bytes t b bar_token bar_token = refl
 one_word bytes t b end_token end_token = refl
 
 -- what comes first, seen from a minus
-first_answer : (bytes : Bytes) (a : Answer) {p q : ℕ} {ts : List Token} → Leads bytes p ts q → Comes bytes q a → (x : Answer) × Comes bytes p x × (before bytes ts a ≡ before bytes [] x)
-first_answer bytes a (nowhere p) c = (a, c, refl)
-first_answer bytes a (along p q t ts d l) c = (one t, d, refl)
+first_answer : (bytes : Bytes) (a : Answer) {p : ℕ} {ts : List Token} → HasTokens bytes a p ts → (x : Answer) × Comes bytes p x × (before bytes ts a ≡ before bytes [] x)
+first_answer bytes a (no_token p c) = (a, c, refl)
+first_answer bytes a (token p t ts c h) = (one t, c, refl)
 
-same_before : (bytes : Bytes) (a b : Answer) {p q r : ℕ} {ts us : List Token} → Leads bytes p ts q → Comes bytes q a → Leads bytes p us r → Comes bytes r b → before bytes ts a ≡ before bytes us b
-same_before bytes a b {p = p} l c m d =
-    let x = first_answer bytes a l c in
-    let y = first_answer bytes b m d in
+same_before : (bytes : Bytes) (a b : Answer) {p : ℕ} {ts us : List Token} → HasTokens bytes a p ts → HasTokens bytes b p us → before bytes ts a ≡ before bytes us b
+same_before bytes a b {p = p} h k =
+    let x = first_answer bytes a h in
+    let y = first_answer bytes b k in
     x.2 ∙ (ap (before bytes []) (one_answer bytes p x.0 y.0 x.1 y.1) ∙ sym y.2)
 
 -- The words are the same, with the same answer behind them; or the ones or the others go on, with a token there.
@@ -61,26 +61,23 @@ front_more ws vs a b p q e (same f g) = same (ap (λ x. x ∷ ws) e ∙ ap (λ x
 front_more ws vs a b p q e (longer es t f g) = longer es t (ap (λ x. q ∷ x) f ∙ ap (λ x. x ∷ (ws ++ es)) (sym e)) g
 front_more ws vs a b p q e (shorter es t f g) = shorter es t (ap (λ x. p ∷ x) f ∙ ap (λ x. x ∷ (vs ++ es)) e) g
 
-one_is : (t u : Token) → one t ≡ one u → t ≡ u
-one_is t u e = cc
-
-compared : (bytes : Bytes) (a b : Answer) {p q r : ℕ} {ts us : List Token} {ws vs : List Placed} → Leads bytes p ts q → Comes bytes q a → AreWords bytes a ts ws
-    → Leads bytes p us r → Comes bytes r b → AreWords bytes b us vs → Fronts ws vs a b
-compared bytes a b (nowhere p) c words.nothing (nowhere q) d words.nothing = same refl (one_answer bytes p a b c d)
-compared bytes a b (nowhere p) c words.nothing (along q r u us e l) d (words.more v vs w ws i more) = longer (record { word = w; place = v.start } ∷ ws) u refl (one_answer bytes p a (one u) c e)
-compared bytes a b (along q r u us e l) c (words.more v vs w ws i more) (nowhere p) d words.nothing = shorter (record { word = w; place = v.start } ∷ ws) u refl (one_answer bytes p b (one u) d e)
-compared bytes a b (along p q t ts e l) c (words.more t2 ts2 w ws i more) (along p' r u us f m) d (words.more u2 us2 v vs j rest) =
+compared : (bytes : Bytes) (a b : Answer) {p : ℕ} {ts us : List Token} {ws vs : List Placed} → HasTokens bytes a p ts → AreWords bytes a ts ws
+    → HasTokens bytes b p us → AreWords bytes b us vs → Fronts ws vs a b
+compared bytes a b (no_token p c) words.nothing (no_token q d) words.nothing = same refl (one_answer bytes p a b c d)
+compared bytes a b (no_token p c) words.nothing (token q u us e l) (words.more v vs w ws i further) = longer (record { word = w; place = v.start } ∷ ws) u refl (one_answer bytes p a (one u) c e)
+compared bytes a b (token q u us e l) (words.more v vs w ws i further) (no_token p d) words.nothing = shorter (record { word = w; place = v.start } ∷ ws) u refl (one_answer bytes p b (one u) d e)
+compared bytes a b (token p t ts e l) (words.more t2 ts2 w ws i further) (token p' u us f m) (words.more u2 us2 v vs j rest) =
     let tok : u ≡ t = one_is u t (one_answer bytes p (one u) (one t) f e) in
-    let L : Token → Type 0 = λ x. Leads bytes x.end us r in
+    let L : Token → Type 0 = λ x. HasTokens bytes b x.end us in
     let J : Token → Type 0 = λ x. IsWord bytes x (before bytes us b) x.kind v in
     let l' = subst L tok m in
     let B : Before → Type 0 = λ x. IsWord bytes t x t.kind v in
-    let j' = subst B (sym (same_before bytes a b l c l' d)) (subst J tok j) in
+    let j' = subst B (sym (same_before bytes a b l l')) (subst J tok j) in
     let word : w ≡ v = one_word bytes t (before bytes ts a) i j' in
     let placed : ◌≡◌ {A = Placed} (record { word = w; place = t.start }) (record { word = v; place = u.start }) =
     ap (λ x. let y : Placed = record { word = x; place = t.start } in y) word ∙ ap (λ (x : Token). let y : Placed = record { word = v; place = x.start } in y) (sym tok) in
-    front_more ws vs a b _ _ placed (compared bytes a b l c more l' d rest)
+    front_more ws vs a b _ _ placed (compared bytes a b l further l' rest)
 
 -- two fronts of the words of a text
 pub fronts : (bytes : Bytes) (ws vs : List Placed) (a b : Answer) → HasWords bytes ws a → HasWords bytes vs b → Fronts ws vs a b
-fronts bytes ws vs a b h k = compared bytes a b h.2 h.3 h.4 k.2 k.3 k.4
+fronts bytes ws vs a b h k = compared bytes a b h.1 h.2 k.1 k.2

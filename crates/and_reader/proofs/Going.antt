@@ -3,16 +3,16 @@ use Rattle.std.proofs.Common.{ℕ, suc, ◌-◌, ◌≤◌, ◌<◌, ◌≡◌, 
 use Rattle.std.specs.Option.{IfSome}
 use Rattle.std.specs.Result.{IfOk}
 use Rattle.and_model.specs.Lines.{Bytes}
-use Rattle.and_texts.specs.Tokens.{Answer, Comes}
-use Rattle.and_texts.specs.Words.{Placed, Word, before, IsWord}
-use Rattle.and_texts.specs.Refusals.{HasWords}
+use Rattle.and_language.specs.Tokens.{Answer, Comes}
+use Rattle.and_language.specs.Words.{Placed, Word, before, IsWord}
+use Rattle.and_language.specs.Refusals.{HasWords}
 use Rattle.and_lex.specs.declared.tokens.Token.{Token}
 use Rattle.and_lex.specs.declared.tokens.LexFault.{LexFault}
 use Rattle.and_lex.specs.Views.{answer_of, token_of, kind_of}
 use Rattle.and_lex.specs.Reading
 use Rattle.and_reader.specs.declared.reading.Reader.{Reader}
 use Rattle.and_reader.specs.Reading.{IsRead}
-use Rattle.and_reader.proofs.ReadingLemmas.{more_words}
+use Rattle.and_reader.proofs.Spelling.{more_words}
 
 -- the token that comes next, if one does, stands behind the cursor and up to the lexer's place
 abbrev pub IsNext : Bytes → ℕ → ℕ → Result (Option Token) LexFault → Type 0

@@ -4,33 +4,38 @@ use Rattle.std.specs.Str.{bytes_eq}
 use Rattle.std.proofs.lemmas.Slice.Eq.{bytes_eq-Decides}
 use Rattle.and_model.specs.Lines.{Bytes}
 use Rattle.and_model.specs.Programs.{Program}
-use Rattle.and_written.specs.Written.{Written}
-use Rattle.and_written.specs.Tables
-use Rattle.and_written.specs.Tables.{Table, Asked, Unknown, source, empty, unknown_of, program_of}
-use Rattle.and_texts.specs.Tokens.{Token, Answer, no_more, one, none_for}
-use Rattle.and_texts.specs.Words.{Word, Placed}
-use Rattle.and_texts.specs.Words as words
-use Rattle.and_texts.specs.Grammar.{Statement, IsText, CanGoOn}
-use Rattle.and_texts.specs.Grammar as grammar
-use Rattle.and_texts.specs.Refusals
-use Rattle.and_texts.specs.Refusals.{Cause, Refusal, at, cause_of, limit_of, fault_at, Takes, HasWords, NoneEnds, IsPassed, IsDirective, IsRefusedWord, directive, no_grammar, over_limit, IsTaken, IsRefused, too_long, at_word, at_clause, at_token, unended, without_query, with_unknown, statement_fault, with_statement, IsTextOf}
-use Rattle.and_parsing.specs.Machine.{State, start, inside, opened_list, over, is_over, go, exceeds, step, run, words_of}
-use Rattle.and_parsing.proofs.Steps.{stepped, step_tells}
-use Rattle.and_parsing.proofs.Accepted.{and_then_tells}
-use Rattle.and_parsing.proofs.Derived.{clause_taken}
-use Rattle.and_parsing.proofs.Texts.{word_goes_on, text_free, run_free}
-use Rattle.and_parsing.proofs.Begun.{goes_on_begun}
+use Rattle.and_syntax.specs.Written.{Written}
+use Rattle.and_syntax.specs.Tables
+use Rattle.and_syntax.specs.Tables.{Table, Asked, Unknown, source, empty, unknown_of, program_of}
+use Rattle.and_language.specs.Tokens.{Token, Answer, no_more, one, none_for}
+use Rattle.and_language.specs.Words.{Word, Placed}
+use Rattle.and_language.specs.Words as words
+use Rattle.and_language.specs.Grammar.{Statement, IsText, CanGoOn}
+use Rattle.and_language.specs.Grammar as grammar
+use Rattle.and_language.specs.Refusals
+use Rattle.and_language.specs.Refusals.{Cause, Refusal, at, cause_of, limit_of, fault_at, Takes, HasWords, NoneEnds, IsPassed, IsDirective, IsRefusedWord, directive, no_grammar, over_limit, IsTaken, IsRefused, too_long, at_word, at_clause, at_token, unended, without_query, with_unknown, statement_fault, with_statement, IsTextOf}
+use Rattle.and_automaton.specs.Machine.{State, start, inside, opened_list, over, is_over, go, exceeds, step, run, words_of}
+use Rattle.and_automaton.proofs.Steps.{stepped, step_tells}
+use Rattle.and_automaton.proofs.Accepted.{and_then_tells}
+use Rattle.and_automaton.proofs.Derived.{clause_taken}
+use Rattle.and_automaton.proofs.Texts.{word_goes_on, text_free, run_free}
+use Rattle.and_automaton.proofs.Begun.{goes_on_begun}
 use Rattle.and_reader.proofs.Started.{started}
 use Rattle.and_reader.proofs.Fronts.{Fronts, same, longer, shorter, fronts}
+use Rattle.and_model.specs.declared.limits.TheConstants.{MAX_BYTES}
 
 -- What the words of a text have come to: a refusal; or a table, with the place of the first word of the clause that is begun and the state behind its words.
 data Outcome : Type 0 where
   refused : Refusal → Outcome
   reached : Table → ℕ → State → Outcome
 
-abbrev is_neck : Word → Bool
+abbrev pub is_neck : Word → Bool
 is_neck (words.name c) = bytes_eq c (codes ":-")
 is_neck x = false
+
+pub neck_word : (x : Word) → is_neck x ≡ true → x ≡ words.name (codes ":-")
+neck_word (words.name c) e = ap (λ d. words.name d) ((bytes_eq-Decides c (codes ":-")).0 e)
+neck_word x e = absurd (true≢false (sym e))
 
 -- why a word is refused that the state does not take
 abbrev cause_at : State → Word → Cause
@@ -170,10 +175,6 @@ passed_reached bytes ws h =
 -- A refused word.
 
 module _ (bytes : Bytes) (ws : List Placed) (h : IsPassed bytes ws) (p : Placed) where
-  neck_word : (x : Word) → is_neck x ≡ true → x ≡ words.name (codes ":-")
-  neck_word (words.name c) e = ap (λ d. words.name d) ((bytes_eq-Decides c (codes ":-")).0 e)
-  neck_word x e = absurd (true≢false (sym e))
-
   syntax_at : (s : State) → (s ≡ start → h.begun ≡ []) → (IsDirective h.begun p.word → ⊥) → cause_at s p.word ≡ Refusals.syntax
   syntax_at start f n = by (is_neck p.word) (λ e. n (neck_word p.word e, f refl))
     where
@@ -252,7 +253,7 @@ told bytes (reached T n s) no_more = at_end bytes T s
 
 -- The words with that answer behind them tell the refusal.
 record Tells (bytes : Bytes) (o : Option Refusal) : Type 0 where
-  small : length bytes ≤ 1048576
+  small : length bytes ≤ MAX_BYTES
   words : List Placed
   answer : Answer
   spelled : HasWords bytes words answer
@@ -267,7 +268,7 @@ not_start (over q w) n bytes T = refl
 taken_outcome : (bytes : Bytes) (ws : List Placed) (T : Table) → IsTaken bytes ws T → outcome bytes beginning ws ≡ reached T 0 start
 taken_outcome bytes ws T h = text_settled bytes h.spelled empty T h.taken
 
-refusal_told : (bytes : Bytes) (r : Refusal) → IsRefused bytes r → ((1048576 < length bytes) × (r ≡ at bytes 1048576 (Refusals.too_big source))) ⊎ Tells bytes (Some r)
+refusal_told : (bytes : Bytes) (r : Refusal) → IsRefused bytes r → ((MAX_BYTES < length bytes) × (r ≡ at bytes MAX_BYTES (Refusals.too_big source))) ⊎ Tells bytes (Some r)
 refusal_told bytes r (too_long l) = inl (l, refl)
 refusal_told bytes r (at_word ws p a c small hw passed i) = inr (record {
   small = small;
@@ -338,8 +339,8 @@ one_refusal_told bytes r s h k (shorter es t e f) =
 pub refused_once : (bytes : Bytes) (r s : Refusal) → IsRefused bytes r → IsRefused bytes s → r ≡ s
 refused_once bytes r s h k = by (refusal_told bytes r h) (refusal_told bytes s k)
   where
-    by : ((1048576 < length bytes) × (r ≡ at bytes 1048576 (Refusals.too_big source))) ⊎ Tells bytes (Some r)
-        → ((1048576 < length bytes) × (s ≡ at bytes 1048576 (Refusals.too_big source))) ⊎ Tells bytes (Some s) → r ≡ s
+    by : ((MAX_BYTES < length bytes) × (r ≡ at bytes MAX_BYTES (Refusals.too_big source))) ⊎ Tells bytes (Some r)
+        → ((MAX_BYTES < length bytes) × (s ≡ at bytes MAX_BYTES (Refusals.too_big source))) ⊎ Tells bytes (Some s) → r ≡ s
     by (inl x) (inl y) = x.1 ∙ sym y.1
     by (inl x) (inr y) = absurd (omega (arith, x.0, y.small))
     by (inr x) (inl y) = absurd (omega (arith, x.small, y.0))
@@ -362,7 +363,7 @@ read_told_otherwise bytes p r h k (shorter es t e f) =
 pub read_not_refused : (bytes : Bytes) (p : Program) (r : Refusal) → IsTextOf bytes p → IsRefused bytes r → ⊥
 read_not_refused bytes p r h k = by (refusal_told bytes r k)
   where
-    by : ((1048576 < length bytes) × (r ≡ at bytes 1048576 (Refusals.too_big source))) ⊎ Tells bytes (Some r) → ⊥
+    by : ((MAX_BYTES < length bytes) × (r ≡ at bytes MAX_BYTES (Refusals.too_big source))) ⊎ Tells bytes (Some r) → ⊥
     by (inl x) = absurd (omega (arith, x.0, h.size))
     by (inr x) = read_told_otherwise bytes p r h x (fronts bytes h.words x.words no_more x.answer h.spelled x.spelled)
 

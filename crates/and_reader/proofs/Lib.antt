@@ -4,9 +4,11 @@ pub mod AnswerLemmas
 pub mod LineLemmas
 pub mod WordLemmas
 pub mod Started
+pub mod Spelling
 pub mod ReadingLemmas
 pub mod Told
 pub mod Going
 pub mod Ending
 pub mod Fronts
 pub mod Judgement
+pub mod EachText

@@ -4,7 +4,7 @@ use Rattle.std.specs.List.{count_by, slice_range}
 use Rattle.std.proofs.Math.Seq.{take-add}
 use Rattle.std.proofs.lemmas.List.Recursion.{is_count_by}
 use Rattle.and_model.specs.Lines.{Bytes}
-use Rattle.and_texts.specs.Tokens.{newlines, line_at}
+use Rattle.and_language.specs.Tokens.{newlines, line_at}
 
 newlines-cons : (b : ℕ) (bs : Bytes) → newlines (b ∷ bs) ≡ cond (eqb b 10) (1 + newlines bs) (newlines bs)
 newlines-cons b bs = elim (eqb b 10) as (λ v. cond v (suc (newlines bs)) (newlines bs) ≡ cond v (1 + newlines bs) (newlines bs)) [

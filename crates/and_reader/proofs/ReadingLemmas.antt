@@ -3,20 +3,19 @@ use Rattle.std.proofs.Common.{◌≡◌, ℕ, ◌≤◌, Bool, true, false, List
 use Rattle.std.specs.Option.{IfSome}
 use Rattle.std.proofs.lemmas.List.{append-nil}
 use Rattle.and_model.specs.Lines.{Bytes}
-use Rattle.and_written.specs.Written.{Written}
-use Rattle.and_written.specs.Tables
-use Rattle.and_written.specs.Tables.{Table, empty}
-use Rattle.and_texts.specs.Tokens
-use Rattle.and_texts.specs.Tokens.{Token, Answer, no_more, one, none_for, line_at, Comes}
-use Rattle.and_texts.specs.Words.{Word, Placed, before, before_kind, IsWord, AreWords}
-use Rattle.and_texts.specs.Words as words
-use Rattle.and_texts.specs.Grammar.{Statement, IsText, CanGoOn}
-use Rattle.and_texts.specs.Refusals
-use Rattle.and_texts.specs.Refusals.{Refusal, at, cause_of, limit_of, fault_at, Takes, Leads, nowhere, along, HasWords, NoneEnds, IsPassed, IsRefusedWord, directive, no_grammar, over_limit, IsTaken, IsRefused, at_word, at_clause, at_token, unended, without_query, with_unknown, statement_fault, with_statement, IsTextOf}
-use Rattle.and_parsing.specs.Machine.{State, start, over, is_over, go, step, run, words_of, and_then}
-use Rattle.and_parsing.proofs.Steps.{step_tells}
-use Rattle.and_parsing.proofs.Texts.{joined, one_clause, none_ends, begun_goes_on}
-use Rattle.and_parsing.proofs.Begun.{refused_word, word_over_limit}
+use Rattle.and_syntax.specs.Written.{Written}
+use Rattle.and_syntax.specs.Tables
+use Rattle.and_syntax.specs.Tables.{Table, empty}
+use Rattle.and_language.specs.Tokens
+use Rattle.and_language.specs.Tokens.{Token, Answer, no_more, one, none_for, line_at, Comes}
+use Rattle.and_language.specs.Words.{Word, Placed}
+use Rattle.and_language.specs.Grammar.{Statement, IsText, CanGoOn}
+use Rattle.and_language.specs.Refusals
+use Rattle.and_language.specs.Refusals.{Refusal, at, cause_of, limit_of, fault_at, Takes, HasWords, NoneEnds, IsPassed, IsRefusedWord, directive, no_grammar, over_limit, IsTaken, IsRefused, at_word, at_clause, at_token, unended, without_query, with_unknown, statement_fault, with_statement, IsTextOf}
+use Rattle.and_automaton.specs.Machine.{State, start, over, is_over, go, step, run, words_of}
+use Rattle.and_automaton.proofs.Steps.{step_tells, run_more}
+use Rattle.and_automaton.proofs.Texts.{joined, one_clause, none_ends, begun_goes_on}
+use Rattle.and_automaton.proofs.Begun.{refused_word, word_over_limit}
 use Rattle.and_clauses.specs.Drafts.{draft_of}
 use Rattle.and_clauses.specs.Views.{table_of}
 use Rattle.and_clauses.specs.Faults.{what_of}
@@ -30,52 +29,7 @@ use Rattle.and_reader.specs.Standing
 use Rattle.and_reader.specs.Standing.{IsState, Refuses, IsOver}
 use Rattle.and_reader.specs.Reading.{first_place, IsBegun, IsClause, IsRead, IsReadBefore}
 use Rattle.and_reader.proofs.Started.{started}
-
--- Words of a front.
-
-lead_more : (bytes : Bytes) (t : Token) {p q : ℕ} {ts : List Token} → Leads bytes p ts q → Comes bytes q (one t) → Leads bytes p (ts ++ t ∷ []) t.end
-lead_more bytes t (nowhere p) c = along p t.end t [] c (nowhere t.end)
-lead_more bytes t (along p q u us d l) c = along p t.end u (us ++ t ∷ []) d (lead_more bytes t l c)
-
-before_same : (bytes : Bytes) (t : Token) (ts : List Token) (a : Answer) → before bytes ts (one t) ≡ before bytes (ts ++ t ∷ []) a
-before_same bytes t [] a = refl
-before_same bytes t (u ∷ us) a = refl
-
-words_more : (bytes : Bytes) (t : Token) (a : Answer) (w : Word) {ts : List Token} {ws : List Placed} → AreWords bytes (one t) ts ws → IsWord bytes t (before bytes [] a) t.kind w
-    → AreWords bytes a (ts ++ t ∷ []) (ws ++ record { word = w; place = t.start } ∷ [])
-words_more bytes t a w words.nothing h = words.more t [] w [] h words.nothing
-words_more bytes t a w (words.more u us x vs i more) h =
-    let P : words.Before → Type 0 = λ b. IsWord bytes u b u.kind x in
-    words.more u (us ++ t ∷ []) x (vs ++ record { word = w; place = t.start } ∷ []) (subst P (before_same bytes t us a) i) (words_more bytes t a w more h)
-
-pub no_words : (bytes : Bytes) (a : Answer) → Comes bytes 0 a → HasWords bytes [] a
-no_words bytes a c = ([], 0, nowhere 0, c, words.nothing)
-
--- one word more
-pub more_words : (bytes : Bytes) (ws : List Placed) (t : Token) (a : Answer) (w : Word) → HasWords bytes ws (one t) → Comes bytes t.end a → IsWord bytes t (before bytes [] a) t.kind w
-    → HasWords bytes (ws ++ record { word = w; place = t.start } ∷ []) a
-more_words bytes ws t a w h c i =
-    (h.0 ++ t ∷ [], t.end, lead_more bytes t h.2 h.3, c, words_more bytes t a w h.4 i)
-
--- Runs.
-
-run_both : (s t : State) (xs ys : List Word) → run true s xs ≡ Some t → run true s (xs ++ ys) ≡ run true t ys
-run_both s t [] ys e = let h : s ≡ t = cc in ap (λ u. run true u ys) h
-run_both s t (x ∷ xs) ys e = by (step true s x) (λ u. run_both u t xs ys) e
-  where
-    by : (o : Option State) → ((u : State) → run true u xs ≡ Some t → run true u (xs ++ ys) ≡ run true t ys)
-        → and_then o (λ u. run true u xs) ≡ Some t → and_then o (λ u. run true u (xs ++ ys)) ≡ run true t ys
-    by None f e = cc
-    by (Some u) f e = f u e
-
-words_more_of : (ps : List Placed) (p : Placed) → words_of (ps ++ p ∷ []) ≡ words_of ps ++ p.word ∷ []
-words_more_of [] p = refl
-words_more_of (q ∷ ps) p = ap (λ xs. q.word ∷ xs) (words_more_of ps p)
-
-run_more : (ps : List Placed) (p : Placed) (s t : State) → run true start (words_of ps) ≡ Some s → step true s p.word ≡ Some t → run true start (words_of (ps ++ p ∷ [])) ≡ Some t
-run_more ps p s t r e =
-    let last : run true s (p.word ∷ []) ≡ Some t = ap (λ o. and_then o (λ u. Some u)) e in
-    ap (run true start) (words_more_of ps p) ∙ (run_both start s (words_of ps) (p.word ∷ []) r ∙ last)
+use Rattle.and_model.specs.declared.limits.TheConstants.{MAX_BYTES}
 
 not_empty : (ps : List Placed) (p : Placed) → ps ++ p ∷ [] ≡ [] → ⊥
 not_empty [] p e = cc
@@ -94,7 +48,7 @@ begun_more bytes place b c ps x h t e o i l d = (
   not_empty ps (record { word = x; place = place }),
   record {
     state = t;
-    ran = run_more ps (record { word = x; place = place }) h.state t h.ran e;
+    ran = run_more true start ps (record { word = x; place = place }) h.state t h.ran e;
     unended = o;
     stands = i;
     first = λ s. absurd (started h.state t x (step_tells true h.state x t e).1 s);
@@ -187,7 +141,7 @@ refused_for bytes place r b ws p h causes.Memory x = tt
 
 -- the refusal of a word that the parser refuses
 pub word_refused : (bytes : Bytes) (place : ℕ) (r : Reader) (b : Begun) (ws : List Placed) (x : Word) (a : Answer) (h : IsReadBefore bytes place r b ws) (c : Cause) → Refuses h.rest.state x c
-    → length bytes ≤ 1048576 → HasWords bytes (ws ++ record { word = x; place = place } ∷ []) a
+    → length bytes ≤ MAX_BYTES → HasWords bytes (ws ++ record { word = x; place = place } ∷ []) a
     → IfSome (refusal_with (line_at bytes place) (views.cause_of c)) (IsRefused bytes)
 unfolding passed_before passed
 word_refused bytes place r b ws x a h c y small w = by (views.cause_of c) (refused_for bytes place r b ws (record { word = x; place = place }) h c y)
@@ -198,12 +152,12 @@ word_refused bytes place r b ws x a h c y small w = by (views.cause_of c) (refus
 
 -- A clause or query is over.
 
-over_text : (ps : List Placed) (x : Word) (place : ℕ) (s : State) (q : Bool) (w : Written) → run true start (words_of ps) ≡ Some s → step true s x ≡ Some (over q w)
+pub over_text : (ps : List Placed) (x : Word) (place : ℕ) (s : State) (q : Bool) (w : Written) → run true start (words_of ps) ≡ Some s → step true s x ≡ Some (over q w)
     → IsText true (ps ++ record { word = x; place = place } ∷ []) (record { is_query = q; term = w; place = first_place ps place } ∷ [])
-over_text [] x place s q w r e = one_clause true (record { word = x; place = place }) [] q w (run_more [] (record { word = x; place = place }) s (over q w) r e)
-over_text (p ∷ ps) x place s q w r e = one_clause true p (ps ++ record { word = x; place = place } ∷ []) q w (run_more (p ∷ ps) (record { word = x; place = place }) s (over q w) r e)
+over_text [] x place s q w r e = one_clause true (record { word = x; place = place }) [] q w (run_more true start [] (record { word = x; place = place }) s (over q w) r e)
+over_text (p ∷ ps) x place s q w r e = one_clause true p (ps ++ record { word = x; place = place } ∷ []) q w (run_more true start (p ∷ ps) (record { word = x; place = place }) s (over q w) r e)
 
-takes_more : (bytes : Bytes) (V : Table) (s : Statement) {T U : Table} {ss : List Statement} → Takes bytes T ss U → statement_fault U s ≡ None → V ≡ with_statement bytes U s → Takes bytes T (ss ++ s ∷ []) V
+pub takes_more : (bytes : Bytes) (V : Table) (s : Statement) {T U : Table} {ss : List Statement} → Takes bytes T ss U → statement_fault U s ≡ None → V ≡ with_statement bytes U s → Takes bytes T (ss ++ s ∷ []) V
 takes_more bytes V s (Refusals.nothing T) f e =
     let P : Table → Type 0 = λ X. Takes bytes T (s ∷ []) X in
     subst P (sym e) (Refusals.more T (with_statement bytes T s) s [] f (Refusals.nothing (with_statement bytes T s)))
@@ -233,7 +187,7 @@ read_over bytes place r z b ws x q w h e sb sc sn f t =
 
 -- it is refused
 pub clause_refused : (bytes : Bytes) (place : ℕ) (r : Reader) (b : Begun) (ws : List Placed) (x : Word) (a : Answer) (q : Bool) (w : Written) (h : IsReadBefore bytes place r b ws) → step true h.rest.state x ≡ Some (over q w)
-    → length bytes ≤ 1048576 → HasWords bytes (ws ++ record { word = x; place = place } ∷ []) a → (f : Tables.Fault)
+    → length bytes ≤ MAX_BYTES → HasWords bytes (ws ++ record { word = x; place = place } ∷ []) a → (f : Tables.Fault)
     → statement_fault (table_of r.table) (record { is_query = q; term = w; place = first_place h.begun place }) ≡ Some f
     → IsRefused bytes (at bytes (first_place h.begun place) (cause_of f))
 clause_refused bytes place r b ws x a q w h e small hw f g =
@@ -247,10 +201,10 @@ clause_refused bytes place r b ws x a q w h e small hw f g =
 
 -- The text ends.
 
-pub fault_refused : (bytes : Bytes) (r : Reader) (ws : List Placed) (f : Tokens.Fault) → IsRead bytes r ws → length bytes ≤ 1048576 → HasWords bytes ws (none_for f) → IsRefused bytes (fault_at bytes f)
+pub fault_refused : (bytes : Bytes) (r : Reader) (ws : List Placed) (f : Tokens.Fault) → IsRead bytes r ws → length bytes ≤ MAX_BYTES → HasWords bytes ws (none_for f) → IsRefused bytes (fault_at bytes f)
 fault_refused bytes r ws f h small hw = at_token ws f small hw (passed_words bytes r ws h)
 
-pub end_refused : (bytes : Bytes) (r : Reader) (b : Begun) (ws : List Placed) → IsRead bytes r ws → r.clause ≡ Some b → length bytes ≤ 1048576 → HasWords bytes ws no_more
+pub end_refused : (bytes : Bytes) (r : Reader) (b : Begun) (ws : List Placed) → IsRead bytes r ws → r.clause ≡ Some b → length bytes ≤ MAX_BYTES → HasWords bytes ws no_more
     → IsRefused bytes (at bytes (length bytes) Refusals.syntax)
 unfolding passed_words passed
 end_refused bytes r b ws h e small hw =

@@ -6,13 +6,13 @@ use Rattle.std.specs.Option.{option_copied, is_some, MatchOption}
 use denote.Ref.{Bor}
 use Rattle.std.proofs.lemmas.List.{reverse-append, reverse-reverse, length-reverse, append-nil, length-append}
 use Rattle.and_model.specs.Lines.{Bytes}
-use Rattle.and_written.specs.Written.{Written}
-use Rattle.and_parsing.specs.Machine
-use Rattle.and_parsing.specs.Machine.{Half}
+use Rattle.and_syntax.specs.Written.{Written}
+use Rattle.and_automaton.specs.Machine
+use Rattle.and_automaton.specs.Machine.{Half}
 use Rattle.and_reader.specs.declared.state.Frame.{Frame}
-use Rattle.and_reader.specs.declared.state.Part.TheVariants.{Head, Body, Query}
-use Rattle.and_parsing.specs.Machine.{conjunction}
-use Rattle.and_reader.specs.declared.state.Parser.{Parser}
+use Rattle.and_reader.specs.declared.state.ClausePart.TheVariants.{Head, Body, Query}
+use Rattle.and_automaton.specs.Machine.{conjunction}
+use Rattle.and_reader.specs.declared.parser.Parser.{Parser}
 use Rattle.and_reader.specs.Answered.{Finished, paired}
 use Rattle.and_reader.proofs.TermLemmas.{conjunction_is}
 use Rattle.and_reader.specs.Standing.{terms, head_in, part_of, name_in, AreFrames, with_lefts, waiting}
@@ -35,17 +35,17 @@ pub count_frames : (Fs : List Frame) (fs : List Machine.Frame) → AreFrames (re
 count_frames Fs fs a = sym (length-reverse Fs) ∙ length_frames (reverse Fs) fs a
 
 -- the parts
-pub is_head : (a : Machine.Part) → Head ≡ part_of a → a ≡ Machine.head
+pub is_head : (a : Machine.ClausePart) → Head ≡ part_of a → a ≡ Machine.head
 is_head Machine.head e = refl
 is_head (Machine.body h) e = absurd cc
 is_head Machine.query e = absurd cc
 
-pub is_body : (a : Machine.Part) → Body ≡ part_of a → (h : Written) × (a ≡ Machine.body h)
+pub is_body : (a : Machine.ClausePart) → Body ≡ part_of a → (h : Written) × (a ≡ Machine.body h)
 is_body Machine.head e = absurd cc
 is_body (Machine.body h) e = (h, refl)
 is_body Machine.query e = absurd cc
 
-pub is_query : (a : Machine.Part) → Query ≡ part_of a → a ≡ Machine.query
+pub is_query : (a : Machine.ClausePart) → Query ≡ part_of a → a ≡ Machine.query
 is_query Machine.head e = absurd cc
 is_query (Machine.body h) e = absurd cc
 is_query Machine.query e = refl

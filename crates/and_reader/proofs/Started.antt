@@ -1,12 +1,12 @@
 -- A word leads to no state before the first word of a clause.
 use Rattle.std.proofs.Common.{◌≡◌, Bool, true, false, cond, List, [], ◌∷◌, Option, Some, None, subst}
 use Rattle.and_model.specs.Lines.{Bytes}
-use Rattle.and_written.specs.Written
-use Rattle.and_written.specs.Written.{Written}
-use Rattle.and_texts.specs.Words.{Word, Before}
-use Rattle.and_texts.specs.Words as words
-use Rattle.and_texts.specs.Grammar.{nil}
-use Rattle.and_parsing.specs.Machine.{Half, Pending, Bracket, plain, arguments, elements, tail, Frame, Part, head, body, query, Outermost, wanted, numeral, operand, State, start, inside, opened_list, over, Role, is_product, is_sum, is_relation, is_neck, is_none, role, is_reserved, nothing_pending, take_operand, take_numeral, take_relation, take_neck, take_name, take_comma, take_bar, take_close_bracket, take_close_list, take_end, take_functor, take_operator, at700, begins_query, closes_list, in_part, go}
+use Rattle.and_syntax.specs.Written
+use Rattle.and_syntax.specs.Written.{Written}
+use Rattle.and_language.specs.Words.{Word, Before}
+use Rattle.and_language.specs.Words as words
+use Rattle.and_language.specs.Grammar.{nil}
+use Rattle.and_automaton.specs.Machine.{Half, Pending, Bracket, plain, arguments, elements, tail, Frame, ClausePart, head, body, query, Outermost, wanted, numeral, operand, State, start, inside, opened_list, over, Role, is_product, is_sum, is_relation, is_neck, is_none, role, is_reserved, nothing_pending, take_operand, take_numeral, take_relation, take_neck, take_name, take_comma, take_bar, take_close_bracket, take_close_list, take_end, take_functor, take_operator, at700, begins_query, closes_list, in_part, go}
 
 abbrev Past : Option State → Type 0
 Past None = Unit {0}
@@ -35,7 +35,7 @@ relation_past : (l : Outermost) (fs : List Frame) (p : Pending) (w : Written) (c
 relation_past l fs p w c None = tt
 relation_past l fs p w c (Some h) = tt
 
-neck_past : (l : Outermost) (fs : List Frame) (a : Written) (k : Part) → Past (take_neck (record l { part = k }) fs a)
+neck_past : (l : Outermost) (fs : List Frame) (a : Written) (k : ClausePart) → Past (take_neck (record l { part = k }) fs a)
 neck_past l (f ∷ fs) a k = tt
 neck_past l [] a head = tt
 neck_past l [] a (body h) = tt
@@ -59,7 +59,7 @@ closing_past : (l : Outermost) (fs : List Frame) (a : Written) → (Past (take_c
 closing_past l [] a = (tt, tt, tt, tt)
 closing_past l (f ∷ fs) a = bracket_past l f fs a f.bracket
 
-end_past : (l : Outermost) (fs : List Frame) (a : Written) (k : Part) → Past (take_end (record l { part = k }) fs a)
+end_past : (l : Outermost) (fs : List Frame) (a : Written) (k : ClausePart) → Past (take_end (record l { part = k }) fs a)
 end_past l (f ∷ fs) a k = tt
 end_past l [] a head = tt
 end_past l [] a (body h) = tt

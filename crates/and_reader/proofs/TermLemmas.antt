@@ -5,10 +5,10 @@ use mathlib.Core.List.{reverse_aux}
 use Rattle.std.proofs.lemmas.List.{reverse-append, reverse-reverse, length-reverse, length-append}
 use Rattle.std.proofs.Math.Seq.{take-append_seam, drop-append_seam}
 use Rattle.and_model.specs.Lines.{Bytes}
-use Rattle.and_written.specs.Written.{Written}
-use Rattle.and_texts.specs.Grammar.{binary, unary, cell}
-use Rattle.and_parsing.specs.Machine
-use Rattle.and_parsing.specs.Machine.{Half, with_half, negated, conjunction, list}
+use Rattle.and_syntax.specs.Written.{Written}
+use Rattle.and_language.specs.Grammar.{binary, unary, cell}
+use Rattle.and_automaton.specs.Machine
+use Rattle.and_automaton.specs.Machine.{Half, with_half, negated, conjunction, list}
 use Rattle.and_clauses.specs.Parts.{many}
 use Rattle.and_reader.specs.Standing.{name_in, with_left}
 use Rattle.and_reader.specs.Answered.{paired}

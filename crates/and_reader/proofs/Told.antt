@@ -1,25 +1,21 @@
 -- What is told of results.
 use Rattle.std.proofs.Common.{◌≡◌, ℕ, Option, Some, None, Result, Ok, Err, sym, ap, subst}
 use Rattle.std.specs.Option.{IfSome, option_map}
-use Rattle.std.specs.Result.{IfErr, OnOk}
+use Rattle.std.specs.Result.{IfErr}
 use Rattle.and_model.specs.Lines.{Bytes}
-use Rattle.and_written.specs.Tables.{Table, Fault}
-use Rattle.and_texts.specs.Words.{Word}
-use Rattle.and_texts.specs.Tokens.{line_at}
-use Rattle.and_texts.specs.Grammar.{Statement}
-use Rattle.and_texts.specs.Refusals
-use Rattle.and_texts.specs.Refusals.{Refusal, cause_of, statement_fault}
-use Rattle.and_parsing.specs.Machine.{State}
+use Rattle.and_syntax.specs.Tables.{Table, Fault}
+use Rattle.and_language.specs.Words.{Word}
+use Rattle.and_language.specs.Tokens.{line_at}
+use Rattle.and_language.specs.Grammar.{Statement}
+use Rattle.and_language.specs.Refusals
+use Rattle.and_language.specs.Refusals.{Refusal, cause_of, statement_fault}
+use Rattle.and_automaton.specs.Machine.{State}
 use Rattle.and_reader.specs.declared.refusal.ReadRefusal.{ReadRefusal}
 use Rattle.and_reader.specs.declared.state.Next.{Next}
-use Rattle.and_reader.specs.declared.state.Parser.{Parser}
+use Rattle.and_reader.specs.declared.parser.Parser.{Parser}
 use Rattle.and_reader.specs.Causes.{refusal_with, refusal_of}
 use Rattle.and_reader.specs.Standing.{Answers}
 use Rattle.and_reader.specs.Reading.{IsFaultOf}
-
-pub ok_told : {A E P Q : Type 0} (r : Result A E) → (P → Q) → OnOk r P → OnOk r Q
-ok_told (Ok a) f h = f h
-ok_told (Err e) f h = tt
 
 pub some_told : {A : Type 0} (P Q : A → Type 0) (o : Option A) → ((a : A) → P a → Q a) → IfSome o P → IfSome o Q
 some_told P Q None f h = tt

@@ -2,14 +2,14 @@
 use Rattle.std.specs.Prelude.{ℕ, ◌≤◌, ◌≡◌, Bool, true, false, IsTrue, List, [], ◌∷◌, length, reverse, Option, Some, None, Result, Ok, Err, cond, codes}
 use Rattle.std.specs.Str.{bytes_eq}
 use Rattle.and_model.specs.Lines.{Bytes}
-use Rattle.and_written.specs.Written.{Written}
-use Rattle.and_texts.specs.Words
-use Rattle.and_texts.specs.Words.{Word}
-use Rattle.and_texts.specs.Refusals
-use Rattle.and_texts.specs.Refusals.{limit_of}
-use Rattle.and_texts.specs.Grammar.{binary}
-use Rattle.and_parsing.specs.Machine
-use Rattle.and_parsing.specs.Machine.{Half, Outermost, State, over, is_over, depth}
+use Rattle.and_syntax.specs.Written.{Written}
+use Rattle.and_language.specs.Words
+use Rattle.and_language.specs.Words.{Word}
+use Rattle.and_language.specs.Refusals
+use Rattle.and_language.specs.Refusals.{limit_of}
+use Rattle.and_language.specs.Grammar.{binary}
+use Rattle.and_automaton.specs.Machine
+use Rattle.and_automaton.specs.Machine.{Half, Outermost, State, over, is_over, depth}
 use Rattle.and_clauses.specs.Drafts.{draft_of}
 use Rattle.and_clauses.specs.Views.{is_asking}
 use Rattle.and_clauses.specs.Faults.{what_of}
@@ -18,12 +18,13 @@ use Rattle.and_clauses.specs.declared.data.What.TheVariants as whats
 use Rattle.and_reader.specs.declared.state.Pending.{Pending}
 use Rattle.and_reader.specs.declared.state.Next.{Next}
 use Rattle.and_reader.specs.declared.state.Next.TheVariants as next
-use Rattle.and_reader.specs.declared.state.Parser.{Parser}
+use Rattle.and_reader.specs.declared.parser.Parser.{Parser}
 use Rattle.and_reader.specs.declared.refusal.Cause.{Cause}
 use Rattle.and_reader.specs.declared.refusal.Cause.TheVariants as causes
-use Rattle.and_reader.specs.declared.parser.First.{First}
-use Rattle.and_reader.specs.declared.parser.First.TheVariants as firsts
+use Rattle.and_reader.specs.declared.words.First.{First}
+use Rattle.and_reader.specs.declared.words.First.TheVariants as firsts
 use Rattle.and_reader.specs.Standing.{terms, part_of, name_in, IsPending, AreFrames, with_left, with_lefts, waiting, Stands, IsState}
+use Rattle.and_model.specs.declared.limits.TheConstants.{MAX_ARGUMENTS, MAX_NESTING}
 
 -- terms (the latest first) and then w, joined by a name from the right
 abbrev pub paired : Bytes → List Written → Written → Written
@@ -44,7 +45,7 @@ pub record Finished (P : Parser) (l : Outermost) (fs : List Machine.Frame) (a : 
   pub before : P.before ≡ length l.before
   pub frames : AreFrames (reverse P.frames.items) fs
   pub opened : P.depth ≡ depth fs
-  pub nesting : depth fs ≤ 256
+  pub nesting : depth fs ≤ MAX_NESTING
   pub finished : terms P.draft ≡ a ∷ waiting l fs
 
 -- an operand is wanted; an operand is there; and all that was pending with it is finished
@@ -80,7 +81,7 @@ Answered s b x (Err c) P = IsCaused s b x c
 -- why no comma stands in a bracket, where n arguments or elements are before it
 abbrev pub IsCommaFault : Machine.Bracket → ℕ → Cause → Type 0
 IsCommaFault b n causes.Syntax = b ≡ Machine.tail
-IsCommaFault b n (causes.TooBig whats.Arguments) = (c : Bytes) × (b ≡ Machine.arguments c) × (255 ≤ n)
+IsCommaFault b n (causes.TooBig whats.Arguments) = (c : Bytes) × (b ≡ Machine.arguments c) × (MAX_ARGUMENTS ≤ n)
 IsCommaFault b n c = ⊥
 
 -- a comma may stand in the bracket

@@ -1,8 +1,8 @@
 -- What causes and refusals stand for.
 use Rattle.std.specs.Prelude.{ℕ, ◌≡◌, length, Option, Some, None}
 use Rattle.and_model.specs.Lines.{Bytes}
-use Rattle.and_texts.specs.Refusals
-use Rattle.and_texts.specs.Refusals.{at}
+use Rattle.and_language.specs.Refusals
+use Rattle.and_language.specs.Refusals.{at}
 use Rattle.and_clauses.specs.Faults.{what_of}
 use Rattle.and_clauses.specs.declared.data.SealFault.{SealFault}
 use Rattle.and_clauses.specs.declared.data.SealFault.TheVariants as seals

@@ -1,12 +1,12 @@
 -- How far a text is read.
 use Rattle.std.specs.Prelude.{ℕ, ◌≡◌, ◌++◌, Bool, true, false, List, [], ◌∷◌, Option, Some, None}
 use Rattle.and_model.specs.Lines.{Bytes}
-use Rattle.and_written.specs.Tables.{empty, Table, Fault}
-use Rattle.and_texts.specs.Tokens.{line_at}
-use Rattle.and_texts.specs.Words.{Word, Placed}
-use Rattle.and_texts.specs.Grammar.{Statement, IsText}
-use Rattle.and_texts.specs.Refusals.{Takes, Refusal, at, cause_of, statement_fault, with_statement}
-use Rattle.and_parsing.specs.Machine.{State, start, is_over, run, words_of}
+use Rattle.and_syntax.specs.Tables.{empty, Table, Fault}
+use Rattle.and_language.specs.Tokens.{line_at}
+use Rattle.and_language.specs.Words.{Word, Placed}
+use Rattle.and_language.specs.Grammar.{Statement, IsText}
+use Rattle.and_language.specs.Refusals.{Takes, Refusal, at, cause_of, statement_fault, with_statement}
+use Rattle.and_automaton.specs.Machine.{State, start, is_over, run, words_of}
 use Rattle.and_clauses.specs.Drafts.{Draft, draft_of}
 use Rattle.and_clauses.specs.Views.{table_of}
 use Rattle.and_reader.specs.declared.reading.Begun.{Begun}

@@ -1,7 +1,7 @@
 -- What comes next in a text, as a minus sees it.
 use Rattle.std.specs.Prelude.{◌≤◌, length, Option, Some, None, Result, Ok, Err}
 use Rattle.and_model.specs.Lines.{Bytes}
-use Rattle.and_texts.specs.Words
+use Rattle.and_language.specs.Words
 use Rattle.and_lex.specs.declared.tokens.Token.{Token}
 use Rattle.and_lex.specs.declared.tokens.LexFault.{LexFault}
 use Rattle.and_reader.specs.declared.words.Before.{Before}

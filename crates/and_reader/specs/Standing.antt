@@ -2,13 +2,13 @@
 use Rattle.std.specs.Prelude.{ℕ, ◌+◌, ◌<◌, ◌≤◌, ◌≡◌, true, false, IsTrue, List, [], ◌∷◌, ◌++◌, length, reverse, Option, Some, None, Result, Ok, Err, codes}
 use Rattle.std.specs.Option.{option_copied}
 use Rattle.and_model.specs.Lines.{Bytes}
-use Rattle.and_written.specs.Written
-use Rattle.and_written.specs.Written.{Written}
-use Rattle.and_texts.specs.Words
-use Rattle.and_texts.specs.Refusals
-use Rattle.and_texts.specs.Refusals.{limit_of}
-use Rattle.and_parsing.specs.Machine
-use Rattle.and_parsing.specs.Machine.{Half, Outermost, State, start, over, is_over, depth, go, exceeds, step}
+use Rattle.and_syntax.specs.Written
+use Rattle.and_syntax.specs.Written.{Written}
+use Rattle.and_language.specs.Words
+use Rattle.and_language.specs.Refusals
+use Rattle.and_language.specs.Refusals.{limit_of}
+use Rattle.and_automaton.specs.Machine
+use Rattle.and_automaton.specs.Machine.{Half, Outermost, State, start, over, is_over, depth, go, exceeds, step}
 use Rattle.and_clauses.specs.Drafts.{draft_of}
 use Rattle.and_clauses.specs.Views.{is_asking}
 use Rattle.and_clauses.specs.Faults.{what_of}
@@ -17,16 +17,17 @@ use Rattle.and_reader.specs.declared.state.Pending.{Pending}
 use Rattle.and_reader.specs.declared.state.Bracket.{Bracket}
 use Rattle.and_reader.specs.declared.state.Bracket.TheVariants.{Plain, Arguments, Elements, Tail}
 use Rattle.and_reader.specs.declared.state.Frame.{Frame}
-use Rattle.and_reader.specs.declared.state.Part.{Part}
-use Rattle.and_reader.specs.declared.state.Part.TheVariants.{Head, Body, Query}
+use Rattle.and_reader.specs.declared.state.ClausePart.{ClausePart}
+use Rattle.and_reader.specs.declared.state.ClausePart.TheVariants.{Head, Body, Query}
 use Rattle.and_reader.specs.declared.state.Mode.TheVariants.{Start, Wanted, Numeral, OpenedList, Operand, Atom}
 use Rattle.and_reader.specs.declared.state.Next.{Next}
 use Rattle.and_reader.specs.declared.state.Next.TheVariants as next
-use Rattle.and_reader.specs.declared.state.Parser.{Parser}
+use Rattle.and_reader.specs.declared.parser.Parser.{Parser}
 use Rattle.and_reader.specs.declared.words.Name.{Name}
 use Rattle.and_reader.specs.declared.refusal.Cause.{Cause}
 use Rattle.and_reader.specs.declared.refusal.Cause.TheVariants as causes
 use Rattle.and_reader.specs.Views.{name_of}
+use Rattle.and_model.specs.declared.limits.TheConstants.{MAX_ARGUMENTS, MAX_NESTING}
 
 -- the finished terms of a draft, the latest first
 abbrev pub terms : ClauseDraft → List Written
@@ -40,7 +41,7 @@ bracket_of Elements = Machine.elements
 bracket_of Tail = Machine.tail
 
 -- the parser's part of a clause, which does not keep the head
-abbrev pub part_of : Machine.Part → Part
+abbrev pub part_of : Machine.ClausePart → ClausePart
 part_of Machine.head = Head
 part_of (Machine.body h) = Body
 part_of Machine.query = Query
@@ -60,7 +61,7 @@ pub record IsPending (P : Pending) (p : Machine.Pending) : Type 0 where
 -- A name has fewer than 255 arguments before the last comma.
 abbrev pub IsNarrow : Machine.Bracket → ℕ → Type 0
 IsNarrow Machine.plain n = Unit {0}
-IsNarrow (Machine.arguments c) n = n < 255
+IsNarrow (Machine.arguments c) n = n < MAX_ARGUMENTS
 IsNarrow Machine.elements n = Unit {0}
 IsNarrow Machine.tail n = Unit {0}
 
@@ -88,7 +89,7 @@ abbrev pub with_lefts : Machine.Pending → List Written → List Written
 with_lefts p ws = with_left p.product (with_left p.sum (with_left p.relation ws))
 
 -- the head that stands before a body
-abbrev pub head_in : Machine.Part → List Written
+abbrev pub head_in : Machine.ClausePart → List Written
 head_in Machine.head = []
 head_in (Machine.body h) = h ∷ []
 head_in Machine.query = []
@@ -105,7 +106,7 @@ pub record Stands (P : Parser) (l : Outermost) (fs : List Machine.Frame) (p : Ma
   pub frames : AreFrames (reverse P.frames.items) fs
   pub pending : IsPending P.pending p
   pub opened : P.depth ≡ depth fs
-  pub nesting : p.minuses + depth fs ≤ 256
+  pub nesting : p.minuses + depth fs ≤ MAX_NESTING
   pub finished : terms P.draft ≡ ws ++ with_lefts p (waiting l fs)
 
 -- the same, where nothing of the clause is read
@@ -119,7 +120,7 @@ IsState P (Machine.inside l fs p Machine.wanted) = (P.mode ≡ Wanted) × Stands
 IsState P (Machine.inside l fs p Machine.numeral) = (P.mode ≡ Numeral) × Stands P l fs p []
 IsState P (Machine.inside l fs p (Machine.operand w None)) = (P.mode ≡ Operand) × Stands P l fs p (w ∷ [])
 IsState P (Machine.inside l fs p (Machine.operand w (Some c))) = (n : Name) × (P.mode ≡ Atom n) × (name_of n ≡ c) × (w ≡ Written.compound c Written.none) × Stands P l fs p []
-IsState P (Machine.opened_list l fs p) = (P.mode ≡ OpenedList) × (p.minuses + depth fs < 256) × Stands P l fs p []
+IsState P (Machine.opened_list l fs p) = (P.mode ≡ OpenedList) × (p.minuses + depth fs < MAX_NESTING) × Stands P l fs p []
 IsState P (over q t) = ⊥
 
 -- an integer is at most 2 ^ 63, as that of a token is

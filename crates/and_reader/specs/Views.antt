@@ -1,6 +1,6 @@
 -- What words and names stand for.
 use Rattle.and_model.specs.Lines.{Bytes}
-use Rattle.and_texts.specs.Words
+use Rattle.and_language.specs.Words
 use Rattle.and_reader.specs.declared.words.Name.{Name}
 use Rattle.and_reader.specs.declared.words.Name.TheVariants as names
 use Rattle.and_reader.specs.declared.words.Before.{Before}

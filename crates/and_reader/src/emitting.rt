@@ -2,28 +2,17 @@
 
 ghost use Rattle.std.specs.Prelude.{◌≡◌, ◌≤◌, ◌<◌, ◌++◌, ◌∷◌, List, length, reverse, Option, OnOk};
 ghost use Rattle.std.specs.Option.{option_copied};
-ghost use Rattle.and_written.specs.Written.{Written, compound};
-ghost use Rattle.and_parsing.specs.Machine.{Half, with_half, negated, at400, at500, at700};
-ghost use Rattle.and_parsing.specs.Machine as machine;
+ghost use Rattle.and_syntax.specs.Written.{Written, compound};
+ghost use Rattle.and_automaton.specs.Machine.{Half, with_half, negated, at400, at500, at700};
+ghost use Rattle.and_automaton.specs.Machine as machine;
 ghost use Rattle.and_clauses.specs.Parts.{many};
 ghost use Rattle.and_clauses.specs.Drafts.{draft_of};
 ghost use Rattle.and_reader.specs.Standing.{terms, name_in, IsPending, with_left, with_lefts};
 ghost use Rattle.and_reader.specs.Answered.{paired, HasInfix, HasOperand};
 
-use crate::refusal::Cause;
 use crate::state::Pending;
 use and_clauses::ClauseDraft;
 use std::alloc::AllocError;
-
-impl From<AllocError> for Cause {
-    ghost use Rattle.and_reader.specs.declared.refusal.Cause.TheVariants.{Memory};
-
-    ghost from_gives = { λ _ cause. cause ≡ Memory };
-
-    fn from(_error: AllocError) -> Cause {
-        Cause::Memory
-    }
-}
 
 /// Finishes a name with the last `count` finished terms as its arguments.
 pub(crate) fn finish(draft: &mut ClauseDraft, name: &[u8], count: u8) -> Result<(), AllocError>

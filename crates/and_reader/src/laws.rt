@@ -1,10 +1,10 @@
 //! Laws of the definitions of a text's program and its refusal. Each function here does nothing:
 //! its contract is the law.
 
-ghost use Rattle.std.specs.Prelude.{◌≡◌};
+ghost use Rattle.std.specs.Prelude.{◌≡◌, ◌⊎◌};
 ghost use Rattle.and_model.specs.Lines.{Bytes};
 ghost use Rattle.and_model.specs.Programs.{Program};
-ghost use Rattle.and_texts.specs.Refusals.{Refusal, Reads, IsRefused};
+ghost use Rattle.and_language.specs.Refusals.{Refusal, Reads, IsRefused};
 
 /// One program: a text that reads as two programs reads as one.
 pub fn one_program()
@@ -17,4 +17,10 @@ pub fn one_refusal()
         → Reads bytes p → IsRefused bytes r → ⊥ }
     ensures refused { (bytes : Bytes) (r s : Refusal)
         → IsRefused bytes r → IsRefused bytes s → r ≡ s }
+{}
+
+/// Each text is read or refused: each list of bytes reads as a program, or is refused.
+pub fn each_text_is_read_or_refused()
+    ensures { (bytes : Bytes)
+        → ((P : Program) × Reads bytes P) ⊎ ((r : Refusal) × IsRefused bytes r) }
 {}

@@ -4,8 +4,6 @@
 mod emitting;
 mod laws;
 mod lines;
-mod operands;
-mod operators;
 mod parser;
 mod reading;
 mod refusal;
@@ -13,7 +11,7 @@ mod state;
 mod words;
 
 pub use and_clauses::{Loaded, What};
-pub use laws::{one_program, one_refusal};
+pub use laws::{each_text_is_read_or_refused, one_program, one_refusal};
 pub use reading::read_program;
 pub use refusal::{Cause, ReadRefusal, refusal_text};
 

@@ -1,7 +1,7 @@
 //! The lines of a text's places.
 
 ghost use Rattle.std.specs.Prelude.{◌≡◌, ◌<◌, ◌≤◌, ◌^◌, ◌-◌, length, min};
-ghost use Rattle.and_texts.specs.Tokens.{newlines, line_at};
+ghost use Rattle.and_language.specs.Tokens.{newlines, line_at};
 
 /// How many newlines the bytes have.
 fn newlines(bytes: &[u8]) -> u32

@@ -1,70 +1,53 @@
 //! A clause, read word by word.
 
-ghost use Rattle.std.specs.Prelude.{◌≡◌, ◌+◌, ◌<◌, [], List, Some, true};
-ghost use Rattle.and_written.specs.Written.{compound, none};
-ghost use Rattle.and_texts.specs.Words as words;
-ghost use Rattle.and_parsing.specs.Machine.{State, Outermost, start, inside, opened_list, operand, depth, closes_list};
-ghost use Rattle.and_parsing.specs.Machine as machine;
+ghost use Rattle.std.specs.Prelude.{◌≡◌, ◌+◌, ◌<◌, [], List, Some, ◌≤◌, pos, neg_ℤ, ◌∷◌, length};
+ghost use Rattle.std.specs.Prelude.{reverse, None, nat_le, Bool, OnOk, false, nat_lt, codes};
+ghost use Rattle.and_syntax.specs.Written.{compound, none, variable, integer, Written};
+ghost use Rattle.and_automaton.specs.Machine.{State, Outermost, start, inside, opened_list};
+ghost use Rattle.and_automaton.specs.Machine.{operand, depth, wanted, nothing_pending};
+ghost use Rattle.and_automaton.specs.Machine.{operand_exceeds, role, is_product, is_sum};
+ghost use Rattle.and_automaton.specs.Machine.{is_relation, list, at700, comma_exceeds};
+ghost use Rattle.and_automaton.specs.Machine.{operator_exceeds};
 ghost use Rattle.and_clauses.specs.Drafts.{draft_of};
-ghost use Rattle.and_reader.specs.Views.{word_of, name_of};
-ghost use Rattle.and_reader.specs.Standing.{IsState, IsFit, Answers, Stands, StandsFirst};
-ghost use Rattle.and_reader.specs.Answered.{IsBefore, first_of, is_functor_bracket};
+ghost use Rattle.and_reader.specs.Views.{word_of, name_of, before_of};
+ghost use Rattle.and_reader.specs.Standing.{IsState, IsFit, Answers, Stands, StandsFirst, terms};
+ghost use Rattle.and_reader.specs.Standing.{part_of, bracket_of, IsFrame, AreFrames, waiting};
+ghost use Rattle.and_reader.specs.Standing.{IsPending, with_lefts};
+ghost use Rattle.and_reader.specs.Answered.{IsBefore, Answered, IsBehind, IsFinished, Finished};
+ghost use Rattle.and_language.specs.Words as words;
+ghost use Rattle.and_automaton.specs.Machine as machine;
+ghost use Rattle.and_model.specs.declared.limits.TheConstants.{MAX_NESTING};
 
+use crate::emitting::{finish, finish_pairs, finish_product, finish_relation, finish_sum};
 use crate::refusal::Cause;
-use crate::state::{Bracket, Mode, NOTHING, Next, Parser, Part};
-use crate::words::{Name, Word, is_neck, is_query};
+use crate::state::{
+    Bracket, ClausePart, Frame, Mode, NOTHING, Next, Pending, check_comma, takes_bar,
+};
+use crate::words::{
+    Before, First, Name, Word, closes_list, is_behind, is_neck, is_product, is_relation,
+    is_reserved, is_sum, start_of,
+};
 use and_clauses::{ClauseDraft, What};
-use std::alloc::Global;
+use and_model::limits::MAX_NESTING;
+use std::alloc::{AllocError, Global};
 use std::mem;
 
-/// What the first word of a clause begins.
-#[derive(Clone, Copy)]
-enum First {
-    Query,
-    Directive,
-    Other,
-}
+/// The largest integer that is no negative numeral.
+const LARGEST: u64 = 9_223_372_036_854_775_807;
 
-/// What a first word begins.
-fn start_of(word: &Word) -> First
-    ensures { result ≡ first_of (word_of word.now) }
-{
-    match word {
-        Word::Name(name) => {
-            if is_query(name) {
-                First::Query
-            } else if is_neck(name) {
-                First::Directive
-            } else {
-                First::Other
-            }
-        }
-        Word::Variable(_)
-        | Word::Integer(_)
-        | Word::Quoted(_)
-        | Word::Minus(_)
-        | Word::OpenBracket { .. }
-        | Word::CloseBracket
-        | Word::OpenList
-        | Word::CloseList
-        | Word::Comma
-        | Word::Bar
-        | Word::End => First::Other,
-    }
-}
-
-/// Whether the word closes a list.
-fn closes_list(word: &Word) -> bool
-    ensures { result ≡ closes_list (word_of word.now) }
-{
-    matches!(word, Word::CloseList)
-}
-
-/// Whether the word is a bracket right behind the word before it.
-fn is_behind(word: &Word) -> bool
-    ensures { result ≡ is_functor_bracket (word_of word.now) }
-{
-    matches!(word, Word::OpenBracket { behind: true })
+/// A clause that is read word by word.
+#[derive(Drop)]
+pub(crate) struct Parser<'a> {
+    pub draft: ClauseDraft,
+    pub part: ClausePart,
+    /// How many terms stand before the last comma outside of brackets.
+    pub before: usize,
+    /// The open brackets, the innermost last.
+    pub frames: Vec<Frame<'a>>,
+    pub pending: Pending<'a>,
+    pub mode: Mode<'a>,
+    /// How many brackets, and prefix minuses before them, are open.
+    pub depth: u32,
 }
 
 impl<'a> Parser<'a> {
@@ -75,7 +58,7 @@ impl<'a> Parser<'a> {
     {
         Parser {
             draft: ClauseDraft::new(alloc, line),
-            part: Part::Head,
+            part: ClausePart::Head,
             before: 0,
             frames: Vec::new(alloc),
             pending: NOTHING,
@@ -83,6 +66,595 @@ impl<'a> Parser<'a> {
             depth: 0,
         }
     }
+
+    // Words where an operand is wanted.
+
+    /// Whether so many brackets and prefix minuses are open that there may be no more.
+    pub(crate) fn is_deep(&self) -> bool
+        requires { self.now.pending.minuses + self.now.depth ≤ MAX_NESTING }
+        ensures { result ≡ nat_le MAX_NESTING (self.now.pending.minuses + self.now.depth) }
+    {
+        self.pending.minuses + self.depth >= MAX_NESTING
+    }
+
+    /// Goes on behind the bracket, comma or bar of a frame, which becomes the innermost.
+    pub(crate) fn enter(&mut self, frame: Frame<'a>) -> Result<(), AllocError>
+        ensures ok { (l : Outermost) (fs : List machine.Frame) (f : machine.Frame)
+            → self.old.part ≡ part_of l.part → self.old.before ≡ length l.before
+            → AreFrames (reverse self.old.frames.items) fs → IsFrame frame.entry f
+            → self.old.depth ≡ depth (f ∷ fs) → depth (f ∷ fs) ≤ MAX_NESTING
+            → terms self.old.draft ≡ waiting l (f ∷ fs)
+            → OnOk result (IsState self.new (inside l (f ∷ fs) nothing_pending wanted)) }
+        ensures line { (draft_of self.new.draft).line ≡ (draft_of self.old.draft).line }
+    {
+        if self.frames.push(frame).is_err() {
+            return Err(AllocError);
+        }
+        self.pending = NOTHING;
+        self.mode = Mode::Wanted;
+        Ok(())
+    }
+
+    /// Opens a bracket where an operand is wanted.
+    pub(crate) fn open(&mut self, bracket: Bracket<'a>) -> Result<(), AllocError>
+        requires { self.old.pending.minuses + self.old.depth < MAX_NESTING }
+        ensures ok { (l : Outermost) (fs : List machine.Frame) (p : machine.Pending)
+            → Stands self.old l fs p []
+            → let b = bracket_of bracket.entry in
+            let f : machine.Frame = record { bracket = b; before = []; outside = p } in
+            OnOk result (IsState self.new (inside l (f ∷ fs) nothing_pending wanted)) }
+        ensures line { (draft_of self.new.draft).line ≡ (draft_of self.old.draft).line }
+    {
+        let outside = self.pending;
+        self.depth += outside.minuses + 1;
+        self.enter(Frame {
+            bracket,
+            before: 0,
+            outside,
+        })
+    }
+
+    /// Finishes an integer as an operand.
+    fn put_integer(&mut self, value: i64) -> Result<(), AllocError>
+        ensures ok { (l : Outermost) (fs : List machine.Frame) (p : machine.Pending)
+            → Stands self.old l fs p []
+            → OnOk result (IsState self.new (inside l fs p (operand (integer value) None))) }
+        ensures line { (draft_of self.new.draft).line ≡ (draft_of self.old.draft).line }
+    {
+        if self.draft.is_full() {
+            return Err(AllocError);
+        }
+        self.draft.integer(value)?;
+        self.mode = Mode::Operand;
+        Ok(())
+    }
+
+    /// Finishes a variable as an operand.
+    fn put_variable(&mut self, name: &[u8]) -> Result<(), AllocError>
+        ensures ok { (l : Outermost) (fs : List machine.Frame) (p : machine.Pending)
+            → Stands self.old l fs p []
+            → OnOk result (IsState self.new (inside l fs p (operand (variable name.now) None))) }
+        ensures line { (draft_of self.new.draft).line ≡ (draft_of self.old.draft).line }
+    {
+        if self.draft.is_full() {
+            return Err(AllocError);
+        }
+        self.draft.variable(name)?;
+        self.mode = Mode::Operand;
+        Ok(())
+    }
+
+    /// Finishes an atom as an operand.
+    pub(crate) fn put_atom(&mut self, name: &[u8]) -> Result<(), AllocError>
+        ensures ok { (l : Outermost) (fs : List machine.Frame) (p : machine.Pending)
+            → Stands self.old l fs p []
+            → let w = compound name.now none in
+            OnOk result (IsState self.new (inside l fs p (operand w None))) }
+        ensures line { (draft_of self.new.draft).line ≡ (draft_of self.old.draft).line }
+    {
+        finish(&mut self.draft, name, 0)?;
+        self.mode = Mode::Operand;
+        Ok(())
+    }
+
+    /// Takes a minus.
+    fn take_minus(&mut self, before: Before) -> Result<Next, Cause>
+        requires { IsBefore self.old }
+        ensures answer { (l : Outermost) (fs : List machine.Frame) (p : machine.Pending)
+            → Stands self.old l fs p [] → let x : words.Word = words.minus (before_of before) in
+            Answered (machine.take_operand l fs p x) (operand_exceeds fs p x) x result self.new }
+        ensures line { (draft_of self.new.draft).line ≡ (draft_of self.old.draft).line }
+    {
+        match before {
+            Before::Integer => {
+                self.mode = Mode::Numeral;
+                Ok(Next::Inside)
+            }
+            Before::Stop => {
+                self.put_atom(b"-")?;
+                Ok(Next::Inside)
+            }
+            Before::Operand => {
+                if self.is_deep() {
+                    return Err(Cause::TooBig(What::Nesting));
+                }
+                self.pending.minuses += 1;
+                self.mode = Mode::Wanted;
+                Ok(Next::Inside)
+            }
+        }
+    }
+
+    /// Takes an integer that is no negative numeral.
+    fn take_integer(&mut self, value: u64) -> Result<Next, Cause>
+        ensures answer { (l : Outermost) (fs : List machine.Frame) (p : machine.Pending)
+            → Stands self.old l fs p [] → let x : words.Word = words.integer value in
+            Answered (machine.take_operand l fs p x) (operand_exceeds fs p x) x result self.new }
+        ensures line { (draft_of self.new.draft).line ≡ (draft_of self.old.draft).line }
+    {
+        if value > LARGEST {
+            return Err(Cause::TooWide);
+        }
+        self.put_integer(value as i64)?;
+        Ok(Next::Inside)
+    }
+
+    /// Takes a name or symbol.
+    fn take_atom(&mut self, name: &'a [u8]) -> Result<Next, Cause>
+        ensures answer { (l : Outermost) (fs : List machine.Frame) (p : machine.Pending)
+            → Stands self.old l fs p [] → let x : words.Word = words.name name.now in
+            Answered (machine.take_operand l fs p x) (operand_exceeds fs p x) x result self.new }
+        ensures line { (draft_of self.new.draft).line ≡ (draft_of self.old.draft).line }
+    {
+        if is_reserved(name) {
+            return Err(Cause::Syntax);
+        }
+        self.mode = Mode::Atom(Name::Written(name));
+        Ok(Next::Inside)
+    }
+
+    /// Takes an opening bracket.
+    fn take_open_bracket(&mut self) -> Result<Next, Cause>
+        requires { IsBefore self.old }
+        ensures answer { (l : Outermost) (fs : List machine.Frame) (p : machine.Pending)
+            → (behind : Bool)
+            → Stands self.old l fs p [] → let x : words.Word = words.open_bracket behind in
+            Answered (machine.take_operand l fs p x) (operand_exceeds fs p x) x result self.new }
+        ensures line { (draft_of self.new.draft).line ≡ (draft_of self.old.draft).line }
+    {
+        if self.is_deep() {
+            return Err(Cause::TooBig(What::Nesting));
+        }
+        self.open(Bracket::Plain)?;
+        Ok(Next::Inside)
+    }
+
+    /// Takes the opening bracket of a list.
+    fn take_open_list(&mut self) -> Result<Next, Cause>
+        requires { IsBefore self.old }
+        ensures answer { (l : Outermost) (fs : List machine.Frame) (p : machine.Pending)
+            → Stands self.old l fs p [] → let x : words.Word = words.open_list in
+            Answered (machine.take_operand l fs p x) (operand_exceeds fs p x) x result self.new }
+        ensures line { (draft_of self.new.draft).line ≡ (draft_of self.old.draft).line }
+    {
+        if self.is_deep() {
+            return Err(Cause::TooBig(What::Nesting));
+        }
+        self.mode = Mode::OpenedList;
+        Ok(Next::Inside)
+    }
+
+    /// Takes a word where an operand is wanted.
+    pub(crate) fn take_operand(&mut self, word: Word<'a>) -> Result<Next, Cause>
+        requires { IsBefore self.old }
+        ensures answer { (l : Outermost) (fs : List machine.Frame) (p : machine.Pending)
+            → Stands self.old l fs p [] → let x : words.Word = word_of word.entry in
+            Answered (machine.take_operand l fs p x) (operand_exceeds fs p x) x result self.new }
+        ensures line { (draft_of self.new.draft).line ≡ (draft_of self.old.draft).line }
+    {
+        match word {
+            Word::Variable(name) => {
+                self.put_variable(name)?;
+                Ok(Next::Inside)
+            }
+            Word::Integer(value) => self.take_integer(value),
+            Word::Name(name) => self.take_atom(name),
+            Word::Quoted(text) => {
+                self.mode = Mode::Atom(Name::Quoted(text));
+                Ok(Next::Inside)
+            }
+            Word::Minus(before) => self.take_minus(before),
+            Word::OpenBracket { .. } => self.take_open_bracket(),
+            Word::OpenList => self.take_open_list(),
+            Word::CloseBracket | Word::CloseList | Word::Comma | Word::Bar | Word::End => {
+                Err(Cause::Syntax)
+            }
+        }
+    }
+
+    /// Takes the integer behind its minus.
+    pub(crate) fn take_numeral(&mut self, word: Word<'a>) -> Result<Next, Cause>
+        requires { IsFit (word_of word) }
+        ensures answer { (l : Outermost) (fs : List machine.Frame) (p : machine.Pending)
+            → Stands self.old l fs p [] → let x : words.Word = word_of word.entry in
+            Answered (machine.take_numeral l fs p x) false x result self.new }
+        ensures line { (draft_of self.new.draft).line ≡ (draft_of self.old.draft).line }
+    {
+        match word {
+            Word::Integer(value) => {
+                self.put_integer(negative(value))?;
+                Ok(Next::Inside)
+            }
+            Word::Variable(_)
+            | Word::Name(_)
+            | Word::Quoted(_)
+            | Word::Minus(_)
+            | Word::OpenBracket { .. }
+            | Word::CloseBracket
+            | Word::OpenList
+            | Word::CloseList
+            | Word::Comma
+            | Word::Bar
+            | Word::End => Err(Cause::Syntax),
+        }
+    }
+
+    // Words behind an operand.
+
+    /// Takes a product's operator.
+    fn take_product(&mut self, name: &'a [u8]) -> Result<(), AllocError>
+        requires { IsBehind self.old }
+        ensures ok { (l : Outermost) (fs : List machine.Frame) (p : machine.Pending) (w : Written)
+            → Stands self.old l fs p (w ∷ [])
+            → OnOk result (IsState self.new (machine.take_product l fs p w name.now)) }
+        ensures line { (draft_of self.new.draft).line ≡ (draft_of self.old.draft).line }
+    {
+        finish_product(&mut self.draft, self.pending)?;
+        self.pending.product = Some(name);
+        self.pending.minuses = 0;
+        self.mode = Mode::Wanted;
+        Ok(())
+    }
+
+    /// Takes a sum's operator.
+    fn take_sum(&mut self, name: &'a [u8]) -> Result<(), AllocError>
+        requires { IsBehind self.old }
+        ensures ok { (l : Outermost) (fs : List machine.Frame) (p : machine.Pending) (w : Written)
+            → Stands self.old l fs p (w ∷ [])
+            → OnOk result (IsState self.new (machine.take_sum l fs p w name.now)) }
+        ensures line { (draft_of self.new.draft).line ≡ (draft_of self.old.draft).line }
+    {
+        finish_sum(&mut self.draft, self.pending)?;
+        self.pending = Pending {
+            relation: self.pending.relation,
+            sum: Some(name),
+            product: None,
+            minuses: 0,
+        };
+        self.mode = Mode::Wanted;
+        Ok(())
+    }
+
+    /// Takes a relation's name.
+    fn take_relation(&mut self, name: &'a [u8]) -> Result<Next, Cause>
+        requires { IsBehind self.old }
+        ensures answer { (l : Outermost) (fs : List machine.Frame) (p : machine.Pending)
+            → (w : Written)
+            → Stands self.old l fs p (w ∷ [])
+            → let x : words.Word = words.name name.now in
+            Answered (machine.take_relation l fs p w name.now) false x result self.new }
+        ensures line { (draft_of self.new.draft).line ≡ (draft_of self.old.draft).line }
+    {
+        if self.pending.relation.is_some() {
+            return Err(Cause::Syntax);
+        }
+        finish_sum(&mut self.draft, self.pending)?;
+        self.pending = Pending {
+            relation: Some(name),
+            sum: None,
+            product: None,
+            minuses: 0,
+        };
+        self.mode = Mode::Wanted;
+        Ok(Next::Inside)
+    }
+
+    /// Finishes all that is pending.
+    fn finish_pending(&mut self) -> Result<(), AllocError>
+        requires { IsBehind self.old }
+        ensures ok { (l : Outermost) (fs : List machine.Frame) (p : machine.Pending) (w : Written)
+            → Stands self.old l fs p (w ∷ []) → OnOk result (Finished self.new l fs (at700 p w)) }
+        ensures line { (draft_of self.new.draft).line ≡ (draft_of self.old.draft).line }
+    {
+        finish_relation(&mut self.draft, self.pending)
+    }
+
+    /// Whether a bracket is open.
+    fn is_inside(&self) -> bool
+        ensures { result ≡ nat_lt 0 (length self.now.frames.items) }
+    {
+        !self.frames.is_empty()
+    }
+
+    /// Goes on outside of brackets.
+    pub(crate) fn begin(&mut self, part: ClausePart, before: usize)
+        ensures ok { (l : Outermost)
+            → length (reverse self.old.frames.items) ≡ 0 → part ≡ part_of l.part
+            → before ≡ length l.before → self.old.depth ≡ 0 → terms self.old.draft ≡ waiting l []
+            → IsState self.new (inside l [] nothing_pending wanted) }
+        ensures line { (draft_of self.new.draft).line ≡ (draft_of self.old.draft).line }
+    {
+        self.part = part;
+        self.before = before;
+        self.pending = NOTHING;
+        self.mode = Mode::Wanted;
+    }
+
+    /// Takes the `:-` behind a head.
+    fn take_neck(&mut self) -> Result<Next, Cause>
+        requires { IsFinished self.old }
+        ensures answer { (l : Outermost) (fs : List machine.Frame) (a : Written)
+            → Finished self.old l fs a
+            → Answered (machine.take_neck l fs a) false (words.name (codes ":-")) result self.new }
+        ensures line { (draft_of self.new.draft).line ≡ (draft_of self.old.draft).line }
+    {
+        if self.is_inside() {
+            return Err(Cause::Syntax);
+        }
+        match self.part {
+            ClausePart::Head => {
+                finish_pairs(&mut self.draft, b",", self.before)?;
+                self.begin(ClausePart::Body, 0);
+                Ok(Next::Inside)
+            }
+            ClausePart::Body | ClausePart::Query => Err(Cause::Syntax),
+        }
+    }
+
+    /// Takes a comma.
+    fn take_comma(&mut self) -> Result<Next, Cause>
+        ensures answer { (l : Outermost) (fs : List machine.Frame) (a : Written)
+            → Finished self.old l fs a
+            → Answered (machine.take_comma l fs a) (comma_exceeds fs) words.comma result self.new }
+        ensures line { (draft_of self.new.draft).line ≡ (draft_of self.old.draft).line }
+    {
+        let Some(frame) = self.frames.pop() else {
+            let Some(more) = self.before.checked_add(1) else {
+                return Err(Cause::Memory);
+            };
+            self.begin(self.part, more);
+            return Ok(Next::Inside);
+        };
+        let Frame {
+            bracket,
+            before,
+            outside,
+        } = frame;
+        let Some(before) = before.checked_add(1) else {
+            return Err(Cause::Memory);
+        };
+        check_comma(&bracket, before)?;
+        self.enter(Frame {
+            bracket,
+            before,
+            outside,
+        })?;
+        Ok(Next::Inside)
+    }
+
+    /// Takes a bar.
+    fn take_bar(&mut self) -> Result<Next, Cause>
+        ensures answer { (l : Outermost) (fs : List machine.Frame) (a : Written)
+            → Finished self.old l fs a
+            → Answered (machine.take_bar l fs a) false words.bar result self.new }
+        ensures line { (draft_of self.new.draft).line ≡ (draft_of self.old.draft).line }
+    {
+        let Some(frame) = self.frames.pop() else {
+            return Err(Cause::Syntax);
+        };
+        if !takes_bar(&frame.bracket) {
+            return Err(Cause::Syntax);
+        }
+        let Some(before) = frame.before.checked_add(1) else {
+            return Err(Cause::Memory);
+        };
+        self.enter(Frame {
+            bracket: Bracket::Tail,
+            before,
+            outside: frame.outside,
+        })?;
+        Ok(Next::Inside)
+    }
+
+    /// Goes on behind a bracket that closed, where that was pending before it.
+    fn leave(&mut self, outside: Pending<'a>)
+        requires { outside.minuses + 1 ≤ self.old.depth }
+        ensures ok { (l : Outermost) (fs : List machine.Frame) (f : machine.Frame) (w : Written)
+            → self.old.part ≡ part_of l.part → self.old.before ≡ length l.before
+            → AreFrames (reverse self.old.frames.items) fs → IsPending outside.entry f.outside
+            → self.old.depth ≡ depth (f ∷ fs) → depth (f ∷ fs) ≤ MAX_NESTING
+            → terms self.old.draft ≡ w ∷ with_lefts f.outside (waiting l fs)
+            → IsState self.new (inside l fs f.outside (operand w None)) }
+        ensures line { (draft_of self.new.draft).line ≡ (draft_of self.old.draft).line }
+    {
+        self.depth = self.depth - outside.minuses - 1;
+        self.pending = outside;
+        self.mode = Mode::Operand;
+    }
+
+    /// Takes a closing bracket.
+    fn take_close_bracket(&mut self) -> Result<Next, Cause>
+        requires { IsFinished self.old }
+        ensures answer { (l : Outermost) (fs : List machine.Frame) (a : Written)
+            → Finished self.old l fs a
+            → let x : words.Word = words.close_bracket in
+            Answered (machine.take_close_bracket l fs a) false x result self.new }
+        ensures line { (draft_of self.new.draft).line ≡ (draft_of self.old.draft).line }
+    {
+        let Some(frame) = self.frames.pop() else {
+            return Err(Cause::Syntax);
+        };
+        let Frame {
+            bracket,
+            before,
+            outside,
+        } = frame;
+        match bracket {
+            Bracket::Plain => {
+                finish_pairs(&mut self.draft, b",", before)?;
+                self.leave(outside);
+                Ok(Next::Inside)
+            }
+            Bracket::Arguments(name) => {
+                finish(&mut self.draft, name.bytes(), before as u8 + 1)?;
+                self.leave(outside);
+                Ok(Next::Inside)
+            }
+            Bracket::Elements | Bracket::Tail => Err(Cause::Syntax),
+        }
+    }
+
+    /// Closes a list behind its last term.
+    fn close_list(&mut self, before: usize, outside: Pending<'a>) -> Result<Next, Cause>
+        requires many { before < length (terms self.old.draft) }
+        requires opened { outside.minuses + 1 ≤ self.old.depth }
+        ensures answer { (l : Outermost) (fs : List machine.Frame) (f : machine.Frame) (a : Written)
+            → self.old.part ≡ part_of l.part → self.old.before ≡ length l.before
+            → AreFrames (reverse self.old.frames.items) fs → before ≡ length f.before
+            → IsPending outside.entry f.outside → self.old.depth ≡ depth (f ∷ fs)
+            → depth (f ∷ fs) ≤ MAX_NESTING → terms self.old.draft ≡ a ∷ waiting l (f ∷ fs)
+            → let s : machine.State = inside l fs f.outside (operand (list f.before a) None) in
+            Answered (Some s) false words.close_list result self.new }
+        ensures line { (draft_of self.new.draft).line ≡ (draft_of self.old.draft).line }
+    {
+        finish_pairs(&mut self.draft, b".", before)?;
+        self.leave(outside);
+        Ok(Next::Inside)
+    }
+
+    /// Takes the closing bracket of a list.
+    fn take_close_list(&mut self) -> Result<Next, Cause>
+        requires { IsFinished self.old }
+        ensures answer { (l : Outermost) (fs : List machine.Frame) (a : Written)
+            → Finished self.old l fs a
+            → Answered (machine.take_close_list l fs a) false words.close_list result self.new }
+        ensures line { (draft_of self.new.draft).line ≡ (draft_of self.old.draft).line }
+    {
+        let Some(frame) = self.frames.pop() else {
+            return Err(Cause::Syntax);
+        };
+        let Frame {
+            bracket,
+            before,
+            outside,
+        } = frame;
+        match bracket {
+            Bracket::Elements => {
+                finish(&mut self.draft, b"[]", 0)?;
+                finish(&mut self.draft, b".", 2)?;
+                self.close_list(before, outside)
+            }
+            Bracket::Tail => self.close_list(before, outside),
+            Bracket::Arguments(_name) => Err(Cause::Syntax),
+            Bracket::Plain => Err(Cause::Syntax),
+        }
+    }
+
+    /// Takes the end of a clause.
+    fn take_end(&mut self) -> Result<Next, Cause>
+        requires { IsFinished self.old }
+        ensures answer { (l : Outermost) (fs : List machine.Frame) (a : Written)
+            → Finished self.old l fs a
+            → Answered (machine.take_end l fs a) false words.end result self.new }
+        ensures line { (draft_of self.new.draft).line ≡ (draft_of self.old.draft).line }
+    {
+        if self.is_inside() {
+            return Err(Cause::Syntax);
+        }
+        finish_pairs(&mut self.draft, b",", self.before)?;
+        match self.part {
+            ClausePart::Head => Ok(Next::Clause),
+            ClausePart::Body => {
+                finish(&mut self.draft, b":-", 2)?;
+                Ok(Next::Clause)
+            }
+            ClausePart::Query => {
+                finish(&mut self.draft, b"?-", 1)?;
+                Ok(Next::Query)
+            }
+        }
+    }
+
+    /// Takes a name or symbol.
+    fn take_name(&mut self, name: &'a [u8]) -> Result<Next, Cause>
+        requires { IsBehind self.old }
+        ensures answer { (l : Outermost) (fs : List machine.Frame) (p : machine.Pending)
+            → (w : Written)
+            → Stands self.old l fs p (w ∷ [])
+            → let c = name.now in
+            Answered (machine.take_name l fs p w c (role c)) false (words.name c) result self.new }
+        ensures line { (draft_of self.new.draft).line ≡ (draft_of self.old.draft).line }
+    {
+        if is_product(name) {
+            self.take_product(name)?;
+            Ok(Next::Inside)
+        } else if is_sum(name) {
+            self.take_sum(name)?;
+            Ok(Next::Inside)
+        } else if is_relation(name) {
+            self.take_relation(name)
+        } else if is_neck(name) {
+            self.finish_pending()?;
+            self.take_neck()
+        } else {
+            Err(Cause::Syntax)
+        }
+    }
+
+    /// Takes a word behind an operand.
+    pub(crate) fn take_operator(&mut self, word: Word<'a>) -> Result<Next, Cause>
+        requires { IsBehind self.old }
+        ensures answer { (l : Outermost) (fs : List machine.Frame) (p : machine.Pending)
+            → (w : Written)
+            → Stands self.old l fs p (w ∷ []) → let x : words.Word = word_of word.entry in
+            Answered (machine.take_operator l fs p w None x) (operator_exceeds fs p x) x result
+            self.new }
+        ensures line { (draft_of self.new.draft).line ≡ (draft_of self.old.draft).line }
+    {
+        match word {
+            Word::Name(name) => self.take_name(name),
+            Word::Minus(_) => {
+                self.take_sum(b"-")?;
+                Ok(Next::Inside)
+            }
+            Word::CloseBracket => {
+                self.finish_pending()?;
+                self.take_close_bracket()
+            }
+            Word::CloseList => {
+                self.finish_pending()?;
+                self.take_close_list()
+            }
+            Word::Comma => {
+                self.finish_pending()?;
+                self.take_comma()
+            }
+            Word::Bar => {
+                self.finish_pending()?;
+                self.take_bar()
+            }
+            Word::End => {
+                self.finish_pending()?;
+                self.take_end()
+            }
+            Word::Quoted(_text) => Err(Cause::Syntax),
+            Word::Variable(_) | Word::Integer(_) | Word::OpenBracket { .. } | Word::OpenList => {
+                Err(Cause::Syntax)
+            }
+        }
+    }
+
+    // All words.
 
     /// Takes the first word.
     fn take_start(&mut self, word: Word<'a>) -> Result<Next, Cause>
@@ -92,7 +664,7 @@ impl<'a> Parser<'a> {
     {
         match start_of(&word) {
             First::Query => {
-                self.begin(Part::Query, 0);
+                self.begin(ClausePart::Query, 0);
                 Ok(Next::Inside)
             }
             First::Directive => Err(Cause::NotPure),
@@ -103,9 +675,9 @@ impl<'a> Parser<'a> {
     /// Takes the first word behind the bracket of a list.
     fn take_first(&mut self, word: Word<'a>) -> Result<Next, Cause>
         requires { (l : Outermost) × (fs : List machine.Frame) × (p : machine.Pending)
-            × (p.minuses + depth fs < 256) × Stands self.old l fs p [] }
+            × (p.minuses + depth fs < MAX_NESTING) × Stands self.old l fs p [] }
         ensures answer { (l : Outermost) (fs : List machine.Frame) (p : machine.Pending)
-            → p.minuses + depth fs < 256 → Stands self.old l fs p []
+            → p.minuses + depth fs < MAX_NESTING → Stands self.old l fs p []
             → Answers (opened_list l fs p) (word_of word.entry) result self.new }
         ensures line { (draft_of self.new.draft).line ≡ (draft_of self.old.draft).line }
     {
@@ -157,4 +729,15 @@ impl<'a> Parser<'a> {
             Mode::Atom(name) => self.take_behind(name, word),
         }
     }
+}
+
+/// The number with a minus before it.
+fn negative(value: u64) -> i64
+    requires { value ≤ 9223372036854775808 }
+    ensures { result ≡ neg_ℤ (pos value) }
+{
+    if value > LARGEST {
+        return i64::MIN;
+    }
+    0 - value as i64
 }

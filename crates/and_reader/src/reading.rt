@@ -3,30 +3,30 @@
 ghost use Rattle.std.specs.Prelude.{◌≡◌, ◌≤◌, ◌<◌, ◌-◌, ◌^◌, ℕ, List, [], length, Some, None};
 ghost use Rattle.std.specs.Prelude.{IsTrue, IfOk, OnOk, IfErr, IfSome};
 ghost use Rattle.and_model.specs.Lines.{Bytes};
-ghost use Rattle.and_texts.specs.Tokens.{line_at, Answer, no_more};
-ghost use Rattle.and_texts.specs.Words.{Placed};
-ghost use Rattle.and_texts.specs.Grammar.{Statement};
-ghost use Rattle.and_texts.specs.Refusals.{Reads, IsRefused, HasWords, statement_fault};
+ghost use Rattle.and_language.specs.Tokens.{line_at, Answer, no_more};
+ghost use Rattle.and_language.specs.Words.{Placed};
+ghost use Rattle.and_language.specs.Grammar.{Statement};
+ghost use Rattle.and_language.specs.Refusals.{Reads, IsRefused, HasWords, statement_fault};
 ghost use Rattle.and_clauses.specs.Drafts.{draft_of};
 ghost use Rattle.and_clauses.specs.Views.{table_of, is_query as asks};
-ghost use Rattle.and_clauses.specs.Loaded.{program_of};
+ghost use Rattle.and_program.specs.Loaded.{program_of};
 ghost use Rattle.and_clauses.specs.Faults.{fault_of};
 ghost use Rattle.and_reader.specs.Views.{word_of as word_shown};
 ghost use Rattle.and_reader.specs.Standing.{IsFit};
 ghost use Rattle.and_reader.specs.Causes.{refusal_of};
 ghost use Rattle.and_reader.specs.Reading.{IsRead, IsReadBefore, with_word};
 ghost use Rattle.and_reader.specs.Reading.{IsDraftOf, IsAdded, IsFaultOf};
+ghost use Rattle.and_model.specs.declared.limits.TheConstants.{MAX_BYTES};
 
 use crate::lines::{Cursor, line_at};
+use crate::parser::Parser;
 use crate::refusal::{Cause, ReadRefusal, fault_refusal, seal_refusal, table_cause};
-use crate::state::{Next, Parser};
+use crate::state::Next;
 use crate::words::{Word, word_of};
 use and_clauses::{ClauseDraft, ClauseTable, Loaded, TableFault, What};
 use and_lex::Lexer;
+use and_model::limits::MAX_BYTES;
 use std::alloc::Global;
-
-/// How many bytes a text may have.
-const MAX_BYTES: usize = 1_048_576;
 
 /// A text that is read word by word.
 #[derive(Drop)]
@@ -143,7 +143,7 @@ impl<'a> Reader<'a> {
         requires fits { IsFit (word_shown word) }
         requires before { self.old.cursor.place ≤ place }
         requires within { place ≤ length self.old.bytes.now }
-        requires few { length self.old.bytes.now ≤ 1048576 }
+        requires few { length self.old.bytes.now ≤ MAX_BYTES }
         ensures taken { (bytes : Bytes) (words : List Placed)
             → IsRead bytes self.old words
             → OnOk result (IsRead bytes self.new
@@ -170,7 +170,7 @@ impl<'a> Reader<'a> {
     fn read(&mut self) -> Result<(), ReadRefusal>
         requires read { (bytes : Bytes) × IsRead bytes self.old [] }
         requires first { self.old.cursor.place ≡ 0 }
-        requires few { length self.old.bytes.now ≤ 1048576 }
+        requires few { length self.old.bytes.now ≤ MAX_BYTES }
         ensures read { OnOk result ((words : List Placed)
             × HasWords self.old.bytes.now words no_more
             × IsRead self.old.bytes.now self.new words) }

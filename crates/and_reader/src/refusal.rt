@@ -2,8 +2,8 @@
 
 ghost use Rattle.std.specs.Prelude.{◌≡◌, ◌<◌, ◌^◌, ◌-◌, ◌++◌, length, Some, IsSome, IfOk, IfSome, OnOk, is_none, codes};
 ghost use Rattle.std.specs.Option.{option_map};
-ghost use Rattle.and_texts.specs.Refusals.{fault_at};
-ghost use Rattle.and_texts.specs.Refusals.{cause_of as cause_of_fault};
+ghost use Rattle.and_language.specs.Refusals.{fault_at};
+ghost use Rattle.and_language.specs.Refusals.{cause_of as cause_of_fault};
 ghost use Rattle.and_clauses.specs.Faults.{what_of};
 ghost use Rattle.and_clauses.specs.Faults.{fault_of as fault_of_table};
 ghost use Rattle.and_lex.specs.Views.{fault_of};
@@ -14,7 +14,7 @@ use crate::lines::line_at;
 use and_clauses::{SealFault, TableFault, What};
 use and_lex::LexFault;
 use and_model::Text;
-use and_names::write_name;
+use and_quoting::write_name;
 use itoa::Buffer;
 use std::alloc::{AllocError, Global};
 
@@ -40,6 +40,16 @@ pub enum Cause {
     SecondQuery,
     /// Want of memory. It says nothing of the text.
     Memory,
+}
+
+impl From<AllocError> for Cause {
+    ghost use Rattle.and_reader.specs.declared.refusal.Cause.TheVariants.{Memory};
+
+    ghost from_gives = { λ _ cause. cause ≡ Memory };
+
+    fn from(_error: AllocError) -> Cause {
+        Cause::Memory
+    }
 }
 
 /// A cause, and the line that it stands on, from 1 on.

@@ -1,7 +1,13 @@
 //! What is read of a clause before its end.
 
+ghost use Rattle.std.specs.Prelude.{◌≡◌, OnOk, IfErr};
+ghost use Rattle.and_reader.specs.Standing.{bracket_of, IsNarrow};
+ghost use Rattle.and_reader.specs.Answered.{IsCommaFault, TakesComma, takes_bar};
+
+use crate::refusal::Cause;
 use crate::words::Name;
-use and_clauses::ClauseDraft;
+use and_clauses::What;
+use and_model::limits::MAX_ARGUMENTS;
 
 /// What waits for its operand since the last bracket, comma or bar: at most one operator of each
 /// priority, and prefix minuses. The left operands are among the draft's finished terms.
@@ -43,7 +49,7 @@ pub(crate) struct Frame<'a> {
 /// The part of a clause: its head (or all of a fact), the body behind that head, or the body of a
 /// query.
 #[derive(Clone, Copy, PartialEq, Eq)]
-pub(crate) enum Part {
+pub(crate) enum ClausePart {
     Head,
     Body,
     Query,
@@ -78,17 +84,29 @@ pub(crate) enum Next {
     Query,
 }
 
-/// A clause that is read word by word.
-#[derive(Drop)]
-pub(crate) struct Parser<'a> {
-    pub draft: ClauseDraft,
-    pub part: Part,
-    /// How many terms stand before the last comma outside of brackets.
-    pub before: usize,
-    /// The open brackets, the innermost last.
-    pub frames: Vec<Frame<'a>>,
-    pub pending: Pending<'a>,
-    pub mode: Mode<'a>,
-    /// How many brackets, and prefix minuses before them, are open.
-    pub depth: u32,
+/// Why no comma may stand in a bracket, where so many arguments or elements are before it.
+pub(crate) fn check_comma(bracket: &Bracket, more: usize) -> Result<(), Cause>
+    ensures ok { let b = bracket_of bracket.now in OnOk result (TakesComma b × IsNarrow b more) }
+    ensures err { IfErr result (λ c. IsCommaFault (bracket_of bracket.now) more c) }
+{
+    match bracket {
+        Bracket::Plain | Bracket::Elements => Ok(()),
+        Bracket::Arguments(_) => {
+            if more >= MAX_ARGUMENTS {
+                return Err(Cause::TooBig(What::Arguments));
+            }
+            Ok(())
+        }
+        Bracket::Tail => Err(Cause::Syntax),
+    }
+}
+
+/// Whether a bar may stand in a bracket.
+pub(crate) fn takes_bar(bracket: &Bracket) -> bool
+    ensures { result ≡ takes_bar (bracket_of bracket.now) }
+{
+    match bracket {
+        Bracket::Elements => true,
+        Bracket::Plain | Bracket::Arguments(_) | Bracket::Tail => false,
+    }
 }

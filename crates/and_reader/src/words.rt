@@ -2,15 +2,16 @@
 
 ghost use Rattle.std.specs.Prelude.{◌≡◌, ◌≤◌, ℕ, length, [], IfOk, Ok, Some, codes};
 ghost use Rattle.std.specs.Str.{bytes_eq};
-ghost use Rattle.and_texts.specs.Words.{is_one_of, products, sums, relations, is_operator};
-ghost use Rattle.and_texts.specs.Words.{bytes_of, before_kind, before, IsWord};
-ghost use Rattle.and_texts.specs.Tokens.{Comes, one, symbol as symbol_kind};
-ghost use Rattle.and_texts.specs.Tokens;
+ghost use Rattle.and_language.specs.Words.{is_one_of, products, sums, relations, is_operator};
+ghost use Rattle.and_language.specs.Words.{bytes_of, before_kind, before, IsWord};
+ghost use Rattle.and_language.specs.Tokens.{Comes, one, symbol as symbol_kind};
+ghost use Rattle.and_language.specs.Tokens;
 ghost use Rattle.and_lex.specs.Views.{token_of, kind_of, answer_of};
-ghost use Rattle.and_parsing.specs.Machine.{is_reserved};
+ghost use Rattle.and_automaton.specs.Machine.{is_reserved, closes_list};
 ghost use Rattle.and_reader.specs.Views.{name_of, word_of};
 ghost use Rattle.and_reader.specs.Seen.{seen_of, IsWithin};
 ghost use Rattle.and_reader.specs.Standing.{IsFit};
+ghost use Rattle.and_reader.specs.Answered.{first_of, is_functor_bracket};
 
 use and_lex::{Kind, LexFault, Token, quoted_text};
 use and_model::Text;
@@ -221,4 +222,54 @@ pub(crate) fn word_of<'a>(
         Kind::Bar => Ok(Word::Bar),
         Kind::End => Ok(Word::End),
     }
+}
+
+/// What the first word of a clause begins.
+#[derive(Clone, Copy)]
+pub(crate) enum First {
+    Query,
+    Directive,
+    Other,
+}
+
+/// What a first word begins.
+pub(crate) fn start_of(word: &Word) -> First
+    ensures { result ≡ first_of (word_of word.now) }
+{
+    match word {
+        Word::Name(name) => {
+            if is_query(name) {
+                First::Query
+            } else if is_neck(name) {
+                First::Directive
+            } else {
+                First::Other
+            }
+        }
+        Word::Variable(_)
+        | Word::Integer(_)
+        | Word::Quoted(_)
+        | Word::Minus(_)
+        | Word::OpenBracket { .. }
+        | Word::CloseBracket
+        | Word::OpenList
+        | Word::CloseList
+        | Word::Comma
+        | Word::Bar
+        | Word::End => First::Other,
+    }
+}
+
+/// Whether the word closes a list.
+pub(crate) fn closes_list(word: &Word) -> bool
+    ensures { result ≡ closes_list (word_of word.now) }
+{
+    matches!(word, Word::CloseList)
+}
+
+/// Whether the word is a bracket right behind the word before it.
+pub(crate) fn is_behind(word: &Word) -> bool
+    ensures { result ≡ is_functor_bracket (word_of word.now) }
+{
+    matches!(word, Word::OpenBracket { behind: true })
 }

@@ -1,6 +1,6 @@
 use Rattle.std.proofs.Common.{◌≡◌, ◌+◌, drop}
 use Rattle.std.specs.List.{prefix_len}
-use Rattle.and_texts.specs.Tokens.{is_digit}
+use Rattle.and_language.specs.Tokens.{is_digit}
 use Rattle.and_lex.proofs.classes.digits_len.Given as goal
 
 abbrev pub invariant-loop-index : goal.invariant-loop-index

@@ -1,6 +1,6 @@
 use Rattle.std.proofs.Common.{◌<◌, arith}
 use Rattle.std.proofs.lemmas.Bool.Decides.{nat_tests}
-use Rattle.and_texts.specs.Tokens.{number_of}
+use Rattle.and_language.specs.Tokens.{number_of}
 use Rattle.and_lex.proofs.Numbers.{number_large}
 use Rattle.and_lex.proofs.found.number.Goals as goal
 

@@ -1,5 +1,5 @@
 use Rattle.std.proofs.Common.{◌≡◌, ◌≤◌, drop}
-use Rattle.and_texts.specs.Tokens.{number_behind}
+use Rattle.and_language.specs.Tokens.{number_behind}
 use Rattle.and_lex.proofs.found.number.Given as goal
 
 abbrev pub invariant-loop-digit : goal.invariant-loop-digit

@@ -1,6 +1,6 @@
 use Rattle.std.proofs.Common.{arith, drop, sym, ap, ◌∙◌}
 use Rattle.std.proofs.lemmas.List.{take_rest}
-use Rattle.and_texts.specs.Tokens.{nothing}
+use Rattle.and_language.specs.Tokens.{nothing}
 use Rattle.and_lex.specs.Scanning.{piece_len}
 use Rattle.and_lex.proofs.Separators.{gap_more, separated_where_none}
 use Rattle.and_lex.proofs.gaps.gap_len.Goals as goal

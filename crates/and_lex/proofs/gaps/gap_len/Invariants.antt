@@ -1,5 +1,5 @@
 use Rattle.std.proofs.Common.{◌≤◌, ◌-◌, length, take, drop}
-use Rattle.and_texts.specs.Tokens.{Separates}
+use Rattle.and_language.specs.Tokens.{Separates}
 use Rattle.and_lex.proofs.gaps.gap_len.Given as goal
 
 abbrev pub invariant-loop-gap : goal.invariant-loop-gap

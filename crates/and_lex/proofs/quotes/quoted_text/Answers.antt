@@ -1,5 +1,5 @@
 use Rattle.std.proofs.Common.{ap, sym, subst, ◌∙◌, ◌≡◌}
-use Rattle.and_texts.specs.Tokens.{Names}
+use Rattle.and_language.specs.Tokens.{Names}
 use Rattle.and_lex.specs.Quoting.{text_between}
 use Rattle.and_lex.proofs.Quoted.{names_text, text_done, inner_bytes}
 use Rattle.and_lex.proofs.quotes.quoted_text.Goals as goal

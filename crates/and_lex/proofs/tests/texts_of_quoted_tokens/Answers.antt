@@ -1,5 +1,5 @@
 use Rattle.std.proofs.Common.{refl, []}
-use Rattle.and_texts.specs.Tokens.{nothing, plain, doubled_quote, escaped_backslash, escaped_newline}
+use Rattle.and_language.specs.Tokens.{nothing, plain, doubled_quote, escaped_backslash, escaped_newline}
 use Rattle.and_lex.proofs.tests.texts_of_quoted_tokens.Goals as goal
 
 pub quoted_text-requires : goal.quoted_text-requires

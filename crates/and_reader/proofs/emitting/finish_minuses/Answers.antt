@@ -1,6 +1,6 @@
 use Rattle.std.proofs.Common.{[], ◌∷◌, length, refl, ap, ◌∙◌, arith}
-use Rattle.and_written.specs.Written.{Written}
-use Rattle.and_parsing.specs.Machine.{negated}
+use Rattle.and_syntax.specs.Written.{Written}
+use Rattle.and_automaton.specs.Machine.{negated}
 use Rattle.and_reader.specs.Standing.{terms}
 use Rattle.and_reader.proofs.TermLemmas.{one_first, negated_out}
 use Rattle.and_reader.proofs.emitting.finish_minuses.Goals as goal

@@ -1,5 +1,5 @@
 use Rattle.std.proofs.Common.{◌≡◌, ◌+◌, List, ◌∷◌, ◌++◌, length}
-use Rattle.and_written.specs.Written.{Written}
+use Rattle.and_syntax.specs.Written.{Written}
 use Rattle.and_clauses.specs.Drafts.{draft_of}
 use Rattle.and_reader.specs.Standing.{terms}
 use Rattle.and_reader.specs.Answered.{paired}

@@ -1,5 +1,5 @@
 use Rattle.std.proofs.Common.{ℕ, ◌∷◌, ap, ◌∙◌}
-use Rattle.and_parsing.specs.Machine.{negated, at200}
+use Rattle.and_automaton.specs.Machine.{negated, at200}
 use Rattle.and_reader.specs.Standing.{with_left, with_lefts}
 use Rattle.and_reader.proofs.emitting.finish_product.Goals as goal
 

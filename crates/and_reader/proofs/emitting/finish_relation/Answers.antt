@@ -1,4 +1,4 @@
-use Rattle.and_parsing.specs.Machine.{at500}
+use Rattle.and_automaton.specs.Machine.{at500}
 use Rattle.and_reader.proofs.emitting.finish_relation.Goals as goal
 
 pub finish_infix-requires : goal.finish_infix-requires

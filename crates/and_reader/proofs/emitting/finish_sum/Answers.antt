@@ -1,4 +1,4 @@
-use Rattle.and_parsing.specs.Machine.{at400}
+use Rattle.and_automaton.specs.Machine.{at400}
 use Rattle.and_reader.specs.Standing.{with_left}
 use Rattle.and_reader.proofs.emitting.finish_sum.Goals as goal
 

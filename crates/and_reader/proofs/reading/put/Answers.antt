@@ -1,7 +1,7 @@
 use Rattle.std.proofs.Common.{◌≡◌, Bool, Some, sym, ◌∙◌, subst}
 use Rattle.std.specs.Option.{IfSome}
 use Rattle.std.specs.Result.{IfErr}
-use Rattle.and_texts.specs.Refusals.{statement_fault}
+use Rattle.and_language.specs.Refusals.{statement_fault}
 use Rattle.and_clauses.specs.Views.{table_of}
 use Rattle.and_clauses.specs.Faults.{fault_of}
 use Rattle.and_reader.proofs.reading.put.Goals as goal

@@ -1,7 +1,7 @@
 use Rattle.std.proofs.Common.{◌∙◌, sym, refl, arith, subst, ℕ, None}
-use Rattle.and_texts.specs.Refusals
-use Rattle.and_texts.specs.Refusals.{Refusal, IsRefused, too_long}
-use Rattle.and_written.specs.Tables.{source}
+use Rattle.and_language.specs.Refusals
+use Rattle.and_language.specs.Refusals.{Refusal, IsRefused, too_long}
+use Rattle.and_syntax.specs.Tables.{source}
 use Rattle.and_reader.specs.Causes.{refusal_of}
 use Rattle.and_reader.proofs.Ending.{read_nothing, unended_text, whole_text, sealed_text}
 use Rattle.and_reader.proofs.reading.read_program.Goals as goal

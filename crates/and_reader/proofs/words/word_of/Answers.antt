@@ -1,5 +1,5 @@
 use Rattle.std.proofs.Common.{ap}
-use Rattle.and_texts.specs.Words.{variable_token, integer_token, name_token, quoted_token, open_bracket_token, close_bracket_token, open_list_token, close_list_token, comma_token, bar_token, end_token}
+use Rattle.and_language.specs.Words.{variable_token, integer_token, name_token, quoted_token, open_bracket_token, close_bracket_token, open_list_token, close_list_token, comma_token, bar_token, end_token}
 use Rattle.and_lex.specs.Views.{kind_of, token_of}
 use Rattle.and_reader.proofs.WordLemmas.{of_kind, quoted_text, small_integer}
 use Rattle.and_reader.proofs.words.word_of.Goals as goal

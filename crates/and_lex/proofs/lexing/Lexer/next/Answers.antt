@@ -1,6 +1,6 @@
 use Rattle.std.proofs.Common.{subst, Ok}
 use Rattle.std.proofs.lemmas.Result.{err_from_is_err_and}
-use Rattle.and_texts.specs.Tokens.{Comes, none_for}
+use Rattle.and_language.specs.Tokens.{Comes, none_for}
 use Rattle.and_lex.specs.Reading.{Reading}
 use Rattle.and_lex.specs.Views.{answer_of, fault_of}
 use Rattle.and_lex.proofs.Soundness.{comes_next}

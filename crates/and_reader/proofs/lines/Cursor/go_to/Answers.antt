@@ -1,5 +1,5 @@
 use Rattle.std.proofs.Common.{◌≡◌, ◌+◌, ap, arith}
-use Rattle.and_texts.specs.Tokens.{line_at}
+use Rattle.and_language.specs.Tokens.{line_at}
 use Rattle.and_reader.specs.declared.lines.Cursor.{Cursor}
 use Rattle.and_reader.proofs.LineLemmas.{line_at-on, newlines-le}
 use Rattle.std.proofs.Common.{take}

@@ -1,14 +1,15 @@
 use Rattle.std.proofs.Common.{◌≡◌, ◌∙◌, ap, sym, arith, subst, [], Option, Some, Result, Ok}
 use Rattle.std.specs.Option.{IfSome}
 use Rattle.std.proofs.lemmas.Result.{err_from_is_err_and}
-use Rattle.and_texts.specs.Refusals.{Refusal, IsRefused}
+use Rattle.and_language.specs.Refusals.{Refusal, IsRefused}
 use Rattle.and_lex.specs.declared.tokens.Token.{Token}
 use Rattle.and_lex.specs.declared.tokens.LexFault.{LexFault}
 use Rattle.and_reader.specs.Views.{word_of}
 use Rattle.and_model.specs.Lines.{Bytes}
 use Rattle.and_lex.specs.Views.{answer_of, token_of, fault_of}
 use Rattle.and_reader.specs.Reading.{IsRead}
-use Rattle.and_reader.proofs.ReadingLemmas.{no_words, more_words, fault_refused}
+use Rattle.and_reader.proofs.Spelling.{no_words, more_words, comes_behind}
+use Rattle.and_reader.proofs.ReadingLemmas.{fault_refused}
 use Rattle.and_reader.proofs.Going.{IsGoing, comes_at, next_is, going_more}
 use Rattle.and_reader.proofs.reading.Reader.read.Goals as goal
 
@@ -23,6 +24,13 @@ reading-init c =
       text = c.next-next.ensures.text ∙ c.new-lexer.ensures.text;
       next_there = next_is bytes c.new-lexer.result.text c.args.self.now.cursor.place c.new-lexer.result.place c.next-next.new.self.place c.next-next.result c.new-lexer.ensures.text (omega (arith, c.requires.first)) c.next-next.ensures.within c.next-next.ensures.read;
     }
+
+pub word_of-requires-clause-comes : goal.word_of-requires-clause-comes
+word_of-requires-clause-comes c =
+    let bytes : Bytes = c.args.self.now.bytes.now in
+    let is : c.reading.next ≡ Ok (Some c.in-Ok-Some.token) = c.in-Ok-Some.is ∙ ap (λ o. Ok o) (rw c.in-Ok-Some.is at c.in-Ok-Some.field-0-is) in
+    let G : Result (Option Token) LexFault → Type 0 = λ n. IsGoing bytes c.reading.self c.reading.lexer n in
+    comes_behind bytes (subst G is c.reading.invariant).spelled.1
 
 pub returns-in_err-take-in-Ok-Some-clause-refused : goal.returns-in_err-take-in-Ok-Some-clause-refused
 returns-in_err-take-in-Ok-Some-clause-refused c =

@@ -1,8 +1,8 @@
 use Rattle.std.proofs.Common.{IsTrue, ◌≤◌, true, false, ◌∙◌, ap, sym, refl, arith, length, subst}
 use Rattle.std.specs.Option.{IfSome}
-use Rattle.and_texts.specs.Tokens.{line_at}
-use Rattle.and_texts.specs.Grammar.{Statement}
-use Rattle.and_texts.specs.Refusals.{Refusal, IsRefused}
+use Rattle.and_language.specs.Tokens.{line_at}
+use Rattle.and_language.specs.Grammar.{Statement}
+use Rattle.and_language.specs.Refusals.{Refusal, IsRefused}
 use Rattle.and_clauses.specs.Views.{table_of, is_query}
 use Rattle.and_reader.specs.declared.refusal.ReadRefusal.{ReadRefusal}
 use Rattle.and_reader.specs.Causes.{cause_of, refusal_of, refusal_with}
@@ -10,9 +10,11 @@ use Rattle.and_reader.specs.Reading.{first_place, IsFaultOf}
 use Rattle.and_model.specs.Lines.{Bytes}
 use Rattle.and_reader.specs.Views.{word_of}
 use Rattle.and_reader.specs.declared.state.Next.TheVariants.{Inside, Clause, Query}
+use Rattle.and_reader.proofs.TermLemmas.{on_ok}
 use Rattle.and_reader.proofs.ReadingLemmas.{read_more, read_over, clause_refused, word_refused}
-use Rattle.and_reader.proofs.Told.{answer_told, ok_told, refusal_told}
+use Rattle.and_reader.proofs.Told.{answer_told, refusal_told}
 use Rattle.and_reader.proofs.reading.Reader.take.Goals as goal
+use Rattle.and_model.specs.declared.limits.TheConstants.{MAX_BYTES}
 
 pub take-requires-clause-stands : goal.take-requires-clause-stands
 take-requires-clause-stands c = let h = c.begin-begun.ensures.begun c.requires.read.0 c.requires.read.1 c.requires.read.2 in (h.rest.state, h.rest.stands)
@@ -52,7 +54,7 @@ returns-in-Ok-Clause-clause-taken c = λ bytes words r.
     let a = answer_told h.rest.state (word_of c.args.word) c.take.new.self c.in-Ok-Clause.field-0 Clause c.in-Ok-Clause.field-0-is (c.in-Ok-Clause.ensures.answer h.rest.state h.rest.stands) in
     let s : Statement = record { is_query = false; term = a.0; place = first_place h.begun c.args.place } in
     let drafted = c.in-Ok-Clause.ensures.line ∙ (h.rest.drafted ∙ h.rest.line) in
-    ok_told c.finish.result
+    on_ok c.finish.result
     (λ f. read_over bytes c.args.place c.begin-begun.new.self c.finish.new.self c.begin-begun.result words (word_of c.args.word) false a.0 h a.1 c.finish.ensures.text c.finish.ensures.cursor (c.finish.ensures.clause ∙ c.begin-begun.ensures.moved) f.0 f.1)
     (c.finish.ensures.added bytes s (record { kind = refl; term = a.2; line = drafted }))
 
@@ -63,7 +65,7 @@ returns-in-Ok-Clause-clause-refused c = λ bytes words next r w.
     let s : Statement = record { is_query = false; term = a.0; place = first_place h.begun c.args.place } in
     let drafted = c.in-Ok-Clause.ensures.line ∙ (h.rest.drafted ∙ h.rest.line) in
     let P : Refusal → Type 0 = IsRefused bytes in
-    let small : length bytes ≤ 1048576 = omega (arith, ap length r.text, c.requires.few) in
+    let small : length bytes ≤ MAX_BYTES = omega (arith, ap length r.text, c.requires.few) in
     refusal_told (IsFaultOf bytes (table_of c.begin-begun.new.self.table) s) P c.finish.result
     (λ x f. subst P (sym f.2) (clause_refused bytes c.args.place c.begin-begun.new.self c.begin-begun.result words (word_of c.args.word) next false a.0 h a.1 small w f.0 f.1))
     (c.finish.ensures.refused bytes s (record { kind = refl; term = a.2; line = drafted }) h.rest.line)
@@ -74,7 +76,7 @@ returns-in-Ok-Query-clause-taken c = λ bytes words r.
     let a = answer_told h.rest.state (word_of c.args.word) c.take.new.self c.in-Ok-Query.field-0 Query c.in-Ok-Query.field-0-is (c.in-Ok-Query.ensures.answer h.rest.state h.rest.stands) in
     let s : Statement = record { is_query = true; term = a.0; place = first_place h.begun c.args.place } in
     let drafted = c.in-Ok-Query.ensures.line ∙ (h.rest.drafted ∙ h.rest.line) in
-    ok_told c.finish-in-Ok-Query.result
+    on_ok c.finish-in-Ok-Query.result
     (λ f. read_over bytes c.args.place c.begin-begun.new.self c.finish-in-Ok-Query.new.self c.begin-begun.result words (word_of c.args.word) true a.0 h a.1 c.finish-in-Ok-Query.ensures.text c.finish-in-Ok-Query.ensures.cursor (c.finish-in-Ok-Query.ensures.clause ∙ c.begin-begun.ensures.moved) f.0 f.1)
     (c.finish-in-Ok-Query.ensures.added bytes s (record { kind = refl; term = a.2; line = drafted }))
 
@@ -85,7 +87,7 @@ returns-in-Ok-Query-clause-refused c = λ bytes words next r w.
     let s : Statement = record { is_query = true; term = a.0; place = first_place h.begun c.args.place } in
     let drafted = c.in-Ok-Query.ensures.line ∙ (h.rest.drafted ∙ h.rest.line) in
     let P : Refusal → Type 0 = IsRefused bytes in
-    let small : length bytes ≤ 1048576 = omega (arith, ap length r.text, c.requires.few) in
+    let small : length bytes ≤ MAX_BYTES = omega (arith, ap length r.text, c.requires.few) in
     refusal_told (IsFaultOf bytes (table_of c.begin-begun.new.self.table) s) P c.finish-in-Ok-Query.result
     (λ x f. subst P (sym f.2) (clause_refused bytes c.args.place c.begin-begun.new.self c.begin-begun.result words (word_of c.args.word) next true a.0 h a.1 small w f.0 f.1))
     (c.finish-in-Ok-Query.ensures.refused bytes s (record { kind = refl; term = a.2; line = drafted }) h.rest.line)
@@ -94,7 +96,7 @@ pub returns-in-Err-clause-refused : goal.returns-in-Err-clause-refused
 returns-in-Err-clause-refused c = λ bytes words next r w.
     let h = c.begin-begun.ensures.begun bytes words r in
     let a = c.in-Err.ensures.answer h.rest.state h.rest.stands in
-    let small : length bytes ≤ 1048576 = omega (arith, ap length r.text, c.requires.few) in
+    let small : length bytes ≤ MAX_BYTES = omega (arith, ap length r.text, c.requires.few) in
     let told = word_refused bytes c.args.place c.begin-begun.new.self c.begin-begun.result words (word_of c.args.word) next h c.in-Err.cause a small w in
     let P : ReadRefusal → Type 0 = λ e. IfSome (refusal_of e) (IsRefused bytes) in
     let Q : Bytes → Type 0 = λ bs. IfSome (refusal_with (line_at bs c.args.place) (cause_of c.in-Err.cause)) (IsRefused bytes) in

@@ -1,4 +1,0 @@
-pub mod Valid
-pub mod Coming
-pub mod Worded
-pub mod Judged

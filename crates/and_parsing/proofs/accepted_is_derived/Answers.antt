@@ -1,9 +1,0 @@
-use Rattle.and_parsing.proofs.Accepted.{clause_accepted}
-use Rattle.and_parsing.proofs.Texts.{text_accepted}
-use Rattle.and_parsing.proofs.accepted_is_derived.Goals as goal
-
-pub returns-clause-clause : goal.returns-clause-clause
-returns-clause-clause c = clause_accepted
-
-pub returns-clause-text : goal.returns-clause-text
-returns-clause-text c = text_accepted

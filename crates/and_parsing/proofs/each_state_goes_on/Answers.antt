@@ -1,5 +1,0 @@
-use Rattle.and_parsing.proofs.Closing.{state_ends}
-use Rattle.and_parsing.proofs.each_state_goes_on.Goals as goal
-
-pub returns : goal.returns
-returns c = state_ends
