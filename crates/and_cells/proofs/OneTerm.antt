@@ -3,7 +3,7 @@ use Rattle.std.proofs.Common.{ℕ, ◌≡◌, ◌+◌, List, refl, sym, ap, subs
 use Rattle.std.specs.Prelude.{Contains}
 use Rattle.std.proofs.lemmas.List.Elements.{Contains-append_left, Contains-append_right}
 use Rattle.and_model.specs.Terms.{Path, Term, Terms, Substitution, variable, number, compound, none, more, apply, apply_all, variables_of, variables_in}
-use Rattle.and_written.specs.Skeletons.{node_term}
+use Rattle.and_program.specs.Skeletons.{node_term}
 use Rattle.and_model.specs.declared.reference.Ref.{Ref}
 use Rattle.and_model.specs.declared.reference.Ref.TheVariants.{Free, Cell, Node, Number, Half}
 use Rattle.and_cells.specs.Ranges.{NamedProgram}
@@ -12,12 +12,13 @@ use Rattle.and_cells.specs.Meaning.{StandsFor, unbound, bound, structure, intege
 
 -- two substitutions that agree on the variables of a term make the same of it
 mutual
-  apply_agree : (s z : Substitution) (t : Term) → ((v : Path × ℕ) → Contains (variables_of t) v → s v.0 v.1 ≡ z v.0 v.1) → apply s t ≡ apply z t
+  pub apply_agree : (s z : Substitution) (t : Term) → ((v : Path × ℕ) → Contains (variables_of t) v → s v.0 v.1 ≡ z v.0 v.1) → apply s t ≡ apply z t
   apply_agree s z (variable q k) agree = agree (q, k) (0, lit< tt, refl)
   apply_agree s z (number n) agree = refl
   apply_agree s z (compound c ts) agree = ap (compound c) (apply_all_agree s z ts agree)
 
-  apply_all_agree : (s z : Substitution) (ts : Terms) → ((v : Path × ℕ) → Contains (variables_in ts) v → s v.0 v.1 ≡ z v.0 v.1) → apply_all s ts ≡ apply_all z ts
+  -- the same of a list of terms
+  pub apply_all_agree : (s z : Substitution) (ts : Terms) → ((v : Path × ℕ) → Contains (variables_in ts) v → s v.0 v.1 ≡ z v.0 v.1) → apply_all s ts ≡ apply_all z ts
   apply_all_agree s z none agree = refl
   apply_all_agree s z (more t ts) agree =
       let head : apply s t ≡ apply z t = apply_agree s z t (λ v c. agree v (Contains-append_left (variables_of t) (variables_in ts) v c)) in

@@ -3,8 +3,8 @@ use Rattle.std.proofs.Common.{◌≡◌, refl, List, [], ◌∷◌, lit<}
 use Rattle.and_model.specs.Terms.{Term, variable}
 use Rattle.and_model.specs.Terms as terms
 use Rattle.and_model.specs.Solutions.{falsehood}
-use Rattle.and_written.specs.Skeletons.{Shape, number, compound}
-use Rattle.and_written.specs.Skeletons as skeletons
+use Rattle.and_program.specs.Skeletons.{Shape, number, compound}
+use Rattle.and_program.specs.Skeletons as skeletons
 use Rattle.and_model.specs.declared.numbers.NodeNo.{NodeNo}
 use Rattle.and_model.specs.declared.reference.Ref.{Ref}
 use Rattle.and_model.specs.declared.reference.Ref.TheVariants.{Free, Cell, Node, Half}

@@ -4,3 +4,8 @@ pub mod Seen
 pub mod Rows
 pub mod Meaning
 pub mod Late
+pub mod Parts
+pub mod Solved
+pub mod Known
+pub mod Ends
+pub mod Joined

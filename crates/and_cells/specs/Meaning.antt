@@ -4,7 +4,7 @@ use Rattle.std.specs.Prelude.{ℕ, suc, ◌+◌, ◌<◌, ◌≡◌, false, not,
 use Rattle.and_model.specs.Terms.{Path, Term, Substitution, variable, number, apply, variables_of}
 use Rattle.and_model.specs.Solutions.{Equation, falsehood}
 use Rattle.and_model.specs.Store.{Setting, set_in, is_half}
-use Rattle.and_written.specs.Skeletons.{node_term}
+use Rattle.and_program.specs.Skeletons.{node_term}
 use Rattle.and_model.specs.declared.numbers.NodeNo.{NodeNo}
 use Rattle.and_model.specs.declared.reference.Ref.{Ref}
 use Rattle.and_model.specs.declared.reference.Ref.TheVariants.{Free, Cell, Node, Number, Half}

@@ -19,4 +19,4 @@ pub use cells::{Bound, Cells};
 pub use chain::deref;
 pub use laws::one_term_of_a_reference;
 pub use naming::Naming;
-pub use plain::{MOST_WORDS, PlainCells};
+pub use plain::PlainCells;

@@ -8,6 +8,7 @@ ghost use Rattle.and_cells.specs.Ranges.{CanHold, IsPairInRange};
 ghost use Rattle.and_cells.specs.Seen.{word_at};
 ghost use Rattle.and_cells.specs.Numbers.{number_of};
 ghost use Rattle.and_cells.specs.Rows.{IsSound, AreWords, row_of};
+ghost use Rattle.and_model.specs.declared.limits.TheConstants.{MAX_WORDS};
 
 use crate::cells::{Bound, Cells};
 use crate::naming::Naming;
@@ -15,9 +16,6 @@ use crate::number::{halves, joined};
 use and_model::Ref;
 use std::alloc::{AllocError, Global};
 use std::marker::{Model, PhantomData};
-
-/// The most words that a row has.
-pub const MOST_WORDS: u32 = 1 << 22;
 
 /// A row of words that one thread alone sets, so that contracts see the row itself. It takes 8 bytes
 /// a word, and keeps the allocator that it was made with.
@@ -48,7 +46,7 @@ pub(crate) fn is_unset(word: Ref) -> bool
 impl<N: Naming> PlainCells<N> {
     /// So many words, all of them free. An error is want of memory.
     pub fn with(alloc: Global, words: u32) -> Result<PlainCells<N>, AllocError>
-        requires { words ≤ MOST_WORDS }
+        requires { words ≤ MAX_WORDS }
         ensures { IfOk result (λ cells. cells ≡ replicate words Ref.Free) }
     {
         let words = Vec::from_elem(alloc, Ref::Free.to_word(), words as usize)?;
@@ -80,7 +78,7 @@ impl<N: Naming> PlainCells<N> {
 
     /// Puts so many free words at the end. An error is want of memory.
     pub fn extend(&mut self, by: u32) -> Result<(), AllocError>
-        requires { length self.old + by ≤ MOST_WORDS }
+        requires { length self.old + by ≤ MAX_WORDS }
         ensures ok { OnOk result (self.new ≡ self.old ++ replicate by Ref.Free) }
         ensures unchanged { OnErr result (self.new ≡ self.old) }
     {

@@ -5,4 +5,3 @@ pub mod Paths
 pub mod Walking
 pub mod Opening
 pub mod Turning
-pub mod Fitting

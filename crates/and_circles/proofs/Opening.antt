@@ -7,9 +7,9 @@ use Rattle.std.specs.declared.alloc.Global.{Global}
 use Rattle.and_model.specs.declared.numbers.NodeNo.{NodeNo}
 use Rattle.and_model.specs.declared.reference.Ref.{Ref}
 use Rattle.and_model.specs.declared.reference.Ref.TheVariants.{Node}
-use Rattle.and_clauses.specs.Loaded.{arguments_at}
+use Rattle.and_program.specs.Loaded.{arguments_at}
 use Rattle.and_cells.specs.Ranges.{NamedProgram}
-use Rattle.and_meaning.specs.Parts.{part_at, parts_of}
+use Rattle.and_cells.specs.Parts.{part_at, parts_of}
 use Rattle.and_circles.specs.Walks.{Opens}
 use Rattle.and_circles.specs.declared.walk.Visit.{Visit}
 use Rattle.and_circles.specs.declared.walk.Visit.TheVariants.{Enter, Leave}

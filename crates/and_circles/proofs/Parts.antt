@@ -8,15 +8,15 @@ use Rattle.and_model.specs.Store.{is_half}
 use Rattle.and_model.specs.declared.numbers.NodeNo.{NodeNo}
 use Rattle.and_model.specs.declared.reference.Ref.{Ref}
 use Rattle.and_model.specs.declared.reference.Ref.TheVariants.{Free, Cell, Node, Number, Half}
-use Rattle.and_written.specs.Skeletons
-use Rattle.and_written.specs.Skeletons.{Shape, row, nth, shape_term, terms_behind, node_term, Falls, IsFalling, AllFall}
-use Rattle.and_clauses.specs.Loaded.{shape_at, arguments_at}
-use Rattle.and_clauses.specs.Shown.{arguments_in, resolved}
-use Rattle.and_clauses.proofs.NodeTerms.{AllFall-at, node_term_whole}
+use Rattle.and_program.specs.Skeletons
+use Rattle.and_program.specs.Skeletons.{Shape, row, nth, shape_term, terms_behind, node_term, Falls, IsFalling, AllFall}
+use Rattle.and_program.specs.Loaded.{shape_at, arguments_at}
+use Rattle.and_program.specs.Shown.{arguments_in, resolved}
+use Rattle.and_program.proofs.NodeTerms.{AllFall-at, node_term_whole}
 use Rattle.and_cells.specs.Ranges.{NamedProgram, IsNoVariable, IsInRange, CanHold}
 use Rattle.and_cells.specs.Rows.{IsSound}
 use Rattle.and_cells.specs.Meaning.{Holds, here, onward, inside}
-use Rattle.and_meaning.specs.Parts.{part_at, parts_of}
+use Rattle.and_cells.specs.Parts.{part_at, parts_of}
 use Rattle.and_circles.specs.Walks.{IsStep}
 use Rattle.and_circles.proofs.Members.{none_in, first_in, later_in, first_or_later, from_image}
 
@@ -32,7 +32,7 @@ falls_below : (n : ℕ) (ms : List ℕ) (m : ℕ) → Falls n ms → Contains ms
 falls_below n [] m falls c = absurd (none_in m c)
 falls_below n (k ∷ ms) m falls c = elim (first_or_later ms k m c) [ inl e ↦ subst (λ (a : ℕ). a < n) e falls.0 | inr later ↦ falls_below n ms m falls.1 later ]
 
--- a term of a row has its variables in the row
+-- a term of a list has its variables in the list
 row_has : (f : ℕ → Term) (ms : List ℕ) (m : ℕ) (v : Variable) → Contains ms m → Contains (variables_of (f m)) v → Contains (variables_in (row (map f ms))) v
 row_has f [] m v c in_part = absurd (none_in m c)
 row_has f (k ∷ ms) m v c in_part = elim (first_or_later ms k m c) [
@@ -40,7 +40,7 @@ row_has f (k ∷ ms) m v c in_part = elim (first_or_later ms k m c) [
   | inr later ↦ Contains-append_right (variables_of (f k)) (variables_in (row (map f ms))) v (row_has f ms m v later in_part)
 ]
 
--- and each variable of a row is in a term of it
+-- and each variable of a list of terms is in one of them
 row_gives : (f : ℕ → Term) (ms : List ℕ) (v : Variable) → Contains (variables_in (row (map f ms))) v → (m : ℕ) × Contains ms m × Contains (variables_of (f m)) v
 row_gives f [] v c = absurd (none_in v c)
 row_gives f (k ∷ ms) v c = elim (Contains-append_cases (variables_of (f k)) (variables_in (row (map f ms))) v c) [

@@ -8,16 +8,17 @@ use Rattle.and_model.specs.Store.{is_half}
 use Rattle.and_model.specs.declared.numbers.NodeNo.{NodeNo}
 use Rattle.and_model.specs.declared.reference.Ref.{Ref}
 use Rattle.and_model.specs.declared.reference.Ref.TheVariants.{Free, Cell, Node, Number, Half}
-use Rattle.and_written.specs.Skeletons
-use Rattle.and_written.specs.Skeletons.{AllFall}
-use Rattle.and_clauses.specs.Loaded.{shape_at, arguments_at}
+use Rattle.and_program.specs.Skeletons
+use Rattle.and_program.specs.Skeletons.{AllFall}
+use Rattle.and_program.specs.Loaded.{shape_at, arguments_at}
 use Rattle.and_cells.specs.Ranges.{NamedProgram, IsNoVariable, IsInRange, CanHold}
 use Rattle.and_cells.specs.Seen.{word_at, IsSetTo, LeadsTo, here, onward}
 use Rattle.and_cells.specs.Rows.{plain, IsSound}
 use Rattle.and_cells.specs.Meaning
 use Rattle.and_cells.specs.Meaning.{Holds, IsCircle}
-use Rattle.and_meaning.specs.Parts.{part_at, parts_of}
-use Rattle.and_meaning.specs.Ends.{Ends, IsBelow}
+use Rattle.and_cells.specs.Parts.{part_at, parts_of}
+use Rattle.and_cells.specs.Ends.{Ends}
+use Rattle.and_cells.proofs.References.{nothing_below}
 use Rattle.and_circles.specs.Walks.{IsStep}
 use Rattle.and_circles.proofs.Members.{none_in, first_or_later, image_in}
 use Rattle.and_circles.proofs.Parts.{Variable, variables_at, falls, gives_variables, own_variable, resolved_cases, no_variable, step_holds, step_in_range}
@@ -42,7 +43,7 @@ half_or_whole (Number pair) = inr refl
 half_or_whole (Half bits) = inl refl
 
 module _ (P : NamedProgram) (row : List Ref) where
-  -- two paths in a row
+  -- two paths, one behind the other
   pub joined : (from mid to : Ref) → Path P row from mid → Path P row mid to → Path P row from to
   joined from mid to (arrived r) second = second
   joined from mid to (goes a next b step first) second = goes a next to step (joined next b to first second)
@@ -74,17 +75,9 @@ module _ (P : NamedProgram) (row : List Ref) where
   turned from next step (arrived r) = (r, step, arrived r)
   turned from next step (goes a after b first rest) = (after, first, and_step after b a rest step)
 
-  -- nothing is below the floor 0
-  not_below : (r : Ref) → IsBelow 0 r → ⊥
-  not_below Free below = below
-  not_below (Cell cell) below = omega arith
-  not_below (Node node base) below = omega arith
-  not_below (Number pair) below = below
-  not_below (Half bits) below = below
-
   -- what ends is on no ring
   pub on_no_ring : (halves : Bool) (r : Ref) → Ends P row 0 halves r → (next : Ref) → IsStep P row r next → Path P row next r → ⊥
-  on_no_ring halves r (Ends.low a below) next step path = not_below a below
+  on_no_ring halves r (Ends.low a below) next step path = nothing_below a below
   on_no_ring halves r (Ends.free cell free) next step path = step.1 (sym step.0 ∙ free)
   on_no_ring halves r (Ends.half cell may is) next step path =
       let whole : false ≡ true = half_stays next (Cell cell) (ap is_half (sym step.0) ∙ is) path in absurd (cc)

@@ -10,8 +10,8 @@ use Rattle.and_model.specs.declared.reference.Ref.TheVariants.{Free, Cell, Node}
 use Rattle.and_cells.specs.Ranges.{NamedProgram, IsInRange}
 use Rattle.and_cells.specs.Seen.{word_at}
 use Rattle.and_cells.specs.Meaning.{IsCircle, Holds, here}
-use Rattle.and_meaning.specs.Parts.{parts_of}
-use Rattle.and_meaning.specs.Ends.{Ends}
+use Rattle.and_cells.specs.Parts.{parts_of}
+use Rattle.and_cells.specs.Ends.{Ends}
 use Rattle.and_circles.specs.Marked.{Marked, IsUnmarked}
 use Rattle.and_circles.specs.Explored.{AreFinished, finished}
 use Rattle.and_circles.specs.Walks.{IsStep, IsTaking, IsWalking, Walks, Opens, Goes, Answers, Stays, visits_left}

@@ -5,11 +5,11 @@ use Rattle.std.proofs.lemmas.List.{reverse-append, append-nil}
 use Rattle.std.proofs.lemmas.List.Elements.{All-nil, All-cons, All-head, All-tail}
 use Rattle.and_model.specs.declared.reference.Ref.{Ref}
 use Rattle.and_model.specs.declared.reference.Ref.TheVariants.{Free, Cell, Node, Number, Half}
-use Rattle.and_written.specs.Skeletons.{AllFall}
+use Rattle.and_program.specs.Skeletons.{AllFall}
 use Rattle.and_cells.specs.Ranges.{NamedProgram, IsInRange}
 use Rattle.and_cells.specs.Rows.{IsSound}
 use Rattle.and_cells.specs.Meaning.{Holds, IsCircle}
-use Rattle.and_meaning.specs.Ends.{Ends}
+use Rattle.and_cells.specs.Ends.{Ends}
 use Rattle.and_circles.specs.Marked.{Listed, Marked}
 use Rattle.and_circles.specs.Explored.{done_in}
 use Rattle.and_circles.specs.Walks.{IsStep, Follows, AreOnPath, left_in, Owes, nearest_cell, Walks}

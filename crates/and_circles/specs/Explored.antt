@@ -2,7 +2,7 @@
 use Rattle.std.specs.Prelude.{ℕ, Bool, List, [], ◌∷◌, All}
 use Rattle.and_model.specs.declared.reference.Ref.{Ref}
 use Rattle.and_cells.specs.Ranges.{NamedProgram}
-use Rattle.and_meaning.specs.Ends.{Ends}
+use Rattle.and_cells.specs.Ends.{Ends}
 use Rattle.and_circles.specs.declared.marks.Mark.{Mark}
 use Rattle.and_circles.specs.declared.marks.Mark.TheVariants.{Open, Done}
 

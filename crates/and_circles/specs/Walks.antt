@@ -4,13 +4,13 @@ use Rattle.std.specs.declared.alloc.AllocError.{AllocError}
 use Rattle.and_model.specs.Store.{is_half}
 use Rattle.and_model.specs.declared.reference.Ref.{Ref}
 use Rattle.and_model.specs.declared.reference.Ref.TheVariants.{Free, Cell, Node, Number, Half}
-use Rattle.and_written.specs.Skeletons.{AllFall}
+use Rattle.and_program.specs.Skeletons.{AllFall}
 use Rattle.and_cells.specs.Ranges.{NamedProgram, IsInRange}
 use Rattle.and_cells.specs.Seen.{word_at, IsSetTo}
 use Rattle.and_cells.specs.Rows.{IsSound}
 use Rattle.and_cells.specs.Meaning.{IsCircle, Holds}
-use Rattle.and_meaning.specs.Parts.{parts_of}
-use Rattle.and_meaning.specs.Ends.{Ends}
+use Rattle.and_cells.specs.Parts.{parts_of}
+use Rattle.and_cells.specs.Ends.{Ends}
 use Rattle.and_circles.specs.Marked.{Listed, Marked}
 use Rattle.and_circles.specs.declared.marks.Mark.TheVariants.{Open, Done}
 use Rattle.and_circles.specs.declared.explorer.Explored.{Explored}

@@ -7,14 +7,14 @@ ghost use Rattle.and_model.specs.declared.reference.Ref.{Ref};
 ghost use Rattle.and_cells.specs.Ranges.{IsInRange};
 ghost use Rattle.and_cells.specs.Seen.{word_at};
 ghost use Rattle.and_cells.specs.Meaning.{IsCircle, Holds};
-ghost use Rattle.and_meaning.specs.Parts.{named};
-ghost use Rattle.and_meaning.specs.Ends.{Ends};
+ghost use Rattle.and_cells.specs.Parts.{named};
+ghost use Rattle.and_cells.specs.Ends.{Ends};
 ghost use Rattle.and_circles.specs.Explored.{Finished, AreFinished};
 
 use crate::walk::Walk;
 use and_cells::{Naming, PlainCells};
-use and_clauses::Loaded;
 use and_model::Ref;
+use and_program::Loaded;
 use std::alloc::{AllocError, Global};
 use std::marker::Model;
 

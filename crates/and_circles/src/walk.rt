@@ -4,9 +4,9 @@ ghost use Rattle.std.specs.Prelude.{◌≡◌, ◌<◌, ◌^◌, ◌↔◌, ℕ,
 ghost use Rattle.and_model.specs.declared.reference.Ref.{Ref};
 ghost use Rattle.and_cells.specs.Ranges.{IsInRange};
 ghost use Rattle.and_cells.specs.Meaning.{IsCircle};
-ghost use Rattle.and_clauses.specs.Loaded.{skeleton_of};
-ghost use Rattle.and_meaning.specs.Parts.{named, parts_of};
-ghost use Rattle.and_meaning.specs.Ends.{Ends, IsBelow};
+ghost use Rattle.and_program.specs.Loaded.{skeleton_of};
+ghost use Rattle.and_cells.specs.Parts.{named, parts_of};
+ghost use Rattle.and_cells.specs.Ends.{Ends, IsBelow};
 ghost use Rattle.and_circles.specs.Marked.{IsUnmarked};
 ghost use Rattle.and_circles.specs.Explored.{AreFinished, finished};
 ghost use Rattle.and_circles.specs.Walks.{nearest_cell, Opens, IsTaking, IsAtRest, Goes, Stays, Answers};
@@ -17,8 +17,8 @@ ghost use Rattle.and_circles.specs.declared.marks.Mark.{Mark};
 use crate::explorer::Explored;
 use crate::marks::{Mark, Marks};
 use and_cells::{Naming, PlainCells};
-use and_clauses::{Loaded, Skeleton};
 use and_model::{NodeNo, Ref};
+use and_program::{Loaded, NodeKind};
 use std::alloc::{AllocError, Global};
 
 /// What is still to be done.
@@ -255,10 +255,10 @@ impl Walk {
         ensures stays { Stays self.old self.new }
     {
         self.open(Ref::Node { node, base })?;
-        let count = match loaded.skeleton(node) {
-            Skeleton::Compound { count, .. } => count,
-            Skeleton::Variable(_) => 0,
-            Skeleton::Number(_) => 0,
+        let count = match loaded.kind(node) {
+            NodeKind::Compound { count, .. } => count,
+            NodeKind::Variable(_) => 0,
+            NodeKind::Number(_) => 0,
         };
         for place in 0..count {
             let part = loaded.resolve(loaded.argument(node, place), base);

@@ -7,4 +7,3 @@ pub mod Joining
 pub mod Reckoning
 pub mod Showing
 pub mod Lining
-pub mod Trials

@@ -9,14 +9,14 @@ use Rattle.and_model.specs.Lines.{is_cell, point_name, is_nil, nil_name}
 use Rattle.and_model.specs.declared.numbers.NodeNo.{NodeNo}
 use Rattle.and_model.specs.declared.reference.Ref.{Ref}
 use Rattle.and_model.specs.declared.reference.Ref.TheVariants.{Cell, Node}
-use Rattle.and_written.specs.Clauses.{width}
-use Rattle.and_written.specs.Skeletons
-use Rattle.and_written.specs.Skeletons.{Shape, node_term, terms_behind, shape_term}
-use Rattle.and_clauses.specs.declared.data.Skeleton as glance
-use Rattle.and_clauses.specs.declared.data.Skeleton.{Skeleton}
-use Rattle.and_clauses.specs.Loaded.{shape_at, arguments_at}
-use Rattle.and_clauses.specs.Shown.{shown_term, count_of, term_at, argument_of, resolved}
-use Rattle.and_clauses.proofs.NodeTerms.{node_term_at}
+use Rattle.and_model.specs.Terms.{width}
+use Rattle.and_program.specs.Skeletons
+use Rattle.and_program.specs.Skeletons.{Shape, node_term, terms_behind, shape_term}
+use Rattle.and_program.specs.declared.node.NodeKind as glance
+use Rattle.and_program.specs.declared.node.NodeKind.{NodeKind}
+use Rattle.and_program.specs.Loaded.{shape_at, arguments_at}
+use Rattle.and_program.specs.Shown.{shown_term, count_of, term_at, argument_of, resolved}
+use Rattle.and_program.proofs.NodeTerms.{node_term_at}
 use Rattle.and_cells.specs.Ranges.{NamedProgram, IsNodeInRange, IsNoVariable}
 use Rattle.and_cells.specs.Meaning.{StandsFor, structure}
 use Rattle.and_print.specs.declared.roots.Arguments.{Arguments}
@@ -37,7 +37,7 @@ number_shown (Terms.variable q k) z e = absurd (cc)
 number_shown (number y) z e = cc
 number_shown (compound c ts) z e = absurd (cc)
 
-abbrev name_shown : Skeleton → ℕ
+abbrev name_shown : NodeKind → ℕ
 name_shown (glance.TheVariants.Variable k) = 0
 name_shown (glance.TheVariants.Number z) = 0
 name_shown (glance.TheVariants.Compound c n) = c.0
@@ -165,7 +165,7 @@ module _ (P : NamedProgram) (row : List Ref) (a : Arguments) (ts : Terms) (m : A
     };
   }
 
--- rows of other lengths than two
+-- lists of other lengths than two
 pub no_pair : (ts : Terms) → ts ≡ none → is_cell point_name ts ≡ false
 no_pair ts e = ap (is_cell point_name) e
 

@@ -13,14 +13,14 @@ use Rattle.and_model.specs.Lines.{relation_name, point_name}
 use Rattle.and_model.specs.Stands.{item_term}
 use Rattle.and_model.specs.declared.reference.Ref.{Ref}
 use Rattle.and_model.specs.declared.reference.Ref.TheVariants.{Cell}
-use Rattle.and_written.specs.Skeletons.{Shape, node_term, item_of, NodeClause, NodeItem, call, equal, is, compare, fail}
-use Rattle.and_clauses.specs.Items.{node_item}
-use Rattle.and_clauses.specs.declared.data.ItemNode.{ItemNode}
+use Rattle.and_program.specs.Skeletons.{Shape, node_term, item_of, NodeClause, NodeItem, call, equal, is, compare, fail}
+use Rattle.and_program.specs.Items.{node_item}
+use Rattle.and_program.specs.declared.item.ItemNode.{ItemNode}
 use Rattle.and_cells.specs.Ranges.{NamedProgram, IsItemInRange, IsNodeInRange}
 use Rattle.and_cells.specs.Meaning.{StandsFor}
 use Rattle.and_model.specs.declared.goal.Goal.{Goal}
 use Rattle.and_model.specs.Programs.{clause_at}
-use Rattle.and_clauses.specs.Loaded.{nodes_at}
+use Rattle.and_program.specs.Loaded.{nodes_at}
 use Rattle.and_print.specs.Goals.{NodeMeans, ItemMeans, GoalMeans, GoalsMean}
 
 -- a comparison's name is not that of list cells

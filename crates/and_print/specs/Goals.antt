@@ -5,7 +5,7 @@ use Rattle.and_model.specs.Stands.{term_of}
 use Rattle.and_model.specs.declared.goal.Goal.{Goal}
 use Rattle.and_model.specs.declared.reference.Ref.{Ref}
 use Rattle.and_model.specs.declared.reference.Ref.TheVariants.{Cell}
-use Rattle.and_written.specs.Skeletons.{node_term, NodeItem, call, equal, is, compare, fail}
+use Rattle.and_program.specs.Skeletons.{node_term, NodeItem, call, equal, is, compare, fail}
 use Rattle.and_cells.specs.Ranges.{NamedProgram, IsNodeInRange, IsGoalInRange}
 use Rattle.and_cells.specs.Meaning.{StandsFor}
 

@@ -3,4 +3,3 @@ pub mod Writing
 pub mod Roots
 pub mod Goals
 pub mod Tasks
-pub mod Flat

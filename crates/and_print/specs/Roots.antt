@@ -2,9 +2,9 @@
 use Rattle.std.specs.Prelude.{ℕ, zero, suc, ◌+◌, ◌≡◌, Bool, false, List, length, Contains}
 use Rattle.and_model.specs.Terms.{Path, Term, Terms, variable, number, compound, none, more, variables_in, Substitution, apply_all}
 use Rattle.and_model.specs.Lines.{is_cell, is_nil, point_name}
-use Rattle.and_written.specs.Clauses.{width}
-use Rattle.and_written.specs.Skeletons.{node_term}
-use Rattle.and_clauses.specs.Loaded.{arguments_at}
+use Rattle.and_model.specs.Terms.{width}
+use Rattle.and_program.specs.Skeletons.{node_term}
+use Rattle.and_program.specs.Loaded.{arguments_at}
 use Rattle.and_model.specs.declared.reference.Ref.{Ref}
 use Rattle.and_model.specs.declared.reference.Ref.TheVariants.{Free, Cell}
 use Rattle.and_cells.specs.Ranges.{NamedProgram, IsInRange, IsNodeInRange}
@@ -23,7 +23,7 @@ pub record Means (P : NamedProgram) (row : List Ref) (r : Ref) (t : Term) : Type
 abbrev pub IsEnd : List Ref → Ref → Type 0
 IsEnd row r = (cell : ℕ) → r ≡ Cell cell → word_at row cell ≡ Free
 
--- terms in a row without so many of the first
+-- a list of terms without so many of the first
 abbrev pub terms_from : ℕ → Terms → Terms
 terms_from zero ts = ts
 terms_from (suc n) none = none
@@ -55,7 +55,7 @@ pub record Splits (P : NamedProgram) (row : List Ref) (first : Ref) (rest : Argu
   pub first_means : Means P row first term
   pub rest_means : ArgumentsMean P row rest terms
 
--- Both terms of a row of two.
+-- Both terms of a list of two.
 pub record Pairs (P : NamedProgram) (row : List Ref) (left right : Ref) (ts : Terms) : Type 0 where
   pub one : Term
   pub other : Term

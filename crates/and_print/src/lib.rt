@@ -2,13 +2,12 @@
 //! lists in brackets; the line is this project's own).
 #![tactic(auto)]
 
-mod goals;
 pub mod lines;
+mod names;
+mod printer;
 mod roots;
 mod tasks;
 pub mod terms;
-#[cfg(test)]
-mod tests;
 pub mod variables;
 
 pub use lines::show_line;

@@ -9,7 +9,7 @@ use Rattle.and_model.specs.declared.reference.Ref.{Ref}
 use Rattle.and_model.specs.declared.reference.Ref.TheVariants.{Free, Cell, Node, Number, Half}
 use Rattle.and_model.specs.contracts.reference.RefPartialEq.TheImpl as derived
 use Rattle.indexmap.specs.IndexMap.{insert_entry}
-use Rattle.and_meaning.specs.Joined.{back, then}
+use Rattle.and_cells.specs.Joined.{back, then}
 use Rattle.and_unify.specs.Classes.{Linked, IsRoot, Climbs, InOneClass, Joins}
 
 -- the comparison of references that maps use

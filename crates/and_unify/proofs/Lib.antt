@@ -20,4 +20,3 @@ pub mod SettlingPlaces
 pub mod SettlingTerms
 pub mod SettlingDone
 pub mod SettlingGiven
-pub mod SettlingTests

@@ -9,17 +9,17 @@ use Rattle.and_model.specs.Terms.{Term, Terms, Substitution, number, compound, n
 use Rattle.and_model.specs.declared.numbers.NameNo.{NameNo}
 use Rattle.and_model.specs.declared.reference.Ref.{Ref}
 use Rattle.and_model.specs.declared.reference.Ref.TheVariants as reference
-use Rattle.and_written.specs.Clauses.{width}
-use Rattle.and_written.specs.Skeletons as skeletons
-use Rattle.and_written.specs.Skeletons.{Shape, row, nth, shape_term, terms_behind, node_term}
-use Rattle.and_clauses.proofs.NodeTerms.{node_term_at}
-use Rattle.and_clauses.proofs.PredicateLemmas.{width-row}
+use Rattle.and_model.specs.Terms.{width}
+use Rattle.and_program.specs.Skeletons as skeletons
+use Rattle.and_program.specs.Skeletons.{Shape, row, nth, shape_term, terms_behind, node_term}
+use Rattle.and_program.proofs.NodeTerms.{node_term_at}
+use Rattle.and_program.proofs.PredicateLemmas.{width-row}
 use Rattle.and_cells.specs.Ranges.{NamedProgram}
 use Rattle.and_cells.specs.Numbers.{number_of}
 use Rattle.and_cells.specs.Seen.{Seen, Knows, ReadsNumber}
 use Rattle.and_cells.specs.Meaning.{Words, cell_variable, shallow_term}
-use Rattle.and_meaning.specs.Parts.{IsStructure}
-use Rattle.and_meaning.specs.Known.{HasKnown}
+use Rattle.and_cells.specs.Parts.{IsStructure}
+use Rattle.and_cells.specs.Known.{HasKnown}
 use Rattle.and_unify.specs.Pairs.{DifferAtHeads, AreApart}
 use Rattle.and_unify.specs.Heads.{HasHead}
 use Rattle.and_unify.specs.Meeting.{AreAlike}

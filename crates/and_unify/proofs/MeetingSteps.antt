@@ -1,15 +1,16 @@
 -- Two references that a pair leads to, and what becomes of them step by step.
-use Rattle.std.proofs.Common.{ℕ, suc, ◌≡◌, ◌≢◌, ◌<◌, ◌⊎◌, true, false, refl, sym, subst, ◌∙◌, inl, inr, true≢false, arith}
+use Rattle.std.proofs.Common.{ℕ, ◌≡◌, ◌≢◌, ◌<◌, ◌⊎◌, true, false, refl, sym, subst, ◌∙◌, inl, inr, true≢false, arith}
 use Rattle.and_model.specs.Store.{is_half}
 use Rattle.and_model.specs.declared.reference.Ref.{Ref}
 use Rattle.and_model.specs.declared.reference.Ref.TheVariants.{Free, Cell, Node, Number, Half}
-use Rattle.and_cells.specs.Ranges.{NamedProgram, CanHold, IsInRange, IsInRangeOrHalf}
+use Rattle.and_cells.specs.Ranges.{NamedProgram, IsInRange, IsInRangeOrHalf}
 use Rattle.and_cells.specs.Seen.{Seen, Knows, Finds, Sets, OnlyReads, LeadsTo, here, onward, IsWrittenIfNumber}
 use Rattle.and_cells.proofs.Chains.{reads_nothing, reads_more, finds_reads, leads_later, written_later, written_since_known, held_in_range}
-use Rattle.and_meaning.specs.Parts.{IsStructure}
+use Rattle.and_cells.specs.Parts.{IsStructure}
+use Rattle.and_cells.proofs.References.{cells_behind, held_behind}
 use Rattle.and_unify.specs.Pairs.{AreApart}
 use Rattle.and_unify.specs.Heads.{IsEnd, HasHead}
-use Rattle.and_unify.specs.Meeting.{IsToBeSet, GoesOn, Lead, MeetAlike, MeetFree, MeetStructures, MeetApart}
+use Rattle.and_unify.specs.Meeting.{AreOfOneShape, IsToBeSet, GoesOn, Lead, MeetAlike, MeetFree, MeetStructures, MeetApart}
 use Rattle.and_unify.specs.declared.heads.Head.{Head}
 use Rattle.and_unify.specs.declared.heads.Head.TheVariants as head
 use Rattle.and_unify.proofs.MeetingHeads.{head_later, heads_apart, numbers_alike}
@@ -56,12 +57,7 @@ pub structures_on : (P : NamedProgram) (left right p q one other : Ref) (old mid
     → MeetStructures P left right old new one other
 structures_on P left right p q one other old mid new lead met = record {
   lead = lead_on left right p q one other old mid new lead met.lead;
-  name = met.name;
-  count = met.count;
-  left_is = met.left_is;
-  right_is = met.right_is;
-  left_in_range = subst (λ n. IsInRange P n one) lead.reads.words met.left_in_range;
-  right_in_range = subst (λ n. IsInRange P n other) lead.reads.words met.right_in_range;
+  shape = subst (λ n. AreOfOneShape P n one other) lead.reads.words met.shape;
 }
 
 pub apart_on : (P : NamedProgram) (left right p q one other : Ref) (old mid new : Seen) → Lead left right old mid p q → MeetApart P p q mid new one other → MeetApart P left right old new one other
@@ -126,12 +122,14 @@ structures_compared P one other p q left right name count old mid new c same nam
     let b : IsStructure P other name.0 count = subst (HasHead P new other) (sym same ∙ named) c.second in
     let here : MeetStructures P one other old new one other = record {
       lead = lead_here one other old new (both_read P one other left right old mid new c);
-      name = name.0;
-      count = count;
-      left_is = a;
-      right_is = b;
-      left_in_range = one_in_range;
-      right_in_range = other_in_range;
+      shape = record {
+        name = name.0;
+        count = count;
+        left_is = a;
+        right_is = b;
+        left_in_range = one_in_range;
+        right_in_range = other_in_range;
+      };
     } in
     subst (MeetStructures P one other old new p) is_other (subst (λ r. MeetStructures P one other old new r other) is_one here)
 
@@ -225,21 +223,6 @@ standing_right P left right old now new one other to s goes =
       one_written = written_later now new one reads.keeps s.one_written;
       other_written = written_since_known new goes.cell to (found_known P other to now new goes);
     }
-
--- how many cells may still follow
-abbrev pub cells_behind : Ref → ℕ
-cells_behind Free = 0
-cells_behind (Cell cell) = suc cell
-cells_behind (Node node base) = 0
-cells_behind (Number pair) = 0
-cells_behind (Half bits) = 0
-
-held_behind : (P : NamedProgram) (words cell : ℕ) (r : Ref) → CanHold P words cell r → cells_behind r < suc cell
-held_behind P words cell Free fits = omega arith
-held_behind P words cell (Cell other) fits = omega arith
-held_behind P words cell (Node node base) fits = omega arith
-held_behind P words cell (Number pair) fits = omega arith
-held_behind P words cell (Half bits) fits = omega arith
 
 -- there are fewer behind what a cell was found set to
 pub behind_falls : (P : NamedProgram) (from to : Ref) (old new : Seen) → GoesOn P from to old new → cells_behind to < cells_behind from

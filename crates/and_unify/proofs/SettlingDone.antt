@@ -1,5 +1,5 @@
 -- What becomes of a row to which pairs were bound: a most general solution of what it was and of the pairs, or none.
-use Rattle.std.proofs.Common.{ℕ, ◌≡◌, ◌<◌, ◌⊎◌, true, false, List, [], ◌++◌, sym, ◌∙◌, subst, inl, inr, arith}
+use Rattle.std.proofs.Common.{ℕ, ◌≡◌, ◌≢◌, ◌<◌, ◌⊎◌, true, false, List, [], ◌++◌, sym, ◌∙◌, subst, inl, inr, arith}
 use Rattle.std.specs.Prelude.{Contains, All}
 use Rattle.std.proofs.lemmas.List.Elements.{All-weaker}
 use Rattle.and_model.specs.Terms.{Substitution}
@@ -8,17 +8,20 @@ use Rattle.and_model.specs.Store.{is_half}
 use Rattle.and_model.specs.declared.reference.Ref.{Ref}
 use Rattle.and_cells.specs.Ranges.{NamedProgram}
 use Rattle.and_cells.specs.Rows.{plain}
-use Rattle.and_cells.specs.Seen.{word_at}
+use Rattle.and_cells.specs.Seen.{word_at, Keeps}
 use Rattle.and_cells.specs.Meaning.{Words, IsSettled, shallow_cells, equations_of}
+use Rattle.and_cells.proofs.Chains.{reads_nothing, reads_keeps}
 use Rattle.and_laws.proofs.Ordered.{contains_none}
-use Rattle.and_meaning.specs.Known.{HasKnown, SolvesKnown}
-use Rattle.and_meaning.specs.Solved.{AllHaveTerms, IsMostGeneral}
-use Rattle.and_solutions.proofs.Settling.{settled_rows_have_terms}
-use Rattle.and_solutions.proofs.TermsOfRows.{rows_with_terms_are_solutions}
+use Rattle.and_cells.specs.Known.{HasKnown, SolvesKnown}
+use Rattle.and_cells.specs.Solved.{AllHaveTerms, IsMostGeneral}
+use Rattle.and_cell_laws.proofs.Settling.{settled_rows_have_terms}
+use Rattle.and_cell_laws.proofs.TermsOfRows.{rows_with_terms_are_solutions}
 use Rattle.and_unify.specs.declared.pairs.Pair.{Pair}
 use Rattle.and_unify.specs.Pairs.{equations_of_pairs, AreWritten, NameNoHalf}
 use Rattle.and_unify.specs.Following.{NewFollow}
-use Rattle.and_unify.specs.Settling.{equations_with}
+use Rattle.and_unify.specs.declared.settling.Settled.{Settled}
+use Rattle.and_unify.specs.declared.settling.Settled.TheVariants.{Solved, NoSolution, Memory}
+use Rattle.and_unify.specs.Settling.{equations_with, Settles}
 use Rattle.and_unify.proofs.SettlingPlaces.{all_of}
 use Rattle.and_unify.proofs.SettlingSame.{Grows, same_half, solves_now, solves_new, solves_old, most_general_of}
 use Rattle.and_unify.proofs.SettlingTerms.{Binds, BoundEnd, bound_grows, all_terms}
@@ -41,16 +44,16 @@ no_half_now P old new pairs grows none =
     pairs none
 
 -- A half now was one before.
-pub no_new_half : (P : NamedProgram) (old new : List Ref) (pairs : List Pair) (floor : ℕ) (bindings : List ℕ) → Binds P old new pairs floor bindings
+no_new_half : (P : NamedProgram) (old new : List Ref) (pairs : List Pair) (floor : ℕ) (bindings : List ℕ) → Binds P old new pairs floor bindings
     → (cell : ℕ) → is_half (word_at new cell) ≡ true → is_half (word_at old cell) ≡ true
 no_new_half P old new pairs floor bindings b cell half = same_half old new cell (bound_grows P old new pairs floor bindings b) ∙ half
 
 -- The row is settled,
-pub settled_now : (P : NamedProgram) (old new : List Ref) (pairs : List Pair) (floor : ℕ) (bindings : List ℕ) → Binds P old new pairs floor bindings → BoundEnd P new floor bindings → IsSettled P new
+settled_now : (P : NamedProgram) (old new : List Ref) (pairs : List Pair) (floor : ℕ) (bindings : List ℕ) → Binds P old new pairs floor bindings → BoundEnd P new floor bindings → IsSettled P new
 settled_now P old new pairs floor bindings b ends = let terms = settled_rows_have_terms P new ends.sound in terms.1 (all_terms P old new pairs floor bindings b ends)
 
 -- and a most general solution, where the pairs are equal in each of its solutions.
-pub solved_now : (P : NamedProgram) (old new : List Ref) (pairs : List Pair) (floor : ℕ) (bindings : List ℕ) → Binds P old new pairs floor bindings → BoundEnd P new floor bindings
+solved_now : (P : NamedProgram) (old new : List Ref) (pairs : List Pair) (floor : ℕ) (bindings : List ℕ) → Binds P old new pairs floor bindings → BoundEnd P new floor bindings
     → AreWritten (plain old) pairs → NewFollow P pairs (plain old) (plain new)
     → ((w : Words) → HasKnown (plain new) w → NameNoHalf P w pairs → (t : Substitution) → SolvesKnown P w (plain new) t → Solves t (equations_of_pairs P w pairs))
     → IsMostGeneral P new (equations_with P old pairs)
@@ -65,16 +68,72 @@ solved_now P old new pairs floor bindings b ends written follow equal =
     (rows_with_terms_are_solutions P new ends.sound all)
 
 -- There is no solution where the row has none now,
-pub unsolved_now : (P : NamedProgram) (old new : List Ref) (pairs : List Pair) (floor : ℕ) (bindings : List ℕ) → Binds P old new pairs floor bindings → AreWritten (plain old) pairs
+unsolved_now : (P : NamedProgram) (old new : List Ref) (pairs : List Pair) (floor : ℕ) (bindings : List ℕ) → Binds P old new pairs floor bindings → AreWritten (plain old) pairs
     → NewFollow P pairs (plain old) (plain new) → (Solvable (equations_of P new) → ⊥) → Solvable (equations_with P old pairs) → ⊥
 unsolved_now P old new pairs floor bindings b written follow none solvable =
     none (solvable.0, solves_new P old new pairs solvable.0 b.old_sound (bound_grows P old new pairs floor bindings b) written follow solvable.1)
 
 -- nor where the pairs have none under what is known now.
-pub apart_now : (P : NamedProgram) (old new : List Ref) (pairs : List Pair) (floor : ℕ) (bindings : List ℕ) → Binds P old new pairs floor bindings → AreWritten (plain old) pairs
+apart_now : (P : NamedProgram) (old new : List Ref) (pairs : List Pair) (floor : ℕ) (bindings : List ℕ) → Binds P old new pairs floor bindings → AreWritten (plain old) pairs
     → NewFollow P pairs (plain old) (plain new)
     → ((w : Words) → HasKnown (plain new) w → (t : Substitution) → SolvesKnown P w (plain new) t → Solves t (equations_of_pairs P w pairs) → ⊥)
     → Solvable (equations_with P old pairs) → ⊥
 apart_now P old new pairs floor bindings b written follow none solvable =
     let both = solves_now P old new pairs solvable.0 b.old_sound (bound_grows P old new pairs floor bindings b) written follow solvable.1 in
     none (word_at new) (λ place r set. set.0) solvable.0 both.0 both.1
+
+module _ (P : NamedProgram) (old new : List Ref) (pairs : List Pair) (floor : ℕ) (bindings : List ℕ) where
+  -- each solution of what is known now makes the pairs equal
+  abbrev AreEqual : Type 0
+  AreEqual =
+      (w : Words) → HasKnown (plain new) w → NameNoHalf P w pairs → (t : Substitution) → SolvesKnown P w (plain new) t
+      → Solves t (equations_of_pairs P w pairs)
+
+  -- none does
+  abbrev AreNeverEqual : Type 0
+  AreNeverEqual =
+      (w : Words) → HasKnown (plain new) w → (t : Substitution) → SolvesKnown P w (plain new) t → Solves t (equations_of_pairs P w pairs) → ⊥
+
+  module _ (b : Binds P old new pairs floor bindings) (keeps : Keeps (plain old) (plain new)) where
+    -- So this is what settling comes to for want of memory,
+    pub broken_off : Settles P old new pairs Memory
+    broken_off = record {
+      solved = λ is. absurd (cc);
+      settled = λ is. absurd (cc);
+      no_solution = λ is. absurd (cc);
+      keeps = keeps;
+      halves = no_new_half P old new pairs floor bindings b;
+    }
+
+    module _ (written : AreWritten (plain old) pairs) (follow : NewFollow P pairs (plain old) (plain new)) where
+      -- where two were apart,
+      pub settled_apart : AreNeverEqual → Settles P old new pairs NoSolution
+      settled_apart none = record {
+        solved = λ is. absurd (cc);
+        settled = λ is. absurd (cc);
+        no_solution = λ is. apart_now P old new pairs floor bindings b written follow none;
+        keeps = keeps;
+        halves = no_new_half P old new pairs floor bindings b;
+      }
+
+      -- and where what the bound cells lead to was explored.
+      pub judged : (answer : Settled) → AreEqual → (answer ≡ Solved → BoundEnd P new floor bindings)
+          → (answer ≡ NoSolution → Solvable (equations_of P new) → ⊥) → Settles P old new pairs answer
+      judged answer equal ends none = record {
+        solved = λ is. solved_now P old new pairs floor bindings b (ends is) written follow equal;
+        settled = λ is. settled_now P old new pairs floor bindings b (ends is);
+        no_solution = λ is. unsolved_now P old new pairs floor bindings b written follow (none is);
+        keeps = keeps;
+        halves = no_new_half P old new pairs floor bindings b;
+      }
+
+-- Where nothing was set, there is no solution or no memory.
+pub unsettled : (P : NamedProgram) (row : List Ref) (pairs : List Pair) (answer : Settled) → answer ≢ Solved
+    → (answer ≡ NoSolution → Solvable (equations_with P row pairs) → ⊥) → Settles P row row pairs answer
+unsettled P row pairs answer other none = record {
+  solved = λ is. absurd (other is);
+  settled = λ is. absurd (other is);
+  no_solution = none;
+  keeps = reads_keeps (plain row) (plain row) (reads_nothing (plain row));
+  halves = λ cell half. half;
+}

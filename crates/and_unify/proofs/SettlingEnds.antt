@@ -6,15 +6,15 @@ use Rattle.and_model.specs.Solutions.{Solves}
 use Rattle.and_model.specs.Store.{is_half}
 use Rattle.and_model.specs.declared.reference.Ref.{Ref}
 use Rattle.and_model.specs.declared.reference.Ref.TheVariants.{Cell}
-use Rattle.and_written.specs.Skeletons.{node_term}
+use Rattle.and_program.specs.Skeletons.{node_term}
 use Rattle.and_cells.specs.Ranges.{NamedProgram}
 use Rattle.and_cells.specs.Rows.{IsSound}
 use Rattle.and_cells.specs.Seen.{word_at}
 use Rattle.and_cells.specs.Meaning
 use Rattle.and_cells.specs.Meaning.{Holds, shallow_cells, equations_of}
 use Rattle.and_laws.proofs.Ordered.{contains_first, contains_cases, contains_none}
-use Rattle.and_solutions.proofs.Circles.{holder_is_whole, halves_have_no_term}
-use Rattle.and_solutions.proofs.Images.{contains_image}
+use Rattle.and_cell_laws.proofs.Circles.{holder_is_whole, halves_have_no_term}
+use Rattle.and_cell_laws.proofs.Images.{contains_image}
 
 -- the reference names a word of a pair
 abbrev pub NamesHalf : NamedProgram → List Ref → Ref → Type 0

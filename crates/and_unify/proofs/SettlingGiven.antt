@@ -7,18 +7,18 @@ use Rattle.and_model.specs.Terms.{Path, Term, variables_of}
 use Rattle.and_model.specs.Store.{is_half}
 use Rattle.and_model.specs.declared.reference.Ref.{Ref}
 use Rattle.and_model.specs.declared.reference.Ref.TheVariants.{Free, Cell, Node, Number, Half}
-use Rattle.and_written.specs.Skeletons.{node_term, AllFall}
+use Rattle.and_program.specs.Skeletons.{node_term, AllFall}
 use Rattle.and_cells.specs.Ranges.{NamedProgram, IsInRange, CanHold}
 use Rattle.and_cells.specs.Rows.{IsSound}
 use Rattle.and_cells.specs.Seen.{word_at}
 use Rattle.and_cells.specs.Meaning.{IsSettled, StandsFor, unbound, bound, structure, integer, shallow_cells}
 use Rattle.and_laws.proofs.Ordered.{contains_none}
-use Rattle.and_meaning.specs.Ends.{Ends}
-use Rattle.and_meaning.specs.Solved.{HasTerm}
-use Rattle.and_solutions.proofs.Between.{set_is_below}
-use Rattle.and_solutions.proofs.Images.{contains_origin}
-use Rattle.and_solutions.proofs.Settling.{settled_rows_have_terms}
-use Rattle.and_solutions.proofs.TermsOfRows.{stands_whole, cell_is_whole}
+use Rattle.and_cells.specs.Ends.{Ends}
+use Rattle.and_cells.specs.Solved.{HasTerm}
+use Rattle.and_cell_laws.proofs.Between.{set_is_below}
+use Rattle.and_cell_laws.proofs.Images.{contains_origin}
+use Rattle.and_cell_laws.proofs.Settling.{settled_rows_have_terms}
+use Rattle.and_cell_laws.proofs.TermsOfRows.{stands_whole, cell_is_whole}
 use Rattle.and_unify.specs.declared.pairs.Pair.{Pair}
 use Rattle.and_unify.specs.Pairs.{AreInRange, NameNoHalf}
 use Rattle.and_unify.specs.Settling.{NamesBelow, KeepsBelow, AreNewFrom}

@@ -12,7 +12,7 @@ use Rattle.and_cells.specs.Seen.{word_at}
 use Rattle.and_cells.specs.Meaning.{Words, shallow_cells, equations_of, equations_between}
 use Rattle.and_laws.proofs.Ordered.{contains_cases, contains_none}
 use Rattle.and_laws.proofs.Solving.{solves_front, solves_back}
-use Rattle.and_solutions.proofs.Between.{names_no_half}
+use Rattle.and_cell_laws.proofs.Between.{names_no_half}
 use Rattle.and_unify.specs.declared.pairs.Pair.{Pair}
 use Rattle.and_unify.specs.Pairs.{equations_of_pairs}
 use Rattle.and_unify.specs.Settling.{equations_with}

@@ -8,19 +8,19 @@ use Rattle.and_model.specs.Store.{is_half}
 use Rattle.and_model.specs.declared.numbers.NodeNo.{NodeNo}
 use Rattle.and_model.specs.declared.reference.Ref.{Ref}
 use Rattle.and_model.specs.declared.reference.Ref.TheVariants.{Free, Cell, Node, Number, Half}
-use Rattle.and_written.specs.Skeletons
-use Rattle.and_written.specs.Skeletons.{Shape, node_term, AllFall}
-use Rattle.and_clauses.specs.Loaded.{shape_at, arguments_at}
-use Rattle.and_clauses.specs.Shown.{resolved}
+use Rattle.and_program.specs.Skeletons
+use Rattle.and_program.specs.Skeletons.{Shape, node_term, AllFall}
+use Rattle.and_program.specs.Loaded.{shape_at, arguments_at}
+use Rattle.and_program.specs.Shown.{resolved}
 use Rattle.and_cells.specs.Ranges.{NamedProgram, IsInRange, CanHold}
 use Rattle.and_cells.specs.Rows.{IsSound, plain}
 use Rattle.and_cells.specs.Seen.{word_at, IsSetTo}
 use Rattle.and_cells.specs.Meaning
 use Rattle.and_cells.specs.Meaning.{Holds, IsSettled, shallow_cells}
 use Rattle.and_laws.proofs.Ordered.{contains_first, contains_cases, contains_none}
-use Rattle.and_meaning.specs.Parts.{parts_of, part_at}
-use Rattle.and_solutions.proofs.Between.{set_is_below}
-use Rattle.and_solutions.proofs.Images.{contains_origin}
+use Rattle.and_cells.specs.Parts.{parts_of, part_at}
+use Rattle.and_cell_laws.proofs.Between.{set_is_below}
+use Rattle.and_cell_laws.proofs.Images.{contains_origin}
 use Rattle.and_unify.specs.declared.pairs.Pair.{Pair}
 use Rattle.and_unify.specs.Pairs.{AreInRange, NameNoHalf}
 use Rattle.and_unify.specs.Places

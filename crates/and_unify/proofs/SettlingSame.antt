@@ -15,9 +15,9 @@ use Rattle.and_cells.specs.Meaning.{number_in, shallow_term, shallow_cells, same
 use Rattle.and_cells.proofs.Chains.{written_since_known}
 use Rattle.and_laws.proofs.Ordered.{contains_first, contains_more}
 use Rattle.and_laws.proofs.Solving.{solves_join, solves_front, solves_back}
-use Rattle.and_meaning.specs.Known.{SolvesKnown}
-use Rattle.and_meaning.specs.Solved.{IsMostGeneral}
-use Rattle.and_solutions.proofs.Told.{told_rows_are_known}
+use Rattle.and_cells.specs.Known.{SolvesKnown}
+use Rattle.and_cells.specs.Solved.{IsMostGeneral}
+use Rattle.and_cell_laws.proofs.Told.{told_rows_are_known}
 use Rattle.and_unify.specs.declared.pairs.Pair.{Pair}
 use Rattle.and_unify.specs.Pairs.{equations_of_pairs, AreWritten}
 use Rattle.and_unify.specs.Following.{NewFollow}

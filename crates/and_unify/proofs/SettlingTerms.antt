@@ -7,18 +7,19 @@ use Rattle.and_model.specs.Terms.{Path, Term, variables_of}
 use Rattle.and_model.specs.Store.{is_half}
 use Rattle.and_model.specs.declared.reference.Ref.{Ref}
 use Rattle.and_model.specs.declared.reference.Ref.TheVariants.{Free, Cell, Node, Number, Half}
-use Rattle.and_written.specs.Skeletons.{node_term, AllFall}
+use Rattle.and_program.specs.Skeletons.{node_term, AllFall}
 use Rattle.and_cells.specs.Ranges.{NamedProgram, IsInRange}
 use Rattle.and_cells.specs.Rows.{IsSound, plain}
 use Rattle.and_cells.specs.Seen.{word_at, IsSetTo, Keeps}
 use Rattle.and_cells.specs.Meaning.{IsSettled, StandsFor, unbound, bound, structure, integer, cell_variable, number_in, shallow_cells}
 use Rattle.and_laws.proofs.Ordered.{contains_first}
-use Rattle.and_meaning.specs.Ends.{Ends, IsBelow}
-use Rattle.and_meaning.specs.Solved.{HasTerm, AllHaveTerms}
-use Rattle.and_solutions.proofs.Ending.{ends_are_terms}
-use Rattle.and_solutions.proofs.Images.{contains_image}
-use Rattle.and_solutions.proofs.Settling.{settled_rows_have_terms}
-use Rattle.and_solutions.proofs.TermsOfStructures.{node_has_term}
+use Rattle.and_cells.specs.Ends.{Ends, IsBelow}
+use Rattle.and_cells.specs.Solved.{HasTerm, AllHaveTerms}
+use Rattle.and_cell_laws.proofs.Ending.{ends_are_terms}
+use Rattle.and_cell_laws.proofs.Images.{contains_image}
+use Rattle.and_cell_laws.proofs.Settling.{settled_rows_have_terms}
+use Rattle.and_cell_laws.proofs.TermsOfStructures.{node_has_term}
+use Rattle.and_cells.proofs.References.{nothing_below}
 use Rattle.and_unify.specs.declared.pairs.Pair.{Pair}
 use Rattle.and_unify.specs.Pairs.{AreInRange, NameNoHalf}
 use Rattle.and_unify.specs.Places.{IsPlace, sides}
@@ -26,13 +27,6 @@ use Rattle.and_unify.specs.Settling.{NamesBelow, AreNewFrom}
 use Rattle.and_unify.proofs.TurnParts.{part_in_range}
 use Rattle.and_unify.proofs.SettlingSame.{Grows, free_or_set, same_half}
 use Rattle.and_unify.proofs.SettlingPlaces.{IsKept, names_itself, whole_itself, in_range_is_whole, set_in_range, word_is_kept, part_is_kept, place_is_kept}
-
-nothing_below : (r : Ref) → IsBelow 0 r → ⊥
-nothing_below Free below = below
-nothing_below (Cell cell) below = omega arith
-nothing_below (Node node base) below = omega arith
-nothing_below (Number pair) below = below
-nothing_below (Half bits) below = below
 
 -- A reference in range whose paths end, with no floor, stands for a term.
 pub ended_has_term : (P : NamedProgram) (row : List Ref) (r : Ref) → AllFall 0 P.skeleton.nodes → IsSound P row → IsInRange P (length row) r → Ends P row 0 false r → HasTerm P row r

@@ -3,8 +3,8 @@ use Rattle.std.proofs.Common.{pos, ◌≡◌, ◌<◌, refl, List, [], ◌∷◌
 use Rattle.and_model.specs.Terms.{Term, variable, Substitution}
 use Rattle.and_model.specs.Terms as terms
 use Rattle.and_model.specs.Solutions.{falsehood}
-use Rattle.and_written.specs.Skeletons.{Shape, compound}
-use Rattle.and_written.specs.Skeletons as skeletons
+use Rattle.and_program.specs.Skeletons.{Shape, compound}
+use Rattle.and_program.specs.Skeletons as skeletons
 use Rattle.and_model.specs.declared.numbers.NodeNo.{NodeNo}
 use Rattle.and_model.specs.declared.reference.Ref.{Ref}
 use Rattle.and_model.specs.declared.reference.Ref.TheVariants.{Free, Cell, Node, Half}

@@ -13,9 +13,9 @@ use Rattle.and_cells.specs.Seen.{Seen, LeadsTo, here, onward}
 use Rattle.and_cells.specs.Meaning.{Words, shallow_term, shallow_cells, same_terms, equations_between}
 use Rattle.and_laws.proofs.Ordered.{contains_first}
 use Rattle.and_laws.proofs.Solving.{solves_front}
-use Rattle.and_meaning.specs.Joined.{value}
-use Rattle.and_meaning.specs.Known.{HasKnown, SolvesKnown}
-use Rattle.and_solutions.proofs.Between.{one_value, names_no_half, between_solved}
+use Rattle.and_cells.specs.Joined.{value}
+use Rattle.and_cells.specs.Known.{HasKnown, SolvesKnown}
+use Rattle.and_cell_laws.proofs.Between.{one_value, names_no_half, between_solved}
 use Rattle.and_unify.specs.declared.pairs.Pair.{Pair}
 
 -- none of the cells that the reference names is a word of a pair

@@ -12,18 +12,19 @@ use Rattle.and_model.specs.Solutions.{Solves}
 use Rattle.and_model.specs.Store.{is_half}
 use Rattle.and_model.specs.declared.reference.Ref.{Ref}
 use Rattle.and_model.specs.declared.reference.Ref.TheVariants.{Free, Cell, Node, Number, Half}
-use Rattle.and_written.specs.Clauses.{width}
-use Rattle.and_written.specs.Skeletons.{AllFall}
+use Rattle.and_model.specs.Terms.{width}
+use Rattle.and_program.specs.Skeletons.{AllFall}
 use Rattle.and_cells.specs.Ranges.{NamedProgram, IsInRange}
 use Rattle.and_cells.specs.Seen.{Seen, Knows, OnlyReads, IsWrittenIfNumber}
 use Rattle.and_cells.specs.Meaning.{Words, shallow_term, shallow_cells}
 use Rattle.and_laws.proofs.Ordered.{contains_none}
-use Rattle.and_meaning.specs.Joined.{value}
-use Rattle.and_meaning.specs.Known.{HasKnown, SolvesKnown}
+use Rattle.and_cells.specs.Joined.{value}
+use Rattle.and_cells.specs.Known.{HasKnown, SolvesKnown}
 use Rattle.and_unify.specs.declared.pairs.Pair.{Pair}
 use Rattle.and_unify.specs.Pairs.{equations_of_pairs, AreInRange, AreWritten, NameNoHalf, DifferAtHeads, AreApart}
 use Rattle.and_unify.specs.Places.{left_sides, sides, IsPlace, Places}
 use Rattle.and_unify.specs.Following.{Follows, OwnFollow, NewFollow}
+use Rattle.and_unify.specs.Unifying.{HasSpent}
 use Rattle.and_unify.specs.Turns.{Stand, Finishes, PutsOff, Breaks}
 use Rattle.and_unify.proofs.TurnAgree.{Agree, PairAgrees, agree_onward}
 use Rattle.and_unify.proofs.TurnParts.{arguments_of}
@@ -173,10 +174,6 @@ apart_end P first asked fuel began old new bound one other k b =
           apart_disagree P new.seen w t one other has b.meets.apart
           (agree_onward P w t new.seen b.p.left b.p.right one other has solves b.meets.lead.left_leads b.meets.lead.right_leads own),
     )
-
--- the fuel that is gone, and so many places
-abbrev pub HasSpent : NamedProgram → List Pair → (now : Seen) (fuel left : ℕ) → Type 0
-HasSpent P asked now fuel left = (count : ℕ) × (fuel ≡ left + count) × Places P now (left_sides asked) count
 
 -- Each place that was taken cost 1,
 pub spent_end : (P : NamedProgram) (asked : List Pair) (fuel : ℕ) (s : Stand) (now : Seen) (left : ℕ) → OnlyReads s.seen now → left ≡ s.fuel → Paid P asked fuel s → HasSpent P asked now fuel left

@@ -6,16 +6,16 @@ use Rattle.std.proofs.lemmas.List as list
 use Rattle.and_model.specs.declared.numbers.NodeNo.{NodeNo}
 use Rattle.and_model.specs.declared.reference.Ref.{Ref}
 use Rattle.and_model.specs.declared.reference.Ref.TheVariants.{Node}
-use Rattle.and_clauses.specs.Loaded.{shape_at, arguments_at}
-use Rattle.and_clauses.specs.Shown.{resolved}
+use Rattle.and_program.specs.Loaded.{shape_at, arguments_at}
+use Rattle.and_program.specs.Shown.{resolved}
 use Rattle.and_cells.specs.Ranges.{NamedProgram}
-use Rattle.and_meaning.specs.Parts.{IsStructure, parts_of, part_at}
+use Rattle.and_cells.specs.Parts.{IsStructure, parts_of, part_at}
 use Rattle.and_unify.proofs.TurnParts.{parts_counted, length_map}
 use Rattle.and_unify.specs.declared.pairs.Pair.{Pair}
 use Rattle.and_cells.specs.Seen.{Seen}
-use Rattle.and_unify.specs.Meeting.{MeetStructures}
+use Rattle.and_unify.specs.Meeting.{AreOfOneShape, MeetStructures}
 use Rattle.and_unify.specs.Classes.{InOneClass, Joins}
-use Rattle.and_unify.specs.Turns.{AreOfOneShape, Steps, one_class, joins, pairs_of}
+use Rattle.and_unify.specs.Turns.{Steps, one_class, joins, pairs_of}
 
 -- an element of a mapped list
 slice_get_map : {X Y : Type 0} (f : X → Y) (xs : List X) (k : ℕ) (d : X) → k < length xs → slice_get (map f xs) k ≡ Some (f (get_or xs k d))
@@ -93,17 +93,7 @@ arguments_counted P one node base name count is s =
 
 -- Structures to which the sides of a pair led are of one shape.
 pub one_shape : (P Q : NamedProgram) (left right one other : Ref) (old new : Seen) → P ≡ Q → MeetStructures P left right old new one other → (words : ℕ) × AreOfOneShape Q words one other
-one_shape P Q left right one other old new same m = subst (λ p. (words : ℕ) × AreOfOneShape p words one other) same (
-  old.words,
-  record {
-    name = m.name;
-    count = m.count;
-    left_is = m.left_is;
-    right_is = m.right_is;
-    left_in_range = m.left_in_range;
-    right_in_range = m.right_in_range;
-  },
-)
+one_shape P Q left right one other old new same m = subst (λ p. (words : ℕ) × AreOfOneShape p words one other) same (old.words, m.shape)
 
 -- What descending into structures does is a step.
 pub steps_down : (P Q : NamedProgram) (p : Pair) (one other : Ref) (old new : Seen) (links more_links : List (Ref × Ref)) (list longer : List Pair) (bound further : List ℕ) → P ≡ Q

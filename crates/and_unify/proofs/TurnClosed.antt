@@ -11,19 +11,19 @@ use Rattle.and_model.specs.Store.{is_half}
 use Rattle.and_model.specs.declared.reference.Ref.{Ref}
 use Rattle.and_model.specs.declared.reference.Ref.TheVariants.{Free, Cell, Node, Number, Half}
 use Rattle.and_model.specs.declared.numbers.NodeNo.{NodeNo}
-use Rattle.and_written.specs.Skeletons.{AllFall, compound}
-use Rattle.and_clauses.specs.Loaded.{shape_at}
+use Rattle.and_program.specs.Skeletons.{AllFall, compound}
+use Rattle.and_program.specs.Loaded.{shape_at}
 use Rattle.and_cells.specs.Ranges.{NamedProgram, IsInRange}
 use Rattle.and_cells.specs.Seen.{Seen, Knows, Keeps, LeadsTo, here, onward}
 use Rattle.and_cells.specs.Meaning.{Words, shallow_term}
 use Rattle.and_cells.proofs.Chains.{reads_keeps, keeps_more, sets_keeps, leads_later}
-use Rattle.and_meaning.specs.Parts.{IsStructure, parts_of}
-use Rattle.and_meaning.specs.Joined.{Joined, link, same, back, then, AllJoined, none, more, AreMatched, value}
-use Rattle.and_meaning.specs.Known.{HasKnown, SolvesKnown}
+use Rattle.and_cells.specs.Parts.{IsStructure, parts_of}
+use Rattle.and_cells.specs.Joined.{Joined, link, same, back, then, AllJoined, none, more, AreMatched, value}
+use Rattle.and_cells.specs.Known.{HasKnown, SolvesKnown}
 use Rattle.and_laws.proofs.Ordered.{contains_none}
-use Rattle.and_solutions.proofs.Structures.{shape_of_structure}
-use Rattle.and_solutions.proofs.Joining.{joined_have_one_value}
-use Rattle.and_solutions.proofs.Between.{one_value}
+use Rattle.and_cell_laws.proofs.Structures.{shape_of_structure}
+use Rattle.and_cell_laws.proofs.Joining.{joined_have_one_value}
+use Rattle.and_cell_laws.proofs.Between.{one_value}
 use Rattle.and_unify.specs.declared.pairs.Pair.{Pair}
 use Rattle.and_unify.specs.Meeting.{AreAlike}
 use Rattle.and_unify.specs.Classes.{Linked, InOneClass}
@@ -274,7 +274,7 @@ step_joined P p old new links more_links list longer bound further Later takes (
 step_joined P p old new links more_links list longer bound further Later takes (one_class one other m c e f g) =
     let M = Link P new more_links Later in
     let j : Joined M one other = class_joined P new more_links Later one other (subst (λ ls. InOneClass ls one other) (sym e) c) in
-    structures_joined P new more_links Later p.left p.right one other m.name m.count m.lead.left_leads m.lead.right_leads m.left_is m.right_is j
+    structures_joined P new more_links Later p.left p.right one other m.shape.name m.shape.count m.lead.left_leads m.lead.right_leads m.shape.left_is m.shape.right_is j
 step_joined P p old new links more_links list longer bound further Later takes (joins one other m c f g) =
     let M = Link P new more_links Later in
     let class : (x y : Ref) → InOneClass links x y → Joined M x y =
@@ -284,7 +284,7 @@ step_joined P p old new links more_links list longer bound further Later takes (
       | inl straight ↦ then one c.one other (back c.one one (class c.one one straight.0)) (then c.one c.other other fresh (class c.other other straight.1))
       | inr crossed ↦ then one c.other other (back c.other one (class c.other one crossed.1)) (then c.other c.one other (back c.one c.other fresh) (class c.one other crossed.0))
     ] in
-    structures_joined P new more_links Later p.left p.right one other m.name m.count m.lead.left_leads m.lead.right_leads m.left_is m.right_is j
+    structures_joined P new more_links Later p.left p.right one other m.shape.name m.shape.count m.lead.left_leads m.lead.right_leads m.shape.left_is m.shape.right_is j
 
 -- links only grow
 step_grows : (P : NamedProgram) (p : Pair) (old new : Seen) (links more_links : List (Ref × Ref)) (list longer : List Pair) (bound further : List ℕ)
@@ -308,11 +308,11 @@ step_matched P p old new links more_links list longer bound further Later takes 
     let arguments : (x : Pair) → Contains parts x → Joined M x.left x.right =
     λ x at. link x.left x.right (todo x (takes x (subst (λ xs. Contains xs x) (sym f) (Contains-append_right list parts x at)))) in
     let both : AreMatched P M one other = record {
-      name = m.name;
-      count = m.count;
-      left = m.left_is;
-      right = m.right_is;
-      joined = parts_joined P M one other m.name m.count m.left_is m.right_is arguments;
+      name = m.shape.name;
+      count = m.shape.count;
+      left = m.shape.left_is;
+      right = m.shape.right_is;
+      joined = parts_joined P M one other m.shape.name m.shape.count m.shape.left_is m.shape.right_is arguments;
     } in
     let fresh : AreMatched P M c.one c.other = elim c.between [
       | inl straight ↦ matched_in_class P links M c.one c.other one other each straight.0 straight.1 both

@@ -9,13 +9,13 @@ use Rattle.and_model.specs.Solutions.{Solves}
 use Rattle.and_model.specs.Store.{Setting, Known, is_half}
 use Rattle.and_model.specs.declared.reference.Ref.{Ref}
 use Rattle.and_model.specs.declared.reference.Ref.TheVariants.{Cell}
-use Rattle.and_written.specs.Skeletons.{AllFall}
+use Rattle.and_program.specs.Skeletons.{AllFall}
 use Rattle.and_cells.specs.Ranges.{NamedProgram}
 use Rattle.and_cells.specs.Seen.{Seen, Knows, IsAmong, OnlyReads, Gains}
 use Rattle.and_cells.specs.Meaning.{Words, equations_between}
 use Rattle.and_laws.proofs.Ordered.{contains_first}
-use Rattle.and_meaning.specs.Known.{HasKnown, SolvesKnown, SolvesSettings}
-use Rattle.and_solutions.proofs.Images.{contains_origin}
+use Rattle.and_cells.specs.Known.{HasKnown, SolvesKnown, SolvesSettings}
+use Rattle.and_cell_laws.proofs.Images.{contains_origin}
 use Rattle.and_unify.specs.declared.pairs.Pair.{Pair}
 use Rattle.and_unify.specs.Pairs.{equations_of_pairs}
 use Rattle.and_unify.specs.Following.{OwnFollow}

@@ -6,14 +6,14 @@ use Rattle.and_model.specs.Terms.{Substitution}
 use Rattle.and_model.specs.Solutions.{Solves}
 use Rattle.and_model.specs.declared.reference.Ref.{Ref}
 use Rattle.and_model.specs.declared.reference.Ref.TheVariants.{Cell}
-use Rattle.and_written.specs.Skeletons.{AllFall}
+use Rattle.and_program.specs.Skeletons.{AllFall}
 use Rattle.and_cells.specs.Ranges.{NamedProgram}
 use Rattle.and_cells.specs.Seen.{Seen, Knows, Keeps, OnlyReads}
 use Rattle.and_cells.specs.Meaning.{Words, equations_between}
 use Rattle.and_cells.proofs.Chains.{reads_keeps, keeps_more}
 use Rattle.and_laws.proofs.Ordered.{contains_first, contains_more, contains_cases, contains_none}
 use Rattle.and_laws.proofs.Solving.{solves_join, solves_front, solves_back}
-use Rattle.and_meaning.specs.Known.{SolvesKnown}
+use Rattle.and_cells.specs.Known.{SolvesKnown}
 use Rattle.and_unify.specs.declared.pairs.Pair.{Pair}
 use Rattle.and_unify.specs.Pairs.{equations_of_pairs}
 use Rattle.and_unify.specs.Places.{sides, IsPlace, set}

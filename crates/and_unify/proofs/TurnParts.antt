@@ -8,19 +8,19 @@ use Rattle.and_model.specs.Terms.{Path, Term, Terms, Substitution, variables_of,
 use Rattle.and_model.specs.declared.numbers.NodeNo.{NodeNo}
 use Rattle.and_model.specs.declared.reference.Ref.{Ref}
 use Rattle.and_model.specs.declared.reference.Ref.TheVariants.{Free, Cell, Node, Number, Half}
-use Rattle.and_written.specs.Skeletons
-use Rattle.and_written.specs.Skeletons.{Shape, row, nth, node_term, shape_term, terms_behind, Falls, IsFalling, AllFall}
-use Rattle.and_clauses.specs.Loaded.{shape_at, arguments_at}
-use Rattle.and_clauses.specs.Shown.{arguments_in, resolved}
+use Rattle.and_program.specs.Skeletons
+use Rattle.and_program.specs.Skeletons.{Shape, row, nth, node_term, shape_term, terms_behind, Falls, IsFalling, AllFall}
+use Rattle.and_program.specs.Loaded.{shape_at, arguments_at}
+use Rattle.and_program.specs.Shown.{arguments_in, resolved}
 use Rattle.and_cells.specs.Ranges.{NamedProgram, IsInRange}
 use Rattle.and_cells.specs.Seen.{Seen, IsWrittenIfNumber}
 use Rattle.and_cells.specs.Meaning.{Words, shallow_cells}
 use Rattle.and_laws.proofs.Ordered.{contains_first, contains_more, contains_cases, contains_none}
-use Rattle.and_meaning.specs.Parts.{IsStructure, parts_of, part_at}
-use Rattle.and_meaning.specs.Joined.{Joined, AllJoined, none, more}
+use Rattle.and_cells.specs.Parts.{IsStructure, parts_of, part_at}
+use Rattle.and_cells.specs.Joined.{Joined, AllJoined, none, more}
 use Rattle.and_circles.proofs.Parts
-use Rattle.and_solutions.proofs.Structures.{node_term_shape, HaveValues, value_of_structure, shape_of_structure}
-use Rattle.and_solutions.proofs.Images.{contains_image, contains_origin}
+use Rattle.and_cell_laws.proofs.Structures.{node_term_shape, HaveValues, value_of_structure, shape_of_structure}
+use Rattle.and_cell_laws.proofs.Images.{contains_image, contains_origin}
 use Rattle.and_unify.specs.declared.pairs.Pair.{Pair}
 use Rattle.and_unify.specs.Turns.{pairs_of}
 use Rattle.and_unify.proofs.TurnAgree.{IsWhole, Agree, PairAgrees}

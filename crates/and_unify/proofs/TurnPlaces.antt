@@ -6,11 +6,11 @@ use Rattle.std.proofs.lemmas.List.{length_push}
 use Rattle.and_laws.proofs.Pairwise.{all_pairs_join}
 use Rattle.and_model.specs.declared.reference.Ref.{Ref}
 use Rattle.and_model.specs.declared.reference.Ref.TheVariants.{Cell, Node}
-use Rattle.and_written.specs.Skeletons.{AllFall}
+use Rattle.and_program.specs.Skeletons.{AllFall}
 use Rattle.and_cells.specs.Ranges.{NamedProgram, IsInRange}
 use Rattle.and_cells.specs.Seen.{Seen, Knows, LeadsTo, here, onward, IsWrittenIfNumber}
 use Rattle.and_cells.proofs.Chains.{written_later}
-use Rattle.and_meaning.specs.Parts.{IsStructure, parts_of}
+use Rattle.and_cells.specs.Parts.{IsStructure, parts_of}
 use Rattle.and_unify.specs.declared.pairs.Pair.{Pair}
 use Rattle.and_unify.specs.Places.{IsPlace, root, set, part, Places}
 use Rattle.and_unify.specs.Turns.{Steps}
@@ -38,8 +38,8 @@ fit_later P words old new p knows fit = record {
 part_fits : (P : NamedProgram) (words : ℕ) (s : Seen) (p q : Pair) → AllFall 0 P.skeleton.nodes → IsPartOf P s words p q → IsFit P words s q
 part_fits P words s p q fall is =
     let (left, right) = sides_of_pairs (parts_of P is.one) (parts_of P is.other) q is.at in record {
-      left_in_range = part_in_range P words is.one q.left fall is.left_in_range left;
-      right_in_range = part_in_range P words is.other q.right fall is.right_in_range right;
+      left_in_range = part_in_range P words is.one q.left fall is.shape.left_in_range left;
+      right_in_range = part_in_range P words is.other q.right fall is.shape.right_in_range right;
       left_written = part_written P s is.one q.left left;
       right_written = part_written P s is.other q.right right;
     }
@@ -81,14 +81,14 @@ pub part_left : (P : NamedProgram) (s now : Seen) (words : ℕ) (roots : List Re
     → IsPartOf P now words p q → IsPlace P s roots p.left → IsPlace P s roots q.left
 part_left P s now words roots p q each is at =
     let (left, right) = sides_of_pairs (parts_of P is.one) (parts_of P is.other) q is.at in
-    place_part P s roots is.one is.name is.count q.left is.left_is (place_leads P s now roots p.left is.one each is.left_leads at) left
+    place_part P s roots is.one is.shape.name is.shape.count q.left is.shape.left_is (place_leads P s now roots p.left is.one each is.left_leads at) left
 
 -- the right side
 pub part_right : (P : NamedProgram) (s now : Seen) (words : ℕ) (roots : List Ref) (p q : Pair) → ((cell : ℕ) (x : Ref) → Knows now cell x → IsPlace P s roots (Cell cell) → IsPlace P s roots x)
     → IsPartOf P now words p q → IsPlace P s roots p.right → IsPlace P s roots q.right
 part_right P s now words roots p q each is at =
     let (left, right) = sides_of_pairs (parts_of P is.one) (parts_of P is.other) q is.at in
-    place_part P s roots is.other is.name is.count q.right is.right_is (place_leads P s now roots p.right is.other each is.right_leads at) right
+    place_part P s roots is.other is.shape.name is.shape.count q.right is.shape.right_is (place_leads P s now roots p.right is.other each is.right_leads at) right
 
 -- what is set at a place under what is known is a place
 pub place_set : (P : NamedProgram) (s : Seen) (roots : List Ref) (cell : ℕ) (x : Ref) → Knows s cell x → IsPlace P s roots (Cell cell) → IsPlace P s roots x

@@ -6,15 +6,15 @@ use Rattle.std.proofs.lemmas.List.Elements.{Contains-append_cases}
 use Rattle.and_model.specs.Terms.{Substitution}
 use Rattle.and_model.specs.declared.reference.Ref.{Ref}
 use Rattle.and_model.specs.declared.reference.Ref.TheVariants.{Cell}
-use Rattle.and_written.specs.Skeletons.{AllFall}
-use Rattle.and_cells.specs.Ranges.{NamedProgram, IsInRange}
+use Rattle.and_program.specs.Skeletons.{AllFall}
+use Rattle.and_cells.specs.Ranges.{NamedProgram}
 use Rattle.and_cells.specs.Seen.{Seen, Knows, IsAmong, OnlyReads, LeadsTo}
 use Rattle.and_cells.specs.Meaning.{Words, equations_between}
 use Rattle.and_model.specs.Solutions.{Solves}
-use Rattle.and_meaning.specs.Parts.{IsStructure, parts_of}
-use Rattle.and_meaning.specs.Known.{HasKnown, SolvesKnown}
+use Rattle.and_cells.specs.Parts.{parts_of}
+use Rattle.and_cells.specs.Known.{HasKnown, SolvesKnown}
 use Rattle.and_unify.specs.declared.pairs.Pair.{Pair}
-use Rattle.and_unify.specs.Meeting.{MeetFree}
+use Rattle.and_unify.specs.Meeting.{AreOfOneShape, MeetFree}
 use Rattle.and_unify.specs.Turns
 use Rattle.and_unify.specs.Turns.{pairs_of, Steps, sets, one_class, joins}
 use Rattle.and_unify.proofs.TurnAgree.{Agree, PairAgrees, agree_back, agree_onward, solves_from_agree}
@@ -33,12 +33,7 @@ pub record IsPartOf (P : NamedProgram) (s : Seen) (words : ℕ) (p q : Pair) : T
   pub other : Ref
   pub left_leads : LeadsTo s p.left one
   pub right_leads : LeadsTo s p.right other
-  pub name : ℕ
-  pub count : ℕ
-  pub left_is : IsStructure P one name count
-  pub right_is : IsStructure P other name count
-  pub left_in_range : IsInRange P words one
-  pub right_in_range : IsInRange P words other
+  pub shape : AreOfOneShape P words one other
   pub at : Contains (pairs_of (parts_of P one) (parts_of P other)) q
 
 -- What a step adds to its list are pairs of arguments.
@@ -55,12 +50,7 @@ step_adds P p old new links more_links list longer bound further (joins one othe
         other = other;
         left_leads = m.lead.left_leads;
         right_leads = m.lead.right_leads;
-        name = m.name;
-        count = m.count;
-        left_is = m.left_is;
-        right_is = m.right_is;
-        left_in_range = m.left_in_range;
-        right_in_range = m.right_in_range;
+        shape = m.shape;
         at = at;
       })
     ]
@@ -70,7 +60,7 @@ part_agrees : (P : NamedProgram) (s : Seen) (words : ℕ) (p q : Pair) (w : Word
     → IsPartOf P s words p q → PairAgrees P w t p → PairAgrees P w t q
 part_agrees P s words p q w t fall has solves part a =
     let ends : Agree P w t part.one part.other = agree_onward P w t s p.left p.right part.one part.other has solves part.left_leads part.right_leads a in
-    parts_agree P w t part.one part.other part.name part.count fall part.left_is part.right_is ends q part.at
+    parts_agree P w t part.one part.other part.shape.name part.shape.count fall part.shape.left_is part.shape.right_is ends q part.at
 
 -- A step keeps what is sound, where what is known after it is solved.
 pub sound_steps : (P : NamedProgram) (p : Pair) (old new : Seen) (links more_links : List (Ref × Ref)) (list longer : List Pair) (bound further : List ℕ) (Asked Todo Later : Pair → Type 0)

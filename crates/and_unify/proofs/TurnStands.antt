@@ -4,13 +4,13 @@ use Rattle.std.specs.Prelude.{Contains, All, AllPairs}
 use Rattle.std.proofs.lemmas.List.{length_push}
 use Rattle.std.proofs.lemmas.List.Elements.{All-contains, All-nil, All-push, All-weaker, Contains-append_left, Contains-append_right, Contains-push, Contains-push_cases}
 use Rattle.and_model.specs.declared.reference.Ref.{Ref}
-use Rattle.and_written.specs.Skeletons.{AllFall}
+use Rattle.and_program.specs.Skeletons.{AllFall}
 use Rattle.and_cells.specs.Ranges.{NamedProgram, IsInRange}
 use Rattle.and_cells.specs.Seen.{Seen, Knows, OnlyReads, LeadsTo, IsWrittenIfNumber}
 use Rattle.and_cells.proofs.Chains.{reads_nothing, reads_keeps}
 use Rattle.and_laws.proofs.Ordered.{contains_none}
 use Rattle.and_laws.proofs.Pairwise.{all_pairs_none}
-use Rattle.and_solutions.proofs.Images.{contains_image}
+use Rattle.and_cell_laws.proofs.Images.{contains_image}
 use Rattle.and_unify.specs.declared.pairs.Pair.{Pair}
 use Rattle.and_unify.specs.Pairs.{AreInRange, AreWritten}
 use Rattle.and_unify.specs.Places.{left_sides, sides, IsPlace, root}

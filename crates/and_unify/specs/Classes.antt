@@ -1,7 +1,7 @@
 -- Classes of references that were joined.
 use Rattle.std.specs.Prelude.{List, ◌∷◌, [], ◌++◌, ◌≡◌, ◌≢◌, ◌⊎◌, All, Contains}
 use Rattle.and_model.specs.declared.reference.Ref.{Ref}
-use Rattle.and_meaning.specs.Joined.{Joined}
+use Rattle.and_cells.specs.Joined.{Joined}
 
 -- the links that were made
 abbrev pub Linked : List (Ref × Ref) → Ref → Ref → Type 0

@@ -8,7 +8,7 @@ use Rattle.and_model.specs.declared.reference.Ref.TheVariants.{Cell}
 use Rattle.and_cells.specs.Ranges.{NamedProgram}
 use Rattle.and_cells.specs.Seen.{Seen}
 use Rattle.and_cells.specs.Meaning.{Words, equations_between}
-use Rattle.and_meaning.specs.Known.{HasKnown, SolvesKnown, SolvesSettings}
+use Rattle.and_cells.specs.Known.{HasKnown, SolvesKnown, SolvesSettings}
 use Rattle.and_unify.specs.declared.pairs.Pair.{Pair}
 use Rattle.and_unify.specs.Pairs.{equations_of_pairs}
 

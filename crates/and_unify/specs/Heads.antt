@@ -6,8 +6,8 @@ use Rattle.and_model.specs.declared.reference.Ref.TheVariants as reference
 use Rattle.and_cells.specs.Ranges.{NamedProgram}
 use Rattle.and_cells.specs.Seen.{Seen}
 use Rattle.and_cells.specs.Meaning.{Words, shallow_term}
-use Rattle.and_meaning.specs.Parts.{IsStructure}
-use Rattle.and_meaning.specs.Known.{HasKnown}
+use Rattle.and_cells.specs.Parts.{IsStructure}
+use Rattle.and_cells.specs.Known.{HasKnown}
 use Rattle.and_unify.specs.declared.heads.Head.{Head}
 use Rattle.and_unify.specs.declared.heads.Head.TheVariants.{Number, Name}
 

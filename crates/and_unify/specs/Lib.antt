@@ -1,6 +1,7 @@
 pub mod Pairs
 pub mod Places
 pub mod Following
+pub mod Unifying
 pub mod Settling
 pub mod Heads
 pub mod Meeting

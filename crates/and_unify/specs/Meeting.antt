@@ -7,8 +7,8 @@ use Rattle.and_model.specs.declared.reference.Ref.TheVariants.{Cell}
 use Rattle.and_cells.specs.Ranges.{NamedProgram, IsInRange}
 use Rattle.and_cells.specs.Seen.{Seen, Finds, Sets, OnlyReads, LeadsTo, IsWrittenIfNumber}
 use Rattle.and_cells.specs.Meaning.{Words, shallow_term}
-use Rattle.and_meaning.specs.Parts.{IsStructure}
-use Rattle.and_meaning.specs.Known.{HasKnown}
+use Rattle.and_cells.specs.Parts.{IsStructure}
+use Rattle.and_cells.specs.Known.{HasKnown}
 use Rattle.and_unify.specs.Pairs.{AreApart}
 
 -- Looks alone led from the two sides to these two.
@@ -56,15 +56,19 @@ pub record MeetFree (P : NamedProgram) (left right : Ref) (cell : ℕ) (old new 
   pub written : IsWrittenIfNumber before to
   pub sets : Sets cell to before new
 
--- Both sides led to structures of one name and number of arguments.
-pub record MeetStructures (P : NamedProgram) (left right : Ref) (old new : Seen) (one other : Ref) : Type 0 where
-  pub lead : Lead left right old new one other
+-- Two structures of one name and number of arguments, whose cells are among so many words.
+pub record AreOfOneShape (P : NamedProgram) (words : ℕ) (one other : Ref) : Type 0 where
   pub name : ℕ
   pub count : ℕ
   pub left_is : IsStructure P one name count
   pub right_is : IsStructure P other name count
-  pub left_in_range : IsInRange P old.words one
-  pub right_in_range : IsInRange P old.words other
+  pub left_in_range : IsInRange P words one
+  pub right_in_range : IsInRange P words other
+
+-- Both sides led to structures of one shape.
+pub record MeetStructures (P : NamedProgram) (left right : Ref) (old new : Seen) (one other : Ref) : Type 0 where
+  pub lead : Lead left right old new one other
+  pub shape : AreOfOneShape P old.words one other
 
 -- The sides led to two that are never the same.
 pub record MeetApart (P : NamedProgram) (left right : Ref) (old new : Seen) (one other : Ref) : Type 0 where

@@ -4,11 +4,11 @@ use Rattle.and_model.specs.Terms.{Term, variable, number, compound}
 use Rattle.and_model.specs.Solutions.{Equation}
 use Rattle.and_model.specs.Store.{is_half}
 use Rattle.and_model.specs.declared.reference.Ref.{Ref}
-use Rattle.and_written.specs.Clauses.{width}
+use Rattle.and_model.specs.Terms.{width}
 use Rattle.and_cells.specs.Ranges.{NamedProgram, IsInRange}
 use Rattle.and_cells.specs.Seen.{Seen, IsWrittenIfNumber}
 use Rattle.and_cells.specs.Meaning.{Words, shallow_term, shallow_cells, equations_between}
-use Rattle.and_meaning.specs.Known.{HasKnown}
+use Rattle.and_cells.specs.Known.{HasKnown}
 use Rattle.and_unify.specs.declared.pairs.Pair.{Pair}
 
 -- the equations that the pairs ask for

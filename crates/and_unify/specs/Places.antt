@@ -5,7 +5,7 @@ use Rattle.and_model.specs.declared.reference.Ref.{Ref}
 use Rattle.and_model.specs.declared.reference.Ref.TheVariants.{Cell, Node}
 use Rattle.and_cells.specs.Ranges.{NamedProgram}
 use Rattle.and_cells.specs.Seen.{Seen, Knows}
-use Rattle.and_meaning.specs.Parts.{parts_of}
+use Rattle.and_cells.specs.Parts.{parts_of}
 use Rattle.and_unify.specs.declared.pairs.Pair.{Pair}
 
 abbrev pub left_sides : List Pair → List Ref

@@ -1,13 +1,18 @@
--- Rows to which frames were added.
-use Rattle.std.specs.Prelude.{ℕ, ◌<◌, ◌≤◌, ◌≡◌, ◌++◌, List, length, All}
-use Rattle.and_model.specs.Solutions.{Equation}
+-- Rows to which frames were added, and what settling comes to.
+use Rattle.std.specs.Prelude.{ℕ, ◌<◌, ◌≤◌, ◌≡◌, ◌++◌, true, List, length, All}
+use Rattle.and_model.specs.Solutions.{Equation, Solvable}
+use Rattle.and_model.specs.Store.{is_half}
 use Rattle.and_model.specs.declared.reference.Ref.{Ref}
 use Rattle.and_model.specs.declared.reference.Ref.TheVariants.{Free}
 use Rattle.and_cells.specs.Ranges.{NamedProgram}
-use Rattle.and_cells.specs.Seen.{word_at, IsSetTo}
-use Rattle.and_cells.specs.Meaning.{shallow_cells, equations_of}
-use Rattle.and_meaning.specs.Ends.{IsBelow}
+use Rattle.and_cells.specs.Rows.{plain}
+use Rattle.and_cells.specs.Seen.{word_at, IsSetTo, Keeps}
+use Rattle.and_cells.specs.Meaning.{IsSettled, shallow_cells, equations_of}
+use Rattle.and_cells.specs.Ends.{IsBelow}
+use Rattle.and_cells.specs.Solved.{IsMostGeneral}
 use Rattle.and_unify.specs.declared.pairs.Pair.{Pair}
+use Rattle.and_unify.specs.declared.settling.Settled.{Settled}
+use Rattle.and_unify.specs.declared.settling.Settled.TheVariants.{Solved, NoSolution}
 use Rattle.and_unify.specs.Pairs.{equations_of_pairs}
 
 -- the equations of a row and of pairs
@@ -28,3 +33,13 @@ pub record AreNewFrom (P : NamedProgram) (row : List Ref) (pairs : List Pair) (f
   pub free : (cell : ℕ) → floor ≤ cell → word_at row cell ≡ Free
   pub named_below : (cell : ℕ) (r : Ref) → IsSetTo row cell r → NamesBelow P floor r
   pub sides : All (λ (p : Pair). KeepsBelow P floor p.left × KeepsBelow P floor p.right) pairs
+
+-- What settling comes to, from what the cells were and the pairs.
+pub record Settles (P : NamedProgram) (old new : List Ref) (pairs : List Pair) (answer : Settled) : Type 0 where
+  -- The cells are a most general solution of both, and are settled.
+  pub solved : answer ≡ Solved → IsMostGeneral P new (equations_with P old pairs)
+  pub settled : answer ≡ Solved → IsSettled P new
+  pub no_solution : answer ≡ NoSolution → Solvable (equations_with P old pairs) → ⊥
+  -- What was set stays, and no further cell is a word of a pair.
+  pub keeps : Keeps (plain old) (plain new)
+  pub halves : (cell : ℕ) → is_half (word_at new cell) ≡ true → is_half (word_at old cell) ≡ true

@@ -1,9 +1,9 @@
 -- What one turn of unification does to what is still to be done.
 use Rattle.std.specs.Prelude.{ℕ, suc, ◌≡◌, ◌⊎◌, ◌+◌, ◌-◌, ◌*◌, ◌^◌, List, [], ◌∷◌, ◌++◌, length, Contains}
 use Rattle.and_model.specs.declared.reference.Ref.{Ref}
-use Rattle.and_cells.specs.Ranges.{NamedProgram, IsInRange}
+use Rattle.and_cells.specs.Ranges.{NamedProgram}
 use Rattle.and_cells.specs.Seen.{Seen, OnlyReads, LeadsTo}
-use Rattle.and_meaning.specs.Parts.{IsStructure, parts_of}
+use Rattle.and_cells.specs.Parts.{parts_of}
 use Rattle.and_unify.specs.declared.pairs.Pair.{Pair}
 use Rattle.and_unify.specs.declared.turning.Work.{Work}
 use Rattle.and_unify.specs.Meeting.{MeetAlike, MeetFree, MeetStructures, MeetApart}
@@ -14,15 +14,6 @@ abbrev pub pairs_of : List Ref → List Ref → List Pair
 pairs_of [] qs = []
 pairs_of (r ∷ rs) [] = []
 pairs_of (r ∷ rs) (q ∷ qs) = record { left = r; right = q } ∷ pairs_of rs qs
-
--- Two structures of one name and number of arguments, whose cells are among so many words.
-pub record AreOfOneShape (P : NamedProgram) (words : ℕ) (one other : Ref) : Type 0 where
-  pub name : ℕ
-  pub count : ℕ
-  pub left_is : IsStructure P one name count
-  pub right_is : IsStructure P other name count
-  pub left_in_range : IsInRange P words one
-  pub right_in_range : IsInRange P words other
 
 -- What becomes of a pair: what is seen, the links, a list that takes the pairs of arguments, and the cells that were set.
 -- Its sides are alike, or one is set to the other; or they are structures of one class, or of two that are joined.

@@ -2,15 +2,15 @@
 
 ghost use Rattle.std.specs.Prelude.{◌≡◌, ◌<◌, ℕ, length};
 ghost use Rattle.and_model.specs.declared.reference.Ref.{Ref};
-ghost use Rattle.and_clauses.specs.Loaded.{skeleton_of};
+ghost use Rattle.and_program.specs.Loaded.{skeleton_of};
 ghost use Rattle.and_cells.specs.Ranges.{IsInRange, IsNoVariable};
 ghost use Rattle.and_cells.specs.Seen.{Seen, OnlyReads, IsWrittenIfNumber};
-ghost use Rattle.and_meaning.specs.Parts.{named};
+ghost use Rattle.and_cells.specs.Parts.{named};
 ghost use Rattle.and_unify.specs.Heads.{IsEnd, HasHead};
 
 use and_cells::Cells;
-use and_clauses::{Loaded, Skeleton};
 use and_model::{NameNo, NodeNo, Ref};
+use and_program::{Loaded, NodeKind};
 
 /// What a term that is no variable begins with.
 #[derive(Clone, Copy, PartialEq, Eq, Debug)]
@@ -45,9 +45,9 @@ fn node_head(loaded: &Loaded, node: NodeNo) -> Head
     requires no_variable { IsNoVariable (named loaded.now) node.0 }
     ensures head { (s : Seen) (base : ℕ) → HasHead (named loaded.now) s (Ref.Node node base) result }
 {
-    match loaded.skeleton(node) {
-        Skeleton::Number(value) => Head::Number(value),
-        Skeleton::Compound { name, count } => Head::Name { name, count },
-        Skeleton::Variable(_) => unreachable!(),
+    match loaded.kind(node) {
+        NodeKind::Number(value) => Head::Number(value),
+        NodeKind::Compound { name, count } => Head::Name { name, count },
+        NodeKind::Variable(_) => unreachable!(),
     }
 }

@@ -14,6 +14,3 @@ pub use and_circles::{Circle, cycle};
 pub use pairs::{Pair, PairList};
 pub use settling::{Settled, settle, settle_further};
 pub use unifying::{Unified, unify};
-
-#[cfg(test)]
-mod tests;

@@ -5,14 +5,14 @@ ghost use Rattle.and_model.specs.Store.{is_half};
 ghost use Rattle.and_model.specs.declared.reference.Ref.{Ref};
 ghost use Rattle.and_cells.specs.Ranges.{IsInRange, IsInRangeOrHalf};
 ghost use Rattle.and_cells.specs.Seen.{Keeps, IsWrittenIfNumber};
-ghost use Rattle.and_meaning.specs.Parts.{named};
+ghost use Rattle.and_cells.specs.Parts.{named};
 ghost use Rattle.and_unify.specs.Heads.{IsEnd};
 ghost use Rattle.and_unify.specs.Meeting.{IsToBeSet, GoesOn, MeetAlike, MeetFree, MeetStructures, MeetApart};
 
 use crate::heads::{Head, head_of};
 use and_cells::{Bound, Cells, deref};
-use and_clauses::Loaded;
 use and_model::Ref;
+use and_program::Loaded;
 
 /// What became of a pair.
 #[derive(Clone, Copy, PartialEq, Eq, Debug)]
@@ -42,9 +42,9 @@ enum Case {
     Compare,
 }
 
-/// What became of two references.
+/// What became of one try at two references.
 #[derive(Clone, Copy, PartialEq, Eq, Debug)]
-enum Turn {
+enum Tried {
     Done(Met),
     /// The left side is a cell that was set to this meanwhile.
     LeftIs(Ref),
@@ -71,16 +71,16 @@ pub(crate) fn meet<C: Cells>(loaded: &Loaded, cells: &mut C, left: Ref, right: R
     let mut one = deref(cells, left);
     let mut other = deref(cells, right);
     loop {
-        match take_turn(loaded, cells, one, other) {
-            Turn::Done(met) => return met,
-            Turn::LeftIs(set) => one = set,
-            Turn::RightIs(set) => other = set,
+        match try_both(loaded, cells, one, other) {
+            Tried::Done(met) => return met,
+            Tried::LeftIs(set) => one = set,
+            Tried::RightIs(set) => other = set,
         }
     }
 }
 
-/// Compares two references, or sets one that is a cell to the other. Takes no memory.
-fn take_turn<C: Cells>(loaded: &Loaded, cells: &mut C, one: Ref, other: Ref) -> Turn
+/// Compares two references, or tries to set one that is a cell to the other. Takes no memory.
+fn try_both<C: Cells>(loaded: &Loaded, cells: &mut C, one: Ref, other: Ref) -> Tried
     requires program { C.program ≡ named loaded.now }
     requires one_in_range { IsInRangeOrHalf C.program (C.seen cells.old).words one }
     requires other_in_range { IsInRangeOrHalf C.program (C.seen cells.old).words other }
@@ -88,30 +88,30 @@ fn take_turn<C: Cells>(loaded: &Loaded, cells: &mut C, one: Ref, other: Ref) -> 
     requires other_written { IsWrittenIfNumber (C.seen cells.old) other }
     ensures over { C.over cells.new ≡ C.over cells.old }
     ensures keeps { Keeps (C.seen cells.old) (C.seen cells.new) }
-    ensures same { result ≡ Turn.Done Met.Same → MeetAlike C.program one other (C.seen cells.old) (C.seen cells.new) }
-    ensures bound { (cell : ℕ) → result ≡ Turn.Done (Met.Bound cell) → MeetFree C.program one other cell (C.seen cells.old) (C.seen cells.new) }
-    ensures structures { (p q : Ref) → result ≡ Turn.Done (Met.Structures p q)
+    ensures same { result ≡ Tried.Done Met.Same → MeetAlike C.program one other (C.seen cells.old) (C.seen cells.new) }
+    ensures bound { (cell : ℕ) → result ≡ Tried.Done (Met.Bound cell) → MeetFree C.program one other cell (C.seen cells.old) (C.seen cells.new) }
+    ensures structures { (p q : Ref) → result ≡ Tried.Done (Met.Structures p q)
         → MeetStructures C.program one other (C.seen cells.old) (C.seen cells.new) p q }
-    ensures apart { (p q : Ref) → result ≡ Turn.Done (Met.Apart p q)
+    ensures apart { (p q : Ref) → result ≡ Tried.Done (Met.Apart p q)
         → MeetApart C.program one other (C.seen cells.old) (C.seen cells.new) p q }
-    ensures left_is { (r : Ref) → result ≡ Turn.LeftIs r → GoesOn C.program one r (C.seen cells.old) (C.seen cells.new) }
-    ensures right_is { (r : Ref) → result ≡ Turn.RightIs r → GoesOn C.program other r (C.seen cells.old) (C.seen cells.new) }
+    ensures left_is { (r : Ref) → result ≡ Tried.LeftIs r → GoesOn C.program one r (C.seen cells.old) (C.seen cells.new) }
+    ensures right_is { (r : Ref) → result ≡ Tried.RightIs r → GoesOn C.program other r (C.seen cells.old) (C.seen cells.new) }
 {
     match case_of(one, other) {
-        Case::Half => Turn::Done(Met::Apart {
+        Case::Half => Tried::Done(Met::Apart {
             left: one,
             right: other,
         }),
-        Case::OneCell => Turn::Done(Met::Same),
+        Case::OneCell => Tried::Done(Met::Same),
         Case::SetLeft(cell) => match cells.bind(cell, other) {
-            Bound::Won => Turn::Done(Met::Bound { cell }),
-            Bound::Already(set) => Turn::LeftIs(set),
+            Bound::Won => Tried::Done(Met::Bound { cell }),
+            Bound::Already(set) => Tried::LeftIs(set),
         },
         Case::SetRight(cell) => match cells.bind(cell, one) {
-            Bound::Won => Turn::Done(Met::Bound { cell }),
-            Bound::Already(set) => Turn::RightIs(set),
+            Bound::Won => Tried::Done(Met::Bound { cell }),
+            Bound::Already(set) => Tried::RightIs(set),
         },
-        Case::Compare => Turn::Done(compare(loaded, cells, one, other)),
+        Case::Compare => Tried::Done(compare(loaded, cells, one, other)),
     }
 }
 

@@ -5,25 +5,24 @@ ghost use Rattle.and_model.specs.Store.{is_half};
 ghost use Rattle.and_model.specs.Terms.{Substitution};
 ghost use Rattle.and_model.specs.Solutions.{Solves, Solvable};
 ghost use Rattle.and_model.specs.declared.reference.Ref.{Ref};
-ghost use Rattle.and_written.specs.Skeletons.{AllFall};
+ghost use Rattle.and_program.specs.Skeletons.{AllFall};
 ghost use Rattle.and_cells.specs.Ranges.{IsInRange};
-ghost use Rattle.and_cells.specs.Seen.{word_at, Keeps};
+ghost use Rattle.and_cells.specs.Seen.{word_at};
 ghost use Rattle.and_cells.specs.Rows.{plain, IsSound};
 ghost use Rattle.and_cells.specs.Meaning.{IsSettled, equations_of, shallow_cells};
-ghost use Rattle.and_meaning.specs.Parts.{named};
-ghost use Rattle.and_meaning.specs.Ends.{Ends};
-ghost use Rattle.and_meaning.specs.Solved.{IsMostGeneral};
+ghost use Rattle.and_cells.specs.Parts.{named};
+ghost use Rattle.and_cells.specs.Ends.{Ends};
 ghost use Rattle.and_circles.specs.Explored.{AreFinished};
 ghost use Rattle.and_unify.specs.Pairs.{AreInRange, AreWritten, NameNoHalf};
-ghost use Rattle.and_unify.specs.Settling.{equations_with, AreNewFrom};
+ghost use Rattle.and_unify.specs.Settling.{equations_with, AreNewFrom, Settles};
 ghost use Rattle.and_unify.specs.declared.pairs.Pair.{Pair};
 
 use crate::pairs::PairList;
 use crate::unifying::{Unified, solve};
 use and_cells::{Naming, PlainCells};
 use and_circles::{Explored, Explorer};
-use and_clauses::Loaded;
 use and_model::Ref;
+use and_program::Loaded;
 use std::alloc::{AllocError, Global};
 
 /// What the equations of cells and pairs came to.
@@ -50,11 +49,7 @@ pub fn settle<N: Naming>(
     requires program { N.program ≡ named loaded.now }
     requires in_range { AreInRange N.program (length cells.old) pairs.old }
     requires written { AreWritten (plain cells.old) pairs.old }
-    ensures solved { result ≡ Settled.Solved → IsMostGeneral N.program cells.new (equations_with N.program cells.old pairs.old) }
-    ensures settled { result ≡ Settled.Solved → IsSettled N.program cells.new }
-    ensures no_solution { result ≡ Settled.NoSolution → Solvable (equations_with N.program cells.old pairs.old) → ⊥ }
-    ensures keeps { Keeps (plain cells.old) (plain cells.new) }
-    ensures halves { (cell : ℕ) → is_half (word_at cells.new cell) ≡ true → is_half (word_at cells.old cell) ≡ true }
+    ensures { Settles N.program cells.old cells.new pairs.old result }
 {
     let floor = cells.len();
     laws_of_rows(loaded, cells);
@@ -82,11 +77,7 @@ pub fn settle_further<N: Naming>(
     requires settled { IsSettled N.program cells.old }
     requires no_half { NameNoHalf N.program (word_at cells.old) pairs.old }
     requires new { AreNewFrom N.program cells.old pairs.old floor }
-    ensures solved { result ≡ Settled.Solved → IsMostGeneral N.program cells.new (equations_with N.program cells.old pairs.old) }
-    ensures settled { result ≡ Settled.Solved → IsSettled N.program cells.new }
-    ensures no_solution { result ≡ Settled.NoSolution → Solvable (equations_with N.program cells.old pairs.old) → ⊥ }
-    ensures keeps { Keeps (plain cells.old) (plain cells.new) }
-    ensures halves { (cell : ℕ) → is_half (word_at cells.new cell) ≡ true → is_half (word_at cells.old cell) ≡ true }
+    ensures { Settles N.program cells.old cells.new pairs.old result }
 {
     laws_of_rows(loaded, cells);
     let mut bound = Vec::new(alloc);

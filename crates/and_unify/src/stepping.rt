@@ -2,21 +2,22 @@
 
 ghost use Rattle.std.specs.Prelude.{◌≡◌, ◌≢◌, ◌⊎◌, ◌<◌, ◌≤◌, ◌+◌, ◌^◌, [], ◌∷◌, ◌++◌, ℕ, length, slice_get, Some, OnOk, vec_len, vec_capacity};
 ghost use Rattle.and_model.specs.declared.reference.Ref.{Ref};
-ghost use Rattle.and_clauses.specs.Loaded.{skeleton_of, arguments_at};
+ghost use Rattle.and_program.specs.Loaded.{skeleton_of, arguments_at};
 ghost use Rattle.and_cells.specs.Ranges.{IsInRange};
 ghost use Rattle.and_cells.specs.Seen.{IsWrittenIfNumber, OnlyReads};
-ghost use Rattle.and_meaning.specs.Parts.{named, parts_of};
+ghost use Rattle.and_cells.specs.Parts.{named, parts_of};
 ghost use Rattle.and_model.specs.declared.numbers.NodeNo.{NodeNo};
 ghost use Rattle.and_unify.specs.Classes.{InOneClass, Joins};
 ghost use Rattle.and_unify.specs.Meeting.{MeetApart};
-ghost use Rattle.and_unify.specs.Turns.{AreOfOneShape, pairs_of, Steps, weight};
+ghost use Rattle.and_unify.specs.Meeting.{AreOfOneShape};
+ghost use Rattle.and_unify.specs.Turns.{pairs_of, Steps, weight};
 
 use crate::classes::Classes;
 use crate::meeting::{Met, meet};
 use crate::pairs::{Pair, PairList};
 use and_cells::Cells;
-use and_clauses::{Loaded, Skeleton};
 use and_model::{NodeNo, Ref};
+use and_program::{Loaded, NodeKind};
 use std::alloc::AllocError;
 
 /// What became of a pair in its turn.
@@ -148,10 +149,10 @@ fn argument_count(loaded: &Loaded, node: NodeNo) -> u8
     requires { node.0 < length (skeleton_of loaded.now).nodes }
     ensures { result ≡ length (arguments_at (skeleton_of loaded.now) node.0) }
 {
-    match loaded.skeleton(node) {
-        Skeleton::Variable(_) => 0,
-        Skeleton::Number(_) => 0,
-        Skeleton::Compound { name: _, count } => count,
+    match loaded.kind(node) {
+        NodeKind::Variable(_) => 0,
+        NodeKind::Number(_) => 0,
+        NodeKind::Compound { name: _, count } => count,
     }
 }
 

@@ -3,7 +3,7 @@
 ghost use Rattle.std.specs.Prelude.{◌≡◌, ◌≢◌, ◌<◌, ◌+◌, [], ◌∷◌, ◌++◌, ℕ, length, true, false, OnOk, Contains};
 ghost use Rattle.and_model.specs.declared.reference.Ref.{Ref};
 ghost use Rattle.and_cells.specs.Seen.{OnlyReads};
-ghost use Rattle.and_meaning.specs.Parts.{named};
+ghost use Rattle.and_cells.specs.Parts.{named};
 ghost use Rattle.and_unify.specs.declared.pairs.Pair.{Pair};
 ghost use Rattle.and_unify.specs.declared.unifying.Unified.{Unified};
 ghost use Rattle.and_unify.specs.Pairs.{AreInRange, AreWritten};
@@ -14,8 +14,8 @@ use crate::pairs::{Pair, PairList};
 use crate::stepping::{Stepped, step};
 use crate::unifying::Unified;
 use and_cells::{Cells, deref};
-use and_clauses::Loaded;
 use and_model::Ref;
+use and_program::Loaded;
 use indexmap::IndexSet;
 use std::alloc::{AllocError, Global};
 

@@ -1,23 +1,19 @@
 //! Unification over any cells, by fuel (Robinson, 1965; classes of places that were made equal: Huet,
 //! 1976). It binds without looking for circles.
 
-ghost use Rattle.std.specs.Prelude.{◌≡◌, ◌≢◌, ◌≤◌, ◌<◌, ◌+◌, ◌⊎◌, ℕ, suc, [], IfSome, Contains};
-ghost use Rattle.and_model.specs.Terms.{Substitution};
-ghost use Rattle.and_model.specs.Solutions.{Solves};
+ghost use Rattle.std.specs.Prelude.{◌≡◌, ◌≤◌, ◌<◌, ◌⊎◌, ℕ, IfSome, Contains};
 ghost use Rattle.and_model.specs.declared.reference.Ref.{Ref};
 ghost use Rattle.and_cells.specs.Seen.{Keeps, Knows};
-ghost use Rattle.and_cells.specs.Meaning.{Words};
-ghost use Rattle.and_meaning.specs.Parts.{named};
-ghost use Rattle.and_meaning.specs.Known.{HasKnown, SolvesKnown};
-ghost use Rattle.and_unify.specs.Pairs.{equations_of_pairs, AreInRange, AreWritten, NameNoHalf, AreApart};
-ghost use Rattle.and_unify.specs.Places.{left_sides, sides, IsPlace, Places};
-ghost use Rattle.and_unify.specs.Following.{Follows};
+ghost use Rattle.and_cells.specs.Parts.{named};
+ghost use Rattle.and_unify.specs.Pairs.{AreInRange, AreWritten};
+ghost use Rattle.and_unify.specs.Places.{sides, IsPlace};
+ghost use Rattle.and_unify.specs.Unifying.{Unifies, Spends};
 
 use crate::pairs::PairList;
 use crate::turning::{Turn, Work, take_turn};
 use and_cells::Cells;
-use and_clauses::Loaded;
 use and_model::Ref;
+use and_program::Loaded;
 use std::alloc::Global;
 
 /// What became of pairs.
@@ -52,26 +48,8 @@ pub fn unify<C: Cells>(
     requires written { AreWritten (C.seen cells.old) pairs.old }
     ensures over { C.over cells.new ≡ C.over cells.old }
     ensures keeps { Keeps (C.seen cells.old) (C.seen cells.new) }
-    // Only what follows from the pairs and what was known is set.
-    ensures follows { Follows C.program pairs.old (C.seen cells.old) (C.seen cells.new) }
-    // The pairs that are left ask for the same as all pairs did, under what is known now.
-    ensures same { result ≡ Unified.Same → pairs.new ≡ [] }
-    ensures equal { (result ≡ Unified.Same) ⊎ (result ≡ Unified.PutOff)
-        → (w : Words) → HasKnown (C.seen cells.new) w → NameNoHalf C.program w pairs.old
-        → (t : Substitution) → SolvesKnown C.program w (C.seen cells.new) t
-        → Solves t (equations_of_pairs C.program w pairs.new) → Solves t (equations_of_pairs C.program w pairs.old) }
-    ensures left { result ≡ Unified.PutOff
-        → (w : Words) → HasKnown (C.seen cells.new) w
-        → (t : Substitution) → SolvesKnown C.program w (C.seen cells.new) t
-        → Solves t (equations_of_pairs C.program w pairs.old) → Solves t (equations_of_pairs C.program w pairs.new) }
-    ensures in_range { result ≡ Unified.PutOff → AreInRange C.program (C.seen cells.new).words pairs.new × AreWritten (C.seen cells.new) pairs.new }
-    // Two that are apart leave the pairs no solution.
-    ensures apart { (one other : Ref) → result ≡ Unified.Apart one other
-        → AreApart C.program (C.seen cells.new) one other
-        × ((w : Words) → HasKnown (C.seen cells.new) w → (t : Substitution) → SolvesKnown C.program w (C.seen cells.new) t
-        → Solves t (equations_of_pairs C.program w pairs.old) → ⊥) }
-    ensures spent { result ≢ Unified.Memory → (count : ℕ) × (fuel.old ≡ fuel.new + count) × Places C.program (C.seen cells.new) (left_sides pairs.old) count }
-    ensures put_off { result ≡ Unified.PutOff → (fuel.new ≡ 0) × (pairs.new ≢ []) × Places C.program (C.seen cells.new) (left_sides pairs.old) (suc fuel.old) }
+    ensures unifies { Unifies C.program (C.seen cells.old) (C.seen cells.new) pairs.old pairs.new result }
+    ensures spends { Spends C.program (C.seen cells.new) pairs.old pairs.new fuel.old fuel.new result }
 {
     let mut bound = Vec::new(alloc);
     solve(alloc, loaded, cells, fuel, pairs, &mut bound)
@@ -92,26 +70,8 @@ pub(crate) fn solve<C: Cells>(
     requires written { AreWritten (C.seen cells.old) pairs.old }
     ensures over { C.over cells.new ≡ C.over cells.old }
     ensures keeps { Keeps (C.seen cells.old) (C.seen cells.new) }
-    // Only what follows from the pairs and what was known is set.
-    ensures follows { Follows C.program pairs.old (C.seen cells.old) (C.seen cells.new) }
-    // The pairs that are left ask for the same as all pairs did, under what is known now.
-    ensures same { result ≡ Unified.Same → pairs.new ≡ [] }
-    ensures equal { (result ≡ Unified.Same) ⊎ (result ≡ Unified.PutOff)
-        → (w : Words) → HasKnown (C.seen cells.new) w → NameNoHalf C.program w pairs.old
-        → (t : Substitution) → SolvesKnown C.program w (C.seen cells.new) t
-        → Solves t (equations_of_pairs C.program w pairs.new) → Solves t (equations_of_pairs C.program w pairs.old) }
-    ensures left { result ≡ Unified.PutOff
-        → (w : Words) → HasKnown (C.seen cells.new) w
-        → (t : Substitution) → SolvesKnown C.program w (C.seen cells.new) t
-        → Solves t (equations_of_pairs C.program w pairs.old) → Solves t (equations_of_pairs C.program w pairs.new) }
-    ensures in_range { result ≡ Unified.PutOff → AreInRange C.program (C.seen cells.new).words pairs.new × AreWritten (C.seen cells.new) pairs.new }
-    // Two that are apart leave the pairs no solution.
-    ensures apart { (one other : Ref) → result ≡ Unified.Apart one other
-        → AreApart C.program (C.seen cells.new) one other
-        × ((w : Words) → HasKnown (C.seen cells.new) w → (t : Substitution) → SolvesKnown C.program w (C.seen cells.new) t
-        → Solves t (equations_of_pairs C.program w pairs.old) → ⊥) }
-    ensures spent { result ≢ Unified.Memory → (count : ℕ) × (fuel.old ≡ fuel.new + count) × Places C.program (C.seen cells.new) (left_sides pairs.old) count }
-    ensures put_off { result ≡ Unified.PutOff → (fuel.new ≡ 0) × (pairs.new ≢ []) × Places C.program (C.seen cells.new) (left_sides pairs.old) (suc fuel.old) }
+    ensures unifies { Unifies C.program (C.seen cells.old) (C.seen cells.new) pairs.old pairs.new result }
+    ensures spends { Spends C.program (C.seen cells.new) pairs.old pairs.new fuel.old fuel.new result }
     // Where the row is told, what was set here is on the list, and leads on from the sides.
     ensures sets { IfSome (C.seen cells.old).told (λ row. (place : ℕ) (r : Ref) → Knows (C.seen cells.new) place r
         → Knows (C.seen cells.old) place r

@@ -2,7 +2,7 @@ use Rattle.std.proofs.Common.{◌≡◌, length, sym, subst}
 use Rattle.std.specs.Prelude.{All}
 use Rattle.and_model.specs.Lines.{line}
 use Rattle.and_cells.specs.Ranges.{NamedProgram, IsGoalInRange}
-use Rattle.and_meaning.specs.Parts.{named}
+use Rattle.and_cells.specs.Parts.{named}
 use Rattle.and_print.specs.Given.{Given}
 use Rattle.and_print.proofs.Lining.{terms_waiting, waiting_mean, line_written}
 use Rattle.and_print.proofs.lines.show_line.Goals as goal

@@ -1,7 +1,7 @@
 use Rattle.std.proofs.Common.{◌++◌, ◌∙◌, [], ap, sym}
 use Rattle.std.proofs.lemmas.Result.{on_ok_weaker}
 use Rattle.and_model.specs.Lines.{shown}
-use Rattle.and_meaning.specs.Parts.{named}
+use Rattle.and_cells.specs.Parts.{named}
 use Rattle.and_cells.specs.Ranges.{NamedProgram}
 use Rattle.and_print.proofs.Chaining.{means_under}
 use Rattle.and_print.proofs.terms.show_term.Goals as goal

@@ -1,4 +1,4 @@
-use Rattle.and_meaning.specs.Joined.{same, link, then}
+use Rattle.and_cells.specs.Joined.{same, link, then}
 use Rattle.and_unify.proofs.ClassLinks.{links_fall}
 use Rattle.and_unify.proofs.classes.root.Goals as goal
 

@@ -1,6 +1,6 @@
 use Rattle.std.proofs.Common.{subst, sym, w64, FitsSigned, rules}
 use Rattle.std.proofs.lemmas.Int.{ints, to_z-of_z}
-use Rattle.and_meaning.specs.Parts.{named}
+use Rattle.and_cells.specs.Parts.{named}
 use Rattle.and_unify.specs.Heads.{HasHead}
 use Rattle.and_unify.proofs.MeetingHeads.{number_head}
 use Rattle.and_unify.proofs.heads.head_of.Goals as goal

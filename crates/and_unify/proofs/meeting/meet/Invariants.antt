@@ -1,5 +1,6 @@
 use Rattle.std.proofs.Common.{◌≡◌, ◌+◌}
-use Rattle.and_unify.proofs.MeetingSteps.{Standing, cells_behind}
+use Rattle.and_cells.proofs.References.{cells_behind}
+use Rattle.and_unify.proofs.MeetingSteps.{Standing}
 use Rattle.and_unify.proofs.meeting.meet.Given as goal
 
 abbrev pub invariant-loop-met : goal.invariant-loop-met

@@ -1,7 +1,7 @@
 use Rattle.std.proofs.Common.{ap}
 use Rattle.std.specs.Prelude.{Ok}
 use Rattle.and_circles.specs.declared.explorer.Explored.{Explored}
-use Rattle.and_solutions.proofs.Circles.{circles_have_no_solution}
+use Rattle.and_cell_laws.proofs.Circles.{circles_have_no_solution}
 use Rattle.and_unify.proofs.SettlingEnds.{names_half}
 use Rattle.and_unify.proofs.settling.ends.Goals as goal
 

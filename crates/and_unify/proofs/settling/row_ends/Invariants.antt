@@ -3,7 +3,7 @@ use Rattle.and_model.specs.Store.{is_half}
 use Rattle.and_model.specs.declared.reference.Ref.TheVariants.{Cell}
 use Rattle.and_cells.specs.Seen.{word_at}
 use Rattle.and_circles.specs.Explored.{AreFinished}
-use Rattle.and_meaning.specs.Ends.{Ends}
+use Rattle.and_cells.specs.Ends.{Ends}
 use Rattle.and_unify.proofs.settling.row_ends.Given as goal
 
 abbrev pub invariant-loop-cell : goal.invariant-loop-cell

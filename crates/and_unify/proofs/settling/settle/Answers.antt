@@ -1,6 +1,7 @@
 use Rattle.std.proofs.Common.{ap}
 use Rattle.std.specs.Prelude.{Bool, Ok}
 use Rattle.and_unify.proofs.SettlingGiven.{given_is_settled, given_names_no_half, none_is_new}
+use Rattle.and_unify.proofs.SettlingDone.{unsettled}
 use Rattle.and_unify.proofs.settling.settle.Goals as goal
 
 pub settle_further-requires-clause-settled : goal.settle_further-requires-clause-settled
@@ -17,3 +18,14 @@ settle_further-requires-clause-no_half g c =
 pub settle_further-requires-clause-new : goal.settle_further-requires-clause-new
 settle_further-requires-clause-new g c =
     none_is_new g.N.Naming.program c.args.cells.now c.args.pairs.now c.len-floor.result c.laws_of_rows.ensures.sound c.requires.in_range c.len-floor.ensures.value
+
+pub returns-in-Ok-true : goal.returns-in-Ok-true
+returns-in-Ok-true g c = c.settle_further.ensures
+
+pub returns-in-Ok-false : goal.returns-in-Ok-false
+returns-in-Ok-false g c =
+    unsettled g.N.Naming.program c.args.cells.now c.args.pairs.now _ (λ is. absurd (cc))
+    (λ is. c.in-Ok-false.ensures.no_solution (ap (λ (b : Bool). Ok b) c.in-Ok-false.field-0-test))
+
+pub returns-in-Err : goal.returns-in-Err
+returns-in-Err g c = unsettled g.N.Naming.program c.args.cells.now c.args.pairs.now _ (λ is. absurd (cc)) (λ is. absurd (cc))

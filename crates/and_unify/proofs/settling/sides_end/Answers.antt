@@ -2,7 +2,7 @@ use Rattle.std.proofs.Common.{length, false, inl, inr, ap, ◌∙◌, subst}
 use Rattle.std.specs.Prelude.{Bool, Ok}
 use Rattle.std.proofs.lemmas.List.Elements.{All-contains}
 use Rattle.and_cells.specs.Ranges.{IsInRange}
-use Rattle.and_meaning.specs.Ends.{Ends}
+use Rattle.and_cells.specs.Ends.{Ends}
 use Rattle.and_unify.specs.declared.pairs.Pair.{Pair}
 use Rattle.and_unify.proofs.SettlingPairs.{contains_place, halved_pairs, one_more}
 use Rattle.and_unify.proofs.settling.sides_end.Goals as goal

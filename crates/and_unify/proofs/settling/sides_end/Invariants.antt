@@ -1,6 +1,6 @@
 use Rattle.std.proofs.Common.{ℕ, ◌≡◌, ◌<◌, false, get_or}
 use Rattle.and_circles.specs.Explored.{AreFinished}
-use Rattle.and_meaning.specs.Ends.{Ends}
+use Rattle.and_cells.specs.Ends.{Ends}
 use Rattle.and_unify.specs.declared.pairs.Pair.{Pair}
 use Rattle.and_unify.proofs.settling.sides_end.Given as goal
 

@@ -1,4 +1,4 @@
-use Rattle.and_meaning.specs.Parts.{named}
+use Rattle.and_cells.specs.Parts.{named}
 use Rattle.and_unify.proofs.TurnArguments.{argument_found}
 use Rattle.and_unify.proofs.stepping.part.Goals as goal
 

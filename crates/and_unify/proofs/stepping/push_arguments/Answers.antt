@@ -1,5 +1,5 @@
 use Rattle.std.proofs.Common.{arith, ◌<◌, ◌≤◌, ◌∙◌}
-use Rattle.and_meaning.specs.Parts.{named, parts_of}
+use Rattle.and_cells.specs.Parts.{named, parts_of}
 use Rattle.and_unify.proofs.TurnArguments.{list_few, list_more, list_whole, argument_of_part, arguments_counted}
 use Rattle.and_unify.proofs.stepping.push_arguments.Goals as goal
 

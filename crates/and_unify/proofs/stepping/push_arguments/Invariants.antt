@@ -1,5 +1,5 @@
 use Rattle.std.proofs.Common.{◌≡◌, ◌++◌, take}
-use Rattle.and_meaning.specs.Parts.{named, parts_of}
+use Rattle.and_cells.specs.Parts.{named, parts_of}
 use Rattle.and_unify.specs.Turns.{pairs_of}
 use Rattle.and_unify.proofs.stepping.push_arguments.Given as goal
 

@@ -1,5 +1,5 @@
 use Rattle.std.proofs.Common.{[], ◌∷◌, ◌++◌, refl, ap, ◌∙◌}
-use Rattle.and_meaning.specs.Parts.{named}
+use Rattle.and_cells.specs.Parts.{named}
 use Rattle.and_unify.specs.Turns.{sets}
 use Rattle.and_unify.proofs.TurnArguments.{one_shape, steps_down}
 use Rattle.and_unify.proofs.stepping.step.Goals as goal

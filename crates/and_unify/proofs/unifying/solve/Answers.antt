@@ -1,14 +1,15 @@
 use Rattle.std.proofs.Common.{◌≡◌, ◌≢◌, ◌⊎◌, ap, subst, sym, ◌∙◌, refl, inl, inr}
-use Rattle.and_written.specs.Skeletons.{AllFall}
+use Rattle.and_program.specs.Skeletons.{AllFall}
 use Rattle.and_cells.specs.Ranges.{NamedProgram}
-use Rattle.and_meaning.specs.Parts.{named}
+use Rattle.and_cells.specs.Parts.{named}
 use Rattle.and_model.specs.declared.reference.Ref.{Ref}
 use Rattle.and_unify.specs.declared.turning.Turn.{Turn}
 use Rattle.and_unify.specs.declared.turning.Turn.TheVariants.{Again, Over}
 use Rattle.and_unify.specs.declared.unifying.Unified.{Unified}
 use Rattle.and_unify.specs.declared.unifying.Unified.TheVariants as unified
+use Rattle.and_unify.specs.Unifying.{HasSpent}
 use Rattle.and_unify.proofs.TurnStands.{stands_begun, stands_turns}
-use Rattle.and_unify.proofs.TurnAnswers.{HasSpent, kept_end, among_end, todo_end, follows_end, left_end, equal_end, range_end, sets_end, apart_end, spent_done, spent_broken, put_off_end}
+use Rattle.and_unify.proofs.TurnAnswers.{kept_end, among_end, todo_end, follows_end, left_end, equal_end, range_end, sets_end, apart_end, spent_done, spent_broken, put_off_end}
 use Rattle.and_unify.proofs.unifying.solve.Goals as goal
 
 falls : (P Q : NamedProgram) → P ≡ Q → AllFall 0 Q.skeleton.nodes → AllFall 0 P.skeleton.nodes
@@ -59,48 +60,38 @@ returns-in-Over-clause-keeps g c =
     let kept = kept_end g.C.Cells.program _ _ _ _ _ _ _ _ stopped c.loop-unified.invariant.stands in
     kept.keeps
 
-pub returns-in-Over-clause-follows : goal.returns-in-Over-clause-follows
-returns-in-Over-clause-follows g c =
-    let stopped = c.take_turn.ensures.stopped (not_again c.take_turn.result c.in-Over.unified c.in-Over.is) in
-    let kept = kept_end g.C.Cells.program _ _ _ _ _ _ _ _ stopped c.loop-unified.invariant.stands in
-    follows_end g.C.Cells.program _ _ _ _ _ _ _ kept
+pub returns-in-Over-clause-unifies : goal.returns-in-Over-clause-unifies
+returns-in-Over-clause-unifies g c =
+    let P = g.C.Cells.program in
+    let left = c.take_turn.new.pairs in
+    let says = c.take_turn.ensures in
+    let over = is_over c.take_turn.result c.in-Over.unified in
+    let begun = c.loop-unified.invariant.stands in
+    let stopped = says.stopped (not_again c.take_turn.result c.in-Over.unified c.in-Over.is) in
+    let kept = kept_end P _ _ _ _ _ _ _ _ stopped begun in
+    let fall = falls P (named c.args.loaded.now) c.requires.program c.skeleton_is_of_the_program.ensures.skeleton.0 in record {
+      follows = follows_end P _ _ _ _ _ _ _ kept;
+      same = λ ended. (says.same (over unified.Same c.in-Over.is ended)).done.2;
+      equal = λ ended. equal_end P _ _ _ _ _ _ _ left fall c.requires.in_range kept
+          (among_end _ _ (ends_with c.take_turn.result c.in-Over.unified _ _ c.in-Over.is says.same says.put_off ended));
+      still_asked = λ ended. left_end P _ _ _ _ _ _ _ left kept (todo_end _ _ (says.put_off (over unified.PutOff c.in-Over.is ended)));
+      in_range = λ ended. range_end P _ _ _ _ _ _ _ left kept (todo_end _ _ (says.put_off (over unified.PutOff c.in-Over.is ended)));
+      apart = λ one other ended. apart_end P _ _ _ _ _ _ _ one other begun
+          (says.apart one other (over (unified.Apart one other) c.in-Over.is ended));
+    }
 
-pub returns-in-Over-clause-equal : goal.returns-in-Over-clause-equal
-returns-in-Over-clause-equal g c = λ ended.
-    let stopped = c.take_turn.ensures.stopped (not_again c.take_turn.result c.in-Over.unified c.in-Over.is) in
-    let kept = kept_end g.C.Cells.program _ _ _ _ _ _ _ _ stopped c.loop-unified.invariant.stands in
-    let fall = falls g.C.Cells.program (named c.args.loaded.now) c.requires.program c.skeleton_is_of_the_program.ensures.skeleton.0 in
-    let ends = ends_with c.take_turn.result c.in-Over.unified _ _ c.in-Over.is c.take_turn.ensures.same c.take_turn.ensures.put_off ended in
-    equal_end g.C.Cells.program _ _ _ _ _ _ _ c.take_turn.new.pairs fall c.requires.in_range kept (among_end _ _ ends)
-
-pub returns-in-Over-clause-left : goal.returns-in-Over-clause-left
-returns-in-Over-clause-left g c = λ ended.
-    let stopped = c.take_turn.ensures.stopped (not_again c.take_turn.result c.in-Over.unified c.in-Over.is) in
-    let kept = kept_end g.C.Cells.program _ _ _ _ _ _ _ _ stopped c.loop-unified.invariant.stands in
-    let off = c.take_turn.ensures.put_off (is_over c.take_turn.result c.in-Over.unified _ c.in-Over.is ended) in
-    left_end g.C.Cells.program _ _ _ _ _ _ _ c.take_turn.new.pairs kept (todo_end _ _ off)
-
-pub returns-in-Over-clause-in_range : goal.returns-in-Over-clause-in_range
-returns-in-Over-clause-in_range g c = λ ended.
-    let stopped = c.take_turn.ensures.stopped (not_again c.take_turn.result c.in-Over.unified c.in-Over.is) in
-    let kept = kept_end g.C.Cells.program _ _ _ _ _ _ _ _ stopped c.loop-unified.invariant.stands in
-    let off = c.take_turn.ensures.put_off (is_over c.take_turn.result c.in-Over.unified _ c.in-Over.is ended) in
-    range_end g.C.Cells.program _ _ _ _ _ _ _ c.take_turn.new.pairs kept (todo_end _ _ off)
-
-pub returns-in-Over-clause-apart : goal.returns-in-Over-clause-apart
-returns-in-Over-clause-apart g c = λ one other ended.
-    apart_end g.C.Cells.program _ _ _ _ _ _ _ one other c.loop-unified.invariant.stands (c.take_turn.ensures.apart one other (is_over c.take_turn.result c.in-Over.unified _ c.in-Over.is ended))
-
-pub returns-in-Over-clause-spent : goal.returns-in-Over-clause-spent
-returns-in-Over-clause-spent g c = λ some.
-    spent_by c.take_turn.result c.in-Over.unified c.in-Over.unified _ _ c.in-Over.is refl c.take_turn.ensures.same c.take_turn.ensures.put_off
-    (HasSpent g.C.Cells.program c.args.pairs.now (g.C.Cells.seen c.take_turn.new.cells) c.args.fuel.now c.take_turn.new.fuel)
-    (λ one other is. spent_broken g.C.Cells.program _ _ _ _ _ _ _ one other c.loop-unified.invariant.stands (c.take_turn.ensures.apart one other is))
-    (λ ends. spent_done g.C.Cells.program _ _ _ _ _ _ _ c.loop-unified.invariant.stands ends) some
-
-pub returns-in-Over-clause-put_off : goal.returns-in-Over-clause-put_off
-returns-in-Over-clause-put_off g c = λ ended.
-    put_off_end g.C.Cells.program _ _ _ _ (c.take_turn.ensures.put_off (is_over c.take_turn.result c.in-Over.unified _ c.in-Over.is ended)) c.loop-unified.invariant.stands.paid
+pub returns-in-Over-clause-spends : goal.returns-in-Over-clause-spends
+returns-in-Over-clause-spends g c =
+    let P = g.C.Cells.program in
+    let says = c.take_turn.ensures in
+    let begun = c.loop-unified.invariant.stands in record {
+      spent = spent_by c.take_turn.result c.in-Over.unified c.in-Over.unified _ _ c.in-Over.is refl says.same says.put_off
+          (HasSpent P c.args.pairs.now (g.C.Cells.seen c.take_turn.new.cells) c.args.fuel.now c.take_turn.new.fuel)
+          (λ one other is. spent_broken P _ _ _ _ _ _ _ one other begun (says.apart one other is))
+          (λ ends. spent_done P _ _ _ _ _ _ _ begun ends);
+      put_off = λ ended.
+          put_off_end P _ _ _ _ (says.put_off (is_over c.take_turn.result c.in-Over.unified unified.PutOff c.in-Over.is ended)) begun.paid;
+    }
 
 pub returns-in-Over-clause-sets : goal.returns-in-Over-clause-sets
 returns-in-Over-clause-sets g c =

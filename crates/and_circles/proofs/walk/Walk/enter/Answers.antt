@@ -1,4 +1,4 @@
-use Rattle.and_meaning.specs.Ends
+use Rattle.and_cells.specs.Ends
 use Rattle.and_circles.proofs.Turning.{goes_past}
 use Rattle.and_circles.proofs.walk.Walk.enter.Goals as goal
 

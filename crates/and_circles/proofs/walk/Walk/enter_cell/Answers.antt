@@ -1,7 +1,7 @@
 use Rattle.std.proofs.Common.{sym, ap}
 use Rattle.and_model.specs.Store.{is_half}
 use Rattle.and_model.specs.declared.reference.Ref.TheVariants.{Cell}
-use Rattle.and_meaning.specs.Ends
+use Rattle.and_cells.specs.Ends
 use Rattle.and_circles.proofs.Turning.{goes_past, goes_on, goes_to_half}
 use Rattle.and_circles.proofs.walk.Walk.enter_cell.Goals as goal
 

@@ -3,8 +3,8 @@ use Rattle.std.specs.Prelude.{Ok}
 use Rattle.and_model.specs.declared.reference.Ref.{Ref}
 use Rattle.and_model.specs.declared.reference.Ref.TheVariants.{Node, Number}
 use Rattle.and_cells.specs.Ranges.{NamedProgram}
-use Rattle.and_meaning.specs.Parts.{parts_of}
-use Rattle.and_meaning.specs.Ends
+use Rattle.and_cells.specs.Parts.{parts_of}
+use Rattle.and_cells.specs.Ends
 use Rattle.and_circles.specs.Marked.{IsUnmarked}
 use Rattle.and_circles.specs.Walks.{Goes, Opens}
 use Rattle.and_circles.specs.declared.explorer.Explored.TheVariants as explored

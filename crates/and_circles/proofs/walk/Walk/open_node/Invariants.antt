@@ -1,6 +1,6 @@
 use Rattle.std.proofs.Common.{take}
 use Rattle.and_model.specs.declared.reference.Ref.TheVariants.{Node}
-use Rattle.and_meaning.specs.Parts.{named, parts_of}
+use Rattle.and_cells.specs.Parts.{named, parts_of}
 use Rattle.and_circles.specs.Walks.{Opens}
 use Rattle.and_circles.proofs.walk.Walk.open_node.Given as goal
 

@@ -1,6 +1,6 @@
 use Rattle.std.proofs.Common.{◌≡◌, ◌++◌, [], ◌∷◌, refl, sym, ap, ◌∙◌, subst}
 use Rattle.std.specs.Prelude.{List, reverse}
-use Rattle.and_written.specs.Skeletons.{AllFall}
+use Rattle.and_program.specs.Skeletons.{AllFall}
 use Rattle.and_cells.specs.Ranges.{NamedProgram}
 use Rattle.and_circles.specs.Walks.{Walks}
 use Rattle.and_circles.specs.declared.walk.Visit.{Visit}

@@ -1,5 +1,0 @@
-use Rattle.and_solutions.proofs.TermsOfRows
-use Rattle.and_solutions.proofs.rows_with_terms_are_solutions.Goals as goal
-
-pub returns : goal.returns
-returns c = TermsOfRows.rows_with_terms_are_solutions
