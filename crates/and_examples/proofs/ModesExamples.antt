@@ -1,0 +1,101 @@
+-- Modes, tried on two small programs.
+use Rattle.std.proofs.Common.{ℕ, zero, suc, ◌≡◌, ◌<◌, ◌≤◌, List, [], ◌∷◌, refl, ap, ◌∙◌, inl, inr, arith, Bool, true, false, ◌||◌, true≢false, sym}
+use Rattle.std.specs.Prelude.{nat_eq, Contains}
+use Rattle.std.proofs.lemmas.List.Elements.{All-contains}
+use Rattle.std.proofs.lemmas.Bool.Decides.{Decides-eqb}
+use Rattle.and_model.specs.Lines.{has}
+use Rattle.and_model.proofs.Tested.{of_one}
+use Rattle.and_model.specs.Terms.{Terms, none, more}
+use Rattle.and_model.specs.Programs.{Program, Clause, Item, call, equal, arithmetic, fail, clause_at}
+use Rattle.and_modes.specs.Modes.{rank, name_of, arguments_of, count_of, IsAtLeast, Assignment, Environment, HaveLevels, CallsHaveLevels, at_entry, after_item, after_items, WellModed, Greatest, WaitsFor, IsEarlier, IsSafe, WaitsFirst}
+use Rattle.and_modes.specs.declared.level.Level.{Level}
+use Rattle.and_modes.specs.declared.level.Level.TheVariants.{Any, Ground, Integer}
+use Rattle.and_modes.specs.declared.level.Side.{Side}
+use Rattle.and_modes.specs.declared.level.Side.TheVariants.{Called, Succeeded}
+use Rattle.and_examples.specs.ModesExamples.{increment, safe, given_first, lowest, waiting, ground_first, x_in_body, one_line}
+
+pub safe_is_well_moded : WellModed safe given_first
+safe_is_well_moded zero below = (((omega arith, (omega arith, tt)), tt), tt)
+safe_is_well_moded (suc zero) below = (tt, (omega arith, (omega arith, tt)))
+safe_is_well_moded (suc (suc c)) below = absurd (omega arith)
+
+top : (l : Level) → rank l ≤ 2
+top Any = omega arith
+top Ground = omega arith
+top Integer = omega arith
+
+only : (k : Clause) → Contains (increment ∷ []) k → increment ≡ k
+only k c = All-contains (λ (k : Clause). increment ≡ k) (increment ∷ []) k (of_one (λ (k : Clause). increment ≡ k) increment refl) c
+
+-- Nothing is above it: the query calls with a free variable in the second place.
+above : (other : Assignment) → WellModed safe other → (place : ℕ) (side : Side) → place < 2 → IsAtLeast (given_first 27 2 place side) (other 27 2 place side)
+above other well zero Called below = top (other 27 2 0 Called)
+above other well zero Succeeded below = top (other 27 2 0 Succeeded)
+above other well (suc zero) Called below = (well 0 (omega arith)).0.0.1.0
+above other well (suc zero) Succeeded below = top (other 27 2 1 Succeeded)
+above other well (suc (suc place)) side below = absurd (omega arith)
+
+pub safe_greatest : Greatest safe given_first
+safe_greatest = (
+  safe_is_well_moded,
+  λ other well name count place side has.
+      let same = only has.0 has.1 in
+      let is_name : 27 ≡ name = ap (λ (k : Clause). name_of k.head) same ∙ has.2 in
+      let is_count : 2 ≡ count = ap (λ (k : Clause). count_of (arguments_of k.head)) same ∙ has.3 in
+      rw (← is_name, ← is_count) (above other well place side (rw is_count has.4)),
+)
+
+-- No variable waits: each right side is known to be an integer.
+-- a goal with one variable waits for that alone
+or_false : (a : Bool) → (a || false) ≡ true → a ≡ true
+or_false true h = refl
+or_false false h = h
+
+only_first : (k : ℕ) → has ([], k) (([], 0) ∷ []) ≡ true → k ≡ 0
+only_first k h = (Decides-eqb k 0).0 (or_false (nat_eq k 0) h)
+
+not_waiting : (c i k : ℕ) → WaitsFor safe given_first (record { clause = c; item = i; variable = k }) → ⊥
+not_waiting zero zero k waits = true≢false (sym waits.1)
+not_waiting zero (suc zero) zero waits = let e = waits.2 in cc
+not_waiting zero (suc zero) (suc k) waits = let e : suc k ≡ 0 = only_first (suc k) waits.1 in omega arith
+not_waiting zero (suc (suc i)) k waits = true≢false (sym waits.1)
+not_waiting (suc zero) zero zero waits = let e = waits.2 in cc
+not_waiting (suc zero) zero (suc k) waits = let e : suc k ≡ 0 = only_first (suc k) waits.1 in omega arith
+not_waiting (suc zero) (suc i) k waits = true≢false (sym waits.1)
+not_waiting (suc (suc c)) i k waits = let below = waits.0 in omega arith
+
+pub safe_is_safe : IsSafe safe given_first
+safe_is_safe w waits = not_waiting w.clause w.item w.variable waits
+
+have_lowest : (e : Environment) (i : ℕ) (ts : Terms) → HaveLevels e (λ place. Any) i ts
+have_lowest e i none = tt
+have_lowest e i (more t ts) = (omega arith, have_lowest e (suc i) ts)
+
+calls_have_lowest : (e : Environment) (items : List Item) → CallsHaveLevels lowest e items
+calls_have_lowest e [] = tt
+calls_have_lowest e (call g ∷ items) = (have_lowest e 0 (arguments_of g), calls_have_lowest (after_item lowest e (call g)) items)
+calls_have_lowest e (equal a b ∷ items) = calls_have_lowest (after_item lowest e (equal a b)) items
+calls_have_lowest e (arithmetic a ∷ items) = calls_have_lowest (after_item lowest e (arithmetic a)) items
+calls_have_lowest e (fail ∷ items) = calls_have_lowest (after_item lowest e fail) items
+
+pub lowest_is_well_moded : (P : Program) → WellModed P lowest
+lowest_is_well_moded P c below =
+    let k : Clause = clause_at P c in
+    (calls_have_lowest (at_entry lowest k) k.body, have_lowest (after_items lowest (at_entry lowest k) k.body) 0 (arguments_of k.head))
+
+pub higher_is_not : WellModed waiting ground_first → ⊥
+higher_is_not well = let h = (well 0 (omega arith)).0.0.0 in omega arith
+
+alone : (c i k : ℕ) → WaitsFor waiting lowest (record { clause = c; item = i; variable = k }) → record { clause = c; item = i; variable = k } ≡ x_in_body
+alone zero zero k waits = absurd (true≢false (sym waits.1))
+alone zero (suc i) k waits = absurd (true≢false (sym waits.1))
+alone (suc zero) zero zero waits = refl
+alone (suc zero) zero (suc k) waits = let e : suc k ≡ 0 = only_first (suc k) waits.1 in absurd (omega arith)
+alone (suc zero) (suc i) k waits = absurd (true≢false (sym waits.1))
+alone (suc (suc c)) i k waits = let below = waits.0 in absurd (omega arith)
+
+pub x_waits_first : WaitsFirst waiting lowest x_in_body
+x_waits_first = ((omega arith, refl, refl), λ w waits. inl (alone w.clause w.item w.variable waits))
+
+pub z_is_earlier : IsEarlier one_line (record { clause = 1; item = 0; variable = 0 }) (record { clause = 0; item = 0; variable = 1 })
+z_is_earlier = inr (inl (refl, omega arith))

@@ -1,0 +1,13 @@
+pub mod Texts
+pub mod Ending
+pub mod LineExamples
+pub mod ModesExamples
+pub mod StandsExamples
+pub mod BasesExamples
+pub mod StoreExamples
+pub mod HangingExamples
+pub mod PlainTreeExamples
+pub mod CoveringExamples
+pub mod ReachedExamples
+pub mod LimitExamples
+pub mod NumbersExamples

@@ -1,8 +1,0 @@
-pub mod Numbers
-pub mod Steps
-pub mod Sizes
-pub mod TakingApart
-pub mod Eliminating
-pub mod FirstKnown
-pub mod Ending
-pub mod Lists

@@ -1,5 +1,0 @@
-use Rattle.std.proofs.Common.{length}
-use Rattle.and_plain.proofs.closure.+first_known.Given as goal
-
-abbrev pub decreases-first_known : goal.decreases-first_known
-decreases-first_known l = length l.goals.items

@@ -1,0 +1,13 @@
+//! Tests of what stands on cells (circles, unification, printing), over programs made of clauses.
+#![tactic(auto)]
+
+#[cfg(test)]
+mod circles;
+#[cfg(test)]
+mod frames;
+#[cfg(test)]
+mod printing;
+#[cfg(test)]
+mod programs;
+#[cfg(test)]
+mod unification;
