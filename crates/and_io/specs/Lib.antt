@@ -1,3 +1,4 @@
 pub mod Flow
+pub mod Memory
 pub mod ReadAll
 pub mod Sure

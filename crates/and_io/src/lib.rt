@@ -5,12 +5,14 @@
 #![tactic(auto)]
 
 pub mod adapters;
+pub mod memory;
 pub mod outside;
 pub mod reading;
 pub mod sure;
 pub mod writing;
 
 pub use adapters::{StdSink, StdSource};
+pub use memory::{MemorySink, MemorySource};
 pub use outside::{Failed, Gate, Quiet, Sink, Source};
 pub use reading::{ReadAll, ReadStop, read_all};
 pub use sure::{SureSink, SureSource};

@@ -1,0 +1,5 @@
+pub mod WordLemmas
+pub mod NumberLemmas
+pub mod ReadingLemmas
+pub mod CommandLemmas
+pub mod RangeLemmas

@@ -1,0 +1,125 @@
+//! What words have given so far.
+
+ghost use Rattle.std.specs.Prelude.{◌≡◌, None};
+ghost use Rattle.and_command.specs.Given as specs;
+
+use crate::options::{Name, value_of};
+
+/// What bounds a run, and who works on it.
+#[derive(Clone, Copy, Debug, PartialEq, Eq)]
+pub struct Settings {
+    /// The most that a proof may weigh.
+    pub limit: u32,
+    /// How many teams explore.
+    pub teams: u32,
+    /// How many workers a team has.
+    pub workers: u32,
+}
+
+/// What words have given so far, each at most once.
+#[derive(Clone, Copy, Debug, PartialEq, Eq)]
+pub struct Given {
+    /// The value of `--limit`.
+    pub limit: Option<u32>,
+    /// The value of `--teams`.
+    pub teams: Option<u32>,
+    /// The value of `--workers`.
+    pub workers: Option<u32>,
+    /// The number of a demo.
+    pub number: Option<u32>,
+}
+
+impl Given {
+    /// Nothing.
+    pub fn nothing() -> Given
+        ensures { result ≡ specs.nothing }
+    {
+        Given {
+            limit: None,
+            teams: None,
+            workers: None,
+            number: None,
+        }
+    }
+
+    /// These, and a value for an option that has none so far.
+    fn with(self, name: Name, value: u32) -> Option<Given>
+        ensures { result ≡ specs.with name value self }
+    {
+        let Given {
+            limit,
+            teams,
+            workers,
+            number,
+        } = self;
+        match name {
+            Name::Limit => match limit {
+                None => Some(Given {
+                    limit: Some(value),
+                    teams,
+                    workers,
+                    number,
+                }),
+                Some(_) => None,
+            },
+            Name::Teams => match teams {
+                None => Some(Given {
+                    limit,
+                    teams: Some(value),
+                    workers,
+                    number,
+                }),
+                Some(_) => None,
+            },
+            Name::Workers => match workers {
+                None => Some(Given {
+                    limit,
+                    teams,
+                    workers: Some(value),
+                    number,
+                }),
+                Some(_) => None,
+            },
+        }
+    }
+
+    /// These, and the value that a word gives an option that has none so far.
+    pub fn with_value(self, name: Name, word: &str) -> Option<Given>
+        ensures { result ≡ specs.with_value name word.now self }
+    {
+        let value = value_of(name, word)?;
+        self.with(name, value)
+    }
+
+    /// These, and the number of a demo, where there is none so far.
+    pub fn with_number(self, value: u32) -> Option<Given>
+        ensures { result ≡ specs.with_number value self }
+    {
+        let Given {
+            limit,
+            teams,
+            workers,
+            number,
+        } = self;
+        match number {
+            None => Some(Given {
+                limit,
+                teams,
+                workers,
+                number: Some(value),
+            }),
+            Some(_) => None,
+        }
+    }
+
+    /// The settings: what was given, and else the defaults.
+    pub fn settings(self) -> Settings
+        ensures { result ≡ specs.settings_of self }
+    {
+        Settings {
+            limit: self.limit.unwrap_or(262_144),
+            teams: self.teams.unwrap_or(2),
+            workers: self.workers.unwrap_or(2),
+        }
+    }
+}
