@@ -4,7 +4,7 @@ use Rattle.std.specs.Prelude.{IfSome, IsSome}
 use Rattle.and_model.specs.Programs.{Program, Clause, clause_weight}
 use Rattle.and_model.specs.Trees.{QueryTree, query_agenda, blank, taken_weight, unfold_code}
 use Rattle.and_model.specs.Listing.{Entry, Listing, Lists, of_query, too_heavy}
-use Rattle.and_model.specs.Output.{OverLeft}
+use Rattle.and_model.specs.Output.{OverLeft, NoneOver}
 use Rattle.and_laws.proofs.Order.{blank_weighs}
 use Rattle.and_model.specs.Terms.{Substitution}
 use Rattle.and_model.specs.Solutions.{Solves, Solvable}
@@ -12,7 +12,7 @@ use Rattle.and_engine.specs.Bodies.{cell_equations, EquationsWithin}
 use Rattle.and_engine.specs.Cells.{AreWithin, cells_of, made_of, equations_of, clause_of}
 use Rattle.and_engine.specs.Naming.{Clear}
 use Rattle.and_engine.specs.Solved.{IsValid}
-use Rattle.and_engine.specs.Searching.{IsFound, NoneOver}
+use Rattle.and_engine.specs.Searching.{IsFound}
 use Rattle.and_engine.specs.Search.{ArePlaced, Arrives, Begins, Goes, GoalsFrom, Holds, Looks, Owes, code_below, no_piece, program, stack}
 use Rattle.and_engine.specs.declared.placed.Placed.{Placed}
 use Rattle.and_engine.specs.declared.placed.PlacedClause.{PlacedClause}

@@ -6,7 +6,7 @@ use Rattle.and_model.specs.Solutions.{Equation, Solves}
 use Rattle.and_model.specs.Programs.{Program, Item, call, equal, arithmetic, fail, clause_at, is_goals}
 use Rattle.and_engine.specs.Bodies.{cell_equations, EquationsWithin}
 use Rattle.and_engine.specs.Naming.{AreLogical, IsLogical, body_equations, through, FrameAt, EquationsOfCells}
-use Rattle.and_written.specs.Simple.{AreSimple, IsSimple}
+use Rattle.and_model.specs.Simple.{AreSimple, IsSimple}
 use Rattle.and_engine.proofs.NamingCells.{apply_framed, frame_cells, cells_bounded}
 
 -- A program of this engine has no arithmetic.

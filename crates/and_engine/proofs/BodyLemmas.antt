@@ -6,9 +6,9 @@ use Rattle.std.proofs.lemmas.List.{drop_all}
 use Rattle.and_model.specs.Terms.{Substitution}
 use Rattle.and_model.specs.Solutions.{Equation, Solves, Solvable}
 use Rattle.and_model.specs.Programs.{Item, call, equal, arithmetic, fail}
-use Rattle.and_written.specs.Skeletons.{Shape, AllThere, IsThere, after, item_of}
-use Rattle.and_clauses.specs.Items.{node_item}
-use Rattle.and_clauses.specs.declared.data.ItemNode.{ItemNode}
+use Rattle.and_program.specs.Skeletons.{Shape, AllThere, IsThere, after, item_of}
+use Rattle.and_program.specs.Items.{node_item}
+use Rattle.and_program.specs.declared.item.ItemNode.{ItemNode}
 use Rattle.and_engine.specs.Bodies.{cell_equations, EquationsWithin}
 
 -- those of the first item, and then the others

@@ -6,10 +6,10 @@ use Rattle.and_model.specs.Programs.{Program, Item, call, clause_at, Of, same_pr
 use Rattle.and_model.specs.Programs as programs
 use Rattle.and_model.specs.Trees.{QueryTree, query_agenda, agenda, end, blank, Open, IsLeftmost, path, call_of, reduce, equations}
 use Rattle.and_engine.specs.Bodies.{cell_equations, step_equations, EquationsWithin}
-use Rattle.and_written.specs.Simple.{is_bounded}
+use Rattle.and_model.specs.Simple.{is_bounded}
 use Rattle.and_engine.specs.Cells.{placed, in_cells, term_of, IsWithin, AreWithin, equations_of, meaning}
 use Rattle.and_engine.specs.Naming.{goals_of, body_goals, variables_made, frame, naming, named, SameSolutions, FrameAt, EquationsOfCells}
-use Rattle.and_written.specs.Simple.{AreSimple, IsSimple}
+use Rattle.and_model.specs.Simple.{AreSimple, IsSimple}
 use Rattle.and_engine.specs.Search.{GoalsFrom, StandFor, Holds, ArePlaced}
 use Rattle.and_engine.specs.declared.placed.Placed.{Placed}
 use Rattle.and_engine.specs.declared.placed.Binding.{Binding}

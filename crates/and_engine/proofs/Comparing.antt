@@ -2,7 +2,7 @@
 use Rattle.std.proofs.Common.{ℕ, ◌+◌, ◌*◌, ◌<◌, ◌≡◌, ◌↔◌, Bool, true, false, true≢false, not, inl, inr, eqb, eqb-true, List, [], ◌∷◌, ◌++◌, refl, ap, sym, ◌∙◌, subst, arith}
 use Rattle.and_model.specs.Terms.{Term, Terms, compound, none, more, Substitution, apply, apply_all}
 use Rattle.and_model.specs.Solutions.{Solves}
-use Rattle.and_written.specs.Simple.{is_bounded, are_bounded}
+use Rattle.and_model.specs.Simple.{is_bounded, are_bounded}
 use Rattle.and_laws.proofs.Substitutions.{Through, apply_through, same, and_left, and_right}
 use Rattle.and_laws.proofs.Equality.{bool_cases}
 use Rattle.and_laws.proofs.Occurrences.{size, sizes}

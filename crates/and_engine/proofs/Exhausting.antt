@@ -1,6 +1,7 @@
 -- Where no branch outgrows the limit, every larger limit has the same listing.
 use Rattle.std.proofs.Common.{ℕ, ◌≡◌, ◌≤◌, ◌+◌, List, [], ◌∷◌, refl, sym, subst, inl, inr, ◌⊎◌, arith, suc}
 use Rattle.std.proofs.lemmas.Bool.{cases_lt}
+use Rattle.and_model.specs.Output.{NoneOver}
 use Rattle.and_model.specs.Programs.{Program, clause_at, clause_weight, Of}
 use Rattle.and_model.specs.Trees.{QueryTree, query_agenda, blank, Open, IsLeftmost, call_of, reduce, equations, arithmetics, weight}
 use Rattle.and_model.specs.Listing.{Entry, Lists, ListsFrom, Listing, answered, nothing, calls, no_more, other, heavy, light, of_query, too_heavy, Exhausted}
@@ -9,7 +10,6 @@ use Rattle.and_laws.proofs.Listings.{one_list, one_listing, some_listing}
 use Rattle.and_laws.proofs.Order.{reduce_weight, blank_weighs}
 use Rattle.and_laws.proofs.Unifying.{unify}
 use Rattle.and_engine.specs.Naming.{Clear}
-use Rattle.and_engine.specs.Searching.{NoneOver}
 use Rattle.and_engine.proofs.NamingLimits.{NoOutcomeAbove, closed_none, none_lists, reduce_outgrows, heavy_outgrows, over_outgrows}
 
 -- No tree with an outcome is above a clear tree, or all clauses of its leftmost goal's predicate fit and lead to clear trees.

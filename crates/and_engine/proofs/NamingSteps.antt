@@ -8,12 +8,12 @@ use Rattle.and_model.specs.Programs.{Program, clause_at, Of, head_in}
 use Rattle.and_model.specs.Trees.{QueryTree, query_agenda, blank, equations, IsWhole, Open, IsLeftmost, path, call_of, reduce}
 use Rattle.and_model.specs.Lines.{line}
 use Rattle.and_model.specs.Listing.{answer, Ends}
-use Rattle.and_written.specs.Simple.{is_bounded}
+use Rattle.and_model.specs.Simple.{is_bounded}
 use Rattle.and_engine.specs.Bodies.{cell_equations, step_equations}
 use Rattle.and_engine.specs.Cells.{in_cells}
 use Rattle.and_engine.specs.Naming.{IsLogical, IsLeftGrown, frame, variables_made, FrameAt, IsOfCells, EquationsOfCells, SameSolutions, through, on_names}
 use Rattle.and_engine.proofs.NamingEquations.{reduce_solves, logical_closed, blank_solves}
-use Rattle.and_written.specs.Simple.{IsSimple}
+use Rattle.and_model.specs.Simple.{IsSimple}
 use Rattle.and_engine.proofs.BodyCells.{body_same, body_cells, equations_cells-append}
 use Rattle.and_engine.proofs.BodyLemmas.{solves-append}
 use Rattle.and_engine.proofs.NamingVariables.{blank_variables, reduce_variables, made_distinct}

@@ -2,7 +2,7 @@
 use Rattle.std.proofs.Common.{ℕ, zero, suc, ◌-◌, ◌≡◌, ◌<◌, ◌≤◌, List, [], ◌∷◌, ◌++◌, length, map, get_or, take, drop, drop-cons, refl, ap, sym, ◌∙◌, subst, arith, Option, Some, slice_get}
 use Rattle.std.proofs.lemmas.List.{length-take, take-take}
 use Rattle.and_model.specs.Programs.{Item, call, equal, arithmetic, fail}
-use Rattle.and_clauses.specs.declared.data.ItemNode.{ItemNode}
+use Rattle.and_program.specs.declared.item.ItemNode.{ItemNode}
 use Rattle.and_engine.specs.Search.{GoalsFrom, ArePlaced}
 use Rattle.and_engine.specs.Search as search
 use Rattle.and_engine.specs.declared.placed.Placed.{Placed}

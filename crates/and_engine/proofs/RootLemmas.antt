@@ -4,11 +4,11 @@ use Rattle.std.proofs.Math.Dec.{eqb-suc-zero, eqb-zero-suc, eqb-suc-suc}
 use Rattle.and_model.specs.Terms.{Term, Terms, variable, number, compound, none, more}
 use Rattle.and_model.specs.Programs.{same_predicate, same_count}
 use Rattle.and_model.specs.declared.numbers.NameNo.{NameNo}
-use Rattle.and_written.specs.Clauses.{width}
-use Rattle.and_written.specs.Skeletons
-use Rattle.and_written.specs.Skeletons.{Shape}
-use Rattle.and_clauses.specs.Shown.{arguments_in, shown, shown_term, term_at, argument_of}
-use Rattle.and_clauses.specs.declared.data.Skeleton.TheVariants.{Variable, Number, Compound}
+use Rattle.and_model.specs.Terms.{width}
+use Rattle.and_program.specs.Skeletons
+use Rattle.and_program.specs.Skeletons.{Shape}
+use Rattle.and_program.specs.Shown.{arguments_in, shown, shown_term, term_at, argument_of}
+use Rattle.and_program.specs.declared.node.NodeKind.TheVariants.{Variable, Number, Compound}
 use Rattle.and_engine.specs.Arguments.{arguments_of, without}
 use Rattle.and_engine.specs.Cells.{in_cells}
 use Rattle.and_engine.specs.Rows.{in_cells_all}

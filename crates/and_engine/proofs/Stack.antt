@@ -7,10 +7,9 @@ use Rattle.and_model.specs.Programs.{Program, clause_at, clause_weight, is_of, O
 use Rattle.and_model.specs.Trees.{QueryTree, Open, IsWhole, call_of, reduce, equations, weight, unfold_code, code}
 use Rattle.and_model.specs.Listing.{Entry, Lists, ListsFrom, Listing, Outcome, answer, line_of}
 use Rattle.and_model.specs.Listing as listing
-use Rattle.and_model.specs.Output.{OverLeft, lines_of}
+use Rattle.and_model.specs.Output.{OverLeft, lines_of, NoneOver}
 use Rattle.and_laws.proofs.Order.{same_proof}
 use Rattle.and_engine.specs.Naming.{Clear, ClearFrom}
-use Rattle.and_engine.specs.Searching.{NoneOver}
 use Rattle.and_engine.specs.Search.{IsChoice, code_below, IsPast, IsBeyond, Standing, Remains, AllClear, Owes, no_piece, GivesAt, ClearAt, next_of}
 use Rattle.and_engine.specs.declared.placed.Binding.{Binding}
 use Rattle.and_engine.specs.declared.search.Pending.{Pending}

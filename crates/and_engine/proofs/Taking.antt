@@ -12,7 +12,7 @@ use Rattle.and_laws.proofs.Unfolding.{extend_leftmost}
 use Rattle.and_engine.specs.Bodies.{step_equations, EquationsWithin}
 use Rattle.and_engine.specs.Cells.{placed, AreWithin, equations_of}
 use Rattle.and_engine.specs.Naming.{Clear}
-use Rattle.and_written.specs.Simple.{IsSimple}
+use Rattle.and_model.specs.Simple.{IsSimple}
 use Rattle.and_engine.specs.Solved.{IsTriangular}
 use Rattle.and_engine.specs.Search.{GoalsFrom, Holds, code_below, next_of, IsBeyond, Standing, Remains, AllClear, Owes, no_piece, ArePlaced}
 use Rattle.and_engine.specs.declared.placed.Placed.{Placed}

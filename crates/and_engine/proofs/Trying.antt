@@ -16,9 +16,9 @@ use Rattle.and_model.specs.Output.{OverLeft}
 use Rattle.and_laws.proofs.Pairwise.{all_none}
 use Rattle.and_engine.specs.Cells.{cells_of, made_of, term_of, clause_of}
 use Rattle.and_engine.specs.Solved.{IsValid}
-use Rattle.and_clauses.specs.Loaded.{program_of}
-use Rattle.and_clauses.specs.Nodes.{entry_clause, shapes_of}
-use Rattle.and_clauses.specs.declared.loaded.Loaded.{Loaded}
+use Rattle.and_program.specs.Loaded.{program_of}
+use Rattle.and_program.specs.Nodes.{entry_clause, shapes_of}
+use Rattle.and_program.specs.declared.loaded.Loaded.{Loaded}
 use Rattle.and_engine.specs.Naming.{IsLogical, goals_of, variables_made}
 use Rattle.and_engine.specs.Search.{GoalsFrom, StandFor, Holds, Standing, Remains, AllClear, Owes, IsBeyond, IsInScope, IsOfChoice, Goes, Looks, Tries, Takes, Outgrows, PutsOn, AddsAtMost, code_below, next_of, no_piece, program, stack}
 use Rattle.and_engine.specs.Search as search

@@ -3,11 +3,11 @@ use Rattle.std.specs.Prelude.{ℕ, ◌≡◌, true, List, [], ◌∷◌}
 use Rattle.and_model.specs.Terms.{Term}
 use Rattle.and_model.specs.Solutions.{Equation, falsehood}
 use Rattle.and_model.specs.Programs.{Clause, Item, call, equal, arithmetic, fail}
-use Rattle.and_written.specs.Skeletons.{item_of}
-use Rattle.and_clauses.specs.Items.{node_item}
-use Rattle.and_clauses.specs.Loaded.{skeleton_of}
-use Rattle.and_clauses.specs.declared.data.ItemNode.{ItemNode}
-use Rattle.and_written.specs.Simple.{is_bounded}
+use Rattle.and_program.specs.Skeletons.{item_of}
+use Rattle.and_program.specs.Items.{node_item}
+use Rattle.and_program.specs.Loaded.{skeleton_of}
+use Rattle.and_program.specs.declared.item.ItemNode.{ItemNode}
+use Rattle.and_model.specs.Simple.{is_bounded}
 use Rattle.and_engine.specs.Cells.{in_cells}
 use Rattle.and_engine.specs.declared.placed.PlacedClause.{PlacedClause}
 

@@ -3,8 +3,8 @@ use Rattle.std.specs.Prelude.{ℕ, suc, ◌+◌, ◌<◌, ◌≡◌, Bool, true,
 use Rattle.std.specs.List.{list_all}
 use Rattle.and_model.specs.Terms.{Path, Term, Terms, variable, number, compound, none, more, variables_in, Substitution, apply, apply_all}
 use Rattle.and_model.specs.Lines.{Bytes, first_seen, is_cell, is_nil, shown, shown_tail, shown_rest}
-use Rattle.and_written.specs.Simple.{is_bounded, are_bounded}
-use Rattle.and_clauses.specs.Loaded.{program_of}
+use Rattle.and_model.specs.Simple.{is_bounded, are_bounded}
+use Rattle.and_program.specs.Loaded.{program_of}
 use Rattle.and_engine.specs.Cells.{placed, cells_of, made_of, meaning}
 use Rattle.and_engine.specs.Rows.{placed_all}
 use Rattle.and_engine.specs.declared.placed.Placed.{Placed}

@@ -5,14 +5,13 @@ use Rattle.and_model.specs.Solutions.{Solvable}
 use Rattle.and_model.specs.Programs.{Program, Item, call, equal, arithmetic, fail, clause_at, clause_weight, is_of, Of}
 use Rattle.and_model.specs.Trees.{QueryTree, Open, IsLeftmost, call_of, reduce, equations, weight, unfold_code}
 use Rattle.and_model.specs.Listing.{Entry, Lists, ListsFrom, Listing}
-use Rattle.and_model.specs.Output.{OverLeft, lines_of}
-use Rattle.and_written.specs.Simple.{is_bounded}
-use Rattle.and_clauses.specs.Loaded.{program_of}
+use Rattle.and_model.specs.Output.{OverLeft, lines_of, NoneOver}
+use Rattle.and_model.specs.Simple.{is_bounded}
+use Rattle.and_program.specs.Loaded.{program_of}
 use Rattle.and_engine.specs.Cells.{AreWithin, equations_of, cells_of, made_of, term_of}
-use Rattle.and_written.specs.Simple.{IsSimple}
+use Rattle.and_model.specs.Simple.{IsSimple}
 use Rattle.and_engine.specs.Solved.{IsValid}
 use Rattle.and_engine.specs.Naming.{IsLeftGrown, goals_of, variables_made, FrameAt, SameSolutions, Clear, ClearFrom}
-use Rattle.and_engine.specs.Searching.{NoneOver}
 use Rattle.and_engine.specs.declared.placed.Placed.{Placed}
 use Rattle.and_engine.specs.declared.placed.PlacedClause.{PlacedClause}
 use Rattle.and_engine.specs.declared.placed.Binding.{Binding}

@@ -2,12 +2,8 @@
 use Rattle.std.specs.Prelude.{ℕ, ◌≡◌, ◌≢◌, ◌↔◌, List, [], IsTrue, MatchOption}
 use Rattle.and_model.specs.Programs.{Program}
 use Rattle.and_model.specs.Listing.{Entry, Listing}
-use Rattle.and_model.specs.Output.{OverLeft, lines_of}
+use Rattle.and_model.specs.Output.{OverLeft, NoneOver, lines_of}
 use Rattle.and_engine.specs.declared.search.Found.{Found}
-
--- no branch of the program outgrows the limit
-abbrev pub NoneOver : Program → ℕ → Type 0
-NoneOver P limit = (cs : List ℕ) (c : ℕ) → OverLeft P limit cs c → ⊥
 
 -- The lines are those of the listing. A branch that outgrew the limit is kept exactly where there is one.
 abbrev pub IsFound : Program → ℕ → Found → Type 0

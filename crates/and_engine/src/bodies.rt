@@ -3,16 +3,16 @@
 ghost use Rattle.std.specs.Prelude.{◌≡◌, ◌++◌, ◌∷◌, ℕ, [], IfOk, OnOk, take, vec_len};
 ghost use Rattle.std.specs.Bool.{OnTrue, OnFalse};
 ghost use Rattle.and_model.specs.Solutions.{Solvable};
-ghost use Rattle.and_written.specs.Skeletons.{IsThere};
-ghost use Rattle.and_clauses.specs.Items.{node_item};
-ghost use Rattle.and_clauses.specs.Loaded.{skeleton_of};
+ghost use Rattle.and_program.specs.Skeletons.{IsThere};
+ghost use Rattle.and_program.specs.Items.{node_item};
+ghost use Rattle.and_program.specs.Loaded.{skeleton_of};
 ghost use Rattle.and_engine.specs.Cells.{placed, IsWithin, cells_of, made_of, equations_of, clause_of};
 ghost use Rattle.and_engine.specs.Solved.{IsValid, AreEquivalent};
 ghost use Rattle.and_engine.specs.Bodies.{cell_equations, step_equations, EquationsWithin, item_in};
 
 use crate::bindings::Bindings;
 use crate::placed::{Placed, PlacedClause};
-use and_clauses::ItemNode;
+use and_program::ItemNode;
 use std::alloc::AllocError;
 
 impl<'a> Bindings<'a> {

@@ -2,12 +2,12 @@
 
 ghost use Rattle.std.specs.Prelude.{◌≡◌, ◌≢◌, ◌<◌, ◌≤◌, ◌^◌, ◌+◌, ℕ, List, [], ◌∷◌, ◌++◌, ◌-◌, Some, None, false, IfOk, IfSome, IsSome, OnOk, All, map, take, length, vec_len};
 ghost use Rattle.and_model.specs.Programs.{clause_weight, same_predicate};
-ghost use Rattle.and_written.specs.Skeletons.{IsThere};
-ghost use Rattle.and_clauses.specs.Items.{node_item};
-ghost use Rattle.and_clauses.specs.Loaded.{program_of, skeleton_of};
+ghost use Rattle.and_program.specs.Skeletons.{IsThere};
+ghost use Rattle.and_program.specs.Items.{node_item};
+ghost use Rattle.and_program.specs.Loaded.{program_of, skeleton_of};
 ghost use Rattle.and_engine.specs.Bodies.{item_in};
 ghost use Rattle.and_engine.specs.Cells.{cells_of, made_of, term_of, clause_of};
-ghost use Rattle.and_written.specs.Simple.{IsSimple, IsSimpleClause};
+ghost use Rattle.and_model.specs.Simple.{IsSimple, IsSimpleClause};
 ghost use Rattle.and_engine.specs.Solved.{IsValid};
 ghost use Rattle.and_engine.specs.Search.{AddsAtMost, Arrives, ArePlaced, Begins, Goes, Outgrows, GoalsFrom, PutsOn, Takes, Tries, program, turns};
 ghost use Rattle.and_engine.specs.Searching.{IsFound};
@@ -17,21 +17,21 @@ use crate::bindings::Bindings;
 use crate::placed::{Placed, PlacedClause};
 use crate::printing::show_line;
 use crate::search::{Choice, Found, Outgrown, Pending, Search};
-use and_clauses::{ItemNode, Loaded, Skeleton};
 use and_model::{ClauseNo, Code, Text};
+use and_program::{ItemNode, Loaded, NodeKind};
 use std::alloc::{AllocError, Global};
 
 /// The same name and number of arguments.
 fn are_of_one_predicate(call: Placed<'_>, head: Placed<'_>) -> bool
     ensures { result ≡ same_predicate (term_of call.entry) (term_of head.entry) }
 {
-    match call.loaded.skeleton(call.node) {
-        Skeleton::Variable(_) => false,
-        Skeleton::Number(_) => false,
-        Skeleton::Compound { name, count } => match head.loaded.skeleton(head.node) {
-            Skeleton::Variable(_) => false,
-            Skeleton::Number(_) => false,
-            Skeleton::Compound {
+    match call.loaded.kind(call.node) {
+        NodeKind::Variable(_) => false,
+        NodeKind::Number(_) => false,
+        NodeKind::Compound { name, count } => match head.loaded.kind(head.node) {
+            NodeKind::Variable(_) => false,
+            NodeKind::Number(_) => false,
+            NodeKind::Compound {
                 name: other,
                 count: others,
             } => name.0 == other.0 && count == others,

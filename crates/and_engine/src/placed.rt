@@ -1,10 +1,10 @@
 //! Nodes of clauses, where their variables are cells.
 
 ghost use Rattle.std.specs.Prelude.{◌<◌, ◌≤◌, ◌+◌, ◌^◌, length};
-ghost use Rattle.and_clauses.specs.Loaded.{program_of, skeleton_of};
+ghost use Rattle.and_program.specs.Loaded.{program_of, skeleton_of};
 
-use and_clauses::{ItemNode, Loaded};
 use and_model::{ClauseNo, NodeNo};
+use and_program::{ItemNode, Loaded};
 
 /// A node of a program, in a frame: its clause's variable k is the cell `base + k`.
 #[derive(Clone, Copy)]
@@ -36,8 +36,8 @@ pub struct PlacedClause<'a> {
 impl<'a> PlacedClause<'a> {
     ghost use Rattle.std.specs.Prelude.{◌≡◌, map};
     ghost use Rattle.and_model.specs.Programs.{clause_at};
-    ghost use Rattle.and_written.specs.Skeletons.{AllThere, node_term};
-    ghost use Rattle.and_clauses.specs.Items.{node_item};
+    ghost use Rattle.and_program.specs.Skeletons.{AllThere, node_term};
+    ghost use Rattle.and_program.specs.Items.{node_item};
     ghost use Rattle.and_engine.specs.Bodies.{item_in};
     ghost use Rattle.and_engine.specs.Cells.{term_of, clause_of};
 

@@ -3,7 +3,7 @@
 ghost use Rattle.std.specs.Prelude.{◌≡◌, ◌≤◌, ◌<◌, ◌++◌, [], map, codes, IfOk, OnOk};
 ghost use Rattle.and_model.specs.Lines.{begins_underscore, shown_variables, shown, shown_value};
 ghost use Rattle.and_model.specs.Lines.{values_or_true, line};
-ghost use Rattle.and_clauses.specs.Loaded.{program_of};
+ghost use Rattle.and_program.specs.Loaded.{program_of};
 ghost use Rattle.and_engine.specs.Cells.{cells_of, made_of, meaning};
 ghost use Rattle.and_engine.specs.Solved.{IsValid};
 ghost use Rattle.and_engine.specs.Printing.{Shows, AllBelow, names_of, line_variables, substitution_of};
@@ -11,8 +11,8 @@ ghost use Rattle.and_engine.specs.Printing.{Shows, AllBelow, names_of, line_vari
 use crate::bindings::Bindings;
 use crate::printing_terms::Printer;
 use crate::printing_variables::free_cells;
-use and_clauses::Loaded;
 use and_model::{ClauseNo, Text};
+use and_program::Loaded;
 use std::alloc::{AllocError, Global};
 
 /// The number of the query among the clauses.

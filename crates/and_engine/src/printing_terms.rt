@@ -14,17 +14,13 @@ ghost use Rattle.and_engine.specs.Printing.{TaskWithin, TasksWithin, GoesOn, Doe
 use crate::bindings::Bindings;
 use crate::placed::Placed;
 use crate::rows::{PlacedTerms, Root};
-use and_clauses::Loaded;
 use and_model::Text;
-use and_names::write_name;
+use and_model::builtins::{NIL, POINT};
+use and_program::Loaded;
+use and_quoting::write_name;
 use indexmap::IndexSet;
 use itoa::Buffer;
 use std::alloc::{AllocError, Global};
-
-/// The number of the name of list cells.
-const POINT: u32 = 19;
-/// The number of the name of the empty list.
-const NIL: u32 = 20;
 
 /// What is still to be written when a term is.
 #[derive(Clone, Copy)]

@@ -1,14 +1,14 @@
 //! Placed terms at their roots, and what is left to do while equations are solved.
 
 ghost use Rattle.std.specs.Prelude.{◌≡◌, ◌≤◌, length};
-ghost use Rattle.and_written.specs.Clauses.{width};
-ghost use Rattle.and_written.specs.Skeletons.{node_term};
-ghost use Rattle.and_clauses.specs.Loaded.{skeleton_of, arguments_at};
+ghost use Rattle.and_model.specs.Terms.{width};
+ghost use Rattle.and_program.specs.Skeletons.{node_term};
+ghost use Rattle.and_program.specs.Loaded.{skeleton_of, arguments_at};
 ghost use Rattle.and_engine.specs.Arguments.{arguments_of};
 
 use crate::placed::{Binding, Placed};
-use and_clauses::Skeleton;
 use and_model::NameNo;
+use and_program::NodeKind;
 
 /// The arguments of a name, without the first ones.
 #[derive(Clone, Copy)]
@@ -68,10 +68,10 @@ impl<'a> Placed<'a> {
     pub fn root(self) -> Root<'a>
         ensures { placed self.entry ≡ root_term result }
     {
-        match self.loaded.skeleton(self.node) {
-            Skeleton::Variable(number) => Root::Cell(self.base + u32::from(number)),
-            Skeleton::Number(number) => Root::Number(number),
-            Skeleton::Compound { name, count } => Root::Compound {
+        match self.loaded.kind(self.node) {
+            NodeKind::Variable(number) => Root::Cell(self.base + u32::from(number)),
+            NodeKind::Number(number) => Root::Number(number),
+            NodeKind::Compound { name, count } => Root::Compound {
                 name,
                 arguments: PlacedTerms::Several(Arguments {
                     of: self,

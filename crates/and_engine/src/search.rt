@@ -2,8 +2,8 @@
 
 use crate::bindings::Bindings;
 use crate::placed::Placed;
-use and_clauses::Loaded;
 use and_model::{ClauseNo, Code, Text};
+use and_program::Loaded;
 
 /// A goal that is to be done, and the place of the one after it.
 #[derive(Clone, Copy)]

@@ -7,18 +7,19 @@ use Rattle.and_io.specs.declared.reading.ReadAll.TheVariants.{Whole, Over}
 use Rattle.and_model.specs.Lines.{Bytes}
 use Rattle.and_model.specs.Programs.{Program}
 use Rattle.and_model.specs.Listing.{Entry, Listing}
-use Rattle.and_model.specs.Output.{lines_of, last_lines, complete, limit_met, OverLeft}
-use Rattle.and_texts.specs.Tokens.{newlines}
-use Rattle.and_texts.specs.Refusals.{Reads, IsRefused, Refusal, at, too_big}
-use Rattle.and_written.specs.Tables.{source}
+use Rattle.and_model.specs.Output.{lines_of, last_lines, complete, limit_met, OverLeft, NoneOver}
+use Rattle.and_language.specs.Tokens.{newlines}
+use Rattle.and_language.specs.Refusals.{Reads, IsRefused, Refusal, at, too_big}
+use Rattle.and_syntax.specs.Tables.{source}
 use Rattle.and_engine.specs.declared.search.Found.{Found}
 use Rattle.and_engine.specs.declared.search.Outgrown.{Outgrown}
 use Rattle.andorra.specs.declared.top.Status.{Status}
 use Rattle.andorra.specs.declared.top.Status.TheVariants.{Answers, NoAnswer, Usage, Refused, ReadFault, WriteFault, Limit, Memory, Floundered}
-use Rattle.and_engine.specs.Searching.{NoneOver, IsFound}
+use Rattle.and_engine.specs.Searching.{IsFound}
 use Rattle.and_reader.specs.RefusalLine.{refusal_line}
 use Rattle.andorra.specs.Top.{limit, FindsAll, IsRefusedBy, WasAnswered, IsLast, Answered, Responds, GainsPrefix, Due, answers, refused, Told}
 use Rattle.and_engine.proofs.Exhausting.{none_over_exhausts}
+use Rattle.and_model.specs.declared.limits.TheConstants.{MAX_BYTES}
 
 not_empty_or : (ls : List Entry) → ((ls ≢ []) → ⊥) → ls ≡ []
 not_empty_or [] h = refl
@@ -89,14 +90,14 @@ refused_by None bytes out a b e = absurd cc
 refused_by (Some r) bytes out a b e = (r, a, b)
 
 -- Of a text that is larger than the largest, the first bytes beyond that tell as much as the whole.
-module _ (bytes text rest : Bytes) (joined : bytes ≡ text ++ rest) (large : 1048576 < length text) where
+module _ (bytes text rest : Bytes) (joined : bytes ≡ text ++ rest) (large : MAX_BYTES < length text) where
   taken : (n : ℕ) (xs ys : Bytes) → n < length xs → take n (xs ++ ys) ≡ take n xs
   taken zero xs ys h = refl
   taken (suc n) [] ys h = absurd (omega arith)
   taken (suc n) (x ∷ xs) ys h = ap (λ zs. x ∷ zs) (taken n xs ys (omega arith))
 
-  same_refusal : (r : Refusal) → IsRefused text r → r ≡ at bytes 1048576 (too_big source)
-  same_refusal r (IsRefused.too_long h) = ap (λ zs. record { cause = too_big source; line = suc (newlines zs) }) (sym (taken 1048576 text rest large) ∙ ap (take 1048576) (sym joined))
+  same_refusal : (r : Refusal) → IsRefused text r → r ≡ at bytes MAX_BYTES (too_big source)
+  same_refusal r (IsRefused.too_long h) = ap (λ zs. record { cause = too_big source; line = suc (newlines zs) }) (sym (taken MAX_BYTES text rest large) ∙ ap (take MAX_BYTES) (sym joined))
   same_refusal r (IsRefused.at_word ws p a c h x y z) = absurd (omega (arith, h))
   same_refusal r (IsRefused.at_clause ws us a T s f h x y z u) = absurd (omega (arith, h))
   same_refusal r (IsRefused.at_token ws f h x y) = absurd (omega (arith, h))
@@ -104,11 +105,11 @@ module _ (bytes text rest : Bytes) (joined : bytes ≡ text ++ rest) (large : 10
   same_refusal r (IsRefused.without_query ws T h x y z) = absurd (omega (arith, h))
   same_refusal r (IsRefused.with_unknown ws T a u h x y z v) = absurd (omega (arith, h))
 
-  too_long : 1048576 < length bytes
+  too_long : MAX_BYTES < length bytes
   too_long = omega (arith, large, ap length joined, length-append text rest)
 
   same_line : (line : Bytes) → IsRefusedBy text line → IsRefusedBy bytes line
-  same_line line (r, is, said) = (at bytes 1048576 (too_big source), IsRefused.too_long too_long, said ∙ ap refusal_line (same_refusal r is))
+  same_line line (r, is, said) = (at bytes MAX_BYTES (too_big source), IsRefused.too_long too_long, said ∙ ap refusal_line (same_refusal r is))
 
   no_program : (P : Program) → Reads text P → ⊥
   no_program P r = let s = r.size in omega (arith, large, s)
@@ -130,7 +131,7 @@ module _ (bytes text rest : Bytes) (joined : bytes ≡ text ++ rest) (large : 10
 
 module _ (old new : Option Bytes) where
   -- what was read is what was left, or more than the largest text
-  pub told : (left rest : Option Bytes) (read : ReadAll) (status : Status) → ReadsUpTo 1048576 left rest read → Responds old new status read → Told left (Answered old new status)
+  pub told : (left rest : Option Bytes) (read : ReadAll) (status : Status) → ReadsUpTo MAX_BYTES left rest read → Responds old new status read → Told left (Answered old new status)
   told None rest read status r a = tt
   told (Some bytes) rest (Whole text) status r a = let same : bytes ≡ text = r.1 in subst (λ b. Answered old new status b) (sym same) a.0
   told (Some bytes) rest (Over text) status r a = same_answer bytes text r.0.0 r.0.2 (omega (arith, r.1)) old new status a.0

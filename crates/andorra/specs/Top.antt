@@ -4,19 +4,19 @@ use Rattle.and_io.specs.Flow.{Gains}
 use Rattle.and_model.specs.Lines.{Bytes}
 use Rattle.and_model.specs.Programs.{Program}
 use Rattle.and_model.specs.Listing.{Entry, Listing, Exhausted}
-use Rattle.and_model.specs.Output.{Finish, limit_met, complete, last_lines, Output, OverLeft}
-use Rattle.and_texts.specs.Refusals.{Reads, Refusal, IsRefused}
+use Rattle.and_model.specs.Output.{Finish, limit_met, complete, last_lines, Output, OverLeft, NoneOver}
+use Rattle.and_language.specs.Refusals.{Reads, Refusal, IsRefused}
 use Rattle.and_reader.specs.RefusalLine.{refusal_line}
-use Rattle.and_engine.specs.Searching.{NoneOver}
 use Rattle.and_io.specs.declared.reading.ReadAll.{ReadAll}
 use Rattle.and_io.specs.declared.reading.ReadAll.TheVariants.{Whole, Over}
+use Rattle.and_model.specs.declared.limits.TheConstants.{DEFAULT_LIMIT}
 use Rattle.and_engine.specs.declared.search.Found.{Found}
 use Rattle.andorra.specs.declared.top.Status.{Status}
 use Rattle.andorra.specs.declared.top.Status.TheVariants.{Answers, NoAnswer, Usage, Refused, ReadFault, WriteFault, Limit, Memory, Floundered}
 
 -- the limit on the weight of a proof
 abbrev pub limit : ℕ
-limit = 262144
+limit = DEFAULT_LIMIT
 
 -- the words are those of the one command
 abbrev pub IsRun : List Bytes → Type 0

@@ -7,6 +7,7 @@ ghost use Rattle.andorra.specs.Top.{Answered, GainsPrefix, IsRun, Told, WasAnswe
 use and_engine::{Found, find_all};
 use and_io::{Gate, ReadAll, ReadStop, Sink, Source, read_all, write_all_counted};
 use and_model::Text;
+use and_model::limits::{DEFAULT_LIMIT, MAX_BYTES};
 use and_reader::{read_program, refusal_text};
 use std::alloc::{AllocError, Global};
 use std::sync::Wait;
@@ -34,12 +35,6 @@ pub enum Status {
     /// As for `Answers`, and some answer has arithmetic that waits forever.
     Floundered = 8,
 }
-
-/// The most that a proof may weigh.
-pub const LIMIT: u32 = 262_144;
-
-/// The most bytes that a text may have.
-const LARGEST_TEXT: usize = 1_048_576;
 
 const USAGE: &[u8] = b"usage: andorra run\n";
 
@@ -95,7 +90,7 @@ fn answer_to(alloc: Global, text: &[u8]) -> Result<Reply, AllocError>
 {
     match read_program(alloc, text) {
         Ok(loaded) => {
-            let mut found = find_all(alloc, &loaded, LIMIT)?;
+            let mut found = find_all(alloc, &loaded, DEFAULT_LIMIT)?;
             let status = last_line(&mut found)?;
             Ok(Reply {
                 text: found.lines,
@@ -167,7 +162,7 @@ pub fn andorra<R: Threads + Wait + Sync, S: Source, K: Sink, G: Gate>(
     if !is_run(words) {
         return finish(sink, USAGE, Status::Usage);
     }
-    match read_all(alloc, source, LARGEST_TEXT) {
+    match read_all(alloc, source, MAX_BYTES) {
         Ok(read) => respond(alloc, sink, &read),
         Err(ReadStop::Failed) => Status::ReadFault,
         Err(ReadStop::Memory) => Status::Memory,

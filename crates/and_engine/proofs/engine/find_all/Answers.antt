@@ -1,11 +1,11 @@
 use Rattle.std.proofs.Common.{◌≡◌, vec_len, sym, ap, ◌∙◌, subst, arith}
 use Rattle.std.proofs.lemmas.Bool.Decides.{nat_tests}
 use Rattle.and_model.specs.Programs.{Program, Clause, clause_weight}
-use Rattle.and_clauses.specs.Loaded.{program_of}
-use Rattle.and_clauses.specs.declared.loaded.Loaded.{Loaded}
+use Rattle.and_program.specs.Loaded.{program_of}
+use Rattle.and_program.specs.declared.loaded.Loaded.{Loaded}
 use Rattle.and_engine.specs.Searching.{IsFound}
 use Rattle.and_engine.specs.Search.{program}
-use Rattle.and_written.specs.Simple.{IsSimple, IsSimpleClause}
+use Rattle.and_model.specs.Simple.{IsSimple, IsSimpleClause}
 use Rattle.and_engine.specs.declared.search.Search.{Search}
 use Rattle.and_engine.proofs.Beginning.{empty, found_heavy, found_all}
 use Rattle.and_engine.proofs.Trying.{placed_is}

@@ -1,5 +1,5 @@
 use Rattle.std.proofs.Common.{◌-◌, ◌++◌, append_assoc, sym, subst, arith}
-use Rattle.and_clauses.specs.Loaded.{skeleton_of}
+use Rattle.and_program.specs.Loaded.{skeleton_of}
 use Rattle.and_engine.specs.Bodies.{item_in}
 use Rattle.and_engine.specs.Search.{GoalsFrom}
 use Rattle.and_engine.proofs.BodyLemmas.{one_there}

@@ -1,5 +1,5 @@
 use Rattle.std.proofs.Common.{◌≡◌, ◌∷◌, ◌++◌, [], length, sym, ◌∙◌, subst, Some}
-use Rattle.and_clauses.specs.declared.data.ItemNode.{ItemNode}
+use Rattle.and_program.specs.declared.item.ItemNode.{ItemNode}
 use Rattle.and_engine.specs.Bodies.{item_in}
 use Rattle.and_engine.specs.Search.{GoalsFrom, ArePlaced}
 use Rattle.and_engine.specs.declared.placed.Placed.{Placed}

@@ -1,6 +1,6 @@
 use Rattle.std.proofs.Common.{◌≡◌, [], ap, ◌∙◌, subst, map, IfOk, List, ℕ}
 use Rattle.and_model.specs.Lines.{first_seen, variables_along}
-use Rattle.and_clauses.specs.Loaded.{program_of}
+use Rattle.and_program.specs.Loaded.{program_of}
 use Rattle.and_engine.specs.Cells.{cells_of, made_of, meaning}
 use Rattle.and_engine.specs.Printing.{cell_variable}
 use Rattle.and_engine.proofs.Showing.{cells_below, line_is}

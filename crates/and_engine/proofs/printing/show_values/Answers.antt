@@ -1,7 +1,7 @@
 use Rattle.std.proofs.Common.{ℕ, ◌≡◌, ◌++◌, ◌∷◌, List, [], ap, ◌∙◌, arith, length, map, get_or, Bor}
 use Rattle.std.proofs.lemmas.List.{length-map, map-id}
 use Rattle.and_model.specs.Lines.{Bytes, shown_variables, shown_value}
-use Rattle.and_clauses.specs.Loaded.{program_of}
+use Rattle.and_program.specs.Loaded.{program_of}
 use Rattle.and_engine.specs.Cells.{cells_of}
 use Rattle.and_engine.specs.Printing.{names_of, line_variables, substitution_of}
 use Rattle.and_engine.proofs.Showing.{same_item, same_length, cell_below, value_written, after_more, after_last}

@@ -1,6 +1,6 @@
 use Rattle.std.proofs.Common.{ℕ, ◌≡◌, List, ◌++◌, map, drop}
 use Rattle.and_model.specs.Lines.{Bytes, shown_variables, shown_value, joined}
-use Rattle.and_clauses.specs.Loaded.{program_of}
+use Rattle.and_program.specs.Loaded.{program_of}
 use Rattle.and_engine.specs.Printing.{names_of, line_variables, substitution_of}
 use Rattle.and_engine.proofs.printing.show_values.Given as goal
 

@@ -1,6 +1,6 @@
 use Rattle.std.proofs.Common.{ℕ, ◌≡◌, List, ◌++◌, map, drop}
 use Rattle.and_model.specs.Lines.{Bytes, shown_variables}
-use Rattle.and_clauses.specs.Loaded.{program_of}
+use Rattle.and_program.specs.Loaded.{program_of}
 use Rattle.and_engine.proofs.printing.shown_variables.Given as goal
 
 abbrev pub invariant-loop-number : goal.invariant-loop-number

@@ -1,5 +1,5 @@
 use Rattle.std.proofs.Common.{refl, sym, ◌∙◌}
-use Rattle.and_texts.proofs.Simple.{simple}
+use Rattle.and_language.proofs.Simple.{simple}
 use Rattle.and_reader.specs.Causes.{refusal_of}
 use Rattle.andorra.proofs.TopLemmas.{replied, refused_by}
 use Rattle.andorra.proofs.top.answer_to.Goals as goal

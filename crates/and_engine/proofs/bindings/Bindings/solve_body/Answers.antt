@@ -3,8 +3,8 @@ use Rattle.std.proofs.lemmas.List.{take_all}
 use Rattle.and_model.specs.Terms.{Substitution}
 use Rattle.and_model.specs.Solutions.{Equation, Solves}
 use Rattle.and_model.specs.Programs.{Item}
-use Rattle.and_clauses.specs.Loaded.{skeleton_of}
-use Rattle.and_clauses.specs.declared.data.ItemNode.{ItemNode}
+use Rattle.and_program.specs.Loaded.{skeleton_of}
+use Rattle.and_program.specs.declared.item.ItemNode.{ItemNode}
 use Rattle.and_engine.specs.Bodies.{cell_equations, EquationsWithin, item_in}
 use Rattle.and_engine.specs.Cells.{cells_of, made_of, equations_of, clause_of}
 use Rattle.and_engine.specs.declared.placed.Binding.{Binding}

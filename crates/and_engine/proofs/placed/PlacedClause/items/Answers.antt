@@ -1,5 +1,5 @@
 use Rattle.std.proofs.Common.{◌∙◌}
-use Rattle.and_clauses.specs.Loaded.{skeleton_of}
+use Rattle.and_program.specs.Loaded.{skeleton_of}
 use Rattle.and_engine.proofs.BodyLemmas.{items_of_nodes}
 use Rattle.and_engine.proofs.placed.PlacedClause.items.Goals as goal
 

@@ -5,7 +5,7 @@ use Rattle.and_model.specs.Trees.{call_of}
 use Rattle.and_laws.proofs.Order.{clause_weighs}
 use Rattle.and_engine.specs.Cells.{term_of, clause_of}
 use Rattle.and_engine.specs.Search.{IsOfChoice, Tries, program}
-use Rattle.and_written.specs.Simple.{IsSimpleClause}
+use Rattle.and_model.specs.Simple.{IsSimpleClause}
 use Rattle.and_engine.specs.declared.placed.Placed.{Placed}
 use Rattle.and_engine.specs.declared.placed.PlacedClause.{PlacedClause}
 use Rattle.and_engine.specs.declared.search.Choice.{Choice}
