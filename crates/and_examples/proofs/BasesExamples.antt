@@ -11,7 +11,7 @@ use Rattle.and_model.specs.Trees.{query_agenda, blank}
 use Rattle.and_model.specs.Reductions.{PlaceHas, Makes}
 use Rattle.and_model.specs.Stands.{Framed, IsFramed, call_in_tree, IsLive}
 use Rattle.and_model.proofs.Tested.{of_two}
-use Rattle.and_examples.specs.BasesExamples.{v, p, q, three, P, tree, by_first, item_at_nine, reduced}
+use Rattle.and_examples.specs.BasesExamples.{v, p, q, three, P, tree, by_first, item_at_nine, reduced, read_at_base}
 
 pub made : Makes P (by_first ∷ []) tree
 unfolding clause_weight
@@ -42,6 +42,24 @@ general = ((refl, tt), through)
 
 pub live : IsLive P (reduced (item_at_nine 0 ∷ [])) tree
 live = record {
+  goals = in_frame 0 ∷ [];
+  waiting = in_frame 1 ∷ [];
+  goals_are = refl;
+  waiting_are = refl;
+  framed = of_two (IsFramed (by_first ∷ [])) (in_frame 0) (in_frame 1) (is_framed 0) (is_framed 1);
+  calls = refl;
+  solved = (p (v 0), p x) ∷ [];
+  waits = compare less x three ∷ [];
+  ran = Ran.none_yet ((p (v 0), p x) ∷ []) (compare less x three ∷ []);
+  not_run = refl;
+  solution = solution;
+  general = general;
+  read = (((λ r k. x), refl), ((λ r k. v 1), refl));
+}
+
+-- The goals are read in the frame at their base, whatever is at their place.
+pub at_base : IsLive P read_at_base tree
+at_base = record {
   goals = in_frame 0 ∷ [];
   waiting = in_frame 1 ∷ [];
   goals_are = refl;

@@ -23,3 +23,10 @@ pub mod HangingExamples
 pub mod ReachedExamples
 pub mod LimitExamples
 pub mod NumbersExamples
+pub mod GuardExamples
+pub mod DeadExamples
+pub mod ForksExamples
+pub mod BranchExamples
+pub mod PairExamples
+pub mod LawExamples
+pub mod TermExamples

@@ -1,9 +1,7 @@
 -- Modes, tried on two small programs.
-use Rattle.std.proofs.Common.{ℕ, zero, suc, ◌≡◌, ◌<◌, ◌≤◌, List, [], ◌∷◌, refl, ap, ◌∙◌, inl, inr, arith, Bool, true, false, ◌||◌, true≢false, sym}
-use Rattle.std.specs.Prelude.{nat_eq, Contains}
+use Rattle.std.proofs.Common.{ℕ, zero, suc, ◌≡◌, ◌<◌, ◌≤◌, List, [], ◌∷◌, refl, ap, ◌∙◌, inl, inr, arith, sym}
+use Rattle.std.specs.Prelude.{Contains}
 use Rattle.std.proofs.lemmas.List.Elements.{All-contains}
-use Rattle.std.proofs.lemmas.Bool.Decides.{Decides-eqb}
-use Rattle.and_model.specs.Lines.{has}
 use Rattle.and_model.proofs.Tested.{of_one}
 use Rattle.and_model.specs.Terms.{Terms, none, more}
 use Rattle.and_model.specs.Programs.{Program, Clause, Item, call, equal, arithmetic, fail, clause_at}
@@ -47,21 +45,21 @@ safe_greatest = (
 
 -- No variable waits: each right side is known to be an integer.
 -- a goal with one variable waits for that alone
-or_false : (a : Bool) → (a || false) ≡ true → a ≡ true
-or_false true h = refl
-or_false false h = h
+only_first : (k : ℕ) → Contains (0 ∷ []) k → k ≡ 0
+only_first k (zero, lt, e) = sym e
+only_first k (suc i, lt, e) = absurd (omega arith)
 
-only_first : (k : ℕ) → has ([], k) (([], 0) ∷ []) ≡ true → k ≡ 0
-only_first k h = (Decides-eqb k 0).0 (or_false (nat_eq k 0) h)
+none_there : (k : ℕ) → Contains [] k → ⊥
+none_there k (i, lt, e) = omega arith
 
 not_waiting : (c i k : ℕ) → WaitsFor safe given_first (record { clause = c; item = i; variable = k }) → ⊥
-not_waiting zero zero k waits = true≢false (sym waits.1)
+not_waiting zero zero k waits = none_there k waits.1
 not_waiting zero (suc zero) zero waits = let e = waits.2 in cc
 not_waiting zero (suc zero) (suc k) waits = let e : suc k ≡ 0 = only_first (suc k) waits.1 in omega arith
-not_waiting zero (suc (suc i)) k waits = true≢false (sym waits.1)
+not_waiting zero (suc (suc i)) k waits = none_there k waits.1
 not_waiting (suc zero) zero zero waits = let e = waits.2 in cc
 not_waiting (suc zero) zero (suc k) waits = let e : suc k ≡ 0 = only_first (suc k) waits.1 in omega arith
-not_waiting (suc zero) (suc i) k waits = true≢false (sym waits.1)
+not_waiting (suc zero) (suc i) k waits = none_there k waits.1
 not_waiting (suc (suc c)) i k waits = let below = waits.0 in omega arith
 
 pub safe_is_safe : IsSafe safe given_first
@@ -87,15 +85,15 @@ pub higher_is_not : WellModed waiting ground_first → ⊥
 higher_is_not well = let h = (well 0 (omega arith)).0.0.0 in omega arith
 
 alone : (c i k : ℕ) → WaitsFor waiting lowest (record { clause = c; item = i; variable = k }) → record { clause = c; item = i; variable = k } ≡ x_in_body
-alone zero zero k waits = absurd (true≢false (sym waits.1))
-alone zero (suc i) k waits = absurd (true≢false (sym waits.1))
+alone zero zero k waits = absurd (none_there k waits.1)
+alone zero (suc i) k waits = absurd (none_there k waits.1)
 alone (suc zero) zero zero waits = refl
 alone (suc zero) zero (suc k) waits = let e : suc k ≡ 0 = only_first (suc k) waits.1 in absurd (omega arith)
-alone (suc zero) (suc i) k waits = absurd (true≢false (sym waits.1))
+alone (suc zero) (suc i) k waits = absurd (none_there k waits.1)
 alone (suc (suc c)) i k waits = let below = waits.0 in absurd (omega arith)
 
 pub x_waits_first : WaitsFirst waiting lowest x_in_body
-x_waits_first = ((omega arith, refl, refl), λ w waits. inl (alone w.clause w.item w.variable waits))
+x_waits_first = ((omega arith, (0, omega arith, refl), refl), λ w waits. inl (alone w.clause w.item w.variable waits))
 
 pub z_is_earlier : IsEarlier one_line (record { clause = 1; item = 0; variable = 0 }) (record { clause = 0; item = 0; variable = 1 })
 z_is_earlier = inr (inl (refl, omega arith))

@@ -26,16 +26,16 @@ fails_two (inr (inr n)) = elim n [ ]
 fails_shut : Shut fails_start
 fails_shut = ([], [], Closes.waiting [] [] tt, (all_are 1, tt), fails_two)
 
-abbrev fails_one : QueryTree fails
+abbrev pub fails_one : QueryTree fails
 fails_one = reduce fails_start (inl tt) 1 refl
 
-abbrev fails_other : QueryTree fails
+abbrev pub fails_other : QueryTree fails
 fails_other = reduce fails_start (inl tt) 2 refl
 
-fails_first : Split fails_start 1 fails_one
+pub fails_first : Split fails_start 1 fails_one
 fails_first = (fails_shut, [], [], Closes.waiting [] [] tt, inl tt, tt, refl, (refl, (all_are 1, (refl, tt)), λ a i. elim i [ ]), refl)
 
-fails_second : Split fails_start 2 fails_other
+pub fails_second : Split fails_start 2 fails_other
 fails_second = (fails_shut, [], [], Closes.waiting [] [] tt, inl tt, tt, refl, (refl, (all_are 2, (refl, tt)), λ a i. elim i [ ]), refl)
 
 -- only these two
@@ -60,7 +60,7 @@ fails_none (suc (suc (suc zero))) k = let a = k.1.1.0 in let b = k.1.1.1.0 in cc
 fails_none (suc (suc (suc (suc zero)))) k = let a = k.1.1.0 in let b = k.1.1.1.0 in cc
 fails_none (suc (suc (suc (suc (suc d))))) k = let b = (of_bounds fails (q x) (suc (suc (suc (suc (suc d))))) k.0).1 in absurd (omega arith)
 
-fails_dead : Dead fails_one
+pub fails_dead : Dead fails_one
 fails_dead = (equations fails_one, [], Closes.waiting (equations fails_one) [] tt, inr (inl tt, fails_none))
 
 -- The second goes on by clause 3 alone, and ends.
@@ -82,7 +82,7 @@ fails_ended : Shut fails_answer
 fails_ended = (equations fails_answer, [], Closes.waiting (equations fails_answer) [] tt, (all_are 2, (refl, (refl, tt))), λ o. elim o [ ])
 
 -- a tree that is split by two clauses and no others
-two_clauses : {P : Program} (t : QueryTree P) (c d : ℕ) (u v : QueryTree P) → c < d → Split t c u → Split t d v → ((e : ℕ) (next : QueryTree P) → Split t e next → (e ≡ c) ⊎ (e ≡ d)) → SplitClauses t (c ∷ d ∷ [])
+pub two_clauses : {P : Program} (t : QueryTree P) (c d : ℕ) (u v : QueryTree P) → c < d → Split t c u → Split t d v → ((e : ℕ) (next : QueryTree P) → Split t e next → (e ≡ c) ⊎ (e ≡ d)) → SplitClauses t (c ∷ d ∷ [])
 two_clauses {P} t c d u v less a b only = (
   AllPairs-cons (λ m n. m < n) c (d ∷ []) (All-cons (λ n. c < n) d [] less (all_none (λ n. c < n))) (AllPairs-cons (λ m n. m < n) d [] (all_none (λ n. d < n)) (all_pairs_none (λ m n. m < n))),
   λ e. (

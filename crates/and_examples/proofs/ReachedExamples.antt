@@ -18,7 +18,7 @@ unfolding clause_weight
 early_start_weighs = refl
 
 -- q(X) has one candidate, clause 3,
-early_third : (d : ℕ) → CandidateOf early_start [] (inr (inl tt)) d → d ≡ 3
+pub early_third : (d : ℕ) → CandidateOf early_start [] (inr (inl tt)) d → d ≡ 3
 early_third zero k = absurd (true≢false (sym k.0))
 early_third (suc zero) k = absurd (true≢false (sym k.0))
 early_third (suc (suc zero)) k = absurd (true≢false (sym k.0))

@@ -6,7 +6,7 @@ use Rattle.std.proofs.lemmas.Bool.Decides.{Decides-eqb}
 use Rattle.std.proofs.lemmas.List.Elements.{All-contains}
 use Rattle.and_model.specs.declared.reference.Ref.{Ref}
 use Rattle.and_model.specs.declared.reference.Ref.TheVariants.{Free, Cell, Node, Number, Half}
-use Rattle.and_model.specs.Store.{Setting, Entry, Made, sets, gives, fails, hangs, Known, Asked, Took, Pass, Fits, HasClosed, Row}
+use Rattle.and_model.specs.Store.{Setting, JournalEntry, Made, sets, gives, fails, hangs, Known, Asked, Took, Pass, Fits, HasClosed, Row}
 use Rattle.and_model.proofs.Tested.{tested, of_one, of_two, of_four, none_in, in_middle, within, distinct}
 use Rattle.and_examples.specs.StoreExamples.{setting, entry, own, learnt, nobody_waits, first, journal, winner, learner, row, made}
 
@@ -27,11 +27,11 @@ sets_number (gives f) = false
 sets_number fails = false
 sets_number (hangs g) = false
 
-pub no_numbers : (entries : List Entry) → list_all (λ (e : Entry). not (sets_number e.made)) entries ≡ true
-    → (before after : List Entry) (e : Entry) → entries ≡ before ++ e ∷ after → (s : Setting) → e.made ≡ sets s → (pair : ℕ) → s.value ≡ Number pair → ⊥
+pub no_numbers : (entries : List JournalEntry) → list_all (λ (e : JournalEntry). not (sets_number e.made)) entries ≡ true
+    → (before after : List JournalEntry) (e : JournalEntry) → entries ≡ before ++ e ∷ after → (s : Setting) → e.made ≡ sets s → (pair : ℕ) → s.value ≡ Number pair → ⊥
 no_numbers entries none before after e is s set pair value =
     let there : Contains entries e = rw is (in_middle before after e) in
-    let not_here = All-contains (λ (e : Entry). not (sets_number e.made) ≡ true) entries e (tested (λ (e : Entry). not (sets_number e.made) ≡ true) (λ (e : Entry). not (sets_number e.made)) (λ e is. is) entries none) there in
+    let not_here = All-contains (λ (e : JournalEntry). not (sets_number e.made) ≡ true) entries e (tested (λ (e : JournalEntry). not (sets_number e.made) ≡ true) (λ (e : JournalEntry). not (sets_number e.made)) (λ e is. is) entries none) there in
     let here : sets_number e.made ≡ true = ap sets_number set ∙ ap (λ v. sets_number (sets (record { place = s.place; value = v }))) value in
     true≢false (sym not_here ∙ ap not here)
 
@@ -77,7 +77,7 @@ row_holds = record {
   set_once = distinct (2 ∷ 1 ∷ 4 ∷ 5 ∷ []) refl;
   passes_fit = of_two (Fits first 10 journal) winner learner winner_fits learner_fits;
   closed = of_two HasClosed winner learner refl refl;
-  by_a_pass = tested (λ (e : Entry). Contains (0 ∷ 1 ∷ []) e.pass) (λ (e : Entry). nat_eq e.pass 0) (λ e is. (0, omega arith, sym ((Decides-eqb e.pass 0).0 is))) journal refl;
+  by_a_pass = tested (λ (e : JournalEntry). Contains (0 ∷ 1 ∷ []) e.pass) (λ (e : JournalEntry). nat_eq e.pass 0) (λ e is. (0, omega arith, sym ((Decides-eqb e.pass 0).0 is))) journal refl;
   numbered = distinct (0 ∷ 1 ∷ []) refl;
   falls = λ s c. All-contains IsFalling words s falling c;
   written_first = λ s c pair value. absurd (none_in s c);

@@ -19,7 +19,7 @@ none_first : (es : List Equation) (gs : List Arithmetic) (g : Arithmetic) (bs : 
 none_first es _ g _ n (First.first _ gs) r = n.0 r
 none_first es _ g _ n (First.after a gs _ bs _ f) r = none_first es gs g bs n.1 f r
 
-only_waits : (es : List Equation) (gs : List Arithmetic) (ds : List Equation) (ws : List Arithmetic) → NoneReady es gs → Closes es gs ds ws → (ds ≡ es) × (ws ≡ gs)
+pub only_waits : (es : List Equation) (gs : List Arithmetic) (ds : List Equation) (ws : List Arithmetic) → NoneReady es gs → Closes es gs ds ws → (ds ≡ es) × (ws ≡ gs)
 only_waits es gs _ _ n (Closes.unsolved _ _ _) = (refl, refl)
 only_waits es gs _ _ n (Closes.waiting _ _ _) = (refl, refl)
 only_waits es gs ds ws n (Closes.run _ _ g bs ts _ _ _ f k _) = absurd (none_first es gs g bs n f (ts, k))

@@ -1,7 +1,7 @@
 -- What a branch stands for after a reduction whose frame does not begin at the number of its place:
 -- p(X) :- q(X), X < 3. q(1). q(2). ?- p(Y).
 use Rattle.std.proofs.Common.{inl}
-use Rattle.std.specs.Prelude.{ℕ, false, List, [], ◌∷◌, refl, pos}
+use Rattle.std.specs.Prelude.{ℕ, false, cond, nat_eq, List, [], ◌∷◌, refl, pos}
 use Rattle.and_model.specs.Terms.{Term, variable, number, compound, none, more}
 use Rattle.and_model.specs.Arithmetic.{less}
 use Rattle.and_model.specs.Programs.{Program, Clause, call, arithmetic, compare}
@@ -59,3 +59,10 @@ reduced goals = record {
   limit = 10;
   is_failed = false;
 }
+
+-- At the place of clause 1, which is 2, there is something else; its frame is at 9.
+abbrev pub read_apart : ℕ → ℕ → Term
+read_apart base k = cond (nat_eq base 2) three (v 1)
+
+abbrev pub read_at_base : Branch
+read_at_base = record (reduced (item_at_nine 0 ∷ [])) { reading = read_apart }

@@ -16,3 +16,11 @@ P = record {
   query = record { head = compound TRUE none; body = call (p (variable [] 0)) ∷ []; variables = 1; written = []; line = 1 };
   names = [];
 }
+
+-- ---- p(1). p(2). ?- p(1). The query weighs 1.
+abbrev pub one_asked : Program
+one_asked = record {
+  clauses = fact 1 ∷ fact 2 ∷ [];
+  query = record { head = compound TRUE none; body = call (p (number (pos 1))) ∷ []; variables = 0; written = []; line = 1 };
+  names = [];
+}

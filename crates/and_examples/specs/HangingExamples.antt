@@ -2,7 +2,7 @@
 use Rattle.std.specs.Prelude.{true, List, [], ◌∷◌, Some}
 use Rattle.and_model.specs.declared.reference.Ref.{Ref}
 use Rattle.and_model.specs.declared.reference.Ref.TheVariants.{Free, Node}
-use Rattle.and_model.specs.Store.{Setting, Entry, sets, hangs, HungGoal, Took, occupied, closed, Pass}
+use Rattle.and_model.specs.Store.{Setting, JournalEntry, sets, hangs, HungGoal, Took, occupied, closed, Pass}
 
 -- One free cell. The first pass hangs a goal on it. The second finds a waiter there, sets the cell to a node and takes the waiter out, and then finds the place closed.
 abbrev pub first : List Ref
@@ -14,7 +14,7 @@ hung = record { waiter = 0; cell = 0; goal = record { node = 0; item = 0; clause
 abbrev pub bound : Setting
 bound = record { place = 0; value = Node (record { 0 = 7 }) 0 }
 
-abbrev pub journal : List Entry
+abbrev pub journal : List JournalEntry
 journal = record { pass = 0; made = hangs hung } ∷ record { pass = 1; made = sets bound } ∷ []
 
 abbrev pub hanger : Pass

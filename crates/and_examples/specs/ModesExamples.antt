@@ -4,7 +4,8 @@ use Rattle.and_model.specs.Terms.{Term, variable, number, compound, none, more}
 use Rattle.and_model.specs.Arithmetic.{less}
 use Rattle.and_model.specs.Programs.{Program, Clause, Item, call, arithmetic, is, compare}
 use Rattle.and_model.specs.declared.builtins.TheConstants.{PLUS, TRUE}
-use Rattle.and_modes.specs.Modes.{Assignment, Wait}
+use Rattle.and_modes.specs.Modes.{Assignment, Environment, Wait}
+use Rattle.and_modes.specs.declared.level.Level.{Level}
 use Rattle.and_modes.specs.declared.level.Level.TheVariants.{Any, Ground, Integer}
 use Rattle.and_modes.specs.declared.level.Side.TheVariants.{Called, Succeeded}
 
@@ -59,3 +60,11 @@ one_line = record {
   query = asked (arithmetic (is (v 0) (v 1)) ∷ call (compound 27 (more (v 2) none)) ∷ []);
   names = [];
 }
+
+-- The variable 0 has this level, and no other variable is known.
+abbrev pub first_has : Level → Environment
+first_has l k = cond (nat_eq k 0) l Any
+
+-- a structure
+abbrev pub pair : Term → Term → Term
+pair a b = compound 28 (more a (more b none))

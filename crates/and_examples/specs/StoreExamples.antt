@@ -2,12 +2,12 @@
 use Rattle.std.specs.Prelude.{ℕ, true, false, List, [], ◌∷◌, None}
 use Rattle.and_model.specs.declared.reference.Ref.{Ref}
 use Rattle.and_model.specs.declared.reference.Ref.TheVariants.{Free, Cell, Half}
-use Rattle.and_model.specs.Store.{Setting, Entry, Made, sets, gives, fails, Known, Took, Pass, fail_word}
+use Rattle.and_model.specs.Store.{Setting, JournalEntry, Made, sets, gives, fails, Known, Took, Pass, fail_word}
 
 abbrev pub setting : ℕ → Ref → Setting
 setting place value = record { place = place; value = value }
 
-abbrev pub entry : ℕ → Made → Entry
+abbrev pub entry : ℕ → Made → JournalEntry
 entry pass made = record { pass = pass; made = made }
 
 abbrev pub own : ℕ → Ref → Known
@@ -23,7 +23,7 @@ nobody_waits cell = record { cell = cell; waiter = None }
 abbrev pub first : List Ref
 first = Free ∷ Free ∷ Free ∷ []
 
-abbrev pub journal : List Entry
+abbrev pub journal : List JournalEntry
 journal =
     entry 0 (sets (setting 2 (Cell 1)))
     ∷ entry 0 (sets (setting 1 (Cell 0)))

@@ -2,20 +2,24 @@
 //!
 //! Each function here does nothing. Its contract says what the definitions make of one example, and
 //! is proved in `proofs/`. The texts are in `specs/`. In the root are whole examples, from terms to
-//! listings. The modules try the rest: `lines` how answers and names are written, `reached` steps,
-//! splits and limits, `branches` and `reductions` what a branch stands for, `stores` and `hanging`
-//! rows that several set, `histories` the choicepoint tree and covering forks, and `modes` what is
-//! known of arguments. No other crate stands on this one.
+//! listings. The modules try the rest: `terms` what substitutions do, `lines` how answers and names are
+//! written, `guards` comparisons in front of clauses, `reached` steps, splits and limits, `branches` and
+//! `reductions` what a branch stands for, `stores` and `hanging` rows that several set, `histories` the
+//! choicepoint tree and covering forks, `modes` what is known of arguments, and `laws` where the premises
+//! of laws hold. No other crate stands on this one.
 #![tactic(auto)]
 
 pub mod branches;
+pub mod guards;
 pub mod hanging;
 pub mod histories;
+pub mod laws;
 pub mod lines;
 pub mod modes;
 pub mod reached;
 pub mod reductions;
 pub mod stores;
+pub mod terms;
 
 ghost use Rattle.std.specs.Prelude.{ℕ, ℤ, pos, negsuc, ◌≡◌, ◌<◌, ◌≤◌, ◌-◌, ◌^◌, List, [], ◌∷◌, ◌++◌, length, Some, None, codes};
 ghost use Rattle.and_model.specs.Terms.{Path, Term, variable, number, compound, none};
@@ -33,17 +37,23 @@ ghost use Rattle.and_model.specs.declared.limits.TheConstants.{DEFAULT_LIMIT};
 ghost use Rattle.and_examples.specs.Ending.{UnfoldsTo, CodeEnds, SearchForks, entry};
 ghost use Rattle.and_examples.specs.Texts.{own, at, whole, unary, binary, app, nil, cell, append_text, forks_text, x_is_x, floundered_text, x_below_3, late_text, not_below, circle, equal_text, x_is_too_much, too_much, quotients, naturals, endless_text, lightest, next_lightest};
 
-pub use branches::branch_of_the_query;
+pub use branches::{
+    branch_of_the_query, branches_of_a_split, branches_with_a_sum, one_renaming_of_all,
+};
+pub use guards::{guard_that_decides, guard_that_ends, guard_without_value};
 pub use hanging::goal_that_hangs_on_a_cell;
-pub use histories::{covering_fork, history_of_two_teams};
+pub use histories::{covering_fork, fork_by_candidates, history_of_two_teams, history_with_a_fork};
+pub use laws::{candidate_under_other_names, line_under_other_names, sum_that_stays_run};
 pub use lines::{answers_on_one_line, names_as_written, names_of_every_table};
-pub use modes::{increment_of_a_number, increment_of_a_variable};
+pub use modes::{increment_of_a_number, increment_of_a_variable, levels_that_items_raise};
 pub use reached::{
-    clause_over_the_limit, early_filter, keys_of_two_forks, one_fork_one_failure,
-    two_forks_no_failure,
+    clause_over_the_limit, early_filter, equations_without_a_solution, forks_within_a_fork,
+    goal_without_a_candidate, keys_of_two_forks, one_candidate_over_the_limit,
+    one_fork_one_failure, two_forks_no_failure,
 };
 pub use reductions::branch_after_a_reduction;
-pub use stores::row_of_two_passes;
+pub use stores::{row_of_two_passes, row_with_a_number};
+pub use terms::{renamed_solution, terms_once_replaced};
 
 /// Example append-cells: `app(nil,L,L). app(c(H,T),L,c(H,R)) :- app(T,L,R). ?- app(X,Y,c(1,nil)).`
 ///

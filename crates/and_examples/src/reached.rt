@@ -1,14 +1,20 @@
 //! Steps, splits and limits of a search that takes determinate goals first.
 
-ghost use Rattle.std.specs.Prelude.{◌≡◌, [], ◌∷◌, codes, refl};
-ghost use Rattle.and_model.specs.Trees.{code, weight, reduce};
+ghost use Rattle.std.specs.Prelude.{ℕ, ◌≡◌, [], ◌∷◌, codes, refl, AllPairs};
+ghost use Rattle.and_model.specs.Trees.{Open, code, decided, weight, reduce};
 ghost use Rattle.and_model.specs.Listing.{Ends, answer, Listing};
 ghost use Rattle.and_model.specs.Reductions.{Makes};
-ghost use Rattle.and_model.specs.Reached.{Step, Shut, Split, ReachedBy, Dead, Numbers};
+ghost use Rattle.and_model.specs.Reached.{CandidateOf, Step, Shut, Split, ReachedBy, Dead, Numbers};
 ghost use Rattle.and_examples.specs.ReachedExamples.{early, early_start, early_filtered, early_answer, by_three, by_two, forks, forks_start};
-ghost use Rattle.std.proofs.Common.{inl};
+ghost use Rattle.std.proofs.Common.{inl, inr};
 ghost use Rattle.and_model.specs.Limits.{at_goal, OverLimit};
 ghost use Rattle.and_examples.specs.LimitExamples.{naturals, at_least_2};
+ghost use Rattle.and_model.specs.Output.{OverLeft};
+ghost use Rattle.and_examples.specs.DeadExamples.{hopeless, hopeless_start, circle_start, not_below_start};
+ghost use Rattle.and_model.specs.Prefixes.{IsPrefix};
+ghost use Rattle.and_laws.specs.CodeOrder.{Rises};
+ghost use Rattle.and_examples.specs.Ending.{SearchForks};
+ghost use Rattle.and_examples.specs.ForksExamples.{three_forks};
 ghost use Rattle.and_laws.specs.Explorations.{Explores};
 ghost use Rattle.and_examples.specs.NumbersExamples.{fails, fails_start, splits_0};
 
@@ -55,4 +61,40 @@ pub fn one_fork_one_failure()
 /// `app([],L,L). app([H|T],L,[H|R]) :- app(T,L,R). ?- app(X,Y,[1,2]).` There are two forks, and nothing fails.
 pub fn two_forks_no_failure()
     ensures { Numbers splits_0 2 0 }
+{}
+
+/// Of `p(1). p(2). q(2). ?- p(X), q(X).` the query weighs 2. Within the limit 2 the one candidate of q(X) is
+/// over, though the tree is not shut, and neither of the two candidates of p(X) is. What is left over
+/// goes by the leftmost call instead: clause 1 is, and clause 3 is not.
+pub fn one_candidate_over_the_limit()
+    ensures over { OverLimit early 2 (at_goal early_start (inr (inl tt)) 3) }
+    ensures not_shut { Shut early_start → ⊥ }
+    ensures neither_of_two { (c : ℕ) → OverLimit early 2 (at_goal early_start (inl tt) c) → ⊥ }
+    ensures left_over { OverLeft early 2 [] 1 }
+    ensures not_left_over { OverLeft early 2 [] 3 → ⊥ }
+{}
+
+/// `p(1). q(2). ?- p(X), q(3).` No clause is a candidate of q(3), so the tree is dead. A dead tree has nothing
+/// over any limit, though p(X) has one candidate. It may still go on, by any clause of q.
+pub fn goal_without_a_candidate()
+    ensures dead { Dead hopeless_start }
+    ensures one_candidate { CandidateOf hopeless_start [] (inl tt) 1
+        × ((c : ℕ) → CandidateOf hopeless_start [] (inl tt) c → c ≡ 1) }
+    ensures none_over { (limit c : ℕ) (o : Open hopeless_start) → OverLimit hopeless limit (at_goal hopeless_start o c) → ⊥ }
+    ensures steps_on { Step hopeless_start (reduce hopeless_start (inr (inl tt)) 2 refl) }
+{}
+
+/// `?- X = f(X).` and `?- X = 3, X < 3.` have no call, and their trees are dead: nothing solves the equation of
+/// the first, nor those of the second once the comparison has run. Such a tree counts as a failure.
+pub fn equations_without_a_solution()
+    ensures circle_dead { Dead circle_start }
+    ensures not_below_dead { Dead not_below_start }
+    ensures circle_fails { Numbers circle_start 0 1 }
+{}
+
+/// `p(1). p(2). q(3). q(4). ?- p(X), q(Y).` There is a fork of p(X), and under each of its two clauses one of q(Y).
+/// They come in the order of the text, which is that of their keys.
+pub fn forks_within_a_fork()
+    ensures in_order { SearchForks forks three_forks }
+    ensures rising { IsPrefix [] (decided forks_start) × AllPairs Rises three_forks }
 {}

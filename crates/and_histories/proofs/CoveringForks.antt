@@ -7,7 +7,7 @@ use Rattle.std.proofs.lemmas.Bool.Decides.{Decides-eqb}
 use Rattle.and_model.specs.Prefixes.{IsPrefix}
 use Rattle.and_model.specs.Programs.{Program}
 use Rattle.and_histories.specs.PlainTree.{Key, free, opened, State, Event, Reply, Does, Holds, opening, children, keys_in, keys_left, left_of}
-use Rattle.and_histories.specs.Histories.{Entry, Carries}
+use Rattle.and_histories.specs.Histories.{HistoryEntry, Carries}
 use Rattle.and_histories.specs.Covering.{HasOutcomeWithin, begins, keys_begun, IsCovering, AreCovering, brought, replaced, ended, keys_ended}
 use Rattle.and_model.proofs.Tested.{first_true, second_true}
 use Rattle.and_histories.proofs.KeptKeys.{keys_are_kept, total_keys}
@@ -60,12 +60,12 @@ module _ (code : List ℕ) where
       let same = fork_keeps P limit within s next event reply does covering in
       omega arith
 
-  history_keeps : (P : Program) (limit : ℕ) → HasOutcomeWithin P limit code → (s after : State) (history : List Entry) → Carries s history after
+  history_keeps : (P : Program) (limit : ℕ) → HasOutcomeWithin P limit code → (s after : State) (history : List HistoryEntry) → Carries s history after
       → AreCovering P limit history → sum_by at_key (keys_left after) + sum_by at_key (keys_ended history) ≡ sum_by at_key (keys_left s)
   history_keeps P limit within s after [] is covering = let same = ap (λ s. sum_by at_key (keys_left s)) is in omega arith
   history_keeps P limit within s after (e ∷ history) (next, does, carries) covering =
-      let one = step_keeps P limit within s next e.event e.reply does (All-head (λ (e : Entry). IsCovering P limit e.event) e history covering) in
-      let rest = history_keeps P limit within next after history carries (All-tail (λ (e : Entry). IsCovering P limit e.event) e history covering) in
+      let one = step_keeps P limit within s next e.event e.reply does (All-head (λ (e : HistoryEntry). IsCovering P limit e.event) e history covering) in
+      let rest = history_keeps P limit within next after history carries (All-tail (λ (e : HistoryEntry). IsCovering P limit e.event) e history covering) in
       let more = sum_by-append at_key (ended e.event) (keys_ended history) in
       omega arith
 
@@ -85,7 +85,7 @@ cells_one (suc n) some = ap (λ keys. [] ∷ keys) (cells_none n)
 opening_keys : (teams : ℕ) → 0 < teams → keys_left (opening teams) ≡ [] ∷ []
 opening_keys teams some = rw (hands_none teams) (cells_one (8 * teams) (omega arith))
 
-pub covering_forks : (P : Program) (limit teams : ℕ) (history : List Entry) (s : State) → 0 < teams → Carries (opening teams) history s → AreCovering P limit history
+pub covering_forks : (P : Program) (limit teams : ℕ) (history : List HistoryEntry) (s : State) → 0 < teams → Carries (opening teams) history s → AreCovering P limit history
     → (code : List ℕ) → HasOutcomeWithin P limit code → keys_begun code (keys_left s ++ keys_ended history) ≡ 1
 covering_forks P limit teams history s some carries covering code within =
     let both = sum_by-append (at_key code) (keys_left s) (keys_ended history) in
@@ -113,6 +113,6 @@ none_after : (s next : State) (event : Event) (reply : Reply) → Does s event r
 none_after s next event reply (Does.forks team key longer clauses held is_prefix) none = absurd (some_left s team key held none)
 none_after s next event reply other none = let counted = left_is_counted s next event reply other in omega arith
 
-pub none_comes_again : (s after : State) (history : List Entry) → Carries s history after → left_of s ≡ 0 → left_of after ≡ 0
+pub none_comes_again : (s after : State) (history : List HistoryEntry) → Carries s history after → left_of s ≡ 0 → left_of after ≡ 0
 none_comes_again s after [] is none = ap left_of (sym is) ∙ none
 none_comes_again s after (e ∷ history) (next, does, carries) none = none_comes_again next after history carries (none_after s next e.event e.reply does none)

@@ -5,7 +5,7 @@ use Rattle.and_model.specs.Programs.{Program}
 use Rattle.and_model.specs.Trees.{QueryTree, HasOutcome, weight}
 use Rattle.and_model.specs.Trees
 use Rattle.and_histories.specs.PlainTree.{Key, Event, fork, publish, claim, clear, end, look, left, children}
-use Rattle.and_histories.specs.Histories.{Entry}
+use Rattle.and_histories.specs.Histories.{HistoryEntry}
 
 -- the code of a proof that has an outcome, and weighs at most the limit
 abbrev pub HasOutcomeWithin : Program → (limit : ℕ) → (code : List ℕ) → Type 0
@@ -31,7 +31,7 @@ IsCovering P limit (end team key how) = Unit {0}
 IsCovering P limit (look team cell) = Unit {0}
 IsCovering P limit (left team) = Unit {0}
 
-abbrev pub AreCovering : Program → (limit : ℕ) → List Entry → Type 0
+abbrev pub AreCovering : Program → (limit : ℕ) → List HistoryEntry → Type 0
 AreCovering P limit history = All (λ e. IsCovering P limit e.event) history
 
 -- the keys that a fork brings
@@ -65,5 +65,5 @@ ended (look team cell) = []
 ended (left team) = []
 
 -- the keys that ended in a history
-abbrev pub keys_ended : List Entry → List Key
-keys_ended history = flat_map (λ (e : Entry). ended e.event) history
+abbrev pub keys_ended : List HistoryEntry → List Key
+keys_ended history = flat_map (λ (e : HistoryEntry). ended e.event) history

@@ -3,7 +3,7 @@ use Rattle.std.specs.Prelude.{ℕ, ◌≡◌, List, [], ◌∷◌, filter, nat_e
 use Rattle.and_histories.specs.PlainTree.{State, Event, fork, publish, claim, clear, end, look, left, Reply, opening, Does}
 
 -- an event with its reply
-pub record Entry : Type 0 where
+pub record HistoryEntry : Type 0 where
   pub event : Event
   pub reply : Reply
 
@@ -17,14 +17,14 @@ team_of (look team cell) = team
 team_of (left team) = team
 
 -- the calls of one team, in order
-abbrev pub calls : List Entry → ℕ → List Entry
+abbrev pub calls : List HistoryEntry → ℕ → List HistoryEntry
 calls history team = filter (λ e. nat_eq (team_of e.event) team) history
 
 -- The plain tree carries out the events, one after another, with these replies, and comes from the first state to the second.
-abbrev pub Carries : State → List Entry → State → Type 0
+abbrev pub Carries : State → List HistoryEntry → State → Type 0
 Carries s [] after = s ≡ after
 Carries s (e ∷ history) after = (next : State) × Does s e.event e.reply next × Carries next history after
 
 -- It carries them out from the opening.
-abbrev pub Legal : (teams : ℕ) → List Entry → Type 0
+abbrev pub Legal : (teams : ℕ) → List HistoryEntry → Type 0
 Legal teams history = (s : State) × Carries (opening teams) history s

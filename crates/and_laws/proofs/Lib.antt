@@ -26,3 +26,6 @@ pub mod Exploring
 pub mod Unfolding
 pub mod Agreement
 pub mod Placing
+pub mod ForkOrder
+pub mod Running
+pub mod FreshFrames

@@ -1,5 +1,6 @@
 -- Which variables stand in a term, and how large terms are.
 use Rattle.std.proofs.Common.{ℕ, ◌≡◌, ◌+◌, ◌≤◌, List, [], ◌∷◌, ◌++◌, refl, ap, sym, ◌∙◌, subst, inl, inr, ◌⊎◌, arith, suc, length}
+use Rattle.and_laws.specs.Sizes.{size, sizes}
 use Rattle.and_model.specs.Terms.{Path, Term, Terms, variable, number, compound, none, more, variables_of, variables_in, Substitution, apply, apply_all}
 use Rattle.and_laws.proofs.Equality.{variable_or}
 
@@ -35,17 +36,6 @@ abbrev mutual
   pub AllAbsent : Path → ℕ → Terms → Type 0
   AllAbsent f n none = Unit {0}
   AllAbsent f n (more t ts) = Absent f n t × AllAbsent f n ts
-
--- the number of variables, numbers and names in a term
-abbrev mutual
-  pub size : Term → ℕ
-  size (variable f n) = 1
-  size (number z) = 1
-  size (compound c ts) = 1 + sizes ts
-
-  pub sizes : Terms → ℕ
-  sizes none = 0
-  sizes (more t ts) = size t + sizes ts
 
 -- Either a variable is not in a term, or its image under a substitution is no larger than the image of the term.
 mutual

@@ -6,7 +6,8 @@ use Rattle.and_model.specs.Solutions.{Equation, Solves, Solvable, Entails, MostG
 use Rattle.and_laws.proofs.Substitutions.{apply_through, then, apply_then}
 use Rattle.and_laws.proofs.Solving.{solves_join, solves_front, solves_back}
 use Rattle.and_laws.proofs.Equality.{number_or, variable_or, integer_or}
-use Rattle.and_laws.proofs.Occurrences.{Variables, Has, Within, AllWithin, Absent, AllAbsent, size, sizes, all_absent_or, Lacks, take_out, has_still, within_absent, within_more, has_left, has_right, variables_within}
+use Rattle.and_laws.proofs.Occurrences.{Variables, Has, Within, AllWithin, Absent, AllAbsent, all_absent_or, Lacks, take_out, has_still, within_absent, within_more, has_left, has_right, variables_within}
+use Rattle.and_laws.specs.Sizes.{size, sizes}
 
 -- (In this file f and g are the paths of frames, and n and m the numbers of variables.)
 

@@ -4,3 +4,6 @@ pub mod Entries
 pub mod Explorations
 pub mod Paths
 pub mod Outcomes
+pub mod Weaving
+pub mod Naming
+pub mod Sizes

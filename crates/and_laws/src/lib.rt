@@ -5,13 +5,13 @@
 //! alone, proved for all programs, trees and limits. The proofs' own lemmas stand in `proofs/`.
 #![tactic(auto)]
 
-ghost use Rattle.std.specs.Prelude.{ℕ, ◌≡◌, ◌+◌, ◌<◌, ◌≤◌, ◌≢◌, ◌⊎◌, ◌↔◌, List, [], ◌∷◌, ◌++◌, AllPairs, Contains, Some, map, length};
+ghost use Rattle.std.specs.Prelude.{ℕ, ◌≡◌, ◌+◌, ◌<◌, ◌≤◌, ◌≢◌, ◌⊎◌, ◌↔◌, List, [], ◌∷◌, ◌++◌, AllPairs, Contains, Some, map, length, true};
 ghost use Rattle.and_model.specs.Terms.{Path, Term, Substitution, apply};
 ghost use Rattle.and_model.specs.Solutions.{Equation, Solvable, Entails, MostGeneral};
-ghost use Rattle.and_model.specs.Programs.{Program, Arithmetic};
+ghost use Rattle.and_model.specs.Programs.{Program, Arithmetic, clause_at, Of};
 ghost use Rattle.and_model.specs.Closure.{Closes, ClosesAnyhow, Ran};
 ghost use Rattle.and_model.specs.Candidates.{Candidate};
-ghost use Rattle.and_model.specs.Trees.{Agenda, Tree, QueryTree, query_agenda, blank, IsWhole, Open, Below, Closed, HasOutcome, code, decided, weight, unfold_code};
+ghost use Rattle.and_model.specs.Trees.{Agenda, Tree, QueryTree, query_agenda, equations, arithmetics, path, call_of, reduce, blank, IsWhole, Open, Below, Closed, HasOutcome, code, decided, weight, unfold_code};
 ghost use Rattle.and_model.specs.Reached.{Step, Shut, Dead, Split, Steps, Reached, ReachedBy, Numbers, Fork, Forks};
 ghost use Rattle.and_model.specs.Limits.{Cut, OverLimit};
 ghost use Rattle.and_model.specs.Reductions.{Reduction, Makes};
@@ -23,9 +23,11 @@ ghost use Rattle.and_model.specs.Prefixes.{IsPrefix};
 ghost use Rattle.and_laws.specs.Paths.{At};
 ghost use Rattle.and_laws.specs.Outcomes.{Covers};
 ghost use Rattle.and_laws.specs.Fitting.{AllFit};
-ghost use Rattle.and_laws.specs.CodeOrder.{Before};
+ghost use Rattle.and_laws.specs.CodeOrder.{Before, Rises};
 ghost use Rattle.and_laws.specs.Entries.{IsWithin};
 ghost use Rattle.and_laws.specs.Explorations.{Explores};
+ghost use Rattle.and_laws.specs.Naming.{Variables, IsOver, EquationsOver, others, under};
+ghost use Rattle.and_laws.specs.Weaving.{body_arithmetic, RanAlike};
 
 // ---- Solutions
 
@@ -80,12 +82,29 @@ pub fn closure_order()
         → Ran es gs ds ws → ClosesAnyhow ds ws cs vs → ClosesAnyhow es gs cs vs }
 {}
 
-/// Candidates fall: a clause that is no candidate of a call in a tree is none in any larger tree.
+/// Candidates fall: a clause that is no candidate of a call under equations is none under equations
+/// that entail them, and so none in any larger tree.
 pub fn candidates_fall()
-    ensures { (P : Program) (ag : Agenda) (t u : Tree P ag)
+    ensures equations { (P : Program) (es ds : List Equation) (q : Path) (goal : Term) (c : ℕ)
+        → Entails ds es → Candidate P ds q goal c → Candidate P es q goal c }
+    ensures trees { (P : Program) (ag : Agenda) (t u : Tree P ag)
         (es ds : List Equation) (gs ws : List Arithmetic)
         → Below P ag t u → Closed t es gs → Closed u ds ws
         → (q : Path) (goal : Term) (c : ℕ) → Candidate P ds q goal c → Candidate P es q goal c }
+{}
+
+/// Candidates under other names: a candidate of a call is one in each frame that neither the
+/// equations nor the call speak of; and it stays one where the variables of these are renamed. So
+/// cells can be read in a name space of their own.
+pub fn candidates_have_no_names()
+    ensures fresh { (P : Program) (es : List Equation) (frame : Variables) (q p : Path) (goal : Term) (c : ℕ)
+        → ((k : ℕ) → frame p k ≡ true) → EquationsOver (others frame) es → IsOver (others frame) goal
+        → Candidate P es q goal c → Candidate P es p goal c }
+    ensures renamed { (P : Program) (es : List Equation) (r back : Substitution) (frame : Variables) (q : Path)
+        (goal : Term) (c : ℕ) → ((k : ℕ) → frame q k ≡ true)
+        → EquationsOver (others frame) (under r es) → IsOver (others frame) (apply r goal)
+        → under back (under r es) ≡ es → apply back (apply r goal) ≡ goal
+        → Candidate P es q goal c → Candidate P (under r es) q (apply r goal) c }
 {}
 
 // ---- Steps
@@ -111,6 +130,13 @@ pub fn forks_agree()
         → Forks t key forks → Forks t key others → forks ≡ others }
 {}
 
+/// Forks rise by key: where a tree has decided what its key says, the keys of its forks are in
+/// strictly rising lexicographic order.
+pub fn forks_rise_by_key()
+    ensures { (P : Program) (ag : Agenda) (t : Tree P ag) (key : List ℕ) (forks : List Fork)
+        → IsPrefix key (decided t) → Forks t key forks → AllPairs Rises forks }
+{}
+
 /// All trees that are reached by one key come by Steps from one tree.
 pub fn keys_agree()
     ensures { (P : Program) (limit : ℕ) (key : List ℕ) (t : QueryTree P) → ReachedBy P limit key t
@@ -133,6 +159,16 @@ pub fn dead_has_none()
         → Below P ag t u → HasOutcome u → Dead t → ⊥ }
     ensures keys { (P : Program) (key : List ℕ) (t : QueryTree P) → Covers t key → Dead t
         → (u : QueryTree P) → HasOutcome u → IsPrefix key (code u) → ⊥ }
+{}
+
+/// What was run stays run: where some arithmetic goals of a tree were run, the same goals are run,
+/// and add the same, in each tree in which an open goal was taken by a clause. The goals of the
+/// clause's body then wait among those that waited.
+pub fn what_was_run_stays_run()
+    ensures { (P : Program) (ag : Agenda) (t : Tree P ag) (o : Open t) (c : ℕ) (h : Of P (call_of t o) c)
+        (solved : List Equation) (waits : List Arithmetic)
+        → Ran (equations t) (arithmetics t) solved waits
+        → RanAlike t (reduce t o c h) (body_arithmetic (path t o) (clause_at P c).body) solved waits }
 {}
 
 // ---- Splits

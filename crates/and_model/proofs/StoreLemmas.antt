@@ -6,15 +6,15 @@ use Rattle.std.proofs.lemmas.List.{map-append, get_or_append_left, get_or-append
 use Rattle.std.proofs.lemmas.List.Elements.{All-contains, Contains-append_left, Contains-append_right, Contains-append_cases}
 use Rattle.std.proofs.lemmas.Grind.{flat_map-append}
 use Rattle.and_model.specs.declared.reference.Ref.{Ref}
-use Rattle.and_model.specs.Store.{Setting, Entry, sets, gives, fails, hangs, Known, Pass, settings_of, entries_by, set_in, mark, AreDistinct, Fits, Row}
+use Rattle.and_model.specs.Store.{Setting, JournalEntry, sets, gives, fails, hangs, Known, Pass, settings_of, entries_by, set_in, mark, AreDistinct, Fits, Row}
 use Rattle.and_model.proofs.Tested.{none_in}
 
-pub known_in_row : (first : List Ref) (passes : List Pass) (journal : List Entry) (row : List Ref) → Row first passes journal row
+pub known_in_row : (first : List Ref) (passes : List Pass) (journal : List JournalEntry) (row : List Ref) → Row first passes journal row
     → (p : Pass) → Contains passes p → (k : Known) → Contains p.known k → Contains (set_in row) k.setting
 known_in_row first passes journal row holds p there k knows =
     let fits : Fits first (mark first passes) journal p = All-contains (Fits first (mark first passes) journal) passes p holds.passes_fit there in
     let seen : Contains (set_in first ++ settings_of p.seen) k.setting = All-contains (λ (k : Known). Contains (set_in first ++ settings_of p.seen) k.setting) p.known k fits.known knows in
-    let rest : List Entry = fits.seen.0 in
+    let rest : List JournalEntry = fits.seen.0 in
     let all : settings_of journal ≡ settings_of p.seen ++ settings_of rest = ap settings_of fits.seen.1 ∙ flat_map-append _ p.seen rest in
     (holds.set_words k.setting).1 (rw all (in_either (set_in first) (settings_of p.seen) (settings_of rest) k.setting seen))
   where
@@ -41,14 +41,14 @@ apart_back : (xs ys : List ℕ) → AreDistinct (xs ++ ys) → AreDistinct ys
 apart_back xs ys all i j d before below =
     rw (← get_or-append-add xs ys i d, ← get_or-append-add xs ys j d) (all (length xs + i) (length xs + j) d (omega arith) (rw length-append (omega arith)))
 
-abbrev made_in : Entry → List Setting
+abbrev made_in : JournalEntry → List Setting
 made_in e = elim e.made [ sets s ↦ s ∷ [] | gives f ↦ [] | fails ↦ [] | hangs g ↦ [] ]
 
 abbrev place : Setting → ℕ
 place s = s.place
 
 -- what a pass's entries set, the journal's entries do
-of_journal : (p : Pass) (journal : List Entry) (s : Setting) → Contains (settings_of (entries_by p journal)) s → Contains (settings_of journal) s
+of_journal : (p : Pass) (journal : List JournalEntry) (s : Setting) → Contains (settings_of (entries_by p journal)) s → Contains (settings_of journal) s
 of_journal p [] s c = c
 of_journal p (e ∷ journal) s c = by_pass (nat_eq e.pass p.number) c (of_journal p journal s)
   where
@@ -62,7 +62,7 @@ of_journal p (e ∷ journal) s c = by_pass (nat_eq e.pass p.number) c (of_journa
     by_pass false c rest = Contains-append_right (made_in e) (settings_of journal) s (rest c)
 
 -- the settings of two passes have different places
-apart_passes : (p q : Pass) → p.number ≢ q.number → (journal : List Entry) → AreDistinct (map place (settings_of journal)) → (s t : Setting)
+apart_passes : (p q : Pass) → p.number ≢ q.number → (journal : List JournalEntry) → AreDistinct (map place (settings_of journal)) → (s t : Setting)
     → Contains (settings_of (entries_by p journal)) s → Contains (settings_of (entries_by q journal)) t → s.place ≢ t.place
 apart_passes p q other [] distinct s t one two = absurd (none_in s one)
 apart_passes p q other (e ∷ journal) distinct s t one two =
@@ -95,7 +95,7 @@ apart_passes p q other (e ∷ journal) distinct s t one two =
 abbrev pub SetApart : Pass → Pass → Type 0
 SetApart p q = (s t : Setting) → Contains p.mine s → Contains q.mine t → s.place ≢ t.place
 
-two_numbers : (first : List Ref) (passes : List Pass) (journal : List Entry) (row : List Ref) → Row first passes journal row
+two_numbers : (first : List Ref) (passes : List Pass) (journal : List JournalEntry) (row : List Ref) → Row first passes journal row
     → (p q : Pass) → Contains passes p → Contains passes q → p.number ≢ q.number → SetApart p q
 two_numbers first passes journal row holds p q there here other s t one two =
     let fits = All-contains (Fits first (mark first passes) journal) passes p holds.passes_fit there in
@@ -106,7 +106,7 @@ two_numbers first passes journal row holds p q there here other s t one two =
 number_of : Pass → ℕ
 number_of p = p.number
 
-pub one_winner : (first : List Ref) (passes : List Pass) (journal : List Entry) (row : List Ref) → Row first passes journal row → AllPairs SetApart passes
+pub one_winner : (first : List Ref) (passes : List Pass) (journal : List JournalEntry) (row : List Ref) → Row first passes journal row → AllPairs SetApart passes
 unfolding number_of
 one_winner first passes journal row holds i j d before below =
     let p : Pass = get_or passes i d in

@@ -3,6 +3,7 @@ pub mod Solutions
 pub mod Arithmetic
 pub mod Programs
 pub mod Simple
+pub mod OwnVariables
 pub mod Closure
 pub mod Trees
 pub mod Candidates

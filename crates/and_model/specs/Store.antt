@@ -30,7 +30,7 @@ pub data Made : Type 0 where
   hangs : HungGoal → Made
 
 -- an entry of the journal, which names the pass whose step it was
-pub record Entry : Type 0 where
+pub record JournalEntry : Type 0 where
   pub pass : ℕ
   pub made : Made
 
@@ -69,7 +69,7 @@ pub record Found : Type 0 where
 pub record Pass : Type 0 where
   pub number : ℕ
   -- the journal, as the pass's last step left it
-  pub seen : List Entry
+  pub seen : List JournalEntry
   -- the settings that it made or learnt of, each once
   pub known : List Known
   -- those that it made
@@ -89,21 +89,21 @@ pub record Pass : Type 0 where
   -- where it could not hang a goal
   pub found : List Found
 
-abbrev pub settings_of : List Entry → List Setting
-settings_of journal = flat_map (λ (e : Entry). elim e.made [ sets s ↦ s ∷ [] | gives f ↦ [] | fails ↦ [] | hangs g ↦ [] ]) journal
+abbrev pub settings_of : List JournalEntry → List Setting
+settings_of journal = flat_map (λ (e : JournalEntry). elim e.made [ sets s ↦ s ∷ [] | gives f ↦ [] | fails ↦ [] | hangs g ↦ [] ]) journal
 
-abbrev pub frames_of : List Entry → List Frame
-frames_of journal = flat_map (λ (e : Entry). elim e.made [ sets s ↦ [] | gives f ↦ f ∷ [] | fails ↦ [] | hangs g ↦ [] ]) journal
+abbrev pub frames_of : List JournalEntry → List Frame
+frames_of journal = flat_map (λ (e : JournalEntry). elim e.made [ sets s ↦ [] | gives f ↦ f ∷ [] | fails ↦ [] | hangs g ↦ [] ]) journal
 
-abbrev pub fails_of : List Entry → List (Unit {0})
-fails_of journal = flat_map (λ (e : Entry). elim e.made [ sets s ↦ [] | gives f ↦ [] | fails ↦ tt ∷ [] | hangs g ↦ [] ]) journal
+abbrev pub fails_of : List JournalEntry → List (Unit {0})
+fails_of journal = flat_map (λ (e : JournalEntry). elim e.made [ sets s ↦ [] | gives f ↦ [] | fails ↦ tt ∷ [] | hangs g ↦ [] ]) journal
 
-abbrev pub hung_of : List Entry → List HungGoal
-hung_of journal = flat_map (λ (e : Entry). elim e.made [ sets s ↦ [] | gives f ↦ [] | fails ↦ [] | hangs g ↦ g ∷ [] ]) journal
+abbrev pub hung_of : List JournalEntry → List HungGoal
+hung_of journal = flat_map (λ (e : JournalEntry). elim e.made [ sets s ↦ [] | gives f ↦ [] | fails ↦ [] | hangs g ↦ g ∷ [] ]) journal
 
 -- the entries of one pass
-abbrev pub entries_by : Pass → List Entry → List Entry
-entries_by p journal = filter (λ (e : Entry). nat_eq e.pass p.number) journal
+abbrev pub entries_by : Pass → List JournalEntry → List JournalEntry
+entries_by p journal = filter (λ (e : JournalEntry). nat_eq e.pass p.number) journal
 
 abbrev pub is_free : Ref → Bool
 is_free Free = true
@@ -155,7 +155,7 @@ abbrev pub AreDistinct : List ℕ → Type 0
 AreDistinct ns = AllPairs (λ n m. n ≢ m) ns
 
 -- What holds of a pass, where the row began with this one and the mark stands at this number.
-pub record Fits (first : List Ref) (mark : ℕ) (journal : List Entry) (p : Pass) : Type 0 where
+pub record Fits (first : List Ref) (mark : ℕ) (journal : List JournalEntry) (p : Pass) : Type 0 where
   -- What it has seen is a prefix of the journal.
   pub seen : IsPrefix p.seen journal
   -- What it made is what its own entries say, in order.
@@ -176,7 +176,7 @@ abbrev pub HasClosed : Pass → Type 0
 HasClosed p = map (λ (t : Took). t.cell) p.took ≡ map (λ (s : Setting). s.place) (filter (λ (s : Setting). not (is_half s.value)) p.mine)
 
 -- Row first passes journal row: what holds between the opening's row, all passes, the journal and the row at the end.
-pub record Row (first : List Ref) (passes : List Pass) (journal : List Entry) (row : List Ref) : Type 0 where
+pub record Row (first : List Ref) (passes : List Pass) (journal : List JournalEntry) (row : List Ref) : Type 0 where
   -- The set words of the row are those of the opening's row and those of the journal's settings,
   pub set_words : (s : Setting) → Contains (set_in row) s ↔ Contains (set_in first ++ settings_of journal) s
   -- and no place occurs twice.
@@ -186,13 +186,13 @@ pub record Row (first : List Ref) (passes : List Pass) (journal : List Entry) (r
   -- and closed what it should.
   pub closed : All HasClosed passes
   -- Every entry names one of the passes, and no two have one number.
-  pub by_a_pass : All (λ (e : Entry). Contains (map (λ (p : Pass). p.number) passes) e.pass) journal
+  pub by_a_pass : All (λ (e : JournalEntry). Contains (map (λ (p : Pass). p.number) passes) e.pass) journal
   pub numbered : AreDistinct (map (λ (p : Pass). p.number) passes)
   -- A cell that is set to a cell is set to one with a smaller number.
   pub falls : (s : Setting) → Contains (set_in row) s → (cell : ℕ) → s.value ≡ Cell cell → cell < s.place
   -- Where a cell is set to a number, both words of the pair are set in the opening's row or in earlier entries.
   pub written_first : (s : Setting) → Contains (set_in first) s → (pair : ℕ) → s.value ≡ Number pair → IsWritten (set_in first) pair
-  pub written : (before after : List Entry) (e : Entry) → journal ≡ before ++ e ∷ after
+  pub written : (before after : List JournalEntry) (e : JournalEntry) → journal ≡ before ++ e ∷ after
       → (s : Setting) → e.made ≡ sets s → (pair : ℕ) → s.value ≡ Number pair → IsWritten (set_in first ++ settings_of before) pair
   -- The frames lie side by side from the end of the opening's row, in the order of the journal.
   pub frames : SideBySide (length first) (frames_of journal)

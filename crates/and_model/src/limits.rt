@@ -16,5 +16,6 @@ pub const MAX_NESTING: u32 = 256;
 pub const DEFAULT_LIMIT: u32 = 262_144;
 /// The greatest limit on the weight of trees.
 pub const MAX_LIMIT: u32 = 4_194_304;
-/// The most words of a row: a tree has no more variables than it weighs.
-pub const MAX_WORDS: u32 = MAX_LIMIT;
+/// The most words of a row: a tree has no more than it weighs, and the variables of a clause that is
+/// tried stand behind them.
+pub const MAX_WORDS: u32 = MAX_LIMIT + 256;

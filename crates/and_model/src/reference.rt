@@ -34,7 +34,7 @@ const NUMBER: u64 = 3;
 
 const HALF: u64 = 4;
 
-const CELLS: u64 = 1 << 22;
+const CELLS: u64 = 1 << 23;
 
 const NODES: u64 = 1 << 20;
 
@@ -98,14 +98,14 @@ mod tests {
         assert_eq!(rt; Ref::Free.to_word(), 0);
         assert_eq!(rt; Ref::of_word(0), Some(Ref::Free));
 
-        let cell = Ref::Cell(4_194_303);
+        let cell = Ref::Cell(8_388_607);
         assert_eq!(rt; Ref::of_word(cell.to_word()), Some(cell));
         let node = Ref::Node {
             node: NodeNo(1_048_575),
-            base: 4_194_303,
+            base: 8_388_607,
         };
         assert_eq!(rt; Ref::of_word(node.to_word()), Some(node));
-        let number = Ref::Number(4_194_303);
+        let number = Ref::Number(8_388_607);
         assert_eq!(rt; Ref::of_word(number.to_word()), Some(number));
         let half = Ref::Half(u32::MAX);
         assert_eq!(rt; Ref::of_word(half.to_word()), Some(half));

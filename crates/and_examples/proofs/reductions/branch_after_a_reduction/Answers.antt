@@ -9,3 +9,6 @@ returns-clause-live c = BasesExamples.live
 
 pub returns-clause-lost_goal : goal.returns-clause-lost_goal
 returns-clause-lost_goal c = BasesExamples.lost_goal
+
+pub returns-clause-at_base : goal.returns-clause-at_base
+returns-clause-at_base c = BasesExamples.at_base
