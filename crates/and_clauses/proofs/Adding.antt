@@ -8,24 +8,27 @@ use Rattle.std.proofs.lemmas.List.{append-nil, length-append, length-map, length
 use Rattle.and_model.specs.Lines.{Bytes}
 use Rattle.and_model.specs.Terms.{Term, compound, none}
 use Rattle.and_model.specs.Programs.{Clause, Item}
+use Rattle.and_model.specs.OwnVariables.{HasOwnVariables}
 use Rattle.and_syntax.specs.Written
 use Rattle.and_syntax.specs.Written.{Written, Many, nodes_of, nodes_in, has, place, including, named, named_all, is_new, variable_number, met_after, term_in}
 use Rattle.and_syntax.specs.Clauses
 use Rattle.and_syntax.specs.Clauses.{BodyPart, is_refused, head_of, body_of, asked_of, is_named, name_of, arity_of, is_built_in}
 use Rattle.and_syntax.specs.Tables.{Table, Fault, not_pure, redefines, second_query, too_big, variables, nodes, clauses, first_of, clause_faults, query_faults, term_with, clause_of, is_asked}
+use Rattle.and_syntax.specs.Tables.{names_with}
+use Rattle.and_syntax.proofs.OwnVariables.{place-below, variable_number-below, clause_own, query_own}
 use Rattle.and_program.specs.Skeletons
 use Rattle.and_program.specs.Skeletons.{Shape, node_term, item_of, AllFall, AllThere}
 use Rattle.and_program.specs.Items.{node_item}
 use Rattle.and_clauses.specs.Judged.{faults_of_clause, faults_of_query, IsJudged}
 use Rattle.and_clauses.specs.Conjuncts.{AreItemsOf}
-use Rattle.and_program.specs.Kept.{AllWithin, IsEntry, begins_with_true}
+use Rattle.and_program.specs.Kept.{AllWithin, begins_with_true}
 use Rattle.and_clauses.specs.Made.{IsTableOf, IsMade}
 use Rattle.and_program.specs.Nodes.{entry_clause, shape_of, shapes_of}
 use Rattle.and_clauses.specs.Numbered.{behind, shapes_in, met_with, met_by, IsRead}
 use Rattle.and_clauses.specs.Parts
 use Rattle.and_clauses.specs.declared.draft.DraftPart as code
 use Rattle.and_clauses.specs.Parts.{PartShape, part_shape, part_shapes, many, written_at, before_last, roots, postfix, postfix_all, IsFormed, PartsFall, IsNarrow, AllNarrow}
-use Rattle.and_program.specs.declared.entry.Entry.{Entry}
+use Rattle.and_program.specs.declared.entry.ClauseEntry.{ClauseEntry}
 use Rattle.and_program.specs.declared.node.Node.{Node}
 use Rattle.and_program.specs.declared.item.ItemNode.{ItemNode}
 use Rattle.and_program.proofs.NodeTerms.{nth-terms_behind}
@@ -153,22 +156,6 @@ mutual
       AllKnown-append (named_all (named names t) ts) (postfix n t) (postfix_all (n + nodes_of t) ts)
       (AllKnown-more (named names t) ts (postfix n t) (AllKnown-postfix names n t)) (AllKnown-postfix_all (named names t) (n + nodes_of t) ts)
 
-place-below : (c : Bytes) (names : List Bytes) → has c names ≡ true → place c names < length names
-place-below c [] h = cc
-place-below c (n ∷ names) h =
-    let P : Bool → Type 0 = λ b. b || has c names ≡ true → cond (not b) (1 + place c names) 0 < suc (length names) in
-    (elim (bytes_eq c n) as P [ true ↦ λ e. omega arith | false ↦ λ e. let k : place c names < length names = place-below c names e in omega arith ]) h
-
-variable_number-below : (x : Bytes) (met : List Bytes) → variable_number x met < length (cond (is_new x met) (met ++ x ∷ []) met)
-variable_number-below x met =
-    let P : Bool → Type 0 = λ b. is_new x met ≡ b → cond b (length met) (place x met) < length (cond b (met ++ x ∷ []) met) in
-    (elim (is_new x met) as P [ true ↦ λ e. omega (arith, length-append met (x ∷ [])) | false ↦ λ e. place-below x met (old (bytes_eq x _) (has x met) e) ]) refl
-  where
-    old : (a b : Bool) → a || not b ≡ false → b ≡ true
-    old true b e = cc
-    old false true e = refl
-    old false false e = cc
-
 -- each node of a draft has a name that is there, few arguments, and one of few variables
 within : (names met : List Bytes) (n : ℕ) (ps : List PartShape) → AllKnown names ps → AllNarrow ps → length (met_by met ps) ≤ 255 → AllWithin (length names) (map (behind n) (shapes_in names met ps))
 within names met n [] known narrow few = tt
@@ -245,9 +232,11 @@ query_verdict T names more count fits room ps root w t tab h new is some few fit
     ∙ ap (λ (o : Option _). cond (is_asked o) (Some second_query) (first_of (asked_faults_by (term_with T w) (ltb 255 (length (met_after [] w))) (ltb 524288 (T.nodes + nodes_of w))))) (sym unasked)
 
 -- the entry of a draft that is not refused
-pub made : (old new : List Shape) (names more : List Bytes) (ps : List PartShape) (root : ℕ) (w : Written) (k : Clause) (e : Entry) → Whole ps root w → AllNarrow ps → more ≡ named names w
-    → new ≡ old ++ map (behind (length old)) (shapes_in more [] ps) → length old + length ps ≤ 524289 → length (met_by [] ps) ≤ 255 → IsEntry new e → entry_clause new e ≡ k → IsMade old new names more w k e
-made old new names more ps root w k e h narrow is begins few fewer entry clause =
+pub made : (old new : List Shape) (names more : List Bytes) (ps : List PartShape) (root : ℕ) (w : Written) (k : Clause) (e : ClauseEntry) → Whole ps root w → AllNarrow ps → more ≡ named names w
+    → new ≡ old ++ map (behind (length old)) (shapes_in more [] ps) → length old + length ps ≤ 524289 → length (met_by [] ps) ≤ 255
+    → (e.head.0 < length new) × AllThere new 0 (map node_item e.items.items) → entry_clause new e ≡ k → HasOwnVariables k
+    → IsMade old new names more w k e
+made old new names more ps root w k e h narrow is begins few fewer there clause own =
     let rest : List Shape = map (behind (length old)) (shapes_in more [] ps) in
     let size : length rest ≡ length ps = length-map (shapes_in more [] ps) (behind (length old)) ∙ length-shapes_in more [] ps in
     let all : length new ≡ length old + length rest = ap length begins ∙ length-append old rest in
@@ -265,7 +254,7 @@ made old new names more ps root w k e h narrow is begins few fewer entry clause 
       few_nodes = omega arith;
       falls = λ f. subst (AllFall 0) (sym begins) (AllFall-append 0 old rest f (subst (λ (m : ℕ). AllFall m rest) z (AllFall-behind (length old) 0 (shapes_in more [] ps) (AllFall-shapes_in more [] 0 ps (whole_falls ps root w h)))));
       within = λ f. subst (AllWithin (length more)) (sym begins) (AllWithin-append (length more) old rest (AllWithin-more (length names) (length more) old longer f) (within more [] (length old) ps known narrow fewer));
-      entry = entry;
+      entry = (there.0, there.1, subst HasOwnVariables (sym clause) own);
       clause = clause;
     }
 
@@ -305,7 +294,7 @@ some_faults q a b e h = subst (λ (o : Option Fault). IfSome q (λ f. o ≡ Some
 abbrev clause_with : Term → List Item → List Bytes → ℕ → Clause
 clause_with h b vs l = record { head = h; body = b; variables = length vs; written = vs; line = l }
 
-entry_is : (ss : List Shape) (e : Entry) (n line : ℕ) (items : List ItemNode) (w : Written) (ps : List PartShape) (h : Term) (b : List BodyPart) → met_by [] ps ≡ met_after [] w
+entry_is : (ss : List Shape) (e : ClauseEntry) (n line : ℕ) (items : List ItemNode) (w : Written) (ps : List PartShape) (h : Term) (b : List BodyPart) → met_by [] ps ≡ met_after [] w
     → e.head.0 ≡ n → e.items.items ≡ items → e.variables.items ≡ met_by [] ps → e.line ≡ line → node_term ss n ≡ h → map (item_of ss) (map node_item items) ≡ Clauses.items_of b → entry_clause ss e ≡ clause_of w line h b
 entry_is ss e n line items w ps h b met at has called stands head body =
     let vs : List Bytes = e.variables.items in
@@ -373,7 +362,7 @@ module _ (T : Table) (names more : List Bytes) (old : List Node) (slice : List c
       let small : length slice ≤ 524289 - length old = grind (arith, nat_tests) in
       omega (arith, length-map old shape_of, length-map slice part_shape)
 
-  pub clause_added : (new : List Node) (head line : ℕ) (items : List ItemNode) (e : Entry) → base ≡ cond fits (length old) 0 → AllNarrow (part_shapes slice)
+  pub clause_added : (new : List Node) (head line : ℕ) (items : List ItemNode) (e : ClauseEntry) → base ≡ cond fits (length old) 0 → AllNarrow (part_shapes slice)
       → shapes_of new ≡ shapes_of old ++ map (behind (length old)) (shapes_in more [] (part_shapes slice))
       → ((ss : List Shape) → IsRead ss base more (part_shapes slice)
       → (first_of (faults_of_clause more (node_term ss (base + root)) (part_shapes slice) fits room) ≡ None) × IsJudged ss (head_of (node_term ss (base + root))) (body_of (node_term ss (base + root))) (base + head) items)
@@ -392,10 +381,11 @@ module _ (T : Table) (names more : List Bytes) (old : List Node) (slice : List c
         made (shapes_of old) ss names more (part_shapes slice) root w (clause_of w line (head_of (term_with T w)) (body_of (term_with T w))) e h narrow is_numbered (behind_all new made_of) (fit_size fit) fewer
             (omega (arith, at, length-map slice part_shape), there)
             (entry_is ss e (base + head) line items w (part_shapes slice) (head_of (term_with T w)) (body_of (term_with T w)) (ap (met_by []) h.parts ∙ met_by-postfix 0 [] w) at has called stands
-            (j.1.head_is ∙ ap head_of term) (j.1.body_is ∙ ap (λ (u : Term). Clauses.items_of (body_of u)) term)),
+            (j.1.head_is ∙ ap head_of term) (j.1.body_is ∙ ap (λ (u : Term). Clauses.items_of (body_of u)) term))
+            (clause_own (names_with T w) w line),
       )
 
-  pub query_added : (new : List Node) (line : ℕ) (items : List ItemNode) (e : Entry) → base ≡ cond fits (length old) 0 → AllNarrow (part_shapes slice) → T.asked ≡ None → begins_with_true (shapes_of old) ≡ true
+  pub query_added : (new : List Node) (line : ℕ) (items : List ItemNode) (e : ClauseEntry) → base ≡ cond fits (length old) 0 → AllNarrow (part_shapes slice) → T.asked ≡ None → begins_with_true (shapes_of old) ≡ true
       → shapes_of new ≡ shapes_of old ++ map (behind (length old)) (shapes_in more [] (part_shapes slice))
       → ((ss : List Shape) → IsRead ss base more (part_shapes slice)
       → (first_of (faults_of_query (node_term ss (base + root)) (part_shapes slice) fits) ≡ None) × AreItemsOf ss (asked_of (node_term ss (base + root))) items)
@@ -416,7 +406,8 @@ module _ (T : Table) (names more : List Bytes) (old : List Node) (slice : List c
         made (shapes_of old) ss names more (part_shapes slice) root w (clause_of w line (compound 0 none) (asked_of (term_with T w))) e h narrow is_numbered (behind_all new made_of) (fit_size fit) fewer
             (omega (arith, at, length-map old shape_of), there)
             (entry_is ss e 0 line items w (part_shapes slice) (compound 0 none) (asked_of (term_with T w)) (ap (met_by []) h.parts ∙ met_by-postfix 0 [] w) at has called stands
-            truth (j.1.same ∙ ap (λ (u : Term). Clauses.items_of (asked_of u)) term)),
+            truth (j.1.same ∙ ap (λ (u : Term). Clauses.items_of (asked_of u)) term))
+            (query_own (names_with T w) w line),
       )
 
 pub fit_room : (fits : Bool) (parts n count : ℕ) → fits ≡ leb parts (524289 - n) → fits ≡ true → n ≡ count → count ≤ 524289 → count + parts ≤ 524289

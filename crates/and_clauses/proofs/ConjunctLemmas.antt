@@ -11,7 +11,7 @@ use Rattle.and_model.specs.Programs as programs
 use Rattle.and_syntax.specs.Written.{Written, nodes_of, nodes_in, place}
 use Rattle.and_syntax.specs.Clauses
 use Rattle.and_syntax.specs.Clauses.{BodyPart, impure, parts_of, is_refused, atom_parts, unary_part, binary_part, compare_or, relation_of}
-use Rattle.and_program.specs.Skeletons.{Shape, row, node_term, item_of, IsThere, AllThere, NodeItem, after, Falls}
+use Rattle.and_program.specs.Skeletons.{Shape, term_list, node_term, item_of, IsThere, AllThere, NodeItem, after, Falls}
 use Rattle.and_program.specs.Items.{node_item}
 use Rattle.and_clauses.specs.Conjuncts.{call_of, is_refused_name, conjunct_of, shape_conjunct, conjunct_at, Takes, AreItemsOf}
 use Rattle.and_clauses.specs.Numbered.{IsRead}
@@ -94,7 +94,7 @@ conjunct_says ss base n names met (Parts.compound name ns) e there below f = by 
     called : (u : Term) → t ≡ u → parts_of t ≡ Clauses.item (programs.call u) ∷ [] → IsConjunct ss base t (call_of (base + n))
     called u is h = (h ∙ ap (λ (v : Term). Clauses.item (programs.call v) ∷ []) (sym is), (refl, (λ k. there, λ k. refl)))
 
-    by : (ms : List ℕ) → t ≡ Terms.compound c (row (map at ms)) → Falls n ms → IsConjunct ss base t (conjunct_of c ms (base + n) base)
+    by : (ms : List ℕ) → t ≡ Terms.compound c (term_list (map at ms)) → Falls n ms → IsConjunct ss base t (conjunct_of c ms (base + n) base)
     by [] is g =
         let h : parts_of t ≡ atom_parts c = ap parts_of is in
         split ss base t (nat_eq c 0) _ _ _ _ h (λ k. k) (λ k. split ss base t (nat_eq c 1) _ _ _ _ k (λ j. (j, (refl, (λ _. tt, λ _. refl)))) (λ j. split ss base t (nat_eq c 24) _ _ _ _ j (λ i. ap (list_any is_refused) i) (called (Terms.compound c Terms.none) is)))
@@ -103,7 +103,7 @@ conjunct_says ss base n names met (Parts.compound name ns) e there below f = by 
         split ss base t (nat_eq c 2) _ _ _ _ (ap parts_of is) (λ k. k)
         (λ k. split_one ss base t (nat_eq c 3) _ _ _ _ k (λ j. (j, (refl, (λ _. (below a g.0, below b g.1.0), λ _. refl))))
         (λ j. split_two ss base t (nat_eq c 4) (nat_eq c 5) (nat_eq c 6) (nat_eq c 7) (nat_eq c 8) (nat_eq c 9) (nat_eq c 10) (nat_eq c 21 || nat_eq c 22) _ _ _ _ _ j (called (Terms.compound c (Terms.more (at a) (Terms.more (at b) Terms.none))) is)))
-    by (a ∷ b ∷ d ∷ ms) is g = called (Terms.compound c (Terms.more (at a) (Terms.more (at b) (Terms.more (at d) (row (map at ms)))))) is (ap parts_of is)
+    by (a ∷ b ∷ d ∷ ms) is g = called (Terms.compound c (Terms.more (at a) (Terms.more (at b) (Terms.more (at d) (term_list (map at ms)))))) is (ap parts_of is)
 
 -- a conjunct that has two others has them as its arguments
 abbrev pub Has : List ℕ → Conjunct → Type 0

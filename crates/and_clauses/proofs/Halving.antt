@@ -1,5 +1,5 @@
 -- What a draft is as a clause or a query, and what is wrong with it.
-use Rattle.std.proofs.Common.{ℕ, suc, ◌+◌, ◌≡◌, ◌<◌, ◌≤◌, Bool, true, false, not, cond, ◌||◌, nat_eq, ltb, List, [], ◌∷◌, ◌++◌, length, map, get_or, refl, sym, ap, ◌∙◌, arith, subst, Option, Some, None, IfSome, MatchOption}
+use Rattle.std.proofs.Common.{ℕ, ◌+◌, ◌≡◌, ◌<◌, ◌≤◌, Bool, true, false, not, cond, ◌||◌, nat_eq, ltb, List, [], ◌∷◌, ◌++◌, length, map, get_or, refl, sym, ap, ◌∙◌, arith, subst, Option, Some, None, IfSome, MatchOption}
 use Rattle.std.specs.List.{list_any}
 use Rattle.std.proofs.lemmas.Bool.Decides.{nat_tests}
 use Rattle.std.proofs.lemmas.List.{length-map, get_or-map}
@@ -11,7 +11,7 @@ use Rattle.and_syntax.specs.Clauses
 use Rattle.and_syntax.specs.Clauses.{is_built_in, BodyPart, is_refused, parts_of, head_of, body_of, asked_of, is_named, name_of, arity_of}
 use Rattle.and_model.specs.Terms.{width}
 use Rattle.and_syntax.specs.Tables.{Fault, first_of, not_pure, redefines, too_big, variables, nodes, clauses}
-use Rattle.and_program.specs.Skeletons.{Shape, row, node_term, Falls}
+use Rattle.and_program.specs.Skeletons.{Shape, term_list, node_term, Falls}
 use Rattle.and_clauses.specs.Conjuncts.{body_parts, AreItemsOf}
 use Rattle.and_clauses.specs.Judged.{alone, sides_in, sides_of_shape, sides_at, one_in, asked_in, asked_at, functor_of, functor_at, size_faults, faults_of_clause, faults_of_query, IsJudged}
 use Rattle.and_clauses.specs.Numbered.{IsRead, met_by}
@@ -20,7 +20,7 @@ use Rattle.and_clauses.specs.Parts.{PartShape, variable, integer, compound, part
 use Rattle.and_clauses.specs.declared.draft.DraftPart as code
 use Rattle.and_clauses.specs.declared.judging.Sides.{Sides}
 use Rattle.and_clauses.specs.declared.judging.Functor.{Functor}
-use Rattle.and_program.proofs.PredicateLemmas.{width-row}
+use Rattle.and_program.proofs.PredicateLemmas.{width-term_list}
 use Rattle.and_clauses.proofs.Noting.{part_falls, arguments_below}
 use Rattle.and_clauses.proofs.Shifting.{read_term, part_read}
 use Rattle.and_clauses.proofs.ConjunctLemmas.{first_part, part_of}
@@ -61,7 +61,7 @@ halves_of ss base n names met (compound name ns) e = by ns e
     either true x y h k = record { head = h; body = k }
     either false x y h k = record { head = h; body = k }
 
-    by : (ms : List ℕ) → t ≡ Terms.compound c (row (map at ms)) → Halves ss base t (sides_in c ms n)
+    by : (ms : List ℕ) → t ≡ Terms.compound c (term_list (map at ms)) → Halves ss base t (sides_in c ms n)
     by [] is = record { head = ap head_of is ∙ sym is; body = ap body_of is }
     by (a ∷ []) is = record { head = ap head_of is ∙ sym is; body = ap body_of is }
     by (a ∷ b ∷ []) is =
@@ -99,7 +99,7 @@ called_of ss base n names met (variable x) e = ap is_named e
 called_of ss base n names met (integer z) e = ap is_named e
 called_of ss base n names met (compound c ns) e =
     let at : ℕ → Term = λ m. node_term ss (base + m) in
-    (ap is_named e, ap name_of e, ap arity_of e ∙ width-row (map at ns) ∙ length-map ns at)
+    (ap is_named e, ap name_of e, ap arity_of e ∙ width-term_list (map at ns) ∙ length-map ns at)
 
 pub called : (ss : List Shape) (base n : ℕ) (names : List Bytes) (parts : List code.DraftPart) (f : Option Functor) → IsRead ss base names (part_shapes parts) → PartsFall 0 (part_shapes parts) → n < length parts
     → f ≡ functor_at names (part_shapes parts) n → IsCalled (node_term ss (base + n)) f

@@ -7,6 +7,7 @@ use Rattle.and_model.specs.Lines.{Bytes}
 use Rattle.and_model.specs.Terms.{Term}
 use Rattle.and_model.specs.Programs as programs
 use Rattle.and_model.specs.Programs.{Clause, Item}
+use Rattle.and_model.specs.OwnVariables.{HasOwnVariables}
 use Rattle.and_syntax.specs.Written.{Written, nodes_of, named}
 use Rattle.and_syntax.specs.Tables
 use Rattle.and_syntax.specs.Tables.{Table, with_clause, with_query, clause_of}
@@ -20,7 +21,7 @@ use Rattle.and_program.specs.Nodes.{entry_clause, shapes_of, shape_of, names_of}
 use Rattle.and_clauses.specs.Numbered.{Extends}
 use Rattle.and_clauses.specs.Parts.{many}
 use Rattle.and_clauses.specs.Views.{asked_of, is_query, table_of}
-use Rattle.and_program.specs.declared.entry.Entry.{Entry}
+use Rattle.and_program.specs.declared.entry.ClauseEntry.{ClauseEntry}
 use Rattle.and_clauses.specs.declared.data.Asked.{Asked}
 use Rattle.and_clauses.specs.declared.table.ClauseTable.{ClauseTable}
 use Rattle.and_program.specs.declared.node.Node.{Node}
@@ -37,7 +38,7 @@ room_is n cs e = grind (arith, nat_tests)
 -- a table is one of its names and nodes, with room where it has fewer clauses than it may have
 pub table_room : (t : ClauseTable) (n : ℕ) → n ≡ length t.clauses.items → IsTableOf (table_of t) (names_of t.names.keys) (length t.nodes.items) (ltb n 65535)
 table_room t n e =
-    let clause : Entry → Clause = entry_clause (shapes_of t.nodes.items) in
+    let clause : ClauseEntry → Clause = entry_clause (shapes_of t.nodes.items) in
     record { names_are = refl; nodes_are = refl; has_room = room_is n (map clause t.clauses.items) (e ∙ sym (length-map t.clauses.items clause)) }
 
 begins_more : (ss rest : List Shape) → begins_with_true ss ≡ true → begins_with_true (ss ++ rest) ≡ true
@@ -57,21 +58,6 @@ there_more ss rest k fail t = tt
 all_there_more : (ss rest : List Shape) (k : ℕ) (items : List NodeItem) → AllThere ss k items → AllThere (ss ++ rest) k items
 all_there_more ss rest k [] t = tt
 all_there_more ss rest k (i ∷ items) t = (there_more ss rest k i t.0, all_there_more ss rest (after k i) items t.1)
-
-entry_more : (ss rest : List Shape) (e : Entry) → IsEntry ss e → IsEntry (ss ++ rest) e
-entry_more ss rest e t = (omega (arith, length-append ss rest, t.0), all_there_more ss rest 0 (map node_item e.items.items) t.1)
-
-entries_more : (ss rest : List Shape) (es : List Entry) → AllEntries ss es → AllEntries (ss ++ rest) es
-entries_more ss rest [] t = tt
-entries_more ss rest (e ∷ es) t = (entry_more ss rest e t.0, entries_more ss rest es t.1)
-
-entries_push : (ss : List Shape) (es : List Entry) (e : Entry) → AllEntries ss es → IsEntry ss e → AllEntries ss (es ++ e ∷ [])
-entries_push ss [] e t i = (i, tt)
-entries_push ss (d ∷ es) e t i = (t.0, entries_push ss es e t.1 i)
-
-asked_more : (ss rest : List Shape) (n m : ℕ) (q : Option Asked) → n ≤ m → IsAsked ss n q → IsAsked (ss ++ rest) m q
-asked_more ss rest n m None le t = tt
-asked_more ss rest n m (Some a) le t = (entry_more ss rest a.query t.0, t.1, omega (arith, t.2))
 
 -- nodes that stand behind change no clause
 abbrev item_with : NodeItem → Term → Term → Item
@@ -93,15 +79,15 @@ items_same ss rest k [] t = refl
 items_same ss rest k (i ∷ items) t =
     ap (λ (x : Item). x ∷ map (item_of (ss ++ rest)) items) (item_same ss rest k i t.0) ∙ ap (λ (xs : List Item). item_of ss i ∷ xs) (items_same ss rest (after k i) items t.1)
 
-abbrev clause_like : Entry → Term → List Item → Clause
+abbrev clause_like : ClauseEntry → Term → List Item → Clause
 clause_like e h b = record { head = h; body = b; variables = length e.variables.items; written = e.variables.items; line = e.line }
 
-pub entry_same : (ss rest : List Shape) (e : Entry) → IsEntry ss e → entry_clause (ss ++ rest) e ≡ entry_clause ss e
+pub entry_same : (ss rest : List Shape) (e : ClauseEntry) → IsEntry ss e → entry_clause (ss ++ rest) e ≡ entry_clause ss e
 entry_same ss rest e t =
     ap (λ h. clause_like e h (map (item_of (ss ++ rest)) (map node_item e.items.items))) (node_term_front ss rest e.head.0 t.0)
     ∙ ap (clause_like e (node_term ss e.head.0)) (items_same ss rest 0 (map node_item e.items.items) t.1)
 
-pub entries_same : (ss rest : List Shape) (es : List Entry) → AllEntries ss es → map (entry_clause (ss ++ rest)) es ≡ map (entry_clause ss) es
+pub entries_same : (ss rest : List Shape) (es : List ClauseEntry) → AllEntries ss es → map (entry_clause (ss ++ rest)) es ≡ map (entry_clause ss) es
 entries_same ss rest [] t = refl
 entries_same ss rest (e ∷ es) t =
     ap (λ (k : Clause). k ∷ map (entry_clause (ss ++ rest)) es) (entry_same ss rest e t.0) ∙ ap (λ (ks : List Clause). entry_clause ss e ∷ ks) (entries_same ss rest es t.1)
@@ -110,7 +96,27 @@ asked_same : (ss rest : List Shape) (n : ℕ) (q : Option Asked) → IsAsked ss 
 asked_same ss rest n None t = refl
 asked_same ss rest n (Some a) t = ap (λ (k : Clause). Some (record { query = k; before = a.before })) (entry_same ss rest a.query t.0)
 
-pub kept_clause : (old new : List Shape) (es : List Entry) (q : Option Asked) (names more : List Bytes) (w : Written) (k : Clause) (e : Entry) (all : List Entry)
+-- what holds of an entry holds of it among more nodes
+entry_more : (ss rest : List Shape) (e : ClauseEntry) → IsEntry ss e → IsEntry (ss ++ rest) e
+entry_more ss rest e t = (
+  omega (arith, length-append ss rest, t.0),
+  all_there_more ss rest 0 (map node_item e.items.items) t.1,
+  subst HasOwnVariables (sym (entry_same ss rest e t)) t.2,
+)
+
+entries_more : (ss rest : List Shape) (es : List ClauseEntry) → AllEntries ss es → AllEntries (ss ++ rest) es
+entries_more ss rest [] t = tt
+entries_more ss rest (e ∷ es) t = (entry_more ss rest e t.0, entries_more ss rest es t.1)
+
+entries_push : (ss : List Shape) (es : List ClauseEntry) (e : ClauseEntry) → AllEntries ss es → IsEntry ss e → AllEntries ss (es ++ e ∷ [])
+entries_push ss [] e t i = (i, tt)
+entries_push ss (d ∷ es) e t i = (t.0, entries_push ss es e t.1 i)
+
+asked_more : (ss rest : List Shape) (n m : ℕ) (q : Option Asked) → n ≤ m → IsAsked ss n q → IsAsked (ss ++ rest) m q
+asked_more ss rest n m None le t = tt
+asked_more ss rest n m (Some a) le t = (entry_more ss rest a.query t.0, t.1, omega (arith, t.2))
+
+pub kept_clause : (old new : List Shape) (es : List ClauseEntry) (q : Option Asked) (names more : List Bytes) (w : Written) (k : Clause) (e : ClauseEntry) (all : List ClauseEntry)
     → IsKept old es q names → IsMade old new names more w k e → length es < 65535 → all ≡ es ++ e ∷ [] → IsKept new all q more
 kept_clause old new es q names more w k e all h m room pushed =
     let n : length all ≡ length es + 1 = ap length pushed ∙ length-append es (e ∷ []) in
@@ -125,7 +131,7 @@ kept_clause old new es q names more w k e all h m room pushed =
       few_names = omega (arith, m.few_names, m.nodes, h.few_names);
     }
 
-pub kept_query : (old new : List Shape) (es : List Entry) (q : Option Asked) (names more : List Bytes) (w : Written) (k : Clause) (e : Entry) (before : ℕ)
+pub kept_query : (old new : List Shape) (es : List ClauseEntry) (q : Option Asked) (names more : List Bytes) (w : Written) (k : Clause) (e : ClauseEntry) (before : ℕ)
     → IsKept old es q names → IsMade old new names more w k e → e.head.0 ≡ 0 → before ≤ length es → IsKept new es (Some (record { query = e; before = before })) more
 kept_query old new es q names more w k e before h m head few =
     record {
@@ -147,7 +153,7 @@ nodes_left [] new w b e = cc
 nodes_left (n ∷ old) new w b e = omega (arith, length-map new shape_of, length-map (n ∷ old) shape_of)
 
 -- the table with one more clause
-pub table_clause : (old new : List Node) (es all : List Entry) (q : Option Asked) (names more : List Bytes) (w : Written) (k : Clause) (e : Entry)
+pub table_clause : (old new : List Node) (es all : List ClauseEntry) (q : Option Asked) (names more : List Bytes) (w : Written) (k : Clause) (e : ClauseEntry)
     → IsKept (shapes_of old) es q names → IsMade (shapes_of old) (shapes_of new) names more w k e → all ≡ es ++ e ∷ []
     → table_with (map (entry_clause (shapes_of new)) all) (asked_of (shapes_of new) q) more (length new - 1)
     ≡ table_with (map (entry_clause (shapes_of old)) es ++ k ∷ []) (asked_of (shapes_of old) q) (named names w) ((length old - 1) + nodes_of w)
@@ -163,7 +169,7 @@ table_clause old new es all q names more w k e h m pushed =
     ∙ ap (table_with (map (entry_clause (shapes_of old)) es ++ k ∷ []) (asked_of (shapes_of old) q) (named names w)) (nodes_left old new w h.begins m.nodes)
 
 -- the table with the query
-pub table_query : (old new : List Node) (es : List Entry) (q : Option Asked) (names more : List Bytes) (w : Written) (k : Clause) (e : Entry) (before : ℕ)
+pub table_query : (old new : List Node) (es : List ClauseEntry) (q : Option Asked) (names more : List Bytes) (w : Written) (k : Clause) (e : ClauseEntry) (before : ℕ)
     → IsKept (shapes_of old) es q names → IsMade (shapes_of old) (shapes_of new) names more w k e → before ≡ length (map (entry_clause (shapes_of old)) es)
     → table_with (map (entry_clause (shapes_of new)) es) (asked_of (shapes_of new) (Some (record { query = e; before = before }))) more (length new - 1)
     ≡ table_with (map (entry_clause (shapes_of old)) es) (Some (record { query = k; before = length (map (entry_clause (shapes_of old)) es) })) (named names w) ((length old - 1) + nodes_of w)
@@ -183,11 +189,11 @@ cut_names old new cut n e same h =
     ap names_of e ∙ sym (take-map (λ (v : Vec ℕ Global). v.items) n new)
     ∙ ap (λ (m : ℕ). take m (names_of new)) (same ∙ sym (length-map old (λ (v : Vec ℕ Global). v.items))) ∙ h
 
-pub table_cut : (old cut : List Node) (es all : List Entry) (q : Option Asked) (names less : List Bytes) → cut ≡ old → all ≡ es → less ≡ names
+pub table_cut : (old cut : List Node) (es all : List ClauseEntry) (q : Option Asked) (names less : List Bytes) → cut ≡ old → all ≡ es → less ≡ names
     → table_with (map (entry_clause (shapes_of cut)) all) (asked_of (shapes_of cut) q) less (length cut - 1) ≡ table_with (map (entry_clause (shapes_of old)) es) (asked_of (shapes_of old) q) names (length old - 1)
 table_cut old cut es all q names less c a n =
     ap (λ (ns : List Node). table_with (map (entry_clause (shapes_of ns)) all) (asked_of (shapes_of ns) q) less (length ns - 1)) c
-    ∙ ap (λ (ds : List Entry). table_with (map (entry_clause (shapes_of old)) ds) (asked_of (shapes_of old) q) less (length old - 1)) a
+    ∙ ap (λ (ds : List ClauseEntry). table_with (map (entry_clause (shapes_of old)) ds) (asked_of (shapes_of old) q) less (length old - 1)) a
     ∙ ap (λ (ns : List Bytes). table_with (map (entry_clause (shapes_of old)) es) (asked_of (shapes_of old) q) ns (length old - 1)) n
 
 pub unasked : (ss : List Shape) (q : Option Asked) (b : Bool) → b ≡ is_some q → b ≡ false → asked_of ss q ≡ None

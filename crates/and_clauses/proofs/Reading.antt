@@ -7,7 +7,7 @@ use Rattle.and_model.specs.Terms.{Term, Terms}
 use Rattle.and_syntax.specs.Written
 use Rattle.and_syntax.specs.Written.{Written, Many, nodes_of, nodes_in, is_new, place, variable_number, met_after, met_after_all, term_in, terms_in}
 use Rattle.and_program.specs.Skeletons
-use Rattle.and_program.specs.Skeletons.{Shape, row, nth, shape_term, terms_behind, node_term, Falls, IsFalling, AllFall}
+use Rattle.and_program.specs.Skeletons.{Shape, term_list, nth, shape_term, terms_behind, node_term, Falls, IsFalling, AllFall}
 use Rattle.and_clauses.specs.Numbered.{met_with, met_by, shape_in, shapes_in}
 use Rattle.and_clauses.specs.Parts.{PartShape, variable, integer, compound, before_last, roots, postfix, postfix_all, PartsFall}
 use Rattle.and_program.proofs.NodeTerms.{terms_behind-append, length-terms_behind, node_term_front}
@@ -61,7 +61,7 @@ mutual
       ∙ ap (λ (us : Terms). Terms.compound (place c names) us) (terms_of_postfix names met n ss ts few)
 
   pub terms_of_postfix : (names met : List Bytes) (n : ℕ) (ss : List Shape) (ts : Many) → length ss ≡ n
-      → row (map (node_term (ss ++ shapes_in names met (postfix_all n ts))) (roots n ts)) ≡ terms_in names met ts
+      → term_list (map (node_term (ss ++ shapes_in names met (postfix_all n ts))) (roots n ts)) ≡ terms_in names met ts
   terms_of_postfix names met n ss Written.none few = refl
   terms_of_postfix names met n ss (Written.more t ts) few =
       let ps : List PartShape = postfix n t in
@@ -74,11 +74,11 @@ mutual
       let below : n + before_last t < length (ss ++ first) = omega (arith, before_last-below t) in
       let head : node_term ((ss ++ first) ++ others) (n + before_last t) ≡ term_in names met t =
       node_term_front (ss ++ first) others (n + before_last t) below ∙ term_of_postfix names met n ss t few in
-      let tail : row (map (node_term ((ss ++ first) ++ others)) (roots (n + nodes_of t) ts)) ≡ terms_in names (met_after met t) ts =
-      ap (λ (ms : List Bytes). row (map (node_term ((ss ++ first) ++ shapes_in names ms qs)) (roots (n + nodes_of t) ts))) (met_by-postfix n met t)
+      let tail : term_list (map (node_term ((ss ++ first) ++ others)) (roots (n + nodes_of t) ts)) ≡ terms_in names (met_after met t) ts =
+      ap (λ (ms : List Bytes). term_list (map (node_term ((ss ++ first) ++ shapes_in names ms qs)) (roots (n + nodes_of t) ts))) (met_by-postfix n met t)
       ∙ terms_of_postfix names (met_after met t) (n + nodes_of t) (ss ++ first) ts size in
-      ap (λ (us : List Shape). row (map (node_term us) (roots n (Written.more t ts)))) split
-      ∙ ap (λ (u : Term). Terms.more u (row (map (node_term ((ss ++ first) ++ others)) (roots (n + nodes_of t) ts)))) head
+      ap (λ (us : List Shape). term_list (map (node_term us) (roots n (Written.more t ts)))) split
+      ∙ ap (λ (u : Term). Terms.more u (term_list (map (node_term ((ss ++ first) ++ others)) (roots (n + nodes_of t) ts)))) head
       ∙ ap (λ (us : Terms). Terms.more (term_in names met t) us) tail
 
 -- nodes fall as their parts do

@@ -5,7 +5,7 @@ use Rattle.and_model.specs.Lines.{Bytes}
 use Rattle.and_model.specs.Terms
 use Rattle.and_model.specs.Terms.{Term, Terms}
 use Rattle.and_syntax.specs.Written.{place, variable_number}
-use Rattle.and_program.specs.Skeletons.{Shape, variable, number, compound, row, nth, shape_term, terms_behind, node_term, Falls, AllFall}
+use Rattle.and_program.specs.Skeletons.{Shape, variable, number, compound, term_list, nth, shape_term, terms_behind, node_term, Falls, AllFall}
 use Rattle.and_clauses.specs.Numbered.{behind, IsRead, shape_in, shapes_in, met_with}
 use Rattle.and_clauses.specs.Parts
 use Rattle.and_clauses.specs.Parts.{PartShape, PartsFall}
@@ -23,7 +23,7 @@ map-behind old us n (m ∷ ms) few =
 shape_term-behind : (old us : List Term) (n : ℕ) (s : Shape) → length old ≡ n → shape_term (old ++ us) (behind n s) ≡ shape_term us s
 shape_term-behind old us n (variable k) few = refl
 shape_term-behind old us n (number z) few = refl
-shape_term-behind old us n (compound c ms) few = ap (λ (ts : List Term). Terms.compound c (row ts)) (map-behind old us n ms few)
+shape_term-behind old us n (compound c ms) few = ap (λ (ts : List Term). Terms.compound c (term_list ts)) (map-behind old us n ms few)
 
 terms_behind-behind : (old us : List Term) (n : ℕ) (ss : List Shape) → length old ≡ n → terms_behind (old ++ us) (map (behind n) ss) ≡ old ++ terms_behind us ss
 terms_behind-behind old us n [] few = refl
@@ -51,7 +51,7 @@ length_read ss base names ps r =
 abbrev pub read_term : List Bytes → (ℕ → Term) → List Bytes → PartShape → Term
 read_term names t met (Parts.variable x) = Terms.variable [] (variable_number x met)
 read_term names t met (Parts.integer z) = Terms.number z
-read_term names t met (Parts.compound c ns) = Terms.compound (place c names) (row (map t ns))
+read_term names t met (Parts.compound c ns) = Terms.compound (place c names) (term_list (map t ns))
 
 shapes_in-at : (names met : List Bytes) (ps : List PartShape) (n : ℕ) (d : Shape) (e : PartShape) → n < length ps → (met' : List Bytes) × (get_or (shapes_in names met ps) n d ≡ shape_in names met' (get_or ps n e))
 shapes_in-at names met [] n d e lt = absurd (omega arith)
@@ -65,7 +65,7 @@ map-same f g (n ∷ ns) h = ap (λ (t : Term). t ∷ map f ns) (h n) ∙ ap (λ 
 read_shape : (names met : List Bytes) (ts : List Term) (t : ℕ → Term) (p : PartShape) → ((n : ℕ) → nth ts n ≡ t n) → shape_term ts (shape_in names met p) ≡ read_term names t met p
 read_shape names met ts t (Parts.variable x) h = refl
 read_shape names met ts t (Parts.integer z) h = refl
-read_shape names met ts t (Parts.compound c ns) h = ap (λ (us : List Term). Terms.compound (place c names) (row us)) (map-same (nth ts) t ns h)
+read_shape names met ts t (Parts.compound c ns) h = ap (λ (us : List Term). Terms.compound (place c names) (term_list us)) (map-same (nth ts) t ns h)
 
 -- the term of a part's node
 pub part_read : (ss : List Shape) (base : ℕ) (names : List Bytes) (ps : List PartShape) (n : ℕ) (d : PartShape) → IsRead ss base names ps → PartsFall 0 ps → n < length ps

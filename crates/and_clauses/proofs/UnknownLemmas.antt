@@ -11,7 +11,7 @@ use Rattle.and_model.specs.declared.numbers.ClauseNo.{ClauseNo}
 use Rattle.and_model.specs.Terms.{width}
 use Rattle.and_program.specs.Skeletons.{Shape}
 use Rattle.and_program.specs.Nodes.{entry_clause}
-use Rattle.and_program.specs.declared.entry.Entry.{Entry}
+use Rattle.and_program.specs.declared.entry.ClauseEntry.{ClauseEntry}
 use Rattle.and_syntax.specs.Tables.{Unknown, is_known, called, first_unknown, unknown_or, unknown_in}
 use Rattle.and_program.specs.declared.predicates.Predicate.{Predicate}
 use Rattle.and_program.specs.Predicates.{predicate_in, is_key_of, numbers_from}
@@ -107,7 +107,7 @@ module _ {X C O : Type 0} (F : List C → Option O) (V : List X → List C) (v :
   goes_on xs i d total lt here now =
       ap (λ (p : Option O). either p (F (V (drop (i + 1) xs)))) here ∙ sym (opened xs i d lt) ∙ now
 
-pub text_order : (names : List Bytes) (cs : List Clause) (ss : List Shape) (front : List Entry) (query : Entry) (back : List Entry)
+pub text_order : (names : List Bytes) (cs : List Clause) (ss : List Shape) (front : List ClauseEntry) (query : ClauseEntry) (back : List ClauseEntry)
     → either (unknown_in names cs (map (entry_clause ss) front)) (either (unknown_in names cs (entry_clause ss query ∷ [])) (unknown_in names cs (map (entry_clause ss) back)))
     ≡ unknown_in names cs (map (entry_clause ss) (front ++ query ∷ back))
 text_order names cs ss front query back =

@@ -10,7 +10,7 @@ use Rattle.and_syntax.specs.Clauses.{head_of, body_of, asked_of}
 use Rattle.and_syntax.specs.Tables.{Table, clause_fault, query_fault, with_clause, with_query, clause_of, term_with}
 use Rattle.and_program.specs.Nodes.{shapes_of}
 use Rattle.and_program.specs.declared.node.Node.{Node}
-use Rattle.and_program.specs.declared.entry.Entry.{Entry}
+use Rattle.and_program.specs.declared.entry.ClauseEntry.{ClauseEntry}
 use Rattle.and_clauses.specs.Drafts.{Draft}
 use Rattle.and_clauses.specs.Faults.{fault_of}
 use Rattle.and_clauses.specs.Made.{IsMade}
@@ -33,11 +33,11 @@ abbrev pub RefusesQuery : {A : Type 0} → Table → Draft → Result A TableFau
 RefusesQuery T d r = (w : Written) → d.finished ≡ w ∷ [] → IfErr r (λ e. IfSome (fault_of e) (λ f. query_fault T w ≡ Some f))
 
 -- Where an entry is answered, the draft's term has no fault as a clause, and the entry with the nodes and names that were added is that clause.
-abbrev pub MakesClause : Table → (old new : List Node) (names more : List Bytes) → Draft → Result Entry TableFault → Type 0
+abbrev pub MakesClause : Table → (old new : List Node) (names more : List Bytes) → Draft → Result ClauseEntry TableFault → Type 0
 MakesClause T old new names more d r = (w : Written) → d.finished ≡ w ∷ []
     → IfOk r (λ e. (clause_fault T w ≡ None) × IsMade (shapes_of old) (shapes_of new) names more w (clause_of w d.line (head_of (term_with T w)) (body_of (term_with T w))) e)
 
 -- Where an entry is answered, the draft's term has no fault as a query, and the entry with the nodes and names that were added is that query.
-abbrev pub MakesQuery : Table → (old new : List Node) (names more : List Bytes) → Draft → Result Entry TableFault → Type 0
+abbrev pub MakesQuery : Table → (old new : List Node) (names more : List Bytes) → Draft → Result ClauseEntry TableFault → Type 0
 MakesQuery T old new names more d r = (w : Written) → d.finished ≡ w ∷ []
     → IfOk r (λ e. (query_fault T w ≡ None) × IsMade (shapes_of old) (shapes_of new) names more w (clause_of w d.line (compound 0 none) (asked_of (term_with T w))) e)

@@ -6,7 +6,7 @@ use Rattle.and_model.specs.Lines.{Bytes}
 use Rattle.and_program.specs.Skeletons.{Shape, AllFall}
 use Rattle.and_program.specs.Kept.{begins_with_true, AllWithin, IsEntry, AllEntries}
 use Rattle.and_program.specs.Once.{AllFall-prop, AllWithin-prop, IsEntry-prop, AllEntries-prop}
-use Rattle.and_program.specs.declared.entry.Entry.{Entry}
+use Rattle.and_program.specs.declared.entry.ClauseEntry.{ClauseEntry}
 use Rattle.and_clauses.specs.declared.data.Asked.{Asked}
 use Rattle.and_model.specs.declared.limits.TheConstants.{MAX_CLAUSES, MAX_NODES}
 
@@ -16,7 +16,7 @@ IsAsked ss n None = Unit {0}
 IsAsked ss n (Some a) = IsEntry ss a.query × (a.query.head.0 ≡ 0) × (a.before ≤ n)
 
 -- What holds of a table.
-pub record IsKept (ss : List Shape) (es : List Entry) (query : Option Asked) (names : List Bytes) : Type 0 where
+pub record IsKept (ss : List Shape) (es : List ClauseEntry) (query : Option Asked) (names : List Bytes) : Type 0 where
   pub begins : begins_with_true ss ≡ true
   pub falls : AllFall 0 ss
   pub within : AllWithin (length names) ss
@@ -30,5 +30,5 @@ pub IsAsked-prop : (ss : List Shape) (n : ℕ) (a : Option Asked) → IsProp (Is
 IsAsked-prop ss n None = Unit-prop
 IsAsked-prop ss n (Some a) = hlevel (IsEntry-prop ss a.query, props)
 
-pub IsKept-prop : (ss : List Shape) (es : List Entry) (query : Option Asked) (names : List Bytes) → IsProp (IsKept ss es query names)
+pub IsKept-prop : (ss : List Shape) (es : List ClauseEntry) (query : Option Asked) (names : List Bytes) → IsProp (IsKept ss es query names)
 IsKept-prop ss es query names = hlevel (AllFall-prop 0 ss, AllWithin-prop (length names) ss, AllEntries-prop ss es, IsAsked-prop ss (length es) query, props)

@@ -7,7 +7,7 @@ use Rattle.and_syntax.specs.Tables.{Table}
 use Rattle.and_program.specs.Skeletons.{Shape, AllFall}
 use Rattle.and_program.specs.Kept.{AllWithin, IsEntry}
 use Rattle.and_program.specs.Nodes.{entry_clause}
-use Rattle.and_program.specs.declared.entry.Entry.{Entry}
+use Rattle.and_program.specs.declared.entry.ClauseEntry.{ClauseEntry}
 use Rattle.and_model.specs.declared.limits.TheConstants.{MAX_CLAUSES, MAX_NODES}
 
 -- the table has these names and so many nodes, node 0 with them, and one more clause may be there or not
@@ -17,7 +17,7 @@ pub record IsTableOf (T : Table) (names : List Bytes) (nodes : ℕ) (room : Bool
   pub has_room : leb MAX_CLAUSES (length T.clauses) ≡ not room
 
 -- Nodes and names of a written term were added, and the entry stands for that clause.
-pub record IsMade (old new : List Shape) (names more : List Bytes) (w : Written) (k : Clause) (e : Entry) : Type 0 where
+pub record IsMade (old new : List Shape) (names more : List Bytes) (w : Written) (k : Clause) (e : ClauseEntry) : Type 0 where
   pub names_are : more ≡ named names w
   pub few_names : length more ≤ length names + nodes_of w
   pub rest : List Shape

@@ -4,13 +4,13 @@ ghost use Rattle.std.specs.Prelude.{◌≡◌};
 ghost use Rattle.and_clauses.specs.declared.data.TableFault.TheVariants.{Memory};
 
 use and_model::Text;
-use and_program::Entry;
+use and_program::ClauseEntry;
 use std::alloc::{AllocError, AllocFailed};
 
 /// The query, and how many clauses stand before it in the text.
 #[derive(Drop)]
 pub(crate) struct Asked {
-    pub(crate) query: Entry,
+    pub(crate) query: ClauseEntry,
     pub(crate) before: u32,
 }
 

@@ -21,10 +21,3 @@ pub use table::ClauseTable;
 
 // What a sealed table is read by.
 pub use and_program::{ItemNode, Loaded, NodeKind};
-
-#[cfg(test)]
-mod loaded_tests;
-#[cfg(test)]
-mod test_drafts;
-#[cfg(test)]
-mod tests;

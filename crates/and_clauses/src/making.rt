@@ -18,7 +18,7 @@ use crate::nodes::append_nodes;
 use crate::numbering::note_names;
 use and_model::NodeNo;
 use and_model::limits::MAX_NODES;
-use and_program::{Entry, Node};
+use and_program::{ClauseEntry, Node};
 use indexmap::IndexSet;
 use std::alloc::Global;
 
@@ -30,7 +30,7 @@ pub(crate) fn clause_entry(
     nodes: &mut Vec<Node>,
     draft: &ClauseDraft,
     room: bool,
-) -> Result<Entry, TableFault>
+) -> Result<ClauseEntry, TableFault>
     requires whole { length (draft_of draft.now).finished ≡ 1 }
     requires some_nodes { 0 < length nodes.old.items }
     requires few_nodes { length nodes.old.items ≤ MAX_NODES + 1 }
@@ -55,7 +55,7 @@ pub(crate) fn clause_entry(
     let judged = judge_clause(alloc, names, parts, root, base, fits, room)?;
     let variables = append_nodes(alloc, nodes, names, parts)?;
     let head = NodeNo(base + judged.head);
-    Ok(Entry::new(head, judged.items, variables, draft.line))
+    Ok(ClauseEntry::new(head, judged.items, variables, draft.line))
 }
 
 /// The entry of a draft as a query. Its names and its nodes are added behind those that are there.
@@ -65,7 +65,7 @@ pub(crate) fn query_entry(
     names: &mut IndexSet<Vec<u8>>,
     nodes: &mut Vec<Node>,
     draft: &ClauseDraft,
-) -> Result<Entry, TableFault>
+) -> Result<ClauseEntry, TableFault>
     requires whole { length (draft_of draft.now).finished ≡ 1 }
     requires begins { begins_with_true (shapes_of nodes.old.items) ≡ true }
     requires few_nodes { length nodes.old.items ≤ MAX_NODES + 1 }
@@ -89,7 +89,7 @@ pub(crate) fn query_entry(
     let base = base_of(nodes, fits);
     let items = judge_query(alloc, names, parts, root, base, fits)?;
     let variables = append_nodes(alloc, nodes, names, parts)?;
-    Ok(Entry::new(NodeNo(0), items, variables, draft.line))
+    Ok(ClauseEntry::new(NodeNo(0), items, variables, draft.line))
 }
 
 /// Whether the nodes of these parts fit behind those that are there.

@@ -12,7 +12,7 @@ use crate::numbering::built_in_names;
 use crate::unknown::{first_unknown_call, unknown_fault};
 use and_model::limits::MAX_CLAUSES;
 use and_model::{ClauseNo, NameNo};
-use and_program::{Entry, Loaded, Node, clause_numbers};
+use and_program::{ClauseEntry, Loaded, Node, clause_numbers};
 use indexmap::IndexSet;
 use std::alloc::{AllocError, Global};
 
@@ -23,7 +23,7 @@ pub struct ClauseTable {
     pub(crate) names: IndexSet<Vec<u8>>,
     /// Node 0 is the atom `true`, the head of a query.
     pub(crate) nodes: Vec<Node>,
-    pub(crate) clauses: Vec<Entry>,
+    pub(crate) clauses: Vec<ClauseEntry>,
     pub(crate) query: Option<Asked>,
     ghost kept: { IsKept (shapes_of nodes.items) clauses.items query (names_of names.keys) } by { IsKept-prop (shapes_of nodes.items) clauses.items query (names_of names.keys) },
 }

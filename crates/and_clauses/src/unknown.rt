@@ -17,7 +17,7 @@ ghost use Rattle.and_clauses.specs.Sealing.{IsUnknown};
 use crate::data::SealFault;
 use and_model::{NameNo, NodeNo, Text};
 use and_program::{
-    ClauseNumbers, Entry, ItemNode, Node, Predicate, clauses_at, name_at, predicate_at,
+    ClauseEntry, ClauseNumbers, ItemNode, Node, Predicate, clauses_at, name_at, predicate_at,
 };
 use indexmap::IndexSet;
 use std::alloc::{AllocError, Global};
@@ -79,7 +79,11 @@ fn first_unknown_goal(nodes: &[Node], found: &ClauseNumbers, items: &[ItemNode])
 }
 
 /// The first call without a clause in the body of a clause.
-fn unknown_in_entry(nodes: &[Node], found: &ClauseNumbers, entry: &Entry) -> Option<UnknownCall>
+fn unknown_in_entry(
+    nodes: &[Node],
+    found: &ClauseNumbers,
+    entry: &ClauseEntry,
+) -> Option<UnknownCall>
     ensures { (cs : List Clause) (names : List Bytes) → Finds found.now cs
         → let shapes = shapes_of nodes.now in
         option_map (unknown_at names shapes) result
@@ -96,7 +100,7 @@ fn unknown_in_entry(nodes: &[Node], found: &ClauseNumbers, entry: &Entry) -> Opt
 fn unknown_in_entries(
     nodes: &[Node],
     found: &ClauseNumbers,
-    entries: &[Entry],
+    entries: &[ClauseEntry],
 ) -> Option<UnknownCall>
     ensures { (cs : List Clause) (names : List Bytes) → Finds found.now cs
         → let shapes = shapes_of nodes.now in
@@ -116,8 +120,8 @@ fn unknown_in_entries(
 pub(crate) fn first_unknown_call(
     nodes: &[Node],
     found: &ClauseNumbers,
-    clauses: &[Entry],
-    query: &Entry,
+    clauses: &[ClauseEntry],
+    query: &ClauseEntry,
     before: usize,
 ) -> Option<UnknownCall>
     requires { before ≤ length clauses.now }

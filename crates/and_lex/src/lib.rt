@@ -13,6 +13,3 @@ pub use laws::{bytes_of_a_token, one_answer, one_list_of_tokens};
 pub use lexing::Lexer;
 pub use quotes::quoted_text;
 pub use tokens::{Kind, LexFault, Token};
-
-#[cfg(test)]
-mod tests;

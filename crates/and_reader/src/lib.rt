@@ -14,6 +14,3 @@ pub use and_clauses::{Loaded, What};
 pub use laws::{each_text_is_read_or_refused, one_program, one_refusal};
 pub use reading::read_program;
 pub use refusal::{Cause, ReadRefusal, refusal_text};
-
-#[cfg(test)]
-mod tests;

@@ -1,4 +1,6 @@
-use crate::{Kind, LexFault, Lexer, Token, quoted_text};
+//! Tokens of texts.
+
+use and_lex::{Kind, LexFault, Lexer, Token, quoted_text};
 use std::alloc::{AllocError, Global};
 use std::test::Fail;
 

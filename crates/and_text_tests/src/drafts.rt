@@ -4,7 +4,7 @@ ghost use Rattle.std.specs.Prelude.{◌≡◌, IfOk, IsTrue, length};
 ghost use Rattle.and_clauses.specs.Drafts.{draft_of};
 ghost use Rattle.and_clauses.specs.Views.{is_query};
 
-use crate::ClauseDraft;
+use and_clauses::ClauseDraft;
 use std::alloc::{AllocError, Global};
 use std::process::Abort;
 
@@ -41,6 +41,40 @@ pub(crate) const APPEND_STEP: [Given<'static>; 13] = [
     Given::Name(b":-", 2),
 ];
 
+/// A draft, and how many of its terms are finished.
+#[derive(Drop)]
+struct Counted {
+    draft: ClauseDraft,
+    finished: usize,
+    ghost same: { finished ≡ length (draft_of draft).finished },
+}
+
+/// Adds a part.
+fn add_part(rt: &impl Abort, counted: Counted, part: Given) -> Result<Counted, AllocError> {
+    let Counted {
+        mut draft,
+        finished,
+    } = counted;
+    assert!(rt; !draft.is_full());
+    assert!(rt; finished < 1000);
+    let finished = match part {
+        Given::Var(name) => {
+            draft.variable(name)?;
+            finished + 1
+        }
+        Given::Int(value) => {
+            draft.integer(value)?;
+            finished + 1
+        }
+        Given::Name(name, count) => {
+            assert!(rt; count as usize <= finished);
+            draft.compound(name, count)?;
+            finished - count as usize + 1
+        }
+    };
+    Ok(Counted { draft, finished })
+}
+
 /// The draft of these parts, in postfix order.
 pub(crate) fn draft(
     rt: &impl Abort,
@@ -50,18 +84,14 @@ pub(crate) fn draft(
 ) -> Result<ClauseDraft, AllocError>
     ensures { IfOk result (λ d. length (draft_of d).finished ≡ 1) }
 {
-    let mut draft = ClauseDraft::new(alloc, line);
+    let mut counted = Counted {
+        draft: ClauseDraft::new(alloc, line),
+        finished: 0,
+    };
     for part in parts {
-        assert!(rt; draft.parts.len() < 1000);
-        match part {
-            Given::Var(name) => draft.variable(name)?,
-            Given::Int(value) => draft.integer(*value)?,
-            Given::Name(name, count) => {
-                assert!(rt; *count as usize <= draft.finished.len());
-                draft.compound(name, *count)?
-            }
-        }
+        counted = add_part(rt, counted, *part)?;
     }
+    let draft = counted.draft;
     assert!(rt; draft.is_whole());
     Ok(draft)
 }
@@ -76,7 +106,7 @@ pub(crate) fn query_draft(
     ensures { IfOk result (λ d. IsTrue (is_query (draft_of d).finished)) }
 {
     let mut draft = draft(rt, alloc, line, body)?;
-    assert!(rt; draft.parts.len() < 1000);
+    assert!(rt; !draft.is_full());
     draft.compound(b"?-", 1)?;
     Ok(draft)
 }

@@ -1,11 +1,10 @@
 //! Clauses and queries that tables take and refuse.
 
-use crate::data::{TableFault, What};
-use crate::test_drafts::Given::{self, Int, Name, Var};
-use crate::test_drafts::{APPEND_BASE, APPEND_STEP, draft, query_draft};
-use crate::{ClauseDraft, ClauseTable};
-use and_model::{ClauseNo, NodeNo};
-use and_program::ItemNode;
+use crate::drafts::Given::{self, Int, Name, Var};
+use crate::drafts::{APPEND_BASE, APPEND_STEP, draft, query_draft};
+use and_clauses::{ClauseTable, TableFault, What};
+use and_model::{ClauseNo, NameNo, NodeNo};
+use and_program::{ItemNode, Loaded};
 use std::alloc::{AllocError, Global};
 use std::process::Abort;
 use std::test::Fail;
@@ -32,10 +31,11 @@ fn asked(
     Ok(table.set_query(draft))
 }
 
-fn is_name(table: &ClauseTable, number: usize, name: &[u8]) -> bool {
-    match table.names.get_index(number) {
-        Some(known) => known.as_slice() == name,
-        None => false,
+/// The program of a table, where it is one.
+fn sealed(rt: &impl Abort, table: ClauseTable) -> Loaded {
+    match table.seal() {
+        Ok(loaded) => loaded,
+        Err(_) => rt.abort(),
     }
 }
 
@@ -76,23 +76,21 @@ fn append_has_two_clauses_and_a_query(rt: HostRuntime) -> Result<(), Fail> {
         Name(b"app", 3),
     ];
     assert!(rt; asked(&rt, alloc, &mut table, &query)?.is_ok());
-    assert_eq!(rt; table.nodes.len(), 1 + 4 + 13 + 9);
-    assert!(rt; is_name(&table, 27, b"app"));
-    assert_eq!(rt; table.names.len(), 28);
     assert!(rt;
         matches!(
             asked(&rt, alloc, &mut table, &query)?,
             Err(TableFault::SecondQuery)
         )
     );
-    assert_eq!(rt; table.clauses.len(), 2);
-    let second = &table.clauses[1];
-    assert_eq!(rt; second.head, NodeNo(12));
+    let loaded = sealed(&rt, table);
+    assert_eq!(rt; loaded.clause_count(), 2);
+    assert_eq!(rt; loaded.name(NameNo(27)), b"app".as_slice());
+    assert_eq!(rt; loaded.head(ClauseNo(2)), NodeNo(12));
     assert_eq!(rt;
-        second.items.as_slice(),
+        loaded.items(ClauseNo(2)),
         [ItemNode::Call { goal: NodeNo(16) }].as_slice()
     );
-    assert_eq!(rt; second.variables.len(), 4);
+    assert_eq!(rt; loaded.variables(ClauseNo(2)), 4);
     Ok(())
 }
 
@@ -121,8 +119,11 @@ fn what_is_no_pure_clause_is_refused(rt: HostRuntime) -> Result<(), Fail> {
         Name(b":-", 2),
     ];
     assert!(rt; is_impure(added(&rt, alloc, &mut table, &is)?));
-    assert_eq!(rt; table.names.len(), 27);
-    assert_eq!(rt; table.nodes.len(), 1);
+    // ?- true.
+    assert!(rt; asked(&rt, alloc, &mut table, &[Name(b"true", 0)])?.is_ok());
+    let loaded = sealed(&rt, table);
+    assert_eq!(rt; loaded.clause_count(), 0);
+    assert!(rt; loaded.name(NameNo(27)).is_empty());
     Ok(())
 }
 
@@ -130,25 +131,30 @@ fn what_is_no_pure_clause_is_refused(rt: HostRuntime) -> Result<(), Fail> {
 fn names_are_numbered_as_they_are_first_seen(rt: HostRuntime) -> Result<(), Fail> {
     let alloc = rt.alloc();
     let mut table = ClauseTable::new(alloc)?;
-    // f(g(h), i) :- j, true.
+    // f(g(h), i) :- true, j.
     let clause = [
         Name(b"h", 0),
         Name(b"g", 1),
         Name(b"i", 0),
         Name(b"f", 2),
-        Name(b"j", 0),
         Name(b"true", 0),
+        Name(b"j", 0),
         Name(b",", 2),
         Name(b":-", 2),
     ];
     assert!(rt; is_clause(added(&rt, alloc, &mut table, &clause)?, 1));
-    assert!(rt; is_name(&table, 27, b"f"));
-    assert!(rt; is_name(&table, 28, b"g"));
-    assert!(rt; is_name(&table, 29, b"h"));
-    assert!(rt; is_name(&table, 30, b"i"));
-    assert!(rt; is_name(&table, 31, b"j"));
-    assert_eq!(rt; table.clauses.len(), 1);
-    assert_eq!(rt; table.clauses[0].items.len(), 1);
+    // j.
+    assert!(rt; is_clause(added(&rt, alloc, &mut table, &[Name(b"j", 0)])?, 2));
+    // ?- true.
+    assert!(rt; asked(&rt, alloc, &mut table, &[Name(b"true", 0)])?.is_ok());
+    let loaded = sealed(&rt, table);
+    assert_eq!(rt; loaded.name(NameNo(27)), b"f".as_slice());
+    assert_eq!(rt; loaded.name(NameNo(28)), b"g".as_slice());
+    assert_eq!(rt; loaded.name(NameNo(29)), b"h".as_slice());
+    assert_eq!(rt; loaded.name(NameNo(30)), b"i".as_slice());
+    assert_eq!(rt; loaded.name(NameNo(31)), b"j".as_slice());
+    assert_eq!(rt; loaded.clause_count(), 2);
+    assert_eq!(rt; loaded.items(ClauseNo(1)).len(), 1);
     Ok(())
 }
 
@@ -157,18 +163,12 @@ fn a_clause_has_at_most_255_variables(rt: HostRuntime) -> Result<(), Fail> {
     let alloc = rt.alloc();
     let mut table = ClauseTable::new(alloc)?;
     for count in [255, 256] {
-        let mut draft = ClauseDraft::new(alloc, 1);
-        draft.compound(b"p", 0)?;
+        let mut parts = vec![in alloc; Name(b"p", 0)]?;
         for _ in 0..count {
-            assert!(rt; draft.parts.len() < 1000);
-            assert_eq!(rt; draft.finished.len(), 1);
-            draft.variable(b"_")?;
-            assert!(rt; draft.parts.len() < 1000);
-            assert_eq!(rt; draft.finished.len(), 2);
-            draft.compound(b"f", 2)?;
+            parts.push(Var(b"_"))?;
+            parts.push(Name(b"f", 2))?;
         }
-        assert!(rt; draft.is_whole());
-        match table.add_clause(draft) {
+        match added(&rt, alloc, &mut table, &parts)? {
             Ok(_) => assert_eq!(rt; count, 255),
             Err(TableFault::TooBig { what }) => {
                 assert_eq!(rt; what, What::Variables);

@@ -1,6 +1,6 @@
 //! Texts and what they are refused for.
 
-use crate::{read_program, refusal_text};
+use and_reader::{read_program, refusal_text};
 use std::alloc::{AllocError, Global};
 use std::test::Fail;
 

@@ -1,11 +1,10 @@
 //! A text's clauses, sealed and read.
 
-use crate::data::SealFault;
-use crate::test_drafts::Given::{self, Int, Name, Var};
-use crate::test_drafts::{APPEND_BASE, APPEND_STEP, draft, query_draft};
-use crate::{ClauseTable, Loaded};
+use crate::drafts::Given::{self, Int, Name, Var};
+use crate::drafts::{APPEND_BASE, APPEND_STEP, draft, query_draft};
+use and_clauses::{ClauseTable, SealFault};
 use and_model::{ClauseNo, NameNo, NodeNo, Ref};
-use and_program::{ItemNode, NodeKind};
+use and_program::{ItemNode, Loaded, NodeKind};
 use std::alloc::{AllocError, Global};
 use std::process::Abort;
 use std::test::Fail;
