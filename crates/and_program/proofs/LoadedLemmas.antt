@@ -1,10 +1,11 @@
 -- What a loaded program's nodes and entries say of its program.
-use Rattle.std.proofs.Common.{ℕ, zero, suc, ◌+◌, ◌≡◌, ◌<◌, ◌≤◌, Bool, true, cond, pos, List, [], ◌∷◌, length, map, get_or, take, Some, Vec, refl, sym, ap, ◌∙◌, subst, arith}
+use Rattle.std.proofs.Common.{ℕ, zero, suc, ◌+◌, ◌≡◌, ◌<◌, ◌≤◌, Bool, true, cond, pos, List, [], ◌∷◌, length, map, get_or, take, Vec, refl, sym, ap, ◌∙◌, subst, arith}
 use Rattle.std.proofs.lemmas.List.{length-map, get_or-map}
 use Rattle.std.proofs.lemmas.Bool.{eqb-true, false≢true}
 use Rattle.std.specs.declared.alloc.Global.{Global}
 use Rattle.and_model.specs.Lines.{Bytes}
 use Rattle.and_model.specs.Candidates.{guard}
+use Rattle.and_model.specs.OwnVariables.{HasOwnVariables, HaveOwnVariables}
 use Rattle.and_model.specs.Programs.{Clause, is_goals, clause_weight}
 use Rattle.and_model.specs.Terms
 use Rattle.and_model.specs.Terms.{Term, Terms}
@@ -12,20 +13,20 @@ use Rattle.and_model.specs.declared.numbers.ClauseNo.{ClauseNo}
 use Rattle.and_model.specs.declared.numbers.NameNo.{NameNo}
 use Rattle.and_model.specs.declared.numbers.NodeNo.{NodeNo}
 use Rattle.and_program.specs.Skeletons
-use Rattle.and_program.specs.Skeletons.{Shape, NodeItem, NodeClause, row, nth, shape_term, terms_behind, node_term, item_of, Falls, AllFall, IsFalling, AllThere, IsClause, AllClauses}
-use Rattle.and_program.specs.declared.entry.Entry.{Entry}
+use Rattle.and_program.specs.Skeletons.{Shape, NodeItem, NodeClause, term_list, nth, shape_term, terms_behind, node_term, item_of, Falls, AllFall, IsFalling, AllThere, IsClause, AllClauses}
+use Rattle.and_program.specs.declared.entry.ClauseEntry.{ClauseEntry}
 use Rattle.and_program.specs.declared.node.Node.{Node}
 use Rattle.and_program.specs.declared.node.Node.TheVariants.{Variable, Compound}
 use Rattle.and_program.specs.declared.node.NodeKind as glance
 use Rattle.and_program.specs.declared.predicates.Predicate.{Predicate}
 use Rattle.and_program.specs.Items.{node_item, pairs, guard_length}
 use Rattle.and_program.specs.Kept.{begins_with_true, IsWithin, AllWithin, IsEntry, AllEntries, IsProgram}
-use Rattle.and_program.specs.Loaded.{node_clause}
+use Rattle.and_program.specs.Loaded.{node_clause, program_in}
 use Rattle.and_program.specs.Shown.{truth, arguments_in, shown, count_of, shown_term, term_at, argument_of, has_functor, clauses_with}
 use Rattle.and_program.specs.Nodes.{shape_of, shapes_of, entry_clause}
 use Rattle.and_program.specs.Predicates.{predicate_in, is_key_of, numbers_from}
 use Rattle.and_program.proofs.NodeTerms.{node_term_at, node_term_whole, AllFall-at}
-use Rattle.and_program.proofs.PredicateLemmas.{width-row}
+use Rattle.and_program.proofs.PredicateLemmas.{width-term_list}
 
 pub get_or-map_default : {A B : Type 0} (f : A → B) (xs : List A) (n : ℕ) (d : A) → get_or (map f xs) n (f d) ≡ f (get_or xs n d)
 get_or-map_default f [] n d = refl
@@ -37,15 +38,15 @@ AllWithin-at m [] n d w lt = absurd (omega arith)
 AllWithin-at m (s ∷ ss) zero d w lt = w.0
 AllWithin-at m (s ∷ ss) (suc n) d w lt = AllWithin-at m ss n d w.1 (omega arith)
 
-IsEntry-at : (ss : List Shape) (es : List Entry) (n : ℕ) (d : Entry) → AllEntries ss es → IsEntry ss d → IsEntry ss (get_or es n d)
+IsEntry-at : (ss : List Shape) (es : List ClauseEntry) (n : ℕ) (d : ClauseEntry) → AllEntries ss es → IsEntry ss d → IsEntry ss (get_or es n d)
 IsEntry-at ss [] n d all here = here
 IsEntry-at ss (e ∷ es) zero d all here = all.0
 IsEntry-at ss (e ∷ es) (suc n) d all here = IsEntry-at ss es n d all.1 here
 
 -- the nodes of the clause or query of that number are there
-pub entry_there : (ss : List Shape) (query : Entry) (es : List Entry) (names : List Bytes) (n : ℕ) (e : Entry) → IsProgram ss query es names → e ≡ get_or (query ∷ es) n query → IsEntry ss e
+pub entry_there : (ss : List Shape) (query : ClauseEntry) (es : List ClauseEntry) (names : List Bytes) (n : ℕ) (e : ClauseEntry) → IsProgram ss query es names → e ≡ get_or (query ∷ es) n query → IsEntry ss e
 entry_there ss query es names n e kept is =
-    let P : Entry → Type 0 = λ x. IsEntry ss x in subst P (sym is) (IsEntry-at ss (query ∷ es) n query (kept.query_there, kept.entries) kept.query_there)
+    let P : ClauseEntry → Type 0 = λ x. IsEntry ss x in subst P (sym is) (IsEntry-at ss (query ∷ es) n query (kept.query_there, kept.entries) kept.query_there)
 
 is_goals-items : (ss : List Shape) (items : List NodeItem) → is_goals (map (item_of ss) items) ≡ pairs items
 is_goals-items ss [] = refl
@@ -55,7 +56,7 @@ is_goals-items ss (Skeletons.is n m pair ∷ items) = ap (λ (k : ℕ). suc k) (
 is_goals-items ss (Skeletons.compare r n m ∷ items) = is_goals-items ss items
 is_goals-items ss (Skeletons.fail ∷ items) = is_goals-items ss items
 
-pub weight_is : (ss : List Shape) (e : Entry) → e.weight ≡ clause_weight (entry_clause ss e)
+pub weight_is : (ss : List Shape) (e : ClauseEntry) → e.weight ≡ clause_weight (entry_clause ss e)
 unfolding clause_weight
 weight_is ss e = omega (arith, e.weighed, e.variables.ok.0, is_goals-items ss (map node_item e.items.items))
 
@@ -67,13 +68,20 @@ guard-items ss (Skeletons.is n m pair ∷ items) = refl
 guard-items ss (Skeletons.compare r n m ∷ items) = ap (λ (k : ℕ). suc k) (guard-items ss items)
 guard-items ss (Skeletons.fail ∷ items) = refl
 
-pub guard_is : (ss : List Shape) (e : Entry) → e.guard ≡ length (guard [] (entry_clause ss e).body)
+pub guard_is : (ss : List Shape) (e : ClauseEntry) → e.guard ≡ length (guard [] (entry_clause ss e).body)
 guard_is ss e = e.guarded ∙ guard-items ss (map node_item e.items.items)
 
-pub IsClause-entry : (ss : List Shape) (e : Entry) → IsEntry ss e → IsClause ss (node_clause e) (entry_clause ss e)
+pub IsClause-entry : (ss : List Shape) (e : ClauseEntry) → IsEntry ss e → IsClause ss (node_clause e) (entry_clause ss e)
 IsClause-entry ss e there = record { head = refl; head_there = there.0; body = refl; body_there = there.1 }
 
-pub AllClauses-entries : (ss : List Shape) (es : List Entry) → AllEntries ss es → AllClauses ss (map node_clause es) (map (entry_clause ss) es)
+-- the clauses name their own variables alone
+pub own_variables : (ss : List Shape) (query : ClauseEntry) (es : List ClauseEntry) (names : List Bytes)
+    → IsProgram ss query es names → HaveOwnVariables (program_in ss query es names)
+own_variables ss query es names kept c =
+    let at = IsEntry-at ss (query ∷ es) c query (kept.query_there, kept.entries) kept.query_there in
+    subst HasOwnVariables (sym (get_or-map_default (entry_clause ss) (query ∷ es) c query)) at.2
+
+pub AllClauses-entries : (ss : List Shape) (es : List ClauseEntry) → AllEntries ss es → AllClauses ss (map node_clause es) (map (entry_clause ss) es)
 AllClauses-entries ss [] there = tt
 AllClauses-entries ss (e ∷ es) there = (IsClause-entry ss e there.0, AllClauses-entries ss es there.1)
 
@@ -97,7 +105,7 @@ shown-shape_term : (ts : List Term) (s : Shape) → shown s ≡ shown_term (shap
 shown-shape_term ts (Skeletons.variable k) = refl
 shown-shape_term ts (Skeletons.number z) = refl
 shown-shape_term ts (Skeletons.compound c ns) =
-    ap (λ (n : ℕ). glance.TheVariants.Compound (record { 0 = c }) n) (sym (width-row (map (nth ts) ns) ∙ length-map ns (nth ts)))
+    ap (λ (n : ℕ). glance.TheVariants.Compound (record { 0 = c }) n) (sym (width-term_list (map (nth ts) ns) ∙ length-map ns (nth ts)))
 
 pub shown_node : (nodes : List Node) (n : ℕ) (node : Node) → n < length (shapes_of nodes) → node ≡ get_or nodes n node → shown (shape_of node) ≡ shown_term (node_term (shapes_of nodes) n)
 shown_node nodes n node lt read =
@@ -111,16 +119,16 @@ Falls-at n [] p d f lt = absurd (omega arith)
 Falls-at n (m ∷ ms) zero d f lt = f.0
 Falls-at n (m ∷ ms) (suc p) d f lt = Falls-at n ms p d f.1 (omega arith)
 
-term_at-row : (f : ℕ → Term) (ms : List ℕ) (p : ℕ) (d : ℕ) → p < length ms → f (get_or ms p d) ≡ term_at (row (map f ms)) p
-term_at-row f [] p d lt = absurd (omega arith)
-term_at-row f (m ∷ ms) zero d lt = refl
-term_at-row f (m ∷ ms) (suc p) d lt = term_at-row f ms p d (omega arith)
+term_at-term_list : (f : ℕ → Term) (ms : List ℕ) (p : ℕ) (d : ℕ) → p < length ms → f (get_or ms p d) ≡ term_at (term_list (map f ms)) p
+term_at-term_list f [] p d lt = absurd (omega arith)
+term_at-term_list f (m ∷ ms) zero d lt = refl
+term_at-term_list f (m ∷ ms) (suc p) d lt = term_at-term_list f ms p d (omega arith)
 
 shape_argument : (ss : List Shape) (n : ℕ) (s : Shape) (p : ℕ) → IsFalling n s → p < length (arguments_in s)
     → (node_term ss (get_or (arguments_in s) p 0) ≡ argument_of (shape_term (terms_behind [] ss) s) p) × (get_or (arguments_in s) p 0 < n)
 shape_argument ss n (Skeletons.variable k) p f lt = absurd (omega arith)
 shape_argument ss n (Skeletons.number z) p f lt = absurd (omega arith)
-shape_argument ss n (Skeletons.compound c ms) p f lt = (term_at-row (nth (terms_behind [] ss)) ms p 0 lt, Falls-at n ms p 0 f lt)
+shape_argument ss n (Skeletons.compound c ms) p f lt = (term_at-term_list (nth (terms_behind [] ss)) ms p 0 lt, Falls-at n ms p 0 f lt)
 
 -- an argument's node and term
 pub node_argument : (ss : List Shape) (n p r : ℕ) → AllFall 0 ss → n < length ss → p < length (arguments_in (get_or ss n (Skeletons.number (pos 0)))) → r ≡ get_or (arguments_in (get_or ss n (Skeletons.number (pos 0)))) p 0

@@ -1,9 +1,9 @@
--- The terms of nodes in a row: they depend on the nodes before them alone.
+-- The terms of a list of nodes: they depend on the nodes before them alone.
 use Rattle.std.proofs.Common.{ℕ, zero, suc, ◌+◌, ◌≡◌, ◌<◌, pos, List, [], ◌∷◌, ◌++◌, length, map, get_or, take, drop, refl, sym, ap, ◌∙◌, arith, subst}
 use Rattle.std.proofs.lemmas.List.{length-append, get_or_append_left, get_or_at, take-append-drop, drop_more, length-take-le}
 use Rattle.and_model.specs.Terms
 use Rattle.and_model.specs.Terms.{Term, Terms}
-use Rattle.and_program.specs.Skeletons.{Shape, variable, number, compound, row, nth, shape_term, terms_behind, node_term, Falls, IsFalling, AllFall}
+use Rattle.and_program.specs.Skeletons.{Shape, variable, number, compound, term_list, nth, shape_term, terms_behind, node_term, Falls, IsFalling, AllFall}
 
 pub terms_behind-append : (ts : List Term) (ss us : List Shape) → terms_behind ts (ss ++ us) ≡ terms_behind (terms_behind ts ss) us
 terms_behind-append ts [] us = refl
@@ -40,10 +40,10 @@ node_term_at ss n d lt =
     ∙ get_or_at front t [] (Terms.number (pos 0)) n few
 
 -- arguments that are there have the same terms under more nodes
-terms_of_arguments : (ss us : List Shape) (ms : List ℕ) → Falls (length ss) ms → row (map (nth (terms_behind [] (ss ++ us))) ms) ≡ row (map (nth (terms_behind [] ss)) ms)
+terms_of_arguments : (ss us : List Shape) (ms : List ℕ) → Falls (length ss) ms → term_list (map (nth (terms_behind [] (ss ++ us))) ms) ≡ term_list (map (nth (terms_behind [] ss)) ms)
 terms_of_arguments ss us [] f = refl
 terms_of_arguments ss us (m ∷ ms) f =
-    ap (λ (t : Term). Terms.more t (row (map (nth (terms_behind [] (ss ++ us))) ms))) (node_term_front ss us m f.0)
+    ap (λ (t : Term). Terms.more t (term_list (map (nth (terms_behind [] (ss ++ us))) ms))) (node_term_front ss us m f.0)
     ∙ ap (λ (ts : Terms). Terms.more (nth (terms_behind [] ss) m) ts) (terms_of_arguments ss us ms f.1)
 
 pub shape_term_front : (ss us : List Shape) (s : Shape) → IsFalling (length ss) s → shape_term (terms_behind [] (ss ++ us)) s ≡ shape_term (terms_behind [] ss) s

@@ -7,24 +7,24 @@ use Rattle.and_model.specs.Terms.{Term}
 use Rattle.and_model.specs.declared.numbers.ClauseNo.{ClauseNo}
 use Rattle.and_model.specs.Terms.{width}
 use Rattle.and_program.specs.Skeletons
-use Rattle.and_program.specs.Skeletons.{Shape, row, nth, shape_term, terms_behind, node_term}
+use Rattle.and_program.specs.Skeletons.{Shape, term_list, nth, shape_term, terms_behind, node_term}
 use Rattle.and_program.specs.declared.node.Node.{Node}
-use Rattle.and_program.specs.declared.entry.Entry.{Entry}
+use Rattle.and_program.specs.declared.entry.ClauseEntry.{ClauseEntry}
 use Rattle.and_program.specs.Nodes.{shape_of, entry_clause}
 use Rattle.and_program.specs.declared.predicates.Predicate.{Predicate}
 use Rattle.and_program.specs.Predicates.{predicate_in, predicate_in_shape, same_key, is_key_of, numbers_from, items_in}
 use Rattle.and_program.proofs.NodeTerms.{node_term_at, length-terms_behind}
 
-pub width-row : (ts : List Term) → width (row ts) ≡ length ts
-width-row [] = refl
-width-row (t ∷ ts) = ap (λ (n : ℕ). suc n) (width-row ts)
+pub width-term_list : (ts : List Term) → width (term_list ts) ≡ length ts
+width-term_list [] = refl
+width-term_list (t ∷ ts) = ap (λ (n : ℕ). suc n) (width-term_list ts)
 
 predicate_in-shape_term : (ts : List Term) (s : Shape) → predicate_in (shape_term ts s) ≡ predicate_in_shape s
 predicate_in-shape_term ts (Skeletons.variable k) = refl
 predicate_in-shape_term ts (Skeletons.number z) = refl
 predicate_in-shape_term ts (Skeletons.compound c ns) =
     let of : ℕ → Option Predicate = λ n. Some (record { name = record { 0 = c }; arity = n }) in
-    ap of (width-row (map (nth ts) ns) ∙ length-map ns (nth ts))
+    ap of (width-term_list (map (nth ts) ns) ∙ length-map ns (nth ts))
 
 pub predicate_in-node_term : (nodes : List Node) (n : ℕ) (d : Node) → n < length nodes → predicate_in (node_term (map shape_of nodes) n) ≡ predicate_in_shape (shape_of (get_or nodes n d))
 predicate_in-node_term nodes n d lt =
@@ -42,7 +42,7 @@ predicate_in-past nodes n past =
     ap predicate_in (get_or_past ts n (nth [] 0) (omega (arith, length-map nodes shape_of, length-terms_behind [] ss)))
 
 -- one clause more, in a loop over clauses
-pub numbers_from-step : (p : Predicate) (ss : List Shape) (cs : List Entry) (i : ℕ) (d : Entry) (key : Option Predicate) (old new total : List ClauseNo) → i < length cs
+pub numbers_from-step : (p : Predicate) (ss : List Shape) (cs : List ClauseEntry) (i : ℕ) (d : ClauseEntry) (key : Option Predicate) (old new total : List ClauseNo) → i < length cs
     → d ≡ get_or cs i d → key ≡ predicate_in (node_term ss d.head.0)
     → new ≡ cond (is_key_of key p) (old ++ record { 0 = i + 1 } ∷ []) old
     → old ++ numbers_from p (i + 1) (map (entry_clause ss) (drop i cs)) ≡ total
@@ -53,10 +53,10 @@ numbers_from-step p ss cs i d key old new total lt at of is now =
     let more : ℕ → List ClauseNo = λ n. numbers_from p n (map (entry_clause ss) (drop (i + 1) cs)) in
     let b : Bool = is_key_of (predicate_in (node_term ss (get_or cs i d).head.0)) p in
     let opened : numbers_from p (i + 1) (map (entry_clause ss) (drop i cs)) ≡ cond b (one ∷ rest) rest =
-    ap (λ (es : List Entry). numbers_from p (i + 1) (map (entry_clause ss) es)) (drop_more cs i d lt)
+    ap (λ (es : List ClauseEntry). numbers_from p (i + 1) (map (entry_clause ss) es)) (drop_more cs i d lt)
     ∙ ap (λ (n : ℕ). cond b (one ∷ more n) (more n)) (sym (add-one (i + 1))) in
     let P : Bool → Type 0 = λ v. cond v (old ++ one ∷ []) old ++ rest ≡ old ++ cond v (one ∷ rest) rest in
-    let is_now : new ≡ cond b (old ++ one ∷ []) old = is ∙ ap (λ (o : Option Predicate). cond (is_key_of o p) (old ++ one ∷ []) old) (of ∙ ap (λ (e : Entry). predicate_in (node_term ss e.head.0)) at) in
+    let is_now : new ≡ cond b (old ++ one ∷ []) old = is ∙ ap (λ (o : Option Predicate). cond (is_key_of o p) (old ++ one ∷ []) old) (of ∙ ap (λ (e : ClauseEntry). predicate_in (node_term ss e.head.0)) at) in
     ap (λ (xs : List ClauseNo). xs ++ rest) is_now
     ∙ (elim b as P [ true ↦ append_assoc old (one ∷ []) rest | false ↦ refl ])
     ∙ ap (λ (xs : List ClauseNo). old ++ xs) (sym opened)

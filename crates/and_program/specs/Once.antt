@@ -6,7 +6,7 @@ use Rattle.and_program.specs.Skeletons.{Shape, variable, number, compound, NodeI
 use Rattle.and_program.specs.Items.{node_item}
 use Rattle.and_program.specs.Kept.{IsWithin, AllWithin, IsEntry, AllEntries, IsProgram}
 use Rattle.and_model.specs.Lines.{Bytes}
-use Rattle.and_program.specs.declared.entry.Entry.{Entry}
+use Rattle.and_program.specs.declared.entry.ClauseEntry.{ClauseEntry}
 
 pub Falls-prop : (n : ℕ) (ms : List ℕ) → IsProp (Falls n ms)
 Falls-prop n [] = Unit-prop
@@ -41,12 +41,12 @@ pub AllWithin-prop : (m : ℕ) (ss : List Shape) → IsProp (AllWithin m ss)
 AllWithin-prop m [] = Unit-prop
 AllWithin-prop m (s ∷ ss) = ×_prop (IsWithin-prop m s) (AllWithin-prop m ss)
 
-pub IsEntry-prop : (ss : List Shape) (e : Entry) → IsProp (IsEntry ss e)
-IsEntry-prop ss e = ×_prop (hlevel props) (AllThere-prop ss 0 (map node_item e.items.items))
+pub IsEntry-prop : (ss : List Shape) (e : ClauseEntry) → IsProp (IsEntry ss e)
+IsEntry-prop ss e = hlevel (AllThere-prop ss 0 (map node_item e.items.items), props)
 
-pub AllEntries-prop : (ss : List Shape) (es : List Entry) → IsProp (AllEntries ss es)
+pub AllEntries-prop : (ss : List Shape) (es : List ClauseEntry) → IsProp (AllEntries ss es)
 AllEntries-prop ss [] = Unit-prop
 AllEntries-prop ss (e ∷ es) = ×_prop (IsEntry-prop ss e) (AllEntries-prop ss es)
 
-pub IsProgram-prop : (ss : List Shape) (query : Entry) (es : List Entry) (names : List Bytes) → IsProp (IsProgram ss query es names)
+pub IsProgram-prop : (ss : List Shape) (query : ClauseEntry) (es : List ClauseEntry) (names : List Bytes) → IsProp (IsProgram ss query es names)
 IsProgram-prop ss query es names = hlevel (AllFall-prop 0 ss, AllWithin-prop (length names) ss, AllEntries-prop ss es, IsEntry-prop ss query, props)

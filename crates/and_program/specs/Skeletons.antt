@@ -12,9 +12,10 @@ pub data Shape : Type 0 where
   number : ℤ → Shape
   compound : ℕ → List ℕ → Shape
 
-abbrev pub row : List Term → Terms
-row [] = Terms.none
-row (t ∷ ts) = Terms.more t (row ts)
+-- the terms of a list, as arguments
+abbrev pub term_list : List Term → Terms
+term_list [] = Terms.none
+term_list (t ∷ ts) = Terms.more t (term_list ts)
 
 -- the term of that number
 abbrev pub nth : List Term → ℕ → Term
@@ -24,9 +25,9 @@ nth ts n = get_or ts n (Terms.number (pos 0))
 abbrev pub shape_term : List Term → Shape → Term
 shape_term ts (variable k) = Terms.variable [] k
 shape_term ts (number z) = Terms.number z
-shape_term ts (compound c ns) = Terms.compound c (row (map (nth ts) ns))
+shape_term ts (compound c ns) = Terms.compound c (term_list (map (nth ts) ns))
 
--- the terms of nodes in a row, behind those of others
+-- the terms of a list of nodes, behind those of others
 abbrev pub terms_behind : List Term → List Shape → List Term
 terms_behind ts [] = ts
 terms_behind ts (s ∷ ss) = terms_behind (ts ++ shape_term ts s ∷ []) ss
@@ -55,7 +56,7 @@ pub record NodeClause : Type 0 where
   pub head : ℕ
   pub items : List NodeItem
 
--- Nodes in a row, and by them the query and then the clauses.
+-- A list of nodes, and by them the query and then the clauses.
 pub record Skeleton : Type 0 where
   pub nodes : List Shape
   pub clauses : List NodeClause

@@ -9,7 +9,7 @@ use and_model::{NodeNo, Text};
 
 /// A clause or the query.
 #[derive(Drop)]
-pub struct Entry {
+pub struct ClauseEntry {
     pub head: NodeNo,
     pub items: Vec<ItemNode>,
     /// The names of its variables as they were written, by their numbers.
@@ -25,9 +25,9 @@ pub struct Entry {
     ghost guarded: { guard ≡ guard_length (map node_item items.items) },
 }
 
-impl Entry {
+impl ClauseEntry {
     /// An entry of this head and these items, whose variables have these names. Takes no memory.
-    pub fn new(head: NodeNo, items: Vec<ItemNode>, variables: Vec<Text>, line: u32) -> Entry
+    pub fn new(head: NodeNo, items: Vec<ItemNode>, variables: Vec<Text>, line: u32) -> ClauseEntry
         requires few_variables { vec_len variables ≤ MAX_VARIABLES }
         requires few_items { vec_len items ≤ MAX_NODES + 1 }
         ensures head { result.head ≡ head }
@@ -37,7 +37,7 @@ impl Entry {
     {
         let weight = 1 + variables.len() as u32 + 2 * pair_count(&items);
         let guard = guard_count(&items);
-        Entry {
+        ClauseEntry {
             head,
             items,
             variables,

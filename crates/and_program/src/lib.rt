@@ -11,7 +11,7 @@ mod names;
 pub mod node;
 pub mod predicates;
 
-pub use entry::Entry;
+pub use entry::ClauseEntry;
 pub use item::ItemNode;
 pub use loaded::Loaded;
 pub use names::name_at;

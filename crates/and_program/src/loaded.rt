@@ -9,7 +9,7 @@ ghost use Rattle.and_program.specs.Predicates.{Finds};
 ghost use Rattle.and_program.specs.Shown.{truth, shown, count_of, shown_term, argument_of, clauses_with, resolved};
 ghost use Rattle.and_model.specs.declared.limits.TheConstants.{MAX_CLAUSES, MAX_NODES};
 
-use crate::entry::Entry;
+use crate::entry::ClauseEntry;
 use crate::item::ItemNode;
 use crate::names::name_at;
 use crate::node::{Node, NodeKind};
@@ -22,8 +22,8 @@ use indexmap::IndexSet;
 #[derive(Drop)]
 pub struct Loaded {
     nodes: Vec<Node>,
-    clauses: Vec<Entry>,
-    query: Entry,
+    clauses: Vec<ClauseEntry>,
+    query: ClauseEntry,
     names: IndexSet<Vec<u8>>,
     /// The clauses of each predicate.
     numbers: ClauseNumbers,
@@ -35,6 +35,7 @@ impl Loaded {
     ghost use Rattle.std.specs.Prelude.{[], ◌<◌, ◌≤◌, ◌+◌, ◌^◌, length, get_or, nat_eq};
     ghost use Rattle.std.specs.List.{list_any};
     ghost use Rattle.and_model.specs.Candidates.{guard};
+    ghost use Rattle.and_model.specs.OwnVariables.{HaveOwnVariables};
     ghost use Rattle.and_model.specs.Programs.{clause_at, clause_weight, is_of};
     ghost use Rattle.and_model.specs.Terms.{Terms, compound};
     ghost use Rattle.and_model.specs.Terms.{width};
@@ -46,8 +47,8 @@ impl Loaded {
     /// predicate. Takes no memory.
     pub fn new(
         nodes: Vec<Node>,
-        clauses: Vec<Entry>,
-        query: Entry,
+        clauses: Vec<ClauseEntry>,
+        query: ClauseEntry,
         names: IndexSet<Vec<u8>>,
         numbers: ClauseNumbers,
     ) -> Loaded
@@ -187,7 +188,7 @@ impl Loaded {
     /// its variable, and else at the node itself.
     pub fn resolve(&self, node: NodeNo, base: u32) -> Ref
         requires there { node.0 < length (skeleton_of self.now).nodes }
-        requires base { base + 256 < 2 ^ 22 + 256 }
+        requires base { base < 2 ^ 23 }
         ensures { result ≡ resolved (shape_at (skeleton_of self.now) node.0) node base }
     {
         match &self.nodes[node.0 as usize] {
@@ -197,16 +198,18 @@ impl Loaded {
         }
     }
 
-    /// The nodes and items have the terms of the program. Variables have numbers below 255, names
-    /// are there, and no name has more than 255 arguments.
+    /// The nodes and items have the terms of the program, whose clauses name their own variables
+    /// alone. Variables have numbers below 255, names are there, and no name has more than 255
+    /// arguments.
     pub fn skeleton_is_of_the_program(&self)
         ensures skeleton { IsSkeleton (skeleton_of self.now) (program_of self.now) }
+        ensures own_variables { HaveOwnVariables (program_of self.now) }
         ensures within { AllWithin (length (program_of self.now).names) (skeleton_of self.now).nodes }
         ensures few { length (skeleton_of self.now).nodes ≤ MAX_NODES + 1 }
     {}
 
     /// The clause of that number, or the query.
-    fn entry(&self, no: ClauseNo) -> &Entry
+    fn entry(&self, no: ClauseNo) -> &ClauseEntry
         requires { no.0 ≤ length (program_of self.now).clauses }
         ensures { result.now ≡ entry_at self.now no.0 }
     {

@@ -7,7 +7,7 @@ ghost use Rattle.and_program.specs.Predicates.{predicate_in, predicate_in_shape,
 ghost use Rattle.and_program.specs.declared.predicates.Predicate.{Predicate};
 ghost use Rattle.and_model.specs.declared.limits.TheConstants.{MAX_CLAUSES};
 
-use crate::entry::Entry;
+use crate::entry::ClauseEntry;
 use crate::node::Node;
 use and_model::{ClauseNo, NameNo, NodeNo};
 use std::alloc::{AllocError, Global};
@@ -91,7 +91,7 @@ fn note_clause(
 pub fn clause_numbers(
     alloc: Global,
     nodes: &[Node],
-    clauses: &[Entry],
+    clauses: &[ClauseEntry],
 ) -> Result<ClauseNumbers, AllocError>
     requires { length clauses.now ≤ MAX_CLAUSES }
     ensures { IfOk result (λ found. Finds found (map (entry_clause (shapes_of nodes.now)) clauses.now)) }

@@ -1,6 +1,6 @@
 use Rattle.std.proofs.Common.{ℕ, ◌∷◌, get_or, ◌∙◌, ap}
 use Rattle.and_program.specs.Skeletons.{node_term}
-use Rattle.and_program.specs.declared.entry.Entry.{Entry}
+use Rattle.and_program.specs.declared.entry.ClauseEntry.{ClauseEntry}
 use Rattle.and_program.specs.Nodes.{shapes_of, names_of}
 use Rattle.and_program.proofs.LoadedLemmas.{entry_there, query_head}
 use Rattle.and_program.proofs.loaded.Loaded.head.Goals as goal
@@ -14,5 +14,5 @@ pub returns-clause-query : goal.returns-clause-query
 returns-clause-query c = λ first.
     let l = c.args.self.now in
     let ss = shapes_of l.nodes.items in
-    let at : ℕ → Entry = λ n. get_or (l.query ∷ l.clauses.items) n l.query in
-    ap (λ (e : Entry). node_term ss e.head.0) (c.entry.ensures ∙ ap at first) ∙ ap (λ (n : ℕ). node_term ss n) l.kept.query_true ∙ query_head ss l.kept.begins
+    let at : ℕ → ClauseEntry = λ n. get_or (l.query ∷ l.clauses.items) n l.query in
+    ap (λ (e : ClauseEntry). node_term ss e.head.0) (c.entry.ensures ∙ ap at first) ∙ ap (λ (n : ℕ). node_term ss n) l.kept.query_true ∙ query_head ss l.kept.begins
