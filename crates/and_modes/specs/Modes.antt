@@ -1,9 +1,11 @@
 -- What is known of the arguments of a program's calls: whether they are ground, or integers (modes: Dembinski and Maluszynski, 1985; well-moded programs: Apt, 1997).
-use Rattle.std.specs.Prelude.{ℕ, suc, ◌≡◌, ◌<◌, ◌≤◌, ◌⊎◌, Bool, true, ◌&&◌, cond, List, [], ◌∷◌, length, take, get_or, nat_eq, leb, Contains}
+use Rattle.std.specs.Prelude.{ℕ, suc, ◌≡◌, ◌<◌, ◌≤◌, ◌⊎◌, Bool, true, ◌&&◌, cond, nat_eq, leb}
+use Rattle.std.specs.Prelude.{List, [], ◌∷◌, length, map, take, get_or, Contains}
+use Rattle.std.specs.List.{position_or_len}
 use Rattle.and_model.specs.Terms.{Path, Term, Terms, variable, number, compound, none, more, variables_of, variables_in}
 use Rattle.and_model.specs.Programs.{Program, Clause, Item, call, equal, arithmetic, fail, is, compare, clause_at}
 use Rattle.and_model.specs.Closure.{needs}
-use Rattle.and_model.specs.Lines.{has, place_of}
+use Rattle.and_model.specs.Lines.{has}
 use Rattle.and_modes.specs.declared.level.Level.{Level}
 use Rattle.and_modes.specs.declared.level.Level.TheVariants.{Any, Ground, Integer}
 use Rattle.and_modes.specs.declared.level.Side.{Side}
@@ -138,14 +140,14 @@ pub record Wait : Type 0 where
   pub item : ℕ
   pub variable : ℕ
 
--- the variables that an arithmetic goal waits for, from left to right; no other item waits
-abbrev pub waited_by : Item → List (Path × ℕ)
+-- the numbers of the variables that an arithmetic goal waits for, from left to right; no other item waits
+abbrev pub waited_by : Item → List ℕ
 waited_by (call g) = []
 waited_by (equal a b) = []
-waited_by (arithmetic a) = variables_in (needs a)
+waited_by (arithmetic a) = map (λ (v : Path × ℕ). v.1) (variables_in (needs a))
 waited_by fail = []
 
-abbrev pub waited_at : Program → (clause item : ℕ) → List (Path × ℕ)
+abbrev pub waited_at : Program → (clause item : ℕ) → List ℕ
 waited_at P c i = waited_by (get_or (clause_at P c).body i fail)
 
 -- the environment before an item of a clause
@@ -154,11 +156,16 @@ before_item P m c i = after_items m (at_entry m (clause_at P c)) (take i (clause
 
 -- An arithmetic goal waits for the variable, whose level before the goal is the lowest.
 abbrev pub WaitsFor : Program → Assignment → Wait → Type 0
-WaitsFor P m w = (w.clause ≤ length P.clauses) × (has ([], w.variable) (waited_at P w.clause w.item) ≡ true) × (before_item P m w.clause w.item w.variable ≡ Any)
+WaitsFor P m w =
+    (w.clause ≤ length P.clauses) × Contains (waited_at P w.clause w.item) w.variable × (before_item P m w.clause w.item w.variable ≡ Any)
 
 -- the number of a clause, and for the query one above all
 abbrev pub query_last : Program → ℕ → ℕ
 query_last P c = cond (nat_eq c 0) (suc (length P.clauses)) c
+
+-- how many variables stand before the first occurrence of that one, where a goal waits
+abbrev pub place_waited : Program → Wait → ℕ
+place_waited P w = position_or_len (nat_eq w.variable) (waited_at P w.clause w.item)
 
 -- The one is earlier in the text than the other: by the clause's line, on one line by its number with the query last, then by the item, then from left to right.
 abbrev pub IsEarlier : Program → Wait → Wait → Type 0
@@ -166,7 +173,7 @@ IsEarlier P w v =
     ((clause_at P w.clause).line < (clause_at P v.clause).line)
     ⊎ (((clause_at P w.clause).line ≡ (clause_at P v.clause).line) × (query_last P w.clause < query_last P v.clause))
     ⊎ ((w.clause ≡ v.clause) × (w.item < v.item))
-    ⊎ ((w.clause ≡ v.clause) × (w.item ≡ v.item) × (place_of ([], w.variable) (waited_at P w.clause w.item) < place_of ([], v.variable) (waited_at P w.clause w.item)))
+    ⊎ ((w.clause ≡ v.clause) × (w.item ≡ v.item) × (place_waited P w < place_waited P v))
 
 -- nothing waits
 abbrev pub IsSafe : Program → Assignment → Type 0

@@ -1,0 +1,4 @@
+pub mod Meeting
+pub mod Calling
+pub mod WholeTrees
+pub mod Soundness

@@ -1,0 +1,10 @@
+pub mod Walking
+pub mod Raising
+pub mod Rising
+pub mod Asking
+pub mod Heights
+pub mod Looking
+pub mod Knowing
+pub mod Lowering
+pub mod Firsts
+pub mod Telling
