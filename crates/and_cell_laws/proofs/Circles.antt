@@ -10,14 +10,14 @@ use Rattle.and_model.specs.declared.numbers.NodeNo.{NodeNo}
 use Rattle.and_model.specs.declared.reference.Ref.{Ref}
 use Rattle.and_model.specs.declared.reference.Ref.TheVariants.{Cell, Node}
 use Rattle.and_program.specs.Skeletons
-use Rattle.and_program.specs.Skeletons.{Shape, row, nth, node_term, shape_term, terms_behind}
+use Rattle.and_program.specs.Skeletons.{Shape, term_list, nth, node_term, shape_term, terms_behind}
 use Rattle.and_program.proofs.NodeTerms.{node_term_at}
 use Rattle.and_cells.specs.Ranges.{NamedProgram, IsInRange, IsNoVariable, CanHold}
 use Rattle.and_cells.specs.Rows.{IsSound, plain}
 use Rattle.and_cells.specs.Seen.{word_at, IsSetTo, LeadsTo, here, onward}
 use Rattle.and_cells.specs.Meaning
 use Rattle.and_cells.specs.Meaning.{Holds, IsCircle, shallow_cells, equations_of}
-use Rattle.and_laws.proofs.Occurrences.{size}
+use Rattle.and_laws.specs.Sizes.{size}
 use Rattle.and_laws.proofs.Ordered.{contains_first, contains_cases, contains_none}
 use Rattle.and_cells.specs.Joined.{value}
 use Rattle.and_cell_laws.proofs.Joining.{size_of}
@@ -48,7 +48,7 @@ image_is_smaller : (s : Substitution) (ts : List Term) (shape : Shape) (v : Path
     → size (s v.0 v.1) < size (apply s (shape_term ts shape))
 image_is_smaller s ts (Skeletons.variable k) v no_variable h = absurd (no_variable k refl)
 image_is_smaller s ts (Skeletons.number z) v no_variable h = absurd (contains_none v h)
-image_is_smaller s ts (Skeletons.compound c ns) v no_variable h = omega (arith, images_no_larger s (row (map (nth ts) ns)) v h)
+image_is_smaller s ts (Skeletons.compound c ns) v no_variable h = omega (arith, images_no_larger s (term_list (map (nth ts) ns)) v h)
 
 -- a node that is no variable has a term that is none
 pub shape_is_no_variable : (P : NamedProgram) (node : ℕ) → IsNoVariable P node → node < length P.skeleton.nodes → (k : ℕ) → get_or P.skeleton.nodes node (Skeletons.number (pos 0)) ≡ Skeletons.variable k → ⊥

@@ -3,7 +3,7 @@ use Rattle.std.proofs.Common.{ℕ, ◌≡◌, ◌≤◌, List, [], ◌∷◌, ma
 use Rattle.std.specs.Prelude.{Contains}
 use Rattle.std.proofs.lemmas.List.Elements.{Contains-append_cases}
 use Rattle.and_model.specs.Terms.{Path, Term, Terms, Substitution, variable, number, compound, none, more, apply, apply_all, variables_of, variables_in}
-use Rattle.and_laws.proofs.Occurrences.{size, sizes}
+use Rattle.and_laws.specs.Sizes.{size, sizes}
 use Rattle.and_laws.proofs.Ordered.{contains_first, contains_more, contains_cases, contains_none}
 
 -- what is in a list is, mapped, in the mapped list,

@@ -7,7 +7,7 @@ use Rattle.and_model.specs.declared.reference.Ref.{Ref}
 use Rattle.and_program.specs.Skeletons.{AllFall}
 use Rattle.and_cells.specs.Ranges.{NamedProgram}
 use Rattle.and_cells.specs.Meaning.{Words}
-use Rattle.and_laws.proofs.Occurrences.{size, sizes}
+use Rattle.and_laws.specs.Sizes.{size, sizes}
 use Rattle.and_cells.specs.Parts.{parts_of}
 use Rattle.and_cells.specs.Joined.{Joined, link, same, back, then, AllJoined, none, more, AreMatched, value}
 use Rattle.and_cell_laws.proofs.Structures.{HaveValues, value_of_structure}

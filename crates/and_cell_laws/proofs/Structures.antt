@@ -9,7 +9,7 @@ use Rattle.and_model.specs.declared.numbers.NodeNo.{NodeNo}
 use Rattle.and_model.specs.declared.reference.Ref.{Ref}
 use Rattle.and_model.specs.declared.reference.Ref.TheVariants.{Node}
 use Rattle.and_program.specs.Skeletons
-use Rattle.and_program.specs.Skeletons.{Shape, row, nth, shape_term, terms_behind, node_term, AllFall}
+use Rattle.and_program.specs.Skeletons.{Shape, term_list, nth, shape_term, terms_behind, node_term, AllFall}
 use Rattle.and_program.specs.Loaded.{shape_at}
 use Rattle.and_program.specs.Shown.{arguments_in, resolved}
 use Rattle.and_program.proofs.NodeTerms.{length-terms_behind, node_term_whole}
@@ -62,7 +62,7 @@ HaveValues P w t (r ∷ rs) (Terms.more u us) = (value P w t r ≡ Some u) × Ha
 
 -- the arguments of a node have the values of their terms in the frame
 parts_have_values : (P : NamedProgram) (w : Words) (t : Substitution) (base : ℕ) (ns : List ℕ) → AllFall 0 P.skeleton.nodes
-    → HaveValues P w t (map (part_at P base) ns) (apply_all (in_frame t base) (row (map (nth (terms_behind [] P.skeleton.nodes)) ns)))
+    → HaveValues P w t (map (part_at P base) ns) (apply_all (in_frame t base) (term_list (map (nth (terms_behind [] P.skeleton.nodes)) ns)))
 parts_have_values P w t base [] fall = tt
 parts_have_values P w t base (n ∷ ns) fall = (value_of_part P w t base n fall, parts_have_values P w t base ns fall)
 
@@ -76,7 +76,7 @@ pub value_of_structure : (P : NamedProgram) (w : Words) (t : Substitution) (r : 
 value_of_structure P w t r name count fall s =
     let nodes : List Shape = P.skeleton.nodes in
     let shape : shape_at P.skeleton s.node.0 ≡ Skeletons.compound name s.arguments = shape_of_structure P r name count s in
-    let ts : Terms = row (map (nth (terms_behind [] nodes)) s.arguments) in
+    let ts : Terms = term_list (map (nth (terms_behind [] nodes)) s.arguments) in
     let us : Terms = apply_all (in_frame t s.base) ts in
     let term : node_term nodes s.node.0 ≡ Terms.compound name ts = node_term_shape nodes s.node.0 fall ∙ ap (shape_term (terms_behind [] nodes)) shape in
     let of_node : value P w t (Node s.node s.base) ≡ Some (Terms.compound name us) =

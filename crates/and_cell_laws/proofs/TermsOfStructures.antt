@@ -91,9 +91,9 @@ cells_of_part P row base n fall has =
     cells_of_resolved P row (terms_behind [] P.skeleton.nodes) (shape_at P.skeleton n) (record { 0 = n }) base (node_term_shape P.skeleton.nodes n fall) has
 
 -- A variable of a list of terms is one of one of them.
-variable_of_argument : (ts : List Term) (ns : List ℕ) (v : Path × ℕ) → Contains (variables_in (Skeletons.row (map (nth ts) ns))) v → (n : ℕ) × Contains ns n × Contains (variables_of (nth ts n)) v
+variable_of_argument : (ts : List Term) (ns : List ℕ) (v : Path × ℕ) → Contains (variables_in (Skeletons.term_list (map (nth ts) ns))) v → (n : ℕ) × Contains ns n × Contains (variables_of (nth ts n)) v
 variable_of_argument ts [] v h = absurd (contains_none v h)
-variable_of_argument ts (n ∷ ns) v h = elim (Contains-append_cases (variables_of (nth ts n)) (variables_in (Skeletons.row (map (nth ts) ns))) v h) [
+variable_of_argument ts (n ∷ ns) v h = elim (Contains-append_cases (variables_of (nth ts n)) (variables_in (Skeletons.term_list (map (nth ts) ns))) v h) [
   | inl i ↦ (n, contains_first n ns, i)
   | inr i ↦ let found = variable_of_argument ts ns v i in (found.0, contains_more n found.0 ns found.1, found.2)
 ]

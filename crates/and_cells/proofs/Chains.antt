@@ -1,17 +1,16 @@
 -- What steps on words change for cells in general, and chains of cells.
-use Rattle.std.proofs.Common.{ℕ, ℤ, suc, ◌≡◌, ◌≢◌, ◌+◌, ◌<◌, List, [], ◌∷◌, ◌++◌, false, refl, sym, ap, subst, ◌∙◌, inl, inr, arith, append_assoc, None, Some, ◌*◌, ◌/◌, ◌%◌, ◌^◌, FitsSigned, w64}
+use Rattle.std.proofs.Common.{ℕ, ℤ, suc, ◌≡◌, ◌≢◌, ◌+◌, ◌<◌, List, [], ◌∷◌, ◌++◌, false, refl, sym, ap, subst, ◌∙◌, inl, inr, arith, append_assoc, ◌*◌, ◌/◌, ◌%◌, ◌^◌, FitsSigned, w64}
 use Rattle.std.specs.Int.{cast_signed, cast_unsigned}
 use Rattle.std.proofs.lemmas.Int.{to_z-of_z}
-use Rattle.std.specs.Prelude.{All, Option}
-use Rattle.std.specs.Option.{MatchOption}
+use Rattle.std.specs.Prelude.{All}
 use Rattle.std.proofs.lemmas.List.Elements.{All-append, All-nil, All-cons}
 use Rattle.and_model.specs.Prefixes.{IsPrefix}
-use Rattle.and_model.specs.Store.{Known, word}
+use Rattle.and_model.specs.Store.{Known, Missed, word}
 use Rattle.and_model.specs.declared.reference.Ref.{Ref}
 use Rattle.and_model.specs.declared.reference.Ref.TheVariants.{Free, Cell, Node, Number, Half}
 use Rattle.and_cells.specs.Ranges.{NamedProgram, CanHold, IsInRange, IsInRangeOrHalf}
 use Rattle.and_cells.specs.Numbers.{number_of, high_half, low_half}
-use Rattle.and_cells.specs.Seen.{Seen, WritesNumber, IsAmong, Knows, IsKnownWritten, IsWrittenIfNumber, Gains, Adds, Finds, Misses, Sets, Fills, OnlyReads, Keeps, LeadsTo, here, onward}
+use Rattle.and_cells.specs.Seen.{Seen, WritesNumber, ReadsNumber, IsAmong, Knows, IsKnownWritten, IsWrittenIfNumber, Gains, Adds, Finds, JoinsAtMost, Misses, Sets, Fills, OnlyReads, Keeps, LeadsTo, here, onward}
 
 and_nothing : {X : Type 0} (xs : List X) → xs ≡ xs ++ []
 and_nothing [] = refl
@@ -63,20 +62,21 @@ finds_reads P place r old new f = by_list f.gains
     by_list (inl same) = with_list [] (same ∙ and_nothing old.known) (All-nil (λ (k : Known). k.is_own ≡ false))
     by_list (inr more) = with_list (k ∷ []) more (All-cons (λ (k : Known). k.is_own ≡ false) k [] refl (All-nil (λ (k : Known). k.is_own ≡ false)))
 
-pub misses_reads : (place : ℕ) (old new : Seen) → Misses place old new → OnlyReads old new
-misses_reads place old new m = record {
+-- at most a place joined the list, which begins as it was
+pub joins_prefix : (place : ℕ) (old new : List Missed) → JoinsAtMost place old new → IsPrefix old new
+joins_prefix place old new (inl same) = ([], same ∙ and_nothing old)
+joins_prefix place old new (inr more) = (word place ∷ [], more)
+
+pub misses_reads : (shared place : ℕ) (old new : Seen) → Misses shared place old new → OnlyReads old new
+misses_reads shared place old new m = record {
   keeps = same_knows old new m.told m.known;
   learnt = [];
   gains = m.known ∙ and_nothing old.known;
   none_own = All-nil (λ (k : Known). k.is_own ≡ false);
   words = m.words;
   told = m.told;
-  missed = by_row old.told m.missed;
+  missed = joins_prefix place old.missed new.missed m.missed;
 }
-  where
-    by_row : (t : Option (List Ref)) → MatchOption t (new.missed ≡ old.missed ++ word place ∷ []) (λ row. new.missed ≡ old.missed) → IsPrefix old.missed new.missed
-    by_row None gained = (word place ∷ [], gained)
-    by_row (Some row) same = ([], same ∙ and_nothing old.missed)
 
 pub leads_later : (old new : Seen) (from to : Ref) → ((p : ℕ) (q : Ref) → Knows old p q → Knows new p q) → LeadsTo old from to → LeadsTo new from to
 leads_later old new from end keeps (here r) = here r
@@ -163,19 +163,19 @@ writes_number_by P pair next value result one two high low old between new is_ne
     (subst (λ h. Fills P (suc pair) h low between new) is_low (subst (λ p. Fills P p two low between new) is_next second))
     holds fits
 
-keeps_by : (old new : Seen) → ((p : ℕ) (q : Ref) → Knows old p q → Knows new p q) → (k : Known) → Gains old.known new.known k → new.words ≡ old.words → new.missed ≡ old.missed → Keeps old new
+keeps_by : (old new : Seen) → ((p : ℕ) (q : Ref) → Knows old p q → Knows new p q) → (k : Known) → Gains old.known new.known k → new.words ≡ old.words → IsPrefix old.missed new.missed → Keeps old new
 keeps_by old new knows k gains words missed = record {
   knows = knows;
   known = elim gains [ inl same ↦ ([], same ∙ and_nothing old.known) | inr more ↦ (k ∷ [], more) ];
-  missed = ([], missed ∙ and_nothing old.missed);
+  missed = missed;
   words = words;
 }
 
 pub sets_keeps : (place : ℕ) (r : Ref) (old new : Seen) → Sets place r old new → Keeps old new
-sets_keeps place r old new s = keeps_by old new (λ p q known. (s.adds p q).1 (inl known)) _ s.gains s.words s.missed
+sets_keeps place r old new s = keeps_by old new (λ p q known. (s.adds p q).1 (inl known)) _ s.gains s.words (joins_prefix place old.missed new.missed s.missed)
 
 pub finds_keeps : (P : NamedProgram) (place : ℕ) (r : Ref) (old new : Seen) → Finds P place r old new → Keeps old new
-finds_keeps P place r old new f = keeps_by old new (λ p q known. (f.adds p q).1 (inl known)) _ f.gains f.words f.missed
+finds_keeps P place r old new f = keeps_by old new (λ p q known. (f.adds p q).1 (inl known)) _ f.gains f.words ([], f.missed ∙ and_nothing old.missed)
 
 pub keeps_more : (old mid new : Seen) → Keeps old mid → Keeps mid new → Keeps old new
 keeps_more old mid new a b = record {
@@ -200,3 +200,19 @@ writes_keeps P pair value result old new w =
 pub writes_known : (P : NamedProgram) (pair : ℕ) (value result : ℤ) (old new : Seen) → WritesNumber P pair value result old new → IsKnownWritten new pair
 writes_known P pair value result old new w =
     inl ((w.high, (w.knows pair w.high).1 (inr (inl (refl, refl)))), (w.low, (w.knows (suc pair) w.low).1 (inr (inr (refl, refl)))))
+
+-- two words that were found one after the other are those of a pair that was read
+pub reads_number : (P : NamedProgram) (pair next : ℕ) (result : ℤ) (high low : Ref) (old between new : Seen)
+    → next ≡ suc pair → Finds P pair high old between → Finds P next low between new → result ≡ number_of high low → ReadsNumber P pair result old new
+reads_number P pair next result high low old between new is_next first second holds = record {
+  high = high;
+  low = low;
+  high_known = (second.adds pair high).1 (inl ((first.adds pair high).1 (inr (refl, refl))));
+  low_known = (second.adds (suc pair) low).1 (inr (sym is_next, refl));
+  fits = (first.fits, subst (λ p. CanHold P old.words p low) is_next (subst (λ n. CanHold P n next low) first.words second.fits));
+  holds = holds;
+  only = λ p q knows. elim ((second.adds p q).0 knows) [
+    | inl before ↦ elim ((first.adds p q).0 before) [ inl known ↦ inl known | inr is ↦ inr (inl is.0) ]
+    | inr is ↦ inr (inr (is.0 ∙ is_next))
+  ];
+}

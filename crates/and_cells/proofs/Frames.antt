@@ -7,7 +7,7 @@ use Rattle.std.proofs.lemmas.List.Elements.{All-nil, All-cons, All-push, All-app
 use Rattle.std.proofs.lemmas.Option.{get_or_from_slice_get}
 use Rattle.and_model.specs.Terms
 use Rattle.and_model.specs.Terms.{Path, Term, variables_of, variables_in}
-use Rattle.and_program.specs.Skeletons.{Shape, variable, number, compound, row, nth, shape_term, terms_behind, node_term}
+use Rattle.and_program.specs.Skeletons.{Shape, variable, number, compound, term_list, nth, shape_term, terms_behind, node_term}
 use Rattle.and_program.specs.Kept.{IsWithin, AllWithin}
 use Rattle.and_program.specs.Loaded.{shape_at}
 use Rattle.and_cells.specs.Ranges.{NamedProgram, IsNodeInRange, IsNoVariable}
@@ -28,10 +28,10 @@ nth_small ts n all = elim (cases_lt n (length ts)) [
 ]
 
 -- so are the terms of arguments
-arguments_small : (ts : List Term) (ns : List ℕ) → All HasSmall ts → All IsSmall (variables_in (row (map (nth ts) ns)))
+arguments_small : (ts : List Term) (ns : List ℕ) → All HasSmall ts → All IsSmall (variables_in (term_list (map (nth ts) ns)))
 arguments_small ts [] all = All-nil IsSmall
 arguments_small ts (n ∷ ns) all =
-    let rest = variables_in (row (map (nth ts) ns)) in
+    let rest = variables_in (term_list (map (nth ts) ns)) in
     All-append IsSmall (variables_of (nth ts n)) rest (nth_small ts n all) (arguments_small ts ns all)
 
 -- and the term of a shape within bounds
@@ -52,7 +52,7 @@ node_small m ss n within = nth_small (terms_behind [] ss) n (terms_small m [] ss
 
 -- so a node that is there is in range of 256 words from its base on, for a program with few nodes.
 pub node_in_range : (P : NamedProgram) (m words n base : ℕ) → AllWithin m P.skeleton.nodes → length P.skeleton.nodes ≤ 524289
-    → n < length P.skeleton.nodes → base + 256 ≤ words → words ≤ 2 ^ 22 → IsNodeInRange P words n base
+    → n < length P.skeleton.nodes → base + 256 ≤ words → words ≤ 2 ^ 22 + 256 → IsNodeInRange P words n base
 node_in_range P m words n base within few there room short = record {
   there = there;
   nameable = omega arith;

@@ -4,6 +4,7 @@ use Rattle.std.proofs.lemmas.Bool.{cases_eq, cases_lt}
 use Rattle.std.proofs.lemmas.List.{get_or_append_left, get_or-append_right, get_or-set_same, get_or-set_other, length-append, length-replicate}
 use Rattle.std.proofs.Math.ListN.{length-set}
 use Rattle.std.proofs.lemmas.List.Elements.{All-weaker}
+use Rattle.and_model.specs.declared.limits.TheConstants.{MAX_WORDS}
 use Rattle.and_model.specs.Terms.{variables_of}
 use Rattle.and_program.specs.Skeletons.{node_term}
 use Rattle.and_model.specs.declared.reference.Ref.{Ref}
@@ -54,7 +55,7 @@ pub sound_set : (P : NamedProgram) (row : List Ref) (place : ℕ) (r : Ref) → 
 sound_set P row place r sound below free fits written = record {
   fits = λ p. subst (λ n. CanHold P n p (word_at (set row place r) p)) (sym (length-set row place r)) (fits_at p (cases_eq p place));
   written = λ p pair is. (set_stays row place pair r free (was p pair is (cases_eq p place)).0, set_stays row place (suc pair) r free (was p pair is (cases_eq p place)).1);
-  short = subst (λ n. n ≤ 2 ^ 22) (sym (length-set row place r)) sound.short;
+  short = subst (λ n. n ≤ MAX_WORDS) (sym (length-set row place r)) sound.short;
 }
   where
     fits_at : (p : ℕ) → (p ≡ place) ⊎ (p ≢ place) → CanHold P (length row) p (word_at (set row place r) p)
@@ -70,19 +71,21 @@ free_in zero p = refl
 free_in (suc n) zero = refl
 free_in (suc n) (suc p) = free_in n p
 
-nothing_there : (row : List Ref) (p : ℕ) → length row ≤ p → word_at row p ≡ Free
+-- beyond the end a word counts as free
+pub nothing_there : (row : List Ref) (p : ℕ) → length row ≤ p → word_at row p ≡ Free
 nothing_there [] p past = refl
 nothing_there (r ∷ row) zero past = absurd (omega arith)
 nothing_there (r ∷ row) (suc p) past = nothing_there row p (omega arith)
 
-word_in_front : (row : List Ref) (by p : ℕ) → word_at (row ++ replicate by Free) p ≡ word_at row p
+-- free words behind a row change no word
+pub word_in_front : (row : List Ref) (by p : ℕ) → word_at (row ++ replicate by Free) p ≡ word_at row p
 word_in_front row by p = by_place (cases_lt p (length row))
   where
     by_place : (p < length row) ⊎ (length row ≤ p) → word_at (row ++ replicate by Free) p ≡ word_at row p
     by_place (inl below) = get_or_append_left row (replicate by Free) Free p below
     by_place (inr past) = get_or-append_right row (replicate by Free) (length row) p Free refl past ∙ free_in by _ ∙ sym (nothing_there row p past)
 
-pub sound_extend : (P : NamedProgram) (row : List Ref) (by : ℕ) → IsSound P row → length row + by ≤ 2 ^ 22 → IsSound P (row ++ replicate by Free)
+pub sound_extend : (P : NamedProgram) (row : List Ref) (by : ℕ) → IsSound P row → length row + by ≤ 2 ^ 22 + 256 → IsSound P (row ++ replicate by Free)
 sound_extend P row by sound short =
     let long : length (row ++ replicate by Free) ≡ length row + by = length-append row (replicate by Free) ∙ ap (λ n. length row + n) (length-replicate by Free) in
     let same : (p : ℕ) → word_at (row ++ replicate by Free) p ≡ word_at row p = word_in_front row by in record {
@@ -91,7 +94,7 @@ sound_extend P row by sound short =
       short = omega arith;
     }
 
-pub sound_free : (P : NamedProgram) (n : ℕ) → n ≤ 2 ^ 22 → IsSound P (replicate n Free)
+pub sound_free : (P : NamedProgram) (n : ℕ) → n ≤ 2 ^ 22 + 256 → IsSound P (replicate n Free)
 sound_free P n short = record {
   fits = λ p. subst (λ w. CanHold P (length (replicate n Free)) p w) (sym (free_in n p)) tt;
   written = λ p pair is. absurd (let e = sym (free_in n p) ∙ is in cc);

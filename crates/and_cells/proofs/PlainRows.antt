@@ -20,12 +20,12 @@ ref_of_word (Cell cell) has =
     let e : (8 * cell + 1) % 8 ≡ 1 = omega arith in
     let f : (8 * cell + 1) / 8 ≡ cell = omega arith in rw (e, f) refl
 ref_of_word (Node node base) has =
-    let n : ℕ = 2 ^ 22 * node.0 + base in
+    let n : ℕ = 2 ^ 23 * node.0 + base in
     let e : (8 * n + 2) % 8 ≡ 2 = omega arith in
     let f : (8 * n + 2) / 8 ≡ n = omega arith in
-    let base_below : base < 2 ^ 22 = has.1 in
-    let g : n / 2 ^ 22 ≡ node.0 = omega arith in
-    let h : n % 2 ^ 22 ≡ base = omega arith in rw (e, f, g, h) refl
+    let base_below : base < 2 ^ 23 = has.1 in
+    let g : n / 2 ^ 23 ≡ node.0 = omega arith in
+    let h : n % 2 ^ 23 ≡ base = omega arith in rw (e, f, g, h) refl
 ref_of_word (Number pair) has =
     let e : (8 * pair + 3) % 8 ≡ 3 = omega arith in
     let f : (8 * pair + 3) / 8 ≡ pair = omega arith in rw (e, f) refl
@@ -55,7 +55,7 @@ pub words_extend : (ws : List ℕ) (by : ℕ) → AreWords ws → AreWords (ws +
 words_extend ws by are = All-append (λ w. HasWord (ref_of w) × (word_of (ref_of w) ≡ w)) ws (replicate by 0) are (words_free by)
 
 -- what is in range has a word, unless it is a half
-pub has_word : (P : NamedProgram) (words : ℕ) (r : Ref) → words ≤ 2 ^ 22 → IsInRange P words r → HasWord r
+pub has_word : (P : NamedProgram) (words : ℕ) (r : Ref) → words ≤ 2 ^ 22 + 256 → IsInRange P words r → HasWord r
 has_word P words Free short fits = elim fits [ ]
 has_word P words (Cell cell) short fits = omega arith
 has_word P words (Node node base) short fits = (fits.0.nameable, fits.0.base_below)
@@ -97,7 +97,7 @@ plain_sets row place r below free is_set = record {
   gains = inl refl;
   words = length-set row place r;
   told = refl;
-  missed = refl;
+  missed = inl refl;
 }
   where
     forth : (p : ℕ) (q : Ref) → (p ≡ place) ⊎ (p ≢ place) → Knows (plain (set row place r)) p q → Knows (plain row) p q ⊎ ((p ≡ place) × (q ≡ r))
@@ -130,10 +130,10 @@ plain_reads row = record {
 }
 
 -- what plain cells keep, where they are made, grow and are set
-pub kept_free : (P : NamedProgram) (n : ℕ) → n ≤ 2 ^ 22 → AreWords (replicate n 0) × IsSound P (row_of (replicate n 0))
+pub kept_free : (P : NamedProgram) (n : ℕ) → n ≤ 2 ^ 22 + 256 → AreWords (replicate n 0) × IsSound P (row_of (replicate n 0))
 kept_free P n short = (words_free n, subst (IsSound P) (sym (row_replicate n)) (sound_free P n short))
 
-pub kept_extend : (P : NamedProgram) (ws : List ℕ) (by : ℕ) → AreWords ws × IsSound P (row_of ws) → length (row_of ws) + by ≤ 2 ^ 22
+pub kept_extend : (P : NamedProgram) (ws : List ℕ) (by : ℕ) → AreWords ws × IsSound P (row_of ws) → length (row_of ws) + by ≤ 2 ^ 22 + 256
     → AreWords (ws ++ replicate by 0) × IsSound P (row_of (ws ++ replicate by 0))
 kept_extend P ws by kept short = (words_extend ws by kept.0, subst (IsSound P) (sym (row_extend ws by)) (sound_extend P (row_of ws) by kept.1 short))
 
@@ -156,8 +156,9 @@ plain_reads_number P row pair next high low result sound is_next known is_high i
     let low_is : low ≡ word_at row (suc pair) = is_low ∙ ap (word_at row) is_next in record {
       high = high;
       low = low;
-      between = plain row;
-      first = plain_finds P row pair high is_high (λ e. both.0 (sym is_high ∙ e)) (subst (CanHold P (length row) pair) (sym is_high) (sound.fits pair));
-      second = plain_finds P row (suc pair) low low_is (λ e. both.1 (sym low_is ∙ e)) (subst (CanHold P (length row) (suc pair)) (sym low_is) (sound.fits (suc pair)));
+      high_known = (sym is_high, λ e. both.0 (sym is_high ∙ e));
+      low_known = (sym low_is, λ e. both.1 (sym low_is ∙ e));
+      fits = (subst (CanHold P (length row) pair) (sym is_high) (sound.fits pair), subst (CanHold P (length row) (suc pair)) (sym low_is) (sound.fits (suc pair)));
       holds = holds;
+      only = λ p q knows. inl knows;
     }

@@ -3,7 +3,6 @@ pub mod Numbers
 pub mod Seen
 pub mod Rows
 pub mod Meaning
-pub mod Late
 pub mod Parts
 pub mod Solved
 pub mod Known

@@ -1,6 +1,6 @@
 -- What contracts see in cells, and what one step on a word changes in it (this project's own).
 -- Cells may be a view of a row that others set words of at the same time: so they say what is known, and not what there is.
-use Rattle.std.specs.Prelude.{ℕ, suc, ◌≡◌, ◌≢◌, ◌↔◌, ◌⊎◌, true, false, List, [], ◌∷◌, ◌++◌, map, length, Option, Some, None, slice_index_or, slice_set, All, Contains, IfSome, MatchOption, ℤ}
+use Rattle.std.specs.Prelude.{ℕ, suc, ◌<◌, ◌≡◌, ◌≢◌, ◌↔◌, ◌⊎◌, true, false, List, [], ◌∷◌, ◌++◌, map, length, Option, Some, None, slice_index_or, slice_set, All, Contains, IfSome, ℤ}
 use Rattle.std.specs.Option.{option_map}
 use Rattle.and_model.specs.Prefixes.{IsPrefix}
 use Rattle.and_model.specs.Store.{Known, Missed, word, AreDistinct}
@@ -16,7 +16,7 @@ pub record Seen : Type 0 where
   pub told : Option (List Ref)
   -- the settings that were made or learnt, in that order
   pub known : List Known
-  -- what looks found free, where the row is not told
+  -- what looks found free of the words that others may set
   pub missed : List Missed
 
 -- the word at a place of a row
@@ -62,14 +62,20 @@ pub record Finds (P : NamedProgram) (place : ℕ) (r : Ref) (old new : Seen) : T
   pub told : new.told ≡ old.told
   pub missed : new.missed ≡ old.missed
 
--- A step found the word at this place free: it was not known to be set. Where the row is told, its word is free; else `missed` gains the place.
-pub record Misses (place : ℕ) (old new : Seen) : Type 0 where
+-- at most this place joins a list of what was found free
+abbrev pub JoinsAtMost : (place : ℕ) → (old new : List Missed) → Type 0
+JoinsAtMost place old new = (new ≡ old) ⊎ (new ≡ old ++ word place ∷ [])
+
+-- A step found the word at this place free: it was not known to be set, and where the row is told, its word is free.
+-- If others may set the word too (those below `shared`), the place stands in `missed` from now on.
+pub record Misses (shared place : ℕ) (old new : Seen) : Type 0 where
   pub not_known : (q : Ref) → Knows old place q → ⊥
   pub free : IfSome old.told (λ row. word_at row place ≡ Free)
   pub known : new.known ≡ old.known
   pub words : new.words ≡ old.words
   pub told : new.told ≡ old.told
-  pub missed : MatchOption old.told (new.missed ≡ old.missed ++ word place ∷ []) (λ row. new.missed ≡ old.missed)
+  pub missed : JoinsAtMost place old.missed new.missed
+  pub noted : place < shared → Contains new.missed (word place)
 
 -- A step found the word at this place free, and set it to r. Where the row is told, this word alone changes.
 pub record Sets (place : ℕ) (r : Ref) (old new : Seen) : Type 0 where
@@ -79,7 +85,7 @@ pub record Sets (place : ℕ) (r : Ref) (old new : Seen) : Type 0 where
   pub gains : Gains old.known new.known (record { setting = record { place = place; value = r }; is_own = true })
   pub words : new.words ≡ old.words
   pub told : new.told ≡ option_map (λ row. slice_set row place r) old.told
-  pub missed : new.missed ≡ old.missed
+  pub missed : JoinsAtMost place old.missed new.missed
 
 -- a step set the word at this place to that half of a number, or found it set: r is what the word is now
 abbrev pub Fills : NamedProgram → (place : ℕ) (half r : Ref) → (old new : Seen) → Type 0
@@ -99,14 +105,15 @@ pub record WritesNumber (P : NamedProgram) (pair : ℕ) (value result : ℤ) (ol
   pub words : new.words ≡ old.words
   pub knows : (place : ℕ) (r : Ref) → Knows new place r ↔ (Knows old place r ⊎ ((place ≡ pair) × (r ≡ high)) ⊎ ((place ≡ suc pair) × (r ≡ low)))
 
--- Both words of the pair were found set, and the result is the number that they hold.
+-- Both words of the pair were found set, and the result is the number that they hold. No other word became known.
 pub record ReadsNumber (P : NamedProgram) (pair : ℕ) (result : ℤ) (old new : Seen) : Type 0 where
   pub high : Ref
   pub low : Ref
-  pub between : Seen
-  pub first : Finds P pair high old between
-  pub second : Finds P (suc pair) low between new
+  pub high_known : Knows new pair high
+  pub low_known : Knows new (suc pair) low
+  pub fits : CanHold P old.words pair high × CanHold P old.words (suc pair) low
   pub holds : result ≡ number_of high low
+  pub only : (place : ℕ) (r : Ref) → Knows new place r → Knows old place r ⊎ (place ≡ pair) ⊎ (place ≡ suc pair)
 
 -- Whatever steps were made: what is known stays known, and the lists only grow at their ends.
 pub record Keeps (old new : Seen) : Type 0 where
@@ -131,18 +138,18 @@ pub data LeadsTo (s : Seen) : Ref → Ref → Type 0 where
   onward : (cell : ℕ) (r to : Ref) → Knows s cell r → LeadsTo s r to → LeadsTo s (Cell cell) to
 
 -- The last look of these steps found the cell free.
-pub record FoundFree (cell : ℕ) (old new : Seen) : Type 0 where
+pub record FoundFree (shared cell : ℕ) (old new : Seen) : Type 0 where
   pub before : Seen
   pub reads : OnlyReads old before
-  pub misses : Misses cell before new
+  pub misses : Misses shared cell before new
 
 -- Where a chain ends: at a node, a number, a cell that the last look found free, or a half.
-abbrev pub EndsAt : Ref → (old new : Seen) → Type 0
-EndsAt Free old new = ⊥
-EndsAt (Cell cell) old new = FoundFree cell old new
-EndsAt (Node node base) old new = Unit {0}
-EndsAt (Number pair) old new = Unit {0}
-EndsAt (Half bits) old new = Unit {0}
+abbrev pub EndsAt : (shared : ℕ) → Ref → (old new : Seen) → Type 0
+EndsAt shared Free old new = ⊥
+EndsAt shared (Cell cell) old new = FoundFree shared cell old new
+EndsAt shared (Node node base) old new = Unit {0}
+EndsAt shared (Number pair) old new = Unit {0}
+EndsAt shared (Half bits) old new = Unit {0}
 
 -- What holds of whatever is seen in cells: nothing is known twice, and a row that is told is whole and has what is known.
 pub record IsCoherent (s : Seen) : Type 0 where

@@ -27,6 +27,10 @@ pub trait Cells {
     /// Which row it is over.
     ghost over: { Self → Row };
 
+    /// How many words of a row, from its beginning on, others may set too: at the same time, or before
+    /// what was done with these cells is done again. What looks find free there is noted.
+    ghost shared: { Row → ℕ };
+
     /// The program that the row is for.
     ghost program: { NamedProgram };
 
@@ -34,13 +38,18 @@ pub trait Cells {
     /// and what was found free.
     ghost seen: { Self → Seen };
 
+    /// What more holds of such cells after some calls than before. An implementation names what its
+    /// callers are to know of it after code that knows only this trait has worked on it.
+    ghost Grew: { Self → Self → Type 0 };
+
     /// What the word of a cell is.
     fn look(&mut self, cell: u32) -> Ref
         requires { cell < (seen self.old).words }
         ensures over { over self.new ≡ over self.old }
+        ensures grew { Grew self.old self.new }
         ensures only_reads { OnlyReads (seen self.old) (seen self.new) }
         ensures found { result ≢ Ref.Free → Finds program cell result (seen self.old) (seen self.new) }
-        ensures free { result ≡ Ref.Free → Misses cell (seen self.old) (seen self.new) };
+        ensures free { result ≡ Ref.Free → Misses (shared (over self.old)) cell (seen self.old) (seen self.new) };
 
     /// Sets the word of a cell, if it is free.
     fn bind(&mut self, cell: u32, to: Ref) -> Bound
@@ -49,6 +58,7 @@ pub trait Cells {
         requires falls { (other : ℕ) → to ≡ Ref.Cell other → other < cell }
         requires written { IsWrittenIfNumber (seen self.old) to }
         ensures over { over self.new ≡ over self.old }
+        ensures grew { Grew self.old self.new }
         ensures keeps { Keeps (seen self.old) (seen self.new) }
         ensures won { result ≡ Bound.Won → Sets cell to (seen self.old) (seen self.new) }
         ensures already { (r : Ref) → result ≡ Bound.Already r → Finds program cell r (seen self.old) (seen self.new) };
@@ -58,6 +68,7 @@ pub trait Cells {
     fn write_number(&mut self, pair: u32, value: i64) -> i64
         requires { IsPairInRange (seen self.old).words pair }
         ensures over { over self.new ≡ over self.old }
+        ensures grew { Grew self.old self.new }
         ensures keeps { Keeps (seen self.old) (seen self.new) }
         ensures known { IsKnownWritten (seen self.new) pair }
         ensures written { WritesNumber program pair value result (seen self.old) (seen self.new) };
@@ -67,9 +78,16 @@ pub trait Cells {
         requires pair { IsPairInRange (seen self.old).words pair }
         requires written { IsKnownWritten (seen self.old) pair }
         ensures over { over self.new ≡ over self.old }
+        ensures grew { Grew self.old self.new }
         ensures only_reads { OnlyReads (seen self.old) (seen self.new) }
         ensures read { ReadsNumber program pair result (seen self.old) (seen self.new) };
 
     /// Nothing is known twice, and a row that is told is whole.
     ghost coherent: { (cells : Self) → IsCoherent (seen cells) };
+
+    /// No call is made.
+    ghost grew_nothing: { (cells : Self) → Grew cells cells };
+
+    /// Calls are made one after another.
+    ghost grew_on: { (a b c : Self) → Grew a b → Grew b c → Grew a c };
 }

@@ -13,9 +13,10 @@ pub fn deref<C: Cells>(cells: &mut C, from: Ref) -> Ref
     requires in_range { IsInRange C.program (C.seen cells.old).words from }
     requires written { IsWrittenIfNumber (C.seen cells.old) from }
     ensures over { C.over cells.new ≡ C.over cells.old }
+    ensures grew { C.Grew cells.old cells.new }
     ensures reads { OnlyReads (C.seen cells.old) (C.seen cells.new) }
     ensures leads { LeadsTo (C.seen cells.new) from result }
-    ensures ends { EndsAt result (C.seen cells.old) (C.seen cells.new) }
+    ensures ends { EndsAt (C.shared (C.over cells.old)) result (C.seen cells.old) (C.seen cells.new) }
     ensures in_range { IsInRangeOrHalf C.program (C.seen cells.old).words result }
     ensures written { IsWrittenIfNumber (C.seen cells.new) result }
 {

@@ -3,11 +3,10 @@
 
 pub mod cells;
 pub mod chain;
-#[cfg(test)]
-mod late;
 pub mod laws;
+pub mod loose;
 pub mod naming;
-mod number;
+pub mod number;
 pub mod plain;
 #[cfg(test)]
 mod tests;
@@ -17,6 +16,8 @@ ghost use Rattle.and_cells.specs.Meaning.{IsSettled, equations_of};
 
 pub use cells::{Bound, Cells};
 pub use chain::deref;
-pub use laws::one_term_of_a_reference;
+pub use laws::{one_term_of_a_reference, what_was_set_is_taken_back};
+pub use loose::LooseCells;
 pub use naming::Naming;
+pub use number::{halves, joined};
 pub use plain::PlainCells;

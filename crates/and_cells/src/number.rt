@@ -21,15 +21,16 @@ fn bits_of_word(word: Ref) -> u64
     }
 }
 
-/// The number that two words hold, the high one first.
-pub(crate) fn joined(high: Ref, low: Ref) -> i64
+/// The number that two words hold, the high one first; a word that is no half counts as 0. Takes no
+/// memory.
+pub fn joined(high: Ref, low: Ref) -> i64
     ensures { result ≡ number_of high low }
 {
     (HALVES * bits_of_word(high) + bits_of_word(low)).cast_signed()
 }
 
-/// The two words that hold a number.
-pub(crate) fn halves(value: i64) -> (Ref, Ref)
+/// The two words that hold a number, the high one first. Takes no memory.
+pub fn halves(value: i64) -> (Ref, Ref)
     ensures high { result.0 ≡ high_half value }
     ensures low { result.1 ≡ low_half value }
     ensures kept { HasWord result.0 × HasWord result.1 }

@@ -7,7 +7,7 @@ ghost use Rattle.and_model.specs.Words.{HasWord};
 ghost use Rattle.and_cells.specs.Ranges.{CanHold, IsPairInRange};
 ghost use Rattle.and_cells.specs.Seen.{word_at};
 ghost use Rattle.and_cells.specs.Numbers.{number_of};
-ghost use Rattle.and_cells.specs.Rows.{IsSound, AreWords, row_of};
+ghost use Rattle.and_cells.specs.Rows.{IsSound, AreWords, row_of, taken_back, all_set};
 ghost use Rattle.and_model.specs.declared.limits.TheConstants.{MAX_WORDS};
 
 use crate::cells::{Bound, Cells};
@@ -37,10 +37,23 @@ impl<N: Naming> Model for PlainCells<N> {
     ghost invariant = { λ cells. AreWords cells.words.items × IsSound N.program (row_of cells.words.items) };
 }
 
-pub(crate) fn is_unset(word: Ref) -> bool
+/// Whether a word is free. Takes no memory.
+pub fn is_unset(word: Ref) -> bool
     ensures { IsTrue result ↔ (word ≡ Ref.Free) }
 {
     matches!(word, Ref::Free)
+}
+
+/// Makes the words of these cells free, as far as they are there.
+fn set_free(words: &mut Vec<u64>, cells: &[u32])
+    ensures { words.new.items ≡ all_set 0 cells.now words.old.items }
+{
+    for cell in cells {
+        let cell = *cell as usize;
+        if cell < words.len() {
+            words[cell] = Ref::Free.to_word();
+        }
+    }
 }
 
 impl<N: Naming> PlainCells<N> {
@@ -57,7 +70,7 @@ impl<N: Naming> PlainCells<N> {
     }
 
     /// The row that is kept in these words. Takes no memory.
-    pub fn of_words(words: Vec<u64>) -> PlainCells<N>
+    pub(crate) fn of_words(words: Vec<u64>) -> PlainCells<N>
         requires words { AreWords words.items }
         requires sound { IsSound N.program (row_of words.items) }
         ensures { result ≡ row_of words.items }
@@ -87,6 +100,16 @@ impl<N: Naming> PlainCells<N> {
         Ok(())
     }
 
+    /// Sets these cells free and cuts the row off behind so many words, so that it is what it was before
+    /// they were set and more words were put behind. Cells behind the cut may be named too. Takes no memory.
+    pub fn take_back(&mut self, cells: &[u32], words: u32)
+        requires { IsSound N.program (taken_back self.old cells.now words) }
+        ensures { self.new ≡ taken_back self.old cells.now words }
+    {
+        self.words.truncate(words as usize);
+        set_free(&mut self.words, cells);
+    }
+
     /// Another row of the same words, on the same allocator. An error is want of memory.
     pub fn copy(&self) -> Result<PlainCells<N>, AllocError>
         ensures { IfOk result (λ cells. cells ≡ self.now) }
@@ -102,6 +125,7 @@ impl<N: Naming> PlainCells<N> {
     pub fn word(&self, place: u32) -> Ref
         requires { place < length self.now }
         ensures value { result ≡ word_at self.now place }
+        ensures named { HasWord result }
         ensures sound { IsSound N.program self.now }
     {
         match Ref::of_word(self.words[place as usize]) {
@@ -119,8 +143,8 @@ impl<N: Naming> PlainCells<N> {
         joined(self.word(pair), self.word(pair + 1))
     }
 
-    /// Sets the word at a place.
-    pub(crate) fn set(&mut self, place: u32, to: Ref)
+    /// Sets the word at a place, which is free. Takes no memory.
+    pub fn set(&mut self, place: u32, to: Ref)
         requires place { place < length self.old }
         requires kept { HasWord to }
         requires free { word_at self.old place ≡ Ref.Free }
@@ -132,8 +156,9 @@ impl<N: Naming> PlainCells<N> {
         self.words[place as usize] = to.to_word();
     }
 
-    /// Sets the word at a place to a half, if it is free, and answers what the word is then.
-    pub(crate) fn fill(&mut self, place: u32, half: Ref) -> Ref
+    /// Sets the word at a place to a half, if it is free, and answers what the word is then. Takes no
+    /// memory.
+    pub fn fill(&mut self, place: u32, half: Ref) -> Ref
         requires place { place < length self.old }
         requires half { HasWord half × (is_half half ≡ true) }
         ensures free { word_at self.old place ≡ Ref.Free
@@ -161,11 +186,19 @@ impl<N: Naming> Cells for PlainCells<N> {
 
     ghost over = { λ _. tt };
 
+    ghost shared = { λ _. 0 };
+
     ghost program = { N.program };
 
     ghost seen = { plain };
 
+    ghost Grew = { λ _ _. Unit {0} };
+
     ghost coherent = { Prim.search rules };
+
+    ghost grew_nothing = { λ _. tt };
+
+    ghost grew_on = { λ _ _ _ _ _. tt };
 
     fn look(&mut self, cell: u32) -> Ref {
         self.word(cell)

@@ -9,7 +9,7 @@ use Rattle.and_model.specs.declared.numbers.NodeNo.{NodeNo}
 use Rattle.and_model.specs.declared.reference.Ref.{Ref}
 use Rattle.and_model.specs.declared.reference.Ref.TheVariants.{Free, Cell, Node, Number, Half}
 use Rattle.and_program.specs.Skeletons
-use Rattle.and_program.specs.Skeletons.{Shape, row, nth, shape_term, terms_behind, node_term, Falls, IsFalling, AllFall}
+use Rattle.and_program.specs.Skeletons.{Shape, term_list, nth, shape_term, terms_behind, node_term, Falls, IsFalling, AllFall}
 use Rattle.and_program.specs.Loaded.{shape_at, arguments_at}
 use Rattle.and_program.specs.Shown.{arguments_in, resolved}
 use Rattle.and_program.proofs.NodeTerms.{AllFall-at, node_term_whole}
@@ -33,19 +33,19 @@ falls_below n [] m falls c = absurd (none_in m c)
 falls_below n (k ∷ ms) m falls c = elim (first_or_later ms k m c) [ inl e ↦ subst (λ (a : ℕ). a < n) e falls.0 | inr later ↦ falls_below n ms m falls.1 later ]
 
 -- a term of a list has its variables in the list
-row_has : (f : ℕ → Term) (ms : List ℕ) (m : ℕ) (v : Variable) → Contains ms m → Contains (variables_of (f m)) v → Contains (variables_in (row (map f ms))) v
-row_has f [] m v c in_part = absurd (none_in m c)
-row_has f (k ∷ ms) m v c in_part = elim (first_or_later ms k m c) [
-  | inl e ↦ Contains-append_left (variables_of (f k)) (variables_in (row (map f ms))) v (subst (λ (a : ℕ). Contains (variables_of (f a)) v) (sym e) in_part)
-  | inr later ↦ Contains-append_right (variables_of (f k)) (variables_in (row (map f ms))) v (row_has f ms m v later in_part)
+arguments_has : (f : ℕ → Term) (ms : List ℕ) (m : ℕ) (v : Variable) → Contains ms m → Contains (variables_of (f m)) v → Contains (variables_in (term_list (map f ms))) v
+arguments_has f [] m v c in_part = absurd (none_in m c)
+arguments_has f (k ∷ ms) m v c in_part = elim (first_or_later ms k m c) [
+  | inl e ↦ Contains-append_left (variables_of (f k)) (variables_in (term_list (map f ms))) v (subst (λ (a : ℕ). Contains (variables_of (f a)) v) (sym e) in_part)
+  | inr later ↦ Contains-append_right (variables_of (f k)) (variables_in (term_list (map f ms))) v (arguments_has f ms m v later in_part)
 ]
 
 -- and each variable of a list of terms is in one of them
-row_gives : (f : ℕ → Term) (ms : List ℕ) (v : Variable) → Contains (variables_in (row (map f ms))) v → (m : ℕ) × Contains ms m × Contains (variables_of (f m)) v
-row_gives f [] v c = absurd (none_in v c)
-row_gives f (k ∷ ms) v c = elim (Contains-append_cases (variables_of (f k)) (variables_in (row (map f ms))) v c) [
+arguments_gives : (f : ℕ → Term) (ms : List ℕ) (v : Variable) → Contains (variables_in (term_list (map f ms))) v → (m : ℕ) × Contains ms m × Contains (variables_of (f m)) v
+arguments_gives f [] v c = absurd (none_in v c)
+arguments_gives f (k ∷ ms) v c = elim (Contains-append_cases (variables_of (f k)) (variables_in (term_list (map f ms))) v c) [
   | inl first ↦ (k, first_in ms k k refl, first)
-  | inr later ↦ let w : (m : ℕ) × Contains ms m × Contains (variables_of (f m)) v = row_gives f ms v later in (w.0, later_in ms k w.0 w.1, w.2)
+  | inr later ↦ let w : (m : ℕ) × Contains ms m × Contains (variables_of (f m)) v = arguments_gives f ms v later in (w.0, later_in ms k w.0 w.1, w.2)
 ]
 
 module _ (ss : List Shape) (fall : AllFall 0 ss) where
@@ -71,7 +71,7 @@ module _ (ss : List Shape) (fall : AllFall 0 ss) where
   shape_has : (s : Shape) (m : ℕ) (v : Variable) → Contains (arguments_in s) m → Contains (variables_at ss m) v → Contains (variables_of (shape_term (terms_behind [] ss) s)) v
   shape_has (Skeletons.variable k) m v c in_part = absurd (none_in m c)
   shape_has (Skeletons.number z) m v c in_part = absurd (none_in m c)
-  shape_has (Skeletons.compound name ms) m v c in_part = row_has (nth (terms_behind [] ss)) ms m v c in_part
+  shape_has (Skeletons.compound name ms) m v c in_part = arguments_has (nth (terms_behind [] ss)) ms m v c in_part
 
   -- what an argument's variables are, the node's are
   pub has_variables : (n m : ℕ) (v : Variable) → n < length ss → Contains (arguments_in (get_or ss n (Skeletons.number (pos 0)))) m → Contains (variables_at ss m) v → Contains (variables_at ss n) v
@@ -81,7 +81,7 @@ module _ (ss : List Shape) (fall : AllFall 0 ss) where
   shape_gives : (s : Shape) (v : Variable) → ((k : ℕ) → s ≢ Skeletons.variable k) → Contains (variables_of (shape_term (terms_behind [] ss) s)) v → (m : ℕ) × Contains (arguments_in s) m × Contains (variables_at ss m) v
   shape_gives (Skeletons.variable k) v apart c = absurd (apart k refl)
   shape_gives (Skeletons.number z) v apart c = absurd (none_in v c)
-  shape_gives (Skeletons.compound name ms) v apart c = row_gives (nth (terms_behind [] ss)) ms v c
+  shape_gives (Skeletons.compound name ms) v apart c = arguments_gives (nth (terms_behind [] ss)) ms v c
 
   -- and each variable of a node that is none is an argument's
   pub gives_variables : (n : ℕ) (v : Variable) → n < length ss → ((k : ℕ) → get_or ss n (Skeletons.number (pos 0)) ≢ Skeletons.variable k) → Contains (variables_at ss n) v

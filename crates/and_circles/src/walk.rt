@@ -250,7 +250,7 @@ impl Walk {
     /// Opens a structure, and goes on to its parts.
     fn open_node(&mut self, loaded: &Loaded, node: NodeNo, base: u32) -> Result<(), AllocError>
         requires there { node.0 < length (skeleton_of loaded.now).nodes }
-        requires base { base < 2 ^ 22 }
+        requires base { base < 2 ^ 23 }
         ensures opens { OnOk result (Opens (Ref.Node node base) (parts_of (named loaded.now) (Ref.Node node base)) self.old self.new) }
         ensures stays { Stays self.old self.new }
     {

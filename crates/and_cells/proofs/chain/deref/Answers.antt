@@ -8,6 +8,7 @@ use Rattle.and_cells.proofs.chain.deref.Goals as goal
 pub loop-at-init : goal.loop-at-init
 loop-at-init g c = record {
   over = refl;
+  grew = g.met.C.Cells.grew_nothing c.args.cells.now;
   reads = reads_nothing (g.C.Cells.seen c.args.cells.now);
   leads = here c.args.from;
   in_range = or_half g.C.Cells.program (g.C.Cells.seen c.args.cells.now).words c.args.from c.requires.in_range;
@@ -25,6 +26,7 @@ loop-at-preserved g c =
     let knows = (finds.adds c.in-Cell.cell c.look.result).1 (inr (refl, refl)) in
     let below : c.in-Cell.cell < old.words = subst (IsInRangeOrHalf g.C.Cells.program old.words) c.in-Cell.is i.in_range in record {
       over = c.look.ensures.over ∙ i.over;
+      grew = g.met.C.Cells.grew_on c.args.cells.now c.loop-at.cells c.look.new.self i.grew c.look.ensures.grew;
       reads = reads_more old mid new i.reads reads;
       leads = leads_on new c.args.from c.in-Cell.cell c.look.result (leads_later mid new c.args.from (Cell c.in-Cell.cell) reads.keeps (subst (LeadsTo mid c.args.from) c.in-Cell.is i.leads)) knows;
       in_range = held_in_range g.C.Cells.program old.words c.in-Cell.cell c.look.result below finds.is_set (subst (λ n. CanHold g.C.Cells.program n c.in-Cell.cell c.look.result) i.reads.words finds.fits);

@@ -7,6 +7,7 @@ use Rattle.and_cells.proofs.chain.deref.Given as goal
 abbrev pub invariant-loop-at : goal.invariant-loop-at
 invariant-loop-at g l = record {
   over : g.C.Cells.over l.cells ≡ g.C.Cells.over l.initial.cells;
+  grew : g.C.Cells.Grew l.initial.cells l.cells;
   reads : OnlyReads (g.C.Cells.seen l.initial.cells) (g.C.Cells.seen l.cells);
   leads : LeadsTo (g.C.Cells.seen l.cells) l.fn.from l.at;
   in_range : IsInRangeOrHalf g.C.Cells.program (g.C.Cells.seen l.initial.cells).words l.at;
