@@ -1,0 +1,17 @@
+pub mod Pairwise
+pub mod Lists
+pub mod Journal
+pub mod Going
+pub mod Words
+pub mod Seats
+pub mod Quiet
+pub mod Setting
+pub mod More
+pub mod Frames
+pub mod Hanging
+pub mod Joining
+pub mod AtClose
+pub mod Opened
+pub mod Tables
+pub mod Grown
+pub mod Taken
