@@ -8,7 +8,7 @@ use Rattle.std.proofs.lemmas.Option.{get_or_from_slice_get}
 use Rattle.and_model.specs.Terms
 use Rattle.and_model.specs.Terms.{Path, Term, variables_of, variables_in}
 use Rattle.and_model.specs.declared.numbers.NodeNo.{NodeNo}
-use Rattle.and_program.specs.Skeletons.{Shape, NodeItem, variable, number, compound, call, equal, is, compare, fail, after, row, nth, shape_term, terms_behind, node_term, AllThere}
+use Rattle.and_program.specs.Skeletons.{Shape, NodeItem, variable, number, compound, call, equal, is, compare, fail, after, term_list, nth, shape_term, terms_behind, node_term, AllThere}
 use Rattle.and_program.specs.Kept.{IsWithin, AllWithin}
 use Rattle.and_program.specs.Loaded.{shape_at}
 use Rattle.and_program.specs.Shown.{resolved}

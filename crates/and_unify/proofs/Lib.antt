@@ -8,6 +8,7 @@ pub mod TurnClosed
 pub mod TurnSound
 pub mod TurnFollow
 pub mod TurnPlaces
+pub mod SettingLists
 pub mod TurnKept
 pub mod TurnStands
 pub mod TurnAnswers

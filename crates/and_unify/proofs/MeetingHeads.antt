@@ -11,9 +11,9 @@ use Rattle.and_model.specs.declared.reference.Ref.{Ref}
 use Rattle.and_model.specs.declared.reference.Ref.TheVariants as reference
 use Rattle.and_model.specs.Terms.{width}
 use Rattle.and_program.specs.Skeletons as skeletons
-use Rattle.and_program.specs.Skeletons.{Shape, row, nth, shape_term, terms_behind, node_term}
+use Rattle.and_program.specs.Skeletons.{Shape, term_list, nth, shape_term, terms_behind, node_term}
 use Rattle.and_program.proofs.NodeTerms.{node_term_at}
-use Rattle.and_program.proofs.PredicateLemmas.{width-row}
+use Rattle.and_program.proofs.PredicateLemmas.{width-term_list}
 use Rattle.and_cells.specs.Ranges.{NamedProgram}
 use Rattle.and_cells.specs.Numbers.{number_of}
 use Rattle.and_cells.specs.Seen.{Seen, Knows, ReadsNumber}
@@ -31,11 +31,9 @@ use Rattle.and_unify.specs.declared.heads.Head.TheVariants.{Number, Name}
 pub number_head : (P : NamedProgram) (pair : ℕ) (r : Ref) (value result : ℤ) (old new : Seen) → r ≡ reference.Number pair → value ≡ result → ReadsNumber P pair result old new
     → (w : Words) → HasKnown new w → shallow_term P w r ≡ Some (number value)
 number_head P pair r value result old new is same reads w has =
-    let high : Knows new pair reads.high = (reads.second.adds pair reads.high).1 (inl ((reads.first.adds pair reads.high).1 (inr (refl, refl)))) in
-    let low : Knows new (suc pair) reads.low = (reads.second.adds (suc pair) reads.low).1 (inr (refl, refl)) in
     ap (shallow_term P w) is
-    ∙ ap (λ h. Some (number (number_of h (w (suc pair))))) (has pair reads.high high)
-    ∙ ap (λ l. Some (number (number_of reads.high l))) (has (suc pair) reads.low low)
+    ∙ ap (λ h. Some (number (number_of h (w (suc pair))))) (has pair reads.high reads.high_known)
+    ∙ ap (λ l. Some (number (number_of reads.high l))) (has (suc pair) reads.low reads.low_known)
     ∙ ap (λ z. Some (number z)) (sym reads.holds ∙ sym same)
 
 -- what a reference begins with, it begins with later
@@ -57,7 +55,7 @@ structured : (P : NamedProgram) (w : Words) (r : Ref) (name count : ℕ) → IsS
 structured P w r name count is = record {
   arguments = apply_all s ts;
   term = ap (shallow_term P w) is.reference ∙ ap (λ t. Some (apply s t)) node;
-  counted = width_applied s ts ∙ width-row (map (nth front) is.arguments) ∙ length-map is.arguments (nth front) ∙ is.counted;
+  counted = width_applied s ts ∙ width-term_list (map (nth front) is.arguments) ∙ length-map is.arguments (nth front) ∙ is.counted;
 }
   where
     s : Substitution
@@ -67,7 +65,7 @@ structured P w r name count is = record {
     front = terms_behind [] (take is.node.0 P.skeleton.nodes)
 
     ts : Terms
-    ts = row (map (nth front) is.arguments)
+    ts = term_list (map (nth front) is.arguments)
 
     node : node_term P.skeleton.nodes is.node.0 ≡ compound name ts
     node =

@@ -1,6 +1,12 @@
 -- What becomes of a row to which pairs were bound: a most general solution of what it was and of the pairs, or none.
-use Rattle.std.proofs.Common.{ℕ, ◌≡◌, ◌≢◌, ◌<◌, ◌⊎◌, true, false, List, [], ◌++◌, sym, ◌∙◌, subst, inl, inr, arith}
-use Rattle.std.specs.Prelude.{Contains, All}
+use Rattle.std.proofs.Common.{ℕ, ◌≡◌, ◌≢◌, ◌<◌, ◌⊎◌, true, false, List, [], ◌++◌, refl, ap, sym, ◌∙◌, subst, inl, inr, arith}
+use Rattle.std.specs.Prelude.{Contains, All, length}
+use Rattle.and_model.specs.Store.{AreDistinct}
+use Rattle.and_model.specs.declared.reference.Ref.TheVariants.{Free}
+use Rattle.and_cells.proofs.Keeping.{free_or_set}
+use Rattle.and_cells.specs.Seen.{IsSetTo}
+use Rattle.and_unify.specs.Setting.{WasSet, Lists, HaveBeenSet}
+use Rattle.and_unify.specs.Places.{sides, IsPlace}
 use Rattle.std.proofs.lemmas.List.Elements.{All-weaker}
 use Rattle.and_model.specs.Terms.{Substitution}
 use Rattle.and_model.specs.Solutions.{Solves, Solvable}
@@ -26,13 +32,36 @@ use Rattle.and_unify.proofs.SettlingPlaces.{all_of}
 use Rattle.and_unify.proofs.SettlingSame.{Grows, same_half, solves_now, solves_new, solves_old, most_general_of}
 use Rattle.and_unify.proofs.SettlingTerms.{Binds, BoundEnd, bound_grows, all_terms}
 
--- The cells of a list that began empty are cells of the row.
-pub listed_in_row : (words now : ℕ) (start items : List ℕ) → start ≡ [] → now ≡ words → ((cell : ℕ) → Contains items cell → Contains start cell ⊎ (cell < words)) → All (λ (cell : ℕ). cell < now) items
-listed_in_row words now start items none same listed =
-    all_of (λ (cell : ℕ). cell < now) items (λ cell at. elim (listed cell at) [
-      | inl i ↦ absurd (contains_none cell (subst (λ (xs : List ℕ). Contains xs cell) none i))
-      | inr below ↦ omega arith
-    ])
+-- The list of what was set began empty, so all of it are cells of the row.
+pub listed_in_row : (old new : List Ref) (start items : List ℕ) → start ≡ [] → Keeps (plain old) (plain new) → Lists (plain old) (plain new) start items → All (λ (cell : ℕ). cell < length new) items
+listed_in_row old new start items none keeps l =
+    subst (All (λ (cell : ℕ). cell < length new)) (sym (l.listed ∙ ap (λ xs. xs ++ l.gained) none))
+    (All-weaker (WasSet (plain old) (plain new)) (λ (cell : ℕ). cell < length new) (λ cell was. subst (λ n. cell < n) (sym keeps.words) was.below) l.gained l.were_set)
+
+-- So the list has the cells that were free and are set now, each once, and no other word changed.
+pub have_been_set : (P : NamedProgram) (old new : List Ref) (pairs : List Pair) (start items : List ℕ) → start ≡ [] → Keeps (plain old) (plain new)
+    → ((place : ℕ) (r : Ref) → IsSetTo new place r → IsSetTo old place r ⊎ (Contains items place × IsPlace P (plain old) (sides pairs) r))
+    → Lists (plain old) (plain new) start items → HaveBeenSet old new items
+have_been_set P old new pairs start items none keeps made l =
+    let is : items ≡ l.gained = l.listed ∙ ap (λ xs. xs ++ l.gained) none in record {
+      once = subst AreDistinct (sym is) l.once;
+      in_row = subst (All (λ (cell : ℕ). cell < length old)) (sym is) (All-weaker (WasSet (plain old) (plain new)) (λ (cell : ℕ). cell < length old) (λ cell was. was.below) l.gained l.were_set);
+      were_free = subst (All (λ (cell : ℕ). word_at old cell ≡ Free)) (sym is) (All-weaker (WasSet (plain old) (plain new)) (λ (cell : ℕ). word_at old cell ≡ Free)
+          (λ cell was. elim (free_or_set (word_at old cell)) [ inl free ↦ free | inr set ↦ absurd (was.not_known (word_at old cell) (refl, set)) ]) l.gained l.were_set);
+      are_set = subst (All (λ (cell : ℕ). word_at new cell ≢ Free)) (sym is) (All-weaker (WasSet (plain old) (plain new)) (λ (cell : ℕ). word_at new cell ≢ Free)
+          (λ cell was. subst (λ r. r ≢ Free) (sym was.known.0) was.known.1) l.gained l.were_set);
+      words = keeps.words;
+      others = λ place out. elim (free_or_set (word_at new place)) [
+        | inl free ↦ elim (free_or_set (word_at old place)) [
+          | inl was ↦ free ∙ sym was
+          | inr set ↦ (keeps.knows place (word_at old place) (refl, set)).0
+        ]
+        | inr set ↦ elim (made place (word_at new place) (refl, set)) [
+          | inl before ↦ sym before.0
+          | inr on ↦ absurd (out on.0)
+        ]
+      ];
+    }
 
 -- What the sides name is no half now if it was none.
 no_half_now : (P : NamedProgram) (old new : List Ref) (pairs : List Pair) → Grows old new → NameNoHalf P (word_at old) pairs → NameNoHalf P (word_at new) pairs

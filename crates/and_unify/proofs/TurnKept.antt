@@ -24,6 +24,8 @@ use Rattle.and_unify.proofs.TurnAgree.{PairAgrees, agree_from_solves, solves_fro
 use Rattle.and_unify.proofs.TurnClosed.{Closed, Leaves, steps_keep, closed_steps, closed_reads, closed_renamed}
 use Rattle.and_unify.proofs.TurnSound.{Sound, step_adds, sound_steps, sound_reads, reads_back, step_learns, told_solved, steps_told, steps_untold}
 use Rattle.and_unify.proofs.TurnFollow.{follow_reads, follow_steps}
+use Rattle.and_unify.specs.Setting.{Lists}
+use Rattle.and_unify.proofs.SettingLists.{lists_later, lists_steps}
 use Rattle.and_unify.proofs.TurnPlaces.{IsFit, fit_later, fits_steps, place_leads, part_left, part_right}
 
 -- both sides of a pair are places of these roots
@@ -52,7 +54,7 @@ pub record Kept (P : NamedProgram) (first : Seen) (asked : List Pair) (began : L
   pub fits : (p : Pair) → Todo p → IsFit P first.words s p
   pub if_told : (row : List Ref) → first.told ≡ Some row → Told P first asked s Todo bound
   pub if_untold : first.told ≡ None → Untold P first asked s Todo
-  pub cells : (cell : ℕ) → Contains bound cell → Contains began cell ⊎ (cell < first.words)
+  pub lists : Lists first s began bound
 
 -- What solves the equations of pairs makes their sides agree, and the converse.
 pub pairs_agree_from_solves : (P : NamedProgram) (w : Words) (t : Substitution) (ps : List Pair) → Solves t (equations_of_pairs P w ps) → (p : Pair) → Contains ps p → PairAgrees P w t p
@@ -106,7 +108,7 @@ kept_reads P first asked began old new links Todo bound reads k = record {
   fits = λ p todo. fit_later P first.words old new p reads.keeps (k.fits p todo);
   if_told = λ row told. told_reads P first asked old new Todo bound reads (k.if_told row told);
   if_untold = λ told. untold_reads P first asked old new Todo reads (k.if_untold told);
-  cells = k.cells;
+  lists = lists_later first old new began bound reads.keeps k.lists;
 }
 
 -- The same where what is to do is stated otherwise.
@@ -128,7 +130,7 @@ kept_same P first asked began s links Todo Other bound to from k = record {
     sound = λ w has t a asks. let (now, todos) = i.sound w has t a asks in (now, λ p todo. todos p (from p todo));
     follow = i.follow;
   };
-  cells = k.cells;
+  lists = k.lists;
 }
 
 -- A step keeps the list of cells that were set, and adds cells of the row.
@@ -138,17 +140,6 @@ step_bounds P p old new links more_links list longer bound further (Turns.alike 
 step_bounds P p old new links more_links list longer bound further (sets own m e f g) cell at = subst (λ xs. Contains xs cell) (sym g) (Contains-append_left bound (own ∷ []) cell at)
 step_bounds P p old new links more_links list longer bound further (one_class one other m c e f g) cell at = subst (λ xs. Contains xs cell) (sym g) at
 step_bounds P p old new links more_links list longer bound further (joins one other m c f g) cell at = subst (λ xs. Contains xs cell) (sym g) at
-
--- what it adds is a cell of the row
-step_cells : (P : NamedProgram) (p : Pair) (old new : Seen) (links more_links : List (Ref × Ref)) (list longer : List Pair) (bound further : List ℕ)
-    → Steps P p old new links more_links list longer bound further → (cell : ℕ) → Contains further cell → Contains bound cell ⊎ (cell < old.words)
-step_cells P p old new links more_links list longer bound further (Turns.alike m e f g) cell at = inl (subst (λ xs. Contains xs cell) g at)
-step_cells P p old new links more_links list longer bound further (sets own m e f g) cell at = elim (Contains-push_cases bound own cell (subst (λ xs. Contains xs cell) g at)) [
-  | inl before ↦ inl before
-  | inr is ↦ inr (subst (λ n. n < old.words) is m.below)
-]
-step_cells P p old new links more_links list longer bound further (one_class one other m c e f g) cell at = inl (subst (λ xs. Contains xs cell) g at)
-step_cells P p old new links more_links list longer bound further (joins one other m c f g) cell at = inl (subst (λ xs. Contains xs cell) g at)
 
 -- What a step sets of a told row is on the list, and a place.
 told_sets : (P : NamedProgram) (p : Pair) (old new : Seen) (links more_links : List (Ref × Ref)) (list longer : List Pair) (bound further : List ℕ) (first : Seen) (asked : List Pair) (Todo : Pair → Type 0)
@@ -220,8 +211,5 @@ kept_steps P p old new links more_links list longer bound further first asked be
       fits = fits_steps P p old new links more_links list longer bound further Todo Later first.words fall k.keeps.words leaves steps k.fits;
       if_told = λ row told. told_steps P p old new links more_links list longer bound further first asked Todo Later fall leaves steps (k.if_told row told);
       if_untold = λ told. untold_steps P p old new links more_links list longer bound further first asked Todo Later fall leaves steps (k.if_untold told);
-      cells = λ cell at. elim (step_cells P p old new links more_links list longer bound further steps cell at) [
-        | inl before ↦ k.cells cell before
-        | inr below ↦ inr (subst (λ n. cell < n) k.keeps.words below)
-      ];
+      lists = lists_steps P p old new links more_links list longer bound further first began steps k.keeps.knows keep.knows k.keeps.words k.lists;
     }

@@ -9,7 +9,7 @@ use Rattle.and_model.specs.declared.numbers.NodeNo.{NodeNo}
 use Rattle.and_model.specs.declared.reference.Ref.{Ref}
 use Rattle.and_model.specs.declared.reference.Ref.TheVariants.{Free, Cell, Node, Number, Half}
 use Rattle.and_program.specs.Skeletons
-use Rattle.and_program.specs.Skeletons.{Shape, row, nth, node_term, shape_term, terms_behind, Falls, IsFalling, AllFall}
+use Rattle.and_program.specs.Skeletons.{Shape, term_list, nth, node_term, shape_term, terms_behind, Falls, IsFalling, AllFall}
 use Rattle.and_program.specs.Loaded.{shape_at, arguments_at}
 use Rattle.and_program.specs.Shown.{arguments_in, resolved}
 use Rattle.and_cells.specs.Ranges.{NamedProgram, IsInRange}
@@ -42,11 +42,11 @@ cells_of_part P base n fall =
     cells_of_resolved P (terms_behind [] P.skeleton.nodes) (shape_at P.skeleton n) (record { 0 = n }) base (node_term_shape P.skeleton.nodes n fall)
 
 -- the variables of an argument are among those of all
-variables_among : (ts : List Term) (ns : List ℕ) (n : ℕ) (v : Path × ℕ) → Contains ns n → Contains (variables_of (nth ts n)) v → Contains (variables_in (row (map (nth ts) ns))) v
+variables_among : (ts : List Term) (ns : List ℕ) (n : ℕ) (v : Path × ℕ) → Contains ns n → Contains (variables_of (nth ts n)) v → Contains (variables_in (term_list (map (nth ts) ns))) v
 variables_among ts [] n v h at = absurd (contains_none n h)
 variables_among ts (m ∷ ns) n v h at = elim (contains_cases m n ns h) [
-  | inl e ↦ Contains-append_left (variables_of (nth ts m)) (variables_in (row (map (nth ts) ns))) v (subst (λ x. Contains (variables_of (nth ts x)) v) e at)
-  | inr i ↦ Contains-append_right (variables_of (nth ts m)) (variables_in (row (map (nth ts) ns))) v (variables_among ts ns n v i at)
+  | inl e ↦ Contains-append_left (variables_of (nth ts m)) (variables_in (term_list (map (nth ts) ns))) v (subst (λ x. Contains (variables_of (nth ts x)) v) e at)
+  | inr i ↦ Contains-append_right (variables_of (nth ts m)) (variables_in (term_list (map (nth ts) ns))) v (variables_among ts ns n v i at)
 ]
 
 -- the same of a shape

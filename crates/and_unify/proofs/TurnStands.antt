@@ -19,6 +19,7 @@ use Rattle.and_unify.specs.Turns.{Steps, sets, one_class, joins, Stand, PicksOld
 use Rattle.and_unify.proofs.TurnClosed.{Leaves, steps_keep, closed_first}
 use Rattle.and_unify.proofs.TurnFollow.{follow_nothing}
 use Rattle.and_unify.proofs.TurnPlaces.{IsFit, place_later, place_leads, place_set, lefts_steps, distinct_push}
+use Rattle.and_unify.proofs.SettingLists.{lists_begun}
 use Rattle.and_unify.proofs.TurnKept.{Kept, kept_reads, kept_same, kept_steps}
 
 -- what is to do
@@ -250,7 +251,7 @@ stands_first P first asked fuel began range written =
           sound = λ w has t solves asks. (solves, λ p todo. asks p (from p todo));
           follow = follow_nothing P asked first;
         };
-        cells = λ cell at. inl at;
+        lists = lists_begun _ _;
       };
       paid = record {
         lefts = λ p at. root p.left (contains_image (λ (p : Pair). p.left) asked p at);

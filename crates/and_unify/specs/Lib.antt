@@ -7,3 +7,4 @@ pub mod Heads
 pub mod Meeting
 pub mod Classes
 pub mod Turns
+pub mod Setting

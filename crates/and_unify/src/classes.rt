@@ -108,23 +108,3 @@ fn link(parents: &mut IndexMap<Ref, Ref>, child: Ref, nearer: Ref) -> Result<(),
     linked?;
     Ok(())
 }
-
-#[cfg(test)]
-mod tests {
-    use super::Classes;
-    use and_model::Ref;
-    use std::test::Fail;
-
-    #[test]
-    fn each_pair_of_classes_is_joined_once(rt: HostRuntime) -> Result<(), Fail> {
-        let mut classes = Classes::new(rt.alloc());
-        assert!(rt; classes.join(Ref::Cell(1), Ref::Cell(2))?);
-        assert!(rt; classes.join(Ref::Cell(3), Ref::Number(4))?);
-        assert!(rt; !classes.join(Ref::Cell(2), Ref::Cell(1))?);
-        assert!(rt; classes.join(Ref::Cell(2), Ref::Number(4))?);
-        assert!(rt; !classes.join(Ref::Cell(1), Ref::Cell(3))?);
-        assert!(rt; !classes.join(Ref::Cell(5), Ref::Cell(5))?);
-        assert!(rt; classes.join(Ref::Cell(5), Ref::Cell(3))?);
-        Ok(())
-    }
-}

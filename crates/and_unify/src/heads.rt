@@ -27,6 +27,7 @@ pub(crate) fn head_of<C: Cells>(loaded: &Loaded, cells: &mut C, reference: Ref) 
     requires in_range { IsInRange C.program (C.seen cells.old).words reference }
     requires written { IsWrittenIfNumber (C.seen cells.old) reference }
     ensures over { C.over cells.new ≡ C.over cells.old }
+    ensures grew { C.Grew cells.old cells.new }
     ensures reads { OnlyReads (C.seen cells.old) (C.seen cells.new) }
     ensures head { HasHead C.program (C.seen cells.new) reference result }
 {

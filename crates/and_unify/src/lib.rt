@@ -12,5 +12,5 @@ pub mod unifying;
 
 pub use and_circles::{Circle, cycle};
 pub use pairs::{Pair, PairList};
-pub use settling::{Settled, settle, settle_further};
+pub use settling::{Settled, Solver, settle};
 pub use unifying::{Unified, unify};

@@ -60,6 +60,7 @@ pub(crate) fn meet<C: Cells>(loaded: &Loaded, cells: &mut C, left: Ref, right: R
     requires left_written { IsWrittenIfNumber (C.seen cells.old) left }
     requires right_written { IsWrittenIfNumber (C.seen cells.old) right }
     ensures over { C.over cells.new ≡ C.over cells.old }
+    ensures grew { C.Grew cells.old cells.new }
     ensures keeps { Keeps (C.seen cells.old) (C.seen cells.new) }
     ensures same { result ≡ Met.Same → MeetAlike C.program left right (C.seen cells.old) (C.seen cells.new) }
     ensures bound { (cell : ℕ) → result ≡ Met.Bound cell → MeetFree C.program left right cell (C.seen cells.old) (C.seen cells.new) }
@@ -87,6 +88,7 @@ fn try_both<C: Cells>(loaded: &Loaded, cells: &mut C, one: Ref, other: Ref) -> T
     requires one_written { IsWrittenIfNumber (C.seen cells.old) one }
     requires other_written { IsWrittenIfNumber (C.seen cells.old) other }
     ensures over { C.over cells.new ≡ C.over cells.old }
+    ensures grew { C.Grew cells.old cells.new }
     ensures keeps { Keeps (C.seen cells.old) (C.seen cells.new) }
     ensures same { result ≡ Tried.Done Met.Same → MeetAlike C.program one other (C.seen cells.old) (C.seen cells.new) }
     ensures bound { (cell : ℕ) → result ≡ Tried.Done (Met.Bound cell) → MeetFree C.program one other cell (C.seen cells.old) (C.seen cells.new) }
@@ -124,6 +126,7 @@ fn compare<C: Cells>(loaded: &Loaded, cells: &mut C, one: Ref, other: Ref) -> Me
     requires one_written { IsWrittenIfNumber (C.seen cells.old) one }
     requires other_written { IsWrittenIfNumber (C.seen cells.old) other }
     ensures over { C.over cells.new ≡ C.over cells.old }
+    ensures grew { C.Grew cells.old cells.new }
     ensures keeps { Keeps (C.seen cells.old) (C.seen cells.new) }
     ensures same { result ≡ Met.Same → MeetAlike C.program one other (C.seen cells.old) (C.seen cells.new) }
     ensures bound { (cell : ℕ) → result ≡ Met.Bound cell → ⊥ }

@@ -63,6 +63,13 @@ impl PairList {
         Ok(())
     }
 
+    /// Takes out all pairs. Takes no memory.
+    pub fn clear(&mut self)
+        ensures { self.new ≡ [] }
+    {
+        self.items.clear();
+    }
+
     /// Takes out the last pair, if there is one. Takes no memory.
     pub(crate) fn pop(&mut self) -> Option<Pair>
         ensures some { (pair : Pair) → result ≡ Some pair → self.old ≡ self.new ++ pair ∷ [] }

@@ -1,6 +1,6 @@
 //! Unification with the occurs check over plain cells.
 
-ghost use Rattle.std.specs.Prelude.{◌≡◌, ◌<◌, ℕ, length, true, false, IfOk, Ok, Contains, All};
+ghost use Rattle.std.specs.Prelude.{◌≡◌, ◌≢◌, ◌<◌, ℕ, [], length, true, false, IfOk, Ok, Contains, All};
 ghost use Rattle.and_model.specs.Store.{is_half};
 ghost use Rattle.and_model.specs.Terms.{Substitution};
 ghost use Rattle.and_model.specs.Solutions.{Solves, Solvable};
@@ -14,6 +14,7 @@ ghost use Rattle.and_cells.specs.Parts.{named};
 ghost use Rattle.and_cells.specs.Ends.{Ends};
 ghost use Rattle.and_circles.specs.Explored.{AreFinished};
 ghost use Rattle.and_unify.specs.Pairs.{AreInRange, AreWritten, NameNoHalf};
+ghost use Rattle.and_unify.specs.Setting.{HaveBeenSet};
 ghost use Rattle.and_unify.specs.Settling.{equations_with, AreNewFrom, Settles};
 ghost use Rattle.and_unify.specs.declared.pairs.Pair.{Pair};
 
@@ -24,6 +25,7 @@ use and_circles::{Explored, Explorer};
 use and_model::Ref;
 use and_program::Loaded;
 use std::alloc::{AllocError, Global};
+use std::marker::Model;
 
 /// What the equations of cells and pairs came to.
 #[derive(Clone, Copy, PartialEq, Eq, Debug)]
@@ -54,22 +56,78 @@ pub fn settle<N: Naming>(
     let floor = cells.len();
     laws_of_rows(loaded, cells);
     match given_ends(alloc, loaded, cells, pairs) {
-        Ok(true) => settle_further(alloc, loaded, cells, floor, pairs),
+        Ok(true) => Solver::new(alloc).settle_further(loaded, cells, floor, pairs),
         Ok(false) => Settled::NoSolution,
         Err(_) => Settled::Memory,
     }
 }
 
-/// The same over cells that are settled, where the words from `floor` on are new.
-///
-/// Explored are what the new bindings of cells below the floor lead to, and what the others lead to
-/// above the floor, and nothing else of the row. A place is not explored again for each that leads to it.
-pub fn settle_further<N: Naming>(
-    alloc: Global,
+/// Settles pairs over cells that are settled, and tells which cells it set. It is kept by its caller and
+/// used again, so that its lists take memory once. Contracts see the cells that the last call set.
+#[derive(Drop)]
+pub struct Solver {
+    bound: Vec<u32>,
+}
+
+impl Model for Solver {
+    ghost use Rattle.std.specs.Prelude.{List, ℕ};
+
+    ghost Value = { List ℕ };
+
+    ghost view = { λ solver. solver.bound.items };
+}
+
+impl Solver {
+    /// A solver that has set nothing yet. Takes no memory.
+    pub fn new(alloc: Global) -> Solver
+        ensures { result ≡ [] }
+    {
+        Solver {
+            bound: Vec::new(alloc),
+        }
+    }
+
+    /// The cells that the last call set, each once. Takes no memory.
+    pub fn bound(&self) -> &[u32]
+        ensures { result.now ≡ self.now }
+    {
+        &self.bound
+    }
+
+    /// The same as [`settle`] over cells that are settled, where the words from `floor` on are new.
+    ///
+    /// Explored are what the new bindings of cells below the floor lead to, and what the others lead
+    /// to above the floor, and nothing else of the row. A place is not explored again for each that
+    /// leads to it. Where the pairs have no solution, the cells that were set can be freed again.
+    pub fn settle_further<N: Naming>(
+        &mut self,
+        loaded: &Loaded,
+        cells: &mut PlainCells<N>,
+        floor: u32,
+        pairs: &mut PairList,
+    ) -> Settled
+        requires program { N.program ≡ named loaded.now }
+        requires in_range { AreInRange N.program (length cells.old) pairs.old }
+        requires written { AreWritten (plain cells.old) pairs.old }
+        requires settled { IsSettled N.program cells.old }
+        requires no_half { NameNoHalf N.program (word_at cells.old) pairs.old }
+        requires new { AreNewFrom N.program cells.old pairs.old floor }
+        ensures settles { Settles N.program cells.old cells.new pairs.old result }
+        ensures bound { result ≢ Settled.Memory → HaveBeenSet cells.old cells.new self.new }
+        ensures done { result ≡ Settled.Solved → pairs.new ≡ [] }
+    {
+        self.bound.clear();
+        settle_into(loaded, cells, floor, pairs, &mut self.bound)
+    }
+}
+
+/// The same, where the cells that are set here are put on a list.
+fn settle_into<N: Naming>(
     loaded: &Loaded,
     cells: &mut PlainCells<N>,
     floor: u32,
     pairs: &mut PairList,
+    bound: &mut Vec<u32>,
 ) -> Settled
     requires program { N.program ≡ named loaded.now }
     requires in_range { AreInRange N.program (length cells.old) pairs.old }
@@ -77,13 +135,16 @@ pub fn settle_further<N: Naming>(
     requires settled { IsSettled N.program cells.old }
     requires no_half { NameNoHalf N.program (word_at cells.old) pairs.old }
     requires new { AreNewFrom N.program cells.old pairs.old floor }
-    ensures { Settles N.program cells.old cells.new pairs.old result }
+    requires empty { bound.old.items ≡ [] }
+    ensures settles { Settles N.program cells.old cells.new pairs.old result }
+    ensures bound { result ≢ Settled.Memory → HaveBeenSet cells.old cells.new bound.new.items }
+    ensures done { result ≡ Settled.Solved → pairs.new ≡ [] }
 {
     laws_of_rows(loaded, cells);
-    let mut bound = Vec::new(alloc);
+    let alloc = *bound.allocator();
     let mut fuel = u64::MAX;
-    match solve(alloc, loaded, cells, &mut fuel, pairs, &mut bound) {
-        Unified::Same => judge(alloc, loaded, cells, floor, &bound),
+    match solve(alloc, loaded, cells, &mut fuel, pairs, bound) {
+        Unified::Same => judge(alloc, loaded, cells, floor, bound),
         Unified::Apart { .. } => Settled::NoSolution,
         // The pairs would have 2^64 places, for which there is no memory.
         Unified::PutOff => Settled::Memory,

@@ -52,6 +52,7 @@ pub(crate) fn step<C: Cells>(
     requires in_range { IsInRange C.program (C.seen cells.old).words pair.left × IsInRange C.program (C.seen cells.old).words pair.right }
     requires written { IsWrittenIfNumber (C.seen cells.old) pair.left × IsWrittenIfNumber (C.seen cells.old) pair.right }
     ensures over { C.over cells.new ≡ C.over cells.old }
+    ensures grew { C.Grew cells.old cells.new }
     ensures done { result ≡ Stepped.Done
         → Steps C.program pair (C.seen cells.old) (C.seen cells.new) classes.old classes.new list.old list.new bound.old.items bound.new.items }
     ensures apart { (one other : Ref) → result ≡ Stepped.Apart one other
@@ -159,7 +160,7 @@ fn argument_count(loaded: &Loaded, node: NodeNo) -> u8
 /// Where an argument of a structure is found.
 fn part(loaded: &Loaded, whole: Structure, place: u8) -> Ref
     requires there { whole.node.0 < length (skeleton_of loaded.now).nodes }
-    requires base { whole.base < 2 ^ 22 }
+    requires base { whole.base < 2 ^ 23 }
     requires place { place < length (arguments_at (skeleton_of loaded.now) whole.node.0) }
     ensures { slice_get (parts_of (named loaded.now) (Ref.Node whole.node whole.base)) place ≡ Some result }
 {

@@ -79,6 +79,7 @@ pub(crate) fn take_turn<C: Cells>(
     requires pairs { AreInRange C.program (C.seen cells.old).words pairs.old × AreWritten (C.seen cells.old) pairs.old }
     requires rights { AreInRange C.program (C.seen cells.old).words work.old.rights × AreWritten (C.seen cells.old) work.old.rights }
     ensures over { C.over cells.new ≡ C.over cells.old }
+    ensures grew { C.Grew cells.old cells.new }
     ensures again { result ≡ Turn.Again
         → Turns C.program (stand (C.seen cells.old) pairs.old work.old fuel.old) (stand (C.seen cells.new) pairs.new work.new fuel.new) bound.old.items bound.new.items }
     ensures lighter { result ≡ Turn.Again
@@ -125,6 +126,7 @@ fn after(stepped: Stepped) -> Turn
 fn pick_next<C: Cells>(cells: &mut C, fuel: &mut u64, pairs: &mut PairList, work: &mut Work) -> Pick
     requires pairs { AreInRange C.program (C.seen cells.old).words pairs.old × AreWritten (C.seen cells.old) pairs.old }
     ensures over { C.over cells.new ≡ C.over cells.old }
+    ensures grew { C.Grew cells.old cells.new }
     ensures reads { OnlyReads (C.seen cells.old) (C.seen cells.new) }
     ensures old_pair { (p : Pair) → result ≡ Pick.Old p
         → PicksOld p (stand (C.seen cells.old) pairs.old work.old fuel.old) (stand (C.seen cells.new) pairs.new work.new fuel.new) }

@@ -7,6 +7,7 @@ ghost use Rattle.and_cells.specs.Seen.{Keeps, Knows};
 ghost use Rattle.and_cells.specs.Parts.{named};
 ghost use Rattle.and_unify.specs.Pairs.{AreInRange, AreWritten};
 ghost use Rattle.and_unify.specs.Places.{sides, IsPlace};
+ghost use Rattle.and_unify.specs.Setting.{Lists};
 ghost use Rattle.and_unify.specs.Unifying.{Unifies, Spends};
 
 use crate::pairs::PairList;
@@ -47,6 +48,7 @@ pub fn unify<C: Cells>(
     requires in_range { AreInRange C.program (C.seen cells.old).words pairs.old }
     requires written { AreWritten (C.seen cells.old) pairs.old }
     ensures over { C.over cells.new ≡ C.over cells.old }
+    ensures grew { C.Grew cells.old cells.new }
     ensures keeps { Keeps (C.seen cells.old) (C.seen cells.new) }
     ensures unifies { Unifies C.program (C.seen cells.old) (C.seen cells.new) pairs.old pairs.new result }
     ensures spends { Spends C.program (C.seen cells.new) pairs.old pairs.new fuel.old fuel.new result }
@@ -69,6 +71,7 @@ pub(crate) fn solve<C: Cells>(
     requires in_range { AreInRange C.program (C.seen cells.old).words pairs.old }
     requires written { AreWritten (C.seen cells.old) pairs.old }
     ensures over { C.over cells.new ≡ C.over cells.old }
+    ensures grew { C.Grew cells.old cells.new }
     ensures keeps { Keeps (C.seen cells.old) (C.seen cells.new) }
     ensures unifies { Unifies C.program (C.seen cells.old) (C.seen cells.new) pairs.old pairs.new result }
     ensures spends { Spends C.program (C.seen cells.new) pairs.old pairs.new fuel.old fuel.new result }
@@ -76,7 +79,7 @@ pub(crate) fn solve<C: Cells>(
     ensures sets { IfSome (C.seen cells.old).told (λ row. (place : ℕ) (r : Ref) → Knows (C.seen cells.new) place r
         → Knows (C.seen cells.old) place r
         ⊎ (Contains bound.new.items place × IsPlace C.program (C.seen cells.old) (sides pairs.old) r)) }
-    ensures bound { (cell : ℕ) → Contains bound.new.items cell → Contains bound.old.items cell ⊎ (cell < (C.seen cells.old).words) }
+    ensures bound { Lists (C.seen cells.old) (C.seen cells.new) bound.old.items bound.new.items }
 {
     loaded.skeleton_is_of_the_program();
     let mut work = Work::new(alloc);

@@ -10,6 +10,7 @@ loop-met-init g c =
     let mid = g.C.Cells.seen c.deref-one.new.cells in
     let new = g.C.Cells.seen c.deref-other.new.cells in record {
       over = c.deref-other.ensures.over ∙ c.deref-one.ensures.over;
+      grew = g.met.C.Cells.grew_on c.args.cells.now c.deref-one.new.cells c.deref-other.new.cells c.deref-one.ensures.grew c.deref-other.ensures.grew;
       standing = both_followed g.C.Cells.program c.args.left c.args.right c.deref-one.result c.deref-other.result old mid new
           (record { reads = c.deref-one.ensures.reads; leads = c.deref-one.ensures.leads; in_range = c.deref-one.ensures.in_range; written = c.deref-one.ensures.written })
           (record { reads = c.deref-other.ensures.reads; leads = c.deref-other.ensures.leads; in_range = c.deref-other.ensures.in_range; written = c.deref-other.ensures.written });
@@ -49,6 +50,7 @@ loop-met-smaller-in-LeftIs g c =
 pub loop-met-preserved-in-LeftIs : goal.loop-met-preserved-in-LeftIs
 loop-met-preserved-in-LeftIs g c = record {
   over = c.try_both.ensures.over ∙ c.loop-met.invariant.over;
+  grew = g.met.C.Cells.grew_on c.args.cells.now c.loop-met.cells c.try_both.new.cells c.loop-met.invariant.grew c.try_both.ensures.grew;
   standing = standing_left g.C.Cells.program c.args.left c.args.right (g.C.Cells.seen c.args.cells.now) (g.C.Cells.seen c.loop-met.cells) (g.C.Cells.seen c.try_both.new.cells)
       c.loop-met.one c.loop-met.other c.in-LeftIs.set c.loop-met.invariant.standing (c.try_both.ensures.left_is c.in-LeftIs.set c.in-LeftIs.is);
 }
@@ -63,6 +65,10 @@ loop-met-smaller g c =
 pub loop-met-preserved : goal.loop-met-preserved
 loop-met-preserved g c = record {
   over = c.try_both.ensures.over ∙ c.loop-met.invariant.over;
+  grew = g.met.C.Cells.grew_on c.args.cells.now c.loop-met.cells c.try_both.new.cells c.loop-met.invariant.grew c.try_both.ensures.grew;
   standing = standing_right g.C.Cells.program c.args.left c.args.right (g.C.Cells.seen c.args.cells.now) (g.C.Cells.seen c.loop-met.cells) (g.C.Cells.seen c.try_both.new.cells)
       c.loop-met.one c.loop-met.other c.in-RightIs.set c.loop-met.invariant.standing (c.try_both.ensures.right_is c.in-RightIs.set c.in-RightIs.is);
 }
+
+pub returns-in-Done-clause-grew : goal.returns-in-Done-clause-grew
+returns-in-Done-clause-grew g c = g.met.C.Cells.grew_on c.args.cells.now c.loop-met.cells c.try_both.new.cells c.loop-met.invariant.grew c.try_both.ensures.grew

@@ -6,6 +6,7 @@ use Rattle.and_unify.proofs.meeting.meet.Given as goal
 abbrev pub invariant-loop-met : goal.invariant-loop-met
 invariant-loop-met g l = record {
   over : g.C.Cells.over l.cells ≡ g.C.Cells.over l.fn.cells;
+  grew : g.C.Cells.Grew l.fn.cells l.cells;
   standing : Standing g.C.Cells.program l.fn.left l.fn.right (g.C.Cells.seen l.fn.cells) (g.C.Cells.seen l.cells) l.one l.other;
 }
 

@@ -37,6 +37,7 @@ spent_by r u unified.Memory A B is e same off C apart done some = absurd (some r
 pub loop-unified-init : goal.loop-unified-init
 loop-unified-init g c = record {
   over = refl;
+  grew = g.met.C.Cells.grew_nothing c.args.cells.now;
   stands = stands_begun g.C.Cells.program (g.C.Cells.seen c.args.cells.now) c.args.pairs.now c.args.fuel.now c.args.bound.now.items c.new-work.result.rights c.new-work.result.taken.keys c.new-work.result.classes
       c.new-work.ensures c.requires.in_range c.requires.written;
 }
@@ -51,6 +52,7 @@ pub loop-unified-preserved : goal.loop-unified-preserved
 loop-unified-preserved g c =
     let fall = falls g.C.Cells.program (named c.args.loaded.now) c.requires.program c.skeleton_is_of_the_program.ensures.skeleton.0 in record {
       over = c.take_turn.ensures.over ∙ c.loop-unified.invariant.over;
+      grew = g.met.C.Cells.grew_on c.args.cells.now c.loop-unified.cells c.take_turn.new.cells c.loop-unified.invariant.grew c.take_turn.ensures.grew;
       stands = stands_turns g.C.Cells.program _ _ _ _ _ _ _ _ fall (c.take_turn.ensures.again c.in-Again.is) c.loop-unified.invariant.stands;
     }
 
@@ -103,4 +105,4 @@ pub returns-in-Over-clause-bound : goal.returns-in-Over-clause-bound
 returns-in-Over-clause-bound g c =
     let stopped = c.take_turn.ensures.stopped (not_again c.take_turn.result c.in-Over.unified c.in-Over.is) in
     let kept = kept_end g.C.Cells.program _ _ _ _ _ _ _ _ stopped c.loop-unified.invariant.stands in
-    kept.cells
+    kept.lists

@@ -4,18 +4,16 @@ use Rattle.and_model.specs.Solutions.{Solves}
 use Rattle.and_unify.specs.declared.pairs.Pair.{Pair}
 use Rattle.and_unify.specs.Pairs.{equations_of_pairs}
 use Rattle.and_unify.proofs.SettlingTerms.{BoundEnd, binds}
-use Rattle.and_unify.proofs.SettlingDone.{listed_in_row, judged, settled_apart, broken_off}
-use Rattle.and_unify.proofs.settling.settle_further.Goals as goal
+use Rattle.and_unify.proofs.SettlingDone.{listed_in_row, have_been_set, judged, settled_apart, broken_off}
+use Rattle.and_unify.proofs.settling.settle_into.Goals as goal
 
 pub judge-requires-clause-in_row : goal.judge-requires-clause-in_row
 judge-requires-clause-in_row g c =
-    let now = length c.solve.new.cells in
-    subst (λ (xs : List ℕ). All (λ (cell : ℕ). cell < now) xs) (sym c.deref.ensures.value)
-    (listed_in_row (length c.args.cells.now) now c.new-bound.result.items c.solve.new.bound.items c.new-bound.ensures.items
-    c.solve.ensures.keeps.words c.solve.ensures.bound)
+    subst (λ (xs : List ℕ). All (λ (cell : ℕ). cell < length c.solve.new.cells) xs) (sym c.deref.ensures.value)
+    (listed_in_row c.args.cells.now c.solve.new.cells c.args.bound.now.items c.solve.new.bound.items c.requires.empty c.solve.ensures.keeps c.solve.ensures.bound)
 
-pub returns-in-Same : goal.returns-in-Same
-returns-in-Same g c =
+pub returns-in-Same-clause-settles : goal.returns-in-Same-clause-settles
+returns-in-Same-clause-settles g c =
     let P = g.N.Naming.program in
     let old = c.args.cells.now in
     let new = c.solve.new.cells in
@@ -30,12 +28,11 @@ returns-in-Same g c =
     judged P old new pairs floor items bindings keeps given.written c.solve.ensures.unifies.follows c.judge.result
     (λ w has none t known. c.in-Same.ensures.unifies.equal (inl refl) w has none t known
     (subst (λ (left : List Pair). Solves t (equations_of_pairs P w left)) (sym (c.in-Same.ensures.unifies.same refl)) tt))
-    (λ is. subst (BoundEnd P new floor) c.deref.ensures.value
-    (record { sound = c.judge.ensures.sound; below = c.judge.ensures.below is; above = c.judge.ensures.above is }))
+    (λ is. subst (BoundEnd P new floor) c.deref.ensures.value (record { sound = c.judge.ensures.sound; below = c.judge.ensures.below is; above = c.judge.ensures.above is }))
     c.judge.ensures.no_solution
 
-pub returns-in-Apart : goal.returns-in-Apart
-returns-in-Apart g c =
+pub returns-in-Apart-clause-settles : goal.returns-in-Apart-clause-settles
+returns-in-Apart-clause-settles g c =
     let P = g.N.Naming.program in
     let old = c.args.cells.now in
     let new = c.solve.new.cells in
@@ -50,8 +47,8 @@ returns-in-Apart g c =
     let both = c.in-Apart.ensures.unifies.apart c.in-Apart.left c.in-Apart.right refl in
     settled_apart P old new pairs floor items bindings keeps given.written c.solve.ensures.unifies.follows both.1
 
-pub returns-in-PutOff : goal.returns-in-PutOff
-returns-in-PutOff g c =
+pub returns-in-PutOff-clause-settles : goal.returns-in-PutOff-clause-settles
+returns-in-PutOff-clause-settles g c =
     let P = g.N.Naming.program in
     let old = c.args.cells.now in
     let new = c.solve.new.cells in
@@ -65,8 +62,8 @@ returns-in-PutOff g c =
     c.solve.ensures.sets in
     broken_off P old new pairs floor items bindings keeps
 
-pub returns : goal.returns
-returns g c =
+pub returns-in-Memory-clause-settles : goal.returns-in-Memory-clause-settles
+returns-in-Memory-clause-settles g c =
     let P = g.N.Naming.program in
     let old = c.args.cells.now in
     let new = c.solve.new.cells in
@@ -79,3 +76,13 @@ returns g c =
     let bindings = binds P old new pairs floor items laws.falls laws.sound given.in_range given.settled given.no_half given.new keeps
     c.solve.ensures.sets in
     broken_off P old new pairs floor items bindings keeps
+
+pub returns-in-Same-clause-bound : goal.returns-in-Same-clause-bound
+returns-in-Same-clause-bound g c = λ _.
+    have_been_set g.N.Naming.program c.args.cells.now c.solve.new.cells c.args.pairs.now c.args.bound.now.items c.solve.new.bound.items c.requires.empty c.solve.ensures.keeps
+    c.solve.ensures.sets c.solve.ensures.bound
+
+pub returns-in-Apart-clause-bound : goal.returns-in-Apart-clause-bound
+returns-in-Apart-clause-bound g c = λ _.
+    have_been_set g.N.Naming.program c.args.cells.now c.solve.new.cells c.args.pairs.now c.args.bound.now.items c.solve.new.bound.items c.requires.empty c.solve.ensures.keeps
+    c.solve.ensures.sets c.solve.ensures.bound
