@@ -11,7 +11,7 @@ use Rattle.and_model.specs.declared.numbers.NodeNo.{NodeNo}
 use Rattle.and_model.specs.declared.reference.Ref.{Ref}
 use Rattle.and_model.specs.declared.reference.Ref.TheVariants.{Free, Cell, Node}
 use Rattle.and_program.specs.Skeletons
-use Rattle.and_program.specs.Skeletons.{Shape, AllThere, row, nth, shape_term, terms_behind, node_term}
+use Rattle.and_program.specs.Skeletons.{Shape, AllThere, term_list, nth, shape_term, terms_behind, node_term}
 use Rattle.and_program.specs.Items.{node_item}
 use Rattle.and_program.specs.Kept.{AllWithin}
 use Rattle.and_program.specs.Loaded.{shape_at}
@@ -40,7 +40,7 @@ shown_is_no_variable (Skeletons.compound c ns) name count k e is = absurd (cc)
 -- A structure in a frame of 256 words is in range,
 pub structure_fits : (P : NamedProgram) (m words base : ℕ) (node : NodeNo) (name : NameNo) (count : ℕ) → AllWithin m P.skeleton.nodes
     → length P.skeleton.nodes ≤ 524289 → node.0 < length P.skeleton.nodes → shown (shape_at P.skeleton node.0) ≡ Compound name count
-    → base + 256 ≤ words → words ≤ 2 ^ 22 → IsInRange P words (Node node base)
+    → base + 256 ≤ words → words ≤ 2 ^ 22 + 256 → IsInRange P words (Node node base)
 structure_fits P m words base node name count within few there is room short = (
   node_in_range P m words node.0 base within few there room short,
   no_variable P node.0 (λ k variable. shown_is_no_variable (shape_at P.skeleton node.0) name count k is variable),

@@ -1,10 +1,15 @@
-//! Tests of what stands on cells (circles, unification, printing), over programs made of clauses.
+//! Tests of modes and of what stands on cells (circles, unification, printing), over programs made of
+//! clauses.
 #![tactic(auto)]
 
 #[cfg(test)]
 mod circles;
 #[cfg(test)]
 mod frames;
+#[cfg(test)]
+mod late;
+#[cfg(test)]
+mod modes;
 #[cfg(test)]
 mod printing;
 #[cfg(test)]

@@ -15,14 +15,14 @@ use and_cells::{Naming, PlainCells};
 use and_clauses::ClauseTable;
 use and_model::{ClauseNo, NodeNo, Ref};
 use and_program::{ItemNode, Loaded, NodeKind};
-use and_unify::{Pair, PairList, Settled, Unified, settle, settle_further, unify};
+use and_unify::{Pair, PairList, Settled, Solver, Unified, settle, unify};
 use std::alloc::{AllocError, Global};
 use std::marker::Brand;
 use std::process::Abort;
 use std::test::Fail;
 
 /// The program of `?- X = f(a,b), Y = f(a,c).`
-fn two_structures(rt: &impl Abort, alloc: Global) -> Result<Loaded, AllocError> {
+pub(crate) fn two_structures(rt: &impl Abort, alloc: Global) -> Result<Loaded, AllocError> {
     let query = [
         Var(b"X"),
         Name(b"a", 0),
@@ -46,7 +46,7 @@ fn circle(rt: &impl Abort, alloc: Global) -> Result<Loaded, AllocError> {
 }
 
 /// The right side of an equation of the query.
-fn right_side(rt: &impl Abort, loaded: &Loaded, place: usize) -> NodeNo
+pub(crate) fn right_side(rt: &impl Abort, loaded: &Loaded, place: usize) -> NodeNo
     ensures { result.0 < length (skeleton_of loaded.now).nodes }
 {
     let items = loaded.items(ClauseNo(0));
@@ -61,7 +61,7 @@ fn right_side(rt: &impl Abort, loaded: &Loaded, place: usize) -> NodeNo
 }
 
 /// The second argument of a structure in the frame at the base 0.
-fn second(rt: &impl Abort, loaded: &Loaded, node: NodeNo) -> Ref
+pub(crate) fn second(rt: &impl Abort, loaded: &Loaded, node: NodeNo) -> Ref
     requires { node.0 < length (skeleton_of loaded.now).nodes }
 {
     match loaded.kind(node) {
@@ -248,7 +248,7 @@ fn settle_frame<N: Naming>(
     let right = structure(rt, loaded, &cells, node, 300);
     let mut pairs = PairList::new(alloc);
     pairs.push(left, right)?;
-    let settled = settle_further(alloc, loaded, &mut cells, 300, &mut pairs);
+    let settled = Solver::new(alloc).settle_further(loaded, &mut cells, 300, &mut pairs);
     Ok((settled, cells.word(301)))
 }
 

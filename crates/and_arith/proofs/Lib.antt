@@ -1,0 +1,17 @@
+pub mod Numbers
+pub mod Members
+pub mod Operating
+pub mod Listing
+pub mod Looking
+pub mod Opening
+pub mod Stepping
+pub mod Entering
+pub mod KnownTerms
+pub mod Yielding
+pub mod Owing
+pub mod Covering
+pub mod Counting
+pub mod Ranging
+pub mod Standing
+pub mod Turning
+pub mod Concluding

@@ -1,0 +1,5 @@
+pub mod Operators
+pub mod Values
+pub mod Sizes
+pub mod Taken
+pub mod Turns
