@@ -1,0 +1,9 @@
+//! What a run found: the lines of the proofs, by their codes, and how the run ended.
+#![tactic(auto)]
+
+pub mod found;
+mod printing;
+#[cfg(test)]
+mod tests;
+
+pub use found::{Entry, Found};

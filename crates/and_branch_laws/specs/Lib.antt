@@ -1,0 +1,12 @@
+pub mod OwnVariables
+pub mod Variables
+pub mod Tasks
+pub mod Views
+pub mod Kept
+pub mod Reducing
+pub mod Settling
+pub mod Running
+pub mod States
+pub mod Judging
+pub mod Lines
+pub mod Visits

@@ -1,0 +1,4 @@
+mod AdditionsLemmas
+mod KeysLemmas
+mod ListsLemmas
+mod TablesLemmas
