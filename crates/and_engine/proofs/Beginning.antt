@@ -30,24 +30,23 @@ use Rattle.and_engine.proofs.NamingLimits.{over_outgrows}
 use Rattle.and_engine.proofs.Stack.{nothing_unsolvable}
 
 -- Nothing is found where the query alone weighs too much, and that is kept.
-pub found_heavy : (P : Program) (limit : ℕ) (f : Found) → limit < clause_weight P.query → f.lines ≡ [] → f.any ≡ false → IfSome f.outgrown (λ g. (g.code ≡ []) × (g.clause.0 ≡ 0)) → IsSome f.outgrown → IsFound P limit f
-found_heavy P limit f heavy lines any empty some =
+pub found_heavy : (P : Program) (limit : ℕ) (f : Found) → limit < clause_weight P.query → f.lines.items ≡ [] → IfSome f.outgrown (λ g. (g.code ≡ []) × (g.clause.0 ≡ 0)) → IsSome f.outgrown → IsFound P limit f
+found_heavy P limit f heavy lines empty some =
     let none_taken : taken_weight (blank {P = P} (query_agenda P)) ≡ 0 = blank_weighs P (query_agenda P) in
-    ([], too_heavy (omega arith), lines, (λ a. absurd (true≢false (sym a ∙ any)), λ a. absurd (a refl)), told f.outgrown empty some)
+    ([], too_heavy (omega arith), lines, told f.outgrown empty some)
   where
     told : (o : Option Outgrown) → IfSome o (λ g. (g.code ≡ []) × (g.clause.0 ≡ 0)) → IsSome o → MatchOption o (NoneOver P limit) (λ g. OverLeft P limit g.code g.clause.0)
     told None e s = absurd (true≢false (sym s))
     told (Some g) e s = inl (e.0, e.1, heavy)
 
 -- What is owed at the start is what the query lists.
-owes_start : (P : Program) (limit : ℕ) (f : Found) (remains : List Entry → Type 0) (rest : Type 0) → clause_weight P.query ≤ limit → f.lines ≡ [] → f.any ≡ false → f.outgrown ≡ None → ((ls : List Entry) → remains ls → ls ≡ [])
+owes_start : (P : Program) (limit : ℕ) (f : Found) (remains : List Entry → Type 0) (rest : Type 0) → clause_weight P.query ≤ limit → f.lines.items ≡ [] → f.outgrown ≡ None → ((ls : List Entry) → remains ls → ls ≡ [])
     → Owes P limit f (Lists P limit (blank (query_agenda P))) (Clear P limit (blank (query_agenda P))) remains rest
-owes_start P limit f remains rest fits lines any outgrown none =
+owes_start P limit f remains rest fits lines outgrown none =
     let none_taken : taken_weight (blank {P = P} (query_agenda P)) ≡ 0 = blank_weighs P (query_agenda P) in
     record {
       found = [];
       lines = lines;
-      any = (λ a. absurd (true≢false (sym a ∙ any)), λ a. absurd (a refl));
       listing = λ ks ls p r. subst (λ l. Listing P limit (ks ++ l)) (sym (none ls r)) (subst (λ l. Listing P limit l) (sym (append-nil ks)) (of_query ks (omega arith) p));
       over = rw outgrown (λ clear u cs c x. clear cs c ((over_outgrows P limit fits cs c).0 x));
     }
@@ -83,7 +82,7 @@ module _ (s : Search) (k : PlacedClause) (heft : ℕ) (w : Begins s k heft) wher
   query_placed hs a = subst (λ (d : Clause). ArePlaced 0 d.body hs) query_is (subst (λ (b : ℕ). ArePlaced b (clause_of k).body hs) w.3 a)
 
   owed : Owes P s.limit s.found (Lists P s.limit start) (Clear P s.limit start) (λ ls. ls ≡ []) (Unit {0})
-  owed = owes_start P s.limit s.found (λ ls. ls ≡ []) (Unit {0}) (subst (λ n. n ≤ s.limit) w.4 w.5) w.11 w.12 w.13 (λ ls e. e)
+  owed = owes_start P s.limit s.found (λ ls. ls ≡ []) (Unit {0}) (subst (λ n. n ≤ s.limit) w.4 w.5) w.11 w.12 (λ ls e. e)
 
   pub arrives_start : (b : Bindings) → IsValid b → cells_of b ≡ P.query.variables → ((u : Substitution) → Solves u (equations_of (made_of b)) ↔ Solves u (cell_equations 0 P.query.body))
       → (pending : Vec Pending Global) (first : Option ℕ) (hs : List Placed) → ArePlaced k.base (clause_of k).body hs → GoalsFrom pending.items first (hs ++ []) → Arrives (record s { bindings = b; pending = pending }) first heft
@@ -116,7 +115,6 @@ found_all s none g =
       owes.found,
       subst (λ l. Listing (program s) s.limit l) (append-nil owes.found) (owes.listing [] [] refl refl),
       owes.lines,
-      owes.any,
       told s.found.outgrown owes.over,
     )
   where

@@ -1,38 +1,20 @@
 -- The equations of a body in its frame, and those of its cells.
-use Rattle.std.proofs.Common.{ℕ, ◌≡◌, List, [], ◌∷◌, ◌++◌, length, sym, ◌∙◌, refl}
+use Rattle.std.proofs.Common.{ℕ, List, [], ◌∷◌, ◌++◌, length, sym, ◌∙◌}
 use Rattle.std.specs.Prelude.{◌↔◌}
 use Rattle.and_model.specs.Terms.{Path, Substitution}
 use Rattle.and_model.specs.Solutions.{Equation, Solves}
-use Rattle.and_model.specs.Programs.{Program, Item, call, equal, arithmetic, fail, clause_at, is_goals}
+use Rattle.and_model.specs.Programs.{Item, call, equal, arithmetic, fail}
 use Rattle.and_engine.specs.Bodies.{cell_equations, EquationsWithin}
-use Rattle.and_engine.specs.Naming.{AreLogical, IsLogical, body_equations, through, FrameAt, EquationsOfCells}
-use Rattle.and_model.specs.Simple.{AreSimple, IsSimple}
+use Rattle.and_engine.specs.Naming.{body_equations, through, FrameAt, EquationsOfCells}
+use Rattle.and_engine.specs.Plain.{ArePlain}
 use Rattle.and_engine.proofs.NamingCells.{apply_framed, frame_cells, cells_bounded}
-
--- A program of this engine has no arithmetic.
-simple_logical_items : (n : ℕ) (items : List Item) → AreSimple n items → AreLogical items
-simple_logical_items n [] s = tt
-simple_logical_items n (call g ∷ items) s = simple_logical_items n items s.1
-simple_logical_items n (equal a b ∷ items) s = simple_logical_items n items s.2
-simple_logical_items n (arithmetic a ∷ items) s = elim s [ ]
-simple_logical_items n (fail ∷ items) s = simple_logical_items n items s
-
-pub simple_logical : (P : Program) → IsSimple P → IsLogical P
-simple_logical P simple c = simple_logical_items (clause_at P c).variables (clause_at P c).body (simple c).1
-
-pub simple_no_is : (n : ℕ) (items : List Item) → AreSimple n items → is_goals items ≡ 0
-simple_no_is n [] s = refl
-simple_no_is n (call g ∷ items) s = simple_no_is n items s.1
-simple_no_is n (equal a b ∷ items) s = simple_no_is n items s.2
-simple_no_is n (arithmetic a ∷ items) s = elim s [ ]
-simple_no_is n (fail ∷ items) s = simple_no_is n items s
 
 pub equations_cells-append : (n : ℕ) (xs ys : List Equation) → EquationsOfCells n xs → EquationsOfCells n ys → EquationsOfCells n (xs ++ ys)
 equations_cells-append n [] ys a b = b
 equations_cells-append n (x ∷ xs) ys a b = (a.0, a.1, equations_cells-append n xs ys a.2 b)
 
 -- Where the frame has its names, a body has the same solutions in cells as in its frame,
-pub body_same : (names : List (Path × ℕ)) (base : ℕ) (q : Path) (v : ℕ) → FrameAt names base q v → (items : List Item) → AreSimple v items → (u : Substitution)
+pub body_same : (names : List (Path × ℕ)) (base : ℕ) (q : Path) (v : ℕ) → FrameAt names base q v → (items : List Item) → ArePlain v items → (u : Substitution)
     → Solves u (body_equations q items) ↔ Solves (through names u) (cell_equations base items)
 body_same names base q v at [] s u = (λ p. tt, λ p. tt)
 body_same names base q v at (call g ∷ items) s u = body_same names base q v at items s.1 u
@@ -45,7 +27,7 @@ body_same names base q v at (arithmetic a ∷ items) s u = elim s [ ]
 body_same names base q v at (fail ∷ items) s u = let rest = body_same names base q v at items s u in (λ p. (p.0, rest.0 p.1), λ p. (p.0, rest.1 p.1))
 
 -- and its equations are of the cells that have names.
-pub body_cells : (names : List (Path × ℕ)) (base : ℕ) (q : Path) (v : ℕ) → FrameAt names base q v → (items : List Item) → AreSimple v items → EquationsOfCells (length names) (cell_equations base items)
+pub body_cells : (names : List (Path × ℕ)) (base : ℕ) (q : Path) (v : ℕ) → FrameAt names base q v → (items : List Item) → ArePlain v items → EquationsOfCells (length names) (cell_equations base items)
 body_cells names base q v at [] s = tt
 body_cells names base q v at (call g ∷ items) s = body_cells names base q v at items s.1
 body_cells names base q v at (equal a b ∷ items) s = (frame_cells names base q v at a s.0, frame_cells names base q v at b s.1, body_cells names base q v at items s.2)

@@ -6,10 +6,10 @@ use Rattle.and_model.specs.Programs.{Program, Item, call, clause_at, Of, same_pr
 use Rattle.and_model.specs.Programs as programs
 use Rattle.and_model.specs.Trees.{QueryTree, query_agenda, agenda, end, blank, Open, IsLeftmost, path, call_of, reduce, equations}
 use Rattle.and_engine.specs.Bodies.{cell_equations, step_equations, EquationsWithin}
-use Rattle.and_model.specs.Simple.{is_bounded}
+use Rattle.and_engine.specs.Plain.{is_bounded}
 use Rattle.and_engine.specs.Cells.{placed, in_cells, term_of, IsWithin, AreWithin, equations_of, meaning}
 use Rattle.and_engine.specs.Naming.{goals_of, body_goals, variables_made, frame, naming, named, SameSolutions, FrameAt, EquationsOfCells}
-use Rattle.and_model.specs.Simple.{AreSimple, IsSimple}
+use Rattle.and_engine.specs.Plain.{ArePlain, IsPlain}
 use Rattle.and_engine.specs.Search.{GoalsFrom, StandFor, Holds, ArePlaced}
 use Rattle.and_engine.specs.declared.placed.Placed.{Placed}
 use Rattle.and_engine.specs.declared.placed.Binding.{Binding}
@@ -56,7 +56,7 @@ stand_both names (g ∷ gs) hs (t ∷ ts) us s r = (s.0, s.1, s.2, s.3, s.4, sta
 
 -- the calls of a body whose frame is there
 pub stand_body : (names : List (Path × ℕ)) (base : ℕ) (q : Path) (v : ℕ) → FrameAt names base q v → (i : ℕ) (items : List Item) (gs : List Placed)
-    → ArePlaced base items gs → AreSimple v items → StandFor names gs (body_goals q i items)
+    → ArePlaced base items gs → ArePlain v items → StandFor names gs (body_goals q i items)
 stand_body names base q v f i [] [] a b = tt
 stand_body names base q v f i [] (g ∷ gs) a b = elim a [ ]
 stand_body names base q v f i (call t ∷ items) [] a b = elim a [ ]
@@ -88,16 +88,16 @@ blank_goals : (P : Program) → goals_of (blank {P = P} (query_agenda P)) ≡ bo
 blank_goals P = agenda_goals P [] 0 P.query.body
 
 -- The start: the query's frame and its goals, and bindings that solve the equations of its body.
-module _ (P : Program) (simple : IsSimple P) where
+module _ (P : Program) (plain : IsPlain P) where
   abbrev first : QueryTree P
   first = blank (query_agenda P)
 
   -- Where these have no solution, neither has the tree.
   pub start_clash : (Solvable (cell_equations 0 P.query.body) → ⊥) → Solvable (equations first) → ⊥
-  start_clash un so = un ((made_solvable first (cell_equations 0 P.query.body) (start_cells P simple) (start_same P simple)).0 so)
+  start_clash un so = un ((made_solvable first (cell_equations 0 P.query.body) (start_cells P plain) (start_same P plain)).0 so)
 
   pub query_is_within : EquationsWithin P.query.variables (cell_equations 0 P.query.body)
-  query_is_within = cells_within P.query.variables (cell_equations 0 P.query.body) (subst (λ n. EquationsOfCells n (cell_equations 0 P.query.body)) (start_length P) (start_cells P simple))
+  query_is_within = cells_within P.query.variables (cell_equations 0 P.query.body) (subst (λ n. EquationsOfCells n (cell_equations 0 P.query.body)) (start_length P) (start_cells P plain))
 
   pub holds_start : (made : List Binding) → IsTriangular (λ q k. variable q k) made → AreWithin P.query.variables made
       → ((s : Substitution) → Solves s (equations_of made) ↔ Solves s (cell_equations 0 P.query.body))
@@ -105,7 +105,7 @@ module _ (P : Program) (simple : IsSimple P) where
   holds_start made triangular within solved pending place gs placed_gs from =
       let count : P.query.variables ≡ length (variables_made first) = sym (start_length P) in
       let same : SameSolutions (variables_made first) (equations first) (equations_of made) =
-      same_traded (variables_made first) (equations first) (cell_equations 0 P.query.body) (equations_of made) (λ s. (solved s).1) (λ s. (solved s).0) (start_same P simple) in
+      same_traded (variables_made first) (equations first) (cell_equations 0 P.query.body) (equations_of made) (λ s. (solved s).1) (λ s. (solved s).0) (start_same P plain) in
       let cells : EquationsOfCells (length (variables_made first)) (equations_of made) = subst (λ n. EquationsOfCells n (equations_of made)) count (bindings_cells P.query.variables made within) in
       record {
         grown = blank_left_grown P (query_agenda P);
@@ -117,12 +117,12 @@ module _ (P : Program) (simple : IsSimple P) where
           gs,
           from,
           subst (λ ts. StandFor (variables_made first) gs ts) (sym (blank_goals P))
-              (stand_body (variables_made first) 0 [] P.query.variables (made_frame first) 0 P.query.body gs placed_gs (simple 0).1),
+              (stand_body (variables_made first) 0 [] P.query.variables (made_frame first) 0 P.query.body gs placed_gs (plain 0).1),
         );
       }
 
 -- The tree after a step and the bindings before it: the goal's cells equal the head's, and the body's equations are solved.
-module _ (P : Program) (c : ℕ) (simple : IsSimple P) (t : QueryTree P) (o : Open t) (h : Of P (call_of t o) c) (m : IsLeftmost t o)
+module _ (P : Program) (c : ℕ) (plain : IsPlain P) (t : QueryTree P) (o : Open t) (h : Of P (call_of t o) c) (m : IsLeftmost t o)
     (made : List Binding) (cells : ℕ) (pending : List Pending) (place : ℕ) (b : Holds t made cells pending (Some place)) (goal : Placed) (rest : List Placed) (goals : b.goals.0 ≡ goal ∷ rest) where
   abbrev names : List (Path × ℕ)
   names = variables_made t
@@ -149,11 +149,11 @@ module _ (P : Program) (c : ℕ) (simple : IsSimple P) (t : QueryTree P) (o : Op
 
   pub step_solutions : SameSolutions (variables_made after) (equations after) all_equations
   step_solutions = subst (λ n. SameSolutions (variables_made after) (equations after) (step_equations (placed goal) n (clause_at P c) ++ equations_of made)) (sym b.cells_are)
-      (step_same simple t (equations_of made) old_cells b.same o m b.grown goal.base stand.0 stand.1 stand.2 (term_of goal) stand.3 stand.4 c h)
+      (step_same plain t (equations_of made) old_cells b.same o m b.grown goal.base stand.0 stand.1 stand.2 (term_of goal) stand.3 stand.4 c h)
 
   pub step_of_cells : EquationsOfCells (length (variables_made after)) all_equations
   step_of_cells = subst (λ n. EquationsOfCells (length (variables_made after)) (step_equations (placed goal) n (clause_at P c) ++ equations_of made)) (sym b.cells_are)
-      (step_cells simple t (equations_of made) old_cells o m b.grown goal.base stand.0 stand.1 stand.2 (term_of goal) stand.3 c h)
+      (step_cells plain t (equations_of made) old_cells o m b.grown goal.base stand.0 stand.1 stand.2 (term_of goal) stand.3 c h)
 
   -- Where these have no solution, neither has the tree.
   pub step_clash : (Solvable all_equations → ⊥) → Solvable (equations after) → ⊥
@@ -194,7 +194,7 @@ module _ (P : Program) (c : ℕ) (simple : IsSimple P) (t : QueryTree P) (o : Op
           subst (λ ts. StandFor (variables_made after) (hs ++ rest) ts) (sym (reduce_goals t o m (path t o) (call_of t o) later (leftmost_goals t o m).1 c h))
               (subst (λ ns. StandFor ns (hs ++ rest) (body_goals (path t o) 0 (clause_at P c).body ++ later)) (sym (reduce_variables t o c h m b.grown))
               (stand_both all hs rest (body_goals (path t o) 0 (clause_at P c).body) later
-              (stand_body all cells (path t o) size frame_here 0 (clause_at P c).body hs placed_hs (simple c).1)
+              (stand_body all cells (path t o) size frame_here 0 (clause_at P c).body hs placed_hs (plain c).1)
               (stand_more names (frame (path t o) size) rest later stand.5))),
         );
       }

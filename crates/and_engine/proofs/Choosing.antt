@@ -9,7 +9,8 @@ use Rattle.and_model.specs.Programs as programs
 use Rattle.and_model.specs.Trees.{Agenda, Tree, done, left, by, equate, reckon, QueryTree, IsWhole, weight, taken_weight, unfold_code}
 use Rattle.and_model.specs.Listing.{Lists, answer, Ends}
 use Rattle.and_engine.specs.Cells.{placed, IsWithin, equations_of, meaning}
-use Rattle.and_engine.specs.Naming.{IsLogical, Clear, goals_of, variables_made, variables_taken, frame, EquationsOfCells, IsOfCells}
+use Rattle.and_engine.specs.Naming.{Clear, goals_of, variables_made, variables_taken, frame, EquationsOfCells, IsOfCells}
+use Rattle.and_model.specs.Simple.{IsSimple}
 use Rattle.and_engine.specs.Solved.{IsTriangular}
 use Rattle.and_engine.specs.Search.{GoalsFrom, StandFor, Holds, IsChoice, code_below, IsBeyond, Standing, Remains, AllClear, Owes, no_piece}
 use Rattle.and_engine.specs.Search as search
@@ -112,7 +113,7 @@ module _ (P : Program) (limit : ℕ) (made : List Binding) (pending : List Pendi
       }) code (beyond_past c cs past) st w2
 
   -- The tree is whole, and its answer has the line of what the bindings mean.
-  pub answers : (cells : ℕ) → IsLogical P → length P.query.written ≤ P.query.variables → Holds t made cells pending None → IsTriangular (λ q k. variable q k) made
+  pub answers : (cells : ℕ) → IsSimple P → length P.query.written ≤ P.query.variables → Holds t made cells pending None → IsTriangular (λ q k. variable q k) made
       → IsWhole t × Ends t (answer (line P (meaning made) []))
   answers cells only written holds triangular =
       let none : holds.goals.0 ≡ [] = none_first pending holds.goals.0 holds.goals.1 in
@@ -136,9 +137,9 @@ choose_keeps P limit made pending f cs t st goal w n cells m n2 cells2 m2 en ec 
 
 -- the answer of a whole tree
 pub answer_keeps : (P : Program) (limit : ℕ) (made : List Binding) (pending : List Pending) (f g : Found) (cs : List Choice) (t : QueryTree P) (st : Standing P limit made pending cs)
-    → (n cells m : ℕ) → IsLogical P → length P.query.written ≤ P.query.variables → Holds t made cells pending None → IsTriangular (λ q k. variable q k) made
+    → (n cells m : ℕ) → IsSimple P → length P.query.written ≤ P.query.variables → Holds t made cells pending None → IsTriangular (λ q k. variable q k) made
     → IsBeyond n cells m cs → Owes P limit f (Lists P limit t) (Clear P limit t) (Remains P limit made pending cs st) (AllClear P limit made pending cs st)
-    → g.lines ≡ f.lines ++ line P (meaning made) [] ++ 10 ∷ [] → g.any ≡ true → g.outgrown ≡ f.outgrown → Keeps P limit made pending g n cells m cs
-answer_keeps P limit made pending f g cs t st n cells m only written holds triangular past owes lines any outgrown =
+    → g.lines.items ≡ f.lines.items ++ line P (meaning made) [] ∷ [] → g.outgrown ≡ f.outgrown → Keeps P limit made pending g n cells m cs
+answer_keeps P limit made pending f g cs t st n cells m only written holds triangular past owes lines outgrown =
     let a = answers P limit made pending f cs t st cells only written holds triangular in
-    (past, st, answered_one P limit f g t (answer (line P (meaning made) [])) (Remains P limit made pending cs st) (AllClear P limit made pending cs st) a.0 a.1 (whole_clear P limit t a.0) lines any outgrown owes)
+    (past, st, answered_one P limit f g t (answer (line P (meaning made) [])) (Remains P limit made pending cs st) (AllClear P limit made pending cs st) a.0 a.1 (whole_clear P limit t a.0) lines outgrown owes)

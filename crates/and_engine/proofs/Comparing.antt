@@ -2,10 +2,10 @@
 use Rattle.std.proofs.Common.{ℕ, ◌+◌, ◌*◌, ◌<◌, ◌≡◌, ◌↔◌, Bool, true, false, true≢false, not, inl, inr, eqb, eqb-true, List, [], ◌∷◌, ◌++◌, refl, ap, sym, ◌∙◌, subst, arith}
 use Rattle.and_model.specs.Terms.{Term, Terms, compound, none, more, Substitution, apply, apply_all}
 use Rattle.and_model.specs.Solutions.{Solves}
-use Rattle.and_model.specs.Simple.{is_bounded, are_bounded}
+use Rattle.and_engine.specs.Plain.{is_bounded, are_bounded}
 use Rattle.and_laws.proofs.Substitutions.{Through, apply_through, same, and_left, and_right}
 use Rattle.and_laws.proofs.Equality.{bool_cases}
-use Rattle.and_laws.proofs.Occurrences.{size, sizes}
+use Rattle.and_laws.specs.Sizes.{size, sizes}
 use Rattle.and_engine.specs.Cells.{equations_of, meaning}
 use Rattle.and_engine.specs.Solved.{IsTriangular}
 use Rattle.and_engine.specs.Rows.{placed_all, RowsWithin, SolvesRows, rows_weight, IsLast}

@@ -1,3 +1,4 @@
+pub mod ApartLemmas
 pub mod Beginning
 pub mod BodyCells
 pub mod BodyLemmas
@@ -18,6 +19,7 @@ pub mod NamingVariables
 pub mod Occurring
 pub mod Pendings
 pub mod Places
+pub mod PlainLemmas
 pub mod RootLemmas
 pub mod Searching
 pub mod Showing

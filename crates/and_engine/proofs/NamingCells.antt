@@ -6,7 +6,7 @@ use Rattle.std.proofs.lemmas.List.{get_or_append_left, get_or-append-add, length
 use Rattle.std.proofs.lemmas.Option.{get_or_from_slice_get, slice_get-get_or, slice_get_within}
 use Rattle.and_model.specs.Terms.{Path, Term, Terms, variable, number, compound, none, more, Substitution, apply, apply_all, framed}
 use Rattle.and_model.specs.Solutions.{Equation, Solves, Entails}
-use Rattle.and_model.specs.Simple.{is_bounded, are_bounded}
+use Rattle.and_engine.specs.Plain.{is_bounded, are_bounded}
 use Rattle.and_laws.proofs.Substitutions.{and_left, and_right, apply_then, then}
 use Rattle.and_engine.specs.Cells.{in_cells}
 use Rattle.and_engine.specs.Naming.{variables_from, frame, name_of, naming, named, through, FrameAt, IsOfCells, AreOfCells, EquationsOfCells, SameSolutions}

@@ -6,7 +6,8 @@ use Rattle.and_model.specs.Solutions.{Solves}
 use Rattle.and_model.specs.Programs.{Program, Item, call, equal, arithmetic, fail, clause_at, Of, head_in}
 use Rattle.and_model.specs.Closure.{Closes}
 use Rattle.and_model.specs.Trees.{Agenda, end, goal, equation, reckoning, agenda, Tree, done, left, by, equate, reckon, equations, arithmetics, Open, path, call_of, fresh, reduce, Closed, QueryTree, blank}
-use Rattle.and_engine.specs.Naming.{body_equations, AreLogical, IsLogical}
+use Rattle.and_engine.specs.Naming.{body_equations}
+use Rattle.and_model.specs.Simple.{AreSimple, IsSimple}
 
 -- A fresh body adds its equations.
 pub fresh_solves : {P : Program} (q : Path) (i : ℕ) (items : List Item) {rest : Agenda} (t : Tree P rest) (u : Substitution)
@@ -45,24 +46,24 @@ NoReckoning (goal q g rest) = NoReckoning rest
 NoReckoning (equation a b rest) = NoReckoning rest
 NoReckoning (reckoning a rest) = ⊥
 
-logical_agenda : (q : Path) (i : ℕ) (items : List Item) (rest : Agenda) → AreLogical items → NoReckoning rest → NoReckoning (agenda q i items rest)
-logical_agenda q i [] rest a b = b
-logical_agenda q i (call g ∷ items) rest a b = logical_agenda q (suc i) items rest a b
-logical_agenda q i (equal x y ∷ items) rest a b = logical_agenda q (suc i) items rest a b
-logical_agenda q i (arithmetic x ∷ items) rest a b = elim a [ ]
-logical_agenda q i (fail ∷ items) rest a b = logical_agenda q (suc i) items rest a b
+simple_agenda : (q : Path) (i : ℕ) (items : List Item) (rest : Agenda) → AreSimple items → NoReckoning rest → NoReckoning (agenda q i items rest)
+simple_agenda q i [] rest a b = b
+simple_agenda q i (call g ∷ items) rest a b = simple_agenda q (suc i) items rest a b
+simple_agenda q i (equal x y ∷ items) rest a b = simple_agenda q (suc i) items rest a b
+simple_agenda q i (arithmetic x ∷ items) rest a b = elim a [ ]
+simple_agenda q i (fail ∷ items) rest a b = simple_agenda q (suc i) items rest a b
 
-reckon_none : {P : Program} → IsLogical P → {ag : Agenda} (t : Tree P ag) → NoReckoning ag → arithmetics t ≡ []
-reckon_none logical done a = refl
-reckon_none logical (left t) a = reckon_none logical t a
-reckon_none {P} logical (by {q = q} {rest = rest} c h t) a = reckon_none logical t (logical_agenda q 0 (clause_at P c).body rest (logical c) a)
-reckon_none logical (equate t) a = reckon_none logical t a
-reckon_none logical (reckon t) a = elim a [ ]
+reckon_none : {P : Program} → IsSimple P → {ag : Agenda} (t : Tree P ag) → NoReckoning ag → arithmetics t ≡ []
+reckon_none simple done a = refl
+reckon_none simple (left t) a = reckon_none simple t a
+reckon_none {P} simple (by {q = q} {rest = rest} c h t) a = reckon_none simple t (simple_agenda q 0 (clause_at P c).body rest (simple c) a)
+reckon_none simple (equate t) a = reckon_none simple t a
+reckon_none simple (reckon t) a = elim a [ ]
 
 -- A tree of a program without arithmetic has none.
-pub logical_arithmetics : {P : Program} → IsLogical P → (t : QueryTree P) → arithmetics t ≡ []
-logical_arithmetics {P} logical t = reckon_none logical t (logical_agenda [] 0 P.query.body end (logical 0) tt)
+pub simple_arithmetics : {P : Program} → IsSimple P → (t : QueryTree P) → arithmetics t ≡ []
+simple_arithmetics {P} simple t = reckon_none simple t (simple_agenda [] 0 P.query.body end (simple 0) tt)
 
 -- With no arithmetic goal, equations are closed as they are.
-pub logical_closed : {P : Program} → IsLogical P → (t : QueryTree P) → Closed t (equations t) []
-logical_closed logical t = let e = logical_arithmetics logical t in rw e (Closes.waiting (equations t) [] tt)
+pub simple_closed : {P : Program} → IsSimple P → (t : QueryTree P) → Closed t (equations t) []
+simple_closed simple t = let e = simple_arithmetics simple t in rw e (Closes.waiting (equations t) [] tt)

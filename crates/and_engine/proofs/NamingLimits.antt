@@ -14,8 +14,9 @@ use Rattle.and_laws.proofs.Keeping.{dead_has_none}
 use Rattle.and_laws.proofs.Order.{below_self, below_then, reduce_above, below_equations, whole_has_none, open_or_whole, same_proof, reduce_weight, clause_weighs}
 use Rattle.and_laws.proofs.Splitting.{leftmost, leftmost_same}
 use Rattle.and_laws.proofs.Unfolding.{extend_leftmost}
-use Rattle.and_engine.specs.Naming.{IsLogical, Outgrows, Clear, ClearFrom}
-use Rattle.and_engine.proofs.NamingEquations.{logical_closed}
+use Rattle.and_engine.specs.Naming.{Outgrows, Clear, ClearFrom}
+use Rattle.and_model.specs.Simple.{IsSimple}
+use Rattle.and_engine.proofs.NamingEquations.{simple_closed}
 
 -- A larger tree than one without a solution has none,
 pub unsolvable_above : {P : Program} {ag : Agenda} {t u : Tree P ag} → Below P ag t u → (Solvable (equations t) → ⊥) → Solvable (equations u) → ⊥
@@ -182,9 +183,9 @@ pub heavy_outgrows : (P : Program) (limit : ℕ) (t : QueryTree P) → weight t 
     → (o : Open t) → IsLeftmost t o → (c : ℕ) → Of P (call_of t o) c → limit < weight t + clause_weight (clause_at P c) → Outgrows P limit t [] c
 heavy_outgrows P limit t fits es gs closed so o m c h over = (t, refl, fits, es, gs, closed, so, o, m, h, over)
 
-pub logical_outgrows : (P : Program) → IsLogical P → (limit : ℕ) (t : QueryTree P) → weight t ≤ limit → Solvable (equations t)
+pub simple_outgrows : (P : Program) → IsSimple P → (limit : ℕ) (t : QueryTree P) → weight t ≤ limit → Solvable (equations t)
     → (o : Open t) → IsLeftmost t o → (c : ℕ) → Of P (call_of t o) c → limit < weight t + clause_weight (clause_at P c) → Outgrows P limit t [] c
-logical_outgrows P logical limit t fits so o m c h over = heavy_outgrows P limit t fits (equations t) [] (logical_closed logical t) so o m c h over
+simple_outgrows P simple limit t fits so o m c h over = heavy_outgrows P limit t fits (equations t) [] (simple_closed simple t) so o m c h over
 
 -- What is over at a code is what the query's own tree outgrows by it, where the query is not too heavy.
 pub over_outgrows : (P : Program) (limit : ℕ) → clause_weight P.query ≤ limit → (cs : List ℕ) (c : ℕ) → OverLeft P limit cs c ↔ Outgrows P limit (blank (query_agenda P)) cs c

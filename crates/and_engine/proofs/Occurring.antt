@@ -6,7 +6,7 @@ use Rattle.and_model.specs.Solutions.{MostGeneral}
 use Rattle.and_model.specs.Lines.{same_variable}
 use Rattle.and_laws.proofs.Substitutions.{Through}
 use Rattle.and_laws.proofs.Equality.{bool_cases}
-use Rattle.and_laws.proofs.Occurrences.{size, sizes}
+use Rattle.and_laws.specs.Sizes.{size, sizes}
 use Rattle.and_laws.proofs.Printing.{same_variable_true}
 use Rattle.and_engine.specs.Cells.{single}
 use Rattle.and_engine.specs.Solved.{stands_in, stands_in_some}

@@ -2,9 +2,9 @@
 use Rattle.std.proofs.Common.{ℕ, ◌+◌, ◌*◌, ◌<◌, ◌≡◌, ◌↔◌, Bool, true, ◌||◌, List, [], ◌∷◌, ◌++◌, refl, ap, sym, ◌∙◌, subst, arith}
 use Rattle.std.proofs.Math.Bool.{or_assoc, or_comm, or-false}
 use Rattle.and_model.specs.Terms.{Term, compound, none, more, Substitution, apply, apply_all}
-use Rattle.and_model.specs.Simple.{is_bounded, are_bounded}
+use Rattle.and_engine.specs.Plain.{is_bounded, are_bounded}
 use Rattle.and_laws.proofs.Substitutions.{and_left, and_right}
-use Rattle.and_laws.proofs.Occurrences.{size, sizes}
+use Rattle.and_laws.specs.Sizes.{size, sizes}
 use Rattle.and_engine.specs.Solved.{stands_in, stands_in_some}
 use Rattle.and_engine.specs.Rows.{placed_all, SearchedWithin, stands_in_rows, searched_weight}
 use Rattle.and_engine.specs.declared.rows.PlacedTerms.{PlacedTerms}

@@ -5,7 +5,7 @@ use Rattle.std.proofs.lemmas.List.{get_or_append_left, get_or-take, get_or-set_s
 use Rattle.std.proofs.lemmas.Bool.{ltb-true}
 use Rattle.std.proofs.lemmas.Option.{slice_get_within}
 use Rattle.and_model.specs.Terms.{Path, Term, Terms, variable, number, compound, none, more, apply}
-use Rattle.and_model.specs.Simple.{is_bounded, are_bounded}
+use Rattle.and_engine.specs.Plain.{is_bounded, are_bounded}
 use Rattle.and_laws.proofs.Substitutions.{same, and_left, and_right}
 use Rattle.and_laws.proofs.Equality.{bool_cases}
 use Rattle.and_engine.specs.Cells.{term_of, in_cells, placed, AreWithin, IsWithin, meaning}

@@ -2,12 +2,13 @@
 use Rattle.std.proofs.Common.{ℕ, suc, ◌+◌, ◌≡◌, ◌≢◌, ◌<◌, ◌≤◌, true, false, List, [], ◌∷◌, ◌++◌, length, take, append_assoc, refl, sym, ap, ◌∙◌, subst, arith, inl, inr, Option, Some, None, MatchOption, true≢false}
 use Rattle.std.proofs.lemmas.Bool.{cases_lt}
 use Rattle.std.proofs.lemmas.List.{take-take}
+use Rattle.std.proofs.lemmas.List.{map-append}
 use Rattle.and_model.specs.Solutions.{Solvable}
 use Rattle.and_model.specs.Programs.{Program, clause_at, clause_weight, is_of, Of}
 use Rattle.and_model.specs.Trees.{QueryTree, Open, IsWhole, call_of, reduce, equations, weight, unfold_code, code}
 use Rattle.and_model.specs.Listing.{Entry, Lists, ListsFrom, Listing, Outcome, answer, line_of}
 use Rattle.and_model.specs.Listing as listing
-use Rattle.and_model.specs.Output.{OverLeft, lines_of, NoneOver}
+use Rattle.and_model.specs.Output.{OverLeft, NoneOver}
 use Rattle.and_laws.proofs.Order.{same_proof}
 use Rattle.and_engine.specs.Naming.{Clear, ClearFrom}
 use Rattle.and_engine.specs.Search.{IsChoice, code_below, IsPast, IsBeyond, Standing, Remains, AllClear, Owes, no_piece, GivesAt, ClearAt, next_of}
@@ -66,7 +67,6 @@ pub owes_less : (P : Program) (limit : ℕ) (f : Found) (piece less : List Entry
 owes_less P limit f piece less clear more remains remains2 rest rest2 a b r k o = record {
   found = o.found;
   lines = o.lines;
-  any = o.any;
   listing = λ ks ls p q. o.listing ks ls (a ks p) (r ls q);
   over = over f.outgrown o.over;
 }
@@ -107,7 +107,6 @@ take_up P limit made pending f c cs h st o =
       record {
         found = o.found;
         lines = o.lines;
-        any = o.any;
         listing = λ ks ls p r.
             let all : ListsFrom P limit st.0 st.1 c.clause (ks ++ r.0) = lists_from_piece P limit st.0 st.1 c.clause ks r.0 h p r.3 in
             let whole : Listing P limit (o.found ++ ([] ++ ((ks ++ r.0) ++ r.1))) = o.listing [] ((ks ++ r.0) ++ r.1) refl (ks ++ r.0, r.1, refl, all, r.4) in
@@ -147,7 +146,6 @@ module _ (P : Program) (limit : ℕ) (f : Found) (t : QueryTree P) (o : Open t) 
   noted g over h heavy w = record {
     found = w.found;
     lines = w.lines;
-    any = w.any;
     listing = λ ks ls p r. w.listing ks ls (subst (GivesAt P limit t o c) (sym p) (GivesAt.heavy h heavy)) r;
     over = over;
   }
@@ -157,7 +155,6 @@ module _ (P : Program) (limit : ℕ) (f : Found) (t : QueryTree P) (o : Open t) 
   noted_before g is h heavy w = record {
     found = w.found;
     lines = w.lines;
-    any = w.any;
     listing = λ ks ls p r. w.listing ks ls (subst (GivesAt P limit t o c) (sym p) (GivesAt.heavy h heavy)) r;
     over = rw is (let k : MatchOption f.outgrown (ClearAt P limit t o c → rest → NoneOver P limit) (λ g. OverLeft P limit g.code g.clause.0) = w.over in rw is at k);
   }
@@ -168,25 +165,15 @@ pub nothing_unsolvable : (P : Program) (limit : ℕ) (f : Found) (t : QueryTree 
 nothing_unsolvable P limit f t remains rest un w = owes_less P limit f (Lists P limit t) no_piece (Clear P limit t) (Unit {0}) remains remains rest rest
     (λ ks p. subst (Lists P limit t) (sym p) (unsolvable_lists P limit t un)) (λ u. unsolvable_clear P limit t un) (λ ls r. r) (λ r. r) w
 
-lines_of-append : (xs ys : List Entry) → lines_of (xs ++ ys) ≡ lines_of xs ++ lines_of ys
-lines_of-append [] ys = refl
-lines_of-append (e ∷ xs) ys =
-    ap (λ z. line_of e.outcome ++ 10 ∷ z) (lines_of-append xs ys) ∙ sym (append_assoc (line_of e.outcome) (10 ∷ lines_of xs) (lines_of ys))
-
-not_empty : (xs : List Entry) (e : Entry) → (xs ++ e ∷ []) ≢ []
-not_empty [] e q = absurd (cc)
-not_empty (x ∷ xs) e q = absurd (cc)
-
 -- A whole tree gives its one entry.
 pub answered_one : (P : Program) (limit : ℕ) (f g : Found) (t : QueryTree P) (o : Outcome) (remains : List Entry → Type 0) (rest : Type 0) → IsWhole t → listing.Ends t o → Clear P limit t
-    → g.lines ≡ f.lines ++ line_of o ++ 10 ∷ [] → g.any ≡ true → g.outgrown ≡ f.outgrown
+    → g.lines.items ≡ f.lines.items ++ line_of o ∷ [] → g.outgrown ≡ f.outgrown
     → Owes P limit f (Lists P limit t) (Clear P limit t) remains rest → Owes P limit g no_piece (Unit {0}) remains rest
-answered_one P limit f g t o remains rest whole ends clear lines any outgrown w =
+answered_one P limit f g t o remains rest whole ends clear lines outgrown w =
     let e : Entry = record { code = code t; outcome = o } in
     record {
       found = w.found ++ e ∷ [];
-      lines = lines ∙ ap (λ l. l ++ line_of o ++ 10 ∷ []) w.lines ∙ append_assoc (lines_of w.found) (line_of o) (10 ∷ []) ∙ sym (lines_of-append w.found (e ∷ []));
-      any = (λ x. not_empty w.found e, λ x. any);
+      lines = lines ∙ ap (λ l. l ++ line_of o ∷ []) w.lines ∙ sym (map-append (λ (d : Entry). line_of d.outcome) w.found (e ∷ []));
       listing = λ ks ls p r. subst (Listing P limit) (sym (append_assoc w.found (e ∷ []) (ks ++ ls))) (w.listing (e ∷ []) (ks ++ ls) (listing.answered t o ends) (subst (λ z. remains (z ++ ls)) (sym p) r));
       over = rw outgrown (over f.outgrown w.over);
     }
@@ -206,7 +193,6 @@ choose_top P limit made pending f c cs t o first choice code past st w =
       record {
         found = w.found;
         lines = w.lines;
-        any = w.any;
         listing = λ ks ls p r.
             let from : ListsFrom P limit t o 1 r.0 = subst (λ n. ListsFrom P limit t o n r.0) first r.3 in
             subst (λ z. Listing P limit (w.found ++ (z ++ ls))) (sym p) (subst (λ z. Listing P limit (w.found ++ z)) (sym r.2) (w.listing r.0 r.1 (listing.calls t o r.0 choice.leftmost from) r.4));

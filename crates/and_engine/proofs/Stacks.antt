@@ -5,7 +5,7 @@ use Rattle.std.proofs.lemmas.List.{map-append}
 use Rattle.and_model.specs.Terms.{Path, Term, variable, compound, more, variables_of, variables_in, Substitution, apply, apply_all}
 use Rattle.and_model.specs.Lines.{has, first_seen}
 use Rattle.indexmap.specs.IndexSet.{insert_key}
-use Rattle.and_model.specs.Simple.{are_bounded}
+use Rattle.and_engine.specs.Plain.{are_bounded}
 use Rattle.and_engine.specs.Solved.{IsFreeVariable}
 use Rattle.and_engine.specs.Printing.{cell_variable, values, steps, steps_along, from_top, variables_ahead, steps_ahead, rows_are_within}
 use Rattle.and_engine.specs.Rows.{placed_all}

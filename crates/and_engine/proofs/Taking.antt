@@ -12,7 +12,7 @@ use Rattle.and_laws.proofs.Unfolding.{extend_leftmost}
 use Rattle.and_engine.specs.Bodies.{step_equations, EquationsWithin}
 use Rattle.and_engine.specs.Cells.{placed, AreWithin, equations_of}
 use Rattle.and_engine.specs.Naming.{Clear}
-use Rattle.and_model.specs.Simple.{IsSimple}
+use Rattle.and_engine.specs.Plain.{IsPlain}
 use Rattle.and_engine.specs.Solved.{IsTriangular}
 use Rattle.and_engine.specs.Search.{GoalsFrom, Holds, code_below, next_of, IsBeyond, Standing, Remains, AllClear, Owes, no_piece, ArePlaced}
 use Rattle.and_engine.specs.declared.placed.Placed.{Placed}
@@ -49,7 +49,7 @@ one_more {P} {ag} (x ∷ xs) u t r c e f =
       | Some v ↦ λ q. one_more xs v t r c q f
     ]) e
 
-module _ (P : Program) (limit : ℕ) (simple : IsSimple P) (c : Choice) (cs : List Choice) (made : List Binding) (pending : List Pending) (f : Found)
+module _ (P : Program) (limit : ℕ) (plain : IsPlain P) (c : Choice) (cs : List Choice) (made : List Binding) (pending : List Pending) (f : Found)
     (st : Standing P limit made pending (next_of c ∷ cs)) (h : Of P (call_of st.0 st.1) c.clause) where
   abbrev pub branch : Holds st.0 (take c.made made) c.cells (take c.goals pending) (Some c.goal)
   branch = st.2.branch
@@ -89,14 +89,14 @@ module _ (P : Program) (limit : ℕ) (simple : IsSimple P) (c : Choice) (cs : Li
       → (n cells m : ℕ) → IsBeyond n cells m (next_of c ∷ cs) → Owes P limit f (Lists P limit after) (Clear P limit after) (Remains P limit made pending (next_of c ∷ cs) st) (AllClear P limit made pending (next_of c ∷ cs) st)
       → Keeps P limit made2 pending2 f n cells m (next_of c ∷ cs)
   take_fails goal rest goals none made2 pending2 e g n cells m past owes =
-      let un : Solvable (equations after) → ⊥ = step_clash P c.clause simple st.0 st.1 h st.2.leftmost (take c.made made) c.cells (take c.goals pending) c.goal branch goal rest goals none in
+      let un : Solvable (equations after) → ⊥ = step_clash P c.clause plain st.0 st.1 h st.2.leftmost (take c.made made) c.cells (take c.goals pending) c.goal branch goal rest goals none in
       let less = nothing_unsolvable P limit f after (Remains P limit made pending (next_of c ∷ cs) st) (AllClear P limit made pending (next_of c ∷ cs) st) un owes in
       let new = stays no_piece (Unit {0}) made2 pending2 e g less in
       (past, new.0, new.1)
 
   -- The new equations are of the cells that are there then.
   pub take_within : (goal : Placed) (rest : List Placed) → branch.goals.0 ≡ goal ∷ rest → EquationsWithin (c.cells + size) (step_equations (placed goal) c.cells (clause_at P c.clause))
-  take_within goal rest goals = step_is_within P c.clause simple st.0 st.1 h st.2.leftmost (take c.made made) c.cells (take c.goals pending) c.goal branch goal rest goals
+  take_within goal rest goals = step_is_within P c.clause plain st.0 st.1 h st.2.leftmost (take c.made made) c.cells (take c.goals pending) c.goal branch goal rest goals
 
   -- They have one: the search comes to the tree after the step.
   pub take_comes : (goal : Placed) (rest : List Placed) → branch.goals.0 ≡ goal ∷ rest
@@ -105,7 +105,7 @@ module _ (P : Program) (limit : ℕ) (simple : IsSimple P) (c : Choice) (cs : Li
       → (pending2 : List Pending) (first : Option ℕ) (hs : List Placed) → ArePlaced c.cells (clause_at P c.clause).body hs → GoalsFrom pending2 first (hs ++ rest)
       → Holds after made2 (c.cells + size) pending2 first
   take_comes goal rest goals made2 triangular within solved pending2 first hs placed_hs from =
-      holds_step P c.clause simple st.0 st.1 h st.2.leftmost (take c.made made) c.cells (take c.goals pending) c.goal branch goal rest goals made2 triangular within solved pending2 first hs placed_hs from
+      holds_step P c.clause plain st.0 st.1 h st.2.leftmost (take c.made made) c.cells (take c.goals pending) c.goal branch goal rest goals made2 triangular within solved pending2 first hs placed_hs from
 
   pub comes_weight : (heft : ℕ) → heft ≡ weight st.0 + clause_weight (clause_at P c.clause) → heft ≡ weight after
   comes_weight heft e = omega (arith, e, reduce_weight st.0 st.1 c.clause h)

@@ -3,7 +3,7 @@ use Rattle.std.proofs.Common.{ℕ, suc, ◌≡◌, ◌+◌, ◌<◌, Bool, true,
 use Rattle.std.proofs.lemmas.List.Folds.{list_all-append}
 use Rattle.and_model.specs.Terms.{Terms, compound, none, more, Substitution, apply, apply_all}
 use Rattle.and_model.specs.Lines.{Bytes, is_cell, point_name, shown_name, shown, shown_arguments, shown_tail}
-use Rattle.and_model.specs.Simple.{is_bounded, are_bounded}
+use Rattle.and_engine.specs.Plain.{is_bounded, are_bounded}
 use Rattle.and_engine.specs.Cells.{placed, cells_of}
 use Rattle.and_engine.specs.Printing.{values, steps, steps_along, from_top, names_of, line_variables, substitution_of, value_of, task_text, task_steps, task_is_within, text_ahead, tasks_ahead, tasks_are_within, GoesOn, is_list_cell}
 use Rattle.and_engine.specs.Rows.{placed_all}

@@ -19,7 +19,8 @@ use Rattle.and_engine.specs.Solved.{IsValid}
 use Rattle.and_program.specs.Loaded.{program_of}
 use Rattle.and_program.specs.Nodes.{entry_clause, shapes_of}
 use Rattle.and_program.specs.declared.loaded.Loaded.{Loaded}
-use Rattle.and_engine.specs.Naming.{IsLogical, goals_of, variables_made}
+use Rattle.and_engine.specs.Naming.{goals_of, variables_made}
+use Rattle.and_model.specs.Simple.{IsSimple}
 use Rattle.and_engine.specs.Search.{GoalsFrom, StandFor, Holds, Standing, Remains, AllClear, Owes, IsBeyond, IsInScope, IsOfChoice, Goes, Looks, Tries, Takes, Outgrows, PutsOn, AddsAtMost, code_below, next_of, no_piece, program, stack}
 use Rattle.and_engine.specs.Search as search
 use Rattle.and_engine.specs.declared.placed.Placed.{Placed}
@@ -29,9 +30,9 @@ use Rattle.and_engine.specs.declared.search.Choice.{Choice}
 use Rattle.and_engine.specs.declared.search.Outgrown.{Outgrown}
 use Rattle.and_engine.specs.declared.search.Search.{Search}
 use Rattle.and_engine.specs.declared.placed.PlacedClause.{PlacedClause}
-use Rattle.and_engine.proofs.BodyCells.{simple_logical}
+use Rattle.and_engine.proofs.PlainLemmas.{plain_simple}
 use Rattle.and_engine.proofs.Branches.{same_count_applied}
-use Rattle.and_engine.proofs.NamingEquations.{logical_closed}
+use Rattle.and_engine.proofs.NamingEquations.{simple_closed}
 use Rattle.and_engine.proofs.NamingGoals.{leftmost_goals}
 use Rattle.and_engine.proofs.Choosing.{made_weigh}
 use Rattle.and_engine.proofs.Stack.{nothing_other, piece_of_tree, noted, noted_before}
@@ -102,9 +103,9 @@ numbers_within P limit made pending (c ∷ cs) few st =
     subst (All In) (sym (reverse-append (c ∷ []) cs))
     (All-append In (reverse cs) (c ∷ []) (numbers_within P limit made pending cs few st.5) (All-cons In c [] here (all_none In)))
 
-over_left : (P : Program) → IsLogical P → (limit : ℕ) (t : QueryTree P) (cs : List ℕ) → unfold_code P cs ≡ Some t → weight t ≤ limit → Solvable (equations t) → (o : Open t) → IsLeftmost t o
+over_left : (P : Program) → IsSimple P → (limit : ℕ) (t : QueryTree P) (cs : List ℕ) → unfold_code P cs ≡ Some t → weight t ≤ limit → Solvable (equations t) → (o : Open t) → IsLeftmost t o
     → (c : ℕ) → Of P (call_of t o) c → limit < weight t + clause_weight (clause_at P c) → OverLeft P limit cs c
-over_left P logical limit t cs code fits so o m c h heavy = inr (t, code, fits, equations t, [], logical_closed logical t, so, o, m, h, heavy)
+over_left P simple limit t cs code fits so o m c h heavy = inr (t, code, fits, equations t, [], simple_closed simple t, so, o, m, h, heavy)
 
 -- The search goes on from the same choicepoints.
 goes_from : (s : Search) (c : Choice) (cs : List Choice) → IsInScope s → stack s ≡ c ∷ cs → IsValid s.bindings → IsBeyond (vec_len s.bindings.made) (cells_of s.bindings) (vec_len s.pending) (c ∷ cs)
@@ -193,7 +194,7 @@ module _ (s : Search) (c : Choice) (w : Outgrows s c) where
       let remains : List Entry → Type 0 = Remains (program s) s.limit (made_of s.bindings) s.pending.items (next_of c ∷ w.1) w.6 in
       let rest : Type 0 = AllClear (program s) s.limit (made_of s.bindings) s.pending.items (next_of c ∷ w.1) w.6 in
       let over : OverLeft (program s) s.limit (code_below w.1) c.clause =
-      over_left (program s) (simple_logical (program s) w.0.1) s.limit w.6.0 (code_below w.1) w.6.3 w.6.2.fits w.6.2.branch.solvable w.6.1 w.6.2.leftmost c.clause w.7 w.8 in
+      over_left (program s) (plain_simple (program s) w.0.1) s.limit w.6.0 (code_below w.1) w.6.3 w.6.2.fits w.6.2.branch.solvable w.6.1 w.6.2.leftmost c.clause w.7 w.8 in
       let kept : OverLeft (program s) s.limit g.code g.clause.0 = subst (λ n. OverLeft (program s) s.limit g.code n) (sym clause) (subst (λ l. OverLeft (program s) s.limit l c.clause) (sym code) over) in
       goes_from (record s { found = record s.found { outgrown = Some g } }) (next_of c) w.1 w.0 w.2 w.4 w.5 w.6 (noted (program s) s.limit s.found w.6.0 w.6.1 c.clause remains rest g kept w.7 w.8 w.9)
 

@@ -3,7 +3,7 @@ use Rattle.std.proofs.Common.{ℕ, ◌<◌, ◌≡◌, true, false, List, [], le
 use Rattle.std.specs.Prelude.{slice_get}
 use Rattle.std.proofs.lemmas.Bool.{ltb-true}
 use Rattle.and_model.specs.Terms.{Term, variable, apply}
-use Rattle.and_model.specs.Simple.{is_bounded}
+use Rattle.and_engine.specs.Plain.{is_bounded}
 use Rattle.and_engine.specs.Cells.{placed, IsWithin, meaning}
 use Rattle.and_engine.specs.Solved.{IsFreeVariable, is_bound, IsSolved}
 use Rattle.and_engine.specs.declared.placed.Placed.{Placed}

@@ -7,7 +7,7 @@ use Rattle.and_program.specs.Skeletons.{item_of}
 use Rattle.and_program.specs.Items.{node_item}
 use Rattle.and_program.specs.Loaded.{skeleton_of}
 use Rattle.and_program.specs.declared.item.ItemNode.{ItemNode}
-use Rattle.and_model.specs.Simple.{is_bounded}
+use Rattle.and_engine.specs.Plain.{is_bounded}
 use Rattle.and_engine.specs.Cells.{in_cells}
 use Rattle.and_engine.specs.declared.placed.PlacedClause.{PlacedClause}
 

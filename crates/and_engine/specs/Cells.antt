@@ -6,7 +6,7 @@ use Rattle.and_model.specs.Lines.{same_variable}
 use Rattle.and_model.specs.Programs.{Clause, clause_at}
 use Rattle.and_program.specs.Skeletons.{node_term}
 use Rattle.and_program.specs.Loaded.{program_of, skeleton_of}
-use Rattle.and_model.specs.Simple.{is_bounded}
+use Rattle.and_engine.specs.Plain.{is_bounded}
 use Rattle.and_engine.specs.declared.placed.Placed.{Placed}
 use Rattle.and_engine.specs.declared.placed.PlacedClause.{PlacedClause}
 use Rattle.and_engine.specs.declared.placed.Binding.{Binding}

@@ -1,7 +1,9 @@
+pub mod Apart
 pub mod Arguments
 pub mod Bodies
 pub mod Cells
 pub mod Naming
+pub mod Plain
 pub mod Printing
 pub mod Rows
 pub mod Search

@@ -6,18 +6,6 @@ use Rattle.and_model.specs.Programs.{Program, Item, call, equal, arithmetic, fai
 use Rattle.and_model.specs.Lines.{has, place_of}
 use Rattle.and_model.specs.Trees.{Agenda, Tree, done, left, by, equate, reckon, QueryTree, Open, IsLeftmost, Closed, call_of, reduce, weight, extend_all}
 
--- no item is arithmetic
-abbrev pub AreLogical : List Item → Type 0
-AreLogical [] = Unit {0}
-AreLogical (call g ∷ items) = AreLogical items
-AreLogical (equal a b ∷ items) = AreLogical items
-AreLogical (arithmetic a ∷ items) = ⊥
-AreLogical (fail ∷ items) = AreLogical items
-
--- No body has arithmetic. (Clause 0 is the query.)
-abbrev pub IsLogical : Program → Type 0
-IsLogical P = (c : ℕ) → AreLogical (clause_at P c).body
-
 -- no call is taken
 abbrev pub NoneTaken : {P : Program} {ag : Agenda} → Tree P ag → Type 0
 NoneTaken done = Unit {0}

@@ -3,7 +3,7 @@ use Rattle.std.specs.Prelude.{ℕ, suc, ◌+◌, ◌<◌, ◌≡◌, Bool, true,
 use Rattle.std.specs.List.{list_all}
 use Rattle.and_model.specs.Terms.{Path, Term, Terms, variable, number, compound, none, more, variables_in, Substitution, apply, apply_all}
 use Rattle.and_model.specs.Lines.{Bytes, first_seen, is_cell, is_nil, shown, shown_tail, shown_rest}
-use Rattle.and_model.specs.Simple.{is_bounded, are_bounded}
+use Rattle.and_engine.specs.Plain.{is_bounded, are_bounded}
 use Rattle.and_program.specs.Loaded.{program_of}
 use Rattle.and_engine.specs.Cells.{placed, cells_of, made_of, meaning}
 use Rattle.and_engine.specs.Rows.{placed_all}

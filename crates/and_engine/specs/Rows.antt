@@ -1,8 +1,8 @@
 -- What is still to be done when equations are solved (this project's own): rows of terms that are to be made equal, and rows that are searched for a cell.
 use Rattle.std.specs.Prelude.{ℕ, ◌+◌, ◌*◌, ◌≡◌, ◌≢◌, ◌<◌, Bool, true, false, ◌||◌, List, [], ◌∷◌}
 use Rattle.and_model.specs.Terms.{Term, Terms, variable, number, compound, none, more, Substitution, apply, apply_all}
-use Rattle.and_model.specs.Simple.{are_bounded}
-use Rattle.and_laws.proofs.Occurrences.{sizes}
+use Rattle.and_engine.specs.Plain.{are_bounded}
+use Rattle.and_laws.specs.Sizes.{sizes}
 use Rattle.and_engine.specs.Arguments.{arguments_of, without}
 use Rattle.and_engine.specs.Cells.{term_of, placed, IsWithin}
 use Rattle.and_engine.specs.Solved.{IsFreeVariable, stands_in_some}

@@ -5,13 +5,14 @@ use Rattle.and_model.specs.Solutions.{Solvable}
 use Rattle.and_model.specs.Programs.{Program, Item, call, equal, arithmetic, fail, clause_at, clause_weight, is_of, Of}
 use Rattle.and_model.specs.Trees.{QueryTree, Open, IsLeftmost, call_of, reduce, equations, weight, unfold_code}
 use Rattle.and_model.specs.Listing.{Entry, Lists, ListsFrom, Listing}
-use Rattle.and_model.specs.Output.{OverLeft, lines_of, NoneOver}
-use Rattle.and_model.specs.Simple.{is_bounded}
+use Rattle.and_model.specs.Output.{OverLeft, NoneOver}
+use Rattle.and_engine.specs.Plain.{is_bounded}
 use Rattle.and_program.specs.Loaded.{program_of}
 use Rattle.and_engine.specs.Cells.{AreWithin, equations_of, cells_of, made_of, term_of}
-use Rattle.and_model.specs.Simple.{IsSimple}
+use Rattle.and_engine.specs.Plain.{IsPlain}
 use Rattle.and_engine.specs.Solved.{IsValid}
 use Rattle.and_engine.specs.Naming.{IsLeftGrown, goals_of, variables_made, FrameAt, SameSolutions, Clear, ClearFrom}
+use Rattle.and_engine.specs.Searching.{entry_lines}
 use Rattle.and_engine.specs.declared.placed.Placed.{Placed}
 use Rattle.and_engine.specs.declared.placed.PlacedClause.{PlacedClause}
 use Rattle.and_engine.specs.declared.placed.Binding.{Binding}
@@ -86,8 +87,7 @@ AllClear P limit made pending (c ∷ cs) st = ClearFrom P limit st.0 st.1 c.clau
 -- and the piece is clear and so is all that remains, there is none.
 pub record Owes (P : Program) (limit : ℕ) (f : Found) (piece : List Entry → Type 0) (clear : Type 0) (remains : List Entry → Type 0) (rest_clear : Type 0) : Type 0 where
   pub found : List Entry
-  pub lines : f.lines ≡ lines_of found
-  pub any : IsTrue f.any ↔ (found ≢ [])
+  pub lines : f.lines.items ≡ entry_lines found
   pub listing : (ks ls : List Entry) → piece ks → remains ls → Listing P limit (found ++ (ks ++ ls))
   pub over : MatchOption f.outgrown (clear → rest_clear → NoneOver P limit) (λ g. OverLeft P limit g.code g.clause.0)
 
@@ -110,7 +110,7 @@ program s = program_of s.loaded.now
 
 -- the limit is in range, and the program is one that this engine is for
 abbrev pub IsInScope : Search → Type 0
-IsInScope s = (s.limit ≤ 4194304) × IsSimple (program s)
+IsInScope s = (s.limit ≤ 4194304) × IsPlain (program s)
 
 -- the choicepoints, the topmost first
 abbrev pub stack : Search → List Choice
@@ -151,7 +151,7 @@ abbrev pub Begins : Search → PlacedClause → ℕ → Type 0
 Begins s k heft =
     IsInScope s × (k.loaded.now ≡ s.loaded.now) × (k.clause.0 ≡ 0) × (k.base ≡ 0) × (heft ≡ clause_weight (program s).query) × (heft ≤ s.limit)
     × IsValid s.bindings × (made_of s.bindings ≡ []) × (cells_of s.bindings ≡ 0) × (s.pending.items ≡ []) × (s.choices.items ≡ [])
-    × (s.found.lines ≡ []) × (s.found.any ≡ false) × (s.found.outgrown ≡ None)
+    × (s.found.lines.items ≡ []) × (s.found.outgrown ≡ None)
 
 -- The topmost choicepoint was `c`, and that clause of it is looked at.
 abbrev pub Tries : Search → Choice → Type 0

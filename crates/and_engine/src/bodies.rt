@@ -95,6 +95,9 @@ impl<'a> Bindings<'a> {
         ensures valid { OnOk result (IsValid self.new) }
     {
         let head = clause.head();
+        if self.heads_clash(goal, head) {
+            return Ok(false);
+        }
         if !self.solve(goal, head)? {
             return Ok(false);
         }

@@ -1,13 +1,13 @@
 //! The first engine: one thread, the leftmost goal first, clauses in textual order.
 
-ghost use Rattle.std.specs.Prelude.{◌≡◌, ◌≢◌, ◌<◌, ◌≤◌, ◌^◌, ◌+◌, ℕ, List, [], ◌∷◌, ◌++◌, ◌-◌, Some, None, false, IfOk, IfSome, IsSome, OnOk, All, map, take, length, vec_len};
+ghost use Rattle.std.specs.Prelude.{◌≡◌, ◌≢◌, ◌<◌, ◌≤◌, ◌^◌, ◌+◌, ℕ, List, [], ◌∷◌, ◌++◌, ◌-◌, Some, None, IfOk, IfSome, IsSome, OnOk, All, map, take, length, vec_len};
 ghost use Rattle.and_model.specs.Programs.{clause_weight, same_predicate};
 ghost use Rattle.and_program.specs.Skeletons.{IsThere};
 ghost use Rattle.and_program.specs.Items.{node_item};
 ghost use Rattle.and_program.specs.Loaded.{program_of, skeleton_of};
 ghost use Rattle.and_engine.specs.Bodies.{item_in};
 ghost use Rattle.and_engine.specs.Cells.{cells_of, made_of, term_of, clause_of};
-ghost use Rattle.and_model.specs.Simple.{IsSimple, IsSimpleClause};
+ghost use Rattle.and_model.specs.Simple.{AreSimple, IsSimple};
 ghost use Rattle.and_engine.specs.Solved.{IsValid};
 ghost use Rattle.and_engine.specs.Search.{AddsAtMost, Arrives, ArePlaced, Begins, Goes, Outgrows, GoalsFrom, PutsOn, Takes, Tries, program, turns};
 ghost use Rattle.and_engine.specs.Searching.{IsFound};
@@ -17,7 +17,7 @@ use crate::bindings::Bindings;
 use crate::placed::{Placed, PlacedClause};
 use crate::printing::show_line;
 use crate::search::{Choice, Found, Outgrown, Pending, Search};
-use and_model::{ClauseNo, Code, Text};
+use and_model::{ClauseNo, Code};
 use and_program::{ItemNode, Loaded, NodeKind};
 use std::alloc::{AllocError, Global};
 
@@ -41,7 +41,7 @@ fn are_of_one_predicate(call: Placed<'_>, head: Placed<'_>) -> bool
 
 /// The weight of a clause without arithmetic.
 fn weight_of(clause: PlacedClause<'_>) -> u32
-    requires { IsSimpleClause (clause_of clause) }
+    requires { AreSimple (clause_of clause).body }
     ensures weight { result ≡ clause_weight (clause_of clause.entry) }
     ensures within { result ≤ 256 }
 {
@@ -132,8 +132,7 @@ impl<'a> Search<'a> {
         ensures made { made_of result.bindings ≡ [] }
         ensures pending { result.pending.items ≡ [] }
         ensures choices { result.choices.items ≡ [] }
-        ensures lines { result.found.lines ≡ [] }
-        ensures any { result.found.any ≡ false }
+        ensures lines { result.found.lines.items ≡ [] }
         ensures outgrown { result.found.outgrown ≡ None }
     {
         Search {
@@ -143,8 +142,7 @@ impl<'a> Search<'a> {
             pending: Vec::new(alloc),
             choices: Vec::new(alloc),
             found: Found {
-                lines: Text::new(alloc),
-                any: false,
+                lines: Vec::new(alloc),
                 outgrown: None,
             },
         }
@@ -153,7 +151,6 @@ impl<'a> Search<'a> {
     /// Keeps that the query alone outgrew the limit.
     fn keep_query(&mut self, alloc: Global)
         ensures lines { self.new.found.lines ≡ self.old.found.lines }
-        ensures any { self.new.found.any ≡ self.old.found.any }
         ensures outgrown { IfSome self.new.found.outgrown (λ g. (g.code ≡ []) × (g.clause.0 ≡ 0)) }
         ensures kept { IsSome self.new.found.outgrown }
         ensures loaded { self.new.loaded ≡ self.old.loaded }
@@ -187,7 +184,7 @@ impl<'a> Search<'a> {
         Ok(())
     }
 
-    /// Writes the answer that the search came to.
+    /// Keeps the line of the answer that the search came to.
     fn answer(&mut self, alloc: Global, weight: u32) -> Result<(), AllocError>
         requires { Arrives self.old None weight }
         ensures goes { OnOk result (Goes self.new) }
@@ -196,9 +193,7 @@ impl<'a> Search<'a> {
         ensures limit { self.new.limit ≡ self.old.limit }
     {
         let line = show_line(alloc, self.loaded, &self.bindings)?;
-        self.found.lines.append(line.bytes())?;
-        self.found.lines.append(b"\n")?;
-        self.found.any = true;
+        self.found.lines.push(line)?;
         Ok(())
     }
 
@@ -340,6 +335,7 @@ pub fn find_all<'a>(alloc: Global, loaded: &'a Loaded, limit: u32) -> Result<Fou
     requires simple { IsSimple (program_of loaded.now) }
     ensures { IfOk result (IsFound (program_of loaded.now) limit) }
 {
+    loaded.skeleton_is_of_the_program();
     let mut search = Search::new(alloc, loaded, limit);
     let query = placed_clause(loaded, 0, 0);
     let weight = weight_of(query);

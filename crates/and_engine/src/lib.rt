@@ -4,6 +4,7 @@
 
 mod bindings;
 mod bodies;
+mod clashing;
 mod engine;
 mod placed;
 mod printing;

@@ -34,12 +34,11 @@ pub struct Outgrown {
     pub clause: ClauseNo,
 }
 
-/// What a search found: the lines of the answers, each with a newline, whether there are any, and
-/// one branch that outgrew the limit where there are any.
+/// What a search found: the lines of the answers, in order, and one branch that outgrew the limit
+/// where there are any.
 #[derive(Drop)]
 pub struct Found {
-    pub lines: Text,
-    pub any: bool,
+    pub lines: Vec<Text>,
     pub outgrown: Option<Outgrown>,
 }
 

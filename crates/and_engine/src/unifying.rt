@@ -6,7 +6,7 @@ ghost use Rattle.std.specs.Bool.{OnTrue, OnFalse};
 ghost use Rattle.and_model.specs.Terms.{Substitution, apply, variable};
 ghost use Rattle.and_model.specs.Terms as terms;
 ghost use Rattle.and_model.specs.Solutions.{Solves, Solvable};
-ghost use Rattle.and_laws.proofs.Occurrences.{size};
+ghost use Rattle.and_laws.specs.Sizes.{size};
 ghost use Rattle.and_engine.specs.Cells.{placed, IsWithin, cells_of, made_of, equations_of, meaning};
 ghost use Rattle.and_engine.specs.Solved.{IsValid, IsFreeVariable, CanBind, AreEquivalent, asked, stands_in};
 ghost use Rattle.and_engine.specs.Rows.{RowsWithin, SearchedWithin, SolvesRows, Says, IsFresh, IsLast, stands_in_rows, rows_weight, searched_weight, placed_all};

@@ -1,7 +1,7 @@
 use Rattle.std.proofs.Common.{◌≡◌, true, ap, sym, ◌∙◌, map, arith}
 use Rattle.and_model.specs.Terms.{compound, apply}
 use Rattle.and_model.specs.Lines.{first_seen}
-use Rattle.and_model.specs.Simple.{is_bounded, are_bounded}
+use Rattle.and_engine.specs.Plain.{is_bounded, are_bounded}
 use Rattle.and_engine.specs.Cells.{placed, cells_of, made_of, meaning}
 use Rattle.and_engine.specs.Printing.{cell_variable, values, steps}
 use Rattle.and_engine.specs.Rows.{placed_all}

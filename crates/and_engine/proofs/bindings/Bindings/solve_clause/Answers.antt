@@ -12,6 +12,16 @@ use Rattle.and_engine.proofs.bindings.Bindings.solve_clause.Goals as goal
 head_is : (head : Placed) (clause : PlacedClause) → term_of head ≡ (clause_of clause).head → head.base ≡ clause.base → placed head ≡ in_cells clause.base (clause_of clause).head
 head_is head clause e f = ap (in_cells head.base) e ∙ ap (λ n. in_cells n (clause_of clause).head) f
 
+pub returns-then-heads_clash-clause-clash : goal.returns-then-heads_clash-clause-clash
+returns-then-heads_clash-clause-clash c =
+    let old : List Equation = equations_of (made_of c.args.self.now) in
+    let head = head_is c.head-head.result c.args.clause c.head-head.ensures.term c.head-head.ensures.base in
+    let none : Solvable ((placed c.args.goal, placed c.head-head.result) ∷ old) → ⊥ =
+    λ w. c.heads_clash.ensures c.if-heads_clash.true w.0 w.1.1 w.1.0 in
+    clashed_head (placed c.args.goal, in_cells c.args.clause.base (clause_of c.args.clause).head)
+    (cell_equations c.args.clause.base (clause_of c.args.clause).body) old
+    (subst (λ (t : Term). Solvable ((placed c.args.goal, t) ∷ old) → ⊥) head none)
+
 pub returns-then-not-branch-clause-clash : goal.returns-then-not-branch-clause-clash
 returns-then-not-branch-clause-clash c =
     let old : List Equation = equations_of (made_of c.args.self.now) in

@@ -5,12 +5,13 @@ use Rattle.and_model.specs.Trees.{call_of}
 use Rattle.and_laws.proofs.Order.{clause_weighs}
 use Rattle.and_engine.specs.Cells.{term_of, clause_of}
 use Rattle.and_engine.specs.Search.{IsOfChoice, Tries, program}
-use Rattle.and_model.specs.Simple.{IsSimpleClause}
+use Rattle.and_model.specs.Simple.{AreSimple}
 use Rattle.and_engine.specs.declared.placed.Placed.{Placed}
 use Rattle.and_engine.specs.declared.placed.PlacedClause.{PlacedClause}
 use Rattle.and_engine.specs.declared.search.Choice.{Choice}
 use Rattle.and_engine.specs.declared.search.Pending.{Pending}
 use Rattle.and_engine.specs.declared.search.Search.{Search}
+use Rattle.and_engine.proofs.PlainLemmas.{plain_simple}
 use Rattle.and_engine.proofs.Trying.{chosen, tried_place, tried_cells, tried_is_of, tried_other, tried_heavy, tried_light, puts_on_more}
 use Rattle.and_engine.proofs.search.Search.try_clause.Goals as goal
 
@@ -36,7 +37,8 @@ returns-then-not-are_of_one_predicate-clause-goes c =
 pub weight_of-requires : goal.weight_of-requires
 weight_of-requires c =
     let is : IsOfChoice c.args.self.now c.args.choice c.placed_clause-clause.result = (c.placed_clause-clause.ensures.loaded, c.placed_clause-clause.ensures.clause, c.placed_clause-clause.ensures.base) in
-    subst (λ (d : Clause). IsSimpleClause d) (sym (chosen c.args.self.now c.args.choice c.placed_clause-clause.result is)) (c.requires.0.1 c.args.choice.clause)
+    let simple = plain_simple (program c.args.self.now) c.requires.0.1 c.args.choice.clause in
+    subst (λ (d : Clause). AreSimple d.body) (sym (chosen c.args.self.now c.args.choice c.placed_clause-clause.result is)) simple
 
 pub outgrow-requires : goal.outgrow-requires
 outgrow-requires c =
