@@ -1,1 +1,2 @@
+pub mod ShowingLemmas
 pub mod TopLemmas

@@ -1,6 +1,8 @@
-//! Andorra-I for pure Prolog: `andorra run` reads a program from standard input and writes its answers.
+//! Andorra-I for pure Prolog: `andorra run` reads a program from standard input and writes its answers;
+//! `andorra demo N` answers a generated program.
 #![tactic(auto)]
 
+mod showing;
 #[cfg(test)]
 mod tests;
 mod top;

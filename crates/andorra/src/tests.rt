@@ -1,22 +1,56 @@
 //! Whole runs: texts, and what is written for them.
 
-ghost use Rattle.std.specs.Prelude.{◌-◌, ◌^◌, Some, None};
+ghost use Rattle.std.specs.Prelude.{◌<◌, ◌≢◌};
 
 use crate::top::{Status, andorra};
-use and_io::{Failed, Quiet, Sink, Source, SureSink, SureSource};
-use and_model::Text;
+use and_command::USAGE;
+use and_io::{MemorySink, MemorySource, Quiet, SureSink, SureSource};
+use and_model::{CallList, Text};
 use std::alloc::{AllocError, Global};
 use std::sync::Wait;
 use std::test::Fail;
 use std::thread::Threads;
 
-fn one_word(alloc: Global, word: &str) -> Result<Vec<String>, AllocError> {
+/// The words of a line, by the blanks between them.
+fn typed(alloc: Global, line: &str) -> Result<Vec<String>, AllocError> {
     let mut words = Vec::new(alloc);
-    words.push(format!(in alloc; "{word}")?)?;
+    for word in line.split_whitespace() {
+        words.push(String::from_str(alloc, word)?)?;
+    }
     Ok(words)
 }
 
-/// The text is answered with these bytes and this status.
+/// What the words say, over a source and a sink that never fail: no fault of theirs ends it.
+fn surely<R: Threads + Wait + Sync>(
+    rt: &R,
+    alloc: Global,
+    words: &[String],
+    source: &mut SureSource,
+    sink: &mut SureSink,
+) -> Status
+    ensures no_read_fault { result ≢ Status.ReadFault }
+    ensures no_write_fault { result ≢ Status.WriteFault }
+{
+    andorra(rt, alloc, words, source, sink, &Quiet)
+}
+
+/// With the words of the line, the text is answered with these bytes and this status.
+fn answers<R: Threads + Wait + Sync>(
+    rt: &R,
+    alloc: Global,
+    line: &str,
+    text: &[u8],
+    written: &[u8],
+    status: Status,
+) -> Result<bool, AllocError> {
+    let words = typed(alloc, line)?;
+    let mut source = SureSource::new(Text::of(alloc, text)?, 7);
+    let mut sink = SureSink::new(alloc, 200)?;
+    let ended = surely(rt, alloc, &words, &mut source, &mut sink);
+    Ok(ended == status && sink.held() == written)
+}
+
+/// With the defaults, the text is answered with these bytes and this status.
 fn gives<R: Threads + Wait + Sync>(
     rt: &R,
     alloc: Global,
@@ -24,11 +58,7 @@ fn gives<R: Threads + Wait + Sync>(
     written: &[u8],
     status: Status,
 ) -> Result<bool, AllocError> {
-    let words = one_word(alloc, "run")?;
-    let mut source = SureSource::new(Text::of(alloc, text)?, 7);
-    let mut sink = SureSink::new(alloc, 200)?;
-    let ended = andorra(rt, alloc, &words, &mut source, &mut sink, &Quiet);
-    Ok(ended == status && sink.held() == written)
+    answers(rt, alloc, "run", text, written, status)
 }
 
 #[test]
@@ -208,88 +238,220 @@ fn refusals(rt: HostRuntime) -> Result<(), Fail> {
 }
 
 #[test]
-fn another_word(rt: HostRuntime) -> Result<(), Fail> {
+fn lightest_query(rt: HostRuntime) -> Result<(), Fail> {
     let alloc = rt.alloc();
-    let words = one_word(alloc, "go")?;
-    let mut source = SureSource::new(Text::of(alloc, b"p(a). ?- p(X).")?, 7);
-    let mut sink = SureSink::new(alloc, 200)?;
-    let ended = andorra(&rt, alloc, &words, &mut source, &mut sink, &Quiet);
-    assert_eq!(rt; ended, Status::Usage);
-    assert!(rt; sink.held() == b"usage: andorra run\n".as_slice());
+    let line = "run --limit 1";
+    let lines = b"true\n% complete\n";
+    assert!(rt; answers(&rt, alloc, line, b"?- true.", lines, Status::Answers)?);
+    let lines = b"% limit met\n";
+    assert!(rt; answers(&rt, alloc, line, b"?- X = 1.", lines, Status::Limit)?);
     Ok(())
 }
 
-/// Gives a text whole at its first read, and then fails.
-#[derive(Drop)]
-struct Torn {
-    reads: u64,
-    faults: u64,
-}
-
-impl Source for Torn {
-    ghost left = { λ _. None };
-
-    ghost faults = { λ s. s.faults };
-
-    ghost last = { Some (2 ^ 64 - 1) };
-
-    fn read(&mut self, into: &mut [u8]) -> Result<usize, Failed> {
-        self.reads = self.reads.saturating_add(1);
-        let text = b"p(a). ?- p(X).";
-        if self.reads == 1 && text.len() <= into.len() {
-            into[..text.len()].copy_from_slice(text);
-            return Ok(text.len());
-        }
-        self.faults = self.faults.saturating_add(1);
-        Err(Failed)
+#[test]
+fn nat_cut(rt: HostRuntime) -> Result<(), Fail> {
+    let text = b"nat(z). nat(s(N)) :- nat(N). ?- nat(X).";
+    let lines = b"X = z\nX = s(z)\n% limit met\n";
+    for line in [
+        "run --limit 6",
+        "run --limit=6",
+        "run --teams 3 --limit 6 --workers=1",
+    ] {
+        assert!(rt;
+            answers(&rt, rt.alloc(), line, text, lines, Status::Limit)?,
+            "at {line}"
+        );
     }
+    let lines = b"X = z\nX = s(z)\nX = s(s(z))\n% limit met\n";
+    assert!(rt; answers(&rt, rt.alloc(), "run --limit 7", text, lines, Status::Limit)?);
+    Ok(())
 }
 
-/// Takes two bytes, and then fails.
-#[derive(Drop)]
-struct Clogged {
-    writes: u64,
-    faults: u64,
+#[test]
+fn usage(rt: HostRuntime) -> Result<(), Fail> {
+    let alloc = rt.alloc();
+    let lines = [
+        "",
+        "go",
+        "run --limit 0",
+        "run --teams 17",
+        "run --stats --stats",
+        "run --",
+        "demo 65",
+    ];
+    for line in lines {
+        let words = typed(alloc, line)?;
+        let mut source = failing_source(alloc, b"p(a). ?- p(X).", 0)?;
+        let mut sink = SureSink::new(alloc, 200)?;
+        let ended = andorra(&rt, alloc, &words, &mut source, &mut sink, &Quiet);
+        assert_eq!(rt; ended, Status::Usage, "at {line}");
+        assert_eq!(rt; sink.held(), USAGE);
+        assert_eq!(rt; source.calls(), 0);
+    }
+    Ok(())
 }
 
-impl Sink for Clogged {
-    ghost held = { λ _. None };
+/// Row `append-splits`: its text, and what is written for it.
+const SPLITS: &[u8] = b"app([],L,L). app([H|T],L,[H|R]) :- app(T,L,R). ?- app(X,Y,[1,2]).";
 
-    ghost faults = { λ s. s.faults };
+const SPLITS_WRITTEN: &[u8] =
+    b"X = [], Y = [1,2]\nX = [1], Y = [2]\nX = [1,2], Y = []\n% complete\n";
 
-    ghost last = { Some (2 ^ 64 - 1) };
+/// A source of these bytes, ten at a time, that fails in a call; in none where that is 0.
+fn failing_source(alloc: Global, bytes: &[u8], call: u64) -> Result<MemorySource, AllocError>
+    requires { call < 100 }
+{
+    let mut fails = CallList::new(alloc);
+    if fails.push(call).is_err() {
+        return Err(AllocError);
+    }
+    Ok(MemorySource::new(Text::of(alloc, bytes)?, 10, fails))
+}
 
-    fn write(&mut self, from: &[u8]) -> Result<usize, Failed> {
-        self.writes = self.writes.saturating_add(1);
-        if self.writes == 1 && 2 <= from.len() {
-            return Ok(2);
-        }
-        self.faults = self.faults.saturating_add(1);
-        Err(Failed)
+#[test]
+fn failing_reads(rt: HostRuntime) -> Result<(), Fail> {
+    let alloc = rt.alloc();
+    let words = typed(alloc, "run")?;
+    for call in 1..=8 {
+        let mut source = failing_source(alloc, SPLITS, call)?;
+        let mut sink = MemorySink::new(alloc, 200)?;
+        let ended = andorra(&rt, alloc, &words, &mut source, &mut sink, &Quiet);
+        assert_eq!(rt; ended, Status::ReadFault, "at {call}");
+        assert_eq!(rt; source.calls(), call);
+        assert!(rt; sink.held().is_empty());
+        assert_eq!(rt; sink.calls(), 0);
+    }
+    let mut source = failing_source(alloc, SPLITS, 9)?;
+    let mut sink = MemorySink::new(alloc, 200)?;
+    let ended = andorra(&rt, alloc, &words, &mut source, &mut sink, &Quiet);
+    assert_eq!(rt; ended, Status::Answers);
+    assert_eq!(rt; source.calls(), 8);
+    assert_eq!(rt; sink.held(), SPLITS_WRITTEN);
+    Ok(())
+}
+
+#[test]
+fn small_sinks(rt: HostRuntime) -> Result<(), Fail> {
+    let alloc = rt.alloc();
+    let words = typed(alloc, "run")?;
+    for room in 0..SPLITS_WRITTEN.len() {
+        let mut source = SureSource::new(Text::of(alloc, SPLITS)?, 7);
+        let mut sink = MemorySink::new(alloc, room)?;
+        let ended = andorra(&rt, alloc, &words, &mut source, &mut sink, &Quiet);
+        assert_eq!(rt; ended, Status::WriteFault, "at {room}");
+        assert_eq!(rt; sink.held(), &SPLITS_WRITTEN[..room]);
+        assert_eq!(rt; sink.calls(), if room == 0 { 1 } else { 2 });
+    }
+    Ok(())
+}
+
+/// With the words of the line and a sink with so much room, writing fails, and these bytes are held.
+fn is_cut_short<R: Threads + Wait + Sync>(
+    rt: &R,
+    alloc: Global,
+    line: &str,
+    room: usize,
+    held: &[u8],
+) -> Result<bool, AllocError> {
+    let words = typed(alloc, line)?;
+    let mut source = SureSource::new(Text::of(alloc, SPLITS)?, 7);
+    let mut sink = MemorySink::new(alloc, room)?;
+    let ended = andorra(rt, alloc, &words, &mut source, &mut sink, &Quiet);
+    Ok(ended == Status::WriteFault && sink.held() == held)
+}
+
+#[test]
+fn failed_io(rt: HostRuntime) -> Result<(), Fail> {
+    let alloc = rt.alloc();
+    let words = typed(alloc, "run")?;
+    let mut source = failing_source(alloc, SPLITS, 2)?;
+    let mut sink = MemorySink::new(alloc, 200)?;
+    let ended = andorra(&rt, alloc, &words, &mut source, &mut sink, &Quiet);
+    assert_eq!(rt; ended, Status::ReadFault);
+    assert!(rt; sink.held().is_empty());
+    assert!(rt; is_cut_short(&rt, alloc, "run", 5, b"X = [")?);
+    assert!(rt; is_cut_short(&rt, alloc, "go", 5, b"usage")?);
+    Ok(())
+}
+
+/// Row `four-queens`: its text.
+const QUEENS: &[u8] = b"% four queens
+d(1). d(2). d(3). d(4).
+ok(_,_,[]).
+ok(Q,N,[X|Xs]) :- Q =\\= X, Q =\\= X+N, X =\\= Q+N, M is N+1, ok(Q,M,Xs).
+all([]).
+all([Q|Qs]) :- ok(Q,1,Qs), all(Qs).
+?- Q = [A,B,C,D], all(Q), d(A), d(B), d(C), d(D).
+";
+
+/// What is written for a front of that text. Up to the end of its first clause with arithmetic, a
+/// front of whole clauses is without a query, and any other ends within a clause.
+fn written_for_front(alloc: Global, front: &[u8]) -> Result<String, AllocError> {
+    let line = 1 + front.iter().filter(|byte| **byte == b'\n').count();
+    if 4 < line || front.ends_with(b"ok(Q,M,Xs).") {
+        return format!(in alloc; "error: line 4: not pure\n");
+    }
+    let last = front.iter().rfind(|byte| !byte.is_ascii_whitespace());
+    if front.len() <= b"% four queens\n".len() || last == Some(&b'.') {
+        format!(in alloc; "error: line {line}: no query\n")
+    } else {
+        format!(in alloc; "error: line {line}: syntax\n")
     }
 }
 
 #[test]
-fn faults(rt: HostRuntime) -> Result<(), Fail> {
+fn cut_texts(rt: HostRuntime) -> Result<(), Fail> {
     let alloc = rt.alloc();
-    let words = one_word(alloc, "run")?;
-    let mut torn = Torn {
-        reads: 0,
-        faults: 0,
-    };
-    let mut sink = SureSink::new(alloc, 200)?;
-    let ended = andorra(&rt, alloc, &words, &mut torn, &mut sink, &Quiet);
-    assert_eq!(rt; ended, Status::ReadFault);
-    assert!(rt; sink.held().is_empty());
-    assert_eq!(rt; torn.reads, 2);
+    for length in 0..=QUEENS.len() {
+        let front = &QUEENS[..length];
+        let written = written_for_front(alloc, front)?;
+        assert!(rt;
+            gives(&rt, alloc, front, written.as_bytes(), Status::Refused)?,
+            "at {length}"
+        );
+    }
+    Ok(())
+}
 
-    let mut source = SureSource::new(Text::of(alloc, b"p(a). ?- p(X).")?, 7);
-    let mut clogged = Clogged {
-        writes: 0,
-        faults: 0,
-    };
-    let ended = andorra(&rt, alloc, &words, &mut source, &mut clogged, &Quiet);
-    assert_eq!(rt; ended, Status::WriteFault);
-    assert_eq!(rt; clogged.writes, 2);
+/// With the words of the line, a demo is answered with these bytes, and the source is not called.
+fn shows<R: Threads + Wait + Sync>(
+    rt: &R,
+    alloc: Global,
+    line: &str,
+    written: &[u8],
+) -> Result<bool, AllocError> {
+    let words = typed(alloc, line)?;
+    let mut source = failing_source(alloc, SPLITS, 1)?;
+    let mut sink = SureSink::new(alloc, 200)?;
+    let ended = andorra(rt, alloc, &words, &mut source, &mut sink, &Quiet);
+    Ok(ended == Status::Answers && sink.held() == written && source.calls() == 0)
+}
+
+#[test]
+fn demo_small(rt: HostRuntime) -> Result<(), Fail> {
+    let lines =
+        b"lines 1\nfirst P = [n(0,0),n(1,0),n(2,0)]\nlast P = [n(0,0),n(1,0),n(2,0)]\n% complete\n";
+    assert!(rt; shows(&rt, rt.alloc(), "demo 0", lines)?);
+    let lines = b"lines 3\nfirst P = [n(0,0),n(0,1),n(1,1),n(2,1)]\n\
+        last P = [n(0,0),n(1,0),n(2,0),n(2,1)]\n% complete\n";
+    assert!(rt; shows(&rt, rt.alloc(), "demo 1", lines)?);
+    assert!(rt; shows(&rt, rt.alloc(), "demo --teams 3 01 --workers=4", lines)?);
+    Ok(())
+}
+
+#[test]
+fn demo_64(rt: HostRuntime) -> Result<(), Fail> {
+    let alloc = rt.alloc();
+    let words = typed(alloc, "demo 64")?;
+    let mut source = failing_source(alloc, SPLITS, 1)?;
+    let mut sink = SureSink::new(alloc, 2000)?;
+    let ended = andorra(&rt, alloc, &words, &mut source, &mut sink, &Quiet);
+    assert_eq!(rt; ended, Status::Answers);
+    assert!(rt;
+        sink.held()
+            .starts_with(b"lines 2145\nfirst P = [n(0,0),n(0,1),")
+    );
+    assert!(rt; sink.held().ends_with(b",n(2,64)]\n% complete\n"));
+    assert_eq!(rt; source.calls(), 0);
     Ok(())
 }

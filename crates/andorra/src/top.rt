@@ -1,13 +1,19 @@
 //! The top call: from the bytes of a text to the bytes of its answers.
 
-ghost use Rattle.std.specs.Prelude.{◌≡◌, ◌≢◌, ◌⊎◌, ◌≤◌, ◌<◌, ℕ, List, [], map, Some, length, IfOk, IsTrue, ◌↔◌, string_bytes};
+ghost use Rattle.std.specs.Prelude.{◌≡◌, ◌≢◌, ◌⊎◌, ◌≤◌, ◌<◌, ℕ, [], map, length, IfOk, string_bytes};
 ghost use Rattle.and_io.specs.Flow.{Rose, Stays, Gains, AreAll};
-ghost use Rattle.andorra.specs.Top.{Answered, GainsPrefix, IsRun, Told, WasAnswered, Responds, IsLast, bytes_read, usage};
+ghost use Rattle.and_gen.specs.Layered as generated;
+ghost use Rattle.and_model.specs.declared.limits.TheConstants.{DEFAULT_LIMIT};
+ghost use Rattle.andorra.specs.Shown.{shown_by, summary, whole};
+ghost use Rattle.andorra.specs.Top.{Answered, GainsPrefix, IsComplete, IsDemo, IsLast, IsRun, IsUsage, Told, WasAnswered, bytes_read, usage};
 
+use crate::showing::{Show, written};
+use and_command::{Command, Settings, USAGE, command_of};
 use and_engine::{Found, find_all};
+use and_gen::layered;
 use and_io::{Gate, ReadAll, ReadStop, Sink, Source, read_all, write_all_counted};
 use and_model::Text;
-use and_model::limits::{DEFAULT_LIMIT, MAX_BYTES};
+use and_model::limits::MAX_BYTES;
 use and_reader::{read_program, refusal_text};
 use std::alloc::{AllocError, Global};
 use std::sync::Wait;
@@ -36,17 +42,6 @@ pub enum Status {
     Floundered = 8,
 }
 
-const USAGE: &[u8] = b"usage: andorra run\n";
-
-fn is_run(words: &[String]) -> bool
-    ensures { IsTrue result ↔ IsRun (map string_bytes words.now) }
-{
-    match words {
-        [word] => word.as_str() == "run",
-        _ => false,
-    }
-}
-
 /// Writes what is due, and says what became of it.
 fn finish<K: Sink>(sink: &mut K, due: &[u8], status: Status) -> Status
     requires { status ≢ Status.WriteFault }
@@ -68,34 +63,38 @@ struct Reply {
     status: Status,
 }
 
-/// Puts the last line behind the answers.
-fn last_line(found: &mut Found) -> Result<Status, AllocError>
-    ensures { IfOk result (λ status. IsLast found.old status found.new.lines) }
+/// Puts the last line behind what is written of the answers.
+fn write_last_line(text: &mut Text, found: &Found) -> Result<Status, AllocError>
+    ensures { IfOk result (λ status. IsLast found.now status text.old text.new) }
 {
     if found.outgrown.is_some() {
-        found.lines.append(b"% limit met\n")?;
+        text.append(b"% limit met\n")?;
         return Ok(Status::Limit);
     }
-    found.lines.append(b"% complete\n")?;
-    if found.any {
-        Ok(Status::Answers)
-    } else {
+    text.append(b"% complete\n")?;
+    if found.lines.is_empty() {
         Ok(Status::NoAnswer)
+    } else {
+        Ok(Status::Answers)
     }
 }
 
 /// The answer to a text.
-fn answer_to(alloc: Global, text: &[u8]) -> Result<Reply, AllocError>
-    ensures { IfOk result (λ reply. WasAnswered reply.status text.now reply.text) }
+fn answer_to(
+    alloc: Global,
+    show: Show,
+    settings: Settings,
+    text: &[u8],
+) -> Result<Reply, AllocError>
+    requires { settings.limit ≤ 4194304 }
+    ensures { IfOk result (λ reply. WasAnswered (shown_by show) settings.limit reply.status text.now reply.text) }
 {
     match read_program(alloc, text) {
         Ok(loaded) => {
-            let mut found = find_all(alloc, &loaded, DEFAULT_LIMIT)?;
-            let status = last_line(&mut found)?;
-            Ok(Reply {
-                text: found.lines,
-                status,
-            })
+            let found = find_all(alloc, &loaded, settings.limit)?;
+            let mut text = written(alloc, show, &found.lines)?;
+            let status = write_last_line(&mut text, &found)?;
+            Ok(Reply { text, status })
         }
         Err(refusal) => {
             if refusal.is_memory() {
@@ -109,6 +108,26 @@ fn answer_to(alloc: Global, text: &[u8]) -> Result<Reply, AllocError>
     }
 }
 
+/// Answers a text.
+fn respond<K: Sink>(
+    alloc: Global,
+    show: Show,
+    settings: Settings,
+    sink: &mut K,
+    text: &[u8],
+) -> Status
+    requires { settings.limit ≤ 4194304 }
+    ensures answered { Answered (shown_by show) settings.limit (K.held sink.old) (K.held sink.new) result text.now }
+    ensures no_read_fault { result ≢ Status.ReadFault }
+    ensures fault { result ≡ Status.WriteFault → Rose K.last (K.faults sink.old) (K.faults sink.new) }
+    ensures count { K.faults sink.old ≤ K.faults sink.new }
+{
+    match answer_to(alloc, show, settings, text) {
+        Ok(reply) => finish(sink, reply.text.bytes(), reply.status),
+        Err(AllocError) => Status::Memory,
+    }
+}
+
 /// What was read.
 fn text_of(read: &ReadAll) -> &Text
     ensures { result.now ≡ bytes_read read.now }
@@ -119,19 +138,49 @@ fn text_of(read: &ReadAll) -> &Text
     }
 }
 
-/// Answers what was read.
-fn respond<K: Sink>(alloc: Global, sink: &mut K, read: &ReadAll) -> Status
-    ensures answered { Responds (K.held sink.old) (K.held sink.new) result read.now }
-    ensures fault { result ≡ Status.WriteFault → Rose K.last (K.faults sink.old) (K.faults sink.new) }
-    ensures count { K.faults sink.old ≤ K.faults sink.new }
+/// Reads a text from the source and answers it.
+fn run<S: Source, K: Sink>(
+    alloc: Global,
+    settings: Settings,
+    source: &mut S,
+    sink: &mut K,
+) -> Status
+    requires { settings.limit ≤ 4194304 }
+    ensures answered { Told (S.left source.old) (Answered whole settings.limit (K.held sink.old) (K.held sink.new) result) }
+    ensures read_whole { IsComplete result → AreAll (S.left source.new) [] }
+    ensures no_usage { result ≢ Status.Usage }
+    ensures read_fault { result ≡ Status.ReadFault → Rose S.last (S.faults source.old) (S.faults source.new) × (K.held sink.new ≡ K.held sink.old) }
+    ensures write_fault { result ≡ Status.WriteFault → Rose K.last (K.faults sink.old) (K.faults sink.new) }
+    ensures memory { result ≡ Status.Memory → K.held sink.new ≡ K.held sink.old }
+    ensures not_floundered { result ≢ Status.Floundered }
+    ensures source_count { S.faults source.old ≤ S.faults source.new }
+    ensures sink_count { K.faults sink.old ≤ K.faults sink.new }
 {
-    match answer_to(alloc, text_of(read).bytes()) {
-        Ok(reply) => finish(sink, reply.text.bytes(), reply.status),
-        Err(AllocError) => Status::Memory,
+    match read_all(alloc, source, MAX_BYTES) {
+        Ok(read) => respond(alloc, Show::Whole, settings, sink, text_of(&read).bytes()),
+        Err(ReadStop::Failed) => Status::ReadFault,
+        Err(ReadStop::Memory) => Status::Memory,
     }
 }
 
-/// Reads a program from the source and writes its answers to the sink.
+/// Answers the generated text of a number by a summary.
+fn demo<K: Sink>(alloc: Global, number: u32, settings: Settings, sink: &mut K) -> Status
+    requires few { number ≤ 64 }
+    requires limited { settings.limit ≤ 4194304 }
+    ensures answered { Answered summary settings.limit (K.held sink.old) (K.held sink.new) result (generated.layered number) }
+    ensures no_read_fault { result ≢ Status.ReadFault }
+    ensures fault { result ≡ Status.WriteFault → Rose K.last (K.faults sink.old) (K.faults sink.new) }
+    ensures count { K.faults sink.old ≤ K.faults sink.new }
+{
+    match layered(alloc, number) {
+        Ok(text) => respond(alloc, Show::Summary, settings, sink, text.bytes()),
+        // The number is not too big, so that it is for want of memory.
+        Err(_) => Status::Memory,
+    }
+}
+
+/// Does what the words of the command line say: answers the text of the source, or the generated
+/// text of a number, and writes to the sink.
 pub fn andorra<R: Threads + Wait + Sync, S: Source, K: Sink, G: Gate>(
     _rt: &R,
     alloc: Global,
@@ -141,13 +190,19 @@ pub fn andorra<R: Threads + Wait + Sync, S: Source, K: Sink, G: Gate>(
     _gate: &G,
 ) -> Status
     // What was written, and for which text.
-    ensures answered { IsRun (map string_bytes words.now) →
-        Told (S.left source.old) (Answered (K.held sink.old) (K.held sink.new) result) }
-    ensures read_whole { (result ≡ Status.Answers) ⊎ (result ≡ Status.NoAnswer) ⊎ (result ≡ Status.Limit) → AreAll (S.left source.new) [] }
+    ensures answered { (settings : Settings) → IsRun (map string_bytes words.now) settings →
+        Told (S.left source.old) (Answered whole settings.limit (K.held sink.old) (K.held sink.new) result) }
+    ensures read_whole { (settings : Settings) → IsRun (map string_bytes words.now) settings →
+        IsComplete result → AreAll (S.left source.new) [] }
+
+    // What was written of a generated text. The source is untouched.
+    ensures demo { (n : ℕ) (settings : Settings) → IsDemo (map string_bytes words.now) n settings →
+        Answered summary DEFAULT_LIMIT (K.held sink.old) (K.held sink.new) result (generated.layered n) × (result ≢ Status.ReadFault)
+        × (S.left source.new ≡ S.left source.old) × (S.faults source.new ≡ S.faults source.old) }
 
     // Where the words are no command.
-    ensures usage_only { result ≡ Status.Usage → (IsRun (map string_bytes words.now) → ⊥) × Gains (K.held sink.old) (K.held sink.new) usage }
-    ensures used { (IsRun (map string_bytes words.now) → ⊥) →
+    ensures usage_only { result ≡ Status.Usage → IsUsage (map string_bytes words.now) × Gains (K.held sink.old) (K.held sink.new) usage }
+    ensures used { IsUsage (map string_bytes words.now) →
         ((result ≡ Status.Usage) ⊎ ((result ≡ Status.WriteFault) × GainsPrefix (K.held sink.old) (K.held sink.new) usage))
         × (S.left source.new ≡ S.left source.old) × (S.faults source.new ≡ S.faults source.old) }
 
@@ -159,12 +214,9 @@ pub fn andorra<R: Threads + Wait + Sync, S: Source, K: Sink, G: Gate>(
     ensures source_count { S.faults source.old ≤ S.faults source.new }
     ensures sink_count { K.faults sink.old ≤ K.faults sink.new }
 {
-    if !is_run(words) {
-        return finish(sink, USAGE, Status::Usage);
-    }
-    match read_all(alloc, source, MAX_BYTES) {
-        Ok(read) => respond(alloc, sink, &read),
-        Err(ReadStop::Failed) => Status::ReadFault,
-        Err(ReadStop::Memory) => Status::Memory,
+    match command_of(words) {
+        Some(Command::Run { settings }) => run(alloc, settings, source, sink),
+        Some(Command::Demo { number, settings }) => demo(alloc, number, settings, sink),
+        None => finish(sink, USAGE, Status::Usage),
     }
 }

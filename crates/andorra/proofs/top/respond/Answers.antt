@@ -1,10 +1,19 @@
-use Rattle.andorra.specs.Top.{WasAnswered, bytes_read}
+use Rattle.std.proofs.Common.{sym, subst}
+use Rattle.andorra.specs.Shown.{shown_by}
+use Rattle.andorra.specs.Top.{WasAnswered}
 use Rattle.andorra.proofs.TopLemmas.{responded}
 use Rattle.andorra.proofs.top.respond.Goals as goal
 
 pub returns-in-Ok-clause-answered : goal.returns-in-Ok-clause-answered
 returns-in-Ok-clause-answered g c =
-    let was : WasAnswered c.in-Ok.reply.status c.text_of.result.now c.in-Ok.reply.text = rw (← c.bytes.ensures) c.in-Ok.ensures in
-    let was2 : WasAnswered c.in-Ok.reply.status c.text_of.result.now c.bytes-in-Ok.result.now = rw c.bytes-in-Ok.ensures was in
-    let was3 : WasAnswered c.in-Ok.reply.status (bytes_read c.args.read.now) c.bytes-in-Ok.result.now = rw (← c.text_of.ensures) was2 in
-    responded _ _ (bytes_read c.args.read.now) c.bytes-in-Ok.result.now c.in-Ok.reply.status c.finish.result was3 c.finish.ensures.written (λ e. (c.finish.ensures.fault e).1)
+    let was = subst (WasAnswered (shown_by c.args.show) c.args.settings.limit c.in-Ok.reply.status c.args.text.now)
+    (sym c.bytes.ensures) c.in-Ok.ensures in
+    (responded (shown_by c.args.show) c.args.settings.limit _ _ c.args.text.now c.bytes.result.now c.in-Ok.reply.status c.finish.result was
+    c.finish.ensures.written (λ e. (c.finish.ensures.fault e).1)).0
+
+pub returns-in-Ok-clause-no_read_fault : goal.returns-in-Ok-clause-no_read_fault
+returns-in-Ok-clause-no_read_fault g c =
+    let was = subst (WasAnswered (shown_by c.args.show) c.args.settings.limit c.in-Ok.reply.status c.args.text.now)
+    (sym c.bytes.ensures) c.in-Ok.ensures in
+    (responded (shown_by c.args.show) c.args.settings.limit _ _ c.args.text.now c.bytes.result.now c.in-Ok.reply.status c.finish.result was
+    c.finish.ensures.written (λ e. (c.finish.ensures.fault e).1)).1
