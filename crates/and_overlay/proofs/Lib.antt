@@ -1,0 +1,9 @@
+mod PlaceLemmas
+pub mod Owned
+pub mod Knowing
+pub mod Stepping
+pub mod Setting
+pub mod Numbers
+pub mod Looking
+mod Kept
+mod Sifting

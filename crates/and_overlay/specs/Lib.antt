@@ -1,0 +1,4 @@
+pub mod Places
+pub mod Overlaid
+pub mod Settings
+pub mod Props
