@@ -1,36 +1,33 @@
 -- What a walk over an expression begins with, and what its answers show.
-use Rattle.std.proofs.Common.{ℕ, ℤ, suc, ◌≡◌, ◌≢◌, ◌<◌, ◌≤◌, ◌+◌, ◌⊎◌, List, [], ◌∷◌, ◌++◌, map, length, Option, Some, None, Result, Ok, Err, false, refl, ap, sym, ◌∙◌, subst, arith, inl, inr}
-use Rattle.std.specs.Prelude.{Contains, All, OnOk}
+use Rattle.std.proofs.Common.{ℕ, ℤ, ◌≡◌, ◌≢◌, ◌<◌, ◌≤◌, ◌+◌, ◌⊎◌, List, [], ◌∷◌, ◌++◌, map, Option, Some, None, Result, Ok, Err, false, refl, ap, sym, ◌∙◌, subst, arith, inl, inr}
+use Rattle.std.specs.Prelude.{Contains, OnOk}
 use Rattle.std.specs.Result.{is_err}
 use Rattle.std.proofs.lemmas.List.Elements.{All-nil, All-contains}
 use Rattle.and_laws.proofs.Pairwise.{all_pairs_none, all_pairs_first, all_pairs_rest}
 use Rattle.and_model.specs.Terms.{Path, Term, variables_of}
-use Rattle.and_model.specs.Arithmetic.{value}
 use Rattle.and_model.specs.Store.{Setting, Known, AreDistinct}
 use Rattle.and_model.specs.declared.numbers.NodeNo.{NodeNo}
 use Rattle.and_model.specs.declared.reference.Ref.{Ref}
-use Rattle.and_model.specs.declared.reference.Ref.TheVariants.{Free, Cell, Node, Number, Half}
+use Rattle.and_model.specs.declared.reference.Ref.TheVariants.{Cell, Node, Number, Half}
 use Rattle.and_program.specs.Skeletons.{AllFall}
 use Rattle.and_cells.specs.Ranges.{NamedProgram, IsInRange}
-use Rattle.and_cells.specs.Seen.{Seen, OnlyReads, Knows, IsAmong, LeadsTo, here, onward, FoundFree, Misses, IsWrittenIfNumber, IsCoherent}
-use Rattle.and_cells.specs.Meaning.{cell_variable}
-use Rattle.and_cells.specs.Parts.{parts_of}
+use Rattle.and_cells.specs.Seen.{Seen, Knows, IsAmong, LeadsTo, here, onward, FoundFree, Misses, IsWrittenIfNumber, IsCoherent}
 use Rattle.and_cells.proofs.Chains.{reads_nothing, reads_more}
 use Rattle.and_arith.specs.Values.{Reaches, whole, KnownAs, HasValue, IsGround, LacksValue, IsFirstFree}
-use Rattle.and_arith.specs.Sizes.{size_of, parts_behind, parts_with, AreOpened, AreAllOpened, IsSettledAnswer, Spends}
+use Rattle.and_arith.specs.Sizes.{size_of, parts_with, AreOpened, AreAllOpened, IsSettledAnswer, Spends}
 use Rattle.and_arith.specs.Taken.{Listed, cells_of}
 use Rattle.and_arith.specs.Turns.{Stand, IsReady, Stops, PutsOff, Finishes}
 use Rattle.and_arith.specs.declared.walk.Task.{Task}
-use Rattle.and_arith.specs.declared.walk.Task.TheVariants.{Enter, Leave, Keep}
+use Rattle.and_arith.specs.declared.walk.Task.TheVariants.{Enter, Keep}
 use Rattle.and_arith.specs.declared.values.Valued.{Valued}
 use Rattle.and_arith.specs.declared.values.Valued.TheVariants as valued
 use Rattle.and_arith.proofs.Members.{none_in, first_in, first_or_later, image_in, from_image}
 use Rattle.and_arith.proofs.KnownTerms.{IsOnce, Extends, cell_cases}
 use Rattle.and_arith.proofs.Yielding.{Yields, leads_same}
-use Rattle.and_arith.proofs.Owing.{Stays, Owes, Ahead, begins}
-use Rattle.and_arith.proofs.Covering.{Passed, on_chain, on_pair, on_half, on_literal, on_taken, Covered, waiting, covered_cell, covered_pair, all_covered, reaches_later, reaches_on}
+use Rattle.and_arith.proofs.Owing.{Ahead, begins}
+use Rattle.and_arith.proofs.Covering.{Passed, on_chain, on_pair, on_half, on_literal, on_taken, Covered, waiting, covered_cell, covered_pair, all_covered, reaches_on}
 use Rattle.and_arith.proofs.Counting.{parts_left, size_of_some, literal_size}
-use Rattle.and_arith.proofs.Standing.{Stands, places, stands_later, entry_of_cell}
+use Rattle.and_arith.proofs.Standing.{Stands, stands_later, entry_of_cell}
 use Rattle.and_arith.proofs.Turning.{Goes}
 
 -- No place is known twice where nothing is listed twice.

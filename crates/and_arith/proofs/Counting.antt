@@ -1,5 +1,5 @@
 -- How many parts are left, and what gets less with each turn.
-use Rattle.std.proofs.Common.{ℕ, ℤ, pos, zero, suc, ◌≡◌, ◌<◌, ◌≤◌, ◌+◌, ◌-◌, ◌*◌, ◌^◌, inl, inr, List, [], ◌∷◌, ◌++◌, map, length, get_or, refl, ap, sym, ◌∙◌, subst, arith}
+use Rattle.std.proofs.Common.{ℕ, ℤ, zero, suc, ◌≡◌, ◌<◌, ◌≤◌, ◌+◌, ◌-◌, ◌*◌, ◌^◌, List, [], ◌∷◌, ◌++◌, map, length, refl, ap, sym, ◌∙◌, arith}
 use Rattle.std.proofs.Math.Nat.{suc-mul}
 use Rattle.and_model.specs.Terms as terms
 use Rattle.and_model.specs.Terms.{Term, Terms}
@@ -15,9 +15,9 @@ use Rattle.and_cells.specs.Ranges.{NamedProgram}
 use Rattle.and_cells.specs.Parts.{part_at, parts_of}
 use Rattle.and_cell_laws.proofs.Structures.{node_term_shape}
 use Rattle.and_laws.specs.Sizes.{size, sizes}
-use Rattle.and_arith.specs.Sizes.{size_of, parts_behind, parts_with}
+use Rattle.and_arith.specs.Sizes.{size_of, parts_behind}
 use Rattle.and_arith.specs.Taken.{Listed}
-use Rattle.and_arith.specs.Turns.{IsStructureAt, tasks_of}
+use Rattle.and_arith.specs.Turns.{IsStructureAt}
 use Rattle.and_arith.specs.declared.walk.Task.{Task}
 use Rattle.and_arith.specs.declared.walk.Task.TheVariants.{Enter, Leave, Keep}
 use Rattle.and_arith.proofs.Yielding.{parts_are}

@@ -1,9 +1,9 @@
 -- What an expression leads to was passed, or lies below what is to be entered.
-use Rattle.std.proofs.Common.{ℕ, ℤ, suc, ◌≡◌, ◌≢◌, ◌⊎◌, inl, inr, List, [], ◌∷◌, ◌++◌, map, Option, Some, None, refl, ap, sym, ◌∙◌, subst}
+use Rattle.std.proofs.Common.{ℕ, ℤ, suc, ◌≡◌, List, [], map, Option, refl, sym, subst}
 use Rattle.std.specs.Prelude.{Contains}
 use Rattle.and_model.specs.declared.numbers.NodeNo.{NodeNo}
 use Rattle.and_model.specs.declared.reference.Ref.{Ref}
-use Rattle.and_model.specs.declared.reference.Ref.TheVariants.{Free, Cell, Node, Number, Half}
+use Rattle.and_model.specs.declared.reference.Ref.TheVariants.{Cell, Node, Number, Half}
 use Rattle.and_program.specs.Skeletons as shapes
 use Rattle.and_program.specs.Shown.{arguments_in}
 use Rattle.and_program.specs.Loaded.{shape_at}

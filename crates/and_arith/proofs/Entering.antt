@@ -1,5 +1,5 @@
 -- A part was entered.
-use Rattle.std.proofs.Common.{ℕ, suc, ◌≡◌, ◌≢◌, Option, Some, None, refl, ap, sym, ◌∙◌, subst}
+use Rattle.std.proofs.Common.{ℕ, suc, ◌≡◌, Some, None, refl, sym, subst}
 use Rattle.and_model.specs.declared.reference.Ref.{Ref}
 use Rattle.and_model.specs.declared.reference.Ref.TheVariants.{Cell}
 use Rattle.and_cells.specs.Ranges.{NamedProgram, IsInRange, IsInRangeOrHalf}

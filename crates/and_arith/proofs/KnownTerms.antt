@@ -1,9 +1,7 @@
 -- The terms of references under what is known.
-use Rattle.std.proofs.Common.{ℕ, ℤ, suc, ◌≡◌, ◌≢◌, ◌<◌, ◌≤◌, ◌+◌, ◌⊎◌, inl, inr, List, [], ◌∷◌, ◌++◌, map, length, Option, Some, None, refl, ap, sym, ◌∙◌, subst, arith}
-use Rattle.std.specs.Prelude.{Contains}
+use Rattle.std.proofs.Common.{ℕ, ℤ, suc, ◌≡◌, ◌≢◌, ◌⊎◌, inl, inr, List, [], ◌∷◌, map, refl, ap, sym, ◌∙◌, subst}
 use Rattle.and_model.specs.Terms as terms
 use Rattle.and_model.specs.Terms.{Path, Term, Terms, variables_of, variables_in}
-use Rattle.and_model.specs.Arithmetic.{value, values, operated}
 use Rattle.and_model.specs.declared.numbers.NodeNo.{NodeNo}
 use Rattle.and_model.specs.declared.reference.Ref.{Ref}
 use Rattle.and_model.specs.declared.reference.Ref.TheVariants.{Free, Cell, Node, Number, Half}
@@ -13,10 +11,8 @@ use Rattle.and_cells.specs.Ranges.{NamedProgram}
 use Rattle.and_cells.specs.Seen.{Seen, Knows}
 use Rattle.and_cells.specs.Numbers.{number_of}
 use Rattle.and_cells.specs.Meaning.{cell_variable}
-use Rattle.and_cells.specs.Parts.{part_at, parts_of}
+use Rattle.and_cells.specs.Parts.{part_at}
 use Rattle.and_arith.specs.Values.{KnownAs, AllKnownAs, unbound, bound, integer, literal, structure, no_parts, more_parts}
-use Rattle.and_laws.specs.Sizes.{size, sizes}
-use Rattle.and_arith.proofs.Members.{none_in, first_or_later}
 
 -- no place is known to be set to two words
 abbrev pub IsOnce : Seen → Type 0

@@ -15,3 +15,6 @@ pub mod Ranging
 pub mod Standing
 pub mod Turning
 pub mod Concluding
+pub mod Solving
+pub mod PlainTerms
+pub mod Grounding

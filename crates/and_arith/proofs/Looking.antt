@@ -1,5 +1,5 @@
 -- What is known of a chain of cells after a look at one of them.
-use Rattle.std.proofs.Common.{ℕ, ◌≡◌, ◌≢◌, ◌<◌, refl, sym, ap, subst, ◌∙◌, inl, inr, arith}
+use Rattle.std.proofs.Common.{ℕ, ◌≡◌, ◌≢◌, ◌<◌, refl, sym, subst, ◌∙◌, inr, arith}
 use Rattle.and_model.specs.declared.reference.Ref.{Ref}
 use Rattle.and_model.specs.declared.reference.Ref.TheVariants.{Free, Cell}
 use Rattle.and_cells.specs.Ranges.{NamedProgram, CanHold, IsInRangeOrHalf}

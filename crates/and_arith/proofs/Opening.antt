@@ -1,5 +1,5 @@
 -- A structure is opened part by part, from the last one on.
-use Rattle.std.proofs.Common.{ℕ, suc, ◌≡◌, ◌<◌, List, [], ◌∷◌, ◌++◌, map, length, ◌≤◌, get_or, drop, drop-cons, reverse, refl, ap, sym, ◌∙◌, subst, arith}
+use Rattle.std.proofs.Common.{ℕ, suc, ◌≡◌, ◌<◌, List, [], ◌∷◌, ◌++◌, map, length, ◌≤◌, get_or, drop, drop-cons, reverse, ap, sym, ◌∙◌, arith}
 use Rattle.std.proofs.lemmas.List.{length-map, get_or-map, reverse-append}
 use Rattle.and_model.specs.declared.numbers.NodeNo.{NodeNo}
 use Rattle.and_model.specs.declared.reference.Ref.{Ref}

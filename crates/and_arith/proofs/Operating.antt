@@ -50,7 +50,7 @@ pub record Ends (count : ℕ) (old new : List (Option ℤ)) (c : ℕ) : Type 0 w
   pub last : List (Option ℤ)
   pub counted : length last ≡ count
   pub is : reverse old ≡ last ++ reverse new
-  pub none : operated c (reverse last) ≡ None
+  pub none : None ≡ operated c (reverse last)
 
 pub truncated : (old new : List (Option ℤ)) (n count c : ℕ) → new ≡ take n old → n ≡ length old - count → count ≤ length old → count ≢ 1 → count ≢ 2 → Ends count old new c
 truncated old new n count c is at within not_one not_two =
@@ -59,5 +59,5 @@ truncated old new n count c is at within not_one not_two =
       last = reverse (drop n old);
       counted = length-reverse (drop n old) ∙ l;
       is = ap reverse (sym (take-append-drop n old)) ∙ reverse-append (take n old) (drop n old) ∙ ap (λ xs. reverse (drop n old) ++ reverse xs) (sym is);
-      none = ap (operated c) (reverse-reverse (drop n old)) ∙ none_of_others c (drop n old) (λ e. not_one (sym l ∙ e)) (λ e. not_two (sym l ∙ e));
+      none = sym (ap (operated c) (reverse-reverse (drop n old)) ∙ none_of_others c (drop n old) (λ e. not_one (sym l ∙ e)) (λ e. not_two (sym l ∙ e)));
     }

@@ -1,9 +1,8 @@
 -- What is owed while tasks are left: the value of the expression, and its first variable.
-use Rattle.std.proofs.Common.{ℕ, ℤ, suc, ◌≡◌, ◌≢◌, ◌<◌, ◌≤◌, ◌+◌, ◌⊎◌, List, [], ◌∷◌, ◌++◌, map, length, reverse, Option, Some, None, refl, ap, sym, ◌∙◌, subst, arith, inl, inr, append_assoc}
+use Rattle.std.proofs.Common.{ℕ, ℤ, suc, ◌≡◌, ◌≢◌, ◌<◌, ◌⊎◌, List, [], ◌∷◌, ◌++◌, map, length, reverse, Option, None, refl, ap, sym, ◌∙◌, subst, arith, inl, inr, append_assoc}
 use Rattle.std.specs.Prelude.{Contains}
 use Rattle.std.proofs.lemmas.List.{reverse-append, append-nil, length-reverse, reverse-reverse}
 use Rattle.std.proofs.lemmas.List.Elements.{Contains-push_cases}
-use Rattle.and_model.specs.Terms as terms
 use Rattle.and_model.specs.Terms.{Path, Term, Terms, variables_of, variables_in}
 use Rattle.and_model.specs.Arithmetic.{operated}
 use Rattle.and_model.specs.declared.numbers.NodeNo.{NodeNo}
@@ -13,7 +12,7 @@ use Rattle.and_cells.specs.Ranges.{NamedProgram}
 use Rattle.and_cells.specs.Seen.{Seen}
 use Rattle.and_cells.specs.Parts.{parts_of}
 use Rattle.and_arith.specs.Values.{KnownAs, AllKnownAs, no_parts, more_parts}
-use Rattle.and_laws.specs.Sizes.{size, sizes}
+use Rattle.and_laws.specs.Sizes.{size}
 use Rattle.and_arith.specs.Taken.{Listed, Gives}
 use Rattle.and_arith.specs.Turns.{IsStructureAt, tasks_of}
 use Rattle.and_arith.specs.declared.walk.Task.{Task}

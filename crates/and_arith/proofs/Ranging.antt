@@ -1,22 +1,22 @@
 -- The parts of structures in range are in range, and are no numbers in pairs.
-use Rattle.std.proofs.Common.{ℕ, ◌≡◌, ◌≢◌, ◌<◌, ◌+◌, pos, List, [], ◌∷◌, map, length, get_or, Some, refl, ap, sym, subst, ◌∙◌, arith, inl, inr}
+use Rattle.std.proofs.Common.{ℕ, ◌≡◌, ◌<◌, ◌+◌, pos, List, [], ◌∷◌, map, length, get_or, refl, ap, sym, subst, ◌∙◌, arith, inl, inr}
 use Rattle.std.specs.Prelude.{Contains}
 use Rattle.std.proofs.lemmas.List.Elements.{All-contains, All-from_get_or, Contains-get_or, Contains-append_left, Contains-append_right}
 use Rattle.and_model.specs.Terms.{Path, Term, variables_of, variables_in}
 use Rattle.and_model.specs.declared.numbers.NodeNo.{NodeNo}
 use Rattle.and_model.specs.declared.reference.Ref.{Ref}
-use Rattle.and_model.specs.declared.reference.Ref.TheVariants.{Cell, Node}
+use Rattle.and_model.specs.declared.reference.Ref.TheVariants.{Node}
 use Rattle.and_program.specs.Skeletons as shapes
 use Rattle.and_program.specs.Skeletons.{Shape, term_list, nth, shape_term, terms_behind, node_term, Falls, IsFalling, AllFall}
 use Rattle.and_program.specs.Loaded.{shape_at, arguments_at}
 use Rattle.and_program.specs.Shown.{arguments_in, resolved}
 use Rattle.and_program.proofs.NodeTerms.{AllFall-at}
-use Rattle.and_cells.specs.Ranges.{NamedProgram, IsNoVariable, IsNodeInRange, IsInRange}
+use Rattle.and_cells.specs.Ranges.{NamedProgram, IsNodeInRange, IsInRange}
 use Rattle.and_cells.specs.Seen.{Seen, IsWrittenIfNumber}
 use Rattle.and_cells.specs.Parts.{part_at, parts_of}
 use Rattle.and_cells.proofs.Frames.{no_variable}
 use Rattle.and_cell_laws.proofs.Structures.{node_term_shape}
-use Rattle.and_arith.proofs.Members.{none_in, first_in, later_in, first_or_later, from_image}
+use Rattle.and_arith.proofs.Members.{none_in, first_in, first_or_later, from_image}
 
 -- what is among arguments that fall is below their node
 falls_below : (n : ℕ) (ms : List ℕ) (m : ℕ) → Falls n ms → Contains ms m → m < n
@@ -43,7 +43,7 @@ among_shape ts (shapes.compound name ms) m v c at = among_arguments ts ms m v c 
 
 module _ (P : NamedProgram) (fall : AllFall 0 P.skeleton.nodes) where
   -- the variables of an argument's node are among those of the node
-  among_node : (node m : ℕ) (v : Path × ℕ) → Contains (arguments_at P.skeleton node) m → Contains (variables_of (node_term P.skeleton.nodes m)) v → Contains (variables_of (node_term P.skeleton.nodes node)) v
+  pub among_node : (node m : ℕ) (v : Path × ℕ) → Contains (arguments_at P.skeleton node) m → Contains (variables_of (node_term P.skeleton.nodes m)) v → Contains (variables_of (node_term P.skeleton.nodes node)) v
   among_node node m v c at =
       subst (λ (u : Term). Contains (variables_of u) v) (sym (node_term_shape P.skeleton.nodes node fall)) (among_shape (terms_behind [] P.skeleton.nodes) (shape_at P.skeleton node) m v c at)
 
@@ -69,13 +69,17 @@ module _ (P : NamedProgram) (fall : AllFall 0 P.skeleton.nodes) where
   argument_in_range words base node m (shapes.number z) fits c below at = (node_fits words base node m fits c below, no_variable P m (λ k e. let both = sym at ∙ e in cc))
   argument_in_range words base node m (shapes.compound name ns) fits c below at = (node_fits words base node m fits c below, no_variable P m (λ k e. let both = sym at ∙ e in cc))
 
+  -- an argument comes before its node
+  pub argument_below : (node m : ℕ) → node < length P.skeleton.nodes → Contains (arguments_at P.skeleton node) m → m < node
+  argument_below node m there c =
+      let e : 0 + node ≡ node = omega arith in
+      argument_falls node m (shape_at P.skeleton node) (subst (λ n. IsFalling n (shape_at P.skeleton node)) e (AllFall-at 0 P.skeleton.nodes node (shapes.number (pos 0)) fall there)) c
+
   -- The parts of what is in range are in range.
   pub part_in_range : (words : ℕ) (node : NodeNo) (base : ℕ) (q : Ref) → IsInRange P words (Node node base) → Contains (parts_of P (Node node base)) q → IsInRange P words q
   part_in_range words node base q fits c =
       let w = from_image (part_at P base) (arguments_at P.skeleton node.0) q c in
-      let e : 0 + node.0 ≡ node.0 = omega arith in
-      let falls : IsFalling node.0 (shape_at P.skeleton node.0) = subst (λ n. IsFalling n (shape_at P.skeleton node.0)) e (AllFall-at 0 P.skeleton.nodes node.0 (shapes.number (pos 0)) fall fits.0.there) in
-      subst (IsInRange P words) w.2 (argument_in_range words base node.0 w.0 (shape_at P.skeleton w.0) fits.0 w.1 (argument_falls node.0 w.0 (shape_at P.skeleton node.0) falls w.1) refl)
+      subst (IsInRange P words) w.2 (argument_in_range words base node.0 w.0 (shape_at P.skeleton w.0) fits.0 w.1 (argument_below node.0 w.0 fits.0.there w.1) refl)
 
 -- where a part is found is no number in a pair
 resolved_written : (s : Seen) (shape : Shape) (node : NodeNo) (base : ℕ) → IsWrittenIfNumber s (resolved shape node base)

@@ -1,32 +1,31 @@
 -- What holds while a walk takes turns.
-use Rattle.std.proofs.Common.{ℕ, ℤ, suc, ◌≡◌, ◌≢◌, ◌<◌, ◌≤◌, ◌+◌, ◌-◌, ◌*◌, ◌^◌, ◌⊎◌, List, [], ◌∷◌, ◌++◌, map, length, get_or, reverse, Option, Some, None, refl, ap, sym, ◌∙◌, subst, arith, inl, inr}
-use Rattle.std.specs.Prelude.{Contains, All}
-use Rattle.std.proofs.lemmas.List.{length-map, length-append, length_push, map-append}
-use Rattle.std.proofs.lemmas.List.Elements.{Contains-append_left, Contains-append_right, Contains-push, Contains-push_cases, All-push, All-weaker, All-contains}
+use Rattle.std.proofs.Common.{ℕ, ℤ, suc, ◌≡◌, ◌≢◌, ◌<◌, ◌+◌, ◌⊎◌, List, [], ◌∷◌, ◌++◌, map, length, get_or, reverse, Option, None, refl, ap, sym, ◌∙◌, subst, arith, inl, inr}
+use Rattle.std.specs.Prelude.{Contains}
+use Rattle.std.proofs.lemmas.List.{length-map, length-append, map-append}
+use Rattle.std.proofs.lemmas.List.Elements.{Contains-append_left, Contains-append_right, Contains-push, Contains-push_cases, All-push, All-weaker}
 use Rattle.std.proofs.lemmas.List.Quantifiers.{all_pairs_push}
 use Rattle.and_model.specs.Arithmetic.{operated}
 use Rattle.and_model.specs.Store.{Setting, AreDistinct}
 use Rattle.and_model.specs.declared.numbers.NodeNo.{NodeNo}
 use Rattle.and_model.specs.declared.reference.Ref.{Ref}
-use Rattle.and_model.specs.declared.reference.Ref.TheVariants.{Free, Cell, Node, Number, Half}
+use Rattle.and_model.specs.declared.reference.Ref.TheVariants.{Cell, Node}
 use Rattle.and_program.specs.Skeletons.{AllFall}
-use Rattle.and_cells.specs.Ranges.{NamedProgram, IsInRange, IsInRangeOrHalf}
+use Rattle.and_cells.specs.Ranges.{NamedProgram, IsInRange}
 use Rattle.and_cells.specs.Seen.{Seen, OnlyReads, LeadsTo, Knows, IsWrittenIfNumber}
 use Rattle.and_cells.specs.Parts.{part_at, parts_of}
 use Rattle.and_cells.proofs.Chains.{reads_more, written_later, leads_later}
 use Rattle.and_arith.specs.Values.{Reaches, set, part}
-use Rattle.and_arith.specs.Sizes.{size_of, parts_behind, parts_with, AreOpened}
+use Rattle.and_arith.specs.Sizes.{AreOpened}
 use Rattle.and_arith.specs.Taken.{Listed, cells_of, IsNew, Gives}
-use Rattle.and_arith.specs.Turns.{Stand, AreCounted, IsReady, IsStructureAt, IsEnd, of_pair, of_half, of_literal, IsComeTo, tasks_of, undone_at, Comes, ends, again, opens, takes, Enters, Turns, enters, leaves, keeps}
+use Rattle.and_arith.specs.Turns.{AreCounted, IsStructureAt, tasks_of}
 use Rattle.and_arith.specs.declared.walk.Task.{Task}
 use Rattle.and_arith.specs.declared.walk.Task.TheVariants.{Enter, Leave, Keep}
-use Rattle.and_arith.proofs.Members.{none_in, first_in, later_in, first_or_later, image_in, from_image}
+use Rattle.and_arith.proofs.Members.{first_in, later_in, first_or_later, image_in, from_image}
 use Rattle.and_arith.proofs.KnownTerms.{IsOnce, Extends}
-use Rattle.and_arith.proofs.Yielding.{same_yields, come_same, come_later, set_same, leads_same, end_yields, end_later, parts_are}
+use Rattle.and_arith.proofs.Yielding.{set_same, leads_same, parts_are}
 use Rattle.and_arith.proofs.Listing.{any_default}
 use Rattle.and_arith.proofs.Owing.{Stays, keep_later, keep_behind, opened, taken_open, left, kept}
-use Rattle.and_arith.proofs.Covering.{Onward, Passed, on_taken, Covered, waiting, at_node, covered_on, chain_covered, end_covered, end_passed, leads_from_cell, reaches_later, reaches_on}
-use Rattle.and_arith.proofs.Counting.{sizes_of, parts_left, parts_left_behind, opened_size, literal_size, parts_push}
+use Rattle.and_arith.proofs.Covering.{on_taken, Covered, waiting, at_node, covered_on, chain_covered, reaches_later, reaches_on}
 use Rattle.and_arith.proofs.Ranging.{part_in_range, part_written}
 
 -- the cells of settings

@@ -1,10 +1,10 @@
 -- Steps of a walk: references without parts, structures, and what becomes of them.
-use Rattle.std.proofs.Common.{ℕ, ℤ, pos, suc, ◌≡◌, ◌≢◌, ◌≤◌, ◌<◌, ◌++◌, List, [], ◌∷◌, length, reverse, Result, Ok, Err, Option, Some, None, FitsSigned, w64, to_z, of_z, refl, ap, sym, ◌∙◌, subst, arith, inl, inr}
-use Rattle.std.specs.Prelude.{OnOk, OnErr, Contains, ◌^◌}
+use Rattle.std.proofs.Common.{ℕ, ℤ, pos, suc, ◌≡◌, ◌≤◌, ◌<◌, ◌++◌, List, [], ◌∷◌, length, reverse, Result, Ok, Err, Option, Some, None, FitsSigned, w64, to_z, of_z, refl, ap, sym, ◌∙◌, subst, arith, inl, inr}
+use Rattle.std.specs.Prelude.{OnOk, OnErr, ◌^◌}
 use Rattle.std.proofs.lemmas.Int.{to_z-of_z}
 use Rattle.std.proofs.lemmas.Option.{slice_get-get_or}
 use Rattle.std.proofs.lemmas.List.{reverse-append}
-use Rattle.and_model.specs.Arithmetic.{in_range, operated}
+use Rattle.and_model.specs.Arithmetic.{in_range}
 use Rattle.and_model.specs.declared.numbers.NameNo.{NameNo}
 use Rattle.and_model.specs.declared.numbers.NodeNo.{NodeNo}
 use Rattle.and_model.specs.declared.reference.Ref.{Ref}
@@ -20,7 +20,7 @@ use Rattle.and_cells.specs.Numbers.{number_of}
 use Rattle.and_arith.specs.Taken.{Listed, IsNew}
 use Rattle.and_arith.specs.Turns.{IsEnd, of_pair, of_literal, IsStructureAt, Undone, Comes, ends, opens, takes, tasks_of, AreCounted}
 use Rattle.and_arith.specs.declared.walk.Task.{Task}
-use Rattle.and_arith.specs.declared.walk.Task.TheVariants.{Enter, Leave, Keep}
+use Rattle.and_arith.specs.declared.walk.Task.TheVariants.{Leave, Keep}
 use Rattle.and_arith.specs.declared.walk.Turn.{Turn}
 use Rattle.and_arith.specs.declared.walk.Turn.TheVariants.{Again, Over}
 use Rattle.and_arith.specs.declared.values.Valued.TheVariants as valued

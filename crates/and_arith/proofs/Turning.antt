@@ -1,25 +1,25 @@
 -- What a turn of a walk keeps, what it takes of the fuel, and that it leaves less to do.
-use Rattle.std.proofs.Common.{ℕ, ℤ, suc, ◌≡◌, ◌≢◌, ◌<◌, ◌≤◌, ◌+◌, ◌-◌, ◌*◌, ◌^◌, List, [], ◌∷◌, ◌++◌, map, length, reverse, Option, Some, None, refl, ap, sym, ◌∙◌, subst, arith, inl, inr}
+use Rattle.std.proofs.Common.{ℕ, ℤ, suc, ◌≡◌, ◌<◌, ◌+◌, ◌-◌, ◌*◌, ◌^◌, List, [], ◌∷◌, ◌++◌, map, length, reverse, Option, Some, None, refl, ap, sym, ◌∙◌, subst, arith}
 use Rattle.std.specs.Prelude.{Contains}
 use Rattle.std.proofs.lemmas.List.{length-map, length_push}
 use Rattle.and_model.specs.Arithmetic.{operated}
 use Rattle.and_model.specs.Store.{Setting}
 use Rattle.and_model.specs.declared.numbers.NodeNo.{NodeNo}
 use Rattle.and_model.specs.declared.reference.Ref.{Ref}
-use Rattle.and_model.specs.declared.reference.Ref.TheVariants.{Cell, Node, Number, Half}
+use Rattle.and_model.specs.declared.reference.Ref.TheVariants.{Cell, Node}
 use Rattle.and_program.specs.Skeletons.{AllFall}
 use Rattle.and_cells.specs.Ranges.{NamedProgram, IsInRange, IsInRangeOrHalf}
-use Rattle.and_cells.specs.Seen.{Seen, OnlyReads, LeadsTo, Knows}
+use Rattle.and_cells.specs.Seen.{Seen, LeadsTo}
 use Rattle.and_cells.specs.Parts.{parts_of}
 use Rattle.and_cells.proofs.Chains.{leads_later}
-use Rattle.and_arith.specs.Sizes.{size_of, parts_behind, parts_with}
-use Rattle.and_arith.specs.Taken.{Listed, cells_of, IsNew, Gives}
-use Rattle.and_arith.specs.Turns.{Stand, IsStructureAt, IsEnd, of_pair, of_half, of_literal, IsComeTo, tasks_of, undone_at, Comes, ends, again, opens, takes, Enters, Leaves, Keeps, Turns, enters, leaves, keeps}
+use Rattle.and_arith.specs.Sizes.{size_of, parts_with}
+use Rattle.and_arith.specs.Taken.{Listed, cells_of, IsNew}
+use Rattle.and_arith.specs.Turns.{Stand, IsStructureAt, IsEnd, of_pair, of_half, of_literal, IsComeTo, tasks_of, undone_at, Comes, ends, again, opens, takes, Enters, Turns, enters, leaves, keeps}
 use Rattle.and_arith.specs.declared.walk.Task.{Task}
 use Rattle.and_arith.specs.declared.walk.Task.TheVariants.{Enter, Leave, Keep}
-use Rattle.and_arith.proofs.KnownTerms.{IsOnce, Extends}
+use Rattle.and_arith.proofs.KnownTerms.{IsOnce}
 use Rattle.and_arith.proofs.Yielding.{same_yields, come_same, come_later, leads_same, end_yields, end_later}
-use Rattle.and_arith.proofs.Owing.{Stays, passes, recalled}
+use Rattle.and_arith.proofs.Owing.{passes, recalled}
 use Rattle.and_arith.proofs.Covering.{Covered, on_taken, chain_covered, end_covered, end_passed, leads_from_cell}
 use Rattle.and_arith.proofs.Counting.{sizes_of, parts_left, parts_left_behind, opened_size, literal_size, parts_push, most_parts, size_of_bounded, tasks_weight, tasks_weight_behind, weight, lighter_by_cell}
 use Rattle.and_arith.proofs.Standing.{Stands, stands_later, passed_stands, opened_stands, taken_stands, left_stands, kept_stands, cell_of_entry}

@@ -1,15 +1,13 @@
 -- The values that references yield under what is known.
-use Rattle.std.proofs.Common.{ℕ, ℤ, suc, ◌≡◌, ◌≢◌, ◌<◌, ◌≤◌, ◌+◌, inl, inr, List, [], ◌∷◌, ◌++◌, map, length, Option, Some, None, refl, ap, sym, ◌∙◌, subst, arith}
+use Rattle.std.proofs.Common.{ℕ, ℤ, suc, ◌≡◌, ◌≤◌, inl, inr, List, [], ◌∷◌, ◌++◌, map, length, Option, Some, None, refl, ap, sym, ◌∙◌, subst, arith}
 use Rattle.std.specs.Prelude.{Contains}
 use Rattle.and_model.specs.Terms as terms
 use Rattle.and_model.specs.Terms.{Term, Terms, variables_of, variables_in}
-use Rattle.and_model.specs.Arithmetic.{value, values, in_range, operated}
+use Rattle.and_model.specs.Arithmetic.{value, values, operated}
 use Rattle.and_model.specs.declared.numbers.NodeNo.{NodeNo}
 use Rattle.and_model.specs.declared.reference.Ref.{Ref}
-use Rattle.and_model.specs.declared.reference.Ref.TheVariants.{Free, Cell, Node, Number, Half}
-use Rattle.and_program.specs.Skeletons as shapes
+use Rattle.and_model.specs.declared.reference.Ref.TheVariants.{Cell, Node, Half}
 use Rattle.and_program.specs.Shown.{arguments_in}
-use Rattle.and_program.specs.Loaded.{shape_at, arguments_at}
 use Rattle.and_cells.specs.Ranges.{NamedProgram}
 use Rattle.and_cells.specs.Seen.{Seen, Knows, LeadsTo, here, onward}
 use Rattle.and_cells.specs.Numbers.{number_of}
@@ -19,7 +17,7 @@ use Rattle.and_arith.specs.Values.{KnownAs, AllKnownAs, bound, integer, literal,
 use Rattle.and_laws.specs.Sizes.{size, sizes}
 use Rattle.and_arith.specs.Turns.{IsEnd, of_pair, of_half, of_literal, IsStructureAt, IsComeTo}
 use Rattle.and_arith.proofs.Members.{none_in, first_or_later}
-use Rattle.and_arith.proofs.KnownTerms.{IsOnce, Extends, IsMadeOf, node_cases, cell_cases, pair_cases, half_has_none, all_first, all_none}
+use Rattle.and_arith.proofs.KnownTerms.{IsOnce, node_cases, cell_cases, pair_cases, half_has_none, all_first, all_none}
 
 -- the parts of a structure, by its shape
 pub parts_are : (P : NamedProgram) (node : NodeNo) (base : ℕ) (is : IsStructureAt P node) → parts_of P (Node node base) ≡ map (part_at P base) is.arguments
@@ -38,6 +36,20 @@ made_of_parts P s node base t is known = elim (node_cases P s node base t known)
         made.is ∙ ap (λ n. terms.compound n made.terms_of) same_name,
       )
 ]
+
+-- all of them are values
+abbrev pub AreSome : List (Option ℤ) → Type 0
+AreSome [] = Unit {0}
+AreSome (v ∷ vs) = ((z : ℤ) × (v ≡ Some z)) × AreSome vs
+
+-- what an operation gives a value for has values
+pub operated_some : (name : ℕ) (vs : List (Option ℤ)) (z : ℤ) → operated name vs ≡ Some z → AreSome vs
+operated_some name [] z e = tt
+operated_some name (None ∷ vs) z e = absurd (cc)
+operated_some name (Some a ∷ []) z e = ((a, refl), tt)
+operated_some name (Some a ∷ None ∷ vs) z e = absurd (cc)
+operated_some name (Some a ∷ Some b ∷ []) z e = ((a, refl), ((b, refl), tt))
+operated_some name (Some a ∷ Some b ∷ c ∷ vs) z e = absurd (cc)
 
 module _ (P : NamedProgram) (s : Seen) where
   -- A part is known as a smaller term.
@@ -82,20 +94,6 @@ module _ (P : NamedProgram) (s : Seen) where
         ap values w.2 ∙ ap (λ x. x ∷ values w.1) first.0 ∙ ap (λ xs. v ∷ xs) others.0,
         ap variables_in w.2 ∙ ap (λ xs. xs ++ variables_in w.1) first.1 ∙ others.1,
       )
-
-  -- all of them are values
-  abbrev AreSome : List (Option ℤ) → Type 0
-  AreSome [] = Unit {0}
-  AreSome (v ∷ vs) = ((z : ℤ) × (v ≡ Some z)) × AreSome vs
-
-  -- what an operation gives a value for has values
-  operated_some : (name : ℕ) (vs : List (Option ℤ)) (z : ℤ) → operated name vs ≡ Some z → AreSome vs
-  operated_some name [] z e = tt
-  operated_some name (None ∷ vs) z e = absurd (cc)
-  operated_some name (Some a ∷ []) z e = ((a, refl), tt)
-  operated_some name (Some a ∷ None ∷ vs) z e = absurd (cc)
-  operated_some name (Some a ∷ Some b ∷ []) z e = ((a, refl), ((b, refl), tt))
-  operated_some name (Some a ∷ Some b ∷ c ∷ vs) z e = absurd (cc)
 
   all_known : (rs : List Ref) (vs : List (Option ℤ)) → AllYield rs vs → AreSome vs → (ts : Terms) × AllKnownAs P s rs ts
   all_known [] [] yields some = (terms.none, no_parts)

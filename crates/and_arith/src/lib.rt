@@ -2,10 +2,15 @@
 #![tactic(auto)]
 
 mod chains;
+pub mod laws;
 pub mod operations;
 mod taken;
 pub mod values;
 mod walk;
 
+pub use laws::{
+    ground_references_have_known_terms, known_terms_are_ground, known_terms_are_in_each_solution,
+    known_terms_of_plain_cells_are_theirs,
+};
 pub use operations::{Operator, apply, compare, negate, operator_of};
 pub use values::{Valued, WorkList, value, value_of};

@@ -1,12 +1,12 @@
-use Rattle.std.proofs.Common.{ℕ, ◌≡◌, ◌∷◌, [], List, refl, ap, sym, ◌∙◌, subst, reverse}
+use Rattle.std.proofs.Common.{◌≡◌, [], refl, ap, sym, ◌∙◌, subst}
 use Rattle.and_program.specs.Skeletons.{AllFall}
 use Rattle.and_cells.specs.Ranges.{NamedProgram}
 use Rattle.and_cells.specs.Parts.{named}
 use Rattle.and_cells.specs.Seen.{FoundFree}
 use Rattle.and_cells.proofs.Chains.{reads_more}
-use Rattle.and_arith.specs.Turns.{stand, Turns}
+use Rattle.and_arith.specs.Turns.{stand}
 use Rattle.and_arith.specs.declared.walk.Turn.TheVariants.{Over}
-use Rattle.and_arith.proofs.Turning.{Goes, turn_goes}
+use Rattle.and_arith.proofs.Turning.{turn_goes}
 use Rattle.and_arith.proofs.Concluding.{coherent_once, begins_with, paid_on, is_ready, finished_value, finished_lacks, finished_paid, waits_reached, waits_free, waits_first, waits_paid, put_off_paid, spends_by, begun}
 use Rattle.and_arith.proofs.values.value.Goals as goal
 

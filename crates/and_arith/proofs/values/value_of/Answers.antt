@@ -1,4 +1,4 @@
-use Rattle.std.proofs.Common.{ℕ, ◌≡◌, [], refl, ap, sym, ◌∙◌, subst, List, length}
+use Rattle.std.proofs.Common.{ℕ, ◌≡◌, [], refl, ap, sym, ◌∙◌, subst, List}
 use Rattle.std.proofs.lemmas.Option.{same_Some}
 use Rattle.std.specs.Prelude.{IfSome}
 use Rattle.and_model.specs.declared.reference.Ref.{Ref}

@@ -1,4 +1,4 @@
-use Rattle.std.proofs.Common.{◌≡◌, List, reverse}
+use Rattle.std.proofs.Common.{List, reverse}
 use Rattle.and_model.specs.Store.{Setting}
 use Rattle.and_cells.specs.Rows.{plain}
 use Rattle.and_arith.proofs.Standing.{Stands}

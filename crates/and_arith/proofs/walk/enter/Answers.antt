@@ -1,9 +1,9 @@
-use Rattle.std.proofs.Common.{◌≡◌, Some, None, refl, ap, sym, ◌∙◌, subst, reverse}
+use Rattle.std.proofs.Common.{None, ap, reverse}
 use Rattle.and_model.specs.declared.reference.Ref.TheVariants.{Node}
 use Rattle.and_cells.specs.Parts.{named}
 use Rattle.and_cells.proofs.Chains.{reads_nothing, reads_more, or_half}
 use Rattle.and_arith.specs.Turns.{undone}
-use Rattle.and_arith.proofs.Stepping.{after_ok, comes_under, pair_comes, in_range_under, on_both}
+use Rattle.and_arith.proofs.Stepping.{after_ok, comes_under, pair_comes, in_range_under}
 use Rattle.and_arith.proofs.Entering.{enters_itself, enters_set}
 use Rattle.and_arith.proofs.walk.enter.Goals as goal
 

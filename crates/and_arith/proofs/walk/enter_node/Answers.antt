@@ -1,4 +1,4 @@
-use Rattle.std.proofs.Common.{rules, ℕ, ℤ, ◌≡◌, ◌≤◌, Some, None, FitsSigned, w64, w8, Fits, to_z, of_z, refl, ap, arith, reverse}
+use Rattle.std.proofs.Common.{rules, ℤ, Some, FitsSigned, w64, w8, Fits, to_z, of_z, refl, ap, arith, reverse}
 use Rattle.std.proofs.lemmas.Int.{ints}
 use Rattle.and_program.specs.Loaded.{shape_at}
 use Rattle.and_cells.specs.Parts.{named}

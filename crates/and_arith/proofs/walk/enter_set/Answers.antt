@@ -1,4 +1,4 @@
-use Rattle.std.proofs.Common.{◌≡◌, Some, None, refl, ap, reverse}
+use Rattle.std.proofs.Common.{Some, None, refl, ap, reverse}
 use Rattle.and_model.specs.declared.reference.Ref.TheVariants.{Node, Half}
 use Rattle.and_cells.specs.Parts.{named}
 use Rattle.and_arith.specs.Turns.{of_half, undone}

@@ -1,4 +1,4 @@
-use Rattle.std.proofs.Common.{rules, [], ◌∷◌, ◌++◌, refl, sym, ap, ◌∙◌, arith, length}
+use Rattle.std.proofs.Common.{rules, [], ◌∷◌, sym, ap, ◌∙◌, arith}
 use Rattle.std.proofs.lemmas.List.{length-reverse}
 use Rattle.and_arith.proofs.Operating.{truncated}
 use Rattle.and_arith.proofs.walk.operated.Goals as goal
@@ -19,4 +19,4 @@ returns-in_default c =
     let l = length-reverse c.args.values.now.items in
     let e = truncated c.args.values.now.items c.truncate.new.self.items _ c.args.count c.args.name.0 c.truncate.ensures.items
     (omega (arith, c.len.ensures, c.args.values.now.ok.0)) (omega (arith, l, c.requires)) (search rules) (search rules) in
-    (e.last, e.counted, e.is, sym e.none)
+    (e.last, e.counted, e.is, e.none)

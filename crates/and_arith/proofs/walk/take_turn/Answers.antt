@@ -1,6 +1,5 @@
-use Rattle.std.proofs.Common.{ℕ, suc, ◌-◌, ◌≡◌, ◌∷◌, refl, ap, sym, ◌∙◌, subst, arith, reverse}
+use Rattle.std.proofs.Common.{ℕ, suc, ◌-◌, ◌≡◌, subst, arith, reverse}
 use Rattle.and_arith.specs.Turns.{stand, Enters, enters, leaves, keeps}
-use Rattle.and_arith.specs.declared.walk.Task.TheVariants.{Enter, Leave, Keep}
 use Rattle.and_arith.proofs.Stepping.{after_ok, on_both, next_task}
 use Rattle.and_arith.proofs.Members.{first_of}
 use Rattle.and_arith.proofs.walk.take_turn.Goals as goal

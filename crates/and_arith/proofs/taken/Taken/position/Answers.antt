@@ -1,4 +1,4 @@
-use Rattle.std.proofs.Common.{ℕ, ◌≡◌, ◌<◌, length, get_or, sym, ap, ◌∙◌, subst, arith}
+use Rattle.std.proofs.Common.{◌≡◌, ◌<◌, length, get_or, ap, ◌∙◌, subst, arith}
 use Rattle.and_arith.specs.Taken.{Listed, IsNew, no_entry}
 use Rattle.and_arith.proofs.Listing.{new_if, any_default}
 use Rattle.and_arith.proofs.taken.Taken.position.Goals as goal

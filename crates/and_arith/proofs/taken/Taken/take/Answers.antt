@@ -1,4 +1,4 @@
-use Rattle.std.proofs.Common.{ℕ, ◌≡◌, ◌<◌, ◌++◌, ◌∷◌, [], List, length, get_or, set, map, sym, ap, ◌∙◌, subst, arith, None}
+use Rattle.std.proofs.Common.{ℕ, ◌≡◌, ◌++◌, ◌∷◌, [], List, length, set, map, sym, subst, arith, None}
 use Rattle.and_arith.specs.Taken.{Listed, entry_of, IsNew, AreSlotted}
 use Rattle.and_arith.specs.declared.taken.Entry.{Entry}
 use Rattle.and_arith.proofs.Listing.{slotted_push, slotted_by}

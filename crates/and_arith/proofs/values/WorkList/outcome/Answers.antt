@@ -1,4 +1,4 @@
-use Rattle.std.proofs.Common.{rules, ◌≡◌, [], ◌∷◌, ◌++◌, Some, reverse, refl, sym, ap, ◌∙◌, ℤ, FitsSigned, w64, to_z, of_z}
+use Rattle.std.proofs.Common.{rules, ◌≡◌, [], ◌∷◌, Some, reverse, sym, ap, ◌∙◌, ℤ, FitsSigned, w64, to_z, of_z}
 use Rattle.std.proofs.lemmas.List.{reverse-append}
 use Rattle.std.proofs.lemmas.Int.{ints, to_z-of_z}
 use Rattle.and_arith.proofs.values.WorkList.outcome.Goals as goal
