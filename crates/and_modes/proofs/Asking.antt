@@ -22,7 +22,7 @@ met_back m [] es a = a
 met_back m (d ∷ ds) es a = met_back m ds es a.1
 
 -- What a lower environment has, a higher one has.
-have_met : (o : Assignment) (e f : Environment) (goal : Term) (side : Side) (i : ℕ) (ts : Terms)
+pub have_met : (o : Assignment) (e f : Environment) (goal : Term) (side : Side) (i : ℕ) (ts : Terms)
     → IsOver e f → HaveLevels f (levels_of o goal side) i ts → AllMet o (asked_by e (name_of goal) (count_of (arguments_of goal)) side i ts)
 have_met o e f goal side i none over have = tt
 have_met o e f goal side i (more t ts) over have =

@@ -8,3 +8,4 @@ pub mod Knowing
 pub mod Lowering
 pub mod Firsts
 pub mod Telling
+pub mod Along

@@ -30,10 +30,10 @@ pub height_at_most : (fell : Bool) (old new : Assignment) (A : Type 0) → FellO
 height_at_most true old new A f = omega arith
 height_at_most false old new A f = let e : height new ≡ height old = ap height f.0 in omega arith
 
-fell_further : (fell : Bool) (old now new : Assignment) (A B : Type 0) → FellOr fell old now A → height new < height now → FellOr true old new B
+pub fell_further : (fell : Bool) (old now new : Assignment) (A B : Type 0) → FellOr fell old now A → height new < height now → FellOr true old new B
 fell_further fell old now new A B f lt = let most = height_at_most fell old now A f in let low : height new < height old = omega arith in low
 
-stays : (fell : Bool) (old now new : Assignment) (A B : Type 0) → FellOr fell old now A → new ≡ now → (A → B) → FellOr fell old new B
+pub stays : (fell : Bool) (old now new : Assignment) (A B : Type 0) → FellOr fell old now A → new ≡ now → (A → B) → FellOr fell old new B
 stays true old now new A B f e h = let same : height new ≡ height now = ap height e in let low : height new < height old = omega arith in low
 stays false old now new A B f e h = (e ∙ f.0, h f.1)
 

@@ -48,7 +48,7 @@ pub(crate) fn demands_in(
 }
 
 /// Adds what an item asks.
-fn ask_by_item(
+pub(crate) fn ask_by_item(
     alloc: Global,
     loaded: &Loaded,
     known: &Known,
@@ -77,7 +77,7 @@ fn ask_by_item(
 }
 
 /// Adds what a goal or a head asks of the places of its predicate.
-fn ask(
+pub(crate) fn ask(
     alloc: Global,
     loaded: &Loaded,
     known: &Known,
