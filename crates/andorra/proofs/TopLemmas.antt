@@ -20,6 +20,7 @@ use Rattle.andorra.specs.declared.top.Status.{Status}
 use Rattle.andorra.specs.declared.top.Status.TheVariants.{Answers, NoAnswer, Usage, Refused, ReadFault, WriteFault, Limit, Memory, Floundered}
 use Rattle.and_engine.specs.Searching.{IsFound, entry_lines}
 use Rattle.and_reader.specs.RefusalLine.{refusal_line}
+use Rattle.and_reader.proofs.Judgement.{read_not_refused}
 use Rattle.andorra.specs.Shown.{Shown, joined, shown_by, written}
 use Rattle.andorra.specs.declared.showing.Show.{Show}
 use Rattle.andorra.specs.declared.showing.Show.TheVariants as kinds
@@ -154,6 +155,13 @@ module _ (o : Option Command) (r : Command) where
 
   pub no_command : o ≡ None → o ≡ Some r → ⊥
   no_command e f = cc
+
+-- A text that reads as a program is not refused.
+pub never_refused : (shown : Shown) (limit : ℕ) (old new : Option Bytes) (P : Program) (bytes : Bytes) (status : Status) → Reads bytes P
+    → Answered shown limit old new status bytes → status ≢ Refused
+never_refused shown limit old new P bytes status reads answered e =
+    let refusal : Answered shown limit old new Refused bytes = subst (λ s. Answered shown limit old new s bytes) e answered in
+    read_not_refused bytes P refusal.1.0 reads refusal.1.1
 
 -- The line of a refusal that is not for want of memory.
 pub refused_by : (o : Option Refusal) (bytes out : Bytes) → IfSome o (IsRefused bytes) → IfSome o (λ r. out ≡ refusal_line r) → is_none o ≡ false → IsRefusedBy bytes out

@@ -168,6 +168,7 @@ fn demo<K: Sink>(alloc: Global, number: u32, settings: Settings, sink: &mut K) -
     requires few { number ≤ 64 }
     requires limited { settings.limit ≤ 4194304 }
     ensures answered { Answered summary settings.limit (K.held sink.old) (K.held sink.new) result (generated.layered number) }
+    ensures not_refused { result ≢ Status.Refused }
     ensures no_read_fault { result ≢ Status.ReadFault }
     ensures fault { result ≡ Status.WriteFault → Rose K.last (K.faults sink.old) (K.faults sink.new) }
     ensures count { K.faults sink.old ≤ K.faults sink.new }
@@ -197,8 +198,8 @@ pub fn andorra<R: Threads + Wait + Sync, S: Source, K: Sink, G: Gate>(
 
     // What was written of a generated text. The source is untouched.
     ensures demo { (n : ℕ) (settings : Settings) → IsDemo (map string_bytes words.now) n settings →
-        Answered summary DEFAULT_LIMIT (K.held sink.old) (K.held sink.new) result (generated.layered n) × (result ≢ Status.ReadFault)
-        × (S.left source.new ≡ S.left source.old) × (S.faults source.new ≡ S.faults source.old) }
+        Answered summary DEFAULT_LIMIT (K.held sink.old) (K.held sink.new) result (generated.layered n)
+        × (result ≢ Status.Refused) × (result ≢ Status.ReadFault) × (S.left source.new ≡ S.left source.old) × (S.faults source.new ≡ S.faults source.old) }
 
     // Where the words are no command.
     ensures usage_only { result ≡ Status.Usage → IsUsage (map string_bytes words.now) × Gains (K.held sink.old) (K.held sink.new) usage }

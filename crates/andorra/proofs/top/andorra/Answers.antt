@@ -45,7 +45,7 @@ returns-in-Some-Demo-clause-demo g c = λ n settings is.
     let limit : demo.settings.limit ≡ DEFAULT_LIMIT = ap (λ (s : Settings). s.limit) same ∙ default_limit _ n settings is in
     let held = g.K.Sink.held in
     let answer : ℕ → Type 0 = λ l. Answered summary l (held c.args.sink.now) (held c.demo.new.sink) c.demo.result (layered n) in
-    (subst answer limit (rw (← number) c.demo.ensures.answered), c.demo.ensures.no_read_fault, refl, refl)
+    (subst answer limit (rw (← number) c.demo.ensures.answered), c.demo.ensures.not_refused, c.demo.ensures.no_read_fault, refl, refl)
 
 pub returns-in-Some-Demo-clause-used : goal.returns-in-Some-Demo-clause-used
 returns-in-Some-Demo-clause-used g c = λ none. absurd (none c.in-Some-Demo.field-0 c.in-Some-Demo.ensures.is)
