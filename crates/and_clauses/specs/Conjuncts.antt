@@ -1,5 +1,6 @@
 -- What the parts of a draft are as conjuncts of its body.
-use Rattle.std.specs.Prelude.{ℕ, ◌+◌, ◌≡◌, Bool, true, false, cond, ◌||◌, nat_eq, List, [], ◌∷◌, ◌++◌, map, get_or, Option, Some, None, MatchOption, Result, IfOk, Vec}
+use Rattle.std.specs.Prelude.{ℕ, suc, ◌+◌, ◌≡◌, Bool, true, false, cond, ◌||◌, nat_eq, List, [], ◌∷◌, ◌++◌, map, get_or, Option, Some, None}
+use Rattle.std.specs.Prelude.{MatchOption, Result, IfOk, Vec}
 use Rattle.std.specs.List.{list_any}
 use Rattle.and_model.specs.Lines.{Bytes}
 use Rattle.and_syntax.specs.Written.{place}
@@ -9,9 +10,12 @@ use Rattle.and_program.specs.Skeletons.{Shape, node_term, item_of, AllThere}
 use Rattle.and_program.specs.Items.{node_item}
 use Rattle.and_clauses.specs.Parts.{PartShape, variable, integer, compound}
 use Rattle.and_program.specs.declared.item.ItemNode.{ItemNode}
-use Rattle.and_program.specs.declared.item.ItemNode.TheVariants.{Call, Equal, Fail}
+use Rattle.and_program.specs.declared.item.ItemNode.TheVariants as nodes
+use Rattle.and_program.specs.declared.item.ItemNode.TheVariants.{Call, Equal, Compare, Fail}
 use Rattle.and_clauses.specs.declared.items.Conjunct.{Conjunct}
-use Rattle.and_clauses.specs.declared.items.Conjunct.TheVariants.{Both, Nothing, Item, Refused}
+use Rattle.and_clauses.specs.declared.items.Conjunct.TheVariants.{Both, Nothing, Item, Is, Refused}
+use Rattle.and_model.specs.declared.relation.Relation.{Relation}
+use Rattle.and_model.specs.declared.relation.Relation.TheVariants.{Less, Greater, AtMost, AtLeast, Same, Differs}
 use Rattle.and_model.specs.declared.builtins.TheConstants.{AT_LEAST, AT_MOST, CONJUNCTION, CUT, DIFFERS, DISJUNCTION, EQUAL, FAIL, GREATER, IF_THEN, IS, LESS, NOT_PROVABLE, SAME, TRUE}
 
 -- a call of the term of a node
@@ -26,16 +30,32 @@ atom_conjunct c n = cond (nat_eq c TRUE) Nothing (cond (nat_eq c FAIL) (Item Fai
 abbrev pub unary_conjunct : ℕ → ℕ → Conjunct
 unary_conjunct c n = cond (nat_eq c NOT_PROVABLE) Refused (call_of n)
 
--- Arithmetic is not run yet.
-abbrev pub is_refused_name : ℕ → Bool
-is_refused_name c = nat_eq c IS || nat_eq c LESS || nat_eq c GREATER || nat_eq c AT_MOST || nat_eq c AT_LEAST || nat_eq c SAME || nat_eq c DIFFERS || (nat_eq c DISJUNCTION || nat_eq c IF_THEN)
+-- the relation of a comparison's name
+abbrev pub relation_named : ℕ → Option Relation
+relation_named c =
+    cond (nat_eq c LESS) (Some Less)
+    (cond (nat_eq c GREATER) (Some Greater)
+    (cond (nat_eq c AT_MOST) (Some AtMost)
+    (cond (nat_eq c AT_LEAST) (Some AtLeast)
+    (cond (nat_eq c SAME) (Some Same)
+    (cond (nat_eq c DIFFERS) (Some Differs) None)))))
+
+-- a comparison of the terms of two nodes, where there is a relation
+abbrev pub compared_or : Option Relation → ℕ → ℕ → Conjunct → Conjunct
+compared_or None l r other = other
+compared_or (Some o) l r other = Item (Compare o (record { 0 = l }) (record { 0 = r }))
+
+-- a name with two arguments that is neither `,` nor a built-in goal
+abbrev pub other_conjunct : ℕ → ℕ → Conjunct
+other_conjunct c n = cond (nat_eq c DISJUNCTION || nat_eq c IF_THEN) Refused (call_of n)
 
 -- a name with two arguments, whose nodes have n others before them
 abbrev pub binary_conjunct : ℕ → ℕ → ℕ → ℕ → ℕ → Conjunct
 binary_conjunct c l r n base =
     cond (nat_eq c CONJUNCTION) (Both l r)
     (cond (nat_eq c EQUAL) (Item (Equal (record { 0 = base + l }) (record { 0 = base + r })))
-    (cond (is_refused_name c) Refused (call_of n)))
+    (cond (nat_eq c IS) (Is (record { 0 = base + l }) (record { 0 = base + r }))
+    (compared_or (relation_named c) (base + l) (base + r) (other_conjunct c n))))
 
 -- a name with arguments as a conjunct, whose node is n
 abbrev pub conjunct_of : ℕ → List ℕ → ℕ → ℕ → Conjunct
@@ -54,12 +74,14 @@ shape_conjunct names (compound c ns) n base = conjunct_of (place c names) ns n b
 abbrev pub conjunct_at : List Bytes → List PartShape → ℕ → ℕ → Conjunct
 conjunct_at names ps base n = shape_conjunct names (get_or ps n (variable [])) (base + n) base
 
--- what comes of a conjunct: whether it is pure, the items, and the parts that come next
-abbrev pub Takes : Conjunct → Bool → List ItemNode → List ItemNode → List ℕ → List ℕ → Type 0
-Takes (Both l r) pure old new before after = (pure ≡ true) × (new ≡ old) × (after ≡ before ++ r ∷ l ∷ [])
-Takes Nothing pure old new before after = (pure ≡ true) × (new ≡ old) × (after ≡ before)
-Takes (Item i) pure old new before after = (pure ≡ true) × (new ≡ old ++ i ∷ []) × (after ≡ before)
-Takes Refused pure old new before after = pure ≡ false
+-- what comes of a conjunct: whether it is pure, the items, the parts that come next, and the number of the next `is` goal
+abbrev pub Takes : Conjunct → Bool → List ItemNode → List ItemNode → List ℕ → List ℕ → ℕ → ℕ → Type 0
+Takes (Both l r) pure old new before after pair next = (pure ≡ true) × (new ≡ old) × (after ≡ before ++ r ∷ l ∷ []) × (next ≡ pair)
+Takes Nothing pure old new before after pair next = (pure ≡ true) × (new ≡ old) × (after ≡ before) × (next ≡ pair)
+Takes (Item i) pure old new before after pair next = (pure ≡ true) × (new ≡ old ++ i ∷ []) × (after ≡ before) × (next ≡ pair)
+Takes (Is l r) pure old new before after pair next = (pure ≡ true) × (new ≡ old ++ nodes.Is l r pair ∷ []) × (after ≡ before)
+    × (next ≡ suc pair)
+Takes Refused pure old new before after pair next = pure ≡ false
 
 -- the parts of a body, where the nodes of a draft's parts have `base` others before them
 abbrev pub body_parts : List Shape → ℕ → Option ℕ → List BodyPart

@@ -1,6 +1,6 @@
 //! The items of a body, from the parts of a draft.
 
-ghost use Rattle.std.specs.Prelude.{◌≡◌, ◌<◌, ◌≤◌, ◌+◌, ◌^◌, List, length, IfOk, IfSome, All};
+ghost use Rattle.std.specs.Prelude.{◌≡◌, ◌<◌, ◌≤◌, ◌+◌, ◌-◌, ◌^◌, List, length, IfOk, IfSome, All};
 ghost use Rattle.and_syntax.specs.Written.{nodes_of};
 ghost use Rattle.and_program.specs.Skeletons.{Shape, node_term};
 ghost use Rattle.and_syntax.specs.Clauses.{parts_of};
@@ -8,11 +8,12 @@ ghost use Rattle.and_program.specs.Nodes.{names_of};
 ghost use Rattle.and_clauses.specs.Numbered.{IsRead};
 ghost use Rattle.and_clauses.specs.Parts.{part_shapes, written_at, PartsFall};
 ghost use Rattle.and_clauses.specs.Conjuncts.{atom_conjunct, unary_conjunct, binary_conjunct};
+ghost use Rattle.and_clauses.specs.Conjuncts.{relation_named, other_conjunct};
 ghost use Rattle.and_clauses.specs.Conjuncts.{conjunct_of, conjunct_at, Takes, GivesItems};
 
 use crate::draft::DraftPart;
 use crate::numbering::number_of;
-use and_model::{NodeNo, builtins};
+use and_model::{NodeNo, Relation, builtins};
 use and_program::ItemNode;
 use indexmap::IndexSet;
 use std::alloc::{AllocError, Global};
@@ -27,6 +28,16 @@ const AND: usize = builtins::CONJUNCTION as usize;
 const EQUAL: usize = builtins::EQUAL as usize;
 
 const IS: usize = builtins::IS as usize;
+
+const LESS: usize = builtins::LESS as usize;
+
+const GREATER: usize = builtins::GREATER as usize;
+
+const AT_MOST: usize = builtins::AT_MOST as usize;
+
+const AT_LEAST: usize = builtins::AT_LEAST as usize;
+
+const SAME: usize = builtins::SAME as usize;
 
 const DIFFERS: usize = builtins::DIFFERS as usize;
 
@@ -45,8 +56,11 @@ pub(crate) enum Conjunct {
     Both { left: u32, right: u32 },
     /// Nothing, `true`.
     Nothing,
+    /// An item other than an `is` goal.
     Item { item: ItemNode },
-    /// What a pure program does not have, or what is not run yet.
+    /// An `is` goal, of which it is not known how many are before it.
+    Is { left: NodeNo, right: NodeNo },
+    /// What a pure program does not have.
     Refused,
 }
 
@@ -69,11 +83,12 @@ pub(crate) fn items_of(
         → GivesItems ss (parts_of (node_term ss (base + body))) result }
 {
     let mut items = Vec::new(alloc);
+    let mut pairs = 0;
     let mut pending = Vec::new(alloc);
     pending.push(body)?;
     while let Some(number) = pending.pop() {
         let conjunct = part_as_conjunct(names, parts, number, base);
-        let pure = take_conjunct(conjunct, &mut items, &mut pending)?;
+        let pure = take_conjunct(conjunct, &mut items, &mut pairs, &mut pending)?;
         if !pure {
             return Ok(None);
         }
@@ -82,13 +97,16 @@ pub(crate) fn items_of(
 }
 
 /// Adds the item of a conjunct, or the two parts that come next; `false` where it is refused.
+/// `pairs` is the number of the next `is` goal.
 fn take_conjunct(
     conjunct: Conjunct,
     items: &mut Vec<ItemNode>,
+    pairs: &mut u32,
     pending: &mut Vec<u32>,
 ) -> Result<bool, AllocError>
+    requires { pairs.old < 2 ^ 32 - 1 }
     ensures { IfOk result (λ pure. Takes conjunct pure items.old.items items.new.items
-        pending.old.items pending.new.items) }
+        pending.old.items pending.new.items pairs.old pairs.new) }
 {
     match conjunct {
         Conjunct::Both { left, right } => {
@@ -99,6 +117,15 @@ fn take_conjunct(
         Conjunct::Nothing => Ok(true),
         Conjunct::Item { item } => {
             items.push(item)?;
+            Ok(true)
+        }
+        Conjunct::Is { left, right } => {
+            items.push(ItemNode::Is {
+                left,
+                right,
+                pair: *pairs,
+            })?;
+            *pairs += 1;
             Ok(true)
         }
         Conjunct::Refused => Ok(false),
@@ -187,7 +214,43 @@ fn conjunct_of_two(name: usize, left: u32, right: u32, goal: NodeNo, base: u32) 
                 right: NodeNo(base + right),
             },
         },
-        IS..=DIFFERS => Conjunct::Refused,
+        IS => Conjunct::Is {
+            left: NodeNo(base + left),
+            right: NodeNo(base + right),
+        },
+        _ => match relation_of(name) {
+            Some(relation) => Conjunct::Item {
+                item: ItemNode::Compare {
+                    relation,
+                    left: NodeNo(base + left),
+                    right: NodeNo(base + right),
+                },
+            },
+            None => conjunct_of_other(name, goal),
+        },
+    }
+}
+
+/// The relation of a comparison's name.
+fn relation_of(name: usize) -> Option<Relation>
+    ensures { result ≡ relation_named name }
+{
+    match name {
+        LESS => Some(Relation::Less),
+        GREATER => Some(Relation::Greater),
+        AT_MOST => Some(Relation::AtMost),
+        AT_LEAST => Some(Relation::AtLeast),
+        SAME => Some(Relation::Same),
+        DIFFERS => Some(Relation::Differs),
+        _ => None,
+    }
+}
+
+/// What a name with two arguments is as a conjunct, where it is neither `,` nor a built-in goal.
+fn conjunct_of_other(name: usize, goal: NodeNo) -> Conjunct
+    ensures { result ≡ other_conjunct name goal.0 }
+{
+    match name {
         OR | IF_THEN => Conjunct::Refused,
         _ => Conjunct::Item {
             item: ItemNode::Call { goal },

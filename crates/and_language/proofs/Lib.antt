@@ -1,2 +1,2 @@
 pub mod EachClause
-pub mod Simple
+pub mod OwnVariables

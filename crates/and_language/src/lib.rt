@@ -7,11 +7,8 @@ ghost use Rattle.and_model.specs.Lines.{Bytes};
 ghost use Rattle.and_model.specs.Programs.{Program};
 ghost use Rattle.and_language.specs.Refusals.{Reads};
 ghost use Rattle.and_model.specs.OwnVariables.{HaveOwnVariables};
-ghost use Rattle.and_model.specs.Simple.{IsSimple};
 
-/// As long as arithmetic is refused, the program of a text has none; and the terms of a clause have
-/// no variables but the clause's own.
-pub fn programs_of_texts_are_simple()
-    ensures simple { (bytes : Bytes) (P : Program) → Reads bytes P → IsSimple P }
-    ensures own_variables { (bytes : Bytes) (P : Program) → Reads bytes P → HaveOwnVariables P }
+/// In the program of a text the terms of a clause have no variables but the clause's own.
+pub fn programs_of_texts_have_own_variables()
+    ensures { (bytes : Bytes) (P : Program) → Reads bytes P → HaveOwnVariables P }
 {}

@@ -54,13 +54,10 @@ items_of [] = []
 items_of (item i ∷ ps) = i ∷ items_of ps
 items_of (impure ∷ ps) = items_of ps
 
--- Arithmetic is not run yet, so that a body with it is refused as what is not pure.
+-- a body with it is refused as what is not pure
 abbrev pub is_refused : BodyPart → Bool
 is_refused impure = true
-is_refused (item (call g)) = false
-is_refused (item (equal a b)) = false
-is_refused (item (arithmetic g)) = true
-is_refused (item fail) = false
+is_refused (item i) = false
 
 -- A term is a head with a body where it is `:-` with two arguments, and else a head alone.
 abbrev pub head_of : Term → Term

@@ -3,7 +3,7 @@
 use crate::drafts::Given::{self, Int, Name, Var};
 use crate::drafts::{APPEND_BASE, APPEND_STEP, draft, query_draft};
 use and_clauses::{ClauseTable, TableFault, What};
-use and_model::{ClauseNo, NameNo, NodeNo};
+use and_model::{ClauseNo, NameNo, NodeNo, Relation};
 use and_program::{ItemNode, Loaded};
 use std::alloc::{AllocError, Global};
 use std::process::Abort;
@@ -110,15 +110,9 @@ fn what_is_no_pure_clause_is_refused(rt: HostRuntime) -> Result<(), Fail> {
         Name(b":-", 2),
     ];
     assert!(rt; is_impure(added(&rt, alloc, &mut table, &cut)?));
-    // p :- X is 1.
-    let is = [
-        Name(b"p", 0),
-        Var(b"X"),
-        Int(1),
-        Name(b"is", 2),
-        Name(b":-", 2),
-    ];
-    assert!(rt; is_impure(added(&rt, alloc, &mut table, &is)?));
+    // X is 1.
+    let is = [Var(b"X"), Int(1), Name(b"is", 2)];
+    assert!(rt; is_redefinition(added(&rt, alloc, &mut table, &is)?, b"is", 2));
     // ?- true.
     assert!(rt; asked(&rt, alloc, &mut table, &[Name(b"true", 0)])?.is_ok());
     let loaded = sealed(&rt, table);
@@ -155,6 +149,55 @@ fn names_are_numbered_as_they_are_first_seen(rt: HostRuntime) -> Result<(), Fail
     assert_eq!(rt; loaded.name(NameNo(31)), b"j".as_slice());
     assert_eq!(rt; loaded.clause_count(), 2);
     assert_eq!(rt; loaded.items(ClauseNo(1)).len(), 1);
+    Ok(())
+}
+
+#[test]
+fn arithmetic_is_kept_by_its_sides(rt: HostRuntime) -> Result<(), Fail> {
+    let alloc = rt.alloc();
+    let mut table = ClauseTable::new(alloc)?;
+    // p(X) :- X >= 1, Y is X, Z is Y.
+    let clause = [
+        Var(b"X"),
+        Name(b"p", 1),
+        Var(b"X"),
+        Int(1),
+        Name(b">=", 2),
+        Var(b"Y"),
+        Var(b"X"),
+        Name(b"is", 2),
+        Var(b"Z"),
+        Var(b"Y"),
+        Name(b"is", 2),
+        Name(b",", 2),
+        Name(b",", 2),
+        Name(b":-", 2),
+    ];
+    assert!(rt; is_clause(added(&rt, alloc, &mut table, &clause)?, 1));
+    // ?- true.
+    assert!(rt; asked(&rt, alloc, &mut table, &[Name(b"true", 0)])?.is_ok());
+    let loaded = sealed(&rt, table);
+    assert_eq!(rt; loaded.clause_count(), 1);
+    let items = [
+        ItemNode::Compare {
+            relation: Relation::AtLeast,
+            left: NodeNo(3),
+            right: NodeNo(4),
+        },
+        ItemNode::Is {
+            left: NodeNo(6),
+            right: NodeNo(7),
+            pair: 0,
+        },
+        ItemNode::Is {
+            left: NodeNo(9),
+            right: NodeNo(10),
+            pair: 1,
+        },
+    ];
+    assert_eq!(rt; loaded.items(ClauseNo(1)), items.as_slice());
+    assert_eq!(rt; loaded.weight(ClauseNo(1)), 8);
+    assert_eq!(rt; loaded.guard(ClauseNo(1)), 1);
     Ok(())
 }
 

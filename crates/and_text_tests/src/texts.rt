@@ -51,6 +51,18 @@ fn texts_are_read_or_refused(rt: HostRuntime) -> Result<(), Fail> {
         (b"?- q(X). p :- r.", "error: line 1: unknown q/1\n"),
         (b"?- X = -.", "error: line 1: syntax\n"),
         (b"?- X = - .", "0 clauses\n"),
+        (b"?- X is 1 + 2, X > 2.", "0 clauses\n"),
+        (
+            b"max(X,Y,X) :- X >= Y. max(X,Y,Y) :- X < Y. ?- max(3,5,M).",
+            "2 clauses\n",
+        ),
+        (b"?- 1 =:= 1, 1 =\\= 2, 1 =< 2, (1 is X).", "0 clauses\n"),
+        (b"X is Y. ?- true.", "error: line 1: redefines is/2\n"),
+        (b"1 < 2. ?- true.", "error: line 1: redefines </2\n"),
+        (b"?- X is Y is Z.", "error: line 1: syntax\n"),
+        (b"?- is(X,1,2).", "error: line 1: unknown is/3\n"),
+        (b"?- X is 1, 1 + 2.", "error: line 1: unknown +/2\n"),
+        (b"p :- X is 1, X. ?- p.", "error: line 1: not pure\n"),
     ];
     for (text, expected) in pairs {
         let line = told(rt.alloc(), text)?;
