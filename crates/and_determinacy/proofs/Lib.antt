@@ -1,0 +1,16 @@
+pub mod Widening
+pub mod Moving
+pub mod Reading
+pub mod Refuting
+pub mod TriedClauses
+pub mod Valuing
+pub mod SideAnswers
+pub mod Prepared
+pub mod TakenBack
+pub mod ClauseLists
+pub mod Picking
+pub mod Calls
+pub mod Searching
+pub mod Entries
+pub mod Differing
+pub mod Glimpses

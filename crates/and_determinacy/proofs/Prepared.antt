@@ -1,0 +1,227 @@
+-- What is prepared for a trial meets what unification asks, and what its answers say of the clause.
+use Rattle.std.proofs.Common.{ℕ, ◌+◌, ◌≡◌, ◌<◌, ◌≤◌, Bool, true, false, true≢false, not, ◌&&◌, leb, ltb, nat_eq, List, [], ◌∷◌, length, map, refl, sym, ap, ◌∙◌, subst, inl, inr, arith}
+use Rattle.std.specs.Prelude.{◌↔◌}
+use Rattle.std.proofs.lemmas.Bool.Decides.{nat_tests}
+use Rattle.std.proofs.lemmas.List.Elements.{All-weaker}
+use Rattle.and_model.specs.Terms.{Path, Term, Terms, variable, number, compound, none, more, variables_of, Substitution, apply, apply_all}
+use Rattle.and_model.specs.Solutions.{Solvable}
+use Rattle.and_model.specs.OwnVariables.{HaveOwnVariables}
+use Rattle.and_model.specs.Programs.{Program, Of, clause_at, same_count, same_predicate}
+use Rattle.and_model.specs.Candidates.{Candidate}
+use Rattle.and_model.specs.Store.{is_half}
+use Rattle.and_model.specs.declared.limits.TheConstants.{MAX_LIMIT, MAX_NODES}
+use Rattle.and_model.specs.declared.reference.Ref.{Ref}
+use Rattle.and_model.specs.declared.reference.Ref.TheVariants.{Free}
+use Rattle.and_program.specs.Skeletons.{NodeItem, call, equal, is, compare, fail, node_term, item_of, AllThere, IsSkeleton}
+use Rattle.and_program.specs.Loaded.{nodes_at, skeleton_of, program_of}
+use Rattle.and_program.specs.declared.loaded.Loaded.{Loaded}
+use Rattle.and_laws.proofs.Equality.{bool_cases}
+use Rattle.and_laws.proofs.Substitutions.{and_left, and_right}
+use Rattle.and_cells.specs.Ranges.{NamedProgram, IsNodeInRange}
+use Rattle.and_cells.specs.Rows.{IsSound, plain}
+use Rattle.and_cells.specs.Seen.{word_at, Keeps}
+use Rattle.and_cells.specs.Meaning.{IsSettled, equations_of}
+use Rattle.and_cells.specs.Parts.{named, part_at}
+use Rattle.and_cells.specs.Solved.{IsMostGeneral}
+use Rattle.and_branch_laws.specs.OwnVariables.{IsLoaded, IsOwn, AreOwn}
+use Rattle.and_branch_laws.specs.Variables.{placed, cells_from}
+use Rattle.and_branch_laws.specs.Settling.{widened}
+use Rattle.and_branch_laws.specs.Judging.{outside}
+use Rattle.and_branch_laws.proofs.Clauses.{clause_nodes}
+use Rattle.and_branch_laws.proofs.Growing.{BodyIsOwn, head_is_own, body_is_own}
+use Rattle.and_unify.specs.Pairs.{AreInRange, AreWritten, NameNoHalf}
+use Rattle.and_unify.specs.Settling.{AreNewFrom, equations_with}
+use Rattle.and_unify.specs.declared.pairs.Pair.{Pair}
+use Rattle.and_determinacy.specs.Guards.{CanBeRead, GuardCanBeRead, IsGuardFalse}
+use Rattle.and_determinacy.specs.Trials.{IsPrepared}
+use Rattle.and_determinacy.proofs.Widening.{widened_length, free_behind, settled_still}
+use Rattle.and_determinacy.proofs.TriedClauses.{asked_in_range, asked_written, asked_whole, asked_new, unsolved, solved, refuted}
+
+-- What was loaded is a loaded program.
+pub loaded_is : (N : NamedProgram) (l : Loaded) → N ≡ named l → IsSkeleton (skeleton_of l) (program_of l) → HaveOwnVariables (program_of l)
+    → length (skeleton_of l).nodes ≤ MAX_NODES + 1 → IsLoaded N
+loaded_is N l same skeleton own few =
+    let loaded : IsLoaded (named l) = record { skeleton = skeleton; own = own; written = omega arith; few = few } in
+    subst IsLoaded (sym same) loaded
+
+-- A clause of a predicate is there.
+clause_there : (P : Program) (g : Term) (c : ℕ) → Of P g c → c ≤ length P.clauses
+clause_there P g c of =
+    let there : Bool = ltb 0 c && leb c (length P.clauses) in
+    let both : there ≡ true = and_left there (same_predicate g (clause_at P c).head) of in
+    let low : leb c (length P.clauses) ≡ true = and_right (ltb 0 c) (leb c (length P.clauses)) both in
+    grind (arith, nat_tests)
+
+-- A call's clauses are those of what it is placed from.
+same_count_applied : (r : Substitution) (ts us : Terms) → same_count (apply_all r ts) us ≡ same_count ts us
+same_count_applied r none none = refl
+same_count_applied r none (more u us) = refl
+same_count_applied r (more t ts) none = refl
+same_count_applied r (more t ts) (more u us) = same_count_applied r ts us
+
+same_predicate_applied : (r : Substitution) (g h : Term) → same_predicate g h ≡ true → same_predicate (apply r g) h ≡ true
+same_predicate_applied r (variable q k) h e = absurd (true≢false (sym e))
+same_predicate_applied r (number z) h e = absurd (true≢false (sym e))
+same_predicate_applied r (compound c ts) (variable q k) e = absurd (true≢false (sym e))
+same_predicate_applied r (compound c ts) (number z) e = absurd (true≢false (sym e))
+same_predicate_applied r (compound c ts) (compound d us) e = ap (λ b. nat_eq c d && b) (same_count_applied r ts us) ∙ e
+
+pub of_applied : (P : Program) (r : Substitution) (g : Term) (c : ℕ) → Of P g c → Of P (apply r g) c
+of_applied P r g c e =
+    let there : Bool = ltb 0 c && leb c (length P.clauses) in
+    let one : there ≡ true = and_left there (same_predicate g (clause_at P c).head) e in
+    let two : same_predicate (apply r g) (clause_at P c).head ≡ true =
+    same_predicate_applied r g (clause_at P c).head (and_right there (same_predicate g (clause_at P c).head) e) in
+    rw (one, two) refl
+
+module _ (P : NamedProgram) (loaded : IsLoaded P) (row : List Ref) (short : length row ≤ MAX_LIMIT) (n b c : ℕ)
+    (reads : CanBeRead P row b n) (of : Of P.program (node_term P.skeleton.nodes n) c) (wide : List Ref) (pairs : List Pair) (floor : ℕ)
+    (made : IsPrepared P row wide pairs n b c floor) where
+  abbrev variables : ℕ
+  variables = (clause_at P.program c).variables
+
+  abbrev head : ℕ
+  head = (nodes_at P.skeleton c).head
+
+  there : c ≤ length P.program.clauses
+  there = clause_there P.program (node_term P.skeleton.nodes n) c of
+
+  -- a node of the clause is in range in the frame
+  own_in_range : (m words : ℕ) → m < length P.skeleton.nodes → AreOwn variables (node_term P.skeleton.nodes m)
+      → words ≡ length row + (1 + variables) → IsNodeInRange P words m (length row)
+  own_in_range m words low own long =
+      let few = loaded.few in record {
+        there = low;
+        nameable = omega arith;
+        base_below = omega arith;
+        cells = All-weaker (IsOwn variables) (λ (v : Path × ℕ). length row + 1 + v.1 < words) (λ v o. omega (arith, o.1))
+            (variables_of (node_term P.skeleton.nodes m)) own;
+      }
+
+  head_in_range : IsNodeInRange P (length row + (1 + variables)) head (length row)
+  head_in_range =
+      let k = clause_nodes P loaded c there in
+      own_in_range head (length row + (1 + variables)) k.head_there
+      (subst (AreOwn variables) (sym k.head) (head_is_own P loaded.own c)) refl
+
+  -- what holds with the row and the pair as they are made holds of these
+  as_made : (Q : List Ref → List Pair → ℕ → Type 0)
+      → Q (widened row (1 + variables)) (record { left = part_at P b n; right = part_at P (length row) head } ∷ []) (length row)
+      → Q wide pairs floor
+  as_made Q q =
+      let one : Q (widened row (1 + variables)) (record { left = part_at P b n; right = part_at P floor head } ∷ []) floor =
+      subst (λ (m : ℕ). Q (widened row (1 + variables)) (record { left = part_at P b n; right = part_at P m head } ∷ []) m)
+      (sym made.behind) q in
+      let two : Q (widened row (1 + variables)) pairs floor =
+      subst (λ (ps : List Pair). Q (widened row (1 + variables)) ps floor) (sym made.asked) one in
+      subst (λ (r : List Ref). Q r pairs floor) (sym made.wide_is) two
+
+  abbrev by : ℕ
+  by = 1 + variables
+
+  pub made_in_range : AreInRange P (length wide) pairs
+  made_in_range =
+      as_made (λ r ps m. AreInRange P (length r) ps) (asked_in_range P loaded.skeleton.0 row by made.sound n b reads head head_in_range)
+
+  pub made_written : AreWritten (plain wide) pairs
+  made_written =
+      as_made (λ r ps m. AreWritten (plain r) ps) (asked_written P loaded.skeleton.0 row by made.sound n b reads head head_in_range)
+
+  pub made_whole : NameNoHalf P (word_at wide) pairs
+  made_whole =
+      as_made (λ r ps m. NameNoHalf P (word_at r) ps) (asked_whole P loaded.skeleton.0 row by made.sound n b reads head head_in_range)
+
+  pub made_new : AreNewFrom P wide pairs floor
+  made_new = as_made (λ r ps m. AreNewFrom P r ps m) (asked_new P loaded.skeleton.0 row by made.sound n b reads head head_in_range)
+
+  pub made_settled : IsSettled P row → IsSettled P wide
+  made_settled settled =
+      let sound : IsSound P (widened row by) = subst (IsSound P) made.wide_is made.wide_sound in
+      subst (IsSettled P) (sym made.wide_is) (settled_still P row by made.sound sound settled)
+
+  -- ---- After it was settled
+
+  module _ (new : List Ref) (keeps : Keeps (plain wide) (plain new))
+      (halves : (cell : ℕ) → is_half (word_at new cell) ≡ true → is_half (word_at wide cell) ≡ true) where
+    new_long : length new ≡ length row + by
+    new_long = keeps.words ∙ ap length made.wide_is ∙ widened_length row by
+
+    -- a node of the clause can be read
+    own_reads : (m : ℕ) → m < length P.skeleton.nodes → AreOwn variables (node_term P.skeleton.nodes m) → CanBeRead P new (length row) m
+    own_reads m low own = record {
+      in_range = own_in_range m (length new) low own new_long;
+      whole = λ v i. whole (length row + 1 + v.1) (omega arith);
+    }
+      where
+        whole : (cell : ℕ) → length row ≤ cell → is_half (word_at new cell) ≡ false
+        whole cell past = elim (bool_cases (is_half (word_at new cell))) [
+          | inl e ↦
+              let was : is_half (word_at wide cell) ≡ true = halves cell e in
+              let free : word_at wide cell ≡ Free = ap (λ (r : List Ref). word_at r cell) made.wide_is ∙ free_behind row by cell past in
+              absurd (true≢false (sym was ∙ ap is_half free))
+          | inr e ↦ e
+        ]
+
+    guard_reads : (items : List NodeItem) (k : ℕ) → AllThere P.skeleton.nodes k items
+        → BodyIsOwn variables (map (item_of P.skeleton.nodes) items) → GuardCanBeRead P new (length row) items
+    guard_reads [] k low own = tt
+    guard_reads (compare o m l ∷ items) k low own =
+        (own_reads m low.0.0 own.0, own_reads l low.0.1 own.1, guard_reads items k low.1 own.2)
+    guard_reads (call m ∷ items) k low own = tt
+    guard_reads (equal m l ∷ items) k low own = tt
+    guard_reads (is m l pair ∷ items) k low own = tt
+    guard_reads (fail ∷ items) k low own = tt
+
+    items_read : GuardCanBeRead P new (length row) (nodes_at P.skeleton c).items
+    items_read =
+        let k = clause_nodes P loaded c there in
+        guard_reads (nodes_at P.skeleton c).items 0 k.body_there
+        (subst (BodyIsOwn variables) (sym k.body) (body_is_own P loaded.own c))
+
+    pub made_reads : GuardCanBeRead P new floor (nodes_at P.skeleton c).items
+    made_reads = subst (λ (m : ℕ). GuardCanBeRead P new m (nodes_at P.skeleton c).items) (sym made.behind) items_read
+
+  -- ---- What the answers say
+
+  from_made : (Q : List Ref → List Pair → Type 0) → Q wide pairs
+      → Q (widened row (1 + variables)) (record { left = part_at P b n; right = part_at P (length row) head } ∷ [])
+  from_made Q q =
+      let one : Q (widened row (1 + variables)) pairs = subst (λ (r : List Ref). Q r pairs) made.wide_is q in
+      let two : Q (widened row (1 + variables)) (record { left = part_at P b n; right = part_at P floor head } ∷ []) =
+      subst (λ (ps : List Pair). Q (widened row (1 + variables)) ps) made.asked one in
+      subst (λ (m : ℕ). Q (widened row (1 + variables)) (record { left = part_at P b n; right = part_at P m head } ∷ [])) made.behind two
+
+  abbrev IsCandidate : Type 0
+  IsCandidate = Candidate P.program (equations_of P row) outside (placed b (node_term P.skeleton.nodes n)) c
+
+  pub no_candidate : (Solvable (equations_with P wide pairs) → ⊥)
+      → Candidate P.program (equations_of P row) outside (placed b (node_term P.skeleton.nodes n)) c → ⊥
+  no_candidate none_is =
+      unsolved P loaded.skeleton.0 row by made.sound n b reads head head_in_range c (clause_nodes P loaded c there).head
+      (from_made (λ r ps. Solvable (equations_with P r ps) → ⊥) none_is)
+
+  -- A clause whose head was made one with the call is a candidate exactly where its guard is not false.
+  pub guard_tells : (new : List Ref) → IsMostGeneral P new (equations_with P wide pairs)
+      → GuardCanBeRead P new floor (nodes_at P.skeleton c).items
+      → (false_in : Bool) → (false_in ≡ true) ↔ IsGuardFalse P new floor (nodes_at P.skeleton c).items
+      → (not false_in ≡ true) ↔ Candidate P.program (equations_of P row) outside (placed b (node_term P.skeleton.nodes n)) c
+  guard_tells new general reads_all false_in told =
+      let k = clause_nodes P loaded c there in
+      let items : List NodeItem = (nodes_at P.skeleton c).items in
+      let solution = from_made (λ r ps. IsMostGeneral P new (equations_with P r ps)) general in
+      let can : GuardCanBeRead P new (length row) items = subst (λ (m : ℕ). GuardCanBeRead P new m items) made.behind reads_all in
+      let tells : (false_in ≡ true) ↔ IsGuardFalse P new (length row) items =
+      subst (λ (m : ℕ). (false_in ≡ true) ↔ IsGuardFalse P new m items) made.behind told in (
+        λ e. solved P loaded.skeleton.0 row by made.sound n b reads head head_in_range c k.head new solution items k.body can
+            (of_applied P.program (cells_from b) (node_term P.skeleton.nodes n) c of)
+            (λ f. not_both false_in (tells.1 f) e),
+        λ candidate. elim (bool_cases false_in) [
+          | inl e ↦ absurd (refuted P loaded.skeleton.0 row by made.sound n b reads head head_in_range c k.head new solution items k.body
+              can (tells.0 e) candidate)
+          | inr e ↦ ap not e
+        ],
+      )
+    where
+      not_both : (x : Bool) → x ≡ true → not x ≡ true → ⊥
+      not_both true e f = true≢false (sym f)
+      not_both false e f = true≢false (sym e)

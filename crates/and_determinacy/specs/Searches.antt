@@ -1,0 +1,35 @@
+-- The first of a list of clauses that is a candidate.
+use Rattle.std.specs.Prelude.{ℕ, ◌+◌, ◌≡◌, ◌<◌, ◌≤◌, List, slice_get, Some, All, AllPairs, Contains}
+use Rattle.and_model.specs.Candidates.{Candidate}
+use Rattle.and_model.specs.Programs.{Of}
+use Rattle.and_model.specs.declared.numbers.ClauseNo.{ClauseNo}
+use Rattle.and_model.specs.declared.reference.Ref.{Ref}
+use Rattle.and_program.specs.Skeletons.{node_term}
+use Rattle.and_cells.specs.Ranges.{NamedProgram}
+use Rattle.and_cells.specs.Meaning.{equations_of}
+use Rattle.and_branch_laws.specs.Judging.{outside}
+use Rattle.and_branch_laws.specs.Variables.{placed}
+use Rattle.and_determinacy.specs.declared.judging.Found.{Found}
+
+-- the clause is a candidate of the node, read in the frame at the base
+abbrev pub NodeHas : NamedProgram → List Ref → (node base : ℕ) → ClauseNo → Type 0
+NodeHas P row node base c = Candidate P.program (equations_of P row) outside (placed base (node_term P.skeleton.nodes node)) c.0
+
+-- The clauses are of the node's predicate, in textual order, and all its candidates are among them.
+pub record AreServed (P : NamedProgram) (row : List Ref) (node base : ℕ) (clauses : List ClauseNo) : Type 0 where
+  pub of : All (λ (c : ClauseNo). Of P.program (node_term P.skeleton.nodes node) c.0) clauses
+  pub rise : AllPairs (λ (c d : ClauseNo). c.0 < d.0) clauses
+  pub all : (c : ClauseNo) → NodeHas P row node base c → Contains clauses c
+
+-- Of the clauses from one place on, none before the other is so.
+abbrev pub NoneFrom : (ClauseNo → Type 0) → List ClauseNo → (from to : ℕ) → Type 0
+NoneFrom Q clauses from to = (k : ℕ) (c : ClauseNo) → from ≤ k → k < to → slice_get clauses k ≡ Some c → Q c → ⊥
+
+-- Of the clauses from a place on, the one that was found is so, and is the first.
+pub record IsNextOf (Q : ClauseNo → Type 0) (clauses : List ClauseNo) (from : ℕ) (found : Found) : Type 0 where
+  pub place : ℕ
+  pub behind : found.behind ≡ place + 1
+  pub after : from ≤ place
+  pub there : slice_get clauses place ≡ Some found.clause
+  pub is_so : Q found.clause
+  pub first : NoneFrom Q clauses from place

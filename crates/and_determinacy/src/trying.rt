@@ -1,0 +1,191 @@
+//! Trials of clauses on settled cells, which are taken back.
+
+ghost use Rattle.std.specs.Prelude.{◌≡◌, ◌≤◌, ◌↔◌, Bool, true, length, Ok, IfOk, OnOk};
+ghost use Rattle.and_model.specs.Candidates.{Candidate};
+ghost use Rattle.and_model.specs.Programs.{Of};
+ghost use Rattle.and_model.specs.declared.limits.TheConstants.{MAX_LIMIT};
+ghost use Rattle.and_program.specs.Skeletons.{node_term};
+ghost use Rattle.and_cells.specs.Ranges.{IsNodeInRange};
+ghost use Rattle.and_cells.specs.Meaning.{IsSettled, equations_of};
+ghost use Rattle.and_cells.specs.Parts.{named};
+ghost use Rattle.and_cells.specs.Rows.{OnlySet};
+ghost use Rattle.and_branch_laws.specs.Judging.{outside};
+ghost use Rattle.and_branch_laws.specs.Variables.{placed};
+ghost use Rattle.and_determinacy.specs.Guards.{CanBeRead};
+ghost use Rattle.and_determinacy.specs.Looks.{IsLook};
+ghost use Rattle.and_determinacy.specs.Trials.{IsPrepared};
+
+use crate::guards::is_guard_false;
+use crate::looking::Look;
+use and_arith::WorkList;
+use and_cells::{Naming, PlainCells};
+use and_model::{ClauseNo, NodeNo};
+use and_program::Loaded;
+use and_unify::{PairList, Settled, Solver};
+use std::alloc::{AllocError, Global};
+
+/// What trials of clauses work with, kept by their caller and used again.
+#[derive(Drop)]
+pub struct Trials {
+    pub(crate) look: Look,
+    tools: Tools,
+}
+
+impl Trials {
+    /// Nothing was tried yet. Takes no memory.
+    pub fn new(alloc: Global) -> Trials {
+        Trials {
+            look: Look::new(alloc),
+            tools: Tools::new(alloc),
+        }
+    }
+
+    /// Looks at the call whose node is given, in the frame at the base, before its clauses are tried. An
+    /// error is want of memory.
+    pub(crate) fn look_at<N: Naming>(
+        &mut self,
+        loaded: &Loaded,
+        cells: &mut PlainCells<N>,
+        node: NodeNo,
+        base: u32,
+    ) -> Result<(), AllocError>
+        requires program { N.program ≡ named loaded.now }
+        requires node { CanBeRead N.program cells.old base node.0 }
+        ensures look { OnOk result (IsLook N.program cells.old node.0 base self.new.look) }
+        ensures unchanged { cells.new ≡ cells.old }
+    {
+        self.look.take(loaded, cells, node, base)
+    }
+
+    /// Whether a clause is a candidate of the call that was looked at. The cells are as before, but after
+    /// an error, which is want of memory.
+    pub(crate) fn fits<N: Naming>(
+        &mut self,
+        loaded: &Loaded,
+        cells: &mut PlainCells<N>,
+        node: NodeNo,
+        base: u32,
+        clause: ClauseNo,
+    ) -> Result<bool, AllocError>
+        requires program { N.program ≡ named loaded.now }
+        requires settled { IsSettled N.program cells.old }
+        requires short { length cells.old ≤ MAX_LIMIT }
+        requires node { CanBeRead N.program cells.old base node.0 }
+        requires of { Of N.program.program (node_term N.program.skeleton.nodes node.0) clause.0 }
+        requires look { IsLook N.program cells.old node.0 base self.old.look }
+        ensures fits { (b : Bool) → result ≡ Ok b → (b ≡ true) ↔ Candidate N.program.program (equations_of N.program cells.old) outside
+            (placed base (node_term N.program.skeleton.nodes node.0)) clause.0 }
+        ensures unchanged { OnOk result (cells.new ≡ cells.old) }
+        ensures look { self.new.look ≡ self.old.look }
+    {
+        if self.look.is_apart(loaded, clause) {
+            return Ok(false);
+        }
+        self.tools.fits(loaded, cells, node, base, clause)
+    }
+}
+
+/// What clauses are tried with.
+#[derive(Drop)]
+struct Tools {
+    solver: Solver,
+    pairs: PairList,
+    values: WorkList,
+}
+
+impl Tools {
+    /// Nothing was tried yet. Takes no memory.
+    fn new(alloc: Global) -> Tools {
+        Tools {
+            solver: Solver::new(alloc),
+            pairs: PairList::new(alloc),
+            values: WorkList::new(alloc),
+        }
+    }
+
+    /// Whether a clause is a candidate of the call whose node is given, in the frame at the base. The
+    /// cells are as before, but after an error, which is want of memory.
+    fn fits<N: Naming>(
+        &mut self,
+        loaded: &Loaded,
+        cells: &mut PlainCells<N>,
+        node: NodeNo,
+        base: u32,
+        clause: ClauseNo,
+    ) -> Result<bool, AllocError>
+        requires program { N.program ≡ named loaded.now }
+        requires settled { IsSettled N.program cells.old }
+        requires short { length cells.old ≤ MAX_LIMIT }
+        requires node { CanBeRead N.program cells.old base node.0 }
+        requires of { Of N.program.program (node_term N.program.skeleton.nodes node.0) clause.0 }
+        ensures fits { (b : Bool) → result ≡ Ok b → (b ≡ true) ↔ Candidate N.program.program (equations_of N.program cells.old) outside
+            (placed base (node_term N.program.skeleton.nodes node.0)) clause.0 }
+        ensures unchanged { OnOk result (cells.new ≡ cells.old) }
+    {
+        let floor = cells.len();
+        let fits = self.meets(loaded, cells, node, base, clause)?;
+        cells.take_back(self.solver.bound(), floor);
+        Ok(fits)
+    }
+
+    /// The same, but that a frame for the clause was put behind the cells, and the cells that the
+    /// solver tells were set.
+    fn meets<N: Naming>(
+        &mut self,
+        loaded: &Loaded,
+        cells: &mut PlainCells<N>,
+        node: NodeNo,
+        base: u32,
+        clause: ClauseNo,
+    ) -> Result<bool, AllocError>
+        requires program { N.program ≡ named loaded.now }
+        requires settled { IsSettled N.program cells.old }
+        requires short { length cells.old ≤ MAX_LIMIT }
+        requires node { CanBeRead N.program cells.old base node.0 }
+        requires of { Of N.program.program (node_term N.program.skeleton.nodes node.0) clause.0 }
+        ensures fits { (b : Bool) → result ≡ Ok b → (b ≡ true) ↔ Candidate N.program.program (equations_of N.program cells.old) outside
+            (placed base (node_term N.program.skeleton.nodes node.0)) clause.0 }
+        ensures only_set { OnOk result (OnlySet self.new.solver cells.old cells.new) }
+    {
+        loaded.skeleton_is_of_the_program();
+        let floor = self.prepare(loaded, cells, node, base, clause)?;
+        match self
+            .solver
+            .settle_further(loaded, cells, floor, &mut self.pairs)
+        {
+            Settled::Solved => {
+                let items = loaded.items(clause);
+                let refuted = is_guard_false(loaded, cells, floor, items, &mut self.values)?;
+                Ok(!refuted)
+            }
+            Settled::NoSolution => Ok(false),
+            Settled::Memory => Err(AllocError),
+        }
+    }
+
+    /// Puts a frame for the clause behind the cells, and asks that the clause's head be made one there
+    /// with the call. It answers where the frame begins. An error is want of memory.
+    fn prepare<N: Naming>(
+        &mut self,
+        loaded: &Loaded,
+        cells: &mut PlainCells<N>,
+        node: NodeNo,
+        base: u32,
+        clause: ClauseNo,
+    ) -> Result<u32, AllocError>
+        requires program { N.program ≡ named loaded.now }
+        requires short { length cells.old ≤ MAX_LIMIT }
+        requires node { IsNodeInRange N.program (length cells.old) node.0 base }
+        requires clause { clause.0 ≤ length N.program.program.clauses }
+        ensures { IfOk result (IsPrepared N.program cells.old cells.new self.new.pairs node.0 base clause.0) }
+    {
+        let floor = cells.len();
+        cells.extend(1 + u32::from(loaded.variables(clause)))?;
+        let _words = cells.len();
+        let call = loaded.resolve(node, base);
+        let head = loaded.resolve(loaded.head(clause), floor);
+        self.pairs.clear();
+        self.pairs.push(call, head)?;
+        Ok(floor)
+    }
+}
