@@ -1,0 +1,44 @@
+//! Codes of trees that are written down as lists of reductions.
+#![tactic(auto)]
+
+mod places;
+mod visiting;
+
+ghost use Rattle.std.specs.Prelude.{[], ◌∷◌, IfOk};
+ghost use Rattle.and_model.specs.Trees.{QueryTree};
+ghost use Rattle.and_model.specs.Reductions.{Makes};
+ghost use Rattle.and_program.specs.Loaded.{program_of};
+ghost use Rattle.and_code.specs.Written.{all_written};
+ghost use Rattle.and_branch_laws.specs.Visits.{at_query, Decides};
+
+use crate::places::by_place;
+use crate::visiting::{Turn, Visit, go_on};
+use and_model::{ClauseNo, Code, ReductionList};
+use and_program::Loaded;
+use std::alloc::{AllocError, Global};
+
+/// The clauses, in preorder, of the tree that the reductions make, up to its first open call: what the
+/// tree has decided, and of a whole tree its code. An error is want of memory.
+pub fn decided_by(
+    alloc: Global,
+    loaded: &Loaded,
+    reductions: &ReductionList,
+) -> Result<Code, AllocError>
+    requires made { (t : QueryTree (program_of loaded.now)) × Makes (program_of loaded.now) (all_written reductions.now) t }
+    ensures { IfOk result (Decides (program_of loaded.now) (all_written reductions.now) (at_query ∷ [])) }
+{
+    let taken = by_place(alloc, reductions)?;
+    let mut code = Code::new(alloc);
+    let mut visits = Vec::new(alloc);
+    visits.push(Visit {
+        node: 0,
+        clause: ClauseNo(0),
+        item: 0,
+    })?;
+    loop {
+        match go_on(loaded, &taken, &mut visits, &mut code)? {
+            Turn::Again => {}
+            Turn::Over => return Ok(code),
+        }
+    }
+}

@@ -1,0 +1,14 @@
+pub mod Loading
+pub mod Found
+pub mod Widening
+pub mod Reading
+pub mod Valuing
+pub mod ReadyPairs
+pub mod NewFrames
+pub mod Numbers
+pub mod Goals
+pub mod Outcomes
+pub mod KeptGoals
+pub mod AskedPairs
+pub mod SettledPairs
+pub mod AskedNumbers

@@ -1,0 +1,17 @@
+use Rattle.std.proofs.Common.{ℕ, sym, subst}
+use Rattle.and_model.specs.Programs.{clause_at, clause_weight}
+use Rattle.and_reduction.specs.Frames.{IsCallBelow}
+use Rattle.and_reduction.proofs.Goals.{call_cells}
+use Rattle.and_reduction.proofs.Loading.{loaded_is}
+use Rattle.and_reduction.proofs.NewFrames.{call_below}
+use Rattle.and_reduction.proofs.taking.take.Goals as goal
+
+pub ask_call-requires-clause-call : goal.ask_call-requires-clause-call
+ask_call-requires-clause-call g c =
+    let P = g.N.Naming.program in
+    let row = c.args.cells.now in
+    let facts = loaded_is P c.args.loaded.now c.requires.program c.skeleton_is_of_the_program.ensures.skeleton
+    c.skeleton_is_of_the_program.ensures.own_variables c.skeleton_is_of_the_program.ensures.few in
+    subst (λ (n : ℕ). IsCallBelow P c.open_frame.new.cells n c.args.goal) (sym c.in_ok-floor.ensures.floor)
+    (call_below P row c.open_frame.new.cells (clause_weight (clause_at P.program c.args.clause.0)) c.args.goal c.in_ok-floor.ensures.widened
+    c.requires.goal (call_cells P facts row c.args.goal c.requires.goal))

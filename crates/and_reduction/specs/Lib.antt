@@ -1,0 +1,5 @@
+pub mod Asking
+pub mod Assigning
+pub mod Frames
+pub mod Runs
+pub mod Sides

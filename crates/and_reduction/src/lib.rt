@@ -1,0 +1,11 @@
+//! The steps of a branch in its cells: the query's items, a call that is taken by a clause, and a goal
+//! of arithmetic that is run.
+#![tactic(auto)]
+
+mod asking;
+pub mod running;
+mod sides;
+pub mod taking;
+
+pub use running::{Ran, run};
+pub use taking::{Entered, Tools, begin, take};
