@@ -1,0 +1,242 @@
+-- What a look at the next goal of a branch comes to.
+use Rattle.std.proofs.Common.{ℕ, ◌≡◌, ◌≢◌, ◌+◌, ◌<◌, ◌≤◌, Bool, true, List, []}
+use Rattle.std.proofs.Common.{◌∷◌, ◌++◌, length, ap, sym, ◌∙◌, subst, inl, inr, ◌⊎◌, arith}
+use Rattle.and_model.specs.Terms.{Term}
+use Rattle.and_model.specs.Programs.{call, arithmetic, Arithmetic, clause_at, clause_weight}
+use Rattle.and_model.specs.Reached.{Steps, none, more}
+use Rattle.and_model.specs.Trees.{QueryTree}
+use Rattle.and_model.specs.declared.goal.Goal.{Goal}
+use Rattle.and_model.specs.declared.limits.TheConstants.{MAX_LIMIT}
+use Rattle.and_model.specs.declared.reference.Ref.{Ref}
+use Rattle.and_laws.proofs.Order.{clause_weighs}
+use Rattle.and_cells.specs.Ranges.{NamedProgram, IsGoalInRange}
+use Rattle.and_cells.specs.Meaning.{IsSettled}
+use Rattle.and_branch_laws.specs.OwnVariables.{IsLoaded}
+use Rattle.and_branch_laws.specs.Judging.{CandidateInCells, SoleInCells}
+use Rattle.and_branch_laws.specs.Kept.{item_at}
+use Rattle.and_determinacy.specs.Candidates.{CanBeJudged}
+use Rattle.and_reduction.specs.Runs.{CanBeRun, IsWaiting, HasRun, CannotHold}
+use Rattle.and_branch.specs.Branches.{Held, Lives, IsBranch, IsBranchOf, SameKey}
+use Rattle.and_branch.specs.Next.{HasNextCall, IsReduced, IsMoved}
+use Rattle.and_branch.specs.Rounds.{IsIdle, StepsOn, AreFew, HasProgressed, HasPassed, IsAt}
+use Rattle.and_branch.proofs.LivingGoals.{Found, found, is_kept, goal_in_range, can_be_judged, can_be_run}
+use Rattle.and_branch.proofs.MovedBranches.{moved_branch}
+use Rattle.and_branch.proofs.GoalsRun.{kind_of_kept, live_of, run_branch, false_branch, idle_branch, sole_branch, sole_there, branch_fits}
+
+-- ---- What holds at a goal
+
+module _ (P : NamedProgram) (b : Held) (g : Goal) (x : IsAt P b g) where
+  abbrev tree : QueryTree P.program
+  tree = x.branch.0
+
+  abbrev branch : IsBranchOf P b x.branch.0
+  branch = x.branch.1
+
+  lives : Lives P b x.branch.0
+  lives = live_of P b x.branch.0 x.live x.branch.1
+
+  the_goal : Found P b x.branch.0 b.left g x.rest
+  the_goal = found P b x.branch.0 b.left g x.rest lives (ap (λ (l : List Goal). b.left ++ l) x.next)
+
+  pub is_settled : IsSettled P b.row
+  is_settled = let k = lives.keeps in k.settled
+
+  pub is_short : length b.row ≤ MAX_LIMIT
+  is_short =
+      let y = lives in
+      let long = y.long in
+      let low = branch_fits P b x.branch.0 x.branch.1 in
+      let z = x.branch.1 in
+      let bound = z.bounded in
+      omega arith
+
+  pub judge_ready : IsLoaded P → (term : Term) → item_at P.program g ≡ call term → CanBeJudged P b.row g
+  judge_ready loaded term e = can_be_judged P b x.branch.0 b.left g x.rest the_goal loaded term e
+
+  pub run_ready : IsLoaded P → (a : Arithmetic) → item_at P.program g ≡ arithmetic a → CanBeRun P b.row g
+  run_ready loaded a e = can_be_run P b x.branch.0 b.left g x.rest the_goal loaded a e
+
+  pub in_range : IsGoalInRange P (length b.row) g
+  in_range = goal_in_range P b x.branch.0 b.left g x.rest the_goal
+
+  pub kind : IsLoaded P → ((term : Term) × (item_at P.program g ≡ call term)) ⊎ ((a : Arithmetic) × (item_at P.program g ≡ arithmetic a))
+  kind loaded =
+      let y = the_goal in
+      subst (λ (h : Goal). ((term : Term) × (item_at P.program h ≡ call term)) ⊎ ((a : Arithmetic) × (item_at P.program h ≡ arithmetic a)))
+      y.goal_is
+      (kind_of_kept P loaded.own b.reductions b.row _ x.branch.0 y.keeps y.f (is_kept P b x.branch.0 b.left g x.rest y))
+
+  pub next_ready : (c : ℕ) (term : Term) → item_at P.program g ≡ call term → SoleInCells P b.row g c
+      → b.used + clause_weight (clause_at P.program c) ≤ b.limit → HasNextCall P b c
+  next_ready c term e sole room = record {
+    tree = x.branch.0;
+    lives = lives;
+    goal = g;
+    rest = x.rest;
+    next = x.next;
+    term = term;
+    is_call = e;
+    there = sole_there P b.row g c sole;
+    fits = let z = x.branch.1 in let bound = z.bounded in omega arith;
+  }
+
+-- ---- Steps
+
+pub no_steps : (P : NamedProgram) (b : Held) → StepsOn P b b
+no_steps P b = record { each = λ t x. (t, x, none t) }
+
+steps_join : (P : NamedProgram) (t u v : QueryTree P.program) → Steps t u → Steps u v → Steps t v
+steps_join P t u v x (none w) = x
+steps_join P t u v x (more y w next steps step) = more t w next (steps_join P t y w x steps) step
+
+pub steps_then : (P : NamedProgram) (one two three : Held) → StepsOn P one two → StepsOn P two three → StepsOn P one three
+steps_then P one two three x y = record {
+  each = λ t z.
+      (
+      let (u, branch, steps) = x.each t z in
+      let (v, more_branch, more_steps) = y.each u branch in
+      (v, more_branch, steps_join P t u v steps more_steps));
+}
+
+pub still_branch : (P : NamedProgram) (old new : Held) → StepsOn P old new → IsBranch P old → IsBranch P new
+still_branch P old new x b = let (u, branch, steps) = x.each b.0 b.1 in (u, branch)
+
+pub moved_steps : (P : NamedProgram) (old new : Held) → IsMoved old new → StepsOn P old new
+moved_steps P old new m = record { each = λ t x. (t, moved_branch P old new t m x, none t) }
+
+-- ---- Passing over
+
+-- where the cells are as before too, all is
+pub unmoved : (old mid : Held) → mid ≡ record old { row = mid.row } → mid.row ≡ old.row → mid ≡ old
+unmoved old mid others row = others ∙ ap (λ (l : List Ref). record old { row = l }) row
+
+-- what is passed over is idle,
+pub passed : (P : NamedProgram) (may : Bool) (old mid new : Held) (g : Goal) (x : IsAt P old g) → mid ≡ old → IsMoved mid new
+    → ((h : Goal) (rest : List Goal) → mid.right ≡ h ∷ rest → (new.right ≡ rest) × (new.left ≡ mid.left ++ h ∷ []))
+    → (may ≡ true → IsIdle P old.limit old.row g) → HasPassed P may old new × StepsOn P old new
+passed P may old mid new g x same =
+    subst (λ (m : Held). IsMoved m new
+    → ((h : Goal) (rest : List Goal) → m.right ≡ h ∷ rest → (new.right ≡ rest) × (new.left ≡ m.left ++ h ∷ []))
+    → (may ≡ true → IsIdle P old.limit old.row g) → HasPassed P may old new × StepsOn P old new) (sym same)
+    (λ moved passes idle.
+    (
+    let ends = passes g x.rest x.next in (
+      record {
+        moved = moved;
+        goal = g;
+        next = x.next ∙ ap (λ (l : List Goal). g ∷ l) (sym ends.0);
+        passed = ends.1;
+        idle = idle;
+      },
+      moved_steps P old new moved,
+    )))
+
+-- as arithmetic that waits is,
+pub idle_waiting : (P : NamedProgram) (limit : ℕ) (row : List Ref) (g : Goal) (a : Arithmetic) → item_at P.program g ≡ arithmetic a
+    → IsWaiting P row g → IsIdle P limit row g
+idle_waiting P limit row g a e waits = record {
+  waits = waits;
+  several = λ term f c sole room. let both : arithmetic a ≡ call term = sym e ∙ f in absurd (cc);
+}
+
+-- and a call with two candidates,
+pub idle_several : (P : NamedProgram) (limit : ℕ) (row : List Ref) (g : Goal) (term : Term) → item_at P.program g ≡ call term
+    → (c : ℕ) × (d : ℕ) × (c ≢ d) × CandidateInCells P row g c × CandidateInCells P row g d → IsIdle P limit row g
+idle_several P limit row g term e (c, d, other, one, two) = record {
+  waits = λ a us f read ground. let both : call term ≡ arithmetic a = sym e ∙ f in absurd (cc);
+  several = λ t f k sole room. other (sole.1 c one ∙ sym (sole.1 d two));
+}
+
+-- or whose only one has no room.
+pub idle_sole : (P : NamedProgram) (b : Held) (g : Goal) (x : IsAt P b g) (term : Term) → item_at P.program g ≡ call term
+    → (k : ℕ) → SoleInCells P b.row g k → (b.used + clause_weight (clause_at P.program k) ≤ b.limit → ⊥) → IsIdle P b.limit b.row g
+idle_sole P b g x term e k only no_room =
+    let y = lives P b g x in
+    let long = y.long in record {
+      waits = λ a us f read ground. let both : call term ≡ arithmetic a = sym e ∙ f in absurd (cc);
+      several = λ t f c sole room.
+          let same : c ≡ k = only.1 c sole.0 in
+          let weighs : clause_weight (clause_at P.program c) ≡ clause_weight (clause_at P.program k) =
+          ap (λ (n : ℕ). clause_weight (clause_at P.program n)) same in
+          no_room (omega arith);
+    }
+
+-- ---- Running, reducing and failing
+
+pub ran : (P : NamedProgram) → IsLoaded P → (old mid new : Held) (g : Goal) (x : IsAt P old g) → mid ≡ record old { row = mid.row }
+    → HasRun P old.row mid.row g
+    → ((h : Goal) (rest : List Goal) → mid.right ≡ h ∷ rest → new ≡ record mid { right = rest }) → AreFew new
+    → HasProgressed old new × (new.used ≡ old.used) × (length new.right < length old.right) × StepsOn P old new
+ran P loaded old mid new g x mid_is run dropped few =
+    let end : Held = record old { row = mid.row; right = x.rest } in
+    let mid_next : mid.right ≡ g ∷ x.rest = ap (λ (h : Held). h.right) mid_is ∙ x.next in
+    let new_is : new ≡ end = dropped g x.rest mid_next ∙ ap (λ (h : Held). record h { right = x.rest }) mid_is in
+    let used : new.used ≡ old.used = ap (λ (h : Held). h.used) new_is in
+    let left : new.left ≡ old.left = ap (λ (h : Held). h.left) new_is in
+    let right : new.right ≡ x.rest = ap (λ (h : Held). h.right) new_is in
+    let shorter : length new.right < length old.right =
+    let one = ap (λ (l : List Goal). length l) right in let other = ap (λ (l : List Goal). length l) x.next in omega arith in
+    let fewer : length new.left + length new.right < length old.left + length old.right =
+    let same = ap (λ (l : List Goal). length l) left in omega arith in (
+      (few, inr (used, fewer)),
+      used,
+      shorter,
+      record {
+        each = λ t branch. (
+          t,
+          run_branch P loaded old new t branch x.live
+              (record { key = ap (λ (h : Held). h.key) new_is; limit = ap (λ (h : Held). h.limit) new_is })
+              (ap (λ (h : Held). h.reductions) new_is) used g x.rest x.next
+              (subst (λ (l : List Ref). HasRun P old.row l g) (sym (ap (λ (h : Held). h.row) new_is)) run)
+              left right (ap (λ (h : Held). h.is_failed) new_is ∙ x.live),
+          none t,
+        );
+      },
+    )
+
+pub cannot_hold : (P : NamedProgram) → IsLoaded P → (old mid new : Held) (g : Goal) (x : IsAt P old g) → mid ≡ record old { row = mid.row }
+    → CannotHold P old.row g → new ≡ record mid { is_failed = true } → StepsOn P old new
+cannot_hold P loaded old mid new g x mid_is cannot marked =
+    let end : Held = record old { row = mid.row; is_failed = true } in
+    let new_is : new ≡ end = marked ∙ ap (λ (h : Held). record h { is_failed = true }) mid_is in record {
+      each = λ t branch. (
+        t,
+        false_branch P loaded old new t branch x.live
+            (record { key = ap (λ (h : Held). h.key) new_is; limit = ap (λ (h : Held). h.limit) new_is })
+            (ap (λ (h : Held). h.reductions) new_is) (ap (λ (h : Held). h.used) new_is) g x.rest x.next cannot
+            (ap (λ (h : Held). h.is_failed) new_is),
+        none t,
+      );
+    }
+
+pub no_candidate : (P : NamedProgram) → IsLoaded P → (old mid new : Held) (g : Goal) (x : IsAt P old g) → mid ≡ old
+    → (term : Term) → item_at P.program g ≡ call term → ((c : ℕ) → CandidateInCells P old.row g c → ⊥)
+    → new ≡ record mid { is_failed = true } → StepsOn P old new
+no_candidate P loaded old mid new g x mid_is term e none_is marked =
+    let end : Held = record old { is_failed = true } in
+    let new_is : new ≡ end = marked ∙ ap (λ (h : Held). record h { is_failed = true }) mid_is in record {
+      each = λ t branch. (
+        t,
+        idle_branch P loaded old new t branch x.live
+            (record { key = ap (λ (h : Held). h.key) new_is; limit = ap (λ (h : Held). h.limit) new_is })
+            (ap (λ (h : Held). h.reductions) new_is) (ap (λ (h : Held). h.used) new_is) g x.rest x.next term e none_is
+            (ap (λ (h : Held). h.is_failed) new_is),
+        none t,
+      );
+    }
+
+pub reduced_steps : (P : NamedProgram) → IsLoaded P → (old new : Held) (g : Goal) (x : IsAt P old g) → SameKey old new → (term : Term)
+    → item_at P.program g ≡ call term → (c : ℕ) → SoleInCells P old.row g c
+    → old.used + clause_weight (clause_at P.program c) ≤ old.limit → IsReduced P old new c → StepsOn P old new
+reduced_steps P loaded old new g x same term e c sole room reduced =
+    record { each = λ t branch. sole_branch P loaded old new t branch x.live same g x.rest x.next term e c sole room reduced }
+
+pub reduced_more : (P : NamedProgram) (old new : Held) (c : ℕ) → new.used ≡ old.used + clause_weight (clause_at P.program c) → AreFew new
+    → HasProgressed old new × (old.used < new.used)
+reduced_more P old new c used few =
+    let grows : old.used < new.used = let some = clause_weighs (clause_at P.program c) in omega arith in
+    ((few, inl grows), grows)
+
+-- Where what was asked of a branch is told of one that is the same.
+pub at_same : (P : NamedProgram) (old mid : Held) (g : Goal) → mid ≡ old → IsAt P old g → IsAt P mid g
+at_same P old mid g same x = subst (λ (h : Held). IsAt P h g) (sym same) x

@@ -1,0 +1,68 @@
+-- Branches whose place of work was moved, and what holds of a branch whose tree has a state.
+use Rattle.std.proofs.Common.{ℕ, ◌≡◌, List, length, refl, ap, sym, ◌∙◌, subst, inl, inr, arith}
+use Rattle.and_model.specs.Trees.{QueryTree, Open}
+use Rattle.and_model.specs.Reached.{ReachedBy}
+use Rattle.and_model.specs.Reductions.{Reduction, Makes}
+use Rattle.and_model.specs.Stands.{Framed}
+use Rattle.and_model.specs.declared.goal.Goal.{Goal}
+use Rattle.and_model.specs.declared.reference.Ref.{Ref}
+use Rattle.and_laws.proofs.Placing.{makes_same}
+use Rattle.and_cells.specs.Ranges.{NamedProgram}
+use Rattle.and_branch_laws.specs.Kept.{Kept}
+use Rattle.and_branch_laws.specs.States.{StateOf, failed, determinate}
+use Rattle.and_branch_laws.proofs.OneState
+use Rattle.and_branch.specs.Branches.{Held, Lives, IsBranchOf, IsOpenGoal}
+use Rattle.and_branch.specs.Next.{IsMoved}
+
+pub moved_lives : (P : NamedProgram) (old new : Held) (t : QueryTree P.program) → IsMoved old new → Lives P old t → Lives P new t
+moved_lives P old new t m lives =
+    let kept : List Framed = lives.kept in record {
+      kept = lives.kept;
+      keeps = subst (λ (l : List Reduction). Kept P l new.row kept t) (sym m.reductions)
+          (subst (λ (l : List Ref). Kept P old.reductions l kept t) (sym m.row) lives.keeps);
+      goals = lives.goals ∙ sym m.goals;
+      long = ap (λ (l : List Ref). length l) m.row ∙ lives.long ∙ sym m.used;
+      live = m.is_failed ∙ lives.live;
+    }
+
+pub moved_branch : (P : NamedProgram) (old new : Held) (t : QueryTree P.program) → IsMoved old new → IsBranchOf P old t → IsBranchOf P new t
+moved_branch P old new t m x = record {
+  made = subst (λ (l : List Reduction). Makes P.program l t) (sym m.reductions) x.made;
+  reached = subst (λ (k : List ℕ). ReachedBy P.program new.limit k t) (sym m.key)
+      (subst (λ (n : ℕ). ReachedBy P.program n old.key t) (sym m.limit) x.reached);
+  bounded = let e = m.limit in let l = x.bounded in omega arith;
+  used = x.used ∙ sym m.used;
+  state = elim x.state [ inl dead ↦ inl (m.is_failed ∙ dead.0, dead.1) | inr lives ↦ inr (moved_lives P old new t m lives) ];
+}
+
+pub moved_open : (P : NamedProgram) (old new : Held) (t : QueryTree P.program) → IsMoved old new → (o : Open t) (g : Goal)
+    → IsOpenGoal P old.reductions t o g → IsOpenGoal P new.reductions t o g
+moved_open P old new t m o g x = subst (λ (l : List Reduction). IsOpenGoal P l t o g) (sym m.reductions) x
+
+pub moved_twice : (one two three : Held) → IsMoved one two → IsMoved two three → IsMoved one three
+moved_twice one two three m n = record {
+  key = n.key ∙ m.key;
+  limit = n.limit ∙ m.limit;
+  reductions = n.reductions ∙ m.reductions;
+  row = n.row ∙ m.row;
+  used = n.used ∙ m.used;
+  is_failed = n.is_failed ∙ m.is_failed;
+  goals = n.goals ∙ m.goals;
+}
+
+pub moved_nowhere : (b : Held) → IsMoved b b
+moved_nowhere b = record { key = refl; limit = refl; reductions = refl; row = refl; used = refl; is_failed = refl; goals = refl }
+
+-- A tree that is not failed is not dead, and the branch lives.
+pub determinate_lives : (P : NamedProgram) (b : Held) (t : QueryTree P.program) (o : Open t) (c : ℕ) → IsBranchOf P b t
+    → StateOf P.program b.limit t (determinate o c) → Lives P b t
+determinate_lives P b t o c x state = elim x.state [
+  | inl dead ↦
+      let same : determinate o c ≡ failed = OneState.one_state P.program b.limit t (determinate o c) failed state dead.1 in
+      absurd (cc)
+  | inr lives ↦ lives
+]
+
+-- A branch stands for one tree.
+pub one_tree : (P : NamedProgram) (b : Held) (t u : QueryTree P.program) → IsBranchOf P b t → IsBranchOf P b u → t ≡ u
+one_tree P b t u x y = makes_same P.program b.reductions b.reductions t u x.made y.made (λ r. (λ h. h, λ h. h))

@@ -1,0 +1,12 @@
+use Rattle.std.proofs.Common.{subst}
+use Rattle.and_reduction.specs.Runs.{HasRun, CannotHold}
+use Rattle.and_branch.specs.Branches.{Held}
+use Rattle.and_branch.proofs.branch.Branch.run_next.Goals as goal
+
+pub returns-clause-done : goal.returns-clause-done
+returns-clause-done g c = λ is.
+    subst (λ (b : Held). HasRun g.N.Naming.program b.row c.run.new.cells c.args.goal) c.self.view_is (c.run.ensures.done is)
+
+pub returns-clause-fails : goal.returns-clause-fails
+returns-clause-fails g c = λ is.
+    subst (λ (b : Held). CannotHold g.N.Naming.program b.row c.args.goal) c.self.view_is (c.run.ensures.fails is)

@@ -1,0 +1,114 @@
+-- What is found of the goals of a branch, from left to right.
+use Rattle.std.specs.Prelude.{ℕ, ◌+◌, ◌≡◌, ◌≢◌, ◌⊎◌, Bool, false, cond, List, ◌∷◌, ◌++◌, length, Contains}
+use Rattle.and_model.specs.Terms.{Path, Term, variables_of}
+use Rattle.and_model.specs.Programs.{Item, call, arithmetic, Arithmetic}
+use Rattle.and_model.specs.Stands.{term_of}
+use Rattle.and_model.specs.Store.{is_half}
+use Rattle.and_model.specs.declared.goal.Goal.{Goal}
+use Rattle.and_model.specs.declared.numbers.ClauseNo.{ClauseNo}
+use Rattle.and_model.specs.declared.reference.Ref.{Ref}
+use Rattle.and_cells.specs.Ranges.{NamedProgram, IsGoalInRange}
+use Rattle.and_cells.specs.Seen.{word_at}
+use Rattle.and_branch_laws.specs.Kept.{item_at, node_item_at, HasFreePair}
+use Rattle.and_branch_laws.specs.Judging.{CandidateInCells, SoleInCells, FitsBehind}
+use Rattle.and_reduction.specs.Runs.{HasUnnamedPair}
+use Rattle.and_branch.specs.Branches.{is_arithmetic}
+use Rattle.and_branch.specs.declared.finding.Found.{Found}
+use Rattle.and_branch.specs.declared.finding.Found.TheVariants.{NoCall, Several, Heavy, Fitting, Stuck}
+
+-- the goal is a call
+abbrev pub IsCallGoal : NamedProgram → Goal → Type 0
+IsCallGoal P g = is_arithmetic (item_at P.program g) ≡ false
+
+-- the item is a call, or arithmetic
+abbrev pub IsCallOrArithmetic : Item → Type 0
+IsCallOrArithmetic i = ((term : Term) × (i ≡ call term)) ⊎ ((what : Arithmetic) × (i ≡ arithmetic what))
+
+-- A goal that a branch keeps, as its cells have it: it is in range, a call or arithmetic, no cell of its variables is a word of a pair, and
+-- its own pair is free and named by no word.
+pub record IsSeen (P : NamedProgram) (row : List Ref) (g : Goal) : Type 0 where
+  pub in_range : IsGoalInRange P (length row) g
+  pub kind : IsCallOrArithmetic (item_at P.program g)
+  pub whole : (v : Path × ℕ) → Contains (variables_of (term_of P.program g)) v → is_half (word_at row (g.base + 1 + v.1)) ≡ false
+  pub free : HasFreePair P row g (node_item_at P g)
+  pub unnamed : HasUnnamedPair P row g (node_item_at P g)
+
+-- So it is with each call among these goals.
+abbrev pub AllCalls : NamedProgram → (Goal → Type 0) → List Goal → Type 0
+AllCalls P Q gs = (g : Goal) → Contains gs g → IsCallGoal P g → Q g
+
+-- A goal has a candidate,
+abbrev pub HasOne : NamedProgram → List Ref → Goal → Type 0
+HasOne P row g = (c : ℕ) × CandidateInCells P row g c
+
+-- or two;
+abbrev pub HasTwo : NamedProgram → List Ref → Goal → Type 0
+HasTwo P row g = (c : ℕ) × (d : ℕ) × (c ≢ d) × CandidateInCells P row g c × CandidateInCells P row g d
+
+-- it has not one alone,
+abbrev pub HasNoSole : NamedProgram → List Ref → Goal → Type 0
+HasNoSole P row g = (d : ℕ) → SoleInCells P row g d → ⊥
+
+-- or not one alone that fits.
+abbrev pub HasNoFitting : NamedProgram → ℕ → List Ref → Goal → Type 0
+HasNoFitting P limit row g = (d : ℕ) → SoleInCells P row g d → FitsBehind P limit row d → ⊥
+
+-- The call is one of these goals, behind some and before others.
+pub record IsCallAmong (P : NamedProgram) (gs : List Goal) (goal : Goal) : Type 0 where
+  pub front : List Goal
+  pub back : List Goal
+  pub all : gs ≡ front ++ goal ∷ back
+  pub called : IsCallGoal P goal
+
+-- It is the first call, and each has two candidates.
+pub record IsSeveral (P : NamedProgram) (row : List Ref) (gs : List Goal) (goal : Goal) : Type 0 where
+  pub among : IsCallAmong P gs goal
+  pub first : AllCalls P (λ g. ⊥) among.front
+  pub each : AllCalls P (HasTwo P row) gs
+
+-- It is the first with one candidate alone, and no call has one alone that fits.
+pub record IsHeavy (P : NamedProgram) (limit : ℕ) (row : List Ref) (gs : List Goal) (goal : Goal) (clause : ℕ) : Type 0 where
+  pub among : IsCallAmong P gs goal
+  pub sole : SoleInCells P row goal clause
+  pub first : AllCalls P (HasNoSole P row) among.front
+  pub each : AllCalls P (HasOne P row) gs
+  pub none : AllCalls P (HasNoFitting P limit row) gs
+
+-- It is the first with one candidate alone that fits.
+pub record IsFitting (P : NamedProgram) (limit : ℕ) (row : List Ref) (gs : List Goal) (goal : Goal) (clause : ℕ) : Type 0 where
+  pub among : IsCallAmong P gs goal
+  pub sole : SoleInCells P row goal clause
+  pub fits : FitsBehind P limit row clause
+  pub first : AllCalls P (HasNoFitting P limit row) among.front
+  pub each : AllCalls P (HasOne P row) gs
+
+-- Some call has no candidate.
+pub record IsStuck (P : NamedProgram) (row : List Ref) (gs : List Goal) : Type 0 where
+  pub goal : Goal
+  pub there : Contains gs goal
+  pub called : IsCallGoal P goal
+  pub none : (c : ℕ) → CandidateInCells P row goal c → ⊥
+
+-- That was found of these goals.
+abbrev pub HasFound : NamedProgram → ℕ → List Ref → List Goal → Found → Type 0
+HasFound P limit row gs NoCall = AllCalls P (λ g. ⊥) gs
+HasFound P limit row gs (Several goal) = IsSeveral P row gs goal
+HasFound P limit row gs (Heavy goal clause) = IsHeavy P limit row gs goal clause.0
+HasFound P limit row gs (Fitting goal clause) = IsFitting P limit row gs goal clause.0
+HasFound P limit row gs Stuck = IsStuck P row gs
+
+-- what is found with one more call behind, of several candidates,
+abbrev pub with_several : Found → Goal → Found
+with_several NoCall goal = Several goal
+with_several (Several first) goal = Several first
+with_several (Heavy first clause) goal = Heavy first clause
+with_several (Fitting first clause) goal = Fitting first clause
+with_several Stuck goal = Stuck
+
+-- or of one candidate
+abbrev pub with_one : Found → Goal → ClauseNo → (fits : Bool) → Found
+with_one NoCall goal clause fits = cond fits (Fitting goal clause) (Heavy goal clause)
+with_one (Several first) goal clause fits = cond fits (Fitting goal clause) (Heavy goal clause)
+with_one (Heavy first heavy) goal clause fits = cond fits (Fitting goal clause) (Heavy first heavy)
+with_one (Fitting first fitting) goal clause fits = Fitting first fitting
+with_one Stuck goal clause fits = Stuck

@@ -1,0 +1,10 @@
+pub mod Branches
+pub mod States
+pub mod Children
+pub mod Ended
+pub mod Finding
+pub mod Forking
+pub mod Resting
+pub mod Making
+pub mod Next
+pub mod Rounds

@@ -1,0 +1,23 @@
+-- How the children of a fork are made.
+use Rattle.std.specs.Prelude.{ℕ, ◌≡◌, List, [], ◌∷◌, ◌++◌}
+use Rattle.and_model.specs.Trees.{QueryTree}
+use Rattle.and_model.specs.Reached.{Split}
+use Rattle.and_cells.specs.Ranges.{NamedProgram}
+use Rattle.and_branch.specs.Branches.{Held, IsBranchOf}
+use Rattle.and_branch.specs.Children.{Fork, AreChildren}
+
+-- the fork from this clause on
+abbrev pub with_next : Fork → (clause : ℕ) → (rest : List ℕ) → Fork
+with_next f c rest = record { parent = f.parent; goal = f.goal; longer = f.longer; clauses = c ∷ rest }
+
+-- A child by this clause can come next.
+pub record CanBeMade (P : NamedProgram) (f : Fork) (clause : ℕ) : Type 0 where
+  pub rest : List ℕ
+  pub tree : QueryTree P.program
+  pub children : AreChildren P (with_next f clause rest) tree
+
+-- The branch is the child by this clause.
+pub record IsMade (P : NamedProgram) (f : Fork) (clause : ℕ) (b : Held) : Type 0 where
+  pub key : b.key ≡ f.longer ++ clause ∷ []
+  pub limit : b.limit ≡ f.parent.limit
+  pub stands : (rest : List ℕ) (t u : QueryTree P.program) → AreChildren P (with_next f clause rest) t → Split t clause u → IsBranchOf P b u

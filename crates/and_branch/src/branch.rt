@@ -1,0 +1,196 @@
+//! A branch, its root, and one reduction of it.
+
+ghost use Rattle.std.specs.Prelude.{◌≡◌, ◌<◌, ◌≤◌, [], true, false, OnOk, IfOk};
+ghost use Rattle.and_model.specs.Programs.{clause_weight, Of};
+ghost use Rattle.and_model.specs.Trees.{QueryTree, query_agenda, blank, Open, call_of, reduce};
+ghost use Rattle.and_model.specs.Limits.{query_alone};
+ghost use Rattle.and_model.specs.declared.limits.TheConstants.{MAX_LIMIT};
+ghost use Rattle.and_model.specs.declared.goal.Cut.{Cut};
+ghost use Rattle.and_cells.specs.Parts.{named};
+ghost use Rattle.and_branch_laws.specs.States.{IsCut, StateOf, determinate};
+ghost use Rattle.and_branch_laws.specs.Views.{StandsIn};
+ghost use Rattle.and_code.specs.Written.{all_written};
+ghost use Rattle.and_branch.specs.Branches.{Held, IsBranch, IsBranchOf, IsOpenGoal, SameKey, view_of};
+
+use crate::goals::push_body;
+use crate::workspace::Workspace;
+use and_cells::{Naming, PlainCells};
+use and_model::{ClauseNo, Code, Cut, Goal, ReductionList};
+use and_program::Loaded;
+use and_reduction::{Entered, begin};
+use std::alloc::{AllocError, Global};
+use std::marker::Model;
+
+/// A partial proof: a tree of reductions, with the cells of its variables and the goals that are left.
+///
+/// Contracts see it as the parts that it keeps. `IsBranchOf` says which tree it stands for.
+#[derive(Drop)]
+pub struct Branch<N: Naming> {
+    pub(crate) key: Code,
+    pub(crate) limit: u32,
+    pub(crate) cells: PlainCells<N>,
+    pub(crate) reductions: ReductionList,
+    /// Its goals, calls and arithmetic among each other in preorder: those before the place where it
+    /// is at work,
+    pub(crate) left: Vec<Goal>,
+    /// and those from there on, the next one last.
+    pub(crate) right: Vec<Goal>,
+    pub(crate) used: u32,
+    pub(crate) is_failed: bool,
+}
+
+impl<N: Naming> Model for Branch<N> {
+    ghost use Rattle.std.specs.Prelude.{reverse};
+    ghost use Rattle.and_code.specs.Written.{all_written};
+    ghost use Rattle.and_branch.specs.Branches.{Held};
+
+    ghost Value = { Held };
+
+    ghost view = { λ branch. record {
+      key = branch.key;
+      reductions = all_written branch.reductions;
+      row = branch.cells;
+      left = branch.left.items;
+      right = reverse branch.right.items;
+      used = branch.used;
+      limit = branch.limit;
+      is_failed = branch.is_failed;
+    } };
+}
+
+/// The number of the query.
+const QUERY: ClauseNo = ClauseNo(0);
+
+/// The branch of a query.
+pub enum Rooted<N: Naming> {
+    /// The branch of the query.
+    Ready(Branch<N>),
+    /// The query by itself weighs more than the limit.
+    TooHeavy(Cut),
+    /// Want of memory.
+    Memory,
+}
+
+impl<N: Naming> Branch<N> {
+    /// The branch of the program's query, of which nothing is reduced yet.
+    pub fn root(alloc: Global, loaded: &Loaded, limit: u32, workspace: &mut Workspace) -> Rooted<N>
+        requires program { N.program ≡ named loaded.now }
+        requires limit { limit ≤ MAX_LIMIT }
+        ensures ready { (b : Held) → result ≡ Rooted.Ready b → IsBranchOf N.program b (blank (query_agenda N.program.program)) }
+        ensures plain { (b : Held) → result ≡ Rooted.Ready b → (b.key ≡ []) × (b.limit ≡ limit) × (b.reductions ≡ []) }
+        ensures heavy { (cut : Cut) → result ≡ Rooted.TooHeavy cut → limit < clause_weight N.program.program.query }
+        ensures cut { (cut : Cut) → result ≡ Rooted.TooHeavy cut
+            → IsCut {P = N.program.program} (all_written cut.partial) cut.goal cut.clause.0 query_alone }
+    {
+        if loaded.weight(QUERY) > limit {
+            return Rooted::TooHeavy(query_cut(alloc));
+        }
+        match begun(alloc, loaded, limit, workspace) {
+            Ok(branch) => Rooted::Ready(branch),
+            Err(_) => Rooted::Memory,
+        }
+    }
+
+    /// Reduces a goal by its one candidate. An error is want of memory, and the branch is spent.
+    pub fn reduce_one(
+        &mut self,
+        loaded: &Loaded,
+        goal: Goal,
+        clause: ClauseNo,
+        workspace: &mut Workspace,
+    ) -> Result<(), AllocError>
+        requires program { N.program ≡ named loaded.now }
+        requires determinate { (t : QueryTree N.program.program) × (o : Open t) × IsBranchOf N.program self.old t
+            × IsOpenGoal N.program self.old.reductions t o goal × StateOf N.program.program self.old.limit t (determinate o clause.0) }
+        ensures same { SameKey self.old self.new }
+        ensures reduced { OnOk result ((t : QueryTree N.program.program) (o : Open t) (of_it : Of N.program.program (call_of t o) clause.0)
+            → IsBranchOf N.program self.old t → IsOpenGoal N.program self.old.reductions t o goal
+            → IsBranchOf N.program self.new (reduce t o clause.0 of_it)) }
+    {
+        self.seek(goal)?;
+        self.reduce_next(loaded, clause, workspace)?;
+        Ok(())
+    }
+
+    /// What was decided where the branch was split off, and then its clause. Takes no memory.
+    pub fn key(&self) -> &Code
+        ensures { result.now ≡ self.now.key }
+    {
+        &self.key
+    }
+
+    /// The weight of the branch's tree. Takes no memory.
+    pub fn weight(&self) -> u32
+        ensures { result ≡ self.now.used }
+    {
+        self.used
+    }
+
+    /// A branch stands for its key: a law of branches.
+    pub fn stands(&self, loaded: &Loaded)
+        requires program { N.program ≡ named loaded.now }
+        requires branch { IsBranch N.program self.now }
+        ensures { StandsIn (view_of N.program self.now) self.now.key N.program self.now.limit }
+    {
+        loaded.skeleton_is_of_the_program();
+    }
+}
+
+/// The branch of a query that fits. An error is want of memory.
+fn begun<N: Naming>(
+    alloc: Global,
+    loaded: &Loaded,
+    limit: u32,
+    workspace: &mut Workspace,
+) -> Result<Branch<N>, AllocError>
+    requires program { N.program ≡ named loaded.now }
+    requires limit { limit ≤ MAX_LIMIT }
+    requires fits { clause_weight N.program.program.query ≤ limit }
+    ensures branch { IfOk result (λ b. IsBranchOf N.program b (blank (query_agenda N.program.program))) }
+    ensures plain { IfOk result (λ b. (b.key ≡ []) × (b.limit ≡ limit) × (b.reductions ≡ [])) }
+{
+    loaded.skeleton_is_of_the_program();
+    let mut cells = PlainCells::with(alloc, 0)?;
+    let entered = begin(loaded, &mut cells, &mut workspace.tools)?;
+    let mut right = Vec::new(alloc);
+    push_body(&mut right, loaded, QUERY, 0)?;
+    Ok(Branch {
+        key: Code::new(alloc),
+        limit,
+        cells,
+        reductions: ReductionList::new(alloc),
+        left: Vec::new(alloc),
+        right,
+        used: loaded.weight(QUERY),
+        is_failed: has_failed(entered),
+    })
+}
+
+/// Whether what was entered has no solution.
+fn has_failed(entered: Entered) -> bool
+    ensures failed { result ≡ true → entered ≡ Entered.NoSolution }
+    ensures solved { result ≡ false → entered ≡ Entered.Solved }
+{
+    match entered {
+        Entered::Solved => false,
+        Entered::NoSolution => true,
+    }
+}
+
+/// The cut of a query that is too heavy by itself. Takes no memory.
+fn query_cut(alloc: Global) -> Cut
+    ensures partial { all_written result.partial ≡ [] }
+    ensures clause { result.clause.0 ≡ 0 }
+    ensures goal { result.goal ≡ record { node = 0; item = 0; clause = record { 0 = 0 }; base = 0 } }
+{
+    Cut {
+        partial: ReductionList::new(alloc),
+        clause: QUERY,
+        goal: Goal {
+            node: 0,
+            item: 0,
+            clause: QUERY,
+            base: 0,
+        },
+    }
+}

@@ -1,0 +1,115 @@
+//! The goals of a body, put where the next goals are.
+
+ghost use Rattle.std.specs.Prelude.{◌≡◌, ◌≤◌, ◌⊎◌, ℕ, true, false, [], ◌∷◌, ◌++◌, map, reverse, length, OnOk};
+ghost use Rattle.and_model.specs.Terms.{Term};
+ghost use Rattle.and_model.specs.Programs.{call, arithmetic, Arithmetic, clause_at};
+ghost use Rattle.and_cells.specs.Ranges.{IsGoalInRange};
+ghost use Rattle.and_cells.specs.Parts.{named};
+ghost use Rattle.and_program.specs.Loaded.{program_of};
+ghost use Rattle.and_program.specs.Items.{node_item};
+ghost use Rattle.and_branch_laws.specs.Kept.{goal_of, item_at};
+ghost use Rattle.and_branch_laws.specs.Reducing.{goal_at, body_goals};
+ghost use Rattle.and_branch.specs.Next.{is_goal_item, is_call_node};
+
+use and_model::{ClauseNo, Goal};
+use and_program::{ItemNode, Loaded};
+use std::alloc::AllocError;
+
+/// Puts the calls and the arithmetic of a clause's body, whose frame begins at the node, on the list,
+/// the first one last. An error is want of memory.
+pub(crate) fn push_body(
+    goals: &mut Vec<Goal>,
+    loaded: &Loaded,
+    clause: ClauseNo,
+    node: u32,
+) -> Result<(), AllocError>
+    requires { clause.0 ≤ length (program_of loaded.now).clauses }
+    ensures { OnOk result (reverse goals.new.items
+        ≡ map goal_of (body_goals clause.0 node [] 0 (clause_at (program_of loaded.now) clause.0).body) ++ reverse goals.old.items) }
+{
+    let items = loaded.items(clause);
+    let mut place = items.len();
+    while place > 0 {
+        place -= 1;
+        push_item(goals, items[place], clause, node, place)?;
+    }
+    Ok(())
+}
+
+/// Puts an item, if it is a call or arithmetic, as a goal on the list. An error is want of memory.
+fn push_item(
+    goals: &mut Vec<Goal>,
+    item: ItemNode,
+    clause: ClauseNo,
+    node: u32,
+    place: usize,
+) -> Result<(), AllocError>
+    ensures goal { is_goal_item (node_item item) ≡ true
+        → OnOk result (goals.new.items ≡ goals.old.items ++ goal_of (goal_at clause.0 node [] place) ∷ []) }
+    ensures other { is_goal_item (node_item item) ≡ false → OnOk result (goals.new.items ≡ goals.old.items) }
+{
+    if is_goal(item) {
+        push_goal(goals, clause, node, place)
+    } else {
+        Ok(())
+    }
+}
+
+/// Whether the item is a call or arithmetic.
+fn is_goal(item: ItemNode) -> bool
+    ensures { result ≡ is_goal_item (node_item item) }
+{
+    match item {
+        ItemNode::Call { .. } => true,
+        ItemNode::Equal { .. } => false,
+        ItemNode::Is { .. } => true,
+        ItemNode::Compare { .. } => true,
+        ItemNode::Fail => false,
+    }
+}
+
+/// Puts an item as a goal on the list. An error is want of memory. (There is none for a body of 2^32
+/// items.)
+fn push_goal(
+    goals: &mut Vec<Goal>,
+    clause: ClauseNo,
+    node: u32,
+    place: usize,
+) -> Result<(), AllocError>
+    ensures { OnOk result (goals.new.items ≡ goals.old.items ++ goal_of (goal_at clause.0 node [] place) ∷ []) }
+{
+    let Ok(item) = u32::try_from(place) else {
+        return Err(AllocError);
+    };
+    goals.push(Goal {
+        node,
+        item,
+        clause,
+        base: node,
+    })?;
+    Ok(())
+}
+
+/// Whether a goal, which is a call or arithmetic, is a call. Takes no memory.
+pub(crate) fn is_call(loaded: &Loaded, goal: Goal) -> bool
+    requires in_range { (words : ℕ) × IsGoalInRange (named loaded.now) words goal }
+    requires kind { ((term : Term) × (item_at (program_of loaded.now) goal ≡ call term))
+        ⊎ ((a : Arithmetic) × (item_at (program_of loaded.now) goal ≡ arithmetic a)) }
+    ensures call { result ≡ true → (term : Term) × (item_at (program_of loaded.now) goal ≡ call term) }
+    ensures arithmetic { result ≡ false → (a : Arithmetic) × (item_at (program_of loaded.now) goal ≡ arithmetic a) }
+{
+    is_call_item(loaded.items(goal.clause)[goal.item as usize])
+}
+
+/// Whether the item is a call.
+fn is_call_item(item: ItemNode) -> bool
+    ensures { result ≡ is_call_node (node_item item) }
+{
+    match item {
+        ItemNode::Call { .. } => true,
+        ItemNode::Equal { .. } => false,
+        ItemNode::Is { .. } => false,
+        ItemNode::Compare { .. } => false,
+        ItemNode::Fail => false,
+    }
+}

@@ -1,0 +1,23 @@
+//! Branches of the search (the basic Andorra model: Santos Costa, Warren and Yang, 1991).
+//!
+//! A [`Branch`] stands for a partial proof. Determinate goals are reduced first, wherever they stand;
+//! where there are none, the leftmost goal is forked, with a child for each of its candidates.
+#![tactic(auto)]
+
+pub mod advancing;
+pub mod branch;
+mod finding;
+mod forking;
+mod goals;
+mod reducing;
+mod resting;
+mod seeking;
+pub mod splitting;
+pub mod state;
+pub mod telling;
+pub mod workspace;
+
+pub use branch::{Branch, Rooted};
+pub use splitting::{BranchList, Split};
+pub use state::BranchState;
+pub use workspace::Workspace;

@@ -1,0 +1,76 @@
+//! The next goal, reduced.
+
+ghost use Rattle.std.specs.Prelude.{◌≡◌, ◌+◌, OnOk, OnErr, [], ◌∷◌, ◌++◌};
+ghost use Rattle.and_model.specs.Programs.{clause_at, clause_weight};
+ghost use Rattle.and_cells.specs.Parts.{named};
+ghost use Rattle.and_branch_laws.specs.Reducing.{reduction_by};
+ghost use Rattle.and_code.specs.Written.{all_written};
+ghost use Rattle.and_branch.specs.Branches.{SameKey};
+ghost use Rattle.and_branch.specs.Next.{HasNextCall, IsReduced};
+
+use crate::branch::Branch;
+use crate::goals::push_body;
+use crate::workspace::Workspace;
+use and_cells::Naming;
+use and_model::{ClauseNo, Goal, Reduction, ReductionList};
+use and_program::Loaded;
+use and_reduction::{Entered, take};
+use std::alloc::AllocError;
+
+impl<N: Naming> Branch<N> {
+    /// Reduces the next goal, a call, by the clause, whose body's goals are then the next ones. The
+    /// branch is marked failed where what this asks has no solution. An error is want of memory, and
+    /// the branch is spent.
+    pub(crate) fn reduce_next(
+        &mut self,
+        loaded: &Loaded,
+        clause: ClauseNo,
+        workspace: &mut Workspace,
+    ) -> Result<(), AllocError>
+        requires program { N.program ≡ named loaded.now }
+        requires next { HasNextCall N.program self.old clause.0 }
+        ensures same { SameKey self.old self.new }
+        ensures used { OnOk result (self.new.used ≡ self.old.used + clause_weight (clause_at N.program.program clause.0)) }
+        ensures reduced { OnOk result (IsReduced N.program self.old self.new clause.0) }
+    {
+        loaded.skeleton_is_of_the_program();
+        let Some(goal) = self.right.pop() else {
+            unreachable!()
+        };
+        let node = self.used;
+        self.used += loaded.weight(clause);
+        push_reduction(&mut self.reductions, goal, clause, node)?;
+        match take(loaded, &mut self.cells, goal, clause, &mut workspace.tools)? {
+            Entered::Solved => {
+                push_body(&mut self.right, loaded, clause, node)?;
+                Ok(())
+            }
+            Entered::NoSolution => {
+                self.is_failed = true;
+                Ok(())
+            }
+        }
+    }
+}
+
+/// Writes down the reduction of a goal by a clause, which stands at the node. An error is want of
+/// memory.
+fn push_reduction(
+    reductions: &mut ReductionList,
+    goal: Goal,
+    clause: ClauseNo,
+    node: u32,
+) -> Result<(), AllocError>
+    ensures { OnOk result (all_written reductions.new ≡ all_written reductions.old ++ reduction_by goal clause.0 node ∷ []) }
+{
+    let reduction = Reduction {
+        parent: goal.node,
+        item: goal.item,
+        clause,
+        node,
+    };
+    match reductions.push(reduction) {
+        Ok(()) => Ok(()),
+        Err(_) => Err(AllocError),
+    }
+}

@@ -1,0 +1,181 @@
+//! Forks: a branch that is split, and its children.
+
+ghost use Rattle.std.specs.Prelude.{◌≡◌, ◌∷◌, [], ℕ, Option, None, Some, Ok, OnErr, IfOk, IfErr};
+ghost use Rattle.and_model.specs.Trees.{QueryTree, Open};
+ghost use Rattle.and_cells.specs.Parts.{named};
+ghost use Rattle.and_branch_laws.specs.States.{StateOf, fork};
+ghost use Rattle.and_branch.specs.Branches.{Held, IsBranchOf, IsOpenGoal};
+ghost use Rattle.and_branch.specs.States.{numbers};
+ghost use Rattle.and_branch.specs.Children.{AreChildren, IsChild, IsForkOf};
+ghost use Rattle.and_branch.specs.Making.{CanBeMade, IsMade};
+
+use crate::branch::Branch;
+use crate::workspace::Workspace;
+use and_cells::Naming;
+use and_code::decided_by;
+use and_model::{ClauseList, ClauseNo, Code, Goal};
+use and_program::Loaded;
+use std::alloc::{AllocError, Global};
+use std::marker::Model;
+
+/// A fork: a branch none of whose goals was determinate, its leftmost open goal, and the candidates of
+/// this goal that fit.
+#[derive(Drop)]
+pub struct Split<N: Naming> {
+    pub(crate) parent: Branch<N>,
+    pub(crate) goal: Goal,
+    pub(crate) longer: Code,
+    pub(crate) clauses: ClauseList,
+}
+
+impl<N: Naming> Model for Split<N> {
+    ghost use Rattle.and_branch.specs.Children.{Fork};
+    ghost use Rattle.and_branch.specs.States.{numbers};
+
+    ghost Value = { Fork };
+
+    ghost view = { λ split. record { parent = split.parent; goal = split.goal; longer = split.longer; clauses = numbers split.clauses } };
+}
+
+/// The children of a fork that are still to come, in textual order. Each is made when its turn comes.
+#[derive(Drop)]
+pub struct BranchList<N: Naming> {
+    split: Split<N>,
+    /// How many were made.
+    made: usize,
+}
+
+impl<N: Naming> Model for BranchList<N> {
+    ghost use Rattle.std.specs.Prelude.{drop};
+    ghost use Rattle.and_branch.specs.Children.{Fork};
+
+    ghost Value = { Fork };
+
+    ghost view = { λ list. record list.split { clauses = drop list.made list.split.clauses } };
+}
+
+impl<N: Naming> Branch<N> {
+    /// Splits the branch, whose state is a fork of this goal by these clauses. An error is want of
+    /// memory, and hands the branch back.
+    pub fn split(
+        self,
+        alloc: Global,
+        loaded: &Loaded,
+        goal: Goal,
+        clauses: ClauseList,
+    ) -> Result<Split<N>, Branch<N>>
+        requires program { N.program ≡ named loaded.now }
+        requires fork { (t : QueryTree N.program.program) × (o : Open t) × (cut : Option ℕ) × IsBranchOf N.program self t
+            × IsOpenGoal N.program self.reductions t o goal × StateOf N.program.program self.limit t (fork o (numbers clauses) cut) }
+        ensures split { IfOk result (IsForkOf self goal (numbers clauses)) }
+        ensures children { IfOk result (λ s. (t : QueryTree N.program.program) → IsBranchOf N.program self t → AreChildren N.program s t) }
+        ensures given_back { IfErr result (λ branch. branch ≡ self) }
+    {
+        match decided_by(alloc, loaded, &self.reductions) {
+            Ok(longer) => Ok(Split {
+                parent: self,
+                goal,
+                longer,
+                clauses,
+            }),
+            Err(_) => Err(self),
+        }
+    }
+
+    /// Another branch of the same, but for the key. An error is want of memory.
+    fn copy_with(&self, alloc: Global, key: Code) -> Result<Branch<N>, AllocError>
+        ensures { IfOk result (λ b. b ≡ record self.now { key = key }) }
+    {
+        let cells = self.cells.copy()?;
+        let reductions = self.reductions.copy()?;
+        let left = Vec::from_slice(alloc, &self.left)?;
+        let right = Vec::from_slice(alloc, &self.right)?;
+        Ok(Branch {
+            key,
+            limit: self.limit,
+            cells,
+            reductions,
+            left,
+            right,
+            used: self.used,
+            is_failed: self.is_failed,
+        })
+    }
+}
+
+impl<N: Naming> Split<N> {
+    /// The key of the branch that was split. Takes no memory.
+    pub fn key(&self) -> &Code
+        ensures { result.now ≡ self.now.parent.key }
+    {
+        &self.parent.key
+    }
+
+    /// What was decided in it: the key of each child, but for the child's clause. Takes no memory.
+    pub fn longer(&self) -> &Code
+        ensures { result.now ≡ self.now.longer }
+    {
+        &self.longer
+    }
+
+    /// The clauses of the children. Takes no memory.
+    pub fn clauses(&self) -> &ClauseList
+        ensures { numbers result.now ≡ self.now.clauses }
+    {
+        &self.clauses
+    }
+
+    /// The child by a clause. An error is want of memory.
+    fn child(
+        &self,
+        alloc: Global,
+        loaded: &Loaded,
+        clause: ClauseNo,
+        workspace: &mut Workspace,
+    ) -> Result<Branch<N>, AllocError>
+        requires program { N.program ≡ named loaded.now }
+        requires next { CanBeMade N.program self.now clause.0 }
+        ensures { IfOk result (IsMade N.program self.now clause.0) }
+    {
+        let mut key = self.longer.copy()?;
+        key.push(clause)?;
+        let mut child = self.parent.copy_with(alloc, key)?;
+        child.seek(self.goal)?;
+        child.reduce_next(loaded, clause, workspace)?;
+        Ok(child)
+    }
+
+    /// The children. Takes no memory.
+    pub fn into_children(self) -> BranchList<N>
+        ensures { result ≡ self }
+    {
+        BranchList {
+            split: self,
+            made: 0,
+        }
+    }
+}
+
+impl<N: Naming> BranchList<N> {
+    /// The next child. An error is want of memory; the child can be asked for again.
+    pub fn next(
+        &mut self,
+        alloc: Global,
+        loaded: &Loaded,
+        workspace: &mut Workspace,
+    ) -> Result<Option<Branch<N>>, AllocError>
+        requires program { N.program ≡ named loaded.now }
+        requires children { (t : QueryTree N.program.program) × AreChildren N.program self.old t }
+        ensures none { result ≡ Ok None → self.old.clauses ≡ [] }
+        ensures some { (b : Held) → result ≡ Ok (Some b) → IsChild N.program self.old self.new b }
+        ensures unchanged { OnErr result (self.new ≡ self.old) }
+    {
+        if self.made >= self.split.clauses().len() {
+            return Ok(None);
+        }
+        let clause = *self.split.clauses().at(self.made);
+        let child = self.split.child(alloc, loaded, clause, workspace)?;
+        self.made += 1;
+        Ok(Some(child))
+    }
+}

@@ -1,0 +1,212 @@
+//! The state of a branch: what its tree allows next.
+
+ghost use Rattle.std.specs.Prelude.{◌≡◌, ◌≢◌, [], Some, false, OnOk, IfOk, IsSome};
+ghost use Rattle.and_model.specs.Trees.{QueryTree};
+ghost use Rattle.and_model.specs.declared.goal.Cut.{Cut};
+ghost use Rattle.and_cells.specs.Parts.{named};
+ghost use Rattle.and_code.specs.Written.{all_written};
+ghost use Rattle.and_determinacy.specs.Tables.{IsTableOf};
+ghost use Rattle.and_branch.specs.Branches.{IsBranch, IsBranchOf, SameKey};
+ghost use Rattle.and_branch.specs.Finding.{AllCalls, IsSeveral};
+ghost use Rattle.and_branch.specs.Forking.{HasCutBy};
+ghost use Rattle.and_branch.specs.Resting.{SameTree, IsResting};
+ghost use Rattle.and_branch.specs.States.{IsState, IsAtRest};
+
+use crate::branch::Branch;
+use crate::finding::{Found, find};
+use crate::forking::part;
+use crate::workspace::Workspace;
+use and_cells::Naming;
+use and_determinacy::{Determinacy, candidates_of};
+use and_model::{ClauseList, ClauseNo, Cut, Goal};
+use and_program::Loaded;
+use std::alloc::AllocError;
+
+/// What a branch's tree allows next.
+#[derive(Drop)]
+pub enum BranchState {
+    /// A goal has one candidate alone, which fits: the leftmost such goal.
+    Determinate {
+        goal: Goal,
+        clause: ClauseNo,
+    },
+    /// Each goal has two candidates or more. The leftmost goal is to be forked, with those of its
+    /// candidates that fit; the cut is that of the first that does not.
+    Fork {
+        goal: Goal,
+        clauses: ClauseList,
+        cut: Option<Cut>,
+    },
+    /// No goal is left.
+    Answer,
+    /// Arithmetic alone is left, and waits.
+    Floundered,
+    /// There is no solution, or a goal has no candidate.
+    Failed,
+    /// The one candidate of a goal is too heavy, and no goal's fits; or all candidates of the leftmost
+    /// goal are too heavy.
+    OverLimit(Cut),
+}
+
+impl<N: Naming> Branch<N> {
+    /// Runs the arithmetic that is ground, and judges what the tree allows next. An error is want of
+    /// memory, and the branch is spent.
+    pub fn state(
+        &mut self,
+        loaded: &Loaded,
+        table: &Determinacy,
+        workspace: &mut Workspace,
+    ) -> Result<BranchState, AllocError>
+        requires program { N.program ≡ named loaded.now }
+        requires table { IsTableOf N.program table.now }
+        requires branch { IsBranch N.program self.old }
+        ensures same { SameKey self.old self.new }
+        ensures reductions { self.new.reductions ≡ self.old.reductions }
+        ensures stands { OnOk result ((t : QueryTree N.program.program) → IsBranchOf N.program self.old t → IsBranchOf N.program self.new t) }
+        ensures judged { IfOk result (λ s. (t : QueryTree N.program.program) → IsBranchOf N.program self.new t
+            → IsState N.program self.new t s) }
+        ensures at_rest { IfOk result (λ s. IsAtRest N.program self.new s) }
+    {
+        if self.is_failed {
+            return Ok(BranchState::Failed);
+        }
+        self.rest(loaded, &mut workspace.tools)?;
+        if self.is_failed {
+            return Ok(BranchState::Failed);
+        }
+        self.judged(loaded, table, workspace)
+    }
+
+    /// The state of a branch at rest. An error is want of memory, and the branch is spent.
+    fn judged(
+        &mut self,
+        loaded: &Loaded,
+        table: &Determinacy,
+        workspace: &mut Workspace,
+    ) -> Result<BranchState, AllocError>
+        requires program { N.program ≡ named loaded.now }
+        requires table { IsTableOf N.program table.now }
+        requires branch { IsBranch N.program self.old }
+        requires live { self.old.is_failed ≡ false }
+        requires rests { IsResting N.program self.old }
+        ensures same { SameTree self.old self.new }
+        ensures stays { OnOk result (self.new ≡ self.old) }
+        ensures judged { IfOk result (λ s. (t : QueryTree N.program.program) → IsBranchOf N.program self.old t
+            → IsState N.program self.old t s) }
+    {
+        loaded.skeleton_is_of_the_program();
+        let limit = self.limit;
+        let found = find(
+            table,
+            loaded,
+            &mut self.cells,
+            &self.left,
+            limit,
+            &mut workspace.trials,
+        )?;
+        match found {
+            Found::NoCall => Ok(self.ended(loaded)),
+            Found::Several { goal } => self.forked(loaded, table, goal, workspace),
+            Found::Heavy { goal, clause } => {
+                let cut = self.cut(goal, clause)?;
+                Ok(BranchState::OverLimit(cut))
+            }
+            Found::Fitting { goal, clause } => Ok(BranchState::Determinate { goal, clause }),
+            Found::Stuck => Ok(BranchState::Failed),
+        }
+    }
+
+    /// The state of a branch at rest without a call. Takes no memory.
+    fn ended(&self, loaded: &Loaded) -> BranchState
+        requires program { N.program ≡ named loaded.now }
+        requires live { self.now.is_failed ≡ false }
+        requires rests { IsResting N.program self.now }
+        requires none { AllCalls N.program (λ g. ⊥) self.now.left }
+        ensures { (t : QueryTree N.program.program) → IsBranchOf N.program self.now t → IsState N.program self.now t result }
+    {
+        loaded.skeleton_is_of_the_program();
+        if self.left.is_empty() {
+            BranchState::Answer
+        } else {
+            BranchState::Floundered
+        }
+    }
+
+    /// The branch with this goal and clause as a cut. An error is want of memory.
+    fn cut(&self, goal: Goal, clause: ClauseNo) -> Result<Cut, AllocError>
+        ensures partial { IfOk result (λ cut. all_written cut.partial ≡ self.now.reductions) }
+        ensures goal { IfOk result (λ cut. cut.goal ≡ goal) }
+        ensures clause { IfOk result (λ cut. cut.clause ≡ clause) }
+    {
+        let partial = self.reductions.copy()?;
+        Ok(Cut {
+            partial,
+            clause,
+            goal,
+        })
+    }
+
+    /// The state of a branch at rest each of whose calls has two candidates, of which this is the
+    /// leftmost. An error is want of memory, and the branch is spent.
+    fn forked(
+        &mut self,
+        loaded: &Loaded,
+        table: &Determinacy,
+        goal: Goal,
+        workspace: &mut Workspace,
+    ) -> Result<BranchState, AllocError>
+        requires program { N.program ≡ named loaded.now }
+        requires table { IsTableOf N.program table.now }
+        requires branch { IsBranch N.program self.old }
+        requires live { self.old.is_failed ≡ false }
+        requires rests { IsResting N.program self.old }
+        requires several { IsSeveral N.program self.old.row self.old.left goal }
+        ensures same { SameTree self.old self.new }
+        ensures stays { OnOk result (self.new ≡ self.old) }
+        ensures judged { IfOk result (λ s. (t : QueryTree N.program.program) → IsBranchOf N.program self.old t
+            → IsState N.program self.old t s) }
+    {
+        loaded.skeleton_is_of_the_program();
+        let alloc = *self.left.allocator();
+        let candidates = &mut workspace.candidates;
+        candidates_of(
+            table,
+            loaded,
+            &mut self.cells,
+            goal,
+            &mut workspace.trials,
+            candidates,
+        )?;
+        let parted = part(alloc, loaded, &self.cells, candidates, self.limit)?;
+        let cut = self.cut_if(goal, parted.heavy)?;
+        Ok(fork_of(goal, parted.fitting, cut))
+    }
+
+    /// The cut of a clause, if there is one. An error is want of memory.
+    fn cut_if(&self, goal: Goal, clause: Option<ClauseNo>) -> Result<Option<Cut>, AllocError>
+        ensures { IfOk result (HasCutBy self.now goal clause) }
+    {
+        match clause {
+            None => Ok(None),
+            Some(clause) => {
+                let cut = self.cut(goal, clause)?;
+                Ok(Some(cut))
+            }
+        }
+    }
+}
+
+/// A fork by these clauses, or over the limit where there is none. Takes no memory.
+fn fork_of(goal: Goal, clauses: ClauseList, cut: Option<Cut>) -> BranchState
+    requires { clauses ≡ [] → IsSome cut }
+    ensures fork { clauses ≢ [] → result ≡ BranchState.Fork goal clauses cut }
+    ensures over { (over : Cut) → clauses ≡ [] → cut ≡ Some over → result ≡ BranchState.OverLimit over }
+{
+    if clauses.len() > 0 {
+        return BranchState::Fork { goal, clauses, cut };
+    }
+    match cut {
+        Some(cut) => BranchState::OverLimit(cut),
+        None => unreachable!(),
+    }
+}

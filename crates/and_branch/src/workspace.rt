@@ -1,0 +1,25 @@
+//! What branches work with.
+
+use and_determinacy::Trials;
+use and_model::ClauseList;
+use and_reduction::Tools;
+use std::alloc::Global;
+
+/// What branches work with, kept by their caller and used again.
+#[derive(Drop)]
+pub struct Workspace {
+    pub(crate) trials: Trials,
+    pub(crate) tools: Tools,
+    pub(crate) candidates: ClauseList,
+}
+
+impl Workspace {
+    /// Nothing was done yet. Takes no memory.
+    pub fn new(alloc: Global) -> Workspace {
+        Workspace {
+            trials: Trials::new(alloc),
+            tools: Tools::new(alloc),
+            candidates: ClauseList::new(alloc),
+        }
+    }
+}
