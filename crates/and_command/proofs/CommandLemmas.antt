@@ -1,23 +1,24 @@
 -- Reading the words one by one finds exactly the commands.
-use Rattle.std.proofs.Common.{◌≡◌, ◌≢◌, ℕ, List, [], ◌∷◌, ◌++◌, codes, Option, Some, None, IfSome, length, map, take}
+use Rattle.std.proofs.Common.{◌≡◌, ◌≢◌, ℕ, Bool, true, false, List, [], ◌∷◌, ◌++◌, codes, Option, Some, None, IfSome, length, map, take}
 use Rattle.std.proofs.Common.{drop, ◌<◌, ◌-◌, refl, ap, sym, subst, ◌∙◌, arith, length-drop, append_assoc}
 use Rattle.std.specs.Prelude.{get_or}
 use Rattle.std.proofs.Math.Seq.{drop-cons}
 use Rattle.std.proofs.lemmas.List.{take_all}
 use Rattle.std.specs.Option.{option_and_then}
 use Rattle.and_model.specs.Lines.{Bytes}
-use Rattle.and_command.specs.Options.{name_text, name_of, value_of}
+use Rattle.and_command.specs.Options.{name_text, name_of, is_stats, value_of}
 use Rattle.and_command.specs.Options as options
-use Rattle.and_command.specs.Given.{nothing, with_value, with_number, settings_of}
-use Rattle.and_command.specs.Reading.{closed, cut, with_joined, next_joined, next_named, next_numbered, next_after, next}
+use Rattle.and_command.specs.Given.{nothing, with_value, with_number, with_stats, settings_of}
+use Rattle.and_command.specs.Reading.{closed, cut, with_joined, next_joined, next_named, next_flagged, next_numbered, next_after, next}
 use Rattle.and_command.specs.Reading.{read_from, at_end, read, as_run, run_of, as_demo, demo_of}
-use Rattle.and_command.specs.Commands.{Gives, ends, apart, joined, alone, IsCommand}
+use Rattle.and_command.specs.Commands.{Gives, ends, apart, joined, alone, flagged, IsCommand}
 use Rattle.and_command.specs.declared.options.Name.{Name}
 use Rattle.and_command.specs.declared.given.Given.{Given}
 use Rattle.and_command.specs.declared.reading.Reading.{Reading}
 use Rattle.and_command.specs.declared.reading.Command.{Command}
 use Rattle.and_command.specs.declared.reading.Command.TheVariants.{Run, Demo}
-use Rattle.and_command.proofs.WordLemmas.{is_cut, is_name, names, no_number, no_joined_number, no_joined_name, cut_joined}
+use Rattle.and_command.proofs.WordLemmas.{is_cut, is_name, names, no_number, no_flag, no_flag_number, flag_is, no_joined_number}
+use Rattle.and_command.proofs.WordLemmas.{no_joined_flag, no_joined_name, cut_joined}
 
 -- what stands behind an answer of two steps
 pub after : {A B : Type 0} (f : A → Option B) (o : Option A) (y : B) → option_and_then f o ≡ Some y
@@ -68,9 +69,16 @@ named_word g word s words end (Some name) names_it is rest =
     let on : LeadsOn owed words end = subst (λ r. LeadsOn r words end) same rest in
     subst (λ ws. Gives g (word ∷ ws) end) (sym on.3) (apart g on.2 end name word on.0 on.1 (is_name word name names_it) on.4 on.5)
 
+flag_word : (g : Given) (word : Bytes) (s : Reading) (words : List Bytes) (end : Given) (b : Bool) → is_stats word ≡ b
+    → next_flagged g word b ≡ Some s → LeadsOn s words end → Gives g (word ∷ words) end
+flag_word g word s words end false other is rest = named_word g word s words end (name_of word) refl is rest
+flag_word g word s words end true here is rest =
+    let value = closes (with_stats g) s words end is rest in
+    flagged g value.0 end word words (flag_is word here) value.1 value.2
+
 numbered_word : (g : Given) (word : Bytes) (s : Reading) (words : List Bytes) (end : Given) (o : Option ℕ) → options.demo_of word ≡ o
     → next_numbered g word o ≡ Some s → LeadsOn s words end → Gives g (word ∷ words) end
-numbered_word g word s words end None without is rest = named_word g word s words end (name_of word) refl is rest
+numbered_word g word s words end None without is rest = flag_word g word s words end (is_stats word) refl is rest
 numbered_word g word s words end (Some n) number is rest =
     let value = closes (with_number n g) s words end is rest in
     alone g value.0 end n word words number value.1 value.2
@@ -106,6 +114,7 @@ named_next : (g : Given) (name : Name) (word : Bytes) → word ≡ name_text nam
 named_next g name word is =
     ap (next (closed g)) is
     ∙ ap (next_numbered g (name_text name)) (no_number name)
+    ∙ ap (next_flagged g (name_text name)) (no_flag name)
     ∙ ap (next_named g (name_text name)) (names name)
 
 joined_next : (g h : Given) (name : Name) (word value : Bytes) → word ≡ name_text name ++ codes "=" ++ value
@@ -114,6 +123,7 @@ joined_next g h name word value is gives =
     let whole : Bytes = name_text name ++ codes "=" ++ value in
     ap (next (closed g)) is
     ∙ ap (next_numbered g whole) (no_joined_number name value)
+    ∙ ap (next_flagged g whole) (no_joined_flag name value)
     ∙ ap (next_named g whole) (no_joined_name name value)
     ∙ ap (option_and_then (λ p. with_joined g p.0 p.1)) (cut_joined name value)
     ∙ ap (option_and_then (λ n. option_and_then (λ h. Some (closed h)) (with_value n value g))) (names name)
@@ -122,6 +132,10 @@ joined_next g h name word value is gives =
 alone_next : (g h : Given) (n : ℕ) (word : Bytes) → options.demo_of word ≡ Some n → with_number n g ≡ Some h
     → next (closed g) word ≡ Some (closed h)
 alone_next g h n word is gives = ap (next_numbered g word) is ∙ ap (option_and_then (λ h. Some (closed h))) gives
+
+flag_next : (g h : Given) (word : Bytes) → word ≡ codes "--stats" → with_stats g ≡ Some h → next (closed g) word ≡ Some (closed h)
+flag_next g h word is gives =
+    ap (next (closed g)) is ∙ ap (next_numbered g (codes "--stats")) no_flag_number ∙ ap (option_and_then (λ h. Some (closed h))) gives
 
 -- what is given is found
 found : (g end : Given) (words : List Bytes) → Gives g words end → read_from (closed g) words ≡ Some (closed end)
@@ -135,6 +149,8 @@ found g end _ (joined _ h _ name word value words is gives rest) =
     step (closed g) (closed h) word words (Some (closed end)) (joined_next g h name word value is gives) (found h end words rest)
 found g end _ (alone _ h _ n word words is gives rest) =
     step (closed g) (closed h) word words (Some (closed end)) (alone_next g h n word is gives) (found h end words rest)
+found g end _ (flagged _ h _ word words is gives rest) =
+    step (closed g) (closed h) word words (Some (closed end)) (flag_next g h word is gives) (found h end words rest)
 
 read_finds : (words : List Bytes) (g : Given) → read words ≡ Some g → Gives nothing words g
 read_finds words g is = finds words (closed nothing) g is
@@ -154,17 +170,18 @@ run_is rest command is =
     subst (IsCommand (codes "run" ∷ rest)) (sym how.1) (rest, given.0, refl, read_finds rest given.0 given.1, how.0, refl)
 
 -- `demo`
-demo_with : (o l : Option ℕ) (g : Given) (command : Command) → as_demo o l g ≡ Some command → (n : ℕ) × (o ≡ Some n) × (l ≡ None)
-    × (command ≡ Demo n (settings_of g))
-demo_with None l g command is = absurd (cc)
-demo_with (Some n) None g command is = (n, refl, refl, sym (the_same (Demo n (settings_of g)) command is))
-demo_with (Some n) (Some l) g command is = absurd (cc)
+demo_with : (b : Bool) (o l : Option ℕ) (g : Given) (command : Command) → as_demo b o l g ≡ Some command
+    → (n : ℕ) × (o ≡ Some n) × (l ≡ None) × (b ≡ false) × (command ≡ Demo n (settings_of g))
+demo_with true o l g command is = absurd (cc)
+demo_with false None l g command is = absurd (cc)
+demo_with false (Some n) None g command is = (n, refl, refl, refl, sym (the_same (Demo n (settings_of g)) command is))
+demo_with false (Some n) (Some l) g command is = absurd (cc)
 
 demo_is : (rest : List Bytes) (command : Command) → demo_of rest ≡ Some command → IsCommand (codes "demo" ∷ rest) command
 demo_is rest command is =
-    let given = after (λ g. as_demo g.number g.limit g) (read rest) command is in
-    let how = demo_with given.0.number given.0.limit given.0 command given.2 in
-    subst (IsCommand (codes "demo" ∷ rest)) (sym how.3) (rest, given.0, refl, read_finds rest given.0 given.1, how.1, how.2, refl)
+    let given = after (λ g. as_demo g.stats g.number g.limit g) (read rest) command is in
+    let how = demo_with given.0.stats given.0.number given.0.limit given.0 command given.2 in
+    subst (IsCommand (codes "demo" ∷ rest)) (sym how.4) (rest, given.0, refl, read_finds rest given.0 given.1, how.1, how.2, how.3, refl)
 
 same_rest : (a b : Bytes) (xs ys : List Bytes) → a ∷ xs ≡ b ∷ ys → (a ≡ b) × (xs ≡ ys)
 same_rest a b xs ys is = (cc, cc)
@@ -178,16 +195,17 @@ run_each rest (Run settings) (words, g, is, gives, none, are) =
     let same = same_rest (codes "run") (codes "run") rest words is in
     ap run_of same.1 ∙ ap (option_and_then (λ g. as_run g.number g)) (read_found words g gives) ∙ ap (λ o. as_run o g) none
     ∙ ap (λ s. Some (Run s)) (sym are)
-run_each rest (Demo n settings) (words, g, is, gives, number, none, are) = absurd
+run_each rest (Demo n settings) (words, g, is, gives, number, none, plain, are) = absurd
     (no_run_demo (same_rest (codes "run") (codes "demo") rest words is).0)
 
 demo_each : (rest : List Bytes) (command : Command) → IsCommand (codes "demo" ∷ rest) command → demo_of rest ≡ Some command
 demo_each rest (Run settings) (words, g, is, gives, none, are) = absurd
     (no_run_demo (sym (same_rest (codes "demo") (codes "run") rest words is).0))
-demo_each rest (Demo n settings) (words, g, is, gives, number, none, are) =
+demo_each rest (Demo n settings) (words, g, is, gives, number, none, plain, are) =
     let same = same_rest (codes "demo") (codes "demo") rest words is in
-    ap demo_of same.1 ∙ ap (option_and_then (λ g. as_demo g.number g.limit g)) (read_found words g gives)
-    ∙ ap (λ o. as_demo o g.limit g) number ∙ ap (λ l. as_demo (Some n) l g) none ∙ ap (λ s. Some (Demo n s)) (sym are)
+    ap demo_of same.1 ∙ ap (option_and_then (λ g. as_demo g.stats g.number g.limit g)) (read_found words g gives)
+    ∙ ap (λ b. as_demo b g.number g.limit g) plain ∙ ap (λ o. as_demo false o g.limit g) number
+    ∙ ap (λ l. as_demo false (Some n) l g) none ∙ ap (λ s. Some (Demo n s)) (sym are)
 
 -- a list of words by its first and the rest
 pub in_front : {W : Type 0} (text : W → Bytes) (words : List W) (w : W) (first : Bytes) → 0 < length words → w ≡ get_or words 0 w

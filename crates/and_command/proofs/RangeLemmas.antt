@@ -1,11 +1,11 @@
 -- What a command names is in its range.
-use Rattle.std.proofs.Common.{◌≡◌, ℕ, ◌≤◌, List, [], ◌∷◌, Option, Some, None, IfSome, refl, ap, sym, subst, ◌∙◌, arith}
+use Rattle.std.proofs.Common.{◌≡◌, ℕ, Bool, true, false, if◌then◌else◌, List, Option, Some, None, IfSome, sym}
+use Rattle.std.proofs.Common.{subst, arith}
 use Rattle.std.specs.Prelude.{unwrap_or}
-use Rattle.std.specs.Option.{option_and_then}
 use Rattle.and_model.specs.Lines.{Bytes}
 use Rattle.and_command.specs.Options.{most_of, value_of, demo_of}
-use Rattle.and_command.specs.Given.{nothing, first_given, with, with_value, with_number, settings_of}
-use Rattle.and_command.specs.Commands.{Gives, ends, apart, joined, alone, IsCommand, IsWithin, AreInRange, IsInRange}
+use Rattle.and_command.specs.Given.{nothing, first_given, with, with_value, with_number, with_stats, settings_of}
+use Rattle.and_command.specs.Commands.{Gives, ends, apart, joined, alone, flagged, IsCommand, IsWithin, AreInRange, IsInRange}
 use Rattle.and_command.specs.declared.options.Name.{Name}
 use Rattle.and_command.specs.declared.options.Name.TheVariants.{Limit, Teams, Workers}
 use Rattle.and_command.specs.declared.given.Given.{Given}
@@ -53,6 +53,13 @@ number_ranges word n g h number is old =
     subst HaveRanges (the_same (record g { number = made.0 }) h made.2)
     (old.0, old.1, old.2, given_first 0 64 n g.number made.0 within made.1)
 
+stats_ranges : (g h : Given) → with_stats g ≡ Some h → HaveRanges g → HaveRanges h
+stats_ranges g h is old = by g.stats is
+  where
+    by : (b : Bool) → (if b then None else Some (record g { stats = true })) ≡ Some h → HaveRanges h
+    by true e = absurd (cc)
+    by false e = subst HaveRanges (the_same (record g { stats = true }) h e) old
+
 -- all that words give is in its range
 given_ranges : (g end : Given) (words : List Bytes) → Gives g words end → HaveRanges g → HaveRanges end
 given_ranges g end _ (ends _) old = old
@@ -61,6 +68,7 @@ given_ranges g end _ (apart _ h _ name word value words is gives rest) old = giv
 given_ranges g end _ (joined _ h _ name word value words is gives rest) old = given_ranges h end words rest
     (value_ranges name value g h gives old)
 given_ranges g end _ (alone _ h _ n word words is gives rest) old = given_ranges h end words rest (number_ranges word n g h is gives old)
+given_ranges g end _ (flagged _ h _ word words is gives rest) old = given_ranges h end words rest (stats_ranges g h gives old)
 
 or_else : (least most default : ℕ) (o : Option ℕ) → HasRange least most o → IsWithin least most default
     → IsWithin least most (unwrap_or o default)
@@ -77,7 +85,7 @@ settings_ranges g have = (
 command_ranges : (words : List Bytes) (command : Command) → IsCommand words command → IsInRange command
 command_ranges words (Run settings) (rest, g, is, gives, none, are) =
     subst AreInRange (sym are) (settings_ranges g (given_ranges nothing g rest gives (tt, tt, tt, tt)))
-command_ranges words (Demo n settings) (rest, g, is, gives, number, none, are) =
+command_ranges words (Demo n settings) (rest, g, is, gives, number, none, plain, are) =
     let have = given_ranges nothing g rest gives (tt, tt, tt, tt) in
     let within : HasRange 0 64 (Some n) = subst (HasRange 0 64) number have.3 in
     (within.1, subst AreInRange (sym are) (settings_ranges g have))

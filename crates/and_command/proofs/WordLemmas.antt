@@ -8,7 +8,7 @@ use Rattle.std.proofs.lemmas.Slice.Eq.{bytes_eq-Decides}
 use Rattle.std.proofs.lemmas.Bool.Decides.{Decides-eqb}
 use Rattle.std.proofs.lemmas.Bool.{ne_eqb}
 use Rattle.and_model.specs.Lines.{Bytes}
-use Rattle.and_command.specs.Options.{name_text, name_of, demo_of}
+use Rattle.and_command.specs.Options.{name_text, name_of, is_stats, demo_of}
 use Rattle.and_command.specs.Reading.{cut, put_before}
 use Rattle.and_command.specs.declared.options.Name.{Name}
 use Rattle.and_command.specs.declared.options.Name.TheVariants.{Limit, Teams, Workers}
@@ -96,6 +96,24 @@ pub no_number : (name : Name) → demo_of (name_text name) ≡ None
 no_number Limit = refl
 no_number Teams = refl
 no_number Workers = refl
+
+-- nor is it the flag
+pub no_flag : (name : Name) → is_stats (name_text name) ≡ false
+no_flag Limit = refl
+no_flag Teams = refl
+no_flag Workers = refl
+
+pub no_joined_flag : (name : Name) (value : Bytes) → is_stats (name_text name ++ codes "=" ++ value) ≡ false
+no_joined_flag Limit value = refl
+no_joined_flag Teams value = refl
+no_joined_flag Workers value = refl
+
+-- the flag is no number of a demo
+pub no_flag_number : demo_of (codes "--stats") ≡ None
+no_flag_number = refl
+
+pub flag_is : (word : Bytes) → is_stats word ≡ true → word ≡ codes "--stats"
+flag_is word is = (bytes_eq-Decides word (codes "--stats")).0 is
 
 pub no_joined_number : (name : Name) (value : Bytes) → demo_of (name_text name ++ codes "=" ++ value) ≡ None
 no_joined_number Limit value = refl

@@ -1,8 +1,8 @@
 -- Which lists of words are commands, and with which values. All of it is this project's own.
-use Rattle.std.specs.Prelude.{ℕ, ◌≡◌, ◌≤◌, List, [], ◌∷◌, ◌++◌, Some, None, codes}
+use Rattle.std.specs.Prelude.{ℕ, false, ◌≡◌, ◌≤◌, List, [], ◌∷◌, ◌++◌, Some, None, codes}
 use Rattle.and_model.specs.Lines.{Bytes}
 use Rattle.and_command.specs.Options.{name_text, demo_of}
-use Rattle.and_command.specs.Given.{nothing, with_value, with_number, settings_of}
+use Rattle.and_command.specs.Given.{nothing, with_value, with_number, with_stats, settings_of}
 use Rattle.and_command.specs.declared.options.Name.{Name}
 use Rattle.and_command.specs.declared.given.Given.{Given}
 use Rattle.and_command.specs.declared.given.Settings.{Settings}
@@ -10,8 +10,8 @@ use Rattle.and_command.specs.declared.reading.Command.{Command}
 use Rattle.and_command.specs.declared.reading.Command.TheVariants.{Run, Demo}
 
 -- From what was given, these words lead to what is given with them, from left to right: an option's
--- name and its value in two words, the two in one word with `=` between them, or a demo's number.
--- Nothing is given twice
+-- name and its value in two words, the two in one word with `=` between them, a demo's number, or the
+-- flag `--stats`. Nothing is given twice
 pub data Gives : Given → List Bytes → Given → Type 0 where
   ends : (g : Given) → Gives g [] g
   apart : (g h end : Given) (name : Name) (word value : Bytes) (words : List Bytes)
@@ -20,13 +20,16 @@ pub data Gives : Given → List Bytes → Given → Type 0 where
       → word ≡ name_text name ++ codes "=" ++ value → with_value name value g ≡ Some h → Gives h words end → Gives g (word ∷ words) end
   alone : (g h end : Given) (n : ℕ) (word : Bytes) (words : List Bytes)
       → demo_of word ≡ Some n → with_number n g ≡ Some h → Gives h words end → Gives g (word ∷ words) end
+  flagged : (g h end : Given) (word : Bytes) (words : List Bytes)
+      → word ≡ codes "--stats" → with_stats g ≡ Some h → Gives h words end → Gives g (word ∷ words) end
 
--- `run` is followed by options alone, `demo` by its number and options other than the limit
+-- `run` is followed by options and the flag, `demo` by its number and options other than the limit
 abbrev pub IsCommand : List Bytes → Command → Type 0
 IsCommand words (Run settings) = (rest : List Bytes) × (g : Given)
     × (words ≡ codes "run" ∷ rest) × Gives nothing rest g × (g.number ≡ None) × (settings ≡ settings_of g)
 IsCommand words (Demo n settings) = (rest : List Bytes) × (g : Given)
-    × (words ≡ codes "demo" ∷ rest) × Gives nothing rest g × (g.number ≡ Some n) × (g.limit ≡ None) × (settings ≡ settings_of g)
+    × (words ≡ codes "demo" ∷ rest) × Gives nothing rest g × (g.number ≡ Some n) × (g.limit ≡ None) × (g.stats ≡ false)
+    × (settings ≡ settings_of g)
 
 -- the number is in the range
 abbrev pub IsWithin : ℕ → ℕ → ℕ → Type 0

@@ -1,5 +1,5 @@
 -- What words have given so far. All of it is this project's own.
-use Rattle.std.specs.Prelude.{ℕ, Option, Some, None, unwrap_or}
+use Rattle.std.specs.Prelude.{ℕ, true, false, if◌then◌else◌, Option, Some, None, unwrap_or}
 use Rattle.std.specs.Option.{option_and_then}
 use Rattle.and_model.specs.Lines.{Bytes}
 use Rattle.and_command.specs.Options.{value_of}
@@ -9,7 +9,7 @@ use Rattle.and_command.specs.declared.given.Given.{Given}
 use Rattle.and_command.specs.declared.given.Settings.{Settings}
 
 abbrev pub nothing : Given
-nothing = record { limit = None; teams = None; workers = None; number = None }
+nothing = record { limit = None; teams = None; workers = None; number = None; stats = false }
 
 -- this value, where there is none so far
 abbrev pub first_given : ℕ → Option ℕ → Option (Option ℕ)
@@ -30,10 +30,15 @@ with_value name word g = option_and_then (λ value. with name value g) (value_of
 abbrev pub with_number : ℕ → Given → Option Given
 with_number value g = option_and_then (λ v. Some (record g { number = v })) (first_given value g.number)
 
+-- the same, and `--stats`, where it was not given so far
+abbrev pub with_stats : Given → Option Given
+with_stats g = if g.stats then None else Some (record g { stats = true })
+
 -- the settings: what was given, and else the defaults
 abbrev pub settings_of : Given → Settings
 settings_of g = record {
   limit = unwrap_or g.limit 262144;
   teams = unwrap_or g.teams 2;
   workers = unwrap_or g.workers 2;
+  stats = g.stats;
 }

@@ -22,6 +22,10 @@ name_of word =
     else if bytes_eq word (name_text Workers) then Some Workers
     else None
 
+-- the word is the flag `--stats`
+abbrev pub is_stats : Bytes → Bool
+is_stats word = bytes_eq word (codes "--stats")
+
 -- the largest value of an option
 abbrev pub most_of : Name → ℕ
 most_of Limit = 4194304

@@ -1,11 +1,11 @@
 -- How words are read, one by one from left to right: a function that finds what specs/Commands says.
 -- All of it is this project's own.
-use Rattle.std.specs.Prelude.{ℕ, List, [], ◌∷◌, Option, Some, None, if◌then◌else◌, nat_eq}
+use Rattle.std.specs.Prelude.{ℕ, Bool, true, false, List, [], ◌∷◌, Option, Some, None, if◌then◌else◌, nat_eq}
 use Rattle.std.specs.Option.{option_and_then, option_map}
 use Rattle.and_model.specs.Lines.{Bytes}
-use Rattle.and_command.specs.Options.{name_of}
+use Rattle.and_command.specs.Options.{name_of, is_stats}
 use Rattle.and_command.specs.Options as options
-use Rattle.and_command.specs.Given.{nothing, with_value, with_number, settings_of}
+use Rattle.and_command.specs.Given.{nothing, with_value, with_number, with_stats, settings_of}
 use Rattle.and_command.specs.declared.options.Name.{Name}
 use Rattle.and_command.specs.declared.given.Given.{Given}
 use Rattle.and_command.specs.declared.reading.Reading.{Reading}
@@ -36,8 +36,12 @@ abbrev pub next_named : Given → Bytes → Option Name → Option Reading
 next_named g word None = next_joined g word
 next_named g word (Some name) = Some (record { given = g; owed = Some name })
 
+abbrev pub next_flagged : Given → Bytes → Bool → Option Reading
+next_flagged g word false = next_named g word (name_of word)
+next_flagged g word true = option_and_then (λ h. Some (closed h)) (with_stats g)
+
 abbrev pub next_numbered : Given → Bytes → Option ℕ → Option Reading
-next_numbered g word None = next_named g word (name_of word)
+next_numbered g word None = next_flagged g word (is_stats word)
 next_numbered g word (Some n) = option_and_then (λ h. Some (closed h)) (with_number n g)
 
 -- a word where none is owed
@@ -73,11 +77,12 @@ as_run (Some n) g = None
 abbrev pub run_of : List Bytes → Option Command
 run_of words = option_and_then (λ g. as_run g.number g) (read words)
 
-abbrev pub as_demo : Option ℕ → Option ℕ → Given → Option Command
-as_demo (Some n) None g = Some (Demo n (settings_of g))
-as_demo (Some n) (Some l) g = None
-as_demo None limit g = None
+abbrev pub as_demo : Bool → Option ℕ → Option ℕ → Given → Option Command
+as_demo true n limit g = None
+as_demo false (Some n) None g = Some (Demo n (settings_of g))
+as_demo false (Some n) (Some l) g = None
+as_demo false None limit g = None
 
 -- the command with the words behind `demo`
 abbrev pub demo_of : List Bytes → Option Command
-demo_of words = option_and_then (λ g. as_demo g.number g.limit g) (read words)
+demo_of words = option_and_then (λ g. as_demo g.stats g.number g.limit g) (read words)

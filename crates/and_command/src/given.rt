@@ -14,6 +14,8 @@ pub struct Settings {
     pub teams: u32,
     /// How many workers a team has.
     pub workers: u32,
+    /// Whether a run that is complete tells its counts.
+    pub stats: bool,
 }
 
 /// What words have given so far, each at most once.
@@ -27,6 +29,8 @@ pub struct Given {
     pub workers: Option<u32>,
     /// The number of a demo.
     pub number: Option<u32>,
+    /// Whether `--stats` was given.
+    pub stats: bool,
 }
 
 impl Given {
@@ -39,6 +43,7 @@ impl Given {
             teams: None,
             workers: None,
             number: None,
+            stats: false,
         }
     }
 
@@ -51,6 +56,7 @@ impl Given {
             teams,
             workers,
             number,
+            stats,
         } = self;
         match name {
             Name::Limit => match limit {
@@ -59,6 +65,7 @@ impl Given {
                     teams,
                     workers,
                     number,
+                    stats,
                 }),
                 Some(_) => None,
             },
@@ -68,6 +75,7 @@ impl Given {
                     teams: Some(value),
                     workers,
                     number,
+                    stats,
                 }),
                 Some(_) => None,
             },
@@ -77,6 +85,7 @@ impl Given {
                     teams,
                     workers: Some(value),
                     number,
+                    stats,
                 }),
                 Some(_) => None,
             },
@@ -100,6 +109,7 @@ impl Given {
             teams,
             workers,
             number,
+            stats,
         } = self;
         match number {
             None => Some(Given {
@@ -107,9 +117,33 @@ impl Given {
                 teams,
                 workers,
                 number: Some(value),
+                stats,
             }),
             Some(_) => None,
         }
+    }
+
+    /// These, and `--stats`, where it was not given so far.
+    pub fn with_stats(self) -> Option<Given>
+        ensures { result ≡ specs.with_stats self }
+    {
+        let Given {
+            limit,
+            teams,
+            workers,
+            number,
+            stats,
+        } = self;
+        if stats {
+            return None;
+        }
+        Some(Given {
+            limit,
+            teams,
+            workers,
+            number,
+            stats: true,
+        })
     }
 
     /// The settings: what was given, and else the defaults.
@@ -120,6 +154,7 @@ impl Given {
             limit: self.limit.unwrap_or(262_144),
             teams: self.teams.unwrap_or(2),
             workers: self.workers.unwrap_or(2),
+            stats: self.stats,
         }
     }
 }

@@ -44,6 +44,13 @@ pub fn name_of(word: &str) -> Option<Name>
     }
 }
 
+/// Whether a word is the flag `--stats`.
+pub fn is_stats(word: &str) -> bool
+    ensures { result ≡ specs.is_stats word.now }
+{
+    word == "--stats"
+}
+
 /// Whether all bytes are digits.
 fn are_digits(bytes: &[u8]) -> bool
     ensures { result ≡ list_all is_ascii_digit bytes.now }

@@ -5,7 +5,7 @@ ghost use Rattle.and_command.specs.Reading as specs;
 ghost use Rattle.and_command.specs.Commands.{IsCommand, IsInRange};
 
 use crate::given::{Given, Settings};
-use crate::options::{Name, demo_of, name_of};
+use crate::options::{Name, demo_of, is_stats, name_of};
 
 /// A command of the command line.
 #[derive(Clone, Copy, Debug, PartialEq, Eq)]
@@ -65,6 +65,10 @@ fn next_fresh(given: Given, word: &str) -> Option<Reading>
         let given = given.with_number(number)?;
         return Some(closed(given));
     }
+    if is_stats(word) {
+        let given = given.with_stats()?;
+        return Some(closed(given));
+    }
     if let Some(name) = name_of(word) {
         return Some(Reading {
             given,
@@ -120,6 +124,9 @@ fn demo_command_of(words: &[String]) -> Option<Command>
     ensures { result ≡ specs.demo_of (map string_bytes words.now) }
 {
     let given = read(words)?;
+    if given.stats {
+        return None;
+    }
     let number = given.number?;
     match given.limit {
         None => Some(Command::Demo {

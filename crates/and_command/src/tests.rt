@@ -19,6 +19,19 @@ fn run(limit: u32, teams: u32, workers: u32) -> Option<Command> {
             limit,
             teams,
             workers,
+            stats: false,
+        },
+    })
+}
+
+/// The command `run` with the defaults and `--stats`.
+fn counted_run(limit: u32) -> Option<Command> {
+    Some(Command::Run {
+        settings: Settings {
+            limit,
+            teams: 2,
+            workers: 2,
+            stats: true,
         },
     })
 }
@@ -30,6 +43,7 @@ fn demo(number: u32, teams: u32, workers: u32) -> Option<Command> {
             limit: 262_144,
             teams,
             workers,
+            stats: false,
         },
     })
 }
@@ -46,6 +60,11 @@ fn runs(rt: HostRuntime) -> Result<(), Fail> {
     assert_eq!(rt;
         typed(alloc, "run --limit 4194304 --teams 1 --workers=1")?,
         run(4_194_304, 1, 1)
+    );
+    assert_eq!(rt; typed(alloc, "run --stats")?, counted_run(262_144));
+    assert_eq!(rt;
+        typed(alloc, "run --limit 6 --stats --teams=2")?,
+        counted_run(6)
     );
     Ok(())
 }
@@ -77,7 +96,12 @@ fn usage(rt: HostRuntime) -> Result<(), Fail> {
         "run --help",
         "run run",
         "run 5",
-        "run --stats",
+        "--stats",
+        "run --stats --stats",
+        "run --stats 1",
+        "run --stats=1",
+        "run --stat",
+        "run --limit --stats",
         "run --limit",
         "run --limit 0",
         "run --limit 4194305",
@@ -110,6 +134,8 @@ fn usage(rt: HostRuntime) -> Result<(), Fail> {
         "demo 1 --limit 5",
         "demo --limit=5 1",
         "demo 1 --teams",
+        "demo 1 --stats",
+        "demo --stats 1",
     ];
     for line in lines {
         assert_eq!(rt; typed(alloc, line)?, None, "at {line}");

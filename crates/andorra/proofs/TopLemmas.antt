@@ -1,105 +1,144 @@
 -- From what the search found to what the top call says of it.
-use Rattle.std.proofs.Common.{ℕ, zero, suc, take, ◌≡◌, ◌≢◌, ◌<◌, false, List, [], ◌∷◌, ◌++◌, length, length-append, refl, sym, ap, ◌∙◌, subst, arith, Option, Some, None, is_none, IfSome, MatchOption, unwrap_or}
+use Rattle.std.proofs.Common.{ℕ, zero, suc, take, ◌≡◌, ◌≢◌, ◌<◌, ◌-◌, ◌^◌, min, Bool, true, false, if◌then◌else◌, List, [], ◌∷◌, ◌++◌}
+use Rattle.std.proofs.Common.{length, length-append, map, ◌||◌, refl, sym, ap, ◌∙◌, subst, arith, Option, Some, None, is_none, is_some}
+use Rattle.std.proofs.Common.{IfSome, unwrap_or}
+use Rattle.std.specs.Fmt.{decimal}
+use Rattle.std.specs.List.{list_any}
 use Rattle.and_io.specs.Flow.{Gains}
 use Rattle.and_io.specs.ReadAll.{ReadsUpTo}
 use Rattle.and_io.specs.declared.reading.ReadAll.{ReadAll}
-use Rattle.and_io.specs.declared.reading.ReadAll.TheVariants.{Whole, Over}
+use Rattle.and_io.specs.declared.reading.ReadAll.TheVariants as reads
 use Rattle.and_model.specs.Lines.{Bytes}
 use Rattle.and_model.specs.Programs.{Program}
-use Rattle.and_model.specs.Listing.{Entry, Listing, line_of}
-use Rattle.and_model.specs.Output.{Finish, lines_of, last_lines, complete, limit_met, OverLeft, NoneOver}
+use Rattle.and_model.specs.Listing.{Entry}
+use Rattle.and_model.specs.Output.{Finish, limit_met, counted}
+use Rattle.and_model.specs.declared.goal
+use Rattle.and_answers.specs.Kept.{listed, entry_of, outcome_with, finish_with}
+use Rattle.and_answers.specs.declared.found.Entry as answers
+use Rattle.and_answers.specs.declared.found.Found.{Found}
+use Rattle.and_walk.specs.Found.{IsFound, IsEnd, IsComplete, kept_count}
 use Rattle.and_language.specs.Tokens.{newlines}
 use Rattle.and_language.specs.Refusals.{Reads, IsRefused, Refusal, at, too_big}
 use Rattle.and_syntax.specs.Tables.{source}
 use Rattle.and_command.specs.declared.given.Settings.{Settings}
 use Rattle.and_command.specs.declared.reading.Command.{Command}
 use Rattle.and_command.specs.declared.reading.Command.TheVariants.{Run, Demo}
-use Rattle.and_engine.specs.declared.search.Found.{Found}
-use Rattle.and_engine.specs.declared.search.Outgrown.{Outgrown}
 use Rattle.andorra.specs.declared.top.Status.{Status}
 use Rattle.andorra.specs.declared.top.Status.TheVariants.{Answers, NoAnswer, Usage, Refused, ReadFault, WriteFault, Limit, Memory, Floundered}
-use Rattle.and_engine.specs.Searching.{IsFound, entry_lines}
 use Rattle.and_reader.specs.RefusalLine.{refusal_line}
 use Rattle.and_reader.proofs.Judgement.{read_not_refused}
-use Rattle.andorra.specs.Shown.{Shown, joined, shown_by, written}
+use Rattle.andorra.specs.Shown.{shown, completed, finish}
 use Rattle.andorra.specs.declared.showing.Show.{Show}
-use Rattle.andorra.specs.declared.showing.Show.TheVariants as kinds
-use Rattle.andorra.specs.Top.{FindsAll, IsDemo, IsRefusedBy, WasAnswered, IsLast, Answered, GainsPrefix, Due, answers, refused, Told, bytes_read, exhausted}
-use Rattle.and_engine.proofs.Exhausting.{none_over_exhausts}
+use Rattle.andorra.specs.declared.showing.Show.TheVariants.{Whole, Summary}
+use Rattle.andorra.specs.Top.{FindsAll, IsDemo, IsRefusedBy, WasAnswered, Answered, GainsPrefix, Told}
+use Rattle.andorra.specs.Top.{AreAnswers, bytes_read, exhausted, is_floundered, has_floundered, status_for}
 use Rattle.and_model.specs.declared.limits.TheConstants.{DEFAULT_LIMIT, MAX_BYTES}
 
-joined_is : (ls : List Entry) → joined (entry_lines ls) ≡ lines_of ls
-joined_is [] = refl
-joined_is (e ∷ ls) = ap (λ z. line_of e.outcome ++ 10 ∷ z) (joined_is ls)
+-- A count is written as the number that it was kept of.
+count_is : (n m : ℕ) → n ≡ kept_count m → counted n ≡ counted m
+count_is n m is = let same : min n (2 ^ 64 - 1) ≡ min m (2 ^ 64 - 1) = omega (arith, is) in ap decimal same
 
--- what is written of the lines of a listing, and then the last line, is what is shown of it
-written_is : (show : Show) (ls : List Entry) (finish : Finish)
-    → written show (entry_lines ls) ++ last_lines finish ≡ shown_by show ls finish
-written_is kinds.Whole ls finish = ap (λ z. z ++ last_lines finish) (joined_is ls)
-written_is kinds.Summary ls finish = refl
+-- Where nothing was cut off, what is written is the same for the counts that were kept as for the numbers themselves.
+same_counts : (show : Show) (ls : List Entry) (a b forks failed : ℕ) → a ≡ kept_count forks → b ≡ kept_count failed
+    → shown show ls (completed show a b) ≡ shown show ls (completed show forks failed)
+same_counts (Whole true) ls a b forks failed f g = rw (count_is a forks f, count_is b failed g) refl
+same_counts (Whole false) ls a b forks failed f g = refl
+same_counts Summary ls a b forks failed f g = refl
 
-shown_of : (show : Show) (lines : List Bytes) (ls : List Entry) (finish : Finish) (before out : Bytes) → lines ≡ entry_lines ls
-    → before ≡ written show lines → out ≡ before ++ last_lines finish → out ≡ shown_by show ls finish
-shown_of show lines ls finish before out is said ends =
-    ends ∙ ap (λ b. b ++ last_lines finish) (said ∙ ap (written show) is) ∙ written_is show ls finish
+-- how a run ended, by where it was cut off
+abbrev finish_at : Show → Option goal.Cut.Cut → ℕ → ℕ → Finish
+finish_at (Whole stats) o forks failed = finish_with o forks failed stats
+finish_at Summary o forks failed = finish_with o forks failed false
 
-finds_all : (shown : Shown) (limit : ℕ) (P : Program) (bytes out : Bytes) (ls : List Entry) (has : List Entry → Type 0) → Reads bytes P
-    → Listing P limit ls → NoneOver P limit → out ≡ shown ls complete → has ls → FindsAll shown limit has bytes out
-finds_all shown limit P bytes out ls has reads listing none is h = (P, ls, reads, is, none, none_over_exhausts P limit none, listing, h)
+finish_is : (show : Show) (f : Found) → finish show f ≡ finish_at show f.cut f.forks f.failed
+finish_is (Whole stats) f = refl
+finish_is Summary f = refl
 
--- an exhausted search is answered by whether there are lines
-exhausted_is : (shown : Shown) (limit : ℕ) (P : Program) (bytes out : Bytes) (ls : List Entry) (status : Status) → Reads bytes P
-    → Listing P limit ls → NoneOver P limit → out ≡ shown ls complete → status ≡ exhausted (entry_lines ls)
-    → WasAnswered shown limit status bytes out
-exhausted_is shown limit P bytes out [] status reads listing none is said =
-    subst (λ s. WasAnswered shown limit s bytes out) (sym said)
-    (finds_all shown limit P bytes out [] (λ ls. ls ≡ []) reads listing none is refl)
-exhausted_is shown limit P bytes out (e ∷ es) status reads listing none is said =
-    subst (λ s. WasAnswered shown limit s bytes out) (sym said)
-    (finds_all shown limit P bytes out (e ∷ es) (λ ls. ls ≢ []) reads listing none is (λ q. cc))
+finish_none : (show : Show) (forks failed : ℕ) → finish_at show None forks failed ≡ completed show forks failed
+finish_none (Whole stats) forks failed = refl
+finish_none Summary forks failed = refl
 
--- what the last line and the status are, where a branch was kept or none was
-abbrev Ended : Found → Status → Bytes → Bytes → Option Outgrown → Type 0
-Ended f status old new o =
-    MatchOption o
-    ((new ≡ old ++ last_lines complete) × (status ≡ exhausted f.lines.items))
-    (λ g. (new ≡ old ++ last_lines limit_met) × (status ≡ Limit))
+finish_cut : (show : Show) (cut : goal.Cut.Cut) (forks failed : ℕ) → finish_at show (Some cut) forks failed ≡ limit_met
+finish_cut (Whole stats) cut forks failed = refl
+finish_cut Summary cut forks failed = refl
 
-abbrev Kept : Program → ℕ → Option Outgrown → Type 0
-Kept P limit o = MatchOption o (NoneOver P limit) (λ g. OverLeft P limit g.code g.clause.0)
+-- entries have lines that are no answers where the code says so
+floundered_with : (floundered : Bool) (line : Bytes) → is_floundered (outcome_with floundered line) ≡ floundered
+floundered_with true line = refl
+floundered_with false line = refl
 
--- the last line goes with what was found
-pub replied : (show : Show) (limit : ℕ) (outgrown : Option Outgrown) (P : Program) (f : Found) (status : Status) (bytes before out : Bytes)
-    → outgrown ≡ f.outgrown → Reads bytes P → IsFound P limit f → before ≡ written show f.lines.items → IsLast f status before out
-    → WasAnswered (shown_by show) limit status bytes out
-replied show limit None P f status bytes before out is reads found said last =
-    let over : NoneOver P limit = subst (Kept P limit) (sym is) found.3 in
-    let done : (out ≡ before ++ last_lines complete) × (status ≡ exhausted f.lines.items) =
-    subst (Ended f status before out) (sym is) last in
-    exhausted_is (shown_by show) limit P bytes out found.0 status reads found.1 over
-    (shown_of show f.lines.items found.0 complete before out found.2 said done.0) (done.1 ∙ ap exhausted found.2)
-replied show limit (Some g) P f status bytes before out is reads found said last =
-    let over : OverLeft P limit g.code g.clause.0 = subst (Kept P limit) (sym is) found.3 in
-    let done : (out ≡ before ++ last_lines limit_met) × (status ≡ Limit) = subst (Ended f status before out) (sym is) last in
-    subst (λ s. WasAnswered (shown_by show) limit s bytes out) (sym done.1)
-    (P, found.0, g.code, g.clause.0, reads, shown_of show f.lines.items found.0 limit_met before out found.2 said done.0, over, found.1)
+pub floundered_kept : (es : List answers.Entry) → list_any (λ (e : answers.Entry). e.floundered) es ≡ has_floundered (map entry_of es)
+floundered_kept [] = refl
+floundered_kept (e ∷ es) =
+    ap (λ (b : Bool). b || list_any (λ (e : answers.Entry). e.floundered) es) (sym (floundered_with e.floundered e.line))
+    ∙ ap (λ (b : Bool). is_floundered (outcome_with e.floundered e.line) || b) (floundered_kept es)
 
-module _ (shown : Shown) (limit : ℕ) (old new : Option Bytes) (bytes out : Bytes) where
-  -- a text is answered with what is due to it
-  pub is_due : (status : Status) → WasAnswered shown limit status bytes out → Due shown limit bytes out
-  is_due Answers w = answers w.0 w.1 complete out w.2 w.6 w.3
-  is_due NoAnswer w = answers w.0 w.1 complete out w.2 w.6 w.3
-  is_due Usage w = elim w [ ]
-  is_due Refused w = refused out w
-  is_due ReadFault w = elim w [ ]
-  is_due WriteFault w = elim w [ ]
-  is_due Limit w = answers w.0 w.1 limit_met out w.4 w.7 w.5
-  is_due Memory w = elim w [ ]
-  is_due Floundered w = elim w [ ]
+-- the status of entries, as it is found by looks at them
+pub status_is : (cut : Option goal.Cut.Cut) (es : List answers.Entry) (ls : List Entry) (b : Bool) → is_some cut ≡ false → 0 < length es
+    → map entry_of es ≡ ls → b ≡ list_any (λ (e : answers.Entry). e.floundered) es → (if b then Floundered else Answers) ≡ status_for cut ls
+status_is (Some cut) es ls b none some is said = absurd cc
+status_is None [] ls b none some is said = absurd (omega arith)
+status_is None (e ∷ es) ls b none some is said =
+    ap (λ (b : Bool). if b then Floundered else Answers) (said ∙ floundered_kept (e ∷ es)) ∙ ap exhausted is
 
-  -- and where that was written, so it is
-  pub was_written : (status : Status) → WasAnswered shown limit status bytes out → Gains old new out
-      → Answered shown limit old new status bytes × (status ≢ ReadFault)
+-- an exhausted search is answered by its listing
+exhausted_is : (show : Show) (limit : ℕ) (bytes out : Bytes) (ls : List Entry) (status : Status) → status ≡ exhausted ls
+    → ((lines : List Entry → Type 0) → lines ls → FindsAll show limit lines bytes out) → WasAnswered show limit status bytes out
+exhausted_is show limit bytes out [] status said finds =
+    subst (λ s. WasAnswered show limit s bytes out) (sym said) (finds (λ ls. ls ≡ []) refl)
+exhausted_is show limit bytes out (e ∷ es) status said finds = by (has_floundered (e ∷ es)) refl
+  where
+    Says : Status → Type 0
+    Says s = WasAnswered show limit s bytes out
+
+    by : (b : Bool) → has_floundered (e ∷ es) ≡ b → Says status
+    by true is = subst Says (sym (said ∙ ap (λ b. if b then Floundered else Answers) is)) (finds (λ ls. has_floundered ls ≡ true) is)
+    by false is = subst Says (sym (said ∙ ap (λ b. if b then Floundered else Answers) is)) (finds AreAnswers ((λ q. cc), is))
+
+-- what was found is answered by what is written of it, and the status goes with that
+pub replied : (show : Show) (limit : ℕ) (P : Program) (f : Found) (status : Status) (bytes out : Bytes) → Reads bytes P → IsFound P limit f
+    → out ≡ shown show (listed f) (finish show f) → status ≡ status_for f.cut (listed f) → WasAnswered show limit status bytes out
+replied show limit P f status bytes out reads found is said = by f.cut refl
+  where
+    ls : List Entry
+    ls = listed f
+
+    by : (o : Option goal.Cut.Cut) → f.cut ≡ o → WasAnswered show limit status bytes out
+    by None at =
+        let end : IsComplete P limit f = subst (IsEnd P limit f) at found.end in
+        let ends : finish show f ≡ completed show f.forks f.failed =
+        finish_is show f ∙ ap (λ o. finish_at show o f.forks f.failed) at ∙ finish_none show f.forks f.failed in
+        exhausted_is show limit bytes out ls status (said ∙ ap (λ o. status_for o ls) at)
+        (λ lines has. record {
+          program = P;
+          listing = ls;
+          forks = end.forks;
+          failed = end.failed;
+          reads = reads;
+          lists = found.listing;
+          exhausted = end.exhausted;
+          numbers = end.numbers;
+          written = is ∙ ap (shown show ls) ends ∙ same_counts show ls f.forks f.failed end.forks end.failed end.forks_kept end.failed_kept;
+          has = has;
+        })
+    by (Some cut) at =
+        let end : IsEnd P limit f (Some cut) = subst (IsEnd P limit f) at found.end in
+        let ends : finish show f ≡ limit_met =
+        finish_is show f ∙ ap (λ o. finish_at show o f.forks f.failed) at ∙ finish_cut show cut f.forks f.failed in
+        subst (λ s. WasAnswered show limit s bytes out) (sym (said ∙ ap (λ o. status_for o ls) at)) (record {
+          program = P;
+          listing = ls;
+          cut = end.0;
+          reads = reads;
+          lists = found.listing;
+          over = end.2;
+          written = is ∙ ap (shown show ls) ends;
+        })
+
+module _ (show : Show) (limit : ℕ) (old new : Option Bytes) (bytes out : Bytes) where
+  -- where an answer was written, so it is
+  pub was_written : (status : Status) → WasAnswered show limit status bytes out → Gains old new out
+      → Answered show limit old new status bytes × (status ≢ ReadFault)
   was_written Answers w g = ((out, w, g), λ e. cc)
   was_written NoAnswer w g = ((out, w, g), λ e. cc)
   was_written Usage w g = elim w [ ]
@@ -108,20 +147,22 @@ module _ (shown : Shown) (limit : ℕ) (old new : Option Bytes) (bytes out : Byt
   was_written WriteFault w g = elim w [ ]
   was_written Limit w g = ((out, w, g), λ e. cc)
   was_written Memory w g = elim w [ ]
-  was_written Floundered w g = elim w [ ]
+  was_written Floundered w g = ((out, w, g), λ e. cc)
 
   -- the reply was written, or a prefix of it
   abbrev Written : Status → Type 0
-  Written result = Answered shown limit old new result bytes × (result ≢ ReadFault)
+  Written result = Answered show limit old new result bytes × (result ≢ ReadFault)
 
-  all_written : (status result : Status) → WasAnswered shown limit status bytes out → (result ≢ WriteFault → (result ≡ status) × Gains old new out)
+  all_written : (status result : Status) → WasAnswered show limit status bytes out
+      → (result ≢ WriteFault → (result ≡ status) × Gains old new out)
       → result ≢ WriteFault → Written result
   all_written status result w ok went =
-      let k = ok went in was_written result (subst (λ s. WasAnswered shown limit s bytes out) (sym k.0) w) k.1
+      let k = ok went in was_written result (subst (λ s. WasAnswered show limit s bytes out) (sym k.0) w) k.1
 
-  pub responded : (status result : Status) → WasAnswered shown limit status bytes out → (result ≢ WriteFault → (result ≡ status) × Gains old new out)
+  pub responded : (status result : Status) → WasAnswered show limit status bytes out
+      → (result ≢ WriteFault → (result ≡ status) × Gains old new out)
       → (result ≡ WriteFault → GainsPrefix old new out) → Written result
-  responded status WriteFault w ok bad = ((out, is_due status w, bad refl), λ e. cc)
+  responded status WriteFault w ok bad = ((status, out, w, bad refl), λ e. cc)
   responded status Answers w ok bad = all_written status Answers w ok (λ e. cc)
   responded status NoAnswer w ok bad = all_written status NoAnswer w ok (λ e. cc)
   responded status Usage w ok bad = all_written status Usage w ok (λ e. cc)
@@ -133,7 +174,7 @@ module _ (shown : Shown) (limit : ℕ) (old new : Option Bytes) (bytes out : Byt
 
 -- a demo has the default limit
 pub default_limit : (words : List Bytes) (n : ℕ) (settings : Settings) → IsDemo words n settings → settings.limit ≡ DEFAULT_LIMIT
-default_limit words n settings (rest, g, said, gives, number, limit, is) =
+default_limit words n settings (rest, g, said, gives, number, limit, plain, is) =
     ap (λ (s : Settings). s.limit) is ∙ ap (λ (l : Option ℕ). unwrap_or l 262144) limit
 
 -- words are those of one command
@@ -157,10 +198,10 @@ module _ (o : Option Command) (r : Command) where
   no_command e f = cc
 
 -- A text that reads as a program is not refused.
-pub never_refused : (shown : Shown) (limit : ℕ) (old new : Option Bytes) (P : Program) (bytes : Bytes) (status : Status) → Reads bytes P
-    → Answered shown limit old new status bytes → status ≢ Refused
-never_refused shown limit old new P bytes status reads answered e =
-    let refusal : Answered shown limit old new Refused bytes = subst (λ s. Answered shown limit old new s bytes) e answered in
+pub never_refused : (show : Show) (limit : ℕ) (old new : Option Bytes) (P : Program) (bytes : Bytes) (status : Status) → Reads bytes P
+    → Answered show limit old new status bytes → status ≢ Refused
+never_refused show limit old new P bytes status reads answered e =
+    let refusal : Answered show limit old new Refused bytes = subst (λ s. Answered show limit old new s bytes) e answered in
     read_not_refused bytes P refusal.1.0 reads refusal.1.1
 
 -- The line of a refusal that is not for want of memory.
@@ -169,7 +210,7 @@ refused_by None bytes out a b e = absurd cc
 refused_by (Some r) bytes out a b e = (r, a, b)
 
 -- Of a text that is larger than the largest, the first bytes beyond that tell as much as the whole.
-module _ (shown : Shown) (limit : ℕ) (bytes text rest : Bytes) (joined : bytes ≡ text ++ rest) (large : MAX_BYTES < length text) where
+module _ (show : Show) (limit : ℕ) (bytes text rest : Bytes) (joined : bytes ≡ text ++ rest) (large : MAX_BYTES < length text) where
   taken : (n : ℕ) (xs ys : Bytes) → n < length xs → take n (xs ++ ys) ≡ take n xs
   taken zero xs ys h = refl
   taken (suc n) [] ys h = absurd (omega arith)
@@ -193,26 +234,34 @@ module _ (shown : Shown) (limit : ℕ) (bytes text rest : Bytes) (joined : bytes
   no_program : (P : Program) → Reads text P → ⊥
   no_program P r = let s = r.size in omega (arith, large, s)
 
-  same_due : (due : Bytes) → Due shown limit text due → Due shown limit bytes due
-  same_due due (answers P ls finish out r listing is) = absurd (no_program P r)
-  same_due due (refused line h) = refused line (same_line line h)
+  same_reply : (status : Status) (out : Bytes) → WasAnswered show limit status text out → WasAnswered show limit status bytes out
+  same_reply Answers out w = absurd (no_program w.program w.reads)
+  same_reply NoAnswer out w = absurd (no_program w.program w.reads)
+  same_reply Usage out w = w
+  same_reply Refused out w = same_line out w
+  same_reply ReadFault out w = w
+  same_reply WriteFault out w = w
+  same_reply Limit out w = absurd (no_program w.program w.reads)
+  same_reply Memory out w = w
+  same_reply Floundered out w = absurd (no_program w.program w.reads)
 
-  pub same_answer : (old new : Option Bytes) (status : Status) → Answered shown limit old new status text → Answered shown limit old new status bytes
-  same_answer old new Answers a = absurd (no_program a.1.0 a.1.2)
-  same_answer old new NoAnswer a = absurd (no_program a.1.0 a.1.2)
+  pub same_answer : (old new : Option Bytes) (status : Status) → Answered show limit old new status text
+      → Answered show limit old new status bytes
+  same_answer old new Answers (out, w, g) = (out, same_reply Answers out w, g)
+  same_answer old new NoAnswer (out, w, g) = (out, same_reply NoAnswer out w, g)
   same_answer old new Usage a = a
-  same_answer old new Refused (line, h, g) = (line, same_line line h, g)
+  same_answer old new Refused (out, w, g) = (out, same_reply Refused out w, g)
   same_answer old new ReadFault a = a
-  same_answer old new WriteFault (due, d, g) = (due, same_due due d, g)
-  same_answer old new Limit a = absurd (no_program a.1.0 a.1.4)
+  same_answer old new WriteFault (status, due, w, g) = (status, due, same_reply status due w, g)
+  same_answer old new Limit (out, w, g) = (out, same_reply Limit out w, g)
   same_answer old new Memory a = a
-  same_answer old new Floundered a = a
+  same_answer old new Floundered (out, w, g) = (out, same_reply Floundered out w, g)
 
-module _ (shown : Shown) (limit : ℕ) (old new : Option Bytes) where
+module _ (show : Show) (limit : ℕ) (old new : Option Bytes) where
   -- what was read is what was left, or more than the largest text
   pub told : (left rest : Option Bytes) (read : ReadAll) (status : Status) → ReadsUpTo MAX_BYTES left rest read
-      → Answered shown limit old new status (bytes_read read) → Told left (Answered shown limit old new status)
+      → Answered show limit old new status (bytes_read read) → Told left (Answered show limit old new status)
   told None rest read status r a = tt
-  told (Some bytes) rest (Whole text) status r a =
-      let same : bytes ≡ text = r.1 in subst (λ b. Answered shown limit old new status b) (sym same) a
-  told (Some bytes) rest (Over text) status r a = same_answer shown limit bytes text r.0.0 r.0.2 (omega (arith, r.1)) old new status a
+  told (Some bytes) rest (reads.Whole text) status r a =
+      let same : bytes ≡ text = r.1 in subst (λ b. Answered show limit old new status b) (sym same) a
+  told (Some bytes) rest (reads.Over text) status r a = same_answer show limit bytes text r.0.0 r.0.2 (omega (arith, r.1)) old new status a

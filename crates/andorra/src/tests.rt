@@ -144,6 +144,21 @@ fn names_along_the_line(rt: HostRuntime) -> Result<(), Fail> {
     Ok(())
 }
 
+/// With the words of the line, each text is answered with these bytes and this status.
+fn all_answer<R: Threads + Wait + Sync>(
+    rt: &R,
+    alloc: Global,
+    line: &str,
+    rows: &[Row],
+) -> Result<bool, AllocError> {
+    for (text, written, status) in rows {
+        if !answers(rt, alloc, line, text, written, *status)? {
+            return Ok(false);
+        }
+    }
+    Ok(true)
+}
+
 /// Texts with what is written for them, and the status.
 type Row = (&'static [u8], &'static [u8], Status);
 
@@ -152,12 +167,7 @@ fn all_give<R: Threads + Wait + Sync>(
     alloc: Global,
     rows: &[Row],
 ) -> Result<bool, AllocError> {
-    for (text, written, status) in rows {
-        if !gives(rt, alloc, text, written, *status)? {
-            return Ok(false);
-        }
-    }
-    Ok(true)
+    all_answer(rt, alloc, "run", rows)
 }
 
 #[test]
@@ -192,6 +202,123 @@ fn lists_and_operators(rt: HostRuntime) -> Result<(), Fail> {
         ),
     ];
     assert!(rt; all_give(&rt, rt.alloc(), &rows)?);
+    Ok(())
+}
+
+#[test]
+fn counted_runs(rt: HostRuntime) -> Result<(), Fail> {
+    let rows: [Row; 8] = [
+        (
+            SPLITS,
+            b"X = [], Y = [1,2]\nX = [1], Y = [2]\nX = [1,2], Y = []\n% complete\n% forks 2 failed 0\n",
+            Status::Answers,
+        ),
+        (
+            b"p(1). p(2). ?- p(X), X = 2.",
+            b"X = 2\n% complete\n% forks 0 failed 0\n",
+            Status::Answers,
+        ),
+        (
+            b"p(1). p(2). q(2). ?- p(X), q(X).",
+            b"X = 2\n% complete\n% forks 0 failed 0\n",
+            Status::Answers,
+        ),
+        (
+            b"p(a). ?- p(b).",
+            b"% complete\n% forks 0 failed 1\n",
+            Status::NoAnswer,
+        ),
+        (
+            b"p(1). p(2). q(3). q(4). ?- p(X), q(Y).",
+            b"X = 1, Y = 3\nX = 1, Y = 4\nX = 2, Y = 3\nX = 2, Y = 4\n% complete\n% forks 3 failed 0\n",
+            Status::Answers,
+        ),
+        (
+            b"max(X,Y,X) :- X >= Y. max(X,Y,Y) :- X < Y. ?- max(3,5,M).",
+            b"M = 5\n% complete\n% forks 0 failed 0\n",
+            Status::Answers,
+        ),
+        (
+            QUEENS,
+            b"Q = [2,4,1,3], A = 2, B = 4, C = 1, D = 3\nQ = [3,1,4,2], A = 3, B = 1, C = 4, D = 2\n\
+                % complete\n% forks 15 failed 44\n",
+            Status::Answers,
+        ),
+        (
+            b"loop(X) :- loop(X). ?- loop(a).",
+            b"% limit met\n",
+            Status::Limit,
+        ),
+    ];
+    assert!(rt; all_answer(&rt, rt.alloc(), "run --stats", &rows)?);
+    Ok(())
+}
+
+#[test]
+fn arithmetic(rt: HostRuntime) -> Result<(), Fail> {
+    let rows: [Row; 8] = [
+        (b"?- X < 3, X = 2.", b"X = 2\n% complete\n", Status::Answers),
+        (
+            b"?- X is X + 0.",
+            b"X = _0 with is(_0,+(_0,0))\n% complete\n",
+            Status::Floundered,
+        ),
+        (
+            b"?- _X < 3.",
+            b"true with <(_0,3)\n% complete\n",
+            Status::Floundered,
+        ),
+        (
+            b"?- X is 9223372036854775807 + 1.",
+            b"% complete\n",
+            Status::NoAnswer,
+        ),
+        (
+            b"?- X is -7 // 2, Y is -7 mod 2.",
+            b"X = -3, Y = 1\n% complete\n",
+            Status::Answers,
+        ),
+        (
+            b"?- X is -9223372036854775808 // -1.",
+            b"% complete\n",
+            Status::NoAnswer,
+        ),
+        (
+            b"?- X is -9223372036854775808 mod -1.",
+            b"X = 0\n% complete\n",
+            Status::Answers,
+        ),
+        (
+            b"?- X is -9223372036854775808, Y is -X.",
+            b"% complete\n",
+            Status::NoAnswer,
+        ),
+    ];
+    assert!(rt; all_give(&rt, rt.alloc(), &rows)?);
+    Ok(())
+}
+
+#[test]
+fn long_loop(rt: HostRuntime) -> Result<(), Fail> {
+    let line = "run --limit 1000000 --teams 1";
+    let text = b"loop(X) :- loop(X). ?- loop(a).";
+    assert!(rt; answers(&rt, rt.alloc(), line, text, b"% limit met\n", Status::Limit)?);
+    Ok(())
+}
+
+#[test]
+fn deep_term(rt: HostRuntime) -> Result<(), Fail> {
+    let alloc = rt.alloc();
+    let words = typed(alloc, "run --stats")?;
+    let text = b"n(0,z). n(K,s(T)) :- K > 0, J is K-1, n(J,T). ?- n(20000,X).";
+    let mut source = SureSource::new(Text::of(alloc, text)?, 7);
+    let mut sink = SureSink::new(alloc, 70_000)?;
+    let ended = andorra(&rt, alloc, &words, &mut source, &mut sink, &Quiet);
+    assert_eq!(rt; ended, Status::Answers);
+    let last = b"\n% complete\n% forks 0 failed 0\n".as_slice();
+    assert_eq!(rt; sink.held().len(), 60_005 + last.len());
+    assert!(rt; sink.held().starts_with(b"X = s(s(s("));
+    assert!(rt; sink.held().ends_with(last));
     Ok(())
 }
 
@@ -256,6 +383,7 @@ fn nat_cut(rt: HostRuntime) -> Result<(), Fail> {
         "run --limit 6",
         "run --limit=6",
         "run --teams 3 --limit 6 --workers=1",
+        "run --stats --limit 6",
     ] {
         assert!(rt;
             answers(&rt, rt.alloc(), line, text, lines, Status::Limit)?,
@@ -276,6 +404,7 @@ fn usage(rt: HostRuntime) -> Result<(), Fail> {
         "run --limit 0",
         "run --teams 17",
         "run --stats --stats",
+        "demo 1 --stats",
         "run --",
         "demo 65",
     ];
@@ -384,13 +513,16 @@ all([Q|Qs]) :- ok(Q,1,Qs), all(Qs).
 ?- Q = [A,B,C,D], all(Q), d(A), d(B), d(C), d(D).
 ";
 
-/// What is written for a front of that text. Up to the end of its first clause with arithmetic, a
-/// front of whole clauses is without a query, and any other ends within a clause.
+/// What is written for that text.
+const QUEENS_WRITTEN: &[u8] = b"Q = [2,4,1,3], A = 2, B = 4, C = 1, D = 3
+Q = [3,1,4,2], A = 3, B = 1, C = 4, D = 2
+% complete
+";
+
+/// What is written for a front of that text that ends before its query does. A front of whole clauses
+/// is without a query, and any other ends within a clause.
 fn written_for_front(alloc: Global, front: &[u8]) -> Result<String, AllocError> {
     let line = 1 + front.iter().filter(|byte| **byte == b'\n').count();
-    if 4 < line || front.ends_with(b"ok(Q,M,Xs).") {
-        return format!(in alloc; "error: line 4: not pure\n");
-    }
     let last = front.iter().rfind(|byte| !byte.is_ascii_whitespace());
     if front.len() <= b"% four queens\n".len() || last == Some(&b'.') {
         format!(in alloc; "error: line {line}: no query\n")
@@ -402,7 +534,11 @@ fn written_for_front(alloc: Global, front: &[u8]) -> Result<String, AllocError> 
 #[test]
 fn cut_texts(rt: HostRuntime) -> Result<(), Fail> {
     let alloc = rt.alloc();
-    for length in 0..=QUEENS.len() {
+    for length in QUEENS.len() - 1..=QUEENS.len() {
+        let front = &QUEENS[..length];
+        assert!(rt; gives(&rt, alloc, front, QUEENS_WRITTEN, Status::Answers)?);
+    }
+    for length in 0..QUEENS.len() - 1 {
         let front = &QUEENS[..length];
         let written = written_for_front(alloc, front)?;
         assert!(rt;

@@ -1,20 +1,28 @@
 //! The top call: from the bytes of a text to the bytes of its answers.
 
 ghost use Rattle.std.specs.Prelude.{◌≡◌, ◌≢◌, ◌⊎◌, ◌≤◌, ◌<◌, ℕ, [], map, length, IfOk, string_bytes};
+ghost use Rattle.std.specs.List.{list_any};
 ghost use Rattle.and_io.specs.Flow.{Rose, Stays, Gains, AreAll};
 ghost use Rattle.and_gen.specs.Layered as generated;
-ghost use Rattle.and_model.specs.declared.limits.TheConstants.{DEFAULT_LIMIT};
-ghost use Rattle.andorra.specs.Shown.{shown_by, summary, whole};
-ghost use Rattle.andorra.specs.Top.{Answered, GainsPrefix, IsComplete, IsDemo, IsLast, IsRun, IsUsage, Told, WasAnswered, bytes_read, usage};
+ghost use Rattle.and_answers.specs.Kept.{listed};
+ghost use Rattle.and_language.specs.Refusals.{Reads};
+ghost use Rattle.and_model.specs.Lines.{Bytes};
+ghost use Rattle.and_program.specs.Loaded.{program_of};
+ghost use Rattle.and_model.specs.declared.limits.TheConstants.{DEFAULT_LIMIT, MAX_LIMIT};
+ghost use Rattle.andorra.specs.Top.{Answered, GainsPrefix, IsComplete, IsDemo, IsRun, IsUsage, Told, WasAnswered};
+ghost use Rattle.andorra.specs.Top.{bytes_read, status_for, usage};
 
 use crate::showing::{Show, written};
+use and_answers::{Entry, Found};
 use and_command::{Command, Settings, USAGE, command_of};
-use and_engine::{Found, find_all};
+use and_determinacy::compile;
 use and_gen::layered;
 use and_io::{Gate, ReadAll, ReadStop, Sink, Source, read_all, write_all_counted};
 use and_model::Text;
 use and_model::limits::MAX_BYTES;
+use and_program::Loaded;
 use and_reader::{read_program, refusal_text};
+use and_walk::walk;
 use std::alloc::{AllocError, Global};
 use std::sync::Wait;
 use std::thread::Threads;
@@ -22,7 +30,7 @@ use std::thread::Threads;
 /// How a run ended. Its number is the exit status.
 #[derive(Clone, Copy, Debug, PartialEq, Eq)]
 pub enum Status {
-    /// All answers are written, and there are some.
+    /// The search was complete; there are answers, and all are written.
     Answers = 0,
     /// The search was complete, and there is no answer.
     NoAnswer = 1,
@@ -34,11 +42,12 @@ pub enum Status {
     ReadFault = 4,
     /// The sink failed; it holds a prefix of what was due.
     WriteFault = 5,
-    /// All answers within the limit are written; a branch outgrew it.
+    /// The answers within the limit are written; a branch outgrew it.
     Limit = 6,
     /// Want of memory; nothing is written.
     Memory = 7,
-    /// As for `Answers`, and some answer has arithmetic that waits forever.
+    /// The search was complete; a line that is written is no answer, since some of its arithmetic
+    /// waits forever.
     Floundered = 8,
 }
 
@@ -63,39 +72,50 @@ struct Reply {
     status: Status,
 }
 
-/// Puts the last line behind what is written of the answers.
-fn write_last_line(text: &mut Text, found: &Found) -> Result<Status, AllocError>
-    ensures { IfOk result (λ status. IsLast found.now status text.old text.new) }
+/// Whether some entry is no answer, since some of its arithmetic waits forever.
+fn are_floundered(entries: &[Entry]) -> bool
+    ensures { result ≡ list_any (λ e. e.floundered) entries.now }
 {
-    if found.outgrown.is_some() {
-        text.append(b"% limit met\n")?;
-        return Ok(Status::Limit);
+    entries.iter().any(|entry| entry.floundered)
+}
+
+/// The status of a search that found this.
+fn status_of(found: &Found) -> Status
+    ensures { result ≡ status_for found.now.cut (listed found.now) }
+{
+    if found.cut.is_some() {
+        return Status::Limit;
     }
-    text.append(b"% complete\n")?;
-    if found.lines.is_empty() {
-        Ok(Status::NoAnswer)
+    let entries = found.entries();
+    if entries.is_empty() {
+        Status::NoAnswer
+    } else if are_floundered(entries) {
+        Status::Floundered
     } else {
-        Ok(Status::Answers)
+        Status::Answers
     }
 }
 
+/// What a program is answered with.
+fn found_in(alloc: Global, show: Show, limit: u32, loaded: &Loaded) -> Result<Reply, AllocError>
+    requires { limit ≤ MAX_LIMIT }
+    ensures { (bytes : Bytes) → Reads bytes (program_of loaded.now) →
+        IfOk result (λ reply. WasAnswered show limit reply.status bytes reply.text) }
+{
+    let table = compile(alloc, loaded)?;
+    let found = walk(alloc, loaded, &table, limit)?;
+    let text = written(alloc, show, &found)?;
+    let status = status_of(&found);
+    Ok(Reply { text, status })
+}
+
 /// The answer to a text.
-fn answer_to(
-    alloc: Global,
-    show: Show,
-    settings: Settings,
-    text: &[u8],
-) -> Result<Reply, AllocError>
-    requires { settings.limit ≤ 4194304 }
-    ensures { IfOk result (λ reply. WasAnswered (shown_by show) settings.limit reply.status text.now reply.text) }
+fn answer_to(alloc: Global, show: Show, limit: u32, text: &[u8]) -> Result<Reply, AllocError>
+    requires { limit ≤ MAX_LIMIT }
+    ensures { IfOk result (λ reply. WasAnswered show limit reply.status text.now reply.text) }
 {
     match read_program(alloc, text) {
-        Ok(loaded) => {
-            let found = find_all(alloc, &loaded, settings.limit)?;
-            let mut text = written(alloc, show, &found.lines)?;
-            let status = write_last_line(&mut text, &found)?;
-            Ok(Reply { text, status })
-        }
+        Ok(loaded) => found_in(alloc, show, limit, &loaded),
         Err(refusal) => {
             if refusal.is_memory() {
                 return Err(AllocError);
@@ -109,20 +129,14 @@ fn answer_to(
 }
 
 /// Answers a text.
-fn respond<K: Sink>(
-    alloc: Global,
-    show: Show,
-    settings: Settings,
-    sink: &mut K,
-    text: &[u8],
-) -> Status
-    requires { settings.limit ≤ 4194304 }
-    ensures answered { Answered (shown_by show) settings.limit (K.held sink.old) (K.held sink.new) result text.now }
+fn respond<K: Sink>(alloc: Global, show: Show, limit: u32, sink: &mut K, text: &[u8]) -> Status
+    requires { limit ≤ MAX_LIMIT }
+    ensures answered { Answered show limit (K.held sink.old) (K.held sink.new) result text.now }
     ensures no_read_fault { result ≢ Status.ReadFault }
     ensures fault { result ≡ Status.WriteFault → Rose K.last (K.faults sink.old) (K.faults sink.new) }
     ensures count { K.faults sink.old ≤ K.faults sink.new }
 {
-    match answer_to(alloc, show, settings, text) {
+    match answer_to(alloc, show, limit, text) {
         Ok(reply) => finish(sink, reply.text.bytes(), reply.status),
         Err(AllocError) => Status::Memory,
     }
@@ -145,19 +159,23 @@ fn run<S: Source, K: Sink>(
     source: &mut S,
     sink: &mut K,
 ) -> Status
-    requires { settings.limit ≤ 4194304 }
-    ensures answered { Told (S.left source.old) (Answered whole settings.limit (K.held sink.old) (K.held sink.new) result) }
+    requires { settings.limit ≤ MAX_LIMIT }
+    ensures answered { Told (S.left source.old) (Answered (Show.Whole settings.stats) settings.limit (K.held sink.old) (K.held sink.new) result) }
     ensures read_whole { IsComplete result → AreAll (S.left source.new) [] }
     ensures no_usage { result ≢ Status.Usage }
     ensures read_fault { result ≡ Status.ReadFault → Rose S.last (S.faults source.old) (S.faults source.new) × (K.held sink.new ≡ K.held sink.old) }
     ensures write_fault { result ≡ Status.WriteFault → Rose K.last (K.faults sink.old) (K.faults sink.new) }
     ensures memory { result ≡ Status.Memory → K.held sink.new ≡ K.held sink.old }
-    ensures not_floundered { result ≢ Status.Floundered }
     ensures source_count { S.faults source.old ≤ S.faults source.new }
     ensures sink_count { K.faults sink.old ≤ K.faults sink.new }
 {
     match read_all(alloc, source, MAX_BYTES) {
-        Ok(read) => respond(alloc, Show::Whole, settings, sink, text_of(&read).bytes()),
+        Ok(read) => {
+            let show = Show::Whole {
+                stats: settings.stats,
+            };
+            respond(alloc, show, settings.limit, sink, text_of(&read).bytes())
+        }
         Err(ReadStop::Failed) => Status::ReadFault,
         Err(ReadStop::Memory) => Status::Memory,
     }
@@ -166,15 +184,15 @@ fn run<S: Source, K: Sink>(
 /// Answers the generated text of a number by a summary.
 fn demo<K: Sink>(alloc: Global, number: u32, settings: Settings, sink: &mut K) -> Status
     requires few { number ≤ 64 }
-    requires limited { settings.limit ≤ 4194304 }
-    ensures answered { Answered summary settings.limit (K.held sink.old) (K.held sink.new) result (generated.layered number) }
+    requires limited { settings.limit ≤ MAX_LIMIT }
+    ensures answered { Answered Show.Summary settings.limit (K.held sink.old) (K.held sink.new) result (generated.layered number) }
     ensures not_refused { result ≢ Status.Refused }
     ensures no_read_fault { result ≢ Status.ReadFault }
     ensures fault { result ≡ Status.WriteFault → Rose K.last (K.faults sink.old) (K.faults sink.new) }
     ensures count { K.faults sink.old ≤ K.faults sink.new }
 {
     match layered(alloc, number) {
-        Ok(text) => respond(alloc, Show::Summary, settings, sink, text.bytes()),
+        Ok(text) => respond(alloc, Show::Summary, settings.limit, sink, text.bytes()),
         // The number is not too big, so that it is for want of memory.
         Err(_) => Status::Memory,
     }
@@ -192,13 +210,13 @@ pub fn andorra<R: Threads + Wait + Sync, S: Source, K: Sink, G: Gate>(
 ) -> Status
     // What was written, and for which text.
     ensures answered { (settings : Settings) → IsRun (map string_bytes words.now) settings →
-        Told (S.left source.old) (Answered whole settings.limit (K.held sink.old) (K.held sink.new) result) }
+        Told (S.left source.old) (Answered (Show.Whole settings.stats) settings.limit (K.held sink.old) (K.held sink.new) result) }
     ensures read_whole { (settings : Settings) → IsRun (map string_bytes words.now) settings →
         IsComplete result → AreAll (S.left source.new) [] }
 
     // What was written of a generated text. The source is untouched.
     ensures demo { (n : ℕ) (settings : Settings) → IsDemo (map string_bytes words.now) n settings →
-        Answered summary DEFAULT_LIMIT (K.held sink.old) (K.held sink.new) result (generated.layered n)
+        Answered Show.Summary DEFAULT_LIMIT (K.held sink.old) (K.held sink.new) result (generated.layered n)
         × (result ≢ Status.Refused) × (result ≢ Status.ReadFault) × (S.left source.new ≡ S.left source.old) × (S.faults source.new ≡ S.faults source.old) }
 
     // Where the words are no command.
@@ -211,7 +229,6 @@ pub fn andorra<R: Threads + Wait + Sync, S: Source, K: Sink, G: Gate>(
     ensures read_fault { result ≡ Status.ReadFault → Rose S.last (S.faults source.old) (S.faults source.new) × (K.held sink.new ≡ K.held sink.old) }
     ensures write_fault { result ≡ Status.WriteFault → Rose K.last (K.faults sink.old) (K.faults sink.new) }
     ensures memory { result ≡ Status.Memory → K.held sink.new ≡ K.held sink.old }
-    ensures not_floundered { result ≢ Status.Floundered }
     ensures source_count { S.faults source.old ≤ S.faults source.new }
     ensures sink_count { K.faults sink.old ≤ K.faults sink.new }
 {

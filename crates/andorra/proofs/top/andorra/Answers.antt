@@ -3,7 +3,7 @@ use Rattle.and_command.specs.declared.reading.Command.TheVariants.{Run, Demo}
 use Rattle.and_command.specs.declared.given.Settings.{Settings}
 use Rattle.and_gen.specs.Layered.{layered}
 use Rattle.and_model.specs.declared.limits.TheConstants.{DEFAULT_LIMIT}
-use Rattle.andorra.specs.Shown.{summary}
+use Rattle.andorra.specs.declared.showing.Show.TheVariants.{Summary}
 use Rattle.andorra.specs.Top.{Answered}
 use Rattle.andorra.proofs.TopLemmas.{default_limit, same_run, same_settings, same_number, run_is_no_demo, demo_is_no_run, no_command}
 use Rattle.andorra.proofs.top.andorra.Goals as goal
@@ -44,7 +44,7 @@ returns-in-Some-Demo-clause-demo g c = λ n settings is.
     let same = same_settings c.command_of.result demo.field-0 demo.number n demo.settings settings demo.is demo.field-0-is said in
     let limit : demo.settings.limit ≡ DEFAULT_LIMIT = ap (λ (s : Settings). s.limit) same ∙ default_limit _ n settings is in
     let held = g.K.Sink.held in
-    let answer : ℕ → Type 0 = λ l. Answered summary l (held c.args.sink.now) (held c.demo.new.sink) c.demo.result (layered n) in
+    let answer : ℕ → Type 0 = λ l. Answered Summary l (held c.args.sink.now) (held c.demo.new.sink) c.demo.result (layered n) in
     (subst answer limit (rw (← number) c.demo.ensures.answered), c.demo.ensures.not_refused, c.demo.ensures.no_read_fault, refl, refl)
 
 pub returns-in-Some-Demo-clause-used : goal.returns-in-Some-Demo-clause-used

@@ -1,11 +1,12 @@
 use Rattle.std.proofs.Common.{◌∙◌, subst}
-use Rattle.andorra.specs.Shown.{whole}
+use Rattle.andorra.specs.declared.showing.Show.TheVariants.{Whole}
 use Rattle.andorra.specs.Top.{Answered}
 use Rattle.andorra.proofs.TopLemmas.{told}
 use Rattle.andorra.proofs.top.run.Goals as goal
 
 pub returns-in-Ok-clause-answered : goal.returns-in-Ok-clause-answered
 returns-in-Ok-clause-answered g c =
-    told whole c.args.settings.limit _ _ _ _ c.in-Ok.read c.respond.result c.in-Ok.ensures.read
-    (subst (Answered whole c.args.settings.limit (g.K.Sink.held c.args.sink.now) (g.K.Sink.held c.respond.new.sink) c.respond.result)
+    told (Whole c.args.settings.stats) c.args.settings.limit _ _ _ _ c.in-Ok.read c.respond.result c.in-Ok.ensures.read
+    (subst (Answered (Whole c.args.settings.stats) c.args.settings.limit (g.K.Sink.held c.args.sink.now)
+    (g.K.Sink.held c.respond.new.sink) c.respond.result)
     (c.bytes.ensures ∙ c.text_of.ensures) c.respond.ensures.answered)

@@ -1,0 +1,80 @@
+-- How a walk ended so far: counts, and cuts that are kept.
+use Rattle.std.proofs.Common.{ℕ, ◌+◌, ◌-◌, ◌^◌, ◌≡◌, Bool, false, refl, sym, ap, ◌∙◌, subst, arith, min}
+use Rattle.std.proofs.Common.{inl, inr}
+use Rattle.std.specs.Prelude.{Option, Some, None}
+use Rattle.std.specs.Option.{option_or}
+use Rattle.std.proofs.lemmas.Bool.{cases_lt}
+use Rattle.std.proofs.Math.Nat.{min-eq_left, min-eq_right}
+use Rattle.and_model.specs.Limits.{Cut, OverLimit}
+use Rattle.and_model.specs.Programs.{Program}
+use Rattle.and_model.specs.Trees.{blank, query_agenda}
+use Rattle.and_model.specs.declared.goal
+use Rattle.and_branch_laws.specs.States.{IsCut}
+use Rattle.and_code.specs.Written.{all_written}
+use Rattle.and_answers.specs.Kept.{listed, total}
+use Rattle.and_answers.specs.declared.found.Found.{Found}
+use Rattle.and_walk_laws.specs.Walks.{Walks}
+use Rattle.and_walk_laws.proofs.Numbering.{numbered, whole_exhausts}
+use Rattle.and_walk_laws.proofs.Rising.{walked_listing}
+use Rattle.and_walk.specs.Found.{kept_count, IsEnd, IsFound}
+use Rattle.and_walk.specs.Walking.{IsEndSoFar}
+
+-- a count that is kept, with one more
+pub one_counted : (kept count : ℕ) → kept ≡ kept_count count → total kept 1 ≡ kept_count (count + 1)
+one_counted kept count e =
+    let most : ℕ = 2 ^ 64 - 1 in
+    elim (cases_lt count most) [
+      | inl below ↦
+          (let is : kept_count count ≡ count = min-eq_left (omega arith) in
+          let same : kept ≡ count = e ∙ is in
+          ap (λ n. min (n + 1) most) same)
+      | inr above ↦
+          (let is : kept_count count ≡ most = min-eq_right above in
+          let same : kept ≡ most = e ∙ is in
+          let old : min (kept + 1) most ≡ most = min-eq_right (omega arith) in
+          let new : min (count + 1) most ≡ most = min-eq_right (omega arith) in
+          old ∙ sym new)
+    ]
+
+module _ (P : Program) (limit : ℕ) where
+  -- what is cut off there
+  abbrev pub MeetsLimit : goal.Cut.Cut → Type 0
+  MeetsLimit cut = (over : Cut P) × IsCut (all_written cut.partial) cut.goal cut.clause.0 over × OverLimit P limit over
+
+  -- The counts go on, and the cut stays.
+  pub end_counted : (old new : Found) (f m g n : ℕ) (b d : Bool) → new.cut ≡ old.cut → (b ≡ false → d ≡ false)
+      → (old.forks ≡ kept_count f → new.forks ≡ kept_count g) → (old.failed ≡ kept_count m → new.failed ≡ kept_count n)
+      → IsEndSoFar P limit old f m b old.cut → IsEndSoFar P limit new g n d new.cut
+  end_counted old new f m g n b d same flag forks failed h = subst (λ c. IsEndSoFar P limit new g n d c) (sym same) (go old.cut h)
+    where
+      go : (c : Option goal.Cut.Cut) → IsEndSoFar P limit old f m b c → IsEndSoFar P limit new g n d c
+      go None e = (flag e.0, forks e.1, failed e.2)
+      go (Some cut) e = e
+
+  -- A cut is kept where there is none yet; from then on the counts are not told.
+  pub end_cut : (old new : Found) (f m g n : ℕ) (b d : Bool) (cut : goal.Cut.Cut) → new.cut ≡ option_or old.cut (Some cut) → MeetsLimit cut
+      → IsEndSoFar P limit old f m b old.cut → IsEndSoFar P limit new g n d new.cut
+  end_cut old new f m g n b d cut kept meets h = subst (λ c. IsEndSoFar P limit new g n d c) (sym kept) (go old.cut h)
+    where
+      go : (c : Option goal.Cut.Cut) → IsEndSoFar P limit old f m b c → IsEndSoFar P limit new g n d (option_or c (Some cut))
+      go None e = meets
+      go (Some first) e = e
+
+  -- Where the walk is over, the search has ended so.
+  pub walked_found : (found : Found) (f m : ℕ) (b : Bool) → Walks P limit (blank (query_agenda P)) (listed found) f m b
+      → IsEndSoFar P limit found f m b found.cut → IsFound P limit found
+  walked_found found f m b w h = record { listing = walked_listing P limit (listed found) f m b w; end = go found.cut h }
+    where
+      go : (c : Option goal.Cut.Cut) → IsEndSoFar P limit found f m b c → IsEnd P limit found c
+      go None e =
+          let whole : Walks P limit (blank (query_agenda P)) (listed found) f m false =
+          subst (λ z. Walks P limit (blank (query_agenda P)) (listed found) f m z) e.0 w in
+          record {
+            exhausted = whole_exhausts P limit (listed found) f m whole;
+            forks = f;
+            failed = m;
+            numbers = numbered P limit (blank (query_agenda P)) (listed found) f m false whole refl;
+            forks_kept = e.1;
+            failed_kept = e.2;
+          }
+      go (Some cut) e = e

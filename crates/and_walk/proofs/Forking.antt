@@ -1,0 +1,352 @@
+-- How a walk goes on where a branch is forked, and with the children of a fork.
+use Rattle.std.proofs.Common.{ℕ, suc, ◌+◌, ◌-◌, ◌^◌, ◌≡◌, ◌≢◌, ◌<◌, ◌≤◌, ◌↔◌, Bool, true, false, ◌||◌, true≢false, List, [], ◌∷◌, ◌++◌}
+use Rattle.std.proofs.Common.{length}
+use Rattle.std.proofs.Common.{refl, sym, ap, ◌∙◌, subst, arith, inl, inr, Contains, append_assoc}
+use Rattle.std.specs.Prelude.{Option, Some, None}
+use Rattle.std.specs.Option.{option_or}
+use Rattle.std.proofs.Math.Bool.{or-false}
+use Rattle.std.proofs.lemmas.Bool.{cases_lt}
+use Rattle.and_model.specs.Limits.{at_goal}
+use Rattle.and_model.specs.Listing
+use Rattle.and_model.specs.Programs.{clause_at}
+use Rattle.and_model.specs.Trees.{QueryTree, Open, weight}
+use Rattle.and_model.specs.Reached.{Split, CandidateOf, ReachedBy}
+use Rattle.and_model.specs.declared.goal
+use Rattle.and_model.specs.declared.goal.Goal.{Goal}
+use Rattle.and_model.specs.declared.numbers.ClauseNo.{ClauseNo}
+use Rattle.and_laws.proofs.Order.{clause_weighs}
+use Rattle.and_laws.proofs.Ordered.{contains_first}
+use Rattle.and_cells.specs.Ranges.{NamedProgram}
+use Rattle.and_branch_laws.specs.States.{StateOf, Fits, fork, IsFirst}
+use Rattle.and_branch_laws.proofs.Going.{fork_cut}
+use Rattle.and_branch.specs.Branches.{Held, IsBranchOf, IsOpenGoal}
+use Rattle.and_branch.specs.States.{numbers, IsState, IsCutOf}
+use Rattle.and_branch.specs.declared.state.BranchState.TheVariants as told
+use Rattle.and_branch.specs.Children.{Fork, AreChildren, IsChild, IsForkOf}
+use Rattle.and_answers.specs.Kept.{listed, total}
+use Rattle.and_answers.specs.declared.found.Found.{Found}
+use Rattle.and_walk_laws.specs.Walks.{Owes, SplitsBy}
+use Rattle.and_walk_laws.proofs.Forking.{owed_fitting}
+use Rattle.and_walk.specs.Walking.{StackHas, IsEndSoFar, Walking, GoesOn, SameButCut}
+use Rattle.and_walk.specs.declared.stack.Task.{Task}
+use Rattle.and_walk.specs.declared.stack.Task.TheVariants.{One, Children}
+use Rattle.and_walk.proofs.Turns.{fewer_gone, fewer_forked, fewer_next, fewer_last}
+use Rattle.and_walk.proofs.Splitting.{too_heavy, split_weighs, split_grows, candidate_splits, split_candidate, some_splits, FirstSplit}
+use Rattle.and_walk.proofs.Splitting.{first_split, no_splits}
+use Rattle.and_walk.proofs.Ending.{one_counted, end_counted, end_cut}
+use Rattle.and_walk.proofs.Going.{query, Top, top_of, with_entries, state_within}
+
+-- a list that is not empty has a first item
+some_first : (cs : List ℕ) → cs ≢ [] → (c : ℕ) × Contains cs c
+some_first [] some = absurd (some refl)
+some_first (c ∷ cs) some = (c, contains_first c cs)
+
+-- whether there is one
+abbrev is_there : Option ℕ → Bool
+is_there None = false
+is_there (Some c) = true
+
+module _ (P : NamedProgram) (limit : ℕ) where
+  module _ (t : QueryTree P.program) (o : Open t) (cs : List ℕ) (first : Option ℕ) (x : StateOf P.program limit t (fork o cs first)) where
+    -- The clauses are those of the splits that fit,
+    fitting : (c : ℕ) → Contains cs c ↔ ((next : QueryTree P.program) × Split t c next × (weight next ≤ limit))
+    fitting c = (
+      λ i.
+          let k = (x.5 c).0 i in
+          let s = candidate_splits t o x.0 x.1 x.2 c k.0 in
+          (s.0, s.1, omega (arith, split_weighs t s.0 c s.1, k.1)),
+      λ s. (x.5 c).1 (split_candidate t o x.0 x.1 x.2 c s.0 s.1, omega (arith, split_weighs t s.0 c s.1, s.2)),
+    )
+
+    -- and some split does not fit where a clause is named that does not.
+    heavy : (is_there first ≡ true) ↔ ((c : ℕ) × (next : QueryTree P.program) × Split t c next × (limit < weight next))
+    heavy = go first x.6
+      where
+        go : (f : Option ℕ) → IsFirst (λ d. CandidateOf t x.0 o d × (Fits limit t d → ⊥)) f
+            → (is_there f ≡ true) ↔ ((c : ℕ) × (next : QueryTree P.program) × Split t c next × (limit < weight next))
+        go None none = (
+          λ e. absurd (true≢false (sym e)),
+          λ s. absurd (none s.0 (
+            split_candidate t o x.0 x.1 x.2 s.0 s.1 s.2,
+            λ fits. absurd (omega (arith, fits, split_weighs t s.1 s.0 s.2, s.3)),
+          )),
+        )
+        go (Some c) is = (
+          λ e.
+              let s = candidate_splits t o x.0 x.1 x.2 c is.0.0 in
+              (c, s.0, s.1, (let above = too_heavy limit t c is.0.1 in omega (arith, above, split_weighs t s.0 c s.1))),
+          λ s. refl,
+        )
+
+    splits : (trees : List (QueryTree P.program)) × SplitsBy t cs trees
+    splits = some_splits t cs (λ c i. let s = (fitting c).0 i in (s.0, s.1))
+
+    owed : (ts : List (QueryTree P.program)) (es : List Listing.Entry) (f m : ℕ) (b : Bool)
+        → Owes P.program limit (query P) (t ∷ ts) es f m b
+        → Owes P.program limit (query P) (splits.0 ++ ts) es (f + 1) m (b || is_there first)
+    owed ts es f m b owes =
+        owed_fitting P.program limit (query P) t cs splits.0 ts es f m b (is_there first) owes x.2.0 o x.4 fitting splits.1 heavy
+
+    -- There is room for a child.
+    room : weight t < limit
+    room =
+        let c = some_first cs x.3 in
+        let k = (x.5 c.0).0 c.1 in
+        omega (arith, k.1, clause_weighs (clause_at P.program c.0))
+
+  -- The cut of a fork is kept if none is, and the fork is counted.
+  forked_end : (old new : Found) (f m : ℕ) (b : Bool) (t : QueryTree P.program) (o : Open t) (key cs : List ℕ) (first : Option ℕ)
+      (cut : Option goal.Cut.Cut)
+      → ReachedBy P.program limit key t → StateOf P.program limit t (fork o cs first) → IsCutOf P t o first cut
+      → new.forks ≡ total old.forks 1 → new.failed ≡ old.failed → new.cut ≡ option_or old.cut cut
+      → IsEndSoFar P.program limit old f m b old.cut
+      → IsEndSoFar P.program limit new (f + 1) m (b || is_there first) new.cut
+  forked_end old new f m b t o key cs None None reached x is forks failed kept e =
+      let same : new.cut ≡ old.cut = kept ∙ none_kept old.cut in
+      end_counted P.program limit old new f m (f + 1) m b (b || false) same (λ h. or-false b ∙ h) (λ h. forks ∙ one_counted old.forks f h)
+      (λ h. failed ∙ h) e
+    where
+      none_kept : (c : Option goal.Cut.Cut) → option_or c None ≡ c
+      none_kept None = refl
+      none_kept (Some c) = refl
+  forked_end old new f m b t o key cs None (Some cut) reached x is forks failed kept e = absurd is
+  forked_end old new f m b t o key cs (Some c) None reached x is forks failed kept e = absurd is
+  forked_end old new f m b t o key cs (Some c) (Some cut) reached x is forks failed kept e =
+      end_cut P.program limit old new f m (f + 1) m b (b || true) cut kept
+      (at_goal t o c, is, fork_cut P.program limit key t reached o cs c x) e
+
+  -- (the others are its children too)
+  others_stand : (f g : Fork) (b : Held) (t : QueryTree P.program) → IsChild P f g b → AreChildren P f t → AreChildren P g t
+  others_stand f g b t is x =
+      let made : List ℕ = x.made ++ is.clause ∷ [] in
+      let clauses : x.made ++ f.clauses ≡ made ++ g.clauses =
+      ap (λ cs. x.made ++ cs) is.next ∙ sym (append_assoc x.made (is.clause ∷ []) g.clauses) in
+      let here : StateOf P.program f.parent.limit t (fork x.open_goal (made ++ g.clauses) x.cut) =
+      subst (λ cs. StateOf P.program f.parent.limit t (fork x.open_goal cs x.cut)) clauses x.state in
+      record {
+        branch = subst (λ (d : Held). IsBranchOf P d t) (sym is.parent) x.branch;
+        open_goal = x.open_goal;
+        made = made;
+        cut = x.cut;
+        goal_is = subst (λ (h : Goal). IsOpenGoal P g.parent.reductions t x.open_goal h) (sym is.goal)
+            (subst (λ (d : Held). IsOpenGoal P d.reductions t x.open_goal f.goal) (sym is.parent) x.goal_is);
+        state = subst (λ (d : Held). StateOf P.program d.limit t (fork x.open_goal (made ++ g.clauses) x.cut)) (sym is.parent) here;
+        longer = is.longer ∙ x.longer;
+      }
+
+module _ {N : Type 0} (P : NamedProgram) (limit : ℕ) where
+  -- The branch on top is forked: its children are on top now.
+  pub forked : (old new : Found) (b : Held) (stack : List (Task N)) (g : Goal) (clauses : List ClauseNo) (cut : Option goal.Cut.Cut)
+      (f : Fork)
+      (count : ℕ) → Walking P limit old (One b ∷ stack)
+      → ((t : QueryTree P.program) → IsBranchOf P b t → IsState P b t (told.Fork g clauses cut))
+      → new.forks ≡ total old.forks 1 → new.failed ≡ old.failed → listed new ≡ listed old → new.cut ≡ option_or old.cut cut
+      → f.parent ≡ b → f.clauses ≡ numbers clauses → ((t : QueryTree P.program) → IsBranchOf P b t → AreChildren P f t)
+      → count ≡ length clauses → count ≤ 2 ^ 64 → GoesOn P limit (One b ∷ stack) new (Children f count ∷ stack)
+  forked old new b stack g clauses cut f count w state forks failed same kept parent clauses_are children counted few =
+      go (top_of P limit old b stack w)
+    where
+      length_numbers : (cs : List ClauseNo) → length (numbers cs) ≡ length cs
+      length_numbers [] = refl
+      length_numbers (c ∷ cs) = ap suc (length_numbers cs)
+
+      go : Top P limit old b stack → GoesOn P limit (One b ∷ stack) new (Children f count ∷ stack)
+      go x =
+          let reached : ReachedBy P.program limit b.key x.tree =
+          subst (λ n. ReachedBy P.program n b.key x.tree) x.limited x.branch.reached in
+          let (o, first, goal_is, is_cut, s) = state x.tree x.branch in
+          let now = state_within P limit b x.tree (fork o (numbers clauses) first) x.limited s in
+          let made = splits P limit x.tree o (numbers clauses) first now in
+          record {
+            walking = record {
+              trees = made.0 ++ x.others;
+              has = (
+                made.0,
+                x.others,
+                refl,
+                record {
+                  tree = x.tree;
+                  children = children x.tree x.branch;
+                  limited = ap (λ (d : Held). d.limit) parent ∙ x.limited;
+                  counted = counted ∙ sym (length_numbers clauses) ∙ ap (λ (cs : List ℕ). length cs) (sym clauses_are);
+                  splits = subst (λ cs. SplitsBy x.tree cs made.0) (sym clauses_are) made.1;
+                },
+                x.below,
+              );
+              forks = x.forks + 1;
+              failed = x.failed;
+              is_cut = x.is_cut || is_there first;
+              owes = with_entries P limit (made.0 ++ x.others) (listed old) (listed new) (x.forks + 1) x.failed
+                  (x.is_cut || is_there first) same
+                  (owed P limit x.tree o (numbers clauses) first now x.others (listed old) x.forks x.failed x.is_cut x.owes);
+              end = forked_end P limit old new x.forks x.failed x.is_cut x.tree o b.key (numbers clauses)
+                  first cut reached now is_cut forks failed kept x.end;
+            };
+            fewer = fewer_forked limit b f count stack (ap (λ (d : Held). d.used) parent)
+                (omega (arith, room P limit x.tree o (numbers clauses) first now, x.branch.used)) few;
+          }
+
+  -- (as the functions tell it)
+  pub forked_on : (old counted new : Found) (b : Held) (stack after : List (Task N)) (g : Goal) (clauses : List ClauseNo)
+      (cut : Option goal.Cut.Cut) (split f : Fork) (count : ℕ) → Walking P limit old (One b ∷ stack)
+      → ((t : QueryTree P.program) → IsBranchOf P b t → IsState P b t (told.Fork g clauses cut))
+      → counted.forks ≡ total old.forks 1 → counted.failed ≡ old.failed → (counted.cut ≡ old.cut) × (listed counted ≡ listed old)
+      → SameButCut counted new → new.cut ≡ option_or counted.cut cut → IsForkOf b g (numbers clauses) split
+      → ((t : QueryTree P.program) → IsBranchOf P b t → AreChildren P split t) → f ≡ split → count ≡ length clauses → count ≤ 2 ^ 64
+      → after ≡ Children f count ∷ stack → GoesOn P limit (One b ∷ stack) new after
+  forked_on old counted new b stack after g clauses cut split f count w state forks failed rest same kept is made whole count_is few top =
+      subst (λ ts. GoesOn P limit (One b ∷ stack) new ts) (sym top)
+      (forked old new b stack g clauses cut f count w state (same.forks ∙ forks) (same.failed ∙ failed) (same.entries ∙ rest.1)
+      (kept ∙ ap (λ c. option_or c cut) rest.0) (ap (λ (x : Fork). x.parent) whole ∙ is.parent)
+      (ap (λ (x : Fork). x.clauses) whole ∙ is.clauses_are)
+      (λ t branch. subst (λ (x : Fork). AreChildren P x t) (sym whole) (made t branch)) count_is few)
+
+  -- (what a split of the branch is asked)
+  pub fork_there : (found : Found) (b : Held) (stack : List (Task N)) (g : Goal) (clauses : List ClauseNo) (cut : Option goal.Cut.Cut)
+      → Walking P limit found (One b ∷ stack)
+      → ((t : QueryTree P.program) → IsBranchOf P b t → IsState P b t (told.Fork g clauses cut))
+      → (t : QueryTree P.program) × (o : Open t) × (first : Option ℕ) × IsBranchOf P b t × IsOpenGoal P b.reductions t o g
+      × StateOf P.program b.limit t (fork o (numbers clauses) first)
+  fork_there found b stack g clauses cut w state =
+      let x = top_of P limit found b stack w in
+      let (o, first, goal_is, is_cut, s) = state x.tree x.branch in
+      (x.tree, o, first, x.branch, goal_is, s)
+
+  -- Children on top, of which the next is taken.
+  record Next (found : Found) (f g : Fork) (count : ℕ) (b : Held) (stack : List (Task N)) : Type 0 where
+    pub tree : QueryTree P.program
+    pub child : QueryTree P.program
+    pub rest : List (QueryTree P.program)
+    pub others : List (QueryTree P.program)
+    pub branch : IsBranchOf P b child
+    pub limited : b.limit ≡ limit
+    pub children : AreChildren P g tree
+    pub parent_limited : g.parent.limit ≡ limit
+    pub splits : SplitsBy tree g.clauses rest
+    pub counted : count ≡ suc (length g.clauses)
+    pub grows : f.parent.used < b.used
+    pub below : StackHas P limit stack others
+    pub forks : ℕ
+    pub failed : ℕ
+    pub is_cut : Bool
+    pub owes : Owes P.program limit (query P) (child ∷ rest ++ others) (listed found) forks failed is_cut
+    pub end : IsEndSoFar P.program limit found forks failed is_cut found.cut
+
+  next_of : (found : Found) (f g : Fork) (count : ℕ) (b : Held) (stack : List (Task N)) → Walking P limit found (Children f count ∷ stack)
+      → IsChild P f g b → Next found f g count b stack
+  next_of found f g count b stack w is =
+      let (all, others, parts, come, below) = w.has in
+      let one : FirstSplit come.tree is.clause g.clauses all =
+      first_split come.tree is.clause g.clauses f.clauses all come.splits is.next in
+      let trees : w.trees ≡ one.next ∷ one.rest ++ others = parts ∙ ap (λ ts. ts ++ others) one.trees_are in
+      let branch : IsBranchOf P b one.next = is.stands come.tree one.next come.children one.split in
+      record {
+        tree = come.tree;
+        child = one.next;
+        rest = one.rest;
+        others = others;
+        branch = branch;
+        limited = is.limit ∙ come.limited;
+        children = others_stand P limit f g b come.tree is come.children;
+        parent_limited = ap (λ (d : Held). d.limit) is.parent ∙ come.limited;
+        splits = one.others;
+        counted = come.counted ∙ ap (λ (cs : List ℕ). length cs) is.next;
+        grows = omega (arith, split_grows come.tree one.next is.clause one.split, branch.used, come.children.branch.used);
+        below = below;
+        forks = w.forks;
+        failed = w.failed;
+        is_cut = w.is_cut;
+        owes = subst (λ ts. Owes P.program limit (query P) ts (listed found) w.forks w.failed w.is_cut) trees w.owes;
+        end = w.end;
+      }
+
+  -- The next child is on top, and below it those that are still to come.
+  pub child_next : (found : Found) (f g : Fork) (count : ℕ) (b : Held) (stack : List (Task N))
+      → Walking P limit found (Children f count ∷ stack)
+      → IsChild P f g b → GoesOn P limit (Children f count ∷ stack) found (One b ∷ Children g (count - 1) ∷ stack)
+  child_next found f g count b stack w is =
+      let x = next_of found f g count b stack w is in
+      let left : count - 1 ≡ length g.clauses = omega (arith, x.counted) in
+      record {
+        walking = record {
+          trees = x.child ∷ x.rest ++ x.others;
+          has = (
+            x.child ∷ [],
+            x.rest ++ x.others,
+            refl,
+            record { tree = x.child; branch = x.branch; limited = x.limited; alone = refl },
+            (
+              x.rest,
+              x.others,
+              refl,
+              record { tree = x.tree; children = x.children; limited = x.parent_limited; counted = left; splits = x.splits },
+              x.below,
+            ),
+          );
+          forks = x.forks;
+          failed = x.failed;
+          is_cut = x.is_cut;
+          owes = x.owes;
+          end = x.end;
+        };
+        fewer = fewer_next limit f g count (count - 1) b stack (omega (arith, x.counted)) (ap (λ (d : Held). d.used) is.parent) x.grows;
+      }
+
+  -- The last child is on top.
+  pub child_last : (found : Found) (f g : Fork) (count : ℕ) (b : Held) (stack : List (Task N))
+      → Walking P limit found (Children f count ∷ stack)
+      → IsChild P f g b → count ≤ 1 → GoesOn P limit (Children f count ∷ stack) found (One b ∷ stack)
+  child_last found f g count b stack w is few =
+      let x = next_of found f g count b stack w is in
+      let none : g.clauses ≡ [] = no_length g.clauses (omega (arith, x.counted)) in
+      let empty : x.rest ≡ [] = no_splits x.tree g.clauses x.rest x.splits none in
+      record {
+        walking = record {
+          trees = x.child ∷ x.others;
+          has = (x.child ∷ [], x.others, refl, record { tree = x.child; branch = x.branch; limited = x.limited; alone = refl }, x.below);
+          forks = x.forks;
+          failed = x.failed;
+          is_cut = x.is_cut;
+          owes = subst (λ ts. Owes P.program limit (query P) (x.child ∷ ts ++ x.others) (listed found) x.forks x.failed x.is_cut)
+              empty x.owes;
+          end = x.end;
+        };
+        fewer = fewer_last limit f count 0 b stack (omega (arith, x.counted, ap (λ (cs : List ℕ). length cs) none)) x.grows;
+      }
+    where
+      no_length : (cs : List ℕ) → length cs ≡ 0 → cs ≡ []
+      no_length [] e = refl
+      no_length (c ∷ cs) e = absurd (omega arith)
+
+  -- The next child is on top, and those that are still to come, if any, are below it.
+  pub child_taken : (found : Found) (f g : Fork) (count : ℕ) (b : Held) (stack middle new : List (Task N))
+      → Walking P limit found (Children f count ∷ stack) → IsChild P f g b → (1 < count → middle ≡ Children g (count - 1) ∷ stack)
+      → (count ≤ 1 → middle ≡ stack) → new ≡ One b ∷ middle → GoesOn P limit (Children f count ∷ stack) found new
+  child_taken found f g count b stack middle new w is more last top = elim (cases_lt 1 count) [
+    | inl many ↦
+        (let e : new ≡ One b ∷ Children g (count - 1) ∷ stack = top ∙ ap (λ ts. One b ∷ ts) (more many) in
+        subst (λ ts. GoesOn P limit (Children f count ∷ stack) found ts) (sym e) (child_next found f g count b stack w is))
+    | inr few ↦
+        (let e : new ≡ One b ∷ stack = top ∙ ap (λ ts. One b ∷ ts) (last few) in
+        subst (λ ts. GoesOn P limit (Children f count ∷ stack) found ts) (sym e) (child_last found f g count b stack w is few))
+  ]
+
+  -- No child was left.
+  pub child_none : (found : Found) (f : Fork) (count : ℕ) (stack : List (Task N)) → Walking P limit found (Children f count ∷ stack)
+      → f.clauses ≡ [] → GoesOn P limit (Children f count ∷ stack) found stack
+  child_none found f count stack w none =
+      let (all, others, parts, come, below) = w.has in
+      let empty : all ≡ [] = no_splits come.tree f.clauses all come.splits none in
+      let trees : w.trees ≡ others = parts ∙ ap (λ ts. ts ++ others) empty in
+      record {
+        walking = record {
+          trees = others;
+          has = below;
+          forks = w.forks;
+          failed = w.failed;
+          is_cut = w.is_cut;
+          owes = subst (λ ts. Owes P.program limit (query P) ts (listed found) w.forks w.failed w.is_cut) trees w.owes;
+          end = w.end;
+        };
+        fewer = fewer_gone limit (Children f count) stack;
+      }

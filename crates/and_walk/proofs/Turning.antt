@@ -1,0 +1,88 @@
+-- What the functions of a walk do to it, as they tell it.
+use Rattle.std.proofs.Common.{ℕ, ◌≡◌, ◌≤◌, Bool, true, false, List, [], ◌∷◌, sym, subst, arith}
+use Rattle.std.specs.Prelude.{None}
+use Rattle.and_model.specs.Lines.{Bytes}
+use Rattle.and_model.specs.Listing.{Ends}
+use Rattle.and_model.specs.Trees.{QueryTree, Open, IsWhole, code}
+use Rattle.and_model.specs.Reached.{Steps}
+use Rattle.and_model.specs.declared.goal.Goal.{Goal}
+use Rattle.and_model.specs.declared.numbers.ClauseNo.{ClauseNo}
+use Rattle.and_cells.specs.Ranges.{NamedProgram}
+use Rattle.and_branch_laws.specs.States.{StateOf, determinate}
+use Rattle.and_branch.specs.Branches.{Held, IsBranchOf, SameKey}
+use Rattle.and_branch.specs.Ended.{IsLineOf}
+use Rattle.and_branch.specs.States.{IsState}
+use Rattle.and_branch.specs.declared.state.BranchState.{BranchState}
+use Rattle.and_branch.specs.declared.state.BranchState.TheVariants as told
+use Rattle.and_answers.specs.Kept.{listed, outcome_with}
+use Rattle.and_answers.specs.declared.found.Found.{Found}
+use Rattle.and_walk.specs.Found.{IsFound}
+use Rattle.and_walk.specs.Walking.{Walking, GoesOn, EndsSo, IsAdvanced, turns}
+use Rattle.and_walk.specs.declared.stack.Task.{Task}
+use Rattle.and_walk.specs.declared.stack.Task.TheVariants.{One}
+use Rattle.and_walk.proofs.Going.{query, top_of, stepped, begun, over}
+
+module _ (P : NamedProgram) where
+  -- The line and the code of a branch are those with which its tree ends.
+  pub told_ends : (b : Held) (is_floundered : Bool) (cs : List ℕ) (text : Bytes)
+      → ((t : QueryTree P.program) → IsBranchOf P b t → IsWhole t → cs ≡ code t)
+      → ((t : QueryTree P.program) → IsBranchOf P b t → IsLineOf P b t text)
+      → ((t : QueryTree P.program) → IsBranchOf P b t → EndsSo P b t is_floundered)
+      → (t : QueryTree P.program) → IsBranchOf P b t → (code t ≡ cs) × Ends t (outcome_with is_floundered text)
+  told_ends b true cs text codes line state t branch =
+      let e = (line t branch).flounders (state t branch) in
+      (sym (codes t branch e.0), e)
+  told_ends b false cs text codes line state t branch =
+      let e = (line t branch).answers (state t branch) in
+      (sym (codes t branch e.0), e)
+
+  -- the state of a branch, as it was told
+  pub state_told : (b : Held) (s r : BranchState) → s ≡ r → ((t : QueryTree P.program) → IsBranchOf P b t → IsState P b t s)
+      → (t : QueryTree P.program) → IsBranchOf P b t → IsState P b t r
+  state_told b s r same state t branch = subst (λ x. IsState P b t x) same (state t branch)
+
+  -- An advanced branch is not determinate.
+  pub not_determinate : (b : Held) (s : BranchState) (g : Goal) (k : ClauseNo) → s ≡ told.Determinate g k
+      → ((t : QueryTree P.program) → IsBranchOf P b t → IsState P b t s) → IsAdvanced P b → ⊥
+  not_determinate b s g k same state done =
+      let x = state_told b s (told.Determinate g k) same state done.0 done.1 in
+      done.2 x.0 k.0 x.2
+
+module _ {N : Type 0} (P : NamedProgram) (limit : ℕ) where
+  -- A branch that was advanced, and then judged.
+  module _ (found : Found) (b d e : Held) (stack : List (Task N)) (w : Walking P limit found (One b ∷ stack)) (advanced : SameKey b d)
+      (judged : SameKey d e)
+      (steps : (t : QueryTree P.program) → IsBranchOf P b t → (u : QueryTree P.program) × IsBranchOf P d u × Steps t u)
+      (stays : (t : QueryTree P.program) → IsBranchOf P d t → IsBranchOf P e t) where
+    both : Walking P limit found (One e ∷ stack) × (turns limit (One e ∷ stack) ≤ turns limit (One b ∷ stack))
+    both =
+        let first = stepped P limit found b d stack w advanced steps in
+        let second = stepped P limit found d e stack first.0 judged (λ t branch. (t, stays t branch, Steps.none t)) in
+        (second.0, omega (arith, first.1, second.1))
+
+    pub judged_walks : Walking P limit found (One e ∷ stack)
+    judged_walks = both.0
+
+    pub judged_advanced : ((t : QueryTree P.program) (o : Open t) (c : ℕ) → IsBranchOf P d t
+        → StateOf P.program d.limit t (determinate o c) → ⊥) → IsAdvanced P e
+    judged_advanced done =
+        let x = top_of P limit found b stack w in
+        let (u, branch, goes) = steps x.tree x.branch in
+        (u, stays u branch, λ o c s. done u o c branch (subst (λ n. StateOf P.program n u (determinate o c)) judged.limit s))
+
+    pub judged_goes : (new : Found) (after : List (Task N)) → GoesOn P limit (One e ∷ stack) new after
+        → GoesOn P limit (One b ∷ stack) new after
+    judged_goes new after x = record { walking = x.walking; fewer = (let less = both.1 in omega (arith, x.fewer, less)) }
+
+  -- A walk begins with the branch of the query, on an empty stack,
+  pub begun_on : (found : Found) (b : Held) (stack : List (Task N)) → stack ≡ [] → listed found ≡ []
+      → (found.forks ≡ 0) × (found.failed ≡ 0) × (found.cut ≡ None) → IsBranchOf P b (query P) → b.limit ≡ limit
+      → Walking P limit found (One b ∷ stack)
+  begun_on found b stack empty none start branch limited =
+      subst (λ (ts : List (Task N)). Walking P limit found (One b ∷ ts)) (sym empty) (begun P limit found b none start branch limited)
+
+  -- and is over where the stack is empty.
+  pub over_on : (found : Found) (stack : List (Task N)) (n : ℕ) → Walking P limit found stack → stack ≡ [] → limit ≡ n
+      → IsFound P.program n found
+  over_on found stack n w empty same =
+      subst (λ m. IsFound P.program m found) same (over P limit found (subst (λ (ts : List (Task N)). Walking P limit found ts) empty w))

@@ -1,0 +1,34 @@
+//! The search on one thread: branches are walked depth first.
+#![tactic(auto)]
+
+ghost use Rattle.std.specs.Prelude.{◌≤◌, IfOk};
+ghost use Rattle.and_model.specs.declared.limits.TheConstants.{MAX_LIMIT};
+ghost use Rattle.and_program.specs.Loaded.{program_of};
+ghost use Rattle.and_cells.specs.Parts.{named};
+ghost use Rattle.and_determinacy.specs.Tables.{IsTableOf};
+ghost use Rattle.and_walk.specs.Found.{IsFound};
+
+mod stack;
+mod walker;
+
+use crate::walker::walk_named;
+use and_answers::Found;
+use and_determinacy::Determinacy;
+use and_program::Loaded;
+use std::alloc::{AllocError, Global};
+use std::marker::Brand;
+
+/// All answers of a program within a limit, in the order of their codes, and how the search ended. An
+/// error is want of memory.
+pub fn walk(
+    alloc: Global,
+    loaded: &Loaded,
+    table: &Determinacy,
+    limit: u32,
+) -> Result<Found, AllocError>
+    requires table { IsTableOf (named loaded.now) table.now }
+    requires limit { limit ≤ MAX_LIMIT }
+    ensures { IfOk result (IsFound (program_of loaded.now) limit) }
+{
+    walk_named::<Brand>(alloc, loaded, table, limit)
+}
