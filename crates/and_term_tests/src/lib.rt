@@ -1,7 +1,9 @@
-//! Tests of modes and of what stands on cells (circles, unification, printing), over programs made of
-//! clauses.
+//! Tests of modes and of what stands on cells (arithmetic, circles, unification, printing), over programs
+//! made of clauses.
 #![tactic(auto)]
 
+#[cfg(test)]
+mod arithmetic;
 #[cfg(test)]
 mod circles;
 #[cfg(test)]
