@@ -10,13 +10,13 @@ use Rattle.and_command.specs.Options.{name_text, name_of, is_stats, value_of}
 use Rattle.and_command.specs.Options as options
 use Rattle.and_command.specs.Given.{nothing, with_value, with_number, with_stats, settings_of}
 use Rattle.and_command.specs.Reading.{closed, cut, with_joined, next_joined, next_named, next_flagged, next_numbered, next_after, next}
-use Rattle.and_command.specs.Reading.{read_from, at_end, read, as_run, run_of, as_demo, demo_of}
+use Rattle.and_command.specs.Reading.{read_from, at_end, read, as_run, run_of, check_of, as_demo, demo_of}
 use Rattle.and_command.specs.Commands.{Gives, ends, apart, joined, alone, flagged, IsCommand}
 use Rattle.and_command.specs.declared.options.Name.{Name}
 use Rattle.and_command.specs.declared.given.Given.{Given}
 use Rattle.and_command.specs.declared.reading.Reading.{Reading}
 use Rattle.and_command.specs.declared.reading.Command.{Command}
-use Rattle.and_command.specs.declared.reading.Command.TheVariants.{Run, Demo}
+use Rattle.and_command.specs.declared.reading.Command.TheVariants.{Run, Check, Demo}
 use Rattle.and_command.proofs.WordLemmas.{is_cut, is_name, names, no_number, no_flag, no_flag_number, flag_is, no_joined_number}
 use Rattle.and_command.proofs.WordLemmas.{no_joined_flag, no_joined_name, cut_joined}
 
@@ -169,6 +169,11 @@ run_is rest command is =
     let how = run_with given.0.number given.0 command given.2 in
     subst (IsCommand (codes "run" ∷ rest)) (sym how.1) (rest, given.0, refl, read_finds rest given.0 given.1, how.0, refl)
 
+-- `check`
+check_is : (rest : List Bytes) (command : Command) → check_of rest ≡ Some command → IsCommand (codes "check" ∷ rest) command
+check_is [] command is = subst (IsCommand (codes "check" ∷ [])) (the_same Check command is) refl
+check_is (word ∷ words) command is = absurd (cc)
+
 -- `demo`
 demo_with : (b : Bool) (o l : Option ℕ) (g : Given) (command : Command) → as_demo b o l g ≡ Some command
     → (n : ℕ) × (o ≡ Some n) × (l ≡ None) × (b ≡ false) × (command ≡ Demo n (settings_of g))
@@ -189,18 +194,33 @@ same_rest a b xs ys is = (cc, cc)
 no_run_demo : codes "run" ≢ codes "demo"
 no_run_demo is = absurd (cc)
 
+no_run_check : codes "run" ≢ codes "check"
+no_run_check is = absurd (cc)
+
+no_check_demo : codes "check" ≢ codes "demo"
+no_check_demo is = absurd (cc)
+
 -- a command with `run` in front is what reading the rest gives
 run_each : (rest : List Bytes) (command : Command) → IsCommand (codes "run" ∷ rest) command → run_of rest ≡ Some command
 run_each rest (Run settings) (words, g, is, gives, none, are) =
     let same = same_rest (codes "run") (codes "run") rest words is in
     ap run_of same.1 ∙ ap (option_and_then (λ g. as_run g.number g)) (read_found words g gives) ∙ ap (λ o. as_run o g) none
     ∙ ap (λ s. Some (Run s)) (sym are)
+run_each rest Check is = absurd (no_run_check (same_rest (codes "run") (codes "check") rest [] is).0)
 run_each rest (Demo n settings) (words, g, is, gives, number, none, plain, are) = absurd
     (no_run_demo (same_rest (codes "run") (codes "demo") rest words is).0)
+
+check_each : (rest : List Bytes) (command : Command) → IsCommand (codes "check" ∷ rest) command → check_of rest ≡ Some command
+check_each rest (Run settings) (words, g, is, gives, none, are) = absurd
+    (no_run_check (sym (same_rest (codes "check") (codes "run") rest words is).0))
+check_each rest Check is = ap check_of (same_rest (codes "check") (codes "check") rest [] is).1
+check_each rest (Demo n settings) (words, g, is, gives, number, none, plain, are) = absurd
+    (no_check_demo (same_rest (codes "check") (codes "demo") rest words is).0)
 
 demo_each : (rest : List Bytes) (command : Command) → IsCommand (codes "demo" ∷ rest) command → demo_of rest ≡ Some command
 demo_each rest (Run settings) (words, g, is, gives, none, are) = absurd
     (no_run_demo (sym (same_rest (codes "demo") (codes "run") rest words is).0))
+demo_each rest Check is = absurd (no_check_demo (sym (same_rest (codes "demo") (codes "check") rest [] is).0))
 demo_each rest (Demo n settings) (words, g, is, gives, number, none, plain, are) =
     let same = same_rest (codes "demo") (codes "demo") rest words is in
     ap demo_of same.1 ∙ ap (option_and_then (λ g. as_demo g.stats g.number g.limit g)) (read_found words g gives)
@@ -230,6 +250,15 @@ runs words rest r whole is = if_some r words (λ command some. subst (λ ws. IsC
 pub runs_each : (words rest : List Bytes) (r : Option Command) → words ≡ codes "run" ∷ rest → r ≡ run_of rest → (command : Command)
     → IsCommand words command → r ≡ Some command
 runs_each words rest r whole is command this = is ∙ run_each rest command (subst (λ ws. IsCommand ws command) whole this)
+
+-- behind `check`
+pub checks : (words rest : List Bytes) (r : Option Command) → words ≡ codes "check" ∷ rest → r ≡ check_of rest → IfSome r (IsCommand words)
+checks words rest r whole is = if_some r words
+    (λ command some. subst (λ ws. IsCommand ws command) (sym whole) (check_is rest command (sym is ∙ some)))
+
+pub checks_each : (words rest : List Bytes) (r : Option Command) → words ≡ codes "check" ∷ rest → r ≡ check_of rest → (command : Command)
+    → IsCommand words command → r ≡ Some command
+checks_each words rest r whole is command this = is ∙ check_each rest command (subst (λ ws. IsCommand ws command) whole this)
 
 -- and behind `demo`
 pub demos : (words rest : List Bytes) (r : Option Command) → words ≡ codes "demo" ∷ rest → r ≡ demo_of rest → IfSome r (IsCommand words)

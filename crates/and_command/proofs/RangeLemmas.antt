@@ -10,7 +10,7 @@ use Rattle.and_command.specs.declared.options.Name.{Name}
 use Rattle.and_command.specs.declared.options.Name.TheVariants.{Limit, Teams, Workers}
 use Rattle.and_command.specs.declared.given.Given.{Given}
 use Rattle.and_command.specs.declared.reading.Command.{Command}
-use Rattle.and_command.specs.declared.reading.Command.TheVariants.{Run, Demo}
+use Rattle.and_command.specs.declared.reading.Command.TheVariants.{Run, Check, Demo}
 use Rattle.and_command.proofs.NumberLemmas.{is_in_range}
 use Rattle.and_command.proofs.CommandLemmas.{after, the_same}
 
@@ -85,6 +85,7 @@ settings_ranges g have = (
 command_ranges : (words : List Bytes) (command : Command) → IsCommand words command → IsInRange command
 command_ranges words (Run settings) (rest, g, is, gives, none, are) =
     subst AreInRange (sym are) (settings_ranges g (given_ranges nothing g rest gives (tt, tt, tt, tt)))
+command_ranges words Check is = tt
 command_ranges words (Demo n settings) (rest, g, is, gives, number, none, plain, are) =
     let have = given_ranges nothing g rest gives (tt, tt, tt, tt) in
     let within : HasRange 0 64 (Some n) = subst (HasRange 0 64) number have.3 in

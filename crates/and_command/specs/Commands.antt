@@ -7,7 +7,7 @@ use Rattle.and_command.specs.declared.options.Name.{Name}
 use Rattle.and_command.specs.declared.given.Given.{Given}
 use Rattle.and_command.specs.declared.given.Settings.{Settings}
 use Rattle.and_command.specs.declared.reading.Command.{Command}
-use Rattle.and_command.specs.declared.reading.Command.TheVariants.{Run, Demo}
+use Rattle.and_command.specs.declared.reading.Command.TheVariants.{Run, Check, Demo}
 
 -- From what was given, these words lead to what is given with them, from left to right: an option's
 -- name and its value in two words, the two in one word with `=` between them, a demo's number, or the
@@ -23,10 +23,11 @@ pub data Gives : Given → List Bytes → Given → Type 0 where
   flagged : (g h end : Given) (word : Bytes) (words : List Bytes)
       → word ≡ codes "--stats" → with_stats g ≡ Some h → Gives h words end → Gives g (word ∷ words) end
 
--- `run` is followed by options and the flag, `demo` by its number and options other than the limit
+-- `run` is followed by options and the flag, `check` by nothing, and `demo` by its number and options other than the limit
 abbrev pub IsCommand : List Bytes → Command → Type 0
 IsCommand words (Run settings) = (rest : List Bytes) × (g : Given)
     × (words ≡ codes "run" ∷ rest) × Gives nothing rest g × (g.number ≡ None) × (settings ≡ settings_of g)
+IsCommand words Check = words ≡ codes "check" ∷ []
 IsCommand words (Demo n settings) = (rest : List Bytes) × (g : Given)
     × (words ≡ codes "demo" ∷ rest) × Gives nothing rest g × (g.number ≡ Some n) × (g.limit ≡ None) × (g.stats ≡ false)
     × (settings ≡ settings_of g)
@@ -41,4 +42,5 @@ AreInRange s = IsWithin 1 4194304 s.limit × IsWithin 1 16 s.teams × IsWithin 1
 -- what a command names is in its range
 abbrev pub IsInRange : Command → Type 0
 IsInRange (Run settings) = AreInRange settings
+IsInRange Check = Unit {0}
 IsInRange (Demo n settings) = (n ≤ 64) × AreInRange settings

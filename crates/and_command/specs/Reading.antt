@@ -10,7 +10,7 @@ use Rattle.and_command.specs.declared.options.Name.{Name}
 use Rattle.and_command.specs.declared.given.Given.{Given}
 use Rattle.and_command.specs.declared.reading.Reading.{Reading}
 use Rattle.and_command.specs.declared.reading.Command.{Command}
-use Rattle.and_command.specs.declared.reading.Command.TheVariants.{Run, Demo}
+use Rattle.and_command.specs.declared.reading.Command.TheVariants.{Run, Check, Demo}
 
 -- no option is without its value
 abbrev pub closed : Given → Reading
@@ -76,6 +76,11 @@ as_run (Some n) g = None
 -- the command with the words behind `run`
 abbrev pub run_of : List Bytes → Option Command
 run_of words = option_and_then (λ g. as_run g.number g) (read words)
+
+-- the command with the words behind `check`
+abbrev pub check_of : List Bytes → Option Command
+check_of [] = Some Check
+check_of (word ∷ words) = None
 
 abbrev pub as_demo : Bool → Option ℕ → Option ℕ → Given → Option Command
 as_demo true n limit g = None

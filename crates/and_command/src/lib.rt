@@ -14,4 +14,4 @@ pub use reading::{Command, command_of};
 
 /// What is written where the words are no command.
 pub const USAGE: &[u8] =
-    b"usage: andorra run [--limit N] [--teams T] [--workers W] [--stats] | andorra demo N [--teams T] [--workers W]\n";
+    b"usage: andorra run [--limit N] [--teams T] [--workers W] [--stats] | andorra check | andorra demo N [--teams T] [--workers W]\n";

@@ -15,6 +15,8 @@ pub enum Command {
         /// With these settings.
         settings: Settings,
     },
+    /// Read a text and tell whether some arithmetic of it may wait forever.
+    Check,
     /// Run the generated text of a number.
     Demo {
         /// The number.
@@ -137,6 +139,17 @@ fn demo_command_of(words: &[String]) -> Option<Command>
     }
 }
 
+/// The command with the words behind `check`.
+fn check_of(words: &[String]) -> Option<Command>
+    ensures { result ≡ specs.check_of (map string_bytes words.now) }
+{
+    if words.is_empty() {
+        Some(Command::Check)
+    } else {
+        None
+    }
+}
+
 /// The command that these are the words of. Takes no memory.
 pub fn command_of(words: &[String]) -> Option<Command>
     ensures is { IfSome result (IsCommand (map string_bytes words.now)) }
@@ -147,6 +160,8 @@ pub fn command_of(words: &[String]) -> Option<Command>
         [first, rest @ ..] => {
             if first.as_str() == "run" {
                 run_of(rest)
+            } else if first.as_str() == "check" {
+                check_of(rest)
             } else if first.as_str() == "demo" {
                 demo_command_of(rest)
             } else {

@@ -70,6 +70,12 @@ fn runs(rt: HostRuntime) -> Result<(), Fail> {
 }
 
 #[test]
+fn checks(rt: HostRuntime) -> Result<(), Fail> {
+    assert_eq!(rt; typed(rt.alloc(), "check")?, Some(Command::Check));
+    Ok(())
+}
+
+#[test]
 fn demos(rt: HostRuntime) -> Result<(), Fail> {
     let alloc = rt.alloc();
     assert_eq!(rt; typed(alloc, "demo 0")?, demo(0, 2, 2));
@@ -89,7 +95,11 @@ fn usage(rt: HostRuntime) -> Result<(), Fail> {
         "runs",
         "Run",
         "--help",
-        "check",
+        "checks",
+        "check check",
+        "check 1",
+        "check --stats",
+        "check --teams 2",
         "5",
         "--limit 6",
         "run --",

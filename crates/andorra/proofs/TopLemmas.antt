@@ -1,5 +1,5 @@
 -- From what the search found to what the top call says of it.
-use Rattle.std.proofs.Common.{ℕ, zero, suc, take, ◌≡◌, ◌≢◌, ◌<◌, ◌-◌, ◌^◌, min, Bool, true, false, if◌then◌else◌, List, [], ◌∷◌, ◌++◌}
+use Rattle.std.proofs.Common.{ℕ, zero, suc, take, ◌≡◌, ◌≢◌, ◌<◌, ◌≤◌, ◌-◌, ◌^◌, min, Bool, true, false, if◌then◌else◌, List, [], ◌∷◌, ◌++◌}
 use Rattle.std.proofs.Common.{length, length-append, map, ◌||◌, refl, sym, ap, ◌∙◌, subst, arith, Option, Some, None, is_none, is_some}
 use Rattle.std.proofs.Common.{IfSome, unwrap_or}
 use Rattle.std.specs.Fmt.{decimal}
@@ -22,17 +22,20 @@ use Rattle.and_language.specs.Refusals.{Reads, IsRefused, Refusal, at, too_big}
 use Rattle.and_syntax.specs.Tables.{source}
 use Rattle.and_command.specs.declared.given.Settings.{Settings}
 use Rattle.and_command.specs.declared.reading.Command.{Command}
-use Rattle.and_command.specs.declared.reading.Command.TheVariants.{Run, Demo}
+use Rattle.and_command.specs.declared.reading.Command.TheVariants as commands
 use Rattle.andorra.specs.declared.top.Status.{Status}
 use Rattle.andorra.specs.declared.top.Status.TheVariants.{Answers, NoAnswer, Usage, Refused, ReadFault, WriteFault, Limit, Memory, Floundered}
 use Rattle.and_reader.specs.RefusalLine.{refusal_line}
 use Rattle.and_reader.proofs.Judgement.{read_not_refused}
 use Rattle.andorra.specs.Shown.{shown, completed, finish}
+use Rattle.andorra.specs.declared.question.Question.{Question}
+use Rattle.andorra.specs.declared.question.Question.TheVariants.{Run, Check}
 use Rattle.andorra.specs.declared.showing.Show.{Show}
 use Rattle.andorra.specs.declared.showing.Show.TheVariants.{Whole, Summary}
-use Rattle.andorra.specs.Top.{FindsAll, IsDemo, IsRefusedBy, WasAnswered, Answered, GainsPrefix, Told}
+use Rattle.andorra.specs.Top.{FindsAll, FindsSome, IsDemo, IsRefusedBy, WasRun, WasChecked, WasAnswered, IsBounded, Answered}
+use Rattle.andorra.specs.Top.{GainsAnswer, FailsWriting, GainsPrefix, Told}
 use Rattle.andorra.specs.Top.{AreAnswers, bytes_read, exhausted, is_floundered, has_floundered, status_for}
-use Rattle.and_model.specs.declared.limits.TheConstants.{DEFAULT_LIMIT, MAX_BYTES}
+use Rattle.and_model.specs.declared.limits.TheConstants.{DEFAULT_LIMIT, MAX_BYTES, MAX_LIMIT}
 
 -- A count is written as the number that it was kept of.
 count_is : (n m : ℕ) → n ≡ kept_count m → counted n ≡ counted m
@@ -83,13 +86,13 @@ status_is None (e ∷ es) ls b none some is said =
 
 -- an exhausted search is answered by its listing
 exhausted_is : (show : Show) (limit : ℕ) (bytes out : Bytes) (ls : List Entry) (status : Status) → status ≡ exhausted ls
-    → ((lines : List Entry → Type 0) → lines ls → FindsAll show limit lines bytes out) → WasAnswered show limit status bytes out
+    → ((lines : List Entry → Type 0) → lines ls → FindsAll show limit lines bytes out) → WasRun show limit status bytes out
 exhausted_is show limit bytes out [] status said finds =
-    subst (λ s. WasAnswered show limit s bytes out) (sym said) (finds (λ ls. ls ≡ []) refl)
+    subst (λ s. WasRun show limit s bytes out) (sym said) (finds (λ ls. ls ≡ []) refl)
 exhausted_is show limit bytes out (e ∷ es) status said finds = by (has_floundered (e ∷ es)) refl
   where
     Says : Status → Type 0
-    Says s = WasAnswered show limit s bytes out
+    Says s = WasRun show limit s bytes out
 
     by : (b : Bool) → has_floundered (e ∷ es) ≡ b → Says status
     by true is = subst Says (sym (said ∙ ap (λ b. if b then Floundered else Answers) is)) (finds (λ ls. has_floundered ls ≡ true) is)
@@ -97,13 +100,13 @@ exhausted_is show limit bytes out (e ∷ es) status said finds = by (has_flounde
 
 -- what was found is answered by what is written of it, and the status goes with that
 pub replied : (show : Show) (limit : ℕ) (P : Program) (f : Found) (status : Status) (bytes out : Bytes) → Reads bytes P → IsFound P limit f
-    → out ≡ shown show (listed f) (finish show f) → status ≡ status_for f.cut (listed f) → WasAnswered show limit status bytes out
+    → out ≡ shown show (listed f) (finish show f) → status ≡ status_for f.cut (listed f) → WasRun show limit status bytes out
 replied show limit P f status bytes out reads found is said = by f.cut refl
   where
     ls : List Entry
     ls = listed f
 
-    by : (o : Option goal.Cut.Cut) → f.cut ≡ o → WasAnswered show limit status bytes out
+    by : (o : Option goal.Cut.Cut) → f.cut ≡ o → WasRun show limit status bytes out
     by None at =
         let end : IsComplete P limit f = subst (IsEnd P limit f) at found.end in
         let ends : finish show f ≡ completed show f.forks f.failed =
@@ -125,7 +128,7 @@ replied show limit P f status bytes out reads found is said = by f.cut refl
         let end : IsEnd P limit f (Some cut) = subst (IsEnd P limit f) at found.end in
         let ends : finish show f ≡ limit_met =
         finish_is show f ∙ ap (λ o. finish_at show o f.forks f.failed) at ∙ finish_cut show cut f.forks f.failed in
-        subst (λ s. WasAnswered show limit s bytes out) (sym (said ∙ ap (λ o. status_for o ls) at)) (record {
+        subst (λ s. WasRun show limit s bytes out) (sym (said ∙ ap (λ o. status_for o ls) at)) (record {
           program = P;
           listing = ls;
           cut = end.0;
@@ -135,31 +138,48 @@ replied show limit P f status bytes out reads found is said = by f.cut refl
           written = is ∙ ap (shown show ls) ends;
         })
 
-module _ (show : Show) (limit : ℕ) (old new : Option Bytes) (bytes out : Bytes) where
+-- under these statuses no text is answered with anything
+no_usage : (question : Question) (bytes out : Bytes) → WasAnswered question Usage bytes out → ⊥
+no_usage (Run show limit) bytes out w = w
+no_usage Check bytes out w = w
+
+no_read_fault : (question : Question) (bytes out : Bytes) → WasAnswered question ReadFault bytes out → ⊥
+no_read_fault (Run show limit) bytes out w = w
+no_read_fault Check bytes out w = w
+
+no_write_fault : (question : Question) (bytes out : Bytes) → WasAnswered question WriteFault bytes out → ⊥
+no_write_fault (Run show limit) bytes out w = w
+no_write_fault Check bytes out w = w
+
+no_memory : (question : Question) (bytes out : Bytes) → WasAnswered question Memory bytes out → ⊥
+no_memory (Run show limit) bytes out w = w
+no_memory Check bytes out w = w
+
+module _ (question : Question) (old new : Option Bytes) (bytes out : Bytes) where
   -- where an answer was written, so it is
-  pub was_written : (status : Status) → WasAnswered show limit status bytes out → Gains old new out
-      → Answered show limit old new status bytes × (status ≢ ReadFault)
+  pub was_written : (status : Status) → WasAnswered question status bytes out → Gains old new out
+      → Answered question old new status bytes × (status ≢ ReadFault)
   was_written Answers w g = ((out, w, g), λ e. cc)
   was_written NoAnswer w g = ((out, w, g), λ e. cc)
-  was_written Usage w g = elim w [ ]
+  was_written Usage w g = absurd (no_usage question bytes out w)
   was_written Refused w g = ((out, w, g), λ e. cc)
-  was_written ReadFault w g = elim w [ ]
-  was_written WriteFault w g = elim w [ ]
+  was_written ReadFault w g = absurd (no_read_fault question bytes out w)
+  was_written WriteFault w g = absurd (no_write_fault question bytes out w)
   was_written Limit w g = ((out, w, g), λ e. cc)
-  was_written Memory w g = elim w [ ]
+  was_written Memory w g = absurd (no_memory question bytes out w)
   was_written Floundered w g = ((out, w, g), λ e. cc)
 
   -- the reply was written, or a prefix of it
   abbrev Written : Status → Type 0
-  Written result = Answered show limit old new result bytes × (result ≢ ReadFault)
+  Written result = Answered question old new result bytes × (result ≢ ReadFault)
 
-  all_written : (status result : Status) → WasAnswered show limit status bytes out
+  all_written : (status result : Status) → WasAnswered question status bytes out
       → (result ≢ WriteFault → (result ≡ status) × Gains old new out)
       → result ≢ WriteFault → Written result
   all_written status result w ok went =
-      let k = ok went in was_written result (subst (λ s. WasAnswered show limit s bytes out) (sym k.0) w) k.1
+      let k = ok went in was_written result (subst (λ s. WasAnswered question s bytes out) (sym k.0) w) k.1
 
-  pub responded : (status result : Status) → WasAnswered show limit status bytes out
+  pub responded : (status result : Status) → WasAnswered question status bytes out
       → (result ≢ WriteFault → (result ≡ status) × Gains old new out)
       → (result ≡ WriteFault → GainsPrefix old new out) → Written result
   responded status WriteFault w ok bad = ((status, out, w, bad refl), λ e. cc)
@@ -172,6 +192,10 @@ module _ (show : Show) (limit : ℕ) (old new : Option Bytes) (bytes out : Bytes
   responded status Memory w ok bad = all_written status Memory w ok (λ e. cc)
   responded status Floundered w ok bad = all_written status Floundered w ok (λ e. cc)
 
+-- a question by its settings has their limit
+pub bounded : (question : Question) (show : Show) (limit : ℕ) → question ≡ Run show limit → limit ≤ MAX_LIMIT → IsBounded question
+bounded question show limit is small = subst IsBounded (sym is) small
+
 -- a demo has the default limit
 pub default_limit : (words : List Bytes) (n : ℕ) (settings : Settings) → IsDemo words n settings → settings.limit ≡ DEFAULT_LIMIT
 default_limit words n settings (rest, g, said, gives, number, limit, plain, is) =
@@ -179,19 +203,19 @@ default_limit words n settings (rest, g, said, gives, number, limit, plain, is) 
 
 -- words are those of one command
 module _ (o : Option Command) (r : Command) where
-  pub same_run : (a b : Settings) → o ≡ Some r → r ≡ Run a → o ≡ Some (Run b) → a ≡ b
+  pub same_run : (a b : Settings) → o ≡ Some r → r ≡ commands.Run a → o ≡ Some (commands.Run b) → a ≡ b
   same_run a b e f h = cc
 
-  pub same_settings : (n m : ℕ) (a b : Settings) → o ≡ Some r → r ≡ Demo n a → o ≡ Some (Demo m b) → a ≡ b
+  pub same_settings : (n m : ℕ) (a b : Settings) → o ≡ Some r → r ≡ commands.Demo n a → o ≡ Some (commands.Demo m b) → a ≡ b
   same_settings n m a b e f h = cc
 
-  pub same_number : (n m : ℕ) (a b : Settings) → o ≡ Some r → r ≡ Demo n a → o ≡ Some (Demo m b) → n ≡ m
+  pub same_number : (n m : ℕ) (a b : Settings) → o ≡ Some r → r ≡ commands.Demo n a → o ≡ Some (commands.Demo m b) → n ≡ m
   same_number n m a b e f h = cc
 
-  pub run_is_no_demo : (m : ℕ) (a b : Settings) → o ≡ Some r → r ≡ Run a → o ≡ Some (Demo m b) → ⊥
+  pub run_is_no_demo : (m : ℕ) (a b : Settings) → o ≡ Some r → r ≡ commands.Run a → o ≡ Some (commands.Demo m b) → ⊥
   run_is_no_demo m a b e f h = cc
 
-  pub demo_is_no_run : (n : ℕ) (a b : Settings) → o ≡ Some r → r ≡ Demo n a → o ≡ Some (Run b) → ⊥
+  pub demo_is_no_run : (n : ℕ) (a b : Settings) → o ≡ Some r → r ≡ commands.Demo n a → o ≡ Some (commands.Run b) → ⊥
   demo_is_no_run n a b e f h = cc
 
   pub no_command : o ≡ None → o ≡ Some r → ⊥
@@ -199,9 +223,9 @@ module _ (o : Option Command) (r : Command) where
 
 -- A text that reads as a program is not refused.
 pub never_refused : (show : Show) (limit : ℕ) (old new : Option Bytes) (P : Program) (bytes : Bytes) (status : Status) → Reads bytes P
-    → Answered show limit old new status bytes → status ≢ Refused
+    → Answered (Run show limit) old new status bytes → status ≢ Refused
 never_refused show limit old new P bytes status reads answered e =
-    let refusal : Answered show limit old new Refused bytes = subst (λ s. Answered show limit old new s bytes) e answered in
+    let refusal : Answered (Run show limit) old new Refused bytes = subst (λ s. Answered (Run show limit) old new s bytes) e answered in
     read_not_refused bytes P refusal.1.0 reads refusal.1.1
 
 -- The line of a refusal that is not for want of memory.
@@ -209,8 +233,13 @@ pub refused_by : (o : Option Refusal) (bytes out : Bytes) → IfSome o (IsRefuse
 refused_by None bytes out a b e = absurd cc
 refused_by (Some r) bytes out a b e = (r, a, b)
 
+-- the line of a refusal is written whatever a text is asked for
+pub refused_for : (question : Question) (bytes out : Bytes) → IsRefusedBy bytes out → WasAnswered question Refused bytes out
+refused_for (Run show limit) bytes out is = is
+refused_for Check bytes out is = is
+
 -- Of a text that is larger than the largest, the first bytes beyond that tell as much as the whole.
-module _ (show : Show) (limit : ℕ) (bytes text rest : Bytes) (joined : bytes ≡ text ++ rest) (large : MAX_BYTES < length text) where
+module _ (bytes text rest : Bytes) (joined : bytes ≡ text ++ rest) (large : MAX_BYTES < length text) where
   taken : (n : ℕ) (xs ys : Bytes) → n < length xs → take n (xs ++ ys) ≡ take n xs
   taken zero xs ys h = refl
   taken (suc n) [] ys h = absurd (omega arith)
@@ -234,34 +263,51 @@ module _ (show : Show) (limit : ℕ) (bytes text rest : Bytes) (joined : bytes �
   no_program : (P : Program) → Reads text P → ⊥
   no_program P r = let s = r.size in omega (arith, large, s)
 
-  same_reply : (status : Status) (out : Bytes) → WasAnswered show limit status text out → WasAnswered show limit status bytes out
-  same_reply Answers out w = absurd (no_program w.program w.reads)
-  same_reply NoAnswer out w = absurd (no_program w.program w.reads)
-  same_reply Usage out w = w
-  same_reply Refused out w = same_line out w
-  same_reply ReadFault out w = w
-  same_reply WriteFault out w = w
-  same_reply Limit out w = absurd (no_program w.program w.reads)
-  same_reply Memory out w = w
-  same_reply Floundered out w = absurd (no_program w.program w.reads)
+  run_same : (show : Show) (limit : ℕ) (status : Status) (out : Bytes) → WasRun show limit status text out
+      → WasRun show limit status bytes out
+  run_same show limit Answers out w = absurd (no_program w.program w.reads)
+  run_same show limit NoAnswer out w = absurd (no_program w.program w.reads)
+  run_same show limit Usage out w = w
+  run_same show limit Refused out w = same_line out w
+  run_same show limit ReadFault out w = w
+  run_same show limit WriteFault out w = w
+  run_same show limit Limit out w = absurd (no_program w.program w.reads)
+  run_same show limit Memory out w = w
+  run_same show limit Floundered out w = absurd (no_program w.program w.reads)
 
-  pub same_answer : (old new : Option Bytes) (status : Status) → Answered show limit old new status text
-      → Answered show limit old new status bytes
-  same_answer old new Answers (out, w, g) = (out, same_reply Answers out w, g)
-  same_answer old new NoAnswer (out, w, g) = (out, same_reply NoAnswer out w, g)
-  same_answer old new Usage a = a
-  same_answer old new Refused (out, w, g) = (out, same_reply Refused out w, g)
-  same_answer old new ReadFault a = a
-  same_answer old new WriteFault (status, due, w, g) = (status, due, same_reply status due w, g)
-  same_answer old new Limit (out, w, g) = (out, same_reply Limit out w, g)
-  same_answer old new Memory a = a
-  same_answer old new Floundered (out, w, g) = (out, same_reply Floundered out w, g)
+  check_same : (status : Status) (out : Bytes) → WasChecked status text out → WasChecked status bytes out
+  check_same Answers out w = absurd (no_program w.program w.reads)
+  check_same NoAnswer out w = absurd (no_program w.program w.reads)
+  check_same Usage out w = w
+  check_same Refused out w = same_line out w
+  check_same ReadFault out w = w
+  check_same WriteFault out w = w
+  check_same Limit out w = w
+  check_same Memory out w = w
+  check_same Floundered out w = w
 
-module _ (show : Show) (limit : ℕ) (old new : Option Bytes) where
+  same_reply : (question : Question) (status : Status) (out : Bytes) → WasAnswered question status text out
+      → WasAnswered question status bytes out
+  same_reply (Run show limit) status out w = run_same show limit status out w
+  same_reply Check status out w = check_same status out w
+
+  pub same_answer : (question : Question) (old new : Option Bytes) (status : Status) → Answered question old new status text
+      → Answered question old new status bytes
+  same_answer question old new Answers (out, w, g) = (out, same_reply question Answers out w, g)
+  same_answer question old new NoAnswer (out, w, g) = (out, same_reply question NoAnswer out w, g)
+  same_answer question old new Usage a = a
+  same_answer question old new Refused (out, w, g) = (out, same_reply question Refused out w, g)
+  same_answer question old new ReadFault a = a
+  same_answer question old new WriteFault (status, due, w, g) = (status, due, same_reply question status due w, g)
+  same_answer question old new Limit (out, w, g) = (out, same_reply question Limit out w, g)
+  same_answer question old new Memory a = a
+  same_answer question old new Floundered (out, w, g) = (out, same_reply question Floundered out w, g)
+
+module _ (question : Question) (old new : Option Bytes) where
   -- what was read is what was left, or more than the largest text
   pub told : (left rest : Option Bytes) (read : ReadAll) (status : Status) → ReadsUpTo MAX_BYTES left rest read
-      → Answered show limit old new status (bytes_read read) → Told left (Answered show limit old new status)
+      → Answered question old new status (bytes_read read) → Told left (Answered question old new status)
   told None rest read status r a = tt
   told (Some bytes) rest (reads.Whole text) status r a =
-      let same : bytes ≡ text = r.1 in subst (λ b. Answered show limit old new status b) (sym same) a
-  told (Some bytes) rest (reads.Over text) status r a = same_answer show limit bytes text r.0.0 r.0.2 (omega (arith, r.1)) old new status a
+      let same : bytes ≡ text = r.1 in subst (λ b. Answered question old new status b) (sym same) a
+  told (Some bytes) rest (reads.Over text) status r a = same_answer bytes text r.0.0 r.0.2 (omega (arith, r.1)) question old new status a

@@ -12,6 +12,9 @@ use Rattle.and_model.specs.Programs.{Program}
 use Rattle.and_model.specs.Reached.{Numbers}
 use Rattle.and_model.specs.Trees.{blank, query_agenda}
 use Rattle.and_model.specs.declared.goal
+use Rattle.and_model.specs.declared.limits.TheConstants.{MAX_LIMIT}
+use Rattle.and_modes.specs.declared.verdicts.Verdict.{Verdict}
+use Rattle.and_modes.specs.declared.verdicts.Verdict.TheVariants.{Safe, Waits}
 use Rattle.and_language.specs.Refusals.{Reads, Refusal, IsRefused}
 use Rattle.and_reader.specs.RefusalLine.{refusal_line}
 use Rattle.and_io.specs.declared.reading.ReadAll.{ReadAll}
@@ -19,19 +22,26 @@ use Rattle.and_io.specs.declared.reading.ReadAll.TheVariants as reads
 use Rattle.and_command.specs.Commands.{IsCommand}
 use Rattle.and_command.specs.declared.given.Settings.{Settings}
 use Rattle.and_command.specs.declared.reading.Command.{Command}
-use Rattle.and_command.specs.declared.reading.Command.TheVariants.{Run, Demo}
+use Rattle.and_command.specs.declared.reading.Command.TheVariants as commands
+use Rattle.andorra.specs.Checked.{IsToldSafe, IsToldWaiting}
 use Rattle.andorra.specs.Shown.{shown, completed}
+use Rattle.andorra.specs.declared.question.Question.{Question}
+use Rattle.andorra.specs.declared.question.Question.TheVariants.{Run, Check}
 use Rattle.andorra.specs.declared.showing.Show.{Show}
 use Rattle.andorra.specs.declared.top.Status.{Status}
 use Rattle.andorra.specs.declared.top.Status.TheVariants.{Answers, NoAnswer, Usage, Refused, ReadFault, WriteFault, Limit, Memory, Floundered}
 
 -- `run`, with these settings
 abbrev pub IsRun : List Bytes → Settings → Type 0
-IsRun words settings = IsCommand words (Run settings)
+IsRun words settings = IsCommand words (commands.Run settings)
+
+-- `check`
+abbrev pub IsCheck : List Bytes → Type 0
+IsCheck words = IsCommand words commands.Check
 
 -- `demo`, with this number and these settings
 abbrev pub IsDemo : List Bytes → ℕ → Settings → Type 0
-IsDemo words n settings = IsCommand words (Demo n settings)
+IsDemo words n settings = IsCommand words (commands.Demo n settings)
 
 -- no command has these words
 abbrev pub IsUsage : List Bytes → Type 0
@@ -40,7 +50,7 @@ IsUsage words = (c : Command) → IsCommand words c → ⊥
 -- the line that says how to use the program
 abbrev pub usage : Bytes
 usage =
-    codes "usage: andorra run [--limit N] [--teams T] [--workers W] [--stats] | andorra demo N [--teams T] [--workers W]" ++ 10 ∷ []
+    codes "usage: andorra run [--limit N] [--teams T] [--workers W] [--stats] | andorra check | andorra demo N [--teams T] [--workers W]" ++ 10 ∷ []
 
 -- what holds of the bytes that were left, where they were told
 abbrev pub Told : Option Bytes → (Bytes → Type 0) → Type 0
@@ -87,44 +97,66 @@ pub record FindsSome (show : Show) (limit : ℕ) (bytes out : Bytes) : Type 0 wh
 abbrev pub IsRefusedBy : Bytes → Bytes → Type 0
 IsRefusedBy bytes line = (r : Refusal) × IsRefused bytes r × (line ≡ refusal_line r)
 
--- What a text is answered with under each status.
-abbrev pub WasAnswered : Show → ℕ → Status → Bytes → Bytes → Type 0
-WasAnswered show limit Answers bytes out = FindsAll show limit AreAnswers bytes out
-WasAnswered show limit NoAnswer bytes out = FindsAll show limit (λ ls. ls ≡ []) bytes out
-WasAnswered show limit Floundered bytes out = FindsAll show limit (λ ls. has_floundered ls ≡ true) bytes out
-WasAnswered show limit Limit bytes out = FindsSome show limit bytes out
-WasAnswered show limit Refused bytes out = IsRefusedBy bytes out
-WasAnswered show limit Usage bytes out = ⊥
-WasAnswered show limit ReadFault bytes out = ⊥
-WasAnswered show limit WriteFault bytes out = ⊥
-WasAnswered show limit Memory bytes out = ⊥
+-- What a text is answered with under each status, where it is run.
+abbrev pub WasRun : Show → ℕ → Status → Bytes → Bytes → Type 0
+WasRun show limit Answers bytes out = FindsAll show limit AreAnswers bytes out
+WasRun show limit NoAnswer bytes out = FindsAll show limit (λ ls. ls ≡ []) bytes out
+WasRun show limit Floundered bytes out = FindsAll show limit (λ ls. has_floundered ls ≡ true) bytes out
+WasRun show limit Limit bytes out = FindsSome show limit bytes out
+WasRun show limit Refused bytes out = IsRefusedBy bytes out
+WasRun show limit Usage bytes out = ⊥
+WasRun show limit ReadFault bytes out = ⊥
+WasRun show limit WriteFault bytes out = ⊥
+WasRun show limit Memory bytes out = ⊥
+
+-- What it is answered with under each status, where it is checked.
+abbrev pub WasChecked : Status → Bytes → Bytes → Type 0
+WasChecked Answers bytes out = IsToldSafe bytes out
+WasChecked NoAnswer bytes out = IsToldWaiting bytes out
+WasChecked Floundered bytes out = ⊥
+WasChecked Limit bytes out = ⊥
+WasChecked Refused bytes out = IsRefusedBy bytes out
+WasChecked Usage bytes out = ⊥
+WasChecked ReadFault bytes out = ⊥
+WasChecked WriteFault bytes out = ⊥
+WasChecked Memory bytes out = ⊥
+
+-- What it is answered with under each status, by what it is asked for.
+abbrev pub WasAnswered : Question → Status → Bytes → Bytes → Type 0
+WasAnswered (Run show limit) status bytes out = WasRun show limit status bytes out
+WasAnswered Check status bytes out = WasChecked status bytes out
+
+-- the limit is at most the largest
+abbrev pub IsBounded : Question → Type 0
+IsBounded (Run show limit) = limit ≤ MAX_LIMIT
+IsBounded Check = Unit {0}
 
 -- a prefix of what was due was gained
 abbrev pub GainsPrefix : Option Bytes → Option Bytes → Bytes → Type 0
 GainsPrefix old new due = (n : ℕ) × (n ≤ length due) × Gains old new (take n due)
 
 -- the text is answered with something, which was gained
-abbrev pub GainsAnswer : Show → ℕ → Option Bytes → Option Bytes → Status → Bytes → Type 0
-GainsAnswer show limit old new status bytes = (out : Bytes) × WasAnswered show limit status bytes out × Gains old new out
+abbrev pub GainsAnswer : Question → Option Bytes → Option Bytes → Status → Bytes → Type 0
+GainsAnswer question old new status bytes = (out : Bytes) × WasAnswered question status bytes out × Gains old new out
 
 -- under some status the text is answered with something, of which a prefix was gained
-abbrev pub FailsWriting : Show → ℕ → Option Bytes → Option Bytes → Bytes → Type 0
-FailsWriting show limit old new bytes =
-    (status : Status) × (due : Bytes) × WasAnswered show limit status bytes due × GainsPrefix old new due
+abbrev pub FailsWriting : Question → Option Bytes → Option Bytes → Bytes → Type 0
+FailsWriting question old new bytes =
+    (status : Status) × (due : Bytes) × WasAnswered question status bytes due × GainsPrefix old new due
 
 -- What each status says of the text that was read and of what the sink gained.
-abbrev pub Answered : Show → ℕ → Option Bytes → Option Bytes → Status → Bytes → Type 0
-Answered show limit old new Answers bytes = GainsAnswer show limit old new Answers bytes
-Answered show limit old new NoAnswer bytes = GainsAnswer show limit old new NoAnswer bytes
-Answered show limit old new Floundered bytes = GainsAnswer show limit old new Floundered bytes
-Answered show limit old new Limit bytes = GainsAnswer show limit old new Limit bytes
-Answered show limit old new Refused bytes = GainsAnswer show limit old new Refused bytes
-Answered show limit old new Usage bytes = ⊥
-Answered show limit old new ReadFault bytes = new ≡ old
-Answered show limit old new WriteFault bytes = FailsWriting show limit old new bytes
-Answered show limit old new Memory bytes = new ≡ old
+abbrev pub Answered : Question → Option Bytes → Option Bytes → Status → Bytes → Type 0
+Answered question old new Answers bytes = GainsAnswer question old new Answers bytes
+Answered question old new NoAnswer bytes = GainsAnswer question old new NoAnswer bytes
+Answered question old new Floundered bytes = GainsAnswer question old new Floundered bytes
+Answered question old new Limit bytes = GainsAnswer question old new Limit bytes
+Answered question old new Refused bytes = GainsAnswer question old new Refused bytes
+Answered question old new Usage bytes = ⊥
+Answered question old new ReadFault bytes = new ≡ old
+Answered question old new WriteFault bytes = FailsWriting question old new bytes
+Answered question old new Memory bytes = new ≡ old
 
--- the search went as far as it goes
+-- the search went as far as it goes, or the verdict was told
 abbrev pub IsComplete : Status → Type 0
 IsComplete status = (status ≡ Answers) ⊎ (status ≡ NoAnswer) ⊎ (status ≡ Limit) ⊎ (status ≡ Floundered)
 
@@ -142,3 +174,8 @@ exhausted (e ∷ es) = if has_floundered (e ∷ es) then Floundered else Answers
 abbrev pub status_for : Option goal.Cut.Cut → List Entry → Status
 status_for None ls = exhausted ls
 status_for (Some cut) ls = Limit
+
+-- the status of a verdict
+abbrev pub status_told : Verdict → Status
+status_told Safe = Answers
+status_told (Waits clause item variable) = NoAnswer

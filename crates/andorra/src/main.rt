@@ -1,7 +1,10 @@
 //! Andorra-I for pure Prolog: `andorra run` reads a program from standard input and writes its answers;
-//! `andorra demo N` answers a generated program.
+//! `andorra check` tells whether its arithmetic may wait forever; `andorra demo N` answers a generated
+//! program.
 #![tactic(auto)]
 
+mod checking;
+mod question;
 mod showing;
 #[cfg(test)]
 mod tests;

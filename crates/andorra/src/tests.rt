@@ -299,6 +299,45 @@ fn arithmetic(rt: HostRuntime) -> Result<(), Fail> {
 }
 
 #[test]
+fn checks(rt: HostRuntime) -> Result<(), Fail> {
+    let rows: [Row; 7] = [
+        (b"?- X is X + 0.", b"waits: line 1: X\n", Status::NoAnswer),
+        (
+            b"p(1). p(2). ?- p(X), Y is X+1.",
+            b"safe\n",
+            Status::Answers,
+        ),
+        (
+            b"inc(X,Y) :- Y is X+1. ?- inc(1,Z), W is Z+1.",
+            b"safe\n",
+            Status::Answers,
+        ),
+        (
+            b"inc(X,Y) :- Y is X+1. ?- inc(A,Z).",
+            b"waits: line 1: X\n",
+            Status::NoAnswer,
+        ),
+        (
+            b"?- Y is X, p(W). p(Z) :- Z < 1.",
+            b"waits: line 1: Z\n",
+            Status::NoAnswer,
+        ),
+        (
+            b"?- p(1),\n p(W).\n\n% second\np(Low) :-\n Low < 1.",
+            b"waits: line 5: Low\n",
+            Status::NoAnswer,
+        ),
+        (
+            b"p(a) ?- p(X).",
+            b"error: line 1: syntax\n",
+            Status::Refused,
+        ),
+    ];
+    assert!(rt; all_answer(&rt, rt.alloc(), "check", &rows)?);
+    Ok(())
+}
+
+#[test]
 fn long_loop(rt: HostRuntime) -> Result<(), Fail> {
     let line = "run --limit 1000000 --teams 1";
     let text = b"loop(X) :- loop(X). ?- loop(a).";
@@ -404,6 +443,7 @@ fn usage(rt: HostRuntime) -> Result<(), Fail> {
         "run --limit 0",
         "run --teams 17",
         "run --stats --stats",
+        "check --stats",
         "demo 1 --stats",
         "run --",
         "demo 65",
@@ -499,6 +539,7 @@ fn failed_io(rt: HostRuntime) -> Result<(), Fail> {
     assert_eq!(rt; ended, Status::ReadFault);
     assert!(rt; sink.held().is_empty());
     assert!(rt; is_cut_short(&rt, alloc, "run", 5, b"X = [")?);
+    assert!(rt; is_cut_short(&rt, alloc, "check", 3, b"saf")?);
     assert!(rt; is_cut_short(&rt, alloc, "go", 5, b"usage")?);
     Ok(())
 }

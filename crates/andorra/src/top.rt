@@ -9,9 +9,12 @@ ghost use Rattle.and_language.specs.Refusals.{Reads};
 ghost use Rattle.and_model.specs.Lines.{Bytes};
 ghost use Rattle.and_program.specs.Loaded.{program_of};
 ghost use Rattle.and_model.specs.declared.limits.TheConstants.{DEFAULT_LIMIT, MAX_LIMIT};
-ghost use Rattle.andorra.specs.Top.{Answered, GainsPrefix, IsComplete, IsDemo, IsRun, IsUsage, Told, WasAnswered};
-ghost use Rattle.andorra.specs.Top.{bytes_read, status_for, usage};
+ghost use Rattle.andorra.specs.Checked.{IsVerdict};
+ghost use Rattle.andorra.specs.Top.{Answered, GainsPrefix, IsBounded, IsCheck, IsComplete, IsDemo, IsRun, IsUsage, Told};
+ghost use Rattle.andorra.specs.Top.{WasAnswered, WasChecked, WasRun, bytes_read, status_for, status_told, usage};
 
+use crate::checking::{judged, verdict_line};
+use crate::question::Question;
 use crate::showing::{Show, written};
 use and_answers::{Entry, Found};
 use and_command::{Command, Settings, USAGE, command_of};
@@ -20,6 +23,7 @@ use and_gen::layered;
 use and_io::{Gate, ReadAll, ReadStop, Sink, Source, read_all, write_all_counted};
 use and_model::Text;
 use and_model::limits::MAX_BYTES;
+use and_modes::verdicts::Verdict;
 use and_program::Loaded;
 use and_reader::{read_program, refusal_text};
 use and_walk::walk;
@@ -30,9 +34,10 @@ use std::thread::Threads;
 /// How a run ended. Its number is the exit status.
 #[derive(Clone, Copy, Debug, PartialEq, Eq)]
 pub enum Status {
-    /// The search was complete; there are answers, and all are written.
+    /// The search was complete; there are answers, and all are written. Of a check: no arithmetic waits.
     Answers = 0,
-    /// The search was complete, and there is no answer.
+    /// The search was complete, and there is no answer. Of a check: some arithmetic may wait, and a
+    /// variable for which it does is told.
     NoAnswer = 1,
     /// The words are not those of a command; how to use the program is written.
     Usage = 2,
@@ -96,11 +101,36 @@ fn status_of(found: &Found) -> Status
     }
 }
 
-/// What a program is answered with.
+/// The status of a verdict.
+fn status_of_verdict(verdict: Verdict) -> Status
+    ensures { result ≡ status_told verdict }
+{
+    match verdict {
+        Verdict::Safe => Status::Answers,
+        Verdict::Waits {
+            clause: _,
+            item: _,
+            variable: _,
+        } => Status::NoAnswer,
+    }
+}
+
+/// What a check tells of a program.
+fn told_of(alloc: Global, loaded: &Loaded) -> Result<Reply, AllocError>
+    ensures { (bytes : Bytes) → Reads bytes (program_of loaded.now) →
+        IfOk result (λ reply. WasChecked reply.status bytes reply.text) }
+{
+    let verdict = judged(alloc, loaded)?;
+    let text = verdict_line(alloc, loaded, verdict)?;
+    let status = status_of_verdict(verdict);
+    Ok(Reply { text, status })
+}
+
+/// What a run finds in a program.
 fn found_in(alloc: Global, show: Show, limit: u32, loaded: &Loaded) -> Result<Reply, AllocError>
     requires { limit ≤ MAX_LIMIT }
     ensures { (bytes : Bytes) → Reads bytes (program_of loaded.now) →
-        IfOk result (λ reply. WasAnswered show limit reply.status bytes reply.text) }
+        IfOk result (λ reply. WasRun show limit reply.status bytes reply.text) }
 {
     let table = compile(alloc, loaded)?;
     let found = walk(alloc, loaded, &table, limit)?;
@@ -109,13 +139,25 @@ fn found_in(alloc: Global, show: Show, limit: u32, loaded: &Loaded) -> Result<Re
     Ok(Reply { text, status })
 }
 
+/// What a program is answered with.
+fn reply_to(alloc: Global, question: Question, loaded: &Loaded) -> Result<Reply, AllocError>
+    requires { IsBounded question }
+    ensures { (bytes : Bytes) → Reads bytes (program_of loaded.now) →
+        IfOk result (λ reply. WasAnswered question reply.status bytes reply.text) }
+{
+    match question {
+        Question::Run { show, limit } => found_in(alloc, show, limit, loaded),
+        Question::Check => told_of(alloc, loaded),
+    }
+}
+
 /// The answer to a text.
-fn answer_to(alloc: Global, show: Show, limit: u32, text: &[u8]) -> Result<Reply, AllocError>
-    requires { limit ≤ MAX_LIMIT }
-    ensures { IfOk result (λ reply. WasAnswered show limit reply.status text.now reply.text) }
+fn answer_to(alloc: Global, question: Question, text: &[u8]) -> Result<Reply, AllocError>
+    requires { IsBounded question }
+    ensures { IfOk result (λ reply. WasAnswered question reply.status text.now reply.text) }
 {
     match read_program(alloc, text) {
-        Ok(loaded) => found_in(alloc, show, limit, &loaded),
+        Ok(loaded) => reply_to(alloc, question, &loaded),
         Err(refusal) => {
             if refusal.is_memory() {
                 return Err(AllocError);
@@ -129,14 +171,14 @@ fn answer_to(alloc: Global, show: Show, limit: u32, text: &[u8]) -> Result<Reply
 }
 
 /// Answers a text.
-fn respond<K: Sink>(alloc: Global, show: Show, limit: u32, sink: &mut K, text: &[u8]) -> Status
-    requires { limit ≤ MAX_LIMIT }
-    ensures answered { Answered show limit (K.held sink.old) (K.held sink.new) result text.now }
+fn respond<K: Sink>(alloc: Global, question: Question, sink: &mut K, text: &[u8]) -> Status
+    requires { IsBounded question }
+    ensures answered { Answered question (K.held sink.old) (K.held sink.new) result text.now }
     ensures no_read_fault { result ≢ Status.ReadFault }
     ensures fault { result ≡ Status.WriteFault → Rose K.last (K.faults sink.old) (K.faults sink.new) }
     ensures count { K.faults sink.old ≤ K.faults sink.new }
 {
-    match answer_to(alloc, show, limit, text) {
+    match answer_to(alloc, question, text) {
         Ok(reply) => finish(sink, reply.text.bytes(), reply.status),
         Err(AllocError) => Status::Memory,
     }
@@ -153,14 +195,14 @@ fn text_of(read: &ReadAll) -> &Text
 }
 
 /// Reads a text from the source and answers it.
-fn run<S: Source, K: Sink>(
+fn ask<S: Source, K: Sink>(
     alloc: Global,
-    settings: Settings,
+    question: Question,
     source: &mut S,
     sink: &mut K,
 ) -> Status
-    requires { settings.limit ≤ MAX_LIMIT }
-    ensures answered { Told (S.left source.old) (Answered (Show.Whole settings.stats) settings.limit (K.held sink.old) (K.held sink.new) result) }
+    requires { IsBounded question }
+    ensures answered { Told (S.left source.old) (Answered question (K.held sink.old) (K.held sink.new) result) }
     ensures read_whole { IsComplete result → AreAll (S.left source.new) [] }
     ensures no_usage { result ≢ Status.Usage }
     ensures read_fault { result ≡ Status.ReadFault → Rose S.last (S.faults source.old) (S.faults source.new) × (K.held sink.new ≡ K.held sink.old) }
@@ -170,12 +212,7 @@ fn run<S: Source, K: Sink>(
     ensures sink_count { K.faults sink.old ≤ K.faults sink.new }
 {
     match read_all(alloc, source, MAX_BYTES) {
-        Ok(read) => {
-            let show = Show::Whole {
-                stats: settings.stats,
-            };
-            respond(alloc, show, settings.limit, sink, text_of(&read).bytes())
-        }
+        Ok(read) => respond(alloc, question, sink, text_of(&read).bytes()),
         Err(ReadStop::Failed) => Status::ReadFault,
         Err(ReadStop::Memory) => Status::Memory,
     }
@@ -185,21 +222,21 @@ fn run<S: Source, K: Sink>(
 fn demo<K: Sink>(alloc: Global, number: u32, settings: Settings, sink: &mut K) -> Status
     requires few { number ≤ 64 }
     requires limited { settings.limit ≤ MAX_LIMIT }
-    ensures answered { Answered Show.Summary settings.limit (K.held sink.old) (K.held sink.new) result (generated.layered number) }
+    ensures answered { Answered (Question.Run Show.Summary settings.limit) (K.held sink.old) (K.held sink.new) result (generated.layered number) }
     ensures not_refused { result ≢ Status.Refused }
     ensures no_read_fault { result ≢ Status.ReadFault }
     ensures fault { result ≡ Status.WriteFault → Rose K.last (K.faults sink.old) (K.faults sink.new) }
     ensures count { K.faults sink.old ≤ K.faults sink.new }
 {
     match layered(alloc, number) {
-        Ok(text) => respond(alloc, Show::Summary, settings.limit, sink, text.bytes()),
+        Ok(text) => respond(alloc, Question::summary(settings), sink, text.bytes()),
         // The number is not too big, so that it is for want of memory.
         Err(_) => Status::Memory,
     }
 }
 
-/// Does what the words of the command line say: answers the text of the source, or the generated
-/// text of a number, and writes to the sink.
+/// Does what the words of the command line say: answers or checks the text of the source, or answers
+/// the generated text of a number, and writes to the sink.
 pub fn andorra<R: Threads + Wait + Sync, S: Source, K: Sink, G: Gate>(
     _rt: &R,
     alloc: Global,
@@ -210,13 +247,18 @@ pub fn andorra<R: Threads + Wait + Sync, S: Source, K: Sink, G: Gate>(
 ) -> Status
     // What was written, and for which text.
     ensures answered { (settings : Settings) → IsRun (map string_bytes words.now) settings →
-        Told (S.left source.old) (Answered (Show.Whole settings.stats) settings.limit (K.held sink.old) (K.held sink.new) result) }
+        Told (S.left source.old) (Answered (Question.Run (Show.Whole settings.stats) settings.limit) (K.held sink.old) (K.held sink.new) result) }
     ensures read_whole { (settings : Settings) → IsRun (map string_bytes words.now) settings →
         IsComplete result → AreAll (S.left source.new) [] }
 
+    // What a check told of a text.
+    ensures checked { IsCheck (map string_bytes words.now) →
+        Told (S.left source.old) (Answered Question.Check (K.held sink.old) (K.held sink.new) result)
+        × (IsComplete result → AreAll (S.left source.new) []) }
+
     // What was written of a generated text. The source is untouched.
     ensures demo { (n : ℕ) (settings : Settings) → IsDemo (map string_bytes words.now) n settings →
-        Answered Show.Summary DEFAULT_LIMIT (K.held sink.old) (K.held sink.new) result (generated.layered n)
+        Answered (Question.Run Show.Summary DEFAULT_LIMIT) (K.held sink.old) (K.held sink.new) result (generated.layered n)
         × (result ≢ Status.Refused) × (result ≢ Status.ReadFault) × (S.left source.new ≡ S.left source.old) × (S.faults source.new ≡ S.faults source.old) }
 
     // Where the words are no command.
@@ -233,7 +275,8 @@ pub fn andorra<R: Threads + Wait + Sync, S: Source, K: Sink, G: Gate>(
     ensures sink_count { K.faults sink.old ≤ K.faults sink.new }
 {
     match command_of(words) {
-        Some(Command::Run { settings }) => run(alloc, settings, source, sink),
+        Some(Command::Run { settings }) => ask(alloc, Question::answers(settings), source, sink),
+        Some(Command::Check) => ask(alloc, Question::Check, source, sink),
         Some(Command::Demo { number, settings }) => demo(alloc, number, settings, sink),
         None => finish(sink, USAGE, Status::Usage),
     }

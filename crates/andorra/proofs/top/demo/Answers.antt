@@ -1,19 +1,25 @@
 use Rattle.std.proofs.Common.{◌∙◌, subst}
 use Rattle.and_gen_laws.proofs.Reading.{generated_is_read}
+use Rattle.andorra.specs.declared.question.Question.TheVariants.{Run}
 use Rattle.andorra.specs.declared.showing.Show.TheVariants.{Summary}
 use Rattle.andorra.specs.Top.{Answered}
-use Rattle.andorra.proofs.TopLemmas.{never_refused}
+use Rattle.andorra.proofs.TopLemmas.{bounded, never_refused}
 use Rattle.andorra.proofs.top.demo.Goals as goal
+
+pub respond-requires : goal.respond-requires
+respond-requires g c = bounded c.summary.result Summary c.args.settings.limit c.summary.ensures c.requires.limited
 
 pub returns-in-Ok-clause-answered : goal.returns-in-Ok-clause-answered
 returns-in-Ok-clause-answered g c =
-    subst (Answered Summary c.args.settings.limit (g.K.Sink.held c.args.sink.now) (g.K.Sink.held c.respond.new.sink) c.respond.result)
-    (c.bytes.ensures ∙ c.in-Ok.ensures.text) c.respond.ensures.answered
+    let held = g.K.Sink.held in
+    let asked = subst (λ q. Answered q (held c.args.sink.now) (held c.respond.new.sink) c.respond.result c.bytes.result.now)
+    c.summary.ensures c.respond.ensures.answered in
+    subst (Answered (Run Summary c.args.settings.limit) (held c.args.sink.now) (held c.respond.new.sink) c.respond.result)
+    (c.bytes.ensures ∙ c.in-Ok.ensures.text) asked
 
 pub returns-in-Ok-clause-not_refused : goal.returns-in-Ok-clause-not_refused
 returns-in-Ok-clause-not_refused g c =
     let read = generated_is_read c.args.number c.requires.few in
     let held = g.K.Sink.held in
     never_refused Summary c.args.settings.limit (held c.args.sink.now) (held c.respond.new.sink) read.0 _ c.respond.result read.1
-    (subst (Answered Summary c.args.settings.limit (held c.args.sink.now) (held c.respond.new.sink) c.respond.result)
-    (c.bytes.ensures ∙ c.in-Ok.ensures.text) c.respond.ensures.answered)
+    (returns-in-Ok-clause-answered g c)

@@ -5,14 +5,14 @@ use Rattle.andorra.proofs.top.respond.Goals as goal
 
 pub returns-in-Ok-clause-answered : goal.returns-in-Ok-clause-answered
 returns-in-Ok-clause-answered g c =
-    let was = subst (WasAnswered c.args.show c.args.limit c.in-Ok.reply.status c.args.text.now)
+    let was = subst (WasAnswered c.args.question c.in-Ok.reply.status c.args.text.now)
     (sym c.bytes.ensures) c.in-Ok.ensures in
-    (responded c.args.show c.args.limit _ _ c.args.text.now c.bytes.result.now c.in-Ok.reply.status c.finish.result was
+    (responded c.args.question _ _ c.args.text.now c.bytes.result.now c.in-Ok.reply.status c.finish.result was
     c.finish.ensures.written (λ e. (c.finish.ensures.fault e).1)).0
 
 pub returns-in-Ok-clause-no_read_fault : goal.returns-in-Ok-clause-no_read_fault
 returns-in-Ok-clause-no_read_fault g c =
-    let was = subst (WasAnswered c.args.show c.args.limit c.in-Ok.reply.status c.args.text.now)
+    let was = subst (WasAnswered c.args.question c.in-Ok.reply.status c.args.text.now)
     (sym c.bytes.ensures) c.in-Ok.ensures in
-    (responded c.args.show c.args.limit _ _ c.args.text.now c.bytes.result.now c.in-Ok.reply.status c.finish.result was
+    (responded c.args.question _ _ c.args.text.now c.bytes.result.now c.in-Ok.reply.status c.finish.result was
     c.finish.ensures.written (λ e. (c.finish.ensures.fault e).1)).1
