@@ -5,3 +5,4 @@ pub mod Paths
 pub mod Walking
 pub mod Opening
 pub mod Turning
+pub mod Sufficing

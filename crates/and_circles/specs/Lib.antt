@@ -1,3 +1,4 @@
 pub mod Marked
 pub mod Explored
 pub mod Walks
+pub mod Following

@@ -3,8 +3,10 @@
 
 pub mod circles;
 pub mod explorer;
+pub mod following;
 mod marks;
 mod walk;
 
 pub use circles::{Circle, cycle};
 pub use explorer::{Explored, Explorer};
+pub use following::ends_soon;
