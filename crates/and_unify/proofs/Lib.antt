@@ -14,7 +14,10 @@ pub mod TurnStands
 pub mod TurnAnswers
 pub mod TurnArguments
 pub mod TurnPicks
+pub mod DescentKept
+pub mod DescentThen
 pub mod SettlingEnds
+pub mod SettlingSeen
 pub mod SettlingPairs
 pub mod SettlingSame
 pub mod SettlingPlaces

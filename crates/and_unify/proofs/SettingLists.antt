@@ -23,7 +23,7 @@ lists_begun first began = record {
 }
 
 -- what was set stays so while more becomes known,
-later_set : (first old new : Seen) → ((place : ℕ) (r : Ref) → Knows old place r → Knows new place r) → (cell : ℕ) → WasSet first old cell → WasSet first new cell
+pub later_set : (first old new : Seen) → ((place : ℕ) (r : Ref) → Knows old place r → Knows new place r) → (cell : ℕ) → WasSet first old cell → WasSet first new cell
 later_set first old new knows cell was = record { below = was.below; not_known = was.not_known; value = was.value; known = knows cell was.value was.known }
 
 -- and so does the list

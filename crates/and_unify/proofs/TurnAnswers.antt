@@ -25,6 +25,8 @@ use Rattle.and_unify.specs.Pairs.{equations_of_pairs, AreInRange, AreWritten, Na
 use Rattle.and_unify.specs.Places.{left_sides, sides, IsPlace, Places}
 use Rattle.and_unify.specs.Following.{Follows, OwnFollow, NewFollow}
 use Rattle.and_unify.specs.Unifying.{HasSpent}
+use Rattle.and_unify.specs.Meeting.{MeetApart}
+use Rattle.and_unify.specs.Descending.{HaveOneValue, Suffice}
 use Rattle.and_unify.specs.Turns.{Stand, Finishes, PutsOff, Breaks}
 use Rattle.and_unify.proofs.TurnAgree.{Agree, PairAgrees, agree_onward}
 use Rattle.and_unify.proofs.TurnParts.{arguments_of}
@@ -65,21 +67,31 @@ value_in_range P words w t (Node node base) fits = (_, refl)
 value_in_range P words w t (Number pair) fits = (_, refl)
 value_in_range P words w t (Half bits) fits = absurd fits
 
--- What was asked for follows from what is left.
-pub equal_end : (P : NamedProgram) (first : Seen) (asked : List Pair) (began : List ℕ) (s : Seen) (links : List (Ref × Ref)) (Todo : Pair → Type 0) (bound : List ℕ) (left : List Pair) → AllFall 0 P.skeleton.nodes
-    → AreInRange P first.words asked → Kept P first asked began s links Todo bound → ((p : Pair) → Todo p → Contains left p)
-    → (w : Words) → HasKnown s w → NameNoHalf P w asked → (t : Substitution) → SolvesKnown P w s t → Solves t (equations_of_pairs P w left) → Solves t (equations_of_pairs P w asked)
-equal_end P first asked began s links Todo bound left fall range k among w has whole t solves rest =
+-- What is left suffices: where both its sides have one value, so has what was asked for.
+pub suffice_end : (P : NamedProgram) (first : Seen) (asked : List Pair) (began : List ℕ) (s : Seen) (links : List (Ref × Ref)) (Todo : Pair → Type 0) (bound : List ℕ) (left : List Pair) → AllFall 0 P.skeleton.nodes
+    → Kept P first asked began s links Todo bound → ((p : Pair) → Todo p → Contains left p) → Suffice P s left asked
+suffice_end P first asked began s links Todo bound left fall k among w has t solves ones =
     let todos : (p : Pair) → Todo p → value P w t p.left ≡ value P w t p.right =
-    λ p todo. let a = pairs_agree_from_solves P w t left rest p (among p todo) in a.left ∙ sym a.right in
-    solves_from_pairs_agree P w t asked (λ p at.
-    let in_range = All-contains (λ (p : Pair). IsInRange P first.words p.left × IsInRange P first.words p.right) asked p range at in
+    λ p todo. All-contains (λ (p : Pair). value P w t p.left ≡ value P w t p.right) left p ones (among p todo) in
+    All-weaker (Contains asked) (λ (p : Pair). value P w t p.left ≡ value P w t p.right)
+    (λ p at. closed_values P s links Todo (Contains asked) w t fall k.closed has solves todos p at) asked (All-contains_itself asked)
+
+-- What solves the equations of pairs gives both sides one value,
+pub one_value_where_solved : (P : NamedProgram) (w : Words) (t : Substitution) (ps : List Pair) → Solves t (equations_of_pairs P w ps) → HaveOneValue P w t ps
+one_value_where_solved P w t ps s =
+    All-weaker (Contains ps) (λ (p : Pair). value P w t p.left ≡ value P w t p.right)
+    (λ p at. let a = pairs_agree_from_solves P w t ps s p at in a.left ∙ sym a.right) ps (All-contains_itself ps)
+
+-- and the converse holds of pairs in range that name no half.
+pub solved_where_one_value : (P : NamedProgram) (words : ℕ) (w : Words) (t : Substitution) (ps : List Pair) → AreInRange P words ps → NameNoHalf P w ps → HaveOneValue P w t ps → Solves t (equations_of_pairs P w ps)
+solved_where_one_value P words w t ps range whole ones = solves_from_pairs_agree P w t ps (λ p at.
+    let in_range = All-contains (λ (p : Pair). IsInRange P words p.left × IsInRange P words p.right) ps p range at in
     let cells = shallow_cells P p.left ++ shallow_cells P p.right in
     let no_half : All (λ (cell : ℕ). is_half (w cell) ≡ false) cells =
-    All-contains (λ (p : Pair). All (λ (cell : ℕ). is_half (w cell) ≡ false) (shallow_cells P p.left ++ shallow_cells P p.right)) asked p whole at in
+    All-contains (λ (p : Pair). All (λ (cell : ℕ). is_half (w cell) ≡ false) (shallow_cells P p.left ++ shallow_cells P p.right)) ps p whole at in
     let each : (cell : ℕ) → Contains cells cell → is_half (w cell) ≡ false = λ cell i. All-contains (λ (cell : ℕ). is_half (w cell) ≡ false) cells cell no_half i in
-    let (u, is) = value_in_range P first.words w t p.left in_range.0 in
-    let same = closed_values P s links Todo (Contains asked) w t fall k.closed has solves todos p at in
+    let (u, is) = value_in_range P words w t p.left in_range.0 in
+    let same = All-contains (λ (p : Pair). value P w t p.left ≡ value P w t p.right) ps p ones at in
     record {
       term = u;
       left = is;
@@ -87,6 +99,14 @@ equal_end P first asked began s links Todo bound left fall range k among w has w
       left_whole = λ cell i. each cell (Contains-append_left (shallow_cells P p.left) (shallow_cells P p.right) cell i);
       right_whole = λ cell i. each cell (Contains-append_right (shallow_cells P p.left) (shallow_cells P p.right) cell i);
     })
+
+-- So what was asked for follows from what is left.
+pub equal_end : (P : NamedProgram) (first : Seen) (asked : List Pair) (began : List ℕ) (s : Seen) (links : List (Ref × Ref)) (Todo : Pair → Type 0) (bound : List ℕ) (left : List Pair) → AllFall 0 P.skeleton.nodes
+    → AreInRange P first.words asked → Kept P first asked began s links Todo bound → ((p : Pair) → Todo p → Contains left p)
+    → (w : Words) → HasKnown s w → NameNoHalf P w asked → (t : Substitution) → SolvesKnown P w s t → Solves t (equations_of_pairs P w left) → Solves t (equations_of_pairs P w asked)
+equal_end P first asked began s links Todo bound left fall range k among w has whole t solves rest =
+    solved_where_one_value P first.words w t asked range whole
+    (suffice_end P first asked began s links Todo bound left fall k among w has t solves (one_value_where_solved P w t left rest))
 
 -- What is left is in range, and its numbers are written.
 pub range_end : (P : NamedProgram) (first : Seen) (asked : List Pair) (began : List ℕ) (s : Seen) (links : List (Ref × Ref)) (Todo : Pair → Type 0) (bound : List ℕ) (left : List Pair) → Kept P first asked began s links Todo bound
@@ -161,19 +181,26 @@ broken_holds P first asked fuel began old new bound one other b k = elim b.picks
   | inr picks ↦ (holds_new P first asked fuel began b.p old b.mid bound picks k).0
 ]
 
--- Where a pair led to two that are apart, what was asked for has no solution.
+-- Where a pair that is to do led to two that are apart, what was asked for has no solution.
+pub apart_kept : (P : NamedProgram) (first : Seen) (asked : List Pair) (began : List ℕ) (s now : Seen) (links : List (Ref × Ref)) (Todo : Pair → Type 0) (bound : List ℕ) (p : Pair) (one other : Ref)
+    → Kept P first asked began s links Todo bound → Todo p → MeetApart P p.left p.right s now one other → AreApart P now one other
+    × ((w : Words) → HasKnown now w → (t : Substitution) → SolvesKnown P w now t → Solves t (equations_of_pairs P w asked) → ⊥)
+apart_kept P first asked began s now links Todo bound p one other k todo meets =
+    let kept = kept_reads P first asked began s now links Todo bound meets.lead.reads k in (
+      meets.apart,
+      λ w has t solves asks.
+          let own : PairAgrees P w t p = todos_agree P first asked began now links Todo bound kept w has t solves asks p todo in
+          apart_disagree P now w t one other has meets.apart
+          (agree_onward P w t now p.left p.right one other has solves meets.lead.left_leads meets.lead.right_leads own),
+    )
+
+-- So it has none where a turn broke off.
 pub apart_end : (P : NamedProgram) (first : Seen) (asked : List Pair) (fuel : ℕ) (began : List ℕ) (old new : Stand) (bound : List ℕ) (one other : Ref) → Stands P first asked fuel began old bound
     → Breaks P old new one other → AreApart P new.seen one other
     × ((w : Words) → HasKnown new.seen w → (t : Substitution) → SolvesKnown P w new.seen t → Solves t (equations_of_pairs P w asked) → ⊥)
 apart_end P first asked fuel began old new bound one other k b =
     let held = broken_holds P first asked fuel began old new bound one other b k in
-    let now = kept_reads P first asked began b.mid.seen new.seen b.mid.links (IsTodoWith b.p b.mid) bound b.meets.lead.reads held.kept in (
-      b.meets.apart,
-      λ w has t solves asks.
-          let own : PairAgrees P w t b.p = todos_agree P first asked began new.seen b.mid.links (IsTodoWith b.p b.mid) bound now w has t solves asks b.p (inl refl) in
-          apart_disagree P new.seen w t one other has b.meets.apart
-          (agree_onward P w t new.seen b.p.left b.p.right one other has solves b.meets.lead.left_leads b.meets.lead.right_leads own),
-    )
+    apart_kept P first asked began b.mid.seen new.seen b.mid.links (IsTodoWith b.p b.mid) bound b.p one other held.kept (inl refl) b.meets
 
 -- Each place that was taken cost 1,
 pub spent_end : (P : NamedProgram) (asked : List Pair) (fuel : ℕ) (s : Stand) (now : Seen) (left : ℕ) → OnlyReads s.seen now → left ≡ s.fuel → Paid P asked fuel s → HasSpent P asked now fuel left

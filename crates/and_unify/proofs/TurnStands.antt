@@ -60,7 +60,7 @@ paid_later P asked fuel old new knows pairs taken left k =
     }
 
 -- An element of a list is the last, or one of the others,
-last_cases : (xs rest : List Pair) (p q : Pair) → xs ≡ rest ++ p ∷ [] → Contains xs q → (q ≡ p) ⊎ Contains rest q
+pub last_cases : (xs rest : List Pair) (p q : Pair) → xs ≡ rest ++ p ∷ [] → Contains xs q → (q ≡ p) ⊎ Contains rest q
 last_cases xs rest p q e at = elim (Contains-push_cases rest p q (subst (λ l. Contains l q) e at)) [ inl i ↦ inr i | inr is ↦ inl (sym is) ]
 
 -- the last was in it,
@@ -68,7 +68,7 @@ pub last_was : (xs rest : List Pair) (p : Pair) → xs ≡ rest ++ p ∷ [] → 
 last_was xs rest p e = subst (λ l. Contains l p) (sym e) (Contains-push rest p)
 
 -- and so were the others,
-rest_was : (xs rest : List Pair) (p q : Pair) → xs ≡ rest ++ p ∷ [] → Contains rest q → Contains xs q
+pub rest_was : (xs rest : List Pair) (p q : Pair) → xs ≡ rest ++ p ∷ [] → Contains rest q → Contains xs q
 rest_was xs rest p q e at = subst (λ l. Contains l q) (sym e) (Contains-append_left rest (p ∷ []) q at)
 
 -- so that what is to do stays, with the pair that was taken out.
@@ -151,7 +151,7 @@ holds_new P first asked fuel began p old new bound picks k =
     )
 
 -- A step keeps its list.
-step_list : (P : NamedProgram) (p : Pair) (old new : Seen) (links more_links : List (Ref × Ref)) (list longer : List Pair) (bound further : List ℕ)
+pub step_list : (P : NamedProgram) (p : Pair) (old new : Seen) (links more_links : List (Ref × Ref)) (list longer : List Pair) (bound further : List ℕ)
     → Steps P p old new links more_links list longer bound further → (q : Pair) → Contains list q → Contains longer q
 step_list P p old new links more_links list longer bound further (Turns.alike m e f g) q at = subst (λ l. Contains l q) (sym f) at
 step_list P p old new links more_links list longer bound further (sets cell m e f g) q at = subst (λ l. Contains l q) (sym f) at

@@ -8,3 +8,4 @@ pub mod Meeting
 pub mod Classes
 pub mod Turns
 pub mod Setting
+pub mod Descending

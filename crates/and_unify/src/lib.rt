@@ -2,6 +2,7 @@
 #![tactic(auto)]
 
 mod classes;
+mod descending;
 mod heads;
 mod meeting;
 pub mod pairs;

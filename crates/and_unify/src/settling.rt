@@ -1,6 +1,6 @@
 //! Unification with the occurs check over plain cells.
 
-ghost use Rattle.std.specs.Prelude.{◌≡◌, ◌≢◌, ◌<◌, ℕ, [], length, true, false, IfOk, Ok, Contains, All};
+ghost use Rattle.std.specs.Prelude.{◌≡◌, ◌≢◌, ◌<◌, ◌≤◌, ℕ, [], length, take, true, false, IfOk, Ok, Contains, All};
 ghost use Rattle.and_model.specs.Store.{is_half};
 ghost use Rattle.and_model.specs.Terms.{Substitution};
 ghost use Rattle.and_model.specs.Solutions.{Solves, Solvable};
@@ -18,14 +18,18 @@ ghost use Rattle.and_unify.specs.Setting.{HaveBeenSet};
 ghost use Rattle.and_unify.specs.Settling.{equations_with, AreNewFrom, Settles};
 ghost use Rattle.and_unify.specs.declared.pairs.Pair.{Pair};
 
+use crate::descending::{equate, later_node};
 use crate::pairs::PairList;
-use crate::unifying::{Unified, solve};
+use crate::unifying::Unified;
 use and_cells::{Naming, PlainCells};
-use and_circles::{Explored, Explorer};
+use and_circles::{Explored, Explorer, ends_soon};
 use and_model::Ref;
 use and_program::Loaded;
 use std::alloc::{AllocError, Global};
 use std::marker::Model;
+
+/// So many places more than a row has words are followed before marks are kept of places.
+const SMALL_TERM: u64 = 64;
 
 /// What the equations of cells and pairs came to.
 #[derive(Clone, Copy, PartialEq, Eq, Debug)]
@@ -41,7 +45,7 @@ pub enum Settled {
 /// Looks for a circle in the cells, and then solves the pairs with the occurs check.
 ///
 /// The row is explored, and what the pairs and then the new bindings lead to. A place is not explored
-/// again for each that leads to it.
+/// again for each that leads to it, except as [`Solver::settle_further`] says.
 pub fn settle<N: Naming>(
     alloc: Global,
     loaded: &Loaded,
@@ -67,6 +71,8 @@ pub fn settle<N: Naming>(
 #[derive(Drop)]
 pub struct Solver {
     bound: Vec<u32>,
+    /// Where paths that are followed are still to be followed from.
+    visits: Vec<Ref>,
 }
 
 impl Model for Solver {
@@ -84,6 +90,7 @@ impl Solver {
     {
         Solver {
             bound: Vec::new(alloc),
+            visits: Vec::new(alloc),
         }
     }
 
@@ -97,8 +104,10 @@ impl Solver {
     /// The same as [`settle`] over cells that are settled, where the words from `floor` on are new.
     ///
     /// Explored are what the new bindings of cells below the floor lead to, and what the others lead
-    /// to above the floor, and nothing else of the row. A place is not explored again for each that
-    /// leads to it. Where the pairs have no solution, the cells that were set can be freed again.
+    /// to above the floor, and nothing else of the row. At first as many places are followed as the row
+    /// has words, and 64 more, the same place perhaps several times. What is left then is explored with
+    /// marks, so that no place is explored twice. Where the pairs have no solution, the cells that were
+    /// set can be freed again.
     pub fn settle_further<N: Naming>(
         &mut self,
         loaded: &Loaded,
@@ -117,7 +126,14 @@ impl Solver {
         ensures done { result ≡ Settled.Solved → pairs.new ≡ [] }
     {
         self.bound.clear();
-        settle_into(loaded, cells, floor, pairs, &mut self.bound)
+        settle_into(
+            loaded,
+            cells,
+            floor,
+            pairs,
+            &mut self.bound,
+            &mut self.visits,
+        )
     }
 }
 
@@ -128,6 +144,7 @@ fn settle_into<N: Naming>(
     floor: u32,
     pairs: &mut PairList,
     bound: &mut Vec<u32>,
+    visits: &mut Vec<Ref>,
 ) -> Settled
     requires program { N.program ≡ named loaded.now }
     requires in_range { AreInRange N.program (length cells.old) pairs.old }
@@ -142,9 +159,8 @@ fn settle_into<N: Naming>(
 {
     laws_of_rows(loaded, cells);
     let alloc = *bound.allocator();
-    let mut fuel = u64::MAX;
-    match solve(alloc, loaded, cells, &mut fuel, pairs, bound) {
-        Unified::Same => judge(alloc, loaded, cells, floor, bound),
+    match equate(loaded, cells, pairs, bound) {
+        Unified::Same => judge(loaded, cells, floor, bound, visits),
         Unified::Apart { .. } => Settled::NoSolution,
         // The pairs would have 2^64 places, for which there is no memory.
         Unified::PutOff => Settled::Memory,
@@ -164,11 +180,11 @@ fn laws_of_rows<N: Naming>(loaded: &Loaded, cells: &PlainCells<N>)
 
 /// What cells came to in which these were bound, where those from `floor` on are new.
 fn judge<N: Naming>(
-    alloc: Global,
     loaded: &Loaded,
     cells: &PlainCells<N>,
     floor: u32,
     bound: &[u32],
+    visits: &mut Vec<Ref>,
 ) -> Settled
     requires program { N.program ≡ named loaded.now }
     requires in_row { All (λ (cell : ℕ). cell < length cells.now) bound.now }
@@ -180,8 +196,9 @@ fn judge<N: Naming>(
     ensures sound { IsSound N.program cells.now }
 {
     let words = cells.len();
-    match bound_end(alloc, loaded, cells, 0, bound, floor) {
-        Ok(true) => match bound_end(alloc, loaded, cells, floor, bound, words) {
+    let mut most = u64::from(words) + u64::from(greatest_node(cells, bound)) + SMALL_TERM;
+    match bound_end(loaded, cells, 0, bound, floor, &mut most, visits) {
+        Ok(true) => match bound_end(loaded, cells, floor, bound, words, &mut most, visits) {
             Ok(true) => Settled::Solved,
             Ok(false) => Settled::NoSolution,
             Err(_) => Settled::Memory,
@@ -191,9 +208,77 @@ fn judge<N: Naming>(
     }
 }
 
+/// The greatest number of a node that one of these cells is set to. The term of a node has no more nodes
+/// than its number says, as arguments come before their nodes.
+fn greatest_node<N: Naming>(cells: &PlainCells<N>, bound: &[u32]) -> u32 {
+    let mut greatest = 0;
+    for cell in bound {
+        if *cell < cells.len() {
+            greatest = later_node(greatest, cells.word(*cell));
+        }
+    }
+    greatest
+}
+
 /// Whether each path ends that begins at a cell of the list before `end`, where each that comes
-/// below `floor` ends there.
+/// below `floor` ends there. Paths are followed by `most` places before marks are kept of places.
 fn bound_end<N: Naming>(
+    loaded: &Loaded,
+    cells: &PlainCells<N>,
+    floor: u32,
+    bound: &[u32],
+    end: u32,
+    most: &mut u64,
+    visits: &mut Vec<Ref>,
+) -> Result<bool, AllocError>
+    requires program { N.program ≡ named loaded.now }
+    requires in_row { All (λ (cell : ℕ). cell < length cells.now) bound.now }
+    ensures ends { result ≡ Ok true → (cell : ℕ) → Contains bound.now cell → cell < end
+        → is_half (word_at cells.now cell) ≡ false → Ends N.program cells.now floor false (Ref.Cell cell) }
+    ensures no_solution { result ≡ Ok false → Solvable (equations_of N.program cells.now) → ⊥ }
+{
+    let seen = seen_to_end(loaded, cells, floor, bound, end, most, visits)?;
+    if seen == bound.len() {
+        return Ok(true);
+    }
+    explored_end(
+        *visits.allocator(),
+        loaded,
+        cells,
+        floor,
+        &bound[seen..],
+        end,
+    )
+}
+
+/// How many of the cells of the list are seen to lead to paths that end, up to the first that is not,
+/// where cells from `end` on are passed.
+fn seen_to_end<N: Naming>(
+    loaded: &Loaded,
+    cells: &PlainCells<N>,
+    floor: u32,
+    bound: &[u32],
+    end: u32,
+    most: &mut u64,
+    visits: &mut Vec<Ref>,
+) -> Result<usize, AllocError>
+    requires program { N.program ≡ named loaded.now }
+    requires in_row { All (λ (cell : ℕ). cell < length cells.now) bound.now }
+    ensures { IfOk result (λ seen. (seen ≤ length bound.now)
+        × All (λ (cell : ℕ). cell < end → Ends N.program cells.now floor false (Ref.Cell cell)) (take seen bound.now)) }
+{
+    for place in 0..bound.len() {
+        let cell = bound[place];
+        if cell < end && !ends_soon(loaded, cells, floor, Ref::Cell(cell), most, visits)? {
+            return Ok(place);
+        }
+    }
+    Ok(bound.len())
+}
+
+/// Whether each path ends that begins at a cell of the list before `end`, where each that comes
+/// below `floor` ends there. Places are marked, so that none is explored twice.
+fn explored_end<N: Naming>(
     alloc: Global,
     loaded: &Loaded,
     cells: &PlainCells<N>,

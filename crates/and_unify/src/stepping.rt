@@ -76,7 +76,7 @@ pub(crate) fn step<C: Cells>(
 }
 
 /// Puts a cell on the list, which has room for it.
-fn note(bound: &mut Vec<u32>, cell: u32)
+pub(crate) fn note(bound: &mut Vec<u32>, cell: u32)
     requires { vec_len bound.old < vec_capacity bound.old }
     ensures { bound.new.items ≡ bound.old.items ++ cell ∷ [] }
 {
@@ -113,7 +113,7 @@ fn descend(
 
 /// Puts the pairs of the arguments of two structures of one shape on the list. An error is want of
 /// memory.
-fn push_arguments(
+pub(crate) fn push_arguments(
     loaded: &Loaded,
     left: Ref,
     right: Ref,

@@ -9,6 +9,8 @@ ghost use Rattle.and_unify.specs.Pairs.{AreInRange, AreWritten};
 ghost use Rattle.and_unify.specs.Places.{sides, IsPlace};
 ghost use Rattle.and_unify.specs.Setting.{Lists};
 ghost use Rattle.and_unify.specs.Unifying.{Unifies, Spends};
+ghost use Rattle.and_unify.specs.Descending.{Suffice};
+ghost use Rattle.and_unify.specs.declared.unifying.Unified.{Unified};
 
 use crate::pairs::PairList;
 use crate::turning::{Turn, Work, take_turn};
@@ -80,6 +82,7 @@ pub(crate) fn solve<C: Cells>(
         → Knows (C.seen cells.old) place r
         ⊎ (Contains bound.new.items place × IsPlace C.program (C.seen cells.old) (sides pairs.old) r)) }
     ensures bound { Lists (C.seen cells.old) (C.seen cells.new) bound.old.items bound.new.items }
+    ensures suffice { (result ≡ Unified.Same) ⊎ (result ≡ Unified.PutOff) → Suffice C.program (C.seen cells.new) pairs.new pairs.old }
 {
     loaded.skeleton_is_of_the_program();
     let mut work = Work::new(alloc);

@@ -9,7 +9,7 @@ use Rattle.and_unify.specs.declared.unifying.Unified.{Unified}
 use Rattle.and_unify.specs.declared.unifying.Unified.TheVariants as unified
 use Rattle.and_unify.specs.Unifying.{HasSpent}
 use Rattle.and_unify.proofs.TurnStands.{stands_begun, stands_turns}
-use Rattle.and_unify.proofs.TurnAnswers.{kept_end, among_end, todo_end, follows_end, left_end, equal_end, range_end, sets_end, apart_end, spent_done, spent_broken, put_off_end}
+use Rattle.and_unify.proofs.TurnAnswers.{kept_end, among_end, todo_end, follows_end, left_end, suffice_end, equal_end, range_end, sets_end, apart_end, spent_done, spent_broken, put_off_end}
 use Rattle.and_unify.proofs.unifying.solve.Goals as goal
 
 falls : (P Q : NamedProgram) → P ≡ Q → AllFall 0 Q.skeleton.nodes → AllFall 0 P.skeleton.nodes
@@ -106,3 +106,12 @@ returns-in-Over-clause-bound g c =
     let stopped = c.take_turn.ensures.stopped (not_again c.take_turn.result c.in-Over.unified c.in-Over.is) in
     let kept = kept_end g.C.Cells.program _ _ _ _ _ _ _ _ stopped c.loop-unified.invariant.stands in
     kept.lists
+
+pub returns-in-Over-clause-suffice : goal.returns-in-Over-clause-suffice
+returns-in-Over-clause-suffice g c = λ ended.
+    let P = g.C.Cells.program in
+    let says = c.take_turn.ensures in
+    let stopped = says.stopped (not_again c.take_turn.result c.in-Over.unified c.in-Over.is) in
+    let kept = kept_end P _ _ _ _ _ _ _ _ stopped c.loop-unified.invariant.stands in
+    let fall = falls P (named c.args.loaded.now) c.requires.program c.skeleton_is_of_the_program.ensures.skeleton.0 in
+    suffice_end P _ _ _ _ _ _ _ c.take_turn.new.pairs fall kept (among_end _ _ (ends_with c.take_turn.result c.in-Over.unified _ _ c.in-Over.is says.same says.put_off ended))

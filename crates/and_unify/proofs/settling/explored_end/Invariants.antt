@@ -4,7 +4,7 @@ use Rattle.and_model.specs.declared.reference.Ref.TheVariants.{Cell}
 use Rattle.and_cells.specs.Seen.{word_at}
 use Rattle.and_circles.specs.Explored.{AreFinished}
 use Rattle.and_cells.specs.Ends.{Ends}
-use Rattle.and_unify.proofs.settling.bound_end.Given as goal
+use Rattle.and_unify.proofs.settling.explored_end.Given as goal
 
 abbrev pub invariant-loop-cell : goal.invariant-loop-cell
 invariant-loop-cell g l = record {

@@ -1,0 +1,167 @@
+-- What a plain descent keeps: what every turn keeps, under links that are not written down.
+use Rattle.std.proofs.Common.{ℕ, ◌≡◌, ◌⊎◌, List, [], ◌∷◌, ◌++◌, refl, sym, subst, inl, inr}
+use Rattle.std.specs.Prelude.{Contains}
+use Rattle.std.proofs.lemmas.List.Elements.{Contains-append_cases}
+use Rattle.and_model.specs.declared.reference.Ref.{Ref}
+use Rattle.and_program.specs.Skeletons.{AllFall}
+use Rattle.and_cells.specs.Ranges.{NamedProgram, IsInRange}
+use Rattle.and_cells.specs.Rows.{plain}
+use Rattle.and_cells.specs.Seen.{Seen, OnlyReads}
+use Rattle.and_cells.specs.Parts.{parts_of}
+use Rattle.and_cells.specs.Joined.{same}
+use Rattle.and_laws.proofs.Ordered.{contains_none}
+use Rattle.and_cell_laws.proofs.Images.{contains_origin}
+use Rattle.and_unify.specs.declared.pairs.Pair.{Pair}
+use Rattle.and_unify.specs.declared.unifying.Unified.{Unified}
+use Rattle.and_unify.specs.declared.unifying.Unified.TheVariants.{Same, Apart, Memory}
+use Rattle.and_unify.specs.declared.descending.Descended.{Descended}
+use Rattle.and_unify.specs.declared.descending.Descended.TheVariants.{Over}
+use Rattle.and_unify.specs.Pairs.{AreInRange, AreWritten, AreApart}
+use Rattle.and_unify.specs.Places.{left_sides, sides, IsPlace}
+use Rattle.and_unify.specs.Meeting.{MeetStructures, MeetApart}
+use Rattle.and_unify.specs.Turns.{pairs_of}
+use Rattle.and_unify.specs.Unifying.{Unifies}
+use Rattle.and_unify.specs.Descending.{StepsPlainly, Descends}
+use Rattle.and_unify.proofs.TurnClosed.{Leaves}
+use Rattle.and_unify.proofs.TurnPlaces.{IsFit}
+use Rattle.and_unify.proofs.TurnKept.{SidesAt, Kept, kept_reads, kept_same, kept_steps}
+use Rattle.and_unify.proofs.TurnStands.{IsTodo, begins, stands_first, last_cases, last_was, rest_was, step_list}
+use Rattle.and_unify.proofs.TurnArguments.{steps_down}
+use Rattle.and_unify.proofs.TurnAnswers.{follows_end, left_end, suffice_end, equal_end, range_end, apart_kept}
+
+-- Where structures of one shape lead to the pairs of their arguments, this is a step that makes them one, whatever links there were.
+pub plainly_joins : (P Q : NamedProgram) (p : Pair) (one other : Ref) (old new : Seen) (list longer : List Pair) (bound further : List ℕ) → P ≡ Q
+    → MeetStructures P p.left p.right old new one other → further ≡ bound → longer ≡ list ++ pairs_of (parts_of Q one) (parts_of Q other) → StepsPlainly P p old new list longer bound further
+plainly_joins P Q p one other old new list longer bound further named m stays gains links =
+    let more = links ++ (one, other) ∷ [] in (
+      more,
+      steps_down P Q p one other old new links more list longer bound further named m stays
+          (inr (record { one = one; other = other; adds = refl; between = inl (same one, same other) }, gains)),
+    )
+
+-- All is kept, whatever links were made.
+pub record Held (P : NamedProgram) (first : Seen) (asked : List Pair) (began : List ℕ) (s : Seen) (Todo : Pair → Type 0) (bound : List ℕ) : Type 0 where
+  pub links : List (Ref × Ref)
+  pub kept : Kept P first asked began s links Todo bound
+
+-- the pair that was taken out, or one of those that are left
+abbrev pub IsOutOr : Pair → List Pair → Pair → Type 0
+IsOutOr p rest q = (q ≡ p) ⊎ Contains rest q
+
+-- the nodes of a program that is named fall
+pub named_falls : (P Q : NamedProgram) → P ≡ Q → AllFall 0 Q.skeleton.nodes → AllFall 0 P.skeleton.nodes
+named_falls P Q named fall = subst (λ (p : NamedProgram). AllFall 0 p.skeleton.nodes) (sym named) fall
+
+-- A descent begins so,
+pub held_begun : (P : NamedProgram) (first : Seen) (asked : List Pair) (began : List ℕ) → AreInRange P first.words asked → AreWritten first asked → Held P first asked began first (Contains asked) began
+held_begun P first asked began range written = record {
+  links = [];
+  kept = kept_same P first asked began first [] (IsTodo (begins first asked 0)) (Contains asked) began
+      (λ p todo. elim todo [ inl at ↦ at | inr at ↦ absurd (contains_none p at) ]) (λ p at. inl at) (stands_first P first asked 0 began range written).kept;
+}
+
+-- and a pair is taken out,
+pub held_out : (P : NamedProgram) (first : Seen) (asked : List Pair) (began : List ℕ) (s : Seen) (bound : List ℕ) (xs rest : List Pair) (p : Pair) → xs ≡ rest ++ p ∷ []
+    → Held P first asked began s (Contains xs) bound → Held P first asked began s (IsOutOr p rest) bound
+held_out P first asked began s bound xs rest p e h = record {
+  links = h.links;
+  kept = kept_same P first asked began s h.links (Contains xs) (IsOutOr p rest) bound (λ q at. last_cases xs rest p q e at)
+      (λ q todo. elim todo [ inl is ↦ subst (Contains xs) (sym is) (last_was xs rest p e) | inr at ↦ rest_was xs rest p q e at ]) h.kept;
+}
+
+-- which fits,
+pub held_fits : (P : NamedProgram) (first : Seen) (asked : List Pair) (began : List ℕ) (s : Seen) (bound : List ℕ) (rest : List Pair) (p : Pair)
+    → Held P first asked began s (IsOutOr p rest) bound → IsFit P s.words s p
+held_fits P first asked began s bound rest p h =
+    let fit = h.kept.fits p (inl refl) in record {
+      left_in_range = subst (λ n. IsInRange P n p.left) (sym h.kept.keeps.words) fit.left_in_range;
+      right_in_range = subst (λ n. IsInRange P n p.right) (sym h.kept.keeps.words) fit.right_in_range;
+      left_written = fit.left_written;
+      right_written = fit.right_written;
+    }
+
+-- and steps.
+pub held_steps : (P : NamedProgram) (first : Seen) (asked : List Pair) (began : List ℕ) (old new : Seen) (bound further : List ℕ) (rest longer : List Pair) (p : Pair) → AllFall 0 P.skeleton.nodes
+    → StepsPlainly P p old new rest longer bound further → Held P first asked began old (IsOutOr p rest) bound → Held P first asked began new (Contains longer) further
+held_steps P first asked began old new bound further rest longer p fall steps h =
+    let (more, step) = steps h.links in
+    let leaves : Leaves p rest longer (IsOutOr p rest) (Contains longer) = record {
+      was = inl refl;
+      list_was = λ q at. inr at;
+      keeps = λ q todo. elim todo [ inl is ↦ inl is | inr at ↦ inr (step_list P p old new h.links more rest longer bound further step q at) ];
+      takes = λ q at. at;
+      comes = λ q later. inr later;
+    } in
+    record { links = more; kept = kept_steps P p old new h.links more rest longer bound further first asked began (IsOutOr p rest) (Contains longer) fall leaves step h.kept }
+
+-- Where the last step stopped, all is kept.
+pub held_stopped : (P : NamedProgram) (first : Seen) (asked : List Pair) (began : List ℕ) (old now : Seen) (bound further : List ℕ) (Todo : Pair → Type 0) → OnlyReads old now × (further ≡ bound)
+    → Held P first asked began old Todo bound → Held P first asked began now Todo further
+held_stopped P first asked began old now bound further Todo stopped h = record {
+  links = h.links;
+  kept = subst (Kept P first asked began now h.links Todo) (sym stopped.1) (kept_reads P first asked began old now h.links Todo bound stopped.0 h.kept);
+}
+
+-- a side of a pair that is to do is a place
+side_is_place : (P : NamedProgram) (s : Seen) (roots : List Ref) (left : List Pair) (r : Ref) → ((p : Pair) → Contains left p → SidesAt P s roots p) → Contains (sides left) r → IsPlace P s roots r
+side_is_place P s roots left r each at = elim (Contains-append_cases (left_sides left) _ r at) [
+  | inl one ↦ let (p, among, is) = contains_origin (λ (p : Pair). p.left) left r one in subst (IsPlace P s roots) (sym is) (each p among).0
+  | inr other ↦ let (p, among, is) = contains_origin (λ (p : Pair). p.right) left r other in subst (IsPlace P s roots) (sym is) (each p among).1
+]
+
+-- a descent that is over with one answer is over with this
+pub over_is : (P : NamedProgram) (old new : Seen) (asked left : List Pair) (answer unified : Unified) → Over answer ≡ Over unified → Unifies P old new asked left answer → Unifies P old new asked left unified
+over_is P old new asked left answer unified e u = let is : answer ≡ unified = cc in subst (Unifies P old new asked left) is u
+
+-- What a descent comes to over a row that is told: some pairs are left,
+pub descends_end : (P : NamedProgram) (old new : List Ref) (asked : List Pair) (began bound : List ℕ) (left : List Pair) → AllFall 0 P.skeleton.nodes
+    → Held P (plain old) asked began (plain new) (Contains left) bound → Descends P (plain old) (plain new) asked left
+descends_end P old new asked began bound left fall h = record {
+  follows = follows_end P (plain old) asked began (plain new) h.links (Contains left) bound h.kept;
+  suffice = suffice_end P (plain old) asked began (plain new) h.links (Contains left) bound left fall h.kept (λ p at. at);
+  still_asked = left_end P (plain old) asked began (plain new) h.links (Contains left) bound left h.kept (λ p at. at);
+  in_range = range_end P (plain old) asked began (plain new) h.links (Contains left) bound left h.kept (λ p at. at);
+  sides = λ r at. side_is_place P (plain old) (sides asked) left r (h.kept.if_told old refl).sides at;
+}
+
+-- none is left,
+pub same_end : (P : NamedProgram) (old new : List Ref) (asked : List Pair) (began bound : List ℕ) (xs left : List Pair) → AllFall 0 P.skeleton.nodes → AreInRange P (plain old).words asked
+    → (xs ≡ []) × (left ≡ []) → Held P (plain old) asked began (plain new) (Contains xs) bound → Unifies P (plain old) (plain new) asked left Same
+same_end P old new asked began bound xs left fall range none h = record {
+  follows = follows_end P (plain old) asked began (plain new) h.links (Contains xs) bound h.kept;
+  same = λ is. none.1;
+  equal = λ is. equal_end P (plain old) asked began (plain new) h.links (Contains xs) bound left fall range h.kept
+      (λ p at. absurd (contains_none p (subst (λ l. Contains l p) none.0 at)));
+  still_asked = λ is. absurd (cc);
+  in_range = λ is. absurd (cc);
+  apart = λ one other is. absurd (cc);
+}
+
+-- one pair led to two that are apart,
+pub apart_met : (P : NamedProgram) (old mid new : List Ref) (asked : List Pair) (began bound : List ℕ) (rest left : List Pair) (p : Pair) (one other : Ref)
+    → MeetApart P p.left p.right (plain mid) (plain new) one other → Held P (plain old) asked began (plain mid) (IsOutOr p rest) bound → Unifies P (plain old) (plain new) asked left (Apart one other)
+apart_met P old mid new asked began bound rest left p one other meets h =
+    let kept = kept_reads P (plain old) asked began (plain mid) (plain new) h.links (IsOutOr p rest) bound meets.lead.reads h.kept in
+    let both = apart_kept P (plain old) asked began (plain mid) (plain new) h.links (IsOutOr p rest) bound p one other h.kept (inl refl) meets in record {
+      follows = follows_end P (plain old) asked began (plain new) h.links (IsOutOr p rest) bound kept;
+      same = λ is. absurd (cc);
+      equal = λ is. elim is [ inl e ↦ absurd (cc) | inr e ↦ absurd (cc) ];
+      still_asked = λ is. absurd (cc);
+      in_range = λ is. absurd (cc);
+      apart = λ l r is.
+          let first : one ≡ l = cc in
+          let second : other ≡ r = cc in
+          (subst (AreApart P (plain new) l) second (subst (λ x. AreApart P (plain new) x other) first both.0), both.1);
+    }
+
+-- or memory is wanting.
+pub memory_end : (P : NamedProgram) (old new : List Ref) (asked : List Pair) (began bound : List ℕ) (left : List Pair) (Todo : Pair → Type 0)
+    → Held P (plain old) asked began (plain new) Todo bound → Unifies P (plain old) (plain new) asked left Memory
+memory_end P old new asked began bound left Todo h = record {
+  follows = follows_end P (plain old) asked began (plain new) h.links Todo bound h.kept;
+  same = λ is. absurd (cc);
+  equal = λ is. elim is [ inl e ↦ absurd (cc) | inr e ↦ absurd (cc) ];
+  still_asked = λ is. absurd (cc);
+  in_range = λ is. absurd (cc);
+  apart = λ one other is. absurd (cc);
+}
