@@ -3,6 +3,7 @@ use Rattle.std.proofs.Common.{ℕ, zero, suc, ◌+◌, ◌≡◌, ◌<◌, List,
 use Rattle.and_model.specs.Terms.{Term, Terms, variable, number, compound, none, more, width, Substitution, apply, apply_all}
 use Rattle.and_model.specs.Programs.{clause_at}
 use Rattle.and_model.specs.Candidates.{Candidate}
+use Rattle.and_model.specs.declared.numbers.ClauseNo.{ClauseNo}
 use Rattle.and_model.specs.declared.numbers.NameNo.{NameNo}
 use Rattle.and_model.specs.declared.reference.Ref.{Ref}
 use Rattle.and_program.specs.Shown.{shown_term, count_of, term_at, argument_of}
@@ -14,7 +15,8 @@ use Rattle.and_cells.specs.Ranges.{NamedProgram}
 use Rattle.and_cells.specs.Meaning.{equations_of}
 use Rattle.and_branch_laws.specs.Judging.{outside}
 use Rattle.and_branch_laws.specs.Variables.{placed, cells_from}
-use Rattle.and_determinacy.specs.Looks.{Fits, KindsDiffer, HasNoInstance, AreGlimpses, IsLook, unknown, no_glimpse}
+use Rattle.and_determinacy.specs.Looks.{Fits, KindsDiffer, HasNoInstance, AreGlimpses, IsLook, MayMeet, unknown, no_glimpse}
+use Rattle.and_determinacy.specs.Searches.{NodeHas}
 use Rattle.and_determinacy.specs.declared.looking.Glimpse.{Glimpse}
 use Rattle.and_determinacy.specs.declared.looking.Look.{Look}
 
@@ -46,7 +48,8 @@ term_at_applied s none j = refl
 term_at_applied s (more t ts) zero = refl
 term_at_applied s (more t ts) (suc j) = term_at_applied s ts j
 
-pub argument_applied : (s : Substitution) (t : Term) (j : ℕ) → j < count_of (shown_term t) → argument_of (apply s t) j ≡ apply s (argument_of t j)
+pub argument_applied : (s : Substitution) (t : Term) (j : ℕ) → j < count_of (shown_term t)
+    → argument_of (apply s t) j ≡ apply s (argument_of t j)
 argument_applied s (variable q k) j low = absurd (omega arith)
 argument_applied s (number z) j low = refl
 argument_applied s (compound c ts) j low = term_at_applied s ts j
@@ -83,7 +86,8 @@ pub kinds_apart : (parts : List NodeKind) (glimpse : Glimpse) (head : Term) → 
 kinds_apart parts glimpse head d t s g e = differ glimpse.kind head t s d g.kind e
 
 -- or from how an argument of it does.
-pub part_apart : (parts : List NodeKind) (glimpse : Glimpse) (head : Term) (j : ℕ) → j < count_of glimpse.kind → j < count_of (shown_term head)
+pub part_apart : (parts : List NodeKind) (glimpse : Glimpse) (head : Term) (j : ℕ) → j < count_of glimpse.kind
+    → j < count_of (shown_term head)
     → KindsDiffer (get_or parts (glimpse.parts + j) unknown) (shown_term (argument_of head j)) → HasNoInstance parts glimpse head
 part_apart parts glimpse head j low there d t s g e =
     differ (get_or parts (glimpse.parts + j) unknown) (argument_of head j) (argument_of t j) s d (g.fit j low)
@@ -96,11 +100,20 @@ pub argument_apart : (look : Look) (head : Term) (k : ℕ) → k < count_of (sho
 argument_apart look head k there apart g s seen e =
     apart (argument_of g k) s (seen k) (ap (λ (u : Term). argument_of u k) e ∙ argument_applied s head k there)
 
--- and the clause is no candidate.
+-- while the head of a candidate has an instance as was seen.
+pub candidate_meets : (P : NamedProgram) (row : List Ref) (node base : ℕ) (look : Look) (c : ClauseNo) → IsLook P row node base look
+    → NodeHas P row node base c → MayMeet P.program look c
+candidate_meets P row node base look c is k =
+    let (s, solves) = k.1 in (
+      apply s (placed base (node_term P.skeleton.nodes node)),
+      (λ r j. s outside j),
+      is s solves.1,
+      solves.0 ∙ apply_then (λ r j. variable outside j) s (clause_at P.program c.0).head,
+    )
+
+-- So a clause that is apart is no candidate.
 pub apart_is_none : (P : NamedProgram) (row : List Ref) (node base : ℕ) (look : Look) (c : ℕ) → IsLook P row node base look
     → ((g : Term) (s : Substitution) → AreGlimpses look g → g ≡ apply s (clause_at P.program c).head → ⊥)
     → Candidate P.program (equations_of P row) outside (placed base (node_term P.skeleton.nodes node)) c → ⊥
 apart_is_none P row node base look c is apart k =
-    let (s, solves) = k.1 in
-    let g : Term = apply s (placed base (node_term P.skeleton.nodes node)) in
-    apart g (λ r j. s outside j) (is s solves.1) (solves.0 ∙ apply_then (λ r j. variable outside j) s (clause_at P.program c).head)
+    let (g, s, seen, same) = candidate_meets P row node base look (record { 0 = c }) is k in apart g s seen same

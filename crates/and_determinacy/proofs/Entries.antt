@@ -83,7 +83,7 @@ module _ (P : Program) (predicates more_of : List Predicate) (entry : Predicate)
 
   module _ (old new : List ℕ) (first at : ℕ) (here : get_or new first 0 ≡ at)
       (others : (other : ℕ) → other ≢ first → get_or new other 0 ≡ get_or old other 0) (is_last : at ≡ length predicates)
-      (entry_is : IsEntryFor (clauses_for P (clause_at P first).head) (Some entry)) (firsts : AreFirsts P predicates old) where
+      (entry_is : IsEntryFor P (clauses_for P (clause_at P first).head) (Some entry)) (firsts : AreFirsts P predicates old) where
     found_in_all : (k : ℕ) → get_or new k 0 ≢ 0 → get_or new k 0 < length all
     found_in_all k other = elim (cases_eq k first) [
       | inl e ↦ let l = long in let n : get_or new k 0 ≡ at = ap (λ (i : ℕ). get_or new i 0) e ∙ here in omega arith
@@ -94,25 +94,25 @@ module _ (P : Program) (predicates more_of : List Predicate) (entry : Predicate)
           omega arith
     ]
 
-    entry_in_all : (k : ℕ) → get_or new k 0 ≢ 0 → IsEntryFor (clauses_for P (clause_at P k).head) (slice_get all (get_or new k 0))
+    entry_in_all : (k : ℕ) → get_or new k 0 ≢ 0 → IsEntryFor P (clauses_for P (clause_at P k).head) (slice_get all (get_or new k 0))
     entry_in_all k other = elim (cases_eq k first) [
       | inl e ↦
           let n : get_or new k 0 ≡ at = ap (λ (i : ℕ). get_or new i 0) e ∙ here in
           let there : slice_get all (get_or new k 0) ≡ Some entry = ap (slice_get all) n ∙ at_last predicates entry at is_last in
-          let Claim : ℕ → Type 0 = λ i. IsEntryFor (clauses_for P (clause_at P i).head) (Some entry) in
-          subst (IsEntryFor (clauses_for P (clause_at P k).head)) (sym there) (subst Claim (sym e) entry_is)
+          let Claim : ℕ → Type 0 = λ i. IsEntryFor P (clauses_for P (clause_at P i).head) (Some entry) in
+          subst (IsEntryFor P (clauses_for P (clause_at P k).head)) (sym there) (subst Claim (sym e) entry_is)
       | inr apart ↦
           let n : get_or new k 0 ≡ get_or old k 0 = others k apart in
           let set : get_or old k 0 ≢ 0 = λ e. other (n ∙ e) in
           let there : slice_get all (get_or new k 0) ≡ slice_get predicates (get_or old k 0) =
           ap (slice_get all) n ∙ before_last predicates entry (get_or old k 0) (firsts.found k set) in
-          subst (IsEntryFor (clauses_for P (clause_at P k).head)) (sym there) (firsts.entries k set)
+          subst (IsEntryFor P (clauses_for P (clause_at P k).head)) (sym there) (firsts.entries k set)
     ]
 
     pub firsts_of_all : AreFirsts P more_of new
     firsts_of_all = subst (λ (ps : List Predicate). AreFirsts P ps new) (sym is) (record {
       some = let l = long in omega arith;
-      empty = subst (IsEntryFor []) (sym (before_last predicates entry 0 firsts.some)) firsts.empty;
+      empty = subst (IsEntryFor P []) (sym (before_last predicates entry 0 firsts.some)) firsts.empty;
       found = found_in_all;
       entries = entry_in_all;
     })

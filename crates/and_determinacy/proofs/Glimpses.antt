@@ -52,8 +52,8 @@ leads_value P row s solves r to t (onward cell q p knows rest) e = λ whole. eli
 
 -- ---- What ends begin with
 
-pub node_kind : (P : NamedProgram) (row : List Ref) (s : Substitution) (node : NodeNo) (base : ℕ) (t : Term) → MayBe P row s (Node node base) t
-    → Fits (shown_term (node_term P.skeleton.nodes node.0)) t
+pub node_kind : (P : NamedProgram) (row : List Ref) (s : Substitution) (node : NodeNo) (base : ℕ) (t : Term)
+    → MayBe P row s (Node node base) t → Fits (shown_term (node_term P.skeleton.nodes node.0)) t
 node_kind P row s node base t may =
     let own : Term = node_term P.skeleton.nodes node.0 in
     let is : apply s (placed base own) ≡ t = same_Some (apply s (placed base own)) t (may refl) in
@@ -106,7 +106,8 @@ module _ (P : NamedProgram) (fall : AllFall 0 P.skeleton.nodes) (row : List Ref)
   parts_begin node base old = record { more = []; are = sym (append-nil old); many = refl; fit = λ s solves j low. absurd (omega arith) }
 
   pub parts_more : (node base : ℕ) (old new : List NodeKind) (n : ℕ) (kind : NodeKind) → HasParts P row node base old new n
-      → ((s : Substitution) → Solves s (equations_of P row) → Fits kind (apply s (placed base (argument_of (node_term P.skeleton.nodes node) n))))
+      → ((s : Substitution) → Solves s (equations_of P row)
+      → Fits kind (apply s (placed base (argument_of (node_term P.skeleton.nodes node) n))))
       → HasParts P row node base old (new ++ kind ∷ []) (n + 1)
   parts_more node base old new n kind h fits = record {
     more = h.more ++ kind ∷ [];
@@ -151,13 +152,15 @@ module _ (P : NamedProgram) (fall : AllFall 0 P.skeleton.nodes) (row : List Ref)
 
   -- ---- One more glimpse
 
-  glimpse_stays : (parts more : List NodeKind) (glimpse : Glimpse) (t : Term) → IsGlimpse parts glimpse t → IsGlimpse (parts ++ more) glimpse t
+  glimpse_stays : (parts more : List NodeKind) (glimpse : Glimpse) (t : Term) → IsGlimpse parts glimpse t
+      → IsGlimpse (parts ++ more) glimpse t
   glimpse_stays parts more glimpse t g = record {
     within = let w = g.within in let l = length-append parts more in omega arith;
     kind = g.kind;
     fit = λ j low.
         let inside : glimpse.parts + j < length parts = let w = g.within in omega arith in
-        subst (λ (k : NodeKind). Fits k (argument_of t j)) (sym (get_or_append_left parts more unknown (glimpse.parts + j) inside)) (g.fit j low);
+        subst (λ (k : NodeKind). Fits k (argument_of t j))
+        (sym (get_or_append_left parts more unknown (glimpse.parts + j) inside)) (g.fit j low);
   }
 
   no_glimpse_is : (parts : List NodeKind) (t : Term) → IsGlimpse parts no_glimpse t
@@ -178,7 +181,9 @@ module _ (P : NamedProgram) (fall : AllFall 0 P.skeleton.nodes) (row : List Ref)
         seen = λ s solves.
             let t : Term = apply s (placed base (node_term P.skeleton.nodes node)) in
             let may : MayBe P row s at t = node_leads s solves base node at leads in record {
-              within = let e = ap (λ (ks : List NodeKind). length ks) parts.are in let l = length-append old.parts.items parts.more in omega arith;
+              within = let e = ap (λ (ks : List NodeKind). length ks) parts.are in
+                  let l = length-append old.parts.items parts.more in
+                  omega arith;
               kind = fits s t may;
               fit = λ j low.
                   let inside : j < length parts.more = omega arith in
@@ -196,7 +201,8 @@ module _ (P : NamedProgram) (fall : AllFall 0 P.skeleton.nodes) (row : List Ref)
       let t : Term = argument_of (apply s (placed base (node_term P.skeleton.nodes node))) k in
       subst (λ (gs : List Glimpse). IsGlimpse look.parts.items (get_or gs k no_glimpse) t) (sym none) (no_glimpse_is look.parts.items t)
 
-  pub look_goes_on : (node base argument n : ℕ) (old new : Look) → length old.arguments.items ≡ n → n < length (arguments_at P.skeleton node)
+  pub look_goes_on : (node base argument n : ℕ) (old new : Look) → length old.arguments.items ≡ n
+      → n < length (arguments_at P.skeleton node)
       → node_term P.skeleton.nodes argument ≡ argument_of (node_term P.skeleton.nodes node) n → IsAdded P row argument base old new
       → IsLook P row node base old → IsLook P row node base new × (length new.arguments.items ≡ n + 1)
   look_goes_on node base argument n old new many low term added look = (

@@ -14,3 +14,5 @@ pub mod Searching
 pub mod Entries
 pub mod Differing
 pub mod Glimpses
+pub mod Serving
+pub mod Additions

@@ -45,7 +45,7 @@ loaded_is N l same skeleton own few =
     subst IsLoaded (sym same) loaded
 
 -- A clause of a predicate is there.
-clause_there : (P : Program) (g : Term) (c : ℕ) → Of P g c → c ≤ length P.clauses
+pub clause_there : (P : Program) (g : Term) (c : ℕ) → Of P g c → c ≤ length P.clauses
 clause_there P g c of =
     let there : Bool = ltb 0 c && leb c (length P.clauses) in
     let both : there ≡ true = and_left there (same_predicate g (clause_at P c).head) of in

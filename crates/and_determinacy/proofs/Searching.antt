@@ -1,23 +1,37 @@
 -- The first candidates of a list of clauses, and what they say of a goal.
 use Rattle.std.proofs.Common.{ℕ, ◌+◌, ◌≡◌, ◌<◌, ◌≤◌, List, length, get_or, Some, refl, sym, ap, ◌∙◌, subst, inl, inr, arith}
-use Rattle.std.specs.Prelude.{Contains, slice_get}
+use Rattle.std.specs.Prelude.{Contains, slice_get, Result, Ok, Err, IfOk}
+use Rattle.std.specs.declared.alloc.AllocError.{AllocError}
 use Rattle.std.proofs.lemmas.Bool.{cases_lt}
+use Rattle.std.proofs.lemmas.List.Elements.{All-contains}
 use Rattle.std.proofs.lemmas.Option.{get_or_from_slice_get, slice_get-get_or, slice_get_within, same_Some}
 use Rattle.and_model.specs.Terms.{Term}
+use Rattle.and_model.specs.Programs.{Of}
 use Rattle.and_model.specs.Candidates.{Candidate}
+use Rattle.and_model.specs.Stands.{term_of}
 use Rattle.and_model.specs.declared.goal.Goal.{Goal}
 use Rattle.and_model.specs.declared.numbers.ClauseNo.{ClauseNo}
 use Rattle.and_model.specs.declared.reference.Ref.{Ref}
+use Rattle.and_program.specs.Loaded.{program_of}
+use Rattle.and_program.specs.Skeletons.{node_term}
+use Rattle.and_program.specs.declared.loaded.Loaded.{Loaded}
 use Rattle.and_cells.specs.Ranges.{NamedProgram}
 use Rattle.and_cells.specs.Meaning.{equations_of}
+use Rattle.and_cells.specs.Parts.{named}
 use Rattle.and_cell_laws.proofs.Images.{contains_origin, contains_image}
 use Rattle.and_branch_laws.specs.Judging.{outside, CandidateInCells}
 use Rattle.and_branch_laws.specs.Variables.{placed}
-use Rattle.and_determinacy.specs.Candidates.{IsNodeOf, AreCandidates, IsJudged}
-use Rattle.and_determinacy.specs.Searches.{NodeHas, AreServed, NoneFrom, IsNextOf}
+use Rattle.and_determinacy.specs.Candidates.{IsNodeOf, AreCandidates, IsJudged, IsNarrowed, narrowed_as}
+use Rattle.and_determinacy.specs.Looks.{IsLook, MayMeet}
+use Rattle.and_determinacy.specs.Searches.{NodeHas, AreServed, NoneFrom, IsNextOf, IsCount}
 use Rattle.and_determinacy.specs.declared.judging.Found.{Found}
+use Rattle.and_determinacy.specs.declared.judging.Judged.{Judged}
 use Rattle.and_determinacy.specs.declared.judging.Judged.TheVariants.{Nothing, One, Several}
+use Rattle.and_determinacy.specs.declared.judging.Narrowed.TheVariants as narrowed
+use Rattle.and_determinacy.specs.declared.looking.Look.{Look}
+use Rattle.and_determinacy.proofs.Calls.{of_placed}
 use Rattle.and_determinacy.proofs.ClauseLists.{IsEarlier}
+use Rattle.and_determinacy.proofs.Differing.{candidate_meets}
 use Rattle.and_determinacy.proofs.Picking.{Picks, picked_is, all_picked, picked_in_order}
 
 -- ---- One after another
@@ -48,6 +62,45 @@ module _ (Q : ClauseNo → Type 0) (clauses : List ClauseNo) (from : ℕ) where
         fails (subst Q (sym same) is)
   ]
 
+-- ---- Of which none before a place is so
+
+-- Where fewer are so there is none either.
+pub none_fewer : (Q R : ClauseNo → Type 0) (clauses : List ClauseNo) (from to : ℕ) → ((c : ClauseNo) → Q c → R c)
+    → NoneFrom R clauses from to → NoneFrom Q clauses from to
+none_fewer Q R clauses from to fewer none k c after low there is = none k c after low there (fewer c is)
+
+-- Where no head meets what was seen no clause is a candidate.
+pub none_seen : (N : NamedProgram) (l : Loaded) → N ≡ named l → (row : List Ref) (node base : ℕ) (look : Look) → IsLook N row node base look
+    → (clauses : List ClauseNo) (from to : ℕ) → NoneFrom (MayMeet (program_of l) look) clauses from to
+    → NoneFrom (NodeHas N row node base) clauses from to
+none_seen N l same row node base look is clauses from to none =
+    none_fewer (NodeHas N row node base) (MayMeet (program_of l) look) clauses from to
+    (λ c has. subst (λ (Q : NamedProgram). MayMeet Q.program look c) same (candidate_meets N row node base look c is has)) none
+
+module _ (Q : ClauseNo → Type 0) (clauses : List ClauseNo) (from mid : ℕ) (before : NoneFrom Q clauses from mid) where
+  pub none_joined : (to : ℕ) → NoneFrom Q clauses mid to → NoneFrom Q clauses from to
+  none_joined to none k c after low there is = elim (cases_lt k mid) [
+    | inl early ↦ before k c after early there is
+    | inr late ↦ none k c (omega arith) low there is
+  ]
+
+  -- The first from there on is the first of all,
+  next_joined : from ≤ mid → (found : Found) → IsNextOf Q clauses mid found → IsNextOf Q clauses from found
+  next_joined later found next = record {
+    place = next.place;
+    behind = next.behind;
+    after = let a = next.after in omega arith;
+    there = next.there;
+    is_so = next.is_so;
+    first = none_joined next.place next.first;
+  }
+
+  -- and the count is that of all.
+  pub count_joined : from ≤ mid → (judged : Judged) → IsCount Q clauses mid judged → IsCount Q clauses from judged
+  count_joined later Nothing none = none_joined (length clauses) none
+  count_joined later (One clause) (found, same, next, none) = (found, same, next_joined later found next, none)
+  count_joined later Several (one, two, first, second) = (one, two, next_joined later one first, second)
+
 -- ---- What they say of a goal
 
 module _ (P : NamedProgram) (row : List Ref) (g : Goal) (node : ℕ) (of : IsNodeOf P row g node) (clauses : List ClauseNo)
@@ -68,35 +121,41 @@ module _ (P : NamedProgram) (row : List Ref) (g : Goal) (node : ℕ) (of : IsNod
       let (k, low, is) = served.all (record { 0 = c }) (of_node c q) in
       (k, low, slice_get-get_or clauses k (record { 0 = c }) low ∙ ap (λ (x : ClauseNo). Some x) is)
 
+  -- None but the clause at a place is a candidate.
+  only_there : (place : ℕ) (clause : ClauseNo) → slice_get clauses place ≡ Some clause
+      → NoneFrom (NodeHas P row node g.base) clauses 0 place → NoneFrom (NodeHas P row node g.base) clauses (place + 1) (length clauses)
+      → (d : ℕ) → CandidateInCells P row g d → d ≡ clause.0
+  only_there place clause at before behind d q =
+      let (k, low, there) = placed_at d q in
+      elim (cases_lt k place) [
+        | inl early ↦ absurd (before k (record { 0 = d }) (omega arith) early there (of_node d q))
+        | inr past ↦ elim (cases_lt place k) [
+          | inl late ↦ absurd (behind k (record { 0 = d }) (omega arith) low there (of_node d q))
+          | inr here ↦
+              let same : k ≡ place = omega arith in
+              let both : Some (record { 0 = d }) ≡ Some clause = sym there ∙ ap (slice_get clauses) same ∙ at in
+              let one : record { 0 = d } ≡ clause = same_Some (record { 0 = d }) clause both in
+              ap (λ (x : ClauseNo). x.0) one
+        ]
+      ]
+
   -- No clause is a candidate,
-  pub nothing_found : NoneFrom (NodeHas P row node g.base) clauses 0 (length clauses) → IsJudged P row g Nothing
+  nothing_found : NoneFrom (NodeHas P row node g.base) clauses 0 (length clauses) → IsJudged P row g Nothing
   nothing_found none c q =
       let (k, low, there) = placed_at c q in
       none k (record { 0 = c }) (omega arith) low there (of_node c q)
 
   -- one alone,
-  pub one_found : (found : Found) → IsNextOf (NodeHas P row node g.base) clauses 0 found
+  one_found : (found : Found) → IsNextOf (NodeHas P row node g.base) clauses 0 found
       → NoneFrom (NodeHas P row node g.base) clauses found.behind (length clauses) → IsJudged P row g (One found.clause)
   one_found found next none = (
     of_goal found.clause.0 next.is_so,
-    λ d q.
-        let (k, low, there) = placed_at d q in
-        let b = next.behind in
-        elim (cases_lt k next.place) [
-          | inl before ↦ absurd (next.first k (record { 0 = d }) (omega arith) before there (of_node d q))
-          | inr past ↦ elim (cases_lt next.place k) [
-            | inl behind ↦ absurd (none k (record { 0 = d }) (omega arith) low there (of_node d q))
-            | inr here ↦
-                let at : k ≡ next.place = omega arith in
-                let both : Some (record { 0 = d }) ≡ Some found.clause = sym there ∙ ap (slice_get clauses) at ∙ next.there in
-                let one : record { 0 = d } ≡ found.clause = same_Some (record { 0 = d }) found.clause both in
-                ap (λ (x : ClauseNo). x.0) one
-          ]
-        ],
+    only_there next.place found.clause next.there next.first
+        (subst (λ (b : ℕ). NoneFrom (NodeHas P row node g.base) clauses b (length clauses)) next.behind none),
   )
 
   -- or two.
-  pub two_found : (one two : Found) → IsNextOf (NodeHas P row node g.base) clauses 0 one
+  two_found : (one two : Found) → IsNextOf (NodeHas P row node g.base) clauses 0 one
       → IsNextOf (NodeHas P row node g.base) clauses one.behind two → IsJudged P row g Several
   two_found one two first second =
       let low : second.place < length clauses = slice_get_within clauses second.place two.clause second.there in
@@ -115,6 +174,38 @@ module _ (P : NamedProgram) (row : List Ref) (g : Goal) (node : ℕ) (of : IsNod
         of_goal one.clause.0 first.is_so,
         of_goal two.clause.0 second.is_so,
       )
+
+  -- So the count tells of the goal.
+  pub counted : (judged : Judged) → IsCount (NodeHas P row node g.base) clauses 0 judged → IsJudged P row g judged
+  counted Nothing none = nothing_found none
+  counted (One clause) (found, same, next, none) =
+      subst (λ (c : ClauseNo). IsJudged P row g (One c)) same (one_found found next none)
+  counted Several (one, two, first, second) = two_found one two first second
+
+  pub counted_if : (r : Result Judged AllocError) → IfOk r (IsCount (NodeHas P row node g.base) clauses 0) → IfOk r (IsJudged P row g)
+  counted_if (Ok judged) count = counted judged count
+  counted_if (Err fault) none = tt
+
+  -- ---- What is told of it without a trial of the last
+
+  pub none_left : NoneFrom (NodeHas P row node g.base) clauses 0 (length clauses) → IsNarrowed P row g narrowed.Nothing
+  none_left none = nothing_found none
+
+  pub one_left : (place : ℕ) (clause : ClauseNo) → place < length clauses → clause ≡ get_or clauses place clause
+      → NoneFrom (NodeHas P row node g.base) clauses 0 place → NoneFrom (NodeHas P row node g.base) clauses (place + 1) (length clauses)
+      → IsNarrowed P row g (narrowed.AtMost clause)
+  one_left place clause low read before behind =
+      let there : slice_get clauses place ≡ Some clause =
+      slice_get-get_or clauses place clause low ∙ ap (λ (c : ClauseNo). Some c) (sym read) in (
+        subst (λ (t : Term). Of P.program t clause.0) (sym of.term)
+            (All-contains (λ (c : ClauseNo). Of P.program (node_term P.skeleton.nodes node) c.0) clauses clause served.of (place, low, sym read)),
+        only_there place clause there before behind,
+      )
+
+  pub as_judged : (judged : Judged) → IsJudged P row g judged → IsNarrowed P row g (narrowed_as judged)
+  as_judged Nothing none = none
+  as_judged (One clause) sole = (of_placed P.program g.base (term_of P.program g) clause.0 sole.0.0, sole.1)
+  as_judged Several two = two
 
   -- Those that were picked are the goal's candidates.
   pub picked_are : (out : List ClauseNo) → Picks (NodeHas P row node g.base) clauses out → AreCandidates P row g out

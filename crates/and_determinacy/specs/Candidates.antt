@@ -2,7 +2,7 @@
 -- Yang, 1991).
 use Rattle.std.specs.Prelude.{ℕ, ◌+◌, ◌<◌, ◌≡◌, ◌≢◌, ◌↔◌, false, List, length, slice_get, Some, AllPairs, Contains, map}
 use Rattle.and_model.specs.Terms.{Path, Term, variables_of}
-use Rattle.and_model.specs.Programs.{call}
+use Rattle.and_model.specs.Programs.{call, Of}
 use Rattle.and_model.specs.Stands.{term_of}
 use Rattle.and_model.specs.Store.{is_half}
 use Rattle.and_model.specs.declared.goal.Goal.{Goal}
@@ -18,6 +18,8 @@ use Rattle.and_branch_laws.specs.Judging.{CandidateInCells, SoleInCells}
 use Rattle.and_determinacy.specs.Guards.{CanBeRead}
 use Rattle.and_determinacy.specs.declared.judging.Judged.{Judged}
 use Rattle.and_determinacy.specs.declared.judging.Judged.TheVariants.{Nothing, One, Several}
+use Rattle.and_determinacy.specs.declared.judging.Narrowed.{Narrowed}
+use Rattle.and_determinacy.specs.declared.judging.Narrowed.TheVariants as narrowed
 
 -- The goal can be judged in the row: it is in range, it is a call, and no cell of its variables is a word of a pair.
 pub record CanBeJudged (P : NamedProgram) (row : List Ref) (g : Goal) : Type 0 where
@@ -42,3 +44,16 @@ abbrev pub IsJudged : NamedProgram → List Ref → Goal → Judged → Type 0
 IsJudged P row g Nothing = (c : ℕ) → CandidateInCells P row g c → ⊥
 IsJudged P row g (One clause) = SoleInCells P row g clause.0
 IsJudged P row g Several = (c : ℕ) × (d : ℕ) × (c ≢ d) × CandidateInCells P row g c × CandidateInCells P row g d
+
+-- what a look tells of a goal's candidates: that there is none, that there is none but this clause of its predicate, or that there are two
+abbrev pub IsNarrowed : NamedProgram → List Ref → Goal → Narrowed → Type 0
+IsNarrowed P row g narrowed.Nothing = (c : ℕ) → CandidateInCells P row g c → ⊥
+IsNarrowed P row g (narrowed.AtMost clause) =
+    Of P.program (term_of P.program g) clause.0 × ((d : ℕ) → CandidateInCells P row g d → d ≡ clause.0)
+IsNarrowed P row g narrowed.Several = (c : ℕ) × (d : ℕ) × (c ≢ d) × CandidateInCells P row g c × CandidateInCells P row g d
+
+-- what was judged, less whether the one candidate is one
+abbrev pub narrowed_as : Judged → Narrowed
+narrowed_as Nothing = narrowed.Nothing
+narrowed_as (One clause) = narrowed.AtMost clause
+narrowed_as Several = narrowed.Several

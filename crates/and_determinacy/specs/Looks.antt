@@ -1,8 +1,10 @@
 -- What a look at a call tells of its arguments, two levels deep, and where a head differs from that.
 use Rattle.std.specs.Prelude.{ℕ, ◌+◌, ◌<◌, ◌≤◌, ◌≡◌, ◌≢◌, ◌⊎◌, false, List, [], ◌∷◌, ◌++◌, length, get_or, Some}
 use Rattle.and_model.specs.Terms.{Term, Substitution, apply}
+use Rattle.and_model.specs.Programs.{Program, clause_at}
 use Rattle.and_model.specs.Solutions.{Solves}
 use Rattle.and_model.specs.Store.{is_half}
+use Rattle.and_model.specs.declared.numbers.ClauseNo.{ClauseNo}
 use Rattle.and_model.specs.declared.reference.Ref.{Ref}
 use Rattle.and_program.specs.Shown.{shown_term, count_of, argument_of}
 use Rattle.and_program.specs.Skeletons.{node_term}
@@ -59,6 +61,10 @@ AreGlimpses look g = (k : ℕ) → IsGlimpse look.parts.items (get_or look.argum
 abbrev pub IsLook : NamedProgram → List Ref → (node base : ℕ) → Look → Type 0
 IsLook P row node base look =
     (s : Substitution) → Solves s (equations_of P row) → AreGlimpses look (apply s (placed base (node_term P.skeleton.nodes node)))
+
+-- Some instance of the clause's head is as was seen.
+abbrev pub MayMeet : Program → Look → ClauseNo → Type 0
+MayMeet P look c = (g : Term) × (s : Substitution) × AreGlimpses look g × (g ≡ apply s (clause_at P c.0).head)
 
 -- ---- While it is taken
 

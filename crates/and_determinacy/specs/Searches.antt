@@ -1,5 +1,5 @@
 -- The first of a list of clauses that is a candidate.
-use Rattle.std.specs.Prelude.{ℕ, ◌+◌, ◌≡◌, ◌<◌, ◌≤◌, List, slice_get, Some, All, AllPairs, Contains}
+use Rattle.std.specs.Prelude.{ℕ, ◌+◌, ◌≡◌, ◌<◌, ◌≤◌, List, length, slice_get, Some, All, AllPairs, Contains}
 use Rattle.and_model.specs.Candidates.{Candidate}
 use Rattle.and_model.specs.Programs.{Of}
 use Rattle.and_model.specs.declared.numbers.ClauseNo.{ClauseNo}
@@ -10,6 +10,8 @@ use Rattle.and_cells.specs.Meaning.{equations_of}
 use Rattle.and_branch_laws.specs.Judging.{outside}
 use Rattle.and_branch_laws.specs.Variables.{placed}
 use Rattle.and_determinacy.specs.declared.judging.Found.{Found}
+use Rattle.and_determinacy.specs.declared.judging.Judged.{Judged}
+use Rattle.and_determinacy.specs.declared.judging.Judged.TheVariants.{Nothing, One, Several}
 
 -- the clause is a candidate of the node, read in the frame at the base
 abbrev pub NodeHas : NamedProgram → List Ref → (node base : ℕ) → ClauseNo → Type 0
@@ -33,3 +35,10 @@ pub record IsNextOf (Q : ClauseNo → Type 0) (clauses : List ClauseNo) (from : 
   pub there : slice_get clauses place ≡ Some found.clause
   pub is_so : Q found.clause
   pub first : NoneFrom Q clauses from place
+
+-- so many of the clauses from a place on are so: none, this one alone, or two
+abbrev pub IsCount : (ClauseNo → Type 0) → List ClauseNo → (from : ℕ) → Judged → Type 0
+IsCount Q clauses from Nothing = NoneFrom Q clauses from (length clauses)
+IsCount Q clauses from (One clause) =
+    (found : Found) × (found.clause ≡ clause) × IsNextOf Q clauses from found × NoneFrom Q clauses found.behind (length clauses)
+IsCount Q clauses from Several = (one : Found) × (two : Found) × IsNextOf Q clauses from one × IsNextOf Q clauses one.behind two

@@ -1,6 +1,6 @@
 //! The candidates of goals.
 
-ghost use Rattle.std.specs.Prelude.{◌≡◌, ◌≤◌, ◌++◌, ◌∷◌, [], ℕ, Some, None, Ok, length, slice_get, All, OnOk, IfOk};
+ghost use Rattle.std.specs.Prelude.{◌≡◌, ◌≤◌, ◌<◌, ◌++◌, ◌∷◌, [], ℕ, Some, None, Ok, length, slice_get, All, OnOk, IfOk};
 ghost use Rattle.and_model.specs.Programs.{Of};
 ghost use Rattle.and_model.specs.declared.limits.TheConstants.{MAX_LIMIT};
 ghost use Rattle.and_model.specs.declared.numbers.ClauseNo.{ClauseNo};
@@ -8,13 +8,14 @@ ghost use Rattle.and_program.specs.Loaded.{nodes_at, program_of, skeleton_of};
 ghost use Rattle.and_program.specs.Skeletons.{call, node_term};
 ghost use Rattle.and_cells.specs.Meaning.{IsSettled};
 ghost use Rattle.and_cells.specs.Parts.{named};
-ghost use Rattle.and_determinacy.specs.Candidates.{CanBeJudged, IsNodeOf, AreCandidates, IsJudged};
+ghost use Rattle.and_determinacy.specs.Candidates.{CanBeJudged, IsNodeOf, AreCandidates, IsJudged, IsNarrowed, narrowed_as};
 ghost use Rattle.and_determinacy.specs.Guards.{CanBeRead};
-ghost use Rattle.and_determinacy.specs.Looks.{IsLook};
-ghost use Rattle.and_determinacy.specs.Searches.{NodeHas, AreServed, IsNextOf, NoneFrom};
+ghost use Rattle.and_determinacy.specs.Looks.{IsLook, MayMeet};
+ghost use Rattle.and_determinacy.specs.Searches.{NodeHas, AreServed, IsNextOf, IsCount, NoneFrom};
 ghost use Rattle.and_determinacy.specs.declared.judging.Found.{Found};
 ghost use Rattle.and_determinacy.specs.Tables.{IsKnown, IsTableOf};
 
+use crate::looking::Look;
 use crate::table::Determinacy;
 use crate::trying::Trials;
 use and_cells::{Naming, PlainCells};
@@ -29,6 +30,17 @@ pub enum Judged {
     Nothing,
     /// It has this one alone.
     One(ClauseNo),
+    /// It has two or more.
+    Several,
+}
+
+/// What a look at a goal tells without a trial of a clause that alone is left.
+#[derive(Clone, Copy, PartialEq, Eq, Debug)]
+pub enum Narrowed {
+    /// It has no candidate.
+    Nothing,
+    /// No clause of its predicate but this one is a candidate; whether this one is, is not told.
+    AtMost(ClauseNo),
     /// It has two or more.
     Several,
 }
@@ -66,18 +78,20 @@ fn node_of<N: Naming>(loaded: &Loaded, cells: &PlainCells<N>, goal: Goal) -> Nod
     call_at(loaded, goal.clause, goal.item)
 }
 
-/// Clauses of the call's predicate, in textual order, among which all its candidates are.
+/// Clauses of the predicate of the call that was looked at, in textual order, among which all its
+/// candidates are.
 fn clauses_to_try<'a, N: Naming>(
     table: &'a Determinacy,
-    cells: &mut PlainCells<N>,
+    cells: &PlainCells<N>,
+    look: &Look,
     node: NodeNo,
     base: u32,
 ) -> &'a [ClauseNo]
     requires known { IsKnown N.program table.now node.0 }
-    ensures served { AreServed N.program cells.old node.0 base result.now }
-    ensures unchanged { cells.new ≡ cells.old }
+    requires look { IsLook N.program cells.now node.0 base look.now }
+    ensures { AreServed N.program cells.now node.0 base result.now }
 {
-    table.clauses(node)
+    table.clauses(node, look.first())
 }
 
 /// A candidate that was found.
@@ -120,6 +134,38 @@ fn next_candidate<N: Naming>(
     Ok(None)
 }
 
+/// Tells whether none, one or more of these clauses, from a place on, are candidates of a call. It
+/// stops at the second that it finds. The cells are as before, but after an error, which is want of
+/// memory.
+fn judge_from<N: Naming>(
+    loaded: &Loaded,
+    cells: &mut PlainCells<N>,
+    node: NodeNo,
+    base: u32,
+    clauses: &[ClauseNo],
+    from: usize,
+    trials: &mut Trials,
+) -> Result<Judged, AllocError>
+    requires program { N.program ≡ named loaded.now }
+    requires settled { IsSettled N.program cells.old }
+    requires short { length cells.old ≤ MAX_LIMIT }
+    requires node { CanBeRead N.program cells.old base node.0 }
+    requires clauses { All (λ (c : ClauseNo). Of N.program.program (node_term N.program.skeleton.nodes node.0) c.0) clauses.now }
+    requires look { IsLook N.program cells.old node.0 base trials.old.look }
+    ensures count { IfOk result (IsCount (NodeHas N.program cells.old node.0 base) clauses.now from) }
+    ensures unchanged { OnOk result (cells.new ≡ cells.old) }
+{
+    match next_candidate(loaded, cells, node, base, clauses, from, trials)? {
+        None => Ok(Judged::Nothing),
+        Some(Found { clause, behind }) => {
+            match next_candidate(loaded, cells, node, base, clauses, behind, trials)? {
+                None => Ok(Judged::One(clause)),
+                Some(_) => Ok(Judged::Several),
+            }
+        }
+    }
+}
+
 /// Tells whether a goal has no candidate, one, or more. It stops at the second that it finds. The
 /// cells are as before, but after an error, which is want of memory.
 pub fn judge<N: Naming>(
@@ -138,16 +184,68 @@ pub fn judge<N: Naming>(
     ensures unchanged { OnOk result (cells.new ≡ cells.old) }
 {
     let node = node_of(loaded, cells, goal);
-    let clauses = clauses_to_try(table, cells, node, goal.base);
     trials.look_at(loaded, cells, node, goal.base)?;
-    match next_candidate(loaded, cells, node, goal.base, clauses, 0, trials)? {
-        None => Ok(Judged::Nothing),
-        Some(Found { clause, behind }) => {
-            match next_candidate(loaded, cells, node, goal.base, clauses, behind, trials)? {
-                None => Ok(Judged::One(clause)),
-                Some(_) => Ok(Judged::Several),
-            }
+    let clauses = clauses_to_try(table, cells, &trials.look, node, goal.base);
+    judge_from(loaded, cells, node, goal.base, clauses, 0, trials)
+}
+
+/// The first place, from one on, of a clause that a look does not tell apart from the call.
+fn next_left(loaded: &Loaded, look: &Look, clauses: &[ClauseNo], from: usize) -> Option<usize>
+    requires { All (λ (c : ClauseNo). c.0 ≤ length (program_of loaded.now).clauses) clauses.now }
+    ensures after { (place : ℕ) → result ≡ Some place → from ≤ place }
+    ensures there { (place : ℕ) → result ≡ Some place → place < length clauses.now }
+    ensures first { (place : ℕ) → result ≡ Some place → NoneFrom (MayMeet (program_of loaded.now) look.now) clauses.now from place }
+    ensures none { result ≡ None → NoneFrom (MayMeet (program_of loaded.now) look.now) clauses.now from (length clauses.now) }
+{
+    for place in from..clauses.len() {
+        if !look.is_apart(loaded, clauses[place]) {
+            return Some(place);
         }
+    }
+    None
+}
+
+/// What is told of a goal, less whether the one candidate is one.
+fn narrowed_from(judged: Judged) -> Narrowed
+    ensures { result ≡ narrowed_as judged }
+{
+    match judged {
+        Judged::Nothing => Narrowed::Nothing,
+        Judged::One(clause) => Narrowed::AtMost(clause),
+        Judged::Several => Narrowed::Several,
+    }
+}
+
+/// Tells whether a goal has no candidate, at most one, or more. A clause is tried only where a look at
+/// the goal leaves two or more, so that a call that it leaves one costs no unification. The cells are
+/// as before, but after an error, which is want of memory.
+pub fn narrow<N: Naming>(
+    table: &Determinacy,
+    loaded: &Loaded,
+    cells: &mut PlainCells<N>,
+    goal: Goal,
+    trials: &mut Trials,
+) -> Result<Narrowed, AllocError>
+    requires program { N.program ≡ named loaded.now }
+    requires table { IsTableOf N.program table.now }
+    requires settled { IsSettled N.program cells.old }
+    requires short { length cells.old ≤ MAX_LIMIT }
+    requires goal { CanBeJudged N.program cells.old goal }
+    ensures narrowed { IfOk result (IsNarrowed N.program cells.old goal) }
+    ensures unchanged { OnOk result (cells.new ≡ cells.old) }
+{
+    let node = node_of(loaded, cells, goal);
+    trials.look_at(loaded, cells, node, goal.base)?;
+    let clauses = clauses_to_try(table, cells, &trials.look, node, goal.base);
+    match next_left(loaded, &trials.look, clauses, 0) {
+        None => Ok(Narrowed::Nothing),
+        Some(first) => match next_left(loaded, &trials.look, clauses, first + 1) {
+            None => Ok(Narrowed::AtMost(clauses[first])),
+            Some(_) => {
+                let judged = judge_from(loaded, cells, node, goal.base, clauses, first, trials)?;
+                Ok(narrowed_from(judged))
+            }
+        },
     }
 }
 
@@ -171,8 +269,8 @@ pub fn candidates_of<N: Naming>(
 {
     clear(out);
     let node = node_of(loaded, cells, goal);
-    let clauses = clauses_to_try(table, cells, node, goal.base);
     trials.look_at(loaded, cells, node, goal.base)?;
+    let clauses = clauses_to_try(table, cells, &trials.look, node, goal.base);
     for clause in clauses {
         if trials.fits(loaded, cells, node, goal.base, *clause)? {
             put(out, *clause)?;

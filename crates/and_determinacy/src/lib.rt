@@ -1,8 +1,8 @@
 //! Which clauses the goals of a branch can still be taken by.
 //!
 //! [`compile`] makes a program's table once. [`judge`] tells whether a goal has no candidate, one or
-//! more, and [`candidates_of`] all of them. Both try clauses on the cells themselves, and take back
-//! what was set.
+//! more, [`narrow`] the same but for a trial of a clause that alone is left, and [`candidates_of`] all
+//! of them. They try clauses on the cells themselves, and take back what was set.
 #![tactic(auto)]
 
 mod guards;
@@ -11,6 +11,6 @@ mod looking;
 pub mod table;
 mod trying;
 
-pub use judging::{Judged, candidates_of, judge};
+pub use judging::{Judged, Narrowed, candidates_of, judge, narrow};
 pub use table::{Determinacy, compile};
 pub use trying::Trials;

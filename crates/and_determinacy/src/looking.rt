@@ -112,7 +112,7 @@ fn differs(known: NodeKind, head: NodeKind) -> bool
 }
 
 /// How many arguments are shown.
-fn count_in(kind: NodeKind) -> u8
+pub(crate) fn count_in(kind: NodeKind) -> u8
     ensures { result ≡ count_of kind }
 {
     match kind {
@@ -292,6 +292,13 @@ impl Look {
             self.add(loaded, cells, argument, base)?;
         }
         Ok(())
+    }
+
+    /// What the first argument of the call is. A variable stands for what is not known, and for none.
+    pub(crate) fn first(&self) -> NodeKind
+        ensures { result ≡ (get_or self.now.arguments.items 0 no_glimpse).kind }
+    {
+        glimpse_at(&self.arguments, 0).kind
     }
 
     /// Whether some argument of a node of a head, which has so many, can't be made one with that of

@@ -2,7 +2,7 @@ use Rattle.std.proofs.Common.{◌+◌, ◌≡◌, ◌<◌, ◌++◌, ◌∷◌, 
 use Rattle.std.proofs.lemmas.List.{take_more, take_all}
 use Rattle.and_model.specs.declared.numbers.ClauseNo.{ClauseNo}
 use Rattle.and_determinacy.specs.Looks.{IsLook}
-use Rattle.and_determinacy.specs.Searches.{NodeHas}
+use Rattle.and_determinacy.specs.Searches.{NodeHas, AreServed}
 use Rattle.and_determinacy.proofs.Picking.{Picks, nothing, picked, passed}
 use Rattle.and_determinacy.proofs.Searching.{picked_are}
 use Rattle.and_determinacy.proofs.judging.candidates_of.Goals as goal
@@ -12,9 +12,8 @@ pub loop-clause-init : goal.loop-clause-init
 loop-clause-init g c =
     let Q = NodeHas g.N.Naming.program c.args.cells.now c.node_of-node.result.0 c.args.goal.base in
     record {
-      same = c.look_at.ensures.unchanged ∙ c.clauses_to_try-clauses.ensures.unchanged;
-      look = subst (λ r. IsLook g.N.Naming.program r c.node_of-node.result.0 c.args.goal.base c.look_at.new.self.look)
-          c.clauses_to_try-clauses.ensures.unchanged c.in_ok-look_at.ensures.look;
+      same = c.look_at.ensures.unchanged;
+      look = c.in_ok-look_at.ensures.look;
       picks = subst (λ out. Picks Q [] out) (sym c.clear.ensures) nothing;
     }
 
@@ -54,6 +53,11 @@ returns-clause-candidates g c =
     let node = c.node_of-node.result.0 in
     let base = c.args.goal.base in
     let clauses = c.clauses_to_try-clauses.result.now in
+    let served = subst (λ r. AreServed P r node base clauses) c.look_at.ensures.unchanged c.clauses_to_try-clauses.ensures in
     let all : take c.loop-clause.clause-index clauses ≡ clauses = take_all c.loop-clause.clause-index clauses (omega arith) in
-    picked_are P row c.args.goal node c.node_of-node.ensures clauses c.clauses_to_try-clauses.ensures.served c.loop-clause.out
+    picked_are P row c.args.goal node c.node_of-node.ensures clauses served c.loop-clause.out
     (subst (λ ks. Picks (NodeHas P row node base) ks c.loop-clause.out) all c.loop-clause.invariant.picks)
+
+pub clauses_to_try-clauses-requires-clause-known : goal.clauses_to_try-clauses-requires-clause-known
+clauses_to_try-clauses-requires-clause-known g c =
+    c.requires.table.calls c.args.goal.clause.0 c.args.goal.item c.node_of-node.result.0 c.node_of-node.ensures.there

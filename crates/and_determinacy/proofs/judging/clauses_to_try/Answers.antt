@@ -1,8 +1,12 @@
-use Rattle.std.proofs.Common.{◌∙◌}
-use Rattle.and_determinacy.proofs.Calls.{predicate_serves}
+use Rattle.std.proofs.Common.{sym, ap, subst, ◌∙◌}
+use Rattle.and_determinacy.specs.Searches.{AreServed}
+use Rattle.and_determinacy.specs.Tables.{tried, entry_at}
+use Rattle.and_determinacy.proofs.Serving.{first_serves}
 use Rattle.and_determinacy.proofs.judging.clauses_to_try.Goals as goal
 
-pub returns-clause-served : goal.returns-clause-served
-returns-clause-served g c =
-    predicate_serves g.N.Naming.program c.args.cells.now c.args.node.0 c.args.base c.clauses.result.now
-    (c.clauses.ensures ∙ c.requires.known)
+pub returns : goal.returns
+returns g c =
+    let P = g.N.Naming.program in
+    let entry = entry_at c.args.table.now c.args.node.0 in
+    subst (AreServed P c.args.cells.now c.args.node.0 c.args.base) (sym (c.clauses.ensures ∙ ap (tried entry) c.first.ensures))
+    (first_serves P c.args.cells.now c.args.node.0 c.args.base c.args.look.now c.requires.look entry c.requires.known)

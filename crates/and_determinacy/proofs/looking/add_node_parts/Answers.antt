@@ -30,7 +30,8 @@ kind_in-requires-clause-node g c =
     let low : place < length (arguments_at P.skeleton node) =
     subst (λ (Q : NamedProgram). place < length (arguments_at Q.skeleton node)) (sym c.requires.program) there in
     let is : part ≡ get_or (arguments_at P.skeleton node) place 0 =
-    subst (λ (Q : NamedProgram). part ≡ get_or (arguments_at Q.skeleton node) place 0) (sym c.requires.program) c.argument-part.ensures.node in
+    subst (λ (Q : NamedProgram). part ≡ get_or (arguments_at Q.skeleton node) place 0) (sym c.requires.program)
+    c.argument-part.ensures.node in
     subst (λ r. IsNodeInRange P (length r) part c.args.base) (sym c.loop-place.invariant.same)
     (argument_fits P fall row (length row) c.args.base node place part c.requires.node low is)
 

@@ -13,8 +13,7 @@ use Rattle.and_determinacy.proofs.table.compile.Goals as goal
 
 pub loop-number-init : goal.loop-number-init
 loop-number-init c = record {
-  made = subst (IsMade (program_of c.args.loaded.now) c.in_ok-table.table) (sym c.new-firsts.ensures.items)
-      (c.in_ok-table.ensures (program_of c.args.loaded.now));
+  made = subst (IsMade (program_of c.args.loaded.now) c.in_ok-table.table) (sym c.new-firsts.ensures.items) c.in_ok-table.ensures;
   known = λ clause low. absurd (omega arith);
 }
 

@@ -7,6 +7,7 @@ use Rattle.and_program.specs.Loaded.{program_of, skeleton_of}
 use Rattle.and_program.specs.Skeletons.{node_term}
 use Rattle.and_determinacy.specs.Tables.{clauses_for, IsEntryFor}
 use Rattle.and_determinacy.proofs.Entries.{first_clauses, longer_by_one, last_is, firsts_of_all}
+use Rattle.and_determinacy.proofs.Additions.{all_there}
 use Rattle.and_determinacy.proofs.table.predicate_number.Goals as goal
 
 pub returns-then-known-ne0-clause-entry : goal.returns-then-known-ne0-clause-entry
@@ -23,8 +24,8 @@ returns-then-known-ne0-clause-entry c =
     let set : get_or firsts clause.0 0 ≢ 0 = λ e. c.if-known-ne0.true (read ∙ e) in
     let same : clauses_for P (clause_at P clause.0).head ≡ clauses_for P t =
     first_clauses P t ks c.clauses_of-clauses.ensures some ∙ c.clauses_of-clauses.ensures in
-    subst (λ cs. IsEntryFor cs (slice_get predicates c.number_at-known.result)) same
-    (subst (λ n. IsEntryFor (clauses_for P (clause_at P clause.0).head) (slice_get predicates n)) (sym read)
+    subst (λ cs. IsEntryFor P cs (slice_get predicates c.number_at-known.result)) same
+    (subst (λ n. IsEntryFor P (clauses_for P (clause_at P clause.0).head) (slice_get predicates n)) (sym read)
     (c.requires.firsts.entries clause.0 set))
 
 pub returns-clause-firsts : goal.returns-clause-firsts
@@ -35,8 +36,8 @@ returns-clause-firsts c =
     let clause : ClauseNo = get_or ks 0 (record { 0 = 0 }) in
     let some : 0 < length ks = grind (arith, nat_tests) in
     let entry = c.in_ok-entry.entry in
-    let is : IsEntryFor (clauses_for P (clause_at P clause.0).head) (Some entry) =
-    subst (λ cs. IsEntryFor cs (Some entry)) (sym (first_clauses P t ks c.clauses_of-clauses.ensures some)) c.in_ok-entry.ensures in
+    let is : IsEntryFor P (clauses_for P (clause_at P clause.0).head) (Some entry) =
+    subst (λ cs. IsEntryFor P cs (Some entry)) (sym (first_clauses P t ks c.clauses_of-clauses.ensures some)) c.in_ok-entry.ensures in
     firsts_of_all P c.args.predicates.now.items c.push.new.self.items entry c.in_ok-push.ensures.items c.args.firsts.now.items
     c.put_number.new.numbers.items clause.0 c.len-number.result c.in_ok-put_number.ensures.here c.in_ok-put_number.ensures.others
     (omega (arith, c.len-number.ensures, c.args.predicates.now.ok.0)) is c.requires.firsts
@@ -51,8 +52,13 @@ returns-clause-entry c =
     let P = program_of c.args.loaded.now in
     let t = node_term (skeleton_of c.args.loaded.now).nodes c.args.node.0 in
     let entry = c.in_ok-entry.entry in
-    let is : IsEntryFor (clauses_for P t) (Some entry) =
-    subst (λ cs. IsEntryFor cs (Some entry)) c.clauses_of-clauses.ensures c.in_ok-entry.ensures in
-    subst (IsEntryFor (clauses_for P t))
+    let is : IsEntryFor P (clauses_for P t) (Some entry) =
+    subst (λ cs. IsEntryFor P cs (Some entry)) c.clauses_of-clauses.ensures c.in_ok-entry.ensures in
+    subst (IsEntryFor P (clauses_for P t))
     (sym (last_is P c.args.predicates.now.items c.push.new.self.items entry c.in_ok-push.ensures.items c.len-number.result
     (omega (arith, c.len-number.ensures, c.args.predicates.now.ok.0)))) is
+
+pub entry_of-requires : goal.entry_of-requires
+entry_of-requires c =
+    all_there (program_of c.args.loaded.now) (node_term (skeleton_of c.args.loaded.now).nodes c.args.node.0) c.clauses_of-clauses.result.now
+    c.clauses_of-clauses.ensures

@@ -17,7 +17,8 @@ returns-then-differs c = λ e.
     let there : place < count_of (shown_term head) = omega arith in
     let known : c.kind_at-known.result ≡ get_or parts (glimpse.parts + place) unknown =
     c.kind_at-known.ensures ∙ ap (λ (ks : List NodeKind). get_or ks (glimpse.parts + place) unknown) c.deref.ensures.value in
-    let kind : c.kind-part.result ≡ shown_term (argument_of head place) = c.kind-part.ensures.term ∙ ap shown_term c.argument.ensures.term in
+    let kind : c.kind-part.result ≡ shown_term (argument_of head place) =
+    c.kind-part.ensures.term ∙ ap shown_term c.argument.ensures.term in
     let told : KindsDiffer c.kind_at-known.result c.kind-part.result = c.differs.ensures c.if-differs.true in
     part_apart parts glimpse head place seen there
     (subst (λ (k : NodeKind). KindsDiffer k (shown_term (argument_of head place))) known

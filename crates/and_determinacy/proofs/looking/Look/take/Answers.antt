@@ -44,7 +44,8 @@ loop-place-preserved g c =
     (sym c.requires.program) c.argument-argument.ensures.term in
     let added : IsAdded P row argument base old new =
     subst (λ r. IsAdded P r argument base old new) c.loop-place.invariant.same c.in_ok-add.ensures.added in
-    let both = look_goes_on P fall row node base argument place old new c.loop-place.invariant.many low term added c.loop-place.invariant.look in
+    let both = look_goes_on P fall row node base argument place old new c.loop-place.invariant.many low term added
+    c.loop-place.invariant.look in
     record {
       same = c.add.ensures.unchanged ∙ c.loop-place.invariant.same;
       many = both.1;

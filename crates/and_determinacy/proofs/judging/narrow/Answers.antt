@@ -1,0 +1,66 @@
+use Rattle.std.proofs.Common.{◌+◌, length, get_or, sym, subst}
+use Rattle.std.proofs.lemmas.List.{get_or_default}
+use Rattle.and_model.specs.declared.numbers.ClauseNo.{ClauseNo}
+use Rattle.and_determinacy.specs.Candidates.{IsNarrowed}
+use Rattle.and_determinacy.specs.Searches.{NodeHas, AreServed, IsCount}
+use Rattle.and_determinacy.proofs.Searching.{none_seen, none_left, one_left, count_joined, counted, as_judged}
+use Rattle.and_determinacy.proofs.judging.narrow.Goals as goal
+
+pub returns-in-None-clause-narrowed : goal.returns-in-None-clause-narrowed
+returns-in-None-clause-narrowed g c =
+    let P = g.N.Naming.program in
+    let row = c.args.cells.now in
+    let node = c.node_of-node.result.0 in
+    let base = c.args.goal.base in
+    let clauses = c.clauses_to_try-clauses.result.now in
+    let served = subst (λ r. AreServed P r node base clauses) c.look_at.ensures.unchanged c.clauses_to_try-clauses.ensures in
+    let look = c.look_at.new.self.look in
+    let is_look = c.in_ok-look_at.ensures.look in
+    let seen = none_seen P c.args.loaded.now c.requires.program row node base look is_look clauses in
+    none_left P row c.args.goal node c.node_of-node.ensures clauses served
+    (seen 0 (length clauses) (c.next_left.ensures.none c.in-None.is))
+
+pub returns-in-None-next_left-clause-narrowed : goal.returns-in-None-next_left-clause-narrowed
+returns-in-None-next_left-clause-narrowed g c =
+    let P = g.N.Naming.program in
+    let row = c.args.cells.now in
+    let node = c.node_of-node.result.0 in
+    let base = c.args.goal.base in
+    let clauses = c.clauses_to_try-clauses.result.now in
+    let served = subst (λ r. AreServed P r node base clauses) c.look_at.ensures.unchanged c.clauses_to_try-clauses.ensures in
+    let look = c.look_at.new.self.look in
+    let is_look = c.in_ok-look_at.ensures.look in
+    let seen = none_seen P c.args.loaded.now c.requires.program row node base look is_look clauses in
+    let first = c.in-Some.first in
+    let clause : ClauseNo = get_or clauses first (record { 0 = 0 }) in
+    let low = c.next_left.ensures.there first c.in-Some.is in
+    one_left P row c.args.goal node c.node_of-node.ensures clauses served first clause low
+    (get_or_default clauses first (record { 0 = 0 }) clause low)
+    (seen 0 first (c.next_left.ensures.first first c.in-Some.is))
+    (seen (first + 1) (length clauses) (c.next_left-in-Some.ensures.none c.in-None-next_left.is))
+
+pub returns-in_ok-judged-in-Some-next_left-clause-narrowed : goal.returns-in_ok-judged-in-Some-next_left-clause-narrowed
+returns-in_ok-judged-in-Some-next_left-clause-narrowed g c =
+    let P = g.N.Naming.program in
+    let row = c.args.cells.now in
+    let node = c.node_of-node.result.0 in
+    let base = c.args.goal.base in
+    let clauses = c.clauses_to_try-clauses.result.now in
+    let served = subst (λ r. AreServed P r node base clauses) c.look_at.ensures.unchanged c.clauses_to_try-clauses.ensures in
+    let look = c.look_at.new.self.look in
+    let is_look = c.in_ok-look_at.ensures.look in
+    let seen = none_seen P c.args.loaded.now c.requires.program row node base look is_look clauses in
+    let first = c.in-Some.first in
+    let judged = c.in_ok-judged-in-Some-next_left.judged in
+    let Q = NodeHas P row node base in
+    let count : IsCount Q clauses first judged = subst (λ r. IsCount (NodeHas P r node base) clauses first judged)
+    c.look_at.ensures.unchanged c.in_ok-judged-in-Some-next_left.ensures.count in
+    let all : IsCount Q clauses 0 judged = count_joined Q clauses 0 first (seen 0 first (c.next_left.ensures.first first c.in-Some.is))
+    (c.next_left.ensures.after first c.in-Some.is) judged count in
+    subst (IsNarrowed P row c.args.goal) (sym c.narrowed_from.ensures)
+    (as_judged P row c.args.goal node c.node_of-node.ensures clauses served judged
+    (counted P row c.args.goal node c.node_of-node.ensures clauses served judged all))
+
+pub clauses_to_try-clauses-requires-clause-known : goal.clauses_to_try-clauses-requires-clause-known
+clauses_to_try-clauses-requires-clause-known g c =
+    c.requires.table.calls c.args.goal.clause.0 c.args.goal.item c.node_of-node.result.0 c.node_of-node.ensures.there
