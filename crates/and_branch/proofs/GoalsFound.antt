@@ -15,9 +15,11 @@ use Rattle.and_branch_laws.specs.Kept.{item_at}
 use Rattle.and_branch.specs.Branches.{is_arithmetic, IsArithmeticGoal}
 use Rattle.and_branch.specs.Finding.{IsCallGoal, AllCalls, HasOne, HasTwo, HasNoSole, HasNoFitting, IsCallAmong, IsSeveral, IsHeavy}
 use Rattle.and_branch.specs.Finding.{IsFitting}
-use Rattle.and_branch.specs.Finding.{IsStuck, HasFound, with_several, with_one}
+use Rattle.and_branch.specs.Finding.{IsStuck, HasFound, HasSeen, with_several, with_one, with_seen}
 use Rattle.and_branch.specs.declared.finding.Found.{Found}
 use Rattle.and_branch.specs.declared.finding.Found.TheVariants.{NoCall, Several, Heavy, Fitting, Stuck}
+use Rattle.and_branch.specs.declared.finding.Seen.{Seen}
+use Rattle.and_branch.specs.declared.finding.Seen.TheVariants as seen
 
 two_one : (P : NamedProgram) (row : List Ref) (g : Goal) → HasTwo P row g → HasOne P row g
 two_one P row g x = (x.0, x.3)
@@ -173,6 +175,14 @@ module _ (P : NamedProgram) (limit : ℕ) (row : List Ref) (gs : List Goal) (goa
           → HasFound P limit row (gs ++ goal ∷ []) (with_one f goal clause fits)
       found_one f x true is = one_of_fit f x (is.0 refl)
       found_one f x false is = one_of_heavy f x (λ fits. true≢false (sym (is.1 fits)))
+
+  -- So it is with a goal of which this was seen.
+  pub found_seen : (f : Found) (s : Seen) → HasFound P limit row gs f → HasSeen P limit row goal s
+      → HasFound P limit row (gs ++ goal ∷ []) (with_seen f goal s)
+  found_seen f seen.Arithmetic x arithmetic = found_other f x (λ called. true≢false (sym arithmetic ∙ called))
+  found_seen f seen.Several x (called, two) = found_several called f x two
+  found_seen f (seen.Heavy clause) x (called, sole, heavy) = one_of_heavy called clause sole f x heavy
+  found_seen f seen.NotJudged x h = absurd h
 
 -- ---- All goals, one after another
 

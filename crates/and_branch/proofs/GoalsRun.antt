@@ -3,7 +3,7 @@ use Rattle.std.proofs.Common.{ℕ, ◌≡◌, ◌+◌, ◌≤◌, true, false, L
 use Rattle.std.proofs.Common.{map, refl, ap, sym, ◌∙◌, subst, inl, inr, ◌⊎◌, arith, Contains}
 use Rattle.std.proofs.lemmas.Bool.{true≢false}
 use Rattle.std.proofs.lemmas.List.{map-append}
-use Rattle.and_model.specs.Terms.{Term}
+use Rattle.and_model.specs.Terms.{Term, variable}
 use Rattle.and_model.specs.Programs.{Program, Item, call, equal, arithmetic, fail, Arithmetic, clause_at, clause_weight, Of}
 use Rattle.and_model.specs.Trees.{QueryTree, call_of, reduce, weight}
 use Rattle.and_model.specs.Reached.{ReachedBy, start, stepped, divided, Dead, Step, Steps, none, more}
@@ -11,12 +11,10 @@ use Rattle.and_model.specs.Reductions.{Reduction, Makes}
 use Rattle.and_model.specs.Stands.{Framed, term_of}
 use Rattle.and_model.specs.declared.goal.Goal.{Goal}
 use Rattle.and_model.specs.declared.reference.Ref.{Ref}
-use Rattle.and_laws.proofs.Deciding.{of_bounds}
 use Rattle.and_laws.proofs.Order.{reduce_weight}
 use Rattle.and_cells.specs.Ranges.{NamedProgram}
 use Rattle.and_branch_laws.specs.OwnVariables.{OwnVariables, IsLoaded}
-use Rattle.and_branch_laws.specs.Variables.{placed}
-use Rattle.and_branch_laws.specs.Judging.{outside, CandidateInCells, SoleInCells}
+use Rattle.and_branch_laws.specs.Judging.{outside, CandidateInCells}
 use Rattle.and_branch_laws.specs.Kept.{item_at, task_in, is_call, goal_of, IsCall, Kept}
 use Rattle.and_branch_laws.proofs.Asking
 use Rattle.and_branch_laws.proofs.Keeping
@@ -25,6 +23,8 @@ use Rattle.and_reduction.specs.Runs.{HasRun, compared, assigned, CannotHold}
 use Rattle.and_reduction.specs.Runs as runs
 use Rattle.and_branch.specs.Branches.{Held, Lives, IsBranchOf, IsOpenGoal, SameKey}
 use Rattle.and_branch.specs.Next.{IsReduced}
+use Rattle.and_branch.specs.Rounds.{IsAtMost}
+use Rattle.and_branch.proofs.ClausesOf.{of_applied}
 use Rattle.and_branch.proofs.LivingGoals.{Found, found, is_kept, is_framed, is_called}
 use Rattle.and_branch.proofs.CallItems.{open_is_call}
 
@@ -149,14 +149,14 @@ module _ (P : NamedProgram) (loaded : IsLoaded P) (old new : Held) (t : QueryTre
       (Stepping.none_is_dead P loaded old.reductions old.row (y.front ++ y.f ∷ y.back) t y.keeps y.f h called o path_is outside (λ e. cc)
       none_there)
 
--- ---- A call with one candidate, that was reduced
+-- ---- A call that was reduced by the one clause that can be a candidate
 
-pub sole_branch : (P : NamedProgram) (loaded : IsLoaded P) (old new : Held) (t : QueryTree P.program) → IsBranchOf P old t
+pub last_branch : (P : NamedProgram) (loaded : IsLoaded P) (old new : Held) (t : QueryTree P.program) → IsBranchOf P old t
     → old.is_failed ≡ false → SameKey old new → (g : Goal) (rest : List Goal) → old.right ≡ g ∷ rest
-    → (term : Term) → item_at P.program g ≡ call term → (c : ℕ) → SoleInCells P old.row g c
+    → (term : Term) → item_at P.program g ≡ call term → (c : ℕ) → IsAtMost P old.row g c
     → old.used + clause_weight (clause_at P.program c) ≤ old.limit → IsReduced P old new c
     → (u : QueryTree P.program) × IsBranchOf P new u × Steps t u
-sole_branch P loaded old new t x live same g rest next term is_call c sole fits is_reduced =
+last_branch P loaded old new t x live same g rest next term is_call c last fits is_reduced =
     let lives = live_of P old t live x in
     let y = found P old t old.left g rest lives (ap (λ (l : List Goal). old.left ++ l) next) in
     let kept : List Framed = y.front ++ y.f ∷ y.back in
@@ -164,12 +164,12 @@ sole_branch P loaded old new t x live same g rest next term is_call c sole fits 
     let called = is_called P old t old.left g rest y term is_call in
     let framed = is_framed P old t old.left g rest y in
     let (o, path_is, calls) = Keeping.kept_open P loaded.own old.reductions old.row kept t y.keeps y.f h called in
-    let sole_there : SoleInCells P old.row y.f.goal c = subst (λ (i : Goal). SoleInCells P old.row i c) (sym y.goal_is) sole in
-    let candidate = (Keeping.candidates_of_cells P loaded.own old.reductions old.row kept t y.keeps y.f h called outside (λ e. cc) c).1
-    sole_there.0 in
-    let of_it : Of P.program (call_of t o) c = subst (λ (z : Term). Of P.program z c) (sym calls) candidate.0 in
+    let last_there : IsAtMost P old.row y.f.goal c = subst (λ (i : Goal). IsAtMost P old.row i c) (sym y.goal_is) last in
+    let of_it : Of P.program (call_of t o) c =
+    subst (λ (z : Term). Of P.program z c) (sym calls)
+    (of_applied P.program (λ q k. variable y.f.frame k) (term_of P.program y.f.goal) c last_there.0) in
     let step : Step t (reduce t o c of_it) =
-    Stepping.sole_steps P loaded old.reductions old.row kept t y.keeps y.f h called o path_is outside (λ e. cc) c of_it sole_there.1 in
+    Stepping.sole_steps P loaded old.reductions old.row kept t y.keeps y.f h called o path_is outside (λ e. cc) c of_it last_there.1 in
     let weighs : weight (reduce t o c of_it) ≤ old.limit = let w = x.used in omega (arith, reduce_weight t o c of_it) in
     let reached : ReachedBy P.program old.limit old.key (reduce t o c of_it) = stepped old.key t
     (reduce t o c of_it) x.reached step weighs in
@@ -180,10 +180,6 @@ sole_branch P loaded old new t x live same g rest next term is_call c sole fits 
     subst (λ (i : Goal). IsOpenGoal P old.reductions t o i) y.goal_is
     (record { frame = y.f.frame; place = framed.0; clause = framed.1; path_is = path_is }) in
     (reduce t o c of_it, is_reduced.stands t o g rest of_it lives x.bounded next is_open still, more t t (reduce t o c of_it) (none t) step)
-
--- what it asks of the clause
-pub sole_there : (P : NamedProgram) (row : List Ref) (g : Goal) (c : ℕ) → SoleInCells P row g c → c ≤ length P.program.clauses
-sole_there P row g c sole = (of_bounds P.program (placed g.base (term_of P.program g)) c sole.0.0).1
 
 -- ---- Weights
 

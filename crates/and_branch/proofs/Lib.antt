@@ -7,6 +7,7 @@ pub mod LinesTold
 pub mod ForkReduced
 pub mod LoadedPrograms
 pub mod LivingGoals
+pub mod ClausesOf
 pub mod NextReduced
 pub mod BodyStacks
 pub mod CallItems
@@ -20,4 +21,5 @@ pub mod SoughtGoals
 pub mod NodeItems
 pub mod LookedGoals
 pub mod RoundsKept
+pub mod StilledBranches
 pub mod StandingBranches

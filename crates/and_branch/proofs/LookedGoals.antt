@@ -1,13 +1,16 @@
 -- What a look at the next goal of a branch comes to.
-use Rattle.std.proofs.Common.{ℕ, ◌≡◌, ◌≢◌, ◌+◌, ◌<◌, ◌≤◌, Bool, true, List, []}
+use Rattle.std.proofs.Common.{ℕ, ◌≡◌, ◌+◌, ◌<◌, ◌≤◌, Bool, true, List, []}
 use Rattle.std.proofs.Common.{◌∷◌, ◌++◌, length, ap, sym, ◌∙◌, subst, inl, inr, ◌⊎◌, arith}
 use Rattle.and_model.specs.Terms.{Term}
-use Rattle.and_model.specs.Programs.{call, arithmetic, Arithmetic, clause_at, clause_weight}
+use Rattle.and_model.specs.Programs.{call, arithmetic, Arithmetic, clause_at, clause_weight, Of}
 use Rattle.and_model.specs.Reached.{Steps, none, more}
+use Rattle.and_model.specs.Stands.{term_of}
 use Rattle.and_model.specs.Trees.{QueryTree}
 use Rattle.and_model.specs.declared.goal.Goal.{Goal}
 use Rattle.and_model.specs.declared.limits.TheConstants.{MAX_LIMIT}
+use Rattle.and_model.specs.declared.numbers.ClauseNo.{ClauseNo}
 use Rattle.and_model.specs.declared.reference.Ref.{Ref}
+use Rattle.and_laws.proofs.Deciding.{of_bounds}
 use Rattle.and_laws.proofs.Order.{clause_weighs}
 use Rattle.and_cells.specs.Ranges.{NamedProgram, IsGoalInRange}
 use Rattle.and_cells.specs.Meaning.{IsSettled}
@@ -16,12 +19,15 @@ use Rattle.and_branch_laws.specs.Judging.{CandidateInCells, SoleInCells}
 use Rattle.and_branch_laws.specs.Kept.{item_at}
 use Rattle.and_determinacy.specs.Candidates.{CanBeJudged}
 use Rattle.and_reduction.specs.Runs.{CanBeRun, IsWaiting, HasRun, CannotHold}
-use Rattle.and_branch.specs.Branches.{Held, Lives, IsBranch, IsBranchOf, SameKey}
+use Rattle.and_branch.specs.Branches.{Held, Lives, IsBranch, IsBranchOf, SameKey, is_arithmetic, IsArithmeticGoal}
+use Rattle.and_branch.specs.Finding.{HasTwo, HasSeen}
 use Rattle.and_branch.specs.Next.{HasNextCall, IsReduced, IsMoved}
-use Rattle.and_branch.specs.Rounds.{IsIdle, StepsOn, AreFew, HasProgressed, HasPassed, IsAt}
+use Rattle.and_branch.specs.Rounds.{IsAtMost, IsIdle, StepsOn, AreFew, HasProgressed, HasPassed, IsAt}
+use Rattle.and_branch.specs.declared.finding.Seen.{Seen}
+use Rattle.and_branch.specs.declared.finding.Seen.TheVariants as seen
 use Rattle.and_branch.proofs.LivingGoals.{Found, found, is_kept, goal_in_range, can_be_judged, can_be_run}
 use Rattle.and_branch.proofs.MovedBranches.{moved_branch}
-use Rattle.and_branch.proofs.GoalsRun.{kind_of_kept, live_of, run_branch, false_branch, idle_branch, sole_branch, sole_there, branch_fits}
+use Rattle.and_branch.proofs.GoalsRun.{kind_of_kept, live_of, run_branch, false_branch, idle_branch, last_branch, branch_fits}
 
 -- ---- What holds at a goal
 
@@ -66,9 +72,9 @@ module _ (P : NamedProgram) (b : Held) (g : Goal) (x : IsAt P b g) where
       y.goal_is
       (kind_of_kept P loaded.own b.reductions b.row _ x.branch.0 y.keeps y.f (is_kept P b x.branch.0 b.left g x.rest y))
 
-  pub next_ready : (c : ℕ) (term : Term) → item_at P.program g ≡ call term → SoleInCells P b.row g c
+  pub next_ready : (c : ℕ) (term : Term) → item_at P.program g ≡ call term → Of P.program (term_of P.program g) c
       → b.used + clause_weight (clause_at P.program c) ≤ b.limit → HasNextCall P b c
-  next_ready c term e sole room = record {
+  next_ready c term e of_it room = record {
     tree = x.branch.0;
     lives = lives;
     goal = g;
@@ -76,7 +82,7 @@ module _ (P : NamedProgram) (b : Held) (g : Goal) (x : IsAt P b g) where
     next = x.next;
     term = term;
     is_call = e;
-    there = sole_there P b.row g c sole;
+    there = (of_bounds P.program (term_of P.program g) c of_it).1;
     fits = let z = x.branch.1 in let bound = z.bounded in omega arith;
   }
 
@@ -111,55 +117,60 @@ pub unmoved : (old mid : Held) → mid ≡ record old { row = mid.row } → mid.
 unmoved old mid others row = others ∙ ap (λ (l : List Ref). record old { row = l }) row
 
 -- what is passed over is idle,
-pub passed : (P : NamedProgram) (may : Bool) (old mid new : Held) (g : Goal) (x : IsAt P old g) → mid ≡ old → IsMoved mid new
+pub passed : (P : NamedProgram) (may : Bool) (old mid new : Held) (g : Goal) (saw : Seen) (x : IsAt P old g) → mid ≡ old → IsMoved mid new
     → ((h : Goal) (rest : List Goal) → mid.right ≡ h ∷ rest → (new.right ≡ rest) × (new.left ≡ mid.left ++ h ∷ []))
-    → (may ≡ true → IsIdle P old.limit old.row g) → HasPassed P may old new × StepsOn P old new
-passed P may old mid new g x same =
+    → (may ≡ true → IsIdle P old.limit old.row g × HasSeen P old.limit old.row g saw) → HasPassed P may old new g saw × StepsOn P old new
+passed P may old mid new g saw x same =
     subst (λ (m : Held). IsMoved m new
     → ((h : Goal) (rest : List Goal) → m.right ≡ h ∷ rest → (new.right ≡ rest) × (new.left ≡ m.left ++ h ∷ []))
-    → (may ≡ true → IsIdle P old.limit old.row g) → HasPassed P may old new × StepsOn P old new) (sym same)
+    → (may ≡ true → IsIdle P old.limit old.row g × HasSeen P old.limit old.row g saw) → HasPassed P may old new g saw × StepsOn P old new)
+    (sym same)
     (λ moved passes idle.
     (
     let ends = passes g x.rest x.next in (
-      record {
-        moved = moved;
-        goal = g;
-        next = x.next ∙ ap (λ (l : List Goal). g ∷ l) (sym ends.0);
-        passed = ends.1;
-        idle = idle;
-      },
+      record { moved = moved; next = x.next ∙ ap (λ (l : List Goal). g ∷ l) (sym ends.0); passed = ends.1; idle = idle },
       moved_steps P old new moved,
     )))
 
 -- as arithmetic that waits is,
 pub idle_waiting : (P : NamedProgram) (limit : ℕ) (row : List Ref) (g : Goal) (a : Arithmetic) → item_at P.program g ≡ arithmetic a
-    → IsWaiting P row g → IsIdle P limit row g
-idle_waiting P limit row g a e waits = record {
-  waits = waits;
-  several = λ term f c sole room. let both : arithmetic a ≡ call term = sym e ∙ f in absurd (cc);
-}
+    → IsWaiting P row g → IsIdle P limit row g × IsArithmeticGoal P g
+idle_waiting P limit row g a e waits = (
+  record { waits = waits; several = λ term f c sole room. let both : arithmetic a ≡ call term = sym e ∙ f in absurd (cc) },
+  ap is_arithmetic e,
+)
 
 -- and a call with two candidates,
 pub idle_several : (P : NamedProgram) (limit : ℕ) (row : List Ref) (g : Goal) (term : Term) → item_at P.program g ≡ call term
-    → (c : ℕ) × (d : ℕ) × (c ≢ d) × CandidateInCells P row g c × CandidateInCells P row g d → IsIdle P limit row g
-idle_several P limit row g term e (c, d, other, one, two) = record {
-  waits = λ a us f read ground. let both : call term ≡ arithmetic a = sym e ∙ f in absurd (cc);
-  several = λ t f k sole room. other (sole.1 c one ∙ sym (sole.1 d two));
-}
+    → HasTwo P row g → IsIdle P limit row g × HasSeen P limit row g seen.Several
+idle_several P limit row g term e (c, d, other, one, two) = (
+  record {
+    waits = λ a us f read ground. let both : call term ≡ arithmetic a = sym e ∙ f in absurd (cc);
+    several = λ t f k sole room. other (sole.1 c one ∙ sym (sole.1 d two));
+  },
+  (ap is_arithmetic e, (c, d, other, one, two)),
+)
 
--- or whose only one has no room.
-pub idle_sole : (P : NamedProgram) (b : Held) (g : Goal) (x : IsAt P b g) (term : Term) → item_at P.program g ≡ call term
-    → (k : ℕ) → SoleInCells P b.row g k → (b.used + clause_weight (clause_at P.program k) ≤ b.limit → ⊥) → IsIdle P b.limit b.row g
-idle_sole P b g x term e k only no_room =
+-- or for whose only one there is no room.
+heavy_is_idle : (P : NamedProgram) (b : Held) (g : Goal) (x : IsAt P b g) (term : Term) → item_at P.program g ≡ call term
+    → (k : ℕ) → ((d : ℕ) → CandidateInCells P b.row g d → d ≡ k) → (b.used + clause_weight (clause_at P.program k) ≤ b.limit → ⊥)
+    → IsIdle P b.limit b.row g
+heavy_is_idle P b g x term e k only no_room =
     let y = lives P b g x in
     let long = y.long in record {
       waits = λ a us f read ground. let both : call term ≡ arithmetic a = sym e ∙ f in absurd (cc);
       several = λ t f c sole room.
-          let same : c ≡ k = only.1 c sole.0 in
+          let same : c ≡ k = only c sole.0 in
           let weighs : clause_weight (clause_at P.program c) ≡ clause_weight (clause_at P.program k) =
           ap (λ (n : ℕ). clause_weight (clause_at P.program n)) same in
           no_room (omega arith);
     }
+
+pub idle_heavy : (P : NamedProgram) (b : Held) (g : Goal) (x : IsAt P b g) (term : Term) → item_at P.program g ≡ call term
+    → (k : ℕ) → ((d : ℕ) → CandidateInCells P b.row g d → d ≡ k) → (b.used + clause_weight (clause_at P.program k) ≤ b.limit → ⊥)
+    → (sole : ClauseNo) → SoleInCells P b.row g sole.0 → IsIdle P b.limit b.row g × HasSeen P b.limit b.row g (seen.Heavy sole)
+idle_heavy P b g x term e k only no_room sole is =
+    let idle = heavy_is_idle P b g x term e k only no_room in (idle, (ap is_arithmetic e, is, idle.several term e sole.0 is))
 
 -- ---- Running, reducing and failing
 
@@ -226,10 +237,10 @@ no_candidate P loaded old mid new g x mid_is term e none_is marked =
     }
 
 pub reduced_steps : (P : NamedProgram) → IsLoaded P → (old new : Held) (g : Goal) (x : IsAt P old g) → SameKey old new → (term : Term)
-    → item_at P.program g ≡ call term → (c : ℕ) → SoleInCells P old.row g c
+    → item_at P.program g ≡ call term → (c : ℕ) → IsAtMost P old.row g c
     → old.used + clause_weight (clause_at P.program c) ≤ old.limit → IsReduced P old new c → StepsOn P old new
-reduced_steps P loaded old new g x same term e c sole room reduced =
-    record { each = λ t branch. sole_branch P loaded old new t branch x.live same g x.rest x.next term e c sole room reduced }
+reduced_steps P loaded old new g x same term e c last room reduced =
+    record { each = λ t branch. last_branch P loaded old new t branch x.live same g x.rest x.next term e c last room reduced }
 
 pub reduced_more : (P : NamedProgram) (old new : Held) (c : ℕ) → new.used ≡ old.used + clause_weight (clause_at P.program c) → AreFew new
     → HasProgressed old new × (old.used < new.used)

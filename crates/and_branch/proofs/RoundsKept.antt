@@ -10,10 +10,15 @@ use Rattle.and_laws.proofs.Equality.{bool_cases}
 use Rattle.and_laws.proofs.Ordered.{contains_cases, contains_none}
 use Rattle.and_cells.specs.Ranges.{NamedProgram}
 use Rattle.and_branch.specs.Branches.{Held, IsBranch, SameKey}
+use Rattle.and_branch.specs.Finding.{HasFound, with_seen}
 use Rattle.and_branch.specs.Next.{IsMoved}
 use Rattle.and_branch.specs.Rounds.{IsIdle, StepsOn, AreFew, goal_count, HasProgressed, HasPassed, RoundIs}
 use Rattle.and_branch.specs.declared.advancing.Round.{Round}
 use Rattle.and_branch.specs.declared.advancing.Round.TheVariants as round
+use Rattle.and_branch.specs.declared.finding.Found.{Found}
+use Rattle.and_branch.specs.declared.finding.Found.TheVariants.{NoCall}
+use Rattle.and_branch.specs.declared.finding.Seen.{Seen}
+use Rattle.and_branch.proofs.GoalsFound.{found_seen}
 use Rattle.and_branch.proofs.MovedBranches.{moved_nowhere, moved_twice}
 use Rattle.and_branch.proofs.LookedGoals.{no_steps, steps_then, still_branch}
 
@@ -21,11 +26,11 @@ use Rattle.and_branch.proofs.LookedGoals.{no_steps, steps_then, still_branch}
 abbrev pub LeftIdle : NamedProgram → Held → Type 0
 LeftIdle P b = (g : Goal) → Contains b.left g → IsIdle P b.limit b.row g
 
-pub record RoundStands (P : NamedProgram) (start now : Held) (changed : Bool) (budget : ℕ) : Type 0 where
+pub record RoundStands (P : NamedProgram) (start now : Held) (changed : Bool) (budget : ℕ) (found : Found) : Type 0 where
   pub same : SameKey start now
   pub steps : StepsOn P start now
   pub branch : IsBranch P now
-  pub idle : changed ≡ false → IsMoved start now × LeftIdle P now
+  pub idle : changed ≡ false → IsMoved start now × LeftIdle P now × HasFound P now.limit now.row now.left found
   pub progress : changed ≡ true → HasProgressed start now
   pub spent : budget ≡ 0 → changed ≡ true
 
@@ -65,12 +70,16 @@ progress_then one two three (few, how) (fewer, more) = (
 -- ---- A round
 
 pub round_begun : (P : NamedProgram) (start : Held) (budget : ℕ) → IsBranch P start → start.left ≡ [] → 1 ≤ budget
-    → RoundStands P start start false budget
+    → RoundStands P start start false budget NoCall
 round_begun P start budget branch first some = record {
   same = record { key = refl; limit = refl };
   steps = no_steps P start;
   branch = branch;
-  idle = λ e. (moved_nowhere start, λ g h. absurd (contains_none g (subst (λ (l : List Goal). Contains l g) first h)));
+  idle = λ e. (
+    moved_nowhere start,
+    λ g h. absurd (contains_none g (subst (λ (l : List Goal). Contains l g) first h)),
+    λ g h called. contains_none g (subst (λ (l : List Goal). Contains l g) first h),
+  );
   progress = λ e. absurd (true≢false (sym e));
   spent = λ e. absurd (omega arith);
 }
@@ -82,35 +91,47 @@ idle_on : (P : NamedProgram) (old new : Held) (g : Goal) → IsMoved old new →
 idle_on P old new g m x =
     subst (λ (n : ℕ). IsIdle P n new.row g) (sym m.limit) (subst (λ (l : List Ref). IsIdle P old.limit l g) (sym m.row) x)
 
+found_on : (P : NamedProgram) (old new : Held) (gs : List Goal) (f : Found) → IsMoved old new → new.left ≡ gs
+    → HasFound P old.limit old.row gs f → HasFound P new.limit new.row new.left f
+found_on P old new gs f m left x =
+    subst (λ (hs : List Goal). HasFound P new.limit new.row hs f) (sym left)
+    (subst (λ (n : ℕ). HasFound P n new.row gs f) (sym m.limit)
+    (subst (λ (l : List Ref). HasFound P old.limit l gs f) (sym m.row) x))
+
 -- A goal was passed over.
-pub round_passed : (P : NamedProgram) (start old new : Held) (changed may : Bool) (budget : ℕ) → ((budget ≡ 0 → ⊥) → may ≡ true)
-    → RoundStands P start old changed budget → SameKey old new → StepsOn P old new → HasPassed P may old new
-    → RoundStands P start new changed budget
-round_passed P start old new changed may budget may_is x same steps h = record {
+pub round_passed : (P : NamedProgram) (start old new : Held) (changed may : Bool) (budget : ℕ) (found : Found) (goal : Goal) (seen : Seen)
+    → ((budget ≡ 0 → ⊥) → may ≡ true)
+    → RoundStands P start old changed budget found → SameKey old new → StepsOn P old new → HasPassed P may old new goal seen
+    → RoundStands P start new changed budget (with_seen found goal seen)
+round_passed P start old new changed may budget found goal seen may_is x same steps h = record {
   same = same_then start old new x.same same;
   steps = steps_then P start old new x.steps steps;
   branch = still_branch P old new steps x.branch;
   idle = λ e.
       (
       let before = x.idle e in
-      let some : budget ≡ 0 → ⊥ = λ z. true≢false (sym (x.spent z) ∙ e) in (
+      let some : budget ≡ 0 → ⊥ = λ z. true≢false (sym (x.spent z) ∙ e) in
+      let here = h.idle (may_is some) in (
         moved_twice start old new before.0 h.moved,
-        λ g i. elim (Contains-append_cases old.left (h.goal ∷ []) g (subst (λ (l : List Goal). Contains l g) h.passed i)) [
+        λ g i. elim (Contains-append_cases old.left (goal ∷ []) g (subst (λ (l : List Goal). Contains l g) h.passed i)) [
           | inl j ↦ idle_on P old new g h.moved (before.1 g j)
-          | inr j ↦ elim (contains_cases h.goal g [] j) [
-            | inl is ↦ idle_on P old new g h.moved (subst (λ (k : Goal). IsIdle P old.limit old.row k) (sym is) (h.idle (may_is some)))
+          | inr j ↦ elim (contains_cases goal g [] j) [
+            | inl is ↦ idle_on P old new g h.moved (subst (λ (k : Goal). IsIdle P old.limit old.row k) (sym is) here.0)
             | inr n ↦ absurd (contains_none g n)
           ]
         ],
+        found_on P old new (old.left ++ goal ∷ []) (with_seen found goal seen) h.moved h.passed
+            (found_seen P old.limit old.row old.left goal found seen before.2 here.1),
       ));
   progress = λ e. then_moved start old new (x.progress e) h.moved;
   spent = x.spent;
 }
 
 -- One was run or reduced.
-pub round_changed : (P : NamedProgram) (start old new : Held) (changed : Bool) (budget fewer : ℕ) → RoundStands P start old changed budget
-    → SameKey old new → StepsOn P old new → HasProgressed old new → RoundStands P start new true fewer
-round_changed P start old new changed budget fewer x same steps more = record {
+pub round_changed : (P : NamedProgram) (start old new : Held) (changed : Bool) (budget fewer : ℕ) (found : Found)
+    → RoundStands P start old changed budget found → SameKey old new → StepsOn P old new → HasProgressed old new
+    → RoundStands P start new true fewer found
+round_changed P start old new changed budget fewer found x same steps more = record {
   same = same_then start old new x.same same;
   steps = steps_then P start old new x.steps steps;
   branch = still_branch P old new steps x.branch;
@@ -123,15 +144,21 @@ round_changed P start old new changed budget fewer x same steps more = record {
 }
 
 -- No goal is left to look at.
-pub round_ended : (P : NamedProgram) (old start now : Held) (changed : Bool) (budget : ℕ) (r : Round) → IsMoved old start
-    → RoundStands P start now changed budget → now.right ≡ [] → (r ≡ round.Changed → changed ≡ true) → (r ≡ round.Still → changed ≡ false)
-    → (r ≡ round.Failed → ⊥) → RoundIs P old now r
-round_ended P old start now changed budget round.Changed moved x over was unchanged never = moved_then old start now moved (x.progress
-    (was refl))
-round_ended P old start now changed budget round.Still moved x over was unchanged never = λ g h.
-    let idle = (x.idle (unchanged refl)).1 in
-    idle g (subst (λ (l : List Goal). Contains l g) (ap (λ (l : List Goal). now.left ++ l) over ∙ append-nil now.left) h)
-round_ended P old start now changed budget round.Failed moved x over was unchanged never = absurd (never refl)
+pub round_ended : (P : NamedProgram) (old start now : Held) (changed : Bool) (budget : ℕ) (found : Found) (r : Round) → IsMoved old start
+    → RoundStands P start now changed budget found → now.right ≡ [] → now.is_failed ≡ false → (r ≡ round.Changed → changed ≡ true)
+    → ((f : Found) → r ≡ round.Still f → (changed ≡ false) × (f ≡ found)) → (r ≡ round.Failed → ⊥) → RoundIs P old now r
+round_ended P old start now changed budget found round.Changed moved x over live was unchanged never =
+    moved_then old start now moved (x.progress (was refl))
+round_ended P old start now changed budget found (round.Still f) moved x over live was unchanged never =
+    let is = unchanged f refl in
+    let idle = x.idle is.0 in record {
+      still = λ g h. idle.1 g
+          (subst (λ (l : List Goal). Contains l g) (ap (λ (l : List Goal). now.left ++ l) over ∙ append-nil now.left) h);
+      rests = record { past = over; waits = λ g h a. (let here = idle.1 g h in here.waits) };
+      has = subst (λ (k : Found). HasFound P now.limit now.row now.left k) (sym is.1) idle.2;
+      live = live;
+    }
+round_ended P old start now changed budget found round.Failed moved x over live was unchanged never = absurd (never refl)
 
 -- ---- Measures
 
@@ -143,8 +170,9 @@ pub fewer_turns : (budget : ℕ) (old new : Held) → (budget ≡ 0 → ⊥) →
     → (budget - 1) * 2 ^ 64 + length new.right < budget * 2 ^ 64 + length old.right
 fewer_turns budget old new some few = omega arith
 
-pub passed_left : (P : NamedProgram) (may : Bool) (old new : Held) → HasPassed P may old new → length new.right < length old.right
-passed_left P may old new h = let e = ap (λ (l : List Goal). length l) h.next in omega arith
+pub passed_left : (P : NamedProgram) (may : Bool) (old new : Held) (goal : Goal) (seen : Seen) → HasPassed P may old new goal seen
+    → length new.right < length old.right
+passed_left P may old new goal seen h = let e = ap (λ (l : List Goal). length l) h.next in omega arith
 
 -- the rounds end, since the tree grows to its limit, or fewer goals are left
 pub fewer_rounds : (old new : Held) → new.used ≤ new.limit → new.limit ≡ old.limit → HasProgressed old new

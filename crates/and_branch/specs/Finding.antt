@@ -12,9 +12,11 @@ use Rattle.and_cells.specs.Seen.{word_at}
 use Rattle.and_branch_laws.specs.Kept.{item_at, node_item_at, HasFreePair}
 use Rattle.and_branch_laws.specs.Judging.{CandidateInCells, SoleInCells, FitsBehind}
 use Rattle.and_reduction.specs.Runs.{HasUnnamedPair}
-use Rattle.and_branch.specs.Branches.{is_arithmetic}
+use Rattle.and_branch.specs.Branches.{is_arithmetic, IsArithmeticGoal}
 use Rattle.and_branch.specs.declared.finding.Found.{Found}
 use Rattle.and_branch.specs.declared.finding.Found.TheVariants.{NoCall, Several, Heavy, Fitting, Stuck}
+use Rattle.and_branch.specs.declared.finding.Seen.{Seen}
+use Rattle.and_branch.specs.declared.finding.Seen.TheVariants as seen
 
 -- the goal is a call
 abbrev pub IsCallGoal : NamedProgram → Goal → Type 0
@@ -112,3 +114,18 @@ with_one (Several first) goal clause fits = cond fits (Fitting goal clause) (Hea
 with_one (Heavy first heavy) goal clause fits = cond fits (Fitting goal clause) (Heavy first heavy)
 with_one (Fitting first fitting) goal clause fits = Fitting first fitting
 with_one Stuck goal clause fits = Stuck
+
+-- what is found with one more goal behind, of which this was seen
+abbrev pub with_seen : Found → Goal → Seen → Found
+with_seen f goal seen.Arithmetic = f
+with_seen f goal seen.Several = with_several f goal
+with_seen f goal (seen.Heavy clause) = with_one f goal clause false
+with_seen f goal seen.NotJudged = f
+
+-- That is what the goal is in the row.
+abbrev pub HasSeen : NamedProgram → ℕ → List Ref → Goal → Seen → Type 0
+HasSeen P limit row goal seen.Arithmetic = IsArithmeticGoal P goal
+HasSeen P limit row goal seen.Several = IsCallGoal P goal × HasTwo P row goal
+HasSeen P limit row goal (seen.Heavy clause) =
+    IsCallGoal P goal × SoleInCells P row goal clause.0 × (FitsBehind P limit row clause.0 → ⊥)
+HasSeen P limit row goal seen.NotJudged = ⊥

@@ -1,21 +1,30 @@
 -- Rounds over the goals of a branch.
-use Rattle.std.specs.Prelude.{ℕ, ◌≡◌, ◌<◌, ◌+◌, ◌^◌, ◌⊎◌, Bool, true, false, List, [], ◌∷◌, ◌++◌, length, Contains}
+use Rattle.std.specs.Prelude.{ℕ, ◌≡◌, ◌<◌, ◌+◌, ◌^◌, ◌⊎◌, Bool, true, false, List, [], ◌∷◌, ◌++◌, length, Contains, Option, Some, None}
 use Rattle.and_model.specs.Terms.{Term}
-use Rattle.and_model.specs.Programs.{call}
+use Rattle.and_model.specs.Programs.{call, Of}
 use Rattle.and_model.specs.Trees.{QueryTree}
 use Rattle.and_model.specs.Reached.{Steps}
+use Rattle.and_model.specs.Stands.{term_of}
 use Rattle.and_model.specs.declared.goal.Goal.{Goal}
 use Rattle.and_model.specs.declared.reference.Ref.{Ref}
 use Rattle.and_cells.specs.Ranges.{NamedProgram}
-use Rattle.and_branch_laws.specs.Judging.{SoleInCells, FitsBehind}
+use Rattle.and_branch_laws.specs.Judging.{CandidateInCells, SoleInCells, FitsBehind}
 use Rattle.and_branch_laws.specs.Kept.{item_at}
 use Rattle.and_reduction.specs.Runs.{IsWaiting}
 use Rattle.and_branch.specs.Branches.{Held, IsBranch, IsBranchOf}
+use Rattle.and_branch.specs.Finding.{HasFound, HasSeen}
 use Rattle.and_branch.specs.Next.{IsMoved}
+use Rattle.and_branch.specs.Resting.{IsResting}
 use Rattle.and_branch.specs.declared.advancing.Looked.{Looked}
 use Rattle.and_branch.specs.declared.advancing.Looked.TheVariants.{Ended, Passed, Ran, Reduced, Failed}
 use Rattle.and_branch.specs.declared.advancing.Round.{Round}
 use Rattle.and_branch.specs.declared.advancing.Round.TheVariants as round
+use Rattle.and_branch.specs.declared.finding.Found.{Found}
+use Rattle.and_branch.specs.declared.finding.Seen.{Seen}
+
+-- The clause is one of the call's predicate, and no other one is a candidate.
+abbrev pub IsAtMost : NamedProgram → List Ref → Goal → ℕ → Type 0
+IsAtMost P row g c = Of P.program (term_of P.program g) c × ((d : ℕ) → CandidateInCells P row g d → d ≡ c)
 
 -- Nothing is to be done for the goal in the row: it is arithmetic that waits, or a call that has no candidate alone which fits.
 pub record IsIdle (P : NamedProgram) (limit : ℕ) (row : List Ref) (g : Goal) : Type 0 where
@@ -42,26 +51,37 @@ AreFew b = goal_count b < 2 ^ 64
 abbrev pub HasProgressed : (old new : Held) → Type 0
 HasProgressed old new = AreFew new × ((old.used < new.used) ⊎ ((new.used ≡ old.used) × (goal_count new < goal_count old)))
 
--- The next goal was passed over; and if it might have been reduced, nothing is to be done for it.
-pub record HasPassed (P : NamedProgram) (may : Bool) (old new : Held) : Type 0 where
+-- The next goal was passed over; and if it might have been reduced, nothing is to be done for it, and this was seen of it.
+pub record HasPassed (P : NamedProgram) (may : Bool) (old new : Held) (goal : Goal) (seen : Seen) : Type 0 where
   pub moved : IsMoved old new
-  pub goal : Goal
   pub next : old.right ≡ goal ∷ new.right
   pub passed : new.left ≡ old.left ++ goal ∷ []
-  pub idle : may ≡ true → IsIdle P old.limit old.row goal
+  pub idle : may ≡ true → IsIdle P old.limit old.row goal × HasSeen P old.limit old.row goal seen
 
 -- what a look at the next goal came to
 abbrev pub LookIs : NamedProgram → (may : Bool) → (old new : Held) → Looked → Type 0
-LookIs P may old new Ended = (new ≡ old) × (old.right ≡ [])
-LookIs P may old new Passed = HasPassed P may old new
+LookIs P may old new Ended = (new ≡ old) × (old.right ≡ []) × (old.is_failed ≡ false)
+LookIs P may old new (Passed goal seen) = HasPassed P may old new goal seen
 LookIs P may old new Ran = HasProgressed old new × (new.used ≡ old.used) × (length new.right < length old.right)
 LookIs P may old new Reduced = HasProgressed old new × (may ≡ true) × (old.used < new.used)
 LookIs P may old new Failed = new.is_failed ≡ true
 
+-- The branch is at work behind its goals, for none of which anything is to be done, and this was found of them.
+pub record IsStillWith (P : NamedProgram) (b : Held) (found : Found) : Type 0 where
+  pub still : IsStill P b
+  pub rests : IsResting P b
+  pub has : HasFound P b.limit b.row b.left found
+  pub live : b.is_failed ≡ false
+
+-- So it is where that was found; else the branch is marked failed.
+abbrev pub HasStilled : NamedProgram → Held → Option Found → Type 0
+HasStilled P b None = b.is_failed ≡ true
+HasStilled P b (Some found) = IsStillWith P b found
+
 -- what a round came to
 abbrev pub RoundIs : NamedProgram → (old new : Held) → Round → Type 0
 RoundIs P old new round.Changed = HasProgressed old new
-RoundIs P old new round.Still = IsStill P new
+RoundIs P old new (round.Still found) = IsStillWith P new found
 RoundIs P old new round.Failed = new.is_failed ≡ true
 
 -- The branch is not failed, and this is its next goal.

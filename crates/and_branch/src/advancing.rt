@@ -2,28 +2,30 @@
 
 ghost use Rattle.std.specs.Prelude.{◌≡◌, ◌≢◌, ◌≤◌, ◌+◌, [], ◌∷◌, ℕ, true, false, List, length, Ok, OnOk, IfOk};
 ghost use Rattle.and_model.specs.Terms.{Term};
-ghost use Rattle.and_model.specs.Programs.{call, Arithmetic, arithmetic};
+ghost use Rattle.and_model.specs.Programs.{call, Arithmetic, arithmetic, clause_at, clause_weight};
 ghost use Rattle.and_model.specs.Trees.{QueryTree, Open};
 ghost use Rattle.and_model.specs.Reached.{Steps};
 ghost use Rattle.and_model.specs.declared.limits.TheConstants.{MAX_LIMIT};
 ghost use Rattle.and_model.specs.declared.goal.Goal.{Goal};
 ghost use Rattle.and_cells.specs.Meaning.{IsSettled};
 ghost use Rattle.and_cells.specs.Parts.{named};
-ghost use Rattle.and_determinacy.specs.Candidates.{CanBeJudged, IsJudged};
+ghost use Rattle.and_determinacy.specs.Candidates.{CanBeJudged, IsJudged, IsNarrowed};
 ghost use Rattle.and_determinacy.specs.Tables.{IsTableOf};
 ghost use Rattle.and_reduction.specs.Runs.{CanBeRun, IsWaiting, HasRun, CannotHold};
-ghost use Rattle.and_branch_laws.specs.Judging.{SoleInCells};
+ghost use Rattle.and_branch_laws.specs.Judging.{CandidateInCells};
 ghost use Rattle.and_branch_laws.specs.Kept.{item_at};
 ghost use Rattle.and_branch_laws.specs.States.{StateOf, determinate};
 ghost use Rattle.and_branch.specs.Branches.{IsBranch, IsBranchOf, SameKey};
-ghost use Rattle.and_branch.specs.Rounds.{StepsOn, AreFew, LookIs, RoundIs, IsAt};
+ghost use Rattle.and_branch.specs.Rounds.{StepsOn, AreFew, IsAtMost, LookIs, RoundIs, HasStilled, IsAt};
+ghost use Rattle.and_branch.specs.declared.finding.Found.{Found};
 
 use crate::branch::Branch;
+use crate::finding::{Found, Seen, with_seen};
 use crate::goals::is_call;
 use crate::seeking::last_of;
 use crate::workspace::Workspace;
 use and_cells::Naming;
-use and_determinacy::{Determinacy, Judged, judge};
+use and_determinacy::{Determinacy, Judged, Narrowed, judge, narrow};
 use and_model::{ClauseNo, Goal};
 use and_program::Loaded;
 use and_reduction::{Ran, run};
@@ -38,8 +40,8 @@ const FIRST_ROUND: u32 = 64;
 pub(crate) enum Looked {
     /// There is no next goal.
     Ended,
-    /// The goal was passed over.
-    Passed,
+    /// The goal was passed over, and this was seen of it.
+    Passed { goal: Goal, seen: Seen },
     /// It was arithmetic, and was run.
     Ran,
     /// It was a call, and was reduced.
@@ -64,8 +66,8 @@ enum Next {
 pub(crate) enum Round {
     /// Some goal was run or reduced.
     Changed,
-    /// None was: for none is anything to be done.
-    Still,
+    /// None was: for none is anything to be done, and this was found of them.
+    Still(Found),
     /// The tree is dead.
     Failed,
 }
@@ -90,12 +92,32 @@ impl<N: Naming> Branch<N> {
             → StateOf N.program.program self.new.limit t (determinate o c) → ⊥) }
     {
         loaded.skeleton_is_of_the_program();
+        let _found = self.go_rounds(loaded, table, workspace)?;
+        Ok(())
+    }
+
+    /// Rounds over the goals, until for none is anything to be done. Answers what was found of them
+    /// then, or nothing where the branch is marked failed. An error is want of memory, and the branch is
+    /// spent.
+    pub(crate) fn go_rounds(
+        &mut self,
+        loaded: &Loaded,
+        table: &Determinacy,
+        workspace: &mut Workspace,
+    ) -> Result<Option<Found>, AllocError>
+        requires program { N.program ≡ named loaded.now }
+        requires table { IsTableOf N.program table.now }
+        requires branch { IsBranch N.program self.old }
+        ensures same { SameKey self.old self.new }
+        ensures steps { OnOk result (StepsOn N.program self.old self.new) }
+        ensures stilled { IfOk result (HasStilled N.program self.new) }
+    {
         let mut most = FIRST_ROUND;
         'rounds: loop {
             match self.go_round(loaded, table, most, workspace)? {
                 Round::Changed => most = most.saturating_mul(2),
-                Round::Still => return Ok(()),
-                Round::Failed => return Ok(()),
+                Round::Still(found) => return Ok(Some(found)),
+                Round::Failed => return Ok(None),
             }
         }
     }
@@ -120,10 +142,11 @@ impl<N: Naming> Branch<N> {
         self.rewind()?;
         let mut budget = most;
         let mut changed = false;
+        let mut found = Found::NoCall;
         'goals: loop {
             match self.look(loaded, table, budget > 0, workspace)? {
-                Looked::Ended => return Ok(ended(changed)),
-                Looked::Passed => {}
+                Looked::Ended => return Ok(ended(changed, found)),
+                Looked::Passed { goal, seen } => found = with_seen(found, goal, seen),
                 Looked::Ran => changed = true,
                 Looked::Reduced => {
                     budget -= 1;
@@ -182,44 +205,95 @@ impl<N: Naming> Branch<N> {
         ensures came_to { IfOk result (λ l. LookIs N.program may self.old self.new l) }
     {
         loaded.skeleton_is_of_the_program();
-        match self.judge_next(loaded, table, goal, workspace)? {
-            Judged::Nothing => {
+        match self.narrow_next(loaded, table, goal, workspace)? {
+            Narrowed::Nothing => {
                 self.mark_failed();
                 Ok(Looked::Failed)
             }
-            Judged::One(clause) => self.look_at_sole(loaded, goal, clause, may, workspace),
-            Judged::Several => {
+            Narrowed::AtMost(clause) => {
+                self.look_at_last(loaded, table, goal, clause, may, workspace)
+            }
+            Narrowed::Several => {
                 self.pass()?;
-                Ok(Looked::Passed)
+                Ok(Looked::Passed {
+                    goal,
+                    seen: Seen::Several,
+                })
             }
         }
     }
 
-    /// The same, where the call has this candidate alone.
-    fn look_at_sole(
+    /// The same, where no clause but this one can be a candidate of the call. It is reduced by this
+    /// clause without a trial: where the head does not fit, the branch is marked failed.
+    fn look_at_last(
         &mut self,
         loaded: &Loaded,
+        table: &Determinacy,
         goal: Goal,
         clause: ClauseNo,
         may: bool,
         workspace: &mut Workspace,
     ) -> Result<Looked, AllocError>
         requires program { N.program ≡ named loaded.now }
+        requires table { IsTableOf N.program table.now }
         requires at { IsAt N.program self.old goal }
         requires call { (term : Term) × (item_at N.program.program goal ≡ call term) }
-        requires sole { SoleInCells N.program self.old.row goal clause.0 }
+        requires last { IsAtMost N.program self.old.row goal clause.0 }
         ensures same { SameKey self.old self.new }
         ensures steps { OnOk result (StepsOn N.program self.old self.new) }
         ensures came_to { IfOk result (λ l. LookIs N.program may self.old self.new l) }
     {
         loaded.skeleton_is_of_the_program();
-        if may && self.has_room(loaded.weight(clause)) {
-            self.reduce_next(loaded, clause, workspace)?;
-            self.goals_are_few();
-            return Ok(Looked::Reduced);
+        if !may {
+            self.pass()?;
+            return Ok(Looked::Passed {
+                goal,
+                seen: Seen::NotJudged,
+            });
         }
-        self.pass()?;
-        Ok(Looked::Passed)
+        if !self.has_room(loaded.weight(clause)) {
+            return self.look_at_heavy(loaded, table, goal, clause, workspace);
+        }
+        self.reduce_next(loaded, clause, workspace)?;
+        self.goals_are_few();
+        Ok(Looked::Reduced)
+    }
+
+    /// The same, where there is no room for that clause. It has to be tried here, since a clause that
+    /// is no candidate cuts nothing off.
+    fn look_at_heavy(
+        &mut self,
+        loaded: &Loaded,
+        table: &Determinacy,
+        goal: Goal,
+        clause: ClauseNo,
+        workspace: &mut Workspace,
+    ) -> Result<Looked, AllocError>
+        requires program { N.program ≡ named loaded.now }
+        requires table { IsTableOf N.program table.now }
+        requires at { IsAt N.program self.old goal }
+        requires call { (term : Term) × (item_at N.program.program goal ≡ call term) }
+        requires only { (d : ℕ) → CandidateInCells N.program self.old.row goal d → d ≡ clause.0 }
+        requires no_room { self.old.used + clause_weight (clause_at N.program.program clause.0) ≤ self.old.limit → ⊥ }
+        ensures same { SameKey self.old self.new }
+        ensures steps { OnOk result (StepsOn N.program self.old self.new) }
+        ensures came_to { IfOk result (λ l. LookIs N.program true self.old self.new l) }
+    {
+        loaded.skeleton_is_of_the_program();
+        match self.judge_next(loaded, table, goal, workspace)? {
+            Judged::Nothing => {
+                self.mark_failed();
+                Ok(Looked::Failed)
+            }
+            Judged::One(sole) => {
+                self.pass()?;
+                Ok(Looked::Passed {
+                    goal,
+                    seen: Seen::Heavy(sole),
+                })
+            }
+            Judged::Several => unreachable!(),
+        }
     }
 
     /// The same, where the next goal is this one, arithmetic.
@@ -241,7 +315,10 @@ impl<N: Naming> Branch<N> {
         match self.run_next(loaded, goal, workspace)? {
             Ran::Waits => {
                 self.pass()?;
-                Ok(Looked::Passed)
+                Ok(Looked::Passed {
+                    goal,
+                    seen: Seen::Arithmetic,
+                })
             }
             Ran::Done => {
                 self.drop_next();
@@ -257,7 +334,7 @@ impl<N: Naming> Branch<N> {
     /// What comes next.
     fn next_goal(&self) -> Next
         ensures failed { result ≡ Next.Failed → self.now.is_failed ≡ true }
-        ensures nothing { result ≡ Next.Nothing → self.now.right ≡ [] }
+        ensures nothing { result ≡ Next.Nothing → (self.now.is_failed ≡ false) × (self.now.right ≡ []) }
         ensures goal { (g : Goal) → result ≡ Next.Goal g → (self.now.is_failed ≡ false) × (rest : List Goal) × (self.now.right ≡ g ∷ rest) }
     {
         if self.is_failed {
@@ -267,6 +344,27 @@ impl<N: Naming> Branch<N> {
             Some(goal) => Next::Goal(goal),
             None => Next::Nothing,
         }
+    }
+
+    /// Narrows the candidates of the next goal, a call. An error is want of memory, and the branch is
+    /// spent.
+    fn narrow_next(
+        &mut self,
+        loaded: &Loaded,
+        table: &Determinacy,
+        goal: Goal,
+        workspace: &mut Workspace,
+    ) -> Result<Narrowed, AllocError>
+        requires program { N.program ≡ named loaded.now }
+        requires table { IsTableOf N.program table.now }
+        requires settled { IsSettled N.program self.old.row }
+        requires short { length self.old.row ≤ MAX_LIMIT }
+        requires goal { CanBeJudged N.program self.old.row goal }
+        ensures same { SameKey self.old self.new }
+        ensures narrowed { IfOk result (IsNarrowed N.program self.old.row goal) }
+        ensures unchanged { OnOk result (self.new ≡ self.old) }
+    {
+        narrow(table, loaded, &mut self.cells, goal, &mut workspace.trials)
     }
 
     /// Judges the next goal, a call. An error is want of memory, and the branch is spent.
@@ -343,15 +441,15 @@ impl<N: Naming> Branch<N> {
     }
 }
 
-/// What a round came to that went over all goals.
-fn ended(changed: bool) -> Round
+/// What a round came to that went over all goals, and found this of them.
+fn ended(changed: bool, found: Found) -> Round
     ensures changed { result ≡ Round.Changed → changed ≡ true }
-    ensures still { result ≡ Round.Still → changed ≡ false }
+    ensures still { (f : Found) → result ≡ Round.Still f → (changed ≡ false) × (f ≡ found) }
     ensures never { result ≢ Round.Failed }
 {
     if changed {
         Round::Changed
     } else {
-        Round::Still
+        Round::Still(found)
     }
 }

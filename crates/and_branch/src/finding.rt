@@ -8,7 +8,7 @@ ghost use Rattle.and_cells.specs.Parts.{named};
 ghost use Rattle.and_cells.specs.Ranges.{IsGoalInRange};
 ghost use Rattle.and_determinacy.specs.Tables.{IsTableOf};
 ghost use Rattle.and_branch.specs.Branches.{IsArithmeticGoal};
-ghost use Rattle.and_branch.specs.Finding.{IsSeen, HasFound, with_several, with_one};
+ghost use Rattle.and_branch.specs.Finding.{IsSeen, HasFound, with_several, with_one, with_seen};
 
 use crate::forking::fits;
 use and_cells::{Naming, PlainCells};
@@ -30,6 +30,31 @@ pub(crate) enum Found {
     Fitting { goal: Goal, clause: ClauseNo },
     /// A call has no candidate.
     Stuck,
+}
+
+/// What was seen of a goal that was passed over.
+#[derive(Clone, Copy)]
+pub(crate) enum Seen {
+    /// Arithmetic, which waits.
+    Arithmetic,
+    /// A call of two candidates or more.
+    Several,
+    /// A call of this candidate alone, for which there is no room.
+    Heavy(ClauseNo),
+    /// A call that was not judged.
+    NotJudged,
+}
+
+/// What is found with one more goal behind, of which this was seen.
+pub(crate) fn with_seen(found: Found, goal: Goal, seen: Seen) -> Found
+    ensures { result ≡ with_seen found goal seen }
+{
+    match seen {
+        Seen::Arithmetic => found,
+        Seen::Several => with_several(found, goal),
+        Seen::Heavy(clause) => with_one(found, goal, clause, false),
+        Seen::NotJudged => found,
+    }
 }
 
 /// What is found with one more call behind, of several candidates.

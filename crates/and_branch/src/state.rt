@@ -1,13 +1,15 @@
 //! The state of a branch: what its tree allows next.
 
-ghost use Rattle.std.specs.Prelude.{◌≡◌, ◌≢◌, [], Some, false, OnOk, IfOk, IsSome};
-ghost use Rattle.and_model.specs.Trees.{QueryTree};
+ghost use Rattle.std.specs.Prelude.{ℕ, ◌≡◌, ◌≢◌, [], Some, false, OnOk, IfOk, IsSome};
+ghost use Rattle.and_model.specs.Trees.{QueryTree, Open};
+ghost use Rattle.and_model.specs.Reached.{Steps};
 ghost use Rattle.and_model.specs.declared.goal.Cut.{Cut};
 ghost use Rattle.and_cells.specs.Parts.{named};
 ghost use Rattle.and_code.specs.Written.{all_written};
 ghost use Rattle.and_determinacy.specs.Tables.{IsTableOf};
 ghost use Rattle.and_branch.specs.Branches.{IsBranch, IsBranchOf, SameKey};
-ghost use Rattle.and_branch.specs.Finding.{AllCalls, IsSeveral};
+ghost use Rattle.and_branch_laws.specs.States.{StateOf, determinate};
+ghost use Rattle.and_branch.specs.Finding.{AllCalls, IsSeveral, HasFound};
 ghost use Rattle.and_branch.specs.Forking.{HasCutBy};
 ghost use Rattle.and_branch.specs.Resting.{SameTree, IsResting};
 ghost use Rattle.and_branch.specs.States.{IsState, IsAtRest};
@@ -77,6 +79,34 @@ impl<N: Naming> Branch<N> {
         self.judged(loaded, table, workspace)
     }
 
+    /// Reduces determinate goals until none is left that fits, and tells what the tree allows then: what
+    /// `advance` and then `state` do, but each goal is judged once where it has come to rest. An error is
+    /// want of memory, and the branch is spent.
+    pub fn advance_to_state(
+        &mut self,
+        loaded: &Loaded,
+        table: &Determinacy,
+        workspace: &mut Workspace,
+    ) -> Result<BranchState, AllocError>
+        requires program { N.program ≡ named loaded.now }
+        requires table { IsTableOf N.program table.now }
+        requires branch { IsBranch N.program self.old }
+        ensures same { SameKey self.old self.new }
+        ensures steps { OnOk result ((t : QueryTree N.program.program) → IsBranchOf N.program self.old t
+            → (u : QueryTree N.program.program) × IsBranchOf N.program self.new u × Steps t u) }
+        ensures judged { IfOk result (λ s. (t : QueryTree N.program.program) → IsBranchOf N.program self.new t
+            → IsState N.program self.new t s) }
+        ensures at_rest { IfOk result (λ s. IsAtRest N.program self.new s) }
+        ensures done { OnOk result ((t : QueryTree N.program.program) (o : Open t) (c : ℕ) → IsBranchOf N.program self.new t
+            → StateOf N.program.program self.new.limit t (determinate o c) → ⊥) }
+    {
+        loaded.skeleton_is_of_the_program();
+        match self.go_rounds(loaded, table, workspace)? {
+            Some(found) => self.told(loaded, table, found, workspace),
+            None => Ok(BranchState::Failed),
+        }
+    }
+
     /// The state of a branch at rest. An error is want of memory, and the branch is spent.
     fn judged(
         &mut self,
@@ -104,6 +134,30 @@ impl<N: Naming> Branch<N> {
             limit,
             &mut workspace.trials,
         )?;
+        self.told(loaded, table, found, workspace)
+    }
+
+    /// The state of a branch at rest, of whose goals this was found. An error is want of memory, and the
+    /// branch is spent.
+    fn told(
+        &mut self,
+        loaded: &Loaded,
+        table: &Determinacy,
+        found: Found,
+        workspace: &mut Workspace,
+    ) -> Result<BranchState, AllocError>
+        requires program { N.program ≡ named loaded.now }
+        requires table { IsTableOf N.program table.now }
+        requires branch { IsBranch N.program self.old }
+        requires live { self.old.is_failed ≡ false }
+        requires rests { IsResting N.program self.old }
+        requires found { HasFound N.program self.old.limit self.old.row self.old.left found }
+        ensures same { SameTree self.old self.new }
+        ensures stays { OnOk result (self.new ≡ self.old) }
+        ensures judged { IfOk result (λ s. (t : QueryTree N.program.program) → IsBranchOf N.program self.old t
+            → IsState N.program self.old t s) }
+    {
+        loaded.skeleton_is_of_the_program();
         match found {
             Found::NoCall => Ok(self.ended(loaded)),
             Found::Several { goal } => self.forked(loaded, table, goal, workspace),

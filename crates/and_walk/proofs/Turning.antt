@@ -49,30 +49,25 @@ module _ (P : NamedProgram) where
       done.2 x.0 k.0 x.2
 
 module _ {N : Type 0} (P : NamedProgram) (limit : ℕ) where
-  -- A branch that was advanced, and then judged.
-  module _ (found : Found) (b d e : Held) (stack : List (Task N)) (w : Walking P limit found (One b ∷ stack)) (advanced : SameKey b d)
-      (judged : SameKey d e)
-      (steps : (t : QueryTree P.program) → IsBranchOf P b t → (u : QueryTree P.program) × IsBranchOf P d u × Steps t u)
-      (stays : (t : QueryTree P.program) → IsBranchOf P d t → IsBranchOf P e t) where
-    both : Walking P limit found (One e ∷ stack) × (turns limit (One e ∷ stack) ≤ turns limit (One b ∷ stack))
-    both =
-        let first = stepped P limit found b d stack w advanced steps in
-        let second = stepped P limit found d e stack first.0 judged (λ t branch. (t, stays t branch, Steps.none t)) in
-        (second.0, omega (arith, first.1, second.1))
+  -- A branch that was advanced.
+  module _ (found : Found) (b d : Held) (stack : List (Task N)) (w : Walking P limit found (One b ∷ stack)) (advanced : SameKey b d)
+      (steps : (t : QueryTree P.program) → IsBranchOf P b t → (u : QueryTree P.program) × IsBranchOf P d u × Steps t u) where
+    pub advanced_walks : Walking P limit found (One d ∷ stack)
+    advanced_walks = (stepped P limit found b d stack w advanced steps).0
 
-    pub judged_walks : Walking P limit found (One e ∷ stack)
-    judged_walks = both.0
-
-    pub judged_advanced : ((t : QueryTree P.program) (o : Open t) (c : ℕ) → IsBranchOf P d t
-        → StateOf P.program d.limit t (determinate o c) → ⊥) → IsAdvanced P e
-    judged_advanced done =
+    pub is_advanced : ((t : QueryTree P.program) (o : Open t) (c : ℕ) → IsBranchOf P d t
+        → StateOf P.program d.limit t (determinate o c) → ⊥) → IsAdvanced P d
+    is_advanced done =
         let x = top_of P limit found b stack w in
         let (u, branch, goes) = steps x.tree x.branch in
-        (u, stays u branch, λ o c s. done u o c branch (subst (λ n. StateOf P.program n u (determinate o c)) judged.limit s))
+        (u, branch, λ o c s. done u o c branch s)
 
-    pub judged_goes : (new : Found) (after : List (Task N)) → GoesOn P limit (One e ∷ stack) new after
+    pub advanced_goes : (new : Found) (after : List (Task N)) → GoesOn P limit (One d ∷ stack) new after
         → GoesOn P limit (One b ∷ stack) new after
-    judged_goes new after x = record { walking = x.walking; fewer = (let less = both.1 in omega (arith, x.fewer, less)) }
+    advanced_goes new after x = record {
+      walking = x.walking;
+      fewer = let less = (stepped P limit found b d stack w advanced steps).1 in omega (arith, x.fewer, less);
+    }
 
   -- A walk begins with the branch of the query, on an empty stack,
   pub begun_on : (found : Found) (b : Held) (stack : List (Task N)) → stack ≡ [] → listed found ≡ []

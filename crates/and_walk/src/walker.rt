@@ -168,8 +168,7 @@ impl<N: Naming> Walker<N> {
             self.new.found (reverse self.new.stack.items)) }
         ensures limit { self.new.limit ≡ self.old.limit }
     {
-        branch.advance(loaded, table, &mut self.workspace)?;
-        let state = branch.state(loaded, table, &mut self.workspace)?;
+        let state = branch.advance_to_state(loaded, table, &mut self.workspace)?;
         self.go_by(alloc, loaded, branch, state)
     }
 

@@ -1,59 +1,13 @@
-use Rattle.std.proofs.Common.{refl, subst, arith}
-use Rattle.and_branch.specs.Rounds.{RoundIs}
-use Rattle.and_branch.specs.declared.advancing.Round.{Round}
 use Rattle.and_branch.proofs.LoadedPrograms.{is_loaded}
-use Rattle.and_branch.proofs.LookedGoals.{no_steps, steps_then, still_branch}
-use Rattle.and_branch.proofs.GoalsRun.{branch_fits}
-use Rattle.and_branch.proofs.RoundsDone
-use Rattle.and_branch.proofs.RoundsKept.{fewer_rounds, same_then}
+use Rattle.and_branch.proofs.RoundsDone.{stilled_branch}
 use Rattle.and_branch.proofs.branch.Branch.advance.Goals as goal
 
-pub rounds-init : goal.rounds-init
-rounds-init g c = record {
-  same = record { key = refl; limit = refl };
-  steps = no_steps g.N.Naming.program c.args.self.now;
-  branch = c.requires.branch;
-  some = omega arith;
-}
+pub returns-clause-steps : goal.returns-clause-steps
+returns-clause-steps g c = let on = c.in_ok-_found.ensures.steps in on.each
 
-pub rounds-preserved : goal.rounds-preserved
-rounds-preserved g c =
-    let P = g.N.Naming.program in record {
-      same = same_then c.args.self.now c.rounds.self c.go_round.new.self c.rounds.invariant.same c.go_round.ensures.same;
-      steps = steps_then P c.args.self.now c.rounds.self c.go_round.new.self c.rounds.invariant.steps c.in_ok-go_round.ensures.steps;
-      branch = still_branch P c.rounds.self c.go_round.new.self c.in_ok-go_round.ensures.steps c.rounds.invariant.branch;
-      some = let e = c.saturating_mul-most.ensures in let s = c.rounds.invariant.some in omega arith;
-    }
-
-pub rounds-smaller : goal.rounds-smaller
-rounds-smaller g c =
-    let P = g.N.Naming.program in
-    let came = subst (λ (r : Round). RoundIs P c.rounds.self c.go_round.new.self r) c.in-Changed.is c.in_ok-go_round.ensures.came_to in
-    let branch = still_branch P c.rounds.self c.go_round.new.self c.in_ok-go_round.ensures.steps c.rounds.invariant.branch in
-    fewer_rounds c.rounds.self c.go_round.new.self (branch_fits P c.go_round.new.self branch.0 branch.1) c.go_round.ensures.same.limit came
-
-pub returns-in-Still-clause-steps : goal.returns-in-Still-clause-steps
-returns-in-Still-clause-steps g c = λ t x.
-    let P = g.N.Naming.program in
-    let all = steps_then P c.args.self.now c.rounds.self c.go_round.new.self c.rounds.invariant.steps c.in_ok-go_round.ensures.steps in
-    all.each t x
-
-pub returns-in-Failed-clause-steps : goal.returns-in-Failed-clause-steps
-returns-in-Failed-clause-steps g c = λ t x.
-    let P = g.N.Naming.program in
-    let all = steps_then P c.args.self.now c.rounds.self c.go_round.new.self c.rounds.invariant.steps c.in_ok-go_round.ensures.steps in
-    all.each t x
-
-pub returns-in-Still-clause-done : goal.returns-in-Still-clause-done
-returns-in-Still-clause-done g c = λ t o k x state.
+pub returns-clause-done : goal.returns-clause-done
+returns-clause-done g c =
     let P = g.N.Naming.program in
     let says = c.skeleton_is_of_the_program.ensures in
     let loaded = is_loaded P c.args.loaded.now c.requires.program says.skeleton says.own_variables says.few in
-    let came = subst (λ (r : Round). RoundIs P c.rounds.self c.go_round.new.self r) c.in-Still.is c.in_ok-go_round.ensures.came_to in
-    RoundsDone.still_branch P loaded c.go_round.new.self t x came o k state
-
-pub returns-in-Failed-clause-done : goal.returns-in-Failed-clause-done
-returns-in-Failed-clause-done g c = λ t o k x state.
-    let P = g.N.Naming.program in
-    let came = subst (λ (r : Round). RoundIs P c.rounds.self c.go_round.new.self r) c.in-Failed.is c.in_ok-go_round.ensures.came_to in
-    RoundsDone.failed_branch P c.go_round.new.self t x came o k state
+    stilled_branch P loaded c.go_rounds.new.self c.in_ok-_found._found c.in_ok-_found.ensures.stilled

@@ -3,6 +3,7 @@ use Rattle.std.proofs.lemmas.Bool.Decides.{nat_tests}
 use Rattle.and_branch.specs.Branches.{Held}
 use Rattle.and_branch.specs.Rounds.{LookIs}
 use Rattle.and_branch.specs.declared.advancing.Looked.{Looked}
+use Rattle.and_branch.specs.declared.finding.Found.{Found}
 use Rattle.and_branch.proofs.LookedGoals.{moved_steps, steps_then, still_branch}
 use Rattle.and_branch.proofs.RoundsKept.{RoundStands, round_begun, round_passed, round_changed, round_ended}
 use Rattle.and_branch.proofs.branch.Branch.go_round.Goals as goal
@@ -33,25 +34,27 @@ returns-in-Ended-clause-came_to g c =
     let P = g.N.Naming.program in
     let came = subst (λ (l : Looked). LookIs P
     (nat_lt 0 c.goals.budget) c.goals.self c.look.new.self l) c.in-Ended.is c.in_ok-look.ensures.came_to in
-    let stands = subst (λ (b : Held). RoundStands P c.rewind.new.self b c.goals.changed c.goals.budget) (sym came.0) c.goals.invariant in
-    round_ended P c.args.self.now c.rewind.new.self c.look.new.self c.goals.changed c.goals.budget c.ended.result
-    c.in_ok-rewind.ensures.moved stands (ap (λ (b : Held). b.right) came.0 ∙ came.1) c.ended.ensures.changed c.ended.ensures.still
-    c.ended.ensures.never
+    let stands = subst (λ (b : Held). RoundStands P c.rewind.new.self b c.goals.changed c.goals.budget c.goals.found) (sym came.0) c.goals.invariant in
+    round_ended P c.args.self.now c.rewind.new.self c.look.new.self c.goals.changed c.goals.budget c.goals.found c.ended.result
+    c.in_ok-rewind.ensures.moved stands (ap (λ (b : Held). b.right) came.0 ∙ came.1)
+    (ap (λ (b : Held). b.is_failed) came.0 ∙ came.2) c.ended.ensures.changed c.ended.ensures.still c.ended.ensures.never
 
 pub goals-preserved-in-Passed : goal.goals-preserved-in-Passed
 goals-preserved-in-Passed g c =
     let P = g.N.Naming.program in
     let came = subst (λ (l : Looked). LookIs P
     (nat_lt 0 c.goals.budget) c.goals.self c.look.new.self l) c.in-Passed.is c.in_ok-look.ensures.came_to in
-    round_passed P c.rewind.new.self c.goals.self c.look.new.self c.goals.changed (nat_lt 0 c.goals.budget) c.goals.budget
-    (λ some. grind (arith, nat_tests)) c.goals.invariant c.look.ensures.same c.in_ok-look.ensures.steps came
+    subst (λ (f : Found). RoundStands P c.rewind.new.self c.look.new.self c.goals.changed c.goals.budget f) (sym c.with_seen-found.ensures)
+    (round_passed P c.rewind.new.self c.goals.self c.look.new.self c.goals.changed (nat_lt 0 c.goals.budget) c.goals.budget c.goals.found
+    c.in-Passed.goal c.in-Passed.seen
+    (λ some. grind (arith, nat_tests)) c.goals.invariant c.look.ensures.same c.in_ok-look.ensures.steps came)
 
 pub goals-preserved-in-Ran : goal.goals-preserved-in-Ran
 goals-preserved-in-Ran g c =
     let P = g.N.Naming.program in
     let came = subst (λ (l : Looked). LookIs P
     (nat_lt 0 c.goals.budget) c.goals.self c.look.new.self l) c.in-Ran.is c.in_ok-look.ensures.came_to in
-    round_changed P c.rewind.new.self c.goals.self c.look.new.self c.goals.changed c.goals.budget c.goals.budget c.goals.invariant
+    round_changed P c.rewind.new.self c.goals.self c.look.new.self c.goals.changed c.goals.budget c.goals.budget c.goals.found c.goals.invariant
     c.look.ensures.same c.in_ok-look.ensures.steps came.0
 
 pub goals-preserved : goal.goals-preserved
@@ -59,5 +62,5 @@ goals-preserved g c =
     let P = g.N.Naming.program in
     let came = subst (λ (l : Looked). LookIs P
     (nat_lt 0 c.goals.budget) c.goals.self c.look.new.self l) c.in-Reduced.is c.in_ok-look.ensures.came_to in
-    round_changed P c.rewind.new.self c.goals.self c.look.new.self c.goals.changed c.goals.budget (c.goals.budget - 1) c.goals.invariant
+    round_changed P c.rewind.new.self c.goals.self c.look.new.self c.goals.changed c.goals.budget (c.goals.budget - 1) c.goals.found c.goals.invariant
     c.look.ensures.same c.in_ok-look.ensures.steps came.0

@@ -1,5 +1,6 @@
 use Rattle.std.proofs.Common.{Ok, ap, ◌∙◌}
 use Rattle.and_branch.specs.Branches.{Held}
+use Rattle.and_branch.specs.declared.finding.Seen.TheVariants.{Arithmetic}
 use Rattle.and_branch.proofs.LoadedPrograms.{is_loaded}
 use Rattle.and_branch.proofs.LookedGoals.{is_short, run_ready, unmoved, passed, idle_waiting, ran, cannot_hold}
 use Rattle.and_branch.proofs.branch.Branch.look_at_arithmetic.Goals as goal
@@ -24,7 +25,7 @@ returns-in_ok-pass-in-Waits-clause-steps g c =
     let P = g.N.Naming.program in
     let was = c.in_ok-run_next.was ∙ ap Ok c.in-Waits.is in
     let same = unmoved c.args.self.now c.run_next.new.self c.run_next.ensures.others (c.run_next.ensures.unchanged was) in
-    let both = passed P c.args.may c.args.self.now c.run_next.new.self c.pass.new.self c.args.goal c.requires.at same
+    let both = passed P c.args.may c.args.self.now c.run_next.new.self c.pass.new.self c.args.goal Arithmetic c.requires.at same
     c.in_ok-pass-in-Waits.ensures.moved c.in_ok-pass-in-Waits.ensures.passed
     (λ may. idle_waiting P c.args.self.now.limit c.args.self.now.row c.args.goal c.requires.arithmetic.0 c.requires.arithmetic.1
     (c.run_next.ensures.waits was)) in
@@ -35,7 +36,7 @@ returns-in_ok-pass-in-Waits-clause-came_to g c =
     let P = g.N.Naming.program in
     let was = c.in_ok-run_next.was ∙ ap Ok c.in-Waits.is in
     let same = unmoved c.args.self.now c.run_next.new.self c.run_next.ensures.others (c.run_next.ensures.unchanged was) in
-    let both = passed P c.args.may c.args.self.now c.run_next.new.self c.pass.new.self c.args.goal c.requires.at same
+    let both = passed P c.args.may c.args.self.now c.run_next.new.self c.pass.new.self c.args.goal Arithmetic c.requires.at same
     c.in_ok-pass-in-Waits.ensures.moved c.in_ok-pass-in-Waits.ensures.passed
     (λ may. idle_waiting P c.args.self.now.limit c.args.self.now.row c.args.goal c.requires.arithmetic.0 c.requires.arithmetic.1
     (c.run_next.ensures.waits was)) in

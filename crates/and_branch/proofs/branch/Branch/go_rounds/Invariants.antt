@@ -1,7 +1,7 @@
 use Rattle.std.proofs.Common.{◌+◌, ◌-◌, ◌*◌, ◌^◌, ◌≤◌}
 use Rattle.and_branch.specs.Branches.{IsBranch, SameKey}
 use Rattle.and_branch.specs.Rounds.{StepsOn, goal_count}
-use Rattle.and_branch.proofs.branch.Branch.advance.Given as goal
+use Rattle.and_branch.proofs.branch.Branch.go_rounds.Given as goal
 
 abbrev pub invariant-rounds : goal.invariant-rounds
 invariant-rounds g l = record {
