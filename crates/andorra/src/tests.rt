@@ -50,290 +50,303 @@ fn answers<R: Threads + Wait + Sync>(
     Ok(ended == status && sink.held() == written)
 }
 
-/// With the defaults, the text is answered with these bytes and this status.
-fn gives<R: Threads + Wait + Sync>(
-    rt: &R,
-    alloc: Global,
-    text: &[u8],
-    written: &[u8],
-    status: Status,
-) -> Result<bool, AllocError> {
-    answers(rt, alloc, "run", text, written, status)
-}
-
-#[test]
-fn facts(rt: HostRuntime) -> Result<(), Fail> {
-    assert!(rt;
-        gives(
-            &rt,
-            rt.alloc(),
-            b"p(a). p(b). ?- p(X).",
-            b"X = a\nX = b\n% complete\n",
-            Status::Answers
-        )?
-    );
-    assert!(rt;
-        gives(
-            &rt,
-            rt.alloc(),
-            b"p(a). p(a). ?- p(X).",
-            b"X = a\nX = a\n% complete\n",
-            Status::Answers
-        )?
-    );
-    assert!(rt;
-        gives(
-            &rt,
-            rt.alloc(),
-            b"p(a). ?- p(b).",
-            b"% complete\n",
-            Status::NoAnswer
-        )?
-    );
-    assert!(rt;
-        gives(
-            &rt,
-            rt.alloc(),
-            b"p(a) ?- p(X).",
-            b"error: line 1: syntax\n",
-            Status::Refused
-        )?
-    );
-    Ok(())
-}
-
-#[test]
-fn bodies(rt: HostRuntime) -> Result<(), Fail> {
-    let text = b"p(1). p(2). q(3). q(4). ?- p(X), q(Y).";
-    let lines = b"X = 1, Y = 3\nX = 1, Y = 4\nX = 2, Y = 3\nX = 2, Y = 4\n% complete\n";
-    assert!(rt; gives(&rt, rt.alloc(), text, lines, Status::Answers)?);
-    assert!(rt;
-        gives(
-            &rt,
-            rt.alloc(),
-            b"loop(X) :- loop(X). ?- loop(a).",
-            b"% limit met\n",
-            Status::Limit
-        )?
-    );
-    Ok(())
-}
-
-#[test]
-fn nested_terms(rt: HostRuntime) -> Result<(), Fail> {
-    let text = b"app(nil,L,L). app(c(H,T),L,c(H,R)) :- app(T,L,R). ?- app(X,Y,c(1,nil)).";
-    let lines = b"X = nil, Y = c(1,nil)\nX = c(1,nil), Y = nil\n% complete\n";
-    assert!(rt; gives(&rt, rt.alloc(), text, lines, Status::Answers)?);
-    assert!(rt;
-        gives(
-            &rt,
-            rt.alloc(),
-            b"eq(X,X). ?- eq(Y,f(Y)).",
-            b"% complete\n",
-            Status::NoAnswer
-        )?
-    );
-    Ok(())
-}
-
-#[test]
-fn names_along_the_line(rt: HostRuntime) -> Result<(), Fail> {
-    let text = b"p(f(A,B),B,A). ?- p(X,Y,_Z).";
-    let lines = b"X = f(_0,_1), Y = _1\n% complete\n";
-    assert!(rt; gives(&rt, rt.alloc(), text, lines, Status::Answers)?);
-    Ok(())
-}
-
-/// With the words of the line, each text is answered with these bytes and this status.
-fn all_answer<R: Threads + Wait + Sync>(
+/// What a text is answered with, with the words of the line, and the status behind `= `.
+fn reply<R: Threads + Wait + Sync>(
     rt: &R,
     alloc: Global,
     line: &str,
-    rows: &[Row],
-) -> Result<bool, AllocError> {
-    for (text, written, status) in rows {
-        if !answers(rt, alloc, line, text, written, *status)? {
-            return Ok(false);
-        }
-    }
-    Ok(true)
+    text: &str,
+) -> Result<String, AllocError> {
+    let words = typed(alloc, line)?;
+    let mut source = SureSource::new(Text::of(alloc, text.as_bytes())?, 7);
+    let mut sink = SureSink::new(alloc, 200)?;
+    let ended = surely(rt, alloc, &words, &mut source, &mut sink);
+    let Ok(held) = str::from_utf8(sink.held()) else {
+        return format!(in alloc; "not UTF-8");
+    };
+    format!(in alloc; "{held}= {}\n", ended as u8)
 }
 
-/// Texts with what is written for them, and the status.
-type Row = (&'static [u8], &'static [u8], Status);
-
-fn all_give<R: Threads + Wait + Sync>(
+/// The first of the rows that is answered otherwise than it says, with the words of the line, and what it is
+/// answered with. A row has the lines of a text, each behind `> `, and then its reply.
+fn first_broken<R: Threads + Wait + Sync>(
     rt: &R,
     alloc: Global,
-    rows: &[Row],
-) -> Result<bool, AllocError> {
-    all_answer(rt, alloc, "run", rows)
+    line: &str,
+    rows: &str,
+) -> Result<Option<String>, AllocError> {
+    let mut text = String::new(alloc);
+    let mut expected = String::new(alloc);
+    for row in rows.lines() {
+        match row.strip_prefix("> ") {
+            Some(more) => {
+                if !text.is_empty() {
+                    text.push('\n')?;
+                }
+                text.push_str(more)?;
+            }
+            None => {
+                expected.push_str(row)?;
+                expected.push('\n')?;
+            }
+        }
+        if row.starts_with("= ") {
+            let replied = reply(rt, alloc, line, &text)?;
+            if replied != expected {
+                return Ok(Some(format!(in alloc; "{text}\n{replied}")?));
+            }
+            text.clear();
+            expected.clear();
+        }
+    }
+    Ok(None)
 }
 
+/// Rows of `run`: facts, bodies, terms, lists, operators and names; arithmetic; and refusals.
+const ANSWERED: &str = "\
+> p(a). p(b). ?- p(X).
+X = a
+X = b
+% complete
+= 0
+> p(a). p(a). ?- p(X).
+X = a
+X = a
+% complete
+= 0
+> p(a). ?- p(b).
+% complete
+= 1
+> p(1). p(2). q(3). q(4). ?- p(X), q(Y).
+X = 1, Y = 3
+X = 1, Y = 4
+X = 2, Y = 3
+X = 2, Y = 4
+% complete
+= 0
+> loop(X) :- loop(X). ?- loop(a).
+% limit met
+= 6
+> app(nil,L,L). app(c(H,T),L,c(H,R)) :- app(T,L,R). ?- app(X,Y,c(1,nil)).
+X = nil, Y = c(1,nil)
+X = c(1,nil), Y = nil
+% complete
+= 0
+> eq(X,X). ?- eq(Y,f(Y)).
+% complete
+= 1
+> p(f(A,B),B,A). ?- p(X,Y,_Z).
+X = f(_0,_1), Y = _1
+% complete
+= 0
+> app([],L,L). app([H|T],L,[H|R]) :- app(T,L,R). ?- app(X,Y,[1,2]).
+X = [], Y = [1,2]
+X = [1], Y = [2]
+X = [1,2], Y = []
+% complete
+= 0
+> ?- true.
+true
+% complete
+= 0
+> ?- X = f(X).
+% complete
+= 1
+> ?- X = f(A,B), Y = B.
+X = f(_0,_1), A = _0, B = _1, Y = _1
+% complete
+= 0
+> ?- X = [1,2|T].
+X = [1,2|_0], T = _0
+% complete
+= 0
+> ?- X = 1-2-3, Y = 2+3*4, Z = - (1).
+X = -(-(1,2),3), Y = +(2,*(3,4)), Z = -(1)
+% complete
+= 0
+> p('it''s'). p([]). p('A b'). ?- p(X).
+X = 'it\\'s'
+X = []
+X = 'A b'
+% complete
+= 0
+> ?- X < 3, X = 2.
+X = 2
+% complete
+= 0
+> ?- X is X + 0.
+X = _0 with is(_0,+(_0,0))
+% complete
+= 8
+> ?- _X < 3.
+true with <(_0,3)
+% complete
+= 8
+> ?- X is 9223372036854775807 + 1.
+% complete
+= 1
+> ?- X is -7 // 2, Y is -7 mod 2.
+X = -3, Y = 1
+% complete
+= 0
+> ?- X is -9223372036854775808 // -1.
+% complete
+= 1
+> ?- X is -9223372036854775808 mod -1.
+X = 0
+% complete
+= 0
+> ?- X is -9223372036854775808, Y is -X.
+% complete
+= 1
+> p(a) ?- p(X).
+error: line 1: syntax
+= 3
+> p(X) :- q(X). ?- p(1).
+error: line 1: unknown q/1
+= 3
+> p(a).
+> ?- p(X)
+error: line 2: syntax
+= 3
+> p :- q, !.
+error: line 1: not pure
+= 3
+> ?- X = 9223372036854775808.
+error: line 1: number too wide
+= 3
+> X = Y. ?- true.
+error: line 1: redefines =/2
+= 3
+> ?- true.
+> ?- fail.
+error: line 2: second query
+= 3
+> ?- X=-1.
+error: line 1: syntax
+= 3
+> ?- X = 1 ; X = 2.
+error: line 1: not pure
+= 3
+";
+
+/// Rows of `run --stats`.
+const COUNTED: &str = "\
+> app([],L,L). app([H|T],L,[H|R]) :- app(T,L,R). ?- app(X,Y,[1,2]).
+X = [], Y = [1,2]
+X = [1], Y = [2]
+X = [1,2], Y = []
+% complete
+% forks 2 failed 0
+= 0
+> p(1). p(2). ?- p(X), X = 2.
+X = 2
+% complete
+% forks 0 failed 0
+= 0
+> p(1). p(2). q(2). ?- p(X), q(X).
+X = 2
+% complete
+% forks 0 failed 0
+= 0
+> p(a). ?- p(b).
+% complete
+% forks 0 failed 1
+= 1
+> p(1). p(2). q(3). q(4). ?- p(X), q(Y).
+X = 1, Y = 3
+X = 1, Y = 4
+X = 2, Y = 3
+X = 2, Y = 4
+% complete
+% forks 3 failed 0
+= 0
+> max(X,Y,X) :- X >= Y. max(X,Y,Y) :- X < Y. ?- max(3,5,M).
+M = 5
+% complete
+% forks 0 failed 0
+= 0
+> d(1). d(2). d(3). d(4). ok(_,_,[]).
+> ok(Q,N,[X|Xs]) :- Q =\\= X, Q =\\= X+N, X =\\= Q+N, M is N+1, ok(Q,M,Xs).
+> all([]). all([Q|Qs]) :- ok(Q,1,Qs), all(Qs).
+> ?- Q = [A,B,C,D], all(Q), d(A), d(B), d(C), d(D).
+Q = [2,4,1,3], A = 2, B = 4, C = 1, D = 3
+Q = [3,1,4,2], A = 3, B = 1, C = 4, D = 2
+% complete
+% forks 15 failed 44
+= 0
+> p(A,A). p(_,f(_)). r(g(Z),Z). ?- p(X,f(Y)), r(Y,X).
+X = _0, Y = g(_0)
+% complete
+% forks 0 failed 0
+= 0
+> loop(X) :- loop(X). ?- loop(a).
+% limit met
+= 6
+";
+
+/// Rows of `check`.
+const CHECKED: &str = "\
+> ?- X is X + 0.
+waits: line 1: X
+= 1
+> p(1). p(2). ?- p(X), Y is X+1.
+safe
+= 0
+> inc(X,Y) :- Y is X+1. ?- inc(1,Z), W is Z+1.
+safe
+= 0
+> inc(X,Y) :- Y is X+1. ?- inc(A,Z).
+waits: line 1: X
+= 1
+> ?- Y is X, p(W). p(Z) :- Z < 1.
+waits: line 1: Z
+= 1
+> ?- p(1),
+>  p(W).
+> % first
+> % second
+> p(Low) :-
+>  Low < 1.
+waits: line 5: Low
+= 1
+> p(a) ?- p(X).
+error: line 1: syntax
+= 3
+";
+
+/// Rows of `run --limit 1`.
+const LIGHTEST: &str = "\
+> ?- true.
+true
+% complete
+= 0
+> ?- X = 1.
+% limit met
+= 6
+";
+
 #[test]
-fn lists_and_operators(rt: HostRuntime) -> Result<(), Fail> {
-    let rows: [Row; 7] = [
-        (
-            b"app([],L,L). app([H|T],L,[H|R]) :- app(T,L,R). ?- app(X,Y,[1,2]).",
-            b"X = [], Y = [1,2]\nX = [1], Y = [2]\nX = [1,2], Y = []\n% complete\n",
-            Status::Answers,
-        ),
-        (b"?- true.", b"true\n% complete\n", Status::Answers),
-        (b"?- X = f(X).", b"% complete\n", Status::NoAnswer),
-        (
-            b"?- X = f(A,B), Y = B.",
-            b"X = f(_0,_1), A = _0, B = _1, Y = _1\n% complete\n",
-            Status::Answers,
-        ),
-        (
-            b"?- X = [1,2|T].",
-            b"X = [1,2|_0], T = _0\n% complete\n",
-            Status::Answers,
-        ),
-        (
-            b"?- X = 1-2-3, Y = 2+3*4, Z = - (1).",
-            b"X = -(-(1,2),3), Y = +(2,*(3,4)), Z = -(1)\n% complete\n",
-            Status::Answers,
-        ),
-        (
-            b"p('it''s'). p([]). p('A b'). ?- p(X).",
-            b"X = 'it\\'s'\nX = []\nX = 'A b'\n% complete\n",
-            Status::Answers,
-        ),
-    ];
-    assert!(rt; all_give(&rt, rt.alloc(), &rows)?);
+fn rows_are_answered(rt: HostRuntime) -> Result<(), Fail> {
+    let alloc = rt.alloc();
+    for (line, rows) in [
+        ("run", ANSWERED),
+        ("run --stats", COUNTED),
+        ("check", CHECKED),
+        ("run --limit 1", LIGHTEST),
+    ] {
+        assert_eq!(rt; first_broken(&rt, alloc, line, rows)?, None);
+    }
     Ok(())
 }
 
 #[test]
-fn counted_runs(rt: HostRuntime) -> Result<(), Fail> {
-    let rows: [Row; 8] = [
-        (
-            SPLITS,
-            b"X = [], Y = [1,2]\nX = [1], Y = [2]\nX = [1,2], Y = []\n% complete\n% forks 2 failed 0\n",
-            Status::Answers,
-        ),
-        (
-            b"p(1). p(2). ?- p(X), X = 2.",
-            b"X = 2\n% complete\n% forks 0 failed 0\n",
-            Status::Answers,
-        ),
-        (
-            b"p(1). p(2). q(2). ?- p(X), q(X).",
-            b"X = 2\n% complete\n% forks 0 failed 0\n",
-            Status::Answers,
-        ),
-        (
-            b"p(a). ?- p(b).",
-            b"% complete\n% forks 0 failed 1\n",
-            Status::NoAnswer,
-        ),
-        (
-            b"p(1). p(2). q(3). q(4). ?- p(X), q(Y).",
-            b"X = 1, Y = 3\nX = 1, Y = 4\nX = 2, Y = 3\nX = 2, Y = 4\n% complete\n% forks 3 failed 0\n",
-            Status::Answers,
-        ),
-        (
-            b"max(X,Y,X) :- X >= Y. max(X,Y,Y) :- X < Y. ?- max(3,5,M).",
-            b"M = 5\n% complete\n% forks 0 failed 0\n",
-            Status::Answers,
-        ),
-        (
-            QUEENS,
-            b"Q = [2,4,1,3], A = 2, B = 4, C = 1, D = 3\nQ = [3,1,4,2], A = 3, B = 1, C = 4, D = 2\n\
-                % complete\n% forks 15 failed 44\n",
-            Status::Answers,
-        ),
-        (
-            b"loop(X) :- loop(X). ?- loop(a).",
-            b"% limit met\n",
-            Status::Limit,
-        ),
-    ];
-    assert!(rt; all_answer(&rt, rt.alloc(), "run --stats", &rows)?);
-    Ok(())
-}
-
-#[test]
-fn arithmetic(rt: HostRuntime) -> Result<(), Fail> {
-    let rows: [Row; 8] = [
-        (b"?- X < 3, X = 2.", b"X = 2\n% complete\n", Status::Answers),
-        (
-            b"?- X is X + 0.",
-            b"X = _0 with is(_0,+(_0,0))\n% complete\n",
-            Status::Floundered,
-        ),
-        (
-            b"?- _X < 3.",
-            b"true with <(_0,3)\n% complete\n",
-            Status::Floundered,
-        ),
-        (
-            b"?- X is 9223372036854775807 + 1.",
-            b"% complete\n",
-            Status::NoAnswer,
-        ),
-        (
-            b"?- X is -7 // 2, Y is -7 mod 2.",
-            b"X = -3, Y = 1\n% complete\n",
-            Status::Answers,
-        ),
-        (
-            b"?- X is -9223372036854775808 // -1.",
-            b"% complete\n",
-            Status::NoAnswer,
-        ),
-        (
-            b"?- X is -9223372036854775808 mod -1.",
-            b"X = 0\n% complete\n",
-            Status::Answers,
-        ),
-        (
-            b"?- X is -9223372036854775808, Y is -X.",
-            b"% complete\n",
-            Status::NoAnswer,
-        ),
-    ];
-    assert!(rt; all_give(&rt, rt.alloc(), &rows)?);
-    Ok(())
-}
-
-#[test]
-fn checks(rt: HostRuntime) -> Result<(), Fail> {
-    let rows: [Row; 7] = [
-        (b"?- X is X + 0.", b"waits: line 1: X\n", Status::NoAnswer),
-        (
-            b"p(1). p(2). ?- p(X), Y is X+1.",
-            b"safe\n",
-            Status::Answers,
-        ),
-        (
-            b"inc(X,Y) :- Y is X+1. ?- inc(1,Z), W is Z+1.",
-            b"safe\n",
-            Status::Answers,
-        ),
-        (
-            b"inc(X,Y) :- Y is X+1. ?- inc(A,Z).",
-            b"waits: line 1: X\n",
-            Status::NoAnswer,
-        ),
-        (
-            b"?- Y is X, p(W). p(Z) :- Z < 1.",
-            b"waits: line 1: Z\n",
-            Status::NoAnswer,
-        ),
-        (
-            b"?- p(1),\n p(W).\n\n% second\np(Low) :-\n Low < 1.",
-            b"waits: line 5: Low\n",
-            Status::NoAnswer,
-        ),
-        (
-            b"p(a) ?- p(X).",
-            b"error: line 1: syntax\n",
-            Status::Refused,
-        ),
-    ];
-    assert!(rt; all_answer(&rt, rt.alloc(), "check", &rows)?);
+fn texts_that_are_no_text(rt: HostRuntime) -> Result<(), Fail> {
+    let alloc = rt.alloc();
+    let written = b"error: line 1: not text\n";
+    assert!(rt; answers(&rt, alloc, "run", b"\xff", written, Status::Refused)?);
+    let written = b"error: line 1: no query\n";
+    assert!(rt; answers(&rt, alloc, "run", b"", written, Status::Refused)?);
     Ok(())
 }
 
@@ -358,59 +371,6 @@ fn deep_term(rt: HostRuntime) -> Result<(), Fail> {
     assert_eq!(rt; sink.held().len(), 60_005 + last.len());
     assert!(rt; sink.held().starts_with(b"X = s(s(s("));
     assert!(rt; sink.held().ends_with(last));
-    Ok(())
-}
-
-#[test]
-fn refusals(rt: HostRuntime) -> Result<(), Fail> {
-    let rows: [Row; 10] = [
-        (
-            b"p(X) :- q(X). ?- p(1).",
-            b"error: line 1: unknown q/1\n",
-            Status::Refused,
-        ),
-        (b"", b"error: line 1: no query\n", Status::Refused),
-        (
-            b"p(a).\n?- p(X)",
-            b"error: line 2: syntax\n",
-            Status::Refused,
-        ),
-        (b"p :- q, !.", b"error: line 1: not pure\n", Status::Refused),
-        (
-            b"?- X = 9223372036854775808.",
-            b"error: line 1: number too wide\n",
-            Status::Refused,
-        ),
-        (
-            b"X = Y. ?- true.",
-            b"error: line 1: redefines =/2\n",
-            Status::Refused,
-        ),
-        (
-            b"?- true.\n?- fail.",
-            b"error: line 2: second query\n",
-            Status::Refused,
-        ),
-        (b"\xff", b"error: line 1: not text\n", Status::Refused),
-        (b"?- X=-1.", b"error: line 1: syntax\n", Status::Refused),
-        (
-            b"?- X = 1 ; X = 2.",
-            b"error: line 1: not pure\n",
-            Status::Refused,
-        ),
-    ];
-    assert!(rt; all_give(&rt, rt.alloc(), &rows)?);
-    Ok(())
-}
-
-#[test]
-fn lightest_query(rt: HostRuntime) -> Result<(), Fail> {
-    let alloc = rt.alloc();
-    let line = "run --limit 1";
-    let lines = b"true\n% complete\n";
-    assert!(rt; answers(&rt, alloc, line, b"?- true.", lines, Status::Answers)?);
-    let lines = b"% limit met\n";
-    assert!(rt; answers(&rt, alloc, line, b"?- X = 1.", lines, Status::Limit)?);
     Ok(())
 }
 
@@ -577,13 +537,20 @@ fn cut_texts(rt: HostRuntime) -> Result<(), Fail> {
     let alloc = rt.alloc();
     for length in QUEENS.len() - 1..=QUEENS.len() {
         let front = &QUEENS[..length];
-        assert!(rt; gives(&rt, alloc, front, QUEENS_WRITTEN, Status::Answers)?);
+        assert!(rt; answers(&rt, alloc, "run", front, QUEENS_WRITTEN, Status::Answers)?);
     }
     for length in 0..QUEENS.len() - 1 {
         let front = &QUEENS[..length];
         let written = written_for_front(alloc, front)?;
         assert!(rt;
-            gives(&rt, alloc, front, written.as_bytes(), Status::Refused)?,
+            answers(
+                &rt,
+                alloc,
+                "run",
+                front,
+                written.as_bytes(),
+                Status::Refused
+            )?,
             "at {length}"
         );
     }
