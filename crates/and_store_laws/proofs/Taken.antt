@@ -1,5 +1,5 @@
 -- The waiters that one pass took, while passes are at work.
-use Rattle.std.proofs.Common.{ℕ, ◌+◌, ◌*◌, ◌<◌, ◌≤◌, ◌≡◌, ◌≢◌, ◌||◌, inl, inr, not, Bool, true, false, true≢false, eqb, ne_eqb, List, [], ◌∷◌, ◌++◌, map, length, Option, Some, option_to_list, sym, ap, subst, ◌∙◌, arith, append-nil, All, Contains}
+use Rattle.std.proofs.Common.{ℕ, ◌+◌, ◌*◌, ◌<◌, ◌≤◌, ◌≡◌, ◌≢◌, ◌||◌, inl, inr, not, true, false, true≢false, eqb, ne_eqb, List, [], ◌∷◌, map, length, Some, option_to_list, sym, ap, subst, ◌∙◌, arith, append-nil, All, Contains}
 use Rattle.std.specs.Prelude.{flat_map}
 use Rattle.std.specs.List.{IsDistinct, AllByRecursion, list_any}
 use Rattle.std.proofs.lemmas.Bool.{cases_eq}
@@ -9,7 +9,7 @@ use Rattle.std.proofs.lemmas.Nat.{row_fits}
 use Rattle.std.proofs.lemmas.List.Elements.{All-contains}
 use Rattle.and_model.specs.Store.{Setting, HungGoal, JournalEntry, Took, AreDistinct, settings_of, hung_of, set_in, is_half}
 use Rattle.and_store_laws.specs.AtWork.{Opening, Member, Seat, Held, Works, AtWork, Rule, IsOwnWaiter, WasHung, number_of, all_members, to_close}
-use Rattle.and_store_laws.proofs.Lists.{all_of, contains_none, contains_cases, map_append, map_contains, flat_contains, distinct_flat, distinct_back, distinct_front, same_by}
+use Rattle.and_store_laws.proofs.Lists.{all_of, map_append, map_contains, flat_contains, distinct_flat, distinct_back, distinct_front, same_by}
 use Rattle.and_store_laws.proofs.Journal.{made_settings, made_hung, own_distinct}
 use Rattle.and_store_laws.proofs.Going.{took_later}
 use Rattle.and_store_laws.proofs.Hanging.{made_hang}

@@ -1,0 +1,17 @@
+pub mod Words
+pub mod Sizes
+pub mod Keeping
+pub mod Allowed
+pub mod Raised
+pub mod Placed
+pub mod Goals_hung
+pub mod Failing
+pub mod Telling
+pub mod Binding
+pub mod Knowing
+pub mod Goals_told
+pub mod Dealing
+pub mod Gathered
+pub mod Working
+pub mod Over
+pub mod Waiting
