@@ -1,0 +1,13 @@
+use Rattle.std.proofs.Common.{◌≡◌, take}
+use Rattle.std.specs.Prelude.{All}
+use Rattle.and_cells.specs.Seen.{OnlyReads}
+use Rattle.and_suspend.specs.Waiting.{LookedFree}
+use Rattle.and_suspend.proofs.suspended.first_set.Given as goal
+
+abbrev pub invariant-loop-place : goal.invariant-loop-place
+invariant-loop-place g l = record {
+  over : g.C.Cells.over l.cells ≡ g.C.Cells.over l.initial.cells;
+  grew : g.C.Cells.Grew l.initial.cells l.cells;
+  reads : OnlyReads (g.C.Cells.seen l.initial.cells) (g.C.Cells.seen l.cells);
+  free : All (λ cell. LookedFree (g.C.Cells.shared (g.C.Cells.over l.initial.cells)) cell (g.C.Cells.seen l.initial.cells) (g.C.Cells.seen l.cells)) (take l.place l.waited);
+}
