@@ -1,0 +1,204 @@
+#!/usr/bin/env python3
+"""Runs the programs of the yard on andorra and on SWI-Prolog with the occurs check, compares their answers line by line, and writes for each
+the processor time (the least of the runs; without that of a query that is true at once, and for SWI-Prolog without its start and its reading)
+and the peak of memory.
+
+    yard/figures.py [--runs N] [--only WORD] [--skip-swi] [-- words for `andorra run`]
+
+The program has to be built (./andorra builds it), and `swipl` is looked for on the path. docs/figures.md has what was measured.
+"""
+
+import argparse
+import os
+import shutil
+import subprocess
+import sys
+import tempfile
+
+HERE = os.path.dirname(os.path.abspath(__file__))
+PROGRAM = os.path.join(HERE, "..", "crates", "andorra", "out", "andorra")
+EMPTY = "?- true.\n"
+
+APPEND = "app([], L, L).\napp([H|T], L, [H|R]) :- app(T, L, R).\n"
+
+
+def listed(items):
+    return "[" + ",".join(str(item) for item in items) + "]"
+
+
+def reverse(n):
+    return APPEND + f"rev([], []).\nrev([H|T], R) :- rev(T, S), app(S, [H], R).\n?- rev({listed(range(n))}, R).\n"
+
+
+def peano(n):
+    number = "s(" * n + "z" + ")" * n
+    return ("plus(z, N, N).\nplus(s(M), N, s(K)) :- plus(M, N, K).\n"
+            "times(z, _, z).\ntimes(s(M), N, K) :- times(M, N, J), plus(N, J, K).\n"
+            f"?- times({number}, {number}, _X), _X = s(Y), Y = s(_).\n")
+
+
+def permutations(n):
+    return ("select(X, [X|T], T).\nselect(X, [H|T], [H|R]) :- select(X, T, R).\n"
+            "permutation([], []).\npermutation(L, [H|T]) :- select(H, L, R), permutation(R, T).\n"
+            f"?- permutation({listed(range(n))}, P).\n")
+
+
+def graph(n):
+    edges = [f"edge(n({r},{k}),n({r},{k + 1}))." for r in range(3) for k in range(n)]
+    edges += [f"edge(n({r},{k}),n({r + 1},{k}))." for r in range(2) for k in range(n + 1)]
+    return "\n".join(edges) + ("\npath(X,X,[X]).\npath(X,Z,[X|P]) :- edge(X,Y), path(Y,Z,P).\n"
+                               f"?- path(n(0,0),n(2,{n}),P).\n")
+
+
+def queens(n):
+    places = " ".join(f"place({k})." for k in range(1, n + 1))
+    return ("queens(Qs) :- safe(Qs), placed(Qs).\nsafe([]).\nsafe([Q|Qs]) :- apart(Q, Qs, 1), safe(Qs).\napart(_, [], _).\n"
+            "apart(Q, [P|Ps], N) :- Q =\\= P, Q =\\= P + N, Q =\\= P - N, M is N + 1, apart(Q, Ps, M).\n"
+            "placed([]).\nplaced([Q|Qs]) :- place(Q), placed(Qs).\n" + places +
+            f"\n?- Board = {listed(['_'] * n)}, queens(Board).\n")
+
+
+def pigeons(n):
+    holes = " ".join(f"hole({k})." for k in range(1, n))
+    return ("apart([]).\napart([P|Ps]) :- outside(P, Ps), apart(Ps).\noutside(_, []).\noutside(P, [Q|Qs]) :- P =\\= Q, outside(P, Qs).\n"
+            "housed([]).\nhoused([P|Ps]) :- hole(P), housed(Ps).\n" + holes +
+            f"\n?- Pigeons = {listed(['_'] * n)}, housed(Pigeons), apart(Pigeons).\n")
+
+
+def deep(n):
+    return f"n(0, z).\nn(K, s(T)) :- K > 0, J is K - 1, n(J, T).\n?- n({n}, _T), _T = s(s(_)).\n"
+
+
+def count(n):
+    return f"count(0).\ncount(N) :- N > 0, M is N - 1, count(M).\n?- count({n}).\n"
+
+
+def facts(n):
+    return "".join(f"p(k{k}, v{k}).\n" for k in range(n)) + f"?- p(k{n - 1}, X), p(k{n // 2}, Y), p(k0, Z).\n"
+
+
+def colours():
+    lands = ["WA", "NT", "SA", "Q", "NSW", "V", "T"]
+    borders = [("WA", "NT"), ("WA", "SA"), ("NT", "SA"), ("NT", "Q"), ("SA", "Q"), ("SA", "NSW"), ("SA", "V"), ("Q", "NSW"), ("NSW", "V")]
+    names = ["red", "green", "blue", "white"]
+    different = " ".join(f"different({a}, {b})." for a in names for b in names if a != b)
+    goals = ", ".join(f"different({a}, {b})" for a, b in borders)
+    return different + "\n" + " ".join(f"colour({a})." for a in names) + f"\n?- {goals}, colour({lands[-1]}).\n"
+
+
+def example(name):
+    with open(os.path.join(HERE, "..", "examples", name)) as text:
+        return text.read()
+
+
+BLOCKS = """% Three blocks; a state is a list of what stands on what.
+move(state([X|A], B, C), put(X, 1, 2), state(A, [X|B], C)).
+move(state([X|A], B, C), put(X, 1, 3), state(A, B, [X|C])).
+move(state(A, [X|B], C), put(X, 2, 1), state([X|A], B, C)).
+move(state(A, [X|B], C), put(X, 2, 3), state(A, B, [X|C])).
+move(state(A, B, [X|C]), put(X, 3, 1), state([X|A], B, C)).
+move(state(A, B, [X|C]), put(X, 3, 2), state(A, [X|B], C)).
+plan(Goal, Goal, []).
+plan(From, Goal, [Move|Moves]) :- move(From, Move, Next), plan(Next, Goal, Moves).
+?- Moves = [_,_,_,_,_,_], plan(state([a,b,c],[],[]), state([],[],[c,b,a]), Moves).
+"""
+
+ZEBRA = """member(X, [X|_]).
+member(X, [_|T]) :- member(X, T).
+right(A, B, [A,B|_]).
+right(A, B, [_|T]) :- right(A, B, T).
+next(A, B, L) :- right(A, B, L).
+next(A, B, L) :- right(B, A, L).
+?- Houses = [house(_,norwegian,_,_,_), _, house(_,_,_,milk,_), _, _],
+   member(house(red,english,_,_,_), Houses), member(house(green,_,_,coffee,_), Houses),
+   member(house(_,spanish,dog,_,_), Houses), member(house(_,ukrainian,_,tea,_), Houses),
+   right(house(ivory,_,_,_,_), house(green,_,_,_,_), Houses), member(house(_,_,snails,_,oldgold), Houses),
+   member(house(yellow,_,_,_,kools), Houses), next(house(_,_,_,_,chesterfield), house(_,_,fox,_,_), Houses),
+   next(house(_,_,_,_,kools), house(_,_,horse,_,_), Houses), member(house(_,_,_,juice,luckystrike), Houses),
+   member(house(_,japanese,_,_,parliament), Houses), next(house(_,norwegian,_,_,_), house(blue,_,_,_,_), Houses),
+   member(house(_,Owner,zebra,_,_), Houses).
+"""
+
+# name, text, and whether arithmetic has to wait in SWI-Prolog
+PROGRAMS = (
+    [(f"naive reverse of {n}", reverse(n), False) for n in (30, 100, 400)]
+    + [("Peano product of 60 and 60", peano(60), False)]
+    + [(f"generated graph, {n}", graph(n), False) for n in (16, 32, 64)]
+    + [(f"queens with tests first, {n}", queens(n), True) for n in (6, 8)]
+    + [("SEND + MORE = MONEY, tests first", example("money.pl"), True)]
+    + [("zebra", ZEBRA, False), ("a map of colours", colours(), False), ("blocks, a planner", BLOCKS, False)]
+    + [("crossing, a planner", example("crossing.pl"), False)]
+    + [("20,000 facts, three calls", facts(20000), False)]
+    + [("permutations of 7", permutations(7), False), ("7 pigeons in 6 holes, tests last", pigeons(7), False)]
+    + [(f"a term of {n} levels", deep(n), False) for n in (5000, 10000, 20000)]
+    + [("a count down from 100,000", count(100000), False)]
+)
+
+
+def run(words, text):
+    """The lines, what was written on standard error, the processor time in milliseconds and the peak of memory in MB of a run."""
+    with tempfile.TemporaryFile("w+") as source, tempfile.TemporaryFile("w+") as sink, tempfile.TemporaryFile("w+") as said:
+        source.write(text)
+        source.seek(0)
+        child = subprocess.Popen(words, stdin=source, stdout=sink, stderr=said)
+        _, _, usage = os.wait4(child.pid, 0)
+        sink.seek(0)
+        said.seek(0)
+        lines = sink.read().splitlines()
+        told = said.read()
+    return lines, told, (usage.ru_utime + usage.ru_stime) * 1000, usage.ru_maxrss / 1024
+
+
+def least_on_andorra(words, text, runs):
+    results = [run(words, text) for _ in range(runs)]
+    return results[0][0], min(r[2] for r in results), min(r[3] for r in results)
+
+
+def least_on_swi(text, waits, runs):
+    with tempfile.NamedTemporaryFile("w", suffix=".pl") as file:
+        file.write(text)
+        file.flush()
+        words = ["swipl", "-q", os.path.join(HERE, "swi.pl"), "--", "wait" if waits else "plain", file.name]
+        results = [run(words, "") for _ in range(runs)]
+    return results[0][0], min(float(r[1].split()[-1]) for r in results), min(r[3] for r in results)
+
+
+def answers_of(lines):
+    return [line for line in lines if not line.startswith("% ")]
+
+
+def megabytes(peak, floor):
+    """A peak as it is shown: a child's is never told below that of this script."""
+    return f"{peak:.0f}" if peak > floor + 1 else f"<{floor:.0f}"
+
+
+def main():
+    options = argparse.ArgumentParser(description=__doc__, formatter_class=argparse.RawDescriptionHelpFormatter)
+    options.add_argument("--runs", type=int, default=5)
+    options.add_argument("--only", default="")
+    options.add_argument("--skip-swi", action="store_true")
+    options.add_argument("words", nargs="*")
+    given = options.parse_args()
+    has_swi = shutil.which("swipl") is not None and not given.skip_swi
+    andorra = [PROGRAM, "run", "--limit", "4194304", *given.words]
+    _, start, _ = least_on_andorra(andorra, EMPTY, given.runs)
+    print(f"{'program':34} {'andorra':>9} {'MB':>5} {'SWI':>9} {'MB':>5}  answers")
+    differ = False
+    for name, text, waits in PROGRAMS:
+        if given.only not in name:
+            continue
+        _, _, _, floor = run(["true"], "")
+        lines, time, memory = least_on_andorra(andorra, text, given.runs)
+        row = f"{name:34} {max(time - start, 0):7.0f}ms {megabytes(memory, floor):>5}"
+        same = ""
+        if has_swi:
+            theirs, swi_time, swi_memory = least_on_swi(text, waits, given.runs)
+            row += f" {swi_time:7.0f}ms {megabytes(swi_memory, floor):>5}"
+            same = "the same" if answers_of(lines) == answers_of(theirs) else "DIFFERENT"
+            differ = differ or same == "DIFFERENT"
+        print(f"{row}  {len(answers_of(lines))} {same}", flush=True)
+    return 1 if differ else 0
+
+
+if __name__ == "__main__":
+    sys.exit(main())
