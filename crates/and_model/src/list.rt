@@ -27,6 +27,13 @@ impl<Item> ListOf<Item> {
         }
     }
 
+    /// The list of the items of a vector, whose memory it keeps. Takes no memory.
+    pub fn of_items(items: Vec<Item>) -> ListOf<Item>
+        ensures { result ≡ items.items }
+    {
+        ListOf { items }
+    }
+
     /// How many items it has. Takes no memory.
     pub fn len(&self) -> usize
         ensures { result ≡ length self.now }
@@ -102,6 +109,16 @@ mod tests {
         assert_eq!(rt; *copied.at(0), FIRST);
         assert_eq!(rt; *copied.at(1), SECOND);
 
+        assert_eq!(rt; goals.pop(), Some(SECOND));
+        assert_eq!(rt; goals.pop(), Some(FIRST));
+        assert_eq!(rt; goals.pop(), None);
+        Ok(())
+    }
+
+    #[test]
+    fn a_list_is_made_of_a_vector(rt: HostRuntime) -> Result<(), Fail> {
+        let mut goals = GoalList::of_items(vec![in rt.alloc(); FIRST, SECOND]?);
+        assert_eq!(rt; goals.len(), 2);
         assert_eq!(rt; goals.pop(), Some(SECOND));
         assert_eq!(rt; goals.pop(), Some(FIRST));
         assert_eq!(rt; goals.pop(), None);
