@@ -5,7 +5,7 @@ ghost use Rattle.and_cells.specs.Seen.{OnlyReads};
 ghost use Rattle.and_suspend.specs.Waiting.{Waiting, waiting_for, LookedFree, LookedSet, Wakes};
 
 use and_cells::Cells;
-use and_model::{Goal, Ref};
+use and_model::{Goal, GoalList, Ref};
 use std::alloc::Global;
 use std::marker::Model;
 
@@ -90,10 +90,10 @@ impl Suspended {
     }
 
     /// The goals that still wait, in order. Takes no memory.
-    pub fn rest(self) -> Vec<Goal>
-        ensures { result.items ≡ map (λ w. w.goal) self }
+    pub fn rest(self) -> GoalList
+        ensures { result ≡ map (λ w. w.goal) self }
     {
         let Suspended { goals, cells: _ } = self;
-        goals
+        GoalList::of_items(goals)
     }
 }

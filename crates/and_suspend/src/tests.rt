@@ -50,7 +50,7 @@ fn the_first_goal_is_woken_first(rt: HostRuntime) -> Result<(), Fail> {
     assert_eq!(rt; suspended.woken(&mut cells), Some(SECOND));
     let rest = suspended.rest();
     assert_eq!(rt; rest.len(), 2);
-    assert_eq!(rt; rest[0], FIRST);
-    assert_eq!(rt; rest[1], THIRD);
+    assert_eq!(rt; *rest.at(0), FIRST);
+    assert_eq!(rt; *rest.at(1), THIRD);
     Ok(())
 }
