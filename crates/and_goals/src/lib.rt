@@ -1,0 +1,14 @@
+//! Goals that are dealt between workers: each worker has a deque of its own, and takes goals of the others where its own has none.
+#![tactic(auto)]
+
+mod account;
+mod deque;
+mod hand;
+mod leaving;
+mod opening;
+#[cfg(test)]
+mod tests;
+
+pub use hand::{Hand, HandList};
+pub use leaving::rest;
+pub use opening::open_hands;
