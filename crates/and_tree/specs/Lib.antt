@@ -1,0 +1,11 @@
+pub mod Few
+pub mod Forked
+pub mod Replies
+pub mod Plain
+pub mod Counted
+pub mod Sight
+pub mod AtWork
+pub mod Kept
+pub mod Passes
+pub mod Told
+pub mod Ended
