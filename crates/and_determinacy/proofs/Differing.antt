@@ -1,8 +1,7 @@
 -- Heads that differ from what was seen of a call have no common instance with it.
-use Rattle.std.proofs.Common.{ℕ, zero, suc, ◌+◌, ◌≡◌, ◌<◌, List, get_or, refl, sym, ap, ◌∙◌, inl, inr, arith}
+use Rattle.std.proofs.Common.{ℕ, zero, suc, ◌≡◌, ◌<◌, List, refl, sym, ap, ◌∙◌, inl, inr, arith}
 use Rattle.and_model.specs.Terms.{Term, Terms, variable, number, compound, none, more, width, Substitution, apply, apply_all}
 use Rattle.and_model.specs.Programs.{clause_at}
-use Rattle.and_model.specs.Candidates.{Candidate}
 use Rattle.and_model.specs.declared.numbers.ClauseNo.{ClauseNo}
 use Rattle.and_model.specs.declared.numbers.NameNo.{NameNo}
 use Rattle.and_model.specs.declared.reference.Ref.{Ref}
@@ -12,19 +11,22 @@ use Rattle.and_program.specs.declared.node.NodeKind.{NodeKind}
 use Rattle.and_program.specs.declared.node.NodeKind.TheVariants.{Variable, Number, Compound}
 use Rattle.and_laws.proofs.Substitutions.{then, apply_then}
 use Rattle.and_cells.specs.Ranges.{NamedProgram}
-use Rattle.and_cells.specs.Meaning.{equations_of}
 use Rattle.and_branch_laws.specs.Judging.{outside}
 use Rattle.and_branch_laws.specs.Variables.{placed, cells_from}
-use Rattle.and_determinacy.specs.Looks.{Fits, KindsDiffer, HasNoInstance, AreGlimpses, IsLook, MayMeet, unknown, no_glimpse}
+use Rattle.and_determinacy.specs.Looks.{Fits, KindsDiffer, IsLook}
 use Rattle.and_determinacy.specs.Searches.{NodeHas}
-use Rattle.and_determinacy.specs.declared.looking.Glimpse.{Glimpse}
 use Rattle.and_determinacy.specs.declared.looking.Look.{Look}
 
 -- ---- What terms begin with
 
-width_applied : (s : Substitution) (ts : Terms) → width (apply_all s ts) ≡ width ts
+pub width_applied : (s : Substitution) (ts : Terms) → width (apply_all s ts) ≡ width ts
 width_applied s none = refl
 width_applied s (more t ts) = ap suc (width_applied s ts)
+
+pub count_later : (s : Substitution) (t : Term) (j : ℕ) → j < count_of (shown_term t) → j < count_of (shown_term (apply s t))
+count_later s (variable q k) j low = absurd (omega arith)
+count_later s (number z) j low = low
+count_later s (compound c ts) j low = let w = width_applied s ts in omega arith
 
 -- An instance of a term begins as the term does.
 pub fits_later : (k : NodeKind) (t : Term) (s : Substitution) → Fits k t → Fits k (apply s t)
@@ -43,7 +45,7 @@ fits_shown (compound c ts) = refl
 
 -- ---- Arguments of instances
 
-term_at_applied : (s : Substitution) (ts : Terms) (j : ℕ) → term_at (apply_all s ts) j ≡ apply s (term_at ts j)
+pub term_at_applied : (s : Substitution) (ts : Terms) (j : ℕ) → term_at (apply_all s ts) j ≡ apply s (term_at ts j)
 term_at_applied s none j = refl
 term_at_applied s (more t ts) zero = refl
 term_at_applied s (more t ts) (suc j) = term_at_applied s ts j
@@ -80,40 +82,15 @@ differ (Compound c n) (compound b ts) t s (inr counts) f e =
     let same : n ≡ width (apply_all s ts) = cc in
     counts (same ∙ width_applied s ts)
 
--- What was seen of a term differs from how a term of a head begins,
-pub kinds_apart : (parts : List NodeKind) (glimpse : Glimpse) (head : Term) → KindsDiffer glimpse.kind (shown_term head)
-    → HasNoInstance parts glimpse head
-kinds_apart parts glimpse head d t s g e = differ glimpse.kind head t s d g.kind e
-
--- or from how an argument of it does.
-pub part_apart : (parts : List NodeKind) (glimpse : Glimpse) (head : Term) (j : ℕ) → j < count_of glimpse.kind
-    → j < count_of (shown_term head)
-    → KindsDiffer (get_or parts (glimpse.parts + j) unknown) (shown_term (argument_of head j)) → HasNoInstance parts glimpse head
-part_apart parts glimpse head j low there d t s g e =
-    differ (get_or parts (glimpse.parts + j) unknown) (argument_of head j) (argument_of t j) s d (g.fit j low)
-    (ap (λ (u : Term). argument_of u j) e ∙ argument_applied s head j there)
-
--- So an argument of a call and of a head are apart, and these are,
-pub argument_apart : (look : Look) (head : Term) (k : ℕ) → k < count_of (shown_term head)
-    → HasNoInstance look.parts.items (get_or look.arguments.items k no_glimpse) (argument_of head k)
-    → (g : Term) (s : Substitution) → AreGlimpses look g → g ≡ apply s head → ⊥
-argument_apart look head k there apart g s seen e =
-    apart (argument_of g k) s (seen k) (ap (λ (u : Term). argument_of u k) e ∙ argument_applied s head k there)
-
--- while the head of a candidate has an instance as was seen.
-pub candidate_meets : (P : NamedProgram) (row : List Ref) (node base : ℕ) (look : Look) (c : ClauseNo) → IsLook P row node base look
-    → NodeHas P row node base c → MayMeet P.program look c
-candidate_meets P row node base look c is k =
-    let (s, solves) = k.1 in (
-      apply s (placed base (node_term P.skeleton.nodes node)),
-      (λ r j. s outside j),
-      is s solves.1,
-      solves.0 ∙ apply_then (λ r j. variable outside j) s (clause_at P.program c.0).head,
-    )
-
--- So a clause that is apart is no candidate.
-pub apart_is_none : (P : NamedProgram) (row : List Ref) (node base : ℕ) (look : Look) (c : ℕ) → IsLook P row node base look
-    → ((g : Term) (s : Substitution) → AreGlimpses look g → g ≡ apply s (clause_at P.program c).head → ⊥)
-    → Candidate P.program (equations_of P row) outside (placed base (node_term P.skeleton.nodes node)) c → ⊥
-apart_is_none P row node base look c is apart k =
-    let (g, s, seen, same) = candidate_meets P row node base look (record { 0 = c }) is k in apart g s seen same
+-- A head whose first argument differs from what was seen of the call's is that of no candidate.
+pub first_apart : (P : NamedProgram) (row : List Ref) (node base : ℕ) (look : Look) (c : ClauseNo) → IsLook P row node base look
+    → 0 < count_of (shown_term (clause_at P.program c.0).head)
+    → KindsDiffer look.first (shown_term (argument_of (clause_at P.program c.0).head 0)) → NodeHas P row node base c → ⊥
+first_apart P row node base look c is there apart has =
+    let (s, solves) = has.1 in
+    let head : Term = (clause_at P.program c.0).head in
+    let call : Term = apply s (placed base (node_term P.skeleton.nodes node)) in
+    let clauses : Substitution = λ r j. s outside j in
+    let same : call ≡ apply clauses head = solves.0 ∙ apply_then (λ r j. variable outside j) s head in
+    differ look.first (argument_of head 0) (argument_of call 0) clauses apart (is s solves.1).first
+    (ap (λ (u : Term). argument_of u 0) same ∙ argument_applied clauses head 0 there)

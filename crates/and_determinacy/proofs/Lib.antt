@@ -13,6 +13,7 @@ pub mod Calls
 pub mod Searching
 pub mod Entries
 pub mod Differing
+pub mod Printing
 pub mod Glimpses
 pub mod Serving
 pub mod Additions

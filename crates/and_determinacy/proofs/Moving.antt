@@ -21,7 +21,7 @@ abbrev pub IsLow : (words : ℕ) → Path × ℕ → Type 0
 IsLow words v = (v.0 ≡ []) × (v.1 < words)
 
 -- what agrees on such cells makes the same of a term that names them alone
-low_same : (words : ℕ) (s t : Substitution) → AgreeBelow words s t → (u : Term) → SpeaksOf (IsLow words) u → apply s u ≡ apply t u
+pub low_same : (words : ℕ) (s t : Substitution) → AgreeBelow words s t → (u : Term) → SpeaksOf (IsLow words) u → apply s u ≡ apply t u
 low_same words s t agree u speaks = speaks_agree (IsLow words) s t u (λ v low.
     let e = low.0 in
     subst (λ (q : Path). s q v.1 ≡ t q v.1) (sym e) (agree v.1 low.1)) speaks
@@ -30,7 +30,7 @@ low_same words s t agree u speaks = speaks_agree (IsLow words) s t u (λ v low.
 abbrev pub IsMoved : (floor : ℕ) → Substitution → Substitution → Type 0
 IsMoved floor s t = (k : ℕ) → t [] (floor + 1 + k) ≡ s outside k
 
-moved_same : (floor : ℕ) (s t : Substitution) → IsMoved floor s t → (u : Term) → apply t (placed floor u) ≡ apply s (framed outside u)
+pub moved_same : (floor : ℕ) (s t : Substitution) → IsMoved floor s t → (u : Term) → apply t (placed floor u) ≡ apply s (framed outside u)
 moved_same floor s t moved u =
     apply_then (cells_from floor) t u
     ∙ apply_agree (then (cells_from floor) t) (then (λ q k. variable outside k) s) u (λ v c. moved v.1)
@@ -42,11 +42,11 @@ at_place : (floor : ℕ) → Substitution → (k : ℕ) → (k < floor + 1) ⊎ 
 at_place floor s k (inl low) = s [] k
 at_place floor s k (inr past) = s outside (k - (floor + 1))
 
-inward : (floor : ℕ) → Substitution → Substitution
+pub inward : (floor : ℕ) → Substitution → Substitution
 inward floor s [] k = at_place floor s k (cases_lt k (floor + 1))
 inward floor s (n ∷ q) k = s (n ∷ q) k
 
-inward_agrees : (floor : ℕ) (s : Substitution) → AgreeBelow floor s (inward floor s)
+pub inward_agrees : (floor : ℕ) (s : Substitution) → AgreeBelow floor s (inward floor s)
 unfolding inward at_place
 inward_agrees floor s k low = go (cases_lt k (floor + 1))
   where
@@ -54,7 +54,7 @@ inward_agrees floor s k low = go (cases_lt k (floor + 1))
     go (inl below) = refl
     go (inr past) = absurd (omega arith)
 
-inward_moved : (floor : ℕ) (s : Substitution) → IsMoved floor s (inward floor s)
+pub inward_moved : (floor : ℕ) (s : Substitution) → IsMoved floor s (inward floor s)
 unfolding inward at_place
 inward_moved floor s k = go (cases_lt (floor + 1 + k) (floor + 1))
   where

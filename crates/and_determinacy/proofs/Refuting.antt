@@ -49,7 +49,7 @@ refuting o a b (more x (more y ts)) ground e =
       fails = not_true (holds o x y) e;
     }
 
-both_ground : (u v : Term) → is_ground u ≡ true → is_ground v ≡ true → are_ground (more u (more v none)) ≡ true
+pub both_ground : (u v : Term) → is_ground u ≡ true → is_ground v ≡ true → are_ground (more u (more v none)) ≡ true
 both_ground u v a b = rw (a, b) refl
 
 module _ (P : NamedProgram) (row : List Ref) (sound : IsSound P row) (g : Term) (speaks : SpeaksOf (IsLow (length row)) g) (head : Term)

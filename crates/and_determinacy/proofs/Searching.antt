@@ -1,37 +1,41 @@
 -- The first candidates of a list of clauses, and what they say of a goal.
-use Rattle.std.proofs.Common.{ℕ, ◌+◌, ◌≡◌, ◌<◌, ◌≤◌, List, length, get_or, Some, refl, sym, ap, ◌∙◌, subst, inl, inr, arith}
-use Rattle.std.specs.Prelude.{Contains, slice_get, Result, Ok, Err, IfOk}
+use Rattle.std.proofs.Common.{ℕ, ◌+◌, ◌≡◌, ◌<◌, ◌≤◌, false, List, length, get_or, Some, refl, sym, ap, ◌∙◌, subst, inl, inr, arith}
+use Rattle.std.specs.Prelude.{All, Contains, slice_get, Result, Ok, Err, IfOk}
 use Rattle.std.specs.declared.alloc.AllocError.{AllocError}
 use Rattle.std.proofs.lemmas.Bool.{cases_lt}
 use Rattle.std.proofs.lemmas.List.Elements.{All-contains}
 use Rattle.std.proofs.lemmas.Option.{get_or_from_slice_get, slice_get-get_or, slice_get_within, same_Some}
-use Rattle.and_model.specs.Terms.{Term}
-use Rattle.and_model.specs.Programs.{Of}
+use Rattle.and_model.specs.Terms.{Term, variable, Substitution, apply}
+use Rattle.and_model.specs.Programs.{Of, clause_at}
 use Rattle.and_model.specs.Candidates.{Candidate}
 use Rattle.and_model.specs.Stands.{term_of}
 use Rattle.and_model.specs.declared.goal.Goal.{Goal}
 use Rattle.and_model.specs.declared.numbers.ClauseNo.{ClauseNo}
 use Rattle.and_model.specs.declared.reference.Ref.{Ref}
-use Rattle.and_program.specs.Loaded.{program_of}
 use Rattle.and_program.specs.Skeletons.{node_term}
-use Rattle.and_program.specs.declared.loaded.Loaded.{Loaded}
 use Rattle.and_cells.specs.Ranges.{NamedProgram}
 use Rattle.and_cells.specs.Meaning.{equations_of}
-use Rattle.and_cells.specs.Parts.{named}
 use Rattle.and_cell_laws.proofs.Images.{contains_origin, contains_image}
 use Rattle.and_branch_laws.specs.Judging.{outside, CandidateInCells}
 use Rattle.and_branch_laws.specs.Variables.{placed}
+use Rattle.and_branch_laws.proofs.Lists.{all_of}
+use Rattle.and_laws.proofs.Substitutions.{apply_then}
 use Rattle.and_determinacy.specs.Candidates.{IsNodeOf, AreCandidates, IsJudged, IsNarrowed, narrowed_as}
-use Rattle.and_determinacy.specs.Looks.{IsLook, MayMeet}
+use Rattle.and_determinacy.specs.Looks.{IsLook, IsLeft}
+use Rattle.and_determinacy.specs.Prints.{print_of, are_apart, PrintTells}
 use Rattle.and_determinacy.specs.Searches.{NodeHas, AreServed, NoneFrom, IsNextOf, IsCount}
 use Rattle.and_determinacy.specs.declared.judging.Found.{Found}
 use Rattle.and_determinacy.specs.declared.judging.Judged.{Judged}
 use Rattle.and_determinacy.specs.declared.judging.Judged.TheVariants.{Nothing, One, Several}
 use Rattle.and_determinacy.specs.declared.judging.Narrowed.TheVariants as narrowed
 use Rattle.and_determinacy.specs.declared.looking.Look.{Look}
+use Rattle.and_determinacy.specs.declared.prints.Print.{Print}
+use Rattle.and_determinacy.specs.declared.table.Determinacy.{Determinacy}
+use Rattle.and_determinacy.specs.Tables.{IsTableOf, print_at}
 use Rattle.and_determinacy.proofs.Calls.{of_placed}
 use Rattle.and_determinacy.proofs.ClauseLists.{IsEarlier}
-use Rattle.and_determinacy.proofs.Differing.{candidate_meets}
+use Rattle.and_determinacy.proofs.Prepared.{clause_there}
+use Rattle.and_determinacy.proofs.Printing.{instance_tells, prints_meet}
 use Rattle.and_determinacy.proofs.Picking.{Picks, picked_is, all_picked, picked_in_order}
 
 -- ---- One after another
@@ -69,13 +73,38 @@ pub none_fewer : (Q R : ClauseNo → Type 0) (clauses : List ClauseNo) (from to 
     → NoneFrom R clauses from to → NoneFrom Q clauses from to
 none_fewer Q R clauses from to fewer none k c after low there is = none k c after low there (fewer c is)
 
--- Where no head meets what was seen no clause is a candidate.
-pub none_seen : (N : NamedProgram) (l : Loaded) → N ≡ named l → (row : List Ref) (node base : ℕ) (look : Look) → IsLook N row node base look
-    → (clauses : List ClauseNo) (from to : ℕ) → NoneFrom (MayMeet (program_of l) look) clauses from to
-    → NoneFrom (NodeHas N row node base) clauses from to
-none_seen N l same row node base look is clauses from to none =
-    none_fewer (NodeHas N row node base) (MayMeet (program_of l) look) clauses from to
-    (λ c has. subst (λ (Q : NamedProgram). MayMeet Q.program look c) same (candidate_meets N row node base look c is has)) none
+-- A candidate is left by the prints.
+pub candidate_left : (P : NamedProgram) (table : Determinacy) → IsTableOf P table → (row : List Ref) (node base : ℕ) (look : Look)
+    → IsLook P row node base look → (c : ClauseNo) → NodeHas P row node base c → IsLeft table look c
+candidate_left P table is_of row node base look is c has =
+    let (s, solves) = has.1 in
+    let own : Term = node_term P.skeleton.nodes node in
+    let head : Term = (clause_at P.program c.0).head in
+    let call : Term = apply s (placed base own) in
+    let clauses : Substitution = λ r j. s outside j in
+    let same : call ≡ apply clauses head = solves.0 ∙ apply_then (λ r j. variable outside j) s head in
+    let told : PrintTells (print_of head) (print_of call) =
+    subst (λ (t : Term). PrintTells (print_of head) (print_of t)) (sym same) (instance_tells clauses head) in
+    let at : print_at table c.0 ≡ print_of head = is_of.prints.each c.0 (clause_there P.program (placed base own) c.0 has.0) in
+    subst (λ (p : Print). are_apart look.print p ≡ false) (sym at)
+    (prints_meet look.print (print_of head) (print_of call) (is s solves.1).print told)
+
+-- Where none is left no clause is a candidate.
+pub none_seen : (P : NamedProgram) (table : Determinacy) → IsTableOf P table → (row : List Ref) (node base : ℕ) (look : Look)
+    → IsLook P row node base look → (clauses : List ClauseNo) (from to : ℕ) → NoneFrom (IsLeft table look) clauses from to
+    → NoneFrom (NodeHas P row node base) clauses from to
+none_seen P table is_of row node base look is clauses from to none =
+    none_fewer (NodeHas P row node base) (IsLeft table look) clauses from to (candidate_left P table is_of row node base look is) none
+
+-- The clauses that serve a node have prints.
+pub served_printed : (P : NamedProgram) (table : Determinacy) → IsTableOf P table → (row : List Ref) (node base : ℕ)
+    (clauses : List ClauseNo) → AreServed P row node base clauses → All (λ (c : ClauseNo). c.0 < length table.prints.items) clauses
+served_printed P table is_of row node base clauses served =
+    all_of (λ (c : ClauseNo). c.0 < length table.prints.items) clauses (λ c i.
+    let of = All-contains (λ (c : ClauseNo). Of P.program (node_term P.skeleton.nodes node) c.0) clauses c served.of i in
+    let there = clause_there P.program (node_term P.skeleton.nodes node) c.0 of in
+    let many = is_of.prints.many in
+    omega arith)
 
 module _ (Q : ClauseNo → Type 0) (clauses : List ClauseNo) (from mid : ℕ) (before : NoneFrom Q clauses from mid) where
   pub none_joined : (to : ℕ) → NoneFrom Q clauses mid to → NoneFrom Q clauses from to

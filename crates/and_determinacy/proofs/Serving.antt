@@ -1,14 +1,12 @@
 -- The clauses under the key of a call's first argument serve the call.
-use Rattle.std.proofs.Common.{ℕ, ℤ, zero, suc, ◌+◌, ◌≡◌, ◌≢◌, ◌<◌, ◌≤◌, ◌⊎◌, Bool, true, false, true≢false, ◌&&◌, cond, nat_eq, List, [], ◌∷◌, map, length, get_or, Option, Some, None, refl, sym, ap, ◌∙◌, subst, inl, inr, arith}
-use Rattle.std.specs.Prelude.{All, AllPairs, Contains}
-use Rattle.std.specs.Ordering.{int_eq}
-use Rattle.std.proofs.lemmas.Bool.{cases_eq, eqb-true, eq-eqb}
-use Rattle.std.proofs.lemmas.Bool.Decides.{Decides-int_eq, Decides-eqb}
+use Rattle.std.proofs.Common.{ℕ, ℤ, ◌≡◌, ◌<◌, ◌⊎◌, Bool, true, false, true≢false, ◌&&◌, cond, nat_eq, List, [], ◌∷◌, Option, refl, sym, ap, ◌∙◌, subst, inl, inr, arith}
+use Rattle.std.specs.Prelude.{AllPairs, Contains}
+use Rattle.std.proofs.lemmas.Bool.{eq-eqb}
+use Rattle.std.proofs.lemmas.Bool.Decides.{Decides-int_eq}
 use Rattle.std.proofs.lemmas.List.Elements.{All-contains}
 use Rattle.std.proofs.lemmas.List.Kept.{AllPairs-cons}
-use Rattle.and_model.specs.Terms.{Term, Terms, variable, number, compound, none, more}
+use Rattle.and_model.specs.Terms.{Term, variable, number, compound, none, more}
 use Rattle.and_model.specs.Programs.{Program, Of, clause_at}
-use Rattle.and_model.specs.Candidates.{Candidate}
 use Rattle.and_model.specs.declared.numbers.ClauseNo.{ClauseNo}
 use Rattle.and_model.specs.declared.numbers.NameNo.{NameNo}
 use Rattle.and_model.specs.declared.reference.Ref.{Ref}
@@ -20,21 +18,19 @@ use Rattle.and_switch.specs.Additions.{picked}
 use Rattle.and_switch.specs.Keys.{same_key}
 use Rattle.and_switch.specs.declared.key.Key.{Key}
 use Rattle.and_switch.specs.declared.key.Key.TheVariants as keys
-use Rattle.and_switch.specs.declared.first_arguments.Addition.{Addition}
-use Rattle.and_switch.specs.declared.first_arguments.Addition.TheVariants.{Under, Any}
 use Rattle.and_laws.proofs.Equality.{bool_cases}
 use Rattle.and_laws.proofs.Ordered.{contains_first, contains_more, contains_cases, contains_none}
 use Rattle.and_laws.proofs.Pairwise.{all_pairs_none, all_pairs_first, all_pairs_rest}
 use Rattle.and_cells.specs.Ranges.{NamedProgram}
 use Rattle.and_branch_laws.proofs.Lists.{all_of}
-use Rattle.and_determinacy.specs.Looks.{KindsDiffer, AreGlimpses, IsLook, no_glimpse}
+use Rattle.and_determinacy.specs.Looks.{KindsDiffer, IsLook}
 use Rattle.and_determinacy.specs.Searches.{NodeHas, AreServed}
 use Rattle.and_determinacy.specs.Tables.{clauses_for, clauses_in, under_key, first_of, added, additions_of, tried, IsEntryFor}
 use Rattle.and_determinacy.specs.declared.looking.Look.{Look}
 use Rattle.and_determinacy.specs.declared.table.Predicate.{Predicate}
 use Rattle.and_determinacy.proofs.ClauseLists.{IsEarlier, clauses_rise, of_listed, listed_of}
 use Rattle.and_determinacy.proofs.Calls.{of_placed, predicate_serves}
-use Rattle.and_determinacy.proofs.Differing.{kinds_apart, argument_apart, apart_is_none}
+use Rattle.and_determinacy.proofs.Differing.{first_apart}
 
 -- ---- First arguments
 
@@ -159,40 +155,34 @@ module _ (P : NamedProgram) (row : List Ref) (node base : ℕ) (look : Look) (is
   abbrev own : Term
   own = node_term P.skeleton.nodes node
 
-  abbrev pub seen : NodeKind
-  seen = (get_or look.arguments.items 0 no_glimpse).kind
-
   -- a clause whose first argument differs is no candidate
-  differs_none : (c : ClauseNo) → KindsDiffer (get_or look.arguments.items 0 no_glimpse).kind (first_of (clause_at P.program c.0).head)
+  differs_none : (c : ClauseNo) → KindsDiffer look.first (first_of (clause_at P.program c.0).head)
       → NodeHas P row node base c → ⊥
-  differs_none c d =
-      let head : Term = (clause_at P.program c.0).head in
-      let (some, differ) = some_first seen head d in
-      apart_is_none P row node base look c.0 is_look
-      (argument_apart look head 0 some
-      (kinds_apart look.parts.items (get_or look.arguments.items 0 no_glimpse) (argument_of head 0) differ))
+  differs_none c d has =
+      let (some, apart) = some_first look.first (clause_at P.program c.0).head d in
+      first_apart P row node base look c is_look some apart has
 
-  key_serves : (key : Key) → HasKey (get_or look.arguments.items 0 no_glimpse).kind key
+  key_serves : (key : Key) → HasKey look.first key
       → AreServed P row node base (picked key (additions_of P.program (clauses_for P.program (node_term P.skeleton.nodes node))))
   key_serves key has =
       let all : List ClauseNo = clauses_for P.program own in record {
         of = all_of (λ (c : ClauseNo). Of P.program own c.0) (picked key (additions_of P.program all)) (λ c i.
-            listed_of P.program own c (picked_there P.program seen key has all c i));
-        rise = picked_rise P.program seen key has all (clauses_rise P.program own);
+            listed_of P.program own c (picked_there P.program look.first key has all c i));
+        rise = picked_rise P.program look.first key has all (clauses_rise P.program own);
         all = λ c has_it.
-            picked_all P.program seen key has all c (of_listed P.program own c.0 (of_placed P.program base own c.0 has_it.0))
+            picked_all P.program look.first key has all c (of_listed P.program own c.0 (of_placed P.program base own c.0 has_it.0))
             (λ d. differs_none c d has_it);
       }
 
   -- or all serve it
-  by_key : (key : Key) → HasKey (get_or look.arguments.items 0 no_glimpse).kind key → (entry : Option Predicate)
+  by_key : (key : Key) → HasKey look.first key → (entry : Option Predicate)
       → IsEntryFor P.program (clauses_for P.program (node_term P.skeleton.nodes node)) entry → AreServed P row node base (under_key entry key)
   by_key key has entry known = elim (known.under key) [
     | inl few ↦ subst (AreServed P row node base) (sym few) (key_serves key has)
     | inr all ↦ predicate_serves P row node base (under_key entry key) all
   ]
 
-  by_kind : (kind : NodeKind) → kind ≡ (get_or look.arguments.items 0 no_glimpse).kind → (entry : Option Predicate)
+  by_kind : (kind : NodeKind) → kind ≡ look.first → (entry : Option Predicate)
       → IsEntryFor P.program (clauses_for P.program (node_term P.skeleton.nodes node)) entry → AreServed P row node base (tried entry kind)
   by_kind (Variable j) is entry known = predicate_serves P row node base (clauses_in entry) known.all
   by_kind (Number z) is entry known =
@@ -202,5 +192,5 @@ module _ (P : NamedProgram) (row : List Ref) (node base : ℕ) (look : Look) (is
 
   -- What is tried of a known entry serves the call.
   pub first_serves : (entry : Option Predicate) → IsEntryFor P.program (clauses_for P.program (node_term P.skeleton.nodes node)) entry
-      → AreServed P row node base (tried entry (get_or look.arguments.items 0 no_glimpse).kind)
-  first_serves entry known = by_kind (get_or look.arguments.items 0 no_glimpse).kind refl entry known
+      → AreServed P row node base (tried entry look.first)
+  first_serves entry known = by_kind look.first refl entry known

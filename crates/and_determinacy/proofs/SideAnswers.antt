@@ -26,18 +26,18 @@ resolved_is N l node base r same e = subst (λ (Q : NamedProgram). r ≡ part_at
 pub falls_in : (N : NamedProgram) (l : Loaded) → N ≡ named l → AllFall 0 (skeleton_of l).nodes → AllFall 0 N.skeleton.nodes
 falls_in N l same fall = subst (λ (Q : NamedProgram). AllFall 0 Q.skeleton.nodes) (sym same) fall
 
-holds_by : (o : Relation) (u w : Term) (x y : Option ℤ) → value u ≡ x → value w ≡ y → holds o u w ≡ both_related o x y
+pub holds_by : (o : Relation) (u w : Term) (x y : Option ℤ) → value u ≡ x → value w ≡ y → holds o u w ≡ both_related o x y
 unfolding holds
 holds_by o u w x y one two = ap (λ (a : Option ℤ). both_related o a (value w)) one ∙ ap (λ (b : Option ℤ). both_related o x b) two
 
-none_left : (o : Relation) (y : Option ℤ) → both_related o None y ≡ false
+pub none_left : (o : Relation) (y : Option ℤ) → both_related o None y ≡ false
 none_left o None = refl
 none_left o (Some b) = refl
 
 not_false : (b : Bool) → b ≡ false → not b ≡ true
 not_false b e = ap not e
 
-is_false : (b : Bool) → not b ≡ true → b ≡ false
+pub is_false : (b : Bool) → not b ≡ true → b ≡ false
 is_false true e = absurd (true≢false (sym e))
 is_false false e = refl
 

@@ -69,7 +69,7 @@ pub part_written : (P : NamedProgram) (s : Seen) (base n : ℕ) → IsWrittenIfN
 part_written P s base n pair e = absurd (resolved_no_number (shape_at P.skeleton n) (record { 0 = n }) base pair e)
 
 -- and names the cells of the node's variables.
-part_names_below : (P : NamedProgram) (words n base : ℕ) → AllFall 0 P.skeleton.nodes → IsNodeInRange P words n base → (cell : ℕ)
+pub part_names_below : (P : NamedProgram) (words n base : ℕ) → AllFall 0 P.skeleton.nodes → IsNodeInRange P words n base → (cell : ℕ)
     → Contains (shallow_cells P (part_at P base n)) cell → cell < words
 part_names_below P words n base fall r cell c =
     let (v, at, is) = part_cells P base n fall cell c in
@@ -77,7 +77,7 @@ part_names_below P words n base fall r cell c =
     omega (arith, low, is)
 
 -- where the frame begins, or a cell of it, is not below the frame
-resolved_not_below : (floor : ℕ) (s : Shape) (node : NodeNo) → IsBelow floor (resolved s node floor) → ⊥
+pub resolved_not_below : (floor : ℕ) (s : Shape) (node : NodeNo) → IsBelow floor (resolved s node floor) → ⊥
 resolved_not_below floor (Skeletons.variable k) node below = absurd (omega arith)
 resolved_not_below floor (Skeletons.number z) node below = absurd (omega arith)
 resolved_not_below floor (Skeletons.compound c ns) node below = absurd (omega arith)

@@ -89,7 +89,7 @@ abbrev pub AgreeBelow : (words : ℕ) → Substitution → Substitution → Type
 AgreeBelow words s t = (cell : ℕ) → cell < words → s [] cell ≡ t [] cell
 
 -- They give what names such cells alone the same value.
-same_value : (P : NamedProgram) (w : Words) (words : ℕ) (s t : Substitution) → AgreeBelow words s t → (r : Ref)
+pub same_value : (P : NamedProgram) (w : Words) (words : ℕ) (s t : Substitution) → AgreeBelow words s t → (r : Ref)
     → ((cell : ℕ) → Contains (shallow_cells P r) cell → cell < words) → value P w s r ≡ value P w t r
 same_value P w words s t agree Free low = refl
 same_value P w words s t agree (Cell cell) low = ap (λ (x : Term). Some x) (agree cell (low cell (contains_first cell [])))

@@ -16,6 +16,8 @@ use Rattle.and_switch.specs.declared.key.Key.TheVariants as keys
 use Rattle.and_switch.specs.declared.first_arguments.FirstArguments.{FirstArguments}
 use Rattle.and_switch.specs.declared.first_arguments.Addition.{Addition}
 use Rattle.and_switch.specs.declared.first_arguments.Addition.TheVariants.{Under, Any}
+use Rattle.and_determinacy.specs.Prints.{ArePrints, no_print}
+use Rattle.and_determinacy.specs.declared.prints.Print.{Print}
 use Rattle.and_determinacy.specs.declared.table.Predicate.{Predicate}
 use Rattle.and_determinacy.specs.declared.table.Determinacy.{Determinacy}
 
@@ -80,9 +82,15 @@ entry_at table node = slice_get table.predicates.items (get_or table.numbers.ite
 abbrev pub IsKnown : NamedProgram → Determinacy → (node : ℕ) → Type 0
 IsKnown P table node = IsEntryFor P.program (clauses_for P.program (node_term P.skeleton.nodes node)) (entry_at table node)
 
--- The table is that of the program: for the node of each call of a body it has the entry of the call's predicate.
+-- the print that a table has for a clause
+abbrev pub print_at : Determinacy → (clause : ℕ) → Print
+print_at table c = get_or table.prints.items c no_print
+
+-- The table is that of the program: for the node of each call of a body it has the entry of the call's predicate, and for each clause the print
+-- of its head.
 pub record IsTableOf (P : NamedProgram) (table : Determinacy) : Type 0 where
   pub calls : (c i node : ℕ) → slice_get (nodes_at P.skeleton c).items i ≡ Some (call node) → IsKnown P table node
+  pub prints : ArePrints P.program table.prints.items
 
 -- ---- While it is made
 
@@ -99,10 +107,11 @@ pub record IsLonger (old new : List Predicate) : Type 0 where
   pub longer : length old ≤ length new
   pub same : (n : ℕ) → n < length old → slice_get new n ≡ slice_get old n
 
--- Each number is that of an entry, and the entries are as they are to be.
+-- Each number is that of an entry, and the entries and prints are as they are to be.
 pub record IsMade (P : Program) (table : Determinacy) (firsts : List ℕ) : Type 0 where
   pub numbered : (node : ℕ) → get_or table.numbers.items node 0 < length table.predicates.items
   pub entries : AreFirsts P table.predicates.items firsts
+  pub prints : ArePrints P table.prints.items
 
 -- What is known of the one table is known of the other.
 abbrev pub StaysKnown : NamedProgram → (old new : Determinacy) → Type 0

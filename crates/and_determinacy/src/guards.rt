@@ -1,4 +1,4 @@
-//! The guards of clauses, judged in the cells of a frame.
+//! The guards of clauses, judged in the cells of a frame, and what the sides of a comparison come to.
 
 ghost use Rattle.std.specs.Prelude.{◌≡◌, ◌↔◌, Bool, true, map, length, Ok, IfOk};
 ghost use Rattle.and_cells.specs.Meaning.{IsSettled};
@@ -14,9 +14,9 @@ use and_model::{NodeNo, Relation};
 use and_program::{ItemNode, Loaded};
 use std::alloc::AllocError;
 
-/// What is known of one side of a comparison.
+/// What is known of one side of a comparison, or of the right side of an `is`.
 #[derive(Clone, Copy, PartialEq, Eq, Debug)]
-pub(crate) enum Side {
+pub enum Side {
     /// It is not ground.
     Waits,
     /// It is ground, and has no value.
@@ -87,8 +87,9 @@ fn is_false<N: Naming>(
     Ok(fails(by, first, second))
 }
 
-/// What is known of a side of a comparison. An error is want of memory.
-fn evaluate<N: Naming>(
+/// What is known of a side, whose node is given, in the frame at the base. The cells are as before. An
+/// error is want of memory.
+pub fn evaluate<N: Naming>(
     loaded: &Loaded,
     cells: &mut PlainCells<N>,
     base: u32,
@@ -113,7 +114,7 @@ fn evaluate<N: Naming>(
 }
 
 /// Whether a comparison of these sides is false.
-fn fails(by: Relation, left: Side, right: Side) -> bool
+pub fn fails(by: Relation, left: Side, right: Side) -> bool
     ensures { result ≡ sides_fail (relation by) left right }
 {
     match left {

@@ -10,7 +10,7 @@ ghost use Rattle.and_cells.specs.Meaning.{IsSettled};
 ghost use Rattle.and_cells.specs.Parts.{named};
 ghost use Rattle.and_determinacy.specs.Candidates.{CanBeJudged, IsNodeOf, AreCandidates, IsJudged, IsNarrowed, narrowed_as};
 ghost use Rattle.and_determinacy.specs.Guards.{CanBeRead};
-ghost use Rattle.and_determinacy.specs.Looks.{IsLook, MayMeet};
+ghost use Rattle.and_determinacy.specs.Looks.{IsLook, IsLeft};
 ghost use Rattle.and_determinacy.specs.Searches.{NodeHas, AreServed, IsNextOf, IsCount, NoneFrom};
 ghost use Rattle.and_determinacy.specs.declared.judging.Found.{Found};
 ghost use Rattle.and_determinacy.specs.Tables.{IsKnown, IsTableOf};
@@ -105,6 +105,7 @@ struct Found {
 /// The first candidate of a call among these clauses, from a place on. The cells are as before, but
 /// after an error, which is want of memory.
 fn next_candidate<N: Naming>(
+    table: &Determinacy,
     loaded: &Loaded,
     cells: &mut PlainCells<N>,
     node: NodeNo,
@@ -114,6 +115,7 @@ fn next_candidate<N: Naming>(
     trials: &mut Trials,
 ) -> Result<Option<Found>, AllocError>
     requires program { N.program ≡ named loaded.now }
+    requires table { IsTableOf N.program table.now }
     requires settled { IsSettled N.program cells.old }
     requires short { length cells.old ≤ MAX_LIMIT }
     requires node { CanBeRead N.program cells.old base node.0 }
@@ -126,7 +128,7 @@ fn next_candidate<N: Naming>(
 {
     for place in from..clauses.len() {
         let clause = clauses[place];
-        if trials.fits(loaded, cells, node, base, clause)? {
+        if trials.fits(table, loaded, cells, node, base, clause)? {
             let behind = place + 1;
             return Ok(Some(Found { clause, behind }));
         }
@@ -138,6 +140,7 @@ fn next_candidate<N: Naming>(
 /// stops at the second that it finds. The cells are as before, but after an error, which is want of
 /// memory.
 fn judge_from<N: Naming>(
+    table: &Determinacy,
     loaded: &Loaded,
     cells: &mut PlainCells<N>,
     node: NodeNo,
@@ -147,6 +150,7 @@ fn judge_from<N: Naming>(
     trials: &mut Trials,
 ) -> Result<Judged, AllocError>
     requires program { N.program ≡ named loaded.now }
+    requires table { IsTableOf N.program table.now }
     requires settled { IsSettled N.program cells.old }
     requires short { length cells.old ≤ MAX_LIMIT }
     requires node { CanBeRead N.program cells.old base node.0 }
@@ -155,10 +159,10 @@ fn judge_from<N: Naming>(
     ensures count { IfOk result (IsCount (NodeHas N.program cells.old node.0 base) clauses.now from) }
     ensures unchanged { OnOk result (cells.new ≡ cells.old) }
 {
-    match next_candidate(loaded, cells, node, base, clauses, from, trials)? {
+    match next_candidate(table, loaded, cells, node, base, clauses, from, trials)? {
         None => Ok(Judged::Nothing),
         Some(Found { clause, behind }) => {
-            match next_candidate(loaded, cells, node, base, clauses, behind, trials)? {
+            match next_candidate(table, loaded, cells, node, base, clauses, behind, trials)? {
                 None => Ok(Judged::One(clause)),
                 Some(_) => Ok(Judged::Several),
             }
@@ -184,21 +188,21 @@ pub fn judge<N: Naming>(
     ensures unchanged { OnOk result (cells.new ≡ cells.old) }
 {
     let node = node_of(loaded, cells, goal);
-    trials.look_at(loaded, cells, node, goal.base)?;
+    trials.look_at(loaded, cells, node, goal.base);
     let clauses = clauses_to_try(table, cells, &trials.look, node, goal.base);
-    judge_from(loaded, cells, node, goal.base, clauses, 0, trials)
+    judge_from(table, loaded, cells, node, goal.base, clauses, 0, trials)
 }
 
 /// The first place, from one on, of a clause that a look does not tell apart from the call.
-fn next_left(loaded: &Loaded, look: &Look, clauses: &[ClauseNo], from: usize) -> Option<usize>
-    requires { All (λ (c : ClauseNo). c.0 ≤ length (program_of loaded.now).clauses) clauses.now }
+fn next_left(table: &Determinacy, look: &Look, clauses: &[ClauseNo], from: usize) -> Option<usize>
+    requires { All (λ (c : ClauseNo). c.0 < length table.now.prints.items) clauses.now }
     ensures after { (place : ℕ) → result ≡ Some place → from ≤ place }
     ensures there { (place : ℕ) → result ≡ Some place → place < length clauses.now }
-    ensures first { (place : ℕ) → result ≡ Some place → NoneFrom (MayMeet (program_of loaded.now) look.now) clauses.now from place }
-    ensures none { result ≡ None → NoneFrom (MayMeet (program_of loaded.now) look.now) clauses.now from (length clauses.now) }
+    ensures first { (place : ℕ) → result ≡ Some place → NoneFrom (IsLeft table.now look.now) clauses.now from place }
+    ensures none { result ≡ None → NoneFrom (IsLeft table.now look.now) clauses.now from (length clauses.now) }
 {
     for place in from..clauses.len() {
-        if !look.is_apart(loaded, clauses[place]) {
+        if !look.is_apart(table, clauses[place]) {
             return Some(place);
         }
     }
@@ -235,14 +239,16 @@ pub fn narrow<N: Naming>(
     ensures unchanged { OnOk result (cells.new ≡ cells.old) }
 {
     let node = node_of(loaded, cells, goal);
-    trials.look_at(loaded, cells, node, goal.base)?;
+    trials.look_at(loaded, cells, node, goal.base);
     let clauses = clauses_to_try(table, cells, &trials.look, node, goal.base);
-    match next_left(loaded, &trials.look, clauses, 0) {
+    match next_left(table, &trials.look, clauses, 0) {
         None => Ok(Narrowed::Nothing),
-        Some(first) => match next_left(loaded, &trials.look, clauses, first + 1) {
+        Some(first) => match next_left(table, &trials.look, clauses, first + 1) {
             None => Ok(Narrowed::AtMost(clauses[first])),
             Some(_) => {
-                let judged = judge_from(loaded, cells, node, goal.base, clauses, first, trials)?;
+                let judged = judge_from(
+                    table, loaded, cells, node, goal.base, clauses, first, trials,
+                )?;
                 Ok(narrowed_from(judged))
             }
         },
@@ -269,10 +275,10 @@ pub fn candidates_of<N: Naming>(
 {
     clear(out);
     let node = node_of(loaded, cells, goal);
-    trials.look_at(loaded, cells, node, goal.base)?;
+    trials.look_at(loaded, cells, node, goal.base);
     let clauses = clauses_to_try(table, cells, &trials.look, node, goal.base);
     for clause in clauses {
-        if trials.fits(loaded, cells, node, goal.base, *clause)? {
+        if trials.fits(table, loaded, cells, node, goal.base, *clause)? {
             put(out, *clause)?;
         }
     }

@@ -5,9 +5,10 @@
 //! of them. They try clauses on the cells themselves, and take back what was set.
 #![tactic(auto)]
 
-mod guards;
+pub mod guards;
 pub mod judging;
 mod looking;
+mod prints;
 pub mod table;
 mod trying;
 

@@ -6,9 +6,9 @@ ghost use Rattle.and_program.specs.Items.{node_item};
 ghost use Rattle.and_program.specs.Loaded.{nodes_at, program_of, skeleton_of};
 ghost use Rattle.and_program.specs.Skeletons.{call, node_term};
 ghost use Rattle.and_cells.specs.Parts.{named};
-ghost use Rattle.and_determinacy.specs.Tables.{clauses_for, first_of, added, additions_of, under_key, tried, entry_at, IsTableFor, IsEntryFor, IsKnown, IsTableOf, AreFirsts, IsLonger, IsMade, StaysKnown, KnowsCalls};
+ghost use Rattle.and_determinacy.specs.Tables.{clauses_for, first_of, added, additions_of, under_key, tried, entry_at, print_at, IsTableFor, IsEntryFor, IsKnown, IsTableOf, AreFirsts, IsLonger, IsMade, StaysKnown, KnowsCalls};
 
-use crate::looking::count_in;
+use crate::prints::{Print, count_in, prints_of};
 use and_model::{ClauseNo, NodeNo};
 use and_program::{ItemNode, Loaded, NodeKind};
 use and_switch::{Addition, FirstArguments, Key};
@@ -23,12 +23,15 @@ struct Predicate {
     by_first: Option<FirstArguments>,
 }
 
-/// A program's table: for each call of a body, the clauses of its predicate.
+/// A program's table: for each call of a body, the clauses of its predicate, and for each clause the
+/// print of its head.
 #[derive(Drop)]
 pub struct Determinacy {
     /// By node: the number of the predicate that it calls. Predicate 0 has no clauses.
     numbers: Vec<usize>,
     predicates: Vec<Predicate>,
+    /// By clause.
+    prints: Vec<Print>,
 }
 
 /// The number at a place; 0 where there is none.
@@ -80,7 +83,7 @@ impl Predicate {
 impl Determinacy {
     /// The clauses of the predicate that a node calls which serve a first argument of which this is
     /// known.
-    pub(crate) fn clauses(&self, node: NodeNo, first: NodeKind) -> &[ClauseNo]
+    pub fn clauses(&self, node: NodeNo, first: NodeKind) -> &[ClauseNo]
         ensures { result.now ≡ tried (entry_at self.now node.0) first }
     {
         match self
@@ -90,6 +93,14 @@ impl Determinacy {
             Some(predicate) => predicate.tried(first),
             None => &[],
         }
+    }
+
+    /// The print of the head of a clause.
+    pub(crate) fn print(&self, clause: ClauseNo) -> Print
+        requires { clause.0 < length self.now.prints.items }
+        ensures { result ≡ print_at self.now clause.0 }
+    {
+        self.prints[clause.0 as usize]
     }
 }
 
@@ -238,6 +249,7 @@ impl Determinacy {
         Ok(Determinacy {
             numbers: Vec::new(alloc),
             predicates,
+            prints: prints_of(alloc, loaded)?,
         })
     }
 

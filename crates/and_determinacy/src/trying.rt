@@ -13,10 +13,12 @@ ghost use Rattle.and_branch_laws.specs.Judging.{outside};
 ghost use Rattle.and_branch_laws.specs.Variables.{placed};
 ghost use Rattle.and_determinacy.specs.Guards.{CanBeRead};
 ghost use Rattle.and_determinacy.specs.Looks.{IsLook};
+ghost use Rattle.and_determinacy.specs.Tables.{IsTableOf};
 ghost use Rattle.and_determinacy.specs.Trials.{IsPrepared};
 
 use crate::guards::is_guard_false;
 use crate::looking::Look;
+use crate::table::Determinacy;
 use and_arith::WorkList;
 use and_cells::{Naming, PlainCells};
 use and_model::{ClauseNo, NodeNo};
@@ -35,32 +37,33 @@ impl Trials {
     /// Nothing was tried yet. Takes no memory.
     pub fn new(alloc: Global) -> Trials {
         Trials {
-            look: Look::new(alloc),
+            look: Look::none(),
             tools: Tools::new(alloc),
         }
     }
 
-    /// Looks at the call whose node is given, in the frame at the base, before its clauses are tried. An
-    /// error is want of memory.
+    /// Looks at the call whose node is given, in the frame at the base, before its clauses are tried.
+    /// Takes no memory.
     pub(crate) fn look_at<N: Naming>(
         &mut self,
         loaded: &Loaded,
         cells: &mut PlainCells<N>,
         node: NodeNo,
         base: u32,
-    ) -> Result<(), AllocError>
+    )
         requires program { N.program ≡ named loaded.now }
         requires node { CanBeRead N.program cells.old base node.0 }
-        ensures look { OnOk result (IsLook N.program cells.old node.0 base self.new.look) }
+        ensures look { IsLook N.program cells.old node.0 base self.new.look }
         ensures unchanged { cells.new ≡ cells.old }
     {
-        self.look.take(loaded, cells, node, base)
+        self.look = Look::at(loaded, cells, node, base);
     }
 
     /// Whether a clause is a candidate of the call that was looked at. The cells are as before, but after
     /// an error, which is want of memory.
     pub(crate) fn fits<N: Naming>(
         &mut self,
+        table: &Determinacy,
         loaded: &Loaded,
         cells: &mut PlainCells<N>,
         node: NodeNo,
@@ -68,6 +71,7 @@ impl Trials {
         clause: ClauseNo,
     ) -> Result<bool, AllocError>
         requires program { N.program ≡ named loaded.now }
+        requires table { IsTableOf N.program table.now }
         requires settled { IsSettled N.program cells.old }
         requires short { length cells.old ≤ MAX_LIMIT }
         requires node { CanBeRead N.program cells.old base node.0 }
@@ -78,7 +82,7 @@ impl Trials {
         ensures unchanged { OnOk result (cells.new ≡ cells.old) }
         ensures look { self.new.look ≡ self.old.look }
     {
-        if self.look.is_apart(loaded, clause) {
+        if self.look.is_apart(table, clause) {
             return Ok(false);
         }
         self.tools.fits(loaded, cells, node, base, clause)

@@ -13,7 +13,7 @@ loop-clause-init g c =
     let Q = NodeHas g.N.Naming.program c.args.cells.now c.node_of-node.result.0 c.args.goal.base in
     record {
       same = c.look_at.ensures.unchanged;
-      look = c.in_ok-look_at.ensures.look;
+      look = c.look_at.ensures.look;
       picks = subst (λ out. Picks Q [] out) (sym c.clear.ensures) nothing;
     }
 

@@ -3,7 +3,7 @@ use Rattle.std.proofs.lemmas.List.{get_or_default}
 use Rattle.and_model.specs.declared.numbers.ClauseNo.{ClauseNo}
 use Rattle.and_determinacy.specs.Candidates.{IsNarrowed}
 use Rattle.and_determinacy.specs.Searches.{NodeHas, AreServed, IsCount}
-use Rattle.and_determinacy.proofs.Searching.{none_seen, none_left, one_left, count_joined, counted, as_judged}
+use Rattle.and_determinacy.proofs.Searching.{none_seen, served_printed, none_left, one_left, count_joined, counted, as_judged}
 use Rattle.and_determinacy.proofs.judging.narrow.Goals as goal
 
 pub returns-in-None-clause-narrowed : goal.returns-in-None-clause-narrowed
@@ -15,8 +15,8 @@ returns-in-None-clause-narrowed g c =
     let clauses = c.clauses_to_try-clauses.result.now in
     let served = subst (λ r. AreServed P r node base clauses) c.look_at.ensures.unchanged c.clauses_to_try-clauses.ensures in
     let look = c.look_at.new.self.look in
-    let is_look = c.in_ok-look_at.ensures.look in
-    let seen = none_seen P c.args.loaded.now c.requires.program row node base look is_look clauses in
+    let is_look = c.look_at.ensures.look in
+    let seen = none_seen P c.args.table.now c.requires.table row node base look is_look clauses in
     none_left P row c.args.goal node c.node_of-node.ensures clauses served
     (seen 0 (length clauses) (c.next_left.ensures.none c.in-None.is))
 
@@ -29,8 +29,8 @@ returns-in-None-next_left-clause-narrowed g c =
     let clauses = c.clauses_to_try-clauses.result.now in
     let served = subst (λ r. AreServed P r node base clauses) c.look_at.ensures.unchanged c.clauses_to_try-clauses.ensures in
     let look = c.look_at.new.self.look in
-    let is_look = c.in_ok-look_at.ensures.look in
-    let seen = none_seen P c.args.loaded.now c.requires.program row node base look is_look clauses in
+    let is_look = c.look_at.ensures.look in
+    let seen = none_seen P c.args.table.now c.requires.table row node base look is_look clauses in
     let first = c.in-Some.first in
     let clause : ClauseNo = get_or clauses first (record { 0 = 0 }) in
     let low = c.next_left.ensures.there first c.in-Some.is in
@@ -48,8 +48,8 @@ returns-in_ok-judged-in-Some-next_left-clause-narrowed g c =
     let clauses = c.clauses_to_try-clauses.result.now in
     let served = subst (λ r. AreServed P r node base clauses) c.look_at.ensures.unchanged c.clauses_to_try-clauses.ensures in
     let look = c.look_at.new.self.look in
-    let is_look = c.in_ok-look_at.ensures.look in
-    let seen = none_seen P c.args.loaded.now c.requires.program row node base look is_look clauses in
+    let is_look = c.look_at.ensures.look in
+    let seen = none_seen P c.args.table.now c.requires.table row node base look is_look clauses in
     let first = c.in-Some.first in
     let judged = c.in_ok-judged-in-Some-next_left.judged in
     let Q = NodeHas P row node base in
@@ -64,3 +64,10 @@ returns-in_ok-judged-in-Some-next_left-clause-narrowed g c =
 pub clauses_to_try-clauses-requires-clause-known : goal.clauses_to_try-clauses-requires-clause-known
 clauses_to_try-clauses-requires-clause-known g c =
     c.requires.table.calls c.args.goal.clause.0 c.args.goal.item c.node_of-node.result.0 c.node_of-node.ensures.there
+
+pub next_left-requires : goal.next_left-requires
+next_left-requires g c =
+    let P = g.N.Naming.program in
+    let node = c.node_of-node.result.0 in
+    served_printed P c.args.table.now c.requires.table c.look_at.new.cells node c.args.goal.base c.clauses_to_try-clauses.result.now
+    c.clauses_to_try-clauses.ensures

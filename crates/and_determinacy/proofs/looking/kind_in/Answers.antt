@@ -28,5 +28,5 @@ returns-clause-fits g c = λ s solves.
     let is = resolved_is P c.args.loaded.now c.args.node c.args.base c.resolve.result c.requires.program c.resolve.ensures in
     let leads = subst (λ r. LeadsTo (plain row) r at) is c.end_of-at.ensures.leads in
     let t = apply s (placed c.args.base (node_term P.skeleton.nodes c.args.node.0)) in
-    c.kind_of.ensures.fits s t
+    c.kind_of.ensures s t
     (subst (λ r. MayBe P r s at t) (sym c.end_of-at.ensures.unchanged) (node_leads P fall row s solves c.args.base c.args.node.0 at leads))

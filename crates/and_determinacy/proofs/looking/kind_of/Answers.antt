@@ -6,8 +6,8 @@ use Rattle.and_determinacy.specs.Looks.{Fits, MayBe}
 use Rattle.and_determinacy.proofs.Glimpses.{node_kind}
 use Rattle.and_determinacy.proofs.looking.kind_of.Goals as goal
 
-pub returns-in-Node-clause-fits : goal.returns-in-Node-clause-fits
-returns-in-Node-clause-fits g c = λ s t may.
+pub returns-in-Node : goal.returns-in-Node
+returns-in-Node g c = λ s t may.
     let P = g.N.Naming.program in
     let row = c.args.cells.now in
     let node = c.in-Node.node in

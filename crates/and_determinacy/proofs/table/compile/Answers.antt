@@ -50,4 +50,5 @@ returns c = record {
     | inl before ↦ c.loop-number.invariant.known clause before i node e
     | inr past ↦ absurd (none_past c.args.loaded.now clause i node (let n = c.clause_count-number-end.ensures.count in omega arith) e)
   ];
+  prints = c.loop-number.invariant.made.prints;
 }

@@ -1,19 +1,21 @@
-use Rattle.std.proofs.Common.{◌≡◌, ◌<◌, length, get_or, sym, subst, arith, ◌∙◌}
+use Rattle.std.proofs.Common.{◌≡◌, ◌<◌, length, get_or, refl, sym, subst, arith}
+use Rattle.and_model.specs.Terms.{apply}
 use Rattle.and_program.specs.Loaded.{skeleton_of, arguments_at}
 use Rattle.and_program.specs.Shown.{argument_of}
 use Rattle.and_program.specs.Skeletons.{node_term}
-use Rattle.and_cells.specs.Ranges.{NamedProgram, IsNodeInRange}
-use Rattle.and_determinacy.specs.Looks.{IsAdded}
-use Rattle.and_determinacy.proofs.Glimpses.{argument_fits, look_goes_on}
+use Rattle.and_cells.specs.Ranges.{NamedProgram}
+use Rattle.and_branch_laws.specs.Variables.{placed}
+use Rattle.and_determinacy.specs.Prints.{mark, argument_kind, Tells}
+use Rattle.and_determinacy.proofs.Glimpses.{argument_fits, mark_told}
 use Rattle.and_determinacy.proofs.SideAnswers.{falls_in}
-use Rattle.and_determinacy.proofs.looking.Look.take.Goals as goal
+use Rattle.and_determinacy.proofs.looking.known_mark.Goals as goal
 
-pub add-requires-clause-node : goal.add-requires-clause-node
-add-requires-clause-node g c =
+pub kind_in-requires-clause-node : goal.kind_in-requires-clause-node
+kind_in-requires-clause-node g c =
     let P = g.N.Naming.program in
     let row = c.args.cells.now in
     let node = c.args.node.0 in
-    let place = c.loop-place.place in
+    let place = c.args.place in
     let argument = c.argument-argument.result.0 in
     let fall = falls_in P c.args.loaded.now c.requires.program c.skeleton_is_of_the_program.ensures.skeleton.0 in
     let there : place < length (arguments_at (skeleton_of c.args.loaded.now) node) = omega arith in
@@ -22,19 +24,17 @@ add-requires-clause-node g c =
     let is : argument ≡ get_or (arguments_at P.skeleton node) place 0 =
     subst (λ (Q : NamedProgram). argument ≡ get_or (arguments_at Q.skeleton node) place 0) (sym c.requires.program)
     c.argument-argument.ensures.node in
-    subst (λ r. IsNodeInRange P (length r) argument c.args.base) (sym c.loop-place.invariant.same)
-    (argument_fits P fall row (length row) c.args.base node place argument c.requires.node low is)
+    argument_fits P fall row (length row) c.args.base node place argument c.requires.node low is
 
-pub loop-place-preserved : goal.loop-place-preserved
-loop-place-preserved g c =
+pub returns-clause-tells : goal.returns-clause-tells
+returns-clause-tells g c = λ s solves.
     let P = g.N.Naming.program in
     let row = c.args.cells.now in
     let node = c.args.node.0 in
     let base = c.args.base in
-    let place = c.loop-place.place in
+    let place = c.args.place in
     let argument = c.argument-argument.result.0 in
-    let old = c.loop-place.self in
-    let new = c.add.new.self in
+    let kind = c.kind_in.result in
     let fall = falls_in P c.args.loaded.now c.requires.program c.skeleton_is_of_the_program.ensures.skeleton.0 in
     let there : place < length (arguments_at (skeleton_of c.args.loaded.now) node) = omega arith in
     let low : place < length (arguments_at P.skeleton node) =
@@ -42,12 +42,8 @@ loop-place-preserved g c =
     let term : node_term P.skeleton.nodes argument ≡ argument_of (node_term P.skeleton.nodes node) place =
     subst (λ (Q : NamedProgram). node_term Q.skeleton.nodes argument ≡ argument_of (node_term Q.skeleton.nodes node) place)
     (sym c.requires.program) c.argument-argument.ensures.term in
-    let added : IsAdded P row argument base old new =
-    subst (λ r. IsAdded P r argument base old new) c.loop-place.invariant.same c.in_ok-add.ensures.added in
-    let both = look_goes_on P fall row node base argument place old new c.loop-place.invariant.many low term added
-    c.loop-place.invariant.look in
-    record {
-      same = c.add.ensures.unchanged ∙ c.loop-place.invariant.same;
-      many = both.1;
-      look = both.0;
-    }
+    subst (λ m. Tells m (mark (argument_kind (apply s (placed base (node_term P.skeleton.nodes node))) place))) (sym c.mark_of.ensures)
+    (mark_told P fall row s base node argument place kind low term (c.kind_in.ensures.fits s solves))
+
+pub returns-then-place-count-clause-tells : goal.returns-then-place-count-clause-tells
+returns-then-place-count-clause-tells g c = λ s solves some. absurd (some refl)
