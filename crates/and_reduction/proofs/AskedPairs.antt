@@ -35,7 +35,7 @@ use Rattle.and_determinacy.specs.Candidates.{IsNodeOf}
 use Rattle.and_reduction.specs.Asking.{AreReady, Ask, CanBeAsked}
 use Rattle.and_reduction.specs.Frames.{IsFrame, IsCallBelow}
 use Rattle.and_reduction.proofs.NewFrames.{own_keeps, head_reads, first_asked}
-use Rattle.and_reduction.proofs.Found.{resolved_not_below}
+use Rattle.and_determinacy.proofs.TriedClauses.{resolved_not_below}
 use Rattle.and_reduction.proofs.ReadyPairs.{IsReady, one_more, only_one, nodes_ready}
 use Rattle.and_program.specs.Loaded.{shape_at}
 

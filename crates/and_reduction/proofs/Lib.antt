@@ -1,8 +1,4 @@
 pub mod Loading
-pub mod Found
-pub mod Widening
-pub mod Reading
-pub mod Valuing
 pub mod ReadyPairs
 pub mod NewFrames
 pub mod Numbers

@@ -32,8 +32,8 @@ use Rattle.and_determinacy.specs.Candidates.{CanBeJudged}
 use Rattle.and_determinacy.specs.Guards.{CanBeRead}
 use Rattle.and_reduction.specs.Asking.{CanBeAsked}
 use Rattle.and_reduction.specs.Frames.{IsFrame, IsCallBelow}
-use Rattle.and_reduction.proofs.Found.{resolved_not_below}
-use Rattle.and_reduction.proofs.Widening.{widened_length, free_behind, names_within, settled_still}
+use Rattle.and_determinacy.proofs.TriedClauses.{resolved_not_below}
+use Rattle.and_determinacy.proofs.Widening.{widened_length, free_behind, names_within, settled_still}
 use Rattle.and_branch_laws.proofs.Rows.{widened_words}
 
 -- A frame that was put behind a settled row.

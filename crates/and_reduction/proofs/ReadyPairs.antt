@@ -24,7 +24,7 @@ use Rattle.and_unify.specs.Settling.{KeepsBelow}
 use Rattle.and_unify.specs.declared.pairs.Pair.{Pair}
 use Rattle.and_determinacy.specs.Guards.{CanBeRead}
 use Rattle.and_reduction.specs.Asking.{AreReady, Ask}
-use Rattle.and_reduction.proofs.Found.{part_in_range, part_written}
+use Rattle.and_determinacy.proofs.TriedClauses.{part_in_range, part_written}
 
 -- no pairs
 pub none_ready : (P : NamedProgram) (row : List Ref) (floor : ℕ) (pairs : List Pair) → pairs ≡ [] → AreReady P row floor pairs

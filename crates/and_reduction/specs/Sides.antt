@@ -1,20 +1,14 @@
--- What is known of the sides of a goal of arithmetic, and what that says of a comparison.
-use Rattle.std.specs.Prelude.{ℕ, ◌≡◌, Bool, true, false, List, Some, None}
+-- What the sides of a comparison say of it.
+use Rattle.std.specs.Prelude.{ℕ, ◌≡◌, Bool, true, false, List}
 use Rattle.and_model.specs.Terms.{Term, Terms, none, more, is_ground, are_ground}
-use Rattle.and_model.specs.Arithmetic.{Relation, related, value, holds}
+use Rattle.and_model.specs.Arithmetic.{Relation, related, holds}
 use Rattle.and_model.specs.declared.reference.Ref.{Ref}
 use Rattle.and_cells.specs.Ranges.{NamedProgram}
 use Rattle.and_branch_laws.specs.Running.{IsRead, AreRead}
 use Rattle.and_reduction.specs.declared.running.Ran.{Ran}
 use Rattle.and_reduction.specs.declared.running.Ran.TheVariants as run
-use Rattle.and_reduction.specs.declared.sides.Side.{Side}
-use Rattle.and_reduction.specs.declared.sides.Side.TheVariants.{Waits, NoValue, Number}
-
--- This is what a term comes to in the frame at the base.
-abbrev pub IsSide : NamedProgram → List Ref → (base : ℕ) → Term → Side → Type 0
-IsSide P row base t Waits = (u : Term) → IsRead P row base t u → is_ground u ≡ true → ⊥
-IsSide P row base t NoValue = (u : Term) × IsRead P row base t u × (is_ground u ≡ true) × (value u ≡ None)
-IsSide P row base t (Number z) = (u : Term) × IsRead P row base t u × (is_ground u ≡ true) × (value u ≡ Some z)
+use Rattle.and_determinacy.specs.declared.guards.Side.{Side}
+use Rattle.and_determinacy.specs.declared.guards.Side.TheVariants.{Waits, NoValue, Number}
 
 -- a comparison that came to this, where both sides are ground
 abbrev pub compared : Bool → Ran

@@ -16,10 +16,11 @@ ghost use Rattle.and_reduction.specs.Runs.{CanBeRun, IsWaiting, HasRun, CannotHo
 ghost use Rattle.and_reduction.specs.Assigning.{CanBeAssigned, IsAssigned, IsFreePair, IsRefused};
 ghost use Rattle.and_reduction.specs.Sides.{IsComparison};
 
-use crate::sides::{Side, compare_sides, evaluate};
+use crate::sides::compare_sides;
 use crate::taking::Tools;
 use and_arith::WorkList;
 use and_cells::{Naming, PlainCells, halves};
+use and_determinacy::guards::{Side, evaluate};
 use and_model::{ClauseNo, Goal, NodeNo, Ref, Relation};
 use and_program::{ItemNode, Loaded};
 use and_unify::Settled as Answer;

@@ -1,55 +1,13 @@
 //! The sides of goals of arithmetic.
 
-ghost use Rattle.std.specs.Prelude.{◌≡◌, IfOk};
+ghost use Rattle.std.specs.Prelude.{◌≡◌};
 ghost use Rattle.and_program.specs.Items.{relation};
-ghost use Rattle.and_program.specs.Skeletons.{node_term};
-ghost use Rattle.and_cells.specs.Meaning.{IsSettled};
-ghost use Rattle.and_cells.specs.Parts.{named};
-ghost use Rattle.and_determinacy.specs.Guards.{CanBeRead};
-ghost use Rattle.and_reduction.specs.Sides.{IsSide, compared_with};
+ghost use Rattle.and_reduction.specs.Sides.{compared_with};
 
 use crate::running::Ran;
-use and_arith::{Valued, WorkList, compare, value_of};
-use and_cells::{Naming, PlainCells};
-use and_model::{NodeNo, Relation};
-use and_program::Loaded;
-use std::alloc::AllocError;
-
-/// What is known of a side of a goal of arithmetic.
-#[derive(Clone, Copy, PartialEq, Eq, Debug)]
-pub(crate) enum Side {
-    /// It is not ground.
-    Waits,
-    /// It is ground, and has no value.
-    NoValue,
-    /// It is ground, and has this value.
-    Number(i64),
-}
-
-/// What is known of a side. An error is want of memory.
-pub(crate) fn evaluate<N: Naming>(
-    loaded: &Loaded,
-    cells: &mut PlainCells<N>,
-    base: u32,
-    node: NodeNo,
-    values: &mut WorkList,
-) -> Result<Side, AllocError>
-    requires program { N.program ≡ named loaded.now }
-    requires settled { IsSettled N.program cells.old }
-    requires node { CanBeRead N.program cells.old base node.0 }
-    ensures side { IfOk result (IsSide N.program cells.old base (node_term N.program.skeleton.nodes node.0)) }
-    ensures unchanged { cells.new ≡ cells.old }
-{
-    loaded.skeleton_is_of_the_program();
-    let _words = cells.len();
-    match value_of(loaded, cells, loaded.resolve(node, base), values) {
-        Valued::Number(number) => Ok(Side::Number(number)),
-        Valued::NoValue => Ok(Side::NoValue),
-        Valued::Waits { cell: _ } => Ok(Side::Waits),
-        Valued::PutOff => unreachable!(),
-        Valued::Memory => Err(AllocError),
-    }
-}
+use and_arith::compare;
+use and_determinacy::guards::Side;
+use and_model::Relation;
 
 /// What a comparison of these sides comes to.
 pub(crate) fn compare_sides(by: Relation, left: Side, right: Side) -> Ran

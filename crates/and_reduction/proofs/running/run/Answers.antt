@@ -8,7 +8,8 @@ use Rattle.and_program.specs.Skeletons.{node_term}
 use Rattle.and_program.specs.declared.item.ItemNode.TheVariants.{Call, Equal, Is, Compare, Fail}
 use Rattle.and_cells.specs.Ranges.{NamedProgram, pair_of}
 use Rattle.and_reduction.specs.Assigning.{CanBeAssigned, IsAssigned, IsRefused}
-use Rattle.and_reduction.specs.Sides.{IsSide, IsComparison}
+use Rattle.and_determinacy.specs.Sides.{IsSide}
+use Rattle.and_reduction.specs.Sides.{IsComparison}
 use Rattle.and_reduction.proofs.Goals.{node_found, no_call, no_equal, no_fail, arithmetic_here, item_so, compared_reads, assigned_reads}
 use Rattle.and_reduction.proofs.Goals.{pair_in_range, can_be_assigned}
 use Rattle.and_reduction.proofs.Loading.{loaded_is}

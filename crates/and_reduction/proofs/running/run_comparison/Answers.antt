@@ -1,7 +1,8 @@
 use Rattle.std.proofs.Common.{sym, subst}
 use Rattle.and_program.specs.Items.{relation}
 use Rattle.and_program.specs.Skeletons.{node_term}
-use Rattle.and_reduction.specs.Sides.{IsSide, IsComparison}
+use Rattle.and_determinacy.specs.Sides.{IsSide}
+use Rattle.and_reduction.specs.Sides.{IsComparison}
 use Rattle.and_reduction.proofs.Outcomes.{sides_compare}
 use Rattle.and_reduction.proofs.running.run_comparison.Goals as goal
 
