@@ -1,8 +1,7 @@
 -- Lists that are mapped.
-use Rattle.std.proofs.Common.{ℕ, zero, suc, ◌+◌, ◌≡◌, ◌<◌, List, [], ◌∷◌, ◌++◌, map, length, get_or, take, Some, refl, sym, ap, ◌∙◌}
+use Rattle.std.proofs.Common.{ℕ, zero, suc, ◌≡◌, ◌<◌, List, [], ◌∷◌, map, length, get_or, refl, sym}
 use Rattle.std.proofs.Common.{subst, inl, inr, arith}
-use Rattle.std.specs.Prelude.{Contains, slice_get}
-use Rattle.std.proofs.lemmas.Option.{slice_get_within, get_or_from_slice_get}
+use Rattle.std.specs.Prelude.{Contains}
 use Rattle.and_laws.proofs.Ordered.{contains_first, contains_more, contains_cases, contains_none}
 
 -- what is in a list is, mapped, in the mapped list,
@@ -26,16 +25,3 @@ pub default_apart : {X : Type 0} (xs : List X) (i : ℕ) (d e : X) → i < lengt
 default_apart [] i d e low = absurd (omega arith)
 default_apart (x ∷ xs) zero d e low = refl
 default_apart (x ∷ xs) (suc i) d e low = default_apart xs i d e (omega arith)
-
--- one more of the first elements
-pub take_more : {X : Type 0} (xs : List X) (i : ℕ) (x : X) → slice_get xs i ≡ Some x → take (i + 1) xs ≡ take i xs ++ x ∷ []
-take_more xs i x e =
-    let low : i < length xs = slice_get_within xs i x e in
-    let at : get_or xs i x ≡ x = get_or_from_slice_get xs i x x e in
-    let step : suc i ≡ i + 1 = omega arith in
-    ap (λ (n : ℕ). take n xs) (sym step) ∙ taken xs i x low ∙ ap (λ (y : _). take i xs ++ y ∷ []) at
-  where
-    taken : {X : Type 0} (xs : List X) (i : ℕ) (d : X) → i < length xs → take (suc i) xs ≡ take i xs ++ get_or xs i d ∷ []
-    taken [] i d low = absurd (omega arith)
-    taken (x ∷ xs) zero d low = refl
-    taken (x ∷ xs) (suc i) d low = ap (λ (ys : List _). x ∷ ys) (taken xs i d (omega arith))

@@ -1,5 +1,5 @@
 pub mod Images
-pub mod Sorting
+pub mod Linking
 pub mod Measures
 pub mod Turns
 pub mod Trees

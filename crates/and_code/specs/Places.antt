@@ -1,21 +1,23 @@
--- Reductions in the order of the calls that they take.
-use Rattle.std.specs.Prelude.{ℕ, ◌≡◌, List, Contains}
-use Rattle.std.specs.List.Sorted.{IsSortedBy}
-use Rattle.std.specs.Ordering.{nat_cmp, ordering_then, is_lt}
-use Rattle.std.specs.declared.cmp.Ordering.{Ordering}
+-- Reductions that are linked by the nodes at which they take calls.
+use Rattle.std.specs.Prelude.{ℕ, ◌+◌, ◌<◌, ◌≤◌, ◌≡◌, ◌≢◌, List, length, get_or, slice_get, Some, Contains}
 use Rattle.and_model.specs.declared.goal.Reduction.{Reduction}
+use Rattle.and_code.specs.declared.places.Links.{Links}
 
--- the call that a reduction takes: its node, and its item there
-abbrev pub place_of : Reduction → ℕ × ℕ
-place_of r = (r.parent, r.item)
+-- Of the reductions before the place `to`, the last that takes a call at the node stands just before `last`. Where this is 0 there is none.
+pub record IsLast (rs : List Reduction) (node to last : ℕ) : Type 0 where
+  pub low : last ≤ to
+  pub takes : (k : ℕ) (r : Reduction) → k + 1 ≡ last → slice_get rs k ≡ Some r → r.parent ≡ node
+  pub none : (k : ℕ) (r : Reduction) → last ≤ k → k < to → slice_get rs k ≡ Some r → r.parent ≢ node
 
--- how places stand to each other: by the nodes, and at one node by the items
-abbrev pub place_cmp : ℕ × ℕ → ℕ × ℕ → Ordering
-place_cmp x y = ordering_then (nat_cmp x.0 y.0) (nat_cmp x.1 y.1)
+-- The first `to` reductions are linked: each node to the last that takes a call there, and each reduction to the one before at its node.
+pub record AreLinked (rs : List Reduction) (last before : List ℕ) (to : ℕ) : Type 0 where
+  pub many : length before ≡ to
+  pub at_node : (node : ℕ) → IsLast rs node to (get_or last node 0)
+  pub at_place : (k : ℕ) (r : Reduction) → k < to → slice_get rs k ≡ Some r → IsLast rs r.parent k (get_or before k 0)
 
--- They are sorted by these calls.
-abbrev pub AreByPlace : List Reduction → Type 0
-AreByPlace rs = IsSortedBy (λ x y. is_lt (place_cmp (place_of x) (place_of y))) rs
+-- All are.
+abbrev pub AreLinks : List Reduction → Links → Type 0
+AreLinks rs links = AreLinked rs links.last.items links.before.items (length rs)
 
 -- the reduction is one of them, and takes that call
 abbrev pub IsFound : List Reduction → (node item : ℕ) → Reduction → Type 0
@@ -24,3 +26,9 @@ IsFound rs node item r = Contains rs r × (r.parent ≡ node) × (r.item ≡ ite
 -- none of them takes it
 abbrev pub IsMissing : List Reduction → (node item : ℕ) → Type 0
 IsMissing rs node item = (r : Reduction) → Contains rs r → r.parent ≡ node → r.item ≡ item → ⊥
+
+-- None from a place on takes it, and the reduction just before that place takes a call at the node.
+pub record IsLeft (rs : List Reduction) (node item from : ℕ) : Type 0 where
+  pub low : from ≤ length rs
+  pub takes : (k : ℕ) (r : Reduction) → k + 1 ≡ from → slice_get rs k ≡ Some r → r.parent ≡ node
+  pub none : (k : ℕ) (r : Reduction) → from ≤ k → slice_get rs k ≡ Some r → r.parent ≡ node → r.item ≢ item

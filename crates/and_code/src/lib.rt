@@ -11,7 +11,7 @@ ghost use Rattle.and_program.specs.Loaded.{program_of};
 ghost use Rattle.and_code.specs.Written.{all_written};
 ghost use Rattle.and_branch_laws.specs.Visits.{at_query, Decides};
 
-use crate::places::by_place;
+use crate::places::Links;
 use crate::visiting::{Turn, Visit, go_on};
 use and_model::{ClauseNo, Code, ReductionList};
 use and_program::Loaded;
@@ -27,16 +27,16 @@ pub fn decided_by(
     requires made { (t : QueryTree (program_of loaded.now)) × Makes (program_of loaded.now) (all_written reductions.now) t }
     ensures { IfOk result (Decides (program_of loaded.now) (all_written reductions.now) (at_query ∷ [])) }
 {
-    let taken = by_place(alloc, reductions)?;
+    let links = Links::of(alloc, reductions)?;
     let mut code = Code::new(alloc);
-    let mut visits = Vec::new(alloc);
+    let mut visits = Vec::with_capacity(alloc, reductions.len().saturating_add(1))?;
     visits.push(Visit {
         node: 0,
         clause: ClauseNo(0),
         item: 0,
     })?;
     loop {
-        match go_on(loaded, &taken, &mut visits, &mut code)? {
+        match go_on(loaded, &links, reductions, &mut visits, &mut code)? {
             Turn::Again => {}
             Turn::Over => return Ok(code),
         }

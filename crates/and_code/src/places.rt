@@ -1,45 +1,88 @@
 //! Reductions by the calls that they take.
 
-ghost use Rattle.std.specs.Prelude.{◌≡◌, ◌↔◌, Some, None, Contains, IfOk};
+ghost use Rattle.std.specs.Prelude.{◌≡◌, ◌≤◌, ◌<◌, ℕ, Some, None, length, get_or, All, IfOk};
 ghost use Rattle.and_model.specs.declared.goal.Reduction.{Reduction};
-ghost use Rattle.and_code.specs.Places.{AreByPlace, IsFound, IsMissing};
+ghost use Rattle.and_code.specs.Places.{AreLinks, IsFound, IsMissing};
 
 use and_model::{Reduction, ReductionList};
 use std::alloc::{AllocError, Global};
 
-/// The same reductions, in the order of the calls that they take: by the nodes, and at one node by the
-/// items. An error is want of memory.
-pub(crate) fn by_place(
-    alloc: Global,
-    reductions: &ReductionList,
-) -> Result<Vec<Reduction>, AllocError>
-    ensures sorted { IfOk result (λ taken. AreByPlace taken.items) }
-    ensures same { IfOk result (λ taken. (r : Reduction) → Contains taken.items r ↔ Contains reductions.now r) }
-{
-    let mut taken = all_of(alloc, reductions)?;
-    taken.sort_by_key(|r| (r.parent, r.item as usize))?;
-    Ok(taken)
+/// The reductions of a list, linked by the nodes at which they take calls. A link is the place just
+/// behind the reduction to which it leads, and 0 where it leads to none.
+#[derive(Drop)]
+pub(crate) struct Links {
+    /// By node: to the last reduction that takes a call there.
+    last: Vec<usize>,
+    /// By the place of a reduction: to the one before it that takes a call at the same node.
+    before: Vec<usize>,
 }
 
-/// The reductions of a list. An error is want of memory.
-fn all_of(alloc: Global, reductions: &ReductionList) -> Result<Vec<Reduction>, AllocError>
-    ensures { IfOk result (λ taken. taken.items ≡ reductions.now) }
+/// The larger of two numbers.
+fn larger(one: usize, other: usize) -> usize
+    ensures first { one ≤ result }
+    ensures second { other ≤ result }
 {
-    let mut taken = Vec::new(alloc);
+    if one < other { other } else { one }
+}
+
+/// A number above those of all nodes at which the reductions take calls.
+fn node_count(reductions: &ReductionList) -> usize
+    ensures { All (λ (r : Reduction). r.parent < result) reductions.now }
+{
+    let mut count = 0;
     for place in 0..reductions.len() {
-        taken.push(*reductions.at(place))?;
+        let node = reductions.at(place).parent as usize;
+        count = larger(count, node + 1);
     }
-    Ok(taken)
+    count
+}
+
+impl Links {
+    /// Links the reductions of a list. An error is want of memory.
+    pub(crate) fn of(alloc: Global, reductions: &ReductionList) -> Result<Links, AllocError>
+        ensures { IfOk result (AreLinks reductions.now) }
+    {
+        let mut last = Vec::new(alloc);
+        last.resize(node_count(reductions), 0)?;
+        let mut before = Vec::with_capacity(alloc, reductions.len())?;
+        for place in 0..reductions.len() {
+            let node = reductions.at(place).parent as usize;
+            before.push(last[node])?;
+            last[node] = place + 1;
+        }
+        Ok(Links { last, before })
+    }
+
+    /// The link of a node.
+    fn last_at(&self, node: u32) -> usize
+        ensures { result ≡ get_or self.now.last.items node 0 }
+    {
+        match self.last.get(node as usize) {
+            Some(last) => *last,
+            None => 0,
+        }
+    }
 }
 
 /// The reduction that takes a call, if there is one: the item of the clause at a node.
-pub(crate) fn find(taken: &[Reduction], node: u32, item: usize) -> Option<Reduction>
-    requires { AreByPlace taken.now }
-    ensures some { (r : Reduction) → result ≡ Some r → IsFound taken.now node item r }
-    ensures none { result ≡ None → IsMissing taken.now node item }
+pub(crate) fn find(
+    links: &Links,
+    reductions: &ReductionList,
+    node: u32,
+    item: usize,
+) -> Option<Reduction>
+    requires { AreLinks reductions.now links.now }
+    ensures some { (r : Reduction) → result ≡ Some r → IsFound reductions.now node item r }
+    ensures none { result ≡ None → IsMissing reductions.now node item }
 {
-    match taken.binary_search_by_key(&(node, item), |r| (r.parent, r.item as usize)) {
-        Ok(place) => Some(taken[place]),
-        Err(_) => None,
+    let mut behind = links.last_at(node);
+    while behind > 0 {
+        let place = behind - 1;
+        let reduction = *reductions.at(place);
+        if reduction.item as usize == item {
+            return Some(reduction);
+        }
+        behind = links.before[place];
     }
+    None
 }

@@ -3,13 +3,13 @@
 ghost use Rattle.std.specs.Prelude.{◌≡◌, ◌≤◌, ◌<◌, ◌+◌, ◌++◌, ◌∷◌, [], Ok, OnOk, All, length};
 ghost use Rattle.and_program.specs.Items.{node_item};
 ghost use Rattle.and_program.specs.Loaded.{program_of};
-ghost use Rattle.and_code.specs.Places.{AreByPlace, IsMissing};
+ghost use Rattle.and_code.specs.Places.{AreLinks, IsMissing};
 ghost use Rattle.and_code.specs.Visiting.{AreBehind, HaveClauses, AreNamed, GoesOn, IsOver, IsTaken, behind, into_clause, is_call_item};
 ghost use Rattle.and_code.specs.Visiting.{turns_left};
 ghost use Rattle.and_code.specs.Written.{all_written};
 
-use crate::places::find;
-use and_model::{ClauseNo, Code, Reduction};
+use crate::places::{Links, find};
+use and_model::{ClauseNo, Code, Reduction, ReductionList};
 use and_program::{ItemNode, Loaded};
 use std::alloc::AllocError;
 
@@ -54,20 +54,21 @@ fn is_call(item: ItemNode) -> bool
 /// Goes on by one item, or to the end of a body, in the last of the visits. An error is want of memory.
 pub(crate) fn go_on(
     loaded: &Loaded,
-    taken: &[Reduction],
+    links: &Links,
+    reductions: &ReductionList,
     visits: &mut Vec<Visit>,
     code: &mut Code,
 ) -> Result<Turn, AllocError>
-    requires taken { AreByPlace taken.now }
-    requires clauses { HaveClauses (program_of loaded.now) taken.now }
-    requires places { AreBehind taken.now }
+    requires links { AreLinks reductions.now links.now }
+    requires clauses { HaveClauses (program_of loaded.now) reductions.now }
+    requires places { AreBehind reductions.now }
     requires named { AreNamed (program_of loaded.now) visits.old.items }
     ensures named { result ≡ Ok Turn.Again → AreNamed (program_of loaded.now) visits.new.items }
     ensures again { result ≡ Ok Turn.Again
-        → GoesOn (program_of loaded.now) (all_written taken.now) visits.old.items visits.new.items code.old code.new }
-    ensures over { result ≡ Ok Turn.Over → IsOver (program_of loaded.now) (all_written taken.now) visits.old.items code.old code.new }
+        → GoesOn (program_of loaded.now) (all_written reductions.now) visits.old.items visits.new.items code.old code.new }
+    ensures over { result ≡ Ok Turn.Over → IsOver (program_of loaded.now) (all_written reductions.now) visits.old.items code.old code.new }
     ensures fewer { result ≡ Ok Turn.Again
-        → turns_left (program_of loaded.now) taken.now visits.new.items < turns_left (program_of loaded.now) taken.now visits.old.items }
+        → turns_left (program_of loaded.now) reductions.now visits.new.items < turns_left (program_of loaded.now) reductions.now visits.old.items }
 {
     match visits.pop() {
         None => Ok(Turn::Over),
@@ -77,7 +78,7 @@ pub(crate) fn go_on(
                 return Ok(Turn::Again);
             }
             if is_call(items[visit.item]) {
-                return take(taken, visit, visits, code);
+                return take(links, reductions, visit, visits, code);
             }
             pass(visit, visits)?;
             Ok(Turn::Again)
@@ -98,17 +99,18 @@ fn pass(visit: Visit, visits: &mut Vec<Visit>) -> Result<(), AllocError>
 /// Goes into the clause by which a call was taken, and later on behind the call. Where no reduction
 /// takes it, all is found. An error is want of memory.
 fn take(
-    taken: &[Reduction],
+    links: &Links,
+    reductions: &ReductionList,
     visit: Visit,
     visits: &mut Vec<Visit>,
     code: &mut Code,
 ) -> Result<Turn, AllocError>
-    requires taken { AreByPlace taken.now }
+    requires links { AreLinks reductions.now links.now }
     requires fits { visit.item + 1 ≤ usize.MAX }
-    ensures again { result ≡ Ok Turn.Again → IsTaken taken.now visit visits.old.items visits.new.items code.old code.new }
-    ensures over { result ≡ Ok Turn.Over → IsMissing taken.now visit.node visit.item × (code.new ≡ code.old) }
+    ensures again { result ≡ Ok Turn.Again → IsTaken reductions.now visit visits.old.items visits.new.items code.old code.new }
+    ensures over { result ≡ Ok Turn.Over → IsMissing reductions.now visit.node visit.item × (code.new ≡ code.old) }
 {
-    match find(taken, visit.node, visit.item) {
+    match find(links, reductions, visit.node, visit.item) {
         None => Ok(Turn::Over),
         Some(reduction) => {
             code.push(reduction.clause)?;

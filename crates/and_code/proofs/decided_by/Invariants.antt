@@ -7,10 +7,10 @@ use Rattle.and_code.proofs.decided_by.Given as goal
 abbrev pub invariant-loop-visits : goal.invariant-loop-visits
 invariant-loop-visits l = record {
   named : AreNamed (program_of l.loaded) l.visits.items;
-  found : GoesOn (program_of l.loaded) (all_written l.taken.items)
+  found : GoesOn (program_of l.loaded) (all_written l.reductions)
       (record { node = 0; clause = record { 0 = 0 }; item = 0 } ∷ []) l.visits.items []
       l.code;
 }
 
 abbrev pub decreases-loop-visits : goal.decreases-loop-visits
-decreases-loop-visits l = turns_left (program_of l.loaded) l.taken.items l.visits.items
+decreases-loop-visits l = turns_left (program_of l.loaded) l.reductions l.visits.items

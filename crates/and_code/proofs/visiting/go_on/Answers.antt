@@ -12,7 +12,7 @@ use Rattle.and_code.proofs.visiting.go_on.Goals as goal
 pub returns-then-visit-items-clause-again : goal.returns-then-visit-items-clause-again
 returns-then-visit-items-clause-again c = λ e.
     let P = program_of c.args.loaded.now in
-    let rs = c.args.taken.now in
+    let rs = c.args.reductions.now in
     let rest = c.pop.new.self.items in
     let old = c.args.visits.now.items in
     let code = c.args.code.now in
@@ -26,7 +26,7 @@ returns-then-visit-items-clause-again c = λ e.
 pub returns-then-is_call-clause-named : goal.returns-then-is_call-clause-named
 returns-then-is_call-clause-named c = λ e.
     let P = program_of c.args.loaded.now in
-    let rs = c.args.taken.now in
+    let rs = c.args.reductions.now in
     let rest = c.pop.new.self.items in
     let old = c.args.visits.now.items in
     let code = c.args.code.now in
@@ -39,7 +39,7 @@ returns-then-is_call-clause-named c = λ e.
 pub returns-then-is_call-clause-again : goal.returns-then-is_call-clause-again
 returns-then-is_call-clause-again c = λ e.
     let P = program_of c.args.loaded.now in
-    let rs = c.args.taken.now in
+    let rs = c.args.reductions.now in
     let rest = c.pop.new.self.items in
     let old = c.args.visits.now.items in
     let code = c.args.code.now in
@@ -54,7 +54,7 @@ returns-then-is_call-clause-again c = λ e.
 pub returns-then-is_call-clause-over : goal.returns-then-is_call-clause-over
 returns-then-is_call-clause-over c = λ e.
     let P = program_of c.args.loaded.now in
-    let rs = c.args.taken.now in
+    let rs = c.args.reductions.now in
     let rest = c.pop.new.self.items in
     let old = c.args.visits.now.items in
     let code = c.args.code.now in
@@ -70,7 +70,7 @@ returns-then-is_call-clause-over c = λ e.
 pub returns-then-visit-items-clause-fewer : goal.returns-then-visit-items-clause-fewer
 returns-then-visit-items-clause-fewer c = λ e.
     let P = program_of c.args.loaded.now in
-    let rs = c.args.taken.now in
+    let rs = c.args.reductions.now in
     let rest = c.pop.new.self.items in
     let old = c.args.visits.now.items in
     let code = c.args.code.now in
@@ -82,7 +82,7 @@ returns-then-visit-items-clause-fewer c = λ e.
 pub returns-then-is_call-clause-fewer : goal.returns-then-is_call-clause-fewer
 returns-then-is_call-clause-fewer c = λ e.
     let P = program_of c.args.loaded.now in
-    let rs = c.args.taken.now in
+    let rs = c.args.reductions.now in
     let rest = c.pop.new.self.items in
     let old = c.args.visits.now.items in
     let code = c.args.code.now in
@@ -98,7 +98,7 @@ returns-then-is_call-clause-fewer c = λ e.
 pub returns-in_ok-pass-in-Some-clause-fewer : goal.returns-in_ok-pass-in-Some-clause-fewer
 returns-in_ok-pass-in-Some-clause-fewer c = λ e.
     let P = program_of c.args.loaded.now in
-    let rs = c.args.taken.now in
+    let rs = c.args.reductions.now in
     let rest = c.pop.new.self.items in
     let old = c.args.visits.now.items in
     let code = c.args.code.now in
@@ -114,13 +114,13 @@ returns-in_ok-pass-in-Some-clause-fewer c = λ e.
 pub returns-in-None-clause-over : goal.returns-in-None-clause-over
 returns-in-None-clause-over c = λ e.
     let none = c.in-None.ensures.cases.0 in
-    nothing_left (program_of c.args.loaded.now) c.args.taken.now c.args.visits.now.items c.args.code.now
+    nothing_left (program_of c.args.loaded.now) c.args.reductions.now c.args.visits.now.items c.args.code.now
     (nil_from_length c.args.visits.now.items (grind (arith, common_steps, none)))
 
 pub returns-in_ok-pass-in-Some-clause-named : goal.returns-in_ok-pass-in-Some-clause-named
 returns-in_ok-pass-in-Some-clause-named c = λ e.
     let P = program_of c.args.loaded.now in
-    let rs = c.args.taken.now in
+    let rs = c.args.reductions.now in
     let rest = c.pop.new.self.items in
     let old = c.args.visits.now.items in
     let code = c.args.code.now in
@@ -133,7 +133,7 @@ returns-in_ok-pass-in-Some-clause-named c = λ e.
 pub returns-in_ok-pass-in-Some-clause-again : goal.returns-in_ok-pass-in-Some-clause-again
 returns-in_ok-pass-in-Some-clause-again c = λ e.
     let P = program_of c.args.loaded.now in
-    let rs = c.args.taken.now in
+    let rs = c.args.reductions.now in
     let rest = c.pop.new.self.items in
     let old = c.args.visits.now.items in
     let code = c.args.code.now in
