@@ -23,7 +23,7 @@ use Rattle.and_branch_laws.proofs.Going
 use Rattle.and_branch_laws.proofs.OneState
 use Rattle.and_branch.specs.Branches.{Held, Lives, IsBranchOf, IsOpenGoal, SameKey}
 use Rattle.and_branch.specs.Children.{Fork, AreChildren, IsChild}
-use Rattle.and_branch.specs.Making.{CanBeMade, IsMade}
+use Rattle.and_branch.specs.Making.{CanBeMade, IsBegun, IsMade}
 use Rattle.and_branch.specs.States.{numbers}
 use Rattle.and_branch.specs.Next.{HasNextCall, IsReduced, IsMoved, IsSameItem, HasItem}
 use Rattle.and_branch.proofs.LivingGoals.{Found, found, is_framed}
@@ -158,6 +158,32 @@ child_made P f c key is mid new moved (g, rest, next, same) keys reduced = recor
       child_stands P f.parent t k.branch k.open_goal f.goal k.goal_is (k.made ++ c ∷ others) k.cut k.state key mid moved g rest next same c
       (in_middle k.made others c) new keys reduced (is ∙ ap (λ (l : List ℕ). l ++ c ∷ []) k.longer) u split;
 }
+
+-- ---- Its beginning
+
+pub begun_is : (P : NamedProgram) (f : Fork) (c : ℕ) (goal : Goal) (key : List ℕ) (b : Held) → CanBeMade P f c → goal ≡ f.goal
+    → key ≡ f.longer ++ c ∷ [] → b ≡ record f.parent { key = key } → IsBegun P f c goal b
+begun_is P f c goal key b can of is e =
+    record { can = can; goal_is = of; branch = e ∙ ap (λ (k : List ℕ). record f.parent { key = k }) is }
+
+module _ (P : NamedProgram) (f : Fork) (c : ℕ) (goal : Goal) (b : Held) (x : IsBegun P f c goal b) where
+  pub begun_has : HasItem (b.left ++ b.right) goal
+  begun_has =
+      subst (λ (h : Held). HasItem (h.left ++ h.right) goal) (sym x.branch)
+      (subst (λ (g : Goal). HasItem (f.parent.left ++ f.parent.right) g) (sym x.goal_is) (parent_has P f c x.can))
+
+  module _ (mid : Held) (moved : IsMoved b mid) (at : (g : Goal) × (rest : List Goal) × (mid.right ≡ g ∷ rest) × IsSameItem g goal) where
+    begun_moved : IsMoved (record f.parent { key = f.longer ++ c ∷ [] }) mid
+    begun_moved = subst (λ (h : Held). IsMoved h mid) x.branch moved
+
+    begun_at : (g : Goal) × (rest : List Goal) × (mid.right ≡ g ∷ rest) × IsSameItem g f.goal
+    begun_at = subst (λ (h : Goal). (g : Goal) × (rest : List Goal) × (mid.right ≡ g ∷ rest) × IsSameItem g h) x.goal_is at
+
+    pub begun_next : HasNextCall P mid c
+    begun_next = child_next P f c x.can (f.longer ++ c ∷ []) mid begun_moved begun_at
+
+    pub begun_made : (new : Held) → SameKey mid new → IsReduced P mid new c → IsMade P f c new
+    begun_made new keys reduced = child_made P f c (f.longer ++ c ∷ []) refl mid new begun_moved begun_at keys reduced
 
 -- ---- The children that are still to come
 

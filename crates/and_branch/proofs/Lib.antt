@@ -23,3 +23,5 @@ pub mod LookedGoals
 pub mod RoundsKept
 pub mod StilledBranches
 pub mod StandingBranches
+pub mod RebuiltBranches
+pub mod FramesRead

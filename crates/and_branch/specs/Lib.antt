@@ -7,4 +7,6 @@ pub mod Forking
 pub mod Resting
 pub mod Making
 pub mod Next
+pub mod Parts
+pub mod Rebuilding
 pub mod Rounds

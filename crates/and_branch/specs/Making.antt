@@ -2,6 +2,7 @@
 use Rattle.std.specs.Prelude.{ℕ, ◌≡◌, List, [], ◌∷◌, ◌++◌}
 use Rattle.and_model.specs.Trees.{QueryTree}
 use Rattle.and_model.specs.Reached.{Split}
+use Rattle.and_model.specs.declared.goal.Goal.{Goal}
 use Rattle.and_cells.specs.Ranges.{NamedProgram}
 use Rattle.and_branch.specs.Branches.{Held, IsBranchOf}
 use Rattle.and_branch.specs.Children.{Fork, AreChildren}
@@ -21,3 +22,9 @@ pub record IsMade (P : NamedProgram) (f : Fork) (clause : ℕ) (b : Held) : Type
   pub key : b.key ≡ f.longer ++ clause ∷ []
   pub limit : b.limit ≡ f.parent.limit
   pub stands : (rest : List ℕ) (t u : QueryTree P.program) → AreChildren P (with_next f clause rest) t → Split t clause u → IsBranchOf P b u
+
+-- The branch is the beginning of the child by this clause: the branch that was forked, with the child's key, where this goal is to be taken.
+pub record IsBegun (P : NamedProgram) (f : Fork) (clause : ℕ) (goal : Goal) (b : Held) : Type 0 where
+  pub can : CanBeMade P f clause
+  pub goal_is : goal ≡ f.goal
+  pub branch : b ≡ record f.parent { key = f.longer ++ clause ∷ [] }

@@ -9,6 +9,8 @@ pub mod branch;
 mod finding;
 mod forking;
 mod goals;
+pub mod parts;
+pub mod rebuilding;
 mod reducing;
 mod resting;
 mod seeking;
@@ -18,6 +20,8 @@ pub mod telling;
 pub mod workspace;
 
 pub use branch::{Branch, Rooted};
+pub use parts::{Frame, Parts};
+pub use rebuilding::{NoRoom, Worked};
 pub use splitting::{BranchList, Split};
 pub use state::BranchState;
 pub use workspace::Workspace;

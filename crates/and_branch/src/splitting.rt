@@ -6,8 +6,8 @@ ghost use Rattle.and_cells.specs.Parts.{named};
 ghost use Rattle.and_branch_laws.specs.States.{StateOf, fork};
 ghost use Rattle.and_branch.specs.Branches.{Held, IsBranchOf, IsOpenGoal};
 ghost use Rattle.and_branch.specs.States.{numbers};
-ghost use Rattle.and_branch.specs.Children.{AreChildren, IsChild, IsForkOf};
-ghost use Rattle.and_branch.specs.Making.{CanBeMade, IsMade};
+ghost use Rattle.and_branch.specs.Children.{Fork, AreChildren, IsChild, IsForkOf};
+ghost use Rattle.and_branch.specs.Making.{CanBeMade, IsBegun, IsMade};
 
 use crate::branch::Branch;
 use crate::workspace::Workspace;
@@ -101,6 +101,34 @@ impl<N: Naming> Branch<N> {
             is_failed: self.is_failed,
         })
     }
+
+    /// The same branch, but for the key. Takes no memory.
+    fn with_key(self, key: Code) -> Branch<N>
+        ensures { result ≡ record self { key = key } }
+    {
+        let mut branch = self;
+        branch.key = key;
+        branch
+    }
+
+    /// The child of a fork, of which this is the beginning: the goal is taken by the clause. An error is
+    /// want of memory.
+    fn taking(
+        self,
+        loaded: &Loaded,
+        goal: Goal,
+        clause: ClauseNo,
+        workspace: &mut Workspace,
+    ) -> Result<Branch<N>, AllocError>
+        requires program { N.program ≡ named loaded.now }
+        requires begun { (f : Fork) × IsBegun N.program f clause.0 goal self }
+        ensures { IfOk result (λ b. (f : Fork) → IsBegun N.program f clause.0 goal self → IsMade N.program f clause.0 b) }
+    {
+        let mut child = self;
+        child.seek(goal)?;
+        child.reduce_next(loaded, clause, workspace)?;
+        Ok(child)
+    }
 }
 
 impl<N: Naming> Split<N> {
@@ -139,10 +167,32 @@ impl<N: Naming> Split<N> {
     {
         let mut key = self.longer.copy()?;
         key.push(clause)?;
-        let mut child = self.parent.copy_with(alloc, key)?;
-        child.seek(self.goal)?;
-        child.reduce_next(loaded, clause, workspace)?;
-        Ok(child)
+        let child = self.parent.copy_with(alloc, key)?;
+        child.taking(loaded, self.goal, clause, workspace)
+    }
+
+    /// The child by a clause, made of the branch that was split: nothing is copied. An error is want of
+    /// memory.
+    fn into_child(
+        self,
+        loaded: &Loaded,
+        clause: ClauseNo,
+        workspace: &mut Workspace,
+    ) -> Result<Branch<N>, AllocError>
+        requires program { N.program ≡ named loaded.now }
+        requires next { CanBeMade N.program self clause.0 }
+        ensures { IfOk result (IsMade N.program self clause.0) }
+    {
+        let Split {
+            parent,
+            goal,
+            longer,
+            clauses: _,
+        } = self;
+        let mut key = longer;
+        key.push(clause)?;
+        let child = parent.with_key(key);
+        child.taking(loaded, goal, clause, workspace)
     }
 
     /// The children. Takes no memory.
@@ -176,6 +226,27 @@ impl<N: Naming> BranchList<N> {
         let clause = *self.split.clauses().at(self.made);
         let child = self.split.child(alloc, loaded, clause, workspace)?;
         self.made += 1;
+        Ok(Some(child))
+    }
+
+    /// The next child, in place of the branch that was split and of its other children, which are given
+    /// up: nothing is copied. An error is want of memory.
+    pub fn into_next(
+        self,
+        loaded: &Loaded,
+        workspace: &mut Workspace,
+    ) -> Result<Option<Branch<N>>, AllocError>
+        requires program { N.program ≡ named loaded.now }
+        requires children { (t : QueryTree N.program.program) × AreChildren N.program self t }
+        ensures none { result ≡ Ok None → self.clauses ≡ [] }
+        ensures some { (b : Held) → result ≡ Ok (Some b) → (rest : Fork) × IsChild N.program self rest b }
+    {
+        let BranchList { split, made } = self;
+        if made >= split.clauses().len() {
+            return Ok(None);
+        }
+        let clause = *split.clauses().at(made);
+        let child = split.into_child(loaded, clause, workspace)?;
         Ok(Some(child))
     }
 }
