@@ -318,18 +318,20 @@ module _ {N : Type 0} (P : NamedProgram) (limit : ℕ) where
       no_length [] e = refl
       no_length (c ∷ cs) e = absurd (omega arith)
 
-  -- The next child is on top, and those that are still to come, if any, are below it.
+  -- The next child was put on top of those that are still to come.
   pub child_taken : (found : Found) (f g : Fork) (count : ℕ) (b : Held) (stack middle new : List (Task N))
-      → Walking P limit found (Children f count ∷ stack) → IsChild P f g b → (1 < count → middle ≡ Children g (count - 1) ∷ stack)
-      → (count ≤ 1 → middle ≡ stack) → new ≡ One b ∷ middle → GoesOn P limit (Children f count ∷ stack) found new
-  child_taken found f g count b stack middle new w is more last top = elim (cases_lt 1 count) [
-    | inl many ↦
-        (let e : new ≡ One b ∷ Children g (count - 1) ∷ stack = top ∙ ap (λ ts. One b ∷ ts) (more many) in
-        subst (λ ts. GoesOn P limit (Children f count ∷ stack) found ts) (sym e) (child_next found f g count b stack w is))
-    | inr few ↦
-        (let e : new ≡ One b ∷ stack = top ∙ ap (λ ts. One b ∷ ts) (last few) in
-        subst (λ ts. GoesOn P limit (Children f count ∷ stack) found ts) (sym e) (child_last found f g count b stack w is few))
-  ]
+      → Walking P limit found (Children f count ∷ stack) → IsChild P f g b → middle ≡ Children g (count - 1) ∷ stack → new ≡ One b ∷ middle
+      → GoesOn P limit (Children f count ∷ stack) found new
+  child_taken found f g count b stack middle new w is below top =
+      let e : new ≡ One b ∷ Children g (count - 1) ∷ stack = top ∙ ap (λ ts. One b ∷ ts) below in
+      subst (λ ts. GoesOn P limit (Children f count ∷ stack) found ts) (sym e) (child_next found f g count b stack w is)
+
+  -- The last child was put on top.
+  pub last_taken : (found : Found) (f g : Fork) (count : ℕ) (b : Held) (stack new : List (Task N))
+      → Walking P limit found (Children f count ∷ stack) → IsChild P f g b → count ≤ 1 → new ≡ One b ∷ stack
+      → GoesOn P limit (Children f count ∷ stack) found new
+  last_taken found f g count b stack new w is few top =
+      subst (λ ts. GoesOn P limit (Children f count ∷ stack) found ts) (sym top) (child_last found f g count b stack w is few)
 
   -- No child was left.
   pub child_none : (found : Found) (f : Fork) (count : ℕ) (stack : List (Task N)) → Walking P limit found (Children f count ∷ stack)

@@ -1,6 +1,6 @@
 //! What is still to be walked.
 
-ghost use Rattle.std.specs.Prelude.{◌≡◌, ◌<◌, ◌≤◌, ◌-◌, ◌∷◌, [], reverse, OnOk, IfSome, IfNone};
+ghost use Rattle.std.specs.Prelude.{◌≡◌, ◌∷◌, [], reverse, OnOk, IfSome, IfNone};
 
 use and_branch::{Branch, BranchList};
 use and_cells::Naming;
@@ -20,22 +20,6 @@ pub fn put<N: Naming>(stack: &mut Vec<Task<N>>, task: Task<N>) -> Result<(), All
     ensures { OnOk result (reverse stack.new.items ≡ task ∷ reverse stack.old.items) }
 {
     stack.push(task)?;
-    Ok(())
-}
-
-/// Puts the children of a fork back of which one was taken, if others are left. An error is want of
-/// memory.
-pub fn put_others<N: Naming>(
-    stack: &mut Vec<Task<N>>,
-    list: BranchList<N>,
-    count: usize,
-) -> Result<(), AllocError>
-    ensures more { OnOk result (1 < count → reverse stack.new.items ≡ Task.Children list (count - 1) ∷ reverse stack.old.items) }
-    ensures last { OnOk result (count ≤ 1 → reverse stack.new.items ≡ reverse stack.old.items) }
-{
-    if 1 < count {
-        return put(stack, Task::Children(list, count - 1));
-    }
     Ok(())
 }
 

@@ -13,7 +13,7 @@ ghost use Rattle.and_answers.specs.Kept.{SameEnd, listed, entry_of};
 ghost use Rattle.and_walk.specs.Found.{IsFound};
 ghost use Rattle.and_walk.specs.Walking.{Walking, GoesOn, EndsSo, IsAdvanced, SameButCut};
 
-use crate::stack::{Task, put, put_others, take_top};
+use crate::stack::{Task, put, take_top};
 use and_answers::{Entry, Found};
 use and_branch::{Branch, BranchList, BranchState, Rooted, Workspace};
 use and_cells::Naming;
@@ -143,12 +143,36 @@ impl<N: Naming> Walker<N> {
             self.new.found (reverse self.new.stack.items)) }
         ensures limit { self.new.limit ≡ self.old.limit }
     {
+        if count <= 1 {
+            return self.last_child(loaded, list, count);
+        }
         let next = list.next(alloc, loaded, &mut self.workspace)?;
         match next {
             Some(child) => {
-                put_others(&mut self.stack, list, count)?;
+                put(&mut self.stack, Task::Children(list, count - 1))?;
                 put(&mut self.stack, Task::One(child))
             }
+            None => Ok(()),
+        }
+    }
+
+    /// Goes on with the last child of a fork, which takes the place of the branch that was forked.
+    fn last_child(
+        &mut self,
+        loaded: &Loaded,
+        list: BranchList<N>,
+        count: usize,
+    ) -> Result<(), AllocError>
+        requires program { N.program ≡ named loaded.now }
+        requires last { count ≤ 1 }
+        requires walking { Walking N.program self.old.limit self.old.found (Task.Children list count ∷ reverse self.old.stack.items) }
+        ensures goes { OnOk result (GoesOn N.program self.old.limit (Task.Children list count ∷ reverse self.old.stack.items)
+            self.new.found (reverse self.new.stack.items)) }
+        ensures limit { self.new.limit ≡ self.old.limit }
+    {
+        let next = list.into_next(loaded, &mut self.workspace)?;
+        match next {
+            Some(child) => put(&mut self.stack, Task::One(child)),
             None => Ok(()),
         }
     }

@@ -4,17 +4,16 @@ use Rattle.and_cells.specs.Ranges.{NamedProgram}
 use Rattle.and_walk.proofs.Forking.{child_taken, child_none}
 use Rattle.and_walk.proofs.walker.Walker.next_child.Goals as goal
 
-pub returns-in_ok-put_others-in-Some-clause-goes :
-    goal.returns-in_ok-put_others-in-Some-clause-goes
-returns-in_ok-put_others-in-Some-clause-goes g c =
+pub returns-in_ok-put-in-Some-clause-goes : goal.returns-in_ok-put-in-Some-clause-goes
+returns-in_ok-put-in-Some-clause-goes g c =
     let P : NamedProgram = g.N.Naming.program in
     let s = c.args.self.now in
-    on_ok_weaker c.put.result
+    on_ok_weaker c.put-in-Some.result
     (child_taken P s.limit s.found c.args.list c.next.new.self c.args.count c.in-Some.child (reverse s.stack.items)
-    (reverse c.put_others.new.stack.items)
-    (reverse c.put.new.stack.items) c.requires.walking (c.in_ok-next.ensures.some c.in-Some.child (ap (λ o. Ok o) c.in-Some.is))
-    c.in_ok-put_others-in-Some.ensures.more c.in_ok-put_others-in-Some.ensures.last)
-    c.put.ensures
+    (reverse c.put.new.stack.items)
+    (reverse c.put-in-Some.new.stack.items) c.requires.walking (c.in_ok-next.ensures.some c.in-Some.child (ap (λ o. Ok o) c.in-Some.is))
+    c.in_ok-put-in-Some.ensures)
+    c.put-in-Some.ensures
 
 pub returns-in-None-clause-goes : goal.returns-in-None-clause-goes
 returns-in-None-clause-goes g c =
