@@ -1,0 +1,11 @@
+pub mod Truths
+pub mod Comparing
+pub mod MatchSteps
+pub mod Amounting
+pub mod Sifted
+pub mod Falling
+pub mod Weighed
+pub mod TrialFalls
+pub mod TrialRanges
+pub mod TriedCalls
+pub mod Awaited

@@ -1,0 +1,5 @@
+pub mod Truths
+pub mod Matches
+pub mod Weighing
+pub mod Selecting
+pub mod Sifting
