@@ -3,7 +3,7 @@
 //! `one` is one team that publishes a branch in a cell of its own and claims it back, a million times. `against TEAMS`
 //! are so many teams, each on a thread of its own and with a branch: a team publishes what it holds in a cell of its own
 //! and claims what lies open in the cell of the next team, or else its own, a million times. What is written is how
-//! many branches have ended, and for one team how often it claimed; of several teams that depends on their turns.
+//! often the teams claimed a branch, which of several teams depends on their turns, and how many branches have ended.
 #![tactic(auto)]
 
 mod leaf;
@@ -42,9 +42,7 @@ fn main(rt: HostRuntime) -> io::Result<()> {
         return Ok(());
     };
     let done = run_teams(&rt, alloc, teams)?;
-    if teams == 1 {
-        println!(rt; "claims: {}", done.claims)?;
-    }
+    println!(rt; "claims: {}", done.claims)?;
     println!(rt; "ended: {}", done.ended)?;
     Ok(())
 }
