@@ -98,7 +98,8 @@ fn weigh<C: Cells>(
     ensures over { C.over cells.new ≡ C.over cells.old }
     ensures grew { C.Grew cells.old cells.new }
     ensures reads { OnlyReads (C.seen cells.old) (C.seen cells.new) }
-    ensures fails { result ≡ Weighed.Fails → FailsOver C.program (C.seen cells.new) (relation by) (part_at C.program base left.0) (part_at C.program base right.0) }
+    ensures fails { result ≡ Weighed.Fails
+        → FailsOver C.program (C.seen cells.new) (relation by) (part_at C.program base left.0) (part_at C.program base right.0) }
     ensures fuel { result ≢ Weighed.Memory → fuel.new ≤ fuel.old }
     ensures put_off { result ≡ Weighed.PutOff → fuel.new ≡ 0 }
 {

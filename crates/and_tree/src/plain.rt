@@ -65,7 +65,8 @@ impl<B: Keyed + Drop> PlainTree<B> {
         requires hand { Holds self.old.state team (S.fork_of split.now).key }
         requires longer { IsPrefix (S.fork_of split.now).key (S.fork_of split.now).longer }
         requires few { length (hand_of self.old.state team) + length (S.fork_of split.now).clauses ≤ most_in_hand }
-        ensures ok { OnOk result (Turns (Event.fork team (S.fork_of split.now).key (S.fork_of split.now).longer (S.fork_of split.now).clauses) Reply.forked self.old self.new) }
+        ensures ok { OnOk result (Turns (Event.fork team (S.fork_of split.now).key (S.fork_of split.now).longer (S.fork_of split.now).clauses) Reply.forked
+            self.old self.new) }
         ensures unchanged { OnErr result (self.new ≡ self.old) }
     {
         let children = children_of(self.alloc, split.longer(), split.clauses())?;
@@ -89,7 +90,8 @@ impl<B: Keyed + Drop> PlainTree<B> {
         ensures done { result ≡ Published.Done → Turns (Event.publish team cell (B.key_of branch)) Reply.done self.old self.new }
         ensures not_free { (back : B) (seen : CellSeen) → result ≡ Published.NotFree back seen
             → (back ≡ branch) × Turns (Event.publish team cell (B.key_of branch)) (Reply.not_free (seen_of seen)) self.old self.new }
-        ensures spent { (back : B) → result ≡ Published.Spent back → (back ≡ branch) × Turns (Event.publish team cell (B.key_of branch)) Reply.spent self.old self.new }
+        ensures spent { (back : B) → result ≡ Published.Spent back
+            → (back ≡ branch) × Turns (Event.publish team cell (B.key_of branch)) Reply.spent self.old self.new }
     {
         if self.places.own_serial(team, cell) == LAST_SERIAL {
             return Published::Spent { branch };
@@ -119,8 +121,10 @@ impl<B: Keyed + Drop> PlainTree<B> {
     pub fn claim(&mut self, team: u32, cell: u32, serial: u64) -> Result<Claimed<B>, AllocError>
         requires team { IsTeam self.old.state team }
         requires cell { IsCell self.old.state cell }
-        ensures taken { (branch : B) → result ≡ Ok (Claimed.Taken branch) → B.Stands self.old.limit branch × Takes team cell serial (B.key_of branch) self.old self.new }
-        ensures moved { (seen : CellSeen) → result ≡ Ok (Claimed.Moved seen) → Turns (Event.claim team cell serial) (Reply.moved (seen_of seen)) self.old self.new }
+        ensures taken { (branch : B) → result ≡ Ok (Claimed.Taken branch)
+            → B.Stands self.old.limit branch × Takes team cell serial (B.key_of branch) self.old self.new }
+        ensures moved { (seen : CellSeen) → result ≡ Ok (Claimed.Moved seen)
+            → Turns (Event.claim team cell serial) (Reply.moved (seen_of seen)) self.old self.new }
         ensures unchanged { OnErr result (self.new ≡ self.old) }
     {
         let seen = self.places.seen(cell);
