@@ -82,7 +82,7 @@ cells_one : (n : ℕ) → 0 < n → flat_map keys_in (set (replicate n (record {
 cells_one zero some = absurd (omega arith)
 cells_one (suc n) some = ap (λ keys. [] ∷ keys) (cells_none n)
 
-opening_keys : (teams : ℕ) → 0 < teams → keys_left (opening teams) ≡ [] ∷ []
+pub opening_keys : (teams : ℕ) → 0 < teams → keys_left (opening teams) ≡ [] ∷ []
 opening_keys teams some = rw (hands_none teams) (cells_one (8 * teams) (omega arith))
 
 pub covering_forks : (P : Program) (limit teams : ℕ) (history : List HistoryEntry) (s : State) → 0 < teams → Carries (opening teams) history s → AreCovering P limit history
@@ -94,7 +94,7 @@ covering_forks P limit teams history s some carries covering code within =
     both ∙ kept ∙ one
 
 -- The length of a list is a sum of ones.
-length_sum : {X : Type 0} (xs : List X) → length xs ≡ sum_by (λ x. 1) xs
+pub length_sum : {X : Type 0} (xs : List X) → length xs ≡ sum_by (λ x. 1) xs
 length_sum [] = refl
 length_sum (x ∷ xs) = let rest = length_sum xs in let more = sum_by-cons (λ _. 1) x xs in omega arith
 

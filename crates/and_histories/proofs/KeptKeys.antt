@@ -9,12 +9,12 @@ use Rattle.and_histories.specs.Covering.{brought, replaced, ended}
 use Rattle.and_model.proofs.Tested.{none_in}
 
 -- what is read beyond the end is what stands there for nothing
-in_range : {X : Type 0} (xs : List X) (i : ℕ) (d : X) → (get_or xs i d ≡ d → ⊥) → i < length xs
+pub in_range : {X : Type 0} (xs : List X) (i : ℕ) (d : X) → (get_or xs i d ≡ d → ⊥) → i < length xs
 in_range [] i d other = absurd (other refl)
 in_range (x ∷ xs) zero d other = omega arith
 in_range (x ∷ xs) (suc i) d other = let below = in_range xs i d other in omega arith
 
-team_in_range : (s : State) (team : ℕ) (key : Key) → Holds s team key → team < length s.hands
+pub team_in_range : (s : State) (team : ℕ) (key : Key) → Holds s team key → team < length s.hands
 team_in_range s team key held = in_range s.hands team [] (λ e. none_in key (subst (λ keys. Contains keys key) e held))
 
 -- the sum over lists that were joined
@@ -28,7 +28,7 @@ sum_set : {A X : Type 0} (f : X → ℕ) (g : A → List X) (xs : List A) (i : �
 sum_set f g xs i y d below = simp sum_flat (sum_by-set (λ x. sum_by f (g x)) xs i y d below)
 
 module _ (f : Key → ℕ) where
-  sum_in_place : (key : Key) (new keys : List Key) → Contains keys key → sum_by f (in_place_of key new keys) + f key ≡ sum_by f keys + sum_by f new
+  pub sum_in_place : (key : Key) (new keys : List Key) → Contains keys key → sum_by f (in_place_of key new keys) + f key ≡ sum_by f keys + sum_by f new
   sum_in_place key new [] c = absurd (none_in key c)
   sum_in_place key new (k ∷ keys) c = by_test (pointwise nat_eq key k) refl (sum_in_place key new keys)
     where

@@ -1,12 +1,12 @@
 -- What the calls of a plain tree make of it, told by what they make of its places and counts.
-use Rattle.std.proofs.Common.{ℕ, zero, suc, ◌+◌, ◌-◌, ◌*◌, ◌≡◌, ◌≢◌, ◌<◌, Bool, List, [], ◌∷◌, get_or, set, replicate, refl, sym, subst, ap, ◌∙◌}
+use Rattle.std.proofs.Common.{ℕ, suc, ◌+◌, ◌-◌, ◌*◌, ◌≡◌, ◌≢◌, ◌<◌, Bool, List, [], ◌∷◌, get_or, set, refl, sym, subst, ap, ◌∙◌}
 use Rattle.std.proofs.Common.{get_or-set_same, set-set, arith}
-use Rattle.std.specs.Prelude.{nat_eq, length, flat_map}
+use Rattle.std.specs.Prelude.{nat_eq, length}
 use Rattle.and_model.specs.Prefixes.{IsPrefix}
 use Rattle.and_histories.specs.PlainTree.{Key, State, Cell, Content, free, opened, taking, Event, Reply, Ending, Does, Seen, seen_free, seen_open}
-use Rattle.and_histories.specs.PlainTree.{seen_taking, seen_in, Holds, IsTeam, IsCell, Owns, cell_of, children, with_keys, with_cell, joined, keys_in}
-use Rattle.and_histories.specs.PlainTree.{keys_left, left_of, opening, last_serial}
-use Rattle.and_histories.proofs.CoveringForks.{left_is_counted}
+use Rattle.and_histories.specs.PlainTree.{seen_taking, seen_in, Holds, IsTeam, IsCell, Owns, cell_of, children, with_keys, with_cell, joined}
+use Rattle.and_histories.specs.PlainTree.{left_of, opening, last_serial}
+use Rattle.and_histories.proofs.CoveringForks.{left_is_counted, opening_keys}
 use Rattle.and_tree.specs.Plain.{Plain, Placed, Tally, Turns, Takes, ended_so, one_more}
 use Rattle.and_tree.specs.Replies.{seen_of}
 use Rattle.and_tree.specs.declared.replies.CellSeen.{CellSeen}
@@ -264,22 +264,6 @@ taken_left p was placed t u left team cell serial key view number takes =
     omega arith
 
 -- A tree that was opened has one key left.
-hands_none : (n : ℕ) → flat_map (λ (keys : List Key). keys) (replicate n []) ≡ []
-hands_none zero = refl
-hands_none (suc n) = hands_none n
-
-cells_none : (n : ℕ) → flat_map keys_in (replicate n (record { serial = 0; content = free })) ≡ []
-cells_none zero = refl
-cells_none (suc n) = cells_none n
-
-cells_one : (n : ℕ) → 0 < n
-    → flat_map keys_in (set (replicate n (record { serial = 0; content = free })) 0 (record { serial = 1; content = opened [] })) ≡ [] ∷ []
-cells_one zero some = absurd (omega arith)
-cells_one (suc n) some = ap (λ keys. [] ∷ keys) (cells_none n)
-
-opening_keys : (teams : ℕ) → 0 < teams → keys_left (opening teams) ≡ [] ∷ []
-opening_keys teams some = rw (hands_none teams) (cells_one (8 * teams) (omega arith))
-
 pub opened_left : (placed : Placed) (limit teams : ℕ) → 0 < teams → placed ≡ record { limit = limit; state = opening teams }
     → 1 ≡ left_of placed.state
 opened_left placed limit teams some is = sym (ap (λ (x : Placed). left_of x.state) is ∙ ap length (opening_keys teams some))

@@ -43,7 +43,7 @@ module _ (P : Program) (limit : ℕ) where
   owed_root t js f m c w = alike t js js f (0 + f) m (0 + m) c c (one_tree t js f m c w) refl (omega arith) (omega arith) refl
 
   -- What Steps lead to is walked from where they begin.
-  walks_before : (u v : QueryTree P) (es : List Entry) (f m : ℕ) (b : Bool) → Steps u v → Walks P limit v es f m b
+  pub walks_before : (u v : QueryTree P) (es : List Entry) (f m : ℕ) (b : Bool) → Steps u v → Walks P limit v es f m b
       → Walks P limit u es f m b
   walks_before u v es f m b (Steps.none u') w = w
   walks_before u v es f m b (Steps.more u' x n ss st) w = walks_before u' x es f m b ss (Walks.stepped x n es f m b st w)
@@ -96,7 +96,7 @@ module _ (P : Program) (limit : ℕ) where
       (owed_pop t u stack es [] f m 0 0 b true o (Walks.over u v st h)) (append-nil es) (omega arith) (omega arith) (or_true b)
 
   -- A walk of two stacks, one on the other, in its two parts.
-  record Parted (front back : List (QueryTree P)) (es : List Entry) (f m : ℕ) (b : Bool) : Type 0 where
+  pub record Parted (front back : List (QueryTree P)) (es : List Entry) (f m : ℕ) (b : Bool) : Type 0 where
     pub found : List Entry
     pub others : List Entry
     pub forks : ℕ
@@ -112,7 +112,7 @@ module _ (P : Program) (limit : ℕ) where
     pub failed_are : m ≡ failed + more_failed
     pub cut_is : b ≡ cut || more_cut
 
-  parted : (front back : List (QueryTree P)) (es : List Entry) (f m : ℕ) (b : Bool) → WalksAll P limit (front ++ back) es f m b
+  pub parted : (front back : List (QueryTree P)) (es : List Entry) (f m : ℕ) (b : Bool) → WalksAll P limit (front ++ back) es f m b
       → Parted front back es f m b
   parted [] back es f m b w = record {
     found = [];
