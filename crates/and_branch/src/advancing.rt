@@ -26,6 +26,7 @@ use crate::seeking::last_of;
 use crate::workspace::Workspace;
 use and_cells::Naming;
 use and_determinacy::{Determinacy, Judged, Narrowed, judge, narrow};
+use and_io::Gate;
 use and_model::{ClauseNo, Goal};
 use and_program::Loaded;
 use and_reduction::{Ran, run};
@@ -34,6 +35,9 @@ use std::alloc::AllocError;
 /// How many reductions the first round takes at most. Each later one takes twice as many, so that no
 /// goal keeps the others waiting for long.
 const FIRST_ROUND: u32 = 64;
+
+/// The number under which a gate is told of these reductions: that of the first worker.
+const LEADER: u32 = 0;
 
 /// What a look at the next goal came to.
 #[derive(Clone, Copy)]
@@ -74,12 +78,13 @@ pub(crate) enum Round {
 
 impl<N: Naming> Branch<N> {
     /// Reduces goals that have one candidate alone, until none has one that fits. In which order they
-    /// are reduced makes no difference to what is found. An error is want of memory, and the branch is
-    /// spent.
-    pub fn advance(
+    /// are reduced makes no difference to what is found. The gate is told of each reduction before it is
+    /// made. An error is want of memory, and the branch is spent.
+    pub fn advance<G: Gate>(
         &mut self,
         loaded: &Loaded,
         table: &Determinacy,
+        gate: &G,
         workspace: &mut Workspace,
     ) -> Result<(), AllocError>
         requires program { N.program ≡ named loaded.now }
@@ -92,17 +97,18 @@ impl<N: Naming> Branch<N> {
             → StateOf N.program.program self.new.limit t (determinate o c) → ⊥) }
     {
         loaded.skeleton_is_of_the_program();
-        let _found = self.go_rounds(loaded, table, workspace)?;
+        let _found = self.go_rounds(loaded, table, gate, workspace)?;
         Ok(())
     }
 
     /// Rounds over the goals, until for none is anything to be done. Answers what was found of them
     /// then, or nothing where the branch is marked failed. An error is want of memory, and the branch is
     /// spent.
-    pub(crate) fn go_rounds(
+    pub(crate) fn go_rounds<G: Gate>(
         &mut self,
         loaded: &Loaded,
         table: &Determinacy,
+        gate: &G,
         workspace: &mut Workspace,
     ) -> Result<Option<Found>, AllocError>
         requires program { N.program ≡ named loaded.now }
@@ -114,7 +120,7 @@ impl<N: Naming> Branch<N> {
     {
         let mut most = FIRST_ROUND;
         'rounds: loop {
-            match self.go_round(loaded, table, most, workspace)? {
+            match self.go_round(loaded, table, gate, most, workspace)? {
                 Round::Changed => most = most.saturating_mul(2),
                 Round::Still(found) => return Ok(Some(found)),
                 Round::Failed => return Ok(None),
@@ -124,10 +130,11 @@ impl<N: Naming> Branch<N> {
 
     /// One round over the goals, from the first one on. It takes at most so many reductions. An error
     /// is want of memory, and the branch is spent.
-    fn go_round(
+    fn go_round<G: Gate>(
         &mut self,
         loaded: &Loaded,
         table: &Determinacy,
+        gate: &G,
         most: u32,
         workspace: &mut Workspace,
     ) -> Result<Round, AllocError>
@@ -144,7 +151,7 @@ impl<N: Naming> Branch<N> {
         let mut changed = false;
         let mut found = Found::NoCall;
         'goals: loop {
-            match self.look(loaded, table, budget > 0, workspace)? {
+            match self.look(loaded, table, gate, budget > 0, workspace)? {
                 Looked::Ended => return Ok(ended(changed, found)),
                 Looked::Passed { goal, seen } => found = with_seen(found, goal, seen),
                 Looked::Ran => changed = true,
@@ -159,10 +166,11 @@ impl<N: Naming> Branch<N> {
 
     /// Looks at the next goal: runs it, reduces it if it may, or passes it over. An error is want of
     /// memory, and the branch is spent.
-    fn look(
+    fn look<G: Gate>(
         &mut self,
         loaded: &Loaded,
         table: &Determinacy,
+        gate: &G,
         may: bool,
         workspace: &mut Workspace,
     ) -> Result<Looked, AllocError>
@@ -179,7 +187,7 @@ impl<N: Naming> Branch<N> {
             Next::Nothing => Ok(Looked::Ended),
             Next::Goal(goal) => {
                 if is_call(loaded, goal) {
-                    self.look_at_call(loaded, table, goal, may, workspace)
+                    self.look_at_call(loaded, table, gate, goal, may, workspace)
                 } else {
                     self.look_at_arithmetic(loaded, goal, may, workspace)
                 }
@@ -188,10 +196,11 @@ impl<N: Naming> Branch<N> {
     }
 
     /// The same, where the next goal is this one, a call.
-    fn look_at_call(
+    fn look_at_call<G: Gate>(
         &mut self,
         loaded: &Loaded,
         table: &Determinacy,
+        gate: &G,
         goal: Goal,
         may: bool,
         workspace: &mut Workspace,
@@ -211,7 +220,7 @@ impl<N: Naming> Branch<N> {
                 Ok(Looked::Failed)
             }
             Narrowed::AtMost(clause) => {
-                self.look_at_last(loaded, table, goal, clause, may, workspace)
+                self.look_at_last(loaded, table, gate, goal, clause, may, workspace)
             }
             Narrowed::Several => {
                 self.pass()?;
@@ -225,10 +234,11 @@ impl<N: Naming> Branch<N> {
 
     /// The same, where no clause but this one can be a candidate of the call. It is reduced by this
     /// clause without a trial: where the head does not fit, the branch is marked failed.
-    fn look_at_last(
+    fn look_at_last<G: Gate>(
         &mut self,
         loaded: &Loaded,
         table: &Determinacy,
+        gate: &G,
         goal: Goal,
         clause: ClauseNo,
         may: bool,
@@ -254,6 +264,7 @@ impl<N: Naming> Branch<N> {
         if !self.has_room(loaded.weight(clause)) {
             return self.look_at_heavy(loaded, table, goal, clause, workspace);
         }
+        gate.reduce(LEADER);
         self.reduce_next(loaded, clause, workspace)?;
         self.goals_are_few();
         Ok(Looked::Reduced)

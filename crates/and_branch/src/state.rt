@@ -20,6 +20,7 @@ use crate::forking::part;
 use crate::workspace::Workspace;
 use and_cells::Naming;
 use and_determinacy::{Determinacy, candidates_of};
+use and_io::Gate;
 use and_model::{ClauseList, ClauseNo, Cut, Goal};
 use and_program::Loaded;
 use std::alloc::AllocError;
@@ -80,12 +81,13 @@ impl<N: Naming> Branch<N> {
     }
 
     /// Reduces determinate goals until none is left that fits, and tells what the tree allows then: what
-    /// `advance` and then `state` do, but each goal is judged once where it has come to rest. An error is
-    /// want of memory, and the branch is spent.
-    pub fn advance_to_state(
+    /// `advance` and then `state` do, but each goal is judged once where it has come to rest. The gate is told
+    /// of each reduction before it is made. An error is want of memory, and the branch is spent.
+    pub fn advance_to_state<G: Gate>(
         &mut self,
         loaded: &Loaded,
         table: &Determinacy,
+        gate: &G,
         workspace: &mut Workspace,
     ) -> Result<BranchState, AllocError>
         requires program { N.program ≡ named loaded.now }
@@ -101,7 +103,7 @@ impl<N: Naming> Branch<N> {
             → StateOf N.program.program self.new.limit t (determinate o c) → ⊥) }
     {
         loaded.skeleton_is_of_the_program();
-        match self.go_rounds(loaded, table, workspace)? {
+        match self.go_rounds(loaded, table, gate, workspace)? {
             Some(found) => self.told(loaded, table, found, workspace),
             None => Ok(BranchState::Failed),
         }

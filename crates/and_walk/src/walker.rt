@@ -18,6 +18,7 @@ use and_answers::{Entry, Found};
 use and_branch::{Branch, BranchList, BranchState, Rooted, Workspace};
 use and_cells::Naming;
 use and_determinacy::Determinacy;
+use and_io::Quiet;
 use and_model::{ClauseList, Cut, Goal};
 use and_program::Loaded;
 use std::alloc::{AllocError, Global};
@@ -192,7 +193,7 @@ impl<N: Naming> Walker<N> {
             self.new.found (reverse self.new.stack.items)) }
         ensures limit { self.new.limit ≡ self.old.limit }
     {
-        let state = branch.advance_to_state(loaded, table, &mut self.workspace)?;
+        let state = branch.advance_to_state(loaded, table, &Quiet, &mut self.workspace)?;
         self.go_by(alloc, loaded, branch, state)
     }
 

@@ -23,7 +23,7 @@ look_at_last-requires-clause-last g c =
     let P = g.N.Naming.program in
     let says = c.in_ok-narrow_next.ensures in
     let narrowed = subst (λ (n : Narrowed). IsNarrowed P c.args.self.now.row c.args.goal n) c.in-AtMost.is says.narrowed in
-    subst (λ (b : Held). IsAtMost P b.row c.args.goal c.in-AtMost.clause.0) (sym says.unchanged) narrowed
+    λ _ _. subst (λ (b : Held). IsAtMost P b.row c.args.goal c.in-AtMost.clause.0) (sym says.unchanged) narrowed
 
 pub returns-in-Nothing-clause-steps : goal.returns-in-Nothing-clause-steps
 returns-in-Nothing-clause-steps g c =
