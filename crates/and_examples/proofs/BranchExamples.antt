@@ -24,7 +24,7 @@ abbrev of_query : ℕ → Framed
 of_query item = record { goal = item_of_query item; frame = [] }
 
 -- ---- p(1). p(2). q(2). q(3). ?- p(X), q(X). With X = 1 no clause is left for q(X).
-one_reached : ReachedBy fails 10 (1 ∷ []) fails_one
+pub one_reached : ReachedBy fails 10 (1 ∷ []) fails_one
 unfolding clause_weight
 one_reached = ReachedBy.divided [] fails_start 1 fails_one (ReachedBy.start (omega arith)) fails_first (omega arith)
 
@@ -43,7 +43,7 @@ failed_stands = record {
 }
 
 -- With X = 2 the call q(2) is open.
-other_reached : ReachedBy fails 10 (2 ∷ []) fails_other
+pub other_reached : ReachedBy fails 10 (2 ∷ []) fails_other
 unfolding clause_weight
 other_reached = ReachedBy.divided [] fails_start 2 fails_other (ReachedBy.start (omega arith)) fails_second (omega arith)
 
@@ -94,7 +94,7 @@ other_key stands = let e : 2 ∷ [] ≡ [] = stands.key_kept in cc
 abbrev sum_start : QueryTree sum_text
 sum_start = blank (query_agenda sum_text)
 
-sum_reached : ReachedBy sum_text 10 [] sum_start
+pub sum_reached : ReachedBy sum_text 10 [] sum_start
 unfolding clause_weight
 sum_reached = ReachedBy.start (omega arith)
 

@@ -30,3 +30,10 @@ pub mod BranchExamples
 pub mod PairExamples
 pub mod LawExamples
 pub mod TermExamples
+pub mod StateExamples
+pub mod KeptExamples
+pub mod SumExamples
+pub mod ViewExamples
+pub mod HeldExamples
+pub mod WrittenTreeExamples
+pub mod WordExamples

@@ -31,10 +31,10 @@ abbrev down_from : ℕ → Substitution
 down_from k r n = so_many z (k - length r)
 
 -- Each of the three trees has one open goal with two candidates,
-zero_0 : CandidateOf at_least_0 [] (inl tt) 1
+pub zero_0 : CandidateOf at_least_0 [] (inl tt) 1
 zero_0 = (refl, (down_from 0, (refl, tt)), λ a i. elim i [ ])
 
-more_0 : CandidateOf at_least_0 [] (inl tt) 2
+pub more_0 : CandidateOf at_least_0 [] (inl tt) 2
 more_0 = (refl, (down_from 1, (refl, tt)), λ a i. elim i [ ])
 
 zero_1 : CandidateOf at_least_1 (equations at_least_1) (inl tt) 1
@@ -43,14 +43,14 @@ zero_1 = (refl, (down_from 1, (refl, (refl, tt))), λ a i. elim i [ ])
 more_1 : CandidateOf at_least_1 (equations at_least_1) (inl tt) 2
 more_1 = (refl, (down_from 2, (refl, (refl, tt))), λ a i. elim i [ ])
 
-zero_2 : CandidateOf at_least_2 (equations at_least_2) (inl tt) 1
+pub zero_2 : CandidateOf at_least_2 (equations at_least_2) (inl tt) 1
 zero_2 = (refl, (down_from 2, (refl, (refl, (refl, tt)))), λ a i. elim i [ ])
 
 more_2 : CandidateOf at_least_2 (equations at_least_2) (inl tt) 2
 more_2 = (refl, (down_from 3, (refl, (refl, (refl, tt)))), λ a i. elim i [ ])
 
 -- so all are Shut,
-shut_0 : Shut at_least_0
+pub shut_0 : Shut at_least_0
 shut_0 = ([], [], Closes.waiting [] [] tt, (down_from 0, tt), elim [ inl u ↦ (1, 2, (λ e. cc), zero_0, more_0) | inr o ↦ elim o [ ] ])
 
 shut_1 : Shut at_least_1

@@ -1,11 +1,12 @@
 -- Modes, tried on two small programs.
-use Rattle.std.proofs.Common.{ℕ, zero, suc, ◌≡◌, ◌<◌, ◌≤◌, List, [], ◌∷◌, refl, ap, ◌∙◌, inl, inr, arith, sym}
-use Rattle.std.specs.Prelude.{Contains}
+use Rattle.std.proofs.Common.{ℕ, zero, suc, ◌≡◌, ◌<◌, ◌≤◌, List, [], ◌∷◌, refl, ap, ◌∙◌, inl, inr, arith, sym, subst}
+use Rattle.std.specs.Prelude.{Contains, cond, nat_eq}
 use Rattle.std.proofs.lemmas.List.Elements.{All-contains}
 use Rattle.and_model.proofs.Tested.{of_one}
 use Rattle.and_model.specs.Terms.{Terms, none, more}
 use Rattle.and_model.specs.Programs.{Program, Clause, Item, call, equal, arithmetic, fail, clause_at}
-use Rattle.and_modes.specs.Modes.{rank, name_of, arguments_of, count_of, IsAtLeast, Assignment, Environment, HaveLevels, CallsHaveLevels, at_entry, after_item, after_items, WellModed, Greatest, WaitsFor, IsEarlier, IsSafe, WaitsFirst}
+use Rattle.and_modes.specs.Modes.{rank, name_of, arguments_of, count_of, IsAtLeast, Assignment, Environment, HaveLevels, CallsHaveLevels}
+use Rattle.and_modes.specs.Modes.{at_entry, all_raised, after_item, after_items, WellModed, Greatest, WaitsFor, IsEarlier, IsSafe, WaitsFirst}
 use Rattle.and_modes.specs.declared.level.Level.{Level}
 use Rattle.and_modes.specs.declared.level.Level.TheVariants.{Any, Ground, Integer}
 use Rattle.and_modes.specs.declared.level.Side.{Side}
@@ -80,6 +81,45 @@ pub lowest_is_well_moded : (P : Program) → WellModed P lowest
 lowest_is_well_moded P c below =
     let k : Clause = clause_at P c in
     (calls_have_lowest (at_entry lowest k) k.body, have_lowest (after_items lowest (at_entry lowest k) k.body) 0 (arguments_of k.head))
+
+-- For ?- inc(A,Z). none is higher: the call has two free variables, and so nothing is known of X in the body, nor then of Y.
+none_below : (l : Level) → rank l ≤ 0 → l ≡ Any
+none_below Any low = refl
+none_below Ground low = absurd (omega arith)
+none_below Integer low = absurd (omega arith)
+
+-- the levels of X and Y after the body, by those at the call
+abbrev after_body : (x y : Level) → Environment
+after_body x y = after_items lowest (all_raised (λ k. Any) (λ place. cond (nat_eq place 0) x y) 0 (arguments_of increment.head)) increment.body
+
+nothing_above : (other : Assignment) → WellModed waiting other → (place : ℕ) (side : Side) → place < 2 → IsAtLeast Any (other 27 2 place side)
+nothing_above other well zero Called below = (well 0 (omega arith)).0.0.0
+nothing_above other well (suc zero) Called below = (well 0 (omega arith)).0.0.1.0
+nothing_above other well zero Succeeded below =
+    let x : other 27 2 0 Called ≡ Any = none_below (other 27 2 0 Called) (well 0 (omega arith)).0.0.0 in
+    let y : other 27 2 1 Called ≡ Any = none_below (other 27 2 1 Called) (well 0 (omega arith)).0.0.1.0 in
+    let after : IsAtLeast (after_body (other 27 2 0 Called) (other 27 2 1 Called) 0) (other 27 2 0 Succeeded) = (well 1 (omega arith)).1.0 in
+    let with_x : IsAtLeast (after_body Any (other 27 2 1 Called) 0) (other 27 2 0 Succeeded) =
+    subst (λ (l : Level). IsAtLeast (after_body l (other 27 2 1 Called) 0) (other 27 2 0 Succeeded)) x after in
+    subst (λ (l : Level). IsAtLeast (after_body Any l 0) (other 27 2 0 Succeeded)) y with_x
+nothing_above other well (suc zero) Succeeded below =
+    let x : other 27 2 0 Called ≡ Any = none_below (other 27 2 0 Called) (well 0 (omega arith)).0.0.0 in
+    let y : other 27 2 1 Called ≡ Any = none_below (other 27 2 1 Called) (well 0 (omega arith)).0.0.1.0 in
+    let after : IsAtLeast (after_body (other 27 2 0 Called) (other 27 2 1 Called) 1) (other 27 2 1 Succeeded) = (well 1 (omega arith)).1.1.0 in
+    let with_x : IsAtLeast (after_body Any (other 27 2 1 Called) 1) (other 27 2 1 Succeeded) =
+    subst (λ (l : Level). IsAtLeast (after_body l (other 27 2 1 Called) 1) (other 27 2 1 Succeeded)) x after in
+    subst (λ (l : Level). IsAtLeast (after_body Any l 1) (other 27 2 1 Succeeded)) y with_x
+nothing_above other well (suc (suc place)) side below = absurd (omega arith)
+
+pub lowest_greatest : Greatest waiting lowest
+lowest_greatest = (
+  lowest_is_well_moded waiting,
+  λ other well name count place side has.
+      let same = only has.0 has.1 in
+      let is_name : 27 ≡ name = ap (λ (k : Clause). name_of k.head) same ∙ has.2 in
+      let is_count : 2 ≡ count = ap (λ (k : Clause). count_of (arguments_of k.head)) same ∙ has.3 in
+      rw (← is_name, ← is_count) (nothing_above other well place side (rw is_count has.4)),
+)
 
 pub higher_is_not : WellModed waiting ground_first → ⊥
 higher_is_not well = let h = (well 0 (omega arith)).0.0.0 in omega arith

@@ -72,13 +72,13 @@ fails_third (suc (suc (suc zero))) k = refl
 fails_third (suc (suc (suc (suc zero)))) k = let a = k.1.1.0 in let b = k.1.1.1.0 in absurd (cc)
 fails_third (suc (suc (suc (suc (suc d))))) k = let b = (of_bounds fails (q x) (suc (suc (suc (suc (suc d))))) k.0).1 in absurd (omega arith)
 
-abbrev fails_answer : QueryTree fails
+abbrev pub fails_answer : QueryTree fails
 fails_answer = reduce fails_other (inl tt) 3 refl
 
-fails_step : Step fails_other fails_answer
+pub fails_step : Step fails_other fails_answer
 fails_step = (equations fails_other, [], Closes.waiting (equations fails_other) [] tt, inl tt, 3, refl, refl, fails_third)
 
-fails_ended : Shut fails_answer
+pub fails_ended : Shut fails_answer
 fails_ended = (equations fails_answer, [], Closes.waiting (equations fails_answer) [] tt, (all_are 2, (refl, (refl, tt))), λ o. elim o [ ])
 
 -- a tree that is split by two clauses and no others

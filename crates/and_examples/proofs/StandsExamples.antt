@@ -88,7 +88,7 @@ no_reductions t made = of_none [] t refl made
         not_empty [] back r e = cc
         not_empty (x ∷ front) back r e = cc
 
-nothing_ran : (es ds : List Equation) (gs ws : List Arithmetic) → gs ≡ [] → Ran es gs ds ws → ds ≡ es
+pub nothing_ran : (es ds : List Equation) (gs ws : List Arithmetic) → gs ≡ [] → Ran es gs ds ws → ds ≡ es
 nothing_ran es ds gs ws empty (Ran.none_yet _ _) = refl
 nothing_ran es ds gs ws empty (Ran.one _ _ g bs ts _ _ taken_out known ran) = absurd (not_there gs g bs empty taken_out)
   where

@@ -61,7 +61,7 @@ floundered_no_answer text e = floundered_alone e.0 text e.2
 no_call : (t : QueryTree floundered_text) → Open t → ⊥
 no_call (reckon done) o = elim o [ ]
 
-floundered_fits : AllFit floundered_text 4
+pub floundered_fits : AllFit floundered_text 4
 unfolding clause_weight
 floundered_fits = (omega arith, λ t reached es gs closed o c candidate. absurd (no_call t o))
 

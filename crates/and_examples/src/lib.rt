@@ -3,21 +3,24 @@
 //! Each function here does nothing. Its contract says what the definitions make of one example, and
 //! is proved in `proofs/`. The texts are in `specs/`. In the root are whole examples, from terms to
 //! listings. The modules try the rest: `terms` what substitutions do, `lines` how answers and names are
-//! written, `guards` comparisons in front of clauses, `reached` steps, splits and limits, `branches` and
-//! `reductions` what a branch stands for, `stores` and `hanging` rows that several set, `histories` the
-//! choicepoint tree and covering forks, `modes` what is known of arguments, and `laws` where the premises
-//! of laws hold. No other crate stands on this one.
+//! written, `guards` comparisons in front of clauses, `reached` steps, splits and limits, `states` the
+//! states of a branch, `branches` and `reductions` what a branch stands for, `stores` and `hanging` rows
+//! that several set, `histories` the choicepoint tree and covering forks, `modes` what is known of
+//! arguments, and `laws` where the premises of laws hold. No other crate stands on this one.
 #![tactic(auto)]
 
 pub mod branches;
+pub mod cells;
 pub mod guards;
 pub mod hanging;
+pub mod held;
 pub mod histories;
 pub mod laws;
 pub mod lines;
 pub mod modes;
 pub mod reached;
 pub mod reductions;
+pub mod states;
 pub mod stores;
 pub mod terms;
 
@@ -40,10 +43,17 @@ ghost use Rattle.and_examples.specs.Texts.{own, at, whole, unary, binary, app, n
 pub use branches::{
     branch_of_the_query, branches_of_a_split, branches_with_a_sum, one_renaming_of_all,
 };
+pub use cells::{
+    branches_in_cells, cells_after_a_reduction, cells_with_a_sum, lines_in_cells,
+    trees_by_their_reductions,
+};
 pub use guards::{guard_that_decides, guard_that_ends, guard_without_value};
 pub use hanging::goal_that_hangs_on_a_cell;
+pub use held::branches_that_are_held;
 pub use histories::{covering_fork, fork_by_candidates, history_of_two_teams, history_with_a_fork};
-pub use laws::{candidate_under_other_names, line_under_other_names, sum_that_stays_run};
+pub use laws::{
+    candidate_under_other_names, line_under_other_names, sum_that_stays_run, words_of_the_laws,
+};
 pub use lines::{answers_on_one_line, names_as_written, names_of_every_table};
 pub use modes::{increment_of_a_number, increment_of_a_variable, levels_that_items_raise};
 pub use reached::{
@@ -52,6 +62,7 @@ pub use reached::{
     one_fork_one_failure, two_forks_no_failure,
 };
 pub use reductions::branch_after_a_reduction;
+pub use states::{branches_that_end, goal_with_two_candidates, goals_with_one_candidate};
 pub use stores::{row_of_two_passes, row_with_a_number};
 pub use terms::{renamed_solution, terms_once_replaced};
 

@@ -15,10 +15,12 @@ pub fn increment_of_a_number()
     ensures safe_is_safe { IsSafe safe given_first }
 {}
 
-/// With the query `?- inc(A,Z).` the first argument can't even be known to be ground, and X waits in the
-/// body. Of two waits on one line, that of a clause is told before that of the query.
+/// With the query `?- inc(A,Z).` the first argument can't even be known to be ground: the lowest assignment
+/// is the greatest that is well-moded, and X waits in the body. Of two waits on one line, that of a
+/// clause is told before that of the query.
 pub fn increment_of_a_variable()
     ensures lowest_is_well_moded { (P : Program) → WellModed P lowest }
+    ensures lowest_greatest { Greatest waiting lowest }
     ensures higher_is_not { WellModed waiting ground_first → ⊥ }
     ensures x_waits_first { WaitsFirst waiting lowest x_in_body }
     ensures z_is_earlier { IsEarlier one_line

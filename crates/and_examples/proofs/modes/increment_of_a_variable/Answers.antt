@@ -12,3 +12,6 @@ returns-clause-x_waits_first c = ModesExamples.x_waits_first
 
 pub returns-clause-z_is_earlier : goal.returns-clause-z_is_earlier
 returns-clause-z_is_earlier c = ModesExamples.z_is_earlier
+
+pub returns-clause-lowest_greatest : goal.returns-clause-lowest_greatest
+returns-clause-lowest_greatest c = ModesExamples.lowest_greatest
