@@ -1,0 +1,14 @@
+pub mod Bools
+pub mod Roots
+pub mod Owing
+pub mod Doing
+pub mod Walked
+pub mod Acting
+pub mod Covers
+pub mod Made
+pub mod Passing
+pub mod Told
+pub mod Teams
+pub mod Counted
+pub mod Forking
+pub mod Listed
