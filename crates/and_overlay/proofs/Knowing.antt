@@ -20,15 +20,18 @@ whole_row : (s : Seen) → IsCoherent s → (row : List Ref) → s.told ≡ Some
 whole_row s coherent row told = subst (λ t. IfSome t (λ row. length row ≡ s.words)) told coherent.whole
 
 -- what is listed as known is known
-pub listed_knows : (s : Seen) → IsCoherent s → (p : ℕ) (r : Ref) → Contains (settings s.known) (record { place = p; value = r }) → Knows s p r
+pub listed_knows : (s : Seen) → IsCoherent s → (p : ℕ) (r : Ref) → Contains (settings s.known) (record { place = p; value = r })
+    → Knows s p r
 listed_knows s coherent p r has = by_told s.told refl
   where
     by_told : (told : Option (List Ref)) → s.told ≡ told → IsAmong told s.known p r
     by_told None is = has
     by_told (Some row) is =
         let (k, among, same) = map_among (λ (k : Known). k.setting) (record { place = p; value = r }) s.known has in
-        let all : All (λ (k : Known). IsSetTo row k.setting.place k.setting.value) s.known = subst (λ t. IfSome t (λ row. All (λ (k : Known). IsSetTo row k.setting.place k.setting.value) s.known)) is coherent.in_row in
-        subst (λ (t : Setting). IsSetTo row t.place t.value) same (All-contains (λ (k : Known). IsSetTo row k.setting.place k.setting.value) s.known k all among)
+        let all : All (λ (k : Known). IsSetTo row k.setting.place k.setting.value) s.known =
+        subst (λ t. IfSome t (λ row. All (λ (k : Known). IsSetTo row k.setting.place k.setting.value) s.known)) is coherent.in_row in
+        subst (λ (t : Setting). IsSetTo row t.place t.value) same (All-contains
+        (λ (k : Known). IsSetTo row k.setting.place k.setting.value) s.known k all among)
 
 -- What is common to an overlay's settings, without what is said of numbers and of the looks.
 pub record AreSettings (s : Seen) (frame : ℕ) (own : List Own) : Type 0 where
@@ -38,12 +41,20 @@ pub record AreSettings (s : Seen) (frame : ℕ) (own : List Own) : Type 0 where
   pub late : AreLate own s.known
   pub coherent : IsCoherent s
 
-pub settings_of : (P : NamedProgram) (s : Seen) (frame : ℕ) (own : List Own) (looked : List ℕ) → IsOver P s frame own looked → IsCoherent s → AreSettings s frame own
-settings_of P s frame own looked over coherent = record { apart = over.apart; set = over.set; low = over.low; late = over.late; coherent = coherent }
+pub settings_of : (P : NamedProgram) (s : Seen) (frame : ℕ) (own : List Own) (looked : List ℕ) → IsOver P s frame own looked
+    → IsCoherent s → AreSettings s frame own
+settings_of P s frame own looked over coherent = record {
+  apart = over.apart;
+  set = over.set;
+  low = over.low;
+  late = over.late;
+  coherent = coherent;
+}
 
 module _ (s : Seen) (frame : ℕ) (own : List Own) (looked : List ℕ) (are : AreSettings s frame own) where
   long_base : (row : List Ref) → s.told ≡ Some row → length (row ++ replicate frame Free) ≡ s.words + frame
-  long_base row told = length-append row (replicate frame Free) ∙ ap (λ n. n + length (replicate frame Free)) (whole_row s are.coherent row told) ∙ ap (λ n. s.words + n) (length-replicate frame Free)
+  long_base row told = length-append row (replicate frame Free) ∙ ap (λ n. n + length (replicate frame Free))
+      (whole_row s are.coherent row told) ∙ ap (λ n. s.words + n) (length-replicate frame Free)
 
   low_base : (row : List Ref) → s.told ≡ Some row → All (λ (o : Own). o.place < length (row ++ replicate frame Free)) own
   low_base row told = subst (λ n. All (λ (o : Own). o.place < n) own) (sym (long_base row told)) are.low
@@ -58,15 +69,24 @@ module _ (s : Seen) (frame : ℕ) (own : List Own) (looked : List ℕ) (are : Ar
   pub knows_from : (p : ℕ) (r : Ref) → Knows (seen_over s frame own looked) p r → Has own p r ⊎ ((is_own own p ≡ false) × Knows s p r)
   knows_from p r knows = by_told s.told refl knows
     where
-      by_row : (row : List Ref) → s.told ≡ Some row → IsSetTo (row_over own (row ++ replicate frame Free)) p r → (is_own own p ≡ true) ⊎ (is_own own p ≡ false)
+      by_row : (row : List Ref) → s.told ≡ Some row → IsSetTo (row_over own (row ++ replicate frame Free)) p r → (is_own own p ≡ true)
+          ⊎ (is_own own p ≡ false)
           → Has own p r ⊎ ((is_own own p ≡ false) × IsSetTo row p r)
       by_row row told is (inl mine) =
           let (q, has) = own_has own p mine in
           let same : q ≡ r = sym (row_own own (row ++ replicate frame Free) p q are.apart (low_base row told) has) ∙ is.0 in
           inl (subst (Has own p) same has)
-      by_row row told is (inr other) = inr (other, (sym (row_other own (row ++ replicate frame Free) p other ∙ word_in_front row frame p) ∙ is.0, is.1))
+      by_row row told is (inr other) = inr (
+        other,
+        (
+          sym (row_other own (row ++ replicate frame Free) p other ∙ word_in_front row frame p)
+              ∙ is.0,
+          is.1,
+        ),
+      )
 
-      by_told : (told : Option (List Ref)) → s.told ≡ told → IsAmong (option_map (λ row. row_over own (row ++ replicate frame Free)) told) (known_over own s.known) p r
+      by_told : (told : Option (List Ref)) → s.told ≡ told → IsAmong (option_map (λ row. row_over own (row ++ replicate frame Free)) told)
+          (known_over own s.known) p r
           → Has own p r ⊎ ((is_own own p ≡ false) × IsAmong told s.known p r)
       by_told None is known = known_from own s.known (record { place = p; value = r }) are.late known
       by_told (Some row) is known = by_row row is known (own_or_not own p)
@@ -75,7 +95,8 @@ module _ (s : Seen) (frame : ℕ) (own : List Own) (looked : List ℕ) (are : Ar
   pub knows_own : (p : ℕ) (r : Ref) → Has own p r → Knows (seen_over s frame own looked) p r
   knows_own p r has = by_told s.told refl
     where
-      by_told : (told : Option (List Ref)) → s.told ≡ told → IsAmong (option_map (λ row. row_over own (row ++ replicate frame Free)) told) (known_over own s.known) p r
+      by_told : (told : Option (List Ref)) → s.told ≡ told → IsAmong (option_map (λ row. row_over own (row ++ replicate frame Free)) told)
+          (known_over own s.known) p r
       by_told None is = known_own own s.known (record { place = p; value = r }) has
       by_told (Some row) is = (row_own own (row ++ replicate frame Free) p r are.apart (low_base row is) has, has_set p r has)
 
@@ -83,7 +104,8 @@ module _ (s : Seen) (frame : ℕ) (own : List Own) (looked : List ℕ) (are : Ar
   pub knows_below : (p : ℕ) (r : Ref) → is_own own p ≡ false → Knows s p r → Knows (seen_over s frame own looked) p r
   knows_below p r other knows = by_told s.told refl knows
     where
-      by_told : (told : Option (List Ref)) → s.told ≡ told → IsAmong told s.known p r → IsAmong (option_map (λ row. row_over own (row ++ replicate frame Free)) told) (known_over own s.known) p r
+      by_told : (told : Option (List Ref)) → s.told ≡ told → IsAmong told s.known p r
+          → IsAmong (option_map (λ row. row_over own (row ++ replicate frame Free)) told) (known_over own s.known) p r
       by_told None is known = known_below own s.known (record { place = p; value = r }) are.late other known
       by_told (Some row) is known = (row_other own (row ++ replicate frame Free) p other ∙ word_in_front row frame p ∙ known.0, known.1)
 
@@ -105,28 +127,47 @@ module _ (s : Seen) (frame : ℕ) (own : List Own) (looked : List ℕ) (are : Ar
             ]
           ]
         where
-          newest : (o : Own) (own : List Own) → AreDistinct (o.place ∷ map (λ (o : Own). o.place) own) → (p : ℕ) (r : Ref) → Has own p r → o.place ≢ p
+          newest : (o : Own) (own : List Own) → AreDistinct (o.place ∷ map (λ (o : Own). o.place) own) → (p : ℕ) (r : Ref) → Has own p r
+              → o.place ≢ p
           newest o own apart p r has =
               let (old, among, same) = map_among own_setting (record { place = p; value = r }) own has in
               distinct_first o.place (map (λ (o : Own). o.place) own) apart p
-              (subst (Contains (map (λ (o : Own). o.place) own)) (ap (λ (t : Setting). t.place) same) (among_map (λ (o : Own). o.place) old own among))
+              (subst (Contains (map (λ (o : Own). o.place) own)) (ap (λ (t : Setting). t.place) same)
+              (among_map (λ (o : Own). o.place) old own among))
 
   -- and cells over coherent ones are so too.
   pub coherent_over : IsCoherent (seen_over s frame own looked)
-  coherent_over = record { once = known_once own s.known are.apart are.late are.coherent.once; whole = whole s.told refl; in_row = in_row s.told refl }
+  coherent_over = record {
+    once = known_once own s.known are.apart are.late are.coherent.once;
+    whole = whole s.told refl;
+    in_row = in_row s.told refl;
+  }
     where
-      whole : (told : Option (List Ref)) → s.told ≡ told → IfSome (option_map (λ row. row_over own (row ++ replicate frame Free)) told) (λ row. length row ≡ s.words + frame)
+      whole : (told : Option (List Ref)) → s.told ≡ told → IfSome (option_map (λ row. row_over own (row ++ replicate frame Free)) told)
+          (λ row. length row ≡ s.words + frame)
       whole None is = tt
       whole (Some row) is = length_row_over own (row ++ replicate frame Free) ∙ long_base row is
 
-      so : (row : List Ref) → s.told ≡ Some row → (k : Known) → Contains (known_over own s.known) k → IsSetTo (row_over own (row ++ replicate frame Free)) k.setting.place k.setting.value
-      so row is k among = elim (known_from own s.known k.setting are.late (among_map (λ (k : Known). k.setting) k (known_over own s.known) among)) [
-        | inl set ↦ (row_own own (row ++ replicate frame Free) k.setting.place k.setting.value are.apart (low_base row is) set, has_set k.setting.place k.setting.value set)
-        | inr below ↦ (let known : IsSetTo row k.setting.place k.setting.value = subst (λ t. IsAmong t s.known k.setting.place k.setting.value) is (listed_knows s are.coherent k.setting.place k.setting.value below.1) in
-            (row_other own (row ++ replicate frame Free) k.setting.place below.0 ∙ word_in_front row frame k.setting.place ∙ known.0, known.1))
-      ]
+      so : (row : List Ref) → s.told ≡ Some row → (k : Known) → Contains (known_over own s.known) k
+          → IsSetTo (row_over own (row ++ replicate frame Free)) k.setting.place k.setting.value
+      so row is k among = elim (known_from own s.known k.setting are.late
+          (among_map (λ (k : Known). k.setting) k (known_over own s.known) among)) [
+            | inl set ↦ (
+              row_own own (row ++ replicate frame Free) k.setting.place k.setting.value are.apart (low_base row is) set,
+              has_set
+                  k.setting.place k.setting.value set,
+            )
+            | inr below ↦ (let known : IsSetTo row k.setting.place k.setting.value =
+                subst (λ t. IsAmong t s.known k.setting.place k.setting.value) is
+                (listed_knows s are.coherent k.setting.place k.setting.value below.1) in (
+                  row_other own (row ++ replicate frame Free) k.setting.place below.0 ∙ word_in_front row frame k.setting.place
+                      ∙ known.0,
+                  known.1,
+                ))
+          ]
 
       in_row : (told : Option (List Ref)) → s.told ≡ told
-          → IfSome (option_map (λ row. row_over own (row ++ replicate frame Free)) told) (λ row. All (λ (k : Known). IsSetTo row k.setting.place k.setting.value) (known_over own s.known))
+          → IfSome (option_map (λ row. row_over own (row ++ replicate frame Free)) told)
+          (λ row. All (λ (k : Known). IsSetTo row k.setting.place k.setting.value) (known_over own s.known))
       in_row None is = tt
       in_row (Some row) is = λ i d low. so row is _ (Contains-get_or (known_over own s.known) i d low)

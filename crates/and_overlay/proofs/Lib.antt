@@ -5,5 +5,6 @@ pub mod Stepping
 pub mod Setting
 pub mod Numbers
 pub mod Looking
+mod Again
 mod Kept
 mod Sifting

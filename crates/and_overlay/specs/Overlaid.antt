@@ -1,11 +1,11 @@
 -- What contracts see in cells over other cells, which keep to themselves what is set (this project's own).
-use Rattle.std.specs.Prelude.{ℕ, suc, ◌+◌, ◌<◌, ◌≡◌, ◌≢◌, ◌⊎◌, Bool, true, false, not, cond, List, [], ◌∷◌, ◌++◌, map, filter, length, take, drop, replicate, slice_set, nat_eq, All, Contains}
+use Rattle.std.specs.Prelude.{ℕ, suc, ◌+◌, ◌<◌, ◌≡◌, ◌≢◌, ◌⊎◌, Bool, true, false, not, cond, List, [], ◌∷◌, ◌++◌, map, filter, length, take, drop, replicate, slice_set, nat_eq, All, Contains, ◌≤◌}
 use Rattle.std.specs.Option.{option_map}
 use Rattle.and_model.specs.Store.{Known, word, AreDistinct}
 use Rattle.and_model.specs.declared.reference.Ref.{Ref}
 use Rattle.and_model.specs.declared.reference.Ref.TheVariants.{Free, Number}
 use Rattle.and_cells.specs.Ranges.{NamedProgram, CanHold}
-use Rattle.and_cells.specs.Seen.{Seen, Knows, IsCoherent}
+use Rattle.and_cells.specs.Seen.{Seen, Knows, IsSetTo, IsCoherent, word_at}
 
 -- A setting of an overlay: its place, its value, and what was known in the cells below when it was made.
 pub record Own : Type 0 where
@@ -52,7 +52,8 @@ IsUnknown s place = (r : Ref) → Knows s place r → ⊥
 abbrev pub AreLate : List Own → List Known → Type 0
 AreLate [] known = Unit {0}
 AreLate (o ∷ own) known =
-    (o.before ≡ take (length o.before) known) × ((r : Ref) → Contains (map (λ (k : Known). k.setting) o.before) (record { place = o.place; value = r }) → ⊥)
+    (o.before ≡ take (length o.before) known) × ((r : Ref) → Contains (map (λ (k : Known). k.setting) o.before)
+    (record { place = o.place; value = r }) → ⊥)
     × AreLate own o.before
 
 -- what is known of some cells names places of theirs, and fits there
@@ -65,6 +66,11 @@ AreWrittenBelow s over own =
     (o : Own) → Contains own o → (pair place : ℕ) → o.value ≡ Number pair → (place ≡ pair) ⊎ (place ≡ suc pair) → IsUnknown over place
     → ((cell : ℕ) → Knows s cell (Number pair) → ⊥) → ⊥
 
+-- the place is on the list
+abbrev pub stands_in : List ℕ → (place : ℕ) → Bool
+stands_in [] place = false
+stands_in (p ∷ places) place = cond (nat_eq p place) true (stands_in places place)
+
 -- What an overlay keeps.
 pub record IsOver (P : NamedProgram) (s : Seen) (frame : ℕ) (own : List Own) (looked : List ℕ) : Type 0 where
   pub apart : AreDistinct (map (λ (o : Own). o.place) own)
@@ -75,4 +81,16 @@ pub record IsOver (P : NamedProgram) (s : Seen) (frame : ℕ) (own : List Own) (
   pub below : IsKnownFit P s
   pub written : AreWrittenBelow s (seen_over s frame own looked) own
   pub looked_low : All (λ (place : ℕ). place < s.words) looked
+  -- what is set of the cells below was found free there
+  pub noted : All (λ (o : Own). o.place < s.words → stands_in looked o.place ≡ true) own
   pub coherent : IsCoherent (seen_over s frame own looked)
+
+-- Of what was seen of a row there is more in a later one: all that was known is set in it so, and these places are free still.
+pub record GoesOn (s : Seen) (looked : List ℕ) (later : List Ref) : Type 0 where
+  pub longer : s.words ≤ length later
+  pub set : (place : ℕ) (r : Ref) → Knows s place r → IsSetTo later place r
+  pub free : (place : ℕ) → Contains looked place → word_at later place ≡ Free
+
+-- What a look told of a word: what it is known to be, or that it is free, which is noted of the places below so many words.
+abbrev pub WasTold : Seen → (behind place : ℕ) → Ref → Type 0
+WasTold s behind place r = Knows s place r ⊎ ((r ≡ Free) × IsUnknown s place × (place < behind → Contains s.missed (word place)))

@@ -1,7 +1,8 @@
 //! Cells over other cells, in which something is tried.
 
-ghost use Rattle.std.specs.Prelude.{◌≡◌, ◌≢◌, ◌<◌, ◌≤◌, ◌+◌, ◌^◌, ◌⊎◌, [], ℕ, suc, map, Contains, IfSome};
+ghost use Rattle.std.specs.Prelude.{◌≡◌, ◌≢◌, ◌<◌, ◌≤◌, ◌+◌, ◌^◌, ◌⊎◌, ◌↔◌, [], ℕ, suc, map, All, Contains, IfSome};
 ghost use Rattle.and_model.specs.declared.reference.Ref.{Ref};
+ghost use Rattle.and_model.specs.Store.{AreDistinct, word};
 ghost use Rattle.and_cells.specs.Ranges.{CanHold, IsPairInRange};
 ghost use Rattle.and_cells.specs.Seen.{Knows, Finds, Misses, Sets, Fills, OnlyReads, Keeps, IsKnownWritten, IsWrittenIfNumber, word_at};
 ghost use Rattle.and_overlay.specs.Overlaid.{IsOver, IsKnownFit, IsUnknown, seen_over};
@@ -47,6 +48,8 @@ impl<'a, C: Cells> Overlay<'a, C> {
         ensures cells_name { result.cells.ghost_name ≡ cells.entry.ghost_name }
         ensures scratch_name { result.scratch.ghost_name ≡ scratch.entry.ghost_name }
         ensures cells { result.cells.now ≡ cells.old }
+        ensures knows { (place : ℕ) (r : Ref)
+            → Knows (C.seen cells.old) place r ↔ Knows (⟦<Overlay<'a, C> as Cells>⟧.seen result) place r }
         ensures below { result.below ≡ below }
         ensures frame { result.frame ≡ frame }
         ensures settings { result.scratch.now.settings.items ≡ [] }
@@ -80,16 +83,21 @@ impl<'a, C: Cells> Overlay<'a, C> {
         self.frame = frame;
     }
 
-    /// The places below that were found free, each once. Takes no memory.
+    /// The places below that were found free, each once. As long as none of them is set, what was tried goes
+    /// the same way again (`a_trial_goes_the_same_way`). Takes no memory.
     pub fn looked(&self) -> &[u32]
-        ensures { result.now ≡ self.now.scratch.now.looked.listed }
+        ensures places { result.now ≡ self.now.scratch.now.looked.listed }
+        ensures once { AreDistinct result.now }
+        ensures below { All (λ place. place < self.now.below) result.now }
     {
         self.scratch.looked()
     }
 
-    /// The places that are set here, in the order of setting. Takes no memory.
+    /// The places that are set here, in the order of setting. Those below were found free there. Takes no
+    /// memory.
     pub fn bound(&self) -> &[u32]
-        ensures { result.now ≡ map (λ s. s.place) self.now.scratch.now.settings.items }
+        ensures places { result.now ≡ map (λ s. s.place) self.now.scratch.now.settings.items }
+        ensures noted { (place : ℕ) → Contains result.now place → place < self.now.below → Contains self.now.scratch.now.looked.listed place }
     {
         self.scratch.bound()
     }
@@ -99,6 +107,7 @@ impl<'a, C: Cells> Overlay<'a, C> {
         requires place { place < (⟦<Overlay<'a, C> as Cells>⟧.seen self.old).words }
         requires unknown { IsUnknown (⟦<Overlay<'a, C> as Cells>⟧.seen self.old) place }
         requires free { IfSome (⟦<Overlay<'a, C> as Cells>⟧.seen self.old).told (λ row. word_at row place ≡ Ref.Free) }
+        requires noted { place < self.old.below → Contains (⟦<Overlay<'a, C> as Cells>⟧.seen self.old).missed (word place) }
         requires set { value ≢ Ref.Free }
         requires fits { CanHold C.program (⟦<Overlay<'a, C> as Cells>⟧.seen self.old).words place value }
         requires written { IsWrittenIfNumber (⟦<Overlay<'a, C> as Cells>⟧.seen self.old) value }

@@ -1,6 +1,7 @@
 //! Places of a row, each once, in the order in which they were put in.
 
 ghost use Rattle.std.specs.Prelude.{◌≡◌, ◌<◌, ◌≤◌, ◌⊎◌, ◌++◌, ◌∷◌, [], length, Some, Contains, IfSome, IsNone, OnOk, slice_get, vec_len, vec_capacity};
+ghost use Rattle.and_model.specs.Store.{AreDistinct};
 ghost use Rattle.and_overlay.specs.Places.{Places};
 
 use std::alloc::{AllocError, Global};
@@ -72,7 +73,8 @@ impl PlaceList {
 
     /// The places. Takes no memory.
     pub fn listed(&self) -> &[u32]
-        ensures { result.now ≡ self.now.listed }
+        ensures places { result.now ≡ self.now.listed }
+        ensures once { AreDistinct result.now }
     {
         &self.places
     }

@@ -1,6 +1,7 @@
 //! The memory that overlays need, kept for the next one.
 
 ghost use Rattle.std.specs.Prelude.{◌≡◌, ◌≢◌, ◌<◌, ◌≤◌, ◌++◌, ◌∷◌, ◌⊎◌, [], length, map, Contains, Some, IfSome, IsNone, OnOk, vec_len, vec_capacity};
+ghost use Rattle.and_model.specs.Store.{AreDistinct};
 ghost use Rattle.and_model.specs.declared.reference.Ref.{Ref};
 
 use crate::places::PlaceList;
@@ -148,9 +149,11 @@ impl<C: Cells> Scratch<C> {
         self.places.listed()
     }
 
-    /// The places of the row below that were found free. Takes no memory.
-    pub(crate) fn looked(&self) -> &[u32]
-        ensures { result.now ≡ self.now.looked.listed }
+    /// The places of the row below that trials found free since an overlay was made with this memory, each
+    /// once. Takes no memory.
+    pub fn looked(&self) -> &[u32]
+        ensures places { result.now ≡ self.now.looked.listed }
+        ensures once { AreDistinct result.now }
     {
         self.looked.listed()
     }

@@ -11,10 +11,12 @@ invariant_of-self g c =
     let room = c.requires.room in
     let places = c.forget_settings.ensures.room in
     let looked = c.forget_settings.ensures.looked in
-    let begun = over_begun g.C.Cells.program s c.args.frame now.scratch.now.looked.listed (g.met.C.Cells.coherent now.cells.now) now.kept.below now.kept.looked_low in record {
+    let begun = over_begun g.C.Cells.program s c.args.frame now.scratch.now.looked.listed (g.met.C.Cells.coherent now.cells.now)
+    now.kept.below now.kept.looked_low in record {
       words = now.words;
       few = c.requires.few;
       room = (omega arith, subst (λ l. now.below ≤ l.room) (sym looked) now.room.1);
-      kept = subst (λ items. IsOver g.C.Cells.program s c.args.frame (own_in g.C.Cells.seen items) c.forget_settings.new.self.looked.listed) (sym c.forget_settings.ensures.settings)
+      kept = subst (λ items. IsOver g.C.Cells.program s c.args.frame (own_in g.C.Cells.seen items)
+          c.forget_settings.new.self.looked.listed) (sym c.forget_settings.ensures.settings)
           (subst (λ l. IsOver g.C.Cells.program s c.args.frame [] l.listed) (sym looked) begun);
     }

@@ -9,7 +9,8 @@ returns-in-Free-clause-grew g c = record {
   below = c.keep.ensures.grew.below ∙ c.look.ensures.grew.below;
   frame = c.keep.ensures.grew.frame ∙ c.look.ensures.grew.frame;
   over = c.keep.ensures.grew.over ∙ c.look.ensures.grew.over;
-  grew = g.met.C.Cells.grew_on c.args.self.now.cells.now c.look.new.self.cells.now c.keep.new.self.cells.now c.look.ensures.grew.grew c.keep.ensures.grew.grew;
+  grew = g.met.C.Cells.grew_on c.args.self.now.cells.now c.look.new.self.cells.now c.keep.new.self.cells.now c.look.ensures.grew.grew
+      c.keep.ensures.grew.grew;
   only_reads = reads_more _ _ _ c.look.ensures.grew.only_reads c.keep.ensures.grew.only_reads;
   room = (c.keep.ensures.grew.room.0 ∙ c.look.ensures.grew.room.0, c.keep.ensures.grew.room.1 ∙ c.look.ensures.grew.room.1);
 }

@@ -9,20 +9,27 @@ use Rattle.and_overlay.proofs.overlay.Overlay.look_below.Goals.{After-note_if_fr
 pub returns-then-place-self-clause-free : goal.returns-then-place-self-clause-free
 returns-then-place-self-clause-free g c = λ free.
     let now = c.args.self.now in
-    misses_frame g.C.Cells.program now.frame (own_in g.C.Cells.seen now.scratch.now.settings.items) (g.C.Cells.seen now.cells.now) now.scratch.now.looked.listed c.args.place now.below
+    misses_frame g.C.Cells.program now.frame (own_in g.C.Cells.seen now.scratch.now.settings.items) (g.C.Cells.seen now.cells.now)
+    now.scratch.now.looked.listed c.args.place now.below
     now.kept (g.met.C.Cells.coherent now.cells.now) now.words (let past = c.if-place-self.true in omega arith)
     (not_kept g.C.Cells.seen now.scratch.now.settings.items c.args.place c.requires.other)
 
-is_looked : (g : _) (c : After-note_if_free g) → Looked g.C.Cells.program (g.C.Cells.seen c.args.self.now.cells.now) (g.C.Cells.seen c.look-word.new.self) c.args.self.now.frame
-    (own_in g.C.Cells.seen c.args.self.now.scratch.now.settings.items) (own_in g.C.Cells.seen c.note_if_free.new.self.settings.items) c.args.self.now.scratch.now.looked.listed
+is_looked : (g : _) (c : After-note_if_free g) → Looked g.C.Cells.program (g.C.Cells.seen c.args.self.now.cells.now)
+    (g.C.Cells.seen c.look-word.new.self) c.args.self.now.frame
+    (own_in g.C.Cells.seen c.args.self.now.scratch.now.settings.items) (own_in g.C.Cells.seen c.note_if_free.new.self.settings.items)
+    c.args.self.now.scratch.now.looked.listed
     c.note_if_free.new.self.looked.listed c.args.place c.args.self.now.below c.look-word.result
 is_looked g c =
     let now = c.args.self.now in
-    looked_over g.C.Cells.program (g.C.Cells.seen now.cells.now) (g.C.Cells.seen c.look-word.new.self) now.frame (own_in g.C.Cells.seen now.scratch.now.settings.items)
-    (own_in g.C.Cells.seen c.note_if_free.new.self.settings.items) now.scratch.now.looked.listed c.note_if_free.new.self.looked.listed c.args.place _ now.below c.look-word.result
-    now.kept (g.met.C.Cells.coherent now.cells.now) (g.met.C.Cells.coherent c.look-word.new.self) c.look-word.ensures.only_reads c.look-word.ensures.found c.look-word.ensures.free
+    looked_over g.C.Cells.program (g.C.Cells.seen now.cells.now) (g.C.Cells.seen c.look-word.new.self) now.frame
+    (own_in g.C.Cells.seen now.scratch.now.settings.items)
+    (own_in g.C.Cells.seen c.note_if_free.new.self.settings.items) now.scratch.now.looked.listed c.note_if_free.new.self.looked.listed
+    c.args.place _ now.below c.look-word.result
+    now.kept (g.met.C.Cells.coherent now.cells.now) (g.met.C.Cells.coherent c.look-word.new.self) c.look-word.ensures.only_reads
+    c.look-word.ensures.found c.look-word.ensures.free
     (let low = c.if-place-self.false in let words = now.words in omega arith)
-    (not_kept g.C.Cells.seen now.scratch.now.settings.items c.args.place c.requires.other) (ap (own_in g.C.Cells.seen) c.note_if_free.ensures.settings)
+    (not_kept g.C.Cells.seen now.scratch.now.settings.items c.args.place c.requires.other)
+    (ap (own_in g.C.Cells.seen) c.note_if_free.ensures.settings)
     c.note_if_free.ensures.set c.note_if_free.ensures.free
 
 pub invariant_of-self : goal.invariant_of-self

@@ -8,24 +8,29 @@ use Rattle.and_cells.proofs.Chains.{reads_more}
 pub number-requires-clause-pair : goal.number-requires-clause-pair
 number-requires-clause-pair g c =
     let now = c.args.self.now in
-    (asked_below g.C.Cells.program (g.C.Cells.seen now.cells.now) now.frame (own_in g.C.Cells.seen now.scratch.now.settings.items) now.scratch.now.looked.listed c.args.pair c.args.place
+    (asked_below g.C.Cells.program (g.C.Cells.seen now.cells.now) now.frame (own_in g.C.Cells.seen now.scratch.now.settings.items)
+    now.scratch.now.looked.listed c.args.pair c.args.place
     now.kept (g.met.C.Cells.coherent now.cells.now) c.requires.written c.requires.word c.requires.unknown).0
 
 pub number-requires-clause-written : goal.number-requires-clause-written
 number-requires-clause-written g c =
     let now = c.args.self.now in
-    (asked_below g.C.Cells.program (g.C.Cells.seen now.cells.now) now.frame (own_in g.C.Cells.seen now.scratch.now.settings.items) now.scratch.now.looked.listed c.args.pair c.args.place
+    (asked_below g.C.Cells.program (g.C.Cells.seen now.cells.now) now.frame (own_in g.C.Cells.seen now.scratch.now.settings.items)
+    now.scratch.now.looked.listed c.args.pair c.args.place
     now.kept (g.met.C.Cells.coherent now.cells.now) c.requires.written c.requires.word c.requires.unknown).1
 
 pub look-requires : goal.look-requires
 look-requires g c =
     let now = c.args.self.now in
     subst (λ n. c.args.place < n) (sym c.number.ensures.only_reads.words)
-    (asked_below g.C.Cells.program (g.C.Cells.seen now.cells.now) now.frame (own_in g.C.Cells.seen now.scratch.now.settings.items) now.scratch.now.looked.listed c.args.pair c.args.place
+    (asked_below g.C.Cells.program (g.C.Cells.seen now.cells.now) now.frame (own_in g.C.Cells.seen now.scratch.now.settings.items)
+    now.scratch.now.looked.listed c.args.pair c.args.place
     now.kept (g.met.C.Cells.coherent now.cells.now) c.requires.written c.requires.word c.requires.unknown).2
 
-is_read : (g : _) (c : After-look g) → WordRead g.C.Cells.program (g.C.Cells.seen c.args.self.now.cells.now) (g.C.Cells.seen c.look.new.self) c.args.self.now.frame
-    (own_in g.C.Cells.seen c.args.self.now.scratch.now.settings.items) c.args.self.now.scratch.now.looked.listed c.args.pair c.args.place c.look.result
+is_read : (g : _) (c : After-look g) → WordRead g.C.Cells.program (g.C.Cells.seen c.args.self.now.cells.now)
+    (g.C.Cells.seen c.look.new.self) c.args.self.now.frame
+    (own_in g.C.Cells.seen c.args.self.now.scratch.now.settings.items) c.args.self.now.scratch.now.looked.listed c.args.pair c.args.place
+    c.look.result
 is_read g c =
     let now = c.args.self.now in
     word_read g.C.Cells.program (g.C.Cells.seen now.cells.now) (g.C.Cells.seen c.number.new.self) (g.C.Cells.seen c.look.new.self) now.frame

@@ -13,7 +13,8 @@ returns-in-Free-clause-grew g c = record {
   below = c.word_below.ensures.grew.below ∙ c.look.ensures.grew.below;
   frame = c.word_below.ensures.grew.frame ∙ c.look.ensures.grew.frame;
   over = c.word_below.ensures.grew.over ∙ c.look.ensures.grew.over;
-  grew = g.met.C.Cells.grew_on c.args.self.now.cells.now c.look.new.self.cells.now c.word_below.new.self.cells.now c.look.ensures.grew.grew c.word_below.ensures.grew.grew;
+  grew = g.met.C.Cells.grew_on c.args.self.now.cells.now c.look.new.self.cells.now c.word_below.new.self.cells.now
+      c.look.ensures.grew.grew c.word_below.ensures.grew.grew;
   only_reads = reads_more _ _ _ c.look.ensures.grew.only_reads c.word_below.ensures.grew.only_reads;
   room = (c.word_below.ensures.grew.room.0 ∙ c.look.ensures.grew.room.0, c.word_below.ensures.grew.room.1 ∙ c.look.ensures.grew.room.1);
 }

@@ -8,6 +8,7 @@ invariant_of-self-then-room-words g c =
       | inl same ↦ (let before = old.settings_room in let wider = c.reserve.ensures.capacity in omega arith)
       | inr more ↦ (let enough = c.in_ok-reserve.ensures.ok in let words = more.1 in omega arith)
     ] in record {
-      settings_stand = ap (map (λ s. s.place)) c.reserve.ensures.items ∙ old.settings_stand ∙ sym c.make_room-then-room-words.ensures.listed;
+      settings_stand = ap (map (λ s. s.place)) c.reserve.ensures.items ∙ old.settings_stand
+          ∙ sym c.make_room-then-room-words.ensures.listed;
       settings_room = room;
     }
