@@ -1,0 +1,371 @@
+-- What keeps the keys in a team's hand and its tasks together: tasks in another order, a task that ends, joins, leaves or is forked, and a
+-- child that is parted from the others. The hand is told by sums, so no order of keys matters.
+use Rattle.std.proofs.Common.{ℕ, ◌+◌, ◌*◌, ◌^◌, ◌≡◌, ◌≢◌, ◌<◌, ◌≤◌, Bool, Option, Some, None, get_or, List, [], ◌∷◌, ◌++◌, length, refl, sym, ap, subst}
+use Rattle.std.proofs.Common.{◌∙◌, arith, Contains, Vec, append_assoc, append-nil}
+use Rattle.std.specs.Prelude.{sum_by, flat_map, reverse}
+use Rattle.std.specs.List.{remove}
+use Rattle.std.specs.Option.{option_to_list, MatchOption}
+use Rattle.std.specs.declared.alloc.Global.{Global}
+use Rattle.std.proofs.lemmas.List.{reverse-append, length_push}
+use Rattle.std.proofs.lemmas.List.Elements.{Contains-append_left, Contains-append_right}
+use Rattle.std.proofs.lemmas.List.Sums.{sum_by-append, sum_by-cons}
+use Rattle.std.proofs.lemmas.List.Concat.{flat_map-append}
+use Rattle.std.proofs.lemmas.List.Sorted.{sum_by-IsPermutation, IsPermutation-reverse}
+use Rattle.and_model.specs.Trees.{QueryTree}
+use Rattle.and_model.specs.declared.goal.Goal.{Goal}
+use Rattle.and_laws.proofs.Ordered.{contains_first}
+use Rattle.and_cells.specs.Ranges.{NamedProgram}
+use Rattle.and_branch_laws.specs.States.{StateOf, fork}
+use Rattle.and_branch.specs.Branches.{Held, IsBranchOf, IsOpenGoal}
+use Rattle.and_branch.specs.Children.{Fork, AreChildren, IsChild}
+use Rattle.and_histories.specs.PlainTree as plain
+use Rattle.and_histories.specs.PlainTree.{Key, Ending, children}
+use Rattle.and_tree.specs.Passes.{TreeId, PassSeen, Makes, Takes}
+use Rattle.and_tree.proofs.Hands.{taken_hand}
+use Rattle.and_walk.proofs.Splitting.{candidate_splits}
+use Rattle.and_team_laws.specs.Owed.{SameItems}
+use Rattle.and_teams.specs.Placed.{StandsWithin}
+use Rattle.and_teams.specs.Working.{keys_of, IsTask, AreTasks, Has}
+use Rattle.and_teams.specs.declared.stack.Task.{Task}
+use Rattle.and_teams.specs.declared.stack.Task.TheVariants.{One, Children}
+use Rattle.and_teams.proofs.Calls.{ended_sum, forked_sum, published_sum, taken_sum, same_keys}
+
+-- ---- the keys of tasks
+
+-- the keys of all tasks
+abbrev pub all_keys : {N : Type 0} → List (Task N) → List Key
+all_keys {N} tasks = flat_map (λ (x : Task N). keys_of x) tasks
+
+module _ {N : Type 0} (f : Key → ℕ) where
+  pub sum_joined : (xs ys : List (Task N)) → sum_by f (all_keys (xs ++ ys)) ≡ sum_by f (all_keys xs) + sum_by f (all_keys ys)
+  sum_joined xs ys = ap (sum_by f) (flat_map-append (λ (x : Task N). keys_of x) xs ys) ∙ sum_by-append f (all_keys xs) (all_keys ys)
+
+  pub sum_first : (x : Task N) (xs : List (Task N)) → sum_by f (all_keys (x ∷ xs)) ≡ sum_by f (keys_of x) + sum_by f (all_keys xs)
+  sum_first x xs = sum_by-append f (keys_of x) (all_keys xs)
+
+pub sum_reversed : (f : Key → ℕ) (keys : List Key) → sum_by f (reverse keys) ≡ sum_by f keys
+sum_reversed f keys = sum_by-IsPermutation f keys (reverse keys) (IsPermutation-reverse keys)
+
+count_is : (keys : List Key) → sum_by (λ (key : Key). 1) keys ≡ length keys
+count_is [] = refl
+count_is (k ∷ keys) = let one = sum_by-cons (λ (key : Key). 1) k keys in let rest = count_is keys in omega (arith, one, rest)
+
+-- ---- tasks that stand for trees
+
+module _ {N : Type 0} (P : NamedProgram) (limit : ℕ) where
+  pub tasks_joined : (xs ys : List (Task N)) → AreTasks P limit xs → AreTasks P limit ys → AreTasks P limit (xs ++ ys)
+  tasks_joined [] ys are others = others
+  tasks_joined (x ∷ xs) ys are others = (are.0, tasks_joined xs ys are.1 others)
+
+  pub tasks_front : (xs ys : List (Task N)) → AreTasks P limit (xs ++ ys) → AreTasks P limit xs
+  tasks_front [] ys are = tt
+  tasks_front (x ∷ xs) ys are = (are.0, tasks_front xs ys are.1)
+
+  pub tasks_behind : (xs ys : List (Task N)) → AreTasks P limit (xs ++ ys) → AreTasks P limit ys
+  tasks_behind [] ys are = are
+  tasks_behind (x ∷ xs) ys are = tasks_behind xs ys are.1
+
+  few_keys : (x : Task N) → IsTask P limit x → length (keys_of x) ≤ 2 ^ 16
+  few_keys (One b) is = omega arith
+  few_keys (Children f keys) is = is.4
+
+  few_sums : (xs : List (Task N)) → AreTasks P limit xs → sum_by (λ (key : Key). 1) (all_keys xs) ≤ length xs * 2 ^ 16
+  few_sums [] are = omega arith
+  few_sums (x ∷ xs) are =
+      let whole = sum_first (λ (key : Key). 1) x xs in
+      let one = count_is (keys_of x) in
+      let few = few_keys x are.0 in
+      let rest = few_sums xs are.1 in
+      omega (arith, whole, one, few, rest)
+
+module _ (P : NamedProgram) (limit : ℕ) where
+  -- The branch is the next child of the fork: it stands for a tree,
+  child_stands : (f g : Fork) (b : Held) (t : QueryTree P.program) → IsChild P f g b → AreChildren P f t → f.parent.limit ≡ limit
+      → StandsWithin P limit b
+  child_stands f g b t is x limited =
+      let s : StateOf P.program f.parent.limit t (fork x.open_goal (x.made ++ f.clauses) x.cut) = x.state in
+      let there : Contains (x.made ++ f.clauses) is.clause =
+      Contains-append_right x.made f.clauses is.clause
+      (subst (λ cs. Contains cs is.clause) (sym is.next) (contains_first is.clause g.clauses)) in
+      let k = (s.5 is.clause).0 there in
+      let (next, split) = candidate_splits t x.open_goal s.0 s.1 s.2 is.clause k.0 in
+      record { tree = next; branch = is.stands t next x split; limited = is.limit ∙ limited }
+
+  -- and the others are its children too.
+  others_stand : (f g : Fork) (b : Held) (t : QueryTree P.program) → IsChild P f g b → AreChildren P f t → AreChildren P g t
+  others_stand f g b t is x =
+      let made : List ℕ = x.made ++ is.clause ∷ [] in
+      let clauses : x.made ++ f.clauses ≡ made ++ g.clauses =
+      ap (λ cs. x.made ++ cs) is.next ∙ sym (append_assoc x.made (is.clause ∷ []) g.clauses) in
+      let here : StateOf P.program f.parent.limit t (fork x.open_goal (made ++ g.clauses) x.cut) =
+      subst (λ cs. StateOf P.program f.parent.limit t (fork x.open_goal cs x.cut)) clauses x.state in
+      record {
+        branch = subst (λ (d : Held). IsBranchOf P d t) (sym is.parent) x.branch;
+        open_goal = x.open_goal;
+        made = made;
+        cut = x.cut;
+        goal_is = subst (λ (h : Goal). IsOpenGoal P g.parent.reductions t x.open_goal h) (sym is.goal)
+            (subst (λ (d : Held). IsOpenGoal P d.reductions t x.open_goal f.goal) (sym is.parent) x.goal_is);
+        state = subst (λ (d : Held). StateOf P.program d.limit t (fork x.open_goal (made ++ g.clauses) x.cut)) (sym is.parent) here;
+        longer = is.longer ∙ x.longer;
+      }
+
+-- ---- the keys of children, of which the next one is the last
+
+-- the keys without the last: the last is that of the first of the clauses
+record Parted (longer : Key) (clause : ℕ) (clauses : List ℕ) (rest : List Key) (key : Key) : Type 0 where
+  pub key_is : key ≡ longer ++ clause ∷ []
+  pub rest_are : reverse rest ≡ children longer clauses
+
+parted : (keys rest : List Key) (key longer : Key) (clause : ℕ) (clauses : List ℕ) → keys ≡ rest ++ key ∷ []
+    → reverse keys ≡ children longer (clause ∷ clauses) → Parted longer clause clauses rest key
+parted keys rest key longer clause clauses split is =
+    let turned : key ∷ reverse rest ≡ (longer ++ clause ∷ []) ∷ children longer clauses =
+    sym (reverse-append rest (key ∷ [])) ∙ ap (λ (ks : List Key). reverse ks) (sym split) ∙ is in
+    let key_is : key ≡ longer ++ clause ∷ [] = cc in
+    let rest_are : reverse rest ≡ children longer clauses = cc in
+    record { key_is = key_is; rest_are = rest_are }
+
+-- The only key is that of the first of the clauses.
+only_key : (keys : List Key) (key : Key) (others : List Key) → length keys ≤ 1 → reverse keys ≡ key ∷ others → keys ≡ key ∷ []
+only_key [] key others few is = absurd (cc)
+only_key (k ∷ []) key others few is = let same : k ≡ key = cc in ap (λ z. z ∷ []) same
+only_key (k ∷ j ∷ keys) key others few is = absurd (omega (arith, few))
+
+-- The last key is popped.
+pub key_popped : (keys rest : List Key) (last : Option Key) (long left : ℕ) → keys ≡ rest ++ option_to_list last → 0 < long
+    → MatchOption last ((long ≡ 0) × (left ≡ 0)) (λ _. left + 1 ≡ long) → (key : Key) × (keys ≡ rest ++ key ∷ [])
+key_popped keys rest None long left split some cases = absurd (let none = cases.0 in omega (arith, some, none))
+key_popped keys rest (Some key) long left split some cases = (key, split)
+
+-- ---- lists
+
+pub some_long : {A : Type 0} (xs : List A) → xs ≢ [] → 0 < length xs
+some_long [] some = absurd (some refl)
+some_long (x ∷ xs) some = omega arith
+
+pub first_removed : {A : Type 0} (xs others : List A) (x : A) → xs ≢ [] → x ≡ get_or xs 0 x → others ≡ remove xs 0 → xs ≡ x ∷ others
+first_removed [] others x some is rest = absurd (some refl)
+first_removed (y ∷ ys) others x some is rest = ap (λ z. z ∷ ys) (sym is) ∙ ap (λ zs. x ∷ zs) (sym rest)
+
+-- what a list has that is the same as one that has this
+pub items_still : {A : Type 0} (v w : Vec A Global) (xs : List A) → v ≡ w → w.items ≡ xs → v.items ≡ xs
+items_still {A} v w xs same is = ap (λ (z : Vec A Global). z.items) same ∙ is
+
+-- ---- what a team has
+
+module _ {N : Type 0} (P : NamedProgram) (tree : TreeId) where
+  -- other tasks of the same keys
+  pub has_others : (pass : PassSeen) (tasks others : List (Task N)) → Has P tree pass tasks → AreTasks P tree.about.limit others
+      → SameItems (all_keys tasks) (all_keys others) → Has P tree pass others
+  has_others pass tasks others h are same = record { of_tree = h.of_tree; hand = λ f. h.hand f ∙ same f; tasks_are = are }
+
+  -- tasks in another order: those behind in front,
+  pub has_turned : (pass : PassSeen) (xs ys : List (Task N)) → Has P tree pass (xs ++ ys) → Has P tree pass (ys ++ xs)
+  has_turned pass xs ys h =
+      has_others pass (xs ++ ys) (ys ++ xs) h
+      (tasks_joined P tree.about.limit ys xs (tasks_behind P tree.about.limit xs ys h.tasks_are) (tasks_front P tree.about.limit xs ys h.tasks_are))
+      (λ f. let one = sum_joined f xs ys in let other = sum_joined f ys xs in omega (arith, one, other))
+
+  -- the last in front,
+  pub has_popped : (pass : PassSeen) (xs : List (Task N)) (x : Task N) → Has P tree pass (xs ++ x ∷ []) → Has P tree pass (x ∷ xs)
+  has_popped pass xs x h = has_turned pass xs (x ∷ []) h
+
+  -- the first behind all others,
+  pub has_pushed : (pass : PassSeen) (xs : List (Task N)) (x : Task N) → Has P tree pass (x ∷ xs) → Has P tree pass (xs ++ x ∷ [])
+  has_pushed pass xs x h = has_turned pass (x ∷ []) xs h
+
+  -- the second in front.
+  pub has_swapped : (pass : PassSeen) (x y : Task N) (xs : List (Task N)) → Has P tree pass (x ∷ y ∷ xs) → Has P tree pass (y ∷ x ∷ xs)
+  has_swapped pass x y xs h =
+      has_others pass (x ∷ y ∷ xs) (y ∷ x ∷ xs) h (h.tasks_are.1.0, (h.tasks_are.0, h.tasks_are.1.1))
+      (λ f.
+      let one = sum_first f x (y ∷ xs) in
+      let two = sum_first f y xs in
+      let three = sum_first f y (x ∷ xs) in
+      let four = sum_first f x xs in
+      omega (arith, one, two, three, four))
+
+  -- The first of the tasks was taken off, and is this one,
+  pub has_removed : (pass : PassSeen) (xs rest : List (Task N)) (x y : Task N) → xs ≢ [] → x ≡ get_or xs 0 x → rest ≡ remove xs 0 → x ≡ y
+      → Has P tree pass xs → Has P tree pass (y ∷ rest)
+  has_removed pass xs rest x y some is others same h =
+      subst (λ (t : Task N). Has P tree pass (t ∷ rest)) same
+      (subst (λ (ts : List (Task N)). Has P tree pass ts) (first_removed xs rest x some is others) h)
+
+  -- or the last;
+  pub has_last_off : (pass : PassSeen) (xs rest : List (Task N)) (x : Task N) → xs ≡ rest ++ x ∷ [] → Has P tree pass xs
+      → Has P tree pass (x ∷ rest)
+  has_last_off pass xs rest x is h = has_popped pass rest x (subst (λ (ts : List (Task N)). Has P tree pass ts) is h)
+
+  -- or none.
+  pub has_none_off : (pass : PassSeen) (xs rest : List (Task N)) → xs ≡ rest ++ [] → Has P tree pass xs → Has P tree pass rest
+  has_none_off pass xs rest is h = subst (λ (ts : List (Task N)). Has P tree pass ts) (is ∙ append-nil rest) h
+
+  -- The keys of the first task are in the hand,
+  pub first_in_hand : (pass : PassSeen) (x : Task N) (xs : List (Task N)) → Has P tree pass (x ∷ xs) → (key : Key) → Contains (keys_of x) key
+      → Contains pass.hand key
+  first_in_hand pass x xs h key i =
+      same_keys pass.hand (all_keys (x ∷ xs)) h.hand key (Contains-append_left (keys_of x) (all_keys xs) key i)
+
+  -- that of a branch, too.
+  pub key_in_hand : (pass : PassSeen) (b : Held) (xs : List (Task N)) → Has P tree pass (One b ∷ xs) → Contains pass.hand b.key
+  key_in_hand pass b xs h = first_in_hand pass (One b) xs h b.key (contains_first b.key [])
+
+  -- The hand has few keys, where the tasks are few.
+  pub hand_bounded : (pass : PassSeen) (xs : List (Task N)) → Has P tree pass xs → length pass.hand ≤ length xs * 2 ^ 16
+  hand_bounded pass xs h =
+      let few = few_sums P tree.about.limit xs h.tasks_are in
+      let all = count_is pass.hand in
+      let same = h.hand (λ (key : Key). 1) in
+      omega (arith, few, all, same)
+
+  -- ---- after a call
+
+  -- The hand is the same.
+  pub has_still : (p q : PassSeen) (xs : List (Task N)) → q.hand ≡ p.hand → q.tree ≡ p.tree → Has P tree p xs → Has P tree q xs
+  has_still p q xs same of h = record {
+    of_tree = of ∙ h.of_tree;
+    hand = λ f. ap (sum_by f) same ∙ h.hand f;
+    tasks_are = h.tasks_are;
+  }
+
+  -- The branch in front ended.
+  pub has_ended : (b : Held) (xs : List (Task N)) (how : Ending) (is_last : Bool) (p q : PassSeen)
+      → Makes (plain.end p.team b.key how) (plain.last is_last) p q → Has P tree p (One b ∷ xs) → Has P tree q xs
+  has_ended b xs how is_last p q m h = record {
+    of_tree = m.tree ∙ h.of_tree;
+    hand = λ f.
+        let ended = ended_sum f b.key how is_last p q m in
+        let all = h.hand f in
+        let one = sum_by-cons f b.key (all_keys xs) in
+        omega (arith, ended, all, one);
+    tasks_are = h.tasks_are.1;
+  }
+
+  -- (under the key that the branch tells)
+  pub key_there : (pass : PassSeen) (b : Held) (xs : List (Task N)) (key : Key) → key ≡ b.key → Has P tree pass (One b ∷ xs)
+      → Contains pass.hand key
+  key_there pass b xs key is h = subst (λ k. Contains pass.hand k) (sym is) (key_in_hand pass b xs h)
+
+  pub has_ended_under : (key : Key) (b : Held) (xs : List (Task N)) (how : Ending) (is_last : Bool) (p q : PassSeen) → key ≡ b.key
+      → Makes (plain.end p.team key how) (plain.last is_last) p q → Has P tree p (One b ∷ xs) → Has P tree q xs
+  has_ended_under key b xs how is_last p q is m h =
+      has_ended b xs how is_last p q (subst (λ k. Makes (plain.end p.team k how) (plain.last is_last) p q) is m) h
+
+  -- It was published.
+  pub has_published : (b : Held) (xs : List (Task N)) (cell : ℕ) (p q : PassSeen)
+      → Makes (plain.publish p.team cell b.key) plain.done p q → Has P tree p (One b ∷ xs) → Has P tree q xs
+  has_published b xs cell p q m h = record {
+    of_tree = m.tree ∙ h.of_tree;
+    hand = λ f.
+        let published = published_sum f cell b.key p q m in
+        let all = h.hand f in
+        let one = sum_by-cons f b.key (all_keys xs) in
+        omega (arith, published, all, one);
+    tasks_are = h.tasks_are.1;
+  }
+
+  -- A branch was claimed.
+  pub has_taken : (b : Held) (xs : List (Task N)) (cell serial : ℕ) (p q : PassSeen) → Takes cell serial b.key p q
+      → StandsWithin P tree.about.limit b → Has P tree p xs → Has P tree q (One b ∷ xs)
+  has_taken b xs cell serial p q t stands h = record {
+    of_tree = (taken_hand cell serial b.key p q t).1 ∙ h.of_tree;
+    hand = λ f.
+        let taken = taken_sum f cell serial b.key p q t in
+        let all = h.hand f in
+        let one = sum_by-cons f b.key (all_keys xs) in
+        omega (arith, taken, all, one);
+    tasks_are = (stands, h.tasks_are);
+  }
+
+  -- The branch in front was forked: its children are in its place.
+  pub has_forked : (f : Fork) (keys : Vec Key Global) (xs : List (Task N)) (p q : PassSeen)
+      → Makes (plain.fork p.team f.parent.key f.longer f.clauses) plain.forked p q → IsTask {N = N} P tree.about.limit (Children f keys)
+      → Has P tree p (One f.parent ∷ xs) → Has P tree q (Children f keys ∷ xs)
+  has_forked f keys xs p q m task h = record {
+    of_tree = m.tree ∙ h.of_tree;
+    hand = λ g.
+        let forked = forked_sum g f.parent.key f.longer f.clauses p q m in
+        let all = h.hand g in
+        let one = sum_by-cons g f.parent.key (all_keys xs) in
+        let new = sum_first g (Children f keys) xs in
+        let turned : sum_by g keys.items ≡ sum_by g (children f.longer f.clauses) = sym (sum_reversed g keys.items) ∙ ap (sum_by g) task.3 in
+        omega (arith, forked, all, one, new, turned);
+    tasks_are = (task, h.tasks_are.1);
+  }
+
+  -- ---- the children of a fork
+
+  -- The next child is parted from the others.
+  pub child_parted : (f g : Fork) (b : Held) (keys rest : Vec Key Global) (key : Key) (xs : List (Task N)) (pass : PassSeen) → IsChild P f g b
+      → keys.items ≡ rest.items ++ key ∷ [] → Has P tree pass (Children f keys ∷ xs) → Has P tree pass (One b ∷ Children g rest ∷ xs)
+  child_parted f g b keys rest key xs pass is split h =
+      let (t, come, limited, keys_are, few) = h.tasks_are.0 in
+      let now = parted keys.items rest.items key f.longer is.clause g.clauses split (keys_are ∙ ap (children f.longer) is.next) in
+      let same : key ≡ b.key = now.key_is ∙ sym is.key in
+      let fewer : length keys.items ≡ length rest.items + 1 = ap length split ∙ length_push rest.items key in
+      has_others pass (Children f keys ∷ xs) (One b ∷ Children g rest ∷ xs) h (
+        child_stands P tree.about.limit f g b t is come limited,
+        (
+          (
+            t,
+            others_stand P tree.about.limit f g b t is come,
+            ap (λ (d : Held). d.limit) is.parent ∙ limited,
+            now.rest_are ∙ ap (λ l. children l g.clauses) (sym is.longer),
+            omega (arith, few, fewer),
+          ),
+          h.tasks_are.1,
+        ),
+      )
+      (λ s.
+      let all = sum_first s (Children f keys) xs in
+      let whole = ap (sum_by s) split ∙ sum_by-append s rest.items (key ∷ []) in
+      let last = sum_by-cons s key [] in
+      let of = ap s same in
+      let one = sum_by-cons s b.key (all_keys (Children g rest ∷ xs)) in
+      let others = sum_first s (Children g rest) xs in
+      omega (arith, all, whole, last, of, one, others))
+
+  -- The last child is left.
+  pub last_parted : (f g : Fork) (b : Held) (keys : Vec Key Global) (xs : List (Task N)) (pass : PassSeen) → IsChild P f g b
+      → length keys.items ≤ 1 → Has P tree pass (Children f keys ∷ xs) → Has P tree pass (One b ∷ xs)
+  last_parted f g b keys xs pass is last h =
+      let (t, come, limited, keys_are, few) = h.tasks_are.0 in
+      let only : keys.items ≡ b.key ∷ [] =
+      only_key keys.items (f.longer ++ is.clause ∷ []) (children f.longer g.clauses) last (keys_are ∙ ap (children f.longer) is.next)
+      ∙ ap (λ (k : Key). k ∷ []) (sym is.key) in
+      has_others pass (Children f keys ∷ xs) (One b ∷ xs) h (child_stands P tree.about.limit f g b t is come limited, h.tasks_are.1)
+      (λ s. ap (λ ks. sum_by s (ks ++ all_keys xs)) only)
+
+  -- (there is a tree of which they are the children)
+  pub children_there : (f : Fork) (keys : Vec Key Global) (xs : List (Task N)) (pass : PassSeen) → Has P tree pass (Children f keys ∷ xs)
+      → (t : QueryTree P.program) × AreChildren P f t
+  children_there f keys xs pass h = (h.tasks_are.0.0, h.tasks_are.0.1)
+
+  -- The keys of children are given up.
+  pub has_given_up : (f : Fork) (keys : Vec Key Global) (xs : List (Task N)) (p q : PassSeen) → q.tree ≡ p.tree
+      → SameItems q.hand (all_keys xs) → Has P tree p (Children f keys ∷ xs) → Has P tree q xs
+  has_given_up f keys xs p q of same h = record { of_tree = of ∙ h.of_tree; hand = same; tasks_are = h.tasks_are.1 }
+
+-- ---- keys that end one by one
+
+-- The last of the first keys is in the hand,
+pub last_in_hand : (hand keys rest others : List Key) (key : Key) → keys ≡ rest ++ key ∷ [] → SameItems hand (keys ++ others)
+    → Contains hand key
+last_in_hand hand keys rest others key split same =
+    same_keys hand (keys ++ others) same key
+    (Contains-append_left keys others key
+    (subst (λ ks. Contains ks key) (sym split) (Contains-append_right rest (key ∷ []) key (contains_first key []))))
+
+-- and where it ended the others are.
+pub key_ended : (keys rest others : List Key) (key : Key) (how : Ending) (is_last : Bool) (p q : PassSeen) → keys ≡ rest ++ key ∷ []
+    → Makes (plain.end p.team key how) (plain.last is_last) p q → SameItems p.hand (keys ++ others) → SameItems q.hand (rest ++ others)
+key_ended keys rest others key how is_last p q split m same = λ f.
+    let ended = ended_sum f key how is_last p q m in
+    let all = same f in
+    let whole = sum_by-append f keys others in
+    let parts = ap (sum_by f) split ∙ sum_by-append f rest (key ∷ []) in
+    let one = sum_by-cons f key [] in
+    let left = sum_by-append f rest others in
+    omega (arith, ended, all, whole, parts, one, left)

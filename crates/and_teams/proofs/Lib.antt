@@ -1,0 +1,13 @@
+pub mod Calls
+pub mod Telling
+pub mod Gathering
+pub mod Beginning
+pub mod Whole
+pub mod Having
+pub mod Keys
+pub mod Sharing
+pub mod Judging
+pub mod Turns
+pub mod Closing
+pub mod Mapping
+pub mod NextChild

@@ -1,0 +1,56 @@
+use Rattle.and_cells.specs.Ranges.{NamedProgram}
+use Rattle.and_branch.specs.declared.state.BranchState.TheVariants as told
+use Rattle.and_tree.specs.Replies.{is_last}
+use Rattle.and_walk.proofs.Turning.{state_told, not_determinate}
+use Rattle.and_teams.proofs.Having.{key_there}
+use Rattle.and_teams.proofs.Turns.{failed_works, cut_works}
+use Rattle.and_teams.proofs.team.Team.go_by.Goals as goal
+
+pub unreachable-requires : goal.unreachable-requires
+unreachable-requires g c =
+    not_determinate g.N.Naming.program c.args.branch c.args.state c.in-Determinate.goal c.in-Determinate.clause
+    c.in-Determinate.is c.requires.state c.requires.advanced
+
+pub tell-requires-in-Floundered-clause-state : goal.tell-requires-in-Floundered-clause-state
+tell-requires-in-Floundered-clause-state g c κs within =
+    state_told g.N.Naming.program c.args.branch c.args.state told.Floundered c.in-Floundered.is c.requires.state
+
+pub retire-requires-clause-hand : goal.retire-requires-clause-hand
+retire-requires-clause-hand g c =
+    let s = c.args.self.now in
+    key_there g.N.Naming.program c.args.shared.now.tree.now s.pass c.args.branch s.stack.items c.key.result.now c.key.ensures c.requires.works.has
+
+pub retire-requires-in-OverLimit-clause-hand : goal.retire-requires-in-OverLimit-clause-hand
+retire-requires-in-OverLimit-clause-hand g c =
+    let s = c.args.self.now in
+    key_there g.N.Naming.program c.args.shared.now.tree.now s.pass c.args.branch s.stack.items c.key-in-OverLimit.result.now
+    c.key-in-OverLimit.ensures c.requires.works.has
+
+pub returns-in-Failed-clause-works : goal.returns-in-Failed-clause-works
+returns-in-Failed-clause-works g c =
+    let P : NamedProgram = g.N.Naming.program in
+    let s = c.args.self.now in
+    let n = c.count_failed.ensures in
+    failed_works P c.args.shared.now.tree.now (is_last c.retire.result) s.pass c.retire.new.pass s.found c.count_failed.new.self c.args.branch
+    c.key.result.now s.stack.items c.requires.works
+    (state_told P c.args.branch c.args.state told.Failed c.in-Failed.is c.requires.state) n.failed n.forks n.rest c.key.ensures c.retire.ensures
+
+pub returns-in-Failed-clause-has : goal.returns-in-Failed-clause-has
+returns-in-Failed-clause-has g c = (returns-in-Failed-clause-works g c).has
+
+pub returns-in-OverLimit-clause-works : goal.returns-in-OverLimit-clause-works
+returns-in-OverLimit-clause-works g c =
+    let P : NamedProgram = g.N.Naming.program in
+    let s = c.args.self.now in
+    cut_works P c.args.shared.now.tree.now (is_last c.retire-in-OverLimit.result) s.pass c.retire-in-OverLimit.new.pass s.found c.keep_cut.new.found
+    c.args.branch c.key-in-OverLimit.result.now s.stack.items c.in-OverLimit.cut c.requires.works
+    (state_told P c.args.branch c.args.state (told.OverLimit c.in-OverLimit.cut) c.in-OverLimit.is c.requires.state)
+    c.keep_cut.ensures.same c.keep_cut.ensures.cut c.key-in-OverLimit.ensures c.retire-in-OverLimit.ensures
+
+pub returns-in-OverLimit-clause-has : goal.returns-in-OverLimit-clause-has
+returns-in-OverLimit-clause-has g c = (returns-in-OverLimit-clause-works g c).has
+
+pub fork-requires-clause-state : goal.fork-requires-clause-state
+fork-requires-clause-state g c κs within =
+    state_told g.N.Naming.program c.args.branch c.args.state (told.Fork c.in-Fork.goal c.in-Fork.clauses c.in-Fork.cut) c.in-Fork.is
+    c.requires.state

@@ -1,0 +1,7 @@
+use Rattle.std.proofs.Common.{◌≡◌}
+use Rattle.and_teams.specs.Working.{Works}
+use Rattle.and_teams.proofs.work.wait.Given as goal
+
+abbrev pub invariant-waiting : goal.invariant-waiting
+invariant-waiting g l =
+    Works g.N.Naming.program l.shared.tree.now l.team.pass l.team.found l.team.stack.items × (l.team.number ≡ l.fn.team.number)

@@ -1,0 +1,217 @@
+//! The search by several teams.
+
+ghost use Rattle.std.specs.Prelude.{◌≡◌, ◌<◌, ◌≤◌, [], length, reverse, IfOk, All};
+ghost use Rattle.std.specs.Thread.{IsSync};
+ghost use Rattle.and_model.specs.declared.limits.TheConstants.{MAX_LIMIT};
+ghost use Rattle.and_program.specs.Loaded.{program_of};
+ghost use Rattle.and_cells.specs.Parts.{named};
+ghost use Rattle.and_determinacy.specs.Tables.{IsTableOf};
+ghost use Rattle.and_model.specs.Trees.{blank, query_agenda};
+ghost use Rattle.and_branch.specs.Branches.{IsBranchOf};
+ghost use Rattle.and_answers.specs.Kept.{Merges};
+ghost use Rattle.and_tree.specs.Passes.{fresh_from};
+ghost use Rattle.and_walk.specs.Found.{IsFound};
+ghost use Rattle.and_teams.specs.Working.{Works};
+ghost use Rattle.and_teams.specs.Ended.{AreFresh, IsWorked, AreDone, AllFound, IsRunOf};
+
+use crate::placed::PlacedBranch;
+use crate::team::{Shared, Team};
+use crate::work::{Worked, work};
+use and_answers::Found;
+use and_branch::{Branch, Rooted, Workspace};
+use and_cells::Naming;
+use and_determinacy::Determinacy;
+use and_io::Gate;
+use and_program::Loaded;
+use and_tree::{ClosedTree, Tree, TreePassList};
+use std::alloc::{AllocError, Global};
+use std::marker::Brand;
+use std::sync::Wait;
+use std::thread;
+use std::thread::Threads;
+
+/// How a program is explored.
+#[derive(Clone, Copy, PartialEq, Eq, Debug)]
+pub struct Settings {
+    /// The most that a proof may weigh.
+    pub limit: u32,
+    /// How many teams there are.
+    pub teams: u32,
+}
+
+/// What a search found.
+#[derive(Drop)]
+pub struct Explored {
+    /// All answers within the limit, in the order of their codes, and how the search ended.
+    pub found: Found,
+    /// What its choicepoint tree left; `None` where the query weighs more than the limit.
+    pub closed: Option<ClosedTree>,
+}
+
+/// All answers of a program within a limit, in the order of their codes, and how the search ended, by
+/// so many teams, each in a thread of its own where one can be started; and what their choicepoint tree
+/// left. An error is want of memory.
+pub fn explore<R: Threads + Wait + Sync, G: Gate>(
+    rt: &R,
+    alloc: Global,
+    loaded: &Loaded,
+    table: &Determinacy,
+    settings: Settings,
+    gate: &G,
+) -> Result<Explored, AllocError>
+    requires table { IsTableOf (named loaded.now) table.now }
+    requires limit { settings.limit ≤ MAX_LIMIT }
+    requires teams { (0 < settings.teams) × (settings.teams ≤ 16) }
+    ensures found { IfOk result (λ explored. IsFound (program_of loaded.now) settings.limit explored.found) }
+    ensures closed { IfOk result (λ explored. IsRunOf (program_of loaded.now) settings.limit settings.teams explored.found explored.closed) }
+{
+    explore_named::<Brand, R, G>(rt, alloc, loaded, table, settings, gate)
+}
+
+/// All answers of a program within a limit, by so many teams. An error is want of memory.
+fn explore_named<N: Naming + Send + Sync, R: Threads + Wait + Sync, G: Gate>(
+    rt: &R,
+    alloc: Global,
+    loaded: &Loaded,
+    table: &Determinacy,
+    settings: Settings,
+    gate: &G,
+) -> Result<Explored, AllocError>
+    requires program { N.program ≡ named loaded.now }
+    requires table { IsTableOf N.program table.now }
+    requires limit { settings.limit ≤ MAX_LIMIT }
+    requires teams { (0 < settings.teams) × (settings.teams ≤ 16) }
+    ensures found { IfOk result (λ explored. IsFound N.program.program settings.limit explored.found) }
+    ensures closed { IfOk result (λ explored. IsRunOf N.program.program settings.limit settings.teams explored.found explored.closed) }
+{
+    let mut workspace = Workspace::new(alloc);
+    match Branch::<N>::root(alloc, loaded, settings.limit, &mut workspace) {
+        Rooted::Ready(branch) => { explore_root(rt, alloc, loaded, table, settings, gate, branch) }
+        Rooted::TooHeavy(cut) => {
+            let mut found = Found::new(alloc);
+            found.cut = Some(cut);
+            Ok(Explored {
+                found,
+                closed: None,
+            })
+        }
+        Rooted::Memory => Err(AllocError),
+    }
+}
+
+/// All answers that the root of the search leads to.
+fn explore_root<N: Naming + Send + Sync, R: Threads + Wait + Sync, G: Gate>(
+    rt: &R,
+    alloc: Global,
+    loaded: &Loaded,
+    table: &Determinacy,
+    settings: Settings,
+    gate: &G,
+    branch: Branch<N>,
+) -> Result<Explored, AllocError>
+    requires program { N.program ≡ named loaded.now }
+    requires table { IsTableOf N.program table.now }
+    requires limit { settings.limit ≤ MAX_LIMIT }
+    requires teams { (0 < settings.teams) × (settings.teams ≤ 16) }
+    requires root { IsBranchOf N.program branch (blank (query_agenda N.program.program)) }
+    requires plain { (branch.key ≡ []) × (branch.limit ≡ settings.limit) }
+    ensures found { IfOk result (λ explored. IsFound N.program.program settings.limit explored.found) }
+    ensures closed { IfOk result (λ explored. IsRunOf N.program.program settings.limit settings.teams explored.found explored.closed) }
+{
+    let Settings { limit, teams } = settings;
+    let root = PlacedBranch { branch };
+    let Ok((tree, passes)) = Tree::open(alloc, teams, limit, root) else {
+        return Err(AllocError);
+    };
+    let shared = Shared {
+        alloc,
+        loaded,
+        table,
+        tree: &tree,
+        gate,
+        teams,
+    };
+    let worked = work_by_teams(rt, &shared, passes)?;
+    let (found, passes) = gathered(alloc, worked)?;
+    let closed = tree.close(passes);
+    match found.in_order() {
+        Ok(found) => Ok(Explored {
+            found,
+            closed: Some(closed),
+        }),
+        Err(_) => Err(AllocError),
+    }
+}
+
+/// All teams work. An error is want of memory.
+fn work_by_teams<N: Naming + Send + Sync, R: Threads + Wait + Sync, G: Gate>(
+    rt: &R,
+    shared: &Shared<N, G>,
+    passes: TreePassList<PlacedBranch<N>>,
+) -> Result<Vec<Worked<N>>, AllocError>
+    requires program { N.program ≡ named shared.now.loaded.now }
+    requires table { IsTableOf N.program shared.now.table.now }
+    requires passes { passes ≡ fresh_from shared.now.tree.now 0 shared.now.teams }
+    ensures { IfOk result (λ all. AreDone N.program.program shared.now.tree.now 0 (reverse all.items)
+        × (length all.items ≡ shared.now.teams)) }
+{
+    let teams = with_passes(shared, passes)?;
+    thread::map_vec(
+        rt,
+        teams,
+        &|team: Team<N>| -> Worked<N>
+            requires { IsSync R.row × (N.program ≡ named shared.now.loaded.now) × IsTableOf N.program shared.now.table.now
+                × Works N.program shared.now.tree.now team.pass team.found team.stack.items }
+            ensures { IsWorked N.program.program shared.entry.now.tree.now team.number result }
+        { work(rt, shared, team) },
+    )
+}
+
+/// A team for each pass, the last first. An error is want of memory.
+fn with_passes<N: Naming, G: Gate>(
+    shared: &Shared<N, G>,
+    mut passes: TreePassList<PlacedBranch<N>>,
+) -> Result<Vec<Team<N>>, AllocError>
+    requires { passes ≡ fresh_from shared.now.tree.now 0 shared.now.teams }
+    ensures fresh { IfOk result (λ teams. AreFresh shared.now.tree.now 0 (reverse teams.items) × (length teams.items ≡ shared.now.teams)) }
+    ensures at_work { IfOk result (λ teams. All (λ t. Works N.program shared.now.tree.now t.pass t.found t.stack.items) teams.items) }
+{
+    let mut teams = Vec::with_capacity(shared.alloc, passes.len())?;
+    while let Some(pass) = passes.pop() {
+        let number = passes.len() as u32;
+        teams.push(Team::new(shared.alloc, number, pass))?;
+    }
+    Ok(teams)
+}
+
+/// What all teams found, those of the first team first, and their passes. An error is want of memory.
+fn gathered<N: Naming>(
+    alloc: Global,
+    mut worked: Vec<Worked<N>>,
+) -> Result<(Found, TreePassList<PlacedBranch<N>>), AllocError>
+    ensures { IfOk result (λ r. AllFound worked.items r.0 r.1) }
+{
+    let mut found = Found::new(alloc);
+    let mut passes = TreePassList::new(alloc);
+    while let Some(done) = worked.pop() {
+        let Worked { team, has_failed } = done;
+        if has_failed {
+            return Err(AllocError);
+        }
+        found = merged(found, team.found)?;
+        if passes.push(team.pass).is_err() {
+            return Err(AllocError);
+        }
+    }
+    Ok((found, passes))
+}
+
+/// What both found. An error is want of memory.
+fn merged(one: Found, other: Found) -> Result<Found, AllocError>
+    ensures { IfOk result (Merges one other) }
+{
+    match one.merge(other) {
+        Ok(both) => Ok(both),
+        Err(_) => Err(AllocError),
+    }
+}

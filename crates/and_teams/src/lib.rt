@@ -1,0 +1,13 @@
+//! The search by several teams over one choicepoint tree (Santos Costa, Warren and Yang, 1991).
+//!
+//! Each team goes depth first, hands on the oldest of its branches where others may take them, and
+//! takes those of others where it has none.
+#![tactic(auto)]
+
+pub mod exploring;
+mod placed;
+mod stack;
+mod team;
+mod work;
+
+pub use exploring::{Explored, Settings, explore};

@@ -1,0 +1,50 @@
+//! Branches and forks, as a choicepoint tree knows of them.
+
+ghost use Rattle.std.specs.Prelude.{◌≡◌};
+
+use and_branch::{Branch, Split};
+use and_cells::Naming;
+use and_model::{ClauseList, Code};
+use and_tree::{Forking, Keyed};
+
+/// A branch that may lie in a tree.
+#[derive(Drop)]
+pub struct PlacedBranch<N: Naming> {
+    pub branch: Branch<N>,
+}
+
+impl<N: Naming> Keyed for PlacedBranch<N> {
+    ghost use Rattle.and_teams.specs.Placed.{StandsWithin};
+
+    ghost key_of = { λ placed. placed.branch.key };
+
+    ghost Stands = { λ limit placed. StandsWithin N.program limit placed.branch };
+
+    fn key(&self) -> &Code {
+        self.branch.key()
+    }
+}
+
+/// A fork that is made in a tree.
+#[derive(Drop)]
+pub struct PlacedSplit<N: Naming> {
+    pub split: Split<N>,
+}
+
+impl<N: Naming> Forking for PlacedSplit<N> {
+    ghost use Rattle.and_teams.specs.Placed.{fork_of};
+
+    ghost fork_of = { λ placed. fork_of placed.split };
+
+    fn key(&self) -> &Code {
+        self.split.key()
+    }
+
+    fn longer(&self) -> &Code {
+        self.split.longer()
+    }
+
+    fn clauses(&self) -> &ClauseList {
+        self.split.clauses()
+    }
+}

@@ -1,0 +1,100 @@
+//! How a team works until nothing is left.
+
+ghost use Rattle.std.specs.Prelude.{◌≡◌, [], false, OnOk, IfOk, true};
+ghost use Rattle.and_cells.specs.Parts.{named};
+ghost use Rattle.and_determinacy.specs.Tables.{IsTableOf};
+ghost use Rattle.and_teams.specs.Working.{Has, Works, IsDone, SeesNone};
+
+use crate::team::{Shared, Team};
+use and_cells::Naming;
+use and_io::Gate;
+use crossbeam_utils::Backoff;
+use std::alloc::AllocError;
+use std::sync::Wait;
+
+/// A team that is done, and whether it met want of memory.
+#[derive(Drop)]
+pub struct Worked<N: Naming> {
+    pub team: Team<N>,
+    pub has_failed: bool,
+}
+
+/// Works until no branch is left, of this team or of another. After want of memory the team gives up
+/// what it has, and stops.
+pub fn work<N: Naming, R: Wait, G: Gate>(
+    rt: &R,
+    shared: &Shared<N, G>,
+    mut team: Team<N>,
+) -> Worked<N>
+    requires program { N.program ≡ named shared.now.loaded.now }
+    requires table { IsTableOf N.program shared.now.table.now }
+    requires works { Works N.program shared.now.tree.now team.pass team.found team.stack.items }
+    ensures tree { result.team.pass.tree ≡ shared.now.tree.now }
+    ensures team { result.team.number ≡ team.number }
+    ensures done { result.has_failed ≡ false → IsDone N.program.program shared.now.tree.now result.team.pass result.team.found }
+{
+    'working: for _ in rt.forever() {
+        match go_on(rt, shared, &mut team) {
+            Ok(true) => {}
+            Ok(false) => {
+                return Worked {
+                    team,
+                    has_failed: false,
+                };
+            }
+            Err(AllocError) => {
+                team.give_up(shared);
+                return Worked {
+                    team,
+                    has_failed: true,
+                };
+            }
+        }
+    }
+    unreachable!()
+}
+
+/// Goes on with a branch of its own, or with one that it waits for. Answers whether there was one.
+fn go_on<N: Naming, R: Wait, G: Gate>(
+    rt: &R,
+    shared: &Shared<N, G>,
+    team: &mut Team<N>,
+) -> Result<bool, AllocError>
+    requires program { N.program ≡ named shared.now.loaded.now }
+    requires table { IsTableOf N.program shared.now.table.now }
+    requires works { Works N.program shared.now.tree.now team.old.pass team.old.found team.old.stack.items }
+    ensures has { Has N.program shared.now.tree.now team.new.pass team.new.stack.items }
+    ensures works { OnOk result (Works N.program shared.now.tree.now team.new.pass team.new.found team.new.stack.items) }
+    ensures over { IfOk result (λ goes_on. goes_on ≡ false → SeesNone team.new.pass) }
+    ensures same { team.new.number ≡ team.old.number }
+{
+    if team.turn(shared)? {
+        return Ok(true);
+    }
+    wait(rt, shared, team)
+}
+
+/// Waits until it takes over a branch, or none is left. Answers whether it took one.
+fn wait<N: Naming, R: Wait, G: Gate>(
+    rt: &R,
+    shared: &Shared<N, G>,
+    team: &mut Team<N>,
+) -> Result<bool, AllocError>
+    requires works { Works N.program shared.now.tree.now team.old.pass team.old.found team.old.stack.items }
+    ensures has { Has N.program shared.now.tree.now team.new.pass team.new.stack.items }
+    ensures works { OnOk result (Works N.program shared.now.tree.now team.new.pass team.new.found team.new.stack.items) }
+    ensures over { IfOk result (λ goes_on. goes_on ≡ false → SeesNone team.new.pass) }
+    ensures same { team.new.number ≡ team.old.number }
+{
+    let backoff = Backoff::new();
+    'waiting: for _ in rt.forever() {
+        if team.take_over(shared)? {
+            return Ok(true);
+        }
+        if shared.tree.left(&mut team.pass) == 0 {
+            return Ok(false);
+        }
+        backoff.snooze();
+    }
+    unreachable!()
+}
