@@ -2,14 +2,16 @@
 
 ghost use Rattle.std.specs.Prelude.{◌<◌, ◌≢◌};
 
+use crate::progress::Told;
 use crate::top::{Status, andorra};
 use and_command::USAGE;
-use and_io::{MemorySink, MemorySource, Quiet, SureSink, SureSource};
+use and_io::{Gate, MemorySink, MemorySource, Quiet, SureSink, SureSource};
 use and_model::{CallList, Text};
 use std::alloc::{AllocError, Global};
-use std::sync::Wait;
+use std::sync::{Condvar, CondvarTimeouts, Mutex, Wait};
 use std::test::Fail;
 use std::thread::Threads;
+use std::time::{Clock, Duration};
 
 /// The words of a line, by the blanks between them.
 fn typed(alloc: Global, line: &str) -> Result<Vec<String>, AllocError> {
@@ -124,9 +126,6 @@ X = 2, Y = 3
 X = 2, Y = 4
 % complete
 = 0
-> loop(X) :- loop(X). ?- loop(a).
-% limit met
-= 6
 > app(nil,L,L). app(c(H,T),L,c(H,R)) :- app(T,L,R). ?- app(X,Y,c(1,nil)).
 X = nil, Y = c(1,nil)
 X = c(1,nil), Y = nil
@@ -230,15 +229,15 @@ error: line 1: not pure
 = 3
 ";
 
+/// Rows of `run`, with the counts or without, whose search is cut off at the default limit.
+const ENDLESS: &str = "\
+> loop(X) :- loop(X). ?- loop(a).
+% limit met
+= 6
+";
+
 /// Rows of `run --stats`.
 const COUNTED: &str = "\
-> app([],L,L). app([H|T],L,[H|R]) :- app(T,L,R). ?- app(X,Y,[1,2]).
-X = [], Y = [1,2]
-X = [1], Y = [2]
-X = [1,2], Y = []
-% complete
-% forks 2 failed 0
-= 0
 > p(1). p(2). ?- p(X), X = 2.
 X = 2
 % complete
@@ -253,6 +252,27 @@ X = 2
 % complete
 % forks 0 failed 1
 = 1
+> max(X,Y,X) :- X >= Y. max(X,Y,Y) :- X < Y. ?- max(3,5,M).
+M = 5
+% complete
+% forks 0 failed 0
+= 0
+> p(A,A). p(_,f(_)). r(g(Z),Z). ?- p(X,f(Y)), r(Y,X).
+X = _0, Y = g(_0)
+% complete
+% forks 0 failed 0
+= 0
+";
+
+/// Rows of `run --stats` whose branches teams may share.
+const FORKED: &str = "\
+> app([],L,L). app([H|T],L,[H|R]) :- app(T,L,R). ?- app(X,Y,[1,2]).
+X = [], Y = [1,2]
+X = [1], Y = [2]
+X = [1,2], Y = []
+% complete
+% forks 2 failed 0
+= 0
 > p(1). p(2). q(3). q(4). ?- p(X), q(Y).
 X = 1, Y = 3
 X = 1, Y = 4
@@ -260,11 +280,6 @@ X = 2, Y = 3
 X = 2, Y = 4
 % complete
 % forks 3 failed 0
-= 0
-> max(X,Y,X) :- X >= Y. max(X,Y,Y) :- X < Y. ?- max(3,5,M).
-M = 5
-% complete
-% forks 0 failed 0
 = 0
 > d(1). d(2). d(3). d(4). ok(_,_,[]).
 > ok(Q,N,[X|Xs]) :- Q =\\= X, Q =\\= X+N, X =\\= Q+N, M is N+1, ok(Q,M,Xs).
@@ -275,14 +290,12 @@ Q = [3,1,4,2], A = 3, B = 1, C = 4, D = 2
 % complete
 % forks 15 failed 44
 = 0
-> p(A,A). p(_,f(_)). r(g(Z),Z). ?- p(X,f(Y)), r(Y,X).
-X = _0, Y = g(_0)
+> p(1). p(2). r(1,a). r(2,b). ?- p(X), r(X,Y).
+X = 1, Y = a
+X = 2, Y = b
 % complete
-% forks 0 failed 0
+% forks 1 failed 0
 = 0
-> loop(X) :- loop(X). ?- loop(a).
-% limit met
-= 6
 ";
 
 /// Rows of `check`.
@@ -331,12 +344,123 @@ fn rows_are_answered(rt: HostRuntime) -> Result<(), Fail> {
     let alloc = rt.alloc();
     for (line, rows) in [
         ("run", ANSWERED),
+        ("run --teams 1 --workers 1", ANSWERED),
+        ("run --teams 3", ANSWERED),
         ("run --stats", COUNTED),
+        ("run --stats --teams 3 --workers 8", COUNTED),
         ("check", CHECKED),
         ("run --limit 1", LIGHTEST),
+        ("run --limit 1 --teams 3", LIGHTEST),
+        ("run", ENDLESS),
+        ("run --stats --teams 3", ENDLESS),
     ] {
-        assert_eq!(rt; first_broken(&rt, alloc, line, rows)?, None);
+        assert_eq!(rt; first_broken(&rt, alloc, line, rows)?, None, "at {line}");
     }
+    Ok(())
+}
+
+#[test]
+fn teams_and_workers_change_nothing(rt: HostRuntime) -> Result<(), Fail> {
+    let alloc = rt.alloc();
+    for teams in [1, 2, 3, 16] {
+        for workers in [1, 8] {
+            let line = format!(in alloc; "run --stats --teams {teams} --workers {workers}")?;
+            assert_eq!(rt; first_broken(&rt, alloc, &line, FORKED)?, None, "at {line}");
+        }
+    }
+    Ok(())
+}
+
+/// What a gate was told.
+#[derive(Drop)]
+struct Announced {
+    reductions: u32,
+    /// Whether the first team claimed a branch.
+    first: bool,
+    /// Whether another team claimed one.
+    second: bool,
+    /// Whether a branch was published.
+    published: bool,
+    /// Whether all of this had been told when the first reduction was let go.
+    is_shared: bool,
+}
+
+/// A gate that holds the first reduction until a second one is announced, or some time has passed.
+#[derive(Drop)]
+struct Holding<R> {
+    rt: R,
+    told: Mutex<Announced>,
+    news: Condvar,
+}
+
+impl<R: Wait + Clock + Sync> Gate for Holding<R> {
+    fn reduce(&self, _worker: u32) {
+        let mut told = self.told.lock(&self.rt);
+        told.reductions = told.reductions.saturating_add(1);
+        self.news.notify_all();
+        if told.reductions != 1 {
+            return;
+        }
+        let most = Duration::from_secs(20);
+        let alone = |told: &mut Announced| told.reductions < 2;
+        let (mut told, end) = self.news.wait_timeout_while(&self.rt, told, most, alone);
+        if !end.timed_out() {
+            told.is_shared = told.first && told.second && told.published;
+        }
+    }
+
+    fn claim(&self, team: u32) {
+        let mut told = self.told.lock(&self.rt);
+        if team == 0 {
+            told.first = true;
+        } else {
+            told.second = true;
+        }
+    }
+
+    fn publish(&self, _team: u32) {
+        let mut told = self.told.lock(&self.rt);
+        told.published = true;
+    }
+}
+
+#[test]
+fn two_teams(rt: HostRuntime) -> Result<(), Fail> {
+    let alloc = rt.alloc();
+    let gate = Holding {
+        rt,
+        told: Mutex::new(Announced {
+            reductions: 0,
+            first: false,
+            second: false,
+            published: false,
+            is_shared: false,
+        }),
+        news: Condvar::new(),
+    };
+    let words = typed(alloc, "run --teams 2 --workers 1 --stats")?;
+    let text = b"p(1). p(2). r(1,a). r(2,b). ?- p(X), r(X,Y).";
+    let mut source = SureSource::new(Text::of(alloc, text)?, 7);
+    let mut sink = SureSink::new(alloc, 200)?;
+    let ended = andorra(&rt, alloc, &words, &mut source, &mut sink, &gate);
+    let lines = b"X = 1, Y = a\nX = 2, Y = b\n% complete\n% forks 1 failed 0\n".as_slice();
+    assert_eq!(rt; ended, Status::Answers);
+    assert_eq!(rt; sink.held(), lines);
+    assert!(rt; gate.told.lock(&rt).is_shared);
+    Ok(())
+}
+
+#[test]
+fn a_line_of_progress(rt: HostRuntime) -> Result<(), Fail> {
+    let told = Told {
+        time: Duration::from_millis(12_500),
+        reductions: 34_567_890,
+        published: 412,
+        claimed: 398,
+    };
+    let line = format!(in rt.alloc(); "{told}")?;
+    let expected = "   12 s     34567890 reductions  2765431/s      412 shared      398 taken";
+    assert_eq!(rt; line.as_str(), expected);
     Ok(())
 }
 

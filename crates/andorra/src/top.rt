@@ -26,7 +26,7 @@ use and_model::limits::MAX_BYTES;
 use and_modes::verdicts::Verdict;
 use and_program::Loaded;
 use and_reader::{read_program, refusal_text};
-use and_walk::walk;
+use and_teams::explore;
 use std::alloc::{AllocError, Global};
 use std::sync::Wait;
 use std::thread::Threads;
@@ -68,6 +68,15 @@ fn finish<K: Sink>(sink: &mut K, due: &[u8], status: Status) -> Status
         Ok(()) => status,
         Err(_) => Status::WriteFault,
     }
+}
+
+/// Who searches: so many teams, under a runtime, before a gate.
+#[derive(Drop)]
+struct Crew<'a, R: Threads + Wait + Sync, G: Gate> {
+    rt: &'a R,
+    teams: u32,
+    gate: &'a G,
+    ghost few: { (0 < teams) × (teams ≤ 16) },
 }
 
 /// What a text is answered with, and the status of that.
@@ -127,37 +136,57 @@ fn told_of(alloc: Global, loaded: &Loaded) -> Result<Reply, AllocError>
 }
 
 /// What a run finds in a program.
-fn found_in(alloc: Global, show: Show, limit: u32, loaded: &Loaded) -> Result<Reply, AllocError>
+fn found_in<R: Threads + Wait + Sync, G: Gate>(
+    crew: &Crew<R, G>,
+    alloc: Global,
+    show: Show,
+    limit: u32,
+    loaded: &Loaded,
+) -> Result<Reply, AllocError>
     requires { limit ≤ MAX_LIMIT }
     ensures { (bytes : Bytes) → Reads bytes (program_of loaded.now) →
         IfOk result (λ reply. WasRun show limit reply.status bytes reply.text) }
 {
     let table = compile(alloc, loaded)?;
-    let found = walk(alloc, loaded, &table, limit)?;
-    let text = written(alloc, show, &found)?;
-    let status = status_of(&found);
+    let settings = and_teams::Settings {
+        limit,
+        teams: crew.teams,
+    };
+    let explored = explore(crew.rt, alloc, loaded, &table, settings, crew.gate)?;
+    let text = written(alloc, show, &explored.found)?;
+    let status = status_of(&explored.found);
     Ok(Reply { text, status })
 }
 
 /// What a program is answered with.
-fn reply_to(alloc: Global, question: Question, loaded: &Loaded) -> Result<Reply, AllocError>
+fn reply_to<R: Threads + Wait + Sync, G: Gate>(
+    crew: &Crew<R, G>,
+    alloc: Global,
+    question: Question,
+    loaded: &Loaded,
+) -> Result<Reply, AllocError>
     requires { IsBounded question }
     ensures { (bytes : Bytes) → Reads bytes (program_of loaded.now) →
         IfOk result (λ reply. WasAnswered question reply.status bytes reply.text) }
 {
     match question {
-        Question::Run { show, limit } => found_in(alloc, show, limit, loaded),
+        Question::Run { show, limit } => found_in(crew, alloc, show, limit, loaded),
         Question::Check => told_of(alloc, loaded),
     }
 }
 
 /// The answer to a text.
-fn answer_to(alloc: Global, question: Question, text: &[u8]) -> Result<Reply, AllocError>
+fn answer_to<R: Threads + Wait + Sync, G: Gate>(
+    crew: &Crew<R, G>,
+    alloc: Global,
+    question: Question,
+    text: &[u8],
+) -> Result<Reply, AllocError>
     requires { IsBounded question }
     ensures { IfOk result (λ reply. WasAnswered question reply.status text.now reply.text) }
 {
     match read_program(alloc, text) {
-        Ok(loaded) => reply_to(alloc, question, &loaded),
+        Ok(loaded) => reply_to(crew, alloc, question, &loaded),
         Err(refusal) => {
             if refusal.is_memory() {
                 return Err(AllocError);
@@ -171,14 +200,20 @@ fn answer_to(alloc: Global, question: Question, text: &[u8]) -> Result<Reply, Al
 }
 
 /// Answers a text.
-fn respond<K: Sink>(alloc: Global, question: Question, sink: &mut K, text: &[u8]) -> Status
+fn respond<R: Threads + Wait + Sync, K: Sink, G: Gate>(
+    crew: &Crew<R, G>,
+    alloc: Global,
+    question: Question,
+    sink: &mut K,
+    text: &[u8],
+) -> Status
     requires { IsBounded question }
     ensures answered { Answered question (K.held sink.old) (K.held sink.new) result text.now }
     ensures no_read_fault { result ≢ Status.ReadFault }
     ensures fault { result ≡ Status.WriteFault → Rose K.last (K.faults sink.old) (K.faults sink.new) }
     ensures count { K.faults sink.old ≤ K.faults sink.new }
 {
-    match answer_to(alloc, question, text) {
+    match answer_to(crew, alloc, question, text) {
         Ok(reply) => finish(sink, reply.text.bytes(), reply.status),
         Err(AllocError) => Status::Memory,
     }
@@ -195,7 +230,8 @@ fn text_of(read: &ReadAll) -> &Text
 }
 
 /// Reads a text from the source and answers it.
-fn ask<S: Source, K: Sink>(
+fn ask<R: Threads + Wait + Sync, S: Source, K: Sink, G: Gate>(
+    crew: &Crew<R, G>,
     alloc: Global,
     question: Question,
     source: &mut S,
@@ -212,14 +248,20 @@ fn ask<S: Source, K: Sink>(
     ensures sink_count { K.faults sink.old ≤ K.faults sink.new }
 {
     match read_all(alloc, source, MAX_BYTES) {
-        Ok(read) => respond(alloc, question, sink, text_of(&read).bytes()),
+        Ok(read) => respond(crew, alloc, question, sink, text_of(&read).bytes()),
         Err(ReadStop::Failed) => Status::ReadFault,
         Err(ReadStop::Memory) => Status::Memory,
     }
 }
 
 /// Answers the generated text of a number by a summary.
-fn demo<K: Sink>(alloc: Global, number: u32, settings: Settings, sink: &mut K) -> Status
+fn demo<R: Threads + Wait + Sync, K: Sink, G: Gate>(
+    crew: &Crew<R, G>,
+    alloc: Global,
+    number: u32,
+    settings: Settings,
+    sink: &mut K,
+) -> Status
     requires few { number ≤ 64 }
     requires limited { settings.limit ≤ MAX_LIMIT }
     ensures answered { Answered (Question.Run Show.Summary settings.limit) (K.held sink.old) (K.held sink.new) result (generated.layered number) }
@@ -229,21 +271,22 @@ fn demo<K: Sink>(alloc: Global, number: u32, settings: Settings, sink: &mut K) -
     ensures count { K.faults sink.old ≤ K.faults sink.new }
 {
     match layered(alloc, number) {
-        Ok(text) => respond(alloc, Question::summary(settings), sink, text.bytes()),
+        Ok(text) => respond(crew, alloc, Question::summary(settings), sink, text.bytes()),
         // The number is not too big, so that it is for want of memory.
         Err(_) => Status::Memory,
     }
 }
 
 /// Does what the words of the command line say: answers or checks the text of the source, or answers
-/// the generated text of a number, and writes to the sink.
+/// the generated text of a number, and writes to the sink. What is said of the answers is said for all
+/// numbers of teams and workers, every schedule and every gate.
 pub fn andorra<R: Threads + Wait + Sync, S: Source, K: Sink, G: Gate>(
-    _rt: &R,
+    rt: &R,
     alloc: Global,
     words: &[String],
     source: &mut S,
     sink: &mut K,
-    _gate: &G,
+    gate: &G,
 ) -> Status
     // What was written, and for which text.
     ensures answered { (settings : Settings) → IsRun (map string_bytes words.now) settings →
@@ -275,9 +318,21 @@ pub fn andorra<R: Threads + Wait + Sync, S: Source, K: Sink, G: Gate>(
     ensures sink_count { K.faults sink.old ≤ K.faults sink.new }
 {
     match command_of(words) {
-        Some(Command::Run { settings }) => ask(alloc, Question::answers(settings), source, sink),
-        Some(Command::Check) => ask(alloc, Question::Check, source, sink),
-        Some(Command::Demo { number, settings }) => demo(alloc, number, settings, sink),
+        Some(Command::Run { settings }) => {
+            let teams = settings.teams;
+            let crew = Crew { rt, teams, gate };
+            ask(&crew, alloc, Question::answers(settings), source, sink)
+        }
+        Some(Command::Check) => {
+            // Nothing is searched.
+            let crew = Crew { rt, teams: 1, gate };
+            ask(&crew, alloc, Question::Check, source, sink)
+        }
+        Some(Command::Demo { number, settings }) => {
+            let teams = settings.teams;
+            let crew = Crew { rt, teams, gate };
+            demo(&crew, alloc, number, settings, sink)
+        }
         None => finish(sink, USAGE, Status::Usage),
     }
 }

@@ -3,11 +3,8 @@ use Rattle.and_gen_laws.proofs.Reading.{generated_is_read}
 use Rattle.andorra.specs.declared.question.Question.TheVariants.{Run}
 use Rattle.andorra.specs.declared.showing.Show.TheVariants.{Summary}
 use Rattle.andorra.specs.Top.{Answered}
-use Rattle.andorra.proofs.TopLemmas.{bounded, never_refused}
+use Rattle.andorra.proofs.TopLemmas.{never_refused}
 use Rattle.andorra.proofs.top.demo.Goals as goal
-
-pub respond-requires : goal.respond-requires
-respond-requires g c = bounded c.summary.result Summary c.args.settings.limit c.summary.ensures c.requires.limited
 
 pub returns-in-Ok-clause-answered : goal.returns-in-Ok-clause-answered
 returns-in-Ok-clause-answered g c =
