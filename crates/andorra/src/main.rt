@@ -4,6 +4,7 @@
 #![tactic(auto)]
 
 mod checking;
+mod progress;
 mod question;
 mod showing;
 #[cfg(test)]
@@ -11,6 +12,7 @@ mod tests;
 mod top;
 
 use and_io::{Quiet, StdSink, StdSource};
+use progress::{AfterLine, Progress};
 use std::alloc::Global;
 use std::process::ExitCode;
 use std::{env, io};
@@ -25,6 +27,15 @@ fn words_of(rt: &HostRuntime, alloc: Global) -> io::Result<Vec<String>> {
     Ok(words)
 }
 
+/// The gate that tells how far a run has come, where the environment asks for it by `ANDORRA_PROGRESS=1`
+/// and there is a clock.
+fn progress_asked_for(rt: &HostRuntime) -> Option<Progress<&HostRuntime>> {
+    match env::var(rt, "ANDORRA_PROGRESS") {
+        Ok(value) if value.as_str() == "1" => Progress::new(rt).ok(),
+        _ => None,
+    }
+}
+
 fn main(rt: HostRuntime) -> ExitCode {
     let alloc = rt.alloc();
     let words = match words_of(&rt, alloc) {
@@ -36,7 +47,17 @@ fn main(rt: HostRuntime) -> ExitCode {
         Err(_) => Vec::new(alloc),
     };
     let mut source = StdSource::new(rt.stdin());
-    let mut sink = StdSink::new(rt.stdout());
-    let status = andorra(&rt, alloc, &words, &mut source, &mut sink, &Quiet);
+    let status = match progress_asked_for(&rt) {
+        Some(progress) => {
+            let mut sink = StdSink::new(AfterLine::new(&progress, rt.stdout()));
+            let status = andorra(&rt, alloc, &words, &mut source, &mut sink, &progress);
+            progress.clear();
+            status
+        }
+        None => {
+            let mut sink = StdSink::new(rt.stdout());
+            andorra(&rt, alloc, &words, &mut source, &mut sink, &Quiet)
+        }
+    };
     ExitCode::from(status as u8)
 }

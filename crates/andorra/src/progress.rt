@@ -1,0 +1,161 @@
+//! A line on standard error that tells how far a long run has come.
+
+use and_io::Gate;
+use std::fmt::{Display, Formatter};
+use std::io::Write;
+use std::sync::atomic::{AtomicBool, AtomicU64, Ordering};
+use std::time::{Clock, Duration, Instant};
+use std::{fmt, io};
+
+/// So many reductions lie between two looks at the clock.
+const PACE: u64 = 1024;
+
+/// The second in which a run is told of for the first time.
+const FIRST: u64 = 2;
+
+/// What is told of a run.
+#[derive(Clone, Copy, Debug, PartialEq, Eq)]
+pub struct Told {
+    /// How long it has taken so far.
+    pub time: Duration,
+    /// How many goals were reduced.
+    pub reductions: u64,
+    /// How many branches teams handed on.
+    pub published: u64,
+    /// How many branches teams took over, the first one included.
+    pub claimed: u64,
+}
+
+impl Told {
+    /// How many goals were reduced in a second.
+    fn rate(&self) -> u64 {
+        let time = self.time.as_millis().max(1);
+        let rate = u128::from(self.reductions).saturating_mul(1000) / time;
+        u64::try_from(rate).unwrap_or(u64::MAX)
+    }
+}
+
+impl Display for Told {
+    // Each number has room of its own, so that a line covers the one before it.
+    fn fmt<W: fmt::Write>(&self, f: &mut Formatter<W>) -> fmt::Result {
+        let seconds = self.time.as_secs();
+        let reductions = self.reductions;
+        let rate = self.rate();
+        let published = self.published;
+        let claimed = self.claimed;
+        write!(
+            f,
+            "{seconds:>5} s {reductions:>12} reductions {rate:>8}/s {published:>8} shared {claimed:>8} taken"
+        )
+    }
+}
+
+/// A gate that counts what it is told, and writes it on standard error, at most once a second and each
+/// line over the one before it.
+#[derive(Drop)]
+pub struct Progress<R> {
+    rt: R,
+    start: Instant,
+    reductions: AtomicU64,
+    published: AtomicU64,
+    claimed: AtomicU64,
+    /// The second from which on a line is due.
+    due: AtomicU64,
+    /// Whether a line stands on the screen.
+    is_shown: AtomicBool,
+}
+
+impl<R: Clock + Eprint + Drop> Progress<R> {
+    /// Nothing was counted so far. An error is one of the clock.
+    pub fn new(rt: R) -> io::Result<Progress<R>> {
+        let start = Instant::now(&rt)?;
+        Ok(Progress {
+            rt,
+            start,
+            reductions: AtomicU64::new(0),
+            published: AtomicU64::new(0),
+            claimed: AtomicU64::new(0),
+            due: AtomicU64::new(FIRST),
+            is_shown: AtomicBool::new(false),
+        })
+    }
+
+    /// Writes a line, where one is due. One team alone writes that of a second.
+    fn tell_when_due(&self) {
+        let Ok(time) = self.start.elapsed(&self.rt) else {
+            return;
+        };
+        let due = self.due.load(Ordering::SeqCst);
+        let next = time.as_secs().saturating_add(1);
+        if next <= due {
+            return;
+        }
+        let won = self
+            .due
+            .compare_exchange(due, next, Ordering::SeqCst, Ordering::SeqCst);
+        if won.is_ok() {
+            self.is_shown.store(true, Ordering::SeqCst);
+            let told = self.told(time);
+            let _ = eprint!(self.rt; "\r{told}");
+        }
+    }
+
+    /// What is told after this time.
+    fn told(&self, time: Duration) -> Told {
+        Told {
+            time,
+            reductions: self.reductions.load(Ordering::SeqCst),
+            published: self.published.load(Ordering::SeqCst),
+            claimed: self.claimed.load(Ordering::SeqCst),
+        }
+    }
+
+    /// Takes the line away, where one stands on the screen.
+    pub fn clear(&self) {
+        if self.is_shown.swap(false, Ordering::SeqCst) {
+            let _ = eprint!(self.rt; "\r{:73}\r", "");
+        }
+    }
+}
+
+impl<R: Clock + Eprint + Sync + Drop> Gate for Progress<R> {
+    fn reduce(&self, _worker: u32) {
+        let before = self.reductions.fetch_add(1, Ordering::SeqCst);
+        if before % PACE == 0 {
+            self.tell_when_due();
+        }
+    }
+
+    fn claim(&self, _team: u32) {
+        self.claimed.fetch_add(1, Ordering::SeqCst);
+    }
+
+    fn publish(&self, _team: u32) {
+        self.published.fetch_add(1, Ordering::SeqCst);
+    }
+}
+
+/// A writer that takes the line away before it writes.
+#[derive(Drop)]
+pub struct AfterLine<'a, R, O: Write> {
+    progress: &'a Progress<R>,
+    output: O,
+}
+
+impl<'a, R: Clock + Eprint + Drop, O: Write> AfterLine<'a, R, O> {
+    /// Over this writer.
+    pub fn new(progress: &'a Progress<R>, output: O) -> AfterLine<'a, R, O> {
+        AfterLine { progress, output }
+    }
+}
+
+impl<R: Clock + Eprint + Drop, O: Write> Write for AfterLine<'_, R, O> {
+    fn write(&mut self, from: &[u8]) -> io::Result<usize> {
+        self.progress.clear();
+        self.output.write(from)
+    }
+
+    fn flush(&mut self) -> io::Result<()> {
+        self.output.flush()
+    }
+}
