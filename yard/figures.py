@@ -5,6 +5,11 @@ and the peak of memory.
 
     yard/figures.py [--runs N] [--only WORD] [--skip-swi] [-- words for `andorra run`]
 
+With `--teams` it runs long searches by so many teams instead, and writes for each the wall time and the processor time (the least of the
+runs, the start included), and whether all wrote the same.
+
+    yard/figures.py --teams 1 2 4 [--runs N] [--only WORD]
+
 The program has to be built (./andorra builds it), and `swipl` is looked for on the path. docs/figures.md has what was measured.
 """
 
@@ -14,6 +19,7 @@ import shutil
 import subprocess
 import sys
 import tempfile
+import time
 
 HERE = os.path.dirname(os.path.abspath(__file__))
 PROGRAM = os.path.join(HERE, "..", "crates", "andorra", "out", "andorra")
@@ -48,6 +54,21 @@ def graph(n):
     edges += [f"edge(n({r},{k}),n({r + 1},{k}))." for r in range(2) for k in range(n + 1)]
     return "\n".join(edges) + ("\npath(X,X,[X]).\npath(X,Z,[X|P]) :- edge(X,Y), path(Y,Z,P).\n"
                                f"?- path(n(0,0),n(2,{n}),P).\n")
+
+
+def queens_placed_first(n):
+    return queens(n).replace("safe(Qs), placed(Qs)", "placed(Qs), safe(Qs)")
+
+
+def hamilton(columns, rows=3):
+    """The ways of a king over a board that come to each place once, from a corner."""
+    places = [(c, r) for c in range(columns) for r in range(rows)]
+    near = [(a, b) for a in places for b in places if a != b and abs(a[0] - b[0]) < 2 and abs(a[1] - b[1]) < 2]
+    name = "n({0[0]},{0[1]})".format
+    return ("\n".join(f"edge({name(a)},{name(b)})." for a, b in near) + "\n"
+            "select(X, [X|T], T).\nselect(X, [H|T], [H|R]) :- select(X, T, R).\n"
+            "way(_, [], []).\nway(X, [Z|Zs], [Y|P]) :- edge(X, Y), select(Y, [Z|Zs], Rest), way(Y, Rest, P).\n"
+            f"?- way({name(places[0])}, {listed(name(p) for p in places[1:])}, P).\n")
 
 
 def queens(n):
@@ -135,6 +156,15 @@ PROGRAMS = (
 )
 
 
+# name and text of searches that are long enough for several teams
+LONG = [
+    ("generated graph, 64", graph(64)),
+    ("queens placed first, 8", queens_placed_first(8)),
+    ("8 pigeons in 7 holes, tests last", pigeons(8)),
+    ("Hamilton paths of 12 places", hamilton(4)),
+]
+
+
 def run(words, text):
     """The lines, what was written on standard error, the processor time in milliseconds and the peak of memory in MB of a run."""
     with tempfile.TemporaryFile("w+") as source, tempfile.TemporaryFile("w+") as sink, tempfile.TemporaryFile("w+") as said:
@@ -167,6 +197,36 @@ def answers_of(lines):
     return [line for line in lines if not line.startswith("% ")]
 
 
+def by_teams(words, text, runs):
+    """The lines of the runs, whether they were the same in each, and the least wall time and processor time in milliseconds."""
+    results = []
+    for _ in range(runs):
+        begun = time.monotonic()
+        lines, _, processor, _ = run(words, text)
+        results.append((lines, (time.monotonic() - begun) * 1000, processor))
+    same = all(lines == results[0][0] for lines, _, _ in results)
+    return results[0][0], same, min(wall for _, wall, _ in results), min(processor for _, _, processor in results)
+
+
+def compare_teams(teams, only, runs, words):
+    """Writes a row for each long search and number of teams. Answers whether all wrote the same."""
+    print(f"{'program':34} {'teams':>5} {'wall':>9} {'processor':>10}  answers")
+    are_same = True
+    for name, text in LONG:
+        if only not in name:
+            continue
+        first = None
+        for number in teams:
+            andorra = [PROGRAM, "run", "--stats", "--limit", "4194304", "--teams", str(number), *words]
+            lines, same, wall, processor = by_teams(andorra, text, runs)
+            first = first or lines
+            same = same and lines == first
+            are_same = are_same and same
+            told = "the same" if same else "DIFFERENT"
+            print(f"{name:34} {number:5} {wall:7.0f}ms {processor:8.0f}ms  {len(answers_of(lines))} {told}", flush=True)
+    return are_same
+
+
 def megabytes(peak, floor):
     """A peak as it is shown: a child's is never told below that of this script."""
     return f"{peak:.0f}" if peak > floor + 1 else f"<{floor:.0f}"
@@ -177,8 +237,11 @@ def main():
     options.add_argument("--runs", type=int, default=5)
     options.add_argument("--only", default="")
     options.add_argument("--skip-swi", action="store_true")
+    options.add_argument("--teams", type=int, nargs="+")
     options.add_argument("words", nargs="*")
     given = options.parse_args()
+    if given.teams:
+        return 0 if compare_teams(given.teams, given.only, given.runs, given.words) else 1
     has_swi = shutil.which("swipl") is not None and not given.skip_swi
     andorra = [PROGRAM, "run", "--limit", "4194304", *given.words]
     _, start, _ = least_on_andorra(andorra, EMPTY, given.runs)

@@ -1,0 +1,93 @@
+#!/usr/bin/env python3
+"""Runs every example, and the worked rows below, by 1, 2, 4 and 16 teams of 1, 2 and 8 workers, again and again, and compares what is written,
+byte by byte, and the exit status.
+
+    yard/same_bytes.py [--times N] [--only WORD] [--program FILE]
+
+Each is run N times with each pair of numbers, 100 times unless it is said otherwise. The program has to be built (./andorra builds it).
+"""
+
+import argparse
+import glob
+import os
+import subprocess
+import sys
+
+HERE = os.path.dirname(os.path.abspath(__file__))
+PROGRAM = os.path.join(HERE, "..", "crates", "andorra", "out", "andorra")
+TEAMS = (1, 2, 4, 16)
+WORKERS = (1, 2, 8)
+
+QUEENS = r"""d(1). d(2). d(3). d(4).
+ok(_,_,[]).
+ok(Q,N,[X|Xs]) :- Q =\= X, Q =\= X+N, X =\= Q+N, M is N+1, ok(Q,M,Xs).
+all([]).
+all([Q|Qs]) :- ok(Q,1,Qs), all(Qs).
+?- Q = [A,B,C,D], all(Q), d(A), d(B), d(C), d(D).
+"""
+
+# name, words and text
+ROWS = [
+    ("append", [], "app([],L,L). app([H|T],L,[H|R]) :- app(T,L,R). ?- app(X,Y,[1,2]).\n"),
+    ("two forks", [], "p(1). p(2). q(3). q(4). ?- p(X), q(Y).\n"),
+    ("two teams", [], "p(1). p(2). r(1,a). r(2,b). ?- p(X), r(X,Y).\n"),
+    ("four queens", [], QUEENS),
+    ("equal answers", [], "p(a). p(a). ?- p(X).\n"),
+    ("no fact", [], "p(a). ?- p(b).\n"),
+    ("early filter", [], "p(1). p(2). q(2). ?- p(X), q(X).\n"),
+    ("floundered", [], "?- X is X + 0.\n"),
+    ("numbers below a limit", ["--limit", "6"], "nat(z). nat(s(N)) :- nat(N). ?- nat(X).\n"),
+    ("pairs below a limit", ["--limit", "40"], "nat(z). nat(s(N)) :- nat(N). ?- nat(X), nat(Y).\n"),
+    ("heavy query", ["--limit", "1"], "?- X = 1.\n"),
+    ("endless", ["--limit", "2000"], "loop(X) :- loop(X). ?- loop(a).\n"),
+    ("permutations", [], "s(X,[X|T],T). s(X,[H|T],[H|R]) :- s(X,T,R). p([],[]). p(L,[H|T]) :- s(H,L,R), p(R,T). ?- p([1,2,3,4,5],P).\n"),
+    ("refused", [], "p(a) ?- p(X).\n"),
+]
+
+
+def texts():
+    """A name, words and a text for each."""
+    for file in sorted(glob.glob(os.path.join(HERE, "..", "examples", "*.pl"))):
+        with open(file, encoding="utf-8") as text:
+            yield os.path.basename(file), [], text.read()
+    yield from ROWS
+
+
+def run(program, words, text):
+    """What is written, and the exit status."""
+    done = subprocess.run([program, "run", "--stats", *words], input=text.encode(), capture_output=True, check=False)
+    return done.stdout, done.stderr, done.returncode
+
+
+def first_different(program, words, text, times):
+    """The words of the first run that writes something else than the first one; how many were run."""
+    expected = run(program, [*words, "--teams", "1", "--workers", "1"], text)
+    count = 1
+    for teams in TEAMS:
+        for workers in WORKERS:
+            more = [*words, "--teams", str(teams), "--workers", str(workers)]
+            for _ in range(times):
+                count += 1
+                if run(program, more, text) != expected:
+                    return more, count
+    return None, count
+
+
+def main():
+    options = argparse.ArgumentParser(description=__doc__, formatter_class=argparse.RawDescriptionHelpFormatter)
+    options.add_argument("--times", type=int, default=100)
+    options.add_argument("--only", default="")
+    options.add_argument("--program", default=PROGRAM)
+    given = options.parse_args()
+    differ = False
+    for name, words, text in texts():
+        if given.only not in name:
+            continue
+        different, count = first_different(given.program, words, text, given.times)
+        print(f"{name:24} {count:5} runs  {'DIFFERENT: ' + ' '.join(different) if different else 'the same'}", flush=True)
+        differ = differ or different is not None
+    return 1 if differ else 0
+
+
+if __name__ == "__main__":
+    sys.exit(main())
