@@ -1,15 +1,15 @@
 -- What the calls of a pass are to a worker, which is cells.
-use Rattle.std.proofs.Common.{ℕ, suc, ◌≡◌, ◌≢◌, ◌⊎◌, inl, inr, true, false, cond, ne_eqb, true≢false, ℤ, FitsSigned, w64, List, [], ◌∷◌, ◌++◌, map, refl, sym, ap, subst, ◌∙◌, append_assoc, append-nil, Contains}
+use Rattle.std.proofs.Common.{arith, ◌<◌, ℕ, suc, ◌≡◌, ◌≢◌, ◌⊎◌, inl, inr, true, false, cond, ne_eqb, true≢false, ℤ, FitsSigned, w64, List, [], ◌∷◌, ◌++◌, map, refl, sym, ap, subst, ◌∙◌, append_assoc, append-nil, Contains}
 use Rattle.std.proofs.lemmas.Bool.{cases_eq}
 use Rattle.std.proofs.lemmas.List.Elements.{Contains-append_left, Contains-push, Contains-push_cases}
 use Rattle.and_model.specs.Prefixes.{IsPrefix}
 use Rattle.and_model.specs.Store.{Setting, Made, Known, Missed, word, Pass, is_free}
 use Rattle.and_model.specs.declared.reference.Ref.{Ref}
-use Rattle.and_model.specs.declared.reference.Ref.TheVariants.{Free}
+use Rattle.and_model.specs.declared.reference.Ref.TheVariants.{Free, Cell, Node, Number, Half}
 use Rattle.and_cells.specs.declared.cells.Bound.{Bound}
 use Rattle.and_cells.specs.declared.cells.Bound.TheVariants.{Won, Already}
 use Rattle.and_cells.specs.Numbers.{high_half, low_half}
-use Rattle.and_cells.specs.Ranges.{NamedProgram}
+use Rattle.and_cells.specs.Ranges.{NamedProgram, IsInRange, CanHold}
 use Rattle.and_cells.specs.Seen.{Adds, Finds, Misses, Sets, Fills, OnlyReads, Keeps, IsKnownWritten, WritesNumber, ReadsNumber}
 use Rattle.and_cells.proofs.Chains.{writes_number, reads_number, finds_reads, misses_reads, reads_more, sets_keeps, finds_keeps}
 use Rattle.and_store_laws.specs.Grown.{Grew}
@@ -249,38 +249,38 @@ module _ (P : NamedProgram) (p q : PassSeen) (store : q.store ≡ p.store) where
   pub one_step : CellStep P about p q → IsUsed P p q
   one_step step = record { store = store; steps = CellSteps.step_first p q q step (CellSteps.no_step q) }
 
-  pub looks_used : (cell : ℕ) (r : Ref) → LooksAt P about cell r p.pass q.pass → q.kept ≡ p.kept → IsUsed P p q
-  looks_used cell r l kept = one_step (CellStep.looks_at cell r l kept)
+  pub looks_used : (cell : ℕ) (r : Ref) → cell < about.words → LooksAt P about cell r p.pass q.pass → q.kept ≡ p.kept → IsUsed P p q
+  looks_used cell r within l kept = one_step (CellStep.looks_at cell r within l kept)
 
   -- a word of a pair was set or looked at
-  filled : (place : ℕ) (half r : Ref) (x y : PassSeen) → y.kept ≡ x.kept → FillsWord P about place half r x.pass y.pass → CellStep P about x y
-  filled place half r x y kept (inl s) = CellStep.fills place half s.0 kept
-  filled place half r x y kept (inr l) = CellStep.looks_at place r l.0 kept
+  filled : (place : ℕ) (half r : Ref) (x y : PassSeen) → place < about.words → CanHold P about.words place half → y.kept ≡ x.kept → FillsWord P about place half r x.pass y.pass → CellStep P about x y
+  filled place half r x y within fits kept (inl s) = CellStep.fills place half within fits s.0 kept
+  filled place half r x y within fits kept (inr l) = CellStep.looks_at place r within l.0 kept
 
   -- the pass between two steps, which keeps what it kept
   between_of : Pass → PassSeen
   between_of b = record { store = p.store; pass = b; kept = p.kept }
 
-  pub writes_used : (pair : ℕ) (value result : ℤ) → WritesPair P about pair value result p.pass q.pass → q.kept ≡ p.kept → IsUsed P p q
+  pub writes_used : (pair : ℕ) (value result : ℤ) → suc pair < about.words → WritesPair P about pair value result p.pass q.pass → q.kept ≡ p.kept → IsUsed P p q
   unfolding between_of
-  writes_used pair value result w kept = record {
+  writes_used pair value result within w kept = record {
     store = store;
-    steps = CellSteps.step_first p (between_of w.between) q (filled pair (high_half value) w.high p (between_of w.between) refl w.first)
-        (CellSteps.step_first (between_of w.between) q q (filled (suc pair) (low_half value) w.low (between_of w.between) q kept w.second) (CellSteps.no_step q));
+    steps = CellSteps.step_first p (between_of w.between) q (filled pair (high_half value) w.high p (between_of w.between) (omega arith) tt refl w.first)
+        (CellSteps.step_first (between_of w.between) q q (filled (suc pair) (low_half value) w.low (between_of w.between) q within tt kept w.second) (CellSteps.no_step q));
   }
 
-  pub reads_used : (pair : ℕ) (result : ℤ) → ReadsPair P about pair result p.pass q.pass → q.kept ≡ p.kept → IsUsed P p q
+  pub reads_used : (pair : ℕ) (result : ℤ) → suc pair < about.words → ReadsPair P about pair result p.pass q.pass → q.kept ≡ p.kept → IsUsed P p q
   unfolding between_of
-  reads_used pair result r kept = record {
+  reads_used pair result within r kept = record {
     store = store;
-    steps = CellSteps.step_first p (between_of r.between) q (CellStep.looks_at pair r.high r.first refl)
-        (CellSteps.step_first (between_of r.between) q q (CellStep.looks_at (suc pair) r.low r.second kept) (CellSteps.no_step q));
+    steps = CellSteps.step_first p (between_of r.between) q (CellStep.looks_at pair r.high (omega arith) r.first refl)
+        (CellSteps.step_first (between_of r.between) q q (CellStep.looks_at (suc pair) r.low within r.second kept) (CellSteps.no_step q));
   }
 
 step_grew : (P : NamedProgram) (a : About) (p q : PassSeen) → CellStep P a p q → Grew p.pass q.pass
-step_grew P a p q (CellStep.looks_at cell r l kept) = looks_grew P a cell r p.pass q.pass l
-step_grew P a p q (CellStep.fills place half s kept) = sets_grew a place half p.pass q.pass s
-step_grew P a p q (CellStep.wins cell to w) = wins_grew a cell to p q w
+step_grew P a p q (CellStep.looks_at cell r within l kept) = looks_grew P a cell r p.pass q.pass l
+step_grew P a p q (CellStep.fills place half within fits s kept) = sets_grew a place half p.pass q.pass s
+step_grew P a p q (CellStep.wins cell to within fits w) = wins_grew a cell to p q w
 
 -- a pass that was used as cells grew
 pub steps_grew : (P : NamedProgram) (a : About) (p q : PassSeen) → CellSteps P a p q → Grew p.pass q.pass
@@ -313,6 +313,14 @@ knows_pair words p pair (inl both) =
     inl (contains_map (λ (s : Setting). s.place) (setting pair both.0.0) (settings p.known) both.0.1, contains_map (λ (s : Setting). s.place) (setting (suc pair) both.1.0) (settings p.known) both.1.1)
 knows_pair words p pair (inr cell) = inr cell
 
+-- What is in range may stand at a place, if it is no cell from there on.
+pub may_stand : (P : NamedProgram) (words place : ℕ) (r : Ref) → IsInRange P words r → ((other : ℕ) → r ≡ Cell other → other < place) → CanHold P words place r
+may_stand P words place Free fits falls = tt
+may_stand P words place (Cell cell) fits falls = falls cell refl
+may_stand P words place (Node node base) fits falls = fits
+may_stand P words place (Number pair) fits falls = fits
+may_stand P words place (Half bits) fits falls = tt
+
 by_bound : (Q : Type 0) (b : Bound) → (b ≡ Won → Q) → ((r : Ref) → b ≡ Already r → Q) → Q
 by_bound Q Won won already = won refl
 by_bound Q (Already r) won already = already r refl
@@ -323,10 +331,10 @@ module _ (P : NamedProgram) (a : About) (cell : ℕ) (to : Ref) (b : Bound) (p q
   pub bound_once : IsOnce p.pass.known → IsOnce q.pass.known
   bound_once once = by_bound (IsOnce q.pass.known) b (λ e. wins_once a cell to p q (won e) once) (λ r e. looks_once P a cell r p.pass q.pass (already r e).0 once)
 
-  pub bound_used : q.store ≡ p.store → p.store.about ≡ a → IsUsed P p q
-  bound_used store is = by_bound (IsUsed P p q) b
-      (λ e. one_step P p q store (CellStep.wins cell to (subst (λ (o : About). Wins o cell to p q) (sym is) (won e))))
-      (λ r e. looks_used P p q store cell r (subst (λ (o : About). LooksAt P o cell r p.pass q.pass) (sym is) (already r e).0) (already r e).2)
+  pub bound_used : cell < p.store.about.words → CanHold P p.store.about.words cell to → q.store ≡ p.store → p.store.about ≡ a → IsUsed P p q
+  bound_used within fits store is = by_bound (IsUsed P p q) b
+      (λ e. one_step P p q store (CellStep.wins cell to within fits (subst (λ (o : About). Wins o cell to p q) (sym is) (won e))))
+      (λ r e. looks_used P p q store cell r within (subst (λ (o : About). LooksAt P o cell r p.pass q.pass) (sym is) (already r e).0) (already r e).2)
 
   pub bound_keeps : Keeps (shown a.words p.pass) (shown a.words q.pass)
   bound_keeps = by_bound (Keeps (shown a.words p.pass) (shown a.words q.pass)) b

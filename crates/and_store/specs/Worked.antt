@@ -1,8 +1,8 @@
 -- What a worker shows as cells (this project's own), and laws of what it says of itself.
-use Rattle.std.proofs.Common.{ℕ, ◌≡◌, ◌≢◌, List, map, None, refl, sym, ap, subst, ◌∙◌}
+use Rattle.std.proofs.Common.{ℕ, ◌<◌, ◌≡◌, ◌≢◌, List, map, None, refl, sym, ap, subst, ◌∙◌}
 use Rattle.and_model.specs.Store.{Known, Pass, AreDistinct}
 use Rattle.and_model.specs.declared.reference.Ref.{Ref}
-use Rattle.and_cells.specs.Ranges.{NamedProgram}
+use Rattle.and_cells.specs.Ranges.{NamedProgram, CanHold}
 use Rattle.and_cells.specs.Seen.{Seen, IsCoherent}
 use Rattle.and_store.specs.Calls.{LooksAt, SetsCell, Wins}
 use Rattle.and_store.specs.Passes.{PassSeen}
@@ -22,11 +22,12 @@ seen_by p = shown p.store.about.words p.pass
 pub once_is_coherent : (p : PassSeen) → IsOnce p.pass.known → IsCoherent (seen_by p)
 once_is_coherent p once = record { once = once; whole = tt; in_row = tt }
 
--- What a worker does as cells: it looks at a word, sets a word of a pair, or sets a cell and closes its place.
+-- What a worker does as cells: it looks at a word, sets a word of a pair, or sets a cell and closes its place. The word is one of
+-- the row's, and what is set there may stand there.
 pub data CellStep (P : NamedProgram) (a : About) (p q : PassSeen) : Type 0 where
-  looks_at : (cell : ℕ) (r : Ref) → LooksAt P a cell r p.pass q.pass → q.kept ≡ p.kept → CellStep P a p q
-  fills : (place : ℕ) (half : Ref) → SetsCell a place half p.pass q.pass → q.kept ≡ p.kept → CellStep P a p q
-  wins : (cell : ℕ) (to : Ref) → Wins a cell to p q → CellStep P a p q
+  looks_at : (cell : ℕ) (r : Ref) → cell < a.words → LooksAt P a cell r p.pass q.pass → q.kept ≡ p.kept → CellStep P a p q
+  fills : (place : ℕ) (half : Ref) → place < a.words → CanHold P a.words place half → SetsCell a place half p.pass q.pass → q.kept ≡ p.kept → CellStep P a p q
+  wins : (cell : ℕ) (to : Ref) → cell < a.words → CanHold P a.words cell to → Wins a cell to p q → CellStep P a p q
 
 -- CellSteps P a p q: step by step the pass became q. Each step tells what was seen by then, so that this tells which settings of the
 -- pass's own came when, and behind which of those that it knew.

@@ -1,7 +1,7 @@
 use Rattle.std.proofs.Common.{ap, sym, subst, ◌∙◌, ℕ}
 use Rattle.and_cells.specs.Seen.{Keeps, Sets, Finds}
 use Rattle.and_store.specs.Worked.{seen_by, shown}
-use Rattle.and_store.proofs.Working.{bound_once, bound_used, bound_keeps, bound_sets, bound_finds}
+use Rattle.and_store.proofs.Working.{bound_once, bound_used, bound_keeps, bound_sets, bound_finds, may_stand}
 use Rattle.and_store.proofs.worker.WorkerCells.bind.Goals as goal
 
 pub invariant_of-self : goal.invariant_of-self
@@ -12,7 +12,8 @@ invariant_of-self g c = record {
 
 pub returns-clause-grew : goal.returns-clause-grew
 returns-clause-grew g c =
-    bound_used g.N.Naming.program _ c.args.cell c.args.to c.bind.result c.args.self.now.pass c.bind.new.pass c.bind.ensures.won c.bind.ensures.already c.bind.ensures.store
+    bound_used g.N.Naming.program _ c.args.cell c.args.to c.bind.result c.args.self.now.pass c.bind.new.pass c.bind.ensures.won c.bind.ensures.already
+    c.requires.cell (may_stand g.N.Naming.program c.args.self.now.pass.store.about.words c.args.cell c.args.to c.requires.to c.requires.falls) c.bind.ensures.store
     (ap (λ z. z.about) c.args.self.now.of)
 
 pub returns-clause-keeps : goal.returns-clause-keeps

@@ -14,7 +14,7 @@ invariant_of-self g c = record {
 
 pub returns-clause-grew : goal.returns-clause-grew
 returns-clause-grew g c =
-    looks_used g.N.Naming.program c.args.self.now.pass c.look.new.pass c.look.ensures.same.0 c.args.cell c.look.result
+    looks_used g.N.Naming.program c.args.self.now.pass c.look.new.pass c.look.ensures.same.0 c.args.cell c.look.result c.requires
     (subst (λ (a : About). LooksAt g.N.Naming.program a c.args.cell c.look.result c.args.self.now.pass.pass c.look.new.pass.pass) (sym (ap (λ z. z.about) c.args.self.now.of))
     c.look.ensures.looks) c.look.ensures.same.1
 

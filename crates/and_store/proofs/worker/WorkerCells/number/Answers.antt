@@ -15,7 +15,7 @@ invariant_of-self g c = record {
 
 pub returns-clause-grew : goal.returns-clause-grew
 returns-clause-grew g c =
-    reads_used g.N.Naming.program c.args.self.now.pass c.number.new.pass c.number.ensures.same.0 c.args.pair c.number.result
+    reads_used g.N.Naming.program c.args.self.now.pass c.number.new.pass c.number.ensures.same.0 c.args.pair c.number.result c.requires.pair
     (subst (λ (a : About). ReadsPair g.N.Naming.program a c.args.pair c.number.result c.args.self.now.pass.pass c.number.new.pass.pass) (sym (ap (λ z. z.about) c.args.self.now.of))
     c.number.ensures.read) c.number.ensures.same.1
 

@@ -22,7 +22,7 @@ invariant_of-self g c = record {
 
 pub returns-clause-grew : goal.returns-clause-grew
 returns-clause-grew g c =
-    writes_used g.N.Naming.program c.args.self.now.pass c.write_number.new.pass c.write_number.ensures.same.0 c.args.pair c.args.value c.write_number.result
+    writes_used g.N.Naming.program c.args.self.now.pass c.write_number.new.pass c.write_number.ensures.same.0 c.args.pair c.args.value c.write_number.result c.requires
     (subst (λ (a : About). WritesPair g.N.Naming.program a c.args.pair c.args.value c.write_number.result c.args.self.now.pass.pass c.write_number.new.pass.pass)
     (sym (ap (λ z. z.about) c.args.self.now.of))
     (is_written g.N.Naming.program _ c.args.pair c.args.value c.write_number.result c.args.self.now.pass.pass c.write_number.new.pass.pass c.ranges.value
