@@ -1,0 +1,2 @@
+pub mod FirstChildren
+pub mod UntouchedBranches
