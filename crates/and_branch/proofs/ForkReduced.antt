@@ -2,7 +2,7 @@
 use Rattle.std.proofs.Common.{ℕ, suc, ◌≡◌, ◌+◌, ◌≤◌, ◌<◌, add-one, drop, drop-cons, get_or, Some, Ok, List, [], ◌∷◌, ◌++◌, map, length}
 use Rattle.std.proofs.Common.{refl, ap, sym, ◌∙◌, subst, inl, inr, arith, Contains, Option}
 use Rattle.std.specs.Prelude.{Result, slice_get}
-use Rattle.std.proofs.lemmas.List.{length-map, get_or-map}
+use Rattle.std.proofs.lemmas.List.{length-map, get_or-map, drop-drop}
 use Rattle.std.proofs.lemmas.List.Elements.{Contains-append_right}
 use Rattle.std.proofs.lemmas.Option.{get_or_from_slice_get, slice_get_within}
 use Rattle.and_model.specs.Programs.{Of}
@@ -197,6 +197,13 @@ next_clause cs ns n c e at =
     ∙ ap (λ (d : ClauseNo). d.0) (get_or_from_slice_get cs n c c at) in
     let within : n < length ns = omega arith in
     drop-cons ns n 0 within ∙ ap (λ (k : ℕ). k ∷ drop (suc n) ns) item ∙ ap (λ (k : ℕ). c.0 ∷ drop k ns) (sym (add-one n))
+
+-- one behind so many of those that are still to come
+pub later_clause : (ns : List ℕ) (made place c : ℕ) → drop (made + place) ns ≡ c ∷ drop (made + place + 1) ns
+    → drop place (drop made ns) ≡ c ∷ drop (place + 1) (drop made ns)
+later_clause ns made place c is =
+    let sum : made + place + 1 ≡ made + (place + 1) = omega arith in
+    drop-drop place made ns ∙ is ∙ ap (λ (k : ℕ). c ∷ drop k ns) sum ∙ ap (λ (l : List ℕ). c ∷ l) (sym (drop-drop (place + 1) made ns))
 
 pub can_be_made : (P : NamedProgram) (f : Fork) (n c : ℕ) → drop n f.clauses ≡ c ∷ drop (n + 1) f.clauses
     → (t : QueryTree P.program) × AreChildren P (record f { clauses = drop n f.clauses }) t → CanBeMade P f c

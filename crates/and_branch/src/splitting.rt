@@ -1,6 +1,6 @@
 //! Forks: a branch that is split, and its children.
 
-ghost use Rattle.std.specs.Prelude.{◌≡◌, ◌∷◌, [], ℕ, Option, None, Some, Ok, OnErr, IfOk, IfErr};
+ghost use Rattle.std.specs.Prelude.{◌≡◌, ◌<◌, ◌+◌, ◌∷◌, [], drop, length, ℕ, Option, None, Some, Ok, OnErr, IfOk, IfErr};
 ghost use Rattle.and_model.specs.Trees.{QueryTree, Open};
 ghost use Rattle.and_cells.specs.Parts.{named};
 ghost use Rattle.and_branch_laws.specs.States.{StateOf, fork};
@@ -207,6 +207,32 @@ impl<N: Naming> Split<N> {
 }
 
 impl<N: Naming> BranchList<N> {
+    /// What was decided in the branch that was split: the key of each child, but for the child's clause.
+    /// Takes no memory.
+    pub fn longer(&self) -> &Code
+        ensures { result.now ≡ self.now.longer }
+    {
+        self.split.longer()
+    }
+
+    /// How many children are still to come. Takes no memory.
+    pub fn left(&self) -> usize
+        ensures { result ≡ length self.now.clauses }
+    {
+        self.split.clauses().len().saturating_sub(self.made)
+    }
+
+    /// The clause of a child that is still to come, behind so many others. Takes no memory.
+    pub fn clause_left(&self, place: usize) -> ClauseNo
+        requires { place < length self.now.clauses }
+        ensures { drop place self.now.clauses ≡ result.0 ∷ drop (place + 1) self.now.clauses }
+    {
+        let clauses = self.split.clauses();
+        // (So many fit a word. This says so to what follows.)
+        let _all = clauses.len();
+        *clauses.at(self.made + place)
+    }
+
     /// The next child. An error is want of memory; the child can be asked for again.
     pub fn next(
         &mut self,

@@ -1,16 +1,14 @@
 -- What keeps the keys in a team's hand and its tasks together: tasks in another order, a task that ends, joins, leaves or is forked, and a
 -- child that is parted from the others. The hand is told by sums, so no order of keys matters.
-use Rattle.std.proofs.Common.{ℕ, ◌+◌, ◌*◌, ◌^◌, ◌≡◌, ◌≢◌, ◌<◌, ◌≤◌, Bool, Option, Some, None, get_or, List, [], ◌∷◌, ◌++◌, length, refl, sym, ap, subst}
+use Rattle.std.proofs.Common.{ℕ, ◌+◌, ◌*◌, ◌^◌, ◌≡◌, ◌≢◌, ◌<◌, ◌≤◌, Bool, Option, Some, None, get_or, drop, List, [], ◌∷◌, ◌++◌, length, refl, sym, ap, subst}
 use Rattle.std.proofs.Common.{◌∙◌, arith, Contains, Vec, append_assoc, append-nil}
-use Rattle.std.specs.Prelude.{sum_by, flat_map, reverse}
+use Rattle.std.specs.Prelude.{sum_by, flat_map}
 use Rattle.std.specs.List.{remove}
-use Rattle.std.specs.Option.{option_to_list, MatchOption}
 use Rattle.std.specs.declared.alloc.Global.{Global}
-use Rattle.std.proofs.lemmas.List.{reverse-append, length_push}
+use Rattle.std.proofs.lemmas.List.{length-map, drop_all, nil_from_length}
 use Rattle.std.proofs.lemmas.List.Elements.{Contains-append_left, Contains-append_right}
 use Rattle.std.proofs.lemmas.List.Sums.{sum_by-append, sum_by-cons}
 use Rattle.std.proofs.lemmas.List.Concat.{flat_map-append}
-use Rattle.std.proofs.lemmas.List.Sorted.{sum_by-IsPermutation, IsPermutation-reverse}
 use Rattle.and_model.specs.Trees.{QueryTree}
 use Rattle.and_model.specs.declared.goal.Goal.{Goal}
 use Rattle.and_laws.proofs.Ordered.{contains_first}
@@ -43,9 +41,6 @@ module _ {N : Type 0} (f : Key → ℕ) where
   pub sum_first : (x : Task N) (xs : List (Task N)) → sum_by f (all_keys (x ∷ xs)) ≡ sum_by f (keys_of x) + sum_by f (all_keys xs)
   sum_first x xs = sum_by-append f (keys_of x) (all_keys xs)
 
-pub sum_reversed : (f : Key → ℕ) (keys : List Key) → sum_by f (reverse keys) ≡ sum_by f keys
-sum_reversed f keys = sum_by-IsPermutation f keys (reverse keys) (IsPermutation-reverse keys)
-
 count_is : (keys : List Key) → sum_by (λ (key : Key). 1) keys ≡ length keys
 count_is [] = refl
 count_is (k ∷ keys) = let one = sum_by-cons (λ (key : Key). 1) k keys in let rest = count_is keys in omega (arith, one, rest)
@@ -67,7 +62,10 @@ module _ {N : Type 0} (P : NamedProgram) (limit : ℕ) where
 
   few_keys : (x : Task N) → IsTask P limit x → length (keys_of x) ≤ 2 ^ 16
   few_keys (One b) is = omega arith
-  few_keys (Children f keys) is = is.4
+  few_keys (Children f) is =
+      let mapped = length-map f.clauses (λ (c : ℕ). f.longer ++ c ∷ []) in
+      let few = is.3 in
+      omega (arith, mapped, few)
 
   few_sums : (xs : List (Task N)) → AreTasks P limit xs → sum_by (λ (key : Key). 1) (all_keys xs) ≤ length xs * 2 ^ 16
   few_sums [] are = omega arith
@@ -110,34 +108,6 @@ module _ (P : NamedProgram) (limit : ℕ) where
         longer = is.longer ∙ x.longer;
       }
 
--- ---- the keys of children, of which the next one is the last
-
--- the keys without the last: the last is that of the first of the clauses
-record Parted (longer : Key) (clause : ℕ) (clauses : List ℕ) (rest : List Key) (key : Key) : Type 0 where
-  pub key_is : key ≡ longer ++ clause ∷ []
-  pub rest_are : reverse rest ≡ children longer clauses
-
-parted : (keys rest : List Key) (key longer : Key) (clause : ℕ) (clauses : List ℕ) → keys ≡ rest ++ key ∷ []
-    → reverse keys ≡ children longer (clause ∷ clauses) → Parted longer clause clauses rest key
-parted keys rest key longer clause clauses split is =
-    let turned : key ∷ reverse rest ≡ (longer ++ clause ∷ []) ∷ children longer clauses =
-    sym (reverse-append rest (key ∷ [])) ∙ ap (λ (ks : List Key). reverse ks) (sym split) ∙ is in
-    let key_is : key ≡ longer ++ clause ∷ [] = cc in
-    let rest_are : reverse rest ≡ children longer clauses = cc in
-    record { key_is = key_is; rest_are = rest_are }
-
--- The only key is that of the first of the clauses.
-only_key : (keys : List Key) (key : Key) (others : List Key) → length keys ≤ 1 → reverse keys ≡ key ∷ others → keys ≡ key ∷ []
-only_key [] key others few is = absurd (cc)
-only_key (k ∷ []) key others few is = let same : k ≡ key = cc in ap (λ z. z ∷ []) same
-only_key (k ∷ j ∷ keys) key others few is = absurd (omega (arith, few))
-
--- The last key is popped.
-pub key_popped : (keys rest : List Key) (last : Option Key) (long left : ℕ) → keys ≡ rest ++ option_to_list last → 0 < long
-    → MatchOption last ((long ≡ 0) × (left ≡ 0)) (λ _. left + 1 ≡ long) → (key : Key) × (keys ≡ rest ++ key ∷ [])
-key_popped keys rest None long left split some cases = absurd (let none = cases.0 in omega (arith, some, none))
-key_popped keys rest (Some key) long left split some cases = (key, split)
-
 -- ---- lists
 
 pub some_long : {A : Type 0} (xs : List A) → xs ≢ [] → 0 < length xs
@@ -151,6 +121,36 @@ first_removed (y ∷ ys) others x some is rest = ap (λ z. z ∷ ys) (sym is) �
 -- what a list has that is the same as one that has this
 pub items_still : {A : Type 0} (v w : Vec A Global) (xs : List A) → v ≡ w → w.items ≡ xs → v.items ≡ xs
 items_still {A} v w xs same is = ap (λ (z : Vec A Global). z.items) same ∙ is
+
+-- ---- the keys of children
+
+-- The key of the next child stands before those of the others.
+children_parted : {P : NamedProgram} (f g : Fork) (b : Held) → IsChild P f g b
+    → children f.longer f.clauses ≡ b.key ∷ children g.longer g.clauses
+children_parted f g b is =
+    ap (children f.longer) is.next ∙ ap (λ k. k ∷ children f.longer g.clauses) (sym is.key)
+    ∙ ap (λ l. b.key ∷ children l g.clauses) (sym is.longer)
+
+-- The key of a child that is still to come is in the hand,
+pub child_in_hand : (hand others : List Key) (key longer : Key) (clauses rest : List ℕ) (c : ℕ) → clauses ≡ c ∷ rest
+    → key ≡ longer ++ c ∷ [] → SameItems hand (children longer clauses ++ others) → Contains hand key
+child_in_hand hand others key longer clauses rest c is key_is same =
+    same_keys hand (children longer clauses ++ others) same key
+    (subst (λ k. Contains (children longer clauses ++ others) k) (sym key_is)
+    (subst (λ cs. Contains (children longer cs ++ others) (longer ++ c ∷ [])) (sym is)
+    (contains_first (longer ++ c ∷ []) (children longer rest ++ others))))
+
+-- and where it ended the others are.
+pub child_ended : (others : List Key) (key longer : Key) (clauses rest : List ℕ) (c : ℕ) (how : Ending) (is_last : Bool) (p q : PassSeen)
+    → clauses ≡ c ∷ rest → key ≡ longer ++ c ∷ [] → Makes (plain.end p.team key how) (plain.last is_last) p q
+    → SameItems p.hand (children longer clauses ++ others) → SameItems q.hand (children longer rest ++ others)
+child_ended others key longer clauses rest c how is_last p q is key_is m same = λ f.
+    let ended = ended_sum f key how is_last p q m in
+    let all = same f in
+    let whole = ap (λ cs. sum_by f (children longer cs ++ others)) is in
+    let one = sum_by-cons f (longer ++ c ∷ []) (children longer rest ++ others) in
+    let of = ap f key_is in
+    omega (arith, ended, all, whole, one, of)
 
 -- ---- what a team has
 
@@ -280,92 +280,73 @@ module _ {N : Type 0} (P : NamedProgram) (tree : TreeId) where
   }
 
   -- The branch in front was forked: its children are in its place.
-  pub has_forked : (f : Fork) (keys : Vec Key Global) (xs : List (Task N)) (p q : PassSeen)
-      → Makes (plain.fork p.team f.parent.key f.longer f.clauses) plain.forked p q → IsTask {N = N} P tree.about.limit (Children f keys)
-      → Has P tree p (One f.parent ∷ xs) → Has P tree q (Children f keys ∷ xs)
-  has_forked f keys xs p q m task h = record {
+  pub has_forked : (f : Fork) (xs : List (Task N)) (p q : PassSeen)
+      → Makes (plain.fork p.team f.parent.key f.longer f.clauses) plain.forked p q → IsTask {N = N} P tree.about.limit (Children f)
+      → Has P tree p (One f.parent ∷ xs) → Has P tree q (Children f ∷ xs)
+  has_forked f xs p q m task h = record {
     of_tree = m.tree ∙ h.of_tree;
     hand = λ g.
         let forked = forked_sum g f.parent.key f.longer f.clauses p q m in
         let all = h.hand g in
         let one = sum_by-cons g f.parent.key (all_keys xs) in
-        let new = sum_first g (Children f keys) xs in
-        let turned : sum_by g keys.items ≡ sum_by g (children f.longer f.clauses) = sym (sum_reversed g keys.items) ∙ ap (sum_by g) task.3 in
-        omega (arith, forked, all, one, new, turned);
+        let new = sum_first g (Children f) xs in
+        omega (arith, forked, all, one, new);
     tasks_are = (task, h.tasks_are.1);
   }
 
   -- ---- the children of a fork
 
   -- The next child is parted from the others.
-  pub child_parted : (f g : Fork) (b : Held) (keys rest : Vec Key Global) (key : Key) (xs : List (Task N)) (pass : PassSeen) → IsChild P f g b
-      → keys.items ≡ rest.items ++ key ∷ [] → Has P tree pass (Children f keys ∷ xs) → Has P tree pass (One b ∷ Children g rest ∷ xs)
-  child_parted f g b keys rest key xs pass is split h =
-      let (t, come, limited, keys_are, few) = h.tasks_are.0 in
-      let now = parted keys.items rest.items key f.longer is.clause g.clauses split (keys_are ∙ ap (children f.longer) is.next) in
-      let same : key ≡ b.key = now.key_is ∙ sym is.key in
-      let fewer : length keys.items ≡ length rest.items + 1 = ap length split ∙ length_push rest.items key in
-      has_others pass (Children f keys ∷ xs) (One b ∷ Children g rest ∷ xs) h (
+  pub child_parted : (f g : Fork) (b : Held) (xs : List (Task N)) (pass : PassSeen) → IsChild P f g b
+      → Has P tree pass (Children f ∷ xs) → Has P tree pass (One b ∷ Children g ∷ xs)
+  child_parted f g b xs pass is h =
+      let (t, come, limited, few) = h.tasks_are.0 in
+      let fewer = ap (λ (cs : List ℕ). length cs) is.next in
+      has_others pass (Children f ∷ xs) (One b ∷ Children g ∷ xs) h (
         child_stands P tree.about.limit f g b t is come limited,
         (
           (
             t,
             others_stand P tree.about.limit f g b t is come,
             ap (λ (d : Held). d.limit) is.parent ∙ limited,
-            now.rest_are ∙ ap (λ l. children l g.clauses) (sym is.longer),
             omega (arith, few, fewer),
           ),
           h.tasks_are.1,
         ),
       )
       (λ s.
-      let all = sum_first s (Children f keys) xs in
-      let whole = ap (sum_by s) split ∙ sum_by-append s rest.items (key ∷ []) in
-      let last = sum_by-cons s key [] in
-      let of = ap s same in
-      let one = sum_by-cons s b.key (all_keys (Children g rest ∷ xs)) in
-      let others = sum_first s (Children g rest) xs in
-      omega (arith, all, whole, last, of, one, others))
+      ap (λ keys. sum_by s (keys ++ all_keys xs)) (children_parted f g b is))
 
   -- The last child is left.
-  pub last_parted : (f g : Fork) (b : Held) (keys : Vec Key Global) (xs : List (Task N)) (pass : PassSeen) → IsChild P f g b
-      → length keys.items ≤ 1 → Has P tree pass (Children f keys ∷ xs) → Has P tree pass (One b ∷ xs)
-  last_parted f g b keys xs pass is last h =
-      let (t, come, limited, keys_are, few) = h.tasks_are.0 in
-      let only : keys.items ≡ b.key ∷ [] =
-      only_key keys.items (f.longer ++ is.clause ∷ []) (children f.longer g.clauses) last (keys_are ∙ ap (children f.longer) is.next)
-      ∙ ap (λ (k : Key). k ∷ []) (sym is.key) in
-      has_others pass (Children f keys ∷ xs) (One b ∷ xs) h (child_stands P tree.about.limit f g b t is come limited, h.tasks_are.1)
-      (λ s. ap (λ ks. sum_by s (ks ++ all_keys xs)) only)
+  pub last_parted : (f g : Fork) (b : Held) (xs : List (Task N)) (pass : PassSeen) → IsChild P f g b
+      → length f.clauses ≡ 1 → Has P tree pass (Children f ∷ xs) → Has P tree pass (One b ∷ xs)
+  last_parted f g b xs pass is last h =
+      let (t, come, limited, few) = h.tasks_are.0 in
+      let whole = ap (λ (cs : List ℕ). length cs) is.next in
+      let none : g.clauses ≡ [] = nil_from_length g.clauses (omega (arith, last, whole)) in
+      has_others pass (Children f ∷ xs) (One b ∷ xs) h (child_stands P tree.about.limit f g b t is come limited, h.tasks_are.1)
+      (λ s. ap (λ keys. sum_by s (keys ++ all_keys xs)) (children_parted f g b is ∙ ap (λ cs. b.key ∷ children g.longer cs) none))
 
   -- (there is a tree of which they are the children)
-  pub children_there : (f : Fork) (keys : Vec Key Global) (xs : List (Task N)) (pass : PassSeen) → Has P tree pass (Children f keys ∷ xs)
+  pub children_there : (f : Fork) (xs : List (Task N)) (pass : PassSeen) → Has P tree pass (Children f ∷ xs)
       → (t : QueryTree P.program) × AreChildren P f t
-  children_there f keys xs pass h = (h.tasks_are.0.0, h.tasks_are.0.1)
+  children_there f xs pass h = (h.tasks_are.0.0, h.tasks_are.0.1)
 
-  -- The keys of children are given up.
-  pub has_given_up : (f : Fork) (keys : Vec Key Global) (xs : List (Task N)) (p q : PassSeen) → q.tree ≡ p.tree
-      → SameItems q.hand (all_keys xs) → Has P tree p (Children f keys ∷ xs) → Has P tree q xs
-  has_given_up f keys xs p q of same h = record { of_tree = of ∙ h.of_tree; hand = same; tasks_are = h.tasks_are.1 }
+  -- They are given up.
+  pub has_given_up : (f : Fork) (xs : List (Task N)) (p q : PassSeen) → q.tree ≡ p.tree
+      → SameItems q.hand (all_keys xs) → Has P tree p (Children f ∷ xs) → Has P tree q xs
+  has_given_up f xs p q of same h = record { of_tree = of ∙ h.of_tree; hand = same; tasks_are = h.tasks_are.1 }
 
--- ---- keys that end one by one
+  -- There is none.
+  pub has_no_child : (f : Fork) (xs : List (Task N)) (pass : PassSeen) → f.clauses ≡ [] → Has P tree pass (Children f ∷ xs) → Has P tree pass xs
+  has_no_child f xs pass none h =
+      has_given_up f xs pass pass refl (subst (λ cs. SameItems pass.hand (children f.longer cs ++ all_keys xs)) none h.hand) h
 
--- The last of the first keys is in the hand,
-pub last_in_hand : (hand keys rest others : List Key) (key : Key) → keys ≡ rest ++ key ∷ [] → SameItems hand (keys ++ others)
-    → Contains hand key
-last_in_hand hand keys rest others key split same =
-    same_keys hand (keys ++ others) same key
-    (Contains-append_left keys others key
-    (subst (λ ks. Contains ks key) (sym split) (Contains-append_right rest (key ∷ []) key (contains_first key []))))
-
--- and where it ended the others are.
-pub key_ended : (keys rest others : List Key) (key : Key) (how : Ending) (is_last : Bool) (p q : PassSeen) → keys ≡ rest ++ key ∷ []
-    → Makes (plain.end p.team key how) (plain.last is_last) p q → SameItems p.hand (keys ++ others) → SameItems q.hand (rest ++ others)
-key_ended keys rest others key how is_last p q split m same = λ f.
-    let ended = ended_sum f key how is_last p q m in
-    let all = same f in
-    let whole = sum_by-append f keys others in
-    let parts = ap (sum_by f) split ∙ sum_by-append f rest (key ∷ []) in
-    let one = sum_by-cons f key [] in
-    let left = sum_by-append f rest others in
-    omega (arith, ended, all, whole, parts, one, left)
+  -- The only one that was left is given up.
+  pub has_last_given_up : (f : Fork) (key : Key) (c : ℕ) (xs : List (Task N)) (is_last : Bool) (p q : PassSeen) → length f.clauses ≡ 1
+      → drop 0 f.clauses ≡ c ∷ drop 1 f.clauses → key ≡ f.longer ++ c ∷ []
+      → Makes (plain.end p.team key plain.given_up) (plain.last is_last) p q → Has P tree p (Children f ∷ xs) → Has P tree q xs
+  has_last_given_up f key c xs is_last p q one next is m h =
+      let none : drop 1 f.clauses ≡ [] = drop_all 1 f.clauses (omega (arith, one)) in
+      has_given_up f xs p q m.tree
+      (child_ended (all_keys xs) key f.longer f.clauses [] c plain.given_up is_last p q (next ∙ ap (λ cs. c ∷ cs) none) is m h.hand) h

@@ -4,7 +4,6 @@ pub mod Gathering
 pub mod Beginning
 pub mod Whole
 pub mod Having
-pub mod Keys
 pub mod Sharing
 pub mod Judging
 pub mod Turns

@@ -1,5 +1,5 @@
 -- How a team goes on with one of its branches, by what the state of the branch is.
-use Rattle.std.proofs.Common.{ℕ, ◌+◌, ◌^◌, ◌≡◌, ◌<◌, ◌≤◌, Bool, true, false, true≢false, ◌||◌, List, [], ◌∷◌, ◌++◌, length, reverse, Vec}
+use Rattle.std.proofs.Common.{ℕ, ◌+◌, ◌^◌, ◌≡◌, ◌<◌, ◌≤◌, Bool, true, false, true≢false, ◌||◌, List, [], ◌∷◌, ◌++◌, length, Vec}
 use Rattle.std.proofs.Common.{append-nil, refl, sym, ap, ◌∙◌, subst, arith}
 use Rattle.std.specs.declared.alloc.Global.{Global}
 use Rattle.std.specs.Prelude.{flat_map, Option, Some, Result, Ok, Err, OnOk, OnErr}
@@ -7,7 +7,7 @@ use Rattle.std.specs.Result.{is_err}
 use Rattle.std.specs.Option.{option_or}
 use Rattle.std.proofs.Math.Bool.{or-false}
 use Rattle.std.proofs.lemmas.Result.{on_ok_weaker}
-use Rattle.std.proofs.lemmas.List.{length-map, length-reverse}
+use Rattle.std.proofs.lemmas.List.{length-map}
 use Rattle.std.proofs.lemmas.List.Sums.{sum_by-cons}
 use Rattle.and_model.specs.Listing
 use Rattle.and_model.specs.Listing.{Outcome, Ends}
@@ -24,7 +24,7 @@ use Rattle.and_program.specs.declared.loaded.Loaded.{Loaded}
 use Rattle.and_cells.specs.Parts.{named}
 use Rattle.and_cells.specs.Ranges.{NamedProgram}
 use Rattle.and_histories.specs.PlainTree as plain
-use Rattle.and_histories.specs.PlainTree.{Key, Event, Reply, Ending, answered, retired, given_up, end, last, forked, children}
+use Rattle.and_histories.specs.PlainTree.{Key, Event, Reply, Ending, answered, retired, given_up, end, last, forked}
 use Rattle.and_tree.specs.Few.{most_in_hand}
 use Rattle.and_tree.specs.Passes.{TreeId, PassSeen, Makes}
 use Rattle.and_tree.specs.Plain.{Tally, ended_so}
@@ -62,17 +62,6 @@ few_clauses P l same =
     let mapped = length-map l.clauses.items (entry_clause (shapes_of l.nodes.items)) in
     let few = l.kept.few_clauses in
     omega (arith, whole, mapped, few)
-
--- The children of a fork stand for trees of their keys.
-pub children_task : (P : NamedProgram) (limit : ℕ) (f : Fork) (keys : List Key) (t : QueryTree P.program) → AreChildren P f t → f.parent.limit ≡ limit
-    → reverse keys ≡ children f.longer f.clauses → length f.clauses ≤ 2 ^ 16
-    → (t : QueryTree P.program) × AreChildren P f t × (f.parent.limit ≡ limit) × (reverse keys ≡ children f.longer f.clauses)
-    × (length keys ≤ 2 ^ 16)
-children_task P limit f keys t are limited keys_are few =
-    let turned = length-reverse keys in
-    let same = ap (λ (ks : List Key). length ks) keys_are in
-    let mapped = length-map f.clauses (λ (c : ℕ). f.longer ++ c ∷ []) in
-    (t, are, limited, keys_are, omega (arith, turned, same, mapped, few))
 
 -- what a call ensures that went well
 pub went_well : {T E A : Type 0} (r : Result T E) → is_err r ≡ false → OnOk r A → A
@@ -242,14 +231,13 @@ module _ {N : Type 0} (P : NamedProgram) (tree : TreeId) where
   few_in_hand p b tasks clauses h few short = omega (arith, hand_bounded P tree p (One b ∷ tasks) h, few, short)
 
   -- The children are a task in the place of the branch.
-  pub forked_works : (p q : PassSeen) (old new : Found) (f : Fork) (keys : Vec Key Global) (tasks : List (Task N))
+  pub forked_works : (p q : PassSeen) (old new : Found) (f : Fork) (tasks : List (Task N))
       (t : QueryTree P.program) (o : Open t) (first : Option ℕ) (cut : Option goal.Cut.Cut)
       → Works P tree p old (One f.parent ∷ tasks) → IsBranchOf P f.parent t → AreChildren P f t → IsCutOf P t o first cut
       → StateOf P.program f.parent.limit t (fork o f.clauses first) → length f.clauses ≤ 2 ^ 16
       → listed new ≡ listed old → new.forks ≡ total old.forks 1 → new.failed ≡ old.failed → new.cut ≡ option_or old.cut cut
-      → reverse keys.items ≡ children f.longer f.clauses
-      → Makes (plain.fork p.team f.parent.key f.longer f.clauses) forked p q → Works P tree q new (Children f keys ∷ tasks)
-  forked_works p q old new f keys tasks t o first cut w branch are is_cut state few entries forks failed kept keys_are makes =
+      → Makes (plain.fork p.team f.parent.key f.longer f.clauses) forked p q → Works P tree q new (Children f ∷ tasks)
+  forked_works p q old new f tasks t o first cut w branch are is_cut state few entries forks failed kept makes =
       let limit : ℕ = tree.about.limit in
       let b : Held = f.parent in
       let limited : b.limit ≡ limit = w.has.tasks_are.0.limited in
@@ -260,7 +248,7 @@ module _ {N : Type 0} (P : NamedProgram) (tree : TreeId) where
       let so_far = forked_end P limit old new tells.forks tells.failed tells.is_cut t o b.key f.clauses first cut
       (reached_at P limit b t branch limited) (state_within P limit b t (fork o f.clauses first) limited state) is_cut forks failed kept tells.end in
       record {
-        has = has_forked P tree f keys tasks p q makes (children_task P limit f keys.items t are limited keys_are few) w.has;
+        has = has_forked P tree f tasks p q makes (t, are, limited, few) w.has;
         tells = tells_more P.program limit (plain.fork p.team b.key f.longer f.clauses) forked p q old new [] 1 0 (is_there first) tells makes refl did
             (entries ∙ sym (append-nil (listed old)))
             (subst (λ n. IsEndSoFar P.program limit new (tells.forks + 1) n (tells.is_cut || is_there first) new.cut) (omega arith) so_far)

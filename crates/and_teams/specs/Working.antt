@@ -1,5 +1,5 @@
 -- What a team keeps while it works, and when it is done (this project's own).
-use Rattle.std.specs.Prelude.{ℕ, ◌≡◌, ◌≤◌, ◌^◌, Bool, List, [], ◌∷◌, length, reverse, flat_map, Option, None, Some}
+use Rattle.std.specs.Prelude.{ℕ, ◌≡◌, ◌≤◌, ◌^◌, Bool, List, [], ◌∷◌, length, flat_map, Option, None, Some}
 use Rattle.and_model.specs.Programs.{Program}
 use Rattle.and_model.specs.Trees.{QueryTree}
 use Rattle.and_cells.specs.Ranges.{NamedProgram}
@@ -25,17 +25,15 @@ pub record Tells (P : Program) (limit : ℕ) (pass : PassSeen) (found : Found) :
   pub counted : found.forks ≡ (tally_of (calls pass.seen pass.team)).forks
   pub end : IsEndSoFar P limit found forks failed is_cut found.cut
 
--- the keys of a task, the next one last
+-- the keys of a task, the next one first
 abbrev pub keys_of : {N : Type 0} → Task N → List Key
 keys_of (One b) = b.key ∷ []
-keys_of (Children f keys) = keys.items
+keys_of (Children f) = children f.longer f.clauses
 
 -- A task stands for trees of its keys. A fork has no more children than there are clause numbers.
 abbrev pub IsTask : {N : Type 0} (P : NamedProgram) (limit : ℕ) → Task N → Type 0
 IsTask P limit (One b) = StandsWithin P limit b
-IsTask P limit (Children f keys) =
-    (t : QueryTree P.program) × AreChildren P f t × (f.parent.limit ≡ limit) × (reverse keys.items ≡ children f.longer f.clauses)
-    × (length keys.items ≤ 2 ^ 16)
+IsTask P limit (Children f) = (t : QueryTree P.program) × AreChildren P f t × (f.parent.limit ≡ limit) × (length f.clauses ≤ 2 ^ 16)
 
 abbrev pub AreTasks : {N : Type 0} (P : NamedProgram) (limit : ℕ) → List (Task N) → Type 0
 AreTasks P limit [] = Unit {0}

@@ -15,23 +15,24 @@ ghost use Rattle.and_branch.specs.Children.{AreChildren};
 ghost use Rattle.and_branch.specs.Ended.{HasEnded};
 ghost use Rattle.and_branch.specs.States.{IsState, IsAtRest, IsCutOf};
 ghost use Rattle.and_answers.specs.Kept.{SameEnd, listed, entry_of};
-ghost use Rattle.and_histories.specs.PlainTree.{Key, Owns};
+ghost use Rattle.and_histories.specs.PlainTree.{Key, Owns, children};
 ghost use Rattle.and_walk.specs.Walking.{EndsSo, IsAdvanced, SameButCut};
 ghost use Rattle.and_team_laws.specs.Owed.{SameItems};
 ghost use Rattle.and_teams.specs.Working.{Has, Works, some_task};
 ghost use Rattle.and_teams.specs.declared.team.TheConstants.{MOST_TASKS};
 
 use crate::placed::{PlacedBranch, PlacedSplit};
-use crate::stack::{Task, keys_of_children};
+use crate::stack::Task;
 use and_answers::{Entry, Found};
 use and_branch::{Branch, BranchList, BranchState, Split, Workspace};
 use and_cells::Naming;
 use and_determinacy::Determinacy;
 use and_io::Gate;
-use and_model::{ClauseList, Code, Cut, Goal};
+use and_model::{ClauseList, Cut, Goal};
 use and_program::Loaded;
 use and_tree::{CELLS_PER_TEAM, CellSeen, Claimed, Published, Tree, TreePass};
 use std::alloc::{AllocError, Global};
+use std::snapshot::Snapshot;
 
 /// A team that has more tasks forks no more: so its hand has no more keys than a tree allows. No team comes
 /// so far, since it would have as many branches.
@@ -135,7 +136,7 @@ impl<N: Naming> Team<N> {
     {
         match self.stack.pop() {
             Some(Task::One(branch)) => self.explore(shared, branch)?,
-            Some(Task::Children(list, keys)) => self.explore_next(shared, list, keys)?,
+            Some(Task::Children(list)) => self.explore_next(shared, list)?,
             None => return Ok(false),
         }
         Ok(true)
@@ -146,16 +147,15 @@ impl<N: Naming> Team<N> {
         &mut self,
         shared: &Shared<N, G>,
         list: BranchList<N>,
-        keys: Vec<Code>,
     ) -> Result<(), AllocError>
         requires program { N.program ≡ named shared.now.loaded.now }
         requires table { IsTableOf N.program shared.now.table.now }
-        requires works { Works N.program shared.now.tree.now self.old.pass self.old.found (Task.Children list keys ∷ self.old.stack.items) }
+        requires works { Works N.program shared.now.tree.now self.old.pass self.old.found (Task.Children list ∷ self.old.stack.items) }
         ensures has { Has N.program shared.now.tree.now self.new.pass (self.new.stack.items) }
         ensures works { OnOk result (Works N.program shared.now.tree.now self.new.pass self.new.found (self.new.stack.items)) }
         ensures same { self.new.number ≡ self.old.number }
     {
-        let (child, rest) = self.next_child(shared, list, keys)?;
+        let (child, rest) = self.next_child(shared, list)?;
         let Some(task) = rest else {
             return self.explore(shared, child);
         };
@@ -172,28 +172,50 @@ impl<N: Naming> Team<N> {
         &mut self,
         shared: &Shared<N, G>,
         mut list: BranchList<N>,
-        mut keys: Vec<Code>,
     ) -> Result<(Branch<N>, Option<Task<N>>), AllocError>
         requires program { N.program ≡ named shared.now.loaded.now }
-        requires has { Has N.program shared.now.tree.now self.old.pass (Task.Children list keys ∷ self.old.stack.items) }
+        requires has { Has N.program shared.now.tree.now self.old.pass (Task.Children list ∷ self.old.stack.items) }
         ensures same { (self.new.number ≡ self.old.number) × (self.new.found ≡ self.old.found) × (self.new.stack ≡ self.old.stack) }
         ensures child { IfOk result (λ next. (self.new.pass ≡ self.old.pass)
             × Has N.program shared.now.tree.now self.new.pass (Task.One next.0 ∷ some_task next.1 ++ self.new.stack.items)) }
         ensures given_up { OnErr result (Has N.program shared.now.tree.now self.new.pass (self.new.stack.items)) }
     {
-        if keys.len() <= 1 {
-            let next = list.into_next(shared.loaded, &mut self.workspace);
-            if let Ok(Some(child)) = next {
-                return Ok((child, None));
-            }
-        } else {
-            let next = list.next(shared.alloc, shared.loaded, &mut self.workspace);
-            if let Ok(Some(child)) = next {
-                drop(keys.pop());
-                return Ok((child, Some(Task::Children(list, keys))));
+        if list.left() == 1 {
+            let child = self.last_child(shared, list)?;
+            return Ok((child, None));
+        }
+        match list.next(shared.alloc, shared.loaded, &mut self.workspace) {
+            Ok(Some(child)) => Ok((child, Some(Task::Children(list)))),
+            Ok(None) => Err(AllocError),
+            Err(AllocError) => {
+                self.give_up_children(shared, &list);
+                Err(AllocError)
             }
         }
-        self.give_up_keys(shared, keys);
+    }
+
+    /// The last child of a fork, in the place of the branch that was forked. After want of memory it has
+    /// been given up.
+    fn last_child<G: Gate>(
+        &mut self,
+        shared: &Shared<N, G>,
+        list: BranchList<N>,
+    ) -> Result<Branch<N>, AllocError>
+        requires program { N.program ≡ named shared.now.loaded.now }
+        requires one { length list.clauses ≡ 1 }
+        requires has { Has N.program shared.now.tree.now self.old.pass (Task.Children list ∷ self.old.stack.items) }
+        ensures same { (self.new.number ≡ self.old.number) × (self.new.found ≡ self.old.found) × (self.new.stack ≡ self.old.stack) }
+        ensures child { IfOk result (λ child. (self.new.pass ≡ self.old.pass)
+            × Has N.program shared.now.tree.now self.new.pass (Task.One child ∷ self.new.stack.items)) }
+        ensures given_up { OnErr result (Has N.program shared.now.tree.now self.new.pass (self.new.stack.items)) }
+    {
+        let longer = Snapshot::of(list.longer());
+        let clause = list.clause_left(0);
+        let next = list.into_next(shared.loaded, &mut self.workspace);
+        if let Ok(Some(child)) = next {
+            return Ok(child);
+        }
+        shared.tree.give_up_child(&mut self.pass, longer, clause);
         Err(AllocError)
     }
 
@@ -312,15 +334,11 @@ impl<N: Naming> Team<N> {
         ensures works { OnOk result (Works N.program shared.now.tree.now self.new.pass self.new.found (self.new.stack.items)) }
         ensures same { self.new.number ≡ self.old.number }
     {
-        let Ok(keys) = keys_of_children(shared.alloc, split.longer(), split.clauses()) else {
-            shared.tree.give_up(&mut self.pass, split.key());
-            return Err(AllocError);
-        };
         let placed = PlacedSplit { split };
         shared.tree.fork(&mut self.pass, &placed);
         self.found.count_fork();
         keep_cut(&mut self.found, cut);
-        self.put(shared, Task::Children(placed.split.into_children(), keys))
+        self.put(shared, Task::Children(placed.split.into_children()))
     }
 
     /// Adds what a branch ended with.
@@ -406,7 +424,7 @@ impl<N: Naming> Team<N> {
             return true;
         }
         match self.stack.first() {
-            Some(Task::Children(_, keys)) => keys.len() > 1,
+            Some(Task::Children(list)) => list.left() > 1,
             Some(Task::One(_)) => false,
             None => false,
         }
@@ -479,7 +497,7 @@ impl<N: Naming> Team<N> {
     {
         match self.stack.remove(0) {
             Task::One(branch) => Ok((branch, None)),
-            Task::Children(list, keys) => self.next_child(shared, list, keys),
+            Task::Children(list) => self.next_child(shared, list),
         }
     }
 
@@ -563,20 +581,24 @@ impl<N: Naming> Team<N> {
             Task::One(branch) => {
                 shared.tree.give_up(&mut self.pass, branch.key());
             }
-            Task::Children(_list, keys) => self.give_up_keys(shared, keys),
+            Task::Children(list) => self.give_up_children(shared, &list),
         }
     }
 
-    /// Gives up the children of a fork.
-    fn give_up_keys<G: Gate>(&mut self, shared: &Shared<N, G>, mut keys: Vec<Code>)
+    /// Gives up the children of a fork that are still to come.
+    fn give_up_children<G: Gate>(&mut self, shared: &Shared<N, G>, list: &BranchList<N>)
         requires tree { self.old.pass.tree ≡ shared.now.tree.now }
-        requires hand { (rest : List Key) × SameItems self.old.pass.hand (keys.items ++ rest) }
-        ensures hand { (rest : List Key) → SameItems self.old.pass.hand (keys.items ++ rest) → SameItems self.new.pass.hand rest }
+        requires hand { (rest : List Key) × SameItems self.old.pass.hand (children list.now.longer list.now.clauses ++ rest) }
+        ensures hand { (rest : List Key) → SameItems self.old.pass.hand (children list.now.longer list.now.clauses ++ rest)
+            → SameItems self.new.pass.hand rest }
         ensures tree { self.new.pass.tree ≡ self.old.pass.tree }
         ensures same { (self.new.number ≡ self.old.number) × (self.new.found ≡ self.old.found) × (self.new.stack ≡ self.old.stack) }
     {
-        while let Some(key) = keys.pop() {
-            shared.tree.give_up(&mut self.pass, &key);
+        for place in 0..list.left() {
+            let longer = Snapshot::of(list.longer());
+            shared
+                .tree
+                .give_up_child(&mut self.pass, longer, list.clause_left(place));
         }
     }
 }

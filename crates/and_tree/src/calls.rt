@@ -1,9 +1,9 @@
 //! The calls that a team makes with its pass.
 
-ghost use Rattle.std.specs.Prelude.{◌≡◌, ◌+◌, ◌*◌, ◌<◌, ◌≤◌, ◌∷◌, [], ℕ, length, Contains, Some, None};
+ghost use Rattle.std.specs.Prelude.{◌≡◌, ◌+◌, ◌++◌, ◌*◌, ◌<◌, ◌≤◌, ◌∷◌, [], ℕ, length, Contains, Some, None};
 ghost use Rattle.and_model.specs.Prefixes.{IsPrefix};
 ghost use Rattle.and_histories.specs.PlainTree.{Event, Reply, Key, Owns, Ending, last_serial};
-ghost use Rattle.and_tree.specs.Counted.{ending_of};
+ghost use Rattle.and_tree.specs.Counted.{ending_of, with_last};
 ghost use Rattle.and_tree.specs.Few.{most_in_hand};
 ghost use Rattle.and_tree.specs.Passes.{Makes, Takes, Hears, Meets};
 ghost use Rattle.and_tree.specs.Replies.{seen_of, is_last};
@@ -18,9 +18,10 @@ use crate::replies::{CellSeen, Claimed, Last, Published};
 use crate::tree::Tree;
 use crate::view::View;
 use crate::words::{FREE, LAST_SERIAL, OPEN, content_in, seen_in_word, serial_in, word_of};
-use and_model::Code;
+use and_model::{ClauseNo, Code};
 use atomic_table::Seat;
 use std::marker::Brand;
+use std::snapshot::Snapshot;
 
 impl<B: Keyed + Drop> Tree<B> {
     /// Puts a branch into the slot of a cell of its own that was found free, and opens the cell.
@@ -61,13 +62,19 @@ impl<B: Keyed + Drop> Tree<B> {
         }
     }
 
-    /// Ends a key in hand.
-    fn end(&self, pass: &mut TreePass<B>, key: &Code, how: Ended) -> Last
+    /// Ends a key in hand: this one, with a clause at its end if there is one. Only contracts read it.
+    fn end(
+        &self,
+        pass: &mut TreePass<B>,
+        longer: Snapshot<Code>,
+        last: Option<ClauseNo>,
+        how: Ended,
+    ) -> Last
         requires tree { pass.old.tree ≡ self.now }
-        requires hand { Contains pass.old.hand key.now }
-        ensures { Makes (Event.end pass.old.team key.now (ending_of how)) (Reply.last (is_last result)) pass.old pass.new }
+        requires hand { Contains pass.old.hand (with_last longer.value last) }
+        ensures { Makes (Event.end pass.old.team (with_last longer.value last) (ending_of how)) (Reply.last (is_last result)) pass.old pass.new }
     {
-        let found = self.take_from_live::<Brand>(&mut pass.seat, key, how);
+        let found = self.take_from_live::<Brand>(&mut pass.seat, longer, last, how);
         pass.counts.count_end(how);
         if found == 1 { Last::Yes } else { Last::No }
     }
@@ -159,7 +166,7 @@ impl<B: Keyed + Drop> Tree<B> {
         requires hand { Contains pass.old.hand key.now }
         ensures { Makes (Event.end pass.old.team key.now Ending.answered) (Reply.last (is_last result)) pass.old pass.new }
     {
-        self.end(pass, key, Ended::Answered)
+        self.end(pass, Snapshot::of(key), None, Ended::Answered)
     }
 
     /// Ends a key in hand: its branch has failed or outgrown the limit. Takes no memory.
@@ -168,7 +175,7 @@ impl<B: Keyed + Drop> Tree<B> {
         requires hand { Contains pass.old.hand key.now }
         ensures { Makes (Event.end pass.old.team key.now Ending.retired) (Reply.last (is_last result)) pass.old pass.new }
     {
-        self.end(pass, key, Ended::Retired)
+        self.end(pass, Snapshot::of(key), None, Ended::Retired)
     }
 
     /// Ends a key in hand, for want of memory. Takes no memory.
@@ -177,7 +184,22 @@ impl<B: Keyed + Drop> Tree<B> {
         requires hand { Contains pass.old.hand key.now }
         ensures { Makes (Event.end pass.old.team key.now Ending.given_up) (Reply.last (is_last result)) pass.old pass.new }
     {
-        self.end(pass, key, Ended::GivenUp)
+        self.end(pass, Snapshot::of(key), None, Ended::GivenUp)
+    }
+
+    /// Ends a key in hand, for want of memory: that of a child by this clause, which need not have been
+    /// made. Takes no memory.
+    pub fn give_up_child(
+        &self,
+        pass: &mut TreePass<B>,
+        longer: Snapshot<Code>,
+        clause: ClauseNo,
+    ) -> Last
+        requires tree { pass.old.tree ≡ self.now }
+        requires hand { Contains pass.old.hand (longer.value ++ clause.0 ∷ []) }
+        ensures { Makes (Event.end pass.old.team (longer.value ++ clause.0 ∷ []) Ending.given_up) (Reply.last (is_last result)) pass.old pass.new }
+    {
+        self.end(pass, longer, Some(clause), Ended::GivenUp)
     }
 
     /// How many keys are in a hand or open. Takes no memory.

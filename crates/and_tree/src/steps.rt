@@ -2,7 +2,7 @@
 
 ghost use Rattle.std.specs.Prelude.{◌≡◌, ◌≢◌, ◌⊎◌, ◌+◌, ◌*◌, ◌<◌, ◌≤◌, [], ◌∷◌, Some, None, List, length, ℕ};
 ghost use Rattle.and_histories.specs.PlainTree.{Event, Key, last_serial};
-ghost use Rattle.and_tree.specs.Counted.{ending_of};
+ghost use Rattle.and_tree.specs.Counted.{ending_of, with_last};
 ghost use Rattle.and_tree.specs.Kept.{word_with};
 ghost use Rattle.and_tree.specs.Sight.{mine_of, IsAlone, Work, at_rest, opening_cell, clearing_cell};
 ghost use Rattle.and_tree.specs.Told.{CanCall, CallTold, PublishTold, ClaimTold, HasBranch, HearTold, added_by};
@@ -13,8 +13,9 @@ use crate::plays::{Calling, Calls, Claims, Learns, LooksToPublish};
 use crate::tree::Tree;
 use crate::view::View;
 use crate::words::{FIRST_TAKING, FREE, OPEN, word_of};
-use and_model::Code;
+use and_model::{ClauseNo, Code};
 use atomic_table::Seat;
+use std::snapshot::Snapshot;
 
 /// One less than so many, and the largest number for none.
 fn one_less(clauses: u64) -> u64
@@ -48,16 +49,18 @@ impl<B: Keyed + Drop> Tree<B> {
     pub(crate) fn take_from_live<C: Calling>(
         &self,
         seat: &mut Seat<Option<B>, View>,
-        key: &Code,
+        longer: Snapshot<Code>,
+        last: Option<ClauseNo>,
         how: Ended,
     ) -> u64
         requires same { (seat.old.table_id ≡ self.now.table) × (seat.old.me.1 ≡ []) }
         requires can { CanCall self.now.about seat.old.me.0 C.event × ((mine_of seat.old.me.0).work ≡ at_rest) }
-        requires ends { C.event ≡ Event.end (mine_of seat.old.me.0).team key.now (ending_of how) }
+        requires ends { C.event ≡ Event.end (mine_of seat.old.me.0).team (with_last longer.value last) (ending_of how) }
         ensures same { seat.new.table_id ≡ seat.old.table_id }
         ensures told { CallTold C.event seat.old.me.0 result seat.new.me.0 × (seat.new.me.1 ≡ []) }
     {
-        let _key = key;
+        let _longer = longer;
+        let _last = last;
         let _how = how;
         self.table.shared.fetch_sub::<Calls<C>>(seat, LIVE, 1)
     }

@@ -17,8 +17,8 @@ give_up-requires-clause-hand g c =
     key_there P tree pass c.in-One.branch others c.key.result.now c.key.ensures
     (subst (λ (t : Task g.row.N.Denot). Has P tree pass (t ∷ others)) c.in-One.is has)
 
-pub give_up_keys-requires-clause-hand : goal.give_up_keys-requires-clause-hand
-give_up_keys-requires-clause-hand g c κs within =
+pub give_up_children-requires-clause-hand : goal.give_up_children-requires-clause-hand
+give_up_children-requires-clause-hand g c κs within =
     let P : NamedProgram = g.N.Naming.program in
     let tree : TreeId = c.args.shared.now.tree.now in
     let pass : PassSeen = c.args.self.now.pass in

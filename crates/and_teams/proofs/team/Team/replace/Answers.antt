@@ -4,30 +4,14 @@ use Rattle.std.specs.Option.{option_or}
 use Rattle.and_model.specs.declared.goal.Cut.{Cut}
 use Rattle.std.proofs.lemmas.Result.{on_ok_weaker}
 use Rattle.and_cells.specs.Ranges.{NamedProgram}
-use Rattle.and_histories.specs.PlainTree as plain
-use Rattle.and_histories.specs.PlainTree.{Key, children}
 use Rattle.and_branch.specs.Children.{Fork}
-use Rattle.and_branch.specs.States.{numbers}
 use Rattle.and_tree.specs.Passes.{TreeId}
-use Rattle.and_tree.specs.Replies.{is_last}
 use Rattle.and_teams.specs.Working.{Has, Works}
 use Rattle.and_teams.specs.declared.stack.Task.TheVariants.{Children}
-use Rattle.and_teams.proofs.Having.{key_there, has_ended_under}
+use Rattle.and_teams.proofs.Having.{key_there}
 use Rattle.and_teams.proofs.Sharing.{has_either, works_put}
 use Rattle.and_teams.proofs.Turns.{begins_longer, few_children, few_in_hand, forked_works}
 use Rattle.and_teams.proofs.team.Team.replace.Goals as goal
-
-pub give_up-requires-clause-hand : goal.give_up-requires-clause-hand
-give_up-requires-clause-hand g c =
-    let s = c.args.self.now in
-    key_there g.N.Naming.program c.args.shared.now.tree.now s.pass c.args.split.parent s.stack.items c.key.result.now c.key.ensures
-    c.requires.works.has
-
-pub returns-in_default-clause-has : goal.returns-in_default-clause-has
-returns-in_default-clause-has g c =
-    let s = c.args.self.now in
-    has_ended_under g.N.Naming.program c.args.shared.now.tree.now c.key.result.now c.args.split.parent s.stack.items plain.given_up
-    (is_last c.give_up.result) s.pass c.give_up.new.pass c.key.ensures c.give_up.ensures c.requires.works.has
 
 pub fork-requires-clause-hand : goal.fork-requires-clause-hand
 fork-requires-clause-hand g c =
@@ -55,18 +39,15 @@ put-requires-clause-has g c κs within =
     let tree : TreeId = c.args.shared.now.tree.now in
     let s = c.args.self.now in
     let f : Fork = c.args.split in
-    let keys = c.in-Ok.keys in
     let (t, o, first, branch, are, is_cut, state) = c.requires.split in
     let counted = c.count_fork.ensures in
     let kept = c.keep_cut.ensures in
-    let keys_are = c.in-Ok.ensures ∙ ap (λ (k : Key). children k (numbers c.clauses.result.now)) c.longer.ensures
-    ∙ ap (λ (cs : List ℕ). children f.longer cs) c.clauses.ensures in
-    let forked = forked_works P tree s.pass c.fork.new.pass s.found c.keep_cut.new.found f keys s.stack.items t o first c.args.cut c.requires.works
+    let forked = forked_works P tree s.pass c.fork.new.pass s.found c.keep_cut.new.found f s.stack.items t o first c.args.cut c.requires.works
     branch are is_cut state (few_children P c.args.shared.now.loaded.now f t o first c.requires.program state) (kept.same.entries ∙ counted.rest.1)
     (kept.same.forks ∙ counted.forks) (kept.same.failed ∙ counted.failed)
-    (kept.cut ∙ ap (λ (x : Option Cut). option_or x c.args.cut) counted.rest.0) keys_are c.fork.ensures in (
+    (kept.cut ∙ ap (λ (x : Option Cut). option_or x c.args.cut) counted.rest.0) c.fork.ensures in (
       s.stack.items,
-      subst (λ (l : Fork). Has P tree c.fork.new.pass (Children l keys ∷ s.stack.items)) (sym c.into_children.ensures) forked.has,
+      subst (λ (l : Fork). Has P tree c.fork.new.pass (Children l ∷ s.stack.items)) (sym c.into_children.ensures) forked.has,
     )
 
 pub returns-clause-works : goal.returns-clause-works
@@ -75,19 +56,16 @@ returns-clause-works g c =
     let tree : TreeId = c.args.shared.now.tree.now in
     let s = c.args.self.now in
     let f : Fork = c.args.split in
-    let keys = c.in-Ok.keys in
     let (t, o, first, branch, are, is_cut, state) = c.requires.split in
     let counted = c.count_fork.ensures in
     let kept = c.keep_cut.ensures in
-    let keys_are = c.in-Ok.ensures ∙ ap (λ (k : Key). children k (numbers c.clauses.result.now)) c.longer.ensures
-    ∙ ap (λ (cs : List ℕ). children f.longer cs) c.clauses.ensures in
-    let forked = forked_works P tree s.pass c.fork.new.pass s.found c.keep_cut.new.found f keys s.stack.items t o first c.args.cut c.requires.works
+    let forked = forked_works P tree s.pass c.fork.new.pass s.found c.keep_cut.new.found f s.stack.items t o first c.args.cut c.requires.works
     branch are is_cut state (few_children P c.args.shared.now.loaded.now f t o first c.requires.program state) (kept.same.entries ∙ counted.rest.1)
     (kept.same.forks ∙ counted.forks) (kept.same.failed ∙ counted.failed)
-    (kept.cut ∙ ap (λ (x : Option Cut). option_or x c.args.cut) counted.rest.0) keys_are c.fork.ensures in
-    let w = subst (λ (l : Fork). Works P tree c.fork.new.pass c.keep_cut.new.found (Children l keys ∷ s.stack.items)) (sym c.into_children.ensures) forked in
+    (kept.cut ∙ ap (λ (x : Option Cut). option_or x c.args.cut) counted.rest.0) c.fork.ensures in
+    let w = subst (λ (l : Fork). Works P tree c.fork.new.pass c.keep_cut.new.found (Children l ∷ s.stack.items)) (sym c.into_children.ensures) forked in
     on_ok_weaker c.put.result
-    (works_put P tree c.fork.new.pass c.put.new.self.pass c.keep_cut.new.found c.put.new.self.found (Children c.into_children.result keys) s.stack.items
+    (works_put P tree c.fork.new.pass c.put.new.self.pass c.keep_cut.new.found c.put.new.self.found (Children c.into_children.result) s.stack.items
     c.put.new.self.stack.items w c.put.ensures.same.1)
     c.put.ensures.put
 
@@ -97,16 +75,13 @@ returns-clause-has g c =
     let tree : TreeId = c.args.shared.now.tree.now in
     let s = c.args.self.now in
     let f : Fork = c.args.split in
-    let keys = c.in-Ok.keys in
     let (t, o, first, branch, are, is_cut, state) = c.requires.split in
     let counted = c.count_fork.ensures in
     let kept = c.keep_cut.ensures in
-    let keys_are = c.in-Ok.ensures ∙ ap (λ (k : Key). children k (numbers c.clauses.result.now)) c.longer.ensures
-    ∙ ap (λ (cs : List ℕ). children f.longer cs) c.clauses.ensures in
-    let forked = forked_works P tree s.pass c.fork.new.pass s.found c.keep_cut.new.found f keys s.stack.items t o first c.args.cut c.requires.works
+    let forked = forked_works P tree s.pass c.fork.new.pass s.found c.keep_cut.new.found f s.stack.items t o first c.args.cut c.requires.works
     branch are is_cut state (few_children P c.args.shared.now.loaded.now f t o first c.requires.program state) (kept.same.entries ∙ counted.rest.1)
     (kept.same.forks ∙ counted.forks) (kept.same.failed ∙ counted.failed)
-    (kept.cut ∙ ap (λ (x : Option Cut). option_or x c.args.cut) counted.rest.0) keys_are c.fork.ensures in
-    let w = subst (λ (l : Fork). Has P tree c.fork.new.pass (Children l keys ∷ s.stack.items)) (sym c.into_children.ensures) forked.has in
-    has_either P tree c.put.result c.fork.new.pass c.put.new.self.pass (Children c.into_children.result keys) s.stack.items c.put.new.self.stack.items w
+    (kept.cut ∙ ap (λ (x : Option Cut). option_or x c.args.cut) counted.rest.0) c.fork.ensures in
+    let w = subst (λ (l : Fork). Has P tree c.fork.new.pass (Children l ∷ s.stack.items)) (sym c.into_children.ensures) forked.has in
+    has_either P tree c.put.result c.fork.new.pass c.put.new.self.pass (Children c.into_children.result) s.stack.items c.put.new.self.stack.items w
     c.put.ensures.put c.put.ensures.given_up

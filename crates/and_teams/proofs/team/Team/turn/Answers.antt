@@ -15,6 +15,6 @@ pub explore_next-requires-clause-works : goal.explore_next-requires-clause-works
 explore_next-requires-clause-works g c κs within =
     let s = c.args.self.now in
     let rest : List (Task g.row.N.Denot) = c.pop.new.self.items in
-    works_popped g.N.Naming.program c.args.shared.now.tree.now s.pass s.found (Children c.in-Some-Children.list c.in-Some-Children.keys) rest
+    works_popped g.N.Naming.program c.args.shared.now.tree.now s.pass s.found (Children c.in-Some-Children.list) rest
     s.stack.items c.requires.works
     (c.in-Some-Children.ensures.items ∙ ap (λ (x : Task g.row.N.Denot). rest ++ x ∷ []) c.in-Some-Children.field-0-is)
