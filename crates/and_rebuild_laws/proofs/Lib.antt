@@ -1,0 +1,5 @@
+pub mod Leaving
+pub mod Opening
+pub mod Framing
+pub mod Branches
+pub mod Candidates
