@@ -1,0 +1,16 @@
+mod Quiet
+mod Learning
+mod Asked
+mod Placed
+mod Steps
+mod Working
+mod Ending
+mod Solving
+mod Values
+mod Runs
+mod Comparing
+mod Writing
+mod Assigning
+mod Reducing
+mod Beginning
+mod Waited

@@ -1,0 +1,5 @@
+pub mod Asking
+pub mod Items
+pub mod Handed
+pub mod AtWork
+pub mod Running
