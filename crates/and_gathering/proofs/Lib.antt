@@ -1,0 +1,5 @@
+mod BodyGoals
+mod Loops
+mod Present
+mod Stepping
+mod Walking

@@ -1,0 +1,6 @@
+use Rattle.std.proofs.Common.{◌≡◌, flat_map, take}
+use Rattle.and_workers.specs.declared.told.Told.{Told}
+use Rattle.and_gathering.proofs.gathering.all_pairs.Given as goal
+
+abbrev pub invariant-loop-told : goal.invariant-loop-told
+invariant-loop-told l = l.pairs ≡ flat_map (λ (t : Told). t.pairs) (take l.told-index l.tolds)

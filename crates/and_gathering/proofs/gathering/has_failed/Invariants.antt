@@ -1,0 +1,6 @@
+use Rattle.std.proofs.Common.{◌≡◌, None, All, take}
+use Rattle.and_workers.specs.declared.told.Told.{Told}
+use Rattle.and_gathering.proofs.gathering.has_failed.Given as goal
+
+abbrev pub invariant-loop-told : goal.invariant-loop-told
+invariant-loop-told l = All (λ (t : Told). t.cause ≡ None) (take l.told-index l.tolds)
