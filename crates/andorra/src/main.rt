@@ -11,8 +11,8 @@ mod showing;
 mod tests;
 mod top;
 
-use and_io::{Quiet, StdSink, StdSource};
-use progress::{AfterLine, Progress};
+use and_io::{StdSink, StdSource};
+use progress::{AfterLine, Progress, Watch};
 use std::alloc::Global;
 use std::process::ExitCode;
 use std::{env, io};
@@ -46,18 +46,10 @@ fn main(rt: HostRuntime) -> ExitCode {
         // A word that is no text is no word of a command.
         Err(_) => Vec::new(alloc),
     };
+    let watch = Watch::new(progress_asked_for(&rt));
     let mut source = StdSource::new(rt.stdin());
-    let status = match progress_asked_for(&rt) {
-        Some(progress) => {
-            let mut sink = StdSink::new(AfterLine::new(&progress, rt.stdout()));
-            let status = andorra(&rt, alloc, &words, &mut source, &mut sink, &progress);
-            progress.clear();
-            status
-        }
-        None => {
-            let mut sink = StdSink::new(rt.stdout());
-            andorra(&rt, alloc, &words, &mut source, &mut sink, &Quiet)
-        }
-    };
+    let mut sink = StdSink::new(AfterLine::new(&watch, rt.stdout()));
+    let status = andorra(&rt, alloc, &words, &mut source, &mut sink, &watch);
+    watch.clear();
     ExitCode::from(status as u8)
 }

@@ -135,23 +135,64 @@ impl<R: Clock + Eprint + Sync + Drop> Gate for Progress<R> {
     }
 }
 
+/// A gate that tells how far a run has come, if this was asked for. It is one gate in both cases, so that the
+/// search stands in the program once, and is compiled as one.
+#[derive(Drop)]
+pub struct Watch<R> {
+    progress: Option<Progress<R>>,
+}
+
+impl<R: Clock + Eprint + Drop> Watch<R> {
+    /// Tells by this, if there is one.
+    pub fn new(progress: Option<Progress<R>>) -> Watch<R> {
+        Watch { progress }
+    }
+
+    /// Takes the line away, where one stands on the screen.
+    pub fn clear(&self) {
+        if let Some(progress) = &self.progress {
+            progress.clear();
+        }
+    }
+}
+
+impl<R: Clock + Eprint + Sync + Drop> Gate for Watch<R> {
+    fn reduce(&self, worker: u32) {
+        if let Some(progress) = &self.progress {
+            progress.reduce(worker);
+        }
+    }
+
+    fn claim(&self, team: u32) {
+        if let Some(progress) = &self.progress {
+            progress.claim(team);
+        }
+    }
+
+    fn publish(&self, team: u32) {
+        if let Some(progress) = &self.progress {
+            progress.publish(team);
+        }
+    }
+}
+
 /// A writer that takes the line away before it writes.
 #[derive(Drop)]
 pub struct AfterLine<'a, R, O: Write> {
-    progress: &'a Progress<R>,
+    watch: &'a Watch<R>,
     output: O,
 }
 
 impl<'a, R: Clock + Eprint + Drop, O: Write> AfterLine<'a, R, O> {
     /// Over this writer.
-    pub fn new(progress: &'a Progress<R>, output: O) -> AfterLine<'a, R, O> {
-        AfterLine { progress, output }
+    pub fn new(watch: &'a Watch<R>, output: O) -> AfterLine<'a, R, O> {
+        AfterLine { watch, output }
     }
 }
 
 impl<R: Clock + Eprint + Drop, O: Write> Write for AfterLine<'_, R, O> {
     fn write(&mut self, from: &[u8]) -> io::Result<usize> {
-        self.progress.clear();
+        self.watch.clear();
         self.output.write(from)
     }
 
