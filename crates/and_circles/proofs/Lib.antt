@@ -1,5 +1,8 @@
 pub mod Members
 pub mod Marking
+pub mod Stamps
+pub mod Keeping
+pub mod Weights
 pub mod Parts
 pub mod Paths
 pub mod Walking

@@ -38,8 +38,6 @@ opens_more P node base i part old mid visits opens there short is pushed =
     let parts : List Ref = parts_of P (Node node base) in
     let t : take (i + 1) (parts_of P (Node node base)) ≡ take i (parts_of P (Node node base)) ++ part ∷ [] = taken P node base i part there is in
     record {
-      marked = opens.marked;
-      few = opens.few;
       visits = pushed_part old.visits.items mid.visits.items visits.items (Node node base) part (take i (parts_of P (Node node base))) (take (i + 1) (parts_of P (Node node base))) t opens.visits pushed;
       short = omega (arith, length-take-le (i + 1) (parts_of P (Node node base)) (omega (arith, length-map (arguments_at P.skeleton node.0) (part_at P base))));
       stays = opens.stays;

@@ -17,7 +17,7 @@ use Rattle.and_cells.specs.Ranges.{NamedProgram, IsNoVariable, IsInRange, CanHol
 use Rattle.and_cells.specs.Rows.{IsSound}
 use Rattle.and_cells.specs.Meaning.{Holds, here, onward, inside}
 use Rattle.and_cells.specs.Parts.{part_at, parts_of}
-use Rattle.and_circles.specs.Walks.{IsStep}
+use Rattle.and_circles.specs.Walks.{IsStep, height}
 use Rattle.and_circles.proofs.Members.{none_in, first_in, later_in, first_or_later, from_image}
 
 -- a variable of a term, by its path and number, and those of the term of a node
@@ -153,14 +153,6 @@ module _ (P : NamedProgram) (fall : AllFall 0 P.skeleton.nodes) where
         },
         none,
       )
-
--- how deep what a reference names may lie: only structures have a number above 0
-abbrev pub height : Ref → ℕ
-height Free = 0
-height (Cell cell) = 0
-height (Node node base) = suc node.0
-height (Number pair) = 0
-height (Half bits) = 0
 
 -- what a structure holds, the cell of one of its variables holds
 holds_inside : (P : NamedProgram) (row : List Ref) (r : Ref) (c : ℕ) → Holds P row r c → (node : NodeNo) (base : ℕ) → r ≡ Node node base

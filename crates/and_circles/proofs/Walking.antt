@@ -1,8 +1,7 @@
 -- A walk's visits: what keeps when one is made, and the circle that closes at an open place.
-use Rattle.std.proofs.Common.{ℕ, suc, ◌≡◌, ◌≢◌, ◌<◌, ◌≤◌, ◌⊎◌, inl, inr, Bool, List, [], ◌∷◌, ◌++◌, map, length, reverse, Some, refl, ap, sym, subst, ◌∙◌, arith, append_assoc}
+use Rattle.std.proofs.Common.{ℕ, suc, ◌≡◌, ◌≢◌, ◌<◌, ◌≤◌, ◌+◌, ◌⊎◌, inl, inr, Bool, List, [], ◌∷◌, ◌++◌, map, length, reverse, Some, refl, ap, sym, subst, ◌∙◌, arith, append_assoc}
 use Rattle.std.specs.Prelude.{Contains, All}
 use Rattle.std.proofs.lemmas.List.{reverse-append, append-nil}
-use Rattle.std.proofs.lemmas.List.Elements.{All-nil, All-cons, All-head, All-tail}
 use Rattle.and_model.specs.declared.reference.Ref.{Ref}
 use Rattle.and_model.specs.declared.reference.Ref.TheVariants.{Free, Cell, Node, Number, Half}
 use Rattle.and_program.specs.Skeletons.{AllFall}
@@ -10,15 +9,15 @@ use Rattle.and_cells.specs.Ranges.{NamedProgram, IsInRange}
 use Rattle.and_cells.specs.Rows.{IsSound}
 use Rattle.and_cells.specs.Meaning.{Holds, IsCircle}
 use Rattle.and_cells.specs.Ends.{Ends}
-use Rattle.and_circles.specs.Marked.{Listed, Marked}
-use Rattle.and_circles.specs.Explored.{done_in}
-use Rattle.and_circles.specs.Walks.{IsStep, Follows, AreOnPath, left_in, Owes, nearest_cell, Walks}
-use Rattle.and_circles.specs.declared.marks.Mark.{Mark}
+use Rattle.and_circles.specs.Marked.{Listed, mark_at}
+use Rattle.and_circles.specs.Explored.{done_from}
+use Rattle.and_circles.specs.Walks.{IsStep, Follows, AreOnPath, left_in, Owes, nearest_cell, Walks, height}
 use Rattle.and_circles.specs.declared.marks.Mark.TheVariants.{Open, Done}
 use Rattle.and_circles.specs.declared.walk.Visit.{Visit}
 use Rattle.and_circles.specs.declared.walk.Visit.TheVariants.{Enter, Leave}
 use Rattle.and_circles.proofs.Members.{none_in, first_in, later_in, first_or_later}
-use Rattle.and_circles.proofs.Parts.{height, part_is_lower, step_holds}
+use Rattle.and_circles.proofs.Marking.{Opened, Left, done_listed, all_done}
+use Rattle.and_circles.proofs.Parts.{part_is_lower, step_holds}
 use Rattle.and_circles.proofs.Paths.{Path, arrived, goes, joined, and_step, ring_is_circle}
 
 -- these are entered next, the last one first
@@ -62,47 +61,44 @@ module _ (P : NamedProgram) (row : List Ref) (floor : ℕ) (halves : Bool) (root
 
   -- what ends need not be entered
   pub passed : (marks : Listed) (at : Ref) (visits : List Visit) → Walks P row floor halves root marks (Enter at ∷ visits) → Ends P row floor halves at → Walks P row floor halves root marks visits
-  passed marks at visits w ends = record { falls = w.falls; sound = w.sound; done = w.done; opened = w.opened; path = w.path.2; owes = w.owes ends }
+  passed marks at visits w ends = record { falls = w.falls; sound = w.sound; room = w.room; done = w.done; opened = w.opened; path = w.path.2; owes = w.owes ends }
 
   -- a place is opened, and what it leads to is to be entered
-  pub opens : (marks new : Listed) (at : Ref) (visits : List Visit) (rs : List Ref) → Walks P row floor halves root marks (Enter at ∷ visits) → Marked at Open marks new
+  pub opens : (marks new : Listed) (at : Ref) (visits : List Visit) (rs : List Ref) → Walks P row floor halves root marks (Enter at ∷ visits) → Opened at marks new
       → ((r : Ref) → Contains rs r → IsStep P row at r × IsInRange P (length row) r) → (((r : Ref) → Contains rs r → Ends P row floor halves r) → Ends P row floor halves at)
       → Walks P row floor halves root new (entered rs (Leave at ∷ visits))
   opens marks new at visits rs w marked steps ends = record {
     falls = w.falls;
     sound = w.sound;
-    done = λ r c. was_done r (marked.only r Done c);
-    opened = λ r c. subst (λ (ls : List Ref). Contains ls r) (sym (left_entered rs (Leave at ∷ visits))) (was_open r (marked.only r Open c));
+    room = subst (λ (n : ℕ). length row ≤ n) (sym marked.long) w.room;
+    done = λ c is. w.done c (marked.done c is);
+    opened = λ c is. subst (λ (ls : List Ref). Contains ls (Cell c)) (sym (left_entered rs (Leave at ∷ visits))) (was_open c (marked.opened c is));
     path = path_entered rs (Leave at ∷ visits) steps w.path;
     owes = owes_entered (Ends P row floor halves) rs (Leave at ∷ visits) (λ all. let e : Ends P row floor halves at = ends all in (e, w.owes e));
   }
     where
-      was_done : (r : Ref) → ((r ≡ at) × (Done ≡ Open)) ⊎ ((r ≢ at) × Contains marks (r, Done)) → Ends P row floor halves r
-      was_done r (inl new_one) = let e : Done ≡ Open = new_one.1 in absurd (cc)
-      was_done r (inr old) = w.done r old.1
-
-      was_open : (r : Ref) → ((r ≡ at) × (Open ≡ Open)) ⊎ ((r ≢ at) × Contains marks (r, Open)) → Contains (at ∷ left_in visits) r
-      was_open r (inl new_one) = first_in (left_in visits) at r (sym new_one.0)
-      was_open r (inr old) = later_in (left_in visits) at r (w.opened r old.1)
+      was_open : (c : ℕ) → (at ≡ Cell c) ⊎ (mark_at marks c ≡ Some Open) → Contains (at ∷ left_in visits) (Cell c)
+      was_open c (inl new_one) = first_in (left_in visits) at (Cell c) new_one
+      was_open c (inr old) = later_in (left_in visits) at (Cell c) (w.opened c old)
 
   -- a place is left, and done
-  pub leaves : (marks new : Listed) (at : Ref) (visits : List Visit) → Walks P row floor halves root marks (Leave at ∷ visits) → Marked at Done marks new → Walks P row floor halves root new visits
+  pub leaves : (marks new : Listed) (at : Ref) (visits : List Visit) → Walks P row floor halves root marks (Leave at ∷ visits) → Left at marks new → Walks P row floor halves root new visits
   leaves marks new at visits w marked = record {
     falls = w.falls;
     sound = w.sound;
-    done = λ r c. was_done r (marked.only r Done c);
-    opened = λ r c. was_open r (marked.only r Open c);
+    room = subst (λ (n : ℕ). length row ≤ n) (sym marked.long) w.room;
+    done = λ c is. was_done c (marked.done c is);
+    opened = λ c is. was_open c (marked.opened c is);
     path = w.path.2;
     owes = w.owes.1;
   }
     where
-      was_done : (r : Ref) → ((r ≡ at) × (Done ≡ Done)) ⊎ ((r ≢ at) × Contains marks (r, Done)) → Ends P row floor halves r
-      was_done r (inl new_one) = subst (Ends P row floor halves) (sym new_one.0) w.owes.0
-      was_done r (inr old) = w.done r old.1
+      was_done : (c : ℕ) → (at ≡ Cell c) ⊎ (mark_at marks c ≡ Some Done) → Ends P row floor halves (Cell c)
+      was_done c (inl new_one) = subst (Ends P row floor halves) new_one w.owes.0
+      was_done c (inr old) = w.done c old
 
-      was_open : (r : Ref) → ((r ≡ at) × (Open ≡ Done)) ⊎ ((r ≢ at) × Contains marks (r, Open)) → Contains (left_in visits) r
-      was_open r (inl new_one) = let e : Open ≡ Done = new_one.1 in absurd (cc)
-      was_open r (inr old) = elim (first_or_later (left_in visits) at r (w.opened r old.1)) [ inl same ↦ absurd (old.0 (sym same)) | inr later ↦ later ]
+      was_open : (c : ℕ) → (at ≢ Cell c) × (mark_at marks c ≡ Some Open) → Contains (left_in visits) (Cell c)
+      was_open c old = elim (first_or_later (left_in visits) at (Cell c) (w.opened c old.1)) [ inl same ↦ absurd (old.0 same) | inr later ↦ later ]
 
   -- what a visited reference holds, the root holds
   pub root_holds : AllFall 0 P.skeleton.nodes → (visits : List Visit) (at : Ref) (c : ℕ) → AreOnPath P row root visits → Follows P row root visits at → Holds P row at c → Holds P row root c
@@ -142,38 +138,26 @@ module _ (P : NamedProgram) (row : List Ref) (floor : ℕ) (halves : Bool) (root
   ring fall (Leave (Number pair) ∷ visits) at r path follows back higher c = absurd follows
   ring fall (Leave (Half bits) ∷ visits) at r path follows back higher c = absurd follows
 
-  -- where an open place is entered, the cell that was opened last is on a circle
-  pub closes : (marks : Listed) (at : Ref) (visits : List Visit) → Walks P row floor halves root marks (Enter at ∷ visits) → Contains marks (at, Open) → (c : ℕ) × (nearest_cell visits ≡ Some c) × IsCircle P row c
+  -- where an open cell is entered, the cell that was opened last is on a circle
+  pub closes : (marks : Listed) (at : ℕ) (visits : List Visit) → Walks P row floor halves root marks (Enter (Cell at) ∷ visits) → mark_at marks at ≡ Some Open
+      → (c : ℕ) × (nearest_cell visits ≡ Some c) × IsCircle P row c
   closes marks at visits w is_open =
-      let found : Ring visits = ring w.falls visits at at w.path.2 w.path.0 (arrived at) (omega arith) (w.opened at is_open) in
+      let found : Ring visits = ring w.falls visits (Cell at) (Cell at) w.path.2 w.path.0 (arrived (Cell at)) (omega arith) (w.opened at is_open) in
       (found.0, found.1, ring_is_circle P w.falls row w.sound found.0 found.3 found.2 found.4 found.5)
 
-  -- what is done is among the places that end
-  done_listed : (ms : Listed) (r : Ref) → All (Ends P row floor halves) (done_in ms) → Contains ms (r, Done) → Ends P row floor halves r
-  done_listed [] r ended c = absurd (none_in (r, Done) c)
-  done_listed ((q, Open) ∷ ms) r ended c = elim (first_or_later ms (q, Open) (r, Done) c) [
-    | inl e ↦ let same : Open ≡ Done = ap (λ (p : Ref × Mark). p.1) e in absurd (cc)
-    | inr later ↦ done_listed ms r ended later
-  ]
-  done_listed ((q, Done) ∷ ms) r ended c = elim (first_or_later ms (q, Done) (r, Done) c) [
-    | inl e ↦ subst (Ends P row floor halves) (ap (λ (p : Ref × Mark). p.0) e) (All-head (Ends P row floor halves) q (done_in ms) ended)
-    | inr later ↦ done_listed ms r (All-tail (Ends P row floor halves) q (done_in ms) ended) later
-  ]
-
-  -- where the walk is at rest it may begin
-  pub begins : (marks : Listed) → AllFall 0 P.skeleton.nodes → IsSound P row → All (Ends P row floor halves) (done_in marks) → ((r : Ref) → Contains marks (r, Open) → ⊥) → IsInRange P (length row) root
-      → Walks P row floor halves root marks (Enter root ∷ [])
-  begins marks fall sound all rest fits = record {
+  -- where the walk is at rest it may begin, once there is room
+  pub begins : (before marks : Listed) → AllFall 0 P.skeleton.nodes → IsSound P row → All (Ends P row floor halves) (done_from 0 before) → ((c : ℕ) → mark_at before c ≡ Some Open → ⊥)
+      → ((c : ℕ) → mark_at marks c ≡ mark_at before c) → length row ≤ length marks → IsInRange P (length row) root → Walks P row floor halves root marks (Enter root ∷ [])
+  begins before marks fall sound all rest same room fits = record {
     falls = fall;
     sound = sound;
-    done = λ r c. done_listed marks r all c;
-    opened = λ r c. absurd (rest r c);
+    room = room;
+    done = λ c is. let e : 0 + c ≡ c = omega arith in subst (λ (k : ℕ). Ends P row floor halves (Cell k)) e (done_listed (Ends P row floor halves) 0 before c all (sym (same c) ∙ is));
+    opened = λ c is. absurd (rest c (sym (same c) ∙ is));
     path = (refl, fits, tt);
     owes = λ ends. ends;
   }
 
   -- and when all was visited
-  pub ends_all : (marks : Listed) → ((r : Ref) → Contains marks (r, Done) → Ends P row floor halves r) → All (Ends P row floor halves) (done_in marks)
-  ends_all [] ended = All-nil (Ends P row floor halves)
-  ends_all ((r, Open) ∷ ms) ended = ends_all ms (λ q c. ended q (later_in ms (r, Open) (q, Done) c))
-  ends_all ((r, Done) ∷ ms) ended = All-cons (Ends P row floor halves) r (done_in ms) (ended r (first_in ms (r, Done) (r, Done) refl)) (ends_all ms (λ q c. ended q (later_in ms (r, Done) (q, Done) c)))
+  pub ends_all : (marks : Listed) → ((c : ℕ) → mark_at marks c ≡ Some Done → Ends P row floor halves (Cell c)) → All (Ends P row floor halves) (done_from 0 marks)
+  ends_all marks ended = all_done (Ends P row floor halves) 0 marks (λ c is. let e : c ≡ 0 + c = omega arith in subst (λ (k : ℕ). Ends P row floor halves (Cell k)) e (ended c is))

@@ -1,17 +1,30 @@
--- Marks of places, as they are listed and set.
-use Rattle.std.specs.Prelude.{◌+◌, ◌≤◌, ◌≡◌, ◌≢◌, ◌⊎◌, List, length, Contains}
+-- Marks of cells, as they are kept and read.
+use Rattle.std.specs.Prelude.{ℕ, suc, ◌≡◌, ◌⊎◌, cond, nat_eq, List, [], ◌∷◌, Contains, Option, None, Some, slice_index_or}
 use Rattle.and_model.specs.declared.reference.Ref.{Ref}
 use Rattle.and_circles.specs.declared.marks.Mark.{Mark}
+use Rattle.and_circles.specs.declared.marks.Stamp.{Stamp}
 
--- which mark each place has that has one
+-- the mark of each cell, by its number
 abbrev pub Listed : Type 0
-Listed = List (Ref × Mark)
+Listed = List (Option Mark)
 
-abbrev pub IsUnmarked : Listed → Ref → Type 0
-IsUnmarked marks place = (mark : Mark) → Contains marks (place, mark) → ⊥
+-- the mark of this cell; none has one behind the list
+abbrev pub mark_at : Listed → (cell : ℕ) → Option Mark
+mark_at marks cell = slice_index_or marks cell None
 
--- The place has this mark and no other, and each other place has at most the mark that it had.
-pub record Marked (place : Ref) (mark : Mark) (old new : Listed) : Type 0 where
-  pub only : (r : Ref) (m : Mark) → Contains new (r, m) → ((r ≡ place) × (m ≡ mark)) ⊎ ((r ≢ place) × Contains old (r, m))
-  pub at_least : length old ≤ length new
-  pub one_more : IsUnmarked old place → length new ≡ length old + 1
+abbrev pub AreUnmarked : Listed → Type 0
+AreUnmarked marks = (cell : ℕ) → mark_at marks cell ≡ None
+
+-- how many cells of the list have no mark
+abbrev pub unmarked : Listed → ℕ
+unmarked [] = 0
+unmarked (None ∷ marks) = suc (unmarked marks)
+unmarked (Some mark ∷ marks) = unmarked marks
+
+-- A mark counts in the round in which it was given.
+abbrev pub mark_in : (round : ℕ) → Stamp → Option Mark
+mark_in round stamp = cond (nat_eq stamp.round round) (Some stamp.mark) None
+
+-- Nothing came to a list but this.
+abbrev pub Adds : Ref → (old new : List Ref) → Type 0
+Adds at old new = (r : Ref) → Contains new r → (r ≡ at) ⊎ Contains old r

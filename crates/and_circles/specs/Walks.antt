@@ -1,5 +1,5 @@
 -- A walk below a reference, depth first, by a list of visits (the next one first).
-use Rattle.std.specs.Prelude.{ℕ, ◌+◌, ◌-◌, ◌*◌, ◌^◌, ◌≤◌, ◌<◌, ◌≡◌, Bool, true, false, List, [], ◌∷◌, ◌++◌, map, length, reverse, Contains, Option, Some, None, Result, Ok}
+use Rattle.std.specs.Prelude.{ℕ, suc, ◌+◌, ◌*◌, ◌^◌, ◌≤◌, ◌<◌, ◌≡◌, Bool, true, false, List, [], ◌∷◌, ◌++◌, map, length, reverse, Contains, All, Option, Some, None, Result, Ok}
 use Rattle.std.specs.declared.alloc.AllocError.{AllocError}
 use Rattle.and_model.specs.Store.{is_half}
 use Rattle.and_model.specs.declared.reference.Ref.{Ref}
@@ -11,7 +11,7 @@ use Rattle.and_cells.specs.Rows.{IsSound}
 use Rattle.and_cells.specs.Meaning.{IsCircle, Holds}
 use Rattle.and_cells.specs.Parts.{parts_of}
 use Rattle.and_cells.specs.Ends.{Ends}
-use Rattle.and_circles.specs.Marked.{Listed, Marked}
+use Rattle.and_circles.specs.Marked.{Listed, mark_at, unmarked}
 use Rattle.and_circles.specs.declared.marks.Mark.TheVariants.{Open, Done}
 use Rattle.and_circles.specs.declared.explorer.Explored.{Explored}
 use Rattle.and_circles.specs.declared.explorer.Explored.TheVariants as explored
@@ -65,9 +65,11 @@ nearest_cell (Leave (Half bits) ∷ visits) = nearest_cell visits
 pub record Walks (P : NamedProgram) (row : List Ref) (floor : ℕ) (halves : Bool) (root : Ref) (marks : Listed) (visits : List Visit) : Type 0 where
   pub falls : AllFall 0 P.skeleton.nodes
   pub sound : IsSound P row
+  -- Each cell of the row has its place among the marks.
+  pub room : length row ≤ length marks
   -- What is done ends, and what is open is still to be left.
-  pub done : (r : Ref) → Contains marks (r, Done) → Ends P row floor halves r
-  pub opened : (r : Ref) → Contains marks (r, Open) → Contains (left_in visits) r
+  pub done : (cell : ℕ) → mark_at marks cell ≡ Some Done → Ends P row floor halves (Cell cell)
+  pub opened : (cell : ℕ) → mark_at marks cell ≡ Some Open → Contains (left_in visits) (Cell cell)
   pub path : AreOnPath P row root visits
   pub owes : Owes (Ends P row floor halves) root visits
 
@@ -79,25 +81,44 @@ IsWalking P row root w = Walks P row w.floor w.halves root w.marks (reverse w.vi
 abbrev pub IsTaking : NamedProgram → List Ref → (root : Ref) → Visit → Walk → Type 0
 IsTaking P row root visit w = Walks P row w.floor w.halves root w.marks (visit ∷ reverse w.visits.items)
 
--- no place is open, and nothing is to be visited
+-- no cell is open, and nothing is to be visited
 abbrev pub IsAtRest : Walk → Type 0
-IsAtRest w = ((r : Ref) → Contains w.marks (r, Open) → ⊥) × (w.visits.items ≡ [])
+IsAtRest w = ((cell : ℕ) → mark_at w.marks cell ≡ Some Open → ⊥) × (w.visits.items ≡ [])
+
+-- each path from the structures that are kept ends
+abbrev pub AreEnded : NamedProgram → List Ref → Walk → Type 0
+AreEnded P row w = All (Ends P row w.floor w.halves) w.structures
 
 -- what counts as an end stays
 abbrev pub Stays : (old new : Walk) → Type 0
 Stays old new = (new.floor ≡ old.floor) × (new.halves ≡ old.halves)
 
--- A place was opened, and these are to be entered before it is left.
+-- These are to be entered, and then the place is to be left.
 pub record Opens (at : Ref) (parts : List Ref) (old new : Walk) : Type 0 where
-  pub marked : Marked at Open old.marks new.marks
-  pub few : length new.marks < 2 ^ 63
   pub visits : new.visits.items ≡ old.visits.items ++ Leave at ∷ map Enter parts
   pub short : length parts ≤ 255
   pub stays : Stays old new
 
--- a bound on the visits that are left: at most 256 are added where a place gets its mark
-abbrev pub visits_left : Walk → ℕ
-visits_left w = 512 * (2 ^ 63 - length w.marks) + length w.visits.items
+-- Only structures have a height above 0: each part of one is lower.
+abbrev pub height : Ref → ℕ
+height Free = 0
+height (Cell cell) = 0
+height (Node node base) = suc node.0
+height (Number pair) = 0
+height (Half bits) = 0
+
+-- a bound on the visits that these lead to until a cell is opened: a structure has at most 255 parts, and is left
+abbrev pub weight : Visit → ℕ
+weight (Enter at) = 512 ^ height at
+weight (Leave at) = 1
+
+abbrev pub weights : List Visit → ℕ
+weights [] = 0
+weights (visit ∷ visits) = weight visit + weights visits
+
+-- a bound on the visits that are left: each cell is opened once, and leads to one word
+abbrev pub visits_left : NamedProgram → Listed → List Visit → ℕ
+visits_left P marks visits = 512 ^ suc (length P.skeleton.nodes) * unmarked marks + weights visits
 
 -- a circle that is answered is one, and a half is below the root
 pub record Answers (P : NamedProgram) (row : List Ref) (halves : Bool) (root : Ref) (answer : Result Explored AllocError) : Type 0 where
@@ -107,5 +128,6 @@ pub record Answers (P : NamedProgram) (row : List Ref) (halves : Bool) (root : R
 -- The visit was made, and what it answers holds.
 pub record Goes (P : NamedProgram) (row : List Ref) (visit : Visit) (old new : Walk) (answer : Result Explored AllocError) : Type 0 where
   pub stays : Stays old new
-  pub ends : answer ≡ Ok explored.Ends → (root : Ref) → IsTaking P row root visit old → IsWalking P row root new × (visits_left new ≤ visits_left old)
+  pub ends : answer ≡ Ok explored.Ends → (root : Ref) → IsTaking P row root visit old → IsWalking P row root new
+      × (visits_left P new.marks (reverse new.visits.items) < visits_left P old.marks (visit ∷ reverse old.visits.items))
   pub answers : (root : Ref) → IsTaking P row root visit old → Answers P row old.halves root answer

@@ -21,8 +21,9 @@ pub enum Circle {
     Memory,
 }
 
-/// Looks for a cell whose term properly contains it. The work is linear in the row and in the parts
-/// that its words lead to; a part that several lead to counts once.
+/// Looks for a cell whose term properly contains it. The work is linear in the row and in the parts that
+/// its words lead to. A cell that several lead to counts once, and so does a structure, unless another
+/// has taken its slot.
 pub fn cycle<N: Naming>(alloc: Global, loaded: &Loaded, cells: &PlainCells<N>) -> Circle
     requires program { N.program ≡ named loaded.now }
     ensures found { (cell : ℕ) → result ≡ Circle.Found cell → IsCircle N.program cells.now cell }

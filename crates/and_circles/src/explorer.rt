@@ -29,7 +29,9 @@ pub enum Explored {
     Half { cell: u32 },
 }
 
-/// What was explored of one row so far. No place is explored twice.
+/// What was explored of one row so far. No cell is explored twice. A structure is explored again, down to
+/// its variables, only where another has taken its slot. An explorer can be used again, so that its lists
+/// take memory once.
 #[derive(Drop)]
 pub struct Explorer {
     walk: Walk,
@@ -41,7 +43,7 @@ impl Model for Explorer {
 
     ghost Value = { Finished };
 
-    ghost view = { λ e. finished e.walk.marks e.walk.floor e.walk.halves };
+    ghost view = { λ e. finished e.walk.marks e.walk.structures e.walk.floor e.walk.halves };
 
     ghost invariant = { λ e. IsAtRest e.walk };
 }
@@ -55,6 +57,15 @@ impl Explorer {
         Explorer {
             walk: Walk::new(alloc, floor, halves),
         }
+    }
+
+    /// Begins anew, as [`Explorer::new`] does, and keeps the memory that was taken.
+    pub fn restart(&mut self, floor: u32, halves: bool)
+        ensures { self.new ≡ record { places = []; floor = floor; halves = halves } }
+    {
+        self.walk.forget();
+        self.walk.floor = floor;
+        self.walk.halves = halves;
     }
 
     /// Explores what lies below a reference, up to the first circle or word of a pair. An error is

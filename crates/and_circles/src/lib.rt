@@ -5,6 +5,7 @@ pub mod circles;
 pub mod explorer;
 pub mod following;
 mod marks;
+mod structures;
 mod walk;
 
 pub use circles::{Circle, cycle};

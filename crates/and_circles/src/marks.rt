@@ -1,15 +1,13 @@
-//! How far places were explored.
+//! How far cells were explored.
 
-ghost use Rattle.std.specs.Prelude.{◌≡◌, ◌<◌, ◌^◌, [], length, Contains, None, Some, OnOk, OnErr};
-ghost use Rattle.and_circles.specs.Marked.{Marked, IsUnmarked};
+ghost use Rattle.std.specs.Prelude.{◌≡◌, ◌<◌, ◌≤◌, ℕ, [], length, Some, OnOk, slice_set};
+ghost use Rattle.and_circles.specs.Marked.{mark_at, AreUnmarked};
 ghost use Rattle.and_circles.specs.declared.marks.Mark.{Mark};
 
-use and_model::Ref;
-use indexmap::IndexMap;
 use std::alloc::{AllocError, Global};
 use std::marker::Model;
 
-/// How far a place was explored.
+/// How far a cell was explored.
 #[derive(Clone, Copy, PartialEq, Eq, Debug)]
 pub(crate) enum Mark {
     /// It is on the path that is being followed.
@@ -18,61 +16,92 @@ pub(crate) enum Mark {
     Done,
 }
 
-/// The marks of places, at most one of each.
+/// A mark, and the round in which it was given.
+#[derive(Clone, Copy, PartialEq, Eq, Debug)]
+pub(crate) struct Stamp {
+    pub(crate) round: u32,
+    pub(crate) mark: Mark,
+}
+
+/// The marks of cells. All are taken away at once by beginning another round.
 #[derive(Drop)]
 pub(crate) struct Marks {
-    by_place: IndexMap<Ref, Mark>,
+    stamps: Vec<Stamp>,
+    round: u32,
 }
 
 impl Model for Marks {
-    ghost use Rattle.std.specs.Prelude.{List};
-    ghost use Rattle.and_model.specs.declared.reference.Ref.{Ref};
-    ghost use Rattle.and_circles.specs.declared.marks.Mark.{Mark};
+    ghost use Rattle.std.specs.Prelude.{◌<◌, ◌≤◌, map, All};
+    ghost use Rattle.and_circles.specs.Marked.{Listed, mark_in};
 
-    ghost Value = { List (Ref × Mark) };
+    ghost Value = { Listed };
 
-    ghost view = { λ marks. marks.by_place.entries };
+    ghost view = { λ marks. map (mark_in marks.round) marks.stamps.items };
+
+    ghost invariant = { λ marks. (0 < marks.round) × All (λ stamp. stamp.round ≤ marks.round) marks.stamps.items };
 }
 
 impl Marks {
-    /// No place has a mark. Takes no memory.
+    /// No cell has a mark. Takes no memory.
     pub(crate) fn new(alloc: Global) -> Marks
         ensures { result ≡ [] }
     {
         Marks {
-            by_place: IndexMap::new(alloc),
+            stamps: Vec::new(alloc),
+            round: 1,
         }
     }
 
-    /// The mark of a place.
-    pub(crate) fn of(&self, place: Ref) -> Option<Mark>
-        ensures some { (mark : Mark) → result ≡ Some mark → Contains self.now (place, mark) }
-        ensures none { result ≡ None → IsUnmarked self.now place }
+    /// Makes room for the marks of so many cells. An error is want of memory.
+    pub(crate) fn make_room(&mut self, cells: usize) -> Result<(), AllocError>
+        ensures room { OnOk result (cells ≤ length self.new) }
+        ensures same { (cell : ℕ) → mark_at self.new cell ≡ mark_at self.old cell }
     {
-        self.by_place.get(&place).copied()
+        if cells <= self.stamps.len() {
+            return Ok(());
+        }
+        // No round has the number 0.
+        let blank = Stamp {
+            round: 0,
+            mark: Mark::Done,
+        };
+        self.stamps.resize(cells, blank)
     }
 
-    /// Gives a place its mark, in place of the one that it has. An error is want of memory.
-    pub(crate) fn set(&mut self, place: Ref, mark: Mark) -> Result<(), AllocError>
-        ensures ok { OnOk result (Marked place mark self.old self.new) }
-        ensures few { OnOk result (length self.new < 2 ^ 63) }
+    /// The mark of a cell.
+    pub(crate) fn of(&self, cell: u32) -> Option<Mark>
+        requires room { cell < length self.now }
+        ensures { result ≡ mark_at self.now cell }
     {
-        self.by_place.insert(place, mark)?;
-        self.few();
-        Ok(())
+        let stamp = self.stamps[cell as usize];
+        if stamp.round == self.round {
+            Some(stamp.mark)
+        } else {
+            None
+        }
     }
 
-    /// No place has a mark any more.
+    /// Gives a cell its mark, in place of the one that it has.
+    pub(crate) fn set(&mut self, cell: u32, mark: Mark)
+        requires room { cell < length self.old }
+        ensures { self.new ≡ slice_set self.old cell (Some mark) }
+    {
+        self.stamps[cell as usize] = Stamp {
+            round: self.round,
+            mark,
+        };
+    }
+
+    /// No cell has a mark any more. Takes no memory, and keeps what was taken.
     pub(crate) fn clear(&mut self)
-        ensures { self.new ≡ [] }
+        ensures { AreUnmarked self.new }
     {
-        self.by_place.clear();
-    }
-
-    /// No machine holds as many marks.
-    fn few(&self)
-        ensures { length self.now < 2 ^ 63 }
-    {
-        self.by_place.len();
+        match self.round.checked_add(1) {
+            Some(round) => self.round = round,
+            None => {
+                self.stamps.clear();
+                self.round = 1;
+            }
+        }
     }
 }

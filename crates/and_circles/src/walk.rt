@@ -1,21 +1,22 @@
 //! The walk below a reference, over an explicit list of visits.
 
-ghost use Rattle.std.specs.Prelude.{◌≡◌, ◌<◌, ◌^◌, ◌↔◌, ℕ, List, [], ◌∷◌, Some, None, length, reverse, Contains, IsTrue, OnOk, IfOk, Ok};
+ghost use Rattle.std.specs.Prelude.{◌≡◌, ◌<◌, ◌^◌, ◌↔◌, ℕ, List, [], ◌∷◌, Some, None, length, reverse, IsTrue, OnOk, IfOk, Ok, slice_set};
 ghost use Rattle.and_model.specs.declared.reference.Ref.{Ref};
 ghost use Rattle.and_cells.specs.Ranges.{IsInRange};
 ghost use Rattle.and_cells.specs.Meaning.{IsCircle};
 ghost use Rattle.and_program.specs.Loaded.{skeleton_of};
 ghost use Rattle.and_cells.specs.Parts.{named, parts_of};
 ghost use Rattle.and_cells.specs.Ends.{Ends, IsBelow};
-ghost use Rattle.and_circles.specs.Marked.{IsUnmarked};
+ghost use Rattle.and_circles.specs.Marked.{mark_at, AreUnmarked};
 ghost use Rattle.and_circles.specs.Explored.{AreFinished, finished};
-ghost use Rattle.and_circles.specs.Walks.{nearest_cell, Opens, IsTaking, IsAtRest, Goes, Stays, Answers};
+ghost use Rattle.and_circles.specs.Walks.{nearest_cell, Opens, IsTaking, IsAtRest, AreEnded, Goes, Stays, Answers};
 ghost use Rattle.and_circles.specs.declared.walk.Visit.{Visit};
 ghost use Rattle.and_circles.specs.declared.explorer.Explored.{Explored};
 ghost use Rattle.and_circles.specs.declared.marks.Mark.{Mark};
 
 use crate::explorer::Explored;
 use crate::marks::{Mark, Marks};
+use crate::structures::Structures;
 use and_cells::{Naming, PlainCells};
 use and_model::{NodeNo, Ref};
 use and_program::{Loaded, NodeKind};
@@ -47,6 +48,8 @@ impl Visit {
 #[derive(Drop)]
 pub(crate) struct Walk {
     pub(crate) marks: Marks,
+    /// Each path from them ends.
+    pub(crate) structures: Structures,
     /// The next visit is the last of them.
     pub(crate) visits: Vec<Visit>,
     /// Cells below it are not looked at, and neither are structures in frames that begin below it.
@@ -59,12 +62,14 @@ impl Walk {
     /// Nothing was walked yet. Takes no memory.
     pub(crate) fn new(alloc: Global, floor: u32, halves: bool) -> Walk
         ensures marks { result.marks ≡ [] }
+        ensures structures { result.structures ≡ [] }
         ensures visits { result.visits.items ≡ [] }
         ensures floor { result.floor ≡ floor }
         ensures halves { result.halves ≡ halves }
     {
         Walk {
             marks: Marks::new(alloc),
+            structures: Structures::new(alloc),
             visits: Vec::new(alloc),
             floor,
             halves,
@@ -79,19 +84,20 @@ impl Walk {
         root: Ref,
     ) -> Result<Explored, AllocError>
         requires program { N.program ≡ named loaded.now }
-        requires finished { AreFinished N.program cells.now (finished self.old.marks self.old.floor self.old.halves) }
+        requires finished { AreFinished N.program cells.now (finished self.old.marks self.old.structures self.old.floor self.old.halves) }
         requires at_rest { IsAtRest self.old }
         requires in_range { IsInRange N.program (length cells.now) root }
         ensures stays { Stays self.old self.new }
         ensures ends { result ≡ Ok Explored.Ends
-            → AreFinished N.program cells.now (finished self.new.marks self.old.floor self.old.halves)
+            → AreFinished N.program cells.now (finished self.new.marks self.new.structures self.old.floor self.old.halves)
             × IsAtRest self.new
             × Ends N.program cells.now self.old.floor self.old.halves root }
         ensures answer { Answers N.program cells.now self.old.halves root result }
     {
         // Arguments come before their nodes, and the row is sound: the proof needs both.
         loaded.skeleton_is_of_the_program();
-        cells.len();
+        self.marks.make_room(cells.len() as usize)?;
+        self.structures.make_slots(cells.len() as usize)?;
         self.visits.push(Visit::Enter(root))?;
         while let Some(visit) = self.visits.pop() {
             let found = self.turn(loaded, cells, visit)?;
@@ -104,13 +110,15 @@ impl Walk {
         Ok(Explored::Ends)
     }
 
-    /// Forgets all that was walked.
+    /// Forgets all that was walked, and keeps the memory that was taken.
     pub(crate) fn forget(&mut self)
         ensures stays { Stays self.old self.new }
-        ensures marks { self.new.marks ≡ [] }
+        ensures marks { AreUnmarked self.new.marks }
+        ensures structures { self.new.structures ≡ [] }
         ensures visits { self.new.visits.items ≡ [] }
     {
         self.marks.clear();
+        self.structures.clear();
         self.visits.clear();
     }
 
@@ -123,18 +131,37 @@ impl Walk {
     ) -> Result<Explored, AllocError>
         requires program { N.program ≡ named loaded.now }
         requires taking { (root : Ref) × IsTaking N.program cells.now root visit self.old }
-        ensures { Goes N.program cells.now visit self.old self.new result }
+        requires ended { AreEnded N.program cells.now self.old }
+        ensures goes { Goes N.program cells.now visit self.old self.new result }
+        ensures ended { AreEnded N.program cells.now self.new }
     {
         match visit {
             Visit::Enter(at) => self.enter(loaded, cells, at),
             Visit::Leave(at) => {
-                self.marks.set(at, Mark::Done)?;
+                self.leave(cells, at);
                 Ok(Explored::Ends)
             }
         }
     }
 
-    /// Enters a reference: what ends is passed, and what is open closes a circle.
+    /// Leaves a place: a cell is done. A structure needs no mark, since no path leads back to it but through
+    /// a cell.
+    fn leave<N: Naming>(&mut self, cells: &PlainCells<N>, at: Ref)
+        requires taking { (root : Ref) × IsTaking N.program cells.now root (Visit.Leave at) self.old }
+        requires ended { AreEnded N.program cells.now self.old }
+        ensures goes { Goes N.program cells.now (Visit.Leave at) self.old self.new (Ok Explored.Ends) }
+        ensures ended { AreEnded N.program cells.now self.new }
+    {
+        match at {
+            Ref::Cell(cell) => self.marks.set(cell, Mark::Done),
+            Ref::Node { node, base } => self.structures.put(node, base),
+            Ref::Number(_) => {}
+            Ref::Free => {}
+            Ref::Half(_) => {}
+        }
+    }
+
+    /// Enters a reference: what is below the floor is passed.
     fn enter<N: Naming>(
         &mut self,
         loaded: &Loaded,
@@ -143,15 +170,25 @@ impl Walk {
     ) -> Result<Explored, AllocError>
         requires program { N.program ≡ named loaded.now }
         requires taking { (root : Ref) × IsTaking N.program cells.now root (Visit.Enter at) self.old }
-        ensures { Goes N.program cells.now (Visit.Enter at) self.old self.new result }
+        requires ended { AreEnded N.program cells.now self.old }
+        ensures goes { Goes N.program cells.now (Visit.Enter at) self.old self.new result }
+        ensures structures { self.new.structures ≡ self.old.structures }
     {
         if self.is_below(at) {
             return Ok(Explored::Ends);
         }
-        match self.marks.of(at) {
-            Some(Mark::Done) => Ok(Explored::Ends),
-            Some(Mark::Open) => Ok(self.circle(cells, at)),
-            None => self.enter_new(loaded, cells, at),
+        match at {
+            Ref::Cell(cell) => self.enter_cell(cells, cell),
+            Ref::Node { node, base } => {
+                if self.structures.has(node, base) {
+                    return Ok(Explored::Ends);
+                }
+                self.open_node(loaded, node, base)?;
+                Ok(Explored::Ends)
+            }
+            Ref::Number(_) => Ok(Explored::Ends),
+            Ref::Free => unreachable!(),
+            Ref::Half(_) => unreachable!(),
         }
     }
 
@@ -168,10 +205,27 @@ impl Walk {
         }
     }
 
-    /// The circle that closes where a place is entered that is open.
-    fn circle<N: Naming>(&self, cells: &PlainCells<N>, at: Ref) -> Explored
-        requires taking { (root : Ref) × IsTaking N.program cells.now root (Visit.Enter at) self.now }
-        requires open { Contains self.now.marks (at, Mark.Open) }
+    /// Enters a cell: what is done is passed, and what is open closes a circle.
+    fn enter_cell<N: Naming>(
+        &mut self,
+        cells: &PlainCells<N>,
+        cell: u32,
+    ) -> Result<Explored, AllocError>
+        requires taking { (root : Ref) × IsTaking N.program cells.now root (Visit.Enter (Ref.Cell cell)) self.old }
+        ensures goes { Goes N.program cells.now (Visit.Enter (Ref.Cell cell)) self.old self.new result }
+        ensures structures { self.new.structures ≡ self.old.structures }
+    {
+        match self.marks.of(cell) {
+            Some(Mark::Done) => Ok(Explored::Ends),
+            Some(Mark::Open) => Ok(self.circle(cells, cell)),
+            None => self.enter_new(cells, cell),
+        }
+    }
+
+    /// The circle that closes where a cell is entered that is open.
+    fn circle<N: Naming>(&self, cells: &PlainCells<N>, at: u32) -> Explored
+        requires taking { (root : Ref) × IsTaking N.program cells.now root (Visit.Enter (Ref.Cell at)) self.now }
+        requires open { mark_at self.now.marks at ≡ Some Mark.Open }
         ensures { (cell : ℕ) × (result ≡ Explored.Circle cell) × IsCircle N.program cells.now cell }
     {
         match self.nearest_cell() {
@@ -192,39 +246,16 @@ impl Walk {
         None
     }
 
-    /// Enters a place that has no mark.
+    /// Enters a cell that has no mark, as its word says.
     fn enter_new<N: Naming>(
-        &mut self,
-        loaded: &Loaded,
-        cells: &PlainCells<N>,
-        at: Ref,
-    ) -> Result<Explored, AllocError>
-        requires program { N.program ≡ named loaded.now }
-        requires taking { (root : Ref) × IsTaking N.program cells.now root (Visit.Enter at) self.old }
-        requires unmarked { IsUnmarked self.old.marks at }
-        ensures { Goes N.program cells.now (Visit.Enter at) self.old self.new result }
-    {
-        match at {
-            Ref::Cell(cell) => self.enter_cell(cells, cell),
-            Ref::Node { node, base } => {
-                self.open_node(loaded, node, base)?;
-                Ok(Explored::Ends)
-            }
-            Ref::Number(_) => Ok(Explored::Ends),
-            Ref::Free => unreachable!(),
-            Ref::Half(_) => unreachable!(),
-        }
-    }
-
-    /// Enters a cell as its word says.
-    fn enter_cell<N: Naming>(
         &mut self,
         cells: &PlainCells<N>,
         cell: u32,
     ) -> Result<Explored, AllocError>
         requires taking { (root : Ref) × IsTaking N.program cells.now root (Visit.Enter (Ref.Cell cell)) self.old }
-        requires unmarked { IsUnmarked self.old.marks (Ref.Cell cell) }
-        ensures { Goes N.program cells.now (Visit.Enter (Ref.Cell cell)) self.old self.new result }
+        requires unmarked { mark_at self.old.marks cell ≡ None }
+        ensures goes { Goes N.program cells.now (Visit.Enter (Ref.Cell cell)) self.old self.new result }
+        ensures structures { self.new.structures ≡ self.old.structures }
     {
         let word = cells.word(cell);
         match word {
@@ -239,22 +270,28 @@ impl Walk {
 
     /// Opens a cell, and goes on to its word.
     fn follow(&mut self, cell: u32, word: Ref) -> Result<Explored, AllocError>
+        requires room { cell < length self.old.marks }
         ensures opens { IfOk result (λ found. (found ≡ Explored.Ends) × Opens (Ref.Cell cell) (word ∷ []) self.old self.new) }
+        ensures marks { self.new.marks ≡ slice_set self.old.marks cell (Some Mark.Open) }
+        ensures structures { self.new.structures ≡ self.old.structures }
         ensures stays { Stays self.old self.new }
     {
-        self.open(Ref::Cell(cell))?;
+        self.marks.set(cell, Mark::Open);
+        self.visits.push(Visit::Leave(Ref::Cell(cell)))?;
         self.visits.push(Visit::Enter(word))?;
         Ok(Explored::Ends)
     }
 
-    /// Opens a structure, and goes on to its parts.
+    /// Goes on to the parts of a structure.
     fn open_node(&mut self, loaded: &Loaded, node: NodeNo, base: u32) -> Result<(), AllocError>
         requires there { node.0 < length (skeleton_of loaded.now).nodes }
         requires base { base < 2 ^ 23 }
         ensures opens { OnOk result (Opens (Ref.Node node base) (parts_of (named loaded.now) (Ref.Node node base)) self.old self.new) }
+        ensures marks { self.new.marks ≡ self.old.marks }
+        ensures structures { self.new.structures ≡ self.old.structures }
         ensures stays { Stays self.old self.new }
     {
-        self.open(Ref::Node { node, base })?;
+        self.visits.push(Visit::Leave(Ref::Node { node, base }))?;
         let count = match loaded.kind(node) {
             NodeKind::Compound { count, .. } => count,
             NodeKind::Variable(_) => 0,
@@ -264,16 +301,6 @@ impl Walk {
             let part = loaded.resolve(loaded.argument(node, place), base);
             self.visits.push(Visit::Enter(part))?;
         }
-        Ok(())
-    }
-
-    /// A place is on the path from now on, until it is left.
-    fn open(&mut self, at: Ref) -> Result<(), AllocError>
-        ensures opens { OnOk result (Opens at [] self.old self.new) }
-        ensures stays { Stays self.old self.new }
-    {
-        self.marks.set(at, Mark::Open)?;
-        self.visits.push(Visit::Leave(at))?;
         Ok(())
     }
 }

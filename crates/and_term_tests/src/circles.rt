@@ -131,3 +131,41 @@ fn below<N: Naming>(
     cells.bind(2, Ref::Cell(1));
     Explorer::new(alloc, floor, halves).explore(loaded, &cells, Ref::Cell(2))
 }
+
+#[test]
+fn an_explorer_is_used_again(rt: HostRuntime) -> Result<(), Fail> {
+    let alloc = rt.alloc();
+    let loaded = program(&rt, alloc)?;
+    let found = again::<Brand>(&rt, alloc, &loaded)?;
+    assert_eq!(rt; found.0, Explored::Circle { cell: 1 });
+    assert_eq!(rt; found.1, Explored::Ends);
+    assert_eq!(rt; found.2, Explored::Circle { cell: 1 });
+    Ok(())
+}
+
+/// What is found in a row with a circle, in a longer one without, and in that one with a circle.
+fn again<N: Naming>(
+    rt: &impl Abort,
+    alloc: Global,
+    loaded: &Loaded,
+) -> Result<(Explored, Explored, Explored), AllocError>
+    requires { N.program ≡ named loaded.now }
+{
+    let mut cells = PlainCells::<N>::with(alloc, 300)?;
+    let mut longer = PlainCells::<N>::with(alloc, 600)?;
+    assert!(rt; loaded.clause_count() == 1);
+    let head = loaded.head(ClauseNo(1));
+    set(rt, loaded, &mut cells, 1, head, 0);
+    set(rt, loaded, &mut longer, 301, head, 0);
+    assert!(rt; cells.len() == 300);
+    assert!(rt; longer.len() == 600);
+    let mut explorer = Explorer::new(alloc, 0, true);
+    let first = explorer.explore(loaded, &cells, Ref::Cell(1))?;
+    explorer.restart(0, true);
+    let second = explorer.explore(loaded, &longer, Ref::Cell(301))?;
+    set(rt, loaded, &mut longer, 1, head, 0);
+    assert!(rt; longer.len() == 600);
+    explorer.restart(0, true);
+    let third = explorer.explore(loaded, &longer, Ref::Cell(301))?;
+    Ok((first, second, third))
+}

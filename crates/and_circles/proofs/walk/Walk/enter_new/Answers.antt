@@ -1,31 +1,30 @@
-use Rattle.std.proofs.Common.{sym, subst}
-use Rattle.std.specs.Prelude.{Ok}
-use Rattle.and_model.specs.declared.reference.Ref.{Ref}
-use Rattle.and_model.specs.declared.reference.Ref.TheVariants.{Node, Number}
-use Rattle.and_cells.specs.Ranges.{NamedProgram}
-use Rattle.and_cells.specs.Parts.{parts_of}
+use Rattle.std.proofs.Common.{sym, ap, arith}
+use Rattle.and_model.specs.Store.{is_half}
+use Rattle.and_model.specs.declared.reference.Ref.TheVariants.{Cell}
 use Rattle.and_cells.specs.Ends
-use Rattle.and_circles.specs.Marked.{IsUnmarked}
-use Rattle.and_circles.specs.Walks.{Goes, Opens}
-use Rattle.and_circles.specs.declared.explorer.Explored.TheVariants as explored
-use Rattle.and_circles.specs.declared.walk.Visit.TheVariants.{Enter}
-use Rattle.and_circles.proofs.Turning.{goes_past, goes_inside}
+use Rattle.and_circles.proofs.Turning.{goes_past, goes_on, goes_to_half}
 use Rattle.and_circles.proofs.walk.Walk.enter_new.Goals as goal
 
-pub enter_cell-requires-clause-unmarked : goal.enter_cell-requires-clause-unmarked
-enter_cell-requires-clause-unmarked g c = subst (IsUnmarked c.args.self.now.marks) c.in-Cell.is c.requires.unmarked
+pub returns-in-Free-clause-goes : goal.returns-in-Free-clause-goes
+returns-in-Free-clause-goes g c = goes_past g.N.Naming.program c.args.cells.now (Cell c.args.cell) c.args.self.now (λ root taking. Ends.free c.args.cell (sym c.in-Free.ensures.value))
 
-pub returns-in_ok-open_node-in-Node : goal.returns-in_ok-open_node-in-Node
-returns-in_ok-open_node-in-Node g c =
-    let P = g.N.Naming.program in
-    let at = Node c.in-Node.node c.in-Node.base in
-    let unmarked = subst (IsUnmarked c.args.self.now.marks) c.in-Node.is c.requires.unmarked in
-    let opened = subst (λ (Q : NamedProgram). Opens at (parts_of Q at) c.args.self.now c.open_node.new.self) (sym c.requires.program) c.in_ok-open_node-in-Node.ensures.opens in
-    subst (λ (r : Ref). Goes P c.args.cells.now (Enter r) c.args.self.now c.open_node.new.self (Ok explored.Ends)) (sym c.in-Node.is)
-    (goes_inside P c.args.cells.now c.in-Node.node c.in-Node.base c.args.self.now c.open_node.new.self opened unmarked)
+pub returns-in-Half-clause-goes : goal.returns-in-Half-clause-goes
+returns-in-Half-clause-goes g c = goes_past g.N.Naming.program c.args.cells.now (Cell c.args.cell) c.args.self.now (λ root taking. Ends.half c.args.cell c.if-self.true (ap is_half (sym c.in-Half.ensures.value)))
 
-pub returns-in-Number : goal.returns-in-Number
-returns-in-Number g c =
-    let P = g.N.Naming.program in
-    subst (λ (r : Ref). Goes P c.args.cells.now (Enter r) c.args.self.now c.args.self.now (Ok explored.Ends)) (sym c.in-Number.is)
-    (goes_past P c.args.cells.now (Number c.in-Number.field-0) c.args.self.now (λ root taking. Ends.number c.in-Number.field-0))
+pub returns-in-Half-2-clause-goes : goal.returns-in-Half-2-clause-goes
+returns-in-Half-2-clause-goes g c = goes_to_half g.N.Naming.program c.args.cells.now c.args.cell c.args.self.now (ap is_half (sym c.in-Half.ensures.value)) c.if-self.false
+
+pub returns-in-Cell-clause-goes : goal.returns-in-Cell-clause-goes
+returns-in-Cell-clause-goes g c =
+    goes_on g.N.Naming.program c.args.cells.now c.args.cell c.word-word.result c.args.self.now c.follow.new.self c.follow.result c.follow.ensures.stays c.follow.ensures.opens c.follow.ensures.marks c.requires.unmarked (omega (arith, c.requires.taking.1.path.1, c.requires.taking.1.room))
+    (sym c.word-word.ensures.value) (λ e. let is = c.in-Cell.is in cc) (ap is_half c.in-Cell.is)
+
+pub returns-in-Node-clause-goes : goal.returns-in-Node-clause-goes
+returns-in-Node-clause-goes g c =
+    goes_on g.N.Naming.program c.args.cells.now c.args.cell c.word-word.result c.args.self.now c.follow-in-Node.new.self c.follow-in-Node.result c.follow-in-Node.ensures.stays c.follow-in-Node.ensures.opens c.follow-in-Node.ensures.marks c.requires.unmarked (omega (arith, c.requires.taking.1.path.1, c.requires.taking.1.room))
+    (sym c.word-word.ensures.value) (λ e. let is = c.in-Node.is in cc) (ap is_half c.in-Node.is)
+
+pub returns-in-Number-clause-goes : goal.returns-in-Number-clause-goes
+returns-in-Number-clause-goes g c =
+    goes_on g.N.Naming.program c.args.cells.now c.args.cell c.word-word.result c.args.self.now c.follow-in-Number.new.self c.follow-in-Number.result c.follow-in-Number.ensures.stays c.follow-in-Number.ensures.opens c.follow-in-Number.ensures.marks c.requires.unmarked (omega (arith, c.requires.taking.1.path.1, c.requires.taking.1.room))
+    (sym c.word-word.ensures.value) (λ e. let is = c.in-Number.is in cc) (ap is_half c.in-Number.is)
