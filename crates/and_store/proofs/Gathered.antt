@@ -217,6 +217,7 @@ module _ (P : NamedProgram) (a : About) (passes : List PassSeen) (id : ℕ) (v :
         least = least;
         least_is = least_is;
         behind = omega (arith, cut_long, least_in);
+        within = omega (arith, cut_long, in_words);
         no_longer = elim no_longer [
           | inl e ↦ inl (cut_long ∙ e)
           | inr x ↦ inr (λ f.

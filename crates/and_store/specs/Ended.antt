@@ -35,10 +35,11 @@ pub record Closes (P : NamedProgram) (a : About) (passes : List Pass) (row : Lis
   pub row_fits : Row a.first passes journal row
   -- What is set is in range of the words that the store had.
   pub fits : (s : Setting) → Contains (set_in row) s → CanHold P a.words s.place s.value
-  -- The row ends behind the opening's cells, the frames and what is set, and no further.
+  -- The row ends behind the opening's cells, the frames and what is set, and no further; and within the words that the store had.
   pub least : ℕ
   pub least_is : LastEnds a passes least
   pub behind : least ≤ length row
+  pub within : length row ≤ a.words
   pub no_longer : (length row ≡ least) ⊎ (word_at row (length row - 1) ≢ Free)
   -- It failed where some pass did.
   pub failed_is : (failed ≡ true) ↔ ((p : Pass) × Contains passes p × (p.fails ≢ []))

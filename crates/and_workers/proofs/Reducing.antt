@@ -31,7 +31,7 @@ use Rattle.and_unify.specs.declared.pairs.Pair.{Pair}
 use Rattle.and_unify.specs.Pairs.{equations_of_pairs, NameNoHalf}
 use Rattle.and_store.specs.Calls.{TakesFrame, GetsNone}
 use Rattle.and_store.specs.Passes.{PassSeen, StoreId}
-use Rattle.and_store.specs.Worked.{seen_by}
+use Rattle.and_store.specs.Worked.{seen_by, shown}
 use Rattle.and_store_laws.proofs.Lists.{contains_first, contains_cases, contains_none}
 use Rattle.and_store_laws.specs.Steps.{entry}
 use Rattle.and_workers.specs.Asking.{Notes, call_pair, item_pairs, has_fail}
@@ -126,9 +126,10 @@ module _ (P : NamedProgram) (told now : Told) (goal : Goal) (clause : ClauseNo) 
     can = subst (λ (s : StoreId). CanBeTried P s.about.words notes.one.goal) (sym store) (subst (CanBeTried P p.store.about.words) (sym notes.goal_is) can);
     parent = ap (λ (r : Reduction). r.parent) notes.reduction_is ∙ ap (λ (g : Goal). g.node) (sym notes.goal_is);
     item = ap (λ (r : Reduction). r.item) notes.reduction_is ∙ ap (λ (g : Goal). g.item) (sym notes.goal_is);
-    sole = subst (λ (j : PassSeen). AreLeft P (seen_by j) notes.one.goal (notes.one.reduction.clause ∷ [])) (sym notes.judged_is)
+    sole = subst (λ (j : PassSeen). AreLeft P (shown q.store.about.words j.pass) notes.one.goal (notes.one.reduction.clause ∷ [])) (sym notes.judged_is)
+        (subst (λ (s : StoreId). AreLeft P (shown s.about.words p.pass) notes.one.goal (notes.one.reduction.clause ∷ [])) (sym store)
         (subst (λ (r : Reduction). AreLeft P (seen_by p) notes.one.goal (r.clause ∷ [])) (sym notes.reduction_is)
-        (subst (λ (g : Goal). AreLeft P (seen_by p) g (clause ∷ [])) (sym notes.goal_is) sole));
+        (subst (λ (g : Goal). AreLeft P (seen_by p) g (clause ∷ [])) (sym notes.goal_is) sole)));
     knows = subst (λ (j : PassSeen). AllStand q.store.about.first j.pass.seen j.pass.known) (sym notes.judged_is)
         (subst (λ (s : StoreId). AllStand s.about.first p.pass.seen p.pass.known) (sym store) stand);
     since = takes.sees.since;

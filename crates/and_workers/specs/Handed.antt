@@ -17,7 +17,7 @@ use Rattle.and_branch_laws.specs.Reducing.{reduction_in_cells}
 use Rattle.and_branch_laws.specs.Variables.{placed, cells_from}
 use Rattle.and_selection.specs.Selecting.{CanBeTried, AreLeft}
 use Rattle.and_store.specs.Passes.{PassSeen}
-use Rattle.and_store.specs.Worked.{seen_by}
+use Rattle.and_store.specs.Worked.{seen_by, shown}
 use Rattle.and_store_laws.specs.Steps.{entry}
 use Rattle.and_workers.specs.declared.told.Reduced.{Reduced}
 use Rattle.and_workers.specs.declared.told.Ran.{Ran}
@@ -92,7 +92,7 @@ pub record IsSole (P : NamedProgram) (p : PassSeen) (m : Reduced) : Type 0 where
   pub can : CanBeTried P p.store.about.words m.goal
   pub parent : m.reduction.parent ≡ m.goal.node
   pub item : m.reduction.item ≡ m.goal.item
-  pub sole : AreLeft P (seen_by m.judged.value) m.goal (m.reduction.clause ∷ [])
+  pub sole : AreLeft P (shown p.store.about.words m.judged.value.pass) m.goal (m.reduction.clause ∷ [])
   -- All that was known then was set at the opening, or in what had been seen.
   pub knows : All (λ (k : Known). Contains (settings_from p.store.about.first m.judged.value.pass.seen) k.setting) m.judged.value.pass.known
   pub since : List JournalEntry
