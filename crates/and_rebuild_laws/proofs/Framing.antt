@@ -1,21 +1,22 @@
 -- The cells of the variables of a tree that is written down.
-use Rattle.std.proofs.Common.{ℕ, zero, suc, ◌+◌, ◌<◌, ◌≤◌, ◌≡◌, List, [], ◌∷◌, ◌++◌, flat_map, length, refl, ap, sym, subst, ◌∙◌, inl, inr, arith, Contains}
+use Rattle.std.proofs.Common.{ℕ, zero, suc, ◌+◌, ◌<◌, ◌≤◌, ◌≡◌, ◌≢◌, List, [], ◌∷◌, ◌++◌, length, replicate, refl, ap, sym, subst, ◌∙◌, inl, inr, arith, Contains}
 use Rattle.std.proofs.lemmas.Bool.{cases_lt}
-use Rattle.std.proofs.lemmas.List.{length-append}
+use Rattle.std.proofs.lemmas.List.{length-append, length-replicate}
 use Rattle.std.proofs.lemmas.List.Elements.{Contains-append_cases, Contains-append_left, Contains-append_right}
 use Rattle.and_model.specs.Terms.{Path, Substitution}
 use Rattle.and_model.specs.Programs.{clause_at}
-use Rattle.and_model.specs.Trees.{QueryTree}
-use Rattle.and_model.specs.Reductions.{Reduction, PlaceHas, Makes}
+use Rattle.and_model.specs.Trees.{QueryTree, weight}
+use Rattle.and_model.specs.Reductions.{Reduction, PlaceHas, query, reduced, Makes}
 use Rattle.and_model.specs.Stands.{ClauseHas}
 use Rattle.and_laws.proofs.Ordered.{contains_first, contains_more, contains_cases, contains_none}
-use Rattle.and_laws.proofs.Placing.{place_more, place_once}
+use Rattle.and_laws.proofs.Placing.{place_more, place_once, parent_below}
+use Rattle.and_laws.proofs.Order.{clause_weighs}
 use Rattle.and_cells.specs.Ranges.{NamedProgram}
 use Rattle.and_cells.specs.Meaning.{cell_variable}
 use Rattle.and_phase_laws.proofs.Places.{made_once, paths_own}
 use Rattle.and_branch_laws.specs.Variables.{IsVariable, AreNames}
 use Rattle.and_branch_laws.proofs.Naming.{variables_fit}
-use Rattle.and_branch_laws.proofs.Places.{clause_place, clause_more, frames_apart}
+use Rattle.and_branch_laws.proofs.Places.{place_clause, clause_place, clause_more, frame_within, frames_apart}
 use Rattle.and_rebuild_laws.specs.Opening.{Cells, AreCells}
 
 -- the first variables of the frame q, so many, with the cells of the frame that begins at n
@@ -44,19 +45,41 @@ up_has q n (suc m) k low = elim (cases_lt k m) [
       subst (λ i. Contains (((q, m), n + 1 + m) ∷ cells_up q n m) ((q, i), n + 1 + i)) same (contains_first ((q, m), n + 1 + m) (cells_up q n m))
 ]
 
--- A path that none of these variables has: it is longer than all.
-longer_than : Cells → Path
-longer_than cells = 0 ∷ flat_map (λ (c : (Path × ℕ) × ℕ). c.0.0) cells
-
-is_longer : (cells : Cells) (v : Path × ℕ) (n : ℕ) → Contains cells (v, n) → length v.0 ≤ length (flat_map (λ (c : (Path × ℕ) × ℕ). c.0.0) cells)
-is_longer [] v n c = absurd (contains_none (v, n) c)
-is_longer (x ∷ cells) v n c =
-    let long = length-append x.0.0 (flat_map (λ (d : (Path × ℕ) × ℕ). d.0.0) cells) in elim (contains_cases x (v, n) cells c) [
-      | inl is ↦ let same : length v.0 ≡ length x.0.0 = ap (λ (d : (Path × ℕ) × ℕ). length d.0.0) is in omega arith
-      | inr later ↦ let rest = is_longer cells v n later in omega arith
-    ]
-
 module _ (P : NamedProgram) (rs : List Reduction) (t : QueryTree P.program) (made : Makes P.program rs t) where
+  -- A place's path is no longer than its number, and shorter than the tree weighs.
+  place_short : (n : ℕ) (q : Path) → PlaceHas rs n q → length q ≤ n
+  place_short n q query = omega arith
+  place_short n q (reduced r p h place) =
+      let short = place_short r.parent p place in
+      let rises = parent_below P.program rs t made r h in
+      let long = length-append p (r.item ∷ []) in omega arith
+
+  place_within : (n : ℕ) (q : Path) → PlaceHas rs n q → length q < weight t
+  place_within n q place =
+      let short = place_short n q place in
+      let (c, has) = place_clause rs n q place in
+      let within = frame_within P.program rs t made n c has in
+      let some = clause_weighs (clause_at P.program c) in omega arith
+
+  -- A path that no place has and no call: it is longer than all.
+  frame_apart : Path
+  frame_apart = replicate (weight t + 1) 0
+
+  apart_long : length frame_apart ≡ weight t + 1
+  unfolding frame_apart
+  apart_long = length-replicate (weight t + 1) 0
+
+  place_apart : (n : ℕ) (q : Path) → PlaceHas rs n q → q ≢ frame_apart
+  place_apart n q place same =
+      let long = ap (λ (p : Path). length p) same ∙ apart_long in
+      let short = place_within n q place in omega arith
+
+  call_apart : (n : ℕ) (q : Path) (i : ℕ) → PlaceHas rs n q → q ++ i ∷ [] ≢ frame_apart
+  call_apart n q i place same =
+      let long = ap (λ (p : Path). length p) same ∙ apart_long in
+      let one_more = length-append q (i ∷ []) in
+      let short = place_within n q place in omega arith
+
   -- the cells of the frame of a clause at its place
   in_frame : (n c : ℕ) → ClauseHas rs n c → Cells
   in_frame n c h = cells_up (clause_place P.program rs t made n c h).0 n (clause_at P.program c).variables
@@ -159,8 +182,8 @@ module _ (P : NamedProgram) (rs : List Reduction) (t : QueryTree P.program) (mad
       ]
 
   are_cells : (old : List Reduction) (names : Substitution) → ((x : Reduction) → Contains old x → Contains rs x) → AreNames old names
-      → AreCells (IsVariable P old) names (longer_than all_cells) all_cells
-  unfolding IsOwnCell longer_than
+      → AreCells (IsVariable P old) names frame_apart all_cells
+  unfolding IsOwnCell
   are_cells old names sub named = record {
     named = λ v n c x.
         let (i, a) = cells_told rs (λ y e. e) v n c in
@@ -169,7 +192,7 @@ module _ (P : NamedProgram) (rs : List Reduction) (t : QueryTree P.program) (mad
         named x.node v.0 x.place v.1 ∙ ap (λ m. cell_variable (m + 1 + v.1)) node ∙ ap (λ m. cell_variable m) (sym a);
     all = λ v x. let i : IsVariable P rs v = more v x in (i.node + 1 + v.1, all_have v i);
     one = one_cell;
-    elsewhere = λ v n c e. let long = is_longer all_cells v n c in let same = ap (λ (q : Path). length q) e in omega arith;
+    elsewhere = λ v n c e. let (i, a) = cells_told rs (λ y f. f) v n c in place_apart i.node v.0 i.place e;
   } where
     more : (v : Path × ℕ) → IsVariable P old v → IsVariable P rs v
     more v x = record { node = x.node; clause = x.clause; place = place_more old rs sub x.node v.0 x.place; clause_is = clause_more old rs sub x.node x.clause x.clause_is; own = x.own }
@@ -177,5 +200,12 @@ module _ (P : NamedProgram) (rs : List Reduction) (t : QueryTree P.program) (mad
   pub variables_have_cells : (apart : Path) × (cells : Cells)
       × ((old : List Reduction) (names : Substitution) → ((x : Reduction) → Contains old x → Contains rs x) → AreNames old names → AreCells (IsVariable P old) names apart cells)
       × ((v : Path × ℕ) (n : ℕ) → Contains cells (v, n) → IsVariable P rs v)
+      × ((node : ℕ) (q : Path) (i : ℕ) → PlaceHas rs node q → (q ≢ apart) × (q ++ i ∷ [] ≢ apart))
   unfolding IsOwnCell
-  variables_have_cells = (longer_than all_cells, all_cells, are_cells, λ v n c. (cells_told rs (λ y e. e) v n c).0)
+  variables_have_cells = (
+    frame_apart,
+    all_cells,
+    are_cells,
+    λ v n c. (cells_told rs (λ y e. e) v n c).0,
+    λ n q i place. (place_apart n q place, call_apart n q i place),
+  )

@@ -57,7 +57,7 @@ cells_solved : (apart : Path) (r : Substitution) (cells : Cells) → ((v : Path 
 cells_solved apart r [] h = tt
 cells_solved apart r (c ∷ cells) h = (h c.0 c.1 (contains_first c cells), cells_solved apart r cells (λ v n x. h v n (contains_more c (v, n) cells x)))
 
-cells_give : (apart : Path) (r : Substitution) (cells : Cells) → Solves r (cell_equations apart cells) → (v : Path × ℕ) (n : ℕ) → Contains cells (v, n)
+pub cells_give : (apart : Path) (r : Substitution) (cells : Cells) → Solves r (cell_equations apart cells) → (v : Path × ℕ) (n : ℕ) → Contains cells (v, n)
     → r v.0 v.1 ≡ r apart n
 cells_give apart r [] p v n c = absurd (contains_none (v, n) c)
 cells_give apart r (x ∷ cells) p v n c = elim (contains_cases x (v, n) cells c) [

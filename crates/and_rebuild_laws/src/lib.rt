@@ -4,14 +4,14 @@
 //! Each function here does nothing. Its contract is a law over the definitions below and of `specs/`. The proofs' own lemmas stand in `proofs/`.
 #![tactic(auto)]
 
-ghost use Rattle.std.specs.Prelude.{ℕ, ◌+◌, ◌<◌, ◌≡◌, ◌≢◌, true, List, [], ◌++◌, map, Contains};
+ghost use Rattle.std.specs.Prelude.{ℕ, ◌+◌, ◌<◌, ◌≡◌, ◌≢◌, true, List, [], ◌∷◌, ◌++◌, map, Contains};
 ghost use Rattle.and_model.specs.Terms.{Path, Term, Substitution, framed};
 ghost use Rattle.and_model.specs.Solutions.{Equation, Solves, Entails};
 ghost use Rattle.and_model.specs.Programs.{Program, Arithmetic};
 ghost use Rattle.and_model.specs.Candidates.{Candidate};
 ghost use Rattle.and_model.specs.Closure.{Ran};
 ghost use Rattle.and_model.specs.Trees.{QueryTree, equations, arithmetics};
-ghost use Rattle.and_model.specs.Reductions.{Reduction, Makes};
+ghost use Rattle.and_model.specs.Reductions.{Reduction, PlaceHas, Makes};
 ghost use Rattle.and_model.specs.Stands.{Framed};
 ghost use Rattle.and_model.specs.declared.reference.Ref.{Ref};
 ghost use Rattle.and_laws.specs.Naming.{under};
@@ -40,14 +40,15 @@ pub fn tasks_tell_what_was_run()
         → (run : List Arithmetic) × (ran : Ran es (arithmetic_among all) ds (arithmetic_among left)) × TakenOut run (goals_run ran) [] × Leaves all run left }
 {}
 
-/// Variables have cells: of a tree that reductions make each variable has a cell, by which it is named, no cell stands for two, and some frame has
-/// none of them. So it is of the variables of each tree that some of the reductions make.
+/// Variables have cells: of a tree that reductions make each variable has a cell, by which it is named, no cell stands for two, and some frame, which is
+/// no place's of the tree and no call's, has none of them. So it is of the variables of each tree that some of the reductions make.
 pub fn variables_have_cells()
     ensures { (P : NamedProgram) (rs : List Reduction) (t : QueryTree P.program) → Makes P.program rs t
         → (apart : Path) × (cells : Cells)
         × ((old : List Reduction) (names : Substitution) → ((r : Reduction) → Contains old r → Contains rs r) → AreNames old names
         → AreCells (IsVariable P old) names apart cells)
-        × ((v : Path × ℕ) (n : ℕ) → Contains cells (v, n) → IsVariable P rs v) }
+        × ((v : Path × ℕ) (n : ℕ) → Contains cells (v, n) → IsVariable P rs v)
+        × ((node : ℕ) (q : Path) (i : ℕ) → PlaceHas rs node q → (q ≢ apart) × (q ++ i ∷ [] ≢ apart)) }
 {}
 
 /// Branches open phases: a branch that is to have these reductions beside its own opens a phase with the cells of all of them. The arithmetic that it

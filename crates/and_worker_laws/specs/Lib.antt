@@ -1,0 +1,6 @@
+pub mod Acts
+pub mod Facts
+pub mod Unfolding
+pub mod Leavings
+pub mod Reading
+pub mod Standing
