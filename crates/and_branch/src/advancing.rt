@@ -1,6 +1,6 @@
 //! Determinate goals, reduced until there are none.
 
-ghost use Rattle.std.specs.Prelude.{◌≡◌, ◌≢◌, ◌≤◌, ◌+◌, [], ◌∷◌, ℕ, true, false, List, length, Ok, OnOk, IfOk};
+ghost use Rattle.std.specs.Prelude.{◌≡◌, ◌≢◌, ◌≤◌, ◌+◌, ◌⊎◌, [], ◌∷◌, ℕ, true, false, List, length, Ok, OnOk, IfOk};
 ghost use Rattle.and_model.specs.Terms.{Term};
 ghost use Rattle.and_model.specs.Programs.{call, Arithmetic, arithmetic, clause_at, clause_weight};
 ghost use Rattle.and_model.specs.Trees.{QueryTree, Open};
@@ -16,7 +16,7 @@ ghost use Rattle.and_branch_laws.specs.Judging.{CandidateInCells};
 ghost use Rattle.and_branch_laws.specs.Kept.{item_at};
 ghost use Rattle.and_branch_laws.specs.States.{StateOf, determinate};
 ghost use Rattle.and_branch.specs.Branches.{IsBranch, IsBranchOf, SameKey};
-ghost use Rattle.and_branch.specs.Rounds.{StepsOn, AreFew, IsAtMost, LookIs, RoundIs, HasStilled, IsAt};
+ghost use Rattle.and_branch.specs.Rounds.{StepsOn, AreFew, IsAtMost, IsStill, LookIs, RoundIs, HasStilled, IsAt};
 ghost use Rattle.and_branch.specs.declared.finding.Found.{Found};
 
 use crate::branch::Branch;
@@ -99,6 +99,32 @@ impl<N: Naming> Branch<N> {
         loaded.skeleton_is_of_the_program();
         let _found = self.go_rounds(loaded, table, gate, workspace)?;
         Ok(())
+    }
+
+    /// One round over the goals, which takes at most so many reductions. Answers whether any goal was run
+    /// or reduced; it need not answer so where the branch is then marked failed. The gate is told of each
+    /// reduction before it is made. An error is want of memory, and the branch is spent.
+    pub fn advance_some<G: Gate>(
+        &mut self,
+        loaded: &Loaded,
+        table: &Determinacy,
+        gate: &G,
+        most: u32,
+        workspace: &mut Workspace,
+    ) -> Result<bool, AllocError>
+        requires program { N.program ≡ named loaded.now }
+        requires table { IsTableOf N.program table.now }
+        requires branch { IsBranch N.program self.old }
+        requires most { 1 ≤ most }
+        ensures same { SameKey self.old self.new }
+        ensures steps { OnOk result (StepsOn N.program self.old self.new) }
+        ensures done { result ≡ Ok false → (self.new.is_failed ≡ true) ⊎ IsStill N.program self.new }
+    {
+        match self.go_round(loaded, table, gate, most, workspace)? {
+            Round::Changed => Ok(true),
+            Round::Still(_) => Ok(false),
+            Round::Failed => Ok(false),
+        }
     }
 
     /// Rounds over the goals, until for none is anything to be done. Answers what was found of them

@@ -119,6 +119,23 @@ impl<N: Naming> Branch<N> {
         &self.key
     }
 
+    /// The same, of a branch that is given up. Takes no memory.
+    pub fn into_key(self) -> Code
+        ensures { result ≡ self.key }
+    {
+        let Branch {
+            key,
+            limit: _,
+            cells: _,
+            reductions: _,
+            left: _,
+            right: _,
+            used: _,
+            is_failed: _,
+        } = self;
+        key
+    }
+
     /// The weight of the branch's tree. Takes no memory.
     pub fn weight(&self) -> u32
         ensures { result ≡ self.now.used }
