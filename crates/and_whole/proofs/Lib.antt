@@ -1,0 +1,4 @@
+mod Bounds
+mod Loops
+mod ReadyGoals
+mod Wholeness
