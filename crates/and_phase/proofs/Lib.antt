@@ -1,0 +1,5 @@
+mod Calls
+mod JoinedBranches
+mod Jobs
+mod Later
+mod Left

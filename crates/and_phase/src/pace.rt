@@ -1,0 +1,81 @@
+//! Which phases a team tries workers in, and how much room they have.
+
+ghost use Rattle.std.specs.Prelude.{◌≤◌};
+
+/// How many phases are left to the leader in a row at most.
+const LONGEST_REST: u32 = 4096;
+
+/// How many words a store has for new frames.
+const ROOM: u32 = 1024;
+
+/// Which phases of a team its workers are tried in: the first, and then ever more rarely, since they cost more than they save today.
+#[derive(Drop)]
+pub struct Pace {
+    /// How many phases are still left to the leader.
+    rest: u32,
+    /// How many will be after the next one.
+    next: u32,
+}
+
+impl Pace {
+    /// No phase was tried yet.
+    pub fn new() -> Pace {
+        Pace { rest: 0, next: 1 }
+    }
+
+    /// Whether the next phase is left to the leader. It counts as one of those that are.
+    pub(crate) fn rests(&mut self) -> bool {
+        if self.rest == 0 {
+            return false;
+        }
+        self.rest -= 1;
+        true
+    }
+
+    /// Notes that a phase was tried: the next ones are left to the leader, twice as many as the last time.
+    pub(crate) fn note(&mut self) {
+        self.rest = self.next;
+        self.next = at_most(LONGEST_REST, self.next.saturating_mul(2));
+    }
+}
+
+/// How many words a store has that opens with so many.
+pub(crate) fn words_of(opening: u32, limit: u32) -> u32
+    requires { opening ≤ limit }
+    ensures opening { opening ≤ result }
+    ensures limit { result ≤ limit }
+{
+    if limit - opening <= ROOM {
+        limit
+    } else {
+        opening + ROOM
+    }
+}
+
+/// The smaller of two numbers.
+fn at_most(most: u32, number: u32) -> u32 {
+    if number < most { number } else { most }
+}
+
+#[cfg(test)]
+mod tests {
+    use super::{Pace, words_of};
+    use std::test::Fail;
+
+    #[test]
+    fn rests_longer_each_time(rt: HostRuntime) -> Result<(), Fail> {
+        let mut pace = Pace::new();
+        assert!(rt; !pace.rests());
+        pace.note();
+        assert!(rt; pace.rests() && !pace.rests());
+        pace.note();
+        assert!(rt; pace.rests() && pace.rests() && !pace.rests());
+        Ok(())
+    }
+
+    #[test]
+    fn gives_room_below_the_limit(rt: HostRuntime) -> Result<(), Fail> {
+        assert!(rt; words_of(10, 1_000_000) == 1034 && words_of(10, 20) == 20);
+        Ok(())
+    }
+}

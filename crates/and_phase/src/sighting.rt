@@ -1,0 +1,161 @@
+//! Branches that are looked over for work.
+
+ghost use Rattle.std.specs.Prelude.{◌≡◌, ◌≤◌, IfOk, IfErr};
+ghost use Rattle.and_cells.specs.Parts.{named};
+ghost use Rattle.and_determinacy.specs.Tables.{IsTableOf};
+ghost use Rattle.and_branch.specs.Branches.{IsBranch};
+ghost use Rattle.and_branch.specs.Parts.{held_of};
+ghost use Rattle.and_phase.specs.Sighting.{IsLater, IsSighted};
+
+use crate::determinate::are_two;
+use and_branch::{Branch, NoRoom, Parts, Workspace};
+use and_cells::Naming;
+use and_determinacy::Determinacy;
+use and_io::Gate;
+use and_program::Loaded;
+use std::alloc::Global;
+
+/// How many reductions the leader makes at most before it looks for work again, the first time. Each later time it makes twice as many.
+const FIRST_ROUND: u32 = 64;
+
+/// How many times it does so.
+const ROUNDS: u32 = 4;
+
+/// A branch that was looked over for work.
+#[derive(Drop)]
+pub(crate) enum Sighted<N: Naming> {
+    /// There is work for two workers. The branch is taken apart.
+    Two(Parts<N>),
+    /// There is none.
+    NotTwo(Branch<N>),
+}
+
+/// A branch, and whether it is worth a look again.
+#[derive(Drop)]
+struct Led<N: Naming> {
+    branch: Branch<N>,
+    has_changed: bool,
+}
+
+/// Looks for work for two workers. Where there is none, the leader alone makes some reductions first, as a program often begins with one goal that
+/// spawns many. An error is want of memory, and tells the key of the branch that was lost.
+pub(crate) fn look_over<N: Naming, G: Gate>(
+    alloc: Global,
+    loaded: &Loaded,
+    table: &Determinacy,
+    branch: Branch<N>,
+    gate: &G,
+    workspace: &mut Workspace,
+) -> Result<Sighted<N>, NoRoom>
+    requires program { N.program ≡ named loaded.now }
+    requires table { IsTableOf N.program table.now }
+    requires branch { IsBranch N.program branch }
+    ensures sighted { IfOk result (IsSighted N.program branch) }
+    ensures no_room { IfErr result (λ refused. refused.key ≡ branch.key) }
+{
+    let mut branch = branch;
+    let mut most = FIRST_ROUND;
+    'looks: for _ in 0..ROUNDS {
+        match look(alloc, loaded, table, branch)? {
+            Sighted::Two(parts) => return Ok(Sighted::Two(parts)),
+            Sighted::NotTwo(left) => {
+                let led = lead(loaded, table, left, gate, most, workspace)?;
+                let Led {
+                    branch: next,
+                    has_changed,
+                } = led;
+                if !has_changed {
+                    return Ok(Sighted::NotTwo(next));
+                }
+                branch = next;
+            }
+        }
+        most = most.saturating_mul(2);
+    }
+    look(alloc, loaded, table, branch)
+}
+
+/// Looks for work for two workers. An error is want of memory, and tells the key of the branch that was lost.
+fn look<N: Naming>(
+    alloc: Global,
+    loaded: &Loaded,
+    table: &Determinacy,
+    branch: Branch<N>,
+) -> Result<Sighted<N>, NoRoom>
+    requires program { N.program ≡ named loaded.now }
+    requires table { IsTableOf N.program table.now }
+    requires branch { IsBranch N.program branch }
+    ensures sighted { IfOk result (IsSighted N.program branch) }
+    ensures no_room { IfErr result (λ refused. refused.key ≡ branch.key) }
+{
+    match branch.parts() {
+        Ok(parts) => look_at_parts(alloc, loaded, table, parts),
+        Err(branch) => Ok(Sighted::NotTwo(branch)),
+    }
+}
+
+/// The same, of a branch that was taken apart.
+fn look_at_parts<N: Naming>(
+    alloc: Global,
+    loaded: &Loaded,
+    table: &Determinacy,
+    parts: Parts<N>,
+) -> Result<Sighted<N>, NoRoom>
+    requires program { N.program ≡ named loaded.now }
+    requires table { IsTableOf N.program table.now }
+    requires branch { IsBranch N.program (held_of parts) }
+    ensures sighted { IfOk result (IsSighted N.program (held_of parts)) }
+    ensures no_room { IfErr result (λ refused. refused.key ≡ parts.key) }
+{
+    if parts.is_failed {
+        return Ok(Sighted::NotTwo(parts.into_branch()));
+    }
+    loaded.skeleton_is_of_the_program();
+    let mut parts = parts;
+    match are_two(
+        alloc,
+        loaded,
+        table,
+        &mut parts.cells,
+        parts.goals.as_slice(),
+    ) {
+        Ok(true) => Ok(Sighted::Two(parts)),
+        Ok(false) => Ok(Sighted::NotTwo(parts.into_branch())),
+        Err(_) => Err(lost(parts)),
+    }
+}
+
+/// What is told of a branch that was lost.
+pub(crate) fn lost<N: Naming>(parts: Parts<N>) -> NoRoom
+    ensures { result.key ≡ parts.key }
+{
+    NoRoom { key: parts.key }
+}
+
+/// Lets the leader alone make at most so many reductions. An error is want of memory, and tells the key of the branch that was lost.
+fn lead<N: Naming, G: Gate>(
+    loaded: &Loaded,
+    table: &Determinacy,
+    branch: Branch<N>,
+    gate: &G,
+    most: u32,
+    workspace: &mut Workspace,
+) -> Result<Led<N>, NoRoom>
+    requires program { N.program ≡ named loaded.now }
+    requires table { IsTableOf N.program table.now }
+    requires branch { IsBranch N.program branch }
+    requires most { 1 ≤ most }
+    ensures later { IfOk result (λ led. IsLater N.program branch led.branch) }
+    ensures no_room { IfErr result (λ refused. refused.key ≡ branch.key) }
+{
+    let mut branch = branch;
+    match branch.advance_some(loaded, table, gate, most, workspace) {
+        Ok(has_changed) => Ok(Led {
+            branch,
+            has_changed,
+        }),
+        Err(_) => Err(NoRoom {
+            key: branch.into_key(),
+        }),
+    }
+}
