@@ -1,4 +1,4 @@
-//! Tests of searches by several teams: whole programs, by one team and by several.
+//! Tests of searches by several teams: whole programs, by one team and by several, of one worker and of several.
 #![tactic(auto)]
 
 #[cfg(test)]

@@ -1,4 +1,4 @@
-//! Programs for which several teams write what the walk writes.
+//! Programs for which several teams and workers write what the walk writes.
 
 use crate::searches::{explored, walked};
 use std::test::Fail;
@@ -24,8 +24,8 @@ fn several_teams_write_what_the_walk_writes(rt: HostRuntime) -> Result<(), Fail>
     for place in 0..COMPLETE.len() {
         let text = COMPLETE[place];
         let expected = walked(alloc, text, 4_000)?;
-        for teams in [1, 2, 5] {
-            let written = explored(&rt, alloc, text, 4_000, teams)?;
+        for (teams, workers) in [(1, 1), (2, 1), (5, 1), (1, 2), (2, 3)] {
+            let written = explored(&rt, alloc, text, 4_000, teams, workers)?;
             assert!(rt; written.bytes() == expected.bytes());
         }
     }
@@ -40,8 +40,8 @@ fn several_teams_meet_the_limit(rt: HostRuntime) -> Result<(), Fail> {
     let alloc = rt.alloc();
     for limit in [1, 20, 40] {
         let expected = walked(alloc, CUT, limit)?;
-        for teams in [1, 2, 5] {
-            let written = explored(&rt, alloc, CUT, limit, teams)?;
+        for (teams, workers) in [(1, 1), (2, 1), (5, 1), (1, 2), (2, 3)] {
+            let written = explored(&rt, alloc, CUT, limit, teams, workers)?;
             assert!(rt; written.bytes() == expected.bytes());
         }
     }

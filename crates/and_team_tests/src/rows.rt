@@ -1,4 +1,4 @@
-//! Worked rows: what is written for them by one team, by two and by sixteen.
+//! Worked rows: what is written for them by one team, by two and by sixteen, of one worker or several.
 
 use crate::searches::explored;
 use std::test::Fail;
@@ -33,8 +33,8 @@ Q = [3,1,4,2], A = 3, B = 1, C = 4, D = 2
 
 #[test]
 fn two_forks(rt: HostRuntime) -> Result<(), Fail> {
-    for teams in [1, 2, 3, 16] {
-        let text = explored(&rt, rt.alloc(), TWO_FORKS, 262_144, teams)?;
+    for (teams, workers) in [(1, 1), (2, 1), (3, 1), (16, 1), (1, 2), (3, 8)] {
+        let text = explored(&rt, rt.alloc(), TWO_FORKS, 262_144, teams, workers)?;
         assert!(rt; text.bytes() == TWO_FORKS_ANSWERED.as_bytes());
     }
     Ok(())
@@ -42,8 +42,8 @@ fn two_forks(rt: HostRuntime) -> Result<(), Fail> {
 
 #[test]
 fn four_queens(rt: HostRuntime) -> Result<(), Fail> {
-    for teams in [1, 2, 16] {
-        let text = explored(&rt, rt.alloc(), FOUR_QUEENS, 262_144, teams)?;
+    for (teams, workers) in [(1, 1), (2, 1), (16, 1), (1, 2), (2, 8)] {
+        let text = explored(&rt, rt.alloc(), FOUR_QUEENS, 262_144, teams, workers)?;
         assert!(rt; text.bytes() == FOUR_QUEENS_ANSWERED.as_bytes());
     }
     Ok(())

@@ -12,23 +12,28 @@ use std::alloc::{AllocError, Global};
 use std::sync::Wait;
 use std::thread::Threads;
 
-/// What a search by so many teams writes. An error is want of memory, a text that is refused, or a number
-/// out of range.
+/// What a search by so many teams of so many workers writes. An error is want of memory, a text that is refused,
+/// or a number out of range.
 pub fn explored<R: Threads + Wait + Sync>(
     rt: &R,
     alloc: Global,
     text: &str,
     limit: u32,
     teams: u32,
+    workers: u32,
 ) -> Result<Text, AllocError> {
-    if limit > MAX_LIMIT || teams == 0 || teams > 16 {
+    if limit > MAX_LIMIT || teams == 0 || teams > 16 || workers == 0 || workers > 8 {
         return Err(AllocError);
     }
     let Ok(loaded) = read_program(alloc, text.as_bytes()) else {
         return Err(AllocError);
     };
     let table = compile(alloc, &loaded)?;
-    let settings = Settings { limit, teams };
+    let settings = Settings {
+        limit,
+        teams,
+        workers,
+    };
     let explored = explore(rt, alloc, &loaded, &table, settings, &Quiet)?;
     explored.found.text(true)
 }

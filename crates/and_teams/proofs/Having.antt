@@ -1,6 +1,6 @@
 -- What keeps the keys in a team's hand and its tasks together: tasks in another order, a task that ends, joins, leaves or is forked, and a
 -- child that is parted from the others. The hand is told by sums, so no order of keys matters.
-use Rattle.std.proofs.Common.{ℕ, ◌+◌, ◌*◌, ◌^◌, ◌≡◌, ◌≢◌, ◌<◌, ◌≤◌, Bool, Option, Some, None, get_or, drop, List, [], ◌∷◌, ◌++◌, length, refl, sym, ap, subst}
+use Rattle.std.proofs.Common.{ℕ, ◌+◌, ◌*◌, ◌^◌, ◌≡◌, ◌≢◌, ◌<◌, ◌≤◌, Bool, get_or, drop, List, [], ◌∷◌, ◌++◌, length, refl, sym, ap, subst}
 use Rattle.std.proofs.Common.{◌∙◌, arith, Contains, Vec, append_assoc, append-nil}
 use Rattle.std.specs.Prelude.{sum_by, flat_map}
 use Rattle.std.specs.List.{remove}

@@ -37,6 +37,8 @@ pub struct Settings {
     pub limit: u32,
     /// How many teams there are.
     pub teams: u32,
+    /// How many workers each team has.
+    pub workers: u32,
 }
 
 /// What a search found.
@@ -49,8 +51,8 @@ pub struct Explored {
 }
 
 /// All answers of a program within a limit, in the order of their codes, and how the search ended, by
-/// so many teams, each in a thread of its own where one can be started; and what their choicepoint tree
-/// left. An error is want of memory.
+/// so many teams of so many workers, each in a thread of its own where one can be started; and what their
+/// choicepoint tree left. An error is want of memory.
 pub fn explore<R: Threads + Wait + Sync, G: Gate>(
     rt: &R,
     alloc: Global,
@@ -62,6 +64,7 @@ pub fn explore<R: Threads + Wait + Sync, G: Gate>(
     requires table { IsTableOf (named loaded.now) table.now }
     requires limit { settings.limit ≤ MAX_LIMIT }
     requires teams { (0 < settings.teams) × (settings.teams ≤ 16) }
+    requires workers { (0 < settings.workers) × (settings.workers ≤ 8) }
     ensures found { IfOk result (λ explored. IsFound (program_of loaded.now) settings.limit explored.found) }
     ensures closed { IfOk result (λ explored. IsRunOf (program_of loaded.now) settings.limit settings.teams explored.found explored.closed) }
 {
@@ -81,6 +84,7 @@ fn explore_named<N: Naming + Send + Sync, R: Threads + Wait + Sync, G: Gate>(
     requires table { IsTableOf N.program table.now }
     requires limit { settings.limit ≤ MAX_LIMIT }
     requires teams { (0 < settings.teams) × (settings.teams ≤ 16) }
+    requires workers { (0 < settings.workers) × (settings.workers ≤ 8) }
     ensures found { IfOk result (λ explored. IsFound N.program.program settings.limit explored.found) }
     ensures closed { IfOk result (λ explored. IsRunOf N.program.program settings.limit settings.teams explored.found explored.closed) }
 {
@@ -113,12 +117,17 @@ fn explore_root<N: Naming + Send + Sync, R: Threads + Wait + Sync, G: Gate>(
     requires table { IsTableOf N.program table.now }
     requires limit { settings.limit ≤ MAX_LIMIT }
     requires teams { (0 < settings.teams) × (settings.teams ≤ 16) }
+    requires workers { (0 < settings.workers) × (settings.workers ≤ 8) }
     requires root { IsBranchOf N.program branch (blank (query_agenda N.program.program)) }
     requires plain { (branch.key ≡ []) × (branch.limit ≡ settings.limit) }
     ensures found { IfOk result (λ explored. IsFound N.program.program settings.limit explored.found) }
     ensures closed { IfOk result (λ explored. IsRunOf N.program.program settings.limit settings.teams explored.found explored.closed) }
 {
-    let Settings { limit, teams } = settings;
+    let Settings {
+        limit,
+        teams,
+        workers,
+    } = settings;
     let root = PlacedBranch { branch };
     let Ok((tree, passes)) = Tree::open(alloc, teams, limit, root) else {
         return Err(AllocError);
@@ -130,6 +139,7 @@ fn explore_root<N: Naming + Send + Sync, R: Threads + Wait + Sync, G: Gate>(
         tree: &tree,
         gate,
         teams,
+        workers,
     };
     let worked = work_by_teams(rt, &shared, passes)?;
     let (found, passes) = gathered(alloc, worked)?;

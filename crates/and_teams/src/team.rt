@@ -5,12 +5,11 @@ ghost use Rattle.std.specs.Option.{option_or};
 ghost use Rattle.and_model.specs.declared.limits.TheConstants.{MAX_LIMIT};
 ghost use Rattle.and_model.specs.Trees.{QueryTree, Open};
 ghost use Rattle.and_model.specs.Trees as trees;
-ghost use Rattle.and_model.specs.Reached.{Steps};
 ghost use Rattle.and_model.specs.Listing.{Outcome, Ends};
 ghost use Rattle.and_cells.specs.Parts.{named};
 ghost use Rattle.and_determinacy.specs.Tables.{IsTableOf};
 ghost use Rattle.and_branch_laws.specs.States.{StateOf, fork};
-ghost use Rattle.and_branch.specs.Branches.{IsBranch, IsBranchOf, SameKey};
+ghost use Rattle.and_branch.specs.Branches.{IsBranchOf};
 ghost use Rattle.and_branch.specs.Children.{AreChildren};
 ghost use Rattle.and_branch.specs.Ended.{HasEnded};
 ghost use Rattle.and_branch.specs.States.{IsState, IsAtRest, IsCutOf};
@@ -22,6 +21,7 @@ ghost use Rattle.and_teams.specs.Working.{Has, Works, some_task};
 ghost use Rattle.and_teams.specs.declared.team.TheConstants.{MOST_TASKS};
 
 use crate::placed::{PlacedBranch, PlacedSplit};
+use crate::reducing::{advance, reduced_by_workers};
 use crate::stack::Task;
 use and_answers::{Entry, Found};
 use and_branch::{Branch, BranchList, BranchState, Split, Workspace};
@@ -29,10 +29,12 @@ use and_cells::Naming;
 use and_determinacy::Determinacy;
 use and_io::Gate;
 use and_model::{ClauseList, Cut, Goal};
+use and_phase::Pace;
 use and_program::Loaded;
 use and_tree::{CELLS_PER_TEAM, CellSeen, Claimed, Published, Tree, TreePass};
 use std::alloc::{AllocError, Global};
 use std::snapshot::Snapshot;
+use std::thread::Threads;
 
 /// A team that has more tasks forks no more: so its hand has no more keys than a tree allows. No team comes
 /// so far, since it would have as many branches.
@@ -48,8 +50,11 @@ pub struct Shared<'a, N: Naming, G: Gate> {
     pub gate: &'a G,
     /// How many teams there are.
     pub teams: u32,
+    /// How many workers each of them has.
+    pub workers: u32,
     ghost teams_are: { tree.now.about.teams ≡ teams },
     ghost few_teams: { (0 < teams) × (teams ≤ 16) },
+    ghost few_workers: { (0 < workers) × (workers ≤ 8) },
     ghost limited: { tree.now.about.limit ≤ MAX_LIMIT },
 }
 
@@ -61,6 +66,7 @@ pub struct Team<N: Naming> {
     pub found: Found,
     /// What it has still to explore, the oldest first.
     pub stack: Vec<Task<N>>,
+    pace: Pace,
     workspace: Workspace,
     ghost number_is: { pass.team ≡ number },
 }
@@ -86,28 +92,6 @@ fn put_entry(found: &mut Found, entry: Entry) -> Result<(), AllocError>
     }
 }
 
-/// Reduces the determinate goals of a branch, and tells its state. An error is want of memory.
-fn advance<N: Naming, G: Gate>(
-    loaded: &Loaded,
-    table: &Determinacy,
-    gate: &G,
-    branch: &mut Branch<N>,
-    workspace: &mut Workspace,
-) -> Result<BranchState, AllocError>
-    requires program { N.program ≡ named loaded.now }
-    requires table { IsTableOf N.program table.now }
-    requires branch { IsBranch N.program branch.old }
-    ensures same { SameKey branch.old branch.new }
-    ensures steps { OnOk result ((t : QueryTree N.program.program) → IsBranchOf N.program branch.old t
-        → (u : QueryTree N.program.program) × Steps t u × IsBranchOf N.program branch.new u) }
-    ensures judged { IfOk result (λ s. (t : QueryTree N.program.program) → IsBranchOf N.program branch.new t
-        → IsState N.program branch.new t s) }
-    ensures at_rest { IfOk result (λ s. IsAtRest N.program branch.new s) }
-    ensures done { OnOk result (IsAdvanced N.program branch.new) }
-{
-    branch.advance_to_state(loaded, table, gate, workspace)
-}
-
 impl<N: Naming> Team<N> {
     /// A team that has done nothing.
     pub fn new(alloc: Global, number: u32, pass: TreePass<PlacedBranch<N>>) -> Team<N>
@@ -120,13 +104,20 @@ impl<N: Naming> Team<N> {
             pass,
             found: Found::new(alloc),
             stack: Vec::new(alloc),
+            pace: Pace::new(),
             workspace: Workspace::new(alloc),
         }
     }
+}
 
+impl<N: Naming + Send + Sync> Team<N> {
     /// Goes on with what is on top of the stack; `false` where nothing is there. After want of memory
     /// the task has been given up.
-    pub fn turn<G: Gate>(&mut self, shared: &Shared<N, G>) -> Result<bool, AllocError>
+    pub fn turn<R: Threads + Sync, G: Gate>(
+        &mut self,
+        rt: &R,
+        shared: &Shared<N, G>,
+    ) -> Result<bool, AllocError>
         requires program { N.program ≡ named shared.now.loaded.now }
         requires table { IsTableOf N.program shared.now.table.now }
         requires works { Works N.program shared.now.tree.now self.old.pass self.old.found (self.old.stack.items) }
@@ -135,16 +126,17 @@ impl<N: Naming> Team<N> {
         ensures same { self.new.number ≡ self.old.number }
     {
         match self.stack.pop() {
-            Some(Task::One(branch)) => self.explore(shared, branch)?,
-            Some(Task::Children(list)) => self.explore_next(shared, list)?,
+            Some(Task::One(branch)) => self.explore(rt, shared, branch)?,
+            Some(Task::Children(list)) => self.explore_next(rt, shared, list)?,
             None => return Ok(false),
         }
         Ok(true)
     }
 
     /// Goes on with the next child of a fork.
-    fn explore_next<G: Gate>(
+    fn explore_next<R: Threads + Sync, G: Gate>(
         &mut self,
+        rt: &R,
         shared: &Shared<N, G>,
         list: BranchList<N>,
     ) -> Result<(), AllocError>
@@ -157,15 +149,41 @@ impl<N: Naming> Team<N> {
     {
         let (child, rest) = self.next_child(shared, list)?;
         let Some(task) = rest else {
-            return self.explore(shared, child);
+            return self.explore(rt, shared, child);
         };
         if self.put(shared, task).is_err() {
             shared.tree.give_up(&mut self.pass, child.key());
             return Err(AllocError);
         }
-        self.explore(shared, child)
+        self.explore(rt, shared, child)
     }
 
+    /// Explores a branch: its determinate goals are reduced by the workers of the team, and what they leave is explored alone.
+    fn explore<R: Threads + Sync, G: Gate>(
+        &mut self,
+        rt: &R,
+        shared: &Shared<N, G>,
+        branch: Branch<N>,
+    ) -> Result<(), AllocError>
+        requires program { N.program ≡ named shared.now.loaded.now }
+        requires table { IsTableOf N.program shared.now.table.now }
+        requires works { Works N.program shared.now.tree.now self.old.pass self.old.found (Task.One branch ∷ self.old.stack.items) }
+        ensures has { Has N.program shared.now.tree.now self.new.pass (self.new.stack.items) }
+        ensures works { OnOk result (Works N.program shared.now.tree.now self.new.pass self.new.found (self.new.stack.items)) }
+        ensures same { self.new.number ≡ self.old.number }
+    {
+        let reduced = reduced_by_workers(rt, shared, branch, &mut self.pace, &mut self.workspace);
+        match reduced {
+            Ok(branch) => self.explore_alone(shared, branch),
+            Err(refused) => {
+                shared.tree.give_up(&mut self.pass, &refused.key);
+                Err(AllocError)
+            }
+        }
+    }
+}
+
+impl<N: Naming> Team<N> {
     /// The next child of a fork, and those behind it, if there are any. The last child takes the place
     /// of the branch that was forked. After want of memory all of them have been given up.
     fn next_child<G: Gate>(
@@ -219,8 +237,8 @@ impl<N: Naming> Team<N> {
         Err(AllocError)
     }
 
-    /// Explores a branch: reduces its determinate goals, and goes on by its state.
-    fn explore<G: Gate>(
+    /// Explores a branch by itself: reduces its determinate goals, and goes on by its state.
+    fn explore_alone<G: Gate>(
         &mut self,
         shared: &Shared<N, G>,
         mut branch: Branch<N>,

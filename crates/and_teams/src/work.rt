@@ -11,6 +11,7 @@ use and_io::Gate;
 use crossbeam_utils::Backoff;
 use std::alloc::AllocError;
 use std::sync::Wait;
+use std::thread::Threads;
 
 /// A team that is done, and whether it met want of memory.
 #[derive(Drop)]
@@ -21,7 +22,7 @@ pub struct Worked<N: Naming> {
 
 /// Works until no branch is left, of this team or of another. After want of memory the team gives up
 /// what it has, and stops.
-pub fn work<N: Naming, R: Wait, G: Gate>(
+pub fn work<N: Naming + Send + Sync, R: Threads + Wait + Sync, G: Gate>(
     rt: &R,
     shared: &Shared<N, G>,
     mut team: Team<N>,
@@ -55,7 +56,7 @@ pub fn work<N: Naming, R: Wait, G: Gate>(
 }
 
 /// Goes on with a branch of its own, or with one that it waits for. Answers whether there was one.
-fn go_on<N: Naming, R: Wait, G: Gate>(
+fn go_on<N: Naming + Send + Sync, R: Threads + Wait + Sync, G: Gate>(
     rt: &R,
     shared: &Shared<N, G>,
     team: &mut Team<N>,
@@ -68,7 +69,7 @@ fn go_on<N: Naming, R: Wait, G: Gate>(
     ensures over { IfOk result (λ goes_on. goes_on ≡ false → SeesNone team.new.pass) }
     ensures same { team.new.number ≡ team.old.number }
 {
-    if team.turn(shared)? {
+    if team.turn(rt, shared)? {
         return Ok(true);
     }
     wait(rt, shared, team)

@@ -381,6 +381,8 @@ struct Announced {
     second: bool,
     /// Whether a branch was published.
     published: bool,
+    /// Whether a second reduction was announced while the first was held.
+    is_joined: bool,
     /// Whether all of this had been told when the first reduction was let go.
     is_shared: bool,
 }
@@ -391,6 +393,24 @@ struct Holding<R> {
     rt: R,
     told: Mutex<Announced>,
     news: Condvar,
+}
+
+impl<R> Holding<R> {
+    /// A gate that was told nothing yet.
+    fn new(rt: R) -> Holding<R> {
+        Holding {
+            rt,
+            told: Mutex::new(Announced {
+                reductions: 0,
+                first: false,
+                second: false,
+                published: false,
+                is_joined: false,
+                is_shared: false,
+            }),
+            news: Condvar::new(),
+        }
+    }
 }
 
 impl<R: Wait + Clock + Sync> Gate for Holding<R> {
@@ -405,6 +425,7 @@ impl<R: Wait + Clock + Sync> Gate for Holding<R> {
         let alone = |told: &mut Announced| told.reductions < 2;
         let (mut told, end) = self.news.wait_timeout_while(&self.rt, told, most, alone);
         if !end.timed_out() {
+            told.is_joined = true;
             told.is_shared = told.first && told.second && told.published;
         }
     }
@@ -427,17 +448,7 @@ impl<R: Wait + Clock + Sync> Gate for Holding<R> {
 #[test]
 fn two_teams(rt: HostRuntime) -> Result<(), Fail> {
     let alloc = rt.alloc();
-    let gate = Holding {
-        rt,
-        told: Mutex::new(Announced {
-            reductions: 0,
-            first: false,
-            second: false,
-            published: false,
-            is_shared: false,
-        }),
-        news: Condvar::new(),
-    };
+    let gate = Holding::new(rt);
     let words = typed(alloc, "run --teams 2 --workers 1 --stats")?;
     let text = b"p(1). p(2). r(1,a). r(2,b). ?- p(X), r(X,Y).";
     let mut source = SureSource::new(Text::of(alloc, text)?, 7);
@@ -447,6 +458,51 @@ fn two_teams(rt: HostRuntime) -> Result<(), Fail> {
     assert_eq!(rt; ended, Status::Answers);
     assert_eq!(rt; sink.held(), lines);
     assert!(rt; gate.told.lock(&rt).is_shared);
+    Ok(())
+}
+
+/// With the words of the line, the text is answered with these bytes and this status, and a second reduction is
+/// announced while the first one is held.
+fn is_joined<R: Threads + Wait + Clock + Sync>(
+    rt: &R,
+    alloc: Global,
+    line: &str,
+    text: &[u8],
+    written: &[u8],
+    status: Status,
+) -> Result<bool, AllocError> {
+    let gate = Holding::new(rt);
+    let words = typed(alloc, line)?;
+    let mut source = SureSource::new(Text::of(alloc, text)?, 7);
+    let mut sink = SureSink::new(alloc, 200)?;
+    let ended = andorra(rt, alloc, &words, &mut source, &mut sink, &gate);
+    let is_joined = gate.told.lock(rt).is_joined;
+    Ok(ended == status && sink.held() == written && is_joined)
+}
+
+#[test]
+fn two_workers(rt: HostRuntime) -> Result<(), Fail> {
+    let line = "run --teams 1 --workers 2";
+    let text = b"a(1). b(2). ?- a(X), b(Y).";
+    let written = b"X = 1, Y = 2\n% complete\n";
+    assert!(rt; is_joined(&rt, rt.alloc(), line, text, written, Status::Answers)?);
+    Ok(())
+}
+
+#[test]
+fn racing_circle(rt: HostRuntime) -> Result<(), Fail> {
+    let line = "run --teams 1 --workers 2";
+    let text = b"a(X,Y) :- X = f(Y). b(X,Y) :- Y = f(X). ?- a(X,Y), b(X,Y).";
+    assert!(rt;
+        is_joined(
+            &rt,
+            rt.alloc(),
+            line,
+            text,
+            b"% complete\n",
+            Status::NoAnswer
+        )?
+    );
     Ok(())
 }
 

@@ -70,13 +70,15 @@ fn finish<K: Sink>(sink: &mut K, due: &[u8], status: Status) -> Status
     }
 }
 
-/// Who searches: so many teams, under a runtime, before a gate.
+/// Who searches: so many teams of so many workers, under a runtime, before a gate.
 #[derive(Drop)]
 struct Crew<'a, R: Threads + Wait + Sync, G: Gate> {
     rt: &'a R,
     teams: u32,
+    workers: u32,
     gate: &'a G,
     ghost few: { (0 < teams) × (teams ≤ 16) },
+    ghost few_workers: { (0 < workers) × (workers ≤ 8) },
 }
 
 /// What a text is answered with, and the status of that.
@@ -151,6 +153,7 @@ fn found_in<R: Threads + Wait + Sync, G: Gate>(
     let settings = and_teams::Settings {
         limit,
         teams: crew.teams,
+        workers: crew.workers,
     };
     let explored = explore(crew.rt, alloc, loaded, &table, settings, crew.gate)?;
     let text = written(alloc, show, &explored.found)?;
@@ -319,18 +322,31 @@ pub fn andorra<R: Threads + Wait + Sync, S: Source, K: Sink, G: Gate>(
 {
     match command_of(words) {
         Some(Command::Run { settings }) => {
-            let teams = settings.teams;
-            let crew = Crew { rt, teams, gate };
+            let crew = Crew {
+                rt,
+                teams: settings.teams,
+                workers: settings.workers,
+                gate,
+            };
             ask(&crew, alloc, Question::answers(settings), source, sink)
         }
         Some(Command::Check) => {
             // Nothing is searched.
-            let crew = Crew { rt, teams: 1, gate };
+            let crew = Crew {
+                rt,
+                teams: 1,
+                workers: 1,
+                gate,
+            };
             ask(&crew, alloc, Question::Check, source, sink)
         }
         Some(Command::Demo { number, settings }) => {
-            let teams = settings.teams;
-            let crew = Crew { rt, teams, gate };
+            let crew = Crew {
+                rt,
+                teams: settings.teams,
+                workers: settings.workers,
+                gate,
+            };
             demo(&crew, alloc, number, settings, sink)
         }
         None => finish(sink, USAGE, Status::Usage),

@@ -1,4 +1,4 @@
-use Rattle.std.proofs.Common.{ℕ, ◌≡◌, ◌≤◌, ◌∙◌, ◌+◌, List, ap, subst, refl, drop, length, ◌++◌, ◌∷◌, [], rules, arith}
+use Rattle.std.proofs.Common.{ℕ, ◌≤◌, ◌∙◌, ◌+◌, List, ap, subst, refl, drop, length, ◌++◌, ◌∷◌, [], rules}
 use Rattle.std.proofs.lemmas.List.{drop_all}
 use Rattle.and_branch.specs.Children.{Fork}
 use Rattle.and_histories.specs.PlainTree as plain

@@ -7,7 +7,7 @@ use Rattle.and_cells.specs.Ranges.{NamedProgram}
 use Rattle.and_branch_laws.specs.States.{StateOf, determinate}
 use Rattle.and_branch.specs.Branches.{Held, IsBranch, IsBranchOf}
 use Rattle.and_walk.specs.Walking.{IsAdvanced}
-use Rattle.and_teams.proofs.team.advance.Goals as goal
+use Rattle.and_teams.proofs.reducing.advance.Goals as goal
 
 -- what follows from two facts where all went well
 both_ok : {T E P R Q : Type 0} (r : Result T E) → (P → R → Q) → OnOk r P → OnOk r R → OnOk r Q

@@ -1,0 +1,24 @@
+use Rattle.std.proofs.Common.{◌∙◌}
+use Rattle.and_histories.specs.PlainTree as plain
+use Rattle.and_tree.specs.Replies.{is_last}
+use Rattle.and_teams.proofs.Having.{key_there, has_ended_under}
+use Rattle.and_teams.proofs.Turns.{works_stepped}
+use Rattle.and_teams.proofs.team.Team.explore_alone.Goals as goal
+
+pub go_by-requires-clause-works : goal.go_by-requires-clause-works
+go_by-requires-clause-works g c κs within =
+    let s = c.args.self.now in
+    works_stepped g.N.Naming.program c.args.shared.now.tree.now s.pass s.found c.args.branch c.advance-state.new.branch s.stack.items c.requires.works
+    c.advance-state.ensures.same (λ t branch. let u = c.in-Ok.ensures.steps t branch in (u.0, u.2))
+
+pub give_up-requires-clause-hand : goal.give_up-requires-clause-hand
+give_up-requires-clause-hand g c =
+    let s = c.args.self.now in
+    key_there g.N.Naming.program c.args.shared.now.tree.now s.pass c.args.branch s.stack.items c.key.result.now
+    (c.key.ensures ∙ c.advance-state.ensures.same.key) c.requires.works.has
+
+pub returns-in-Err-clause-has : goal.returns-in-Err-clause-has
+returns-in-Err-clause-has g c =
+    let s = c.args.self.now in
+    has_ended_under g.N.Naming.program c.args.shared.now.tree.now c.key.result.now c.args.branch s.stack.items plain.given_up
+    (is_last c.give_up.result) s.pass c.give_up.new.pass (c.key.ensures ∙ c.advance-state.ensures.same.key) c.give_up.ensures c.requires.works.has
