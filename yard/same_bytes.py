@@ -42,6 +42,12 @@ ROWS = [
     ("endless", ["--limit", "2000"], "loop(X) :- loop(X). ?- loop(a).\n"),
     ("permutations", [], "s(X,[X|T],T). s(X,[H|T],[H|R]) :- s(X,T,R). p([],[]). p(L,[H|T]) :- s(H,L,R), p(R,T). ?- p([1,2,3,4,5],P).\n"),
     ("refused", [], "p(a) ?- p(X).\n"),
+    ("two workers", [], "a(1). b(2). ?- a(X), b(Y).\n"),
+    ("racing circle", [], "a(X,Y) :- X = f(Y). b(X,Y) :- Y = f(X). ?- a(X,Y), b(X,Y).\n"),
+    ("late comparison", [], "a(2). b(3). ?- X < Y, a(X), b(Y).\n"),
+    ("hung goals", [], "a(X,Y) :- X < 3, Y = 1. b(2). ?- a(X,Y), b(X).\n"),
+    ("two counts", [], "n(0,z). n(K,s(T)) :- K > 0, J is K-1, n(J,T). ?- n(40,X), n(30,Y).\n"),
+    ("two reverses", [], "a([],L,L). a([H|T],L,[H|R]) :- a(T,L,R). r([],[]). r([H|T],R) :- r(T,S), a(S,[H],R). ?- r([1,2,3,4,5,6,7,8,9],X), r([a,b,c,d],Y).\n"),
 ]
 
 
