@@ -10,6 +10,10 @@ runs, the start included), and whether all wrote the same.
 
     yard/figures.py --teams 1 2 4 [--runs N] [--only WORD]
 
+With `--workers` it runs determinate programs by one team of so many workers, and writes the same of them.
+
+    yard/figures.py --workers 1 2 4 [--runs N] [--only WORD]
+
 The program has to be built (./andorra builds it), and `swipl` is looked for on the path. docs/figures.md has what was measured.
 """
 
@@ -165,6 +169,27 @@ LONG = [
 ]
 
 
+def many_reverses(lists, n):
+    return (reverse(n).split("?-")[0] + "many(0, _, []).\nmany(K, L, [R|Rs]) :- K > 0, J is K - 1, rev(L, R), many(J, L, Rs).\n"
+            f"?- _L = {listed(range(n))}, many({lists}, _L, [X|_]).\n")
+
+
+def tree_sum(depth):
+    return ("tree(0, leaf(1)).\ntree(N, node(L,R)) :- N > 0, M is N - 1, tree(M, L), tree(M, R).\n"
+            "sum(leaf(X), X).\nsum(node(L,R), S) :- sum(L, A), sum(R, B), S is A + B.\n"
+            f"?- tree({depth}, _T), sum(_T, S).\n")
+
+
+# name and text of determinate programs with goals for several workers, and of two in which each phase is short
+WIDE = [
+    ("naive reverse of 40 lists of 200", many_reverses(40, 200)),
+    ("a sum over 2^14 leaves", tree_sum(14)),
+    ("naive reverse of 400", reverse(400)),
+    ("generated graph, 64", graph(64)),
+    ("queens with tests first, 8", queens(8)),
+]
+
+
 def run(words, text):
     """The lines, what was written on standard error, the processor time in milliseconds and the peak of memory in MB of a run."""
     with tempfile.TemporaryFile("w+") as source, tempfile.TemporaryFile("w+") as sink, tempfile.TemporaryFile("w+") as said:
@@ -197,7 +222,7 @@ def answers_of(lines):
     return [line for line in lines if not line.startswith("% ")]
 
 
-def by_teams(words, text, runs):
+def repeated(words, text, runs):
     """The lines of the runs, whether they were the same in each, and the least wall time and processor time in milliseconds."""
     results = []
     for _ in range(runs):
@@ -208,22 +233,22 @@ def by_teams(words, text, runs):
     return results[0][0], same, min(wall for _, wall, _ in results), min(processor for _, _, processor in results)
 
 
-def compare_teams(teams, only, runs, words):
-    """Writes a row for each long search and number of teams. Answers whether all wrote the same."""
-    print(f"{'program':34} {'teams':>5} {'wall':>9} {'processor':>10}  answers")
+def compare(programs, option, numbers, only, runs, words):
+    """Writes a row for each program and value of the option. Answers whether all wrote the same."""
+    print(f"{'program':34} {option[2:]:>7} {'wall':>9} {'processor':>10}  answers")
     are_same = True
-    for name, text in LONG:
+    for name, text in programs:
         if only not in name:
             continue
         first = None
-        for number in teams:
-            andorra = [PROGRAM, "run", "--stats", "--limit", "4194304", "--teams", str(number), *words]
-            lines, same, wall, processor = by_teams(andorra, text, runs)
+        for number in numbers:
+            andorra = [PROGRAM, "run", "--stats", "--limit", "4194304", option, str(number), *words]
+            lines, same, wall, processor = repeated(andorra, text, runs)
             first = first or lines
             same = same and lines == first
             are_same = are_same and same
             told = "the same" if same else "DIFFERENT"
-            print(f"{name:34} {number:5} {wall:7.0f}ms {processor:8.0f}ms  {len(answers_of(lines))} {told}", flush=True)
+            print(f"{name:34} {number:7} {wall:7.0f}ms {processor:8.0f}ms  {len(answers_of(lines))} {told}", flush=True)
     return are_same
 
 
@@ -238,10 +263,13 @@ def main():
     options.add_argument("--only", default="")
     options.add_argument("--skip-swi", action="store_true")
     options.add_argument("--teams", type=int, nargs="+")
+    options.add_argument("--workers", type=int, nargs="+")
     options.add_argument("words", nargs="*")
     given = options.parse_args()
     if given.teams:
-        return 0 if compare_teams(given.teams, given.only, given.runs, given.words) else 1
+        return 0 if compare(LONG, "--teams", given.teams, given.only, given.runs, given.words) else 1
+    if given.workers:
+        return 0 if compare(WIDE, "--workers", given.workers, given.only, given.runs, ["--teams", "1", *given.words]) else 1
     has_swi = shutil.which("swipl") is not None and not given.skip_swi
     andorra = [PROGRAM, "run", "--limit", "4194304", *given.words]
     _, start, _ = least_on_andorra(andorra, EMPTY, given.runs)

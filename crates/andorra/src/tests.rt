@@ -262,6 +262,39 @@ X = _0, Y = g(_0)
 % complete
 % forks 0 failed 0
 = 0
+> a(X,Y) :- X < 3, Y = 1. b(2). ?- a(X,Y), b(X).
+X = 2, Y = 1
+% complete
+% forks 0 failed 0
+= 0
+> a(4). b(3). ?- X < Y, a(X), b(Y).
+% complete
+% forks 0 failed 1
+= 1
+> a(X,Y) :- X = f(Y). b(X,Y) :- Y = f(X). ?- a(X,Y), b(X,Y).
+% complete
+% forks 0 failed 1
+= 1
+> n(0,z). n(K,s(T)) :- K > 0, J is K-1, n(J,T). ?- n(4,X), n(3,Y).
+X = s(s(s(s(z)))), Y = s(s(s(z)))
+% complete
+% forks 0 failed 0
+= 0
+> a(1). b(0). ?- a(X), b(Y), Z is X // Y.
+% complete
+% forks 0 failed 1
+= 1
+> a(1). b(_). ?- a(X), b(Y), Z is X + Y.
+X = 1, Y = _0, Z = _1 with is(_1,+(1,_0))
+% complete
+% forks 0 failed 0
+= 8
+> a([],L,L). a([H|T],L,[H|R]) :- a(T,L,R).
+> r([],[]). r([H|T],R) :- r(T,S), a(S,[H],R). ?- r([1,2,3,4,5],X), r([a,b],Y).
+X = [5,4,3,2,1], Y = [b,a]
+% complete
+% forks 0 failed 0
+= 0
 ";
 
 /// Rows of `run --stats` whose branches teams may share.
