@@ -2,7 +2,10 @@
 
 ghost use Rattle.std.specs.Prelude.{◌≤◌};
 
-/// How many phases are left to the leader in a row at most.
+/// How many phases are left to the leader in a row after the first try, and how many times as many after each further one.
+const REST: u32 = 8;
+
+/// How many are at most.
 const LONGEST_REST: u32 = 4096;
 
 /// How many words a store has for new frames.
@@ -20,7 +23,10 @@ pub struct Pace {
 impl Pace {
     /// No phase was tried yet.
     pub fn new() -> Pace {
-        Pace { rest: 0, next: 1 }
+        Pace {
+            rest: 0,
+            next: REST,
+        }
     }
 
     /// Whether the next phase is left to the leader. It counts as one of those that are.
@@ -32,10 +38,10 @@ impl Pace {
         true
     }
 
-    /// Notes that a phase was tried: the next ones are left to the leader, twice as many as the last time.
+    /// Notes that workers were tried: the next phases are left to the leader, more than the last time.
     pub(crate) fn note(&mut self) {
         self.rest = self.next;
-        self.next = at_most(LONGEST_REST, self.next.saturating_mul(2));
+        self.next = at_most(LONGEST_REST, self.next.saturating_mul(REST));
     }
 }
 
@@ -67,9 +73,15 @@ mod tests {
         let mut pace = Pace::new();
         assert!(rt; !pace.rests());
         pace.note();
-        assert!(rt; pace.rests() && !pace.rests());
+        for _ in 0..8 {
+            assert!(rt; pace.rests());
+        }
+        assert!(rt; !pace.rests());
         pace.note();
-        assert!(rt; pace.rests() && pace.rests() && !pace.rests());
+        for _ in 0..64 {
+            assert!(rt; pace.rests());
+        }
+        assert!(rt; !pace.rests());
         Ok(())
     }
 
