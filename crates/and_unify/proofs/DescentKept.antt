@@ -1,33 +1,32 @@
 -- What a plain descent keeps: what every turn keeps, under links that are not written down.
-use Rattle.std.proofs.Common.{ℕ, ◌≡◌, ◌⊎◌, List, [], ◌∷◌, ◌++◌, refl, sym, subst, inl, inr}
-use Rattle.std.specs.Prelude.{Contains}
-use Rattle.std.proofs.lemmas.List.Elements.{Contains-append_cases}
+use Rattle.std.proofs.Common.{ℕ, ◌≡◌, ◌≢◌, ◌⊎◌, List, [], ◌∷◌, ◌++◌, Option, Some, None, refl, sym, ap, subst, ◌∙◌, inl, inr}
+use Rattle.std.specs.Prelude.{◌↔◌, Contains, IfSome, IsNone, is_some}
+use Rattle.std.proofs.lemmas.Bool.{true≢false}
+use Rattle.std.proofs.lemmas.List.Elements.{Contains-append_cases, Contains-append_left, Contains-append_right}
 use Rattle.and_model.specs.declared.reference.Ref.{Ref}
 use Rattle.and_program.specs.Skeletons.{AllFall}
 use Rattle.and_cells.specs.Ranges.{NamedProgram, IsInRange}
-use Rattle.and_cells.specs.Rows.{plain}
 use Rattle.and_cells.specs.Seen.{Seen, OnlyReads}
 use Rattle.and_cells.specs.Parts.{parts_of}
 use Rattle.and_cells.specs.Joined.{same}
-use Rattle.and_laws.proofs.Ordered.{contains_none}
-use Rattle.and_cell_laws.proofs.Images.{contains_origin}
+use Rattle.and_laws.proofs.Ordered.{contains_first, contains_more, contains_cases, contains_none}
+use Rattle.and_cell_laws.proofs.Images.{contains_image, contains_origin}
 use Rattle.and_unify.specs.declared.pairs.Pair.{Pair}
 use Rattle.and_unify.specs.declared.unifying.Unified.{Unified}
-use Rattle.and_unify.specs.declared.unifying.Unified.TheVariants.{Same, Apart, Memory}
-use Rattle.and_unify.specs.declared.descending.Descended.{Descended}
+use Rattle.and_unify.specs.declared.unifying.Unified.TheVariants.{Same, Apart, PutOff, Memory}
 use Rattle.and_unify.specs.declared.descending.Descended.TheVariants.{Over}
 use Rattle.and_unify.specs.Pairs.{AreInRange, AreWritten, AreApart}
-use Rattle.and_unify.specs.Places.{left_sides, sides, IsPlace}
+use Rattle.and_unify.specs.Places.{left_sides, sides, IsPlace, root}
 use Rattle.and_unify.specs.Meeting.{MeetStructures, MeetApart}
 use Rattle.and_unify.specs.Turns.{pairs_of}
 use Rattle.and_unify.specs.Unifying.{Unifies}
-use Rattle.and_unify.specs.Descending.{StepsPlainly, Descends}
-use Rattle.and_unify.proofs.TurnClosed.{Leaves}
-use Rattle.and_unify.proofs.TurnPlaces.{IsFit}
+use Rattle.and_unify.specs.Descending.{StepsPlainly, LeadOnFrom, Descends}
+use Rattle.and_unify.proofs.TurnClosed.{Leaves, steps_keep}
+use Rattle.and_unify.proofs.TurnPlaces.{IsFit, place_later, lefts_steps}
 use Rattle.and_unify.proofs.TurnKept.{SidesAt, Kept, kept_reads, kept_same, kept_steps}
 use Rattle.and_unify.proofs.TurnStands.{IsTodo, begins, stands_first, last_cases, last_was, rest_was, step_list}
 use Rattle.and_unify.proofs.TurnArguments.{steps_down}
-use Rattle.and_unify.proofs.TurnAnswers.{follows_end, left_end, suffice_end, equal_end, range_end, apart_kept}
+use Rattle.and_unify.proofs.TurnAnswers.{follows_end, left_end, suffice_end, equal_end, range_end, apart_kept, apart_at_kept}
 
 -- Where structures of one shape lead to the pairs of their arguments, this is a step that makes them one, whatever links there were.
 pub plainly_joins : (P Q : NamedProgram) (p : Pair) (one other : Ref) (old new : Seen) (list longer : List Pair) (bound further : List ℕ) → P ≡ Q
@@ -39,10 +38,11 @@ plainly_joins P Q p one other old new list longer bound further named m stays ga
           (inr (record { one = one; other = other; adds = refl; between = inl (same one, same other) }, gains)),
     )
 
--- All is kept, whatever links were made.
+-- All is kept, whatever links were made, and the left sides of what is to do are places of the left ones that were asked for.
 pub record Held (P : NamedProgram) (first : Seen) (asked : List Pair) (began : List ℕ) (s : Seen) (Todo : Pair → Type 0) (bound : List ℕ) : Type 0 where
   pub links : List (Ref × Ref)
   pub kept : Kept P first asked began s links Todo bound
+  pub lefts : (p : Pair) → Todo p → IsPlace P s (left_sides asked) p.left
 
 -- the pair that was taken out, or one of those that are left
 abbrev pub IsOutOr : Pair → List Pair → Pair → Type 0
@@ -58,15 +58,53 @@ held_begun P first asked began range written = record {
   links = [];
   kept = kept_same P first asked began first [] (IsTodo (begins first asked 0)) (Contains asked) began
       (λ p todo. elim todo [ inl at ↦ at | inr at ↦ absurd (contains_none p at) ]) (λ p at. inl at) (stands_first P first asked 0 began range written).kept;
+  lefts = λ p at. root p.left (contains_image (λ (p : Pair). p.left) asked p at);
 }
+
+-- what is to do with a pair taken out was so before
+out_was : (xs rest : List Pair) (p : Pair) → xs ≡ rest ++ p ∷ [] → (q : Pair) → IsOutOr p rest q → Contains xs q
+out_was xs rest p e q (inl is) = subst (Contains xs) (sym is) (last_was xs rest p e)
+out_was xs rest p e q (inr at) = rest_was xs rest p q e at
 
 -- and a pair is taken out,
 pub held_out : (P : NamedProgram) (first : Seen) (asked : List Pair) (began : List ℕ) (s : Seen) (bound : List ℕ) (xs rest : List Pair) (p : Pair) → xs ≡ rest ++ p ∷ []
     → Held P first asked began s (Contains xs) bound → Held P first asked began s (IsOutOr p rest) bound
 held_out P first asked began s bound xs rest p e h = record {
   links = h.links;
-  kept = kept_same P first asked began s h.links (Contains xs) (IsOutOr p rest) bound (λ q at. last_cases xs rest p q e at)
-      (λ q todo. elim todo [ inl is ↦ subst (Contains xs) (sym is) (last_was xs rest p e) | inr at ↦ rest_was xs rest p q e at ]) h.kept;
+  kept = kept_same P first asked began s h.links (Contains xs) (IsOutOr p rest) bound (λ q at. last_cases xs rest p q e at) (out_was xs rest p e) h.kept;
+  lefts = λ q todo. h.lefts q (out_was xs rest p e q todo);
+}
+
+-- Of those that are to do one that stands among them is taken out,
+pub held_among : (P : NamedProgram) (first : Seen) (asked : List Pair) (began : List ℕ) (s : Seen) (bound : List ℕ) (front behind rest : List Pair) (p : Pair) → rest ≡ front ++ behind
+    → Held P first asked began s (Contains (front ++ p ∷ behind)) bound → Held P first asked began s (IsOutOr p rest) bound
+held_among P first asked began s bound front behind rest p e h =
+    let to : (q : Pair) → Contains (front ++ p ∷ behind) q → IsOutOr p rest q = λ q at. elim (Contains-append_cases front (p ∷ behind) q at) [
+      | inl one ↦ inr (subst (λ l. Contains l q) (sym e) (Contains-append_left front behind q one))
+      | inr other ↦ elim (contains_cases p q behind other) [
+        | inl is ↦ inl is
+        | inr among ↦ inr (subst (λ l. Contains l q) (sym e) (Contains-append_right front behind q among))
+      ]
+    ] in
+    let from : (q : Pair) → IsOutOr p rest q → Contains (front ++ p ∷ behind) q = λ q todo. elim todo [
+      | inl is ↦ subst (Contains (front ++ p ∷ behind)) (sym is) (Contains-append_right front (p ∷ behind) p (contains_first p behind))
+      | inr at ↦ elim (Contains-append_cases front behind q (subst (λ l. Contains l q) e at)) [
+        | inl one ↦ Contains-append_left front (p ∷ behind) q one
+        | inr other ↦ Contains-append_right front (p ∷ behind) q (contains_more p q behind other)
+      ]
+    ] in record {
+      links = h.links;
+      kept = kept_same P first asked began s h.links (Contains (front ++ p ∷ behind)) (IsOutOr p rest) bound to from h.kept;
+      lefts = λ q todo. h.lefts q (from q todo);
+    }
+
+-- or it is put back,
+pub held_back : (P : NamedProgram) (first : Seen) (asked : List Pair) (began : List ℕ) (s : Seen) (bound : List ℕ) (xs rest : List Pair) (p : Pair) → xs ≡ rest ++ p ∷ []
+    → Held P first asked began s (IsOutOr p rest) bound → Held P first asked began s (Contains xs) bound
+held_back P first asked began s bound xs rest p e h = record {
+  links = h.links;
+  kept = kept_same P first asked began s h.links (IsOutOr p rest) (Contains xs) bound (out_was xs rest p e) (λ q at. last_cases xs rest p q e at) h.kept;
+  lefts = λ q at. h.lefts q (last_cases xs rest p q e at);
 }
 
 -- which fits,
@@ -92,7 +130,12 @@ held_steps P first asked began old new bound further rest longer p fall steps h 
       takes = λ q at. at;
       comes = λ q later. inr later;
     } in
-    record { links = more; kept = kept_steps P p old new h.links more rest longer bound further first asked began (IsOutOr p rest) (Contains longer) fall leaves step h.kept }
+    let knows = (steps_keep P p old new h.links more rest longer bound further step).knows in
+    let later : (q : Pair) → IsOutOr p rest q → IsPlace P new (left_sides asked) q.left = λ q todo. place_later P old new (left_sides asked) q.left knows (h.lefts q todo) in record {
+      links = more;
+      kept = kept_steps P p old new h.links more rest longer bound further first asked began (IsOutOr p rest) (Contains longer) fall leaves step h.kept;
+      lefts = lefts_steps P p old new h.links more rest longer bound further (left_sides asked) step (later p (inl refl)) (λ q at. later q (inr at));
+    }
 
 -- Where the last step stopped, all is kept.
 pub held_stopped : (P : NamedProgram) (first : Seen) (asked : List Pair) (began : List ℕ) (old now : Seen) (bound further : List ℕ) (Todo : Pair → Type 0) → OnlyReads old now × (further ≡ bound)
@@ -100,6 +143,7 @@ pub held_stopped : (P : NamedProgram) (first : Seen) (asked : List Pair) (began 
 held_stopped P first asked began old now bound further Todo stopped h = record {
   links = h.links;
   kept = subst (Kept P first asked began now h.links Todo) (sym stopped.1) (kept_reads P first asked began old now h.links Todo bound stopped.0 h.kept);
+  lefts = λ p todo. place_later P old now (left_sides asked) p.left stopped.0.keeps (h.lefts p todo);
 }
 
 -- a side of a pair that is to do is a place
@@ -109,41 +153,69 @@ side_is_place P s roots left r each at = elim (Contains-append_cases (left_sides
   | inr other ↦ let (p, among, is) = contains_origin (λ (p : Pair). p.right) left r other in subst (IsPlace P s roots) (sym is) (each p among).1
 ]
 
--- a descent that is over with one answer is over with this
-pub over_is : (P : NamedProgram) (old new : Seen) (asked left : List Pair) (answer unified : Unified) → Over answer ≡ Over unified → Unifies P old new asked left answer → Unifies P old new asked left unified
-over_is P old new asked left answer unified e u = let is : answer ≡ unified = cc in subst (Unifies P old new asked left) is u
+-- a descent that is over with one answer, by which nothing is put off, is over with this
+pub over_is : (P : NamedProgram) (old new : Seen) (asked left : List Pair) (answer unified : Unified) → answer ≢ PutOff → Over answer ≡ Over unified → Unifies P old new asked left answer
+    → Unifies P old new asked left unified × (unified ≢ PutOff)
+over_is P old new asked left answer unified not_off e u =
+    let is : answer ≡ unified = cc in
+    (subst (Unifies P old new asked left) is u, λ off. not_off (is ∙ off))
 
--- What a descent comes to over a row that is told: some pairs are left,
-pub descends_end : (P : NamedProgram) (old new : List Ref) (asked : List Pair) (began bound : List ℕ) (left : List Pair) → AllFall 0 P.skeleton.nodes
-    → Held P (plain old) asked began (plain new) (Contains left) bound → Descends P (plain old) (plain new) asked left
+-- whether the row is told stays
+told_stays : (P : NamedProgram) (first : Seen) (asked : List Pair) (began : List ℕ) (s : Seen) (links : List (Ref × Ref)) (Todo : Pair → Type 0) (bound : List ℕ) → Kept P first asked began s links Todo bound
+    → IsNone first.told ↔ IsNone s.told
+told_stays P first asked began s links Todo bound k = by_row first.told refl
+  where
+    by_row : (o : Option (List Ref)) → first.told ≡ o → IsNone first.told ↔ IsNone s.told
+    by_row (Some row) is =
+        let now = k.if_told row is in
+        (λ none. absurd (true≢false (sym (ap is_some is) ∙ none)), λ none. absurd (true≢false (sym (ap is_some now.told) ∙ none)))
+    by_row None is = (λ none. ap is_some (k.if_untold is).told, λ none. ap is_some is)
+
+-- the sides of what is left, where the row is told
+told_sides : (P : NamedProgram) (first : Seen) (asked : List Pair) (began : List ℕ) (s : Seen) (links : List (Ref × Ref)) (left : List Pair) (bound : List ℕ) → Kept P first asked began s links (Contains left) bound
+    → IfSome first.told (λ row. LeadOnFrom P first left asked)
+told_sides P first asked began s links left bound k = by_row first.told refl
+  where
+    by_row : (o : Option (List Ref)) → first.told ≡ o → IfSome o (λ row. LeadOnFrom P first left asked)
+    by_row (Some row) is = λ r at. side_is_place P first (sides asked) left r (k.if_told row is).sides at
+    by_row None is = tt
+
+-- What a descent comes to: some pairs are left,
+pub descends_end : (P : NamedProgram) (old new : Seen) (asked : List Pair) (began bound : List ℕ) (left : List Pair) → AllFall 0 P.skeleton.nodes
+    → Held P old asked began new (Contains left) bound → Descends P old new asked left
 descends_end P old new asked began bound left fall h = record {
-  follows = follows_end P (plain old) asked began (plain new) h.links (Contains left) bound h.kept;
-  suffice = suffice_end P (plain old) asked began (plain new) h.links (Contains left) bound left fall h.kept (λ p at. at);
-  still_asked = left_end P (plain old) asked began (plain new) h.links (Contains left) bound left h.kept (λ p at. at);
-  in_range = range_end P (plain old) asked began (plain new) h.links (Contains left) bound left h.kept (λ p at. at);
-  sides = λ r at. side_is_place P (plain old) (sides asked) left r (h.kept.if_told old refl).sides at;
+  follows = follows_end P old asked began new h.links (Contains left) bound h.kept;
+  told = told_stays P old asked began new h.links (Contains left) bound h.kept;
+  suffice = suffice_end P old asked began new h.links (Contains left) bound left fall h.kept (λ p at. at);
+  still_asked = left_end P old asked began new h.links (Contains left) bound left h.kept (λ p at. at);
+  in_range = range_end P old asked began new h.links (Contains left) bound left h.kept (λ p at. at);
+  leads = λ r at. side_is_place P new (sides asked) left r h.kept.leads at;
+  told_leads = told_sides P old asked began new h.links left bound h.kept;
+  lefts = λ r at. let (p, among, is) = contains_origin (λ (p : Pair). p.left) left r at in subst (IsPlace P new (left_sides asked)) (sym is) (h.lefts p among);
 }
 
 -- none is left,
-pub same_end : (P : NamedProgram) (old new : List Ref) (asked : List Pair) (began bound : List ℕ) (xs left : List Pair) → AllFall 0 P.skeleton.nodes → AreInRange P (plain old).words asked
-    → (xs ≡ []) × (left ≡ []) → Held P (plain old) asked began (plain new) (Contains xs) bound → Unifies P (plain old) (plain new) asked left Same
+pub same_end : (P : NamedProgram) (old new : Seen) (asked : List Pair) (began bound : List ℕ) (xs left : List Pair) → AllFall 0 P.skeleton.nodes → AreInRange P old.words asked
+    → (xs ≡ []) × (left ≡ []) → Held P old asked began new (Contains xs) bound → Unifies P old new asked left Same
 same_end P old new asked began bound xs left fall range none h = record {
-  follows = follows_end P (plain old) asked began (plain new) h.links (Contains xs) bound h.kept;
+  follows = follows_end P old asked began new h.links (Contains xs) bound h.kept;
   same = λ is. none.1;
-  equal = λ is. equal_end P (plain old) asked began (plain new) h.links (Contains xs) bound left fall range h.kept
+  equal = λ is. equal_end P old asked began new h.links (Contains xs) bound left fall range h.kept
       (λ p at. absurd (contains_none p (subst (λ l. Contains l p) none.0 at)));
   still_asked = λ is. absurd (cc);
   in_range = λ is. absurd (cc);
   apart = λ one other is. absurd (cc);
+  apart_at = λ one other is. absurd (cc);
 }
 
 -- one pair led to two that are apart,
-pub apart_met : (P : NamedProgram) (old mid new : List Ref) (asked : List Pair) (began bound : List ℕ) (rest left : List Pair) (p : Pair) (one other : Ref)
-    → MeetApart P p.left p.right (plain mid) (plain new) one other → Held P (plain old) asked began (plain mid) (IsOutOr p rest) bound → Unifies P (plain old) (plain new) asked left (Apart one other)
+pub apart_met : (P : NamedProgram) (old mid new : Seen) (asked : List Pair) (began bound : List ℕ) (rest left : List Pair) (p : Pair) (one other : Ref)
+    → MeetApart P p.left p.right mid new one other → Held P old asked began mid (IsOutOr p rest) bound → Unifies P old new asked left (Apart one other)
 apart_met P old mid new asked began bound rest left p one other meets h =
-    let kept = kept_reads P (plain old) asked began (plain mid) (plain new) h.links (IsOutOr p rest) bound meets.lead.reads h.kept in
-    let both = apart_kept P (plain old) asked began (plain mid) (plain new) h.links (IsOutOr p rest) bound p one other h.kept (inl refl) meets in record {
-      follows = follows_end P (plain old) asked began (plain new) h.links (IsOutOr p rest) bound kept;
+    let kept = kept_reads P old asked began mid new h.links (IsOutOr p rest) bound meets.lead.reads h.kept in
+    let both = apart_kept P old asked began mid new h.links (IsOutOr p rest) bound p one other h.kept (inl refl) meets in
+    let places = apart_at_kept P old asked began mid new h.links (IsOutOr p rest) bound p one other h.kept (inl refl) meets in record {
+      follows = follows_end P old asked began new h.links (IsOutOr p rest) bound kept;
       same = λ is. absurd (cc);
       equal = λ is. elim is [ inl e ↦ absurd (cc) | inr e ↦ absurd (cc) ];
       still_asked = λ is. absurd (cc);
@@ -151,17 +223,22 @@ apart_met P old mid new asked began bound rest left p one other meets h =
       apart = λ l r is.
           let first : one ≡ l = cc in
           let second : other ≡ r = cc in
-          (subst (AreApart P (plain new) l) second (subst (λ x. AreApart P (plain new) x other) first both.0), both.1);
+          (subst (AreApart P new l) second (subst (λ x. AreApart P new x other) first both.0), both.1);
+      apart_at = λ l r is.
+          let first : one ≡ l = cc in
+          let second : other ≡ r = cc in
+          (subst (IsPlace P new (sides asked)) first places.0, subst (IsPlace P new (sides asked)) second places.1);
     }
 
 -- or memory is wanting.
-pub memory_end : (P : NamedProgram) (old new : List Ref) (asked : List Pair) (began bound : List ℕ) (left : List Pair) (Todo : Pair → Type 0)
-    → Held P (plain old) asked began (plain new) Todo bound → Unifies P (plain old) (plain new) asked left Memory
+pub memory_end : (P : NamedProgram) (old new : Seen) (asked : List Pair) (began bound : List ℕ) (left : List Pair) (Todo : Pair → Type 0)
+    → Held P old asked began new Todo bound → Unifies P old new asked left Memory
 memory_end P old new asked began bound left Todo h = record {
-  follows = follows_end P (plain old) asked began (plain new) h.links Todo bound h.kept;
+  follows = follows_end P old asked began new h.links Todo bound h.kept;
   same = λ is. absurd (cc);
   equal = λ is. elim is [ inl e ↦ absurd (cc) | inr e ↦ absurd (cc) ];
   still_asked = λ is. absurd (cc);
   in_range = λ is. absurd (cc);
   apart = λ one other is. absurd (cc);
+  apart_at = λ one other is. absurd (cc);
 }

@@ -24,3 +24,4 @@ pub mod SettlingPlaces
 pub mod SettlingTerms
 pub mod SettlingDone
 pub mod SettlingGiven
+pub mod HeldTerms

@@ -1,13 +1,11 @@
 -- The cells that a call set, as turns of it list them.
-use Rattle.std.proofs.Common.{ℕ, ◌≡◌, ◌≢◌, ◌<◌, ◌⊎◌, List, [], ◌∷◌, ◌++◌, Some, None, refl, sym, ap, subst, ◌∙◌, inl, inr, append-nil, append_assoc}
-use Rattle.std.specs.Prelude.{Contains, All, AllPairs}
-use Rattle.std.proofs.lemmas.List.Elements.{All-contains, All-nil, All-push, All-weaker}
+use Rattle.std.proofs.Common.{ℕ, ◌≡◌, ◌≢◌, ◌<◌, List, [], ◌∷◌, ◌++◌, refl, sym, ap, subst, ◌∙◌, inr, append-nil, append_assoc}
+use Rattle.std.proofs.lemmas.List.Elements.{All-nil, All-push, All-weaker}
 use Rattle.std.proofs.lemmas.List.Quantifiers.{all_pairs_push}
 use Rattle.and_laws.proofs.Pairwise.{all_pairs_none}
-use Rattle.and_model.specs.Store.{AreDistinct}
 use Rattle.and_model.specs.declared.reference.Ref.{Ref}
 use Rattle.and_cells.specs.Ranges.{NamedProgram}
-use Rattle.and_cells.specs.Seen.{Seen, Knows, OnlyReads}
+use Rattle.and_cells.specs.Seen.{Seen, Knows}
 use Rattle.and_unify.specs.Turns
 use Rattle.and_unify.specs.Turns.{Steps, sets, one_class, joins}
 use Rattle.and_unify.specs.Setting.{WasSet, Lists}

@@ -1,5 +1,5 @@
 -- What becomes of a row to which pairs were bound: a most general solution of what it was and of the pairs, or none.
-use Rattle.std.proofs.Common.{ℕ, ◌≡◌, ◌≢◌, ◌<◌, ◌⊎◌, true, false, List, [], ◌++◌, refl, ap, sym, ◌∙◌, subst, inl, inr, arith}
+use Rattle.std.proofs.Common.{ℕ, ◌≡◌, ◌≢◌, ◌<◌, ◌⊎◌, true, false, List, [], ◌++◌, refl, ap, sym, ◌∙◌, subst, inl, inr}
 use Rattle.std.specs.Prelude.{Contains, All, length}
 use Rattle.and_model.specs.Store.{AreDistinct}
 use Rattle.and_model.specs.declared.reference.Ref.TheVariants.{Free}
@@ -17,7 +17,6 @@ use Rattle.and_cells.specs.Rows.{plain}
 use Rattle.and_cells.specs.Seen.{word_at, Keeps}
 use Rattle.and_cells.specs.Meaning.{Words, IsSettled, shallow_cells, equations_of}
 use Rattle.and_cells.proofs.Chains.{reads_nothing, reads_keeps}
-use Rattle.and_laws.proofs.Ordered.{contains_none}
 use Rattle.and_cells.specs.Known.{HasKnown, SolvesKnown}
 use Rattle.and_cells.specs.Solved.{AllHaveTerms, IsMostGeneral}
 use Rattle.and_cell_laws.proofs.Settling.{settled_rows_have_terms}
@@ -28,7 +27,6 @@ use Rattle.and_unify.specs.Following.{NewFollow}
 use Rattle.and_unify.specs.declared.settling.Settled.{Settled}
 use Rattle.and_unify.specs.declared.settling.Settled.TheVariants.{Solved, NoSolution, Memory}
 use Rattle.and_unify.specs.Settling.{equations_with, Settles}
-use Rattle.and_unify.proofs.SettlingPlaces.{all_of}
 use Rattle.and_unify.proofs.SettlingSame.{Grows, same_half, solves_now, solves_new, solves_old, most_general_of}
 use Rattle.and_unify.proofs.SettlingTerms.{Binds, BoundEnd, bound_grows, all_terms}
 

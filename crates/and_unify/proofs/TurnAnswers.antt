@@ -31,7 +31,7 @@ use Rattle.and_unify.specs.Turns.{Stand, Finishes, PutsOff, Breaks}
 use Rattle.and_unify.proofs.TurnAgree.{Agree, PairAgrees, agree_onward}
 use Rattle.and_unify.proofs.TurnParts.{arguments_of}
 use Rattle.and_unify.proofs.TurnClosed.{closed_values}
-use Rattle.and_unify.proofs.TurnPlaces.{place_later, places_push}
+use Rattle.and_unify.proofs.TurnPlaces.{place_later, place_leads, place_set, places_push}
 use Rattle.and_unify.proofs.TurnKept.{Kept, kept_reads, pairs_agree_from_solves, solves_from_pairs_agree}
 use Rattle.and_unify.proofs.TurnStands.{IsTodo, IsTodoWith, Paid, Stands, Holds, holds_old, holds_new, place_of_last}
 
@@ -193,6 +193,22 @@ apart_kept P first asked began s now links Todo bound p one other k todo meets =
           apart_disagree P now w t one other has meets.apart
           (agree_onward P w t now p.left p.right one other has solves meets.lead.left_leads meets.lead.right_leads own),
     )
+
+-- To these two the sides that were asked for lead.
+pub apart_at_kept : (P : NamedProgram) (first : Seen) (asked : List Pair) (began : List ℕ) (s now : Seen) (links : List (Ref × Ref)) (Todo : Pair → Type 0) (bound : List ℕ) (p : Pair) (one other : Ref)
+    → Kept P first asked began s links Todo bound → Todo p → MeetApart P p.left p.right s now one other → IsPlace P now (sides asked) one × IsPlace P now (sides asked) other
+apart_at_kept P first asked began s now links Todo bound p one other k todo meets =
+    let kept = kept_reads P first asked began s now links Todo bound meets.lead.reads k in
+    let (left, right) = kept.leads p todo in
+    let each = place_set P now (sides asked) in
+    (place_leads P now now (sides asked) p.left one each meets.lead.left_leads left, place_leads P now now (sides asked) p.right other each meets.lead.right_leads right)
+
+-- the same where a turn broke off
+pub apart_at_end : (P : NamedProgram) (first : Seen) (asked : List Pair) (fuel : ℕ) (began : List ℕ) (old new : Stand) (bound : List ℕ) (one other : Ref) → Stands P first asked fuel began old bound
+    → Breaks P old new one other → IsPlace P new.seen (sides asked) one × IsPlace P new.seen (sides asked) other
+apart_at_end P first asked fuel began old new bound one other k b =
+    let held = broken_holds P first asked fuel began old new bound one other b k in
+    apart_at_kept P first asked began b.mid.seen new.seen b.mid.links (IsTodoWith b.p b.mid) bound b.p one other held.kept (inl refl) b.meets
 
 -- So it has none where a turn broke off.
 pub apart_end : (P : NamedProgram) (first : Seen) (asked : List Pair) (fuel : ℕ) (began : List ℕ) (old new : Stand) (bound : List ℕ) (one other : Ref) → Stands P first asked fuel began old bound

@@ -3,7 +3,7 @@ use Rattle.std.proofs.lemmas.List.{length-append}
 use Rattle.std.proofs.Common.{ℕ, length, arith, ◌≡◌, ◌⊎◌, true, false, List, [], ◌∷◌, ◌++◌, None, refl, sym, ap, subst, ◌∙◌, inl, inr}
 use Rattle.std.specs.Prelude.{Contains}
 use Rattle.std.proofs.lemmas.Bool.{true≢false}
-use Rattle.std.proofs.lemmas.List.Elements.{All-contains, Contains-append_right}
+use Rattle.std.proofs.lemmas.List.Elements.{All-contains, Contains-append_left, Contains-append_right}
 use Rattle.and_model.specs.Terms.{Substitution}
 use Rattle.and_model.specs.Solutions.{Solves}
 use Rattle.and_model.specs.Store.{Setting, Known, is_half}
@@ -11,7 +11,7 @@ use Rattle.and_model.specs.declared.reference.Ref.{Ref}
 use Rattle.and_model.specs.declared.reference.Ref.TheVariants.{Cell}
 use Rattle.and_program.specs.Skeletons.{AllFall}
 use Rattle.and_cells.specs.Ranges.{NamedProgram}
-use Rattle.and_cells.specs.Seen.{Seen, Knows, IsAmong, OnlyReads, Gains}
+use Rattle.and_cells.specs.Seen.{Seen, Knows, IsAmong, Keeps, OnlyReads, Gains}
 use Rattle.and_cells.specs.Meaning.{Words, equations_between}
 use Rattle.and_laws.proofs.Ordered.{contains_first}
 use Rattle.and_cells.specs.Known.{HasKnown, SolvesKnown, SolvesSettings}
@@ -34,6 +34,18 @@ cut_joined (x ∷ xs) k ys (o ∷ os) ks e =
     elim (cut_joined xs k ys os ks rest) [
       | inl p ↦ inl (p.0, ap (λ l. o ∷ l) p.1 ∙ ap (λ y. y ∷ xs ++ k ∷ p.0) (sym first))
       | inr at ↦ inr at
+    ]
+
+-- It is in the first, or the first stands before it.
+cut_behind : {X : Type 0} (xs : List X) (k : X) (ys os ks : List X) → xs ++ k ∷ ys ≡ os ++ ks → ((rest : List X) × (os ≡ xs ++ k ∷ rest)) ⊎ ((rest : List X) × (xs ≡ os ++ rest))
+cut_behind xs k ys [] ks e = inr (xs, refl)
+cut_behind [] k ys (o ∷ os) ks e = let first : k ≡ o = cc in inl (os, ap (λ x. x ∷ os) (sym first))
+cut_behind (x ∷ xs) k ys (o ∷ os) ks e =
+    let first : x ≡ o = cc in
+    let rest : xs ++ k ∷ ys ≡ os ++ ks = cc in
+    elim (cut_behind xs k ys os ks rest) [
+      | inl p ↦ inl (p.0, ap (λ l. o ∷ l) p.1 ∙ ap (λ y. y ∷ xs ++ k ∷ p.0) (sym first))
+      | inr p ↦ inr (p.0, ap (λ l. x ∷ l) p.1 ∙ ap (λ y. y ∷ os ++ p.0) first)
     ]
 
 -- Where the second has one element, the first list ends just before it.
@@ -109,6 +121,23 @@ follow_steps P p old new links more_links list longer bound further asked first 
     follow_reads P asked first old new m.lead.reads follow
 follow_steps P p old new links more_links list longer bound further asked first Asked Todo fall untold own asks (joins one other m c f g) sound follow =
     follow_reads P asked first old new m.lead.reads follow
+
+-- What one call set and then a next, from pairs that follow from those that were asked for, follows from these.
+pub follow_on : (P : NamedProgram) (asked left : List Pair) (first mid now : Seen) → Keeps mid now → mid.told ≡ None
+    → ((w : Words) → HasKnown mid w → (t : Substitution) → SolvesKnown P w mid t → Solves t (equations_of_pairs P w asked) → Solves t (equations_of_pairs P w left))
+    → OwnFollow P asked first mid → OwnFollow P left mid now → OwnFollow P asked first now
+follow_on P asked left first mid now keeps untold leads one two before after k is own w has t solves asks =
+    let (gained, grows) = keeps.known in
+    let has_mid : HasKnown mid w = λ place r known. has place r (keeps.knows place r known) in
+    let cut : (first.known ++ before) ++ k ∷ after ≡ mid.known ++ gained = sym is ∙ grows in
+    elim (cut_behind (first.known ++ before) k after mid.known gained cut) [
+      | inl p ↦ one before p.0 k p.1 own w has_mid t solves asks
+      | inr (rest, begins) ↦
+          let settings : SolvesSettings P w (mid.known ++ rest) t = subst (λ ks. SolvesSettings P w ks t) begins solves in
+          let known : SolvesKnown P w mid t = known_from_settings P w mid t untold (λ x at. settings x (Contains-append_left mid.known rest x at)) in
+          let whole : now.known ≡ mid.known ++ rest ++ k ∷ after = is ∙ ap (λ ks. ks ++ k ∷ after) begins in
+          two rest after k whole own w has t settings (leads w has_mid t known asks)
+    ]
 
 -- nothing is a list with an element
 is_longer : {X : Type 0} (xs before : List X) (k : X) (after : List X) → xs ≡ xs ++ before ++ k ∷ after → ⊥

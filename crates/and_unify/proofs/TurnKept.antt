@@ -1,7 +1,7 @@
 -- What every turn keeps, however what is to do is kept in lists.
-use Rattle.std.proofs.Common.{ℕ, ◌≡◌, ◌⊎◌, ◌<◌, List, [], ◌∷◌, Some, None, sym, subst, ◌∙◌, inl, inr}
+use Rattle.std.proofs.Common.{ℕ, ◌≡◌, ◌⊎◌, List, [], ◌∷◌, Some, None, sym, subst, ◌∙◌, inl, inr}
 use Rattle.std.specs.Prelude.{Contains}
-use Rattle.std.proofs.lemmas.List.Elements.{Contains-append_left, Contains-push, Contains-push_cases}
+use Rattle.std.proofs.lemmas.List.Elements.{Contains-append_left, Contains-push}
 use Rattle.and_model.specs.Terms.{Substitution}
 use Rattle.and_model.specs.Solutions.{Solves}
 use Rattle.and_model.specs.declared.reference.Ref.{Ref}
@@ -26,11 +26,15 @@ use Rattle.and_unify.proofs.TurnSound.{Sound, step_adds, sound_steps, sound_read
 use Rattle.and_unify.proofs.TurnFollow.{follow_reads, follow_steps}
 use Rattle.and_unify.specs.Setting.{Lists}
 use Rattle.and_unify.proofs.SettingLists.{lists_later, lists_steps}
-use Rattle.and_unify.proofs.TurnPlaces.{IsFit, fit_later, fits_steps, place_leads, part_left, part_right}
+use Rattle.and_unify.proofs.TurnPlaces.{IsFit, fit_later, fits_steps, place_later, place_leads, place_set, part_left, part_right}
 
 -- both sides of a pair are places of these roots
 abbrev pub SidesAt : NamedProgram → Seen → List Ref → Pair → Type 0
 SidesAt P s roots p = IsPlace P s roots p.left × IsPlace P s roots p.right
+
+-- which they stay as more is known
+sides_later : (P : NamedProgram) (old new : Seen) (roots : List Ref) (p : Pair) → ((place : ℕ) (r : Ref) → Knows old place r → Knows new place r) → SidesAt P old roots p → SidesAt P new roots p
+sides_later P old new roots p knows at = (place_later P old new roots p.left knows at.0, place_later P old new roots p.right knows at.1)
 
 -- What is kept of a row that is told: all follows from what was known first, each word that was set is on the list,
 -- and what it was set to and the sides of what is to do are places that the sides asked for lead to.
@@ -55,6 +59,7 @@ pub record Kept (P : NamedProgram) (first : Seen) (asked : List Pair) (began : L
   pub if_told : (row : List Ref) → first.told ≡ Some row → Told P first asked s Todo bound
   pub if_untold : first.told ≡ None → Untold P first asked s Todo
   pub lists : Lists first s began bound
+  pub leads : (p : Pair) → Todo p → SidesAt P s (sides asked) p
 
 -- What solves the equations of pairs makes their sides agree, and the converse.
 pub pairs_agree_from_solves : (P : NamedProgram) (w : Words) (t : Substitution) (ps : List Pair) → Solves t (equations_of_pairs P w ps) → (p : Pair) → Contains ps p → PairAgrees P w t p
@@ -109,6 +114,7 @@ kept_reads P first asked began old new links Todo bound reads k = record {
   if_told = λ row told. told_reads P first asked old new Todo bound reads (k.if_told row told);
   if_untold = λ told. untold_reads P first asked old new Todo reads (k.if_untold told);
   lists = lists_later first old new began bound reads.keeps k.lists;
+  leads = λ p todo. sides_later P old new (sides asked) p reads.keeps (k.leads p todo);
 }
 
 -- The same where what is to do is stated otherwise.
@@ -131,6 +137,7 @@ kept_same P first asked began s links Todo Other bound to from k = record {
     follow = i.follow;
   };
   lists = k.lists;
+  leads = λ p todo. k.leads p (from p todo);
 }
 
 -- A step keeps the list of cells that were set, and adds cells of the row.
@@ -200,6 +207,23 @@ untold_steps P p old new links more_links list longer bound further first asked 
       follow = follow_steps P p old new links more_links list longer bound further asked first (Contains asked) Todo fall k.told leaves.was (λ w t s q at. pairs_agree_from_solves P w t asked s q at) steps k.sound k.follow;
     }
 
+-- After a step the sides of what is to do are places, where they were before.
+sides_steps : (P : NamedProgram) (p : Pair) (old new : Seen) (links more_links : List (Ref × Ref)) (list longer : List Pair) (bound further : List ℕ) (roots : List Ref) (Todo Later : Pair → Type 0)
+    → Leaves p list longer Todo Later → Steps P p old new links more_links list longer bound further → ((q : Pair) → Todo q → SidesAt P old roots q) → (q : Pair) → Later q → SidesAt P new roots q
+sides_steps P p old new links more_links list longer bound further roots Todo Later leaves steps at q later =
+    let knows = (steps_keep P p old new links more_links list longer bound further steps).knows in
+    let was : (q : Pair) → Todo q → SidesAt P new roots q = λ q todo. sides_later P old new roots q knows (at q todo) in
+    elim (leaves.comes q later) [
+      | inl todo ↦ was q todo
+      | inr among ↦ elim (step_adds P p old new links more_links list longer bound further steps q among) [
+        | inl listed ↦ was q (leaves.list_was q listed)
+        | inr is ↦
+            let own = was p leaves.was in
+            let each = place_set P new roots in
+            (part_left P new new old.words roots p q each is own.0, part_right P new new old.words roots p q each is own.1)
+      ]
+    ]
+
 -- So a step keeps all.
 pub kept_steps : (P : NamedProgram) (p : Pair) (old new : Seen) (links more_links : List (Ref × Ref)) (list longer : List Pair) (bound further : List ℕ) (first : Seen) (asked : List Pair) (began : List ℕ) (Todo Later : Pair → Type 0)
     → AllFall 0 P.skeleton.nodes → Leaves p list longer Todo Later → Steps P p old new links more_links list longer bound further
@@ -212,4 +236,5 @@ kept_steps P p old new links more_links list longer bound further first asked be
       if_told = λ row told. told_steps P p old new links more_links list longer bound further first asked Todo Later fall leaves steps (k.if_told row told);
       if_untold = λ told. untold_steps P p old new links more_links list longer bound further first asked Todo Later fall leaves steps (k.if_untold told);
       lists = lists_steps P p old new links more_links list longer bound further first began steps k.keeps.knows keep.knows k.keeps.words k.lists;
+      leads = sides_steps P p old new links more_links list longer bound further (sides asked) Todo Later leaves steps k.leads;
     }

@@ -252,6 +252,7 @@ stands_first P first asked fuel began range written =
           follow = follow_nothing P asked first;
         };
         lists = lists_begun _ _;
+        leads = λ p todo. let (left, right) = sides_among asked p (from p todo) in (root p.left left, root p.right right);
       };
       paid = record {
         lefts = λ p at. root p.left (contains_image (λ (p : Pair). p.left) asked p at);

@@ -1,5 +1,5 @@
--- What a plain descent does with pairs, over a row that is told. It remembers nothing of what was made equal.
-use Rattle.std.specs.Prelude.{ℕ, ◌≡◌, ◌⊎◌, List, Contains, All}
+-- What a plain descent does with pairs. It remembers nothing of what was made equal.
+use Rattle.std.specs.Prelude.{ℕ, ◌≡◌, ◌⊎◌, ◌↔◌, List, IfSome, IsNone, Contains, All}
 use Rattle.and_model.specs.Terms.{Substitution}
 use Rattle.and_model.specs.Solutions.{Solves}
 use Rattle.and_model.specs.declared.reference.Ref.{Ref}
@@ -10,8 +10,8 @@ use Rattle.and_cells.specs.Joined.{value}
 use Rattle.and_cells.specs.Known.{HasKnown, SolvesKnown}
 use Rattle.and_unify.specs.declared.pairs.Pair.{Pair}
 use Rattle.and_unify.specs.Pairs.{equations_of_pairs, AreInRange, AreWritten}
-use Rattle.and_unify.specs.Places.{sides, IsPlace}
-use Rattle.and_unify.specs.Following.{NewFollow}
+use Rattle.and_unify.specs.Places.{left_sides, sides, IsPlace}
+use Rattle.and_unify.specs.Following.{Follows}
 use Rattle.and_unify.specs.Turns.{Steps}
 
 -- What becomes of a pair where links are not written down: a step, whatever links there were.
@@ -31,14 +31,22 @@ Suffice P new left asked = (w : Words) → HasKnown new w → (t : Substitution)
 abbrev pub SetPlaces : NamedProgram → (old new : Seen) → List Pair → List ℕ → Type 0
 SetPlaces P old new asked bound = (place : ℕ) (r : Ref) → Knows new place r → Knows old place r ⊎ (Contains bound place × IsPlace P old (sides asked) r)
 
+-- the sides of these pairs are places that the sides of all pairs lead to
+abbrev pub LeadOnFrom : NamedProgram → Seen → (left asked : List Pair) → Type 0
+LeadOnFrom P s left asked = (r : Ref) → Contains (sides left) r → IsPlace P s (sides asked) r
+
 -- What became of the pairs that were asked for, where some are left.
 pub record Descends (P : NamedProgram) (old new : Seen) (asked left : List Pair) : Type 0 where
   -- Only what follows from the pairs and what was known is set.
-  pub follows : NewFollow P asked old new
+  pub follows : Follows P asked old new
+  -- A row that is told stays so, and no other comes to be.
+  pub told : IsNone old.told ↔ IsNone new.told
   -- The pairs that are left ask for the same as all pairs did, under what is known now.
   pub suffice : Suffice P new left asked
   pub still_asked : (w : Words) → HasKnown new w → (t : Substitution) → SolvesKnown P w new t
       → Solves t (equations_of_pairs P w asked) → Solves t (equations_of_pairs P w left)
   pub in_range : AreInRange P new.words left × AreWritten new left
-  -- Their sides are places that the sides of all pairs lead to.
-  pub sides : (r : Ref) → Contains (sides left) r → IsPlace P old (sides asked) r
+  -- Their sides are places that the sides of all pairs lead to; where the row is told, with what was known before. So are their left sides of the left ones.
+  pub leads : LeadOnFrom P new left asked
+  pub told_leads : IfSome old.told (λ row. LeadOnFrom P old left asked)
+  pub lefts : (r : Ref) → Contains (left_sides left) r → IsPlace P new (left_sides asked) r

@@ -11,7 +11,7 @@ use Rattle.and_unify.specs.declared.pairs.Pair.{Pair}
 use Rattle.and_unify.specs.declared.unifying.Unified.{Unified}
 use Rattle.and_unify.specs.declared.unifying.Unified.TheVariants.{Same, Apart, PutOff, Memory}
 use Rattle.and_unify.specs.Pairs.{equations_of_pairs, AreInRange, AreWritten, NameNoHalf, AreApart}
-use Rattle.and_unify.specs.Places.{left_sides, Places}
+use Rattle.and_unify.specs.Places.{left_sides, sides, IsPlace, Places}
 use Rattle.and_unify.specs.Following.{Follows}
 
 -- What becomes of the pairs that were asked for. Those that are left to do stay in the list.
@@ -28,6 +28,8 @@ pub record Unifies (P : NamedProgram) (old new : Seen) (asked left : List Pair) 
   -- Two that are apart leave the pairs no solution.
   pub apart : (one other : Ref) → answer ≡ Apart one other → AreApart P new one other
       × ((w : Words) → HasKnown new w → (t : Substitution) → SolvesKnown P w new t → Solves t (equations_of_pairs P w asked) → ⊥)
+  -- The pairs lead to these two.
+  pub apart_at : (one other : Ref) → answer ≡ Apart one other → IsPlace P new (sides asked) one × IsPlace P new (sides asked) other
 
 -- the fuel that is gone, and so many places of the left sides
 abbrev pub HasSpent : NamedProgram → List Pair → (now : Seen) (fuel rest : ℕ) → Type 0

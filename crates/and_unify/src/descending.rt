@@ -1,25 +1,27 @@
-//! A plain descent into pairs over plain cells, which hashes nothing, before unification with classes.
+//! A plain descent into pairs, which hashes nothing, before unification with classes.
 
-ghost use Rattle.std.specs.Prelude.{◌≡◌, ◌≢◌, ℕ, length};
+ghost use Rattle.std.specs.Prelude.{◌≡◌, ◌≢◌, ◌≤◌, ◌∷◌, ◌++◌, ℕ, List, length, Ok, Some, None, IfSome};
 ghost use Rattle.and_model.specs.declared.reference.Ref.{Ref};
 ghost use Rattle.and_cells.specs.Ranges.{IsInRange};
 ghost use Rattle.and_cells.specs.Rows.{plain};
 ghost use Rattle.and_cells.specs.Seen.{Keeps, OnlyReads, IsWrittenIfNumber};
 ghost use Rattle.and_cells.specs.Parts.{named};
+ghost use Rattle.and_unify.specs.declared.pairs.Pair.{Pair};
 ghost use Rattle.and_unify.specs.Pairs.{AreInRange, AreWritten};
 ghost use Rattle.and_unify.specs.Meeting.{MeetApart};
 ghost use Rattle.and_unify.specs.Setting.{Lists};
-ghost use Rattle.and_unify.specs.Unifying.{Unifies};
+ghost use Rattle.and_unify.specs.Unifying.{Unifies, Spends};
 ghost use Rattle.and_unify.specs.Descending.{StepsPlainly, SetPlaces, Descends};
 ghost use Rattle.and_unify.specs.declared.unifying.Unified.{Unified};
 
 use crate::meeting::{Met, meet};
 use crate::pairs::{Pair, PairList};
-use crate::stepping::{Stepped, note, push_arguments};
+use crate::stepping::{note, split_arguments};
 use crate::unifying::{Unified, solve};
-use and_cells::{Naming, PlainCells};
+use and_cells::{Cells, Naming, PlainCells};
 use and_model::Ref;
 use and_program::Loaded;
+use std::alloc::AllocError;
 
 /// What a plain descent came to.
 #[derive(Clone, Copy, PartialEq, Eq, Debug)]
@@ -27,6 +29,19 @@ enum Descended {
     Over(Unified),
     /// As many pairs were met as were allowed. Those that are left stay in the list.
     Left,
+}
+
+/// What became of a pair that was met plainly.
+#[derive(Clone, Copy, PartialEq, Eq, Debug)]
+enum Plainly {
+    /// What it asks for is made so.
+    Done,
+    /// It is left to the pairs of its arguments. This is the first of them.
+    Onward(Pair),
+    /// The sides led to these two, which are never the same.
+    Apart { left: Ref, right: Ref },
+    /// Want of memory.
+    Memory,
 }
 
 /// Makes the pairs equal in the most general way, without looking for circles. The cells that are set
@@ -49,19 +64,13 @@ pub(crate) fn equate<N: Naming>(
     ensures bound { Lists (plain cells.old) (plain cells.new) bound.old.items bound.new.items }
 {
     let most = u64::from(cells.len()) + u64::from(greatest_node(pairs)) + 64;
-    match descend(loaded, cells, most, pairs, bound) {
-        Descended::Over(unified) => unified,
-        Descended::Left => {
-            let alloc = *bound.allocator();
-            let mut fuel = u64::MAX;
-            solve(alloc, loaded, cells, &mut fuel, pairs, bound)
-        }
-    }
+    let mut fuel = u64::MAX;
+    descend_then_solve(loaded, cells, most, &mut fuel, pairs, bound)
 }
 
 /// The greatest number of a node among the sides of pairs. The term of a node has no more nodes than
 /// its number says, as arguments come before their nodes.
-fn greatest_node(pairs: &PairList) -> u32 {
+pub(crate) fn greatest_node(pairs: &PairList) -> u32 {
     let mut greatest = 0;
     for place in 0..pairs.len() {
         let pair = pairs.at(place);
@@ -78,73 +87,128 @@ pub(crate) fn later_node(number: u32, reference: Ref) -> u32 {
     }
 }
 
-/// Makes the pairs equal, part by part, for so many pairs at most, and remembers nothing of what was
-/// made equal.
-fn descend<N: Naming>(
+/// Meets so many pairs plainly at most, and puts what is left into classes, by the fuel. The cells that
+/// are set go on the list.
+pub(crate) fn descend_then_solve<C: Cells>(
     loaded: &Loaded,
-    cells: &mut PlainCells<N>,
+    cells: &mut C,
+    most: u64,
+    fuel: &mut u64,
+    pairs: &mut PairList,
+    bound: &mut Vec<u32>,
+) -> Unified
+    requires program { C.program ≡ named loaded.now }
+    requires fuel { 1 ≤ fuel.old }
+    requires in_range { AreInRange C.program (C.seen cells.old).words pairs.old }
+    requires written { AreWritten (C.seen cells.old) pairs.old }
+    ensures over { C.over cells.new ≡ C.over cells.old }
+    ensures grew { C.Grew cells.old cells.new }
+    ensures keeps { Keeps (C.seen cells.old) (C.seen cells.new) }
+    ensures unifies { Unifies C.program (C.seen cells.old) (C.seen cells.new) pairs.old pairs.new result }
+    ensures spends { Spends C.program (C.seen cells.new) pairs.old pairs.new fuel.old fuel.new result }
+    ensures sets { IfSome (C.seen cells.old).told (λ row. SetPlaces C.program (C.seen cells.old) (C.seen cells.new) pairs.old bound.new.items) }
+    ensures bound { Lists (C.seen cells.old) (C.seen cells.new) bound.old.items bound.new.items }
+{
+    match descend(loaded, cells, most, pairs, bound) {
+        Descended::Over(unified) => unified,
+        Descended::Left => {
+            let alloc = *bound.allocator();
+            solve(alloc, loaded, cells, fuel, pairs, bound)
+        }
+    }
+}
+
+/// Makes the pairs equal, part by part, for so many pairs at most, and remembers nothing of what was
+/// made equal. The pair of the first arguments of two structures is met next, without a place in the list.
+fn descend<C: Cells>(
+    loaded: &Loaded,
+    cells: &mut C,
     most: u64,
     pairs: &mut PairList,
     bound: &mut Vec<u32>,
 ) -> Descended
-    requires program { N.program ≡ named loaded.now }
-    requires in_range { AreInRange N.program (length cells.old) pairs.old }
-    requires written { AreWritten (plain cells.old) pairs.old }
-    ensures keeps { Keeps (plain cells.old) (plain cells.new) }
-    ensures over { (unified : Unified) → result ≡ Descended.Over unified
-        → Unifies N.program (plain cells.old) (plain cells.new) pairs.old pairs.new unified }
-    ensures left { result ≡ Descended.Left → Descends N.program (plain cells.old) (plain cells.new) pairs.old pairs.new }
-    ensures sets { SetPlaces N.program (plain cells.old) (plain cells.new) pairs.old bound.new.items }
-    ensures bound { Lists (plain cells.old) (plain cells.new) bound.old.items bound.new.items }
+    requires program { C.program ≡ named loaded.now }
+    requires in_range { AreInRange C.program (C.seen cells.old).words pairs.old }
+    requires written { AreWritten (C.seen cells.old) pairs.old }
+    ensures over { C.over cells.new ≡ C.over cells.old }
+    ensures grew { C.Grew cells.old cells.new }
+    ensures keeps { Keeps (C.seen cells.old) (C.seen cells.new) }
+    ensures ended { (unified : Unified) → result ≡ Descended.Over unified
+        → Unifies C.program (C.seen cells.old) (C.seen cells.new) pairs.old pairs.new unified × (unified ≢ Unified.PutOff) }
+    ensures left { result ≡ Descended.Left → Descends C.program (C.seen cells.old) (C.seen cells.new) pairs.old pairs.new }
+    ensures sets { IfSome (C.seen cells.old).told (λ row. SetPlaces C.program (C.seen cells.old) (C.seen cells.new) pairs.old bound.new.items) }
+    ensures bound { Lists (C.seen cells.old) (C.seen cells.new) bound.old.items bound.new.items }
 {
     loaded.skeleton_is_of_the_program();
+    let Some(mut pair) = pairs.pop() else {
+        return Descended::Over(Unified::Same);
+    };
     for _turn in 0..most {
-        let Some(pair) = pairs.pop() else {
-            return Descended::Over(Unified::Same);
-        };
         match step_plainly(loaded, cells, bound, pair, pairs) {
-            Stepped::Done => {}
-            Stepped::Apart { left, right } => {
+            Plainly::Onward(next) => pair = next,
+            Plainly::Done => match pairs.pop() {
+                Some(next) => pair = next,
+                None => return Descended::Over(Unified::Same),
+            },
+            Plainly::Apart { left, right } => {
                 return Descended::Over(Unified::Apart { left, right });
             }
-            Stepped::Memory => return Descended::Over(Unified::Memory),
+            Plainly::Memory => return Descended::Over(Unified::Memory),
         }
     }
-    Descended::Left
+    match pairs.push(pair.left, pair.right) {
+        Ok(()) => Descended::Left,
+        Err(_) => Descended::Over(Unified::Memory),
+    }
 }
 
 /// Meets the sides of a pair. A cell that is set goes on the list `bound`, and the pairs of the
-/// arguments of two structures go on `list`. Where memory is wanting, no cell was set.
-fn step_plainly<N: Naming>(
+/// arguments of two structures but the first go on `list`. Where memory is wanting, no cell was set.
+fn step_plainly<C: Cells>(
     loaded: &Loaded,
-    cells: &mut PlainCells<N>,
+    cells: &mut C,
     bound: &mut Vec<u32>,
     pair: Pair,
     list: &mut PairList,
-) -> Stepped
-    requires program { N.program ≡ named loaded.now }
-    requires in_range { IsInRange N.program (length cells.old) pair.left × IsInRange N.program (length cells.old) pair.right }
-    requires written { IsWrittenIfNumber (plain cells.old) pair.left × IsWrittenIfNumber (plain cells.old) pair.right }
-    ensures done { result ≡ Stepped.Done
-        → StepsPlainly N.program pair (plain cells.old) (plain cells.new) list.old list.new bound.old.items bound.new.items }
-    ensures apart { (one other : Ref) → result ≡ Stepped.Apart one other
-        → MeetApart N.program pair.left pair.right (plain cells.old) (plain cells.new) one other }
-    ensures stopped { result ≢ Stepped.Done → OnlyReads (plain cells.old) (plain cells.new) × (bound.new.items ≡ bound.old.items) }
+) -> Plainly
+    requires program { C.program ≡ named loaded.now }
+    requires in_range { IsInRange C.program (C.seen cells.old).words pair.left × IsInRange C.program (C.seen cells.old).words pair.right }
+    requires written { IsWrittenIfNumber (C.seen cells.old) pair.left × IsWrittenIfNumber (C.seen cells.old) pair.right }
+    ensures over { C.over cells.new ≡ C.over cells.old }
+    ensures grew { C.Grew cells.old cells.new }
+    ensures done { result ≡ Plainly.Done
+        → StepsPlainly C.program pair (C.seen cells.old) (C.seen cells.new) list.old list.new bound.old.items bound.new.items }
+    ensures onward { (next : Pair) → result ≡ Plainly.Onward next → (rest : List Pair) × (list.new ≡ list.old ++ rest)
+        × StepsPlainly C.program pair (C.seen cells.old) (C.seen cells.new) list.old (list.old ++ next ∷ rest) bound.old.items bound.new.items }
+    ensures apart { (one other : Ref) → result ≡ Plainly.Apart one other
+        → MeetApart C.program pair.left pair.right (C.seen cells.old) (C.seen cells.new) one other }
+    ensures reads { ((next : Pair) → result ≢ Plainly.Onward next) → result ≢ Plainly.Done
+        → OnlyReads (C.seen cells.old) (C.seen cells.new) × (bound.new.items ≡ bound.old.items) }
 {
     // Room for a cell is made before one is set, so that each that is set goes on the list.
     if bound.reserve(1).is_err() {
-        return Stepped::Memory;
+        return Plainly::Memory;
     }
     match meet(loaded, cells, pair.left, pair.right) {
-        Met::Same => Stepped::Done,
+        Met::Same => Plainly::Done,
         Met::Bound { cell } => {
             note(bound, cell);
-            Stepped::Done
+            Plainly::Done
         }
-        Met::Structures { left, right } => match push_arguments(loaded, left, right, list) {
-            Ok(()) => Stepped::Done,
-            Err(_) => Stepped::Memory,
-        },
-        Met::Apart { left, right } => Stepped::Apart { left, right },
+        Met::Structures { left, right } => onward(split_arguments(loaded, left, right, list)),
+        Met::Apart { left, right } => Plainly::Apart { left, right },
+    }
+}
+
+/// What became of a pair whose arguments were split.
+fn onward(split: Result<Option<Pair>, AllocError>) -> Plainly
+    ensures done { result ≡ Plainly.Done → split ≡ Ok None }
+    ensures onward { (next : Pair) → result ≡ Plainly.Onward next → split ≡ Ok (Some next) }
+    ensures apart { (one other : Ref) → result ≢ Plainly.Apart one other }
+{
+    match split {
+        Ok(Some(first)) => Plainly::Onward(first),
+        Ok(None) => Plainly::Done,
+        Err(_) => Plainly::Memory,
     }
 }

@@ -4,6 +4,7 @@
 mod classes;
 mod descending;
 mod heads;
+pub mod laws;
 mod meeting;
 pub mod pairs;
 pub mod settling;
@@ -12,6 +13,7 @@ mod turning;
 pub mod unifying;
 
 pub use and_circles::{Circle, cycle};
+pub use laws::{references_that_end_have_terms, references_without_circles_have_terms};
 pub use pairs::{Pair, PairList};
 pub use settling::{Settled, Solver, settle};
 pub use unifying::{Unified, unify};

@@ -1,6 +1,6 @@
 //! One pair in its turn: it is met, and the arguments of structures that are made equal come to do.
 
-ghost use Rattle.std.specs.Prelude.{◌≡◌, ◌≢◌, ◌⊎◌, ◌<◌, ◌≤◌, ◌+◌, ◌^◌, [], ◌∷◌, ◌++◌, ℕ, length, slice_get, Some, OnOk, vec_len, vec_capacity};
+ghost use Rattle.std.specs.Prelude.{◌≡◌, ◌≢◌, ◌⊎◌, ◌<◌, ◌≤◌, ◌+◌, ◌^◌, [], ◌∷◌, ◌++◌, ℕ, length, slice_get, Some, IfOk, OnOk, vec_len, vec_capacity};
 ghost use Rattle.and_model.specs.declared.reference.Ref.{Ref};
 ghost use Rattle.and_program.specs.Loaded.{skeleton_of, arguments_at};
 ghost use Rattle.and_cells.specs.Ranges.{IsInRange};
@@ -10,7 +10,7 @@ ghost use Rattle.and_model.specs.declared.numbers.NodeNo.{NodeNo};
 ghost use Rattle.and_unify.specs.Classes.{InOneClass, Joins};
 ghost use Rattle.and_unify.specs.Meeting.{MeetApart};
 ghost use Rattle.and_unify.specs.Meeting.{AreOfOneShape};
-ghost use Rattle.and_unify.specs.Turns.{pairs_of, Steps, weight};
+ghost use Rattle.and_unify.specs.Turns.{pairs_of, Splits, Steps, weight};
 
 use crate::classes::Classes;
 use crate::meeting::{Met, meet};
@@ -129,6 +129,33 @@ pub(crate) fn push_arguments(
         list.push(part(loaded, left, place), part(loaded, right, place))?;
     }
     Ok(())
+}
+
+/// The pair of the first arguments of two structures of one shape, if they have any. The pairs of the
+/// others go on the list. An error is want of memory.
+pub(crate) fn split_arguments(
+    loaded: &Loaded,
+    left: Ref,
+    right: Ref,
+    list: &mut PairList,
+) -> Result<Option<Pair>, AllocError>
+    requires { (words : ℕ) × AreOfOneShape (named loaded.now) words left right }
+    ensures { IfOk result (Splits (pairs_of (parts_of (named loaded.now) left) (parts_of (named loaded.now) right)) list.old list.new) }
+{
+    let left = as_structure(left);
+    let right = as_structure(right);
+    let count = argument_count(loaded, left.node);
+    if count == 0 {
+        return Ok(None);
+    }
+    let first = Pair {
+        left: part(loaded, left, 0),
+        right: part(loaded, right, 0),
+    };
+    for place in 1..count {
+        list.push(part(loaded, left, place), part(loaded, right, place))?;
+    }
+    Ok(Some(first))
 }
 
 /// The structure that a reference names.

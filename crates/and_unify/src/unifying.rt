@@ -1,23 +1,25 @@
 //! Unification over any cells, by fuel (Robinson, 1965; classes of places that were made equal: Huet,
 //! 1976). It binds without looking for circles.
 
-ghost use Rattle.std.specs.Prelude.{◌≡◌, ◌≤◌, ◌<◌, ◌⊎◌, ℕ, IfSome, Contains};
-ghost use Rattle.and_model.specs.declared.reference.Ref.{Ref};
-ghost use Rattle.and_cells.specs.Seen.{Keeps, Knows};
+ghost use Rattle.std.specs.Prelude.{◌≡◌, ◌≤◌, ◌⊎◌, IfSome};
+ghost use Rattle.and_cells.specs.Seen.{Keeps};
 ghost use Rattle.and_cells.specs.Parts.{named};
 ghost use Rattle.and_unify.specs.Pairs.{AreInRange, AreWritten};
-ghost use Rattle.and_unify.specs.Places.{sides, IsPlace};
 ghost use Rattle.and_unify.specs.Setting.{Lists};
 ghost use Rattle.and_unify.specs.Unifying.{Unifies, Spends};
-ghost use Rattle.and_unify.specs.Descending.{Suffice};
+ghost use Rattle.and_unify.specs.Descending.{SetPlaces, Suffice};
 ghost use Rattle.and_unify.specs.declared.unifying.Unified.{Unified};
 
+use crate::descending::{descend_then_solve, greatest_node};
 use crate::pairs::PairList;
 use crate::turning::{Turn, Work, take_turn};
 use and_cells::Cells;
 use and_model::Ref;
 use and_program::Loaded;
 use std::alloc::Global;
+
+/// So many pairs more than the greatest node among them has a number are met plainly before classes are made.
+const PLAIN_PAIRS: u64 = 1024;
 
 /// What became of pairs.
 #[derive(Clone, Copy, PartialEq, Eq, Debug)]
@@ -35,9 +37,11 @@ pub enum Unified {
 
 /// Makes the pairs equal in the most general way, without looking for circles.
 ///
-/// Each place of the left sides takes 1 of the fuel when it is first come to, and nothing later,
-/// however often it is come to. So the fuel is never used up with a pair left where the left sides
-/// have at most as many places as there was fuel.
+/// At first so many pairs are met plainly at most as the greatest node that the pairs name has a number, and
+/// 1024 more, unless there is less fuel than that; they take none of it. Of what is left then, each place of
+/// the left sides takes 1 of the fuel when it is first come to, and nothing later, however often it is come
+/// to. So the fuel is never used up with a pair left where the left sides have at most as many places as
+/// there was fuel.
 pub fn unify<C: Cells>(
     alloc: Global,
     loaded: &Loaded,
@@ -56,7 +60,9 @@ pub fn unify<C: Cells>(
     ensures spends { Spends C.program (C.seen cells.new) pairs.old pairs.new fuel.old fuel.new result }
 {
     let mut bound = Vec::new(alloc);
-    solve(alloc, loaded, cells, fuel, pairs, &mut bound)
+    let most = u64::from(greatest_node(pairs)) + PLAIN_PAIRS;
+    let plainly = if *fuel < most { 0 } else { most };
+    descend_then_solve(loaded, cells, plainly, fuel, pairs, &mut bound)
 }
 
 /// The same, where the cells that are set here are also put on a list.
@@ -78,9 +84,7 @@ pub(crate) fn solve<C: Cells>(
     ensures unifies { Unifies C.program (C.seen cells.old) (C.seen cells.new) pairs.old pairs.new result }
     ensures spends { Spends C.program (C.seen cells.new) pairs.old pairs.new fuel.old fuel.new result }
     // Where the row is told, what was set here is on the list, and leads on from the sides.
-    ensures sets { IfSome (C.seen cells.old).told (λ row. (place : ℕ) (r : Ref) → Knows (C.seen cells.new) place r
-        → Knows (C.seen cells.old) place r
-        ⊎ (Contains bound.new.items place × IsPlace C.program (C.seen cells.old) (sides pairs.old) r)) }
+    ensures sets { IfSome (C.seen cells.old).told (λ row. SetPlaces C.program (C.seen cells.old) (C.seen cells.new) pairs.old bound.new.items) }
     ensures bound { Lists (C.seen cells.old) (C.seen cells.new) bound.old.items bound.new.items }
     ensures suffice { (result ≡ Unified.Same) ⊎ (result ≡ Unified.PutOff) → Suffice C.program (C.seen cells.new) pairs.new pairs.old }
 {

@@ -1,7 +1,10 @@
-use Rattle.std.specs.Prelude.{Contains}
-use Rattle.and_cells.specs.Rows.{plain}
-use Rattle.and_unify.proofs.DescentKept.{Held}
+use Rattle.std.specs.Prelude.{◌≡◌}
+use Rattle.and_unify.proofs.DescentKept.{Held, IsOutOr}
 use Rattle.and_unify.proofs.descending.descend.Given as goal
 
 abbrev pub invariant-loop-turn : goal.invariant-loop-turn
-invariant-loop-turn g l = Held g.N.Naming.program (plain l.initial.cells) l.initial.pairs l.initial.bound.items (plain l.cells) (Contains l.pairs) l.bound.items
+invariant-loop-turn g l = record {
+  over : g.C.Cells.over l.cells ≡ g.C.Cells.over l.fn.cells;
+  grew : g.C.Cells.Grew l.fn.cells l.cells;
+  held : Held g.C.Cells.program (g.C.Cells.seen l.fn.cells) l.fn.pairs l.fn.bound.items (g.C.Cells.seen l.cells) (IsOutOr l.pair l.pairs) l.bound.items;
+}

@@ -9,7 +9,7 @@ use Rattle.and_unify.specs.declared.unifying.Unified.{Unified}
 use Rattle.and_unify.specs.declared.unifying.Unified.TheVariants as unified
 use Rattle.and_unify.specs.Unifying.{HasSpent}
 use Rattle.and_unify.proofs.TurnStands.{stands_begun, stands_turns}
-use Rattle.and_unify.proofs.TurnAnswers.{kept_end, among_end, todo_end, follows_end, left_end, suffice_end, equal_end, range_end, sets_end, apart_end, spent_done, spent_broken, put_off_end}
+use Rattle.and_unify.proofs.TurnAnswers.{kept_end, among_end, todo_end, follows_end, left_end, suffice_end, equal_end, range_end, sets_end, apart_end, apart_at_end, spent_done, spent_broken, put_off_end}
 use Rattle.and_unify.proofs.unifying.solve.Goals as goal
 
 falls : (P Q : NamedProgram) → P ≡ Q → AllFall 0 Q.skeleton.nodes → AllFall 0 P.skeleton.nodes
@@ -79,6 +79,8 @@ returns-in-Over-clause-unifies g c =
       still_asked = λ ended. left_end P _ _ _ _ _ _ _ left kept (todo_end _ _ (says.put_off (over unified.PutOff c.in-Over.is ended)));
       in_range = λ ended. range_end P _ _ _ _ _ _ _ left kept (todo_end _ _ (says.put_off (over unified.PutOff c.in-Over.is ended)));
       apart = λ one other ended. apart_end P _ _ _ _ _ _ _ one other begun
+          (says.apart one other (over (unified.Apart one other) c.in-Over.is ended));
+      apart_at = λ one other ended. apart_at_end P _ _ _ _ _ _ _ one other begun
           (says.apart one other (over (unified.Apart one other) c.in-Over.is ended));
     }
 
