@@ -1,14 +1,15 @@
 -- What is seen at the ends of chains is so under each solution of the row's equations.
-use Rattle.std.proofs.Common.{ℕ, ◌+◌, ◌≡◌, ◌<◌, true≢false, true, List, [], length, map, get_or, Some, refl, sym, ap, ◌∙◌, subst, inl, inr, arith}
+use Rattle.std.proofs.Common.{ℕ, ℤ, suc, ◌+◌, ◌≡◌, ◌<◌, true≢false, true, List, [], length, map, get_or, Some, refl, sym, ap, ◌∙◌, subst, inl, inr, arith}
 use Rattle.std.specs.Prelude.{Contains}
 use Rattle.std.proofs.lemmas.List.{length-map}
 use Rattle.std.proofs.lemmas.List.Elements.{All-contains, Contains-get_or}
 use Rattle.std.proofs.lemmas.Option.{same_Some}
-use Rattle.and_model.specs.Terms.{Path, Term, variables_of, Substitution, apply}
+use Rattle.and_model.specs.Terms.{Path, Term, number, variables_of, Substitution, apply}
 use Rattle.and_model.specs.Solutions.{Solves}
 use Rattle.and_model.specs.Store.{is_half}
 use Rattle.and_model.specs.declared.numbers.NodeNo.{NodeNo}
 use Rattle.and_model.specs.declared.reference.Ref.{Ref}
+use Rattle.and_model.specs.declared.reference.Ref.TheVariants as reference
 use Rattle.and_model.specs.declared.reference.Ref.TheVariants.{Node}
 use Rattle.and_program.specs.Skeletons
 use Rattle.and_program.specs.Skeletons.{Shape, term_list, nth, shape_term, terms_behind, node_term, AllFall}
@@ -21,7 +22,9 @@ use Rattle.and_laws.proofs.Equality.{bool_cases}
 use Rattle.and_laws.proofs.Substitutions.{apply_then}
 use Rattle.and_cells.specs.Ranges.{NamedProgram, IsNodeInRange}
 use Rattle.and_cells.specs.Rows.{plain}
-use Rattle.and_cells.specs.Seen.{Seen, LeadsTo, here, onward, word_at}
+use Rattle.and_cells.specs.Numbers.{number_of}
+use Rattle.and_cells.specs.Seen.{Seen, OnlyReads, ReadsNumber, LeadsTo, here, onward, word_at}
+use Rattle.and_cells.proofs.Chains.{leads_later}
 use Rattle.and_cells.specs.Meaning.{equations_of}
 use Rattle.and_cells.specs.Joined.{value}
 use Rattle.and_cells.specs.Parts.{part_at}
@@ -30,7 +33,7 @@ use Rattle.and_cell_laws.proofs.Structures.{node_term_shape, value_of_part}
 use Rattle.and_arith.proofs.Ranging.{among_node, argument_below}
 use Rattle.and_branch_laws.specs.Variables.{placed, cells_from}
 use Rattle.and_branch_laws.proofs.Lists.{all_of}
-use Rattle.and_determinacy.specs.Looks.{Fits, IsGlimpse, IsGlimpseAt, MayBe}
+use Rattle.and_determinacy.specs.Looks.{Fits, IsGlimpse, IsGlimpseAt, IsSeenIn, MayBe}
 use Rattle.and_determinacy.specs.Prints.{mark, argument_kind, no_marks, Tells}
 use Rattle.and_determinacy.specs.declared.looking.Glimpse.{Glimpse}
 use Rattle.and_determinacy.proofs.Differing.{fits_later, fits_shown, argument_placed, count_later}
@@ -51,7 +54,23 @@ leads_value P row s solves r to t (onward cell q p knows rest) e = λ whole. eli
   | inr ok ↦ leads_value P row s solves q to t rest (sym (set_agrees P row s cell q solves knows ok) ∙ e) whole
 ]
 
+-- A row that has what is known at last has what was known before.
+pub seen_before : (old new : Seen) (row : List Ref) → OnlyReads old new → IsSeenIn new row → IsSeenIn old row
+seen_before old new row reads has place r knows = has place r (reads.keeps place r knows)
+
 -- ---- What ends begin with
+
+pub number_kind : (P : NamedProgram) (pair : ℕ) (z given : ℤ) (old new : Seen) → ReadsNumber P pair z old new → given ≡ z
+    → (row : List Ref) → IsSeenIn new row → (s : Substitution) (at : Ref) (t : Term) → at ≡ reference.Number pair → MayBe P row s at t
+    → Fits (Number given) t
+number_kind P pair z given old new reads same row has s at t is may =
+    let held : Some (number (number_of (word_at row pair) (word_at row (suc pair)))) ≡ Some t =
+    subst (λ (r : Ref). MayBe P row s r t) is may refl in
+    let high : word_at row pair ≡ reads.high = (has pair reads.high reads.high_known).0 in
+    let low : word_at row (suc pair) ≡ reads.low = (has (suc pair) reads.low reads.low_known).0 in
+    let holds : number_of (word_at row pair) (word_at row (suc pair)) ≡ given =
+    ap (λ (r : Ref). number_of r (word_at row (suc pair))) high ∙ ap (number_of reads.high) low ∙ sym reads.holds ∙ sym same in
+    ap shown_term (sym (same_Some (number (number_of (word_at row pair) (word_at row (suc pair)))) t held)) ∙ ap (λ (y : ℤ). Number y) holds
 
 pub node_kind : (P : NamedProgram) (row : List Ref) (s : Substitution) (node : NodeNo) (base : ℕ) (t : Term)
     → MayBe P row s (Node node base) t → Fits (shown_term (node_term P.skeleton.nodes node.0)) t
@@ -79,10 +98,10 @@ module _ (P : NamedProgram) (fall : AllFall 0 P.skeleton.nodes) (row : List Ref)
   abbrev pub term_in : (base node : ℕ) → Term
   term_in base node = placed base (node_term P.skeleton.nodes node)
 
-  pub node_leads : (s : Substitution) → Solves s (equations_of P row) → (base node : ℕ) (at : Ref)
-      → LeadsTo (plain row) (part_at P base node) at → MayBe P row s at (apply s (placed base (node_term P.skeleton.nodes node)))
-  node_leads s solves base node at leads =
-      leads_value P row s solves (part_at P base node) at (apply s (term_in base node)) leads
+  pub node_leads : (s : Substitution) → Solves s (equations_of P row) → (base node : ℕ) (at : Ref) (seen : Seen) → IsSeenIn seen row
+      → LeadsTo seen (part_at P base node) at → MayBe P row s at (apply s (placed base (node_term P.skeleton.nodes node)))
+  node_leads s solves base node at seen has leads =
+      leads_value P row s solves (part_at P base node) at (apply s (term_in base node)) (leads_later seen (plain row) (part_at P base node) at has leads)
       (value_of_part P (word_at row) s base node fall
       ∙ ap (λ (t : Term). Some t) (sym (apply_then (cells_from base) s (node_term P.skeleton.nodes node))))
 
@@ -115,7 +134,7 @@ module _ (P : NamedProgram) (fall : AllFall 0 P.skeleton.nodes) (row : List Ref)
       }
 
   -- The argument at a place, in the frame, is that of the node's term.
-  argument_is : (s : Substitution) (base node argument j : ℕ) → j < length (arguments_at P.skeleton node)
+  pub argument_is : (s : Substitution) (base node argument j : ℕ) → j < length (arguments_at P.skeleton node)
       → node_term P.skeleton.nodes argument ≡ argument_of (node_term P.skeleton.nodes node) j
       → apply s (placed base (node_term P.skeleton.nodes argument)) ≡ argument_of (apply s (placed base (node_term P.skeleton.nodes node))) j
   argument_is s base node argument j low term =

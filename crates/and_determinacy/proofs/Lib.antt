@@ -17,3 +17,6 @@ pub mod Printing
 pub mod Glimpses
 pub mod Serving
 pub mod Additions
+pub mod Growing
+pub mod Watched
+pub mod Resting

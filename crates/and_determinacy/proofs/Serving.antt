@@ -1,6 +1,6 @@
 -- The clauses under the key of a call's first argument serve the call.
 use Rattle.std.proofs.Common.{ℕ, ℤ, ◌≡◌, ◌<◌, ◌⊎◌, Bool, true, false, true≢false, ◌&&◌, cond, nat_eq, List, [], ◌∷◌, Option, refl, sym, ap, ◌∙◌, subst, inl, inr, arith}
-use Rattle.std.specs.Prelude.{AllPairs, Contains}
+use Rattle.std.specs.Prelude.{All, AllPairs, Contains}
 use Rattle.std.proofs.lemmas.Bool.{eq-eqb}
 use Rattle.std.proofs.lemmas.Bool.Decides.{Decides-int_eq}
 use Rattle.std.proofs.lemmas.List.Elements.{All-contains}
@@ -149,6 +149,47 @@ module _ (P : Program) (kind : NodeKind) (key : Key) (has : HasKey kind key) whe
     | inr e ↦ subst (AllPairs IsEarlier) (sym e.0) (picked_rise cs (all_pairs_rest IsEarlier x cs rise))
   ]
 
+-- ---- What is tried
+
+-- Clauses of a node's predicate, in textual order.
+pub record AreOwn (P : NamedProgram) (node : ℕ) (clauses : List ClauseNo) : Type 0 where
+  pub of : All (λ (c : ClauseNo). Of P.program (node_term P.skeleton.nodes node) c.0) clauses
+  pub rise : AllPairs (λ (c d : ClauseNo). c.0 < d.0) clauses
+
+module _ (P : NamedProgram) (node : ℕ) where
+  abbrev own_list : List ClauseNo
+  own_list = clauses_for P.program (node_term P.skeleton.nodes node)
+
+  own_all : AreOwn P node (clauses_for P.program (node_term P.skeleton.nodes node))
+  own_all =
+      let t : Term = node_term P.skeleton.nodes node in record {
+        of = all_of (λ (c : ClauseNo). Of P.program t c.0) own_list (λ c i. listed_of P.program t c i);
+        rise = clauses_rise P.program t;
+      }
+
+  own_picked : (kind : NodeKind) (key : Key) → HasKey kind key
+      → AreOwn P node (picked key (additions_of P.program (clauses_for P.program (node_term P.skeleton.nodes node))))
+  own_picked kind key has =
+      let t : Term = node_term P.skeleton.nodes node in record {
+        of = all_of (λ (c : ClauseNo). Of P.program t c.0) (picked key (additions_of P.program own_list)) (λ c i.
+            listed_of P.program t c (picked_there P.program kind key has own_list c i));
+        rise = picked_rise P.program kind key has own_list (clauses_rise P.program t);
+      }
+
+  own_by_key : (kind : NodeKind) (key : Key) → HasKey kind key → (entry : Option Predicate)
+      → IsEntryFor P.program (clauses_for P.program (node_term P.skeleton.nodes node)) entry → AreOwn P node (under_key entry key)
+  own_by_key kind key has entry known = elim (known.under key) [
+    | inl few ↦ subst (AreOwn P node) (sym few) (own_picked kind key has)
+    | inr all ↦ subst (AreOwn P node) (sym all) own_all
+  ]
+
+  -- Whatever is known of a first argument, what is tried of a known entry is the node's.
+  pub own_tried : (entry : Option Predicate) → IsEntryFor P.program (clauses_for P.program (node_term P.skeleton.nodes node)) entry
+      → (kind : NodeKind) → AreOwn P node (tried entry kind)
+  own_tried entry known (Variable j) = subst (AreOwn P node) (sym known.all) own_all
+  own_tried entry known (Number z) = own_by_key (Number z) (keys.Number z) (of_number z) entry known
+  own_tried entry known (Compound c n) = own_by_key (Compound c n) (keys.Name c n) (of_name c n) entry known
+
 -- ---- What serves a call
 
 module _ (P : NamedProgram) (row : List Ref) (node base : ℕ) (look : Look) (is_look : IsLook P row node base look) where
@@ -165,10 +206,10 @@ module _ (P : NamedProgram) (row : List Ref) (node base : ℕ) (look : Look) (is
   key_serves : (key : Key) → HasKey look.first key
       → AreServed P row node base (picked key (additions_of P.program (clauses_for P.program (node_term P.skeleton.nodes node))))
   key_serves key has =
-      let all : List ClauseNo = clauses_for P.program own in record {
-        of = all_of (λ (c : ClauseNo). Of P.program own c.0) (picked key (additions_of P.program all)) (λ c i.
-            listed_of P.program own c (picked_there P.program look.first key has all c i));
-        rise = picked_rise P.program look.first key has all (clauses_rise P.program own);
+      let all : List ClauseNo = clauses_for P.program own in
+      let are : AreOwn P node (picked key (additions_of P.program all)) = own_picked P node look.first key has in record {
+        of = are.of;
+        rise = are.rise;
         all = λ c has_it.
             picked_all P.program look.first key has all c (of_listed P.program own c.0 (of_placed P.program base own c.0 has_it.0))
             (λ d. differs_none c d has_it);

@@ -57,13 +57,13 @@ module _ (P : NamedProgram) (row : List Ref) (base : ℕ) (o : Relation) (a b : 
 
   -- A comparison is false exactly where its sides make it so.
   pub sides_tell : (l r : Side) → IsSide P row base a l → IsSide P row base b r → sides_fail o l r ≡ true ↔ IsFalseIn P row base o a b
-  sides_tell Waits r one other = (
+  sides_tell (Waits cell) r one other = (
     λ e. absurd (true≢false (sym e)),
-    λ f. absurd (one f.left f.left_read f.left_ground),
+    λ f. absurd (one.0 f.left f.left_read f.left_ground),
   )
-  sides_tell NoValue Waits one other = (
+  sides_tell NoValue (Waits cell) one other = (
     λ e. absurd (true≢false (sym e)),
-    λ f. absurd (other f.right f.right_read f.right_ground),
+    λ f. absurd (other.0 f.right f.right_read f.right_ground),
   )
   sides_tell NoValue NoValue (u, read, ground, none) (w, read_too, ground_too, none_too) = (
     λ e. from_ground u w read read_too ground ground_too (holds_by o u w None None none none_too ∙ none_left o None),
@@ -73,9 +73,9 @@ module _ (P : NamedProgram) (row : List Ref) (base : ℕ) (o : Relation) (a b : 
     λ e. from_ground u w read read_too ground ground_too (holds_by o u w None (Some y) none some ∙ none_left o (Some y)),
     λ f. refl,
   )
-  sides_tell (Number x) Waits one other = (
+  sides_tell (Number x) (Waits cell) one other = (
     λ e. absurd (true≢false (sym e)),
-    λ f. absurd (other f.right f.right_read f.right_ground),
+    λ f. absurd (other.0 f.right f.right_read f.right_ground),
   )
   sides_tell (Number x) NoValue (u, read, ground, some) (w, read_too, ground_too, none) = (
     λ e. from_ground u w read read_too ground ground_too (holds_by o u w (Some x) None some none),

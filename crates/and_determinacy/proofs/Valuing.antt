@@ -15,7 +15,7 @@ use Rattle.and_program.specs.Skeletons.{Shape, term_list, nth, shape_term, terms
 use Rattle.and_program.specs.Loaded.{shape_at}
 use Rattle.and_program.specs.Shown.{resolved, arguments_in}
 use Rattle.and_program.proofs.NodeTerms.{AllFall-at}
-use Rattle.and_laws.proofs.Ordered.{contains_first, contains_more}
+use Rattle.and_laws.proofs.Ordered.{contains_first, contains_more, contains_none}
 use Rattle.and_laws.proofs.Substitutions.{and_left, and_right}
 use Rattle.and_cells.specs.Ranges.{NamedProgram, IsNoVariable, CanHold}
 use Rattle.and_cells.specs.Rows.{IsSound, plain}
@@ -84,6 +84,9 @@ mutual
 
 pub has_variable : (t : Term) (v : Path × ℕ) (vs : List (Path × ℕ)) → variables_of t ≡ v ∷ vs → is_ground t ≡ true → ⊥
 has_variable t v vs e ground = let both : [] ≡ v ∷ vs = sym (ground_none t ground) ∙ e in cc
+
+pub has_no_variable : (t : Term) → is_ground t ≡ true → (v : Path × ℕ) → Contains (variables_of t) v → ⊥
+has_no_variable t ground v c = contains_none v (subst (λ (vs : List (Path × ℕ)). Contains vs v) (ground_none t ground) c)
 
 -- ---- What is ground as far as is known
 
@@ -255,6 +258,14 @@ module _ (P : NamedProgram) (fall : AllFall 0 P.skeleton.nodes) (row : List Ref)
         let known : KnownAs P (plain row) (part_at P base n) u = read_known_as base n u read in
         let is = known_ground P (plain row) (part_at P base n) ground (part_at P base n) u known (whole (part_at P base n) refl) in
         (u, read, is, lacks u known)
+
+    -- the cell that was found free is a variable of what the node reads as
+    pub waiting_variable : (cell : ℕ) → IsFirstFree P (plain row) (part_at P base n) cell
+        → (u : Term) × IsRead P row base node u × Contains (variables_of u) ([], cell)
+    waiting_variable cell first =
+        let (u, read) = some_reading in
+        let (others, is) = first u (read_known_as base n u read) in
+        (u, read, subst (λ (vs : List (Path × ℕ)). Contains vs ([], cell)) (sym is) (contains_first ([], cell) others))
 
     pub waiting_side : (cell : ℕ) → IsFirstFree P (plain row) (part_at P base n) cell → (u : Term) → IsRead P row base node u
         → is_ground u ≡ true → ⊥

@@ -6,3 +6,4 @@ pub mod Searches
 pub mod Sides
 pub mod Tables
 pub mod Trials
+pub mod Watching

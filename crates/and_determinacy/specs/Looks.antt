@@ -10,7 +10,7 @@ use Rattle.and_program.specs.Skeletons.{node_term}
 use Rattle.and_program.specs.declared.node.NodeKind.{NodeKind}
 use Rattle.and_program.specs.declared.node.NodeKind.TheVariants.{Variable, Number, Compound}
 use Rattle.and_cells.specs.Ranges.{NamedProgram}
-use Rattle.and_cells.specs.Seen.{word_at}
+use Rattle.and_cells.specs.Seen.{Seen, Knows, IsSetTo, word_at}
 use Rattle.and_cells.specs.Meaning.{equations_of}
 use Rattle.and_cells.specs.Joined.{value}
 use Rattle.and_branch_laws.specs.Variables.{placed}
@@ -45,6 +45,18 @@ pub record Shows (look : Look) (call : Term) : Type 0 where
 abbrev pub IsLook : NamedProgram → List Ref → (node base : ℕ) → Look → Type 0
 IsLook P row node base look =
     (s : Substitution) → Solves s (equations_of P row) → Shows look (apply s (placed base (node_term P.skeleton.nodes node)))
+
+-- What is known is set in the row.
+abbrev pub IsSeenIn : Seen → List Ref → Type 0
+IsSeenIn s row = (place : ℕ) (r : Ref) → Knows s place r → IsSetTo row place r
+
+-- It is so of whatever solves the equations of a row that has what is known.
+abbrev pub IsCertain : NamedProgram → Seen → (Substitution → Type 0) → Type 0
+IsCertain P seen Q = (row : List Ref) → IsSeenIn seen row → (s : Substitution) → Solves s (equations_of P row) → Q s
+
+-- This was seen of the node in the frame at the base, over cells that others may set too: it is a look in each row that has what is known.
+abbrev pub IsLookOver : NamedProgram → Seen → (node base : ℕ) → Look → Type 0
+IsLookOver P seen node base look = (row : List Ref) → IsSeenIn seen row → IsLook P row node base look
 
 -- The print of the clause's head does not tell it apart from what was seen.
 abbrev pub IsLeft : Determinacy → Look → ClauseNo → Type 0

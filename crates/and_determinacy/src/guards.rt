@@ -17,8 +17,8 @@ use std::alloc::AllocError;
 /// What is known of one side of a comparison, or of the right side of an `is`.
 #[derive(Clone, Copy, PartialEq, Eq, Debug)]
 pub enum Side {
-    /// It is not ground.
-    Waits,
+    /// It is not ground: this cell is its first variable.
+    Waits { cell: u32 },
     /// It is ground, and has no value.
     NoValue,
     /// It is ground, and has this value.
@@ -107,7 +107,7 @@ pub fn evaluate<N: Naming>(
     match value_of(loaded, cells, loaded.resolve(node, base), values) {
         Valued::Number(number) => Ok(Side::Number(number)),
         Valued::NoValue => Ok(Side::NoValue),
-        Valued::Waits { cell: _ } => Ok(Side::Waits),
+        Valued::Waits { cell } => Ok(Side::Waits { cell }),
         Valued::PutOff => unreachable!(),
         Valued::Memory => Err(AllocError),
     }
@@ -118,10 +118,10 @@ pub fn fails(by: Relation, left: Side, right: Side) -> bool
     ensures { result ≡ sides_fail (relation by) left right }
 {
     match left {
-        Side::Waits => false,
+        Side::Waits { cell: _ } => false,
         Side::NoValue => !waits(right),
         Side::Number(a) => match right {
-            Side::Waits => false,
+            Side::Waits { cell: _ } => false,
             Side::NoValue => true,
             Side::Number(b) => !compare(by, a, b),
         },
@@ -133,7 +133,7 @@ fn waits(side: Side) -> bool
     ensures { result ≡ is_waiting side }
 {
     match side {
-        Side::Waits => true,
+        Side::Waits { cell: _ } => true,
         Side::NoValue => false,
         Side::Number(_) => false,
     }

@@ -188,7 +188,7 @@ pub fn judge<N: Naming>(
     ensures unchanged { OnOk result (cells.new ≡ cells.old) }
 {
     let node = node_of(loaded, cells, goal);
-    trials.look_at(loaded, cells, node, goal.base);
+    trials.look_at(table, loaded, cells, node, goal.base);
     let clauses = clauses_to_try(table, cells, &trials.look, node, goal.base);
     judge_from(table, loaded, cells, node, goal.base, clauses, 0, trials)
 }
@@ -239,7 +239,7 @@ pub fn narrow<N: Naming>(
     ensures unchanged { OnOk result (cells.new ≡ cells.old) }
 {
     let node = node_of(loaded, cells, goal);
-    trials.look_at(loaded, cells, node, goal.base);
+    trials.look_at(table, loaded, cells, node, goal.base);
     let clauses = clauses_to_try(table, cells, &trials.look, node, goal.base);
     match next_left(table, &trials.look, clauses, 0) {
         None => Ok(Narrowed::Nothing),
@@ -275,7 +275,7 @@ pub fn candidates_of<N: Naming>(
 {
     clear(out);
     let node = node_of(loaded, cells, goal);
-    trials.look_at(loaded, cells, node, goal.base);
+    trials.look_at(table, loaded, cells, node, goal.base);
     let clauses = clauses_to_try(table, cells, &trials.look, node, goal.base);
     for clause in clauses {
         if trials.fits(table, loaded, cells, node, goal.base, *clause)? {

@@ -2,16 +2,20 @@
 //!
 //! [`compile`] makes a program's table once. [`judge`] tells whether a goal has no candidate, one or
 //! more, [`narrow`] the same but for a trial of a clause that alone is left, and [`candidates_of`] all
-//! of them. They try clauses on the cells themselves, and take back what was set.
+//! of them. They try clauses on the cells themselves, and take back what was set. [`watch`] tells the
+//! cells on which this rests: while they are free, each candidate stays one.
 #![tactic(auto)]
 
 pub mod guards;
 pub mod judging;
-mod looking;
+pub mod looking;
 mod prints;
 pub mod table;
 mod trying;
+pub mod watching;
 
 pub use judging::{Judged, Narrowed, candidates_of, judge, narrow};
+pub use looking::Look;
 pub use table::{Determinacy, compile};
 pub use trying::Trials;
+pub use watching::watch;

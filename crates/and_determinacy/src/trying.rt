@@ -46,6 +46,7 @@ impl Trials {
     /// Takes no memory.
     pub(crate) fn look_at<N: Naming>(
         &mut self,
+        table: &Determinacy,
         loaded: &Loaded,
         cells: &mut PlainCells<N>,
         node: NodeNo,
@@ -56,7 +57,7 @@ impl Trials {
         ensures look { IsLook N.program cells.old node.0 base self.new.look }
         ensures unchanged { cells.new ≡ cells.old }
     {
-        self.look = Look::at(loaded, cells, node, base);
+        self.look = Look::at(table, loaded, cells, node, base);
     }
 
     /// Whether a clause is a candidate of the call that was looked at. The cells are as before, but after

@@ -14,10 +14,10 @@ use Rattle.and_cells.specs.Ranges.{NamedProgram, pair_of}
 use Rattle.and_branch_laws.specs.Running.{IsRead, AreRead}
 use Rattle.and_branch_laws.specs.Kept.{item_at, node_item_at}
 use Rattle.and_reduction.specs.Assigning.{IsAssigned, IsRefused}
-use Rattle.and_reduction.specs.Runs.{CanBeRun, IsWaiting, HasRun, CannotHold, compared, assigned, no_value}
+use Rattle.and_reduction.specs.Runs.{CanBeRun, IsWaiting, WaitsFor, HasRun, CannotHold, compared, assigned, no_value}
 use Rattle.and_reduction.specs.Runs as runs
-use Rattle.and_determinacy.specs.Sides.{IsSide}
-use Rattle.and_reduction.specs.Sides.{AreCompared, IsComparison, compared_with}
+use Rattle.and_determinacy.specs.Sides.{IsSide, IsOpen}
+use Rattle.and_reduction.specs.Sides.{AreCompared, IsComparison, AreOpen, compared_with}
 use Rattle.and_reduction.specs.Sides as sides
 use Rattle.and_reduction.specs.declared.running.Ran.TheVariants as run
 use Rattle.and_determinacy.specs.declared.guards.Side.{Side}
@@ -33,6 +33,18 @@ none_left o (Some b) = refl
 
 -- ---- A comparison
 
+module _ (P : NamedProgram) (row : List Ref) (base : ℕ) (a b : Term) where
+  left_waits : IsOpen P row base a → AreOpen P row base (more a (more b none))
+  left_waits side none read ground = elim read [ ]
+  left_waits side (more u none) read ground = elim read.1 [ ]
+  left_waits side (more u (more w us)) read ground = side u read.0 (and_left (is_ground u) (are_ground (more w us)) ground)
+
+  right_waits : IsOpen P row base b → AreOpen P row base (more a (more b none))
+  right_waits side none read ground = elim read [ ]
+  right_waits side (more u none) read ground = elim read.1 [ ]
+  right_waits side (more u (more w us)) read ground =
+      side w read.1.0 (and_left (is_ground w) (are_ground us) (and_right (is_ground u) (are_ground (more w us)) ground))
+
 module _ (P : NamedProgram) (row : List Ref) (base : ℕ) (o : Relation) (a b : Term) where
   compare_ground : (u w : Term) (outcome : Bool) → IsRead P row base a u → IsRead P row base b w → is_ground u ≡ true → is_ground w ≡ true
       → holds o u w ≡ outcome → AreCompared P row base o a b outcome
@@ -46,16 +58,17 @@ module _ (P : NamedProgram) (row : List Ref) (base : ℕ) (o : Relation) (a b : 
     outcome_is = is;
   }
 
-  left_waits : IsSide P row base a Waits → (us : Terms) → AreRead P row base (more a (more b none)) us → are_ground us ≡ true → ⊥
-  left_waits side none read ground = elim read [ ]
-  left_waits side (more u none) read ground = elim read.1 [ ]
-  left_waits side (more u (more w us)) read ground = side u read.0 (and_left (is_ground u) (are_ground (more w us)) ground)
+  left_open : (cell : ℕ) → IsSide P row base a (Waits cell) → IsComparison P row base o a b (run.Waits cell)
+  left_open cell side = (
+    left_waits P row base a b side.0,
+    λ later grows sound free. left_waits P later base a b (side.1 later grows sound free),
+  )
 
-  right_waits : IsSide P row base b Waits → (us : Terms) → AreRead P row base (more a (more b none)) us → are_ground us ≡ true → ⊥
-  right_waits side none read ground = elim read [ ]
-  right_waits side (more u none) read ground = elim read.1 [ ]
-  right_waits side (more u (more w us)) read ground =
-      side w read.1.0 (and_left (is_ground w) (are_ground us) (and_right (is_ground u) (are_ground (more w us)) ground))
+  right_open : (cell : ℕ) → IsSide P row base b (Waits cell) → IsComparison P row base o a b (run.Waits cell)
+  right_open cell side = (
+    right_waits P row base a b side.0,
+    λ later grows sound free. right_waits P later base a b (side.1 later grows sound free),
+  )
 
   numbers_compare : (u w : Term) → IsRead P row base a u → IsRead P row base b w → is_ground u ≡ true → is_ground w ≡ true
       → (outcome : Bool)
@@ -64,13 +77,13 @@ module _ (P : NamedProgram) (row : List Ref) (base : ℕ) (o : Relation) (a b : 
   numbers_compare u w one other first second false is = compare_ground u w false one other first second is
 
   pub sides_compare : (l r : Side) → IsSide P row base a l → IsSide P row base b r → IsComparison P row base o a b (compared_with o l r)
-  sides_compare Waits r one other = left_waits one
-  sides_compare NoValue Waits one other = right_waits other
+  sides_compare (Waits cell) r one other = left_open cell one
+  sides_compare NoValue (Waits cell) one other = right_open cell other
   sides_compare NoValue NoValue (u, read, ground, none_is) (w, read_too, ground_too, none_too) =
       compare_ground u w false read read_too ground ground_too (holds_by o u w None None none_is none_too ∙ none_left o None)
   sides_compare NoValue (Number y) (u, read, ground, none_is) (w, read_too, ground_too, some) =
       compare_ground u w false read read_too ground ground_too (holds_by o u w None (Some y) none_is some ∙ none_left o (Some y))
-  sides_compare (Number x) Waits one other = right_waits other
+  sides_compare (Number x) (Waits cell) one other = right_open cell other
   sides_compare (Number x) NoValue (u, read, ground, some) (w, read_too, ground_too, none_too) =
       compare_ground u w false read read_too ground ground_too (holds_by o u w (Some x) None some none_too)
   sides_compare (Number x) (Number y) (u, read, ground, some) (w, read_too, ground_too, some_too) =
@@ -90,15 +103,20 @@ module _ (P : NamedProgram) (row : List Ref) (g : Goal) (a : Arithmetic) (is : i
       ground
 
 -- the right side of an `is` goal waits
-pub side_waits : (P : NamedProgram) (row : List Ref) (base : ℕ) (r : Term) → IsSide P row base r Waits → (us : Terms)
-    → AreRead P row base (more r none) us → are_ground us ≡ true → ⊥
+side_waits : (P : NamedProgram) (row : List Ref) (base : ℕ) (r : Term) → IsOpen P row base r → AreOpen P row base (more r none)
 side_waits P row base r side none read ground = elim read [ ]
 side_waits P row base r side (more u us) read ground = side u read.0 (and_left (is_ground u) (are_ground us) ground)
 
 module _ (P : NamedProgram) (row new : List Ref) (g : Goal) where
-  pub comparison_waits : (o : Relation) (a b : Term) → item_at P.program g ≡ Programs.arithmetic (Programs.compare o a b)
-      → IsComparison P row g.base o a b run.Waits → IsWaiting P row g
-  comparison_waits o a b is c = so_waits P row g (Programs.compare o a b) is c
+  pub comparison_waits : (cell : ℕ) (o : Relation) (a b : Term) → item_at P.program g ≡ Programs.arithmetic (Programs.compare o a b)
+      → IsComparison P row g.base o a b (run.Waits cell) → IsWaiting P row g
+  comparison_waits cell o a b is c = so_waits P row g (Programs.compare o a b) is c.0
+
+  pub comparison_waits_for : (cell : ℕ) (o : Relation) (a b : Term)
+      → item_at P.program g ≡ Programs.arithmetic (Programs.compare o a b)
+      → IsComparison P row g.base o a b (run.Waits cell) → WaitsFor P row g cell
+  comparison_waits_for cell o a b is c later grows sound settled free =
+      so_waits P later g (Programs.compare o a b) is (c.1 later grows sound free)
 
   pub comparison_done : (o : Relation) (a b : Term) → item_at P.program g ≡ Programs.arithmetic (Programs.compare o a b)
       → new ≡ row → IsComparison P row g.base o a b run.Done → HasRun P row new g
@@ -112,9 +130,14 @@ module _ (P : NamedProgram) (row new : List Ref) (g : Goal) where
 
   module _ (n m pair : ℕ) (node : node_item_at P g ≡ Skeletons.is n m pair)
       (is : item_at P.program g ≡ Programs.arithmetic (Programs.is (node_term P.skeleton.nodes n) (node_term P.skeleton.nodes m))) where
-    pub is_waits : IsSide P row g.base (node_term P.skeleton.nodes m) Waits → IsWaiting P row g
-    is_waits side = so_waits P row g (Programs.is (node_term P.skeleton.nodes n) (node_term P.skeleton.nodes m)) is
-        (side_waits P row g.base (node_term P.skeleton.nodes m) side)
+    pub is_waits : (cell : ℕ) → IsSide P row g.base (node_term P.skeleton.nodes m) (Waits cell) → IsWaiting P row g
+    is_waits cell side = so_waits P row g (Programs.is (node_term P.skeleton.nodes n) (node_term P.skeleton.nodes m)) is
+        (side_waits P row g.base (node_term P.skeleton.nodes m) side.0)
+
+    pub is_waits_for : (cell : ℕ) → IsSide P row g.base (node_term P.skeleton.nodes m) (Waits cell) → WaitsFor P row g cell
+    is_waits_for cell side later grows sound settled free =
+        so_waits P later g (Programs.is (node_term P.skeleton.nodes n) (node_term P.skeleton.nodes m)) is
+        (side_waits P later g.base (node_term P.skeleton.nodes m) (side.1 later grows sound free))
 
     pub is_valueless : IsSide P row g.base (node_term P.skeleton.nodes m) NoValue → CannotHold P row g
     is_valueless (u, read, ground, none_is) =

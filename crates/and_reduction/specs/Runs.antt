@@ -14,11 +14,12 @@ use Rattle.and_program.specs.Skeletons.{NodeItem}
 use Rattle.and_cells.specs.Ranges.{NamedProgram, IsGoalInRange, pair_of}
 use Rattle.and_cells.specs.Rows.{IsSound}
 use Rattle.and_cells.specs.Seen.{word_at, IsSetTo}
-use Rattle.and_cells.specs.Meaning.{equations_of, shallow_cells}
+use Rattle.and_cells.specs.Meaning.{IsSettled, equations_of, shallow_cells}
 use Rattle.and_branch_laws.specs.Kept.{item_at, node_item_at, HasFreePair}
 use Rattle.and_branch_laws.specs.Running.{IsRead, AreRead}
 use Rattle.and_branch_laws.specs.Settling.{Settled, IsWritten}
 use Rattle.and_branch_laws.specs.Variables.{placed}
+use Rattle.and_determinacy.specs.Watching.{Grows, AreFree}
 
 -- No word that was set names this place as a cell.
 abbrev pub IsUnnamed : NamedProgram → List Ref → (place : ℕ) → Type 0
@@ -47,6 +48,11 @@ pub record CanBeRun (P : NamedProgram) (row : List Ref) (g : Goal) : Type 0 wher
 abbrev pub IsWaiting : NamedProgram → List Ref → Goal → Type 0
 IsWaiting P row g = (a : Arithmetic) (us : Terms) → item_at P.program g ≡ arithmetic a → AreRead P row g.base (needs a) us
     → are_ground us ≡ true → ⊥
+
+-- It waits for this cell: in whatever settled row it grows to while the cell is free, it waits.
+abbrev pub WaitsFor : NamedProgram → List Ref → Goal → (cell : ℕ) → Type 0
+WaitsFor P row g cell =
+    (later : List Ref) → Grows row later → IsSound P later → IsSettled P later → AreFree later (cell ∷ []) → IsWaiting P later g
 
 -- HasRun P old new g: the goal was run. A comparison holds, and the row stays. A value was written into the goal's pair, and settled with
 -- its left side.

@@ -1,10 +1,12 @@
 -- What the sides of a comparison say of it.
-use Rattle.std.specs.Prelude.{ℕ, ◌≡◌, Bool, true, false, List}
+use Rattle.std.specs.Prelude.{ℕ, ◌≡◌, Bool, true, false, List, [], ◌∷◌}
 use Rattle.and_model.specs.Terms.{Term, Terms, none, more, is_ground, are_ground}
 use Rattle.and_model.specs.Arithmetic.{Relation, related, holds}
 use Rattle.and_model.specs.declared.reference.Ref.{Ref}
 use Rattle.and_cells.specs.Ranges.{NamedProgram}
+use Rattle.and_cells.specs.Rows.{IsSound}
 use Rattle.and_branch_laws.specs.Running.{IsRead, AreRead}
+use Rattle.and_determinacy.specs.Watching.{Grows, AreFree}
 use Rattle.and_reduction.specs.declared.running.Ran.{Ran}
 use Rattle.and_reduction.specs.declared.running.Ran.TheVariants as run
 use Rattle.and_determinacy.specs.declared.guards.Side.{Side}
@@ -17,11 +19,11 @@ compared false = run.False
 
 -- what a comparison of these sides comes to
 abbrev pub compared_with : Relation → Side → Side → Ran
-compared_with o Waits side = run.Waits
-compared_with o NoValue Waits = run.Waits
+compared_with o (Waits cell) side = run.Waits cell
+compared_with o NoValue (Waits cell) = run.Waits cell
 compared_with o NoValue NoValue = run.False
 compared_with o NoValue (Number b) = run.False
-compared_with o (Number a) Waits = run.Waits
+compared_with o (Number a) (Waits cell) = run.Waits cell
 compared_with o (Number a) NoValue = run.False
 compared_with o (Number a) (Number b) = compared (related o a b)
 
@@ -35,8 +37,16 @@ pub record AreCompared (P : NamedProgram) (row : List Ref) (base : ℕ) (o : Rel
   pub right_ground : is_ground right ≡ true
   pub outcome_is : holds o left right ≡ outcome
 
+-- The terms do not all read as ground ones in the frame at the base.
+abbrev pub AreOpen : NamedProgram → List Ref → (base : ℕ) → Terms → Type 0
+AreOpen P row base ts = (us : Terms) → AreRead P row base ts us → are_ground us ≡ true → ⊥
+
+-- Nor do they in whatever row this one grows to while the cell is free.
+abbrev pub AreOpenBy : NamedProgram → List Ref → (base : ℕ) → Terms → (cell : ℕ) → Type 0
+AreOpenBy P row base ts cell = (later : List Ref) → Grows row later → IsSound P later → AreFree later (cell ∷ []) → AreOpen P later base ts
+
 -- This is what a comparison of two terms comes to in the frame at the base.
 abbrev pub IsComparison : NamedProgram → List Ref → (base : ℕ) → Relation → (a b : Term) → Ran → Type 0
-IsComparison P row base o a b run.Waits = (us : Terms) → AreRead P row base (more a (more b none)) us → are_ground us ≡ true → ⊥
+IsComparison P row base o a b (run.Waits cell) = AreOpen P row base (more a (more b none)) × AreOpenBy P row base (more a (more b none)) cell
 IsComparison P row base o a b run.Done = AreCompared P row base o a b true
 IsComparison P row base o a b run.False = AreCompared P row base o a b false

@@ -12,7 +12,7 @@ ghost use Rattle.and_cells.specs.Ranges.{pair_of};
 ghost use Rattle.and_cells.specs.Rows.{IsSound};
 ghost use Rattle.and_determinacy.specs.Guards.{CanBeRead};
 ghost use Rattle.and_branch_laws.specs.Settling.{IsWritten};
-ghost use Rattle.and_reduction.specs.Runs.{CanBeRun, IsWaiting, HasRun, CannotHold};
+ghost use Rattle.and_reduction.specs.Runs.{CanBeRun, IsWaiting, WaitsFor, HasRun, CannotHold};
 ghost use Rattle.and_reduction.specs.Assigning.{CanBeAssigned, IsAssigned, IsFreePair, IsRefused};
 ghost use Rattle.and_reduction.specs.Sides.{IsComparison};
 
@@ -29,8 +29,8 @@ use std::alloc::AllocError;
 /// What a goal of arithmetic comes to.
 #[derive(Clone, Copy, PartialEq, Eq, Debug)]
 pub enum Ran {
-    /// What it needs is not ground. The cells are as before.
-    Waits,
+    /// What it needs is not ground, and is not while this cell is free. The cells are as before.
+    Waits { cell: u32 },
     /// It was run.
     Done,
     /// It cannot hold. The cells are spent.
@@ -49,8 +49,9 @@ pub fn run<N: Naming>(
     requires settled { IsSettled N.program cells.old }
     requires short { length cells.old ≤ MAX_LIMIT }
     requires goal { CanBeRun N.program cells.old goal }
-    ensures waits { result ≡ Ok Ran.Waits → IsWaiting N.program cells.old goal }
-    ensures unchanged { result ≡ Ok Ran.Waits → cells.new ≡ cells.old }
+    ensures waits { (cell : ℕ) → result ≡ Ok (Ran.Waits cell) → IsWaiting N.program cells.old goal }
+    ensures waits_for { (cell : ℕ) → result ≡ Ok (Ran.Waits cell) → WaitsFor N.program cells.old goal cell }
+    ensures unchanged { (cell : ℕ) → result ≡ Ok (Ran.Waits cell) → cells.new ≡ cells.old }
     ensures done { result ≡ Ok Ran.Done → HasRun N.program cells.old cells.new goal }
     ensures fails { result ≡ Ok Ran.False → CannotHold N.program cells.old goal }
 {
@@ -71,7 +72,7 @@ pub fn run<N: Naming>(
         ),
         ItemNode::Is { left, right, pair } => {
             match evaluate(loaded, cells, goal.base, right, &mut tools.values)? {
-                Side::Waits => Ok(Ran::Waits),
+                Side::Waits { cell } => Ok(Ran::Waits { cell }),
                 Side::NoValue => Ok(Ran::False),
                 Side::Number(value) => {
                     let first = pair_in(loaded, goal.clause, goal.base, pair);
@@ -151,7 +152,7 @@ fn assign<N: Naming>(
     requires program { N.program ≡ named loaded.now }
     requires settled { IsSettled N.program cells.old }
     requires goal { CanBeAssigned N.program cells.old base node.0 pair }
-    ensures waits { result ≢ Ok Ran.Waits }
+    ensures waits { (cell : ℕ) → result ≢ Ok (Ran.Waits cell) }
     ensures done { result ≡ Ok Ran.Done → IsAssigned N.program cells.old cells.new base node.0 pair value }
     ensures fails { result ≡ Ok Ran.False → IsRefused N.program cells.old base node.0 pair value }
 {

@@ -14,14 +14,14 @@ pub(crate) fn compare_sides(by: Relation, left: Side, right: Side) -> Ran
     ensures { result ≡ compared_with (relation by) left right }
 {
     match left {
-        Side::Waits => Ran::Waits,
+        Side::Waits { cell } => Ran::Waits { cell },
         Side::NoValue => match right {
-            Side::Waits => Ran::Waits,
+            Side::Waits { cell } => Ran::Waits { cell },
             Side::NoValue => Ran::False,
             Side::Number(_) => Ran::False,
         },
         Side::Number(a) => match right {
-            Side::Waits => Ran::Waits,
+            Side::Waits { cell } => Ran::Waits { cell },
             Side::NoValue => Ran::False,
             Side::Number(b) => compare_numbers(by, a, b),
         },

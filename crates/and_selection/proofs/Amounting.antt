@@ -1,5 +1,5 @@
 -- What the value of an expression says wherever what is known is true.
-use Rattle.std.proofs.Common.{ℕ, ℤ, pos, zero, suc, ◌≡◌, ◌≢◌, ◌≤◌, ◌+◌, true, false, inl, inr, List, [], ◌∷◌, map, length, Option, Some, None, refl, ap, sym, ◌∙◌, subst, arith}
+use Rattle.std.proofs.Common.{ℕ, ℤ, pos, zero, suc, ◌≡◌, ◌≢◌, ◌≤◌, true, inl, inr, List, [], ◌∷◌, map, length, Some, None, refl, ap, sym, ◌∙◌, subst, arith}
 use Rattle.std.specs.Prelude.{Contains}
 use Rattle.std.proofs.lemmas.Option.{same_Some, none-some, slice_get-get_or}
 use Rattle.std.proofs.lemmas.Bool.{cases_lt}
@@ -9,8 +9,6 @@ use Rattle.and_laws.proofs.Ordered.{contains_first, contains_more}
 use Rattle.and_laws.proofs.Substitutions.{apply_ground}
 use Rattle.and_model.specs.Terms as terms
 use Rattle.and_model.specs.Terms.{Term, Terms, Substitution, apply, apply_all, is_ground}
-use Rattle.and_model.specs.Arithmetic as arithmetic
-use Rattle.and_model.specs.Store.{is_half}
 use Rattle.and_model.specs.declared.numbers.NodeNo.{NodeNo}
 use Rattle.and_model.specs.declared.reference.Ref.{Ref}
 use Rattle.and_model.specs.declared.reference.Ref.TheVariants.{Free, Cell, Node, Number, Half}
@@ -21,13 +19,13 @@ use Rattle.and_program.specs.Shown.{resolved, arguments_in}
 use Rattle.and_cells.specs.Ranges.{NamedProgram, IsNoVariable}
 use Rattle.and_cells.specs.Seen.{Seen, Knows, LeadsTo, here, onward}
 use Rattle.and_cells.specs.Numbers.{number_of}
-use Rattle.and_cells.specs.Meaning.{Words, shallow_cells}
+use Rattle.and_cells.specs.Meaning.{Words}
 use Rattle.and_cells.specs.Joined.{value}
 use Rattle.and_cells.specs.Parts.{IsStructure, part_at, parts_of}
 use Rattle.and_cells.proofs.Frames.{no_variable}
 use Rattle.and_cell_laws.proofs.Images.{contains_origin}
 use Rattle.and_cell_laws.proofs.Structures.{node_term_shape, in_frame, value_of_node, value_of_part, HaveValues, value_of_structure}
-use Rattle.and_arith.specs.Values.{Reaches, whole, set, part, KnownAs, AllKnownAs, unbound, bound, integer, literal, structure, no_parts, more_parts, IsGround, HasValue, LacksValue}
+use Rattle.and_arith.specs.Values.{whole, part, KnownAs, AllKnownAs, unbound, bound, integer, literal, structure, no_parts, more_parts, IsGround, HasValue, LacksValue}
 use Rattle.and_arith.specs.Sizes.{Spends}
 use Rattle.and_arith.specs.declared.values.Valued.{Valued}
 use Rattle.and_arith.specs.declared.values.Valued.TheVariants as valued
@@ -36,7 +34,7 @@ use Rattle.and_arith.proofs.Counting.{size_some}
 use Rattle.and_arith.proofs.Grounding.{value_ground, ground_known_ground}
 use Rattle.and_arith.proofs.Solving.{ground_below}
 use Rattle.and_unify.proofs.TurnParts.{cells_of_parts}
-use Rattle.and_selection.specs.Truths.{Denotes, IsNamed, IsTrue, AreTrue}
+use Rattle.and_selection.specs.Truths.{Denotes, IsNamed, AreTrue}
 use Rattle.and_selection.specs.Weighing.{NamesNoHalf, Amounts}
 use Rattle.and_selection.proofs.Truths.{number_is, leads_true}
 

@@ -1,24 +1,23 @@
 -- Where the arguments of a goal end.
-use Rattle.std.proofs.Common.{ℕ, suc, ◌+◌, ◌≡◌, ◌<◌, ◌≤◌, List, length, Some, refl, sym, ap, subst, ◌∙◌, ◌⊎◌, inl, inr, arith}
+use Rattle.std.proofs.Common.{ℕ, ◌+◌, ◌≡◌, ◌<◌, ◌≤◌, length, Some, sym, ap, subst, ◌∙◌, inl, inr, arith}
 use Rattle.std.specs.Prelude.{slice_get}
 use Rattle.std.proofs.lemmas.Bool.{cases_eq}
 use Rattle.std.proofs.lemmas.Option.{same_Some, slice_get_within}
-use Rattle.and_model.specs.declared.goal.Goal.{Goal}
 use Rattle.and_model.specs.declared.numbers.NodeNo.{NodeNo}
 use Rattle.and_model.specs.declared.reference.Ref.{Ref}
-use Rattle.and_model.specs.declared.reference.Ref.TheVariants.{Free, Cell, Node, Number, Half}
+use Rattle.and_model.specs.declared.reference.Ref.TheVariants.{Cell, Node}
 use Rattle.and_program.specs.Loaded.{shape_at, arguments_at}
 use Rattle.and_program.specs.Shown.{arguments_in}
 use Rattle.and_program.specs.Skeletons
 use Rattle.and_program.specs.Skeletons.{Shape, AllFall}
-use Rattle.and_cells.specs.Ranges.{NamedProgram, IsNodeInRange, IsInRange, IsInRangeOrHalf}
-use Rattle.and_cells.specs.Seen.{Seen, Knows, OnlyReads, LeadsTo, FoundFree, EndsAt, IsWrittenIfNumber}
+use Rattle.and_cells.specs.Ranges.{NamedProgram, IsNodeInRange, IsInRange}
+use Rattle.and_cells.specs.Seen.{Seen, OnlyReads, LeadsTo, FoundFree, EndsAt, IsWrittenIfNumber}
 use Rattle.and_cells.specs.Parts.{parts_of, part_at}
 use Rattle.and_cells.proofs.Frames.{no_variable}
 use Rattle.and_cells.proofs.Chains.{leads_later, reads_more}
 use Rattle.and_unify.proofs.TurnParts.{length_map, part_in_range, part_written}
 use Rattle.and_unify.proofs.SettlingPairs.{contains_place}
-use Rattle.and_selection.specs.Selecting.{IsNoCell, EndsElsewhere, NoneWaits, WaitsOn}
+use Rattle.and_selection.specs.Selecting.{IsNoCell, NoneWaits}
 
 -- What ended elsewhere still does.
 pub none_later : (P : NamedProgram) (old new : Seen) (node : NodeNo) (base count : ℕ) → OnlyReads old new → NoneWaits P old node base count → NoneWaits P new node base count

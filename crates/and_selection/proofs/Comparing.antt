@@ -1,7 +1,6 @@
 -- What two references that are no cells begin with, and what that says of their terms.
-use Rattle.std.proofs.Common.{ℕ, suc, ℤ, ◌≡◌, ◌≢◌, ◌⊎◌, Bool, true, false, not, List, [], ◌∷◌, ◌++◌, length, Option, Some, refl, sym, ap, subst, ◌∙◌, inl, inr, true≢false, eqb, rules, tests}
+use Rattle.std.proofs.Common.{ℕ, suc, ℤ, ◌≡◌, ◌≢◌, Bool, true, false, not, List, [], ◌∷◌, ◌++◌, length, Some, refl, sym, ap, subst, ◌∙◌, inl, inr, true≢false, eqb, rules, tests}
 use Rattle.std.specs.Prelude.{Contains}
-use Rattle.std.proofs.lemmas.Bool.{cases_eq}
 use Rattle.std.proofs.lemmas.Bool.Decides.{Decides-int_eq, Decides-eqb}
 use Rattle.std.proofs.lemmas.Option.{same_Some}
 use Rattle.std.proofs.lemmas.List.Elements.{Contains-append_cases}
@@ -24,7 +23,7 @@ use Rattle.and_unify.specs.Turns.{pairs_of}
 use Rattle.and_unify.specs.Meeting.{AreOfOneShape}
 use Rattle.and_unify.specs.declared.pairs.Pair.{Pair}
 use Rattle.and_unify.proofs.TurnParts.{parts_counted, parts_agree, part_in_range, part_written, sides_of_pairs}
-use Rattle.and_selection.specs.Truths.{Denotes, AreOne, AreTrue, LearntAreTrue, ArePairsTrue, CanFollow, CanFollowPairs, LeadsOn, AreNeverOne}
+use Rattle.and_selection.specs.Truths.{AreOne, AreTrue, CanFollow, CanFollowPairs, LeadsOn, AreNeverOne}
 use Rattle.and_selection.specs.Matches.{BeginsWith}
 use Rattle.and_selection.specs.contracts.heads.HeadPartialEq.TheImpl as derived
 use Rattle.and_selection.specs.declared.heads.Head.{Head}

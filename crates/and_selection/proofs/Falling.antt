@@ -1,26 +1,25 @@
 -- A clause that fell in a trial over cells is no candidate in any row that has what is known below.
 use Rattle.std.proofs.Common.{ℕ, ◌+◌, ◌≡◌, ◌<◌, ◌≤◌, Bool, true, false, true≢false, not, cond, List, [], ◌∷◌, ◌++◌, map, length, take, drop, Some, refl, sym, ap, subst, ◌∙◌, inl, inr, arith}
-use Rattle.std.specs.Prelude.{All, Contains, filter}
+use Rattle.std.specs.Prelude.{Contains, filter}
 use Rattle.std.proofs.lemmas.List.{take-append-drop}
 use Rattle.std.proofs.lemmas.List.Elements.{All-contains, Contains-append_left, Contains-append_right, Contains-append_cases}
 use Rattle.std.proofs.lemmas.Option.{same_Some}
-use Rattle.and_model.specs.Terms.{Path, Term, Terms, none, more, variables_of, is_ground, Substitution, apply, framed}
+use Rattle.and_model.specs.Terms.{Path, Term, none, more, variables_of, Substitution, apply, framed}
 use Rattle.and_model.specs.Solutions.{Equation, Solves}
 use Rattle.and_model.specs.Programs
 use Rattle.and_model.specs.Programs.{Item, Arithmetic, Of, clause_at}
-use Rattle.and_model.specs.Candidates.{In, guard, Refuted, Candidate}
-use Rattle.and_model.specs.Store.{Setting, Known, is_half}
+use Rattle.and_model.specs.Candidates.{In, guard, Refuted}
+use Rattle.and_model.specs.Store.{Known, is_half}
 use Rattle.and_model.specs.declared.numbers.ClauseNo.{ClauseNo}
-use Rattle.and_model.specs.declared.numbers.NodeNo.{NodeNo}
 use Rattle.and_model.specs.declared.reference.Ref.{Ref}
 use Rattle.and_model.specs.declared.reference.Ref.TheVariants.{Free, Cell, Node, Number, Half}
 use Rattle.and_program.specs.Skeletons.{NodeItem, call, equal, is, compare, fail, node_term, item_of, AllFall}
 use Rattle.and_laws.proofs.Ordered.{contains_first, contains_cases, contains_none, contains_more}
-use Rattle.and_laws.proofs.Substitutions.{then, apply_then}
+use Rattle.and_laws.proofs.Substitutions.{apply_then}
 use Rattle.std.proofs.lemmas.List.{get_or_past}
 use Rattle.and_cells.specs.Ranges.{NamedProgram, IsNodeInRange, CanHold, IsInRange}
 use Rattle.and_cells.specs.Seen.{Seen, Knows, IsSetTo, IsCoherent, word_at}
-use Rattle.and_cells.specs.Meaning.{Words, shallow_cells, equations_of, equations_between, cell_variable}
+use Rattle.and_cells.specs.Meaning.{Words, shallow_cells, equations_of}
 use Rattle.and_cells.specs.Joined.{value}
 use Rattle.and_cells.specs.Parts.{part_at}
 use Rattle.and_cells.proofs.Among.{among_none, among_map}
@@ -35,12 +34,9 @@ use Rattle.and_branch_laws.proofs.Rows.{words_solved}
 use Rattle.and_branch_laws.proofs.Speaking.{variables_applied}
 use Rattle.and_unify.specs.declared.pairs.Pair.{Pair}
 use Rattle.and_unify.proofs.TurnAgree.{agree_from_solves}
-use Rattle.and_selection.specs.Truths.{Denotes, AreOne, IsTrue, AreTrue, LearntAreTrue, ArePairsTrue}
-use Rattle.and_selection.specs.Matches.{MatchesAll, NeverMatch}
+use Rattle.and_selection.specs.Truths.{Denotes, AreOne, AreTrue, ArePairsTrue}
 use Rattle.and_selection.specs.Weighing.{NamesNoHalf, FailsOver, GuardFailsOver}
-use Rattle.and_determinacy.specs.Searches.{NodeHas}
 use Rattle.and_selection.specs.Selecting.{HasSeen, IsWholeAt, IsNoCandidate}
-use Rattle.and_selection.proofs.Truths.{named_in_range}
 use Rattle.and_determinacy.proofs.Moving.{IsLow, low_same, moved_same, inward, inward_agrees, inward_moved}
 use Rattle.and_determinacy.proofs.Widening.{same_value}
 use Rattle.and_determinacy.proofs.Refuting.{both_ground}
@@ -77,19 +73,21 @@ learnt_below (o ∷ own) known k late i other =
       ]
     ]
 
-module _ (P : NamedProgram) (w : Words) (t : Substitution) (s : Seen) (are : AreTrue P w t s) where
-  -- Where all below is true, all is that an overlay knows before something is set in it,
-  pub begun_true : (old : Seen) (frame : ℕ) (looked : List ℕ) → IsOver P old frame [] looked → IsCoherent old
-      → ((place : ℕ) (r : Ref) → Knows old place r → Knows s place r) → AreTrue P w t (seen_over old frame [] looked)
-  begun_true old frame looked over coherent keeps place r knows =
+module _ (T : ℕ → Ref → Type 0) (P : NamedProgram) (s : Seen) (are : (place : ℕ) (r : Ref) → Knows s place r → T place r) where
+  -- What holds of all that is known below holds of all that an overlay knows before something is set in it,
+  pub begun_hold : (old : Seen) (frame : ℕ) (looked : List ℕ) → IsOver P old frame [] looked → IsCoherent old
+      → ((place : ℕ) (r : Ref) → Knows old place r → Knows s place r)
+      → (place : ℕ) (r : Ref) → Knows (seen_over old frame [] looked) place r → T place r
+  begun_hold old frame looked over coherent keeps place r knows =
       elim (knows_from old frame [] looked (settings_of P old frame [] looked over coherent) place r knows) [
         | inl own ↦ absurd (among_none (record { place = place; value = r }) own)
         | inr below ↦ are place r (keeps place r below.1)
       ]
 
-  -- and all that it learns.
-  pub learnt_true : (frame : ℕ) (own : List Own) (looked : List ℕ) → IsOver P s frame own looked → IsCoherent s → LearntAreTrue P w t (seen_over s frame own looked)
-  learnt_true frame own looked over coherent k among other =
+  -- and of all that it learns.
+  pub learnt_hold : (frame : ℕ) (own : List Own) (looked : List ℕ) → IsOver P s frame own looked → IsCoherent s
+      → (k : Known) → Contains (known_over own s.known) k → k.is_own ≡ false → T k.setting.place k.setting.value
+  learnt_hold frame own looked over coherent k among other =
       are k.setting.place k.setting.value (listed_knows s coherent k.setting.place k.setting.value
       (among_map (λ (x : Known). x.setting) k s.known (learnt_below own s.known k over.late among other)))
 

@@ -9,3 +9,4 @@ pub mod TrialFalls
 pub mod TrialRanges
 pub mod TriedCalls
 pub mod Awaited
+pub mod Looked

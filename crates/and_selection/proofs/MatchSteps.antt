@@ -1,5 +1,5 @@
 -- What becomes of a pair whose sides are to be made one.
-use Rattle.std.proofs.Common.{ℕ, ◌≡◌, ◌≢◌, ◌<◌, ◌⊎◌, true, false, true≢false, List, [], ◌∷◌, ◌++◌, get_or, length, Some, refl, sym, ap, subst, ◌∙◌, inl, inr, arith}
+use Rattle.std.proofs.Common.{ℕ, ◌≡◌, ◌≢◌, ◌<◌, ◌⊎◌, true, false, true≢false, List, [], ◌∷◌, ◌++◌, Some, sym, subst, ◌∙◌, inl, inr}
 use Rattle.std.specs.Prelude.{Contains, slice_get}
 use Rattle.std.proofs.lemmas.List.Elements.{Contains-append_cases}
 use Rattle.and_model.specs.Terms.{Substitution}
@@ -8,14 +8,14 @@ use Rattle.and_model.specs.declared.reference.Ref.{Ref}
 use Rattle.and_model.specs.declared.reference.Ref.TheVariants.{Free, Cell, Node, Number, Half}
 use Rattle.and_laws.proofs.Ordered.{contains_cases, contains_none}
 use Rattle.and_cells.specs.Ranges.{NamedProgram, IsInRange, IsInRangeOrHalf}
-use Rattle.and_cells.specs.Seen.{Seen, Knows, Finds, Sets, OnlyReads, Keeps, LeadsTo, IsWrittenIfNumber}
+use Rattle.and_cells.specs.Seen.{Seen, Sets, OnlyReads, Keeps, LeadsTo, IsWrittenIfNumber}
 use Rattle.and_cells.specs.Meaning.{Words}
-use Rattle.and_cells.proofs.Chains.{finds_reads, reads_more, leads_later, written_later}
+use Rattle.and_cells.proofs.Chains.{reads_more, leads_later, written_later}
 use Rattle.and_unify.specs.Heads.{IsEnd}
 use Rattle.and_unify.specs.Meeting.{IsToBeSet}
 use Rattle.and_unify.specs.declared.pairs.Pair.{Pair}
 use Rattle.and_unify.proofs.SettlingPairs.{contains_place}
-use Rattle.and_selection.specs.Truths.{AreOne, AreTrue, LearntAreTrue, ArePairsTrue, CanFollow, CanFollowPairs, LeadsOn, AreNeverOne}
+use Rattle.and_selection.specs.Truths.{AreOne, AreTrue, LearntAreTrue, ArePairsTrue, CanFollow, LeadsOn, AreNeverOne}
 use Rattle.and_selection.specs.Matches.{IsChainEnd}
 use Rattle.and_selection.proofs.Truths.{reads_true, sets_true, setting_true, named_in_range, learnt_before, ends_one, one_back, denotes_no_half}
 

@@ -1,5 +1,5 @@
 -- What a trial on an overlay says of a clause.
-use Rattle.std.proofs.Common.{ℕ, ◌+◌, ◌≡◌, ◌<◌, ◌≤◌, List, [], ◌∷◌, map, length, refl, sym, ap, subst, ◌∙◌, arith}
+use Rattle.std.proofs.Common.{ℕ, ◌≡◌, List, [], ◌∷◌, map, sym, ap, subst, ◌∙◌}
 use Rattle.and_model.specs.Terms.{Substitution}
 use Rattle.and_model.specs.Programs.{clause_at}
 use Rattle.and_model.specs.declared.numbers.ClauseNo.{ClauseNo}
@@ -11,12 +11,12 @@ use Rattle.and_cells.specs.Meaning.{Words}
 use Rattle.and_cells.specs.Parts.{part_at}
 use Rattle.and_overlay.specs.Overlaid.{Own, seen_over, IsOver}
 use Rattle.and_unify.specs.declared.pairs.Pair.{Pair}
-use Rattle.and_selection.specs.Truths.{AreTrue, LearntAreTrue, ArePairsTrue}
+use Rattle.and_selection.specs.Truths.{IsTrue, AreTrue, LearntAreTrue, ArePairsTrue}
 use Rattle.and_selection.specs.Matches.{MatchesAll, NeverMatch}
 use Rattle.and_selection.specs.Weighing.{GuardFailsOver}
 use Rattle.and_selection.specs.Selecting.{IsNoCandidate}
 use Rattle.and_selection.proofs.Truths.{reads_true, learnt_before}
-use Rattle.and_selection.proofs.Falling.{begun_true, learnt_true, falls_apart, falls_guarded}
+use Rattle.and_selection.proofs.Falling.{begun_hold, learnt_hold, falls_apart, falls_guarded}
 
 -- An overlay with nothing set in it, and the same after some calls: what is known below stays known.
 pub record IsTrial (P : NamedProgram) (below now : Seen) (frame frame_now : ℕ) (own own_now : List Own) (looked looked_now : List ℕ) : Type 0 where
@@ -35,10 +35,10 @@ module _ (P : NamedProgram) (fall : AllFall 0 P.skeleton.nodes) (below now : See
 
   begins : (w : Words) (t : Substitution) → AreTrue P w t now → AreTrue P w t (seen_over below frame own looked)
   begins w t are = subst (λ (o : List Own). AreTrue P w t (seen_over below frame o looked)) (sym trial.nothing)
-      (begun_true P w t now are below frame looked (subst (λ (o : List Own). IsOver P below frame o looked) trial.nothing trial.begun) trial.begun_coherent trial.keeps)
+      (begun_hold (IsTrue P w t) P now are below frame looked (subst (λ (o : List Own). IsOver P below frame o looked) trial.nothing trial.begun) trial.begun_coherent trial.keeps)
 
   learns : (w : Words) (t : Substitution) → AreTrue P w t now → LearntAreTrue P w t (seen_over now frame_now own_now looked_now)
-  learns w t are = learnt_true P w t now are frame_now own_now looked_now trial.over trial.coherent
+  learns w t are = learnt_hold (IsTrue P w t) P now are frame_now own_now looked_now trial.over trial.coherent
 
   in_range : IsNodeInRange P now.words node base
   in_range = subst (λ (n : ℕ). IsNodeInRange P n node base) long range

@@ -1,6 +1,6 @@
 -- What is asked in a trial is in range.
-use Rattle.std.proofs.Common.{ℕ, ◌+◌, ◌^◌, ◌≡◌, ◌<◌, ◌≤◌, List, [], ◌∷◌, map, length, refl, sym, ap, subst, ◌∙◌, inl, inr, arith}
-use Rattle.std.specs.Prelude.{All, Contains}
+use Rattle.std.proofs.Common.{ℕ, ◌+◌, ◌^◌, ◌≡◌, ◌<◌, ◌≤◌, List, [], ◌∷◌, length, refl, sym, subst, inl, inr, arith}
+use Rattle.std.specs.Prelude.{Contains}
 use Rattle.std.proofs.lemmas.List.Elements.{All-weaker}
 use Rattle.and_model.specs.Terms.{Path, variables_of}
 use Rattle.and_model.specs.declared.limits.TheConstants.{MAX_NODES}
@@ -10,8 +10,8 @@ use Rattle.and_program.specs.Kept.{AllWithin}
 use Rattle.and_program.specs.Loaded.{program_of, skeleton_of}
 use Rattle.and_program.specs.declared.loaded.Loaded.{Loaded}
 use Rattle.and_laws.proofs.Ordered.{contains_cases, contains_none}
-use Rattle.and_cells.specs.Ranges.{NamedProgram, IsNodeInRange, IsInRange}
-use Rattle.and_cells.specs.Seen.{Seen, IsWrittenIfNumber}
+use Rattle.and_cells.specs.Ranges.{NamedProgram, IsNodeInRange}
+use Rattle.and_cells.specs.Seen.{Seen}
 use Rattle.and_cells.specs.Parts.{named, part_at}
 use Rattle.and_cells.proofs.Frames.{node_in_range}
 use Rattle.and_unify.specs.declared.pairs.Pair.{Pair}

@@ -1,9 +1,9 @@
 -- What reading and setting makes of what is true.
-use Rattle.std.proofs.Common.{ℕ, ℤ, suc, ◌+◌, ◌*◌, ◌^◌, ◌≡◌, ◌≢◌, ◌⊎◌, inl, inr, true, false, true≢false, List, [], ◌∷◌, ◌++◌, map, Option, Some, None, refl, sym, ap, subst, ◌∙◌}
-use Rattle.std.specs.Prelude.{All, Contains}
+use Rattle.std.proofs.Common.{ℕ, suc, ◌+◌, ◌*◌, ◌^◌, ◌≡◌, inl, inr, false, true≢false, List, [], map, Option, Some, None, refl, sym, ap, subst, ◌∙◌}
+use Rattle.std.specs.Prelude.{Contains}
 use Rattle.std.specs.Int.{cast_signed, w64}
 use Rattle.std.proofs.lemmas.Option.{none-some, same_Some}
-use Rattle.std.proofs.lemmas.List.Elements.{All-contains, Contains-append_left, Contains-append_right, Contains-append_cases}
+use Rattle.std.proofs.lemmas.List.Elements.{All-contains, Contains-append_left, Contains-append_cases}
 use Rattle.and_model.specs.Terms.{Term, Substitution, number}
 use Rattle.and_model.specs.Prefixes.{IsPrefix}
 use Rattle.and_model.specs.Store.{Known, Setting, is_half}
@@ -11,11 +11,9 @@ use Rattle.and_model.specs.declared.reference.Ref.{Ref}
 use Rattle.and_model.specs.declared.reference.Ref.TheVariants.{Free, Cell, Node, Number, Half}
 use Rattle.and_cells.specs.Ranges.{NamedProgram, IsInRange}
 use Rattle.and_cells.specs.Numbers.{bits_of, number_of}
-use Rattle.and_cells.specs.Seen.{Seen, Knows, IsAmong, IsSetTo, Gains, Finds, Misses, Sets, OnlyReads, Keeps, ReadsNumber, LeadsTo, here, onward}
-use Rattle.and_cells.specs.Meaning.{Words, number_in, shallow_cells}
-use Rattle.and_cells.specs.Joined.{value}
+use Rattle.and_cells.specs.Seen.{Seen, Knows, IsAmong, Sets, OnlyReads, LeadsTo, here, onward}
+use Rattle.and_cells.specs.Meaning.{Words, number_in}
 use Rattle.and_cells.proofs.Among.{among_first, among_map, map_among}
-use Rattle.and_cells.proofs.Chains.{finds_reads, misses_reads}
 use Rattle.and_selection.specs.Truths.{Denotes, IsNamed, IsTrue, AreTrue, LearntAreTrue, AreOne}
 
 -- what is no half has no bits
@@ -25,6 +23,32 @@ no_bits (Cell cell) e = refl
 no_bits (Node node base) e = refl
 no_bits (Number pair) e = refl
 no_bits (Half bits) e = absurd (true≢false e)
+
+-- What holds of all settings that were known, and of all that were learnt, holds of all that are known after looks.
+pub reads_hold : (T : ℕ → Ref → Type 0) (old new : Seen) → OnlyReads old new → ((place : ℕ) (r : Ref) → Knows old place r → T place r)
+    → ((k : Known) → Contains new.known k → k.is_own ≡ false → T k.setting.place k.setting.value)
+    → (place : ℕ) (r : Ref) → Knows new place r → T place r
+reads_hold T old new reads are learnt place r knows = by_told old.told refl
+  where
+    setting : Setting
+    setting = record { place = place; value = r }
+
+    in_list : (known : List Known) → old.told ≡ None → Contains (map (λ (k : Known). k.setting) new.known) setting → T place r
+    in_list known none has =
+        let (k, among, is) = map_among (λ (k : Known). k.setting) setting new.known has in
+        elim (Contains-append_cases old.known reads.learnt k (subst (λ (ks : List Known). Contains ks k) reads.gains among)) [
+          | inl before ↦ are place r (subst (λ (o : Option (List Ref)). IsAmong o old.known place r) (sym none)
+              (subst (Contains (map (λ (k : Known). k.setting) old.known)) is (among_map (λ (k : Known). k.setting) k old.known before)))
+          | inr since ↦ (
+              let own : k.is_own ≡ false = All-contains (λ (k : Known). k.is_own ≡ false) reads.learnt k reads.none_own since in
+              subst (λ (x : Setting). T x.place x.value) is (learnt k among own))
+        ]
+
+    by_told : (told : Option (List Ref)) → old.told ≡ told → T place r
+    by_told None is = in_list old.known is (subst (λ (o : Option (List Ref)). IsAmong o new.known place r) (reads.told ∙ is) knows)
+    by_told (Some row) is =
+        are place r (subst (λ (o : Option (List Ref)). IsAmong o old.known place r) (sym is)
+        (subst (λ (o : Option (List Ref)). IsAmong o new.known place r) (reads.told ∙ is) knows))
 
 module _ (P : NamedProgram) (w : Words) (t : Substitution) where
   true_bits : (place : ℕ) (r : Ref) → IsTrue P w t place r → bits_of r ≡ bits_of (w place)
@@ -50,28 +74,7 @@ module _ (P : NamedProgram) (w : Words) (t : Substitution) where
 
   -- Looks keep what is true.
   pub reads_true : (old new : Seen) → OnlyReads old new → AreTrue P w t old → LearntAreTrue P w t new → AreTrue P w t new
-  reads_true old new reads are learnt place r knows = by_told old.told refl
-    where
-      setting : Setting
-      setting = record { place = place; value = r }
-
-      in_list : (known : List Known) → old.told ≡ None → Contains (map (λ (k : Known). k.setting) new.known) setting → IsTrue P w t place r
-      in_list known none has =
-          let (k, among, is) = map_among (λ (k : Known). k.setting) setting new.known has in
-          elim (Contains-append_cases old.known reads.learnt k (subst (λ (ks : List Known). Contains ks k) reads.gains among)) [
-            | inl before ↦ are place r (subst (λ (o : Option (List Ref)). IsAmong o old.known place r) (sym none)
-                (subst (Contains (map (λ (k : Known). k.setting) old.known)) is (among_map (λ (k : Known). k.setting) k old.known before)))
-            | inr since ↦ (
-                let own : k.is_own ≡ false = All-contains (λ (k : Known). k.is_own ≡ false) reads.learnt k reads.none_own since in
-                let so : IsTrue P w t k.setting.place k.setting.value = learnt k among own in
-                subst (λ (x : Setting). IsTrue P w t x.place x.value) is so)
-          ]
-
-      by_told : (told : Option (List Ref)) → old.told ≡ told → IsTrue P w t place r
-      by_told None is = in_list old.known is (subst (λ (o : Option (List Ref)). IsAmong o new.known place r) (reads.told ∙ is) knows)
-      by_told (Some row) is =
-          are place r (subst (λ (o : Option (List Ref)). IsAmong o old.known place r) (sym is)
-          (subst (λ (o : Option (List Ref)). IsAmong o new.known place r) (reads.told ∙ is) knows))
+  reads_true old new reads are learnt = reads_hold (IsTrue P w t) old new reads are learnt
 
   -- A setting that is true keeps it too.
   pub sets_true : (old new : Seen) (place : ℕ) (r : Ref) → Sets place r old new → AreTrue P w t old → IsTrue P w t place r → AreTrue P w t new

@@ -1,7 +1,6 @@
 -- What sides say of a comparison, and comparisons of a guard.
-use Rattle.std.proofs.Common.{ℕ, ℤ, zero, suc, ◌+◌, ◌≡◌, ◌<◌, length, get_or, arith, Bool, true, false, true≢false, not, List, [], ◌∷◌, map, drop, Option, Some, None, refl, sym, ap, ◌∙◌, subst, inl, inr}
-use Rattle.and_model.specs.Terms.{Term, Substitution, is_ground}
-use Rattle.and_model.specs.Arithmetic.{Relation, related, both_related, value, holds}
+use Rattle.std.proofs.Common.{ℕ, ℤ, zero, suc, ◌+◌, ◌≡◌, ◌<◌, length, get_or, arith, true, false, true≢false, List, [], ◌∷◌, map, drop, Option, Some, None, refl, sym, ap, ◌∙◌, subst, inl, inr}
+use Rattle.and_model.specs.Arithmetic.{Relation, related, both_related}
 use Rattle.and_model.specs.declared.reference.Ref.{Ref}
 use Rattle.and_program.specs.Skeletons.{NodeItem, call, equal, is, compare, fail, AllThere}
 use Rattle.and_program.specs.Items.{node_item, relation}
@@ -10,16 +9,12 @@ use Rattle.and_program.specs.declared.item.ItemNode.TheVariants as item
 use Rattle.and_model.specs.declared.numbers.NodeNo.{NodeNo}
 use Rattle.and_cells.specs.Ranges.{NamedProgram, IsNodeInRange}
 use Rattle.and_cells.specs.Seen.{Seen, Knows}
-use Rattle.and_cells.specs.Meaning.{Words}
 use Rattle.and_cells.specs.Parts.{part_at}
-use Rattle.and_cells.specs.Joined as joined
 use Rattle.and_determinacy.specs.declared.guards.Side.{Side}
 use Rattle.and_determinacy.specs.declared.guards.Side.TheVariants.{Waits, NoValue, Number}
-use Rattle.and_selection.specs.declared.weighing.Found.{Found}
 use Rattle.and_selection.specs.declared.weighing.Found.TheVariants as found
 use Rattle.and_determinacy.specs.Sides.{sides_fail}
-use Rattle.and_selection.specs.Truths.{AreTrue}
-use Rattle.and_selection.specs.Weighing.{NamesNoHalf, Amounts, IsSideOver, FailsOver, GuardFailsOver, IsGuardInRange}
+use Rattle.and_selection.specs.Weighing.{Amounts, IsSideOver, FailsOver, GuardFailsOver, IsGuardInRange}
 use Rattle.and_determinacy.proofs.SideAnswers.{holds_by, none_left, is_false}
 use Rattle.and_selection.proofs.Truths.{true_before}
 
@@ -38,7 +33,7 @@ amounts_later P old new r v keeps has w no_half t are =
     (u, ground, valued, λ other too. each other (true_before P w other old new keeps too))
 
 pub side_later : (P : NamedProgram) (old new : Seen) (r : Ref) (a : Side) → ((p : ℕ) (q : Ref) → Knows old p q → Knows new p q) → IsSideOver P old r a → IsSideOver P new r a
-side_later P old new r Waits keeps has = tt
+side_later P old new r (Waits cell) keeps has = tt
 side_later P old new r NoValue keeps has = amounts_later P old new r None keeps has
 side_later P old new r (Number z) keeps has = amounts_later P old new r (Some z) keeps has
 
@@ -54,11 +49,11 @@ module _ (P : NamedProgram) (s : Seen) (o : Relation) (l r : Ref) where
   }
 
   pub sides_over : (a b : Side) → IsSideOver P s l a → IsSideOver P s r b → sides_fail o a b ≡ true → FailsOver P s o l r
-  sides_over Waits b one two e = absurd (true≢false (sym e))
-  sides_over NoValue Waits one two e = absurd (true≢false (sym e))
+  sides_over (Waits cell) b one two e = absurd (true≢false (sym e))
+  sides_over NoValue (Waits cell) one two e = absurd (true≢false (sym e))
   sides_over NoValue NoValue one two e = from_amounts None None one two (none_left o None)
   sides_over NoValue (Number y) one two e = from_amounts None (Some y) one two (none_left o (Some y))
-  sides_over (Number x) Waits one two e = absurd (true≢false (sym e))
+  sides_over (Number x) (Waits cell) one two e = absurd (true≢false (sym e))
   sides_over (Number x) NoValue one two e = from_amounts (Some x) None one two refl
   sides_over (Number x) (Number y) one two e = from_amounts (Some x) (Some y) one two (is_false (related o x y) e)
 

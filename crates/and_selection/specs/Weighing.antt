@@ -1,5 +1,5 @@
 -- What the comparisons of a clause's guard come to over any cells.
-use Rattle.std.specs.Prelude.{ℕ, ◌+◌, ◌≡◌, ◌⊎◌, true, false, List, [], ◌∷◌, Contains, Option, Some, None, ℤ}
+use Rattle.std.specs.Prelude.{ℕ, ◌≡◌, ◌⊎◌, true, false, List, [], ◌∷◌, Contains, Option, Some, None, ℤ}
 use Rattle.and_model.specs.Terms.{Term, Substitution, is_ground}
 use Rattle.and_model.specs.Arithmetic.{Relation, value, holds}
 use Rattle.and_model.specs.Store.{is_half}
@@ -26,7 +26,7 @@ Amounts P s r v =
 
 -- what a side of a comparison was found to be
 abbrev pub IsSideOver : NamedProgram → Seen → Ref → Side → Type 0
-IsSideOver P s r Waits = Unit {0}
+IsSideOver P s r (Waits cell) = Unit {0}
 IsSideOver P s r NoValue = Amounts P s r None
 IsSideOver P s r (Number z) = Amounts P s r (Some z)
 

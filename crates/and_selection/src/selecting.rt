@@ -12,16 +12,17 @@ ghost use Rattle.and_cells.specs.Parts.{named};
 ghost use Rattle.and_overlay.specs.Overlaid.{IsKnownFit};
 ghost use Rattle.and_selection.specs.Selecting.{CanBeTried, IsNodeOver, IsNoCandidate, AreLeft};
 ghost use Rattle.and_selection.specs.Sifting.{AreSifted};
+ghost use Rattle.and_determinacy.specs.Looks.{IsLookOver};
 ghost use Rattle.and_determinacy.specs.Tables.{IsTableOf};
 
 use crate::matching::{Matched, match_all};
 use crate::weighing::{Weighed, weigh_guard};
 use and_arith::WorkList;
 use and_cells::Cells;
-use and_determinacy::Determinacy;
+use and_determinacy::{Determinacy, Look};
 use and_model::{ClauseList, ClauseNo, Goal, NodeNo, Ref};
 use and_overlay::{Overlay, Scratch};
-use and_program::{ItemNode, Loaded, NodeKind};
+use and_program::{ItemNode, Loaded};
 use and_unify::PairList;
 use std::alloc::{AllocError, Global};
 
@@ -71,7 +72,8 @@ const FRAME: u32 = 256;
 
 /// Fills a list with the clauses of a goal that are left, in textual order. A clause is left out where
 /// its head and the goal have no common solution under what is known, or a comparison of its guard is
-/// ground there and does not hold. Each pair and each part of an expression takes 1 of the fuel.
+/// ground there and does not hold. Each pair and each part of an expression takes 1 of the fuel. A clause
+/// that a look at the goal tells apart takes none.
 ///
 /// The cells have so many words. What is set on trial is kept apart, so that none of them changes.
 pub fn select<C: Cells>(
@@ -104,14 +106,17 @@ pub fn select<C: Cells>(
         return Selected::Memory;
     }
     let node = call_node(loaded, goal);
-    let clauses = table.clauses(node, NodeKind::Variable(0));
     let mut overlay = Overlay::over(cells, words, FRAME, scratch);
+    let look = look_through(table, loaded, &mut overlay, node, goal.base);
+    let clauses = table.clauses(node, look.first());
     sift(
+        table,
         loaded,
         &mut overlay,
         words,
         node,
         goal.base,
+        &look,
         clauses,
         fuel,
         selector,
@@ -119,14 +124,40 @@ pub fn select<C: Cells>(
     )
 }
 
+/// Looks at a call, whose node is given, in the frame at the base, through an overlay in which nothing is
+/// set. Takes no memory.
+fn look_through<'a, C: Cells>(
+    table: &Determinacy,
+    loaded: &Loaded,
+    overlay: &mut Overlay<'a, C>,
+    node: NodeNo,
+    base: u32,
+) -> Look
+    requires program { C.program ≡ named loaded.now }
+    requires node { IsNodeInRange C.program overlay.old.below node.0 base }
+    requires nothing { overlay.old.scratch.now.settings.items ≡ [] }
+    ensures cells_name { overlay.new.cells.ghost_name ≡ overlay.old.cells.ghost_name }
+    ensures scratch_name { overlay.new.scratch.ghost_name ≡ overlay.old.scratch.ghost_name }
+    ensures below { overlay.new.below ≡ overlay.old.below }
+    ensures room { overlay.new.scratch.now.places.room ≡ overlay.old.scratch.now.places.room }
+    ensures over { C.over overlay.new.cells.now ≡ C.over overlay.old.cells.now }
+    ensures grew { C.Grew overlay.old.cells.now overlay.new.cells.now }
+    ensures reads { OnlyReads (C.seen overlay.old.cells.now) (C.seen overlay.new.cells.now) }
+    ensures look { IsLookOver C.program (C.seen overlay.new.cells.now) node.0 base result }
+{
+    Look::at(table, loaded, overlay, node, base)
+}
+
 /// Puts those of the clauses on a list that are left of a call, whose node is given, in the frame at the
-/// base.
+/// base, and at which there was a look.
 fn sift<'a, C: Cells>(
+    table: &Determinacy,
     loaded: &Loaded,
     overlay: &mut Overlay<'a, C>,
     words: u32,
     node: NodeNo,
     base: u32,
+    look: &Look,
     clauses: &[ClauseNo],
     fuel: &mut u64,
     selector: &mut Selector,
@@ -137,6 +168,8 @@ fn sift<'a, C: Cells>(
     requires short { words ≤ MAX_LIMIT }
     requires room { words + 256 ≤ overlay.old.scratch.now.places.room }
     requires node { IsNodeInRange C.program words node.0 base }
+    requires table { IsTableOf C.program table.now }
+    requires look { IsLookOver C.program (C.seen overlay.old.cells.now) node.0 base look.now }
     requires clauses { All (λ (c : ClauseNo). Of C.program.program (node_term C.program.skeleton.nodes node.0) c.0) clauses.now }
     requires empty { out.old ≡ [] }
     ensures cells_name { overlay.new.cells.ghost_name ≡ overlay.old.cells.ghost_name }
@@ -148,8 +181,11 @@ fn sift<'a, C: Cells>(
     ensures fuel { result ≢ Selected.Memory → fuel.new ≤ fuel.old }
     ensures unsure { result ≡ Selected.Unsure → fuel.new ≡ 0 }
 {
+    let is_alone = clauses.len() == 1;
     for clause in clauses {
-        match try_clause(loaded, overlay, words, node, base, *clause, fuel, selector) {
+        match try_clause(
+            table, loaded, overlay, words, node, base, look, *clause, is_alone, fuel, selector,
+        ) {
             Tried::Stays => {
                 if put(out, *clause).is_err() {
                     return Selected::Memory;
@@ -163,14 +199,18 @@ fn sift<'a, C: Cells>(
     Selected::Clauses
 }
 
-/// Tries a clause of a call, whose node is given, in the frame at the base.
+/// Tries a clause of a call, whose node is given, in the frame at the base, unless a look at the call tells
+/// it apart. One that stands alone stays without a trial: to reduce the call by it tells as much.
 fn try_clause<'a, C: Cells>(
+    table: &Determinacy,
     loaded: &Loaded,
     overlay: &mut Overlay<'a, C>,
     words: u32,
     node: NodeNo,
     base: u32,
+    look: &Look,
     clause: ClauseNo,
+    is_alone: bool,
     fuel: &mut u64,
     selector: &mut Selector,
 ) -> Tried
@@ -179,6 +219,8 @@ fn try_clause<'a, C: Cells>(
     requires short { words ≤ MAX_LIMIT }
     requires room { words + 256 ≤ overlay.old.scratch.now.places.room }
     requires node { IsNodeInRange C.program words node.0 base }
+    requires table { IsTableOf C.program table.now }
+    requires look { IsLookOver C.program (C.seen overlay.old.cells.now) node.0 base look.now }
     requires of { Of C.program.program (node_term C.program.skeleton.nodes node.0) clause.0 }
     ensures cells_name { overlay.new.cells.ghost_name ≡ overlay.old.cells.ghost_name }
     ensures scratch_name { overlay.new.scratch.ghost_name ≡ overlay.old.scratch.ghost_name }
@@ -191,6 +233,12 @@ fn try_clause<'a, C: Cells>(
     ensures fuel { result ≢ Tried.Memory → fuel.new ≤ fuel.old }
     ensures put_off { result ≡ Tried.PutOff → fuel.new ≡ 0 }
 {
+    if is_alone {
+        return Tried::Stays;
+    }
+    if look.is_apart(table, clause) {
+        return Tried::Falls;
+    }
     loaded.skeleton_is_of_the_program();
     overlay.begin_again(FRAME);
     let call = loaded.resolve(node, base);

@@ -148,7 +148,7 @@ fn find<C: Cells>(
     match value(loaded, cells, loaded.resolve(node, base), fuel, values) {
         Valued::Number(number) => Found::Side(Side::Number(number)),
         Valued::NoValue => Found::Side(Side::NoValue),
-        Valued::Waits { cell: _ } => Found::Side(Side::Waits),
+        Valued::Waits { cell } => Found::Side(Side::Waits { cell }),
         Valued::PutOff => Found::PutOff,
         Valued::Memory => Found::Memory,
     }

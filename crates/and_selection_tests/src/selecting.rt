@@ -19,6 +19,9 @@ use std::test::Fail;
 /// The cells of the query's X and Y are 1 and 2.
 const TEXT: &[u8] = b"p(1). p(2). q(1,2). q(2,2). ?- p(X), p(2), p(a), q(X,Y).";
 
+/// Facts of which the first arguments are keys, and the second ones stand in the prints.
+const FACTS: &[u8] = b"f(1,a). f(2,b). f(3,c). f(4,d). f(5,e). f(6,f). ?- f(5,X), f(Y,d).";
+
 /// What is told of a goal.
 #[derive(Drop)]
 struct Told {
@@ -133,6 +136,22 @@ fn fuel_runs_out<N: Naming>(
     Ok(())
 }
 
+/// Under a name of its own: the fuel serves a head and its two arguments, and no other clause takes any.
+fn others_take_no_fuel<N: Naming>(
+    rt: &impl Abort,
+    alloc: Global,
+    loaded: &Loaded,
+) -> Result<(), AllocError>
+    requires program { N.program ≡ named loaded.now }
+{
+    let mut cells: PlainCells<N> = PlainCells::with(alloc, FRAME)?;
+    let by_key = told_of(rt, alloc, loaded, &mut cells, 0, 3)?;
+    assert!(rt; is_told(&by_key, &[5], Some(1)));
+    let by_print = told_of(rt, alloc, loaded, &mut cells, 1, 3)?;
+    assert!(rt; is_told(&by_print, &[4], Some(2)));
+    Ok(())
+}
+
 #[test]
 fn select_calls(rt: HostRuntime) -> Result<(), Fail> {
     let alloc = rt.alloc();
@@ -141,5 +160,15 @@ fn select_calls(rt: HostRuntime) -> Result<(), Fail> {
     };
     calls_are_told::<Brand>(&rt, alloc, &loaded)?;
     fuel_runs_out::<Brand>(&rt, alloc, &loaded)?;
+    Ok(())
+}
+
+#[test]
+fn select_among_facts(rt: HostRuntime) -> Result<(), Fail> {
+    let alloc = rt.alloc();
+    let Ok(loaded) = read_program(alloc, FACTS) else {
+        panic!(rt; "refused");
+    };
+    others_take_no_fuel::<Brand>(&rt, alloc, &loaded)?;
     Ok(())
 }

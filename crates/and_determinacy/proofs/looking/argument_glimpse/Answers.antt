@@ -1,26 +1,24 @@
-use Rattle.std.proofs.Common.{◌≡◌, ◌<◌, length, get_or, sym, subst, arith}
+use Rattle.std.proofs.Common.{◌≡◌, ◌<◌, [], length, get_or, sym, subst, arith}
 use Rattle.and_model.specs.Terms.{apply}
-use Rattle.and_model.specs.Solutions.{Solves}
 use Rattle.and_program.specs.Loaded.{skeleton_of, arguments_at}
 use Rattle.and_program.specs.Shown.{argument_of}
 use Rattle.and_program.specs.Skeletons.{node_term}
-use Rattle.and_cells.specs.Meaning.{equations_of}
-use Rattle.and_cells.specs.Ranges.{NamedProgram, IsInRange}
-use Rattle.and_cells.specs.Rows.{plain}
+use Rattle.and_cells.specs.Ranges.{NamedProgram, IsInRange, IsInRangeOrHalf}
 use Rattle.and_cells.specs.Seen.{LeadsTo}
+use Rattle.and_cells.proofs.Chains.{reads_more}
 use Rattle.and_branch_laws.specs.Variables.{placed}
 use Rattle.and_program.specs.declared.node.NodeKind.TheVariants.{Variable}
-use Rattle.and_determinacy.specs.Looks.{IsGlimpseAt, MayBe}
+use Rattle.and_determinacy.specs.Looks.{IsGlimpseAt}
 use Rattle.and_determinacy.specs.declared.prints.Marks.{Marks}
-use Rattle.and_determinacy.proofs.Glimpses.{argument_fits, glimpse_told, node_leads, nothing_told}
+use Rattle.and_determinacy.proofs.Glimpses.{argument_fits, glimpse_told, node_leads, nothing_told, seen_before}
 use Rattle.and_determinacy.proofs.SideAnswers.{resolved_is, falls_in}
 use Rattle.and_determinacy.proofs.TriedClauses.{part_in_range}
 use Rattle.and_determinacy.proofs.looking.argument_glimpse.Goals as goal
 
-pub end_of-at-requires-clause-in_range : goal.end_of-at-requires-clause-in_range
-end_of-at-requires-clause-in_range g c =
-    let P = g.N.Naming.program in
-    let row = c.args.cells.now in
+pub deref-at-requires-clause-in_range : goal.deref-at-requires-clause-in_range
+deref-at-requires-clause-in_range g c =
+    let P = g.C.Cells.program in
+    let words = (g.C.Cells.seen c.args.cells.now).words in
     let node = c.args.node.0 in
     let place = c.args.place in
     let argument = c.argument-argument.result.0 in
@@ -32,19 +30,31 @@ end_of-at-requires-clause-in_range g c =
     subst (λ (Q : NamedProgram). argument ≡ get_or (arguments_at Q.skeleton node) place 0) (sym c.requires.program)
     c.argument-argument.ensures.node in
     let is = resolved_is P c.args.loaded.now c.argument-argument.result c.args.base c.resolve.result c.requires.program c.resolve.ensures in
-    subst (IsInRange P (length row)) (sym is)
-    (part_in_range P (length row) argument c.args.base fall
-    (argument_fits P fall row (length row) c.args.base node place argument c.requires.node low at))
+    subst (IsInRange P words) (sym is)
+    (part_in_range P words argument c.args.base fall (argument_fits P fall [] words c.args.base node place argument c.requires.node low at))
+
+pub end_glimpse-requires-clause-in_range : goal.end_glimpse-requires-clause-in_range
+end_glimpse-requires-clause-in_range g c =
+    subst (λ n. IsInRangeOrHalf g.C.Cells.program n c.deref-at.result) (sym c.deref-at.ensures.reads.words) c.deref-at.ensures.in_range
+
+pub returns-clause-grew : goal.returns-clause-grew
+returns-clause-grew g c =
+    g.met.C.Cells.grew_on c.args.cells.now c.deref-at.new.cells c.end_glimpse.new.cells c.deref-at.ensures.grew c.end_glimpse.ensures.grew
+
+pub returns-clause-reads : goal.returns-clause-reads
+returns-clause-reads g c =
+    reads_more (g.C.Cells.seen c.args.cells.now) (g.C.Cells.seen c.deref-at.new.cells) (g.C.Cells.seen c.end_glimpse.new.cells)
+    c.deref-at.ensures.reads c.end_glimpse.ensures.reads
 
 pub returns-clause-glimpse : goal.returns-clause-glimpse
-returns-clause-glimpse g c = λ s solves.
-    let P = g.N.Naming.program in
-    let row = c.args.cells.now in
+returns-clause-glimpse g c = λ row has s solves.
+    let P = g.C.Cells.program in
+    let mid = g.C.Cells.seen c.deref-at.new.cells in
     let node = c.args.node.0 in
     let base = c.args.base in
     let place = c.args.place in
     let argument = c.argument-argument.result.0 in
-    let at = c.end_of-at.result in
+    let at = c.deref-at.result in
     let fall = falls_in P c.args.loaded.now c.requires.program c.skeleton_is_of_the_program.ensures.skeleton.0 in
     let there : place < length (arguments_at (skeleton_of c.args.loaded.now) node) = omega arith in
     let low : place < length (arguments_at P.skeleton node) =
@@ -53,15 +63,14 @@ returns-clause-glimpse g c = λ s solves.
     subst (λ (Q : NamedProgram). node_term Q.skeleton.nodes argument ≡ argument_of (node_term Q.skeleton.nodes node) place)
     (sym c.requires.program) c.argument-argument.ensures.term in
     let is = resolved_is P c.args.loaded.now c.argument-argument.result base c.resolve.result c.requires.program c.resolve.ensures in
-    let leads = subst (λ r. LeadsTo (plain row) r at) is c.end_of-at.ensures.leads in
+    let leads = subst (λ r. LeadsTo mid r at) is c.deref-at.ensures.leads in
+    let before = seen_before mid (g.C.Cells.seen c.end_glimpse.new.cells) row c.end_glimpse.ensures.reads has in
     let t = apply s (placed base (node_term P.skeleton.nodes argument)) in
-    let same = c.end_of-at.ensures.unchanged in
     glimpse_told P fall row s base node argument place c.end_glimpse.result low term
-    (c.end_glimpse.ensures.glimpse s t (subst (λ r. Solves s (equations_of P r)) (sym same) solves)
-    (subst (λ r. MayBe P r s at t) (sym same) (node_leads P fall row s solves base argument at leads)))
+    (c.end_glimpse.ensures.glimpse row has s t solves (node_leads P fall row s solves base argument at mid before leads))
 
 pub returns-then-place-count-clause-glimpse : goal.returns-then-place-count-clause-glimpse
-returns-then-place-count-clause-glimpse g c = λ s solves.
-    let call = apply s (placed c.args.base (node_term g.N.Naming.program.skeleton.nodes c.args.node.0)) in
+returns-then-place-count-clause-glimpse g c = λ row has s solves.
+    let call = apply s (placed c.args.base (node_term g.C.Cells.program.skeleton.nodes c.args.node.0)) in
     subst (λ (m : Marks). IsGlimpseAt (record { kind = Variable 0; marks = m }) call c.args.place) (sym c.none.ensures)
     (nothing_told call c.args.place)

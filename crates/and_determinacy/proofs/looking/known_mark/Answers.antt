@@ -1,4 +1,4 @@
-use Rattle.std.proofs.Common.{◌≡◌, ◌<◌, length, get_or, refl, sym, subst, arith}
+use Rattle.std.proofs.Common.{◌≡◌, ◌<◌, [], length, get_or, refl, sym, subst, arith}
 use Rattle.and_model.specs.Terms.{apply}
 use Rattle.and_program.specs.Loaded.{skeleton_of, arguments_at}
 use Rattle.and_program.specs.Shown.{argument_of}
@@ -12,8 +12,8 @@ use Rattle.and_determinacy.proofs.looking.known_mark.Goals as goal
 
 pub kind_in-requires-clause-node : goal.kind_in-requires-clause-node
 kind_in-requires-clause-node g c =
-    let P = g.N.Naming.program in
-    let row = c.args.cells.now in
+    let P = g.C.Cells.program in
+    let words = (g.C.Cells.seen c.args.cells.now).words in
     let node = c.args.node.0 in
     let place = c.args.place in
     let argument = c.argument-argument.result.0 in
@@ -24,12 +24,11 @@ kind_in-requires-clause-node g c =
     let is : argument ≡ get_or (arguments_at P.skeleton node) place 0 =
     subst (λ (Q : NamedProgram). argument ≡ get_or (arguments_at Q.skeleton node) place 0) (sym c.requires.program)
     c.argument-argument.ensures.node in
-    argument_fits P fall row (length row) c.args.base node place argument c.requires.node low is
+    argument_fits P fall [] words c.args.base node place argument c.requires.node low is
 
 pub returns-clause-tells : goal.returns-clause-tells
-returns-clause-tells g c = λ s solves.
-    let P = g.N.Naming.program in
-    let row = c.args.cells.now in
+returns-clause-tells g c = λ row has s solves.
+    let P = g.C.Cells.program in
     let node = c.args.node.0 in
     let base = c.args.base in
     let place = c.args.place in
@@ -43,7 +42,7 @@ returns-clause-tells g c = λ s solves.
     subst (λ (Q : NamedProgram). node_term Q.skeleton.nodes argument ≡ argument_of (node_term Q.skeleton.nodes node) place)
     (sym c.requires.program) c.argument-argument.ensures.term in
     subst (λ m. Tells m (mark (argument_kind (apply s (placed base (node_term P.skeleton.nodes node))) place))) (sym c.mark_of.ensures)
-    (mark_told P fall row s base node argument place kind low term (c.kind_in.ensures.fits s solves))
+    (mark_told P fall row s base node argument place kind low term (c.kind_in.ensures.fits row has s solves))
 
 pub returns-then-place-count-clause-tells : goal.returns-then-place-count-clause-tells
-returns-then-place-count-clause-tells g c = λ s solves some. absurd (some refl)
+returns-then-place-count-clause-tells g c = λ row has s solves some. absurd (some refl)

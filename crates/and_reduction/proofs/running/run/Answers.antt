@@ -9,12 +9,13 @@ use Rattle.and_program.specs.declared.item.ItemNode.TheVariants.{Call, Equal, Is
 use Rattle.and_cells.specs.Ranges.{NamedProgram, pair_of}
 use Rattle.and_reduction.specs.Assigning.{CanBeAssigned, IsAssigned, IsRefused}
 use Rattle.and_determinacy.specs.Sides.{IsSide}
+use Rattle.and_reduction.specs.Runs.{WaitsFor}
 use Rattle.and_reduction.specs.Sides.{IsComparison}
 use Rattle.and_reduction.proofs.Goals.{node_found, no_call, no_equal, no_fail, arithmetic_here, item_so, compared_reads, assigned_reads}
 use Rattle.and_reduction.proofs.Goals.{pair_in_range, can_be_assigned}
 use Rattle.and_reduction.proofs.Loading.{loaded_is}
-use Rattle.and_reduction.proofs.Outcomes.{comparison_waits, comparison_done, comparison_fails, is_waits, is_valueless, is_assigned}
-use Rattle.and_reduction.proofs.Outcomes.{is_refused}
+use Rattle.and_reduction.proofs.Outcomes.{comparison_waits, comparison_waits_for, comparison_done, comparison_fails}
+use Rattle.and_reduction.proofs.Outcomes.{is_waits, is_waits_for, is_valueless, is_assigned, is_refused}
 use Rattle.and_reduction.proofs.running.run.Goals as goal
 
 pub run_comparison-requires-clause-left : goal.run_comparison-requires-clause-left
@@ -136,7 +137,7 @@ unreachable-requires-in-Fail g c =
     (arithmetic_here P facts row goal c.requires.goal)
 
 pub returns-in-Compare-clause-waits : goal.returns-in-Compare-clause-waits
-returns-in-Compare-clause-waits g c = λ e.
+returns-in-Compare-clause-waits g c = λ cell e.
     let P = g.N.Naming.program in
     let loaded = c.args.loaded.now in
     let row = c.args.cells.now in
@@ -152,7 +153,26 @@ returns-in-Compare-clause-waits g c = λ e.
     let b = node_term P.skeleton.nodes r in
     let is = item_so P facts row goal c.requires.goal (Skeletons.compare o l r) node in
     let compared = subst (λ x. IfOk x (IsComparison P row goal.base o a b)) e c.run_comparison.ensures.compared in
-    comparison_waits P row row goal o a b is compared
+    comparison_waits P row row goal cell o a b is compared
+
+pub returns-in-Compare-clause-waits_for : goal.returns-in-Compare-clause-waits_for
+returns-in-Compare-clause-waits_for g c = λ cell e.
+    let P = g.N.Naming.program in
+    let loaded = c.args.loaded.now in
+    let row = c.args.cells.now in
+    let goal = c.args.goal in
+    let facts = loaded_is P loaded c.requires.program c.skeleton_is_of_the_program.ensures.skeleton
+    c.skeleton_is_of_the_program.ensures.own_variables c.skeleton_is_of_the_program.ensures.few in
+    let l = c.in-Compare.left.0 in
+    let r = c.in-Compare.right.0 in
+    let o = relation c.in-Compare.relation in
+    let node = node_found P loaded goal c.item_in.result (Compare c.in-Compare.relation c.in-Compare.left c.in-Compare.right)
+    c.requires.program c.item_in.ensures c.in-Compare.is in
+    let a = node_term P.skeleton.nodes l in
+    let b = node_term P.skeleton.nodes r in
+    let is = item_so P facts row goal c.requires.goal (Skeletons.compare o l r) node in
+    let compared = subst (λ x. IfOk x (IsComparison P row goal.base o a b)) e c.run_comparison.ensures.compared in
+    comparison_waits_for P row row goal cell o a b is compared
 
 pub returns-in-Compare-clause-done : goal.returns-in-Compare-clause-done
 returns-in-Compare-clause-done g c = λ e.
@@ -193,7 +213,7 @@ returns-in-Compare-clause-fails g c = λ e.
     comparison_fails P row row goal o a b is compared
 
 pub returns-in-Waits-clause-waits : goal.returns-in-Waits-clause-waits
-returns-in-Waits-clause-waits g c = λ e.
+returns-in-Waits-clause-waits g c = λ cell e.
     let P = g.N.Naming.program in
     let loaded = c.args.loaded.now in
     let row = c.args.cells.now in
@@ -206,8 +226,26 @@ returns-in-Waits-clause-waits g c = λ e.
     let node = node_found P loaded goal c.item_in.result (Is c.in-Is.left c.in-Is.right c.in-Is.pair)
     c.requires.program c.item_in.ensures c.in-Is.is in
     let is = item_so P facts row goal c.requires.goal (Skeletons.is l r pair) node in
-    let side = subst (IsSide P row goal.base (node_term P.skeleton.nodes r)) c.in-Waits.is c.in_ok-evaluate-in-Is.ensures.side in
-    is_waits P row row goal l r pair node is side
+    let side = subst (IsSide P row goal.base (node_term P.skeleton.nodes r)) c.in-Waits.is c.in_ok-cell-in-Is.ensures.side in
+    is_waits P row row goal l r pair node is c.in-Waits.cell side
+
+pub returns-in-Waits-clause-waits_for : goal.returns-in-Waits-clause-waits_for
+returns-in-Waits-clause-waits_for g c = λ cell e.
+    let P = g.N.Naming.program in
+    let loaded = c.args.loaded.now in
+    let row = c.args.cells.now in
+    let goal = c.args.goal in
+    let facts = loaded_is P loaded c.requires.program c.skeleton_is_of_the_program.ensures.skeleton
+    c.skeleton_is_of_the_program.ensures.own_variables c.skeleton_is_of_the_program.ensures.few in
+    let l = c.in-Is.left.0 in
+    let r = c.in-Is.right.0 in
+    let pair = c.in-Is.pair in
+    let node = node_found P loaded goal c.item_in.result (Is c.in-Is.left c.in-Is.right c.in-Is.pair)
+    c.requires.program c.item_in.ensures c.in-Is.is in
+    let is = item_so P facts row goal c.requires.goal (Skeletons.is l r pair) node in
+    let side = subst (IsSide P row goal.base (node_term P.skeleton.nodes r)) c.in-Waits.is c.in_ok-cell-in-Is.ensures.side in
+    let same : c.in-Waits.cell ≡ cell = cc in
+    subst (WaitsFor P row goal) same (is_waits_for P row row goal l r pair node is c.in-Waits.cell side)
 
 pub returns-in-NoValue-clause-fails : goal.returns-in-NoValue-clause-fails
 returns-in-NoValue-clause-fails g c = λ e.
@@ -223,7 +261,7 @@ returns-in-NoValue-clause-fails g c = λ e.
     let node = node_found P loaded goal c.item_in.result (Is c.in-Is.left c.in-Is.right c.in-Is.pair)
     c.requires.program c.item_in.ensures c.in-Is.is in
     let is = item_so P facts row goal c.requires.goal (Skeletons.is l r pair) node in
-    let side = subst (IsSide P row goal.base (node_term P.skeleton.nodes r)) c.in-NoValue.is c.in_ok-evaluate-in-Is.ensures.side in
+    let side = subst (IsSide P row goal.base (node_term P.skeleton.nodes r)) c.in-NoValue.is c.in_ok-cell-in-Is.ensures.side in
     is_valueless P row row goal l r pair node is side
 
 pub returns-in-Number-clause-done : goal.returns-in-Number-clause-done
@@ -240,7 +278,7 @@ returns-in-Number-clause-done g c = λ e.
     let node = node_found P loaded goal c.item_in.result (Is c.in-Is.left c.in-Is.right c.in-Is.pair)
     c.requires.program c.item_in.ensures c.in-Is.is in
     let is = item_so P facts row goal c.requires.goal (Skeletons.is l r pair) node in
-    let side = subst (IsSide P row goal.base (node_term P.skeleton.nodes r)) c.in-Number.is c.in_ok-evaluate-in-Is.ensures.side in
+    let side = subst (IsSide P row goal.base (node_term P.skeleton.nodes r)) c.in-Number.is c.in_ok-cell-in-Is.ensures.side in
     let first : c.pair_in-first.result ≡ pair_of P goal.clause.0 goal.base pair =
     subst (λ (Q : NamedProgram). c.pair_in-first.result ≡ pair_of Q goal.clause.0 goal.base pair)
     (sym c.requires.program) c.pair_in-first.ensures in
@@ -268,7 +306,7 @@ returns-in-Number-clause-fails g c = λ e.
     let node = node_found P loaded goal c.item_in.result (Is c.in-Is.left c.in-Is.right c.in-Is.pair)
     c.requires.program c.item_in.ensures c.in-Is.is in
     let is = item_so P facts row goal c.requires.goal (Skeletons.is l r pair) node in
-    let side = subst (IsSide P row goal.base (node_term P.skeleton.nodes r)) c.in-Number.is c.in_ok-evaluate-in-Is.ensures.side in
+    let side = subst (IsSide P row goal.base (node_term P.skeleton.nodes r)) c.in-Number.is c.in_ok-cell-in-Is.ensures.side in
     let first : c.pair_in-first.result ≡ pair_of P goal.clause.0 goal.base pair =
     subst (λ (Q : NamedProgram). c.pair_in-first.result ≡ pair_of Q goal.clause.0 goal.base pair)
     (sym c.requires.program) c.pair_in-first.ensures in

@@ -1,9 +1,5 @@
-use Rattle.std.proofs.Common.{sym, subst, ◌∙◌, ◌≡◌}
-use Rattle.and_program.specs.Skeletons.{AllFall}
-use Rattle.and_cells.specs.Ranges.{NamedProgram}
-use Rattle.and_cells.specs.Parts.{named, parts_of}
+use Rattle.and_cells.specs.Parts.{named}
 use Rattle.and_cells.proofs.Chains.{reads_keeps, reads_more}
-use Rattle.and_unify.specs.Turns.{pairs_of}
 use Rattle.and_determinacy.proofs.SideAnswers.{falls_in}
 use Rattle.and_selection.proofs.Comparing.{differ_told, same_told, heads_never_one, numbers_lead_on, of_one_shape, arguments_lead_on, follow_later, follow_pairs_later, follow_arguments, list_as_named, shape_as_named}
 use Rattle.and_selection.proofs.matching.compare.Goals as goal

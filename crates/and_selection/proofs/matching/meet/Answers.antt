@@ -1,7 +1,6 @@
-use Rattle.std.proofs.Common.{sym, subst, ◌∙◌}
 use Rattle.and_cells.proofs.Chains.{keeps_more, reads_keeps, reads_more}
 use Rattle.and_selection.proofs.Comparing.{follow_later, follow_pairs_later}
-use Rattle.and_selection.proofs.MatchSteps.{Followed, left_end, right_end, leads_from, never_from}
+use Rattle.and_selection.proofs.MatchSteps.{left_end, right_end, leads_from, never_from}
 use Rattle.and_selection.proofs.matching.meet.Goals as goal
 
 pub deref-other-requires-clause-in_range : goal.deref-other-requires-clause-in_range

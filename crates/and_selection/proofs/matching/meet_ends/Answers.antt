@@ -1,5 +1,3 @@
-use Rattle.std.proofs.Common.{refl, sym, subst}
-use Rattle.and_model.specs.declared.reference.Ref.TheVariants.{Cell}
 use Rattle.and_selection.proofs.MatchSteps.{same_on, half_never, leads_as, leads_back, set_can, set_below, ended_can, some_end}
 use Rattle.and_selection.proofs.matching.meet_ends.Goals as goal
 

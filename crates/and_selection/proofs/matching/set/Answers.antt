@@ -1,6 +1,5 @@
-use Rattle.std.proofs.Common.{refl}
 use Rattle.and_model.specs.declared.reference.Ref.TheVariants.{Cell}
-use Rattle.and_cells.proofs.Chains.{finds_reads, finds_keeps, sets_keeps, written_later}
+use Rattle.and_cells.proofs.Chains.{finds_reads}
 use Rattle.and_selection.proofs.Comparing.{follow_later, follow_pairs_later, follow_push}
 use Rattle.and_selection.proofs.MatchSteps.{won_on, later_on, cell_follows}
 use Rattle.and_selection.proofs.matching.set.Goals as goal

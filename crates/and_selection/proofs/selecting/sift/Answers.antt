@@ -1,10 +1,11 @@
-use Rattle.std.proofs.Common.{◌+◌, ◌≡◌, ◌≢◌, ◌<◌, ◌≤◌, ◌++◌, ◌∷◌, [], length, take, get_or, refl, sym, subst, arith, ◌∙◌}
+use Rattle.std.proofs.Common.{◌+◌, ◌≡◌, ◌<◌, ◌++◌, ◌∷◌, [], length, take, get_or, refl, sym, subst, arith, ◌∙◌}
 use Rattle.std.proofs.lemmas.List.{take_more}
 use Rattle.and_model.specs.declared.numbers.ClauseNo.{ClauseNo}
 use Rattle.and_arith.proofs.Concluding.{begun}
 use Rattle.and_cells.proofs.Chains.{reads_more, reads_nothing}
 use Rattle.and_selection.specs.Selecting.{IsNoCandidate}
 use Rattle.and_selection.specs.Sifting.{AreSifted, nothing, kept, dropped}
+use Rattle.and_selection.proofs.Looked.{look_later}
 use Rattle.and_selection.proofs.Sifted.{sifted_later, no_candidate_later, stays_some, falls_some}
 use Rattle.and_selection.proofs.selecting.sift.Goals as goal
 use Rattle.and_selection.proofs.selecting.sift.Goals.{in-Stays+else-is_err, in-Falls}
@@ -22,6 +23,11 @@ loop-clause-init g c =
       sifted = subst (λ out. AreSifted Out [] out) (sym c.requires.empty) nothing;
       fuel = omega arith;
     }
+
+pub try_clause-requires-clause-look : goal.try_clause-requires-clause-look
+try_clause-requires-clause-look g c =
+    look_later g.C.Cells.program (g.C.Cells.seen c.args.overlay.now.cells.now) (g.C.Cells.seen c.loop-clause.overlay.cells.now) c.args.node.0 c.args.base
+    c.args.look.now c.loop-clause.invariant.reads c.requires.look
 
 pub returns-then-is_err-clause-reads : goal.returns-then-is_err-clause-reads
 returns-then-is_err-clause-reads g c =

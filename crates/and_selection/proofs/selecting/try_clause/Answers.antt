@@ -1,19 +1,32 @@
-use Rattle.std.proofs.Common.{rules, ◌≡◌, ◌≤◌, ◌+◌, ◌∷◌, [], ℕ, ◌<◌, List, map, refl, sym, ap, subst, ◌∙◌, arith}
+use Rattle.std.proofs.Common.{◌≡◌, ◌≤◌, ◌+◌, List, map, sym, ap, subst, ◌∙◌, arith}
 use Rattle.and_model.specs.Programs.{clause_at}
 use Rattle.and_program.specs.Items.{node_item}
-use Rattle.and_program.specs.Skeletons.{node_term, item_of, AllThere}
+use Rattle.and_program.specs.Skeletons.{node_term, item_of}
 use Rattle.and_unify.specs.declared.pairs.Pair.{Pair}
-use Rattle.and_cells.specs.Ranges.{NamedProgram, IsNodeInRange}
+use Rattle.and_cells.specs.Ranges.{NamedProgram}
 use Rattle.and_cells.specs.Seen.{OnlyReads}
-use Rattle.and_cells.specs.Parts.{named, part_at}
+use Rattle.and_cells.specs.Parts.{part_at}
 use Rattle.and_cells.proofs.Chains.{reads_more, reads_nothing}
 use Rattle.and_overlay.specs.Overlaid.{seen_over}
 use Rattle.and_overlay.specs.Settings.{own_in}
 use Rattle.and_selection.specs.Matches.{MatchesAll, NeverMatch}
+use Rattle.and_determinacy.proofs.Prepared.{clause_there}
+use Rattle.and_selection.proofs.Looked.{apart_none}
 use Rattle.and_determinacy.proofs.SideAnswers.{resolved_is, falls_in}
 use Rattle.and_selection.proofs.TrialRanges.{range_more, frame_range, frame_guard, asked_follow}
 use Rattle.and_selection.proofs.TrialFalls.{asked_are, apart_falls, guard_falls}
 use Rattle.and_selection.proofs.selecting.try_clause.Goals as goal
+
+pub is_apart-requires : goal.is_apart-requires
+is_apart-requires g c =
+    let P = g.C.Cells.program in
+    let there = clause_there P.program (node_term P.skeleton.nodes c.args.node.0) c.args.clause.0 c.requires.of in
+    omega (arith, there, c.requires.table.prints.many)
+
+pub returns-then-is_apart-clause-falls : goal.returns-then-is_apart-clause-falls
+returns-then-is_apart-clause-falls g c = λ is.
+    apart_none g.C.Cells.program c.args.table.now c.requires.table (g.C.Cells.seen c.args.overlay.now.cells.now) c.args.node.0 c.args.base c.args.look.now
+    c.requires.look c.args.clause (sym c.is_apart.ensures ∙ c.if-is_apart.true)
 
 pub returns-then-not-ask-clause-reads : goal.returns-then-not-ask-clause-reads
 returns-then-not-ask-clause-reads g c =

@@ -1,4 +1,4 @@
-use Rattle.std.proofs.Common.{rules, Some, refl, sym, ap, ◌∙◌, subst, w64}
+use Rattle.std.proofs.Common.{rules, Some, refl, sym, subst, w64}
 use Rattle.std.specs.Prelude.{FitsSigned}
 use Rattle.std.proofs.lemmas.Int.{ints, to_z-of_z}
 use Rattle.and_cells.specs.Ranges.{IsInRange}

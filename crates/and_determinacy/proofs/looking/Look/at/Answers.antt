@@ -1,24 +1,17 @@
-use Rattle.std.proofs.Common.{List, sym, subst}
-use Rattle.and_model.specs.Solutions.{Solves}
-use Rattle.and_model.specs.declared.reference.Ref.{Ref}
-use Rattle.and_cells.specs.Meaning.{equations_of}
+use Rattle.std.proofs.Common.{sym, subst}
+use Rattle.and_cells.specs.Ranges.{IsNodeInRange}
+use Rattle.and_cells.proofs.Chains.{reads_more}
 use Rattle.and_determinacy.proofs.looking.Look.at.Goals as goal
 
-pub returns-clause-look : goal.returns-clause-look
-returns-clause-look g c = λ s solves.
-    let P = g.N.Naming.program in
-    let SolvesIn : List Ref → Type 0 = λ r. Solves s (equations_of P r) in
-    let after_first = subst SolvesIn (sym c.argument_glimpse-first.ensures.unchanged) solves in
-    let after_second = subst SolvesIn (sym c.argument_glimpse-second.ensures.unchanged) after_first in
-    let after_third = subst SolvesIn (sym c.known_mark-third.ensures.unchanged) after_second in
-    let first = c.argument_glimpse-first.ensures.glimpse s solves in
-    let second = c.argument_glimpse-second.ensures.glimpse s after_first in
-    record {
-      first = first.kind;
-      print = record {
-        first = first.marks;
-        second = second.marks;
-        third = c.known_mark-third.ensures.tells s after_second;
-        fourth = c.known_mark-fourth.ensures.tells s after_third;
-      };
-    }
+pub at_all-requires-clause-node : goal.at_all-requires-clause-node
+at_all-requires-clause-node g c =
+    subst (λ n. IsNodeInRange g.C.Cells.program n c.args.node.0 c.args.base) (sym c.known_first-first.ensures.reads.words) c.requires.node
+
+pub returns-clause-grew : goal.returns-clause-grew
+returns-clause-grew g c =
+    g.met.C.Cells.grew_on c.args.cells.now c.known_first-first.new.cells c.at_all.new.cells c.known_first-first.ensures.grew c.at_all.ensures.grew
+
+pub returns-clause-reads : goal.returns-clause-reads
+returns-clause-reads g c =
+    reads_more (g.C.Cells.seen c.args.cells.now) (g.C.Cells.seen c.known_first-first.new.cells) (g.C.Cells.seen c.at_all.new.cells)
+    c.known_first-first.ensures.reads c.at_all.ensures.reads

@@ -1,0 +1,252 @@
+-- The cells that are gathered from a term, place by place.
+use Rattle.std.proofs.Common.{ℕ, ◌+◌, ◌≡◌, ◌≢◌, ◌≤◌, ◌<◌, ◌⊎◌, false, true≢false, List, [], ◌∷◌, ◌++◌, append-nil, length, map, drop}
+use Rattle.std.proofs.Common.{refl, sym, ap, ◌∙◌, subst, inl, inr, arith}
+use Rattle.std.specs.Prelude.{All, Contains}
+use Rattle.std.proofs.lemmas.List.{drop-append-le}
+use Rattle.std.proofs.Math.Seq.{drop-append_seam}
+use Rattle.std.proofs.lemmas.List.Elements.{All-nil, All-cons, All-head, All-append, All-push, All-contains}
+use Rattle.std.proofs.lemmas.List.Elements.{Contains-append_left, Contains-append_cases, Contains-push}
+use Rattle.and_model.specs.Terms.{Path, Term, variables_of, variables_in}
+use Rattle.and_model.specs.Store.{is_half}
+use Rattle.and_model.specs.declared.numbers.NodeNo.{NodeNo}
+use Rattle.and_model.specs.declared.reference.Ref.{Ref}
+use Rattle.and_model.specs.declared.reference.Ref.TheVariants.{Free, Cell, Node, Number, Half}
+use Rattle.and_program.specs.Skeletons
+use Rattle.and_program.specs.Skeletons.{Shape, term_list, nth, node_term, shape_term, terms_behind, AllFall}
+use Rattle.and_program.specs.Loaded.{shape_at, arguments_at}
+use Rattle.and_program.specs.Shown.{resolved, arguments_in}
+use Rattle.and_laws.proofs.Ordered.{contains_first, contains_more, contains_cases, contains_none}
+use Rattle.and_cells.specs.Ranges.{NamedProgram, IsInRange, CanHold}
+use Rattle.and_cells.specs.Rows.{IsSound}
+use Rattle.and_cells.specs.Seen.{word_at, IsSetTo}
+use Rattle.and_cells.specs.Meaning
+use Rattle.and_cells.specs.Meaning.{Holds}
+use Rattle.and_cells.specs.Parts.{part_at, parts_of}
+use Rattle.and_cell_laws.proofs.Circles.{shape_is_no_variable}
+use Rattle.and_cell_laws.proofs.Images.{contains_image}
+use Rattle.and_cell_laws.proofs.Structures.{node_term_shape}
+use Rattle.and_unify.proofs.TurnParts.{part_in_range}
+use Rattle.and_branch_laws.proofs.Lists.{all_of, all_left, all_right}
+use Rattle.and_determinacy.specs.Watching.{IsWatched, Suffice, IsListed, IsFollowed}
+
+-- ---- What a reference holds
+
+module _ (P : NamedProgram) (row : List Ref) where
+  cell_holds : (cell : ℕ) (r : Ref) (c : ℕ) → r ≡ Cell cell → Holds P row r c
+      → (c ≡ cell) ⊎ ((q : Ref) × IsSetTo row cell q × Holds P row q c)
+  cell_holds cell r c e (Meaning.here other) = inl (cc)
+  cell_holds cell r c e (Meaning.onward start q other set rest) =
+      let same : start ≡ cell = cc in
+      inr (q, subst (λ (s : ℕ). IsSetTo row s q) same set, rest)
+  cell_holds cell r c e (Meaning.inside node base v other at rest) = absurd (cc)
+
+  node_holds : (node : NodeNo) (base : ℕ) (r : Ref) (c : ℕ) → r ≡ Node node base → Holds P row r c
+      → (v : Path × ℕ) × Contains (variables_of (node_term P.skeleton.nodes node.0)) v × Holds P row (Cell (base + 1 + v.1)) c
+  node_holds node base r c e (Meaning.here other) = absurd (cc)
+  node_holds node base r c e (Meaning.onward start q other set rest) = absurd (cc)
+  node_holds node base r c e (Meaning.inside other frame v cell at rest) =
+      let same_node : other ≡ node = cc in
+      let same_base : frame ≡ base = cc in (
+        v,
+        subst (λ (n : NodeNo). Contains (variables_of (node_term P.skeleton.nodes n.0)) v) same_node at,
+        subst (λ (b : ℕ). Holds P row (Cell (b + 1 + v.1)) cell) same_base rest,
+      )
+
+  pub number_holds : (pair : ℕ) (r : Ref) (c : ℕ) → r ≡ Number pair → Holds P row r c → ⊥
+  number_holds pair r c e (Meaning.here other) = absurd (cc)
+  number_holds pair r c e (Meaning.onward start q other set rest) = absurd (cc)
+  number_holds pair r c e (Meaning.inside node base v other at rest) = absurd (cc)
+
+  pub half_holds : (bits : ℕ) (r : Ref) (c : ℕ) → r ≡ Half bits → Holds P row r c → ⊥
+  half_holds bits r c e (Meaning.here other) = absurd (cc)
+  half_holds bits r c e (Meaning.onward start q other set rest) = absurd (cc)
+  half_holds bits r c e (Meaning.inside node base v other at rest) = absurd (cc)
+
+-- ---- Structures
+
+module _ (P : NamedProgram) (fall : AllFall 0 P.skeleton.nodes) (row : List Ref) (cells : List ℕ) where
+  resolved_watched : (base n : ℕ) (ts : List Term) (s : Shape) → node_term P.skeleton.nodes n ≡ shape_term ts s
+      → IsWatched P row cells (resolved s (record { 0 = n }) base) → (v : Path × ℕ) → Contains (variables_of (node_term P.skeleton.nodes n)) v
+      → IsWatched P row cells (Cell (base + 1 + v.1))
+  resolved_watched base n ts (Skeletons.variable k) e watched v c =
+      elim (contains_cases ([], k) v [] (subst (λ (t : Term). Contains (variables_of t) v) e c)) [
+        | inl same ↦ subst (λ (x : Path × ℕ). IsWatched P row cells (Cell (base + 1 + x.1))) (sym same) watched
+        | inr none_left ↦ absurd (contains_none v none_left)
+      ]
+  resolved_watched base n ts (Skeletons.number z) e watched v c =
+      absurd (contains_none v (subst (λ (t : Term). Contains (variables_of t) v) e c))
+  resolved_watched base n ts (Skeletons.compound d ns) e watched v c =
+      λ cell held free. watched cell (Meaning.inside (record { 0 = n }) base v cell c held) free
+
+  -- Where the place of a node is watched, the cells of its variables are.
+  pub variables_watched : (base n : ℕ) → IsWatched P row cells (part_at P base n) → (v : Path × ℕ)
+      → Contains (variables_of (node_term P.skeleton.nodes n)) v → IsWatched P row cells (Cell (base + 1 + v.1))
+  variables_watched base n watched v c =
+      resolved_watched base n (terms_behind [] P.skeleton.nodes) (shape_at P.skeleton n) (node_term_shape P.skeleton.nodes n fall) watched v c
+
+  -- a variable of a list of terms is one of some term
+  in_argument : (f : ℕ → Term) (ns : List ℕ) (v : Path × ℕ) → Contains (variables_in (term_list (map f ns))) v
+      → (m : ℕ) × Contains ns m × Contains (variables_of (f m)) v
+  in_argument f [] v c = absurd (contains_none v c)
+  in_argument f (n ∷ ns) v c = elim (Contains-append_cases (variables_of (f n)) (variables_in (term_list (map f ns))) v c) [
+    | inl here ↦ (n, contains_first n ns, here)
+    | inr later ↦ let found = in_argument f ns v later in (found.0, contains_more n found.0 ns found.1, found.2)
+  ]
+
+  -- and a variable of a structure is one of an argument
+  in_shape : (s : Shape) (v : Path × ℕ) → ((k : ℕ) → s ≡ Skeletons.variable k → ⊥)
+      → Contains (variables_of (shape_term (terms_behind [] P.skeleton.nodes) s)) v
+      → (m : ℕ) × Contains (arguments_in s) m × Contains (variables_of (node_term P.skeleton.nodes m)) v
+  in_shape (Skeletons.variable k) v apart c = absurd (apart k refl)
+  in_shape (Skeletons.number z) v apart c = absurd (contains_none v c)
+  in_shape (Skeletons.compound d ns) v apart c = in_argument (nth (terms_behind [] P.skeleton.nodes)) ns v c
+
+  -- Where its parts are watched, a structure is.
+  pub parts_watched : (words : ℕ) (node : NodeNo) (base : ℕ) → IsInRange P words (Node node base)
+      → All (IsWatched P row cells) (parts_of P (Node node base)) → IsWatched P row cells (Node node base)
+  parts_watched words node base fits all cell held free =
+      let (v, at, rest) = node_holds P row node base (Node node base) cell refl held in
+      let here = subst (λ (t : Term). Contains (variables_of t) v) (node_term_shape P.skeleton.nodes node.0 fall) at in
+      let (m, argument, inside) = in_shape (shape_at P.skeleton node.0) v (shape_is_no_variable P node.0 fits.1 fits.0.there) here in
+      let part = All-contains (IsWatched P row cells) (parts_of P (Node node base)) (part_at P base m) all
+      (contains_image (part_at P base) (arguments_at P.skeleton node.0) m argument) in
+      variables_watched base m part v inside cell rest free
+
+-- ---- Places
+
+-- What a cell of a sound row is set to is in range, unless it is a half.
+word_fits : (P : NamedProgram) (row : List Ref) (cell : ℕ) (word : Ref) → cell < length row → CanHold P (length row) cell word → word ≢ Free
+    → is_half word ≡ false → IsInRange P (length row) word
+word_fits P row cell Free below fits set whole = absurd (set refl)
+word_fits P row cell (Cell other) below fits set whole = omega arith
+word_fits P row cell (Node node base) below fits set whole = fits
+word_fits P row cell (Number pair) below fits set whole = fits
+word_fits P row cell (Half bits) below fits set whole = absurd (true≢false whole)
+
+-- what a list has from a place on, it has when more comes to its end
+stays_listed : (begun : ℕ) (had gained : List ℕ) (cell : ℕ) → Contains (drop begun had) cell → begun ≤ length had
+    → Contains (drop begun (had ++ gained)) cell
+stays_listed begun had gained cell c low =
+    subst (λ (l : List ℕ). Contains l cell) (sym (drop-append-le begun had gained low)) (Contains-append_left (drop begun had) gained cell c)
+
+module _ (P : NamedProgram) (row : List Ref) (begun : ℕ) where
+  nothing_put : (listed : List ℕ) (goal : List ℕ → Type 0)
+      → ((cells : List ℕ) → ((cell : ℕ) → Contains (drop begun listed) cell → Contains cells cell) → goal cells)
+      → Suffice P row begun listed [] goal
+  nothing_put listed goal holds = record { in_range = All-nil (IsInRange P (length row)); owes = λ cells sub all. holds cells sub }
+
+  -- A place that holds nothing is followed,
+  pub holds_nothing : (at : Ref) (visits : List Ref) (listed : List ℕ) → ((c : ℕ) → Holds P row at c → ⊥)
+      → IsFollowed P row begun at visits visits listed listed
+  holds_nothing at visits listed none = record {
+    more = [];
+    put = sym (append-nil visits);
+    gained = [];
+    listed = sym (append-nil listed);
+    suffices = nothing_put listed (λ cells. IsWatched P row cells at) (λ cells sub cell held free. absurd (none cell held));
+  }
+
+  -- a free cell where it is listed,
+  pub free_followed : (cell : ℕ) (visits : List Ref) (old new : List ℕ) → word_at row cell ≡ Free → IsListed cell begun old new
+      → IsFollowed P row begun (Cell cell) visits visits old new
+  free_followed cell visits old new free l = record {
+    more = [];
+    put = sym (append-nil visits);
+    gained = l.gained;
+    listed = l.longer;
+    suffices = nothing_put new (λ cells. IsWatched P row cells (Cell cell)) (λ cells sub c held is.
+        elim (cell_holds P row cell (Cell cell) c refl held) [
+          | inl e ↦ sub c (subst (Contains (drop begun new)) (sym e) l.there)
+          | inr found ↦ absurd (found.1.1 (sym found.1.0 ∙ free))
+        ]);
+  }
+
+  -- a cell whose word holds nothing,
+  pub ended_followed : (cell : ℕ) (word : Ref) (visits : List Ref) (listed : List ℕ) → word_at row cell ≡ word → word ≢ Free
+      → ((c : ℕ) → Holds P row word c → ⊥) → IsFollowed P row begun (Cell cell) visits visits listed listed
+  ended_followed cell word visits listed is set none = record {
+    more = [];
+    put = sym (append-nil visits);
+    gained = [];
+    listed = sym (append-nil listed);
+    suffices = nothing_put listed (λ cells. IsWatched P row cells (Cell cell)) (λ cells sub c held free.
+        elim (cell_holds P row cell (Cell cell) c refl held) [
+          | inl e ↦ absurd (set (sym is ∙ ap (word_at row) (sym e) ∙ free))
+          | inr found ↦ absurd (none c (subst (λ (r : Ref). Holds P row r c) (sym found.1.0 ∙ is) found.2))
+        ]);
+  }
+
+  -- another set one where its word is visited,
+  pub set_followed : IsSound P row → (cell : ℕ) (word : Ref) (visits new : List Ref) (listed : List ℕ) → cell < length row
+      → word_at row cell ≡ word → word ≢ Free → is_half word ≡ false → new ≡ visits ++ word ∷ []
+      → IsFollowed P row begun (Cell cell) visits new listed listed
+  set_followed sound cell word visits new listed below is set whole put = record {
+    more = word ∷ [];
+    put = put;
+    gained = [];
+    listed = sym (append-nil listed);
+    suffices = record {
+      in_range = All-cons (IsInRange P (length row)) word []
+          (word_fits P row cell word below (subst (CanHold P (length row) cell) is (sound.fits cell)) set whole) (All-nil (IsInRange P (length row)));
+      owes = λ cells sub all c held free. elim (cell_holds P row cell (Cell cell) c refl held) [
+        | inl e ↦ absurd (set (sym is ∙ ap (word_at row) (sym e) ∙ free))
+        | inr found ↦
+            All-head (IsWatched P row cells) word [] all c (subst (λ (r : Ref). Holds P row r c) (sym found.1.0 ∙ is) found.2) free
+      ];
+    };
+  }
+
+  -- and a structure where its parts are.
+  pub parts_followed : AllFall 0 P.skeleton.nodes → (node : NodeNo) (base : ℕ) (visits new : List Ref) (listed : List ℕ)
+      → IsInRange P (length row) (Node node base) → new ≡ visits ++ parts_of P (Node node base)
+      → IsFollowed P row begun (Node node base) visits new listed listed
+  parts_followed fall node base visits new listed fits put = record {
+    more = parts_of P (Node node base);
+    put = put;
+    gained = [];
+    listed = sym (append-nil listed);
+    suffices = record {
+      in_range = all_of (IsInRange P (length row)) (parts_of P (Node node base))
+          (λ r c. part_in_range P (length row) (Node node base) r fall fits c);
+      owes = λ cells sub all. parts_watched P fall row cells (length row) node base fits all;
+    };
+  }
+
+  module _ (root : Ref) where
+    -- Once a place is followed, what is on the list of visits suffices for the root.
+    pub suffice_with : (at : Ref) (old new : List Ref) (had has : List ℕ) → begun ≤ length had
+        → Suffice P row begun had old (λ cells. IsWatched P row cells at → IsWatched P row cells root)
+        → IsFollowed P row begun at old new had has → Suffice P row begun has new (λ cells. IsWatched P row cells root)
+    suffice_with at old new had has low before step =
+        subst (λ (l : List ℕ). Suffice P row begun l new (λ cells. IsWatched P row cells root)) (sym step.listed)
+        (subst (λ (rs : List Ref). Suffice P row begun (had ++ step.gained) rs (λ cells. IsWatched P row cells root)) (sym step.put) (record {
+          in_range = All-append (IsInRange P (length row)) old step.more before.in_range step.suffices.in_range;
+          owes = λ cells sub all.
+              before.owes cells (λ cell c. sub cell (stays_listed begun had step.gained cell c low))
+              (all_left (IsWatched P row cells) old step.more all)
+              (step.suffices.owes cells (λ cell c. sub cell (subst (λ (l : List ℕ). Contains (drop begun l) cell) step.listed c))
+              (all_right (IsWatched P row cells) old step.more all));
+        }))
+
+    -- one is taken from the list,
+    pub suffice_taken : (next : Ref) (old new : List Ref) (listed : List ℕ)
+        → Suffice P row begun listed old (λ cells. IsWatched P row cells root) → old ≡ new ++ next ∷ []
+        → IsInRange P (length row) next × Suffice P row begun listed new (λ cells. IsWatched P row cells next → IsWatched P row cells root)
+    suffice_taken next old new listed given is =
+        let now = subst (λ (rs : List Ref). Suffice P row begun listed rs (λ cells. IsWatched P row cells root)) is given in (
+          All-contains (IsInRange P (length row)) (new ++ next ∷ []) next now.in_range (Contains-push new next),
+          record {
+            in_range = all_left (IsInRange P (length row)) new (next ∷ []) now.in_range;
+            owes = λ cells sub all watched. now.owes cells sub (All-push (IsWatched P row cells) new next all watched);
+          },
+        )
+
+    -- and where nothing is on it, all was gathered.
+    pub suffice_nothing : (visits : List Ref) (had gained listed : List ℕ)
+        → Suffice P row begun listed visits (λ cells. IsWatched P row cells root) → visits ≡ [] → listed ≡ had ++ gained → begun ≡ length had
+        → IsWatched P row gained root
+    suffice_nothing visits had gained listed given none longer start =
+        let behind : drop begun listed ≡ gained =
+        ap (drop begun) longer ∙ ap (λ (n : ℕ). drop n (had ++ gained)) start ∙ drop-append_seam had gained in
+        given.owes gained (λ cell c. subst (λ (l : List ℕ). Contains l cell) behind c)
+        (subst (All (IsWatched P row gained)) (sym none) (All-nil (IsWatched P row gained)))

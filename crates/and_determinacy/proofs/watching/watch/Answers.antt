@@ -1,0 +1,77 @@
+use Rattle.std.proofs.Common.{ℕ, ◌≡◌, ◌<◌, Some, true, length, refl, sym, subst}
+use Rattle.std.specs.Prelude.{slice_get}
+use Rattle.and_program.specs.Loaded.{nodes_at}
+use Rattle.and_program.specs.Skeletons.{call}
+use Rattle.and_cells.specs.Ranges.{NamedProgram, IsInRange}
+use Rattle.and_determinacy.specs.Watching.{IsWatched}
+use Rattle.and_determinacy.proofs.Calls.{has_node, node_is}
+use Rattle.and_determinacy.proofs.Prepared.{loaded_is}
+use Rattle.and_determinacy.proofs.Resting.{rests_on}
+use Rattle.and_determinacy.proofs.SideAnswers.{resolved_is, falls_in}
+use Rattle.and_determinacy.proofs.TriedClauses.{part_in_range}
+use Rattle.and_determinacy.proofs.watching.watch.Goals as goal
+
+pub call_at-requires-clause-call : goal.call_at-requires-clause-call
+call_at-requires-clause-call g c =
+    let P = g.N.Naming.program in
+    let goal = c.args.goal in
+    let facts = loaded_is P c.args.loaded.now c.requires.program c.skeleton_is_of_the_program.ensures.skeleton
+    c.skeleton_is_of_the_program.ensures.own_variables c.skeleton_is_of_the_program.ensures.few in
+    subst (λ (Q : NamedProgram). (n : ℕ) × (slice_get (nodes_at Q.skeleton goal.clause.0).items goal.item ≡ Some (call n)))
+    c.requires.program (has_node P facts c.args.cells.now goal c.requires.goal)
+
+pub resolve-root-requires-clause-there : goal.resolve-root-requires-clause-there
+resolve-root-requires-clause-there g c =
+    let P = g.N.Naming.program in
+    let goal = c.args.goal in
+    let facts = loaded_is P c.args.loaded.now c.requires.program c.skeleton_is_of_the_program.ensures.skeleton
+    c.skeleton_is_of_the_program.ensures.own_variables c.skeleton_is_of_the_program.ensures.few in
+    let node = node_is P facts c.args.cells.now goal c.requires.goal c.call_at.result.0
+    (subst (λ (Q : NamedProgram). slice_get (nodes_at Q.skeleton goal.clause.0).items goal.item ≡ Some (call c.call_at.result.0))
+    (sym c.requires.program) c.call_at.ensures) in
+    subst (λ (Q : NamedProgram). c.call_at.result.0 < length Q.skeleton.nodes) c.requires.program node.reads.in_range.there
+
+pub resolve-root-requires-clause-base : goal.resolve-root-requires-clause-base
+resolve-root-requires-clause-base g c =
+    let P = g.N.Naming.program in
+    let goal = c.args.goal in
+    let facts = loaded_is P c.args.loaded.now c.requires.program c.skeleton_is_of_the_program.ensures.skeleton
+    c.skeleton_is_of_the_program.ensures.own_variables c.skeleton_is_of_the_program.ensures.few in
+    let node = node_is P facts c.args.cells.now goal c.requires.goal c.call_at.result.0
+    (subst (λ (Q : NamedProgram). slice_get (nodes_at Q.skeleton goal.clause.0).items goal.item ≡ Some (call c.call_at.result.0))
+    (sym c.requires.program) c.call_at.ensures) in
+    node.reads.in_range.base_below
+
+pub gather-requires-clause-in_range : goal.gather-requires-clause-in_range
+gather-requires-clause-in_range g c =
+    let P = g.N.Naming.program in
+    let goal = c.args.goal in
+    let row = c.args.cells.now in
+    let facts = loaded_is P c.args.loaded.now c.requires.program c.skeleton_is_of_the_program.ensures.skeleton
+    c.skeleton_is_of_the_program.ensures.own_variables c.skeleton_is_of_the_program.ensures.few in
+    let node = node_is P facts row goal c.requires.goal c.call_at.result.0
+    (subst (λ (Q : NamedProgram). slice_get (nodes_at Q.skeleton goal.clause.0).items goal.item ≡ Some (call c.call_at.result.0))
+    (sym c.requires.program) c.call_at.ensures) in
+    let fall = falls_in P c.args.loaded.now c.requires.program c.skeleton_is_of_the_program.ensures.skeleton.0 in
+    let is = resolved_is P c.args.loaded.now c.call_at.result goal.base c.resolve-root.result c.requires.program c.resolve-root.ensures in
+    subst (IsInRange P (length row)) (sym is) (part_in_range P (length row) c.call_at.result.0 goal.base fall node.reads.in_range)
+
+pub returns-else-not-all-clause-all : goal.returns-else-not-all-clause-all
+returns-else-not-all-clause-all g c = λ e.
+    let P = g.N.Naming.program in
+    let goal = c.args.goal in
+    let row = c.args.cells.now in
+    let facts = loaded_is P c.args.loaded.now c.requires.program c.skeleton_is_of_the_program.ensures.skeleton
+    c.skeleton_is_of_the_program.ensures.own_variables c.skeleton_is_of_the_program.ensures.few in
+    let node = node_is P facts row goal c.requires.goal c.call_at.result.0
+    (subst (λ (Q : NamedProgram). slice_get (nodes_at Q.skeleton goal.clause.0).items goal.item ≡ Some (call c.call_at.result.0))
+    (sym c.requires.program) c.call_at.ensures) in
+    let fall = falls_in P c.args.loaded.now c.requires.program c.skeleton_is_of_the_program.ensures.skeleton.0 in
+    let is = resolved_is P c.args.loaded.now c.call_at.result goal.base c.resolve-root.result c.requires.program c.resolve-root.ensures in
+    let found = c.in_ok-all.ensures c.in_ok-all.all refl in
+    let all : c.in_ok-all.all ≡ true = cc in (
+      found.0,
+      found.1,
+      rests_on P row goal c.call_at.result.0 found.0 fall c.len-words.ensures.sound c.requires.settled node
+          (subst (IsWatched P row found.0) is (found.2 all)),
+    )

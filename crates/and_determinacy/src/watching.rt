@@ -1,0 +1,169 @@
+//! The cells on which the candidates of a call rest.
+
+ghost use Rattle.std.specs.Prelude.{◌≡◌, ◌++◌, ◌<◌, ◌≤◌, ◌^◌, ℕ, Bool, List, Some, Ok, true, false, length, slice_get, OnOk};
+ghost use Rattle.and_model.specs.declared.reference.Ref.{Ref};
+ghost use Rattle.and_program.specs.Loaded.{nodes_at, program_of, skeleton_of};
+ghost use Rattle.and_program.specs.Skeletons.{AllFall, call};
+ghost use Rattle.and_cells.specs.Ranges.{IsInRange};
+ghost use Rattle.and_cells.specs.Meaning.{IsSettled};
+ghost use Rattle.and_cells.specs.Parts.{named, parts_of};
+ghost use Rattle.and_determinacy.specs.Candidates.{CanBeJudged};
+ghost use Rattle.and_determinacy.specs.Watching.{RestsOn, IsWatched, IsListed, IsFollowed};
+
+use crate::prints::count_in;
+use and_cells::{Naming, PlainCells};
+use and_model::{ClauseNo, Goal, NodeNo, Ref};
+use and_program::{ItemNode, Loaded};
+use std::alloc::AllocError;
+
+/// How many places of a call's term are looked at, at most.
+const MOST_PLACES: u32 = 128;
+
+/// Puts on a list the free cells that the term of a call holds, on which its candidates rest, and
+/// answers whether these are all. Where the term has too many places, it answers that they are not,
+/// and leaves the list as it was.
+///
+/// Takes memory for the list, and for that of what is still to be looked at, which its caller keeps
+/// and uses again. An error is want of memory.
+pub fn watch<N: Naming>(
+    loaded: &Loaded,
+    cells: &PlainCells<N>,
+    goal: Goal,
+    visits: &mut Vec<Ref>,
+    out: &mut Vec<u32>,
+) -> Result<bool, AllocError>
+    requires program { N.program ≡ named loaded.now }
+    requires settled { IsSettled N.program cells.now }
+    requires goal { CanBeJudged N.program cells.now goal }
+    ensures all { result ≡ Ok true → (gained : List ℕ) × (out.new.items ≡ out.old.items ++ gained) × RestsOn N.program cells.now goal gained }
+    ensures none { result ≡ Ok false → out.new.items ≡ out.old.items }
+{
+    loaded.skeleton_is_of_the_program();
+    let _words = cells.len();
+    let begun = out.len();
+    let root = loaded.resolve(call_at(loaded, goal.clause, goal.item), goal.base);
+    let all = gather(loaded, cells, root, visits, out)?;
+    if !all {
+        out.truncate(begun);
+    }
+    Ok(all)
+}
+
+/// The node of a call, by its place in the body of a clause.
+fn call_at(loaded: &Loaded, clause: ClauseNo, item: u32) -> NodeNo
+    requires clause { clause.0 ≤ length (program_of loaded.now).clauses }
+    requires call { (node : ℕ) × (slice_get (nodes_at (skeleton_of loaded.now) clause.0).items item ≡ Some (call node)) }
+    ensures { slice_get (nodes_at (skeleton_of loaded.now) clause.0).items item ≡ Some (call result.0) }
+{
+    let ItemNode::Call { goal } = loaded.items(clause)[item as usize] else {
+        unreachable!()
+    };
+    goal
+}
+
+/// Puts on a list the free cells that the term of a reference holds, and answers whether these are
+/// all. An error is want of memory.
+fn gather<N: Naming>(
+    loaded: &Loaded,
+    cells: &PlainCells<N>,
+    root: Ref,
+    visits: &mut Vec<Ref>,
+    out: &mut Vec<u32>,
+) -> Result<bool, AllocError>
+    requires program { N.program ≡ named loaded.now }
+    requires falls { AllFall 0 N.program.skeleton.nodes }
+    requires in_range { IsInRange N.program (length cells.now) root }
+    ensures { (all : Bool) → result ≡ Ok all → (gained : List ℕ) × (out.new.items ≡ out.old.items ++ gained)
+        × (all ≡ true → IsWatched N.program cells.now gained root) }
+{
+    visits.clear();
+    let begun = out.len();
+    let mut at = root;
+    let mut left = MOST_PLACES;
+    while left > 0 {
+        left -= 1;
+        follow(loaded, cells, at, begun, visits, out)?;
+        match visits.pop() {
+            Some(next) => at = next,
+            None => return Ok(true),
+        }
+    }
+    Ok(false)
+}
+
+/// Puts what a place is on a list, if it is a free cell, and what else it leads to on that of visits.
+/// An error is want of memory.
+fn follow<N: Naming>(
+    loaded: &Loaded,
+    cells: &PlainCells<N>,
+    at: Ref,
+    begun: usize,
+    visits: &mut Vec<Ref>,
+    out: &mut Vec<u32>,
+) -> Result<(), AllocError>
+    requires program { N.program ≡ named loaded.now }
+    requires falls { AllFall 0 N.program.skeleton.nodes }
+    requires in_range { IsInRange N.program (length cells.now) at }
+    requires begun { begun ≤ length out.old.items }
+    ensures { OnOk result (IsFollowed N.program cells.now begun at visits.old.items visits.new.items out.old.items out.new.items) }
+{
+    match at {
+        Ref::Cell(cell) => follow_cell(cells, cell, begun, visits, out),
+        Ref::Node { node, base } => put_parts(loaded, node, base, visits),
+        Ref::Number(_) => Ok(()),
+        Ref::Free => unreachable!(),
+        Ref::Half(_) => unreachable!(),
+    }
+}
+
+/// Puts a cell on a list if it is free, and what it is set to on that of visits. An error is want of
+/// memory.
+fn follow_cell<N: Naming>(
+    cells: &PlainCells<N>,
+    cell: u32,
+    begun: usize,
+    visits: &mut Vec<Ref>,
+    out: &mut Vec<u32>,
+) -> Result<(), AllocError>
+    requires in_range { cell < length cells.now }
+    requires begun { begun ≤ length out.old.items }
+    ensures { OnOk result (IsFollowed N.program cells.now begun (Ref.Cell cell) visits.old.items visits.new.items out.old.items out.new.items) }
+{
+    let word = cells.word(cell);
+    match word {
+        Ref::Free => list_cell(cell, begun, out)?,
+        Ref::Cell(_) => visits.push(word)?,
+        Ref::Node { .. } => visits.push(word)?,
+        Ref::Number(_) => {}
+        Ref::Half(_) => {}
+    }
+    Ok(())
+}
+
+/// Puts a cell at the end of a list, if it is not there from this place on. An error is want of memory.
+fn list_cell(cell: u32, begun: usize, out: &mut Vec<u32>) -> Result<(), AllocError>
+    requires { begun ≤ length out.old.items }
+    ensures { OnOk result (IsListed cell begun out.old.items out.new.items) }
+{
+    if !out[begun..].contains(&cell) {
+        out.push(cell)?;
+    }
+    Ok(())
+}
+
+/// Puts the parts of a structure on a list. An error is want of memory.
+fn put_parts(
+    loaded: &Loaded,
+    node: NodeNo,
+    base: u32,
+    visits: &mut Vec<Ref>,
+) -> Result<(), AllocError>
+    requires there { node.0 < length (skeleton_of loaded.now).nodes }
+    requires base { base < 2 ^ 23 }
+    ensures { OnOk result (visits.new.items ≡ visits.old.items ++ parts_of (named loaded.now) (Ref.Node node base)) }
+{
+    for place in 0..count_in(loaded.kind(node)) {
+        visits.push(loaded.resolve(loaded.argument(node, place), base))?;
+    }
+    Ok(())
+}
