@@ -21,6 +21,7 @@ use Rattle.and_reduction.specs.Runs.{IsWaiting, CanBeRun, HasRun, CannotHold}
 use Rattle.and_branch.specs.Branches.{Held, is_arithmetic, IsArithmeticGoal, Lives, IsBranchOf}
 use Rattle.and_branch.specs.Finding.{IsCallGoal, IsCallOrArithmetic, IsSeen}
 use Rattle.and_branch.specs.Resting.{IsRewound, Passes, AllWait, count}
+use Rattle.and_branch.specs.Watching.{Watched}
 use Rattle.and_branch.proofs.GoalsRun.{live_of, reached_fits, run_branch, false_branch}
 use Rattle.and_branch.proofs.MovedBranches.{moved_branch}
 use Rattle.and_branch.proofs.SeenGoals.{kept_seen}
@@ -92,7 +93,7 @@ module _ (P : NamedProgram) (loaded : IsLoaded P) (b : Held) (t : QueryTree P.pr
     -- So the branch stands for the same tree,
     pub ran_branch : (new : List Ref) → HasRun P b.row new g → IsBranchOf P (record b { row = new; right = rest }) t
     ran_branch new h = run_branch P loaded b (record b { row = new; right = rest }) t x live (record { key = refl; limit = refl }) refl refl
-        g rest next h refl refl live
+        g rest next h refl refl live refl
 
     -- or is marked failed.
     pub failed_branch : (new : List Ref) → CannotHold P b.row g → IsBranchOf P (record b { row = new; right = rest; is_failed = true }) t
@@ -115,6 +116,7 @@ rewound_branch P old new t r x = moved_branch P old new t (record {
   used = r.used;
   is_failed = r.is_failed;
   goals = ap (λ (gs : List Goal). gs ++ new.right) r.left ∙ r.right;
+  watches = λ w h. subst (λ (ws : List Watched). Contains ws w) r.watches h;
 }) x
 
 -- ---- The next goal was passed over

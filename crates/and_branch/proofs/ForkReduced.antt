@@ -54,7 +54,7 @@ item_among (x ∷ kept) f h i same = elim (contains_cases x f kept i) [
 
 -- The key is of no account.
 other_key : (P : NamedProgram) (b : Held) (key : List ℕ) (t : QueryTree P.program) → Lives P b t → Lives P (record b { key = key }) t
-other_key P b key t l = record { kept = l.kept; keeps = l.keeps; goals = l.goals; long = l.long; live = l.live }
+other_key P b key t l = record { kept = l.kept; keeps = l.keeps; goals = l.goals; long = l.long; live = l.live; asleep = l.asleep }
 
 module _ (P : NamedProgram) (b : Held) (t : QueryTree P.program) (x : IsBranchOf P b t) (o : Open t) (goal : Goal)
     (is_open : IsOpenGoal P b.reductions t o goal) (cs : List ℕ) (cut : Option ℕ)

@@ -13,7 +13,8 @@ use Rattle.and_cells.specs.Ranges.{NamedProgram}
 use Rattle.and_branch_laws.specs.Judging.{CandidateInCells, SoleInCells, FitsBehind}
 use Rattle.and_branch_laws.specs.Kept.{item_at}
 use Rattle.and_branch.specs.Branches.{is_arithmetic, IsArithmeticGoal}
-use Rattle.and_branch.specs.Finding.{IsCallGoal, AllCalls, HasOne, HasTwo, HasNoSole, HasNoFitting, IsCallAmong, IsSeveral, IsHeavy}
+use Rattle.and_branch.specs.Watching.{HasTwo}
+use Rattle.and_branch.specs.Finding.{IsCallGoal, AllCalls, HasOne, HasNoSole, HasNoFitting, IsCallAmong, IsSeveral, IsHeavy}
 use Rattle.and_branch.specs.Finding.{IsFitting}
 use Rattle.and_branch.specs.Finding.{IsStuck, HasFound, HasSeen, with_several, with_one, with_seen}
 use Rattle.and_branch.specs.declared.finding.Found.{Found}

@@ -24,8 +24,10 @@ use Rattle.and_reduction.specs.Runs as runs
 use Rattle.and_branch.specs.Branches.{Held, Lives, IsBranchOf, IsOpenGoal, SameKey}
 use Rattle.and_branch.specs.Next.{IsReduced}
 use Rattle.and_branch.specs.Rounds.{IsAtMost}
+use Rattle.and_branch.specs.Watching.{Watched}
 use Rattle.and_branch.proofs.ClausesOf.{of_applied}
-use Rattle.and_branch.proofs.LivingGoals.{Found, found, is_kept, is_framed, is_called}
+use Rattle.and_branch.proofs.GrownRows.{run_grows, sleeps_on}
+use Rattle.and_branch.proofs.LivingGoals.{Found, found, is_kept, is_framed, is_called, free_pair}
 use Rattle.and_branch.proofs.CallItems.{open_is_call}
 
 -- ---- What kept goals are
@@ -102,9 +104,11 @@ module _ (P : NamedProgram) (loaded : IsLoaded P) (old new : Held) (t : QueryTre
   the_goal = found P old t old.left g rest lives (ap (λ (l : List Goal). old.left ++ l) next)
 
   -- The next goal was run.
-  pub run_branch : HasRun P old.row new.row g → new.left ≡ old.left → new.right ≡ rest → new.is_failed ≡ false → IsBranchOf P new t
-  run_branch run left_is right_is new_live =
+  pub run_branch : HasRun P old.row new.row g → new.left ≡ old.left → new.right ≡ rest → new.is_failed ≡ false → new.watches ≡ old.watches
+      → IsBranchOf P new t
+  run_branch run left_is right_is new_live watches_are =
       let y = the_goal in
+      let grows = run_grows P old.row new.row g (free_pair P old t old.left g rest y) run in
       let kept = run_keeps P loaded old.reductions old.row new.row y.front y.f y.back t y.keeps
       (subst (λ (h : Goal). HasRun P old.row new.row h) (sym y.goal_is) run) in
       let keeps : Kept P new.reductions new.row (y.front ++ y.back) t =
@@ -124,6 +128,8 @@ module _ (P : NamedProgram) (loaded : IsLoaded P) (old new : Held) (t : QueryTre
           goals = goals;
           long = keeps.long ∙ x.used ∙ sym used;
           live = new_live;
+          asleep = λ w h. sleeps_on P old.row new.row w grows
+              (lives.asleep w (subst (λ (ws : List Watched). Contains ws w) watches_are h));
         });
       }
 

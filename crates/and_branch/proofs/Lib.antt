@@ -25,3 +25,7 @@ pub mod StilledBranches
 pub mod StandingBranches
 pub mod RebuiltBranches
 pub mod FramesRead
+pub mod GrownRows
+pub mod WatchedGoals
+pub mod EntriesKept
+pub mod PassedGoals

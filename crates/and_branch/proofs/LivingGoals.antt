@@ -99,6 +99,12 @@ module _ (P : NamedProgram) (b : Held) (t : QueryTree P.program) (before : List 
       subst (λ (h : Goal). IsGoalInRange P (length b.row) h) x.goal_is
       (All-contains (λ (f : Framed). IsGoalInRange P (length b.row) f.goal) (x.front ++ x.f ∷ x.back) x.f k.in_range is_kept)
 
+  pub free_pair : HasFreePair P b.row g (node_item_at P g)
+  free_pair =
+      let k = x.keeps in
+      subst (λ (h : Goal). HasFreePair P b.row h (node_item_at P h)) x.goal_is
+      (All-contains (λ (f : Framed). HasFreePair P b.row f.goal (node_item_at P f.goal)) (x.front ++ x.f ∷ x.back) x.f k.free is_kept)
+
   pub can_be_judged : IsLoaded P → (term : Term) → item_at P.program g ≡ call term → CanBeJudged P b.row g
   can_be_judged loaded term e = record { in_range = goal_in_range; term = term; is_call = e; whole = whole_cells loaded }
 
@@ -109,9 +115,7 @@ module _ (P : NamedProgram) (b : Held) (t : QueryTree P.program) (before : List 
         what = a;
         is_arithmetic = e;
         whole = whole_cells loaded;
-        free = subst (λ (h : Goal). HasFreePair P b.row h (node_item_at P h)) x.goal_is
-            (All-contains (λ (f : Framed). HasFreePair P b.row f.goal (node_item_at P f.goal))
-            (x.front ++ x.f ∷ x.back) x.f k.free is_kept);
+        free = free_pair;
         unnamed = subst (λ (h : Goal). HasUnnamedPair P b.row h (node_item_at P h)) x.goal_is
             (kept_pair_is_unnamed P loaded b.reductions b.row (x.front ++ x.f ∷ x.back) t k x.f is_kept);
       }

@@ -1,6 +1,6 @@
 -- What a look at the next goal of a branch comes to.
-use Rattle.std.proofs.Common.{ℕ, ◌≡◌, ◌+◌, ◌<◌, ◌≤◌, Bool, true, List, []}
-use Rattle.std.proofs.Common.{◌∷◌, ◌++◌, length, ap, sym, ◌∙◌, subst, inl, inr, ◌⊎◌, arith}
+use Rattle.std.proofs.Common.{ℕ, ◌≡◌, ◌+◌, ◌<◌, ◌≤◌, Bool, true, false, cond, List, []}
+use Rattle.std.proofs.Common.{◌∷◌, ◌++◌, length, refl, ap, sym, ◌∙◌, subst, inl, inr, ◌⊎◌, arith}
 use Rattle.and_model.specs.Terms.{Term}
 use Rattle.and_model.specs.Programs.{call, arithmetic, Arithmetic, clause_at, clause_weight, Of}
 use Rattle.and_model.specs.Reached.{Steps, none, more}
@@ -20,13 +20,15 @@ use Rattle.and_branch_laws.specs.Kept.{item_at}
 use Rattle.and_determinacy.specs.Candidates.{CanBeJudged}
 use Rattle.and_reduction.specs.Runs.{CanBeRun, IsWaiting, HasRun, CannotHold}
 use Rattle.and_branch.specs.Branches.{Held, Lives, IsBranch, IsBranchOf, SameKey, is_arithmetic, IsArithmeticGoal}
-use Rattle.and_branch.specs.Finding.{HasTwo, HasSeen}
+use Rattle.and_branch.specs.Finding.{HasSeen}
 use Rattle.and_branch.specs.Next.{HasNextCall, IsReduced, IsMoved}
-use Rattle.and_branch.specs.Rounds.{IsAtMost, IsIdle, StepsOn, AreFew, HasProgressed, HasPassed, IsAt}
+use Rattle.and_branch.specs.Rounds.{IsAtMost, IsIdle, StepsOn, AreFew, HasProgressed, WatchesOn, IsWatched, HasPassed, IsAt}
+use Rattle.and_branch.specs.Watching.{HasTwo, Sleeps}
 use Rattle.and_branch.specs.declared.finding.Seen.{Seen}
 use Rattle.and_branch.specs.declared.finding.Seen.TheVariants as seen
 use Rattle.and_branch.proofs.LivingGoals.{Found, found, is_kept, goal_in_range, can_be_judged, can_be_run}
 use Rattle.and_branch.proofs.MovedBranches.{moved_branch}
+use Rattle.and_branch.proofs.WatchedGoals.{watching_steps, watched_sleeps}
 use Rattle.and_branch.proofs.GoalsRun.{kind_of_kept, live_of, run_branch, false_branch, idle_branch, last_branch, branch_fits}
 
 -- ---- What holds at a goal
@@ -117,20 +119,25 @@ pub unmoved : (old mid : Held) → mid ≡ record old { row = mid.row } → mid.
 unmoved old mid others row = others ∙ ap (λ (l : List Ref). record old { row = l }) row
 
 -- what is passed over is idle,
-pub passed : (P : NamedProgram) (may : Bool) (old mid new : Held) (g : Goal) (saw : Seen) (x : IsAt P old g) → mid ≡ old → IsMoved mid new
+pub passed : (P : NamedProgram) (may : Bool) (old mid new : Held) (g : Goal) (saw : Seen) (x : IsAt P old g) → WatchesOn P old mid → IsMoved mid new
     → ((h : Goal) (rest : List Goal) → mid.right ≡ h ∷ rest → (new.right ≡ rest) × (new.left ≡ mid.left ++ h ∷ []))
     → (may ≡ true → IsIdle P old.limit old.row g × HasSeen P old.limit old.row g saw) → HasPassed P may old new g saw × StepsOn P old new
-passed P may old mid new g saw x same =
-    subst (λ (m : Held). IsMoved m new
-    → ((h : Goal) (rest : List Goal) → m.right ≡ h ∷ rest → (new.right ≡ rest) × (new.left ≡ m.left ++ h ∷ []))
-    → (may ≡ true → IsIdle P old.limit old.row g × HasSeen P old.limit old.row g saw) → HasPassed P may old new g saw × StepsOn P old new)
-    (sym same)
-    (λ moved passes idle.
-    (
-    let ends = passes g x.rest x.next in (
-      record { moved = moved; next = x.next ∙ ap (λ (l : List Goal). g ∷ l) (sym ends.0); passed = ends.1; idle = idle },
-      moved_steps P old new moved,
-    )))
+passed P may old mid new g saw x watches moved passes idle =
+    let same : mid ≡ record old { watches = mid.watches } = watches.others in
+    let ends = passes g x.rest (ap (λ (b : Held). b.right) same ∙ x.next) in (
+      record {
+        alike = record {
+          limit = moved.limit ∙ ap (λ (b : Held). b.limit) same;
+          row = moved.row ∙ ap (λ (b : Held). b.row) same;
+          used = moved.used ∙ ap (λ (b : Held). b.used) same;
+          goals = moved.goals ∙ ap (λ (b : Held). b.left ++ b.right) same;
+        };
+        next = x.next ∙ ap (λ (l : List Goal). g ∷ l) (sym ends.0);
+        passed = ends.1 ∙ ap (λ (b : Held). b.left ++ g ∷ []) same;
+        idle = idle;
+      },
+      steps_then P old mid new (watching_steps P old mid watches) (moved_steps P mid new moved),
+    )
 
 -- as arithmetic that waits is,
 pub idle_waiting : (P : NamedProgram) (limit : ℕ) (row : List Ref) (g : Goal) (a : Arithmetic) → item_at P.program g ≡ arithmetic a
@@ -150,6 +157,15 @@ idle_several P limit row g term e (c, d, other, one, two) = (
   },
   (ap is_arithmetic e, (c, d, other, one, two)),
 )
+
+-- or that sleeps;
+pub idle_asleep : (P : NamedProgram) (limit : ℕ) (row : List Ref) (g : Goal) (called : Bool)
+    → (called ≡ true → (term : Term) × (item_at P.program g ≡ call term))
+    → (called ≡ false → (a : Arithmetic) × (item_at P.program g ≡ arithmetic a)) → Sleeps P row g
+    → IsIdle P limit row g × HasSeen P limit row g (cond called seen.Several seen.Arithmetic)
+idle_asleep P limit row g true calls runs asleep =
+    let is = calls refl in idle_several P limit row g is.0 is.1 (asleep.several is.0 is.1)
+idle_asleep P limit row g false calls runs asleep = let is = runs refl in idle_waiting P limit row g is.0 is.1 asleep.waits
 
 -- or for whose only one there is no room.
 heavy_is_idle : (P : NamedProgram) (b : Held) (g : Goal) (x : IsAt P b g) (term : Term) → item_at P.program g ≡ call term
@@ -171,6 +187,22 @@ pub idle_heavy : (P : NamedProgram) (b : Held) (g : Goal) (x : IsAt P b g) (term
     → (sole : ClauseNo) → SoleInCells P b.row g sole.0 → IsIdle P b.limit b.row g × HasSeen P b.limit b.row g (seen.Heavy sole)
 idle_heavy P b g x term e k only no_room sole is =
     let idle = heavy_is_idle P b g x term e k only no_room in (idle, (ap is_arithmetic e, is, idle.several term e sole.0 is))
+
+-- a goal that is asleep is passed over
+pub asleep_passed : (P : NamedProgram) (may : Bool) (old mid new : Held) (g : Goal) (called : Bool) (x : IsAt P old g) → IsWatched old g
+    → WatchesOn P old mid → IsMoved mid new
+    → ((h : Goal) (rest : List Goal) → mid.right ≡ h ∷ rest → (new.right ≡ rest) × (new.left ≡ mid.left ++ h ∷ []))
+    → (called ≡ true → (term : Term) × (item_at P.program g ≡ call term))
+    → (called ≡ false → (a : Arithmetic) × (item_at P.program g ≡ arithmetic a))
+    → HasPassed P may old new g (cond called seen.Several seen.Arithmetic) × StepsOn P old new
+asleep_passed P may old mid new g called x watched watches moved passes calls runs =
+    passed P may old mid new g (cond called seen.Several seen.Arithmetic) x watches moved passes
+    (λ _. idle_asleep P old.limit old.row g called calls runs (watched_sleeps P old g x watched))
+
+-- the next goal is still there where other goals are watched
+pub next_still : (P : NamedProgram) (old mid : Held) (g : Goal) → WatchesOn P old mid → IsAt P old g
+    → (h : Goal) × (rest : List Goal) × (mid.right ≡ h ∷ rest)
+next_still P old mid g watches x = (g, x.rest, ap (λ (b : Held). b.right) watches.others ∙ x.next)
 
 -- ---- Running, reducing and failing
 
@@ -199,7 +231,7 @@ ran P loaded old mid new g x mid_is run dropped few =
               (record { key = ap (λ (h : Held). h.key) new_is; limit = ap (λ (h : Held). h.limit) new_is })
               (ap (λ (h : Held). h.reductions) new_is) used g x.rest x.next
               (subst (λ (l : List Ref). HasRun P old.row l g) (sym (ap (λ (h : Held). h.row) new_is)) run)
-              left right (ap (λ (h : Held). h.is_failed) new_is ∙ x.live),
+              left right (ap (λ (h : Held). h.is_failed) new_is ∙ x.live) (ap (λ (h : Held). h.watches) new_is),
           none t,
         );
       },

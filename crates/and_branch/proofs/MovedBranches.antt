@@ -13,6 +13,7 @@ use Rattle.and_branch_laws.specs.States.{StateOf, failed, determinate}
 use Rattle.and_branch_laws.proofs.OneState
 use Rattle.and_branch.specs.Branches.{Held, Lives, IsBranchOf, IsOpenGoal}
 use Rattle.and_branch.specs.Next.{IsMoved}
+use Rattle.and_branch.specs.Watching.{IsAsleep}
 
 pub moved_lives : (P : NamedProgram) (old new : Held) (t : QueryTree P.program) → IsMoved old new → Lives P old t → Lives P new t
 moved_lives P old new t m lives =
@@ -23,6 +24,7 @@ moved_lives P old new t m lives =
       goals = lives.goals ∙ sym m.goals;
       long = ap (λ (l : List Ref). length l) m.row ∙ lives.long ∙ sym m.used;
       live = m.is_failed ∙ lives.live;
+      asleep = λ w h. subst (λ (l : List Ref). IsAsleep P l w) (sym m.row) (lives.asleep w (m.watches w h));
     }
 
 pub moved_branch : (P : NamedProgram) (old new : Held) (t : QueryTree P.program) → IsMoved old new → IsBranchOf P old t → IsBranchOf P new t
@@ -48,10 +50,20 @@ moved_twice one two three m n = record {
   used = n.used ∙ m.used;
   is_failed = n.is_failed ∙ m.is_failed;
   goals = n.goals ∙ m.goals;
+  watches = λ w h. m.watches w (n.watches w h);
 }
 
 pub moved_nowhere : (b : Held) → IsMoved b b
-moved_nowhere b = record { key = refl; limit = refl; reductions = refl; row = refl; used = refl; is_failed = refl; goals = refl }
+moved_nowhere b = record {
+  key = refl;
+  limit = refl;
+  reductions = refl;
+  row = refl;
+  used = refl;
+  is_failed = refl;
+  goals = refl;
+  watches = λ w h. h;
+}
 
 -- A tree that is not failed is not dead, and the branch lives.
 pub determinate_lives : (P : NamedProgram) (b : Held) (t : QueryTree P.program) (o : Open t) (c : ℕ) → IsBranchOf P b t

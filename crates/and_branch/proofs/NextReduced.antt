@@ -1,6 +1,6 @@
 -- The next goal, reduced by a clause.
 use Rattle.std.proofs.Common.{ℕ, suc, ◌≡◌, ◌+◌, ◌≤◌, true, false, List, [], ◌∷◌, ◌++◌}
-use Rattle.std.proofs.Common.{length, map, append-nil, refl, ap, sym, ◌∙◌, subst, inl, inr, arith}
+use Rattle.std.proofs.Common.{length, map, append-nil, refl, ap, sym, ◌∙◌, subst, inl, inr, arith, Contains}
 use Rattle.std.proofs.lemmas.List.{map-append}
 use Rattle.and_model.specs.Terms.{Path, Term}
 use Rattle.and_model.specs.Solutions.{Solvable}
@@ -22,6 +22,8 @@ use Rattle.and_branch_laws.proofs.Stepping
 use Rattle.and_determinacy.specs.Candidates.{CanBeJudged}
 use Rattle.and_branch.specs.Branches.{Held, Lives, IsBranchOf, IsOpenGoal, SameKey}
 use Rattle.and_branch.specs.Next.{HasNextCall, IsReduced}
+use Rattle.and_branch.specs.Watching.{Watched}
+use Rattle.and_branch.proofs.GrownRows.{widened_grows, sleeps_on}
 use Rattle.and_branch.proofs.LivingGoals.{Found, found, is_called, path_of, can_be_judged}
 
 -- The goals of a body, without the paths of their frames, are the same in each frame.
@@ -81,9 +83,11 @@ module _ (P : NamedProgram) (loaded : IsLoaded P) (b new : Held) (t : QueryTree 
   pub reduced_lives :
       Settled P (widened b.row (clause_weight (clause_at P.program c))) new.row (reduction_in_cells P.program g c (length b.row))
       → new.is_failed ≡ false → new.left ≡ b.left
-      → new.right ≡ map goal_of (body_goals c b.used [] 0 (clause_at P.program c).body) ++ rest → IsBranchOf P new reduced
-  reduced_lives settled live left_is right_is =
+      → new.right ≡ map goal_of (body_goals c b.used [] 0 (clause_at P.program c).body) ++ rest → new.watches ≡ b.watches
+      → IsBranchOf P new reduced
+  reduced_lives settled live left_is right_is watches_are =
       let x = the_goal in
+      let grows = widened_grows P b.row new.row (clause_weight (clause_at P.program c)) (reduction_in_cells P.program g c (length b.row)) settled in
       let body : List Item = (clause_at P.program c).body in
       let inner : List Framed = body_goals c (length b.row) (x.f.frame ++ x.f.goal.item ∷ []) 0 body in
       let kept = Stepping.reductions_keep P loaded b.reductions b.row x.front x.f x.back t x.keeps called o path_is c of_it new.row
@@ -115,6 +119,8 @@ module _ (P : NamedProgram) (loaded : IsLoaded P) (b new : Held) (t : QueryTree 
           long = keeps.long
               ∙ new_weighs;
           live = live;
+          asleep = λ w h. sleeps_on P b.row new.row w grows
+              (lives.asleep w (subst (λ (ws : List Watched). Contains ws w) watches_are h));
         });
       }
 
@@ -152,13 +158,14 @@ module _ (P : NamedProgram) (loaded : IsLoaded P) (old b new : Held) (is : b ≡
   pub next_lives :
       Settled P (widened b.row (clause_weight (clause_at P.program c))) new.row (reduction_in_cells P.program goal c (length b.row))
       → new.is_failed ≡ b.is_failed → new.left ≡ b.left
-      → new.right ≡ map goal_of (body_goals c b.used [] 0 (clause_at P.program c).body) ++ back → IsReduced P old new c
-  next_lives settled live left_is right_is =
+      → new.right ≡ map goal_of (body_goals c b.used [] 0 (clause_at P.program c).body) ++ back → new.watches ≡ b.watches
+      → IsReduced P old new c
+  next_lives settled live left_is right_is watches_are =
       subst (λ (h : Held). IsReduced P h new c) is
       (record {
         stands = λ t o g rest of_it lives limit next is_open reached.
             reduced_lives P loaded b new t lives o goal back e (opened t o g rest next is_open) x.term (call_is P b c goal back x e) c of_it
-            reductions used (bounded limit) reached settled (live ∙ lives.live) left_is right_is;
+            reductions used (bounded limit) reached settled (live ∙ lives.live) left_is right_is watches_are;
       })
 
   pub next_dies :

@@ -1,6 +1,6 @@
 -- Branches that are made again of what a phase left.
 use Rattle.std.proofs.Common.{ℕ, ◌≡◌, ◌+◌, ◌≤◌, true, false, List, [], ◌∷◌, ◌++◌}
-use Rattle.std.proofs.Common.{refl, ap, sym, ◌∙◌, subst, inl, inr, arith, append-nil, append_assoc, length, suc, add-one, drop, drop-cons, slice_get, Some}
+use Rattle.std.proofs.Common.{refl, ap, sym, ◌∙◌, subst, inl, inr, arith, append-nil, append_assoc, length, suc, Contains, add-one, drop, drop-cons, slice_get, Some}
 use Rattle.std.proofs.lemmas.List.{map-append}
 use Rattle.std.proofs.lemmas.List.Sums.{sum_by-append}
 use Rattle.std.proofs.lemmas.Option.{slice_get_within, get_or_from_slice_get}
@@ -16,6 +16,7 @@ use Rattle.and_model.specs.declared.limits.TheConstants.{MAX_LIMIT}
 use Rattle.and_model.specs.declared.reference.Ref.{Ref}
 use Rattle.and_laws.proofs.Equality.{bool_cases}
 use Rattle.and_laws.proofs.Order.{blank_weighs, reduce_weight}
+use Rattle.and_laws.proofs.Ordered.{contains_none}
 use Rattle.and_phase_laws.proofs.Building.{steps_reach}
 use Rattle.and_cells.specs.Ranges.{NamedProgram}
 use Rattle.and_cells.specs.Rows.{IsSound}
@@ -32,6 +33,7 @@ use Rattle.and_branch_laws.specs.Kept.{Kept}
 use Rattle.and_branch_laws.specs.Settling.{Settled}
 use Rattle.and_branch_laws.proofs.Settling as settling
 use Rattle.and_branch.specs.Branches.{Held, Lives, IsBranchOf}
+use Rattle.and_branch.specs.Watching.{Watched}
 use Rattle.and_branch.specs.Rebuilding.{IsLeft, IsWorked, reductions_of, weights_of}
 use Rattle.and_branch.specs.declared.rebuilding.Worked.{Worked}
 
@@ -104,7 +106,7 @@ module _ {N : Type 0} (P : NamedProgram) (w : Worked N) (t u : QueryTree P.progr
 
   module _ (loaded : IsLoaded P) (b : Held) (key : b.key ≡ w.parts.key) (limit : b.limit ≡ w.parts.limit)
       (reductions : b.reductions ≡ reductions_of w) (used : b.used ≡ w.parts.used + weights_of P.program (all_written w.made))
-      (left_is : b.left ≡ w.goals.items) (right_is : b.right ≡ []) where
+      (left_is : b.left ≡ w.goals.items) (right_is : b.right ≡ []) (watches_are : b.watches ≡ []) where
     made : Makes P.program b.reductions u
     made = subst (λ (l : List Reduction). Makes P.program l u) (sym reductions) x.made
 
@@ -132,6 +134,7 @@ module _ {N : Type 0} (P : NamedProgram) (w : Worked N) (t u : QueryTree P.progr
           goals = l.goals ∙ sym left_is ∙ sym (append-nil b.left) ∙ ap (λ (gs : List Goal). b.left ++ gs) (sym right_is);
           long = keeps.long ∙ weighs;
           live = live;
+          asleep = λ v h. absurd (contains_none v (subst (λ (ws : List Watched). Contains ws v) watches_are h));
         }
 
     pub rebuilt : (b.is_failed ≡ true → w.failed ≡ false → Solvable (equations_with P w.cells w.pairs) → ⊥)

@@ -1,5 +1,5 @@
 -- The branch of a query.
-use Rattle.std.proofs.Common.{ℕ, ◌≡◌, ◌≤◌, true, false, List, [], ◌++◌, map, replicate, ap, sym, ◌∙◌, subst, inl, inr, arith}
+use Rattle.std.proofs.Common.{ℕ, ◌≡◌, ◌≤◌, true, false, List, [], ◌++◌, map, replicate, ap, sym, ◌∙◌, subst, inl, inr, arith, Contains}
 use Rattle.and_model.specs.Solutions.{Solvable}
 use Rattle.and_model.specs.Programs.{clause_weight}
 use Rattle.and_model.specs.Trees.{QueryTree, query_agenda, blank, weight}
@@ -11,6 +11,7 @@ use Rattle.and_model.specs.declared.limits.TheConstants.{MAX_LIMIT}
 use Rattle.and_model.specs.declared.reference.Ref.TheVariants.{Free}
 use Rattle.and_laws.proofs.Equality.{bool_cases}
 use Rattle.and_laws.proofs.Order.{blank_weighs}
+use Rattle.and_laws.proofs.Ordered.{contains_none}
 use Rattle.and_cells.specs.Ranges.{NamedProgram}
 use Rattle.and_cells.specs.Meaning.{equations_of}
 use Rattle.and_branch_laws.specs.OwnVariables.{IsLoaded}
@@ -20,6 +21,7 @@ use Rattle.and_branch_laws.specs.Settling.{Settled}
 use Rattle.and_branch_laws.specs.Kept.{goal_of, Kept}
 use Rattle.and_branch_laws.proofs.Rooting
 use Rattle.and_branch.specs.Branches.{Held, IsBranchOf}
+use Rattle.and_branch.specs.Watching.{Watched}
 
 module _ (P : NamedProgram) (loaded : IsLoaded P) (b : Held) (fits : clause_weight P.program.query ≤ b.limit) (limit : b.limit ≤ MAX_LIMIT)
     (key : b.key ≡ []) (reductions : b.reductions ≡ []) (used : b.used ≡ clause_weight P.program.query) where
@@ -46,8 +48,9 @@ module _ (P : NamedProgram) (loaded : IsLoaded P) (b : Held) (fits : clause_weig
   }
 
   pub root_lives : Settled P (replicate (clause_weight P.program.query) Free) b.row (body_equations (placed 0) P.program.query.body)
-      → b.is_failed ≡ false → b.left ≡ [] → b.right ≡ map goal_of (body_goals 0 0 [] 0 P.program.query.body) → IsBranchOf P b root
-  root_lives settled live left_is right_is =
+      → b.is_failed ≡ false → b.left ≡ [] → b.right ≡ map goal_of (body_goals 0 0 [] 0 P.program.query.body) → b.watches ≡ []
+      → IsBranchOf P b root
+  root_lives settled live left_is right_is watches_are =
       let goals : List Framed = body_goals 0 0 [] 0 P.program.query.body in
       let keeps : Kept P b.reductions b.row goals root =
       subst (λ (l : List Reduction). Kept P l b.row goals root) (sym reductions) (Rooting.root_kept P loaded b.row settled) in
@@ -62,6 +65,7 @@ module _ (P : NamedProgram) (loaded : IsLoaded P) (b : Held) (fits : clause_weig
           goals = sym right_is ∙ ap (λ (l : List Goal). l ++ b.right) (sym left_is);
           long = keeps.long ∙ weighs ∙ sym used;
           live = live;
+          asleep = λ w h. absurd (contains_none w (subst (λ (ws : List Watched). Contains ws w) watches_are h));
         });
       }
 
@@ -70,8 +74,8 @@ module _ (P : NamedProgram) (loaded : IsLoaded P) (b : Held) (fits : clause_weig
       → Solvable (equations_of P (replicate (clause_weight P.program.query) Free) ++ body_equations (placed 0) P.program.query.body) → ⊥)
       → (b.is_failed ≡ false
       → Settled P (replicate (clause_weight P.program.query) Free) b.row (body_equations (placed 0) P.program.query.body))
-      → b.left ≡ [] → b.right ≡ map goal_of (body_goals 0 0 [] 0 P.program.query.body) → IsBranchOf P b root
-  rooted dies lives left_is right_is = elim (bool_cases b.is_failed) [
+      → b.left ≡ [] → b.right ≡ map goal_of (body_goals 0 0 [] 0 P.program.query.body) → b.watches ≡ [] → IsBranchOf P b root
+  rooted dies lives left_is right_is watches_are = elim (bool_cases b.is_failed) [
     | inl failed ↦ root_dies (dies failed) failed
-    | inr live ↦ root_lives (lives live) live left_is right_is
+    | inr live ↦ root_lives (lives live) live left_is right_is watches_are
   ]

@@ -12,14 +12,13 @@ use Rattle.and_cells.specs.Ranges.{NamedProgram}
 use Rattle.and_branch.specs.Branches.{Held, IsBranch, SameKey}
 use Rattle.and_branch.specs.Finding.{HasFound, with_seen}
 use Rattle.and_branch.specs.Next.{IsMoved}
-use Rattle.and_branch.specs.Rounds.{IsIdle, StepsOn, AreFew, goal_count, HasProgressed, HasPassed, RoundIs}
+use Rattle.and_branch.specs.Rounds.{IsIdle, StepsOn, AreFew, goal_count, HasProgressed, IsAlike, WatchesOn, HasPassed, RoundIs}
 use Rattle.and_branch.specs.declared.advancing.Round.{Round}
 use Rattle.and_branch.specs.declared.advancing.Round.TheVariants as round
 use Rattle.and_branch.specs.declared.finding.Found.{Found}
 use Rattle.and_branch.specs.declared.finding.Found.TheVariants.{NoCall}
 use Rattle.and_branch.specs.declared.finding.Seen.{Seen}
 use Rattle.and_branch.proofs.GoalsFound.{found_seen}
-use Rattle.and_branch.proofs.MovedBranches.{moved_nowhere, moved_twice}
 use Rattle.and_branch.proofs.LookedGoals.{no_steps, steps_then, still_branch}
 
 -- Each goal that was passed over is idle.
@@ -30,27 +29,27 @@ pub record RoundStands (P : NamedProgram) (start now : Held) (changed : Bool) (b
   pub same : SameKey start now
   pub steps : StepsOn P start now
   pub branch : IsBranch P now
-  pub idle : changed ≡ false → IsMoved start now × LeftIdle P now × HasFound P now.limit now.row now.left found
+  pub idle : changed ≡ false → IsAlike start now × LeftIdle P now × HasFound P now.limit now.row now.left found
   pub progress : changed ≡ true → HasProgressed start now
   pub spent : budget ≡ 0 → changed ≡ true
 
 -- ---- Progress
 
-same_count : (old new : Held) → IsMoved old new → goal_count new ≡ goal_count old
+same_count : (old new : Held) → IsAlike old new → goal_count new ≡ goal_count old
 same_count old new m =
     let e = ap (λ (l : List Goal). length l) m.goals in
     let one = length-append new.left new.right in
     let other = length-append old.left old.right in
     omega arith
 
-then_moved : (one two three : Held) → HasProgressed one two → IsMoved two three → HasProgressed one three
-then_moved one two three (few, how) m =
+then_alike : (one two three : Held) → HasProgressed one two → IsAlike two three → HasProgressed one three
+then_alike one two three (few, how) m =
     let e = same_count two three m in
     let used = m.used in
     (omega arith, elim how [ inl grew ↦ inl (omega arith) | inr less ↦ let a = less.0 in let b = less.1 in inr (used ∙ a, omega arith) ])
 
-moved_then : (one two three : Held) → IsMoved one two → HasProgressed two three → HasProgressed one three
-moved_then one two three m (few, how) =
+alike_then : (one two three : Held) → IsAlike one two → HasProgressed two three → HasProgressed one three
+alike_then one two three m (few, how) =
     let e = same_count one two m in
     let used = m.used in
     (few, elim how [ inl grew ↦ inl (omega arith) | inr less ↦ let a = less.0 in let b = less.1 in inr (a ∙ used, omega arith) ])
@@ -67,6 +66,12 @@ progress_then one two three (few, how) (fewer, more) = (
   ],
 )
 
+alike_twice : (one two three : Held) → IsAlike one two → IsAlike two three → IsAlike one three
+alike_twice one two three m n = record { limit = n.limit ∙ m.limit; row = n.row ∙ m.row; used = n.used ∙ m.used; goals = n.goals ∙ m.goals }
+
+moved_alike : (old new : Held) → IsMoved old new → IsAlike old new
+moved_alike old new m = record { limit = m.limit; row = m.row; used = m.used; goals = m.goals }
+
 -- ---- A round
 
 pub round_begun : (P : NamedProgram) (start : Held) (budget : ℕ) → IsBranch P start → start.left ≡ [] → 1 ≤ budget
@@ -76,7 +81,7 @@ round_begun P start budget branch first some = record {
   steps = no_steps P start;
   branch = branch;
   idle = λ e. (
-    moved_nowhere start,
+    record { limit = refl; row = refl; used = refl; goals = refl },
     λ g h. absurd (contains_none g (subst (λ (l : List Goal). Contains l g) first h)),
     λ g h called. contains_none g (subst (λ (l : List Goal). Contains l g) first h),
   );
@@ -87,11 +92,11 @@ round_begun P start budget branch first some = record {
 pub same_then : (one two three : Held) → SameKey one two → SameKey two three → SameKey one three
 same_then one two three x y = record { key = y.key ∙ x.key; limit = y.limit ∙ x.limit }
 
-idle_on : (P : NamedProgram) (old new : Held) (g : Goal) → IsMoved old new → IsIdle P old.limit old.row g → IsIdle P new.limit new.row g
+idle_on : (P : NamedProgram) (old new : Held) (g : Goal) → IsAlike old new → IsIdle P old.limit old.row g → IsIdle P new.limit new.row g
 idle_on P old new g m x =
     subst (λ (n : ℕ). IsIdle P n new.row g) (sym m.limit) (subst (λ (l : List Ref). IsIdle P old.limit l g) (sym m.row) x)
 
-found_on : (P : NamedProgram) (old new : Held) (gs : List Goal) (f : Found) → IsMoved old new → new.left ≡ gs
+found_on : (P : NamedProgram) (old new : Held) (gs : List Goal) (f : Found) → IsAlike old new → new.left ≡ gs
     → HasFound P old.limit old.row gs f → HasFound P new.limit new.row new.left f
 found_on P old new gs f m left x =
     subst (λ (hs : List Goal). HasFound P new.limit new.row hs f) (sym left)
@@ -112,18 +117,18 @@ round_passed P start old new changed may budget found goal seen may_is x same st
       let before = x.idle e in
       let some : budget ≡ 0 → ⊥ = λ z. true≢false (sym (x.spent z) ∙ e) in
       let here = h.idle (may_is some) in (
-        moved_twice start old new before.0 h.moved,
+        alike_twice start old new before.0 h.alike,
         λ g i. elim (Contains-append_cases old.left (goal ∷ []) g (subst (λ (l : List Goal). Contains l g) h.passed i)) [
-          | inl j ↦ idle_on P old new g h.moved (before.1 g j)
+          | inl j ↦ idle_on P old new g h.alike (before.1 g j)
           | inr j ↦ elim (contains_cases goal g [] j) [
-            | inl is ↦ idle_on P old new g h.moved (subst (λ (k : Goal). IsIdle P old.limit old.row k) (sym is) here.0)
+            | inl is ↦ idle_on P old new g h.alike (subst (λ (k : Goal). IsIdle P old.limit old.row k) (sym is) here.0)
             | inr n ↦ absurd (contains_none g n)
           ]
         ],
-        found_on P old new (old.left ++ goal ∷ []) (with_seen found goal seen) h.moved h.passed
+        found_on P old new (old.left ++ goal ∷ []) (with_seen found goal seen) h.alike h.passed
             (found_seen P old.limit old.row old.left goal found seen before.2 here.1),
       ));
-  progress = λ e. then_moved start old new (x.progress e) h.moved;
+  progress = λ e. then_alike start old new (x.progress e) h.alike;
   spent = x.spent;
 }
 
@@ -138,17 +143,45 @@ round_changed P start old new changed budget fewer found x same steps more = rec
   idle = λ e. absurd (true≢false e);
   progress = λ e. elim (bool_cases changed) [
     | inl was ↦ progress_then start old new (x.progress was) more
-    | inr unchanged ↦ moved_then start old new (x.idle unchanged).0 more
+    | inr unchanged ↦ alike_then start old new (x.idle unchanged).0 more
   ];
   spent = λ e. refl;
 }
+
+-- Only what is watched has changed.
+pub round_watched : (P : NamedProgram) (start old new : Held) (changed : Bool) (budget : ℕ) (found : Found)
+    → RoundStands P start old changed budget found → SameKey old new → StepsOn P old new → WatchesOn P old new
+    → RoundStands P start new changed budget found
+round_watched P start old new changed budget found x same steps watches =
+    let e = watches.others in
+    let alike : IsAlike old new =
+    record {
+      limit = same.limit;
+      row = ap (λ (b : Held). b.row) e;
+      used = ap (λ (b : Held). b.used) e;
+      goals = ap (λ (b : Held). b.left ++ b.right) e;
+    } in
+    let left : new.left ≡ old.left = ap (λ (b : Held). b.left) e in record {
+      same = same_then start old new x.same same;
+      steps = steps_then P start old new x.steps steps;
+      branch = still_branch P old new steps x.branch;
+      idle = λ u.
+          (
+          let before = x.idle u in (
+            alike_twice start old new before.0 alike,
+            λ g i. idle_on P old new g alike (before.1 g (subst (λ (l : List Goal). Contains l g) left i)),
+            found_on P old new old.left found alike left before.2,
+          ));
+      progress = λ u. then_alike start old new (x.progress u) alike;
+      spent = x.spent;
+    }
 
 -- No goal is left to look at.
 pub round_ended : (P : NamedProgram) (old start now : Held) (changed : Bool) (budget : ℕ) (found : Found) (r : Round) → IsMoved old start
     → RoundStands P start now changed budget found → now.right ≡ [] → now.is_failed ≡ false → (r ≡ round.Changed → changed ≡ true)
     → ((f : Found) → r ≡ round.Still f → (changed ≡ false) × (f ≡ found)) → (r ≡ round.Failed → ⊥) → RoundIs P old now r
 round_ended P old start now changed budget found round.Changed moved x over live was unchanged never =
-    moved_then old start now moved (x.progress (was refl))
+    alike_then old start now (moved_alike old start moved) (x.progress (was refl))
 round_ended P old start now changed budget found (round.Still f) moved x over live was unchanged never =
     let is = unchanged f refl in
     let idle = x.idle is.0 in record {

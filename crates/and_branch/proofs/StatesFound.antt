@@ -31,7 +31,8 @@ use Rattle.and_branch.specs.Branches.{Held, is_arithmetic, Lives, IsBranchOf, Is
 use Rattle.and_branch.specs.States.{numbers, IsCutAt, IsCutOf, IsState}
 use Rattle.and_branch.specs.declared.state.BranchState.{BranchState}
 use Rattle.and_branch.specs.declared.state.BranchState.TheVariants.{Determinate, Fork, OverLimit}
-use Rattle.and_branch.specs.Finding.{IsCallGoal, AllCalls, HasOne, HasTwo, HasNoSole, HasNoFitting, IsCallAmong, IsStuck, IsSeveral}
+use Rattle.and_branch.specs.Watching.{HasTwo}
+use Rattle.and_branch.specs.Finding.{IsCallGoal, AllCalls, HasOne, HasNoSole, HasNoFitting, IsCallAmong, IsStuck, IsSeveral}
 use Rattle.and_branch.specs.Finding.{IsHeavy, IsFitting, IsSeen}
 use Rattle.and_branch.specs.Forking.{fits_in, first_other, HasCutBy}
 use Rattle.and_branch.specs.Resting.{IsResting}

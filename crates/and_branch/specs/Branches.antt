@@ -1,5 +1,5 @@
 -- What holds of each branch (this project's own).
-use Rattle.std.specs.Prelude.{ℕ, ◌≡◌, ◌≤◌, ◌⊎◌, Bool, true, false, List, [], ◌∷◌, ◌++◌, map, filter, length, not}
+use Rattle.std.specs.Prelude.{ℕ, ◌≡◌, ◌≤◌, ◌⊎◌, Bool, true, false, List, [], ◌∷◌, ◌++◌, map, filter, length, not, Contains}
 use Rattle.and_model.specs.Trees.{QueryTree, Open, weight, path}
 use Rattle.and_model.specs.Reached.{Dead, ReachedBy}
 use Rattle.and_model.specs.Reductions.{Reduction, Makes, PlaceHas}
@@ -12,6 +12,7 @@ use Rattle.and_model.specs.declared.reference.Ref.{Ref}
 use Rattle.and_cells.specs.Ranges.{NamedProgram}
 use Rattle.and_branch_laws.specs.Views.{View}
 use Rattle.and_branch_laws.specs.Kept.{Kept, item_at, goal_of}
+use Rattle.and_branch.specs.Watching.{Watched, IsAsleep}
 
 -- the item is arithmetic
 abbrev pub is_arithmetic : Item → Bool
@@ -46,6 +47,8 @@ pub record Held : Type 0 where
   pub used : ℕ
   pub limit : ℕ
   pub is_failed : Bool
+  -- goals for which nothing need be done as long as certain cells are free
+  pub watches : List Watched
 
 -- the branch that is held so, with its calls and its arithmetic apart
 abbrev pub view_of : NamedProgram → Held → View
@@ -60,13 +63,14 @@ view_of P b = record {
   is_failed = b.is_failed;
 }
 
--- The branch keeps what a branch that is not failed keeps, and these are its goals.
+-- The branch keeps what a branch that is not failed keeps, these are its goals, and each that is watched is asleep.
 pub record Lives (P : NamedProgram) (b : Held) (t : QueryTree P.program) : Type 0 where
   pub kept : List Framed
   pub keeps : Kept P b.reductions b.row kept t
   pub goals : map goal_of kept ≡ b.left ++ b.right
   pub long : length b.row ≡ b.used
   pub live : b.is_failed ≡ false
+  pub asleep : (w : Watched) → Contains b.watches w → IsAsleep P b.row w
 
 -- IsBranchOf P b t: the branch stands for the tree that its reductions make, which is reached by its key under its limit. It is marked
 -- failed, and the tree is dead; or it keeps what a branch keeps.

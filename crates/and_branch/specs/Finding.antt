@@ -1,5 +1,5 @@
 -- What is found of the goals of a branch, from left to right.
-use Rattle.std.specs.Prelude.{ℕ, ◌+◌, ◌≡◌, ◌≢◌, ◌⊎◌, Bool, false, cond, List, ◌∷◌, ◌++◌, length, Contains}
+use Rattle.std.specs.Prelude.{ℕ, ◌+◌, ◌≡◌, ◌⊎◌, Bool, false, cond, List, ◌∷◌, ◌++◌, length, Contains}
 use Rattle.and_model.specs.Terms.{Path, Term, variables_of}
 use Rattle.and_model.specs.Programs.{Item, call, arithmetic, Arithmetic}
 use Rattle.and_model.specs.Stands.{term_of}
@@ -13,6 +13,7 @@ use Rattle.and_branch_laws.specs.Kept.{item_at, node_item_at, HasFreePair}
 use Rattle.and_branch_laws.specs.Judging.{CandidateInCells, SoleInCells, FitsBehind}
 use Rattle.and_reduction.specs.Runs.{HasUnnamedPair}
 use Rattle.and_branch.specs.Branches.{is_arithmetic, IsArithmeticGoal}
+use Rattle.and_branch.specs.Watching.{HasTwo}
 use Rattle.and_branch.specs.declared.finding.Found.{Found}
 use Rattle.and_branch.specs.declared.finding.Found.TheVariants.{NoCall, Several, Heavy, Fitting, Stuck}
 use Rattle.and_branch.specs.declared.finding.Seen.{Seen}
@@ -39,13 +40,9 @@ pub record IsSeen (P : NamedProgram) (row : List Ref) (g : Goal) : Type 0 where
 abbrev pub AllCalls : NamedProgram → (Goal → Type 0) → List Goal → Type 0
 AllCalls P Q gs = (g : Goal) → Contains gs g → IsCallGoal P g → Q g
 
--- A goal has a candidate,
+-- A goal has a candidate;
 abbrev pub HasOne : NamedProgram → List Ref → Goal → Type 0
 HasOne P row g = (c : ℕ) × CandidateInCells P row g c
-
--- or two;
-abbrev pub HasTwo : NamedProgram → List Ref → Goal → Type 0
-HasTwo P row g = (c : ℕ) × (d : ℕ) × (c ≢ d) × CandidateInCells P row g c × CandidateInCells P row g d
 
 -- it has not one alone,
 abbrev pub HasNoSole : NamedProgram → List Ref → Goal → Type 0

@@ -10,3 +10,4 @@ pub mod Next
 pub mod Parts
 pub mod Rebuilding
 pub mod Rounds
+pub mod Watching

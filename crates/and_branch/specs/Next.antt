@@ -1,5 +1,5 @@
 -- The next goal, reduced by a clause.
-use Rattle.std.specs.Prelude.{ℕ, ◌≡◌, ◌+◌, ◌≤◌, Bool, true, false, List, ◌∷◌, ◌++◌, length}
+use Rattle.std.specs.Prelude.{ℕ, ◌≡◌, ◌+◌, ◌≤◌, Bool, true, false, List, ◌∷◌, ◌++◌, length, Contains}
 use Rattle.and_model.specs.Terms.{Term}
 use Rattle.and_model.specs.Programs.{Of, call, clause_at, clause_weight}
 use Rattle.and_model.specs.Trees.{QueryTree, Open, call_of, reduce}
@@ -11,6 +11,7 @@ use Rattle.and_program.specs.Skeletons.{NodeItem}
 use Rattle.and_cells.specs.Ranges.{NamedProgram}
 use Rattle.and_branch_laws.specs.Kept.{item_at}
 use Rattle.and_branch.specs.Branches.{Held, Lives, IsBranchOf, IsOpenGoal}
+use Rattle.and_branch.specs.Watching.{Watched}
 
 -- The branch, which is not failed, has a next goal, a call. The clause is there, and there is room for its frame.
 pub record HasNextCall (P : NamedProgram) (b : Held) (clause : ℕ) : Type 0 where
@@ -47,7 +48,7 @@ is_call_node (Skeletons.is n m pair) = false
 is_call_node (Skeletons.compare r n m) = false
 is_call_node Skeletons.fail = false
 
--- Nothing was done but that the place of work was moved.
+-- Nothing was done but that the place of work was moved, or less is watched.
 pub record IsMoved (old new : Held) : Type 0 where
   pub key : new.key ≡ old.key
   pub limit : new.limit ≡ old.limit
@@ -56,6 +57,7 @@ pub record IsMoved (old new : Held) : Type 0 where
   pub used : new.used ≡ old.used
   pub is_failed : new.is_failed ≡ old.is_failed
   pub goals : new.left ++ new.right ≡ old.left ++ old.right
+  pub watches : (w : Watched) → Contains new.watches w → Contains old.watches w
 
 -- The two goals are one item at one place.
 abbrev pub IsSameItem : Goal → Goal → Type 0

@@ -6,7 +6,7 @@ use Rattle.and_branch.specs.Branches.{Held}
 use Rattle.and_branch.specs.declared.parts.Frame.{Frame}
 use Rattle.and_branch.specs.declared.parts.Parts.{Parts}
 
--- the branch of these parts, at work behind its goals
+-- the branch of these parts, at work behind its goals, of which none is watched
 abbrev pub held_of : {N : Type 0} → Parts N → Held
 held_of parts = record {
   key = parts.key;
@@ -17,6 +17,7 @@ held_of parts = record {
   used = parts.used;
   limit = parts.limit;
   is_failed = parts.is_failed;
+  watches = [];
 }
 
 -- the frame of the clause by which a call was reduced: it begins at the number of the clause's place

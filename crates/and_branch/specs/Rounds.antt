@@ -12,9 +12,10 @@ use Rattle.and_branch_laws.specs.Judging.{CandidateInCells, SoleInCells, FitsBeh
 use Rattle.and_branch_laws.specs.Kept.{item_at}
 use Rattle.and_reduction.specs.Runs.{IsWaiting}
 use Rattle.and_branch.specs.Branches.{Held, IsBranch, IsBranchOf}
+use Rattle.and_determinacy.specs.Watching.{AreFree}
 use Rattle.and_branch.specs.Finding.{HasFound, HasSeen}
-use Rattle.and_branch.specs.Next.{IsMoved}
 use Rattle.and_branch.specs.Resting.{IsResting}
+use Rattle.and_branch.specs.Watching.{Watched, IsAsleep}
 use Rattle.and_branch.specs.declared.advancing.Looked.{Looked}
 use Rattle.and_branch.specs.declared.advancing.Looked.TheVariants.{Ended, Passed, Ran, Reduced, Failed}
 use Rattle.and_branch.specs.declared.advancing.Round.{Round}
@@ -51,16 +52,35 @@ AreFew b = goal_count b < 2 ^ 64
 abbrev pub HasProgressed : (old new : Held) → Type 0
 HasProgressed old new = AreFew new × ((old.used < new.used) ⊎ ((new.used ≡ old.used) × (goal_count new < goal_count old)))
 
+-- Nothing was done for any goal.
+pub record IsAlike (old new : Held) : Type 0 where
+  pub limit : new.limit ≡ old.limit
+  pub row : new.row ≡ old.row
+  pub used : new.used ≡ old.used
+  pub goals : new.left ++ new.right ≡ old.left ++ old.right
+
+-- Nothing is different but what is watched: what is so now was watched, or is asleep.
+pub record WatchesOn (P : NamedProgram) (old new : Held) : Type 0 where
+  pub others : new ≡ record old { watches = new.watches }
+  pub asleep : (w : Watched) → Contains new.watches w → Contains old.watches w ⊎ IsAsleep P old.row w
+
+-- The goal is watched, and its cells are free.
+pub record IsWatched (b : Held) (goal : Goal) : Type 0 where
+  pub watched : Watched
+  pub there : Contains b.watches watched
+  pub is : watched.goal ≡ goal
+  pub free : AreFree b.row watched.cells
+
 -- The next goal was passed over; and if it might have been reduced, nothing is to be done for it, and this was seen of it.
 pub record HasPassed (P : NamedProgram) (may : Bool) (old new : Held) (goal : Goal) (seen : Seen) : Type 0 where
-  pub moved : IsMoved old new
+  pub alike : IsAlike old new
   pub next : old.right ≡ goal ∷ new.right
   pub passed : new.left ≡ old.left ++ goal ∷ []
   pub idle : may ≡ true → IsIdle P old.limit old.row goal × HasSeen P old.limit old.row goal seen
 
 -- what a look at the next goal came to
 abbrev pub LookIs : NamedProgram → (may : Bool) → (old new : Held) → Looked → Type 0
-LookIs P may old new Ended = (new ≡ old) × (old.right ≡ []) × (old.is_failed ≡ false)
+LookIs P may old new Ended = WatchesOn P old new × (old.right ≡ []) × (old.is_failed ≡ false)
 LookIs P may old new (Passed goal seen) = HasPassed P may old new goal seen
 LookIs P may old new Ran = HasProgressed old new × (new.used ≡ old.used) × (length new.right < length old.right)
 LookIs P may old new Reduced = HasProgressed old new × (may ≡ true) × (old.used < new.used)

@@ -1,6 +1,6 @@
 //! Determinate goals, reduced until there are none.
 
-ghost use Rattle.std.specs.Prelude.{◌≡◌, ◌≢◌, ◌≤◌, ◌+◌, ◌⊎◌, [], ◌∷◌, ℕ, true, false, List, length, Ok, OnOk, IfOk};
+ghost use Rattle.std.specs.Prelude.{◌≡◌, ◌≢◌, ◌≤◌, ◌+◌, ◌⊎◌, [], ◌∷◌, ℕ, true, false, cond, List, length, Ok, OnOk, IfOk};
 ghost use Rattle.and_model.specs.Terms.{Term};
 ghost use Rattle.and_model.specs.Programs.{call, Arithmetic, arithmetic, clause_at, clause_weight};
 ghost use Rattle.and_model.specs.Trees.{QueryTree, Open};
@@ -11,7 +11,7 @@ ghost use Rattle.and_cells.specs.Meaning.{IsSettled};
 ghost use Rattle.and_cells.specs.Parts.{named};
 ghost use Rattle.and_determinacy.specs.Candidates.{CanBeJudged, IsJudged, IsNarrowed};
 ghost use Rattle.and_determinacy.specs.Tables.{IsTableOf};
-ghost use Rattle.and_reduction.specs.Runs.{CanBeRun, IsWaiting, HasRun, CannotHold};
+ghost use Rattle.and_reduction.specs.Runs.{CanBeRun, IsWaiting, HasRun, CannotHold, WaitsFor};
 ghost use Rattle.and_branch_laws.specs.Judging.{CandidateInCells};
 ghost use Rattle.and_branch_laws.specs.Kept.{item_at};
 ghost use Rattle.and_branch_laws.specs.States.{StateOf, determinate};
@@ -210,14 +210,42 @@ impl<N: Naming> Branch<N> {
         loaded.skeleton_is_of_the_program();
         match self.next_goal() {
             Next::Failed => Ok(Looked::Failed),
-            Next::Nothing => Ok(Looked::Ended),
-            Next::Goal(goal) => {
-                if is_call(loaded, goal) {
-                    self.look_at_call(loaded, table, gate, goal, may, workspace)
-                } else {
-                    self.look_at_arithmetic(loaded, goal, may, workspace)
-                }
+            Next::Nothing => {
+                self.hand_on();
+                Ok(Looked::Ended)
             }
+            Next::Goal(goal) => self.look_at(loaded, table, gate, goal, may, workspace),
+        }
+    }
+
+    /// The same, where the next goal is this one.
+    fn look_at<G: Gate>(
+        &mut self,
+        loaded: &Loaded,
+        table: &Determinacy,
+        gate: &G,
+        goal: Goal,
+        may: bool,
+        workspace: &mut Workspace,
+    ) -> Result<Looked, AllocError>
+        requires program { N.program ≡ named loaded.now }
+        requires table { IsTableOf N.program table.now }
+        requires at { IsAt N.program self.old goal }
+        ensures same { SameKey self.old self.new }
+        ensures steps { OnOk result (StepsOn N.program self.old self.new) }
+        ensures came_to { IfOk result (λ l. LookIs N.program may self.old self.new l) }
+    {
+        loaded.skeleton_is_of_the_program();
+        let called = is_call(loaded, goal);
+        if self.is_asleep(goal)? {
+            self.pass()?;
+            let seen = seen_asleep(called);
+            return Ok(Looked::Passed { goal, seen });
+        }
+        if called {
+            self.look_at_call(loaded, table, gate, goal, may, workspace)
+        } else {
+            self.look_at_arithmetic(loaded, goal, may, workspace)
         }
     }
 
@@ -249,6 +277,7 @@ impl<N: Naming> Branch<N> {
                 self.look_at_last(loaded, table, gate, goal, clause, may, workspace)
             }
             Narrowed::Several => {
+                self.watch_call(loaded, goal, &mut workspace.visits)?;
                 self.pass()?;
                 Ok(Looked::Passed {
                     goal,
@@ -350,7 +379,8 @@ impl<N: Naming> Branch<N> {
     {
         loaded.skeleton_is_of_the_program();
         match self.run_next(loaded, goal, workspace)? {
-            Ran::Waits => {
+            Ran::Waits { cell } => {
+                self.watch_arithmetic(goal, cell)?;
                 self.pass()?;
                 Ok(Looked::Passed {
                     goal,
@@ -438,8 +468,9 @@ impl<N: Naming> Branch<N> {
         requires goal { CanBeRun N.program self.old.row goal }
         ensures same { SameKey self.old self.new }
         ensures others { self.new ≡ record self.old { row = self.new.row } }
-        ensures waits { result ≡ Ok Ran.Waits → IsWaiting N.program self.old.row goal }
-        ensures unchanged { result ≡ Ok Ran.Waits → self.new.row ≡ self.old.row }
+        ensures waits { (cell : ℕ) → result ≡ Ok (Ran.Waits cell) → IsWaiting N.program self.old.row goal }
+        ensures waits_for { (cell : ℕ) → result ≡ Ok (Ran.Waits cell) → WaitsFor N.program self.old.row goal cell }
+        ensures unchanged { (cell : ℕ) → result ≡ Ok (Ran.Waits cell) → self.new.row ≡ self.old.row }
         ensures done { result ≡ Ok Ran.Done → HasRun N.program self.old.row self.new.row goal }
         ensures fails { result ≡ Ok Ran.False → CannotHold N.program self.old.row goal }
     {
@@ -475,6 +506,17 @@ impl<N: Naming> Branch<N> {
     {
         let _left = self.left.len();
         let _right = self.right.len();
+    }
+}
+
+/// What is seen of a goal that is asleep.
+fn seen_asleep(called: bool) -> Seen
+    ensures { result ≡ cond called Seen.Several Seen.Arithmetic }
+{
+    if called {
+        Seen::Several
+    } else {
+        Seen::Arithmetic
     }
 }
 

@@ -13,6 +13,7 @@ ghost use Rattle.and_code.specs.Written.{all_written};
 ghost use Rattle.and_branch.specs.Branches.{Held, IsBranch, IsBranchOf, IsOpenGoal, SameKey, view_of};
 
 use crate::goals::push_body;
+use crate::watching::Watches;
 use crate::workspace::Workspace;
 use and_cells::{Naming, PlainCells};
 use and_model::{ClauseNo, Code, Cut, Goal, ReductionList};
@@ -37,10 +38,15 @@ pub struct Branch<N: Naming> {
     pub(crate) right: Vec<Goal>,
     pub(crate) used: u32,
     pub(crate) is_failed: bool,
+    /// The goals that were watched when the round began, of which those before this place were met,
+    pub(crate) watched: Watches,
+    pub(crate) met: usize,
+    /// and those that are watched since.
+    pub(crate) watches: Watches,
 }
 
 impl<N: Naming> Model for Branch<N> {
-    ghost use Rattle.std.specs.Prelude.{reverse};
+    ghost use Rattle.std.specs.Prelude.{reverse, ◌++◌};
     ghost use Rattle.and_code.specs.Written.{all_written};
     ghost use Rattle.and_branch.specs.Branches.{Held};
 
@@ -55,6 +61,7 @@ impl<N: Naming> Model for Branch<N> {
       used = branch.used;
       limit = branch.limit;
       is_failed = branch.is_failed;
+      watches = branch.watched ++ branch.watches;
     } };
 }
 
@@ -132,6 +139,9 @@ impl<N: Naming> Branch<N> {
             right: _,
             used: _,
             is_failed: _,
+            watched: _,
+            met: _,
+            watches: _,
         } = self;
         key
     }
@@ -180,6 +190,9 @@ fn begun<N: Naming>(
         right,
         used: loaded.weight(QUERY),
         is_failed: has_failed(entered),
+        watched: Watches::new(alloc),
+        met: 0,
+        watches: Watches::new(alloc),
     })
 }
 

@@ -14,9 +14,11 @@ pub mod rebuilding;
 mod reducing;
 mod resting;
 mod seeking;
+mod sleeping;
 pub mod splitting;
 pub mod state;
 pub mod telling;
+mod watching;
 pub mod workspace;
 
 pub use branch::{Branch, Rooted};

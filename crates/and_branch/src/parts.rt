@@ -6,6 +6,7 @@ ghost use Rattle.and_branch.specs.Parts.{held_of, frames_of, frame_by};
 ghost use Rattle.and_branch.specs.Next.{IsMoved};
 
 use crate::branch::Branch;
+use crate::watching::Watches;
 use and_cells::{Naming, PlainCells};
 use and_model::{ClauseNo, Code, Goal, Reduction, ReductionList};
 
@@ -46,6 +47,9 @@ impl<N: Naming> Branch<N> {
             right,
             used,
             is_failed,
+            watched,
+            met,
+            watches,
         } = self;
         match in_preorder(left, right) {
             Ok(goals) => Ok(Parts {
@@ -66,6 +70,9 @@ impl<N: Naming> Branch<N> {
                 right,
                 used,
                 is_failed,
+                watched,
+                met,
+                watches,
             }),
         }
     }
@@ -109,6 +116,9 @@ impl<N: Naming> Parts<N> {
             right: Vec::new(alloc),
             used,
             is_failed,
+            watched: Watches::new(alloc),
+            met: 0,
+            watches: Watches::new(alloc),
         }
     }
 }

@@ -19,6 +19,7 @@ ghost use Rattle.and_branch.specs.Rebuilding.{IsWorked, reductions_of, weights_o
 
 use crate::branch::Branch;
 use crate::parts::Parts;
+use crate::watching::Watches;
 use and_cells::{Naming, PlainCells};
 use and_model::{Code, Goal, Reduction, ReductionList};
 use and_program::Loaded;
@@ -91,6 +92,9 @@ impl<N: Naming> Branch<N> {
                 right: Vec::new(alloc),
                 used,
                 is_failed,
+                watched: Watches::new(alloc),
+                met: 0,
+                watches: Watches::new(alloc),
             }),
             Err(_) => Err(NoRoom { key }),
         }

@@ -54,7 +54,7 @@ impl<N: Naming> Branch<N> {
             return Ok(Turn::Passed);
         }
         match run(loaded, &mut self.cells, goal, tools)? {
-            Ran::Waits => {
+            Ran::Waits { cell: _ } => {
                 self.left.push(goal)?;
                 Ok(Turn::Passed)
             }

@@ -90,6 +90,8 @@ impl<N: Naming> Branch<N> {
         let reductions = self.reductions.copy()?;
         let left = Vec::from_slice(alloc, &self.left)?;
         let right = Vec::from_slice(alloc, &self.right)?;
+        let watched = self.watched.copy(alloc)?;
+        let watches = self.watches.copy(alloc)?;
         Ok(Branch {
             key,
             limit: self.limit,
@@ -99,6 +101,9 @@ impl<N: Naming> Branch<N> {
             right,
             used: self.used,
             is_failed: self.is_failed,
+            watched,
+            met: self.met,
+            watches,
         })
     }
 

@@ -1,7 +1,7 @@
 //! What branches work with.
 
 use and_determinacy::Trials;
-use and_model::ClauseList;
+use and_model::{ClauseList, Ref};
 use and_reduction::Tools;
 use std::alloc::Global;
 
@@ -11,6 +11,7 @@ pub struct Workspace {
     pub(crate) trials: Trials,
     pub(crate) tools: Tools,
     pub(crate) candidates: ClauseList,
+    pub(crate) visits: Vec<Ref>,
 }
 
 impl Workspace {
@@ -20,6 +21,7 @@ impl Workspace {
             trials: Trials::new(alloc),
             tools: Tools::new(alloc),
             candidates: ClauseList::new(alloc),
+            visits: Vec::new(alloc),
         }
     }
 }

@@ -12,6 +12,7 @@ use Rattle.and_model.specs.declared.reference.Ref.TheVariants.{Free, Cell, Numbe
 use Rattle.and_model.proofs.Tested.{of_one}
 use Rattle.and_laws.proofs.Agreeing.{dead_below_shut, step_above}
 use Rattle.and_laws.proofs.Deciding.{of_bounds}
+use Rattle.and_laws.proofs.Ordered.{contains_none}
 use Rattle.and_laws.proofs.Pairwise.{all_none}
 use Rattle.and_cells.specs.Ranges.{CanHold, IsGoalInRange}
 use Rattle.and_cells.specs.Seen.{word_at}
@@ -52,7 +53,7 @@ unfolding clause_weight
 reached = ReachedBy.stepped [] (blank (query_agenda P)) tree (ReachedBy.start (omega arith)) step (omega arith)
 
 lives : Lives text reduced tree
-lives = record { kept = goals; keeps = kept; goals = refl; long = refl; live = refl }
+lives = record { kept = goals; keeps = kept; goals = refl; long = refl; live = refl; asleep = λ w h. absurd (contains_none w h) }
 
 pub reduced_is : IsBranchOf text reduced tree
 unfolding clause_weight
@@ -60,7 +61,7 @@ reduced_is = record { made = made; reached = reached; bounded = omega arith; use
 
 -- ---- p(1). p(2). ?- Y is 1 + 2, p(X).
 sum_lives : Lives summing sum_held sum_start
-sum_lives = record { kept = of_query 1 ∷ []; keeps = ran_kept; goals = refl; long = refl; live = refl }
+sum_lives = record { kept = of_query 1 ∷ []; keeps = ran_kept; goals = refl; long = refl; live = refl; asleep = λ w h. absurd (contains_none w h) }
 
 pub sum_is : IsBranchOf summing sum_held sum_start
 unfolding clause_weight
@@ -147,7 +148,7 @@ split_kept = record {
 }
 
 split_lives : Lives failing (split_held 2 bound_row (item_of_query 1 ∷ []) false) fails_other
-split_lives = record { kept = of_query 1 ∷ []; keeps = split_kept; goals = refl; long = refl; live = refl }
+split_lives = record { kept = of_query 1 ∷ []; keeps = split_kept; goals = refl; long = refl; live = refl; asleep = λ w h. absurd (contains_none w h) }
 
 pub split_is : IsBranchOf failing (split_held 2 bound_row (item_of_query 1 ∷ []) false) fails_other
 unfolding clause_weight

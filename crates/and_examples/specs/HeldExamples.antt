@@ -21,6 +21,7 @@ reduced = record {
   used = 4;
   limit = 10;
   is_failed = false;
+  watches = [];
 }
 
 -- ---- p(1). p(2). q(2). q(3). ?- p(X), q(X). The query's first call was taken by that clause.
@@ -34,6 +35,7 @@ split_held clause row goals is_failed = record {
   used = 3;
   limit = 10;
   is_failed = is_failed;
+  watches = [];
 }
 
 abbrev pub split_tree_1 : QueryTree fails
@@ -53,4 +55,5 @@ sum_held = record {
   used = 5;
   limit = 10;
   is_failed = false;
+  watches = [];
 }

@@ -5,6 +5,7 @@ use Rattle.and_cells.specs.Ranges.{NamedProgram}
 use Rattle.and_code.specs.Written.{all_written}
 use Rattle.and_branch_laws.specs.Kept.{goal_of}
 use Rattle.and_branch_laws.specs.Reducing.{body_goals}
+use Rattle.and_branch.proofs.EntriesKept.{none_watched}
 use Rattle.and_branch.proofs.LoadedPrograms.{is_loaded}
 use Rattle.and_branch.proofs.RootedBranches.{rooted}
 use Rattle.and_branch.proofs.branch.begun.Goals as goal
@@ -23,4 +24,4 @@ returns-clause-branch g c =
     rooted P loaded _ c.requires.fits c.requires.limit c.new.ensures (ap all_written c.new-2.ensures) weight
     (λ failed. c.begin.ensures.unsolved (c.in_ok-entered.was ∙ ap Ok (c.has_failed.ensures.failed failed)))
     (λ live. c.begin.ensures.solved (c.in_ok-entered.was ∙ ap Ok (c.has_failed.ensures.solved live)))
-    c.new-3.ensures.items right
+    c.new-3.ensures.items right (none_watched c.new-4.result c.new-5.result c.new-4.ensures c.new-5.ensures)

@@ -5,7 +5,7 @@ use Rattle.and_branch.specs.Rounds.{LookIs}
 use Rattle.and_branch.specs.declared.advancing.Looked.{Looked}
 use Rattle.and_branch.specs.declared.finding.Found.{Found}
 use Rattle.and_branch.proofs.LookedGoals.{moved_steps, steps_then, still_branch}
-use Rattle.and_branch.proofs.RoundsKept.{RoundStands, round_begun, round_passed, round_changed, round_ended}
+use Rattle.and_branch.proofs.RoundsKept.{RoundStands, round_begun, round_passed, round_changed, round_watched, round_ended}
 use Rattle.and_branch.proofs.branch.Branch.go_round.Goals as goal
 
 pub goals-init : goal.goals-init
@@ -34,10 +34,12 @@ returns-in-Ended-clause-came_to g c =
     let P = g.N.Naming.program in
     let came = subst (λ (l : Looked). LookIs P
     (nat_lt 0 c.goals.budget) c.goals.self c.look.new.self l) c.in-Ended.is c.in_ok-look.ensures.came_to in
-    let stands = subst (λ (b : Held). RoundStands P c.rewind.new.self b c.goals.changed c.goals.budget c.goals.found) (sym came.0) c.goals.invariant in
+    let same = came.0.others in
+    let stands = round_watched P c.rewind.new.self c.goals.self c.look.new.self c.goals.changed c.goals.budget c.goals.found c.goals.invariant
+    c.look.ensures.same c.in_ok-look.ensures.steps came.0 in
     round_ended P c.args.self.now c.rewind.new.self c.look.new.self c.goals.changed c.goals.budget c.goals.found c.ended.result
-    c.in_ok-rewind.ensures.moved stands (ap (λ (b : Held). b.right) came.0 ∙ came.1)
-    (ap (λ (b : Held). b.is_failed) came.0 ∙ came.2) c.ended.ensures.changed c.ended.ensures.still c.ended.ensures.never
+    c.in_ok-rewind.ensures.moved stands (ap (λ (b : Held). b.right) same ∙ came.1)
+    (ap (λ (b : Held). b.is_failed) same ∙ came.2) c.ended.ensures.changed c.ended.ensures.still c.ended.ensures.never
 
 pub goals-preserved-in-Passed : goal.goals-preserved-in-Passed
 goals-preserved-in-Passed g c =

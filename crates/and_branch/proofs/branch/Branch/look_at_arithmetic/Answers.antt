@@ -1,8 +1,11 @@
-use Rattle.std.proofs.Common.{Ok, ap, ◌∙◌}
+use Rattle.std.proofs.Common.{Ok, List, ap, sym, ◌∙◌, subst}
+use Rattle.and_model.specs.declared.reference.Ref.{Ref}
 use Rattle.and_branch.specs.Branches.{Held}
+use Rattle.and_reduction.specs.Runs.{WaitsFor}
+use Rattle.and_branch.specs.Rounds.{WatchesOn}
 use Rattle.and_branch.specs.declared.finding.Seen.TheVariants.{Arithmetic}
 use Rattle.and_branch.proofs.LoadedPrograms.{is_loaded}
-use Rattle.and_branch.proofs.LookedGoals.{is_short, run_ready, unmoved, passed, idle_waiting, ran, cannot_hold}
+use Rattle.and_branch.proofs.LookedGoals.{is_short, run_ready, unmoved, passed, next_still, idle_waiting, ran, cannot_hold}
 use Rattle.and_branch.proofs.branch.Branch.look_at_arithmetic.Goals as goal
 
 pub run_next-requires-clause-short : goal.run_next-requires-clause-short
@@ -15,31 +18,43 @@ run_next-requires-clause-goal g c =
     let loaded = is_loaded P c.args.loaded.now c.requires.program says.skeleton says.own_variables says.few in
     run_ready P c.args.self.now c.args.goal c.requires.at loaded c.requires.arithmetic.0 c.requires.arithmetic.1
 
+pub watch_arithmetic-requires-clause-waits : goal.watch_arithmetic-requires-clause-waits
+watch_arithmetic-requires-clause-waits g c =
+    let P = g.N.Naming.program in
+    let was = c.in_ok-cell.was ∙ ap Ok c.in-Waits.is in
+    subst (λ (row : List Ref). WaitsFor P row c.args.goal c.in-Waits.cell) (sym (c.run_next.ensures.unchanged c.in-Waits.cell was))
+    (c.run_next.ensures.waits_for c.in-Waits.cell was)
+
 pub pass-requires : goal.pass-requires
-pass-requires g c = record {
-  next = (c.args.goal, c.requires.at.rest, ap (λ (b : Held). b.right) c.run_next.ensures.others ∙ c.requires.at.next);
-}
+pass-requires g c =
+    let P = g.N.Naming.program in
+    let was = c.in_ok-cell.was ∙ ap Ok c.in-Waits.is in
+    let same = unmoved c.args.self.now c.run_next.new.self c.run_next.ensures.others (c.run_next.ensures.unchanged c.in-Waits.cell was) in
+    let watches = subst (λ (b : Held). WatchesOn P b c.watch_arithmetic.new.self) same c.in_ok-watch_arithmetic-in-Waits.ensures.watches in
+    record { next = next_still P c.args.self.now c.watch_arithmetic.new.self c.args.goal watches c.requires.at }
 
 pub returns-in_ok-pass-in-Waits-clause-steps : goal.returns-in_ok-pass-in-Waits-clause-steps
 returns-in_ok-pass-in-Waits-clause-steps g c =
     let P = g.N.Naming.program in
-    let was = c.in_ok-run_next.was ∙ ap Ok c.in-Waits.is in
-    let same = unmoved c.args.self.now c.run_next.new.self c.run_next.ensures.others (c.run_next.ensures.unchanged was) in
-    let both = passed P c.args.may c.args.self.now c.run_next.new.self c.pass.new.self c.args.goal Arithmetic c.requires.at same
+    let was = c.in_ok-cell.was ∙ ap Ok c.in-Waits.is in
+    let same = unmoved c.args.self.now c.run_next.new.self c.run_next.ensures.others (c.run_next.ensures.unchanged c.in-Waits.cell was) in
+    let watches = subst (λ (b : Held). WatchesOn P b c.watch_arithmetic.new.self) same c.in_ok-watch_arithmetic-in-Waits.ensures.watches in
+    let both = passed P c.args.may c.args.self.now c.watch_arithmetic.new.self c.pass.new.self c.args.goal Arithmetic c.requires.at watches
     c.in_ok-pass-in-Waits.ensures.moved c.in_ok-pass-in-Waits.ensures.passed
     (λ may. idle_waiting P c.args.self.now.limit c.args.self.now.row c.args.goal c.requires.arithmetic.0 c.requires.arithmetic.1
-    (c.run_next.ensures.waits was)) in
+    (c.run_next.ensures.waits c.in-Waits.cell was)) in
     both.1
 
 pub returns-in_ok-pass-in-Waits-clause-came_to : goal.returns-in_ok-pass-in-Waits-clause-came_to
 returns-in_ok-pass-in-Waits-clause-came_to g c =
     let P = g.N.Naming.program in
-    let was = c.in_ok-run_next.was ∙ ap Ok c.in-Waits.is in
-    let same = unmoved c.args.self.now c.run_next.new.self c.run_next.ensures.others (c.run_next.ensures.unchanged was) in
-    let both = passed P c.args.may c.args.self.now c.run_next.new.self c.pass.new.self c.args.goal Arithmetic c.requires.at same
+    let was = c.in_ok-cell.was ∙ ap Ok c.in-Waits.is in
+    let same = unmoved c.args.self.now c.run_next.new.self c.run_next.ensures.others (c.run_next.ensures.unchanged c.in-Waits.cell was) in
+    let watches = subst (λ (b : Held). WatchesOn P b c.watch_arithmetic.new.self) same c.in_ok-watch_arithmetic-in-Waits.ensures.watches in
+    let both = passed P c.args.may c.args.self.now c.watch_arithmetic.new.self c.pass.new.self c.args.goal Arithmetic c.requires.at watches
     c.in_ok-pass-in-Waits.ensures.moved c.in_ok-pass-in-Waits.ensures.passed
     (λ may. idle_waiting P c.args.self.now.limit c.args.self.now.row c.args.goal c.requires.arithmetic.0 c.requires.arithmetic.1
-    (c.run_next.ensures.waits was)) in
+    (c.run_next.ensures.waits c.in-Waits.cell was)) in
     both.0
 
 pub returns-in-Done-clause-steps : goal.returns-in-Done-clause-steps
@@ -47,7 +62,7 @@ returns-in-Done-clause-steps g c =
     let P = g.N.Naming.program in
     let says = c.skeleton_is_of_the_program.ensures in
     let loaded = is_loaded P c.args.loaded.now c.requires.program says.skeleton says.own_variables says.few in
-    let was = c.in_ok-run_next.was ∙ ap Ok c.in-Done.is in
+    let was = c.in_ok-cell.was ∙ ap Ok c.in-Done.is in
     let all = ran P loaded c.args.self.now c.run_next.new.self c.drop_next.new.self c.args.goal c.requires.at c.run_next.ensures.others
     (c.run_next.ensures.done was) c.drop_next.ensures.dropped c.drop_next.ensures.few in
     all.3
@@ -57,7 +72,7 @@ returns-in-Done-clause-came_to g c =
     let P = g.N.Naming.program in
     let says = c.skeleton_is_of_the_program.ensures in
     let loaded = is_loaded P c.args.loaded.now c.requires.program says.skeleton says.own_variables says.few in
-    let was = c.in_ok-run_next.was ∙ ap Ok c.in-Done.is in
+    let was = c.in_ok-cell.was ∙ ap Ok c.in-Done.is in
     let all = ran P loaded c.args.self.now c.run_next.new.self c.drop_next.new.self c.args.goal c.requires.at c.run_next.ensures.others
     (c.run_next.ensures.done was) c.drop_next.ensures.dropped c.drop_next.ensures.few in
     (all.0, all.1, all.2)
@@ -67,6 +82,6 @@ returns-in-False-clause-steps g c =
     let P = g.N.Naming.program in
     let says = c.skeleton_is_of_the_program.ensures in
     let loaded = is_loaded P c.args.loaded.now c.requires.program says.skeleton says.own_variables says.few in
-    let was = c.in_ok-run_next.was ∙ ap Ok c.in-False.is in
+    let was = c.in_ok-cell.was ∙ ap Ok c.in-False.is in
     cannot_hold P loaded c.args.self.now c.run_next.new.self c.mark_failed.new.self c.args.goal c.requires.at c.run_next.ensures.others
     (c.run_next.ensures.fails was) c.mark_failed.ensures

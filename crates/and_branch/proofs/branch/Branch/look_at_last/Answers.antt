@@ -6,6 +6,7 @@ use Rattle.and_branch.specs.Rounds.{LookIs}
 use Rattle.and_branch.specs.declared.finding.Seen.TheVariants.{NotJudged}
 use Rattle.and_branch.proofs.LoadedPrograms.{is_loaded}
 use Rattle.and_branch.proofs.LookedGoals.{next_ready, passed, reduced_steps, reduced_more}
+use Rattle.and_branch.proofs.WatchedGoals.{watches_still}
 use Rattle.and_branch.proofs.branch.Branch.look_at_last.Goals as goal
 
 pub look_at_heavy-requires-clause-no_room : goal.look_at_heavy-requires-clause-no_room
@@ -48,12 +49,14 @@ returns-clause-came_to g c =
 
 pub returns-then-not-may-clause-steps : goal.returns-then-not-may-clause-steps
 returns-then-not-may-clause-steps g c =
-    let both = passed g.N.Naming.program c.args.may c.args.self.now c.args.self.now c.pass.new.self c.args.goal NotJudged c.requires.at refl
+    let both = passed g.N.Naming.program c.args.may c.args.self.now c.args.self.now c.pass.new.self c.args.goal NotJudged c.requires.at
+    (watches_still g.N.Naming.program c.args.self.now c.args.self.now refl)
     c.in_ok-pass.ensures.moved c.in_ok-pass.ensures.passed (λ may. absurd (true≢false (sym may ∙ c.if-not-may.true))) in
     both.1
 
 pub returns-then-not-may-clause-came_to : goal.returns-then-not-may-clause-came_to
 returns-then-not-may-clause-came_to g c =
-    let both = passed g.N.Naming.program c.args.may c.args.self.now c.args.self.now c.pass.new.self c.args.goal NotJudged c.requires.at refl
+    let both = passed g.N.Naming.program c.args.may c.args.self.now c.args.self.now c.pass.new.self c.args.goal NotJudged c.requires.at
+    (watches_still g.N.Naming.program c.args.self.now c.args.self.now refl)
     c.in_ok-pass.ensures.moved c.in_ok-pass.ensures.passed (λ may. absurd (true≢false (sym may ∙ c.if-not-may.true))) in
     both.0

@@ -4,6 +4,7 @@ use Rattle.and_cells.specs.Ranges.{NamedProgram}
 use Rattle.and_code.specs.Visiting.{HaveClauses}
 use Rattle.and_code.specs.Written.{all_written}
 use Rattle.and_branch.specs.Rebuilding.{weights_of}
+use Rattle.and_branch.proofs.EntriesKept.{none_watched}
 use Rattle.and_branch.proofs.LoadedPrograms.{is_loaded}
 use Rattle.and_branch.proofs.RebuiltBranches.{grown_fits, made_named, rebuilt}
 use Rattle.and_branch.proofs.branch.Branch.rebuild.Goals as goal
@@ -31,4 +32,5 @@ returns-in-Ok-is_dead-clause-stands g c = λ t u x.
     let used = c.in-Ok.ensures.weight
     ∙ ap (λ (Q : NamedProgram). c.args.work.parts.used + weights_of Q.program (all_written c.args.work.made)) (sym c.requires.program) in
     rebuilt P c.args.work t u x loaded _ refl refl c.in-Ok.ensures.reductions used refl (ap reverse c.new.ensures.items)
+    (none_watched c.new-in-Ok-is_dead.result c.new-in-Ok-is_dead-2.result c.new-in-Ok-is_dead.ensures c.new-in-Ok-is_dead-2.ensures)
     (λ e. c.in-Ok-is_dead.ensures.dead (ap Ok e)) (λ e. c.in-Ok-is_dead.ensures.live (ap Ok e))

@@ -37,7 +37,7 @@ returns-in_ok-push_body-in-Solved-clause-reduced g c =
     (c.take.ensures.solved (c.in_ok-take.was ∙ ap Ok c.in-Solved.is)) refl refl
     (c.in_ok-push_body-in-Solved.ensures ∙ ap (λ (p : NamedProgram).
     map goal_of (body_goals c.args.clause.0 c.self.inside.used [] 0 (clause_at p.program c.args.clause.0).body)
-    ++ reverse c.pop.new.self.items) (sym c.requires.program))
+    ++ reverse c.pop.new.self.items) (sym c.requires.program)) refl
 
 pub returns-in-NoSolution-clause-reduced : goal.returns-in-NoSolution-clause-reduced
 returns-in-NoSolution-clause-reduced g c =

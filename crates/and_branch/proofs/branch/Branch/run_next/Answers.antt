@@ -1,5 +1,5 @@
 use Rattle.std.proofs.Common.{subst}
-use Rattle.and_reduction.specs.Runs.{HasRun, CannotHold}
+use Rattle.and_reduction.specs.Runs.{IsWaiting, HasRun, CannotHold, WaitsFor}
 use Rattle.and_branch.specs.Branches.{Held}
 use Rattle.and_branch.proofs.branch.Branch.run_next.Goals as goal
 
@@ -10,3 +10,11 @@ returns-clause-done g c = λ is.
 pub returns-clause-fails : goal.returns-clause-fails
 returns-clause-fails g c = λ is.
     subst (λ (b : Held). CannotHold g.N.Naming.program b.row c.args.goal) c.self.view_is (c.run.ensures.fails is)
+
+pub returns-clause-waits_for : goal.returns-clause-waits_for
+returns-clause-waits_for g c = λ cell is.
+    subst (λ (b : Held). WaitsFor g.N.Naming.program b.row c.args.goal cell) c.self.view_is (c.run.ensures.waits_for cell is)
+
+pub returns-clause-waits : goal.returns-clause-waits
+returns-clause-waits g c = λ cell is.
+    subst (λ (b : Held). IsWaiting g.N.Naming.program b.row c.args.goal) c.self.view_is (c.run.ensures.waits cell is)
