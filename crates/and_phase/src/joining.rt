@@ -50,15 +50,15 @@ fn looks_whole(
     if cells.len() != done.end as usize {
         return Ok(false);
     }
-    let frames = frames_of(alloc, reductions, &done.made)?;
-    if !is_whole(alloc, loaded, frames.as_slice(), cells)? {
+    let frames = frames_of(alloc, loaded, reductions, &done.made, cells.len())?;
+    if !is_whole(alloc, loaded, &frames, cells)? {
         return Ok(false);
     }
     if done.failed {
         return Ok(true);
     }
     Ok(
-        are_pairs_whole(alloc, loaded, frames.as_slice(), cells, &done.pairs)?
+        are_pairs_whole(alloc, loaded, &frames, cells, &done.pairs)?
             && are_ready(loaded, cells, done.goals.as_slice()),
     )
 }

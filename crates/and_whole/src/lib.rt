@@ -5,5 +5,5 @@
 mod looking;
 mod readiness;
 
-pub use looking::{are_pairs_whole, frames_of, is_whole};
+pub use looking::{Frames, are_pairs_whole, frames_of, is_whole};
 pub use readiness::are_ready;

@@ -22,6 +22,7 @@ use and_model::{ClauseNo, NodeNo, ReductionList, Ref};
 use and_program::{Loaded, NodeKind};
 use and_unify::PairList;
 use std::alloc::{AllocError, Global};
+use std::marker::Model;
 
 /// Bounds of the variables under nodes, for the nodes from 0 on.
 #[derive(Drop)]
@@ -93,13 +94,56 @@ fn larger(a: u32, b: u32) -> u32
     if a < b { b } else { a }
 }
 
-/// The frames of a tree. An error is want of memory.
+/// The frames of a tree. Contracts see them as a list.
+#[derive(Drop)]
+pub struct Frames {
+    frames: Vec<Frame>,
+    /// For each cell how many frames the list has up to the one that the cell lies in; 0 where it lies in none. (Nothing rests on these.)
+    homes: Vec<u32>,
+}
+
+impl Model for Frames {
+    ghost use Rattle.std.specs.Prelude.{List};
+    ghost use Rattle.and_branch.specs.declared.parts.Frame.{Frame};
+
+    ghost Value = { List Frame };
+
+    ghost view = { λ frames. frames.frames.items };
+}
+
+impl Frames {
+    /// The frames, in the order of their reductions. Takes no memory.
+    fn as_slice(&self) -> &[Frame]
+        ensures { result.now ≡ self.now }
+    {
+        &self.frames
+    }
+
+    /// The frame in which a cell lies.
+    fn at(&self, cell: u32) -> Option<Frame>
+        ensures { IfSome result (λ f. Contains self.now f) }
+    {
+        let cell = cell as usize;
+        if cell >= self.homes.len() {
+            return None;
+        }
+        let number = self.homes[cell] as usize;
+        if number == 0 || number > self.frames.len() {
+            return None;
+        }
+        Some(self.frames[number - 1])
+    }
+}
+
+/// The frames of a tree over a row of so many words. An error is want of memory.
 pub fn frames_of(
     alloc: Global,
+    loaded: &Loaded,
     opening: &ReductionList,
     made: &ReductionList,
-) -> Result<Vec<Frame>, AllocError>
-    ensures { IfOk result (λ frames. frames.items ≡ all_frames (opening.now ++ made.now)) }
+    words: usize,
+) -> Result<Frames, AllocError>
+    ensures { IfOk result (λ frames. frames ≡ all_frames (opening.now ++ made.now)) }
 {
     let mut frames = Vec::new(alloc);
     frames.push(Frame {
@@ -108,7 +152,8 @@ pub fn frames_of(
     })?;
     add_frames(&mut frames, opening)?;
     add_frames(&mut frames, made)?;
-    Ok(frames)
+    let homes = homes_of(alloc, loaded, &frames, words)?;
+    Ok(Frames { frames, homes })
 }
 
 /// Puts the frames of reductions behind others. An error is want of memory.
@@ -125,21 +170,36 @@ fn add_frames(frames: &mut Vec<Frame>, reductions: &ReductionList) -> Result<(),
     Ok(())
 }
 
-/// Of frames in the order of their bases, the last one that does not begin behind a cell.
-fn frame_before(frames: &[Frame], cell: u32) -> Option<Frame>
-    ensures { IfSome result (λ f. Contains frames.now f) }
-{
-    let mut low: usize = 0;
-    let mut high = frames.len();
-    while low < high {
-        let middle = low + (high - low) / 2;
-        if frames[middle].base <= cell {
-            low = middle + 1;
-        } else {
-            high = middle;
-        }
+/// For each cell of a row of so many words, which of these frames it lies in. An error is want of memory.
+fn homes_of(
+    alloc: Global,
+    loaded: &Loaded,
+    frames: &[Frame],
+    words: usize,
+) -> Result<Vec<u32>, AllocError> {
+    let mut homes = Vec::new(alloc);
+    homes.resize(words, 0)?;
+    for place in 0..frames.len() {
+        note_home(loaded, frames[place], place, &mut homes);
     }
-    if low > 0 { Some(frames[low - 1]) } else { None }
+    Ok(homes)
+}
+
+/// Notes at the cells of a frame's variables that they lie in it, which has so many frames before it.
+fn note_home(loaded: &Loaded, frame: Frame, before: usize, homes: &mut Vec<u32>) {
+    let Ok(before) = u32::try_from(before) else {
+        return;
+    };
+    if frame.clause.0 as u32 > loaded.clause_count() {
+        return;
+    }
+    let end = frame.base as usize + 1 + loaded.variables(frame.clause) as usize;
+    if end > homes.len() {
+        return;
+    }
+    for cell in frame.base as usize..end {
+        homes[cell] = before.saturating_add(1);
+    }
 }
 
 /// Whether a cell is that of a variable of a frame's clause.
@@ -152,21 +212,21 @@ fn is_variable_of(loaded: &Loaded, frame: Frame, cell: u32) -> bool
     cell - frame.base - 1 < u32::from(loaded.variables(frame.clause))
 }
 
-/// Whether a cell is that of a variable of one of these frames, which stand in the order of their bases.
-fn is_variable_cell(loaded: &Loaded, frames: &[Frame], cell: u32) -> bool
+/// Whether a cell is that of a variable of one of these frames.
+fn is_variable_cell(loaded: &Loaded, frames: &Frames, cell: u32) -> bool
     ensures { result ≡ true → IsVariableCell (program_of loaded.now) frames.now cell }
 {
-    match frame_before(frames, cell) {
+    match frames.at(cell) {
         Some(frame) => is_variable_of(loaded, frame, cell),
         None => false,
     }
 }
 
 /// Whether all variables below that number have cells in the frame that begins there.
-fn is_frame_of(loaded: &Loaded, frames: &[Frame], base: u32, span: u32) -> bool
+fn is_frame_of(loaded: &Loaded, frames: &Frames, base: u32, span: u32) -> bool
     ensures { result ≡ true → (k : ℕ) → k < span → IsVariableCell (program_of loaded.now) frames.now (base + 1 + k) }
 {
-    match frame_before(frames, base) {
+    match frames.at(base) {
         Some(frame) => {
             if frame.clause.0 as u32 > loaded.clause_count() || frame.base != base {
                 return false;
@@ -279,7 +339,7 @@ fn may_stand(
 fn is_in_place(
     loaded: &Loaded,
     spans: &mut Spans,
-    frames: &[Frame],
+    frames: &Frames,
     place: u32,
     word: Ref,
 ) -> Result<bool, AllocError>
@@ -302,20 +362,19 @@ fn is_in_place(
     }
 }
 
-/// Whether a row is sound, these frames are whole, and each word is in its place. The frames stand in the order of their
-/// bases; in another order it may be false of a row of which it is so. Each word and each frame is looked at once, and
+/// Whether a row is sound, these frames are whole, and each word is in its place. Each word and each frame is looked at once, and
 /// each node of the program at most once. An error is want of memory.
 pub fn is_whole(
     alloc: Global,
     loaded: &Loaded,
-    frames: &[Frame],
+    frames: &Frames,
     cells: &LooseCells,
 ) -> Result<bool, AllocError>
     requires fits { (words : ℕ) × ((place : ℕ) → CanHold (named loaded.now) words place (word_at cells.now place)) }
     requires short { length cells.now ≤ MAX_WORDS }
     ensures { result ≡ Ok true → IsWhole (named loaded.now) frames.now cells.now }
 {
-    if !are_whole_frames(loaded, cells, frames) {
+    if !are_whole_frames(loaded, cells, frames.as_slice()) {
         return Ok(false);
     }
     let mut spans = Spans::new(alloc);
@@ -334,7 +393,7 @@ pub fn is_whole(
 fn is_side_whole(
     loaded: &Loaded,
     spans: &mut Spans,
-    frames: &[Frame],
+    frames: &Frames,
     cells: &LooseCells,
     side: Ref,
 ) -> Result<bool, AllocError>
@@ -367,7 +426,7 @@ fn is_side_whole(
 pub fn are_pairs_whole(
     alloc: Global,
     loaded: &Loaded,
-    frames: &[Frame],
+    frames: &Frames,
     cells: &LooseCells,
     pairs: &PairList,
 ) -> Result<bool, AllocError>

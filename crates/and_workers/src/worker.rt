@@ -81,7 +81,7 @@ pub(crate) enum Turn {
 pub(crate) type Turned<'a, N> = (Worker<'a, N>, Result<Turn, AllocError>);
 
 /// How many turns in a row a worker may find no goal, before it ends.
-const PATIENCE: u32 = 4096;
+const PATIENCE: u32 = 256;
 
 /// Does a job, until there is nothing more to do.
 pub fn work<'a, N: Naming, G: Gate>(shared: &Shared<'a, N, G>, job: Job) -> Ended

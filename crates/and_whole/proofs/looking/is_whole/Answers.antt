@@ -1,8 +1,9 @@
-use Rattle.std.proofs.Common.{Ok, ap, subst, arith}
+use Rattle.std.proofs.Common.{Ok, List, All, ap, subst, arith}
+use Rattle.and_branch.specs.declared.parts.Frame.{Frame}
 use Rattle.and_cells.specs.Parts.{named}
 use Rattle.and_model.specs.declared.reference.Ref.{Ref}
-use Rattle.and_program.specs.Loaded.{skeleton_of}
-use Rattle.and_whole.specs.Places.{IsInPlace}
+use Rattle.and_program.specs.Loaded.{program_of, skeleton_of}
+use Rattle.and_whole.specs.Places.{IsInPlace, IsWholeFrame}
 use Rattle.and_whole.proofs.Bounds.{no_spans}
 use Rattle.and_whole.proofs.Wholeness.{none_looked, one_looked, all_looked}
 use Rattle.and_whole.proofs.looking.is_whole.Goals as goal
@@ -29,4 +30,5 @@ returns c = λ _.
     let over = c.loop-place-test.false in
     let long = c.len-place-end.ensures in
     all_looked (named c.args.loaded.now) c.args.frames.now c.args.cells.now c.loop-place.place c.loop-place.invariant.looked (omega (arith, over, long))
-    (c.are_whole_frames.ensures c.if-not-are_whole_frames.false) c.requires.short
+    (subst (λ (fs : List Frame). All (IsWholeFrame (program_of c.args.loaded.now) c.args.cells.now) fs) c.as_slice.ensures
+    (c.are_whole_frames.ensures c.if-not-are_whole_frames.false)) c.requires.short
