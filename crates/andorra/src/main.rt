@@ -6,6 +6,8 @@
 mod checking;
 mod progress;
 mod question;
+#[cfg(test)]
+mod rows;
 mod showing;
 #[cfg(test)]
 mod tests;
