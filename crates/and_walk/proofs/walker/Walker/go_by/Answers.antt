@@ -29,3 +29,8 @@ returns-in-OverLimit-clause-goes g c =
 pub tell-requires-in-Floundered-clause-state : goal.tell-requires-in-Floundered-clause-state
 tell-requires-in-Floundered-clause-state g c =
     state_told g.N.Naming.program c.args.branch c.args.state told.Floundered c.in-Floundered.is c.requires.state
+
+pub fork-requires-clause-state : goal.fork-requires-clause-state
+fork-requires-clause-state g c =
+    state_told g.N.Naming.program c.args.branch c.args.state (told.Fork c.in-Fork.goal c.in-Fork.clauses c.in-Fork.cut) c.in-Fork.is
+    c.requires.state
