@@ -11,8 +11,8 @@ ghost use Rattle.and_program.specs.Loaded.{program_of};
 ghost use Rattle.and_code.specs.Written.{all_written};
 ghost use Rattle.and_branch_laws.specs.Visits.{at_query, Decides};
 
-use crate::places::Links;
-use crate::visiting::{Turn, Visit, go_on};
+use crate::places::{Links, find};
+use crate::visiting::{Visit, at_call, go_on};
 use and_model::{ClauseNo, Code, ReductionList};
 use and_program::Loaded;
 use std::alloc::{AllocError, Global};
@@ -29,16 +29,25 @@ pub fn decided_by(
 {
     let links = Links::of(alloc, reductions)?;
     let mut code = Code::new(alloc);
-    let mut visits = Vec::with_capacity(alloc, reductions.len().saturating_add(1))?;
-    visits.push(Visit {
-        node: 0,
-        clause: ClauseNo(0),
-        item: 0,
-    })?;
+    let mut visits = Vec::new(alloc);
+    let mut next = at_call(loaded, QUERY);
     loop {
-        match go_on(loaded, &links, reductions, &mut visits, &mut code)? {
-            Turn::Again => {}
-            Turn::Over => return Ok(code),
+        match next {
+            None => return Ok(code),
+            Some(visit) => match find(&links, reductions, visit.node, visit.item) {
+                None => return Ok(code),
+                Some(reduction) => {
+                    code.push(reduction.clause)?;
+                    next = go_on(loaded, visit, reduction, &mut visits)?;
+                }
+            },
         }
     }
 }
+
+/// The query's whole body.
+const QUERY: Visit = Visit {
+    node: 0,
+    clause: ClauseNo(0),
+    item: 0,
+};

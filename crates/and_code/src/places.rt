@@ -12,9 +12,9 @@ use std::alloc::{AllocError, Global};
 #[derive(Drop)]
 pub(crate) struct Links {
     /// By node: to the last reduction that takes a call there.
-    last: Vec<usize>,
+    last: Vec<u32>,
     /// By the place of a reduction: to the one before it that takes a call at the same node.
-    before: Vec<usize>,
+    before: Vec<u32>,
 }
 
 /// The larger of two numbers.
@@ -38,23 +38,26 @@ fn node_count(reductions: &ReductionList) -> usize
 }
 
 impl Links {
-    /// Links the reductions of a list. An error is want of memory.
+    /// Links the reductions of a list. An error is want of memory, or more reductions than links can tell.
     pub(crate) fn of(alloc: Global, reductions: &ReductionList) -> Result<Links, AllocError>
         ensures { IfOk result (AreLinks reductions.now) }
     {
+        if reductions.len() >= u32::MAX as usize {
+            return Err(AllocError);
+        }
         let mut last = Vec::new(alloc);
         last.resize(node_count(reductions), 0)?;
         let mut before = Vec::with_capacity(alloc, reductions.len())?;
         for place in 0..reductions.len() {
             let node = reductions.at(place).parent as usize;
-            before.push(last[node])?;
-            last[node] = place + 1;
+            before.push_reserved(last[node]);
+            last[node] = place as u32 + 1;
         }
         Ok(Links { last, before })
     }
 
     /// The link of a node.
-    fn last_at(&self, node: u32) -> usize
+    fn last_at(&self, node: u32) -> u32
         ensures { result ≡ get_or self.now.last.items node 0 }
     {
         match self.last.get(node as usize) {
@@ -77,7 +80,7 @@ pub(crate) fn find(
 {
     let mut behind = links.last_at(node);
     while behind > 0 {
-        let place = behind - 1;
+        let place = behind as usize - 1;
         let reduction = *reductions.at(place);
         if reduction.item as usize == item {
             return Some(reduction);

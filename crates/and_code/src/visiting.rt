@@ -1,15 +1,14 @@
 //! Bodies that are gone through, in preorder.
 
-ghost use Rattle.std.specs.Prelude.{◌≡◌, ◌≤◌, ◌<◌, ◌+◌, ◌++◌, ◌∷◌, [], Ok, OnOk, All, length};
+ghost use Rattle.std.specs.Prelude.{◌≡◌, ◌≤◌, ◌++◌, ◌∷◌, List, length, IfOk, OnOk};
 ghost use Rattle.and_program.specs.Items.{node_item};
 ghost use Rattle.and_program.specs.Loaded.{program_of};
-ghost use Rattle.and_code.specs.Places.{AreLinks, IsMissing};
-ghost use Rattle.and_code.specs.Visiting.{AreBehind, HaveClauses, AreNamed, GoesOn, IsOver, IsTaken, behind, into_clause, is_call_item};
-ghost use Rattle.and_code.specs.Visiting.{turns_left};
-ghost use Rattle.and_code.specs.Written.{all_written};
+ghost use Rattle.and_branch_laws.specs.Visits;
+ghost use Rattle.and_branch_laws.specs.Visits.{into, onward};
+ghost use Rattle.and_code.specs.Visiting.{AreAtCalls, IsAtCall, LeadsTo, is_call_item, visit_of, visited, visits_of, waiting};
+ghost use Rattle.and_code.specs.Written.{written};
 
-use crate::places::{Links, find};
-use and_model::{ClauseNo, Code, Reduction, ReductionList};
+use and_model::{ClauseNo, Reduction};
 use and_program::{ItemNode, Loaded};
 use std::alloc::AllocError;
 
@@ -19,15 +18,6 @@ pub(crate) struct Visit {
     pub(crate) node: u32,
     pub(crate) clause: ClauseNo,
     pub(crate) item: usize,
-}
-
-/// What a turn came to.
-#[derive(Clone, Copy, PartialEq, Eq, Debug)]
-pub(crate) enum Turn {
-    /// There may be more.
-    Again,
-    /// The code has all that is decided.
-    Over,
 }
 
 /// Whether an item is a call.
@@ -51,79 +41,77 @@ fn is_call(item: ItemNode) -> bool
     }
 }
 
-/// Goes on by one item, or to the end of a body, in the last of the visits. An error is want of memory.
+/// The visit of the body's first call from an item on; `None` where no call comes.
+pub(crate) fn at_call(loaded: &Loaded, visit: Visit) -> Option<Visit>
+    requires { visit.clause.0 ≤ length (program_of loaded.now).clauses }
+    ensures calls { AreAtCalls (program_of loaded.now) (visited result) }
+    ensures leads { (vs : List Visits.Visit) → LeadsTo (program_of loaded.now) (visit_of visit ∷ vs) (visited result ++ vs) }
+{
+    let items = loaded.items(visit.clause);
+    for item in visit.item..items.len() {
+        if is_call(items[item]) {
+            return Some(Visit { item, ..visit });
+        }
+    }
+    None
+}
+
+/// Goes on behind a call that a reduction took: in the body of its clause, later behind the call, and
+/// then in the bodies that wait. An error is want of memory.
 pub(crate) fn go_on(
     loaded: &Loaded,
-    links: &Links,
-    reductions: &ReductionList,
+    visit: Visit,
+    reduction: Reduction,
     visits: &mut Vec<Visit>,
-    code: &mut Code,
-) -> Result<Turn, AllocError>
-    requires links { AreLinks reductions.now links.now }
-    requires clauses { HaveClauses (program_of loaded.now) reductions.now }
-    requires places { AreBehind reductions.now }
-    requires named { AreNamed (program_of loaded.now) visits.old.items }
-    ensures named { result ≡ Ok Turn.Again → AreNamed (program_of loaded.now) visits.new.items }
-    ensures again { result ≡ Ok Turn.Again
-        → GoesOn (program_of loaded.now) (all_written reductions.now) visits.old.items visits.new.items code.old code.new }
-    ensures over { result ≡ Ok Turn.Over → IsOver (program_of loaded.now) (all_written reductions.now) visits.old.items code.old code.new }
-    ensures fewer { result ≡ Ok Turn.Again
-        → turns_left (program_of loaded.now) reductions.now visits.new.items < turns_left (program_of loaded.now) reductions.now visits.old.items }
+) -> Result<Option<Visit>, AllocError>
+    requires here { IsAtCall (program_of loaded.now) (visit_of visit) }
+    requires named { reduction.clause.0 ≤ length (program_of loaded.now).clauses }
+    requires calls { AreAtCalls (program_of loaded.now) (visits_of visits.old.items) }
+    ensures calls { IfOk result (λ next. AreAtCalls (program_of loaded.now) (waiting visits.new.items next)) }
+    ensures leads { IfOk result (λ next. LeadsTo (program_of loaded.now)
+        (into (written reduction) ∷ onward (visit_of visit) ∷ visits_of visits.old.items) (waiting visits.new.items next)) }
 {
-    match visits.pop() {
-        None => Ok(Turn::Over),
-        Some(visit) => {
-            let items = loaded.items(visit.clause);
-            if visit.item >= items.len() {
-                return Ok(Turn::Again);
-            }
-            if is_call(items[visit.item]) {
-                return take(links, reductions, visit, visits, code);
-            }
-            pass(visit, visits)?;
-            Ok(Turn::Again)
+    let rest = behind(loaded, visit);
+    match at_call(loaded, entered(reduction)) {
+        None => match rest {
+            None => Ok(visits.pop()),
+            Some(visit) => Ok(Some(visit)),
+        },
+        Some(child) => {
+            keep(rest, visits)?;
+            Ok(Some(child))
         }
     }
 }
 
-/// Goes on behind an item. An error is want of memory.
-fn pass(visit: Visit, visits: &mut Vec<Visit>) -> Result<(), AllocError>
-    requires { visit.item + 1 ≤ usize.MAX }
-    ensures { OnOk result (visits.new.items ≡ visits.old.items ++ behind visit ∷ []) }
+/// The visit of the first call behind one.
+fn behind(loaded: &Loaded, visit: Visit) -> Option<Visit>
+    requires { IsAtCall (program_of loaded.now) (visit_of visit) }
+    ensures calls { AreAtCalls (program_of loaded.now) (visited result) }
+    ensures leads { (vs : List Visits.Visit) → LeadsTo (program_of loaded.now) (onward (visit_of visit) ∷ vs) (visited result ++ vs) }
 {
+    let items = loaded.items(visit.clause);
+    prove!(visit.item < items.len());
     let item = visit.item + 1;
-    visits.push(Visit { item, ..visit })?;
-    Ok(())
+    at_call(loaded, Visit { item, ..visit })
 }
 
-/// Goes into the clause by which a call was taken, and later on behind the call. Where no reduction
-/// takes it, all is found. An error is want of memory.
-fn take(
-    links: &Links,
-    reductions: &ReductionList,
-    visit: Visit,
-    visits: &mut Vec<Visit>,
-    code: &mut Code,
-) -> Result<Turn, AllocError>
-    requires links { AreLinks reductions.now links.now }
-    requires fits { visit.item + 1 ≤ usize.MAX }
-    ensures again { result ≡ Ok Turn.Again → IsTaken reductions.now visit visits.old.items visits.new.items code.old code.new }
-    ensures over { result ≡ Ok Turn.Over → IsMissing reductions.now visit.node visit.item × (code.new ≡ code.old) }
+/// Lets a visit wait, if there is one. An error is want of memory.
+fn keep(visit: Option<Visit>, visits: &mut Vec<Visit>) -> Result<(), AllocError>
+    ensures { OnOk result (visits_of visits.new.items ≡ visited visit ++ visits_of visits.old.items) }
 {
-    match find(links, reductions, visit.node, visit.item) {
-        None => Ok(Turn::Over),
-        Some(reduction) => {
-            code.push(reduction.clause)?;
-            pass(visit, visits)?;
-            visits.push(entered(reduction))?;
-            Ok(Turn::Again)
+    match visit {
+        None => Ok(()),
+        Some(visit) => {
+            visits.push(visit)?;
+            Ok(())
         }
     }
 }
 
 /// The whole body of the clause by which a call was reduced.
 fn entered(reduction: Reduction) -> Visit
-    ensures { result ≡ into_clause reduction }
+    ensures { visit_of result ≡ into (written reduction) }
 {
     Visit {
         node: reduction.node,

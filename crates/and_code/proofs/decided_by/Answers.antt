@@ -1,34 +1,96 @@
-use Rattle.std.proofs.Common.{[], ◌∷◌, Ok, ap}
+use Rattle.std.proofs.Common.{◌<◌, ◌≤◌, length, refl, sym, subst}
+use Rattle.std.specs.Prelude.{Option}
+use Rattle.std.proofs.lemmas.List.Elements.{All-head, All-tail, All-contains}
+use Rattle.and_model.specs.declared.goal.Reduction.{Reduction}
 use Rattle.and_program.specs.Loaded.{program_of}
+use Rattle.and_code.specs.Visiting.{IsAtCall, AreAtCalls, visit_of, visits_of, waiting, turns_left}
 use Rattle.and_code.specs.Written.{all_written}
+use Rattle.and_code.specs.declared.visiting.Visit.{Visit}
 use Rattle.and_code.proofs.Trees.{clauses_named, places_behind}
-use Rattle.and_code.proofs.Turns.{goes_on, all_found}
+use Rattle.and_code.proofs.Turns.{HasGone, begun, begun_at_calls, nothing_left, call_open, call_taken, turn_fewer}
 use Rattle.and_code.proofs.decided_by.Goals as goal
 
-pub go_on-requires-clause-clauses : goal.go_on-requires-clause-clauses
-go_on-requires-clause-clauses c =
-    clauses_named (program_of c.args.loaded.now) c.args.reductions.now c.requires.made.0 c.requires.made.1
-
-pub go_on-requires-clause-places : goal.go_on-requires-clause-places
-go_on-requires-clause-places c =
-    places_behind (program_of c.args.loaded.now) c.args.reductions.now c.requires.made.0 c.requires.made.1
-
-pub loop-visits-smaller : goal.loop-visits-smaller
-loop-visits-smaller c = c.in_ok-go_on.ensures.fewer (ap (λ t. Ok t) c.in-Again.is)
-
-pub loop-visits-preserved : goal.loop-visits-preserved
-loop-visits-preserved c =
+pub loop-next-init : goal.loop-next-init
+loop-next-init c =
     let P = program_of c.args.loaded.now in
-    let again = ap (λ t. Ok t) c.in-Again.is in
+    let visits = c.new-visits.result.items in
+    let next = c.at_call-next.result in
+    let empty = c.new-visits.ensures.items in
     record {
-      named = c.in_ok-go_on.ensures.named again;
-      found = goes_on P (all_written c.args.reductions.now) (record { node = 0; clause = record { 0 = 0 }; item = 0 } ∷ [])
-          c.loop-visits.visits.items c.go_on.new.visits.items c.loop-visits.code c.go_on.new.code c.loop-visits.invariant.found
-          (c.in_ok-go_on.ensures.again again);
+      calls = begun_at_calls P visits next empty c.at_call-next.ensures.calls;
+      found = begun P (all_written c.args.reductions.now) visits next c.new-code.result empty c.new-code.ensures c.at_call-next.ensures.leads;
     }
 
-pub returns-in-Over : goal.returns-in-Over
-returns-in-Over c =
-    all_found (program_of c.args.loaded.now) (all_written c.args.reductions.now)
-    (record { node = 0; clause = record { 0 = 0 }; item = 0 } ∷ []) c.loop-visits.visits.items c.loop-visits.code c.go_on.new.code
-    c.loop-visits.invariant.found (c.in_ok-go_on.ensures.over (ap (λ t. Ok t) c.in-Over.is))
+pub returns-in-None : goal.returns-in-None
+returns-in-None c =
+    let P = program_of c.args.loaded.now in
+    let rs = all_written c.args.reductions.now in
+    let code = c.loop-next.code in
+    nothing_left P rs code
+    (subst (λ (next : Option Visit). HasGone P rs (waiting c.loop-next.visits.items next) code) c.in-None.is c.loop-next.invariant.found)
+
+pub returns-in-None-find : goal.returns-in-None-find
+returns-in-None-find c =
+    let P = program_of c.args.loaded.now in
+    let rs = c.args.reductions.now in
+    let v = c.in-Some.visit in
+    let old = c.loop-next.visits.items in
+    let code = c.loop-next.code in
+    let calls = subst (λ (next : Option Visit). AreAtCalls P (waiting old next)) c.in-Some.is c.loop-next.invariant.calls in
+    let so_far = subst (λ (next : Option Visit). HasGone P (all_written rs) (waiting old next) code) c.in-Some.is c.loop-next.invariant.found in
+    call_open P rs v (visits_of old) code so_far (All-head (IsAtCall P) (visit_of v) (visits_of old) calls) (c.in-None-find.ensures.none refl)
+
+pub go_on-requires-clause-here : goal.go_on-requires-clause-here
+go_on-requires-clause-here c =
+    let P = program_of c.args.loaded.now in
+    let old = c.loop-next.visits.items in
+    let calls = subst (λ (next : Option Visit). AreAtCalls P (waiting old next)) c.in-Some.is c.loop-next.invariant.calls in
+    All-head (IsAtCall P) (visit_of c.in-Some.visit) (visits_of old) calls
+
+pub go_on-requires-clause-calls : goal.go_on-requires-clause-calls
+go_on-requires-clause-calls c =
+    let P = program_of c.args.loaded.now in
+    let old = c.loop-next.visits.items in
+    let calls = subst (λ (next : Option Visit). AreAtCalls P (waiting old next)) c.in-Some.is c.loop-next.invariant.calls in
+    All-tail (IsAtCall P) (visit_of c.in-Some.visit) (visits_of old) calls
+
+pub go_on-requires-clause-named : goal.go_on-requires-clause-named
+go_on-requires-clause-named c =
+    let P = program_of c.args.loaded.now in
+    let rs = c.args.reductions.now in
+    let r = c.in-Some-find.reduction in
+    let found = c.in-Some-find.ensures.some r refl in
+    All-contains (λ (r : Reduction). r.clause.0 ≤ length P.clauses) rs r (clauses_named P rs c.requires.made.0 c.requires.made.1) found.0
+
+pub loop-next-smaller : goal.loop-next-smaller
+loop-next-smaller c =
+    let P = program_of c.args.loaded.now in
+    let rs = c.args.reductions.now in
+    let v = c.in-Some.visit in
+    let r = c.in-Some-find.reduction in
+    let old = c.loop-next.visits.items in
+    let code = c.loop-next.code in
+    let new = waiting c.go_on.new.visits.items c.in_ok-next-in-Some-find.next in
+    let calls = subst (λ (next : Option Visit). AreAtCalls P (waiting old next)) c.in-Some.is c.loop-next.invariant.calls in
+    let so_far = subst (λ (next : Option Visit). HasGone P (all_written rs) (waiting old next) code) c.in-Some.is c.loop-next.invariant.found in
+    let less = turn_fewer P rs v (visits_of old) code so_far (All-head (IsAtCall P) (visit_of v) (visits_of old) calls) new r
+    (places_behind P (all_written rs) c.requires.made.0 c.requires.made.1) (c.in-Some-find.ensures.some r refl)
+    c.in_ok-next-in-Some-find.ensures.leads in
+    subst (λ (next : Option Visit). turns_left (all_written rs) new < turns_left (all_written rs) (waiting old next)) (sym c.in-Some.is) less
+
+pub loop-next-preserved : goal.loop-next-preserved
+loop-next-preserved c =
+    let P = program_of c.args.loaded.now in
+    let rs = c.args.reductions.now in
+    let v = c.in-Some.visit in
+    let r = c.in-Some-find.reduction in
+    let old = c.loop-next.visits.items in
+    let code = c.loop-next.code in
+    let new = waiting c.go_on.new.visits.items c.in_ok-next-in-Some-find.next in
+    let calls = subst (λ (next : Option Visit). AreAtCalls P (waiting old next)) c.in-Some.is c.loop-next.invariant.calls in
+    let so_far = subst (λ (next : Option Visit). HasGone P (all_written rs) (waiting old next) code) c.in-Some.is c.loop-next.invariant.found in
+    record {
+      calls = c.in_ok-next-in-Some-find.ensures.calls;
+      found = call_taken P rs v (visits_of old) code so_far (All-head (IsAtCall P) (visit_of v) (visits_of old) calls) new r c.push.new.self
+          (c.in-Some-find.ensures.some r refl) c.in_ok-push-in-Some-find.ensures.ok c.in_ok-next-in-Some-find.ensures.leads;
+    }

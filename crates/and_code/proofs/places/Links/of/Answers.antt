@@ -13,6 +13,8 @@ loop-place-init c =
     let items = c.in_ok-resize.ensures.items in
     record {
       room = room_made rs c.node_count.result _ _ _ c.new-last.ensures.items c.new-last.ensures.len items c.node_count.ensures;
+      many = c.in_ok-before.ensures.len;
+      reserved = let n = c.in_ok-before.ensures.capacity in omega arith;
       linked = none_linked rs c.node_count.result _ _ _ _ c.new-last.ensures.items c.new-last.ensures.len items c.in_ok-before.ensures.items;
     }
 
@@ -26,8 +28,10 @@ loop-place-preserved c =
     let read : c.index.result.now ≡ get_or last r.parent 0 = c.index.ensures ∙ default_apart last r.parent c.index.result.now 0 room in
     record {
       room = subst (λ m. All (λ (x : Reduction). x.parent < m) rs) (sym (length-set last r.parent (place + 1))) c.loop-place.invariant.room;
+      many = let n = c.loop-place.invariant.many in let m = c.push_reserved.ensures.len in omega arith;
+      reserved = let n = c.loop-place.invariant.reserved in let m = c.push_reserved.ensures.capacity in omega arith;
       linked = linked_more rs r place c.at.ensures last c.loop-place.before.items _ _ c.loop-place.invariant.linked room refl
-          (c.in_ok-push.ensures.items ∙ ap (λ (n : ℕ). c.loop-place.before.items ++ n ∷ []) read);
+          (c.push_reserved.ensures.items ∙ ap (λ (n : ℕ). c.loop-place.before.items ++ n ∷ []) read);
     }
 
 pub returns : goal.returns
