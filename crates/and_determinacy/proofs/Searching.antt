@@ -1,9 +1,10 @@
 -- The first candidates of a list of clauses, and what they say of a goal.
 use Rattle.std.proofs.Common.{ℕ, ◌+◌, ◌≡◌, ◌<◌, ◌≤◌, false, List, length, get_or, Some, refl, sym, ap, ◌∙◌, subst, inl, inr, arith}
-use Rattle.std.specs.Prelude.{All, Contains, slice_get, Result, Ok, Err, IfOk}
+use Rattle.std.specs.Prelude.{All, AllPairs, Contains, ◌⊎◌, ◌∷◌, [], ◌≢◌, ◌++◌, slice_get, Result, Ok, Err, IfOk, OnOk}
 use Rattle.std.specs.declared.alloc.AllocError.{AllocError}
 use Rattle.std.proofs.lemmas.Bool.{cases_lt}
-use Rattle.std.proofs.lemmas.List.Elements.{All-contains}
+use Rattle.std.proofs.lemmas.List.Elements.{All-contains, All-nil, All-cons}
+use Rattle.std.proofs.lemmas.List.Kept.{AllPairs-cons}
 use Rattle.std.proofs.lemmas.Option.{get_or_from_slice_get, slice_get-get_or, slice_get_within, same_Some}
 use Rattle.and_model.specs.Terms.{Term, variable, Substitution, apply}
 use Rattle.and_model.specs.Programs.{Of, clause_at}
@@ -19,13 +20,16 @@ use Rattle.and_cell_laws.proofs.Images.{contains_origin, contains_image}
 use Rattle.and_branch_laws.specs.Judging.{outside, CandidateInCells}
 use Rattle.and_branch_laws.specs.Variables.{placed}
 use Rattle.and_branch_laws.proofs.Lists.{all_of}
+use Rattle.and_laws.proofs.Ordered.{contains_first, contains_more, contains_cases, contains_none}
+use Rattle.and_laws.proofs.Pairwise.{all_pairs_none}
 use Rattle.and_laws.proofs.Substitutions.{apply_then}
 use Rattle.and_determinacy.specs.Candidates.{IsNodeOf, AreCandidates, IsJudged, IsNarrowed, narrowed_as}
 use Rattle.and_determinacy.specs.Looks.{IsLook, IsLeft}
 use Rattle.and_determinacy.specs.Prints.{print_of, are_apart, PrintTells}
-use Rattle.and_determinacy.specs.Searches.{NodeHas, AreServed, NoneFrom, IsNextOf, IsCount}
+use Rattle.and_determinacy.specs.Searches.{NodeHas, AreServed, NoneFrom, IsNextOf, IsCount, AreTwo}
 use Rattle.and_determinacy.specs.declared.judging.Found.{Found}
 use Rattle.and_determinacy.specs.declared.judging.Judged.{Judged}
+use Rattle.and_determinacy.specs.declared.judging.Two.{Two}
 use Rattle.and_determinacy.specs.declared.judging.Judged.TheVariants.{Nothing, One, Several}
 use Rattle.and_determinacy.specs.declared.judging.Narrowed.TheVariants as narrowed
 use Rattle.and_determinacy.specs.declared.looking.Look.{Look}
@@ -95,6 +99,18 @@ pub none_seen : (P : NamedProgram) (table : Determinacy) → IsTableOf P table �
     → NoneFrom (NodeHas P row node base) clauses from to
 none_seen P table is_of row node base look is clauses from to none =
     none_fewer (NodeHas P row node base) (IsLeft table look) clauses from to (candidate_left P table is_of row node base look is) none
+
+pub two_seen : (P : NamedProgram) (table : Determinacy) → IsTableOf P table → (row : List Ref) (node base : ℕ) (look : Look)
+    → IsLook P row node base look → (clauses : List ClauseNo) (two : Two) → AreTwo (IsLeft table look) clauses two
+    → AreTwo (NodeHas P row node base) clauses two
+two_seen P table is_of row node base look is clauses two are =
+    let seen = none_seen P table is_of row node base look is clauses in record {
+      order = are.order;
+      there = are.there;
+      before = seen 0 two.first are.before;
+      between = seen (two.first + 1) two.second are.between;
+      behind = seen (two.second + 1) (length clauses) are.behind;
+    }
 
 -- The clauses that serve a node have prints.
 pub served_printed : (P : NamedProgram) (table : Determinacy) → IsTableOf P table → (row : List Ref) (node base : ℕ)
@@ -252,3 +268,78 @@ module _ (P : NamedProgram) (row : List Ref) (g : Goal) (node : ℕ) (of : IsNod
           contains_image (λ (no : ClauseNo). no.0) out (record { 0 = c }) there,
     ),
   )
+
+  -- ---- Where a look leaves two
+
+  -- each candidate is one of them,
+  one_of_two : (two : Two) → AreTwo (NodeHas P row node g.base) clauses two → (d : ℕ) → CandidateInCells P row g d
+      → (d ≡ (get_or clauses two.first none_such).0) ⊎ (d ≡ (get_or clauses two.second none_such).0)
+  one_of_two two are d q =
+      let (k, low, there) = placed_at d q in
+      let clause : ClauseNo = record { 0 = d } in
+      let read : get_or clauses k none_such ≡ clause = get_or_from_slice_get clauses k clause none_such there in
+      let is_at : (place : ℕ) → k ≡ place → d ≡ (get_or clauses place none_such).0 =
+      λ place here. sym (ap (λ (x : ClauseNo). x.0) (sym (ap (λ (i : ℕ). get_or clauses i none_such) here) ∙ read)) in
+      elim (cases_lt k two.first) [
+        | inl early ↦ absurd (are.before k clause (omega arith) early there (of_node d q))
+        | inr past ↦ elim (cases_lt two.first k) [
+          | inr here ↦ inl (is_at two.first (omega arith))
+          | inl later ↦ elim (cases_lt k two.second) [
+            | inl between ↦ absurd (are.between k clause (omega arith) between there (of_node d q))
+            | inr behind ↦ elim (cases_lt two.second k) [
+              | inr here ↦ inr (is_at two.second (omega arith))
+              | inl late ↦ absurd (are.behind k clause (omega arith) low there (of_node d q))
+            ]
+          ]
+        ]
+      ]
+
+  -- so where there are two candidates they are these.
+  both_of_two : (a b c d : ℕ) → (c ≢ d) → (c ≡ a) ⊎ (c ≡ b) → (d ≡ a) ⊎ (d ≡ b) → CandidateInCells P row g c → CandidateInCells P row g d
+      → CandidateInCells P row g a × CandidateInCells P row g b
+  both_of_two a b c d other left right first second = elim left [
+    | inl ca ↦ elim right [
+      | inl da ↦ absurd (other (ca ∙ sym da))
+      | inr db ↦ (subst (CandidateInCells P row g) ca first, subst (CandidateInCells P row g) db second)
+    ]
+    | inr cb ↦ elim right [
+      | inl da ↦ (subst (CandidateInCells P row g) da second, subst (CandidateInCells P row g) cb first)
+      | inr db ↦ absurd (other (cb ∙ sym db))
+    ]
+  ]
+
+  pub two_are : (two : Two) → AreTwo (NodeHas P row node g.base) clauses two → IsJudged P row g Several
+      → AreCandidates P row g (get_or clauses two.first none_such ∷ get_or clauses two.second none_such ∷ [])
+  two_are two are (c, d, other, first, second) =
+      let one : ClauseNo = get_or clauses two.first none_such in
+      let last : ClauseNo = get_or clauses two.second none_such in
+      let rise : one.0 < last.0 = served.rise two.first two.second none_such are.order are.there in
+      let both = both_of_two one.0 last.0 c d other (one_of_two two are c first) (one_of_two two are d second) first second in (
+        AllPairs-cons IsEarlier one (last ∷ []) (All-cons (IsEarlier one) last [] rise (All-nil (IsEarlier one)))
+            (AllPairs-cons IsEarlier last [] (All-nil (IsEarlier last)) (all_pairs_none IsEarlier)),
+        λ e. (
+          λ i. elim (contains_cases one.0 e (last.0 ∷ []) i) [
+            | inl is ↦ subst (CandidateInCells P row g) (sym is) both.0
+            | inr more ↦ elim (contains_cases last.0 e [] more) [
+              | inl is ↦ subst (CandidateInCells P row g) (sym is) both.1
+              | inr none ↦ absurd (contains_none e none)
+            ]
+          ],
+          λ q. elim (one_of_two two are e q) [
+            | inl is ↦ subst (Contains (one.0 ∷ last.0 ∷ [])) (sym is) (contains_first one.0 (last.0 ∷ []))
+            | inr is ↦ subst (Contains (one.0 ∷ last.0 ∷ [])) (sym is)
+                (contains_more one.0 last.0 (last.0 ∷ []) (contains_first last.0 []))
+          ],
+        ),
+      )
+
+  -- So it is where they were put on a list one after the other.
+  pub two_put : {X : Type 0} (two : Two) → AreTwo (NodeHas P row node g.base) clauses two → IsJudged P row g Several
+      → (r : Result X AllocError) (empty middle out : List ClauseNo) → empty ≡ []
+      → middle ≡ empty ++ get_or clauses two.first none_such ∷ []
+      → OnOk r (out ≡ middle ++ get_or clauses two.second none_such ∷ []) → OnOk r (AreCandidates P row g out)
+  two_put two are several (Ok x) empty middle out none one both =
+      let one_is = one ∙ ap (λ (xs : List ClauseNo). xs ++ get_or clauses two.first none_such ∷ []) none in
+      let both_are = both ∙ ap (λ (xs : List ClauseNo). xs ++ get_or clauses two.second none_such ∷ []) one_is in
+      subst (λ (xs : List ClauseNo). AreCandidates P row g xs) (sym both_are) (two_are two are several)
+  two_put two are several (Err x) empty middle out none one both = tt

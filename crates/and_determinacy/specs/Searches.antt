@@ -12,6 +12,7 @@ use Rattle.and_branch_laws.specs.Variables.{placed}
 use Rattle.and_determinacy.specs.declared.judging.Found.{Found}
 use Rattle.and_determinacy.specs.declared.judging.Judged.{Judged}
 use Rattle.and_determinacy.specs.declared.judging.Judged.TheVariants.{Nothing, One, Several}
+use Rattle.and_determinacy.specs.declared.judging.Two.{Two}
 
 -- the clause is a candidate of the node, read in the frame at the base
 abbrev pub NodeHas : NamedProgram → List Ref → (node base : ℕ) → ClauseNo → Type 0
@@ -42,3 +43,11 @@ IsCount Q clauses from Nothing = NoneFrom Q clauses from (length clauses)
 IsCount Q clauses from (One clause) =
     (found : Found) × (found.clause ≡ clause) × IsNextOf Q clauses from found × NoneFrom Q clauses found.behind (length clauses)
 IsCount Q clauses from Several = (one : Found) × (two : Found) × IsNextOf Q clauses from one × IsNextOf Q clauses one.behind two
+
+-- No clause but those at two places is so.
+pub record AreTwo (Q : ClauseNo → Type 0) (clauses : List ClauseNo) (two : Two) : Type 0 where
+  pub order : two.first < two.second
+  pub there : two.second < length clauses
+  pub before : NoneFrom Q clauses 0 two.first
+  pub between : NoneFrom Q clauses (two.first + 1) two.second
+  pub behind : NoneFrom Q clauses (two.second + 1) (length clauses)

@@ -1,6 +1,6 @@
 //! The candidates of goals.
 
-ghost use Rattle.std.specs.Prelude.{◌≡◌, ◌≤◌, ◌<◌, ◌++◌, ◌∷◌, [], ℕ, Some, None, Ok, length, slice_get, All, OnOk, IfOk};
+ghost use Rattle.std.specs.Prelude.{◌≡◌, ◌≤◌, ◌<◌, ◌++◌, ◌∷◌, [], ℕ, Some, None, Ok, length, slice_get, All, OnOk, IfOk, IfSome};
 ghost use Rattle.and_model.specs.Programs.{Of};
 ghost use Rattle.and_model.specs.declared.limits.TheConstants.{MAX_LIMIT};
 ghost use Rattle.and_model.specs.declared.numbers.ClauseNo.{ClauseNo};
@@ -11,7 +11,7 @@ ghost use Rattle.and_cells.specs.Parts.{named};
 ghost use Rattle.and_determinacy.specs.Candidates.{CanBeJudged, IsNodeOf, AreCandidates, IsJudged, IsNarrowed, narrowed_as};
 ghost use Rattle.and_determinacy.specs.Guards.{CanBeRead};
 ghost use Rattle.and_determinacy.specs.Looks.{IsLook, IsLeft};
-ghost use Rattle.and_determinacy.specs.Searches.{NodeHas, AreServed, IsNextOf, IsCount, NoneFrom};
+ghost use Rattle.and_determinacy.specs.Searches.{NodeHas, AreServed, IsNextOf, IsCount, NoneFrom, AreTwo};
 ghost use Rattle.and_determinacy.specs.declared.judging.Found.{Found};
 ghost use Rattle.and_determinacy.specs.Tables.{IsKnown, IsTableOf};
 
@@ -255,6 +255,57 @@ pub fn narrow<N: Naming>(
     }
 }
 
+/// The places of two clauses.
+#[derive(Clone, Copy, PartialEq, Eq, Debug)]
+struct Two {
+    first: usize,
+    second: usize,
+}
+
+/// The two clauses that a look does not tell apart from the call, if there are just two.
+fn two_left(table: &Determinacy, look: &Look, clauses: &[ClauseNo]) -> Option<Two>
+    requires { All (λ (c : ClauseNo). c.0 < length table.now.prints.items) clauses.now }
+    ensures { IfSome result (AreTwo (IsLeft table.now look.now) clauses.now) }
+{
+    let first = next_left(table, look, clauses, 0)?;
+    let second = next_left(table, look, clauses, first + 1)?;
+    match next_left(table, look, clauses, second + 1) {
+        None => Some(Two { first, second }),
+        Some(_) => None,
+    }
+}
+
+/// Puts those of these clauses on a list that are candidates of a goal, whose node is given. The cells
+/// are as before, but after an error, which is want of memory.
+fn pick<N: Naming>(
+    table: &Determinacy,
+    loaded: &Loaded,
+    cells: &mut PlainCells<N>,
+    goal: Goal,
+    node: NodeNo,
+    clauses: &[ClauseNo],
+    trials: &mut Trials,
+    out: &mut ClauseList,
+) -> Result<(), AllocError>
+    requires program { N.program ≡ named loaded.now }
+    requires table { IsTableOf N.program table.now }
+    requires settled { IsSettled N.program cells.old }
+    requires short { length cells.old ≤ MAX_LIMIT }
+    requires node { IsNodeOf N.program cells.old goal node.0 }
+    requires served { AreServed N.program cells.old node.0 goal.base clauses.now }
+    requires look { IsLook N.program cells.old node.0 goal.base trials.old.look }
+    requires empty { out.old ≡ [] }
+    ensures candidates { OnOk result (AreCandidates N.program cells.old goal out.new) }
+    ensures unchanged { OnOk result (cells.new ≡ cells.old) }
+{
+    for clause in clauses {
+        if trials.fits(table, loaded, cells, node, goal.base, *clause)? {
+            put(out, *clause)?;
+        }
+    }
+    Ok(())
+}
+
 /// Fills a list with just the candidates of a goal, in textual order. The cells are as before, but
 /// after an error, which is want of memory.
 pub fn candidates_of<N: Naming>(
@@ -277,12 +328,39 @@ pub fn candidates_of<N: Naming>(
     let node = node_of(loaded, cells, goal);
     trials.look_at(table, loaded, cells, node, goal.base);
     let clauses = clauses_to_try(table, cells, &trials.look, node, goal.base);
-    for clause in clauses {
-        if trials.fits(table, loaded, cells, node, goal.base, *clause)? {
-            put(out, *clause)?;
+    pick(table, loaded, cells, goal, node, clauses, trials, out)
+}
+
+/// The same of a goal that was judged to have two candidates or more. Where a look at it leaves two
+/// clauses alone, they are these, and neither is tried again.
+pub fn candidates_of_several<N: Naming>(
+    table: &Determinacy,
+    loaded: &Loaded,
+    cells: &mut PlainCells<N>,
+    goal: Goal,
+    trials: &mut Trials,
+    out: &mut ClauseList,
+) -> Result<(), AllocError>
+    requires program { N.program ≡ named loaded.now }
+    requires table { IsTableOf N.program table.now }
+    requires settled { IsSettled N.program cells.old }
+    requires short { length cells.old ≤ MAX_LIMIT }
+    requires goal { CanBeJudged N.program cells.old goal }
+    requires several { IsJudged N.program cells.old goal Judged.Several }
+    ensures candidates { OnOk result (AreCandidates N.program cells.old goal out.new) }
+    ensures unchanged { OnOk result (cells.new ≡ cells.old) }
+{
+    clear(out);
+    let node = node_of(loaded, cells, goal);
+    trials.look_at(table, loaded, cells, node, goal.base);
+    let clauses = clauses_to_try(table, cells, &trials.look, node, goal.base);
+    match two_left(table, &trials.look, clauses) {
+        Some(two) => {
+            put(out, clauses[two.first])?;
+            put(out, clauses[two.second])
         }
+        None => pick(table, loaded, cells, goal, node, clauses, trials, out),
     }
-    Ok(())
 }
 
 /// Takes out all clauses of a list.

@@ -1,63 +1,13 @@
-use Rattle.std.proofs.Common.{◌+◌, ◌≡◌, ◌<◌, ◌++◌, ◌∷◌, [], length, take, get_or, true≢false, refl, sym, subst, arith, ◌∙◌}
-use Rattle.std.proofs.lemmas.List.{take_more, take_all}
-use Rattle.and_model.specs.declared.numbers.ClauseNo.{ClauseNo}
-use Rattle.and_determinacy.specs.Looks.{IsLook}
-use Rattle.and_determinacy.specs.Searches.{NodeHas, AreServed}
-use Rattle.and_determinacy.proofs.Picking.{Picks, nothing, picked, passed}
-use Rattle.and_determinacy.proofs.Searching.{picked_are}
+use Rattle.std.proofs.Common.{subst}
+use Rattle.std.specs.Prelude.{OnOk}
+use Rattle.and_determinacy.specs.Candidates.{AreCandidates}
 use Rattle.and_determinacy.proofs.judging.candidates_of.Goals as goal
-use Rattle.and_determinacy.proofs.judging.candidates_of.Goals.{then-branch+in_ok-put, else-branch}
-
-pub loop-clause-init : goal.loop-clause-init
-loop-clause-init g c =
-    let Q = NodeHas g.N.Naming.program c.args.cells.now c.node_of-node.result.0 c.args.goal.base in
-    record {
-      same = c.look_at.ensures.unchanged;
-      look = c.look_at.ensures.look;
-      picks = subst (λ out. Picks Q [] out) (sym c.clear.ensures) nothing;
-    }
-
-pub loop-clause-preserved : goal.loop-clause-preserved
-loop-clause-preserved g c =
-    let P = g.N.Naming.program in
-    let node = c.node_of-node.result.0 in
-    let base = c.args.goal.base in
-    let Q = NodeHas P c.args.cells.now node base in
-    let clauses = c.clauses_to_try-clauses.result.now in
-    let i = c.loop-clause.clause-index in
-    let clause : ClauseNo = get_or clauses i (record { 0 = 0 }) in
-    let low : i < length clauses = omega arith in
-    let more : take (i + 1) clauses ≡ take i clauses ++ clause ∷ [] = take_more clauses i (record { 0 = 0 }) low in
-    let tells = c.in_ok-fits.ensures.fits c.in_ok-fits.field-0 refl in
-    let same = c.loop-clause.invariant.same in
-    let picks = c.loop-clause.invariant.picks in
-    record {
-      same = c.in_ok-fits.ensures.unchanged ∙ same;
-      look = subst (IsLook P c.args.cells.now node base) (sym c.fits.ensures.look) c.loop-clause.invariant.look;
-      picks = subst (λ ks. Picks Q ks c.if-branch.out) (sym more) (elim c.if-branch.branch [
-        | then-branch+in_ok-put w ↦
-            let is : Q clause = subst (λ r. NodeHas P r node base clause) same (tells.0 w.if-branch.true) in
-            subst (Picks Q (take i clauses ++ clause ∷ [])) (sym w.in_ok-put.ensures ∙ sym w.out-is)
-            (picked (take i clauses) c.loop-clause.out clause is picks)
-        | else-branch w ↦
-            let fails : Q clause → ⊥ = λ q.
-            true≢false (sym (tells.1 (subst (λ r. NodeHas P r node base clause) (sym same) q)) ∙ w.if-branch.false) in
-            subst (Picks Q (take i clauses ++ clause ∷ [])) (sym w.out-is) (passed (take i clauses) c.loop-clause.out clause fails picks)
-      ]);
-    }
-
-pub returns-clause-candidates : goal.returns-clause-candidates
-returns-clause-candidates g c =
-    let P = g.N.Naming.program in
-    let row = c.args.cells.now in
-    let node = c.node_of-node.result.0 in
-    let base = c.args.goal.base in
-    let clauses = c.clauses_to_try-clauses.result.now in
-    let served = subst (λ r. AreServed P r node base clauses) c.look_at.ensures.unchanged c.clauses_to_try-clauses.ensures in
-    let all : take c.loop-clause.clause-index clauses ≡ clauses = take_all c.loop-clause.clause-index clauses (omega arith) in
-    picked_are P row c.args.goal node c.node_of-node.ensures clauses served c.loop-clause.out
-    (subst (λ ks. Picks (NodeHas P row node base) ks c.loop-clause.out) all c.loop-clause.invariant.picks)
 
 pub clauses_to_try-clauses-requires-clause-known : goal.clauses_to_try-clauses-requires-clause-known
 clauses_to_try-clauses-requires-clause-known g c =
     c.requires.table.calls c.args.goal.clause.0 c.args.goal.item c.node_of-node.result.0 c.node_of-node.ensures.there
+
+pub returns-clause-candidates : goal.returns-clause-candidates
+returns-clause-candidates g c =
+    subst (λ row. OnOk c.pick.result (AreCandidates g.N.Naming.program row c.args.goal c.pick.new.out)) c.look_at.ensures.unchanged
+    c.pick.ensures.candidates

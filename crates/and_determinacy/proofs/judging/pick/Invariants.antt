@@ -2,7 +2,7 @@ use Rattle.std.proofs.Common.{◌≡◌, take}
 use Rattle.and_determinacy.specs.Searches.{NodeHas}
 use Rattle.and_determinacy.specs.Looks.{IsLook}
 use Rattle.and_determinacy.proofs.Picking.{Picks}
-use Rattle.and_determinacy.proofs.judging.candidates_of.Given as goal
+use Rattle.and_determinacy.proofs.judging.pick.Given as goal
 
 abbrev pub invariant-loop-clause : goal.invariant-loop-clause
 invariant-loop-clause g l = record {
