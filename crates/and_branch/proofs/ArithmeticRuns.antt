@@ -18,11 +18,13 @@ use Rattle.and_branch_laws.specs.OwnVariables.{IsLoaded}
 use Rattle.and_branch_laws.specs.Kept.{item_at, task_in, is_call, IsCall}
 use Rattle.and_determinacy.specs.Candidates.{CanBeJudged}
 use Rattle.and_reduction.specs.Runs.{IsWaiting, CanBeRun, HasRun, CannotHold}
+use Rattle.and_reduction.specs.Trails.{Noted}
 use Rattle.and_branch.specs.Branches.{Held, is_arithmetic, IsArithmeticGoal, Lives, IsBranchOf}
 use Rattle.and_branch.specs.Finding.{IsCallGoal, IsCallOrArithmetic, IsSeen}
 use Rattle.and_branch.specs.Resting.{IsRewound, Passes, AllWait, count}
 use Rattle.and_branch.specs.Watching.{Watched}
 use Rattle.and_branch.proofs.GoalsRun.{live_of, reached_fits, run_branch, false_branch}
+use Rattle.and_branch.proofs.KeptOrigins.{kept_same}
 use Rattle.and_branch.proofs.MovedBranches.{moved_branch}
 use Rattle.and_branch.proofs.SeenGoals.{kept_seen}
 
@@ -91,13 +93,14 @@ module _ (P : NamedProgram) (loaded : IsLoaded P) (b : Held) (t : QueryTree P.pr
 
   module _ (g : Goal) (rest : List Goal) (next : b.right ≡ g ∷ rest) where
     -- So the branch stands for the same tree,
-    pub ran_branch : (new : List Ref) → HasRun P b.row new g → IsBranchOf P (record b { row = new; right = rest }) t
-    ran_branch new h = run_branch P loaded b (record b { row = new; right = rest }) t x live (record { key = refl; limit = refl }) refl refl
+    pub ran_branch : (new : List Ref) (trail : Noted) → HasRun P b.row new g → IsBranchOf P (record b { row = new; right = rest; trail = trail }) t
+    ran_branch new trail h = run_branch P loaded b (record b { row = new; right = rest; trail = trail }) t x live (record { key = refl; limit = refl }) refl refl
         g rest next h refl refl live refl
 
     -- or is marked failed.
-    pub failed_branch : (new : List Ref) → CannotHold P b.row g → IsBranchOf P (record b { row = new; right = rest; is_failed = true }) t
-    failed_branch new h = false_branch P loaded b (record b { row = new; right = rest; is_failed = true }) t x live
+    pub failed_branch : (new : List Ref) (trail : Noted) → CannotHold P b.row g
+        → IsBranchOf P (record b { row = new; right = rest; is_failed = true; trail = trail }) t
+    failed_branch new trail h = false_branch P loaded b (record b { row = new; right = rest; is_failed = true; trail = trail }) t x live
         (record { key = refl; limit = refl }) refl refl g rest next h refl
 
 -- The next goal is the last of the stack.
@@ -117,6 +120,7 @@ rewound_branch P old new t r x = moved_branch P old new t (record {
   is_failed = r.is_failed;
   goals = ap (λ (gs : List Goal). gs ++ new.right) r.left ∙ r.right;
   watches = λ w h. subst (λ (ws : List Watched). Contains ws w) r.watches h;
+  back = kept_same old new r.row r.reductions r.trail;
 }) x
 
 -- ---- The next goal was passed over

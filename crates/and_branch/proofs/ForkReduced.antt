@@ -1,6 +1,6 @@
 -- A branch that is split: its children.
 use Rattle.std.proofs.Common.{ℕ, suc, ◌≡◌, ◌+◌, ◌≤◌, ◌<◌, add-one, drop, drop-cons, get_or, Some, Ok, List, [], ◌∷◌, ◌++◌, map, length}
-use Rattle.std.proofs.Common.{refl, ap, sym, ◌∙◌, subst, inl, inr, arith, Contains, Option}
+use Rattle.std.proofs.Common.{refl, ap, sym, ◌∙◌, subst, inl, inr, ◌⊎◌, arith, Contains, Option, None}
 use Rattle.std.specs.Prelude.{Result, slice_get}
 use Rattle.std.proofs.lemmas.List.{length-map, get_or-map, drop-drop}
 use Rattle.std.proofs.lemmas.List.Elements.{Contains-append_right}
@@ -21,11 +21,14 @@ use Rattle.and_branch_laws.specs.Kept.{goal_of}
 use Rattle.and_branch_laws.specs.States.{State, StateOf, fork, failed}
 use Rattle.and_branch_laws.proofs.Going
 use Rattle.and_branch_laws.proofs.OneState
+use Rattle.and_reduction.specs.Trails.{Noted}
 use Rattle.and_branch.specs.Branches.{Held, Lives, IsBranchOf, IsOpenGoal, SameKey}
 use Rattle.and_branch.specs.Children.{Fork, AreChildren, IsChild}
-use Rattle.and_branch.specs.Making.{CanBeMade, IsBegun, IsMade}
+use Rattle.and_branch.specs.Making.{CanBeMade, IsBegun, IsMade, nothing_noted, noted_from}
+use Rattle.and_branch.specs.Origins.{GoesBack, KeepsBack}
 use Rattle.and_branch.specs.States.{numbers}
 use Rattle.and_branch.specs.Next.{HasNextCall, IsReduced, IsMoved, IsSameItem, HasItem}
+use Rattle.and_branch.proofs.KeptOrigins.{kept_then, goes_back_on, goes_nowhere}
 use Rattle.and_branch.proofs.LivingGoals.{Found, found, is_framed}
 use Rattle.and_branch.proofs.MovedBranches.{moved_lives, one_tree}
 use Rattle.and_branch.proofs.KeptCalls.{call_of_open}
@@ -52,9 +55,10 @@ item_among (x ∷ kept) f h i same = elim (contains_cases x f kept i) [
       }
 ]
 
--- The key is of no account.
-other_key : (P : NamedProgram) (b : Held) (key : List ℕ) (t : QueryTree P.program) → Lives P b t → Lives P (record b { key = key }) t
-other_key P b key t l = record { kept = l.kept; keeps = l.keeps; goals = l.goals; long = l.long; live = l.live; asleep = l.asleep }
+-- The key is of no account, and neither is what is noted.
+other_key : (P : NamedProgram) (b : Held) (key : List ℕ) (trail : Noted) (t : QueryTree P.program) → Lives P b t
+    → Lives P (record b { key = key; trail = trail }) t
+other_key P b key trail t l = record { kept = l.kept; keeps = l.keeps; goals = l.goals; long = l.long; live = l.live; asleep = l.asleep }
 
 module _ (P : NamedProgram) (b : Held) (t : QueryTree P.program) (x : IsBranchOf P b t) (o : Open t) (goal : Goal)
     (is_open : IsOpenGoal P b.reductions t o goal) (cs : List ℕ) (cut : Option ℕ)
@@ -75,10 +79,10 @@ module _ (P : NamedProgram) (b : Held) (t : QueryTree P.program) (x : IsBranchOf
       let z = call_of_open P b.reductions b.row y.kept t y.keeps o goal is_open in
       subst (λ (l : List Goal). HasItem l goal) y.goals (item_among y.kept z.f goal z.there (z.node_is, z.item_is))
 
-  module _ (key : List ℕ) (mid : Held) (moved : IsMoved (record b { key = key }) mid) (g : Goal) (rest : List Goal)
+  module _ (key : List ℕ) (trail : Noted) (mid : Held) (moved : IsMoved (record b { key = key; trail = trail }) mid) (g : Goal) (rest : List Goal)
       (next : mid.right ≡ g ∷ rest) (same : IsSameItem g goal) (c : ℕ) (i : Contains cs c) where
     mid_lives : Lives P mid t
-    mid_lives = moved_lives P (record b { key = key }) mid t moved (other_key P b key t fork_lives)
+    mid_lives = moved_lives P (record b { key = key; trail = trail }) mid t moved (other_key P b key trail t fork_lives)
 
     the_goal : Found P mid t mid.left g rest
     the_goal = found P mid t mid.left g rest mid_lives (ap (λ (l : List Goal). mid.left ++ l) next)
@@ -140,31 +144,40 @@ pub parent_has : (P : NamedProgram) (f : Fork) (c : ℕ) → CanBeMade P f c →
 parent_has P f c x =
     let k = x.children in goal_there P f.parent x.tree k.branch k.open_goal f.goal k.goal_is (k.made ++ c ∷ x.rest) k.cut k.state
 
-pub child_next : (P : NamedProgram) (f : Fork) (c : ℕ) → CanBeMade P f c → (key : List ℕ) (mid : Held)
-    → IsMoved (record f.parent { key = key }) mid
+pub child_next : (P : NamedProgram) (f : Fork) (c : ℕ) → CanBeMade P f c → (key : List ℕ) (trail : Noted) (mid : Held)
+    → IsMoved (record f.parent { key = key; trail = trail }) mid
     → (g : Goal) × (rest : List Goal) × (mid.right ≡ g ∷ rest) × IsSameItem g f.goal → HasNextCall P mid c
-child_next P f c x key mid moved (g, rest, next, same) =
+child_next P f c x key trail mid moved (g, rest, next, same) =
     let k = x.children in
-    next_call P f.parent x.tree k.branch k.open_goal f.goal k.goal_is (k.made ++ c ∷ x.rest) k.cut k.state key mid moved g rest next same c
+    next_call P f.parent x.tree k.branch k.open_goal f.goal k.goal_is (k.made ++ c ∷ x.rest) k.cut k.state key trail mid moved g rest next same c
     (in_middle k.made x.rest c)
 
-pub child_made : (P : NamedProgram) (f : Fork) (c : ℕ) (key : List ℕ) → key ≡ f.longer ++ c ∷ [] → (mid new : Held)
-    → IsMoved (record f.parent { key = key }) mid → (g : Goal) × (rest : List Goal) × (mid.right ≡ g ∷ rest) × IsSameItem g f.goal
-    → SameKey mid new → IsReduced P mid new c → IsMade P f c new
-child_made P f c key is mid new moved (g, rest, next, same) keys reduced = record {
+pub child_made : (P : NamedProgram) (f : Fork) (c : ℕ) (key : List ℕ) (trail : Noted) → key ≡ f.longer ++ c ∷ [] → (mid new : Held)
+    → IsMoved (record f.parent { key = key; trail = trail }) mid
+    → (g : Goal) × (rest : List Goal) × (mid.right ≡ g ∷ rest) × IsSameItem g f.goal
+    → SameKey mid new → IsReduced P mid new c → (new.trail.mark ≡ None) ⊎ GoesBack f.parent new → IsMade P f c new
+child_made P f c key trail is mid new moved (g, rest, next, same) keys reduced back = record {
   key = keys.key ∙ moved.key ∙ is;
   limit = keys.limit ∙ moved.limit;
   stands = λ others t u k split.
-      child_stands P f.parent t k.branch k.open_goal f.goal k.goal_is (k.made ++ c ∷ others) k.cut k.state key mid moved g rest next same c
-      (in_middle k.made others c) new keys reduced (is ∙ ap (λ (l : List ℕ). l ++ c ∷ []) k.longer) u split;
+      child_stands P f.parent t k.branch k.open_goal f.goal k.goal_is (k.made ++ c ∷ others) k.cut k.state key trail mid moved g rest next same
+      c (in_middle k.made others c) new keys reduced (is ∙ ap (λ (l : List ℕ). l ++ c ∷ []) k.longer) u split;
+  back = back;
 }
 
 -- ---- Its beginning
 
-pub begun_is : (P : NamedProgram) (f : Fork) (c : ℕ) (goal : Goal) (key : List ℕ) (b : Held) → CanBeMade P f c → goal ≡ f.goal
-    → key ≡ f.longer ++ c ∷ [] → b ≡ record f.parent { key = key } → IsBegun P f c goal b
-begun_is P f c goal key b can of is e =
-    record { can = can; goal_is = of; branch = e ∙ ap (λ (k : List ℕ). record f.parent { key = k }) is }
+pub begun_is : (P : NamedProgram) (f : Fork) (c : ℕ) (goal : Goal) (key : List ℕ) (trail : Noted) (b : Held) → CanBeMade P f c → goal ≡ f.goal
+    → key ≡ f.longer ++ c ∷ [] → (trail ≡ nothing_noted) ⊎ (trail ≡ noted_from f.parent.row)
+    → b ≡ record f.parent { key = key; trail = trail } → IsBegun P f c goal b
+begun_is P f c goal key trail b can of is begins e =
+    let noted : trail ≡ b.trail = sym (ap (λ (h : Held). h.trail) e) in record {
+      can = can;
+      goal_is = of;
+      branch = e ∙ ap (λ (k : List ℕ). record f.parent { key = k; trail = trail }) is
+          ∙ ap (λ (n : Noted). record f.parent { key = f.longer ++ c ∷ []; trail = n }) noted;
+      trail = subst (λ (n : Noted). (n ≡ nothing_noted) ⊎ (n ≡ noted_from f.parent.row)) noted begins;
+    }
 
 module _ (P : NamedProgram) (f : Fork) (c : ℕ) (goal : Goal) (b : Held) (x : IsBegun P f c goal b) where
   pub begun_has : HasItem (b.left ++ b.right) goal
@@ -172,18 +185,23 @@ module _ (P : NamedProgram) (f : Fork) (c : ℕ) (goal : Goal) (b : Held) (x : I
       subst (λ (h : Held). HasItem (h.left ++ h.right) goal) (sym x.branch)
       (subst (λ (g : Goal). HasItem (f.parent.left ++ f.parent.right) g) (sym x.goal_is) (parent_has P f c x.can))
 
+  begun_back : (b.trail.mark ≡ None) ⊎ GoesBack f.parent b
+  begun_back = goes_nowhere f.parent b (ap (λ (h : Held). h.row) x.branch) (ap (λ (h : Held). h.reductions) x.branch) x.trail
+
   module _ (mid : Held) (moved : IsMoved b mid) (at : (g : Goal) × (rest : List Goal) × (mid.right ≡ g ∷ rest) × IsSameItem g goal) where
-    begun_moved : IsMoved (record f.parent { key = f.longer ++ c ∷ [] }) mid
+    begun_moved : IsMoved (record f.parent { key = f.longer ++ c ∷ []; trail = b.trail }) mid
     begun_moved = subst (λ (h : Held). IsMoved h mid) x.branch moved
 
     begun_at : (g : Goal) × (rest : List Goal) × (mid.right ≡ g ∷ rest) × IsSameItem g f.goal
     begun_at = subst (λ (h : Goal). (g : Goal) × (rest : List Goal) × (mid.right ≡ g ∷ rest) × IsSameItem g h) x.goal_is at
 
     pub begun_next : HasNextCall P mid c
-    begun_next = child_next P f c x.can (f.longer ++ c ∷ []) mid begun_moved begun_at
+    begun_next = child_next P f c x.can (f.longer ++ c ∷ []) b.trail mid begun_moved begun_at
 
-    pub begun_made : (new : Held) → SameKey mid new → IsReduced P mid new c → IsMade P f c new
-    begun_made new keys reduced = child_made P f c (f.longer ++ c ∷ []) refl mid new begun_moved begun_at keys reduced
+    pub begun_made : (new : Held) → SameKey mid new → IsReduced P mid new c → KeepsBack mid new → IsMade P f c new
+    begun_made new keys reduced back =
+        child_made P f c (f.longer ++ c ∷ []) b.trail refl mid new begun_moved begun_at keys reduced
+        (goes_back_on f.parent b new (kept_then b mid new moved.back back) begun_back)
 
 -- ---- The children that are still to come
 
@@ -222,6 +240,7 @@ child_is P f n c e b m = record {
   limit = m.limit;
   stands = λ t u k split. m.stands (drop (n + 1) f.clauses) t u (subst (λ (l : List ℕ). AreChildren P (record f { clauses = l }) t) e k)
       split;
+  back = m.back;
 }
 
 pub same_value : {A E : Type 0} (r : Result (Option A) E) (x y : A) → r ≡ Ok (Some x) → r ≡ Ok (Some y) → x ≡ y

@@ -1,5 +1,5 @@
 -- Rows that grow, and what stays asleep in them.
-use Rattle.std.proofs.Common.{ℕ, suc, ◌≡◌, ◌≢◌, ◌≤◌, List, [], ◌∷◌, length, replicate, refl, sym, ◌∙◌, subst, arith}
+use Rattle.std.proofs.Common.{ℕ, suc, ◌≡◌, ◌≢◌, List, replicate, sym, ◌∙◌, subst, arith}
 use Rattle.std.proofs.lemmas.List.{length-append}
 use Rattle.and_model.specs.Solutions.{Equation}
 use Rattle.and_model.specs.declared.goal.Goal.{Goal}
@@ -7,7 +7,7 @@ use Rattle.and_model.specs.declared.reference.Ref.{Ref}
 use Rattle.and_model.specs.declared.reference.Ref.TheVariants.{Free}
 use Rattle.and_program.specs.Skeletons.{NodeItem}
 use Rattle.and_cells.specs.Ranges.{NamedProgram, pair_of}
-use Rattle.and_cells.specs.Seen.{word_at, IsSetTo}
+use Rattle.and_cells.specs.Seen.{word_at}
 use Rattle.and_branch_laws.specs.Kept.{node_item_at, HasFreePair}
 use Rattle.and_branch_laws.specs.Settling.{widened, Settled}
 use Rattle.and_branch_laws.proofs.Rows.{widened_words}

@@ -6,6 +6,7 @@ pub mod StatesFound
 pub mod LinesTold
 pub mod ForkReduced
 pub mod LoadedPrograms
+pub mod KeptOrigins
 pub mod LivingGoals
 pub mod ClausesOf
 pub mod NextReduced

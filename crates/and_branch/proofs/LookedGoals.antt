@@ -19,13 +19,16 @@ use Rattle.and_branch_laws.specs.Judging.{CandidateInCells, SoleInCells}
 use Rattle.and_branch_laws.specs.Kept.{item_at}
 use Rattle.and_determinacy.specs.Candidates.{CanBeJudged}
 use Rattle.and_reduction.specs.Runs.{CanBeRun, IsWaiting, HasRun, CannotHold}
+use Rattle.and_reduction.specs.Trails.{Noted}
 use Rattle.and_branch.specs.Branches.{Held, Lives, IsBranch, IsBranchOf, SameKey, is_arithmetic, IsArithmeticGoal}
 use Rattle.and_branch.specs.Finding.{HasSeen}
 use Rattle.and_branch.specs.Next.{HasNextCall, IsReduced, IsMoved}
+use Rattle.and_branch.specs.Origins.{KeepsBack}
 use Rattle.and_branch.specs.Rounds.{IsAtMost, IsIdle, StepsOn, AreFew, HasProgressed, WatchesOn, IsWatched, HasPassed, IsAt}
 use Rattle.and_branch.specs.Watching.{HasTwo, Sleeps}
 use Rattle.and_branch.specs.declared.finding.Seen.{Seen}
 use Rattle.and_branch.specs.declared.finding.Seen.TheVariants as seen
+use Rattle.and_branch.proofs.KeptOrigins.{kept_then, kept_nowhere, kept_same}
 use Rattle.and_branch.proofs.LivingGoals.{Found, found, is_kept, goal_in_range, can_be_judged, can_be_run}
 use Rattle.and_branch.proofs.MovedBranches.{moved_branch}
 use Rattle.and_branch.proofs.WatchedGoals.{watching_steps, watched_sleeps}
@@ -91,7 +94,7 @@ module _ (P : NamedProgram) (b : Held) (g : Goal) (x : IsAt P b g) where
 -- ---- Steps
 
 pub no_steps : (P : NamedProgram) (b : Held) → StepsOn P b b
-no_steps P b = record { each = λ t x. (t, x, none t) }
+no_steps P b = record { each = λ t x. (t, x, none t); back = kept_nowhere b }
 
 steps_join : (P : NamedProgram) (t u v : QueryTree P.program) → Steps t u → Steps u v → Steps t v
 steps_join P t u v x (none w) = x
@@ -104,19 +107,66 @@ steps_then P one two three x y = record {
       let (u, branch, steps) = x.each t z in
       let (v, more_branch, more_steps) = y.each u branch in
       (v, more_branch, steps_join P t u v steps more_steps));
+  back = kept_then one two three x.back y.back;
 }
 
 pub still_branch : (P : NamedProgram) (old new : Held) → StepsOn P old new → IsBranch P old → IsBranch P new
 still_branch P old new x b = let (u, branch, steps) = x.each b.0 b.1 in (u, branch)
 
 pub moved_steps : (P : NamedProgram) (old new : Held) → IsMoved old new → StepsOn P old new
-moved_steps P old new m = record { each = λ t x. (t, moved_branch P old new t m x, none t) }
+moved_steps P old new m = record { each = λ t x. (t, moved_branch P old new t m x, none t); back = m.back }
 
 -- ---- Passing over
 
--- where the cells are as before too, all is
-pub unmoved : (old mid : Held) → mid ≡ record old { row = mid.row } → mid.row ≡ old.row → mid ≡ old
-unmoved old mid others row = others ∙ ap (λ (l : List Ref). record old { row = l }) row
+-- where the cells are as before too, all is but what is noted,
+pub unmoved : (old mid : Held) → mid ≡ record old { row = mid.row; trail = mid.trail } → mid.row ≡ old.row
+    → mid ≡ record old { trail = mid.trail }
+unmoved old mid others row = others ∙ ap (λ (l : List Ref). record old { row = l; trail = mid.trail }) row
+
+unmoved_is_moved : (old : Held) (n : Noted) → KeepsBack old (record old { trail = n }) → IsMoved old (record old { trail = n })
+unmoved_is_moved old n back = record {
+  key = refl;
+  limit = refl;
+  reductions = refl;
+  row = refl;
+  used = refl;
+  is_failed = refl;
+  goals = refl;
+  watches = λ w h. h;
+  back = back;
+}
+
+module _ (P : NamedProgram) (old mid : Held) (is : mid ≡ record old { trail = mid.trail }) (back : KeepsBack old mid) where
+  is_moved : IsMoved old mid
+  is_moved =
+      subst (λ (b : Held). IsMoved old b) (sym is)
+      (unmoved_is_moved old mid.trail (subst (λ (b : Held). KeepsBack old b) is back))
+
+  -- so that it is at the same goal,
+  pub at_unmoved : (g : Goal) → IsAt P old g → IsAt P mid g
+  at_unmoved g x =
+      let m = is_moved in
+      let branch = moved_branch P old mid x.branch.0 m x.branch.1 in record {
+        branch = (x.branch.0, branch);
+        live = m.is_failed ∙ x.live;
+        rest = x.rest;
+        next = ap (λ (b : Held). b.right) is ∙ x.next;
+      }
+
+  -- and what is passed over then is passed over.
+  pub passed_unmoved : (may : Bool) (new : Held) (g : Goal) (saw : Seen) → HasPassed P may mid new g saw × StepsOn P mid new
+      → HasPassed P may old new g saw × StepsOn P old new
+  passed_unmoved may new g saw (passed, steps) =
+      let h : HasPassed P may (record old { trail = mid.trail }) new g saw = subst (λ (b : Held). HasPassed P may b new g saw) is passed in
+      let alike = h.alike in (
+        record {
+          alike = record { limit = alike.limit; row = alike.row; used = alike.used; goals = alike.goals };
+          next = h.next;
+          passed = h.passed;
+          idle = h.idle;
+        },
+        steps_then P old mid new (moved_steps P old mid is_moved) steps,
+      )
 
 -- what is passed over is idle,
 pub passed : (P : NamedProgram) (may : Bool) (old mid new : Held) (g : Goal) (saw : Seen) (x : IsAt P old g) → WatchesOn P old mid → IsMoved mid new
@@ -206,14 +256,15 @@ next_still P old mid g watches x = (g, x.rest, ap (λ (b : Held). b.right) watch
 
 -- ---- Running, reducing and failing
 
-pub ran : (P : NamedProgram) → IsLoaded P → (old mid new : Held) (g : Goal) (x : IsAt P old g) → mid ≡ record old { row = mid.row }
-    → HasRun P old.row mid.row g
+pub ran : (P : NamedProgram) → IsLoaded P → (old mid new : Held) (g : Goal) (x : IsAt P old g)
+    → mid ≡ record old { row = mid.row; trail = mid.trail } → KeepsBack old mid → HasRun P old.row mid.row g
     → ((h : Goal) (rest : List Goal) → mid.right ≡ h ∷ rest → new ≡ record mid { right = rest }) → AreFew new
     → HasProgressed old new × (new.used ≡ old.used) × (length new.right < length old.right) × StepsOn P old new
-ran P loaded old mid new g x mid_is run dropped few =
-    let end : Held = record old { row = mid.row; right = x.rest } in
+ran P loaded old mid new g x mid_is back run dropped few =
+    let end : Held = record old { row = mid.row; trail = mid.trail; right = x.rest } in
     let mid_next : mid.right ≡ g ∷ x.rest = ap (λ (h : Held). h.right) mid_is ∙ x.next in
-    let new_is : new ≡ end = dropped g x.rest mid_next ∙ ap (λ (h : Held). record h { right = x.rest }) mid_is in
+    let dropped_is : new ≡ record mid { right = x.rest } = dropped g x.rest mid_next in
+    let new_is : new ≡ end = dropped_is ∙ ap (λ (h : Held). record h { right = x.rest }) mid_is in
     let used : new.used ≡ old.used = ap (λ (h : Held). h.used) new_is in
     let left : new.left ≡ old.left = ap (λ (h : Held). h.left) new_is in
     let right : new.right ≡ x.rest = ap (λ (h : Held). h.right) new_is in
@@ -234,13 +285,21 @@ ran P loaded old mid new g x mid_is run dropped few =
               left right (ap (λ (h : Held). h.is_failed) new_is ∙ x.live) (ap (λ (h : Held). h.watches) new_is),
           none t,
         );
+        back = kept_then old mid new back
+            (subst (λ (h : Held). KeepsBack mid h) (sym dropped_is) (kept_same mid (record mid { right = x.rest }) refl refl refl));
       },
     )
 
-pub cannot_hold : (P : NamedProgram) → IsLoaded P → (old mid new : Held) (g : Goal) (x : IsAt P old g) → mid ≡ record old { row = mid.row }
+-- a branch that only was marked failed
+marked_kept : (old new : Held) → new ≡ record old { is_failed = true } → KeepsBack old new
+marked_kept old new marked =
+    subst (λ (h : Held). KeepsBack old h) (sym marked) (kept_same old (record old { is_failed = true }) refl refl refl)
+
+pub cannot_hold : (P : NamedProgram) → IsLoaded P → (old mid new : Held) (g : Goal) (x : IsAt P old g)
+    → mid ≡ record old { row = mid.row; trail = mid.trail } → KeepsBack old mid
     → CannotHold P old.row g → new ≡ record mid { is_failed = true } → StepsOn P old new
-cannot_hold P loaded old mid new g x mid_is cannot marked =
-    let end : Held = record old { row = mid.row; is_failed = true } in
+cannot_hold P loaded old mid new g x mid_is back cannot marked =
+    let end : Held = record old { row = mid.row; trail = mid.trail; is_failed = true } in
     let new_is : new ≡ end = marked ∙ ap (λ (h : Held). record h { is_failed = true }) mid_is in record {
       each = λ t branch. (
         t,
@@ -250,6 +309,7 @@ cannot_hold P loaded old mid new g x mid_is cannot marked =
             (ap (λ (h : Held). h.is_failed) new_is),
         none t,
       );
+      back = kept_then old mid new back (marked_kept mid new marked);
     }
 
 pub no_candidate : (P : NamedProgram) → IsLoaded P → (old mid new : Held) (g : Goal) (x : IsAt P old g) → mid ≡ old
@@ -266,13 +326,16 @@ no_candidate P loaded old mid new g x mid_is term e none_is marked =
             (ap (λ (h : Held). h.is_failed) new_is),
         none t,
       );
+      back = marked_kept old new new_is;
     }
 
 pub reduced_steps : (P : NamedProgram) → IsLoaded P → (old new : Held) (g : Goal) (x : IsAt P old g) → SameKey old new → (term : Term)
     → item_at P.program g ≡ call term → (c : ℕ) → IsAtMost P old.row g c
-    → old.used + clause_weight (clause_at P.program c) ≤ old.limit → IsReduced P old new c → StepsOn P old new
-reduced_steps P loaded old new g x same term e c last room reduced =
-    record { each = λ t branch. last_branch P loaded old new t branch x.live same g x.rest x.next term e c last room reduced }
+    → old.used + clause_weight (clause_at P.program c) ≤ old.limit → IsReduced P old new c → KeepsBack old new → StepsOn P old new
+reduced_steps P loaded old new g x same term e c last room reduced back = record {
+  each = λ t branch. last_branch P loaded old new t branch x.live same g x.rest x.next term e c last room reduced;
+  back = back;
+}
 
 pub reduced_more : (P : NamedProgram) (old new : Held) (c : ℕ) → new.used ≡ old.used + clause_weight (clause_at P.program c) → AreFew new
     → HasProgressed old new × (old.used < new.used)

@@ -14,6 +14,7 @@ use Rattle.and_branch_laws.proofs.OneState
 use Rattle.and_branch.specs.Branches.{Held, Lives, IsBranchOf, IsOpenGoal}
 use Rattle.and_branch.specs.Next.{IsMoved}
 use Rattle.and_branch.specs.Watching.{IsAsleep}
+use Rattle.and_branch.proofs.KeptOrigins.{kept_then, kept_nowhere}
 
 pub moved_lives : (P : NamedProgram) (old new : Held) (t : QueryTree P.program) → IsMoved old new → Lives P old t → Lives P new t
 moved_lives P old new t m lives =
@@ -51,6 +52,7 @@ moved_twice one two three m n = record {
   is_failed = n.is_failed ∙ m.is_failed;
   goals = n.goals ∙ m.goals;
   watches = λ w h. m.watches w (n.watches w h);
+  back = kept_then one two three m.back n.back;
 }
 
 pub moved_nowhere : (b : Held) → IsMoved b b
@@ -63,6 +65,7 @@ moved_nowhere b = record {
   is_failed = refl;
   goals = refl;
   watches = λ w h. h;
+  back = kept_nowhere b;
 }
 
 -- A tree that is not failed is not dead, and the branch lives.

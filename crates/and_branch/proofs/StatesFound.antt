@@ -221,6 +221,11 @@ module _ (P : NamedProgram) (loaded : IsLoaded P) (b : Held) (t : QueryTree P.pr
 
 -- ---- What is told of it
 
+pub two_there : (P : NamedProgram) (row : List Ref) (gs : List Goal) (goal : Goal) → IsSeveral P row gs goal → HasTwo P row goal
+two_there P row gs goal several =
+    several.each goal (subst (λ (xs : List Goal). Contains xs goal) (sym several.among.all)
+    (Contains-append_right several.among.front (goal ∷ several.among.back) goal (contains_first goal several.among.back))) several.among.called
+
 pub there_judged : (P : NamedProgram) (loaded : IsLoaded P) (b : Held) (t : QueryTree P.program) → IsBranchOf P b t → b.is_failed ≡ false
     → (goal : Goal) → IsCallAmong P b.left goal → CanBeJudged P b.row goal
 there_judged P loaded b t x live goal among =

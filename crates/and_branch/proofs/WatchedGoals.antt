@@ -20,6 +20,7 @@ use Rattle.and_branch.specs.Watching.{Watched, HasTwo, Sleeps, IsAsleep, IsAdded
 use Rattle.and_branch.proofs.EntriesKept.{has_at}
 use Rattle.and_branch.proofs.GoalsRun.{live_of}
 use Rattle.and_branch.proofs.GrownRows.{grows_not}
+use Rattle.and_branch.proofs.KeptOrigins.{kept_same}
 
 -- ---- What is watched
 
@@ -66,7 +67,11 @@ watching_branch P old new t w x = subst (λ (b : Held). IsBranchOf P b t) (sym w
 })
 
 pub watching_steps : (P : NamedProgram) (old new : Held) → WatchesOn P old new → StepsOn P old new
-watching_steps P old new w = record { each = λ t x. (t, watching_branch P old new t w x, none t) }
+watching_steps P old new w =
+    let e = w.others in record {
+      each = λ t x. (t, watching_branch P old new t w x, none t);
+      back = kept_same old new (ap (λ (b : Held). b.row) e) (ap (λ (b : Held). b.reductions) e) (ap (λ (b : Held). b.trail) e);
+    }
 
 -- where all that is watched was watched before,
 pub watches_still : (P : NamedProgram) (old new : Held) → new ≡ old → WatchesOn P old new

@@ -12,6 +12,7 @@ use Rattle.and_model.specs.declared.reference.Ref.{Ref}
 use Rattle.and_cells.specs.Ranges.{NamedProgram}
 use Rattle.and_branch_laws.specs.Views.{View}
 use Rattle.and_branch_laws.specs.Kept.{Kept, item_at, goal_of}
+use Rattle.and_reduction.specs.Trails.{Noted}
 use Rattle.and_branch.specs.Watching.{Watched, IsAsleep}
 
 -- the item is arithmetic
@@ -49,6 +50,8 @@ pub record Held : Type 0 where
   pub is_failed : Bool
   -- goals for which nothing need be done as long as certain cells are free
   pub watches : List Watched
+  -- which words of the row were set since it was as the branch that this one was made of had it, if that is noted
+  pub trail : Noted
 
 -- the branch that is held so, with its calls and its arithmetic apart
 abbrev pub view_of : NamedProgram → Held → View

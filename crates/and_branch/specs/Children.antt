@@ -1,11 +1,12 @@
 -- The children of a fork that are still to come.
-use Rattle.std.specs.Prelude.{ℕ, ◌≡◌, ◌++◌, [], ◌∷◌, List, Option, map}
+use Rattle.std.specs.Prelude.{ℕ, ◌≡◌, ◌⊎◌, ◌++◌, [], ◌∷◌, List, Option, None}
 use Rattle.and_model.specs.Trees.{QueryTree, Open, decided}
 use Rattle.and_model.specs.Reached.{Split}
 use Rattle.and_model.specs.declared.goal.Goal.{Goal}
 use Rattle.and_cells.specs.Ranges.{NamedProgram}
 use Rattle.and_branch_laws.specs.States.{StateOf, fork}
 use Rattle.and_branch.specs.Branches.{Held, IsBranchOf, IsOpenGoal}
+use Rattle.and_branch.specs.Origins.{GoesBack}
 
 -- What contracts see of the children that are still to come: the branch that was forked, the goal that is taken by each, the key of each
 -- but for the clause, and the clauses.
@@ -31,7 +32,8 @@ pub record IsForkOf (b : Held) (g : Goal) (clauses : List ℕ) (f : Fork) : Type
   pub goal : f.goal ≡ g
   pub clauses_are : f.clauses ≡ clauses
 
--- The branch is the child by the next of the clauses: it stands for the split of the tree by this clause.
+-- The branch is the child by the next of the clauses: it stands for the split of the tree by this clause. The branch that was forked can be
+-- had again from it, or nothing is noted.
 pub record IsChild (P : NamedProgram) (old new : Fork) (b : Held) : Type 0 where
   pub clause : ℕ
   pub next : old.clauses ≡ clause ∷ new.clauses
@@ -41,3 +43,4 @@ pub record IsChild (P : NamedProgram) (old new : Fork) (b : Held) : Type 0 where
   pub key : b.key ≡ old.longer ++ clause ∷ []
   pub limit : b.limit ≡ old.parent.limit
   pub stands : (t u : QueryTree P.program) → AreChildren P old t → Split t clause u → IsBranchOf P b u
+  pub back : (b.trail.mark ≡ None) ⊎ GoesBack old.parent b

@@ -1,5 +1,5 @@
 -- Branches that have ended.
-use Rattle.std.specs.Prelude.{◌⊎◌, List, ◌++◌, Contains}
+use Rattle.std.specs.Prelude.{◌⊎◌, ◌++◌, Contains}
 use Rattle.and_model.specs.Lines.{Bytes}
 use Rattle.and_model.specs.Listing
 use Rattle.and_model.specs.Listing.{Ends}

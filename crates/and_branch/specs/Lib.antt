@@ -7,6 +7,7 @@ pub mod Forking
 pub mod Resting
 pub mod Making
 pub mod Next
+pub mod Origins
 pub mod Parts
 pub mod Rebuilding
 pub mod Rounds

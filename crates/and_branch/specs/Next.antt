@@ -11,6 +11,7 @@ use Rattle.and_program.specs.Skeletons.{NodeItem}
 use Rattle.and_cells.specs.Ranges.{NamedProgram}
 use Rattle.and_branch_laws.specs.Kept.{item_at}
 use Rattle.and_branch.specs.Branches.{Held, Lives, IsBranchOf, IsOpenGoal}
+use Rattle.and_branch.specs.Origins.{KeepsBack}
 use Rattle.and_branch.specs.Watching.{Watched}
 
 -- The branch, which is not failed, has a next goal, a call. The clause is there, and there is room for its frame.
@@ -48,7 +49,8 @@ is_call_node (Skeletons.is n m pair) = false
 is_call_node (Skeletons.compare r n m) = false
 is_call_node Skeletons.fail = false
 
--- Nothing was done but that the place of work was moved, or less is watched.
+-- Nothing was done but that the place of work was moved, or less is watched. What could be had again of the branch still can be, or nothing
+-- is noted any longer.
 pub record IsMoved (old new : Held) : Type 0 where
   pub key : new.key ≡ old.key
   pub limit : new.limit ≡ old.limit
@@ -58,6 +60,7 @@ pub record IsMoved (old new : Held) : Type 0 where
   pub is_failed : new.is_failed ≡ old.is_failed
   pub goals : new.left ++ new.right ≡ old.left ++ old.right
   pub watches : (w : Watched) → Contains new.watches w → Contains old.watches w
+  pub back : KeepsBack old new
 
 -- The two goals are one item at one place.
 abbrev pub IsSameItem : Goal → Goal → Type 0

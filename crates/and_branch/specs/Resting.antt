@@ -24,6 +24,7 @@ pub record IsRewound (old new : Held) : Type 0 where
   pub limit : new.limit ≡ old.limit
   pub is_failed : new.is_failed ≡ old.is_failed
   pub watches : new.watches ≡ old.watches
+  pub trail : new.trail ≡ old.trail
 
 -- how many goals are left
 abbrev pub count : Held → ℕ

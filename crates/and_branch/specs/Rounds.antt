@@ -14,6 +14,7 @@ use Rattle.and_reduction.specs.Runs.{IsWaiting}
 use Rattle.and_branch.specs.Branches.{Held, IsBranch, IsBranchOf}
 use Rattle.and_determinacy.specs.Watching.{AreFree}
 use Rattle.and_branch.specs.Finding.{HasFound, HasSeen}
+use Rattle.and_branch.specs.Origins.{KeepsBack}
 use Rattle.and_branch.specs.Resting.{IsResting}
 use Rattle.and_branch.specs.Watching.{Watched, IsAsleep}
 use Rattle.and_branch.specs.declared.advancing.Looked.{Looked}
@@ -36,9 +37,10 @@ pub record IsIdle (P : NamedProgram) (limit : ℕ) (row : List Ref) (g : Goal) :
 abbrev pub IsStill : NamedProgram → Held → Type 0
 IsStill P b = (g : Goal) → Contains (b.left ++ b.right) g → IsIdle P b.limit b.row g
 
--- The new branch stands for a tree to which Steps lead from the old one's.
+-- The new branch stands for a tree to which Steps lead from the old one's, and what could be had again of the old one can be of the new.
 pub record StepsOn (P : NamedProgram) (old new : Held) : Type 0 where
   pub each : (t : QueryTree P.program) → IsBranchOf P old t → (u : QueryTree P.program) × IsBranchOf P new u × Steps t u
+  pub back : KeepsBack old new
 
 -- how many goals there are
 abbrev pub goal_count : Held → ℕ

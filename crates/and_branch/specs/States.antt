@@ -1,5 +1,5 @@
 -- What is told of the state of a branch.
-use Rattle.std.specs.Prelude.{ℕ, ◌≡◌, ◌≢◌, ◌⊎◌, List, ◌++◌, map, Contains, Option, Some, None}
+use Rattle.std.specs.Prelude.{ℕ, ◌≢◌, ◌⊎◌, List, ◌++◌, map, Contains, Option, Some, None}
 use Rattle.and_model.specs.Trees.{QueryTree, Open}
 use Rattle.and_model.specs.Limits.{at_goal}
 use Rattle.and_model.specs.declared.goal.Cut.{Cut}

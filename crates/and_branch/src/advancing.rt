@@ -16,6 +16,7 @@ ghost use Rattle.and_branch_laws.specs.Judging.{CandidateInCells};
 ghost use Rattle.and_branch_laws.specs.Kept.{item_at};
 ghost use Rattle.and_branch_laws.specs.States.{StateOf, determinate};
 ghost use Rattle.and_branch.specs.Branches.{IsBranch, IsBranchOf, SameKey};
+ghost use Rattle.and_branch.specs.Origins.{KeepsBack};
 ghost use Rattle.and_branch.specs.Rounds.{StepsOn, AreFew, IsAtMost, IsStill, LookIs, RoundIs, HasStilled, IsAt};
 ghost use Rattle.and_branch.specs.declared.finding.Found.{Found};
 
@@ -93,6 +94,7 @@ impl<N: Naming> Branch<N> {
         ensures same { SameKey self.old self.new }
         ensures steps { OnOk result ((t : QueryTree N.program.program) → IsBranchOf N.program self.old t
             → (u : QueryTree N.program.program) × IsBranchOf N.program self.new u × Steps t u) }
+        ensures back { OnOk result (KeepsBack self.old self.new) }
         ensures done { OnOk result ((t : QueryTree N.program.program) (o : Open t) (c : ℕ) → IsBranchOf N.program self.new t
             → StateOf N.program.program self.new.limit t (determinate o c) → ⊥) }
     {
@@ -467,14 +469,16 @@ impl<N: Naming> Branch<N> {
         requires short { length self.old.row ≤ MAX_LIMIT }
         requires goal { CanBeRun N.program self.old.row goal }
         ensures same { SameKey self.old self.new }
-        ensures others { self.new ≡ record self.old { row = self.new.row } }
+        ensures others { self.new ≡ record self.old { row = self.new.row; trail = self.new.trail } }
+        ensures back { OnOk result (KeepsBack self.old self.new) }
         ensures waits { (cell : ℕ) → result ≡ Ok (Ran.Waits cell) → IsWaiting N.program self.old.row goal }
         ensures waits_for { (cell : ℕ) → result ≡ Ok (Ran.Waits cell) → WaitsFor N.program self.old.row goal cell }
         ensures unchanged { (cell : ℕ) → result ≡ Ok (Ran.Waits cell) → self.new.row ≡ self.old.row }
         ensures done { result ≡ Ok Ran.Done → HasRun N.program self.old.row self.new.row goal }
         ensures fails { result ≡ Ok Ran.False → CannotHold N.program self.old.row goal }
     {
-        run(loaded, &mut self.cells, goal, &mut workspace.tools)
+        let tools = &mut workspace.tools;
+        run(loaded, &mut self.cells, goal, &mut self.trail, tools)
     }
 
     /// Takes the next goal out. Takes no memory.

@@ -18,7 +18,7 @@ use crate::workspace::Workspace;
 use and_cells::{Naming, PlainCells};
 use and_model::{ClauseNo, Code, Cut, Goal, ReductionList};
 use and_program::Loaded;
-use and_reduction::{Entered, begin};
+use and_reduction::{Entered, Trail, begin};
 use std::alloc::{AllocError, Global};
 use std::marker::Model;
 
@@ -43,6 +43,9 @@ pub struct Branch<N: Naming> {
     pub(crate) met: usize,
     /// and those that are watched since.
     pub(crate) watches: Watches,
+    /// Which words of the row were set since it was as the branch that this one was made of had it, if
+    /// that is noted.
+    pub(crate) trail: Trail,
 }
 
 impl<N: Naming> Model for Branch<N> {
@@ -62,6 +65,7 @@ impl<N: Naming> Model for Branch<N> {
       limit = branch.limit;
       is_failed = branch.is_failed;
       watches = branch.watched ++ branch.watches;
+      trail = branch.trail;
     } };
 }
 
@@ -142,6 +146,7 @@ impl<N: Naming> Branch<N> {
             watched: _,
             met: _,
             watches: _,
+            trail: _,
         } = self;
         key
     }
@@ -193,6 +198,7 @@ fn begun<N: Naming>(
         watched: Watches::new(alloc),
         met: 0,
         watches: Watches::new(alloc),
+        trail: Trail::none(alloc),
     })
 }
 

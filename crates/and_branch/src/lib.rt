@@ -9,6 +9,7 @@ pub mod branch;
 mod finding;
 mod forking;
 mod goals;
+mod making;
 pub mod parts;
 pub mod rebuilding;
 mod reducing;

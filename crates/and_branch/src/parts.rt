@@ -9,6 +9,7 @@ use crate::branch::Branch;
 use crate::watching::Watches;
 use and_cells::{Naming, PlainCells};
 use and_model::{ClauseNo, Code, Goal, Reduction, ReductionList};
+use and_reduction::Trail;
 
 /// What a branch is made of.
 #[derive(Drop)]
@@ -50,6 +51,7 @@ impl<N: Naming> Branch<N> {
             watched,
             met,
             watches,
+            trail,
         } = self;
         match in_preorder(left, right) {
             Ok(goals) => Ok(Parts {
@@ -73,6 +75,7 @@ impl<N: Naming> Branch<N> {
                 watched,
                 met,
                 watches,
+                trail,
             }),
         }
     }
@@ -119,6 +122,7 @@ impl<N: Naming> Parts<N> {
             watched: Watches::new(alloc),
             met: 0,
             watches: Watches::new(alloc),
+            trail: Trail::none(alloc),
         }
     }
 }

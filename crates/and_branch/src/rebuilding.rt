@@ -1,6 +1,6 @@
 //! Branches that are made again of what a phase left.
 
-ghost use Rattle.std.specs.Prelude.{◌≡◌, ◌≤◌, ◌+◌, ◌++◌, ◌∷◌, [], true, false, length, Ok, OnOk, IfOk, IfErr};
+ghost use Rattle.std.specs.Prelude.{◌≡◌, ◌≤◌, ◌+◌, ◌++◌, ◌∷◌, [], true, false, None, length, Ok, OnOk, IfOk, IfErr};
 ghost use Rattle.and_model.specs.Solutions.{Solvable};
 ghost use Rattle.and_model.specs.Trees.{QueryTree};
 ghost use Rattle.and_model.specs.declared.limits.TheConstants.{MAX_LIMIT};
@@ -23,6 +23,7 @@ use crate::watching::Watches;
 use and_cells::{Naming, PlainCells};
 use and_model::{Code, Goal, Reduction, ReductionList};
 use and_program::Loaded;
+use and_reduction::Trail;
 use and_unify::{PairList, Settled as Answer, settle};
 use std::alloc::{AllocError, Global};
 
@@ -49,8 +50,8 @@ pub struct NoRoom {
 }
 
 impl<N: Naming> Branch<N> {
-    /// Settles what a phase left, and makes a branch of it. It is marked failed where the phase found
-    /// the tree dead, and where what is left has no solution.
+    /// Settles what a phase left, and makes a branch of it, of whose row nothing is noted. It is marked
+    /// failed where the phase found the tree dead, and where what is left has no solution.
     pub fn rebuild(alloc: Global, loaded: &Loaded, work: Worked<N>) -> Result<Branch<N>, NoRoom>
         requires program { N.program ≡ named loaded.now }
         requires worked { (t : QueryTree N.program.program) × (u : QueryTree N.program.program) × IsWorked N.program work t u }
@@ -58,6 +59,7 @@ impl<N: Naming> Branch<N> {
         ensures reductions { IfOk result (λ branch. branch.reductions ≡ reductions_of work) }
         ensures stands { IfOk result (λ branch. (t u : QueryTree N.program.program) → IsWorked N.program work t u
             → IsBranchOf N.program branch u) }
+        ensures trail { IfOk result (λ branch. branch.trail.mark ≡ None) }
         ensures failed { IfOk result (λ branch. work.failed ≡ true → branch.is_failed ≡ true) }
         ensures no_room { IfErr result (λ refused. refused.key ≡ work.parts.key) }
     {
@@ -95,6 +97,7 @@ impl<N: Naming> Branch<N> {
                 watched: Watches::new(alloc),
                 met: 0,
                 watches: Watches::new(alloc),
+                trail: Trail::none(alloc),
             }),
             Err(_) => Err(NoRoom { key }),
         }

@@ -7,6 +7,7 @@ ghost use Rattle.and_branch_laws.specs.Reducing.{reduction_by};
 ghost use Rattle.and_code.specs.Written.{all_written};
 ghost use Rattle.and_branch.specs.Branches.{SameKey};
 ghost use Rattle.and_branch.specs.Next.{HasNextCall, IsReduced};
+ghost use Rattle.and_branch.specs.Origins.{KeepsBack};
 
 use crate::branch::Branch;
 use crate::goals::push_body;
@@ -32,6 +33,7 @@ impl<N: Naming> Branch<N> {
         ensures same { SameKey self.old self.new }
         ensures used { OnOk result (self.new.used ≡ self.old.used + clause_weight (clause_at N.program.program clause.0)) }
         ensures reduced { OnOk result (IsReduced N.program self.old self.new clause.0) }
+        ensures back { OnOk result (KeepsBack self.old self.new) }
     {
         loaded.skeleton_is_of_the_program();
         let Some(goal) = self.right.pop() else {
@@ -40,7 +42,15 @@ impl<N: Naming> Branch<N> {
         let node = self.used;
         self.used += loaded.weight(clause);
         push_reduction(&mut self.reductions, goal, clause, node)?;
-        match take(loaded, &mut self.cells, goal, clause, &mut workspace.tools)? {
+        let tools = &mut workspace.tools;
+        match take(
+            loaded,
+            &mut self.cells,
+            goal,
+            clause,
+            &mut self.trail,
+            tools,
+        )? {
             Entered::Solved => {
                 push_body(&mut self.right, loaded, clause, node)?;
                 Ok(())

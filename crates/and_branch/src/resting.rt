@@ -53,7 +53,7 @@ impl<N: Naming> Branch<N> {
             self.left.push(goal)?;
             return Ok(Turn::Passed);
         }
-        match run(loaded, &mut self.cells, goal, tools)? {
+        match run(loaded, &mut self.cells, goal, &mut self.trail, tools)? {
             Ran::Waits { cell: _ } => {
                 self.left.push(goal)?;
                 Ok(Turn::Passed)

@@ -79,10 +79,9 @@ pub(crate) fn move_all(from: &mut Vec<Goal>, to: &mut Vec<Goal>) -> Result<(), A
     ensures empty { OnOk result (from.new.items ≡ []) }
     ensures moved { OnOk result (reverse to.new.items ≡ from.old.items ++ reverse to.old.items) }
 {
-    loop {
-        match from.pop() {
-            Some(goal) => to.push(goal)?,
-            None => return Ok(()),
-        }
+    to.reserve(from.len())?;
+    while let Some(goal) = from.pop() {
+        to.push_reserved(goal);
     }
+    Ok(())
 }

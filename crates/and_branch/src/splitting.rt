@@ -1,6 +1,6 @@
 //! Forks: a branch that is split, and its children.
 
-ghost use Rattle.std.specs.Prelude.{◌≡◌, ◌<◌, ◌+◌, ◌∷◌, [], drop, length, ℕ, Option, None, Some, Ok, OnErr, IfOk, IfErr};
+ghost use Rattle.std.specs.Prelude.{◌≡◌, ◌≢◌, ◌<◌, ◌+◌, ◌∷◌, [], drop, length, ℕ, Option, None, Some, Ok, OnErr, IfOk, IfErr, IfSome};
 ghost use Rattle.and_model.specs.Trees.{QueryTree, Open};
 ghost use Rattle.and_cells.specs.Parts.{named};
 ghost use Rattle.and_branch_laws.specs.States.{StateOf, fork};
@@ -8,6 +8,7 @@ ghost use Rattle.and_branch.specs.Branches.{Held, IsBranchOf, IsOpenGoal};
 ghost use Rattle.and_branch.specs.States.{numbers};
 ghost use Rattle.and_branch.specs.Children.{Fork, AreChildren, IsChild, IsForkOf};
 ghost use Rattle.and_branch.specs.Making.{CanBeMade, IsBegun, IsMade};
+ghost use Rattle.and_branch.specs.Origins.{GoesBack};
 
 use crate::branch::Branch;
 use crate::workspace::Workspace;
@@ -43,15 +44,20 @@ pub struct BranchList<N: Naming> {
     split: Split<N>,
     /// How many were made.
     made: usize,
+    /// A child that has ended: the next one is made of it.
+    spare: Option<Branch<N>>,
 }
 
 impl<N: Naming> Model for BranchList<N> {
-    ghost use Rattle.std.specs.Prelude.{drop};
+    ghost use Rattle.std.specs.Prelude.{drop, IfSome};
     ghost use Rattle.and_branch.specs.Children.{Fork};
+    ghost use Rattle.and_branch.specs.Origins.{GoesBack};
 
     ghost Value = { Fork };
 
     ghost view = { λ list. record list.split { clauses = drop list.made list.split.clauses } };
+
+    ghost invariant = { λ list. IfSome list.spare (GoesBack list.split.parent) };
 }
 
 impl<N: Naming> Branch<N> {
@@ -80,40 +86,6 @@ impl<N: Naming> Branch<N> {
             }),
             Err(_) => Err(self),
         }
-    }
-
-    /// Another branch of the same, but for the key. An error is want of memory.
-    fn copy_with(&self, alloc: Global, key: Code) -> Result<Branch<N>, AllocError>
-        ensures { IfOk result (λ b. b ≡ record self.now { key = key }) }
-    {
-        let cells = self.cells.copy()?;
-        let reductions = self.reductions.copy()?;
-        let left = Vec::from_slice(alloc, &self.left)?;
-        let right = Vec::from_slice(alloc, &self.right)?;
-        let watched = self.watched.copy(alloc)?;
-        let watches = self.watches.copy(alloc)?;
-        Ok(Branch {
-            key,
-            limit: self.limit,
-            cells,
-            reductions,
-            left,
-            right,
-            used: self.used,
-            is_failed: self.is_failed,
-            watched,
-            met: self.met,
-            watches,
-        })
-    }
-
-    /// The same branch, but for the key. Takes no memory.
-    fn with_key(self, key: Code) -> Branch<N>
-        ensures { result ≡ record self { key = key } }
-    {
-        let mut branch = self;
-        branch.key = key;
-        branch
     }
 
     /// The child of a fork, of which this is the beginning: the goal is taken by the clause. An error is
@@ -158,21 +130,24 @@ impl<N: Naming> Split<N> {
         &self.clauses
     }
 
-    /// The child by a clause. An error is want of memory.
+    /// The child by a clause, made of the spare, if there is one. An error is want of memory, and the
+    /// spare is given up.
     fn child(
         &self,
         alloc: Global,
         loaded: &Loaded,
         clause: ClauseNo,
+        spare: Option<Branch<N>>,
         workspace: &mut Workspace,
     ) -> Result<Branch<N>, AllocError>
         requires program { N.program ≡ named loaded.now }
         requires next { CanBeMade N.program self.now clause.0 }
+        requires spare { IfSome spare (GoesBack self.now.parent) }
         ensures { IfOk result (IsMade N.program self.now clause.0) }
     {
         let mut key = self.longer.copy()?;
         key.push(clause)?;
-        let child = self.parent.copy_with(alloc, key)?;
+        let child = self.parent.again(alloc, key, spare)?;
         child.taking(loaded, self.goal, clause, workspace)
     }
 
@@ -207,6 +182,7 @@ impl<N: Naming> Split<N> {
         BranchList {
             split: self,
             made: 0,
+            spare: None,
         }
     }
 }
@@ -238,6 +214,16 @@ impl<N: Naming> BranchList<N> {
         *clauses.at(self.made + place)
     }
 
+    /// Takes in a child that has ended, so that the next one is made of it. Takes no memory.
+    pub fn take_in(&mut self, child: Branch<N>)
+        requires back { child.trail.mark ≢ None → GoesBack self.old.parent child }
+        ensures { self.new ≡ self.old }
+    {
+        if child.trail.is_kept() {
+            self.spare = Some(child);
+        }
+    }
+
     /// The next child. An error is want of memory; the child can be asked for again.
     pub fn next(
         &mut self,
@@ -255,7 +241,8 @@ impl<N: Naming> BranchList<N> {
             return Ok(None);
         }
         let clause = *self.split.clauses().at(self.made);
-        let child = self.split.child(alloc, loaded, clause, workspace)?;
+        let spare = self.spare.take();
+        let child = self.split.child(alloc, loaded, clause, spare, workspace)?;
         self.made += 1;
         Ok(Some(child))
     }
@@ -272,7 +259,11 @@ impl<N: Naming> BranchList<N> {
         ensures none { result ≡ Ok None → self.clauses ≡ [] }
         ensures some { (b : Held) → result ≡ Ok (Some b) → (rest : Fork) × IsChild N.program self rest b }
     {
-        let BranchList { split, made } = self;
+        let BranchList {
+            split,
+            made,
+            spare: _,
+        } = self;
         if made >= split.clauses().len() {
             return Ok(None);
         }

@@ -11,6 +11,7 @@ ghost use Rattle.and_branch.specs.Branches.{IsBranch, IsBranchOf, SameKey};
 ghost use Rattle.and_branch_laws.specs.States.{StateOf, determinate};
 ghost use Rattle.and_branch.specs.Finding.{AllCalls, IsSeveral, HasFound};
 ghost use Rattle.and_branch.specs.Forking.{HasCutBy};
+ghost use Rattle.and_branch.specs.Origins.{KeepsBack};
 ghost use Rattle.and_branch.specs.Resting.{SameTree, IsResting};
 ghost use Rattle.and_branch.specs.States.{IsState, IsAtRest};
 
@@ -19,7 +20,7 @@ use crate::finding::{Found, find};
 use crate::forking::part;
 use crate::workspace::Workspace;
 use and_cells::Naming;
-use and_determinacy::{Determinacy, candidates_of};
+use and_determinacy::{Determinacy, candidates_of_several};
 use and_io::Gate;
 use and_model::{ClauseList, ClauseNo, Cut, Goal};
 use and_program::Loaded;
@@ -99,6 +100,7 @@ impl<N: Naming> Branch<N> {
         ensures judged { IfOk result (λ s. (t : QueryTree N.program.program) → IsBranchOf N.program self.new t
             → IsState N.program self.new t s) }
         ensures at_rest { IfOk result (λ s. IsAtRest N.program self.new s) }
+        ensures back { OnOk result (KeepsBack self.old self.new) }
         ensures done { OnOk result ((t : QueryTree N.program.program) (o : Open t) (c : ℕ) → IsBranchOf N.program self.new t
             → StateOf N.program.program self.new.limit t (determinate o c) → ⊥) }
     {
@@ -225,7 +227,7 @@ impl<N: Naming> Branch<N> {
         loaded.skeleton_is_of_the_program();
         let alloc = *self.left.allocator();
         let candidates = &mut workspace.candidates;
-        candidates_of(
+        candidates_of_several(
             table,
             loaded,
             &mut self.cells,

@@ -72,6 +72,18 @@ impl Watches {
         })
     }
 
+    /// Watches the same goals as the other does, and no others. An error is want of memory, and no goal
+    /// is watched any longer.
+    pub fn fill_from(&mut self, other: &Watches) -> Result<(), AllocError>
+        ensures { OnOk result (self.new ≡ other.now) }
+    {
+        self.entries.clear();
+        self.cells.clear();
+        self.cells.extend_from_slice(&other.cells)?;
+        self.entries.extend_from_slice(&other.entries)?;
+        Ok(())
+    }
+
     /// Where the goal is watched, if it is at this place or the next: the goal at this place may be gone.
     pub fn find(&self, from: usize, goal: Goal) -> Option<usize>
         ensures { IfSome result (λ place. (w : Watched) × (slice_get self.now place ≡ Some w) × (w.goal ≡ goal)) }

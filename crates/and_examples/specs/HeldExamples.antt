@@ -5,6 +5,7 @@ use Rattle.and_model.specs.Trees.{QueryTree, reduce}
 use Rattle.and_model.specs.declared.goal.Goal.{Goal}
 use Rattle.and_model.specs.declared.reference.Ref.{Ref}
 use Rattle.and_branch.specs.Branches.{Held}
+use Rattle.and_branch.specs.Making.{nothing_noted}
 use Rattle.and_examples.specs.BasesExamples.{by_first}
 use Rattle.and_examples.specs.BranchExamples.{item_of_query, taken_by}
 use Rattle.and_examples.specs.KeptExamples.{row, item_of_first, summed}
@@ -22,6 +23,7 @@ reduced = record {
   limit = 10;
   is_failed = false;
   watches = [];
+  trail = nothing_noted;
 }
 
 -- ---- p(1). p(2). q(2). q(3). ?- p(X), q(X). The query's first call was taken by that clause.
@@ -36,6 +38,7 @@ split_held clause row goals is_failed = record {
   limit = 10;
   is_failed = is_failed;
   watches = [];
+  trail = nothing_noted;
 }
 
 abbrev pub split_tree_1 : QueryTree fails
@@ -56,4 +59,5 @@ sum_held = record {
   limit = 10;
   is_failed = false;
   watches = [];
+  trail = nothing_noted;
 }

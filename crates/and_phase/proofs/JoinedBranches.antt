@@ -25,6 +25,7 @@ use Rattle.and_gathering.specs.declared.gathering.Gathered.{Gathered}
 use Rattle.and_whole.specs.Places.{all_frames, ArePairsWhole, IsSideWhole, IsWhole}
 use Rattle.and_closing_laws.specs.Phases.{HasPhased}
 use Rattle.and_branch.specs.Branches.{Held, Lives, IsBranchOf}
+use Rattle.and_branch.specs.Origins.{lost}
 use Rattle.and_branch.specs.Parts.{held_of}
 use Rattle.and_branch.specs.Rebuilding.{IsLeft, IsWorked}
 use Rattle.and_branch.specs.Rounds.{StepsOn}
@@ -130,14 +131,15 @@ module _ {N : Type 0} (P : NamedProgram) (own : OwnVariables P) (law : PhasesLea
           },
         )
 
--- A branch that is made of all that was worked stands for what Steps lead to.
+-- A branch that is made of all that was worked stands for what Steps lead to. Nothing is noted of its row.
 pub steps_on : {E : Type 0} {N : Type 0} (P : NamedProgram) (old : Held) (w : Worked N) (r : Result Held E)
-    → IfOk r (λ b. (t u : QueryTree P.program) → IsWorked P w t u → IsBranchOf P b u)
+    → IfOk r (λ b. b.trail.mark ≡ None) → IfOk r (λ b. (t u : QueryTree P.program) → IsWorked P w t u → IsBranchOf P b u)
     → ((t : QueryTree P.program) → IsBranchOf P old t → (u : QueryTree P.program) × IsWorked P w t u) → IfOk r (λ b. StepsOn P old b)
-steps_on P old w (Ok b) stands worked = record {
+steps_on P old w (Ok b) nothing stands worked = record {
   each = λ t x. (let y = worked t x in (y.0, stands t y.0 y.1, y.1.steps));
+  back = lost nothing;
 }
-steps_on P old w (Err e) stands worked = tt
+steps_on P old w (Err e) nothing stands worked = tt
 
 -- What was joined, as the parts have it.
 pub joined : {N : Type 0} (P Q : NamedProgram) → P ≡ Q → (parts : Parts N) (cells : List Ref) (tolds : List Told) (goals : List Goal)

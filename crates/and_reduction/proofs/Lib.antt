@@ -8,3 +8,5 @@ pub mod KeptGoals
 pub mod AskedPairs
 pub mod SettledPairs
 pub mod AskedNumbers
+pub mod Noting
+pub mod NotedSteps

@@ -51,8 +51,8 @@ halves_written old mid new pair next z high low below after first second is_high
       holds = number_of_halves z fits;
     }
 
--- a place is a word of the pair, or another
-one_of_pair : (pair place : ℕ) → ((place ≡ pair) ⊎ (place ≡ suc pair)) ⊎ ((place ≢ pair) × (place ≢ suc pair))
+-- A place is a word of the pair, or another.
+pub one_of_pair : (pair place : ℕ) → ((place ≡ pair) ⊎ (place ≡ suc pair)) ⊎ ((place ≢ pair) × (place ≢ suc pair))
 one_of_pair pair place = elim (cases_eq place pair) [
   | inl e ↦ inl (inl e)
   | inr one ↦ elim (cases_eq place (suc pair)) [ inl e ↦ inl (inr e) | inr other ↦ inr (one, other) ]

@@ -3,3 +3,4 @@ pub mod Assigning
 pub mod Frames
 pub mod Runs
 pub mod Sides
+pub mod Trails

@@ -4,8 +4,11 @@
 
 mod asking;
 pub mod running;
+mod settling;
 mod sides;
 pub mod taking;
+pub mod trail;
 
 pub use running::{Ran, run};
 pub use taking::{Entered, Tools, begin, take};
+pub use trail::Trail;

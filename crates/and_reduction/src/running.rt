@@ -1,6 +1,6 @@
 //! Goals of arithmetic that are run.
 
-ghost use Rattle.std.specs.Prelude.{◌≡◌, ◌≢◌, ◌≤◌, ◌<◌, ◌+◌, ℕ, length, slice_get, get_or, Some, Ok, IfOk};
+ghost use Rattle.std.specs.Prelude.{◌≡◌, ◌≢◌, ◌≤◌, ◌<◌, ◌+◌, ℕ, length, slice_get, get_or, Some, Ok, IfOk, OnOk};
 ghost use Rattle.and_model.specs.declared.limits.TheConstants.{MAX_LIMIT};
 ghost use Rattle.and_program.specs.Items.{node_item, relation};
 ghost use Rattle.and_program.specs.Loaded.{nodes_at, program_of, skeleton_of};
@@ -15,9 +15,12 @@ ghost use Rattle.and_branch_laws.specs.Settling.{IsWritten};
 ghost use Rattle.and_reduction.specs.Runs.{CanBeRun, IsWaiting, WaitsFor, HasRun, CannotHold};
 ghost use Rattle.and_reduction.specs.Assigning.{CanBeAssigned, IsAssigned, IsFreePair, IsRefused};
 ghost use Rattle.and_reduction.specs.Sides.{IsComparison};
+ghost use Rattle.and_reduction.specs.Trails.{KeepsNoted};
 
+use crate::settling::settle_noted;
 use crate::sides::compare_sides;
 use crate::taking::Tools;
+use crate::trail::Trail;
 use and_arith::WorkList;
 use and_cells::{Naming, PlainCells, halves};
 use and_determinacy::guards::{Side, evaluate};
@@ -37,12 +40,13 @@ pub enum Ran {
     False,
 }
 
-/// Runs a goal of arithmetic where what it needs is ground. An error is want of memory, and the cells
-/// are spent.
+/// Runs a goal of arithmetic where what it needs is ground. What is set in the row is noted. An error is
+/// want of memory, and the cells are spent.
 pub fn run<N: Naming>(
     loaded: &Loaded,
     cells: &mut PlainCells<N>,
     goal: Goal,
+    trail: &mut Trail,
     tools: &mut Tools,
 ) -> Result<Ran, AllocError>
     requires program { N.program ≡ named loaded.now }
@@ -54,6 +58,7 @@ pub fn run<N: Naming>(
     ensures unchanged { (cell : ℕ) → result ≡ Ok (Ran.Waits cell) → cells.new ≡ cells.old }
     ensures done { result ≡ Ok Ran.Done → HasRun N.program cells.old cells.new goal }
     ensures fails { result ≡ Ok Ran.False → CannotHold N.program cells.old goal }
+    ensures noted { OnOk result (KeepsNoted trail.old trail.new cells.old cells.new) }
 {
     loaded.skeleton_is_of_the_program();
     match item_in(loaded, goal.clause, goal.item) {
@@ -76,7 +81,7 @@ pub fn run<N: Naming>(
                 Side::NoValue => Ok(Ran::False),
                 Side::Number(value) => {
                     let first = pair_in(loaded, goal.clause, goal.base, pair);
-                    assign(loaded, cells, goal.base, left, first, value, tools)
+                    assign(loaded, cells, goal.base, left, first, value, trail, tools)
                 }
             }
         }
@@ -139,7 +144,8 @@ fn write<N: Naming>(cells: &mut PlainCells<N>, pair: u32, value: i64)
     let _words = cells.len();
 }
 
-/// Writes a number into a pair of words, and settles the node with it. An error is want of memory.
+/// Writes a number into a pair of words, settles the node with it, and notes what is set. An error is
+/// want of memory.
 fn assign<N: Naming>(
     loaded: &Loaded,
     cells: &mut PlainCells<N>,
@@ -147,6 +153,7 @@ fn assign<N: Naming>(
     node: NodeNo,
     pair: u32,
     value: i64,
+    trail: &mut Trail,
     tools: &mut Tools,
 ) -> Result<Ran, AllocError>
     requires program { N.program ≡ named loaded.now }
@@ -155,17 +162,16 @@ fn assign<N: Naming>(
     ensures waits { (cell : ℕ) → result ≢ Ok (Ran.Waits cell) }
     ensures done { result ≡ Ok Ran.Done → IsAssigned N.program cells.old cells.new base node.0 pair value }
     ensures fails { result ≡ Ok Ran.False → IsRefused N.program cells.old base node.0 pair value }
+    ensures noted { OnOk result (KeepsNoted trail.old trail.new cells.old cells.new) }
 {
     loaded.skeleton_is_of_the_program();
     let left = loaded.resolve(node, base);
     write(cells, pair, value);
     let words = cells.len();
+    trail.note(&[pair, pair + 1])?;
     tools.pairs.clear();
     tools.pairs.push(left, Ref::Number(pair))?;
-    match tools
-        .solver
-        .settle_further(loaded, cells, words, &mut tools.pairs)
-    {
+    match settle_noted(loaded, cells, words, trail, tools) {
         Answer::Solved => {
             let _words = cells.len();
             Ok(Ran::Done)

@@ -16,8 +16,11 @@ ghost use Rattle.and_branch_laws.specs.Variables.{placed};
 ghost use Rattle.and_determinacy.specs.Candidates.{CanBeJudged};
 ghost use Rattle.and_reduction.specs.Asking.{AreReady};
 ghost use Rattle.and_reduction.specs.Frames.{IsFrame};
+ghost use Rattle.and_reduction.specs.Trails.{KeepsNoted};
 
 use crate::asking::{ask_call, ask_items};
+use crate::settling::settle_noted;
+use crate::trail::Trail;
 use and_arith::WorkList;
 use and_cells::{Naming, PlainCells};
 use and_model::limits::MAX_LIMIT;
@@ -29,6 +32,7 @@ use std::alloc::{AllocError, Global};
 /// What steps work with, kept by their caller and used again.
 #[derive(Drop)]
 pub struct Tools {
+    alloc: Global,
     pub(crate) solver: Solver,
     pub(crate) pairs: PairList,
     pub(crate) values: WorkList,
@@ -38,6 +42,7 @@ impl Tools {
     /// Nothing was done yet. Takes no memory.
     pub fn new(alloc: Global) -> Tools {
         Tools {
+            alloc,
             solver: Solver::new(alloc),
             pairs: PairList::new(alloc),
             values: WorkList::new(alloc),
@@ -76,17 +81,19 @@ pub fn begin<N: Naming>(
     }
     let floor = open_frame(loaded, cells, query)?;
     tools.pairs.clear();
-    settle_frame(loaded, cells, query, floor, tools)
+    let mut nothing = Trail::none(tools.alloc);
+    settle_frame(loaded, cells, query, floor, &mut nothing, tools)
 }
 
 /// Puts the clause's frame behind the row, and settles in it what a reduction of the call by this
-/// clause asks: that the call is its head, and the `=` items of its body. An error is want of memory,
-/// and the cells are spent.
+/// clause asks: that the call is its head, and the `=` items of its body. What is set in the row is
+/// noted. An error is want of memory, and the cells are spent.
 pub fn take<N: Naming>(
     loaded: &Loaded,
     cells: &mut PlainCells<N>,
     goal: Goal,
     clause: ClauseNo,
+    trail: &mut Trail,
     tools: &mut Tools,
 ) -> Result<Entered, AllocError>
     requires program { N.program ≡ named loaded.now }
@@ -100,11 +107,12 @@ pub fn take<N: Naming>(
     ensures unsolved { result ≡ Ok Entered.NoSolution
         → Solvable (equations_of N.program (widened cells.old (clause_weight (clause_at N.program.program clause.0)))
         ++ reduction_in_cells N.program.program goal clause.0 (length cells.old)) → ⊥ }
+    ensures noted { OnOk result (KeepsNoted trail.old trail.new cells.old cells.new) }
 {
     loaded.skeleton_is_of_the_program();
     let floor = open_frame(loaded, cells, clause)?;
     ask_call(loaded, cells, goal, clause, floor, &mut tools.pairs)?;
-    settle_frame(loaded, cells, clause, floor, tools)
+    settle_frame(loaded, cells, clause, floor, trail, tools)
 }
 
 /// Puts a frame of the clause behind the row, and answers where it begins. An error is want of memory,
@@ -129,13 +137,14 @@ fn open_frame<N: Naming>(
     Ok(floor)
 }
 
-/// Settles in a new frame of the clause what the pairs ask, and the `=` items of its body. An error is
-/// want of memory, and the cells are spent.
+/// Settles in a new frame of the clause what the pairs ask, and the `=` items of its body, and notes
+/// what is set. An error is want of memory, and the cells are spent.
 fn settle_frame<N: Naming>(
     loaded: &Loaded,
     cells: &mut PlainCells<N>,
     clause: ClauseNo,
     floor: u32,
+    trail: &mut Trail,
     tools: &mut Tools,
 ) -> Result<Entered, AllocError>
     requires program { N.program ≡ named loaded.now }
@@ -148,14 +157,12 @@ fn settle_frame<N: Naming>(
     ensures unsolved { result ≡ Ok Entered.NoSolution → Solvable (equations_of N.program cells.old
         ++ (equations_of_pairs N.program (word_at cells.old) tools.old.pairs ++ body_equations (placed floor)
         (clause_at N.program.program clause.0).body)) → ⊥ }
+    ensures noted { OnOk result (KeepsNoted trail.old trail.new cells.old cells.new) }
 {
     if !ask_items(loaded, cells, clause, floor, &mut tools.pairs)? {
         return Ok(Entered::NoSolution);
     }
-    match tools
-        .solver
-        .settle_further(loaded, cells, floor, &mut tools.pairs)
-    {
+    match settle_noted(loaded, cells, floor, trail, tools) {
         Answer::Solved => {
             let _words = cells.len();
             Ok(Entered::Solved)

@@ -10,3 +10,4 @@ pub mod Turns
 pub mod Closing
 pub mod Mapping
 pub mod NextChild
+pub mod HandedBack

@@ -6,6 +6,7 @@ ghost use Rattle.and_model.specs.Reached.{Steps};
 ghost use Rattle.and_cells.specs.Parts.{named};
 ghost use Rattle.and_determinacy.specs.Tables.{IsTableOf};
 ghost use Rattle.and_branch.specs.Branches.{IsBranch, IsBranchOf, SameKey};
+ghost use Rattle.and_branch.specs.Origins.{KeepsBack};
 ghost use Rattle.and_branch.specs.Rounds.{StepsOn};
 ghost use Rattle.and_branch.specs.States.{IsState, IsAtRest};
 ghost use Rattle.and_walk.specs.Walking.{IsAdvanced};
@@ -68,6 +69,7 @@ pub fn advance<N: Naming, G: Gate>(
         → (u : QueryTree N.program.program) × Steps t u × IsBranchOf N.program branch.new u) }
     ensures judged { IfOk result (λ s. (t : QueryTree N.program.program) → IsBranchOf N.program branch.new t
         → IsState N.program branch.new t s) }
+    ensures back { OnOk result (KeepsBack branch.old branch.new) }
     ensures at_rest { IfOk result (λ s. IsAtRest N.program branch.new s) }
     ensures done { OnOk result (IsAdvanced N.program branch.new) }
 {

@@ -1,6 +1,6 @@
 //! A team: what it has found, and what it has still to explore.
 
-ghost use Rattle.std.specs.Prelude.{◌≡◌, ◌≢◌, ◌<◌, ◌*◌, ◌^◌, ◌≤◌, length, ◌++◌, ◌∷◌, [], ℕ, List, Option, None, OnOk, OnErr, IfOk, IfSome, IfNone, true};
+ghost use Rattle.std.specs.Prelude.{◌≡◌, ◌≢◌, ◌⊎◌, ◌<◌, ◌*◌, ◌^◌, ◌≤◌, length, ◌++◌, ◌∷◌, [], ℕ, List, Option, None, Some, OnOk, OnErr, IfOk, IfSome, IfNone, true};
 ghost use Rattle.std.specs.Option.{option_or};
 ghost use Rattle.and_model.specs.declared.limits.TheConstants.{MAX_LIMIT};
 ghost use Rattle.and_model.specs.Trees.{QueryTree, Open};
@@ -10,8 +10,9 @@ ghost use Rattle.and_cells.specs.Parts.{named};
 ghost use Rattle.and_determinacy.specs.Tables.{IsTableOf};
 ghost use Rattle.and_branch_laws.specs.States.{StateOf, fork};
 ghost use Rattle.and_branch.specs.Branches.{IsBranchOf};
-ghost use Rattle.and_branch.specs.Children.{AreChildren};
+ghost use Rattle.and_branch.specs.Children.{AreChildren, Fork};
 ghost use Rattle.and_branch.specs.Ended.{HasEnded};
+ghost use Rattle.and_branch.specs.Origins.{GoesBack, KeepsBack};
 ghost use Rattle.and_branch.specs.States.{IsState, IsAtRest, IsCutOf};
 ghost use Rattle.and_answers.specs.Kept.{SameEnd, listed, entry_of};
 ghost use Rattle.and_histories.specs.PlainTree.{Key, Owns, children};
@@ -126,14 +127,20 @@ impl<N: Naming + Send + Sync> Team<N> {
         ensures same { self.new.number ≡ self.old.number }
     {
         match self.stack.pop() {
-            Some(Task::One(branch)) => self.explore(rt, shared, branch)?,
-            Some(Task::Children(list)) => self.explore_next(rt, shared, list)?,
-            None => return Ok(false),
+            Some(Task::One(branch)) => {
+                self.explore(rt, shared, branch)?;
+                Ok(true)
+            }
+            Some(Task::Children(list)) => {
+                self.explore_next(rt, shared, list)?;
+                Ok(true)
+            }
+            None => Ok(false),
         }
-        Ok(true)
     }
 
-    /// Goes on with the next child of a fork.
+    /// Goes on with the next child of a fork. Where it has ended, and others are still to come, the next of
+    /// them is made of it.
     fn explore_next<R: Threads + Sync, G: Gate>(
         &mut self,
         rt: &R,
@@ -149,27 +156,33 @@ impl<N: Naming + Send + Sync> Team<N> {
     {
         let (child, rest) = self.next_child(shared, list)?;
         let Some(task) = rest else {
-            return self.explore(rt, shared, child);
+            self.explore(rt, shared, child)?;
+            return Ok(());
         };
         if self.put(shared, task).is_err() {
             shared.tree.give_up(&mut self.pass, child.key());
             return Err(AllocError);
         }
-        self.explore(rt, shared, child)
+        if let Some(ended) = self.explore(rt, shared, child)? {
+            self.take_in(ended);
+        }
+        Ok(())
     }
 
     /// Explores a branch: its determinate goals are reduced by the workers of the team, and what they leave is explored alone.
+    /// Answers the branch, if it has ended.
     fn explore<R: Threads + Sync, G: Gate>(
         &mut self,
         rt: &R,
         shared: &Shared<N, G>,
         branch: Branch<N>,
-    ) -> Result<(), AllocError>
+    ) -> Result<Option<Branch<N>>, AllocError>
         requires program { N.program ≡ named shared.now.loaded.now }
         requires table { IsTableOf N.program shared.now.table.now }
         requires works { Works N.program shared.now.tree.now self.old.pass self.old.found (Task.One branch ∷ self.old.stack.items) }
         ensures has { Has N.program shared.now.tree.now self.new.pass (self.new.stack.items) }
         ensures works { OnOk result (Works N.program shared.now.tree.now self.new.pass self.new.found (self.new.stack.items)) }
+        ensures ended { IfOk result (λ ended. IfSome ended (λ b. KeepsBack branch b × (self.new.stack.items ≡ self.old.stack.items))) }
         ensures same { self.new.number ≡ self.old.number }
     {
         let reduced = reduced_by_workers(rt, shared, branch, &mut self.pace, &mut self.workspace);
@@ -196,6 +209,8 @@ impl<N: Naming> Team<N> {
         ensures same { (self.new.number ≡ self.old.number) × (self.new.found ≡ self.old.found) × (self.new.stack ≡ self.old.stack) }
         ensures child { IfOk result (λ next. (self.new.pass ≡ self.old.pass)
             × Has N.program shared.now.tree.now self.new.pass (Task.One next.0 ∷ some_task next.1 ++ self.new.stack.items)) }
+        ensures back { IfOk result (λ next. (f : Fork) → next.1 ≡ Some (Task.Children f)
+            → (next.0.trail.mark ≡ None) ⊎ GoesBack f.parent next.0) }
         ensures given_up { OnErr result (Has N.program shared.now.tree.now self.new.pass (self.new.stack.items)) }
     {
         if list.left() == 1 {
@@ -209,6 +224,19 @@ impl<N: Naming> Team<N> {
                 self.give_up_children(shared, &list);
                 Err(AllocError)
             }
+        }
+    }
+
+    /// Hands a branch that has ended back to the fork whose child it was: those that are still to come are
+    /// on top of the stack. Takes no memory.
+    fn take_in(&mut self, child: Branch<N>)
+        requires back { (f : Fork) (below : List (Task N)) → self.old.stack.items ≡ below ++ Task.Children f ∷ []
+            → child.trail.mark ≢ None → GoesBack f.parent child }
+        ensures stack { self.new.stack.items ≡ self.old.stack.items }
+        ensures same { (self.new.number ≡ self.old.number) × (self.new.found ≡ self.old.found) × (self.new.pass ≡ self.old.pass) }
+    {
+        if let Some(task) = self.stack.last_mut() {
+            task.take_in(child);
         }
     }
 
@@ -237,17 +265,19 @@ impl<N: Naming> Team<N> {
         Err(AllocError)
     }
 
-    /// Explores a branch by itself: reduces its determinate goals, and goes on by its state.
+    /// Explores a branch by itself: reduces its determinate goals, and goes on by its state. Answers the
+    /// branch, if it has ended.
     fn explore_alone<G: Gate>(
         &mut self,
         shared: &Shared<N, G>,
         mut branch: Branch<N>,
-    ) -> Result<(), AllocError>
+    ) -> Result<Option<Branch<N>>, AllocError>
         requires program { N.program ≡ named shared.now.loaded.now }
         requires table { IsTableOf N.program shared.now.table.now }
         requires works { Works N.program shared.now.tree.now self.old.pass self.old.found (Task.One branch ∷ self.old.stack.items) }
         ensures has { Has N.program shared.now.tree.now self.new.pass (self.new.stack.items) }
         ensures works { OnOk result (Works N.program shared.now.tree.now self.new.pass self.new.found (self.new.stack.items)) }
+        ensures ended { IfOk result (λ ended. IfSome ended (λ b. KeepsBack branch b × (self.new.stack.items ≡ self.old.stack.items))) }
         ensures same { self.new.number ≡ self.old.number }
     {
         let state = advance(
@@ -266,13 +296,14 @@ impl<N: Naming> Team<N> {
         }
     }
 
-    /// Goes on with a branch by its state.
+    /// Goes on with a branch by its state. Answers the branch, if it has ended, and nothing where it was
+    /// forked.
     fn go_by<G: Gate>(
         &mut self,
         shared: &Shared<N, G>,
         branch: Branch<N>,
         state: BranchState,
-    ) -> Result<(), AllocError>
+    ) -> Result<Option<Branch<N>>, AllocError>
         requires program { N.program ≡ named shared.now.loaded.now }
         requires works { Works N.program shared.now.tree.now self.old.pass self.old.found (Task.One branch ∷ self.old.stack.items) }
         requires state { (t : QueryTree N.program.program) → IsBranchOf N.program branch t → IsState N.program branch t state }
@@ -280,24 +311,32 @@ impl<N: Naming> Team<N> {
         requires advanced { IsAdvanced N.program branch }
         ensures has { Has N.program shared.now.tree.now self.new.pass (self.new.stack.items) }
         ensures works { OnOk result (Works N.program shared.now.tree.now self.new.pass self.new.found (self.new.stack.items)) }
+        ensures ended { IfOk result (λ ended. IfSome ended (λ b. (b ≡ branch) × (self.new.stack.items ≡ self.old.stack.items))) }
         ensures same { self.new.number ≡ self.old.number }
     {
         match state {
             BranchState::Determinate { goal: _, clause: _ } => unreachable!(),
             BranchState::Fork { goal, clauses, cut } => {
-                self.fork(shared, branch, goal, clauses, cut)
+                self.fork(shared, branch, goal, clauses, cut)?;
+                Ok(None)
             }
-            BranchState::Answer => self.tell(shared, &branch, false),
-            BranchState::Floundered => self.tell(shared, &branch, true),
+            BranchState::Answer => {
+                self.tell(shared, &branch, false)?;
+                Ok(Some(branch))
+            }
+            BranchState::Floundered => {
+                self.tell(shared, &branch, true)?;
+                Ok(Some(branch))
+            }
             BranchState::Failed => {
                 self.found.count_failed();
                 shared.tree.retire(&mut self.pass, branch.key());
-                Ok(())
+                Ok(Some(branch))
             }
             BranchState::OverLimit(cut) => {
                 keep_cut(&mut self.found, Some(cut));
                 shared.tree.retire(&mut self.pass, branch.key());
-                Ok(())
+                Ok(Some(branch))
             }
         }
     }
@@ -373,7 +412,7 @@ impl<N: Naming> Team<N> {
             → EndsSo N.program branch.now t floundered }
         ensures has { Has N.program shared.now.tree.now self.new.pass (self.new.stack.items) }
         ensures works { OnOk result (Works N.program shared.now.tree.now self.new.pass self.new.found (self.new.stack.items)) }
-        ensures same { self.new.number ≡ self.old.number }
+        ensures same { (self.new.number ≡ self.old.number) × (self.new.stack ≡ self.old.stack) }
     {
         if self.add(shared, branch, floundered).is_err() {
             shared.tree.give_up(&mut self.pass, branch.key());

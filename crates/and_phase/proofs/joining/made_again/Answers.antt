@@ -20,6 +20,6 @@ returns-clause-steps g c =
     let P = g.N.Naming.program in
     let s = c.skeleton_is_of_the_program.ensures in
     let loaded = is_loaded P c.args.loaded.now c.requires.program s.skeleton s.own_variables s.few in
-    steps_on P _ c.work_of.result c.rebuild.result c.rebuild.ensures.stands
+    steps_on P _ c.work_of.result c.rebuild.result c.rebuild.ensures.trail c.rebuild.ensures.stands
     (is_worked P loaded.own c.phases_leave_branches.ensures c.args.parts c.requires.live c.args.joined c.requires.joined c.work_of.result
     c.work_of.ensures)

@@ -1,13 +1,21 @@
-use Rattle.std.proofs.Common.{w64, subst}
+use Rattle.std.proofs.Common.{◌+◌, w64, subst, arith}
 use Rattle.std.proofs.lemmas.Int.{to_z-of_z}
 use Rattle.and_branch_laws.specs.Settling.{IsWritten}
 use Rattle.and_reduction.proofs.AskedNumbers.{number_asked, number_assigned, number_refused}
 use Rattle.and_reduction.proofs.Loading.{loaded_is, resolved_is}
+use Rattle.and_reduction.proofs.NotedSteps.{assigning_noted}
 use Rattle.and_reduction.proofs.Numbers.{still_settled, nothing_new}
 use Rattle.and_reduction.proofs.running.assign.Goals as goal
 
-pub settle_further-requires-clause-in_range : goal.settle_further-requires-clause-in_range
-settle_further-requires-clause-in_range g c =
+pub overflow_add-pair : goal.overflow_add-pair
+overflow_add-pair g c =
+    let there = c.requires.goal.pair_is_free.in_range in
+    let long = c.write.ensures.written.long in
+    let short = c.len-words.ensures.sound.short in
+    omega (arith, there, long, short)
+
+pub settle_noted-requires-clause-in_range : goal.settle_noted-requires-clause-in_range
+settle_noted-requires-clause-in_range g c =
     let P = g.N.Naming.program in
     let facts = loaded_is P c.args.loaded.now c.requires.program c.skeleton_is_of_the_program.ensures.skeleton
     c.skeleton_is_of_the_program.ensures.own_variables c.skeleton_is_of_the_program.ensures.few in
@@ -17,8 +25,8 @@ settle_further-requires-clause-in_range g c =
     (resolved_is P c.args.loaded.now c.args.node c.args.base c.resolve-left.result c.requires.program c.resolve-left.ensures)
     c.clear.new.self c.push.new.self c.clear.ensures c.in_ok-push.ensures.ok).ready.in_range
 
-pub settle_further-requires-clause-written : goal.settle_further-requires-clause-written
-settle_further-requires-clause-written g c =
+pub settle_noted-requires-clause-written : goal.settle_noted-requires-clause-written
+settle_noted-requires-clause-written g c =
     let P = g.N.Naming.program in
     let facts = loaded_is P c.args.loaded.now c.requires.program c.skeleton_is_of_the_program.ensures.skeleton
     c.skeleton_is_of_the_program.ensures.own_variables c.skeleton_is_of_the_program.ensures.few in
@@ -28,14 +36,14 @@ settle_further-requires-clause-written g c =
     (resolved_is P c.args.loaded.now c.args.node c.args.base c.resolve-left.result c.requires.program c.resolve-left.ensures)
     c.clear.new.self c.push.new.self c.clear.ensures c.in_ok-push.ensures.ok).ready.written
 
-pub settle_further-requires-clause-settled : goal.settle_further-requires-clause-settled
-settle_further-requires-clause-settled g c =
+pub settle_noted-requires-clause-settled : goal.settle_noted-requires-clause-settled
+settle_noted-requires-clause-settled g c =
     still_settled g.N.Naming.program c.args.cells.now c.write.new.cells c.args.pair c.args.value c.requires.goal.pair_is_free
     (subst (IsWritten c.args.cells.now c.write.new.cells c.args.pair)
     (to_z-of_z w64 c.args.value c.ranges.value) c.write.ensures.written) c.requires.settled
 
-pub settle_further-requires-clause-no_half : goal.settle_further-requires-clause-no_half
-settle_further-requires-clause-no_half g c =
+pub settle_noted-requires-clause-no_half : goal.settle_noted-requires-clause-no_half
+settle_noted-requires-clause-no_half g c =
     let P = g.N.Naming.program in
     let facts = loaded_is P c.args.loaded.now c.requires.program c.skeleton_is_of_the_program.ensures.skeleton
     c.skeleton_is_of_the_program.ensures.own_variables c.skeleton_is_of_the_program.ensures.few in
@@ -45,8 +53,8 @@ settle_further-requires-clause-no_half g c =
     (resolved_is P c.args.loaded.now c.args.node c.args.base c.resolve-left.result c.requires.program c.resolve-left.ensures)
     c.clear.new.self c.push.new.self c.clear.ensures c.in_ok-push.ensures.ok).ready.whole
 
-pub settle_further-requires-clause-new : goal.settle_further-requires-clause-new
-settle_further-requires-clause-new g c =
+pub settle_noted-requires-clause-new : goal.settle_noted-requires-clause-new
+settle_noted-requires-clause-new g c =
     let P = g.N.Naming.program in
     let facts = loaded_is P c.args.loaded.now c.requires.program c.skeleton_is_of_the_program.ensures.skeleton
     c.skeleton_is_of_the_program.ensures.own_variables c.skeleton_is_of_the_program.ensures.few in
@@ -67,7 +75,7 @@ returns-in-Solved-clause-done g c = λ e.
     (to_z-of_z w64 c.args.value c.ranges.value) c.write.ensures.written) c.len-words.ensures.value c.resolve-left.result
     (resolved_is P c.args.loaded.now c.args.node c.args.base c.resolve-left.result c.requires.program c.resolve-left.ensures)
     c.clear.new.self c.push.new.self c.clear.ensures c.in_ok-push.ensures.ok
-    c.settle_further.new.cells c.write.ensures.sound c.len-words-in-Solved.ensures.sound c.in-Solved.ensures.settles
+    c.settle_noted.new.cells c.write.ensures.sound c.len-words-in-Solved.ensures.sound c.in-Solved.ensures.settles
 
 pub returns-in-NoSolution-clause-fails : goal.returns-in-NoSolution-clause-fails
 returns-in-NoSolution-clause-fails g c = λ e.
@@ -79,4 +87,20 @@ returns-in-NoSolution-clause-fails g c = λ e.
     (to_z-of_z w64 c.args.value c.ranges.value) c.write.ensures.written) c.len-words.ensures.value c.resolve-left.result
     (resolved_is P c.args.loaded.now c.args.node c.args.base c.resolve-left.result c.requires.program c.resolve-left.ensures)
     c.clear.new.self c.push.new.self c.clear.ensures c.in_ok-push.ensures.ok
-    c.settle_further.new.cells c.write.ensures.sound c.in-NoSolution.ensures.settles
+    c.settle_noted.new.cells c.write.ensures.sound c.in-NoSolution.ensures.settles
+
+pub returns-in-Solved-clause-noted : goal.returns-in-Solved-clause-noted
+returns-in-Solved-clause-noted g c =
+    let written = subst (IsWritten c.args.cells.now c.write.new.cells c.args.pair) (to_z-of_z w64 c.args.value c.ranges.value)
+    c.write.ensures.written in
+    assigning_noted g.N.Naming.program c.args.trail.now c.note.new.self c.settle_noted.new.trail c.args.cells.now c.write.new.cells
+    c.settle_noted.new.cells c.args.pair (c.args.pair + 1) c.args.value (omega arith) c.requires.goal.pair_is_free written
+    c.in_ok-note.ensures (c.in-Solved.ensures.noted (λ e. absurd (cc)))
+
+pub returns-in-NoSolution-clause-noted : goal.returns-in-NoSolution-clause-noted
+returns-in-NoSolution-clause-noted g c =
+    let written = subst (IsWritten c.args.cells.now c.write.new.cells c.args.pair) (to_z-of_z w64 c.args.value c.ranges.value)
+    c.write.ensures.written in
+    assigning_noted g.N.Naming.program c.args.trail.now c.note.new.self c.settle_noted.new.trail c.args.cells.now c.write.new.cells
+    c.settle_noted.new.cells c.args.pair (c.args.pair + 1) c.args.value (omega arith) c.requires.goal.pair_is_free written
+    c.in_ok-note.ensures (c.in-NoSolution.ensures.noted (λ e. absurd (cc)))

@@ -1,6 +1,7 @@
 use Rattle.std.proofs.Common.{◌≡◌, ◌≤◌, rules, sym, subst, arith, w64, to_z, of_z}
 use Rattle.std.specs.Prelude.{IfOk, FitsSigned}
 use Rattle.std.proofs.lemmas.Int.{ints, to_z-of_z}
+use Rattle.std.proofs.lemmas.Result.{on_ok_weaker}
 use Rattle.and_model.specs.declared.limits.TheConstants.{MAX_LIMIT}
 use Rattle.and_program.specs.Items.{relation}
 use Rattle.and_program.specs.Skeletons
@@ -11,11 +12,13 @@ use Rattle.and_reduction.specs.Assigning.{CanBeAssigned, IsAssigned, IsRefused}
 use Rattle.and_determinacy.specs.Sides.{IsSide}
 use Rattle.and_reduction.specs.Runs.{WaitsFor}
 use Rattle.and_reduction.specs.Sides.{IsComparison}
+use Rattle.and_reduction.specs.Trails.{KeepsNoted}
 use Rattle.and_reduction.proofs.Goals.{node_found, no_call, no_equal, no_fail, arithmetic_here, item_so, compared_reads, assigned_reads}
 use Rattle.and_reduction.proofs.Goals.{pair_in_range, can_be_assigned}
 use Rattle.and_reduction.proofs.Loading.{loaded_is}
 use Rattle.and_reduction.proofs.Outcomes.{comparison_waits, comparison_waits_for, comparison_done, comparison_fails}
 use Rattle.and_reduction.proofs.Outcomes.{is_waits, is_waits_for, is_valueless, is_assigned, is_refused}
+use Rattle.and_reduction.proofs.Noting.{unchanged_noted, any_noted}
 use Rattle.and_reduction.proofs.running.run.Goals as goal
 
 pub run_comparison-requires-clause-left : goal.run_comparison-requires-clause-left
@@ -319,3 +322,21 @@ returns-in-Number-clause-fails g c = λ e.
     let at_pair = subst (λ n. IsRefused P row goal.base l n (to_z w64 (of_z w64 z))) first on_row in
     let of_value = subst (IsRefused P row goal.base l (pair_of P goal.clause.0 goal.base pair)) value at_pair in
     is_refused P row row goal l r pair node is z side of_value
+
+pub returns-in-Compare-clause-noted : goal.returns-in-Compare-clause-noted
+returns-in-Compare-clause-noted g c =
+    any_noted c.run_comparison.result c.args.trail.now c.args.cells.now c.run_comparison.new.cells c.run_comparison.ensures.unchanged
+
+pub returns-in-Waits-clause-noted : goal.returns-in-Waits-clause-noted
+returns-in-Waits-clause-noted g c =
+    unchanged_noted c.args.trail.now c.args.cells.now c.evaluate.new.cells c.evaluate.ensures.unchanged
+
+pub returns-in-NoValue-clause-noted : goal.returns-in-NoValue-clause-noted
+returns-in-NoValue-clause-noted g c =
+    unchanged_noted c.args.trail.now c.args.cells.now c.evaluate.new.cells c.evaluate.ensures.unchanged
+
+pub returns-in-Number-clause-noted : goal.returns-in-Number-clause-noted
+returns-in-Number-clause-noted g c =
+    on_ok_weaker c.assign.result
+    (subst (λ row. KeepsNoted c.args.trail.now c.assign.new.trail row c.assign.new.cells) c.evaluate.ensures.unchanged)
+    c.assign.ensures.noted

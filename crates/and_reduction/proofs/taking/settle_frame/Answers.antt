@@ -13,6 +13,6 @@ returns-then-not-branch-clause-unsolved g c = λ e.
     (placed c.args.floor) (clause_at P.program c.args.clause.0).body
     (c.in_ok-ask_items.ensures.failing (let t = c.if-not-branch.true in cc))
 
-pub settle_further-requires-clause-written : goal.settle_further-requires-clause-written
-settle_further-requires-clause-written g c =
+pub settle_noted-requires-clause-written : goal.settle_noted-requires-clause-written
+settle_noted-requires-clause-written g c =
     (c.in_ok-ask_items.ensures.asked (let t = c.if-not-branch.false in cc)).ready.written

@@ -3,6 +3,7 @@ use Rattle.std.proofs.lemmas.Result.{on_ok_weaker}
 use Rattle.and_branch.specs.Branches.{Held}
 use Rattle.and_branch.specs.Rounds.{IsStill, HasStilled}
 use Rattle.and_branch.specs.declared.finding.Found.{Found}
+use Rattle.and_branch.proofs.KeptOrigins.{on_ok_kept}
 use Rattle.and_branch.proofs.LoadedPrograms.{is_loaded}
 use Rattle.and_branch.proofs.LookedGoals.{still_branch}
 use Rattle.and_branch.proofs.RoundsDone
@@ -70,3 +71,11 @@ returns-in-None-clause-done g c = λ t o k x state.
     let P = g.N.Naming.program in
     let stilled = subst (λ (r : Option Found). HasStilled P c.go_rounds.new.self r) c.in-None.is c.in_ok-found.ensures.stilled in
     RoundsDone.failed_branch P c.go_rounds.new.self t x stilled o k state
+
+pub returns-in-Some-clause-back : goal.returns-in-Some-clause-back
+returns-in-Some-clause-back g c =
+    let on = c.in_ok-found.ensures.steps in
+    on_ok_kept c.args.self.now c.go_rounds.new.self c.told.new.self c.told.result c.told.ensures.stays on.back
+
+pub returns-in-None-clause-back : goal.returns-in-None-clause-back
+returns-in-None-clause-back g c = let on = c.in_ok-found.ensures.steps in on.back

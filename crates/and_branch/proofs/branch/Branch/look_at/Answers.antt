@@ -6,7 +6,7 @@ use Rattle.and_branch_laws.specs.Kept.{item_at}
 use Rattle.and_branch.specs.Rounds.{HasPassed}
 use Rattle.and_branch.specs.declared.finding.Seen.{Seen}
 use Rattle.and_branch.proofs.LoadedPrograms.{is_loaded}
-use Rattle.and_branch.proofs.LookedGoals.{in_range, kind, asleep_passed}
+use Rattle.and_branch.proofs.LookedGoals.{in_range, kind, next_still, asleep_passed}
 use Rattle.and_branch.proofs.branch.Branch.look_at.Goals as goal
 
 pub is_call-called-requires-clause-in_range : goal.is_call-called-requires-clause-in_range
@@ -25,6 +25,12 @@ is_call-called-requires-clause-kind g c =
     (item_at p.program c.args.goal ≡ arithmetic a)))
     c.requires.program
     (kind P c.args.self.now c.args.goal c.requires.at loaded)
+
+pub pass-requires : goal.pass-requires
+pass-requires g c =
+    let yes = ap (λ b. Ok b) c.if-branch.true in
+    let watches = c.in_ok-is_asleep.ensures.watches yes in
+    record { next = next_still g.N.Naming.program c.args.self.now c.is_asleep.new.self c.args.goal watches c.requires.at }
 
 pub returns-then-branch-clause-steps : goal.returns-then-branch-clause-steps
 returns-then-branch-clause-steps g c =

@@ -40,6 +40,7 @@ returns-clause-steps g c =
     (c.has_room.ensures.room c.if-not-has_room.false) in
     reduced_steps P loaded c.args.self.now c.reduce_next.new.self c.args.goal c.requires.at c.reduce_next.ensures.same c.requires.call.0
     c.requires.call.1 c.args.clause.0 c.requires.last room c.in_ok-reduce_next.ensures.reduced
+    c.in_ok-reduce_next.ensures.back
 
 pub returns-clause-came_to : goal.returns-clause-came_to
 returns-clause-came_to g c =

@@ -3,6 +3,7 @@ use Rattle.and_reduction.specs.declared.running.Ran.{Ran}
 use Rattle.and_branch.specs.Branches.{Held, IsBranch, IsBranchOf}
 use Rattle.and_branch.proofs.LoadedPrograms.{is_loaded}
 use Rattle.and_branch.proofs.ArithmeticRuns.{next_seen, row_short, can_be_run, ran_branch, failed_branch, popped}
+use Rattle.and_branch.proofs.KeptOrigins.{noted_nothing}
 use Rattle.and_branch.proofs.MovedBranches.{moved_branch}
 use Rattle.and_branch.proofs.PassedGoals.{goal_passed, goal_waits}
 use Rattle.and_branch.proofs.branch.Branch.pass_or_run.Goals as goal
@@ -46,7 +47,7 @@ returns-in-Done-clause-stands g c = λ t x.
     let branch = subst (λ (b : Held). IsBranchOf P b t) (sym c.self.view_is) x in
     let live = subst (λ (b : Held). b.is_failed ≡ false) (sym c.self.view_is) c.requires.live in
     let next = popped c.self.inside.right.items c.pop.new.self.items c.in-Some.goal c.in-Some.ensures.items in
-    ran_branch P loaded _ t branch live c.in-Some.goal (reverse c.pop.new.self.items) next c.run.new.cells
+    ran_branch P loaded _ t branch live c.in-Some.goal (reverse c.pop.new.self.items) next c.run.new.cells c.run.new.trail
     (c.in_ok-run.ensures.done (ap (λ (r : Ran). Ok r) c.in-Done.is))
 
 pub returns-in-False-clause-stands : goal.returns-in-False-clause-stands
@@ -57,21 +58,22 @@ returns-in-False-clause-stands g c = λ t x.
     let branch = subst (λ (b : Held). IsBranchOf P b t) (sym c.self.view_is) x in
     let live = subst (λ (b : Held). b.is_failed ≡ false) (sym c.self.view_is) c.requires.live in
     let next = popped c.self.inside.right.items c.pop.new.self.items c.in-Some.goal c.in-Some.ensures.items in
-    failed_branch P loaded _ t branch live c.in-Some.goal (reverse c.pop.new.self.items) next c.run.new.cells
+    failed_branch P loaded _ t branch live c.in-Some.goal (reverse c.pop.new.self.items) next c.run.new.cells c.run.new.trail
     (c.in_ok-run.ensures.fails (ap (λ (r : Ran). Ok r) c.in-False.is))
 
 pub returns-then-not-is_arithmetic-clause-stands : goal.returns-then-not-is_arithmetic-clause-stands
 returns-then-not-is_arithmetic-clause-stands g c = λ t x.
     moved_branch g.N.Naming.program c.args.self.now _ t
-    (goal_passed _ c.args.self.now c.self.view_is c.self.inside.cells c.push.new.self.items (reverse c.pop.new.self.items) c.in-Some.goal refl
+    (goal_passed _ c.args.self.now c.self.view_is c.self.inside.cells c.push.new.self.items (reverse c.pop.new.self.items) c.self.inside.trail
+    c.in-Some.goal refl (noted_nothing c.self.inside.trail c.self.inside.cells)
     (popped c.self.inside.right.items c.pop.new.self.items c.in-Some.goal c.in-Some.ensures.items) c.in_ok-push.ensures.items)
     x
 
 pub returns-in_ok-push-in-Waits-clause-stands : goal.returns-in_ok-push-in-Waits-clause-stands
 returns-in_ok-push-in-Waits-clause-stands g c = λ t x.
     moved_branch g.N.Naming.program c.args.self.now _ t
-    (goal_passed _ c.args.self.now c.self.view_is c.run.new.cells c.push-in-Waits.new.self.items (reverse c.pop.new.self.items) c.in-Some.goal
-    (c.in_ok-run.ensures.unchanged c.in-Waits.cell (ap (λ (r : Ran). Ok r) c.in-Waits.is))
+    (goal_passed _ c.args.self.now c.self.view_is c.run.new.cells c.push-in-Waits.new.self.items (reverse c.pop.new.self.items) c.run.new.trail
+    c.in-Some.goal (c.in_ok-run.ensures.unchanged c.in-Waits.cell (ap (λ (r : Ran). Ok r) c.in-Waits.is)) c.in_ok-run.ensures.noted
     (popped c.self.inside.right.items c.pop.new.self.items c.in-Some.goal c.in-Some.ensures.items) c.in_ok-push-in-Waits.ensures.items)
     x
 
@@ -79,6 +81,6 @@ pub returns-in_ok-push-in-Waits-clause-next : goal.returns-in_ok-push-in-Waits-c
 returns-in_ok-push-in-Waits-clause-next g c =
     let was = ap (λ (r : Ran). Ok r) c.in-Waits.is in
     goal_waits g.N.Naming.program _ c.args.self.now c.self.view_is c.run.new.cells c.push-in-Waits.new.self.items (reverse c.pop.new.self.items)
-    c.in-Some.goal (c.in_ok-run.ensures.unchanged c.in-Waits.cell was)
+    c.run.new.trail c.in-Some.goal (c.in_ok-run.ensures.unchanged c.in-Waits.cell was)
     (popped c.self.inside.right.items c.pop.new.self.items c.in-Some.goal c.in-Some.ensures.items) c.in_ok-push-in-Waits.ensures.items
     c.requires.live (c.in_ok-run.ensures.waits c.in-Waits.cell was)

@@ -7,6 +7,7 @@ use Rattle.and_branch_laws.specs.Kept.{goal_of}
 use Rattle.and_branch_laws.specs.Reducing.{body_goals}
 use Rattle.and_branch.specs.Branches.{Held}
 use Rattle.and_branch.specs.Next.{HasNextCall}
+use Rattle.and_branch.proofs.KeptOrigins.{reduced_back}
 use Rattle.and_branch.proofs.LoadedPrograms.{is_loaded}
 use Rattle.and_branch.proofs.NextReduced.{next_judged, next_lives, next_dies}
 use Rattle.and_branch.proofs.branch.Branch.reduce_next.Goals as goal
@@ -51,3 +52,11 @@ returns-in-NoSolution-clause-reduced g c =
     (popped c.self.inside.right.items c.pop.new.self.items c.in-Some.goal c.in-Some.ensures.items)
     (record { key = refl; limit = refl }) c.in_ok-push_reduction.ensures (ap (λ w. c.self.inside.used + w) weight)
     (c.take.ensures.unsolved (c.in_ok-take.was ∙ ap Ok c.in-NoSolution.is)) refl
+
+pub returns-in_ok-push_body-in-Solved-clause-back : goal.returns-in_ok-push_body-in-Solved-clause-back
+returns-in_ok-push_body-in-Solved-clause-back g c =
+    reduced_back _ c.args.self.now c.self.view_is _ _ c.in_ok-push_reduction.ensures c.in_ok-take.ensures.noted
+
+pub returns-in-NoSolution-clause-back : goal.returns-in-NoSolution-clause-back
+returns-in-NoSolution-clause-back g c =
+    reduced_back _ c.args.self.now c.self.view_is _ _ c.in_ok-push_reduction.ensures c.in_ok-take.ensures.noted

@@ -1,6 +1,7 @@
 use Rattle.std.proofs.Common.{subst}
 use Rattle.and_reduction.specs.Runs.{IsWaiting, HasRun, CannotHold, WaitsFor}
 use Rattle.and_branch.specs.Branches.{Held}
+use Rattle.and_branch.proofs.KeptOrigins.{ran_back}
 use Rattle.and_branch.proofs.branch.Branch.run_next.Goals as goal
 
 pub returns-clause-done : goal.returns-clause-done
@@ -18,3 +19,6 @@ returns-clause-waits_for g c = λ cell is.
 pub returns-clause-waits : goal.returns-clause-waits
 returns-clause-waits g c = λ cell is.
     subst (λ (b : Held). IsWaiting g.N.Naming.program b.row c.args.goal) c.self.view_is (c.run.ensures.waits cell is)
+
+pub returns-clause-back : goal.returns-clause-back
+returns-clause-back g c = ran_back _ c.args.self.now c.self.view_is c.run.new.cells c.run.new.trail c.run.result c.run.ensures.noted

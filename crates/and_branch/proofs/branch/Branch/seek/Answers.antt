@@ -1,9 +1,17 @@
-use Rattle.std.proofs.Common.{List, sym, ◌∙◌, subst, rules}
+use Rattle.std.proofs.Common.{List, refl, sym, ◌∙◌, subst, rules}
 use Rattle.and_branch.specs.Next.{HasItem}
 use Rattle.and_model.specs.declared.goal.Goal.{Goal}
-use Rattle.and_branch.proofs.SoughtGoals.{some_next, there_later, shorter}
-use Rattle.and_branch.proofs.MovedBranches.{moved_twice}
+use Rattle.and_branch.proofs.SoughtGoals.{there_first, some_next, there_later, shorter}
+use Rattle.and_branch.proofs.MovedBranches.{moved_twice, moved_nowhere}
 use Rattle.and_branch.proofs.branch.Branch.seek.Goals as goal
+
+pub loop-goal-init : goal.loop-goal-init
+loop-goal-init g c =
+    let rewound = c.in_ok-rewind.ensures in record {
+      same = record { key = refl; limit = refl };
+      moved = moved_nowhere c.rewind.new.self;
+      there = there_first c.args.self.now c.rewind.new.self c.args.goal c.requires.there rewound.moved rewound.first;
+    }
 
 pub pass-requires : goal.pass-requires
 pass-requires g c = record { next = some_next c.loop-goal.self.right c.args.goal c.loop-goal.invariant.there }
@@ -26,3 +34,7 @@ loop-goal-preserved g c =
       there = subst (λ (l : List Goal). HasItem l c.args.goal) (sym p.0)
           (there_later c.loop-goal.self.right n.1 n.0 c.args.goal c.loop-goal.invariant.there n.2 (says (search rules) n.0 n.1 n.2));
     }
+
+pub returns-clause-moved : goal.returns-clause-moved
+returns-clause-moved g c =
+    moved_twice c.args.self.now c.rewind.new.self c.loop-goal.self c.in_ok-rewind.ensures.moved c.loop-goal.invariant.moved

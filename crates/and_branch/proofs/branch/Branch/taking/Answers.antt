@@ -1,4 +1,3 @@
-use Rattle.and_branch.specs.Children.{Fork}
 use Rattle.and_branch.proofs.ForkReduced.{begun_has, begun_next, begun_made}
 use Rattle.and_branch.proofs.branch.Branch.taking.Goals as goal
 
@@ -18,4 +17,4 @@ pub returns : goal.returns
 returns g c = λ f begun.
     let P = g.N.Naming.program in
     begun_made P f c.args.clause.0 c.args.goal _ begun c.seek.new.self c.in_ok-seek.ensures.moved c.in_ok-seek.ensures.found
-    c.reduce_next.new.self c.in_ok-reduce_next.ensures.same c.in_ok-reduce_next.ensures.reduced
+    c.reduce_next.new.self c.in_ok-reduce_next.ensures.same c.in_ok-reduce_next.ensures.reduced c.in_ok-reduce_next.ensures.back

@@ -1,7 +1,5 @@
-use Rattle.std.proofs.Common.{◌≡◌, false, sym, subst}
-use Rattle.and_branch.specs.Branches.{Held, IsBranchOf}
+use Rattle.std.proofs.Common.{subst}
 use Rattle.and_branch.specs.Finding.{HasFound}
-use Rattle.and_branch.specs.Resting.{IsResting}
 use Rattle.and_branch.specs.declared.finding.Found.{Found}
 use Rattle.and_branch.proofs.LoadedPrograms.{is_loaded}
 use Rattle.and_branch.proofs.StatesFound.{stuck_is, told_fitting, told_heavy}

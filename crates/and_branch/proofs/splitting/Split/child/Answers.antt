@@ -1,8 +1,7 @@
-use Rattle.std.proofs.Common.{◌∷◌, [], ◌++◌, List, ℕ, IfOk, refl, sym, subst, ap, ◌∙◌}
+use Rattle.std.proofs.Common.{◌∷◌, [], ◌++◌, List, ℕ, IfOk, refl, sym, subst, ap, ◌∙◌, inr}
 use Rattle.std.proofs.lemmas.Result.{IfOk-weaker}
-use Rattle.and_branch.specs.Branches.{Held}
 use Rattle.and_branch.specs.Children.{Fork}
-use Rattle.and_branch.specs.Making.{CanBeMade, IsBegun, IsMade}
+use Rattle.and_branch.specs.Making.{CanBeMade, IsMade, noted_from}
 use Rattle.and_branch.specs.States.{numbers}
 use Rattle.and_branch.proofs.ForkReduced.{begun_is}
 use Rattle.and_branch.proofs.splitting.Split.child.Goals as goal
@@ -18,7 +17,7 @@ taking-requires-clause-begun g c =
     } in
     let next = subst (λ (f : Fork). CanBeMade P f c.args.clause.0) (sym c.self.view_is) c.requires.next in
     let key = c.in_ok-push.ensures.ok ∙ ap (λ (l : List ℕ). l ++ c.args.clause.0 ∷ []) c.in_ok-key.ensures in
-    (f, begun_is P f c.args.clause.0 c.self.inside.goal _ _ next refl key c.in_ok-child.ensures)
+    (f, begun_is P f c.args.clause.0 c.self.inside.goal _ (noted_from f.parent.row) _ next refl key (inr refl) c.in_ok-child.ensures)
 
 pub returns : goal.returns
 returns g c =
@@ -31,6 +30,6 @@ returns g c =
     } in
     let next = subst (λ (f : Fork). CanBeMade P f c.args.clause.0) (sym c.self.view_is) c.requires.next in
     let key = c.in_ok-push.ensures.ok ∙ ap (λ (l : List ℕ). l ++ c.args.clause.0 ∷ []) c.in_ok-key.ensures in
-    let begun = begun_is P f c.args.clause.0 c.self.inside.goal _ _ next refl key c.in_ok-child.ensures in
+    let begun = begun_is P f c.args.clause.0 c.self.inside.goal _ (noted_from f.parent.row) _ next refl key (inr refl) c.in_ok-child.ensures in
     subst (λ (f : Fork). IfOk c.taking.result (IsMade P f c.args.clause.0)) c.self.view_is
     (IfOk-weaker c.taking.result _ (IsMade P f c.args.clause.0) (λ b made. made f begun) c.taking.ensures)

@@ -3,6 +3,7 @@ use Rattle.and_histories.specs.PlainTree as plain
 use Rattle.and_tree.specs.Replies.{is_last}
 use Rattle.and_teams.proofs.Having.{key_there, has_ended_under}
 use Rattle.and_teams.proofs.Turns.{works_stepped}
+use Rattle.and_teams.proofs.HandedBack.{ended_as}
 use Rattle.and_teams.proofs.team.Team.explore_alone.Goals as goal
 
 pub go_by-requires-clause-works : goal.go_by-requires-clause-works
@@ -22,3 +23,8 @@ returns-in-Err-clause-has g c =
     let s = c.args.self.now in
     has_ended_under g.N.Naming.program c.args.shared.now.tree.now c.key.result.now c.args.branch s.stack.items plain.given_up
     (is_last c.give_up.result) s.pass c.give_up.new.pass (c.key.ensures ∙ c.advance-state.ensures.same.key) c.give_up.ensures c.requires.works.has
+
+pub returns-in-Ok-clause-ended : goal.returns-in-Ok-clause-ended
+returns-in-Ok-clause-ended g c =
+    ended_as c.args.branch c.advance-state.new.branch c.args.self.now.stack.items c.go_by.new.self.stack.items c.in-Ok.ensures.back
+    c.go_by.result c.go_by.ensures.ended

@@ -8,6 +8,7 @@ use Rattle.and_teams.proofs.Having.{key_there, has_ended_under}
 use Rattle.and_teams.proofs.Sharing.{works_still}
 use Rattle.and_teams.proofs.Turns.{went_well, went_ill}
 use Rattle.and_teams.proofs.NextChild.{has_others_first, has_child_put, has_child_left}
+use Rattle.and_teams.proofs.HandedBack.{ended_goes_back}
 use Rattle.and_teams.proofs.team.Team.explore_next.Goals as goal
 
 pub put-requires-clause-has : goal.put-requires-clause-has
@@ -62,3 +63,13 @@ explore-requires-2-clause-works g c κs within =
     works_still P tree s.pass p.pass s.found p.found _ (One b ∷ p.stack.items) c.requires.works (put.0 ∙ child.0)
     (c.put.ensures.same.1 ∙ c.in_ok-child.ensures.same.1)
     (has_child_put P tree n.pass p.pass b c.in-Some.task c.in_ok-child.rest n.stack.items p.stack.items c.in-Some.is child.1 put)
+
+pub take_in-requires : goal.take_in-requires
+take_in-requires g c =
+    let n = c.next_child.new.self in
+    let p = c.put.new.self in
+    let put = went_well c.put.result (sym c.is_err.ensures.value ∙ c.if-is_err.false) c.put.ensures.put in
+    record {
+      back = ended_goes_back c.in_ok-child.child c.in-Some-2.ended c.in_ok-ended.field-0 c.in-Some.task c.in_ok-child.rest n.stack.items
+          p.stack.items c.explore-2.new.self.stack.items c.in-Some.is c.in_ok-child.ensures.back put.1 c.in-Some-2.is c.in_ok-ended.ensures.ended;
+    }

@@ -8,6 +8,7 @@ use Rattle.and_team_laws.specs.Owed.{SameItems}
 use Rattle.and_teams.specs.Working.{Has}
 use Rattle.and_teams.specs.declared.stack.Task.{Task}
 use Rattle.and_teams.proofs.Having.{all_keys, child_parted, has_given_up, has_no_child}
+use Rattle.and_teams.proofs.HandedBack.{child_goes_back}
 use Rattle.and_teams.proofs.team.Team.next_child.Goals as goal
 
 pub returns-in-Ok-Some-clause-child : goal.returns-in-Ok-Some-clause-child
@@ -17,6 +18,12 @@ returns-in-Ok-Some-clause-child g c =
     let is : c.next.result ≡ Ok (Some c.in-Ok-Some.child) = search rules in
     let child = c.next.ensures.some c.in-Ok-Some.child is in
     (refl, child_parted P c.args.shared.now.tree.now c.args.list c.next.new.self c.in-Ok-Some.child s.stack.items s.pass child c.requires.has)
+
+pub returns-in-Ok-Some-clause-back : goal.returns-in-Ok-Some-clause-back
+returns-in-Ok-Some-clause-back g c =
+    let is : c.next.result ≡ Ok (Some c.in-Ok-Some.child) = search rules in
+    child_goes_back {N = g.row.N.Denot} g.N.Naming.program c.args.list c.next.new.self c.in-Ok-Some.child
+    (c.next.ensures.some c.in-Ok-Some.child is)
 
 pub returns-in-Ok-None-clause-given_up : goal.returns-in-Ok-None-clause-given_up
 returns-in-Ok-None-clause-given_up g c =

@@ -34,3 +34,7 @@ pub fork-requires-clause-state : goal.fork-requires-clause-state
 fork-requires-clause-state g c =
     state_told g.N.Naming.program c.args.branch c.args.state (told.Fork c.in-Fork.goal c.in-Fork.clauses c.in-Fork.cut) c.in-Fork.is
     c.requires.state
+
+pub tell-requires-clause-state : goal.tell-requires-clause-state
+tell-requires-clause-state g c =
+    state_told g.N.Naming.program c.args.branch c.args.state told.Answer c.in-Answer.is c.requires.state

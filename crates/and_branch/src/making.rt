@@ -1,0 +1,132 @@
+//! How the children of a fork begin: as the branch that was split, but for the key.
+//!
+//! The first is a copy. Where a child has ended, the next one is made of it at the cost of what it
+//! changed.
+
+ghost use Rattle.std.specs.Prelude.{◌≡◌, take, OnOk, IfOk, IfSome};
+ghost use Rattle.and_branch.specs.Origins.{GoesBack};
+ghost use Rattle.and_branch.specs.Making.{nothing_noted, noted_from};
+
+use crate::branch::Branch;
+use and_cells::Naming;
+use and_model::{Code, Goal, ReductionList};
+use and_reduction::Trail;
+use std::alloc::{AllocError, Global};
+
+impl<N: Naming> Branch<N> {
+    /// The same branch, but for the key, of whose row nothing is noted. Takes no memory.
+    pub(crate) fn with_key(self, key: Code) -> Branch<N>
+        ensures { result ≡ record self { key = key; trail = nothing_noted } }
+    {
+        let mut branch = self;
+        branch.key = key;
+        branch.trail.forget();
+        branch
+    }
+
+    /// Another branch of the same, but for the key, which notes what is set of its row. It is made of
+    /// the spare, if there is one. An error is want of memory, and the spare is given up.
+    pub(crate) fn again(
+        &self,
+        alloc: Global,
+        key: Code,
+        spare: Option<Branch<N>>,
+    ) -> Result<Branch<N>, AllocError>
+        requires spare { IfSome spare (GoesBack self.now) }
+        ensures { IfOk result (λ b. b ≡ record self.now { key = key; trail = noted_from self.now.row }) }
+    {
+        match spare {
+            Some(spare) => spare.made_into(self, key),
+            None => self.copy_with(alloc, key),
+        }
+    }
+
+    /// The same by a copy.
+    fn copy_with(&self, alloc: Global, key: Code) -> Result<Branch<N>, AllocError>
+        ensures { IfOk result (λ b. b ≡ record self.now { key = key; trail = noted_from self.now.row }) }
+    {
+        let cells = self.cells.copy()?;
+        let reductions = self.reductions.copy()?;
+        let left = Vec::from_slice(alloc, &self.left)?;
+        let right = Vec::from_slice(alloc, &self.right)?;
+        let watched = self.watched.copy(alloc)?;
+        let watches = self.watches.copy(alloc)?;
+        let trail = Trail::begun(alloc, self.cells.len());
+        Ok(Branch {
+            key,
+            limit: self.limit,
+            cells,
+            reductions,
+            left,
+            right,
+            used: self.used,
+            is_failed: self.is_failed,
+            watched,
+            met: self.met,
+            watches,
+            trail,
+        })
+    }
+
+    /// The first branch, but for the key, made of this one.
+    fn made_into(self, first: &Branch<N>, key: Code) -> Result<Branch<N>, AllocError>
+        requires { GoesBack first.now self }
+        ensures { IfOk result (λ b. b ≡ record first.now { key = key; trail = noted_from first.now.row }) }
+    {
+        let mut branch = self;
+        branch.go_back(first);
+        branch.fill_from(first)?;
+        branch.key = key;
+        Ok(branch)
+    }
+
+    /// Goes back to the row and the reductions of the first branch. Takes no memory.
+    fn go_back(&mut self, first: &Branch<N>)
+        requires { GoesBack first.now self.old }
+        ensures { self.new ≡ record self.old { row = first.now.row; reductions = first.now.reductions; trail = noted_from first.now.row } }
+    {
+        let words = first.cells.len();
+        self.cells.take_back(self.trail.cells(), words);
+        self.trail.begin_again(words);
+        cut_off(&mut self.reductions, first.reductions.len());
+    }
+
+    /// Takes over from the first branch whatever does not stand in the row, the reductions or the key. An
+    /// error is want of memory, and the branch is spent.
+    fn fill_from(&mut self, first: &Branch<N>) -> Result<(), AllocError>
+        ensures { OnOk result (self.new ≡ record first.now {
+          key = self.old.key;
+          row = self.old.row;
+          reductions = self.old.reductions;
+          trail = self.old.trail;
+        }) }
+    {
+        copy_goals(&mut self.left, &first.left)?;
+        copy_goals(&mut self.right, &first.right)?;
+        self.watched.fill_from(&first.watched)?;
+        self.watches.fill_from(&first.watches)?;
+        self.met = first.met;
+        self.used = first.used;
+        self.limit = first.limit;
+        self.is_failed = first.is_failed;
+        Ok(())
+    }
+}
+
+/// Makes the one list of goals the same as the other. An error is want of memory.
+fn copy_goals(to: &mut Vec<Goal>, from: &[Goal]) -> Result<(), AllocError>
+    ensures { OnOk result (to.new.items ≡ from.now) }
+{
+    to.clear();
+    to.extend_from_slice(from)?;
+    Ok(())
+}
+
+/// Takes reductions out from the end, until there are so many. Takes no memory.
+fn cut_off(reductions: &mut ReductionList, count: usize)
+    ensures { reductions.new ≡ take count reductions.old }
+{
+    while reductions.len() > count {
+        reductions.pop();
+    }
+}
