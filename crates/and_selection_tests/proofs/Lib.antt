@@ -1,1 +1,2 @@
+pub mod FreeCells
 pub mod QueryCalls

@@ -1,11 +1,12 @@
-//! Goals over plain cells: the clauses that are left of them, and the cells that they wait for.
+//! Goals over plain cells: the clauses that are left of them, their candidates, and the cells that they
+//! wait for.
 
 ghost use Rattle.std.specs.Prelude.{◌≡◌, ◌≤◌};
 ghost use Rattle.and_cells.specs.Parts.{named};
 
 use crate::goals::{FRAME, call_of_query};
 use and_cells::{Bound, Cells, Naming, PlainCells};
-use and_determinacy::compile;
+use and_determinacy::{Trials, candidates_of, compile};
 use and_model::{ClauseList, Ref};
 use and_overlay::Scratch;
 use and_program::Loaded;
@@ -74,17 +75,42 @@ fn told_of<N: Naming>(
     })
 }
 
-/// Whether these are the clauses that are left, and this is the cell that is waited for.
-fn is_told(told: &Told, clauses: &[u16], waits_on: Option<u32>) -> bool {
-    if told.clauses.len() != clauses.len() {
+/// Whether a list has just these clauses, in this order.
+fn are_listed(list: &ClauseList, clauses: &[u16]) -> bool {
+    if list.len() != clauses.len() {
         return false;
     }
     for place in 0..clauses.len() {
-        if told.clauses.at(place).0 != clauses[place] {
+        if list.at(place).0 != clauses[place] {
             return false;
         }
     }
-    told.selected == Selected::Clauses && told.waits_on == waits_on
+    true
+}
+
+/// Whether these are the clauses that are left, and this is the cell that is waited for.
+fn is_told(told: &Told, clauses: &[u16], waits_on: Option<u32>) -> bool {
+    are_listed(&told.clauses, clauses)
+        && told.selected == Selected::Clauses
+        && told.waits_on == waits_on
+}
+
+/// The candidates of a call of the query, by its place in the body, over free cells.
+fn candidates_over_free<N: Naming>(
+    rt: &impl Abort,
+    alloc: Global,
+    loaded: &Loaded,
+    place: u32,
+) -> Result<ClauseList, AllocError>
+    requires program { N.program ≡ named loaded.now }
+{
+    let table = compile(alloc, loaded)?;
+    let mut cells: PlainCells<N> = PlainCells::with(alloc, FRAME)?;
+    let mut trials = Trials::new(alloc);
+    let mut clauses = ClauseList::new(alloc);
+    let goal = call_of_query(rt, loaded, place);
+    candidates_of(&table, loaded, &mut cells, goal, &mut trials, &mut clauses)?;
+    Ok(clauses)
 }
 
 /// Sets a cell to one before it.
@@ -118,6 +144,23 @@ fn calls_are_told<N: Naming>(
     link(rt, &mut cells, 2, 1);
     let linked = told_of(rt, alloc, loaded, &mut cells, 3, 100)?;
     assert!(rt; is_told(&linked, &[4], Some(1)));
+    Ok(())
+}
+
+/// Under a name of its own: clauses 1 and 2 where the argument is free, and those whose heads it is otherwise.
+fn candidates_are_told<N: Naming>(
+    rt: &impl Abort,
+    alloc: Global,
+    loaded: &Loaded,
+) -> Result<(), AllocError>
+    requires program { N.program ≡ named loaded.now }
+{
+    let free = candidates_over_free::<N>(rt, alloc, loaded, 0)?;
+    assert!(rt; are_listed(&free, &[1, 2]));
+    let bound = candidates_over_free::<N>(rt, alloc, loaded, 1)?;
+    assert!(rt; are_listed(&bound, &[2]));
+    let other = candidates_over_free::<N>(rt, alloc, loaded, 2)?;
+    assert!(rt; are_listed(&other, &[]));
     Ok(())
 }
 
@@ -160,6 +203,7 @@ fn select_calls(rt: HostRuntime) -> Result<(), Fail> {
     };
     calls_are_told::<Brand>(&rt, alloc, &loaded)?;
     fuel_runs_out::<Brand>(&rt, alloc, &loaded)?;
+    candidates_are_told::<Brand>(&rt, alloc, &loaded)?;
     Ok(())
 }
 

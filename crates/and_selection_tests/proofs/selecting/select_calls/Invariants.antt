@@ -6,3 +6,6 @@ ghosts-calls_are_told g a = record { program = named a.loaded.now }
 
 abbrev pub ghosts-fuel_runs_out : goal.ghosts-fuel_runs_out
 ghosts-fuel_runs_out g a = record { program = named a.loaded.now }
+
+abbrev pub ghosts-candidates_are_told : goal.ghosts-candidates_are_told
+ghosts-candidates_are_told g a = record { program = named a.loaded.now }
