@@ -10,7 +10,7 @@ runs, the start included), and whether all wrote the same.
 
     yard/figures.py --teams 1 2 4 [--runs N] [--only WORD]
 
-With `--workers` it runs determinate programs by one team of so many workers, and writes the same of them.
+With `--workers` it runs wide determinate programs, and then all of the first table, by one team of so many workers, and writes the same of them.
 
     yard/figures.py --workers 1 2 4 [--runs N] [--only WORD]
 
@@ -102,6 +102,14 @@ def facts(n):
     return "".join(f"p(k{k}, v{k}).\n" for k in range(n)) + f"?- p(k{n - 1}, X), p(k{n // 2}, Y), p(k0, Z).\n"
 
 
+def facts_below(n, words):
+    """A fork of n facts, all but one of which fail, below a row of so many words."""
+    places = ",".join(["_"] * 250)
+    kept = ",".join(f"A{k}" for k in range(250))
+    return (f"wide(0).\nwide(N) :- N > 0, M is N - 1, held({places}), wide(M).\nheld({kept}).\n"
+            + "".join(f"p({k}).\n" for k in range(n)) + f"?- wide({words // 500}), p(X), X > {n - 2}.\n")
+
+
 def colours():
     lands = ["WA", "NT", "SA", "Q", "NSW", "V", "T"]
     borders = [("WA", "NT"), ("WA", "SA"), ("NT", "SA"), ("NT", "Q"), ("SA", "Q"), ("SA", "NSW"), ("SA", "V"), ("Q", "NSW"), ("NSW", "V")]
@@ -154,6 +162,7 @@ PROGRAMS = (
     + [("zebra", ZEBRA, False), ("a map of colours", colours(), False), ("blocks, a planner", BLOCKS, False)]
     + [("crossing, a planner", example("crossing.pl"), False)]
     + [("20,000 facts, three calls", facts(20000), False)]
+    + [("20,000 facts below 100,000 words", facts_below(20000, 100000), False)]
     + [("permutations of 7", permutations(7), False), ("7 pigeons in 6 holes, tests last", pigeons(7), False)]
     + [(f"a term of {n} levels", deep(n), False) for n in (5000, 10000, 20000)]
     + [("a count down from 100,000", count(100000), False)]
@@ -269,7 +278,8 @@ def main():
     if given.teams:
         return 0 if compare(LONG, "--teams", given.teams, given.only, given.runs, given.words) else 1
     if given.workers:
-        return 0 if compare(WIDE, "--workers", given.workers, given.only, given.runs, ["--teams", "1", *given.words]) else 1
+        others = [(name, text) for name, text, _ in PROGRAMS if name not in dict(WIDE)]
+        return 0 if compare(WIDE + others, "--workers", given.workers, given.only, given.runs, ["--teams", "1", *given.words]) else 1
     has_swi = shutil.which("swipl") is not None and not given.skip_swi
     andorra = [PROGRAM, "run", "--limit", "4194304", *given.words]
     _, start, _ = least_on_andorra(andorra, EMPTY, given.runs)
