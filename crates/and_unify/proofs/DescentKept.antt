@@ -2,14 +2,14 @@
 use Rattle.std.proofs.Common.{ℕ, ◌≡◌, ◌≢◌, ◌⊎◌, List, [], ◌∷◌, ◌++◌, Option, Some, None, refl, sym, ap, subst, ◌∙◌, inl, inr}
 use Rattle.std.specs.Prelude.{◌↔◌, Contains, IfSome, IsNone, is_some}
 use Rattle.std.proofs.lemmas.Bool.{true≢false}
-use Rattle.std.proofs.lemmas.List.Elements.{Contains-append_cases, Contains-append_left, Contains-append_right}
+use Rattle.std.proofs.lemmas.List.Elements.{Contains-append_cases}
 use Rattle.and_model.specs.declared.reference.Ref.{Ref}
 use Rattle.and_program.specs.Skeletons.{AllFall}
-use Rattle.and_cells.specs.Ranges.{NamedProgram, IsInRange}
+use Rattle.and_cells.specs.Ranges.{NamedProgram}
 use Rattle.and_cells.specs.Seen.{Seen, OnlyReads}
 use Rattle.and_cells.specs.Parts.{parts_of}
 use Rattle.and_cells.specs.Joined.{same}
-use Rattle.and_laws.proofs.Ordered.{contains_first, contains_more, contains_cases, contains_none}
+use Rattle.and_laws.proofs.Ordered.{contains_none}
 use Rattle.and_cell_laws.proofs.Images.{contains_image, contains_origin}
 use Rattle.and_unify.specs.declared.pairs.Pair.{Pair}
 use Rattle.and_unify.specs.declared.unifying.Unified.{Unified}
@@ -22,9 +22,9 @@ use Rattle.and_unify.specs.Turns.{pairs_of}
 use Rattle.and_unify.specs.Unifying.{Unifies}
 use Rattle.and_unify.specs.Descending.{StepsPlainly, LeadOnFrom, Descends}
 use Rattle.and_unify.proofs.TurnClosed.{Leaves, steps_keep}
-use Rattle.and_unify.proofs.TurnPlaces.{IsFit, place_later, lefts_steps}
+use Rattle.and_unify.proofs.TurnPlaces.{place_later, lefts_steps}
 use Rattle.and_unify.proofs.TurnKept.{SidesAt, Kept, kept_reads, kept_same, kept_steps}
-use Rattle.and_unify.proofs.TurnStands.{IsTodo, begins, stands_first, last_cases, last_was, rest_was, step_list}
+use Rattle.and_unify.proofs.TurnStands.{IsTodo, begins, stands_first, step_list}
 use Rattle.and_unify.proofs.TurnArguments.{steps_down}
 use Rattle.and_unify.proofs.TurnAnswers.{follows_end, left_end, suffice_end, equal_end, range_end, apart_kept, apart_at_kept}
 
@@ -61,64 +61,7 @@ held_begun P first asked began range written = record {
   lefts = λ p at. root p.left (contains_image (λ (p : Pair). p.left) asked p at);
 }
 
--- what is to do with a pair taken out was so before
-out_was : (xs rest : List Pair) (p : Pair) → xs ≡ rest ++ p ∷ [] → (q : Pair) → IsOutOr p rest q → Contains xs q
-out_was xs rest p e q (inl is) = subst (Contains xs) (sym is) (last_was xs rest p e)
-out_was xs rest p e q (inr at) = rest_was xs rest p q e at
-
--- and a pair is taken out,
-pub held_out : (P : NamedProgram) (first : Seen) (asked : List Pair) (began : List ℕ) (s : Seen) (bound : List ℕ) (xs rest : List Pair) (p : Pair) → xs ≡ rest ++ p ∷ []
-    → Held P first asked began s (Contains xs) bound → Held P first asked began s (IsOutOr p rest) bound
-held_out P first asked began s bound xs rest p e h = record {
-  links = h.links;
-  kept = kept_same P first asked began s h.links (Contains xs) (IsOutOr p rest) bound (λ q at. last_cases xs rest p q e at) (out_was xs rest p e) h.kept;
-  lefts = λ q todo. h.lefts q (out_was xs rest p e q todo);
-}
-
--- Of those that are to do one that stands among them is taken out,
-pub held_among : (P : NamedProgram) (first : Seen) (asked : List Pair) (began : List ℕ) (s : Seen) (bound : List ℕ) (front behind rest : List Pair) (p : Pair) → rest ≡ front ++ behind
-    → Held P first asked began s (Contains (front ++ p ∷ behind)) bound → Held P first asked began s (IsOutOr p rest) bound
-held_among P first asked began s bound front behind rest p e h =
-    let to : (q : Pair) → Contains (front ++ p ∷ behind) q → IsOutOr p rest q = λ q at. elim (Contains-append_cases front (p ∷ behind) q at) [
-      | inl one ↦ inr (subst (λ l. Contains l q) (sym e) (Contains-append_left front behind q one))
-      | inr other ↦ elim (contains_cases p q behind other) [
-        | inl is ↦ inl is
-        | inr among ↦ inr (subst (λ l. Contains l q) (sym e) (Contains-append_right front behind q among))
-      ]
-    ] in
-    let from : (q : Pair) → IsOutOr p rest q → Contains (front ++ p ∷ behind) q = λ q todo. elim todo [
-      | inl is ↦ subst (Contains (front ++ p ∷ behind)) (sym is) (Contains-append_right front (p ∷ behind) p (contains_first p behind))
-      | inr at ↦ elim (Contains-append_cases front behind q (subst (λ l. Contains l q) e at)) [
-        | inl one ↦ Contains-append_left front (p ∷ behind) q one
-        | inr other ↦ Contains-append_right front (p ∷ behind) q (contains_more p q behind other)
-      ]
-    ] in record {
-      links = h.links;
-      kept = kept_same P first asked began s h.links (Contains (front ++ p ∷ behind)) (IsOutOr p rest) bound to from h.kept;
-      lefts = λ q todo. h.lefts q (from q todo);
-    }
-
--- or it is put back,
-pub held_back : (P : NamedProgram) (first : Seen) (asked : List Pair) (began : List ℕ) (s : Seen) (bound : List ℕ) (xs rest : List Pair) (p : Pair) → xs ≡ rest ++ p ∷ []
-    → Held P first asked began s (IsOutOr p rest) bound → Held P first asked began s (Contains xs) bound
-held_back P first asked began s bound xs rest p e h = record {
-  links = h.links;
-  kept = kept_same P first asked began s h.links (IsOutOr p rest) (Contains xs) bound (out_was xs rest p e) (λ q at. last_cases xs rest p q e at) h.kept;
-  lefts = λ q at. h.lefts q (last_cases xs rest p q e at);
-}
-
--- which fits,
-pub held_fits : (P : NamedProgram) (first : Seen) (asked : List Pair) (began : List ℕ) (s : Seen) (bound : List ℕ) (rest : List Pair) (p : Pair)
-    → Held P first asked began s (IsOutOr p rest) bound → IsFit P s.words s p
-held_fits P first asked began s bound rest p h =
-    let fit = h.kept.fits p (inl refl) in record {
-      left_in_range = subst (λ n. IsInRange P n p.left) (sym h.kept.keeps.words) fit.left_in_range;
-      right_in_range = subst (λ n. IsInRange P n p.right) (sym h.kept.keeps.words) fit.right_in_range;
-      left_written = fit.left_written;
-      right_written = fit.right_written;
-    }
-
--- and steps.
+-- and it is kept where a pair steps.
 pub held_steps : (P : NamedProgram) (first : Seen) (asked : List Pair) (began : List ℕ) (old new : Seen) (bound further : List ℕ) (rest longer : List Pair) (p : Pair) → AllFall 0 P.skeleton.nodes
     → StepsPlainly P p old new rest longer bound further → Held P first asked began old (IsOutOr p rest) bound → Held P first asked began new (Contains longer) further
 held_steps P first asked began old new bound further rest longer p fall steps h =

@@ -15,6 +15,7 @@ pub mod TurnAnswers
 pub mod TurnArguments
 pub mod TurnPicks
 pub mod DescentKept
+pub mod DescentRuns
 pub mod DescentThen
 pub mod SettlingEnds
 pub mod SettlingSeen

@@ -244,3 +244,13 @@ both_followed P left right one other old mid new a b = record {
   one_written = written_later mid new one b.reads.keeps a.written;
   other_written = b.written;
 }
+
+-- where the left chain was followed, and the right side is a cell that took what it led to
+pub taken : (P : NamedProgram) (left right to : Ref) (cell : ℕ) (old mid new : Seen) → right ≡ Cell cell → IsInRange P old.words right → Followed P left to old mid → IsToBeSet cell (Cell cell) to
+    → Sets cell to mid new → MeetFree P left right cell old new
+taken P left right to cell old mid new is fits followed set sets =
+    let below : cell < old.words = subst (IsInRange P old.words) is fits in
+    let own : IsInRangeOrHalf P mid.words right = subst (IsInRangeOrHalf P mid.words) (sym is) (subst (λ n. cell < n) (sym followed.reads.words) below) in
+    let to_fits : IsInRangeOrHalf P mid.words to = subst (λ n. IsInRangeOrHalf P n to) (sym followed.reads.words) followed.in_range in
+    free_on P left right to right cell old mid new (record { reads = followed.reads; left_leads = followed.leads; right_leads = here right })
+    (free_right P to right cell cell mid new (record { is = is; no_half = set.no_half; falls = set.falls }) own to_fits followed.written sets refl)

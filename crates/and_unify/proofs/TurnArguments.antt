@@ -1,5 +1,5 @@
 -- The pairs of the arguments of two structures, one after the other.
-use Rattle.std.proofs.Common.{ℕ, zero, suc, ◌+◌, ◌≡◌, ◌<◌, ◌≤◌, List, [], ◌∷◌, ◌++◌, length, map, get_or, take, drop, slice_get, Some, refl, sym, ap, subst, ◌∙◌, ◌⊎◌, inl, inr, arith, append_assoc}
+use Rattle.std.proofs.Common.{ℕ, zero, suc, ◌+◌, ◌≡◌, ◌<◌, ◌≤◌, List, [], ◌∷◌, ◌++◌, length, map, get_or, take, slice_get, Some, refl, sym, ap, subst, ◌∙◌, ◌⊎◌, inl, inr, arith, append_assoc}
 use Rattle.std.proofs.lemmas.Option.{get_or_from_slice_get, slice_get_within}
 use Rattle.std.proofs.lemmas.List.{length-append, length-take-le, take_all}
 use Rattle.std.proofs.lemmas.List as list
@@ -15,7 +15,7 @@ use Rattle.and_unify.specs.declared.pairs.Pair.{Pair}
 use Rattle.and_cells.specs.Seen.{Seen}
 use Rattle.and_unify.specs.Meeting.{AreOfOneShape, MeetStructures}
 use Rattle.and_unify.specs.Classes.{InOneClass, Joins}
-use Rattle.and_unify.specs.Turns.{Steps, one_class, joins, pairs_of, Splits}
+use Rattle.and_unify.specs.Turns.{Steps, one_class, joins, pairs_of}
 
 -- an element of a mapped list
 slice_get_map : {X Y : Type 0} (f : X → Y) (xs : List X) (k : ℕ) (d : X) → k < length xs → slice_get (map f xs) k ≡ Some (f (get_or xs k d))
@@ -85,46 +85,6 @@ list_whole P before after one other name count k left right all is =
     let first : length (parts_of P one) ≡ count = parts_counted P one name count left in
     let second : length (parts_of P other) ≡ count = parts_counted P other name count right in
     is ∙ ap (λ xs. before ++ pairs_of xs (take k (parts_of P other))) (take_all k (parts_of P one) (omega arith)) ∙ ap (λ ys. before ++ pairs_of (parts_of P one) ys) (take_all k (parts_of P other) (omega arith))
-
--- What is behind the first of some pairs gains what they gain.
-drop_push : (rs qs : List Ref) (k : ℕ) (p : Pair) → 1 ≤ k → k < length rs → k < length qs
-    → drop 1 (pairs_of (take k rs) (take k qs) ++ p ∷ []) ≡ drop 1 (pairs_of (take k rs) (take k qs)) ++ p ∷ []
-drop_push rs qs zero p some left right = absurd (omega arith)
-drop_push [] qs (suc k) p some left right = absurd (omega arith)
-drop_push (r ∷ rs) [] (suc k) p some left right = absurd (omega arith)
-drop_push (r ∷ rs) (q ∷ qs) (suc k) p some left right = refl
-
--- A list that gained the pairs behind the first gains one more.
-pub split_more : (before mid after : List Pair) (rs qs : List Ref) (k : ℕ) (r q : Ref) → 1 ≤ k → slice_get rs k ≡ Some r → slice_get qs k ≡ Some q
-    → mid ≡ before ++ drop 1 (pairs_of (take k rs) (take k qs)) → after ≡ mid ++ record { left = r; right = q } ∷ [] → after ≡ before ++ drop 1 (pairs_of (take (k + 1) rs) (take (k + 1) qs))
-split_more before mid after rs qs k r q some hr hq is gains =
-    let p : Pair = record { left = r; right = q } in
-    let left : k < length rs = slice_get_within rs k r hr in
-    let right : k < length qs = slice_get_within qs k q hq in
-    gains ∙ ap (λ l. l ++ p ∷ []) is ∙ append_assoc before (drop 1 (pairs_of (take k rs) (take k qs))) (p ∷ []) ∙ ap (λ ps. before ++ ps) (sym (drop_push rs qs k p some left right))
-    ∙ ap (λ ps. before ++ drop 1 ps) (sym (pairs_more rs qs k r q hr hq))
-
--- the first of the pairs, and what is behind it
-split_at_first : (rs qs : List Ref) (r q : Ref) → slice_get rs 0 ≡ Some r → slice_get qs 0 ≡ Some q → pairs_of rs qs ≡ record { left = r; right = q } ∷ drop 1 (pairs_of rs qs)
-split_at_first [] qs r q left right = absurd (cc)
-split_at_first (x ∷ rs) [] r q left right = absurd (cc)
-split_at_first (x ∷ rs) (y ∷ qs) r q left right =
-    let one : x ≡ r = cc in
-    let other : y ≡ q = cc in
-    ap (λ (z : Ref). record { left = z; right = y } ∷ pairs_of rs qs) one ∙ ap (λ (z : Ref). record { left = r; right = z } ∷ pairs_of rs qs) other
-
--- All were split at the end.
-pub split_whole : (P : NamedProgram) (before after : List Pair) (one other : Ref) (name count k : ℕ) (r q : Ref) → IsStructure P one name count → IsStructure P other name count → count ≤ k
-    → slice_get (parts_of P one) 0 ≡ Some r → slice_get (parts_of P other) 0 ≡ Some q → after ≡ before ++ drop 1 (pairs_of (take k (parts_of P one)) (take k (parts_of P other)))
-    → Splits (pairs_of (parts_of P one) (parts_of P other)) before after (Some (record { left = r; right = q }))
-split_whole P before after one other name count k r q left right all hr hq is =
-    let first : length (parts_of P one) ≡ count = parts_counted P one name count left in
-    let second : length (parts_of P other) ≡ count = parts_counted P other name count right in (
-      drop 1 (pairs_of (parts_of P one) (parts_of P other)),
-      split_at_first (parts_of P one) (parts_of P other) r q hr hq,
-      is ∙ ap (λ xs. before ++ drop 1 (pairs_of xs (take k (parts_of P other)))) (take_all k (parts_of P one) (omega arith))
-          ∙ ap (λ ys. before ++ drop 1 (pairs_of (parts_of P one) ys)) (take_all k (parts_of P other) (omega arith)),
-    )
 
 -- how many arguments a structure has
 pub arguments_counted : (P : NamedProgram) (one : Ref) (node : NodeNo) (base name count : ℕ) → one ≡ Node node base → IsStructure P one name count → length (arguments_at P.skeleton node.0) ≡ count

@@ -9,3 +9,4 @@ pub mod Classes
 pub mod Turns
 pub mod Setting
 pub mod Descending
+pub mod Running

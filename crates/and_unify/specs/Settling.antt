@@ -1,14 +1,14 @@
 -- Rows to which frames were added, and what settling comes to.
-use Rattle.std.specs.Prelude.{ℕ, ◌<◌, ◌≤◌, ◌≡◌, ◌++◌, true, List, length, All}
+use Rattle.std.specs.Prelude.{ℕ, ◌<◌, ◌≤◌, ◌≡◌, ◌++◌, true, false, List, length, All}
 use Rattle.and_model.specs.Solutions.{Equation, Solvable}
 use Rattle.and_model.specs.Store.{is_half}
 use Rattle.and_model.specs.declared.reference.Ref.{Ref}
-use Rattle.and_model.specs.declared.reference.Ref.TheVariants.{Free}
+use Rattle.and_model.specs.declared.reference.Ref.TheVariants.{Free, Cell}
 use Rattle.and_cells.specs.Ranges.{NamedProgram}
 use Rattle.and_cells.specs.Rows.{plain}
 use Rattle.and_cells.specs.Seen.{word_at, IsSetTo, Keeps}
 use Rattle.and_cells.specs.Meaning.{IsSettled, shallow_cells, equations_of}
-use Rattle.and_cells.specs.Ends.{IsBelow}
+use Rattle.and_cells.specs.Ends.{IsBelow, Ends}
 use Rattle.and_cells.specs.Solved.{IsMostGeneral}
 use Rattle.and_unify.specs.declared.pairs.Pair.{Pair}
 use Rattle.and_unify.specs.declared.settling.Settled.{Settled}
@@ -33,6 +33,10 @@ pub record AreNewFrom (P : NamedProgram) (row : List Ref) (pairs : List Pair) (f
   pub free : (cell : ℕ) → floor ≤ cell → word_at row cell ≡ Free
   pub named_below : (cell : ℕ) (r : Ref) → IsSetTo row cell r → NamesBelow P floor r
   pub sides : All (λ (p : Pair). KeepsBelow P floor p.left × KeepsBelow P floor p.right) pairs
+
+-- Each path from the cell ends: from one below the floor to any, and from others where it comes below the floor, if not before.
+abbrev pub EndsFrom : NamedProgram → List Ref → (floor cell : ℕ) → Type 0
+EndsFrom P row floor cell = (cell < floor → Ends P row 0 false (Cell cell)) × (floor ≤ cell → Ends P row floor false (Cell cell))
 
 -- What settling comes to, from what the cells were and the pairs.
 pub record Settles (P : NamedProgram) (old new : List Ref) (pairs : List Pair) (answer : Settled) : Type 0 where

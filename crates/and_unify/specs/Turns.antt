@@ -1,5 +1,5 @@
 -- What one turn of unification does to what is still to be done.
-use Rattle.std.specs.Prelude.{ℕ, suc, ◌≡◌, ◌⊎◌, ◌+◌, ◌-◌, ◌*◌, ◌^◌, List, [], ◌∷◌, ◌++◌, length, Option, Some, None, Contains}
+use Rattle.std.specs.Prelude.{ℕ, suc, ◌≡◌, ◌⊎◌, ◌+◌, ◌-◌, ◌*◌, ◌^◌, List, [], ◌∷◌, ◌++◌, length, Contains}
 use Rattle.and_model.specs.declared.reference.Ref.{Ref}
 use Rattle.and_cells.specs.Ranges.{NamedProgram}
 use Rattle.and_cells.specs.Seen.{Seen, OnlyReads, LeadsTo}
@@ -14,11 +14,6 @@ abbrev pub pairs_of : List Ref → List Ref → List Pair
 pairs_of [] qs = []
 pairs_of (r ∷ rs) [] = []
 pairs_of (r ∷ rs) (q ∷ qs) = record { left = r; right = q } ∷ pairs_of rs qs
-
--- The first of these pairs is taken, if there is one, and the others go on a list.
-abbrev pub Splits : List Pair → (old new : List Pair) → Option Pair → Type 0
-Splits all old new None = (all ≡ []) × (new ≡ old)
-Splits all old new (Some first) = (rest : List Pair) × (all ≡ first ∷ rest) × (new ≡ old ++ rest)
 
 -- What becomes of a pair: what is seen, the links, a list that takes the pairs of arguments, and the cells that were set.
 -- Its sides are alike, or one is set to the other; or they are structures of one class, or of two that are joined.

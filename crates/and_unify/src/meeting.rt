@@ -4,7 +4,7 @@ ghost use Rattle.std.specs.Prelude.{◌≡◌, ◌≢◌, ◌⊎◌, ℕ, true, 
 ghost use Rattle.and_model.specs.Store.{is_half};
 ghost use Rattle.and_model.specs.declared.reference.Ref.{Ref};
 ghost use Rattle.and_cells.specs.Ranges.{IsInRange, IsInRangeOrHalf};
-ghost use Rattle.and_cells.specs.Seen.{Keeps, IsWrittenIfNumber};
+ghost use Rattle.and_cells.specs.Seen.{Keeps, OnlyReads, LeadsTo, IsWrittenIfNumber};
 ghost use Rattle.and_cells.specs.Parts.{named};
 ghost use Rattle.and_unify.specs.Heads.{IsEnd};
 ghost use Rattle.and_unify.specs.Meeting.{IsToBeSet, GoesOn, MeetAlike, MeetFree, MeetStructures, MeetApart};
@@ -70,13 +70,50 @@ pub(crate) fn meet<C: Cells>(loaded: &Loaded, cells: &mut C, left: Ref, right: R
         → MeetApart C.program left right (C.seen cells.old) (C.seen cells.new) one other }
 {
     let mut one = deref(cells, left);
-    let mut other = deref(cells, right);
+    let mut other = end_beside(cells, one, right);
     loop {
         match try_both(loaded, cells, one, other) {
             Tried::Done(met) => return met,
             Tried::LeftIs(set) => one = set,
             Tried::RightIs(set) => other = set,
         }
+    }
+}
+
+/// What a reference leads to, or itself where it is a cell that can be set to another, if it is free.
+fn end_beside<C: Cells>(cells: &mut C, one: Ref, from: Ref) -> Ref
+    requires in_range { IsInRange C.program (C.seen cells.old).words from }
+    requires written { IsWrittenIfNumber (C.seen cells.old) from }
+    ensures over { C.over cells.new ≡ C.over cells.old }
+    ensures grew { C.Grew cells.old cells.new }
+    ensures reads { OnlyReads (C.seen cells.old) (C.seen cells.new) }
+    ensures leads { LeadsTo (C.seen cells.new) from result }
+    ensures in_range { IsInRangeOrHalf C.program (C.seen cells.old).words result }
+    ensures written { IsWrittenIfNumber (C.seen cells.new) result }
+{
+    if may_be_set(from, one) {
+        return from;
+    }
+    deref(cells, from)
+}
+
+/// Whether a reference is a cell that can be set to another, if it is free: to no word of a pair, and to
+/// no cell that has the same or a larger number.
+fn may_be_set(from: Ref, to: Ref) -> bool {
+    match from {
+        Ref::Cell(cell) => may_hold(cell, to),
+        Ref::Free | Ref::Node { .. } | Ref::Number(_) | Ref::Half(_) => false,
+    }
+}
+
+/// Whether a cell can be set to a reference, if it is free.
+pub(crate) fn may_hold(cell: u32, to: Ref) -> bool
+    ensures { result ≡ true → IsToBeSet cell (Ref.Cell cell) to }
+{
+    match to {
+        Ref::Cell(other) => other < cell,
+        Ref::Node { .. } | Ref::Number(_) => true,
+        Ref::Free | Ref::Half(_) => false,
     }
 }
 

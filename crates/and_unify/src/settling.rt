@@ -1,6 +1,6 @@
 //! Unification with the occurs check over plain cells.
 
-ghost use Rattle.std.specs.Prelude.{◌≡◌, ◌≢◌, ◌<◌, ◌≤◌, ℕ, [], length, take, true, false, IfOk, Ok, Contains, All};
+ghost use Rattle.std.specs.Prelude.{◌≡◌, ◌≢◌, ◌<◌, ◌≤◌, ◌⊎◌, ℕ, [], length, take, true, false, IfOk, Ok, Contains, All};
 ghost use Rattle.and_model.specs.Store.{is_half};
 ghost use Rattle.and_model.specs.Terms.{Substitution};
 ghost use Rattle.and_model.specs.Solutions.{Solves, Solvable};
@@ -11,14 +11,14 @@ ghost use Rattle.and_cells.specs.Seen.{word_at};
 ghost use Rattle.and_cells.specs.Rows.{plain, IsSound};
 ghost use Rattle.and_cells.specs.Meaning.{IsSettled, equations_of, shallow_cells};
 ghost use Rattle.and_cells.specs.Parts.{named};
-ghost use Rattle.and_cells.specs.Ends.{Ends};
+ghost use Rattle.and_cells.specs.Ends.{IsBelow, Ends};
 ghost use Rattle.and_circles.specs.Explored.{AreFinished};
 ghost use Rattle.and_unify.specs.Pairs.{AreInRange, AreWritten, NameNoHalf};
 ghost use Rattle.and_unify.specs.Setting.{HaveBeenSet};
-ghost use Rattle.and_unify.specs.Settling.{equations_with, AreNewFrom, Settles};
+ghost use Rattle.and_unify.specs.Settling.{equations_with, AreNewFrom, EndsFrom, Settles};
 ghost use Rattle.and_unify.specs.declared.pairs.Pair.{Pair};
 
-use crate::descending::{equate, later_node};
+use crate::descending::equate;
 use crate::pairs::PairList;
 use crate::unifying::Unified;
 use and_cells::{Naming, PlainCells};
@@ -30,6 +30,15 @@ use std::marker::Model;
 
 /// So many places more than a row has words are followed before marks are kept of places.
 const SMALL_TERM: u64 = 64;
+
+/// How many places may be followed before marks are kept of places.
+#[derive(Clone, Copy, PartialEq, Eq, Debug)]
+struct Budget {
+    /// So many places more.
+    places: u64,
+    /// The greatest number of a node for which places were granted.
+    node: u32,
+}
 
 /// What the equations of cells and pairs came to.
 #[derive(Clone, Copy, PartialEq, Eq, Debug)]
@@ -105,9 +114,9 @@ impl Solver {
     ///
     /// Explored are what the new bindings of cells below the floor lead to, and what the others lead
     /// to above the floor, and nothing else of the row. At first as many places are followed as the row
-    /// has words, and 64 more, the same place perhaps several times. What is left then is explored with
-    /// marks, so that no place is explored twice. Where the pairs have no solution, the cells that were
-    /// set can be freed again.
+    /// has words, and 64 more, and as the greatest node to which a cell that is followed is set has a
+    /// number, the same place perhaps several times. What is left then is explored with marks, so that no
+    /// place is explored twice. Where the pairs have no solution, the cells that were set can be freed again.
     pub fn settle_further<N: Naming>(
         &mut self,
         loaded: &Loaded,
@@ -195,85 +204,149 @@ fn judge<N: Naming>(
     ensures no_solution { result ≡ Settled.NoSolution → Solvable (equations_of N.program cells.now) → ⊥ }
     ensures sound { IsSound N.program cells.now }
 {
-    let words = cells.len();
-    let mut most = u64::from(words) + u64::from(greatest_node(cells, bound)) + SMALL_TERM;
-    match bound_end(loaded, cells, 0, bound, floor, &mut most, visits) {
-        Ok(true) => match bound_end(loaded, cells, floor, bound, words, &mut most, visits) {
-            Ok(true) => Settled::Solved,
-            Ok(false) => Settled::NoSolution,
-            Err(_) => Settled::Memory,
-        },
+    let mut budget = Budget {
+        places: u64::from(cells.len()) + SMALL_TERM,
+        node: 0,
+    };
+    match bound_end(loaded, cells, floor, bound, &mut budget, visits) {
+        Ok(true) => Settled::Solved,
         Ok(false) => Settled::NoSolution,
         Err(_) => Settled::Memory,
     }
 }
 
-/// The greatest number of a node that one of these cells is set to. The term of a node has no more nodes
-/// than its number says, as arguments come before their nodes.
-fn greatest_node<N: Naming>(cells: &PlainCells<N>, bound: &[u32]) -> u32 {
-    let mut greatest = 0;
-    for cell in bound {
-        if *cell < cells.len() {
-            greatest = later_node(greatest, cells.word(*cell));
+/// Grants places for the node that a word names, beyond those that were granted before. The term of a
+/// node has no more nodes than its number says, as arguments come before their nodes.
+fn grant(budget: &mut Budget, word: Ref) {
+    if let Ref::Node { node, .. } = word {
+        if node.0 > budget.node {
+            budget.places = budget
+                .places
+                .saturating_add(u64::from(node.0 - budget.node));
+            budget.node = node.0;
         }
     }
-    greatest
 }
 
-/// Whether each path ends that begins at a cell of the list before `end`, where each that comes
-/// below `floor` ends there. Paths are followed by `most` places before marks are kept of places.
+/// Whether each path ends that begins at a cell of the list, where those from cells that are not below
+/// the floor end where they come below it. Paths are followed by the budget before marks are kept of places.
 fn bound_end<N: Naming>(
     loaded: &Loaded,
     cells: &PlainCells<N>,
     floor: u32,
     bound: &[u32],
-    end: u32,
-    most: &mut u64,
+    budget: &mut Budget,
     visits: &mut Vec<Ref>,
 ) -> Result<bool, AllocError>
     requires program { N.program ≡ named loaded.now }
     requires in_row { All (λ (cell : ℕ). cell < length cells.now) bound.now }
-    ensures ends { result ≡ Ok true → (cell : ℕ) → Contains bound.now cell → cell < end
+    ensures below { result ≡ Ok true → (cell : ℕ) → Contains bound.now cell → cell < floor
+        → is_half (word_at cells.now cell) ≡ false → Ends N.program cells.now 0 false (Ref.Cell cell) }
+    ensures above { result ≡ Ok true → (cell : ℕ) → Contains bound.now cell
         → is_half (word_at cells.now cell) ≡ false → Ends N.program cells.now floor false (Ref.Cell cell) }
     ensures no_solution { result ≡ Ok false → Solvable (equations_of N.program cells.now) → ⊥ }
 {
-    let seen = seen_to_end(loaded, cells, floor, bound, end, most, visits)?;
+    let seen = seen_to_end(loaded, cells, floor, bound, budget, visits)?;
     if seen == bound.len() {
         return Ok(true);
     }
-    explored_end(
-        *visits.allocator(),
-        loaded,
-        cells,
-        floor,
-        &bound[seen..],
-        end,
-    )
+    explored_from(*visits.allocator(), loaded, cells, floor, &bound[seen..])
 }
 
-/// How many of the cells of the list are seen to lead to paths that end, up to the first that is not,
-/// where cells from `end` on are passed.
+/// The same, where marks are kept of places from the beginning.
+fn explored_from<N: Naming>(
+    alloc: Global,
+    loaded: &Loaded,
+    cells: &PlainCells<N>,
+    floor: u32,
+    bound: &[u32],
+) -> Result<bool, AllocError>
+    requires program { N.program ≡ named loaded.now }
+    requires in_row { All (λ (cell : ℕ). cell < length cells.now) bound.now }
+    ensures below { result ≡ Ok true → (cell : ℕ) → Contains bound.now cell → cell < floor
+        → is_half (word_at cells.now cell) ≡ false → Ends N.program cells.now 0 false (Ref.Cell cell) }
+    ensures above { result ≡ Ok true → (cell : ℕ) → Contains bound.now cell
+        → is_half (word_at cells.now cell) ≡ false → Ends N.program cells.now floor false (Ref.Cell cell) }
+    ensures no_solution { result ≡ Ok false → Solvable (equations_of N.program cells.now) → ⊥ }
+{
+    let words = cells.len();
+    if !explored_end(alloc, loaded, cells, 0, bound, floor)? {
+        return Ok(false);
+    }
+    explored_end(alloc, loaded, cells, floor, bound, words)
+}
+
+/// How many of the cells of the list are seen to lead to paths that end, up to the first that is not:
+/// below the floor to any, and else to what comes below it.
 fn seen_to_end<N: Naming>(
     loaded: &Loaded,
     cells: &PlainCells<N>,
     floor: u32,
     bound: &[u32],
-    end: u32,
-    most: &mut u64,
+    budget: &mut Budget,
     visits: &mut Vec<Ref>,
 ) -> Result<usize, AllocError>
     requires program { N.program ≡ named loaded.now }
     requires in_row { All (λ (cell : ℕ). cell < length cells.now) bound.now }
-    ensures { IfOk result (λ seen. (seen ≤ length bound.now)
-        × All (λ (cell : ℕ). cell < end → Ends N.program cells.now floor false (Ref.Cell cell)) (take seen bound.now)) }
+    ensures { IfOk result (λ seen. (seen ≤ length bound.now) × All (EndsFrom N.program cells.now floor) (take seen bound.now)) }
 {
     for place in 0..bound.len() {
         let cell = bound[place];
-        if cell < end && !ends_soon(loaded, cells, floor, Ref::Cell(cell), most, visits)? {
+        let from = floor_beside(cell, floor);
+        if !is_seen_to_end(loaded, cells, from, cell, budget, visits)? {
             return Ok(place);
         }
     }
     Ok(bound.len())
+}
+
+/// Where paths from a cell are at their end: below the floor, and nowhere where the cell is below it.
+fn floor_beside(cell: u32, floor: u32) -> u32
+    ensures below { cell < floor → result ≡ 0 }
+    ensures above { floor ≤ cell → result ≡ floor }
+{
+    if cell < floor { 0 } else { floor }
+}
+
+/// Whether each path from a cell is seen to end, at once or by the budget.
+fn is_seen_to_end<N: Naming>(
+    loaded: &Loaded,
+    cells: &PlainCells<N>,
+    floor: u32,
+    cell: u32,
+    budget: &mut Budget,
+    visits: &mut Vec<Ref>,
+) -> Result<bool, AllocError>
+    requires program { N.program ≡ named loaded.now }
+    requires in_row { cell < length cells.now }
+    ensures { result ≡ Ok true → Ends N.program cells.now floor false (Ref.Cell cell) }
+{
+    let word = cells.word(cell);
+    if is_end(floor, word) {
+        return Ok(true);
+    }
+    grant(budget, word);
+    ends_soon(
+        loaded,
+        cells,
+        floor,
+        Ref::Cell(cell),
+        &mut budget.places,
+        visits,
+    )
+}
+
+/// Whether a path from a cell that has this word ends at once: where the word is free, a number, or below the floor.
+fn is_end(floor: u32, word: Ref) -> bool
+    ensures { result ≡ true → (word ≡ Ref.Free) ⊎ ((pair : ℕ) × (word ≡ Ref.Number pair)) ⊎ IsBelow floor word }
+{
+    match word {
+        Ref::Free => true,
+        Ref::Number(_) => true,
+        Ref::Cell(cell) => cell < floor,
+        Ref::Node { base, .. } => base < floor,
+        Ref::Half(_) => false,
+    }
 }
 
 /// Whether each path ends that begins at a cell of the list before `end`, where each that comes

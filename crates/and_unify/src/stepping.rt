@@ -1,6 +1,6 @@
 //! One pair in its turn: it is met, and the arguments of structures that are made equal come to do.
 
-ghost use Rattle.std.specs.Prelude.{◌≡◌, ◌≢◌, ◌⊎◌, ◌<◌, ◌≤◌, ◌+◌, ◌^◌, [], ◌∷◌, ◌++◌, ℕ, length, slice_get, Some, IfOk, OnOk, vec_len, vec_capacity};
+ghost use Rattle.std.specs.Prelude.{◌≡◌, ◌≢◌, ◌⊎◌, ◌<◌, ◌≤◌, ◌+◌, ◌^◌, [], ◌∷◌, ◌++◌, ℕ, length, slice_get, Some, OnOk, vec_len, vec_capacity};
 ghost use Rattle.and_model.specs.declared.reference.Ref.{Ref};
 ghost use Rattle.and_program.specs.Loaded.{skeleton_of, arguments_at};
 ghost use Rattle.and_cells.specs.Ranges.{IsInRange};
@@ -10,7 +10,7 @@ ghost use Rattle.and_model.specs.declared.numbers.NodeNo.{NodeNo};
 ghost use Rattle.and_unify.specs.Classes.{InOneClass, Joins};
 ghost use Rattle.and_unify.specs.Meeting.{MeetApart};
 ghost use Rattle.and_unify.specs.Meeting.{AreOfOneShape};
-ghost use Rattle.and_unify.specs.Turns.{pairs_of, Splits, Steps, weight};
+ghost use Rattle.and_unify.specs.Turns.{pairs_of, Steps, weight};
 
 use crate::classes::Classes;
 use crate::meeting::{Met, meet};
@@ -33,9 +33,9 @@ pub(crate) enum Stepped {
 
 /// A structure: its node, and where its frame begins.
 #[derive(Clone, Copy, PartialEq, Eq, Debug)]
-struct Structure {
-    node: NodeNo,
-    base: u32,
+pub(crate) struct Structure {
+    pub(crate) node: NodeNo,
+    pub(crate) base: u32,
 }
 
 /// Meets the sides of a pair. A cell that is set goes on the list `bound`, and where structures of two
@@ -61,7 +61,7 @@ pub(crate) fn step<C: Cells>(
     ensures lighter { result ≡ Stepped.Done → weight classes.new list.new ≤ weight classes.old list.old }
 {
     // Room for a cell is made before one is set, so that each that is set goes on the list.
-    if bound.reserve(1).is_err() {
+    if make_room(bound).is_err() {
         return Stepped::Memory;
     }
     match meet(loaded, cells, pair.left, pair.right) {
@@ -75,14 +75,23 @@ pub(crate) fn step<C: Cells>(
     }
 }
 
+/// Makes room for one cell more, where the list has none. An error is want of memory.
+pub(crate) fn make_room(bound: &mut Vec<u32>) -> Result<(), AllocError>
+    ensures items { bound.new.items ≡ bound.old.items }
+    ensures room { OnOk result (vec_len bound.new < vec_capacity bound.new) }
+{
+    if bound.len() == bound.capacity() {
+        bound.reserve(1)?;
+    }
+    Ok(())
+}
+
 /// Puts a cell on the list, which has room for it.
 pub(crate) fn note(bound: &mut Vec<u32>, cell: u32)
     requires { vec_len bound.old < vec_capacity bound.old }
     ensures { bound.new.items ≡ bound.old.items ++ cell ∷ [] }
 {
-    if bound.push(cell).is_err() {
-        unreachable!();
-    }
+    bound.push_reserved(cell);
 }
 
 /// Joins the classes of two structures of one shape, and where these were two, puts the pairs of their
@@ -131,35 +140,24 @@ pub(crate) fn push_arguments(
     Ok(())
 }
 
-/// The pair of the first arguments of two structures of one shape, if they have any. The pairs of the
-/// others go on the list. An error is want of memory.
-pub(crate) fn split_arguments(
-    loaded: &Loaded,
-    left: Ref,
-    right: Ref,
-    list: &mut PairList,
-) -> Result<Option<Pair>, AllocError>
-    requires { (words : ℕ) × AreOfOneShape (named loaded.now) words left right }
-    ensures { IfOk result (Splits (pairs_of (parts_of (named loaded.now) left) (parts_of (named loaded.now) right)) list.old list.new) }
+/// The pair of the arguments of two structures at a place.
+pub(crate) fn argument_pair(loaded: &Loaded, left: Structure, right: Structure, place: u8) -> Pair
+    requires left { left.node.0 < length (skeleton_of loaded.now).nodes }
+    requires right { right.node.0 < length (skeleton_of loaded.now).nodes }
+    requires bases { left.base < 2 ^ 23 × right.base < 2 ^ 23 }
+    requires left_place { place < length (arguments_at (skeleton_of loaded.now) left.node.0) }
+    requires right_place { place < length (arguments_at (skeleton_of loaded.now) right.node.0) }
+    ensures left { slice_get (parts_of (named loaded.now) (Ref.Node left.node left.base)) place ≡ Some result.left }
+    ensures right { slice_get (parts_of (named loaded.now) (Ref.Node right.node right.base)) place ≡ Some result.right }
 {
-    let left = as_structure(left);
-    let right = as_structure(right);
-    let count = argument_count(loaded, left.node);
-    if count == 0 {
-        return Ok(None);
+    Pair {
+        left: part(loaded, left, place),
+        right: part(loaded, right, place),
     }
-    let first = Pair {
-        left: part(loaded, left, 0),
-        right: part(loaded, right, 0),
-    };
-    for place in 1..count {
-        list.push(part(loaded, left, place), part(loaded, right, place))?;
-    }
-    Ok(Some(first))
 }
 
 /// The structure that a reference names.
-fn as_structure(reference: Ref) -> Structure
+pub(crate) fn as_structure(reference: Ref) -> Structure
     requires { (node : NodeNo) × (base : ℕ) × (reference ≡ Ref.Node node base) }
     ensures { reference ≡ Ref.Node result.node result.base }
 {
@@ -173,7 +171,7 @@ fn as_structure(reference: Ref) -> Structure
 }
 
 /// How many arguments a node has.
-fn argument_count(loaded: &Loaded, node: NodeNo) -> u8
+pub(crate) fn argument_count(loaded: &Loaded, node: NodeNo) -> u8
     requires { node.0 < length (skeleton_of loaded.now).nodes }
     ensures { result ≡ length (arguments_at (skeleton_of loaded.now) node.0) }
 {

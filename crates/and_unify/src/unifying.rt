@@ -18,8 +18,8 @@ use and_model::Ref;
 use and_program::Loaded;
 use std::alloc::Global;
 
-/// So many pairs more than the greatest node among them has a number are met plainly before classes are made.
-const PLAIN_PAIRS: u64 = 1024;
+/// So many structures more than the greatest node among pairs has a number are descended into plainly before classes are made.
+const PLAIN_STRUCTURES: u64 = 1024;
 
 /// What became of pairs.
 #[derive(Clone, Copy, PartialEq, Eq, Debug)]
@@ -37,8 +37,9 @@ pub enum Unified {
 
 /// Makes the pairs equal in the most general way, without looking for circles.
 ///
-/// At first so many pairs are met plainly at most as the greatest node that the pairs name has a number, and
-/// 1024 more, unless there is less fuel than that; they take none of it. Of what is left then, each place of
+/// At first pairs are met plainly, by a descent into so many structures at most as the greatest node that the
+/// pairs name has a number, and 1024 more, or into none if there is less fuel than that; it takes none of the
+/// fuel. Of what is left then, each place of
 /// the left sides takes 1 of the fuel when it is first come to, and nothing later, however often it is come
 /// to. So the fuel is never used up with a pair left where the left sides have at most as many places as
 /// there was fuel.
@@ -60,7 +61,7 @@ pub fn unify<C: Cells>(
     ensures spends { Spends C.program (C.seen cells.new) pairs.old pairs.new fuel.old fuel.new result }
 {
     let mut bound = Vec::new(alloc);
-    let most = u64::from(greatest_node(pairs)) + PLAIN_PAIRS;
+    let most = u64::from(greatest_node(pairs)) + PLAIN_STRUCTURES;
     let plainly = if *fuel < most { 0 } else { most };
     descend_then_solve(loaded, cells, plainly, fuel, pairs, &mut bound)
 }

@@ -1,221 +1,299 @@
-use Rattle.std.proofs.Common.{◌≡◌, ◌≢◌, [], ◌∷◌, ◌++◌, refl, sym, ap, subst, ◌∙◌}
+use Rattle.std.proofs.Common.{◌∷◌, ◌++◌, refl, subst}
 use Rattle.std.specs.Prelude.{Contains}
-use Rattle.and_model.specs.declared.reference.Ref.{Ref}
 use Rattle.and_cells.specs.Parts.{named}
-use Rattle.and_unify.specs.declared.pairs.Pair.{Pair}
-use Rattle.and_unify.specs.declared.descending.Plainly.{Plainly}
-use Rattle.and_unify.specs.declared.descending.Plainly.TheVariants as plainly
 use Rattle.and_unify.specs.declared.unifying.Unified.TheVariants as unified
+use Rattle.and_cells.specs.Ranges.{NamedProgram}
+use Rattle.and_unify.specs.Meeting.{AreOfOneShape}
+use Rattle.and_unify.specs.Running.{arguments_of_both}
 use Rattle.and_unify.proofs.TurnAnswers.{sets_end}
-use Rattle.and_unify.proofs.DescentKept.{Held, IsOutOr, named_falls, held_begun, held_out, held_among, held_back, held_fits, held_steps, held_stopped, over_is, descends_end, same_end, apart_met, memory_end}
-use Rattle.and_unify.proofs.descending.descend.Goals.{in-Onward, in-Done+in-Some-pop}
+use Rattle.and_unify.proofs.DescentKept.{IsOutOr, named_falls, held_stopped, over_is, descends_end, same_end, apart_met, memory_end}
+use Rattle.and_unify.proofs.DescentRuns.{held_asked, held_first, held_put}
 use Rattle.and_unify.proofs.descending.descend.Goals as goal
 
-apart_stops : (r : Plainly) (one other : Ref) → r ≡ plainly.Apart one other → ((next : Pair) → r ≢ plainly.Onward next) × (r ≢ plainly.Done)
-apart_stops r one other is = (
-  λ next e. let both : plainly.Apart one other ≡ plainly.Onward next = sym is ∙ e in absurd (cc),
-  λ e. let both : plainly.Apart one other ≡ plainly.Done = sym is ∙ e in absurd (cc),
-)
+pub meet_all-requires-clause-falls : goal.meet_all-requires-clause-falls
+meet_all-requires-clause-falls g c =
+    named_falls g.C.Cells.program (named c.args.loaded.now) c.requires.program c.skeleton_is_of_the_program.ensures.skeleton.0
 
-memory_stops : (r : Plainly) → r ≡ plainly.Memory → ((next : Pair) → r ≢ plainly.Onward next) × (r ≢ plainly.Done)
-memory_stops r is = (
-  λ next e. let both : plainly.Memory ≡ plainly.Onward next = sym is ∙ e in absurd (cc),
-  λ e. let both : plainly.Memory ≡ plainly.Done = sym is ∙ e in absurd (cc),
-)
+pub push_arguments-requires : goal.push_arguments-requires
+push_arguments-requires g c =
+    let comes = c.in-Onward.ensures.comes in
+    let shape = comes.0 in
+    ((g.C.Cells.seen c.meet_all.new.cells).words, subst (λ (p : NamedProgram). AreOfOneShape p (g.C.Cells.seen c.meet_all.new.cells).words c.in-Onward.both.left c.in-Onward.both.right) c.requires.program shape)
 
-pub loop-turn-init : goal.loop-turn-init
-loop-turn-init g c =
-    let P = g.C.Cells.program in
-    let held = held_begun P (g.C.Cells.seen c.args.cells.now) c.args.pairs.now c.args.bound.now.items c.requires.in_range c.requires.written in
-    record {
-      over = refl;
-      grew = g.met.C.Cells.grew_nothing c.args.cells.now;
-      held = held_out P (g.C.Cells.seen c.args.cells.now) c.args.pairs.now c.args.bound.now.items (g.C.Cells.seen c.args.cells.now) c.args.bound.now.items c.args.pairs.now c.pop.new.self c.in-Some.pair (c.pop.ensures.some c.in-Some.pair c.in-Some.is) held;
-    }
-
-pub returns-in_default-clause-ended : goal.returns-in_default-clause-ended
-returns-in_default-clause-ended g c =
+pub returns-in-Done-clause-ended : goal.returns-in-Done-clause-ended
+returns-in-Done-clause-ended g c =
     λ u is.
     let P = g.C.Cells.program in
+    let old = g.C.Cells.seen c.args.cells.now in
+    let new = g.C.Cells.seen c.meet_all.new.cells in
+    let asked = c.args.pairs.now in
+    let began = c.args.bound.now.items in
+    let last = c.meet_all.new.bound.items in
     let fall = named_falls P (named c.args.loaded.now) c.requires.program c.skeleton_is_of_the_program.ensures.skeleton.0 in
-    let held = held_begun P (g.C.Cells.seen c.args.cells.now) c.args.pairs.now c.args.bound.now.items c.requires.in_range c.requires.written in
-    over_is P _ _ _ _ unified.Same u (λ e. absurd (cc)) is
-    (same_end P (g.C.Cells.seen c.args.cells.now) (g.C.Cells.seen c.args.cells.now) c.args.pairs.now c.args.bound.now.items c.args.bound.now.items c.args.pairs.now c.pop.new.self fall c.requires.in_range (c.pop.ensures.none c.in_default.is) held)
+    let held = held_asked P old asked began new c.meet_all.new.pairs last fall c.requires.in_range c.requires.written c.in-Done.ensures.comes in
+    let none = c.meet_all.ensures.empty c.in-Done.is in
+    over_is P old new asked c.meet_all.new.pairs unified.Same u (λ e. absurd (cc)) is
+    (same_end P old new asked began last c.meet_all.new.pairs c.meet_all.new.pairs fall c.requires.in_range (none, none) held)
 
-pub returns-in_default-clause-keeps : goal.returns-in_default-clause-keeps
-returns-in_default-clause-keeps g c =
+pub returns-in-Done-clause-keeps : goal.returns-in-Done-clause-keeps
+returns-in-Done-clause-keeps g c =
     let P = g.C.Cells.program in
-    let held = held_begun P (g.C.Cells.seen c.args.cells.now) c.args.pairs.now c.args.bound.now.items c.requires.in_range c.requires.written in
+    let old = g.C.Cells.seen c.args.cells.now in
+    let new = g.C.Cells.seen c.meet_all.new.cells in
+    let asked = c.args.pairs.now in
+    let began = c.args.bound.now.items in
+    let last = c.meet_all.new.bound.items in
+    let fall = named_falls P (named c.args.loaded.now) c.requires.program c.skeleton_is_of_the_program.ensures.skeleton.0 in
+    let held = held_asked P old asked began new c.meet_all.new.pairs last fall c.requires.in_range c.requires.written c.in-Done.ensures.comes in
     held.kept.keeps
 
-pub returns-in_default-clause-sets : goal.returns-in_default-clause-sets
-returns-in_default-clause-sets g c =
+pub returns-in-Done-clause-sets : goal.returns-in-Done-clause-sets
+returns-in-Done-clause-sets g c =
     let P = g.C.Cells.program in
-    let held = held_begun P (g.C.Cells.seen c.args.cells.now) c.args.pairs.now c.args.bound.now.items c.requires.in_range c.requires.written in
-    sets_end P (g.C.Cells.seen c.args.cells.now) c.args.pairs.now c.args.bound.now.items (g.C.Cells.seen c.args.cells.now) held.links (Contains c.args.pairs.now) c.args.bound.now.items held.kept
+    let old = g.C.Cells.seen c.args.cells.now in
+    let new = g.C.Cells.seen c.meet_all.new.cells in
+    let asked = c.args.pairs.now in
+    let began = c.args.bound.now.items in
+    let last = c.meet_all.new.bound.items in
+    let fall = named_falls P (named c.args.loaded.now) c.requires.program c.skeleton_is_of_the_program.ensures.skeleton.0 in
+    let held = held_asked P old asked began new c.meet_all.new.pairs last fall c.requires.in_range c.requires.written c.in-Done.ensures.comes in
+    sets_end P old asked began new held.links (Contains c.meet_all.new.pairs) last held.kept
 
-pub returns-in_default-clause-bound : goal.returns-in_default-clause-bound
-returns-in_default-clause-bound g c =
+pub returns-in-Done-clause-bound : goal.returns-in-Done-clause-bound
+returns-in-Done-clause-bound g c =
     let P = g.C.Cells.program in
-    let held = held_begun P (g.C.Cells.seen c.args.cells.now) c.args.pairs.now c.args.bound.now.items c.requires.in_range c.requires.written in
+    let old = g.C.Cells.seen c.args.cells.now in
+    let new = g.C.Cells.seen c.meet_all.new.cells in
+    let asked = c.args.pairs.now in
+    let began = c.args.bound.now.items in
+    let last = c.meet_all.new.bound.items in
+    let fall = named_falls P (named c.args.loaded.now) c.requires.program c.skeleton_is_of_the_program.ensures.skeleton.0 in
+    let held = held_asked P old asked began new c.meet_all.new.pairs last fall c.requires.in_range c.requires.written c.in-Done.ensures.comes in
     held.kept.lists
 
-pub step_plainly-requires-clause-in_range : goal.step_plainly-requires-clause-in_range
-step_plainly-requires-clause-in_range g c =
+pub returns-in-Ok-clause-keeps : goal.returns-in-Ok-clause-keeps
+returns-in-Ok-clause-keeps g c =
     let P = g.C.Cells.program in
-    let fit = held_fits P (g.C.Cells.seen c.args.cells.now) c.args.pairs.now c.args.bound.now.items (g.C.Cells.seen c.loop-turn.cells) c.loop-turn.bound.items c.loop-turn.pairs c.loop-turn.pair c.loop-turn.invariant.held in
-    (fit.left_in_range, fit.right_in_range)
-
-pub step_plainly-requires-clause-written : goal.step_plainly-requires-clause-written
-step_plainly-requires-clause-written g c =
-    let P = g.C.Cells.program in
-    let fit = held_fits P (g.C.Cells.seen c.args.cells.now) c.args.pairs.now c.args.bound.now.items (g.C.Cells.seen c.loop-turn.cells) c.loop-turn.bound.items c.loop-turn.pairs c.loop-turn.pair c.loop-turn.invariant.held in
-    (fit.left_written, fit.right_written)
-
-pub loop-turn-preserved : goal.loop-turn-preserved
-loop-turn-preserved g c =
-    let P = g.C.Cells.program in
+    let old = g.C.Cells.seen c.args.cells.now in
+    let new = g.C.Cells.seen c.meet_all.new.cells in
+    let asked = c.args.pairs.now in
+    let began = c.args.bound.now.items in
+    let last = c.meet_all.new.bound.items in
     let fall = named_falls P (named c.args.loaded.now) c.requires.program c.skeleton_is_of_the_program.ensures.skeleton.0 in
-    let next = c.match-step_plainly.pair in
-    let rest = c.match-step_plainly.pairs in
-    let list = c.loop-turn.pairs in
-    let longer = c.step_plainly.new.list in
-    let held : Held P (g.C.Cells.seen c.args.cells.now) c.args.pairs.now c.args.bound.now.items (g.C.Cells.seen c.step_plainly.new.cells) (IsOutOr next rest) c.step_plainly.new.bound.items = elim c.match-step_plainly.branch [
-      | in-Onward w ↦
-          let (behind, gains, steps) = c.step_plainly.ensures.onward w.in-Onward.next w.in-Onward.is in
-          let all = held_steps P (g.C.Cells.seen c.args.cells.now) c.args.pairs.now c.args.bound.now.items (g.C.Cells.seen c.loop-turn.cells) (g.C.Cells.seen c.step_plainly.new.cells) c.loop-turn.bound.items c.step_plainly.new.bound.items list (list ++ w.in-Onward.next ∷ behind) c.loop-turn.pair fall steps c.loop-turn.invariant.held in
-          subst (λ (p : Pair). Held P (g.C.Cells.seen c.args.cells.now) c.args.pairs.now c.args.bound.now.items (g.C.Cells.seen c.step_plainly.new.cells) (IsOutOr p rest) c.step_plainly.new.bound.items) (sym w.pair-is)
-          (held_among P (g.C.Cells.seen c.args.cells.now) c.args.pairs.now c.args.bound.now.items (g.C.Cells.seen c.step_plainly.new.cells) c.step_plainly.new.bound.items list behind rest w.in-Onward.next (w.pairs-is ∙ gains) all)
-      | in-Done+in-Some-pop w ↦
-          let last = w.in-Some-pop.next in
-          let all = held_steps P (g.C.Cells.seen c.args.cells.now) c.args.pairs.now c.args.bound.now.items (g.C.Cells.seen c.loop-turn.cells) (g.C.Cells.seen c.step_plainly.new.cells) c.loop-turn.bound.items c.step_plainly.new.bound.items list longer c.loop-turn.pair fall (c.step_plainly.ensures.done w.in-Done.is) c.loop-turn.invariant.held in
-          let out : longer ≡ rest ++ last ∷ [] = w.pop-in-Done.ensures.some last w.in-Some-pop.is ∙ ap (λ l. l ++ last ∷ []) (sym w.pairs-is) in
-          subst (λ (p : Pair). Held P (g.C.Cells.seen c.args.cells.now) c.args.pairs.now c.args.bound.now.items (g.C.Cells.seen c.step_plainly.new.cells) (IsOutOr p rest) c.step_plainly.new.bound.items) (sym w.pair-is) (held_out P (g.C.Cells.seen c.args.cells.now) c.args.pairs.now c.args.bound.now.items (g.C.Cells.seen c.step_plainly.new.cells) c.step_plainly.new.bound.items longer rest last out all)
-    ] in record {
-      over = c.step_plainly.ensures.over ∙ c.loop-turn.invariant.over;
-      grew = g.met.C.Cells.grew_on c.args.cells.now c.loop-turn.cells c.step_plainly.new.cells c.loop-turn.invariant.grew c.step_plainly.ensures.grew;
-      held = held;
-    }
-
-pub returns-in-None-clause-ended : goal.returns-in-None-clause-ended
-returns-in-None-clause-ended g c =
-    λ u is.
-    let P = g.C.Cells.program in
-    let fall = named_falls P (named c.args.loaded.now) c.requires.program c.skeleton_is_of_the_program.ensures.skeleton.0 in
-    let held = held_steps P (g.C.Cells.seen c.args.cells.now) c.args.pairs.now c.args.bound.now.items (g.C.Cells.seen c.loop-turn.cells) (g.C.Cells.seen c.step_plainly.new.cells) c.loop-turn.bound.items c.step_plainly.new.bound.items c.loop-turn.pairs c.step_plainly.new.list c.loop-turn.pair fall (c.step_plainly.ensures.done c.in-Done.is) c.loop-turn.invariant.held in
-    over_is P _ _ _ _ unified.Same u (λ e. absurd (cc)) is
-    (same_end P (g.C.Cells.seen c.args.cells.now) (g.C.Cells.seen c.step_plainly.new.cells) c.args.pairs.now c.args.bound.now.items c.step_plainly.new.bound.items c.step_plainly.new.list c.pop-in-Done.new.self fall c.requires.in_range (c.pop-in-Done.ensures.none c.in-None.is) held)
-
-pub returns-in-None-clause-keeps : goal.returns-in-None-clause-keeps
-returns-in-None-clause-keeps g c =
-    let P = g.C.Cells.program in
-    let fall = named_falls P (named c.args.loaded.now) c.requires.program c.skeleton_is_of_the_program.ensures.skeleton.0 in
-    let held = held_steps P (g.C.Cells.seen c.args.cells.now) c.args.pairs.now c.args.bound.now.items (g.C.Cells.seen c.loop-turn.cells) (g.C.Cells.seen c.step_plainly.new.cells) c.loop-turn.bound.items c.step_plainly.new.bound.items c.loop-turn.pairs c.step_plainly.new.list c.loop-turn.pair fall (c.step_plainly.ensures.done c.in-Done.is) c.loop-turn.invariant.held in
+    let before = held_asked P old asked began new (arguments_of_both P c.in-Onward.both ++ c.meet_all.new.pairs) last fall c.requires.in_range c.requires.written c.in-Onward.ensures.comes.1 in
+    let held = held_put P old asked began new last c.meet_all.new.pairs c.push_arguments.new.list c.in-Onward.both (named c.args.loaded.now) c.requires.program c.in-Ok.ensures.ok before in
     held.kept.keeps
 
-pub returns-in-None-clause-sets : goal.returns-in-None-clause-sets
-returns-in-None-clause-sets g c =
+pub returns-in-Ok-clause-left : goal.returns-in-Ok-clause-left
+returns-in-Ok-clause-left g c =
+    λ is.
     let P = g.C.Cells.program in
+    let old = g.C.Cells.seen c.args.cells.now in
+    let new = g.C.Cells.seen c.meet_all.new.cells in
+    let asked = c.args.pairs.now in
+    let began = c.args.bound.now.items in
+    let last = c.meet_all.new.bound.items in
     let fall = named_falls P (named c.args.loaded.now) c.requires.program c.skeleton_is_of_the_program.ensures.skeleton.0 in
-    let held = held_steps P (g.C.Cells.seen c.args.cells.now) c.args.pairs.now c.args.bound.now.items (g.C.Cells.seen c.loop-turn.cells) (g.C.Cells.seen c.step_plainly.new.cells) c.loop-turn.bound.items c.step_plainly.new.bound.items c.loop-turn.pairs c.step_plainly.new.list c.loop-turn.pair fall (c.step_plainly.ensures.done c.in-Done.is) c.loop-turn.invariant.held in
-    sets_end P (g.C.Cells.seen c.args.cells.now) c.args.pairs.now c.args.bound.now.items (g.C.Cells.seen c.step_plainly.new.cells) held.links (Contains c.step_plainly.new.list) c.step_plainly.new.bound.items held.kept
+    let before = held_asked P old asked began new (arguments_of_both P c.in-Onward.both ++ c.meet_all.new.pairs) last fall c.requires.in_range c.requires.written c.in-Onward.ensures.comes.1 in
+    let held = held_put P old asked began new last c.meet_all.new.pairs c.push_arguments.new.list c.in-Onward.both (named c.args.loaded.now) c.requires.program c.in-Ok.ensures.ok before in
+    descends_end P old new asked began last c.push_arguments.new.list fall held
 
-pub returns-in-None-clause-bound : goal.returns-in-None-clause-bound
-returns-in-None-clause-bound g c =
+pub returns-in-Ok-clause-sets : goal.returns-in-Ok-clause-sets
+returns-in-Ok-clause-sets g c =
     let P = g.C.Cells.program in
+    let old = g.C.Cells.seen c.args.cells.now in
+    let new = g.C.Cells.seen c.meet_all.new.cells in
+    let asked = c.args.pairs.now in
+    let began = c.args.bound.now.items in
+    let last = c.meet_all.new.bound.items in
     let fall = named_falls P (named c.args.loaded.now) c.requires.program c.skeleton_is_of_the_program.ensures.skeleton.0 in
-    let held = held_steps P (g.C.Cells.seen c.args.cells.now) c.args.pairs.now c.args.bound.now.items (g.C.Cells.seen c.loop-turn.cells) (g.C.Cells.seen c.step_plainly.new.cells) c.loop-turn.bound.items c.step_plainly.new.bound.items c.loop-turn.pairs c.step_plainly.new.list c.loop-turn.pair fall (c.step_plainly.ensures.done c.in-Done.is) c.loop-turn.invariant.held in
+    let before = held_asked P old asked began new (arguments_of_both P c.in-Onward.both ++ c.meet_all.new.pairs) last fall c.requires.in_range c.requires.written c.in-Onward.ensures.comes.1 in
+    let held = held_put P old asked began new last c.meet_all.new.pairs c.push_arguments.new.list c.in-Onward.both (named c.args.loaded.now) c.requires.program c.in-Ok.ensures.ok before in
+    sets_end P old asked began new held.links (Contains c.push_arguments.new.list) last held.kept
+
+pub returns-in-Ok-clause-bound : goal.returns-in-Ok-clause-bound
+returns-in-Ok-clause-bound g c =
+    let P = g.C.Cells.program in
+    let old = g.C.Cells.seen c.args.cells.now in
+    let new = g.C.Cells.seen c.meet_all.new.cells in
+    let asked = c.args.pairs.now in
+    let began = c.args.bound.now.items in
+    let last = c.meet_all.new.bound.items in
+    let fall = named_falls P (named c.args.loaded.now) c.requires.program c.skeleton_is_of_the_program.ensures.skeleton.0 in
+    let before = held_asked P old asked began new (arguments_of_both P c.in-Onward.both ++ c.meet_all.new.pairs) last fall c.requires.in_range c.requires.written c.in-Onward.ensures.comes.1 in
+    let held = held_put P old asked began new last c.meet_all.new.pairs c.push_arguments.new.list c.in-Onward.both (named c.args.loaded.now) c.requires.program c.in-Ok.ensures.ok before in
+    held.kept.lists
+
+pub returns-in-Err-clause-ended : goal.returns-in-Err-clause-ended
+returns-in-Err-clause-ended g c =
+    λ u is.
+    let P = g.C.Cells.program in
+    let old = g.C.Cells.seen c.args.cells.now in
+    let new = g.C.Cells.seen c.meet_all.new.cells in
+    let asked = c.args.pairs.now in
+    let began = c.args.bound.now.items in
+    let last = c.meet_all.new.bound.items in
+    let fall = named_falls P (named c.args.loaded.now) c.requires.program c.skeleton_is_of_the_program.ensures.skeleton.0 in
+    let held = held_asked P old asked began new (arguments_of_both P c.in-Onward.both ++ c.meet_all.new.pairs) last fall c.requires.in_range c.requires.written c.in-Onward.ensures.comes.1 in
+    over_is P old new asked c.push_arguments.new.list unified.Memory u (λ e. absurd (cc)) is
+    (memory_end P old new asked began last c.push_arguments.new.list (Contains (arguments_of_both P c.in-Onward.both ++ c.meet_all.new.pairs)) held)
+
+pub returns-in-Err-clause-keeps : goal.returns-in-Err-clause-keeps
+returns-in-Err-clause-keeps g c =
+    let P = g.C.Cells.program in
+    let old = g.C.Cells.seen c.args.cells.now in
+    let new = g.C.Cells.seen c.meet_all.new.cells in
+    let asked = c.args.pairs.now in
+    let began = c.args.bound.now.items in
+    let last = c.meet_all.new.bound.items in
+    let fall = named_falls P (named c.args.loaded.now) c.requires.program c.skeleton_is_of_the_program.ensures.skeleton.0 in
+    let held = held_asked P old asked began new (arguments_of_both P c.in-Onward.both ++ c.meet_all.new.pairs) last fall c.requires.in_range c.requires.written c.in-Onward.ensures.comes.1 in
+    held.kept.keeps
+
+pub returns-in-Err-clause-sets : goal.returns-in-Err-clause-sets
+returns-in-Err-clause-sets g c =
+    let P = g.C.Cells.program in
+    let old = g.C.Cells.seen c.args.cells.now in
+    let new = g.C.Cells.seen c.meet_all.new.cells in
+    let asked = c.args.pairs.now in
+    let began = c.args.bound.now.items in
+    let last = c.meet_all.new.bound.items in
+    let fall = named_falls P (named c.args.loaded.now) c.requires.program c.skeleton_is_of_the_program.ensures.skeleton.0 in
+    let held = held_asked P old asked began new (arguments_of_both P c.in-Onward.both ++ c.meet_all.new.pairs) last fall c.requires.in_range c.requires.written c.in-Onward.ensures.comes.1 in
+    sets_end P old asked began new held.links (Contains (arguments_of_both P c.in-Onward.both ++ c.meet_all.new.pairs)) last held.kept
+
+pub returns-in-Err-clause-bound : goal.returns-in-Err-clause-bound
+returns-in-Err-clause-bound g c =
+    let P = g.C.Cells.program in
+    let old = g.C.Cells.seen c.args.cells.now in
+    let new = g.C.Cells.seen c.meet_all.new.cells in
+    let asked = c.args.pairs.now in
+    let began = c.args.bound.now.items in
+    let last = c.meet_all.new.bound.items in
+    let fall = named_falls P (named c.args.loaded.now) c.requires.program c.skeleton_is_of_the_program.ensures.skeleton.0 in
+    let held = held_asked P old asked began new (arguments_of_both P c.in-Onward.both ++ c.meet_all.new.pairs) last fall c.requires.in_range c.requires.written c.in-Onward.ensures.comes.1 in
     held.kept.lists
 
 pub returns-in-Apart-clause-ended : goal.returns-in-Apart-clause-ended
 returns-in-Apart-clause-ended g c =
     λ u is.
     let P = g.C.Cells.program in
-    over_is P _ _ _ _ (unified.Apart c.in-Apart.left c.in-Apart.right) u (λ e. absurd (cc)) is
-    (apart_met P (g.C.Cells.seen c.args.cells.now) (g.C.Cells.seen c.loop-turn.cells) (g.C.Cells.seen c.step_plainly.new.cells) c.args.pairs.now c.args.bound.now.items c.loop-turn.bound.items c.loop-turn.pairs c.step_plainly.new.list c.loop-turn.pair c.in-Apart.left c.in-Apart.right
-    (c.step_plainly.ensures.apart c.in-Apart.left c.in-Apart.right c.in-Apart.is) c.loop-turn.invariant.held)
+    let old = g.C.Cells.seen c.args.cells.now in
+    let new = g.C.Cells.seen c.meet_all.new.cells in
+    let asked = c.args.pairs.now in
+    let began = c.args.bound.now.items in
+    let last = c.meet_all.new.bound.items in
+    let fall = named_falls P (named c.args.loaded.now) c.requires.program c.skeleton_is_of_the_program.ensures.skeleton.0 in
+    let breaks = c.in-Apart.ensures.comes in
+    let p = breaks.p in
+    let rest = breaks.rest in
+    let mid = breaks.mid in
+    let meets = breaks.meets in
+    let out = held_first P old asked began mid last p rest (held_asked P old asked began mid (p ∷ rest) last fall c.requires.in_range c.requires.written breaks.runs) in
+    let held = held_stopped P old asked began mid new last last (IsOutOr p rest) (meets.lead.reads, refl) out in
+    over_is P old new asked c.meet_all.new.pairs (unified.Apart c.in-Apart.left c.in-Apart.right) u (λ e. absurd (cc)) is
+    (apart_met P old mid new asked began last rest c.meet_all.new.pairs p c.in-Apart.left c.in-Apart.right meets out)
 
 pub returns-in-Apart-clause-keeps : goal.returns-in-Apart-clause-keeps
 returns-in-Apart-clause-keeps g c =
     let P = g.C.Cells.program in
-    let (not_onward, not_done) = apart_stops c.step_plainly.result c.in-Apart.left c.in-Apart.right c.in-Apart.is in
-    let stopped = c.step_plainly.ensures.reads not_onward not_done in
-    let held = held_stopped P (g.C.Cells.seen c.args.cells.now) c.args.pairs.now c.args.bound.now.items (g.C.Cells.seen c.loop-turn.cells) (g.C.Cells.seen c.step_plainly.new.cells) c.loop-turn.bound.items c.step_plainly.new.bound.items (IsOutOr c.loop-turn.pair c.loop-turn.pairs) stopped c.loop-turn.invariant.held in
+    let old = g.C.Cells.seen c.args.cells.now in
+    let new = g.C.Cells.seen c.meet_all.new.cells in
+    let asked = c.args.pairs.now in
+    let began = c.args.bound.now.items in
+    let last = c.meet_all.new.bound.items in
+    let fall = named_falls P (named c.args.loaded.now) c.requires.program c.skeleton_is_of_the_program.ensures.skeleton.0 in
+    let breaks = c.in-Apart.ensures.comes in
+    let p = breaks.p in
+    let rest = breaks.rest in
+    let mid = breaks.mid in
+    let meets = breaks.meets in
+    let out = held_first P old asked began mid last p rest (held_asked P old asked began mid (p ∷ rest) last fall c.requires.in_range c.requires.written breaks.runs) in
+    let held = held_stopped P old asked began mid new last last (IsOutOr p rest) (meets.lead.reads, refl) out in
     held.kept.keeps
 
 pub returns-in-Apart-clause-sets : goal.returns-in-Apart-clause-sets
 returns-in-Apart-clause-sets g c =
     let P = g.C.Cells.program in
-    let (not_onward, not_done) = apart_stops c.step_plainly.result c.in-Apart.left c.in-Apart.right c.in-Apart.is in
-    let stopped = c.step_plainly.ensures.reads not_onward not_done in
-    let held = held_stopped P (g.C.Cells.seen c.args.cells.now) c.args.pairs.now c.args.bound.now.items (g.C.Cells.seen c.loop-turn.cells) (g.C.Cells.seen c.step_plainly.new.cells) c.loop-turn.bound.items c.step_plainly.new.bound.items (IsOutOr c.loop-turn.pair c.loop-turn.pairs) stopped c.loop-turn.invariant.held in
-    sets_end P (g.C.Cells.seen c.args.cells.now) c.args.pairs.now c.args.bound.now.items (g.C.Cells.seen c.step_plainly.new.cells) held.links (IsOutOr c.loop-turn.pair c.loop-turn.pairs) c.step_plainly.new.bound.items held.kept
+    let old = g.C.Cells.seen c.args.cells.now in
+    let new = g.C.Cells.seen c.meet_all.new.cells in
+    let asked = c.args.pairs.now in
+    let began = c.args.bound.now.items in
+    let last = c.meet_all.new.bound.items in
+    let fall = named_falls P (named c.args.loaded.now) c.requires.program c.skeleton_is_of_the_program.ensures.skeleton.0 in
+    let breaks = c.in-Apart.ensures.comes in
+    let p = breaks.p in
+    let rest = breaks.rest in
+    let mid = breaks.mid in
+    let meets = breaks.meets in
+    let out = held_first P old asked began mid last p rest (held_asked P old asked began mid (p ∷ rest) last fall c.requires.in_range c.requires.written breaks.runs) in
+    let held = held_stopped P old asked began mid new last last (IsOutOr p rest) (meets.lead.reads, refl) out in
+    sets_end P old asked began new held.links (IsOutOr p rest) last held.kept
 
 pub returns-in-Apart-clause-bound : goal.returns-in-Apart-clause-bound
 returns-in-Apart-clause-bound g c =
     let P = g.C.Cells.program in
-    let (not_onward, not_done) = apart_stops c.step_plainly.result c.in-Apart.left c.in-Apart.right c.in-Apart.is in
-    let stopped = c.step_plainly.ensures.reads not_onward not_done in
-    let held = held_stopped P (g.C.Cells.seen c.args.cells.now) c.args.pairs.now c.args.bound.now.items (g.C.Cells.seen c.loop-turn.cells) (g.C.Cells.seen c.step_plainly.new.cells) c.loop-turn.bound.items c.step_plainly.new.bound.items (IsOutOr c.loop-turn.pair c.loop-turn.pairs) stopped c.loop-turn.invariant.held in
+    let old = g.C.Cells.seen c.args.cells.now in
+    let new = g.C.Cells.seen c.meet_all.new.cells in
+    let asked = c.args.pairs.now in
+    let began = c.args.bound.now.items in
+    let last = c.meet_all.new.bound.items in
+    let fall = named_falls P (named c.args.loaded.now) c.requires.program c.skeleton_is_of_the_program.ensures.skeleton.0 in
+    let breaks = c.in-Apart.ensures.comes in
+    let p = breaks.p in
+    let rest = breaks.rest in
+    let mid = breaks.mid in
+    let meets = breaks.meets in
+    let out = held_first P old asked began mid last p rest (held_asked P old asked began mid (p ∷ rest) last fall c.requires.in_range c.requires.written breaks.runs) in
+    let held = held_stopped P old asked began mid new last last (IsOutOr p rest) (meets.lead.reads, refl) out in
     held.kept.lists
 
 pub returns-in-Memory-clause-ended : goal.returns-in-Memory-clause-ended
 returns-in-Memory-clause-ended g c =
     λ u is.
     let P = g.C.Cells.program in
-    let (not_onward, not_done) = memory_stops c.step_plainly.result c.in-Memory.is in
-    let stopped = c.step_plainly.ensures.reads not_onward not_done in
-    let held = held_stopped P (g.C.Cells.seen c.args.cells.now) c.args.pairs.now c.args.bound.now.items (g.C.Cells.seen c.loop-turn.cells) (g.C.Cells.seen c.step_plainly.new.cells) c.loop-turn.bound.items c.step_plainly.new.bound.items (IsOutOr c.loop-turn.pair c.loop-turn.pairs) stopped c.loop-turn.invariant.held in
-    over_is P _ _ _ _ unified.Memory u (λ e. absurd (cc)) is
-    (memory_end P (g.C.Cells.seen c.args.cells.now) (g.C.Cells.seen c.step_plainly.new.cells) c.args.pairs.now c.args.bound.now.items c.step_plainly.new.bound.items c.step_plainly.new.list (IsOutOr c.loop-turn.pair c.loop-turn.pairs) held)
+    let old = g.C.Cells.seen c.args.cells.now in
+    let new = g.C.Cells.seen c.meet_all.new.cells in
+    let asked = c.args.pairs.now in
+    let began = c.args.bound.now.items in
+    let last = c.meet_all.new.bound.items in
+    let fall = named_falls P (named c.args.loaded.now) c.requires.program c.skeleton_is_of_the_program.ensures.skeleton.0 in
+    let held = held_asked P old asked began new c.in-Memory.ensures.comes.0 last fall c.requires.in_range c.requires.written c.in-Memory.ensures.comes.1 in
+    over_is P old new asked c.meet_all.new.pairs unified.Memory u (λ e. absurd (cc)) is
+    (memory_end P old new asked began last c.meet_all.new.pairs (Contains c.in-Memory.ensures.comes.0) held)
 
 pub returns-in-Memory-clause-keeps : goal.returns-in-Memory-clause-keeps
 returns-in-Memory-clause-keeps g c =
     let P = g.C.Cells.program in
-    let (not_onward, not_done) = memory_stops c.step_plainly.result c.in-Memory.is in
-    let stopped = c.step_plainly.ensures.reads not_onward not_done in
-    let held = held_stopped P (g.C.Cells.seen c.args.cells.now) c.args.pairs.now c.args.bound.now.items (g.C.Cells.seen c.loop-turn.cells) (g.C.Cells.seen c.step_plainly.new.cells) c.loop-turn.bound.items c.step_plainly.new.bound.items (IsOutOr c.loop-turn.pair c.loop-turn.pairs) stopped c.loop-turn.invariant.held in
+    let old = g.C.Cells.seen c.args.cells.now in
+    let new = g.C.Cells.seen c.meet_all.new.cells in
+    let asked = c.args.pairs.now in
+    let began = c.args.bound.now.items in
+    let last = c.meet_all.new.bound.items in
+    let fall = named_falls P (named c.args.loaded.now) c.requires.program c.skeleton_is_of_the_program.ensures.skeleton.0 in
+    let held = held_asked P old asked began new c.in-Memory.ensures.comes.0 last fall c.requires.in_range c.requires.written c.in-Memory.ensures.comes.1 in
     held.kept.keeps
 
 pub returns-in-Memory-clause-sets : goal.returns-in-Memory-clause-sets
 returns-in-Memory-clause-sets g c =
     let P = g.C.Cells.program in
-    let (not_onward, not_done) = memory_stops c.step_plainly.result c.in-Memory.is in
-    let stopped = c.step_plainly.ensures.reads not_onward not_done in
-    let held = held_stopped P (g.C.Cells.seen c.args.cells.now) c.args.pairs.now c.args.bound.now.items (g.C.Cells.seen c.loop-turn.cells) (g.C.Cells.seen c.step_plainly.new.cells) c.loop-turn.bound.items c.step_plainly.new.bound.items (IsOutOr c.loop-turn.pair c.loop-turn.pairs) stopped c.loop-turn.invariant.held in
-    sets_end P (g.C.Cells.seen c.args.cells.now) c.args.pairs.now c.args.bound.now.items (g.C.Cells.seen c.step_plainly.new.cells) held.links (IsOutOr c.loop-turn.pair c.loop-turn.pairs) c.step_plainly.new.bound.items held.kept
+    let old = g.C.Cells.seen c.args.cells.now in
+    let new = g.C.Cells.seen c.meet_all.new.cells in
+    let asked = c.args.pairs.now in
+    let began = c.args.bound.now.items in
+    let last = c.meet_all.new.bound.items in
+    let fall = named_falls P (named c.args.loaded.now) c.requires.program c.skeleton_is_of_the_program.ensures.skeleton.0 in
+    let held = held_asked P old asked began new c.in-Memory.ensures.comes.0 last fall c.requires.in_range c.requires.written c.in-Memory.ensures.comes.1 in
+    sets_end P old asked began new held.links (Contains c.in-Memory.ensures.comes.0) last held.kept
 
 pub returns-in-Memory-clause-bound : goal.returns-in-Memory-clause-bound
 returns-in-Memory-clause-bound g c =
     let P = g.C.Cells.program in
-    let (not_onward, not_done) = memory_stops c.step_plainly.result c.in-Memory.is in
-    let stopped = c.step_plainly.ensures.reads not_onward not_done in
-    let held = held_stopped P (g.C.Cells.seen c.args.cells.now) c.args.pairs.now c.args.bound.now.items (g.C.Cells.seen c.loop-turn.cells) (g.C.Cells.seen c.step_plainly.new.cells) c.loop-turn.bound.items c.step_plainly.new.bound.items (IsOutOr c.loop-turn.pair c.loop-turn.pairs) stopped c.loop-turn.invariant.held in
-    held.kept.lists
-
-pub returns-in-Ok-clause-left : goal.returns-in-Ok-clause-left
-returns-in-Ok-clause-left g c =
-    λ is.
-    let P = g.C.Cells.program in
+    let old = g.C.Cells.seen c.args.cells.now in
+    let new = g.C.Cells.seen c.meet_all.new.cells in
+    let asked = c.args.pairs.now in
+    let began = c.args.bound.now.items in
+    let last = c.meet_all.new.bound.items in
     let fall = named_falls P (named c.args.loaded.now) c.requires.program c.skeleton_is_of_the_program.ensures.skeleton.0 in
-    let held = held_back P (g.C.Cells.seen c.args.cells.now) c.args.pairs.now c.args.bound.now.items (g.C.Cells.seen c.loop-turn.cells) c.loop-turn.bound.items c.push.new.self c.loop-turn.pairs c.loop-turn.pair c.in-Ok.ensures.ok c.loop-turn.invariant.held in
-    descends_end P (g.C.Cells.seen c.args.cells.now) (g.C.Cells.seen c.loop-turn.cells) c.args.pairs.now c.args.bound.now.items c.loop-turn.bound.items c.push.new.self fall held
-
-pub returns-in-Ok-clause-sets : goal.returns-in-Ok-clause-sets
-returns-in-Ok-clause-sets g c =
-    let P = g.C.Cells.program in
-    let held = c.loop-turn.invariant.held in
-    sets_end P (g.C.Cells.seen c.args.cells.now) c.args.pairs.now c.args.bound.now.items (g.C.Cells.seen c.loop-turn.cells) held.links (IsOutOr c.loop-turn.pair c.loop-turn.pairs) c.loop-turn.bound.items held.kept
-
-pub returns-in-Err-clause-ended : goal.returns-in-Err-clause-ended
-returns-in-Err-clause-ended g c =
-    λ u is.
-    let P = g.C.Cells.program in
-    over_is P _ _ _ _ unified.Memory u (λ e. absurd (cc)) is
-    (memory_end P (g.C.Cells.seen c.args.cells.now) (g.C.Cells.seen c.loop-turn.cells) c.args.pairs.now c.args.bound.now.items c.loop-turn.bound.items c.push.new.self (IsOutOr c.loop-turn.pair c.loop-turn.pairs) c.loop-turn.invariant.held)
-
-pub returns-in-Err-clause-sets : goal.returns-in-Err-clause-sets
-returns-in-Err-clause-sets g c =
-    let P = g.C.Cells.program in
-    let held = c.loop-turn.invariant.held in
-    sets_end P (g.C.Cells.seen c.args.cells.now) c.args.pairs.now c.args.bound.now.items (g.C.Cells.seen c.loop-turn.cells) held.links (IsOutOr c.loop-turn.pair c.loop-turn.pairs) c.loop-turn.bound.items held.kept
+    let held = held_asked P old asked began new c.in-Memory.ensures.comes.0 last fall c.requires.in_range c.requires.written c.in-Memory.ensures.comes.1 in
+    held.kept.lists

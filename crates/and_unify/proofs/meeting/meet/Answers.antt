@@ -8,12 +8,12 @@ pub loop-met-init : goal.loop-met-init
 loop-met-init g c =
     let old = g.C.Cells.seen c.args.cells.now in
     let mid = g.C.Cells.seen c.deref-one.new.cells in
-    let new = g.C.Cells.seen c.deref-other.new.cells in record {
-      over = c.deref-other.ensures.over ∙ c.deref-one.ensures.over;
-      grew = g.met.C.Cells.grew_on c.args.cells.now c.deref-one.new.cells c.deref-other.new.cells c.deref-one.ensures.grew c.deref-other.ensures.grew;
-      standing = both_followed g.C.Cells.program c.args.left c.args.right c.deref-one.result c.deref-other.result old mid new
+    let new = g.C.Cells.seen c.end_beside-other.new.cells in record {
+      over = c.end_beside-other.ensures.over ∙ c.deref-one.ensures.over;
+      grew = g.met.C.Cells.grew_on c.args.cells.now c.deref-one.new.cells c.end_beside-other.new.cells c.deref-one.ensures.grew c.end_beside-other.ensures.grew;
+      standing = both_followed g.C.Cells.program c.args.left c.args.right c.deref-one.result c.end_beside-other.result old mid new
           (record { reads = c.deref-one.ensures.reads; leads = c.deref-one.ensures.leads; in_range = c.deref-one.ensures.in_range; written = c.deref-one.ensures.written })
-          (record { reads = c.deref-other.ensures.reads; leads = c.deref-other.ensures.leads; in_range = c.deref-other.ensures.in_range; written = c.deref-other.ensures.written });
+          (record { reads = c.end_beside-other.ensures.reads; leads = c.end_beside-other.ensures.leads; in_range = c.end_beside-other.ensures.in_range; written = c.end_beside-other.ensures.written });
     }
 
 pub returns-in-Done-clause-same : goal.returns-in-Done-clause-same

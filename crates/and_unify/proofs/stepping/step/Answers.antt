@@ -10,19 +10,19 @@ descend-requires g c =
     c.requires.program (c.meet.ensures.structures c.in-Structures.left c.in-Structures.right c.in-Structures.is)
 
 pub returns-in-Bound-clause-done : goal.returns-in-Bound-clause-done
-returns-in-Bound-clause-done g c = λ is. sets c.in-Bound.cell (c.meet.ensures.bound c.in-Bound.cell c.in-Bound.is) refl refl (c.note.ensures ∙ ap (λ xs. xs ++ c.in-Bound.cell ∷ []) c.reserve.ensures.items)
+returns-in-Bound-clause-done g c = λ is. sets c.in-Bound.cell (c.meet.ensures.bound c.in-Bound.cell c.in-Bound.is) refl refl (c.note.ensures ∙ ap (λ xs. xs ++ c.in-Bound.cell ∷ []) c.make_room.ensures.items)
 
 pub returns-in-Structures-clause-done : goal.returns-in-Structures-clause-done
 returns-in-Structures-clause-done g c = λ is.
     steps_down g.C.Cells.program (named c.args.loaded.now) c.args.pair c.in-Structures.left c.in-Structures.right (g.C.Cells.seen c.args.cells.now) (g.C.Cells.seen c.meet.new.cells)
-    c.args.classes.now c.descend.new.classes c.args.list.now c.descend.new.list c.args.bound.now.items c.reserve.new.self.items
-    c.requires.program (c.meet.ensures.structures c.in-Structures.left c.in-Structures.right c.in-Structures.is) c.reserve.ensures.items (c.descend.ensures.done is)
+    c.args.classes.now c.descend.new.classes c.args.list.now c.descend.new.list c.args.bound.now.items c.make_room.new.bound.items
+    c.requires.program (c.meet.ensures.structures c.in-Structures.left c.in-Structures.right c.in-Structures.is) c.make_room.ensures.items (c.descend.ensures.done is)
 
 pub returns-in-Structures-clause-stopped : goal.returns-in-Structures-clause-stopped
-returns-in-Structures-clause-stopped g c = λ is. ((c.meet.ensures.structures c.in-Structures.left c.in-Structures.right c.in-Structures.is).lead.reads, c.reserve.ensures.items)
+returns-in-Structures-clause-stopped g c = λ is. ((c.meet.ensures.structures c.in-Structures.left c.in-Structures.right c.in-Structures.is).lead.reads, c.make_room.ensures.items)
 
 pub returns-in-Apart-clause-apart : goal.returns-in-Apart-clause-apart
 returns-in-Apart-clause-apart g c = λ one other is. c.meet.ensures.apart one other (cc)
 
 pub returns-in-Apart-clause-stopped : goal.returns-in-Apart-clause-stopped
-returns-in-Apart-clause-stopped g c = λ is. ((c.meet.ensures.apart c.in-Apart.left c.in-Apart.right c.in-Apart.is).lead.reads, c.reserve.ensures.items)
+returns-in-Apart-clause-stopped g c = λ is. ((c.meet.ensures.apart c.in-Apart.left c.in-Apart.right c.in-Apart.is).lead.reads, c.make_room.ensures.items)
