@@ -1,5 +1,5 @@
 -- Rows that grow: what is held stays held, and while the free cells of a term are free, it stays the term.
-use Rattle.std.proofs.Common.{ℕ, suc, ◌+◌, ◌≡◌, ◌≢◌, true, List, [], refl, sym, ap, ◌∙◌, subst, inl, inr, arith}
+use Rattle.std.proofs.Common.{ℕ, suc, ◌+◌, ◌≡◌, ◌≢◌, true, List, [], length, refl, sym, ap, ◌∙◌, subst, inl, inr, arith}
 use Rattle.std.specs.Prelude.{Contains}
 use Rattle.std.proofs.lemmas.List.Elements.{All-contains, Contains-append_left, Contains-append_right, Contains-append_cases}
 use Rattle.and_model.specs.Terms.{Path, Term, Terms, variable, number, compound, none, more, variables_of, variables_in, is_ground}
@@ -24,7 +24,7 @@ use Rattle.and_determinacy.proofs.Valuing.{has_no_variable}
 
 -- What is put for a variable of a term has its variables in what becomes of the term.
 mutual
-  image_has : (s : Substitution) (t : Term) (v w : Path × ℕ) → Contains (variables_of t) v → Contains (variables_of (s v.0 v.1)) w
+  pub image_has : (s : Substitution) (t : Term) (v w : Path × ℕ) → Contains (variables_of t) v → Contains (variables_of (s v.0 v.1)) w
       → Contains (variables_of (apply s t)) w
   image_has s (variable q k) v w c i = elim (contains_cases (q, k) v [] c) [
     | inl e ↦ subst (λ (x : Path × ℕ). Contains (variables_of (s x.0 x.1)) w) e i
@@ -109,14 +109,14 @@ module _ (P : NamedProgram) (row later : List Ref) (grows : Grows row later) whe
       has_no_variable w ground ([], cell) all
 
 -- the number that the reference is, if it is one, is written
-abbrev IsNumberSet : List Ref → Ref → Type 0
+abbrev pub IsNumberSet : List Ref → Ref → Type 0
 IsNumberSet row r = (pair : ℕ) → r ≡ Number pair → (word_at row pair ≢ Free) × (word_at row (suc pair) ≢ Free)
 
 module _ (P : NamedProgram) (row later : List Ref) (sound : IsSound P row) (grows : Grows row later) (cells : List ℕ) (free : AreFree later cells) where
-  stays : (r : Ref) (t : Term) → StandsFor P row r t → IsWatched P row cells r → IsNumberSet row r → StandsFor P later r t
+  stays : (r : Ref) (t : Term) → StandsFor P row r t → IsWatched P row (length row) cells r → IsNumberSet row r → StandsFor P later r t
   stays r t (Meaning.unbound cell below is) watched written =
       let longer = grows.longer in
-      Meaning.unbound cell (omega arith) (All-contains (λ (c : ℕ). word_at later c ≡ Free) cells cell free (watched cell (Meaning.here cell) is))
+      Meaning.unbound cell (omega arith) (All-contains (λ (c : ℕ). word_at later c ≡ Free) cells cell free (watched cell (Meaning.here cell) is below))
   stays r t (Meaning.bound cell q u set rest) watched written =
       Meaning.bound cell q u (grows.set cell q set)
       (stays q u rest (λ c h f. watched c (Meaning.onward cell q c set h) f) (λ pair e. sound.written cell pair (set.0 ∙ e)))
@@ -133,5 +133,5 @@ module _ (P : NamedProgram) (row later : List Ref) (sound : IsSound P row) (grow
       subst (StandsFor P later (Number pair)) same (Meaning.integer pair)
 
   -- While the cells are free of which a cell is watched, it stands for what it stood for.
-  pub cell_stays : (cell : ℕ) (t : Term) → StandsFor P row (Cell cell) t → IsWatched P row cells (Cell cell) → StandsFor P later (Cell cell) t
+  pub cell_stays : (cell : ℕ) (t : Term) → StandsFor P row (Cell cell) t → IsWatched P row (length row) cells (Cell cell) → StandsFor P later (Cell cell) t
   cell_stays cell t stands watched = stays (Cell cell) t stands watched (λ pair e. absurd (cc))

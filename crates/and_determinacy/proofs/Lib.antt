@@ -20,3 +20,6 @@ pub mod Additions
 pub mod Growing
 pub mod Watched
 pub mod Resting
+pub mod Told
+pub mod Fitted
+pub mod Staying

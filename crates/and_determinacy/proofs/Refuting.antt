@@ -20,7 +20,7 @@ use Rattle.and_determinacy.specs.Guards.{CanBeRead, GuardCanBeRead, IsFalseIn, I
 use Rattle.and_determinacy.proofs.Moving.{IsLow, Outside, Inside, known_inside, known_outside}
 use Rattle.and_determinacy.proofs.Reading.{AreWhole, read_known, known_read}
 
-not_true : (b : Bool) → not b ≡ true → b ≡ false
+pub not_true : (b : Bool) → not b ≡ true → b ≡ false
 not_true true e = absurd (true≢false (sym e))
 not_true false e = refl
 

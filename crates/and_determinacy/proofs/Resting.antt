@@ -62,7 +62,7 @@ onto first s (n ∷ q) k = s (n ∷ q) k
 module _ (P : NamedProgram) (row later : List Ref) (sound : IsSound P row) (settled : IsSettled P row) (later_sound : IsSound P later)
     (later_settled : IsSettled P later) (grows : Grows row later) (cells : List ℕ) (free : AreFree later cells) (base : ℕ) (call : Term)
     (whole : AreWhole row base call)
-    (watched : (v : Path × ℕ) → Contains (variables_of call) v → IsWatched P row cells (Cell (base + 1 + v.1))) where
+    (watched : (v : Path × ℕ) → Contains (variables_of call) v → IsWatched P row (length row) cells (Cell (base + 1 + v.1))) where
   now : IsMostGeneral P row (equations_of P row)
   now = rows_with_terms_are_solutions P row sound ((settled_rows_have_terms P row sound).0 settled)
 
@@ -127,7 +127,7 @@ module _ (P : NamedProgram) (row later : List Ref) (sound : IsSound P row) (sett
 
 -- So a goal rests on the cells that are watched from its node.
 pub rests_on : (P : NamedProgram) (row : List Ref) (g : Goal) (node : ℕ) (cells : List ℕ) → AllFall 0 P.skeleton.nodes → IsSound P row
-    → IsSettled P row → IsNodeOf P row g node → IsWatched P row cells (part_at P g.base node) → RestsOn P row g cells
+    → IsSettled P row → IsNodeOf P row g node → IsWatched P row (length row) cells (part_at P g.base node) → RestsOn P row g cells
 rests_on P row g node cells fall sound settled is watched later grows later_sound later_settled free c k =
     let call : Term = node_term P.skeleton.nodes node in
     let whole : AreWhole row g.base call = λ v i. (
@@ -136,5 +136,5 @@ rests_on P row g node cells fall sound settled is watched later grows later_soun
     ) in
     subst (λ (t : Term). Candidate P.program (equations_of P later) outside (placed g.base t) c) (sym is.term)
     (still_candidate P row later sound settled later_sound later_settled grows cells free g.base call whole
-    (variables_watched P fall row cells g.base node watched) c
+    (variables_watched P fall row (length row) cells g.base node watched) c
     (subst (λ (t : Term). Candidate P.program (equations_of P row) outside (placed g.base t) c) is.term k))

@@ -1,6 +1,6 @@
 -- The first candidates of a list of clauses, and what they say of a goal.
 use Rattle.std.proofs.Common.{ℕ, ◌+◌, ◌≡◌, ◌<◌, ◌≤◌, false, List, length, get_or, Some, refl, sym, ap, ◌∙◌, subst, inl, inr, arith}
-use Rattle.std.specs.Prelude.{All, AllPairs, Contains, ◌⊎◌, ◌∷◌, [], ◌≢◌, ◌++◌, slice_get, Result, Ok, Err, IfOk, OnOk}
+use Rattle.std.specs.Prelude.{All, Contains, ◌⊎◌, ◌∷◌, [], ◌≢◌, ◌++◌, slice_get, Result, Ok, Err, IfOk, OnOk}
 use Rattle.std.specs.declared.alloc.AllocError.{AllocError}
 use Rattle.std.proofs.lemmas.Bool.{cases_lt}
 use Rattle.std.proofs.lemmas.List.Elements.{All-contains, All-nil, All-cons}
@@ -148,6 +148,21 @@ module _ (Q : ClauseNo → Type 0) (clauses : List ClauseNo) (from mid : ℕ) (b
 
 -- ---- What they say of a goal
 
+-- Of two that are found one after the other the second is the later clause.
+pub two_rise : (P : NamedProgram) (row : List Ref) (node base : ℕ) (clauses : List ClauseNo) → AreServed P row node base clauses
+    → (Q : ClauseNo → Type 0) (from : ℕ) (one two : Found) → IsNextOf Q clauses from one → IsNextOf Q clauses one.behind two
+    → one.clause.0 < two.clause.0
+two_rise P row node base clauses served Q from one two first second =
+    let low : second.place < length clauses = slice_get_within clauses second.place two.clause second.there in
+    let order : (get_or clauses first.place none_such).0 < (get_or clauses second.place none_such).0 =
+    served.rise first.place second.place none_such (let b = first.behind in let a = second.after in omega arith) low in
+    let left : get_or clauses first.place none_such ≡ one.clause =
+    get_or_from_slice_get clauses first.place one.clause none_such first.there in
+    let right : get_or clauses second.place none_such ≡ two.clause =
+    get_or_from_slice_get clauses second.place two.clause none_such second.there in
+    subst (λ (x : ClauseNo). x.0 < two.clause.0) left
+    (subst (λ (y : ClauseNo). (get_or clauses first.place none_such).0 < y.0) right order)
+
 module _ (P : NamedProgram) (row : List Ref) (g : Goal) (node : ℕ) (of : IsNodeOf P row g node) (clauses : List ClauseNo)
     (served : AreServed P row node g.base clauses) where
   abbrev Q : ClauseNo → Type 0
@@ -203,16 +218,7 @@ module _ (P : NamedProgram) (row : List Ref) (g : Goal) (node : ℕ) (of : IsNod
   two_found : (one two : Found) → IsNextOf (NodeHas P row node g.base) clauses 0 one
       → IsNextOf (NodeHas P row node g.base) clauses one.behind two → IsJudged P row g Several
   two_found one two first second =
-      let low : second.place < length clauses = slice_get_within clauses second.place two.clause second.there in
-      let order : (get_or clauses first.place none_such).0 < (get_or clauses second.place none_such).0 =
-      served.rise first.place second.place none_such (let b = first.behind in let a = second.after in omega arith) low in
-      let left : get_or clauses first.place none_such ≡ one.clause =
-      get_or_from_slice_get clauses first.place one.clause none_such first.there in
-      let right : get_or clauses second.place none_such ≡ two.clause =
-      get_or_from_slice_get clauses second.place two.clause none_such second.there in
-      let less : one.clause.0 < two.clause.0 =
-      subst (λ (x : ClauseNo). x.0 < two.clause.0) left
-      (subst (λ (y : ClauseNo). (get_or clauses first.place none_such).0 < y.0) right order) in (
+      let less = two_rise P row node g.base clauses served (NodeHas P row node g.base) 0 one two first second in (
         one.clause.0,
         two.clause.0,
         (λ e. omega arith),

@@ -15,7 +15,7 @@ use Rattle.and_unify.specs.Setting.{HaveBeenSet}
 use Rattle.and_determinacy.proofs.Widening.{widened_length}
 
 -- a number is in a list or not
-among_or_not : (xs : List ℕ) (x : ℕ) → Contains xs x ⊎ (Contains xs x → ⊥)
+pub among_or_not : (xs : List ℕ) (x : ℕ) → Contains xs x ⊎ (Contains xs x → ⊥)
 among_or_not [] x = inr (λ c. contains_none x c)
 among_or_not (y ∷ xs) x = elim (cases_eq x y) [
   | inl e ↦ inl (subst (λ (z : ℕ). Contains (y ∷ xs) z) (sym e) (contains_first y xs))

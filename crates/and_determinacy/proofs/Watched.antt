@@ -64,13 +64,13 @@ module _ (P : NamedProgram) (row : List Ref) where
 
 -- ---- Structures
 
-module _ (P : NamedProgram) (fall : AllFall 0 P.skeleton.nodes) (row : List Ref) (cells : List ℕ) where
+module _ (P : NamedProgram) (fall : AllFall 0 P.skeleton.nodes) (row : List Ref) (floor : ℕ) (cells : List ℕ) where
   resolved_watched : (base n : ℕ) (ts : List Term) (s : Shape) → node_term P.skeleton.nodes n ≡ shape_term ts s
-      → IsWatched P row cells (resolved s (record { 0 = n }) base) → (v : Path × ℕ) → Contains (variables_of (node_term P.skeleton.nodes n)) v
-      → IsWatched P row cells (Cell (base + 1 + v.1))
+      → IsWatched P row floor cells (resolved s (record { 0 = n }) base) → (v : Path × ℕ) → Contains (variables_of (node_term P.skeleton.nodes n)) v
+      → IsWatched P row floor cells (Cell (base + 1 + v.1))
   resolved_watched base n ts (Skeletons.variable k) e watched v c =
       elim (contains_cases ([], k) v [] (subst (λ (t : Term). Contains (variables_of t) v) e c)) [
-        | inl same ↦ subst (λ (x : Path × ℕ). IsWatched P row cells (Cell (base + 1 + x.1))) (sym same) watched
+        | inl same ↦ subst (λ (x : Path × ℕ). IsWatched P row floor cells (Cell (base + 1 + x.1))) (sym same) watched
         | inr none_left ↦ absurd (contains_none v none_left)
       ]
   resolved_watched base n ts (Skeletons.number z) e watched v c =
@@ -79,8 +79,8 @@ module _ (P : NamedProgram) (fall : AllFall 0 P.skeleton.nodes) (row : List Ref)
       λ cell held free. watched cell (Meaning.inside (record { 0 = n }) base v cell c held) free
 
   -- Where the place of a node is watched, the cells of its variables are.
-  pub variables_watched : (base n : ℕ) → IsWatched P row cells (part_at P base n) → (v : Path × ℕ)
-      → Contains (variables_of (node_term P.skeleton.nodes n)) v → IsWatched P row cells (Cell (base + 1 + v.1))
+  pub variables_watched : (base n : ℕ) → IsWatched P row floor cells (part_at P base n) → (v : Path × ℕ)
+      → Contains (variables_of (node_term P.skeleton.nodes n)) v → IsWatched P row floor cells (Cell (base + 1 + v.1))
   variables_watched base n watched v c =
       resolved_watched base n (terms_behind [] P.skeleton.nodes) (shape_at P.skeleton n) (node_term_shape P.skeleton.nodes n fall) watched v c
 
@@ -103,12 +103,12 @@ module _ (P : NamedProgram) (fall : AllFall 0 P.skeleton.nodes) (row : List Ref)
 
   -- Where its parts are watched, a structure is.
   pub parts_watched : (words : ℕ) (node : NodeNo) (base : ℕ) → IsInRange P words (Node node base)
-      → All (IsWatched P row cells) (parts_of P (Node node base)) → IsWatched P row cells (Node node base)
+      → All (IsWatched P row floor cells) (parts_of P (Node node base)) → IsWatched P row floor cells (Node node base)
   parts_watched words node base fits all cell held free =
       let (v, at, rest) = node_holds P row node base (Node node base) cell refl held in
       let here = subst (λ (t : Term). Contains (variables_of t) v) (node_term_shape P.skeleton.nodes node.0 fall) at in
       let (m, argument, inside) = in_shape (shape_at P.skeleton node.0) v (shape_is_no_variable P node.0 fits.1 fits.0.there) here in
-      let part = All-contains (IsWatched P row cells) (parts_of P (Node node base)) (part_at P base m) all
+      let part = All-contains (IsWatched P row floor cells) (parts_of P (Node node base)) (part_at P base m) all
       (contains_image (part_at P base) (arguments_at P.skeleton node.0) m argument) in
       variables_watched base m part v inside cell rest free
 
@@ -129,47 +129,62 @@ stays_listed : (begun : ℕ) (had gained : List ℕ) (cell : ℕ) → Contains (
 stays_listed begun had gained cell c low =
     subst (λ (l : List ℕ). Contains l cell) (sym (drop-append-le begun had gained low)) (Contains-append_left (drop begun had) gained cell c)
 
-module _ (P : NamedProgram) (row : List Ref) (begun : ℕ) where
+module _ (P : NamedProgram) (row : List Ref) (floor begun : ℕ) where
   nothing_put : (listed : List ℕ) (goal : List ℕ → Type 0)
       → ((cells : List ℕ) → ((cell : ℕ) → Contains (drop begun listed) cell → Contains cells cell) → goal cells)
-      → Suffice P row begun listed [] goal
+      → Suffice P row floor begun listed [] goal
   nothing_put listed goal holds = record { in_range = All-nil (IsInRange P (length row)); owes = λ cells sub all. holds cells sub }
 
   -- A place that holds nothing is followed,
   pub holds_nothing : (at : Ref) (visits : List Ref) (listed : List ℕ) → ((c : ℕ) → Holds P row at c → ⊥)
-      → IsFollowed P row begun at visits visits listed listed
+      → IsFollowed P row floor begun at visits visits listed listed
   holds_nothing at visits listed none = record {
     more = [];
     put = sym (append-nil visits);
     gained = [];
     listed = sym (append-nil listed);
-    suffices = nothing_put listed (λ cells. IsWatched P row cells at) (λ cells sub cell held free. absurd (none cell held));
+    suffices = nothing_put listed (λ cells. IsWatched P row floor cells at) (λ cells sub cell held free. absurd (none cell held));
   }
 
   -- a free cell where it is listed,
   pub free_followed : (cell : ℕ) (visits : List Ref) (old new : List ℕ) → word_at row cell ≡ Free → IsListed cell begun old new
-      → IsFollowed P row begun (Cell cell) visits visits old new
+      → IsFollowed P row floor begun (Cell cell) visits visits old new
   free_followed cell visits old new free l = record {
     more = [];
     put = sym (append-nil visits);
     gained = l.gained;
     listed = l.longer;
-    suffices = nothing_put new (λ cells. IsWatched P row cells (Cell cell)) (λ cells sub c held is.
+    suffices = nothing_put new (λ cells. IsWatched P row floor cells (Cell cell)) (λ cells sub c held is.
         elim (cell_holds P row cell (Cell cell) c refl held) [
-          | inl e ↦ sub c (subst (Contains (drop begun new)) (sym e) l.there)
+          | inl e ↦ λ below. sub c (subst (Contains (drop begun new)) (sym e) l.there)
+          | inr found ↦ absurd (found.1.1 (sym found.1.0 ∙ free))
+        ]);
+  }
+
+  -- or lies past the floor,
+  pub past_followed : (cell : ℕ) (visits : List Ref) (listed : List ℕ) → word_at row cell ≡ Free → floor ≤ cell
+      → IsFollowed P row floor begun (Cell cell) visits visits listed listed
+  past_followed cell visits listed free past = record {
+    more = [];
+    put = sym (append-nil visits);
+    gained = [];
+    listed = sym (append-nil listed);
+    suffices = nothing_put listed (λ cells. IsWatched P row floor cells (Cell cell)) (λ cells sub c held is below.
+        elim (cell_holds P row cell (Cell cell) c refl held) [
+          | inl e ↦ absurd (omega arith)
           | inr found ↦ absurd (found.1.1 (sym found.1.0 ∙ free))
         ]);
   }
 
   -- a cell whose word holds nothing,
   pub ended_followed : (cell : ℕ) (word : Ref) (visits : List Ref) (listed : List ℕ) → word_at row cell ≡ word → word ≢ Free
-      → ((c : ℕ) → Holds P row word c → ⊥) → IsFollowed P row begun (Cell cell) visits visits listed listed
+      → ((c : ℕ) → Holds P row word c → ⊥) → IsFollowed P row floor begun (Cell cell) visits visits listed listed
   ended_followed cell word visits listed is set none = record {
     more = [];
     put = sym (append-nil visits);
     gained = [];
     listed = sym (append-nil listed);
-    suffices = nothing_put listed (λ cells. IsWatched P row cells (Cell cell)) (λ cells sub c held free.
+    suffices = nothing_put listed (λ cells. IsWatched P row floor cells (Cell cell)) (λ cells sub c held free.
         elim (cell_holds P row cell (Cell cell) c refl held) [
           | inl e ↦ absurd (set (sym is ∙ ap (word_at row) (sym e) ∙ free))
           | inr found ↦ absurd (none c (subst (λ (r : Ref). Holds P row r c) (sym found.1.0 ∙ is) found.2))
@@ -179,7 +194,7 @@ module _ (P : NamedProgram) (row : List Ref) (begun : ℕ) where
   -- another set one where its word is visited,
   pub set_followed : IsSound P row → (cell : ℕ) (word : Ref) (visits new : List Ref) (listed : List ℕ) → cell < length row
       → word_at row cell ≡ word → word ≢ Free → is_half word ≡ false → new ≡ visits ++ word ∷ []
-      → IsFollowed P row begun (Cell cell) visits new listed listed
+      → IsFollowed P row floor begun (Cell cell) visits new listed listed
   set_followed sound cell word visits new listed below is set whole put = record {
     more = word ∷ [];
     put = put;
@@ -191,7 +206,7 @@ module _ (P : NamedProgram) (row : List Ref) (begun : ℕ) where
       owes = λ cells sub all c held free. elim (cell_holds P row cell (Cell cell) c refl held) [
         | inl e ↦ absurd (set (sym is ∙ ap (word_at row) (sym e) ∙ free))
         | inr found ↦
-            All-head (IsWatched P row cells) word [] all c (subst (λ (r : Ref). Holds P row r c) (sym found.1.0 ∙ is) found.2) free
+            All-head (IsWatched P row floor cells) word [] all c (subst (λ (r : Ref). Holds P row r c) (sym found.1.0 ∙ is) found.2) free
       ];
     };
   }
@@ -199,7 +214,7 @@ module _ (P : NamedProgram) (row : List Ref) (begun : ℕ) where
   -- and a structure where its parts are.
   pub parts_followed : AllFall 0 P.skeleton.nodes → (node : NodeNo) (base : ℕ) (visits new : List Ref) (listed : List ℕ)
       → IsInRange P (length row) (Node node base) → new ≡ visits ++ parts_of P (Node node base)
-      → IsFollowed P row begun (Node node base) visits new listed listed
+      → IsFollowed P row floor begun (Node node base) visits new listed listed
   parts_followed fall node base visits new listed fits put = record {
     more = parts_of P (Node node base);
     put = put;
@@ -208,45 +223,52 @@ module _ (P : NamedProgram) (row : List Ref) (begun : ℕ) where
     suffices = record {
       in_range = all_of (IsInRange P (length row)) (parts_of P (Node node base))
           (λ r c. part_in_range P (length row) (Node node base) r fall fits c);
-      owes = λ cells sub all. parts_watched P fall row cells (length row) node base fits all;
+      owes = λ cells sub all. parts_watched P fall row floor cells (length row) node base fits all;
     };
   }
 
-  module _ (root : Ref) where
-    -- Once a place is followed, what is on the list of visits suffices for the root.
+  module _ (goal : List ℕ → Type 0) where
+    -- Once a place is followed, what is on the list of visits suffices for the goal.
     pub suffice_with : (at : Ref) (old new : List Ref) (had has : List ℕ) → begun ≤ length had
-        → Suffice P row begun had old (λ cells. IsWatched P row cells at → IsWatched P row cells root)
-        → IsFollowed P row begun at old new had has → Suffice P row begun has new (λ cells. IsWatched P row cells root)
+        → Suffice P row floor begun had old (λ cells. IsWatched P row floor cells at → goal cells)
+        → IsFollowed P row floor begun at old new had has → Suffice P row floor begun has new goal
     suffice_with at old new had has low before step =
-        subst (λ (l : List ℕ). Suffice P row begun l new (λ cells. IsWatched P row cells root)) (sym step.listed)
-        (subst (λ (rs : List Ref). Suffice P row begun (had ++ step.gained) rs (λ cells. IsWatched P row cells root)) (sym step.put) (record {
+        subst (λ (l : List ℕ). Suffice P row floor begun l new goal) (sym step.listed)
+        (subst (λ (rs : List Ref). Suffice P row floor begun (had ++ step.gained) rs goal) (sym step.put) (record {
           in_range = All-append (IsInRange P (length row)) old step.more before.in_range step.suffices.in_range;
           owes = λ cells sub all.
               before.owes cells (λ cell c. sub cell (stays_listed begun had step.gained cell c low))
-              (all_left (IsWatched P row cells) old step.more all)
+              (all_left (IsWatched P row floor cells) old step.more all)
               (step.suffices.owes cells (λ cell c. sub cell (subst (λ (l : List ℕ). Contains (drop begun l) cell) step.listed c))
-              (all_right (IsWatched P row cells) old step.more all));
+              (all_right (IsWatched P row floor cells) old step.more all));
         }))
 
     -- one is taken from the list,
     pub suffice_taken : (next : Ref) (old new : List Ref) (listed : List ℕ)
-        → Suffice P row begun listed old (λ cells. IsWatched P row cells root) → old ≡ new ++ next ∷ []
-        → IsInRange P (length row) next × Suffice P row begun listed new (λ cells. IsWatched P row cells next → IsWatched P row cells root)
+        → Suffice P row floor begun listed old goal → old ≡ new ++ next ∷ []
+        → IsInRange P (length row) next × Suffice P row floor begun listed new (λ cells. IsWatched P row floor cells next → goal cells)
     suffice_taken next old new listed given is =
-        let now = subst (λ (rs : List Ref). Suffice P row begun listed rs (λ cells. IsWatched P row cells root)) is given in (
+        let now = subst (λ (rs : List Ref). Suffice P row floor begun listed rs goal) is given in (
           All-contains (IsInRange P (length row)) (new ++ next ∷ []) next now.in_range (Contains-push new next),
           record {
             in_range = all_left (IsInRange P (length row)) new (next ∷ []) now.in_range;
-            owes = λ cells sub all watched. now.owes cells sub (All-push (IsWatched P row cells) new next all watched);
+            owes = λ cells sub all watched. now.owes cells sub (All-push (IsWatched P row floor cells) new next all watched);
           },
         )
 
     -- and where nothing is on it, all was gathered.
-    pub suffice_nothing : (visits : List Ref) (had gained listed : List ℕ)
-        → Suffice P row begun listed visits (λ cells. IsWatched P row cells root) → visits ≡ [] → listed ≡ had ++ gained → begun ≡ length had
-        → IsWatched P row gained root
-    suffice_nothing visits had gained listed given none longer start =
-        let behind : drop begun listed ≡ gained =
-        ap (drop begun) longer ∙ ap (λ (n : ℕ). drop n (had ++ gained)) start ∙ drop-append_seam had gained in
-        given.owes gained (λ cell c. subst (λ (l : List ℕ). Contains l cell) behind c)
-        (subst (All (IsWatched P row gained)) (sym none) (All-nil (IsWatched P row gained)))
+    pub suffice_nothing : (visits : List Ref) (listed : List ℕ) → Suffice P row floor begun listed visits goal → visits ≡ []
+        → goal (drop begun listed)
+    suffice_nothing visits listed given none =
+        given.owes (drop begun listed) (λ cell c. c)
+        (subst (All (IsWatched P row floor (drop begun listed))) (sym none) (All-nil (IsWatched P row floor (drop begun listed))))
+
+-- So what a term holds is what the list gained.
+pub root_watched : (P : NamedProgram) (row : List Ref) (floor begun : ℕ) (had gained out : List ℕ) (root : Ref) (visits : List Ref)
+    → out ≡ had ++ gained → begun ≡ length had → visits ≡ root ∷ [] → All (IsWatched P row floor (drop begun out)) visits
+    → IsWatched P row floor gained root
+root_watched P row floor begun had gained out root visits longer start is all =
+    let behind : drop begun out ≡ gained =
+    ap (drop begun) longer ∙ ap (λ (n : ℕ). drop n (had ++ gained)) start ∙ drop-append_seam had gained in
+    subst (λ (cells : List ℕ). IsWatched P row floor cells root) behind
+    (All-head (IsWatched P row floor (drop begun out)) root [] (subst (All (IsWatched P row floor (drop begun out))) is all))

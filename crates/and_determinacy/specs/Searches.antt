@@ -9,6 +9,7 @@ use Rattle.and_cells.specs.Ranges.{NamedProgram}
 use Rattle.and_cells.specs.Meaning.{equations_of}
 use Rattle.and_branch_laws.specs.Judging.{outside}
 use Rattle.and_branch_laws.specs.Variables.{placed}
+use Rattle.and_determinacy.specs.Watching.{StaysWhile}
 use Rattle.and_determinacy.specs.declared.judging.Found.{Found}
 use Rattle.and_determinacy.specs.declared.judging.Judged.{Judged}
 use Rattle.and_determinacy.specs.declared.judging.Judged.TheVariants.{Nothing, One, Several}
@@ -17,6 +18,10 @@ use Rattle.and_determinacy.specs.declared.judging.Two.{Two}
 -- the clause is a candidate of the node, read in the frame at the base
 abbrev pub NodeHas : NamedProgram → List Ref → (node base : ℕ) → ClauseNo → Type 0
 NodeHas P row node base c = Candidate P.program (equations_of P row) outside (placed base (node_term P.skeleton.nodes node)) c.0
+
+-- and stays one while these cells are free
+abbrev pub NodeKeeps : NamedProgram → List Ref → (node base : ℕ) → List ℕ → ClauseNo → Type 0
+NodeKeeps P row node base cells c = NodeHas P row node base c × StaysWhile P row base (node_term P.skeleton.nodes node) cells c.0
 
 -- The clauses are of the node's predicate, in textual order, and all its candidates are among them.
 pub record AreServed (P : NamedProgram) (row : List Ref) (node base : ℕ) (clauses : List ClauseNo) : Type 0 where

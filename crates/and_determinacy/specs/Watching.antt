@@ -1,13 +1,17 @@
 -- What is judged of a goal while some cells are free.
-use Rattle.std.specs.Prelude.{ℕ, ◌≡◌, ◌≤◌, ◌++◌, List, length, drop, All, Contains}
+use Rattle.std.specs.Prelude.{ℕ, ◌≡◌, ◌≢◌, ◌<◌, ◌≤◌, ◌++◌, List, length, drop, All, Contains, Bool, true, false, Option, Some, None}
+use Rattle.and_model.specs.Terms.{Term}
+use Rattle.and_model.specs.Candidates.{Candidate}
+use Rattle.and_model.specs.Stands.{term_of}
 use Rattle.and_model.specs.declared.goal.Goal.{Goal}
 use Rattle.and_model.specs.declared.reference.Ref.{Ref}
-use Rattle.and_model.specs.declared.reference.Ref.TheVariants.{Free}
+use Rattle.and_model.specs.declared.reference.Ref.TheVariants.{Free, Cell}
 use Rattle.and_cells.specs.Ranges.{NamedProgram, IsInRange}
 use Rattle.and_cells.specs.Rows.{IsSound}
 use Rattle.and_cells.specs.Seen.{word_at, IsSetTo}
-use Rattle.and_cells.specs.Meaning.{IsSettled, Holds}
-use Rattle.and_branch_laws.specs.Judging.{CandidateInCells}
+use Rattle.and_cells.specs.Meaning.{IsSettled, Holds, equations_of}
+use Rattle.and_branch_laws.specs.Judging.{CandidateInCells, outside}
+use Rattle.and_branch_laws.specs.Variables.{placed}
 
 -- The later row has what is set in the earlier one, and may be longer.
 pub record Grows (old new : List Ref) : Type 0 where
@@ -24,17 +28,28 @@ RestsOn P row g cells =
     (later : List Ref) → Grows row later → IsSound P later → IsSettled P later → AreFree later cells
     → (c : ℕ) → CandidateInCells P row g c → CandidateInCells P later g c
 
+-- The clause is a candidate of a call, read in the frame at the base, in whatever settled row this one grows to while these cells are free.
+abbrev pub StaysWhile : NamedProgram → List Ref → (base : ℕ) → Term → List ℕ → ℕ → Type 0
+StaysWhile P row base call cells c =
+    (later : List Ref) → Grows row later → IsSound P later → IsSettled P later → AreFree later cells
+    → Candidate P.program (equations_of P later) outside (placed base call) c
+
+-- Two clauses are.
+abbrev pub TwoStayWhile : NamedProgram → List Ref → Goal → List ℕ → Type 0
+TwoStayWhile P row g cells =
+    (c : ℕ) × (d : ℕ) × (c ≢ d) × StaysWhile P row g.base (term_of P.program g) cells c × StaysWhile P row g.base (term_of P.program g) cells d
+
 -- ---- While they are gathered
 
--- Each free cell that the term of a reference holds is among these.
-abbrev pub IsWatched : NamedProgram → List Ref → List ℕ → Ref → Type 0
-IsWatched P row cells r = (cell : ℕ) → Holds P row r cell → word_at row cell ≡ Free → Contains cells cell
+-- Each free cell below the floor that the term of a reference holds is among these.
+abbrev pub IsWatched : NamedProgram → List Ref → (floor : ℕ) → List ℕ → Ref → Type 0
+IsWatched P row floor cells r = (cell : ℕ) → Holds P row r cell → word_at row cell ≡ Free → cell < floor → Contains cells cell
 
 -- These are in range, and where what they hold is watched, with the cells of a list from a place on, the goal holds.
-pub record Suffice (P : NamedProgram) (row : List Ref) (begun : ℕ) (listed : List ℕ) (rest : List Ref) (goal : List ℕ → Type 0) : Type 0 where
+pub record Suffice (P : NamedProgram) (row : List Ref) (floor begun : ℕ) (listed : List ℕ) (rest : List Ref) (goal : List ℕ → Type 0) : Type 0 where
   pub in_range : All (IsInRange P (length row)) rest
   pub owes : (cells : List ℕ) → ((cell : ℕ) → Contains (drop begun listed) cell → Contains cells cell)
-      → All (IsWatched P row cells) rest → goal cells
+      → All (IsWatched P row floor cells) rest → goal cells
 
 -- The list has the cell from a place on, and may be longer than it was.
 pub record IsListed (cell begun : ℕ) (old new : List ℕ) : Type 0 where
@@ -43,9 +58,33 @@ pub record IsListed (cell begun : ℕ) (old new : List ℕ) : Type 0 where
   pub there : Contains (drop begun new) cell
 
 -- What is to be watched at a place was listed or put on the list of visits.
-pub record IsFollowed (P : NamedProgram) (row : List Ref) (begun : ℕ) (at : Ref) (old new : List Ref) (had has : List ℕ) : Type 0 where
+pub record IsFollowed (P : NamedProgram) (row : List Ref) (floor begun : ℕ) (at : Ref) (old new : List Ref) (had has : List ℕ) : Type 0 where
   pub more : List Ref
   pub put : new ≡ old ++ more
   pub gained : List ℕ
   pub listed : has ≡ had ++ gained
-  pub suffices : Suffice P row begun has more (λ cells. IsWatched P row cells at)
+  pub suffices : Suffice P row floor begun has more (λ cells. IsWatched P row floor cells at)
+
+-- ---- After a trial that fitted
+
+-- Among the cells are each below the floor that was set, and each free one below it that what it is set to holds.
+abbrev pub HaveWhatWasSet : NamedProgram → (new : List Ref) → (floor : ℕ) → (bound cells : List ℕ) → Type 0
+HaveWhatWasSet P new floor bound cells =
+    (b : ℕ) → Contains bound b → b < floor
+    → Contains cells b × ((v : ℕ) → Holds P new (Cell b) v → word_at new v ≡ Free → v < floor → Contains cells v)
+
+-- these cells, where they are told
+abbrev pub told_if : Bool → List ℕ → Option (List ℕ)
+told_if true cells = Some cells
+told_if false cells = None
+
+-- The cells were told before, and these are among them.
+abbrev pub HadBefore : Option (List ℕ) → List ℕ → Type 0
+HadBefore told cells = (had : List ℕ) × (told ≡ Some had) × ((cell : ℕ) → Contains had cell → Contains cells cell)
+
+-- Each cell of a list below the floor is on both lists, of which one gained nothing else.
+pub record AreListed (bound : List ℕ) (floor : ℕ) (visits : List Ref) (old new : List ℕ) : Type 0 where
+  pub gained : List ℕ
+  pub longer : new ≡ old ++ gained
+  pub only : All (λ (r : Ref). (b : ℕ) × Contains bound b × (r ≡ Cell b)) visits
+  pub all : (b : ℕ) → Contains bound b → b < floor → Contains new b × Contains visits (Cell b)

@@ -11,7 +11,8 @@ ghost use Rattle.and_cells.specs.Parts.{named};
 ghost use Rattle.and_determinacy.specs.Candidates.{CanBeJudged, IsNodeOf, AreCandidates, IsJudged, IsNarrowed, narrowed_as};
 ghost use Rattle.and_determinacy.specs.Guards.{CanBeRead};
 ghost use Rattle.and_determinacy.specs.Looks.{IsLook, IsLeft};
-ghost use Rattle.and_determinacy.specs.Searches.{NodeHas, AreServed, IsNextOf, IsCount, NoneFrom, AreTwo};
+ghost use Rattle.and_determinacy.specs.Searches.{NodeHas, AreServed, IsNextOf, IsCount, NoneFrom, AreTwo, NodeKeeps};
+ghost use Rattle.and_determinacy.specs.Watching.{HadBefore, StaysWhile, TwoStayWhile};
 ghost use Rattle.and_determinacy.specs.declared.judging.Found.{Found};
 ghost use Rattle.and_determinacy.specs.Tables.{IsKnown, IsTableOf};
 
@@ -125,6 +126,9 @@ fn next_candidate<N: Naming>(
     ensures none { result ≡ Ok None → NoneFrom (NodeHas N.program cells.old node.0 base) clauses.now from (length clauses.now) }
     ensures unchanged { OnOk result (cells.new ≡ cells.old) }
     ensures look { trials.new.look ≡ trials.old.look }
+    ensures before { (found : Found) → result ≡ Ok (Some found) → IfSome trials.new.rests (HadBefore trials.old.rests) }
+    ensures stays { (found : Found) → result ≡ Ok (Some found) → IfSome trials.new.rests (λ has.
+        StaysWhile N.program cells.old base (node_term N.program.skeleton.nodes node.0) has found.clause.0) }
 {
     for place in from..clauses.len() {
         let clause = clauses[place];
@@ -157,6 +161,8 @@ fn judge_from<N: Naming>(
     requires clauses { All (λ (c : ClauseNo). Of N.program.program (node_term N.program.skeleton.nodes node.0) c.0) clauses.now }
     requires look { IsLook N.program cells.old node.0 base trials.old.look }
     ensures count { IfOk result (IsCount (NodeHas N.program cells.old node.0 base) clauses.now from) }
+    ensures stay { result ≡ Ok Judged.Several → IfSome trials.new.rests (λ has.
+        IsCount (NodeKeeps N.program cells.old node.0 base has) clauses.now from Judged.Several) }
     ensures unchanged { OnOk result (cells.new ≡ cells.old) }
 {
     match next_candidate(table, loaded, cells, node, base, clauses, from, trials)? {
@@ -222,7 +228,8 @@ fn narrowed_from(judged: Judged) -> Narrowed
 
 /// Tells whether a goal has no candidate, at most one, or more. A clause is tried only where a look at
 /// the goal leaves two or more, so that a call that it leaves one costs no unification. The cells are
-/// as before, but after an error, which is want of memory.
+/// as before, but after an error, which is want of memory. Where it has two, [`Trials::told`] tells on
+/// which cells these rest.
 pub fn narrow<N: Naming>(
     table: &Determinacy,
     loaded: &Loaded,
@@ -236,6 +243,7 @@ pub fn narrow<N: Naming>(
     requires short { length cells.old ≤ MAX_LIMIT }
     requires goal { CanBeJudged N.program cells.old goal }
     ensures narrowed { IfOk result (IsNarrowed N.program cells.old goal) }
+    ensures told { result ≡ Ok Narrowed.Several → IfSome trials.new.rests (TwoStayWhile N.program cells.old goal) }
     ensures unchanged { OnOk result (cells.new ≡ cells.old) }
 {
     let node = node_of(loaded, cells, goal);
@@ -246,6 +254,7 @@ pub fn narrow<N: Naming>(
         Some(first) => match next_left(table, &trials.look, clauses, first + 1) {
             None => Ok(Narrowed::AtMost(clauses[first])),
             Some(_) => {
+                trials.rests.begin();
                 let judged = judge_from(
                     table, loaded, cells, node, goal.base, clauses, first, trials,
                 )?;

@@ -1,6 +1,6 @@
 //! Trials of clauses on settled cells, which are taken back.
 
-ghost use Rattle.std.specs.Prelude.{◌≡◌, ◌≤◌, ◌↔◌, Bool, true, length, Ok, IfOk, OnOk};
+ghost use Rattle.std.specs.Prelude.{◌≡◌, ◌≤◌, ◌↔◌, Bool, true, false, length, None, Ok, IfOk, IfSome, OnOk, option_copied};
 ghost use Rattle.and_model.specs.Candidates.{Candidate};
 ghost use Rattle.and_model.specs.Programs.{Of};
 ghost use Rattle.and_model.specs.declared.limits.TheConstants.{MAX_LIMIT};
@@ -15,9 +15,11 @@ ghost use Rattle.and_determinacy.specs.Guards.{CanBeRead};
 ghost use Rattle.and_determinacy.specs.Looks.{IsLook};
 ghost use Rattle.and_determinacy.specs.Tables.{IsTableOf};
 ghost use Rattle.and_determinacy.specs.Trials.{IsPrepared};
+ghost use Rattle.and_determinacy.specs.Watching.{HadBefore, StaysWhile};
 
 use crate::guards::is_guard_false;
 use crate::looking::Look;
+use crate::rests::Rests;
 use crate::table::Determinacy;
 use and_arith::WorkList;
 use and_cells::{Naming, PlainCells};
@@ -31,6 +33,7 @@ use std::alloc::{AllocError, Global};
 pub struct Trials {
     pub(crate) look: Look,
     tools: Tools,
+    pub(crate) rests: Rests,
 }
 
 impl Trials {
@@ -39,11 +42,20 @@ impl Trials {
         Trials {
             look: Look::none(),
             tools: Tools::new(alloc),
+            rests: Rests::new(alloc),
         }
     }
 
-    /// Looks at the call whose node is given, in the frame at the base, before its clauses are tried.
-    /// Takes no memory.
+    /// The cells on which two candidates rest of the call that [`narrow`](crate::narrow) was last asked of
+    /// and found to have two, where these are told. Takes no memory.
+    pub fn told(&self) -> Option<&[u32]>
+        ensures { option_copied result ≡ self.now.rests }
+    {
+        self.rests.told()
+    }
+
+    /// Looks at the call whose node is given, in the frame at the base, before its clauses are tried, and
+    /// forgets on what those of another one rest. Takes no memory.
     pub(crate) fn look_at<N: Naming>(
         &mut self,
         table: &Determinacy,
@@ -57,6 +69,7 @@ impl Trials {
         ensures look { IsLook N.program cells.old node.0 base self.new.look }
         ensures unchanged { cells.new ≡ cells.old }
     {
+        self.rests.forget();
         self.look = Look::at(table, loaded, cells, node, base);
     }
 
@@ -82,11 +95,16 @@ impl Trials {
             (placed base (node_term N.program.skeleton.nodes node.0)) clause.0 }
         ensures unchanged { OnOk result (cells.new ≡ cells.old) }
         ensures look { self.new.look ≡ self.old.look }
+        ensures before { result ≡ Ok true → IfSome self.new.rests (HadBefore self.old.rests) }
+        ensures stays { result ≡ Ok true → IfSome self.new.rests (λ has.
+            StaysWhile N.program cells.old base (node_term N.program.skeleton.nodes node.0) has clause.0) }
+        ensures same { result ≡ Ok false → self.new.rests ≡ self.old.rests }
     {
         if self.look.is_apart(table, clause) {
             return Ok(false);
         }
-        self.tools.fits(loaded, cells, node, base, clause)
+        self.tools
+            .fits(loaded, cells, node, base, clause, &mut self.rests)
     }
 }
 
@@ -117,6 +135,7 @@ impl Tools {
         node: NodeNo,
         base: u32,
         clause: ClauseNo,
+        rests: &mut Rests,
     ) -> Result<bool, AllocError>
         requires program { N.program ≡ named loaded.now }
         requires settled { IsSettled N.program cells.old }
@@ -126,9 +145,13 @@ impl Tools {
         ensures fits { (b : Bool) → result ≡ Ok b → (b ≡ true) ↔ Candidate N.program.program (equations_of N.program cells.old) outside
             (placed base (node_term N.program.skeleton.nodes node.0)) clause.0 }
         ensures unchanged { OnOk result (cells.new ≡ cells.old) }
+        ensures before { result ≡ Ok true → IfSome rests.new (HadBefore rests.old) }
+        ensures stays { result ≡ Ok true → IfSome rests.new (λ has.
+            StaysWhile N.program cells.old base (node_term N.program.skeleton.nodes node.0) has clause.0) }
+        ensures same { result ≡ Ok false → rests.new ≡ rests.old }
     {
         let floor = cells.len();
-        let fits = self.meets(loaded, cells, node, base, clause)?;
+        let fits = self.meets(loaded, cells, node, base, clause, rests)?;
         cells.take_back(self.solver.bound(), floor);
         Ok(fits)
     }
@@ -142,6 +165,7 @@ impl Tools {
         node: NodeNo,
         base: u32,
         clause: ClauseNo,
+        rests: &mut Rests,
     ) -> Result<bool, AllocError>
         requires program { N.program ≡ named loaded.now }
         requires settled { IsSettled N.program cells.old }
@@ -151,6 +175,10 @@ impl Tools {
         ensures fits { (b : Bool) → result ≡ Ok b → (b ≡ true) ↔ Candidate N.program.program (equations_of N.program cells.old) outside
             (placed base (node_term N.program.skeleton.nodes node.0)) clause.0 }
         ensures only_set { OnOk result (OnlySet self.new.solver cells.old cells.new) }
+        ensures before { result ≡ Ok true → IfSome rests.new (HadBefore rests.old) }
+        ensures stays { result ≡ Ok true → IfSome rests.new (λ has.
+            StaysWhile N.program cells.old base (node_term N.program.skeleton.nodes node.0) has clause.0) }
+        ensures same { result ≡ Ok false → rests.new ≡ rests.old }
     {
         loaded.skeleton_is_of_the_program();
         let floor = self.prepare(loaded, cells, node, base, clause)?;
@@ -161,7 +189,11 @@ impl Tools {
             Settled::Solved => {
                 let items = loaded.items(clause);
                 let refuted = is_guard_false(loaded, cells, floor, items, &mut self.values)?;
-                Ok(!refuted)
+                if refuted {
+                    return Ok(false);
+                }
+                rests.add(loaded, cells, clause, floor, self.solver.bound())?;
+                Ok(true)
             }
             Settled::NoSolution => Ok(false),
             Settled::Memory => Err(AllocError),

@@ -1,6 +1,6 @@
 //! The cells on which the candidates of a call rest.
 
-ghost use Rattle.std.specs.Prelude.{◌≡◌, ◌++◌, ◌<◌, ◌≤◌, ◌^◌, ℕ, Bool, List, Some, Ok, true, false, length, slice_get, OnOk};
+ghost use Rattle.std.specs.Prelude.{◌≡◌, ◌++◌, ◌<◌, ◌≤◌, ◌^◌, ℕ, Bool, List, Some, Ok, true, false, length, drop, slice_get, All, OnOk};
 ghost use Rattle.and_model.specs.declared.reference.Ref.{Ref};
 ghost use Rattle.and_program.specs.Loaded.{nodes_at, program_of, skeleton_of};
 ghost use Rattle.and_program.specs.Skeletons.{AllFall, call};
@@ -16,8 +16,8 @@ use and_model::{ClauseNo, Goal, NodeNo, Ref};
 use and_program::{ItemNode, Loaded};
 use std::alloc::AllocError;
 
-/// How many places of a call's term are looked at, at most.
-const MOST_PLACES: u32 = 128;
+/// How many places of terms are looked at, at most.
+pub(crate) const MOST_PLACES: u32 = 128;
 
 /// Puts on a list the free cells that the term of a call holds, on which its candidates rest, and
 /// answers whether these are all. Where the term has too many places, it answers that they are not,
@@ -39,10 +39,12 @@ pub fn watch<N: Naming>(
     ensures none { result ≡ Ok false → out.new.items ≡ out.old.items }
 {
     loaded.skeleton_is_of_the_program();
-    let _words = cells.len();
+    let words = cells.len();
     let begun = out.len();
     let root = loaded.resolve(call_at(loaded, goal.clause, goal.item), goal.base);
-    let all = gather(loaded, cells, root, visits, out)?;
+    visits.clear();
+    visits.push(root)?;
+    let all = gather(loaded, cells, words, begun, visits, out)?;
     if !all {
         out.truncate(begun);
     }
@@ -61,42 +63,41 @@ fn call_at(loaded: &Loaded, clause: ClauseNo, item: u32) -> NodeNo
     goal
 }
 
-/// Puts on a list the free cells that the term of a reference holds, and answers whether these are
-/// all. An error is want of memory.
-fn gather<N: Naming>(
+/// Puts on a list, of which the cells from a place on are kept apart, the free cells below the floor that
+/// the terms of these references hold, and answers whether they are all there. An error is want of memory.
+pub(crate) fn gather<N: Naming>(
     loaded: &Loaded,
     cells: &PlainCells<N>,
-    root: Ref,
+    floor: u32,
+    begun: usize,
     visits: &mut Vec<Ref>,
     out: &mut Vec<u32>,
 ) -> Result<bool, AllocError>
     requires program { N.program ≡ named loaded.now }
     requires falls { AllFall 0 N.program.skeleton.nodes }
-    requires in_range { IsInRange N.program (length cells.now) root }
-    ensures { (all : Bool) → result ≡ Ok all → (gained : List ℕ) × (out.new.items ≡ out.old.items ++ gained)
-        × (all ≡ true → IsWatched N.program cells.now gained root) }
+    requires in_range { All (IsInRange N.program (length cells.now)) visits.old.items }
+    requires begun { begun ≤ length out.old.items }
+    ensures longer { OnOk result ((gained : List ℕ) × (out.new.items ≡ out.old.items ++ gained)) }
+    ensures all { result ≡ Ok true → All (IsWatched N.program cells.now floor (drop begun out.new.items)) visits.old.items }
 {
-    visits.clear();
-    let begun = out.len();
-    let mut at = root;
     let mut left = MOST_PLACES;
     while left > 0 {
         left -= 1;
-        follow(loaded, cells, at, begun, visits, out)?;
         match visits.pop() {
-            Some(next) => at = next,
+            Some(at) => follow(loaded, cells, at, floor, begun, visits, out)?,
             None => return Ok(true),
         }
     }
     Ok(false)
 }
 
-/// Puts what a place is on a list, if it is a free cell, and what else it leads to on that of visits.
-/// An error is want of memory.
+/// Puts what a place is on a list, if it is a free cell below the floor, and what else it leads to on
+/// that of visits. An error is want of memory.
 fn follow<N: Naming>(
     loaded: &Loaded,
     cells: &PlainCells<N>,
     at: Ref,
+    floor: u32,
     begun: usize,
     visits: &mut Vec<Ref>,
     out: &mut Vec<u32>,
@@ -105,10 +106,10 @@ fn follow<N: Naming>(
     requires falls { AllFall 0 N.program.skeleton.nodes }
     requires in_range { IsInRange N.program (length cells.now) at }
     requires begun { begun ≤ length out.old.items }
-    ensures { OnOk result (IsFollowed N.program cells.now begun at visits.old.items visits.new.items out.old.items out.new.items) }
+    ensures { OnOk result (IsFollowed N.program cells.now floor begun at visits.old.items visits.new.items out.old.items out.new.items) }
 {
     match at {
-        Ref::Cell(cell) => follow_cell(cells, cell, begun, visits, out),
+        Ref::Cell(cell) => follow_cell(cells, cell, floor, begun, visits, out),
         Ref::Node { node, base } => put_parts(loaded, node, base, visits),
         Ref::Number(_) => Ok(()),
         Ref::Free => unreachable!(),
@@ -116,22 +117,27 @@ fn follow<N: Naming>(
     }
 }
 
-/// Puts a cell on a list if it is free, and what it is set to on that of visits. An error is want of
-/// memory.
+/// Puts a cell on a list if it is free and below the floor, and what it is set to on that of visits. An
+/// error is want of memory.
 fn follow_cell<N: Naming>(
     cells: &PlainCells<N>,
     cell: u32,
+    floor: u32,
     begun: usize,
     visits: &mut Vec<Ref>,
     out: &mut Vec<u32>,
 ) -> Result<(), AllocError>
     requires in_range { cell < length cells.now }
     requires begun { begun ≤ length out.old.items }
-    ensures { OnOk result (IsFollowed N.program cells.now begun (Ref.Cell cell) visits.old.items visits.new.items out.old.items out.new.items) }
+    ensures { OnOk result (IsFollowed N.program cells.now floor begun (Ref.Cell cell) visits.old.items visits.new.items out.old.items out.new.items) }
 {
     let word = cells.word(cell);
     match word {
-        Ref::Free => list_cell(cell, begun, out)?,
+        Ref::Free => {
+            if cell < floor {
+                list_cell(cell, begun, out)?;
+            }
+        }
         Ref::Cell(_) => visits.push(word)?,
         Ref::Node { .. } => visits.push(word)?,
         Ref::Number(_) => {}
@@ -141,7 +147,7 @@ fn follow_cell<N: Naming>(
 }
 
 /// Puts a cell at the end of a list, if it is not there from this place on. An error is want of memory.
-fn list_cell(cell: u32, begun: usize, out: &mut Vec<u32>) -> Result<(), AllocError>
+pub(crate) fn list_cell(cell: u32, begun: usize, out: &mut Vec<u32>) -> Result<(), AllocError>
     requires { begun ≤ length out.old.items }
     ensures { OnOk result (IsListed cell begun out.old.items out.new.items) }
 {

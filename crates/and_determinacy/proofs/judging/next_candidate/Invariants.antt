@@ -6,5 +6,6 @@ abbrev pub invariant-loop-place : goal.invariant-loop-place
 invariant-loop-place g l = record {
   same : l.cells ≡ l.fn.cells;
   look : l.trials.look ≡ l.fn.trials.look;
+  rests : l.trials.rests ≡ l.fn.trials.rests;
   none : NoneFrom (NodeHas g.N.Naming.program l.fn.cells l.node.0 l.base) l.clauses l.from l.place;
 }

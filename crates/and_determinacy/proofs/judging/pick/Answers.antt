@@ -2,7 +2,7 @@ use Rattle.std.proofs.Common.{◌+◌, ◌≡◌, ◌<◌, ◌++◌, ◌∷◌, 
 use Rattle.std.proofs.lemmas.List.{take_more, take_all}
 use Rattle.and_model.specs.declared.numbers.ClauseNo.{ClauseNo}
 use Rattle.and_determinacy.specs.Looks.{IsLook}
-use Rattle.and_determinacy.specs.Searches.{NodeHas, AreServed}
+use Rattle.and_determinacy.specs.Searches.{NodeHas}
 use Rattle.and_determinacy.proofs.Picking.{Picks, nothing, picked, passed}
 use Rattle.and_determinacy.proofs.Searching.{picked_are}
 use Rattle.and_determinacy.proofs.judging.pick.Goals as goal

@@ -32,14 +32,14 @@ returns-in-Node g c =
     let fits = subst (IsInRange P (length row)) c.in-Node.is c.requires.in_range in
     let parts = subst (λ (Q : NamedProgram). OnOk c.put_parts.result (new ≡ visits ++ parts_of Q at)) (sym c.requires.program) c.put_parts.ensures in
     on_both c.put_parts.result (new ≡ visits ++ parts_of P at) (new ≡ visits ++ parts_of P at)
-    (IsFollowed P row c.args.begun c.args.at visits new listed listed)
-    (λ put same. subst (λ (r : Ref). IsFollowed P row c.args.begun r visits new listed listed) (sym c.in-Node.is)
-    (parts_followed P row c.args.begun c.requires.falls c.in-Node.node c.in-Node.base visits new listed fits put))
+    (IsFollowed P row c.args.floor c.args.begun c.args.at visits new listed listed)
+    (λ put same. subst (λ (r : Ref). IsFollowed P row c.args.floor c.args.begun r visits new listed listed) (sym c.in-Node.is)
+    (parts_followed P row c.args.floor c.args.begun c.requires.falls c.in-Node.node c.in-Node.base visits new listed fits put))
     parts parts
 
 pub returns-in-Number : goal.returns-in-Number
 returns-in-Number g c =
     let P = g.N.Naming.program in
     let row = c.args.cells.now in
-    holds_nothing P row c.args.begun c.args.at c.args.visits.now.items c.args.out.now.items
+    holds_nothing P row c.args.floor c.args.begun c.args.at c.args.visits.now.items c.args.out.now.items
     (λ n held. number_holds P row c.in-Number.field-0 c.args.at n c.in-Number.is held)

@@ -1,5 +1,7 @@
-use Rattle.std.proofs.Common.{ℕ, ◌≡◌, ◌<◌, Some, true, length, refl, sym, subst}
-use Rattle.std.specs.Prelude.{slice_get}
+use Rattle.std.proofs.Common.{ℕ, ◌≡◌, ◌<◌, ◌++◌, ◌∷◌, List, [], Some, length, sym, ap, ◌∙◌, subst}
+use Rattle.std.specs.Prelude.{slice_get, All}
+use Rattle.std.proofs.lemmas.List.Elements.{All-nil, All-cons}
+use Rattle.and_model.specs.declared.reference.Ref.{Ref}
 use Rattle.and_program.specs.Loaded.{nodes_at}
 use Rattle.and_program.specs.Skeletons.{call}
 use Rattle.and_cells.specs.Ranges.{NamedProgram, IsInRange}
@@ -9,7 +11,12 @@ use Rattle.and_determinacy.proofs.Prepared.{loaded_is}
 use Rattle.and_determinacy.proofs.Resting.{rests_on}
 use Rattle.and_determinacy.proofs.SideAnswers.{resolved_is, falls_in}
 use Rattle.and_determinacy.proofs.TriedClauses.{part_in_range}
+use Rattle.and_determinacy.proofs.Watched.{root_watched}
 use Rattle.and_determinacy.proofs.watching.watch.Goals as goal
+
+-- a list that was emptied, and to which one was put
+visits_are : (empty visits : List Ref) (root : Ref) → empty ≡ [] → visits ≡ empty ++ root ∷ [] → visits ≡ root ∷ []
+visits_are empty visits root none put = put ∙ ap (λ (rs : List Ref). rs ++ root ∷ []) none
 
 pub call_at-requires-clause-call : goal.call_at-requires-clause-call
 call_at-requires-clause-call g c =
@@ -54,7 +61,10 @@ gather-requires-clause-in_range g c =
     (sym c.requires.program) c.call_at.ensures) in
     let fall = falls_in P c.args.loaded.now c.requires.program c.skeleton_is_of_the_program.ensures.skeleton.0 in
     let is = resolved_is P c.args.loaded.now c.call_at.result goal.base c.resolve-root.result c.requires.program c.resolve-root.ensures in
-    subst (IsInRange P (length row)) (sym is) (part_in_range P (length row) c.call_at.result.0 goal.base fall node.reads.in_range)
+    let root = subst (IsInRange P (length row)) (sym is) (part_in_range P (length row) c.call_at.result.0 goal.base fall node.reads.in_range) in
+    subst (All (IsInRange P (length row))) (sym (visits_are c.clear.new.self.items c.push.new.self.items c.resolve-root.result
+    c.clear.ensures.items c.in_ok-push.ensures.items))
+    (All-cons (IsInRange P (length row)) c.resolve-root.result [] root (All-nil (IsInRange P (length row))))
 
 pub returns-else-not-all-clause-all : goal.returns-else-not-all-clause-all
 returns-else-not-all-clause-all g c = λ e.
@@ -68,10 +78,17 @@ returns-else-not-all-clause-all g c = λ e.
     (sym c.requires.program) c.call_at.ensures) in
     let fall = falls_in P c.args.loaded.now c.requires.program c.skeleton_is_of_the_program.ensures.skeleton.0 in
     let is = resolved_is P c.args.loaded.now c.call_at.result goal.base c.resolve-root.result c.requires.program c.resolve-root.ensures in
-    let found = c.in_ok-all.ensures c.in_ok-all.all refl in
-    let all : c.in_ok-all.all ≡ true = cc in (
-      found.0,
-      found.1,
-      rests_on P row goal c.call_at.result.0 found.0 fall c.len-words.ensures.sound c.requires.settled node
-          (subst (IsWatched P row found.0) is (found.2 all)),
+    let root = c.resolve-root.result in
+    let visits = c.push.new.self.items in
+    let out = c.gather.new.out.items in
+    let longer = c.in_ok-all.ensures.longer in
+    let all = c.in_ok-all.ensures.all (cc) in
+    let watched = root_watched P row c.len-words.result c.len-begun.result c.args.out.now.items longer.0 out root visits longer.1
+    (c.len-begun.ensures ∙ c.args.out.now.ok.0)
+    (visits_are c.clear.new.self.items visits root c.clear.ensures.items c.in_ok-push.ensures.items) all in
+    let below = subst (λ (n : ℕ). IsWatched P row n longer.0 root) c.len-words.ensures.value watched in (
+      longer.0,
+      longer.1,
+      rests_on P row goal c.call_at.result.0 longer.0 fall c.len-words.ensures.sound c.requires.settled node
+          (subst (IsWatched P row (length row) longer.0) is below),
     )

@@ -1,6 +1,5 @@
 use Rattle.std.proofs.Common.{sym, subst, ◌∙◌}
 use Rattle.and_cells.specs.Ranges.{IsNodeInRange}
-use Rattle.and_cells.specs.Seen.{OnlyReads}
 use Rattle.and_cells.proofs.Chains.{reads_more}
 use Rattle.and_determinacy.proofs.Glimpses.{seen_before}
 use Rattle.and_determinacy.proofs.looking.Look.at_all.Goals as goal

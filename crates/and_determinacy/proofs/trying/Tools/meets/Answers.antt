@@ -1,6 +1,7 @@
-use Rattle.std.proofs.Common.{ℕ, ◌+◌, ◌≡◌, true, false, true≢false, not, List, map, refl, sym, ◌∙◌, subst}
-use Rattle.std.specs.Prelude.{◌↔◌}
-use Rattle.and_model.specs.Candidates.{Candidate}
+use Rattle.std.proofs.Common.{ℕ, ◌+◌, ◌≡◌, true, false, true≢false, not, List, [], map, refl, sym, ap, ◌∙◌, subst}
+use Rattle.std.specs.Prelude.{◌↔◌, IfSome}
+use Rattle.and_model.specs.Candidates.{Candidate, guard}
+use Rattle.and_model.specs.declared.reference.Ref.{Ref}
 use Rattle.and_model.specs.Programs.{clause_at}
 use Rattle.and_program.specs.Skeletons.{node_term, NodeItem}
 use Rattle.and_program.specs.Loaded.{nodes_at}
@@ -12,8 +13,11 @@ use Rattle.and_cells.specs.Meaning.{equations_of}
 use Rattle.and_branch_laws.specs.Judging.{outside}
 use Rattle.and_branch_laws.specs.Variables.{placed}
 use Rattle.and_determinacy.specs.Guards.{GuardCanBeRead, IsGuardFalse}
+use Rattle.and_determinacy.specs.Watching.{HaveWhatWasSet, StaysWhile}
 use Rattle.and_determinacy.proofs.Prepared.{loaded_is, made_in_range, made_settled, made_whole, made_new, made_reads, no_candidate, guard_tells}
+use Rattle.and_determinacy.proofs.Staying.{stays}
 use Rattle.and_determinacy.proofs.TakenBack.{only_these}
+use Rattle.and_determinacy.proofs.Told.{both_told}
 use Rattle.and_determinacy.proofs.trying.Tools.meets.Goals as goal
 
 -- the items of a clause, by their nodes
@@ -66,8 +70,8 @@ is_guard_false-requires-clause-readable g c =
     c.prepare.new.cells c.prepare.new.self.pairs c.in_ok-floor.floor c.in_ok-floor.ensures
     c.settle_further.new.cells settles.keeps settles.halves)
 
-pub returns-in_ok-refuted-in-Solved-clause-fits : goal.returns-in_ok-refuted-in-Solved-clause-fits
-returns-in_ok-refuted-in-Solved-clause-fits g c =
+pub returns-then-refuted-clause-fits : goal.returns-then-refuted-clause-fits
+returns-then-refuted-clause-fits g c =
     let P = g.N.Naming.program in
     let facts = loaded_is P c.args.loaded.now c.requires.program c.skeleton_is_of_the_program.ensures.skeleton
     c.skeleton_is_of_the_program.ensures.own_variables c.skeleton_is_of_the_program.ensures.few in
@@ -87,12 +91,13 @@ returns-in_ok-refuted-in-Solved-clause-fits g c =
     wide pairs floor made new settles.keeps settles.halves in
     let tells = guard_tells P facts row c.requires.short c.args.node.0 c.args.base c.args.clause.0 c.requires.node c.requires.of
     wide pairs floor made new (settles.solved refl) reads found told in
-    λ b e. (let same : not found ≡ b = cc in
+    λ b e. (let answer : false ≡ b = cc in
+    let same : not found ≡ b = ap not c.if-refuted.true ∙ answer in
     subst (λ x. (x ≡ true) ↔ Candidate P.program (equations_of P c.args.cells.now) outside
     (placed c.args.base (node_term P.skeleton.nodes c.args.node.0)) c.args.clause.0) same tells)
 
-pub returns-in_ok-refuted-in-Solved-clause-only_set : goal.returns-in_ok-refuted-in-Solved-clause-only_set
-returns-in_ok-refuted-in-Solved-clause-only_set g c =
+pub returns-then-refuted-clause-only_set : goal.returns-then-refuted-clause-only_set
+returns-then-refuted-clause-only_set g c =
     let P = g.N.Naming.program in
     let facts = loaded_is P c.args.loaded.now c.requires.program c.skeleton_is_of_the_program.ensures.skeleton
     c.skeleton_is_of_the_program.ensures.own_variables c.skeleton_is_of_the_program.ensures.few in
@@ -101,6 +106,69 @@ returns-in_ok-refuted-in-Solved-clause-only_set g c =
     subst (OnlySet c.settle_further.new.self c.args.cells.now) (sym c.in_ok-refuted-in-Solved.ensures.unchanged)
     (only_these c.args.cells.now c.prepare.new.cells c.settle_further.new.cells (1 + (clause_at P.program c.args.clause.0).variables)
     c.settle_further.new.self made.wide_is set)
+
+pub returns-in_ok-add-in-Solved-clause-fits : goal.returns-in_ok-add-in-Solved-clause-fits
+returns-in_ok-add-in-Solved-clause-fits g c =
+    let P = g.N.Naming.program in
+    let facts = loaded_is P c.args.loaded.now c.requires.program c.skeleton_is_of_the_program.ensures.skeleton
+    c.skeleton_is_of_the_program.ensures.own_variables c.skeleton_is_of_the_program.ensures.few in
+    let items = items_under P (named c.args.loaded.now) c.args.clause.0 (map node_item c.items-items.result.now) c.requires.program
+    c.items-items.ensures.items in
+    let settles = c.in-Solved.ensures.settles in
+    let new = c.settle_further.new.cells in
+    let floor = c.in_ok-floor.floor in
+    let found = c.in_ok-refuted-in-Solved.refuted in
+    let told : (found ≡ true) ↔ IsGuardFalse P new floor (nodes_at P.skeleton c.args.clause.0).items =
+    subst (λ is. (found ≡ true) ↔ IsGuardFalse P new floor is) items (c.in_ok-refuted-in-Solved.ensures.judged found refl) in
+    let row = c.args.cells.now in
+    let wide = c.prepare.new.cells in
+    let pairs = c.prepare.new.self.pairs in
+    let made = c.in_ok-floor.ensures in
+    let reads = made_reads P facts row c.requires.short c.args.node.0 c.args.base c.args.clause.0 c.requires.node c.requires.of
+    wide pairs floor made new settles.keeps settles.halves in
+    let tells = guard_tells P facts row c.requires.short c.args.node.0 c.args.base c.args.clause.0 c.requires.node c.requires.of
+    wide pairs floor made new (settles.solved refl) reads found told in
+    λ b e. (let answer : true ≡ b = cc in
+    let same : not found ≡ b = ap not c.if-refuted.false ∙ answer in
+    subst (λ x. (x ≡ true) ↔ Candidate P.program (equations_of P c.args.cells.now) outside
+    (placed c.args.base (node_term P.skeleton.nodes c.args.node.0)) c.args.clause.0) same tells)
+
+pub returns-in_ok-add-in-Solved-clause-only_set : goal.returns-in_ok-add-in-Solved-clause-only_set
+returns-in_ok-add-in-Solved-clause-only_set g c =
+    let P = g.N.Naming.program in
+    let facts = loaded_is P c.args.loaded.now c.requires.program c.skeleton_is_of_the_program.ensures.skeleton
+    c.skeleton_is_of_the_program.ensures.own_variables c.skeleton_is_of_the_program.ensures.few in
+    let made = c.in_ok-floor.ensures in
+    let set = c.in-Solved.ensures.bound (λ e. cc) in
+    subst (OnlySet c.settle_further.new.self c.args.cells.now) (sym c.in_ok-refuted-in-Solved.ensures.unchanged)
+    (only_these c.args.cells.now c.prepare.new.cells c.settle_further.new.cells (1 + (clause_at P.program c.args.clause.0).variables)
+    c.settle_further.new.self made.wide_is set)
+
+pub returns-in_ok-add-in-Solved-clause-stays : goal.returns-in_ok-add-in-Solved-clause-stays
+returns-in_ok-add-in-Solved-clause-stays g c = λ e.
+    let P = g.N.Naming.program in
+    let facts = loaded_is P c.args.loaded.now c.requires.program c.skeleton_is_of_the_program.ensures.skeleton
+    c.skeleton_is_of_the_program.ensures.own_variables c.skeleton_is_of_the_program.ensures.few in
+    let settles = c.in-Solved.ensures.settles in
+    let set = c.in-Solved.ensures.bound (λ e. cc) in
+    let row = c.args.cells.now in
+    let wide = c.prepare.new.cells in
+    let new = c.settle_further.new.cells in
+    let pairs = c.prepare.new.self.pairs in
+    let node = c.args.node.0 in
+    let base = c.args.base in
+    let clause = c.args.clause.0 in
+    let floor = c.in_ok-floor.floor in
+    let bound = c.settle_further.new.self in
+    let told = c.add.new.self in
+    let have = subst (λ (r : List Ref). IfSome told (HaveWhatWasSet P r floor bound)) c.in_ok-refuted-in-Solved.ensures.unchanged
+    (subst (λ (bs : List ℕ). IfSome told (HaveWhatWasSet P c.is_guard_false.new.cells floor bs)) c.bound.ensures
+    c.in_ok-add-in-Solved.ensures.have) in
+    both_told (λ has. guard [] (clause_at P.program clause).body ≡ []) (HaveWhatWasSet P new floor bound)
+    (λ has. StaysWhile P row base (node_term P.skeleton.nodes node) has clause) told
+    (λ has no_guard had. stays P facts row wide new pairs node base clause floor bound has c.in_ok-floor.ensures c.requires.settled
+    c.requires.node c.requires.of set settles.halves (settles.solved refl) no_guard had)
+    c.in_ok-add-in-Solved.ensures.no_guard have
 
 pub returns-in-NoSolution-clause-fits : goal.returns-in-NoSolution-clause-fits
 returns-in-NoSolution-clause-fits g c =
