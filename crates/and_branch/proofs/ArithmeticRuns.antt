@@ -94,8 +94,8 @@ module _ (P : NamedProgram) (loaded : IsLoaded P) (b : Held) (t : QueryTree P.pr
   module _ (g : Goal) (rest : List Goal) (next : b.right ≡ g ∷ rest) where
     -- So the branch stands for the same tree,
     pub ran_branch : (new : List Ref) (trail : Noted) → HasRun P b.row new g → IsBranchOf P (record b { row = new; right = rest; trail = trail }) t
-    ran_branch new trail h = run_branch P loaded b (record b { row = new; right = rest; trail = trail }) t x live (record { key = refl; limit = refl }) refl refl
-        g rest next h refl refl live refl
+    ran_branch new trail h = run_branch P loaded b (record b { row = new; right = rest; trail = trail }) t x live
+        (record { key = refl; limit = refl }) refl refl g rest next h refl refl live refl
 
     -- or is marked failed.
     pub failed_branch : (new : List Ref) (trail : Noted) → CannotHold P b.row g

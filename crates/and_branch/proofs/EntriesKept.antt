@@ -1,5 +1,6 @@
 -- Entries of goals that are watched, whose cells stand in one list.
-use Rattle.std.proofs.Common.{ℕ, zero, suc, ◌≡◌, ◌+◌, ◌-◌, ◌≤◌, ◌<◌, get_or, List, [], ◌∷◌, ◌++◌, length, take, drop, refl, ap, sym, ◌∙◌, subst, arith, Contains}
+use Rattle.std.proofs.Common.{ℕ, zero, suc, ◌≡◌, ◌+◌, ◌-◌, ◌≤◌, ◌<◌, get_or, List, [], ◌∷◌, ◌++◌, length, take, drop, refl}
+use Rattle.std.proofs.Common.{ap, sym, ◌∙◌, subst, arith, Contains}
 use Rattle.std.specs.Prelude.{slice_get, slice_range, Option, Some, None, IfSome}
 use Rattle.std.specs.Option.{option_map}
 use Rattle.std.proofs.lemmas.List.{length-append, length-map, map-append, drop-append-le, take-append-le, take_all, take_more, length-drop}
@@ -121,7 +122,8 @@ found_at cells es goal (Some place) h = watched_at cells es place goal h
 pub one_more_free : (row : List Ref) (cells : List ℕ) (i : ℕ) → i < length cells → AreFree row (take i cells)
     → (d : ℕ) → word_at row (get_or cells i d) ≡ Free → AreFree row (take (i + 1) cells)
 one_more_free row cells i low free d one =
-    subst (λ (l : List ℕ). AreFree row l) (sym (take_more cells i d low)) (All-push (λ (cell : ℕ). word_at row cell ≡ Free) (take i cells) (get_or cells i d) free one)
+    subst (λ (l : List ℕ). AreFree row l) (sym (take_more cells i d low))
+    (All-push (λ (cell : ℕ). word_at row cell ≡ Free) (take i cells) (get_or cells i d) free one)
 
 pub all_are_free : (row : List Ref) (cells : List ℕ) (i : ℕ) → length cells ≤ i → AreFree row (take i cells) → AreFree row cells
 all_are_free row cells i high free = subst (λ (l : List ℕ). AreFree row l) (take_all i cells high) free

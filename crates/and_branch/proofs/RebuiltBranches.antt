@@ -1,6 +1,7 @@
 -- Branches that are made again of what a phase left.
 use Rattle.std.proofs.Common.{ℕ, ◌≡◌, ◌+◌, ◌≤◌, true, false, List, [], ◌∷◌, ◌++◌}
-use Rattle.std.proofs.Common.{refl, ap, sym, ◌∙◌, subst, inl, inr, arith, append-nil, append_assoc, length, suc, Contains, add-one, drop, drop-cons, slice_get, Some}
+use Rattle.std.proofs.Common.{refl, ap, sym, ◌∙◌, subst, inl, inr, arith, append-nil, append_assoc, length, suc, Contains}
+use Rattle.std.proofs.Common.{add-one, drop, drop-cons, slice_get, Some}
 use Rattle.std.proofs.lemmas.List.{map-append}
 use Rattle.std.proofs.lemmas.List.Sums.{sum_by-append}
 use Rattle.std.proofs.lemmas.Option.{slice_get_within, get_or_from_slice_get}

@@ -13,7 +13,7 @@ use Rattle.and_laws.proofs.Ordered.{contains_cases, contains_none}
 use Rattle.and_cells.specs.Ranges.{NamedProgram}
 use Rattle.and_branch_laws.specs.Kept.{item_at}
 use Rattle.and_branch.specs.Branches.{Held, Lives, IsBranchOf}
-use Rattle.and_determinacy.specs.Watching.{AreFree, RestsOn}
+use Rattle.and_determinacy.specs.Watching.{AreFree, RestsOn, TwoStayWhile}
 use Rattle.and_reduction.specs.Runs.{WaitsFor}
 use Rattle.and_branch.specs.Rounds.{StepsOn, WatchesOn, IsWatched, IsAt}
 use Rattle.and_branch.specs.Watching.{Watched, HasTwo, Sleeps, IsAsleep, IsAdded}
@@ -24,15 +24,25 @@ use Rattle.and_branch.proofs.KeptOrigins.{kept_same}
 
 -- ---- What is watched
 
--- a call of two candidates that rest on the cells,
-pub call_asleep : (P : NamedProgram) (row : List Ref) (w : Watched) (term : Term) → item_at P.program w.goal ≡ call term → HasTwo P row w.goal
-    → RestsOn P row w.goal w.cells → IsAsleep P row w
-call_asleep P row w term e (c, d, other, one, two) rests = record {
+-- a call of which two candidates rest on the cells,
+pub call_asleep : (P : NamedProgram) (row : List Ref) (w : Watched) (term : Term) → item_at P.program w.goal ≡ call term
+    → TwoStayWhile P row w.goal w.cells → IsAsleep P row w
+call_asleep P row w term e (c, d, other, one, two) = record {
   while_free = λ later grows sound settled free. record {
     waits = λ a us f read ground. (let both : call term ≡ arithmetic a = sym e ∙ f in absurd (cc));
-    several = λ t f. (c, d, other, rests later grows sound settled free c one, rests later grows sound settled free d two);
+    several = λ t f. (c, d, other, one later grows sound settled free, two later grows sound settled free);
   };
 }
+
+-- as both of a call do where all rest on them,
+pub two_stay : (P : NamedProgram) (row : List Ref) (g : Goal) (cells : List ℕ) → HasTwo P row g → RestsOn P row g cells → TwoStayWhile P row g cells
+two_stay P row g cells (c, d, other, one, two) rests = (
+  c,
+  d,
+  other,
+  λ later grows sound settled free. rests later grows sound settled free c one,
+  λ later grows sound settled free. rests later grows sound settled free d two,
+)
 
 -- and arithmetic that waits for the cell.
 pub arithmetic_asleep : (P : NamedProgram) (row : List Ref) (w : Watched) (a : Arithmetic) → item_at P.program w.goal ≡ arithmetic a
@@ -149,14 +159,17 @@ module _ (P : NamedProgram) (b : Held) (ws vs : List Watched) (are : b.watches �
           ];
     }
 
-  -- A call was put behind the second, unless it has too many cells.
-  pub call_watches : (goal : Goal) (term : Term) → item_at P.program goal ≡ call term → HasTwo P b.row goal → (new : List Watched)
-      → IsAdded P b.row goal vs new
+  -- A call was put behind the second, with cells on which two candidates rest:
+  pub told_watches : (goal : Goal) (term : Term) → item_at P.program goal ≡ call term → (cells : List ℕ) → TwoStayWhile P b.row goal cells
+      → (new : List Watched) → new ≡ vs ++ record { goal = goal; cells = cells } ∷ [] → WatchesOn P b (record b { watches = ws ++ new })
+  told_watches goal term e cells stay new added =
+      list_more new (record { goal = goal; cells = cells }) added (call_asleep P b.row (record { goal = goal; cells = cells }) term e stay)
+
+  -- those that were told, or those that it holds, unless these are too many.
+  pub call_watches : (goal : Goal) (term : Term) → item_at P.program goal ≡ call term → (new : List Watched) → IsAdded P b.row goal vs new
       → WatchesOn P b (record b { watches = ws ++ new })
-  call_watches goal term e two new (inl same) = list_kept new same
-  call_watches goal term e two new (inr (gained, added, rests)) =
-      list_more new (record { goal = goal; cells = gained }) added
-      (call_asleep P b.row (record { goal = goal; cells = gained }) term e two rests)
+  call_watches goal term e new (inl same) = list_kept new same
+  call_watches goal term e new (inr (gained, added, stay)) = told_watches goal term e gained stay new added
 
   -- Arithmetic was.
   pub arithmetic_watches : (goal : Goal) (a : Arithmetic) → item_at P.program goal ≡ arithmetic a → (cell : ℕ) → WaitsFor P b.row goal cell

@@ -10,7 +10,7 @@ use Rattle.and_cells.specs.Rows.{IsSound}
 use Rattle.and_branch_laws.specs.Judging.{CandidateInCells}
 use Rattle.and_branch_laws.specs.Kept.{item_at}
 use Rattle.and_reduction.specs.Runs.{IsWaiting}
-use Rattle.and_determinacy.specs.Watching.{Grows, AreFree, RestsOn}
+use Rattle.and_determinacy.specs.Watching.{Grows, AreFree, TwoStayWhile}
 use Rattle.and_branch.specs.declared.watching.Entry.{Entry}
 
 -- A goal that is watched, and the cells that are.
@@ -47,7 +47,7 @@ IsWithin cells e = (e.first ≤ e.past) × (e.past ≤ length cells)
 abbrev pub AreWithin : List ℕ → List Entry → Type 0
 AreWithin cells es = All (IsWithin cells) es
 
--- The call is watched too, by cells on which its candidates rest; or it is not.
+-- The call is watched too, by cells on which two of its candidates rest; or it is not.
 abbrev pub IsAdded : NamedProgram → List Ref → Goal → (old new : List Watched) → Type 0
 IsAdded P row g old new =
-    (new ≡ old) ⊎ ((gained : List ℕ) × (new ≡ old ++ record { goal = g; cells = gained } ∷ []) × RestsOn P row g gained)
+    (new ≡ old) ⊎ ((gained : List ℕ) × (new ≡ old ++ record { goal = g; cells = gained } ∷ []) × TwoStayWhile P row g gained)

@@ -1,6 +1,6 @@
 //! Determinate goals, reduced until there are none.
 
-ghost use Rattle.std.specs.Prelude.{◌≡◌, ◌≢◌, ◌≤◌, ◌+◌, ◌⊎◌, [], ◌∷◌, ℕ, true, false, cond, List, length, Ok, OnOk, IfOk};
+ghost use Rattle.std.specs.Prelude.{◌≡◌, ◌≢◌, ◌≤◌, ◌+◌, ◌⊎◌, [], ◌∷◌, ℕ, true, false, cond, List, length, Ok, OnOk, IfOk, IfSome};
 ghost use Rattle.and_model.specs.Terms.{Term};
 ghost use Rattle.and_model.specs.Programs.{call, Arithmetic, arithmetic, clause_at, clause_weight};
 ghost use Rattle.and_model.specs.Trees.{QueryTree, Open};
@@ -11,6 +11,7 @@ ghost use Rattle.and_cells.specs.Meaning.{IsSettled};
 ghost use Rattle.and_cells.specs.Parts.{named};
 ghost use Rattle.and_determinacy.specs.Candidates.{CanBeJudged, IsJudged, IsNarrowed};
 ghost use Rattle.and_determinacy.specs.Tables.{IsTableOf};
+ghost use Rattle.and_determinacy.specs.Watching.{TwoStayWhile};
 ghost use Rattle.and_reduction.specs.Runs.{CanBeRun, IsWaiting, HasRun, CannotHold, WaitsFor};
 ghost use Rattle.and_branch_laws.specs.Judging.{CandidateInCells};
 ghost use Rattle.and_branch_laws.specs.Kept.{item_at};
@@ -279,7 +280,7 @@ impl<N: Naming> Branch<N> {
                 self.look_at_last(loaded, table, gate, goal, clause, may, workspace)
             }
             Narrowed::Several => {
-                self.watch_call(loaded, goal, &mut workspace.visits)?;
+                self.watch_call(loaded, goal, workspace)?;
                 self.pass()?;
                 Ok(Looked::Passed {
                     goal,
@@ -415,8 +416,8 @@ impl<N: Naming> Branch<N> {
         }
     }
 
-    /// Narrows the candidates of the next goal, a call. An error is want of memory, and the branch is
-    /// spent.
+    /// Narrows the candidates of the next goal, a call. Where it has several, the trials tell cells on
+    /// which two of them rest, or tell nothing. An error is want of memory, and the branch is spent.
     fn narrow_next(
         &mut self,
         loaded: &Loaded,
@@ -431,6 +432,7 @@ impl<N: Naming> Branch<N> {
         requires goal { CanBeJudged N.program self.old.row goal }
         ensures same { SameKey self.old self.new }
         ensures narrowed { IfOk result (IsNarrowed N.program self.old.row goal) }
+        ensures told { result ≡ Ok Narrowed.Several → IfSome workspace.new.trials.rests (TwoStayWhile N.program self.old.row goal) }
         ensures unchanged { OnOk result (self.new ≡ self.old) }
     {
         narrow(table, loaded, &mut self.cells, goal, &mut workspace.trials)

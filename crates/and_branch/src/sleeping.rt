@@ -1,10 +1,11 @@
 //! What a branch watches of its goals, so that it need not look at them again.
 
-ghost use Rattle.std.specs.Prelude.{◌≡◌, ℕ, Ok, true, false, OnOk};
+ghost use Rattle.std.specs.Prelude.{◌≡◌, ℕ, Ok, true, false, OnOk, IfSome};
 ghost use Rattle.and_model.specs.Programs.{Arithmetic, arithmetic};
 ghost use Rattle.and_cells.specs.Meaning.{IsSettled};
 ghost use Rattle.and_cells.specs.Parts.{named};
 ghost use Rattle.and_determinacy.specs.Candidates.{CanBeJudged};
+ghost use Rattle.and_determinacy.specs.Watching.{TwoStayWhile};
 ghost use Rattle.and_branch_laws.specs.Kept.{item_at};
 ghost use Rattle.and_branch.specs.Branches.{SameKey};
 ghost use Rattle.and_reduction.specs.Runs.{WaitsFor};
@@ -12,8 +13,9 @@ ghost use Rattle.and_branch.specs.Rounds.{WatchesOn, IsWatched};
 ghost use Rattle.and_branch.specs.Watching.{HasTwo};
 
 use crate::branch::Branch;
+use crate::workspace::Workspace;
 use and_cells::Naming;
-use and_model::{Goal, Ref};
+use and_model::Goal;
 use and_program::Loaded;
 use std::alloc::AllocError;
 use std::mem::swap;
@@ -39,22 +41,28 @@ impl<N: Naming> Branch<N> {
         Ok(true)
     }
 
-    /// Watches a call of two candidates, if these do not rest on too many cells. An error is want of
-    /// memory, and the branch is spent.
+    /// Watches a call of two candidates: by the cells that the trials tell, or else by those that it
+    /// holds, if these are not too many. An error is want of memory, and the branch is spent.
     pub(crate) fn watch_call(
         &mut self,
         loaded: &Loaded,
         goal: Goal,
-        visits: &mut Vec<Ref>,
+        workspace: &mut Workspace,
     ) -> Result<(), AllocError>
         requires program { N.program ≡ named loaded.now }
         requires settled { IsSettled N.program self.old.row }
         requires goal { CanBeJudged N.program self.old.row goal }
         requires several { HasTwo N.program self.old.row goal }
+        requires told { IfSome workspace.old.trials.rests (TwoStayWhile N.program self.old.row goal) }
         ensures same { SameKey self.old self.new }
         ensures watches { OnOk result (WatchesOn N.program self.old self.new) }
     {
-        self.watches.add_call(loaded, &self.cells, goal, visits)
+        match workspace.trials.told() {
+            Some(cells) => self.watches.add(goal, cells),
+            None => self
+                .watches
+                .add_call(loaded, &self.cells, goal, &mut workspace.visits),
+        }
     }
 
     /// Watches arithmetic that waits for a cell. An error is want of memory, and the branch is spent.
@@ -64,7 +72,7 @@ impl<N: Naming> Branch<N> {
         ensures same { SameKey self.old self.new }
         ensures watches { OnOk result (WatchesOn N.program self.old self.new) }
     {
-        self.watches.add_one(goal, cell)
+        self.watches.add(goal, &[cell])
     }
 
     /// What is watched now is what is watched when the next round begins. Takes no memory.

@@ -6,7 +6,7 @@ ghost use Rattle.and_cells.specs.Parts.{named};
 ghost use Rattle.and_cells.specs.Seen.{word_at};
 ghost use Rattle.and_determinacy.specs.Candidates.{CanBeJudged};
 ghost use Rattle.and_determinacy.specs.Watching.{AreFree};
-ghost use Rattle.and_branch.specs.Watching.{Watched, IsAdded};
+ghost use Rattle.and_branch.specs.Watching.{Watched, HasTwo, IsAdded};
 ghost use Rattle.and_branch.specs.declared.watching.Entry.{Entry};
 
 use and_cells::{Naming, PlainCells};
@@ -117,19 +117,19 @@ impl Watches {
         Ok(())
     }
 
-    /// Watches a goal by one cell. An error is want of memory.
-    pub fn add_one(&mut self, goal: Goal, cell: u32) -> Result<(), AllocError>
-        ensures { OnOk result (self.new ≡ self.old ++ record { goal = goal; cells = cell ∷ [] } ∷ []) }
+    /// Watches a goal by these cells. An error is want of memory.
+    pub fn add(&mut self, goal: Goal, cells: &[u32]) -> Result<(), AllocError>
+        ensures { OnOk result (self.new ≡ self.old ++ record { goal = goal; cells = cells.now } ∷ []) }
     {
         let first = self.cells.len();
-        self.cells.push(cell)?;
+        self.cells.extend_from_slice(cells)?;
         let added = entry_of(goal, first, self.cells.len())?;
         self.entries.push(added)?;
         Ok(())
     }
 
-    /// Watches a call by the cells on which its candidates rest, unless these are too many. An error is
-    /// want of memory, and no goal is watched any longer.
+    /// Watches a call of two candidates by the free cells that its term holds, on which they rest, unless
+    /// these are too many. An error is want of memory, and no goal is watched any longer.
     pub fn add_call<N: Naming>(
         &mut self,
         loaded: &Loaded,
@@ -140,6 +140,7 @@ impl Watches {
         requires program { N.program ≡ named loaded.now }
         requires settled { IsSettled N.program cells.now }
         requires goal { CanBeJudged N.program cells.now goal }
+        requires several { HasTwo N.program cells.now goal }
         ensures { OnOk result (IsAdded N.program cells.now goal self.old self.new) }
     {
         let first = self.cells.len();

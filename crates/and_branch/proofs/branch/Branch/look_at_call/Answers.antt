@@ -1,7 +1,9 @@
-use Rattle.std.proofs.Common.{sym, subst}
+use Rattle.std.proofs.Common.{sym, subst, rules}
+use Rattle.std.specs.Prelude.{IfSome}
 use Rattle.and_cells.specs.Meaning.{IsSettled}
 use Rattle.and_determinacy.specs.Candidates.{IsNarrowed, CanBeJudged}
 use Rattle.and_determinacy.specs.declared.judging.Narrowed.{Narrowed}
+use Rattle.and_determinacy.specs.Watching.{TwoStayWhile}
 use Rattle.and_branch.specs.Branches.{Held}
 use Rattle.and_branch.specs.Rounds.{IsAtMost, WatchesOn}
 use Rattle.and_branch.specs.Watching.{HasTwo}
@@ -57,6 +59,13 @@ watch_call-requires-clause-several g c =
     let told = c.in_ok-narrow_next.ensures in
     let narrowed = subst (λ (n : Narrowed). IsNarrowed P c.args.self.now.row c.args.goal n) c.in-Several.is told.narrowed in
     subst (λ (b : Held). HasTwo P b.row c.args.goal) (sym told.unchanged) narrowed
+
+pub watch_call-requires-clause-told : goal.watch_call-requires-clause-told
+watch_call-requires-clause-told g c =
+    let P = g.N.Naming.program in
+    let says = c.in_ok-narrow_next.ensures in
+    subst (λ (b : Held). IfSome c.narrow_next.new.workspace.trials.rests (TwoStayWhile P b.row c.args.goal)) (sym says.unchanged)
+    (says.told (first_of (cc, search rules)))
 
 pub pass-requires : goal.pass-requires
 pass-requires g c =

@@ -38,7 +38,8 @@ returns-in_ok-pass-in-One-clause-steps g c =
     let told = c.in_ok-judge_next.ensures.judged in
     let judged = subst (λ (j : Judged). IsJudged P c.args.self.now.row c.args.goal j) c.in-One.is told in
     let both = passed P true c.args.self.now c.judge_next.new.self c.pass.new.self c.args.goal (Heavy c.in-One.sole) c.requires.at
-    (watches_still P c.args.self.now c.judge_next.new.self c.in_ok-judge_next.ensures.unchanged) c.in_ok-pass-in-One.ensures.moved c.in_ok-pass-in-One.ensures.passed
+    (watches_still P c.args.self.now c.judge_next.new.self c.in_ok-judge_next.ensures.unchanged)
+    c.in_ok-pass-in-One.ensures.moved c.in_ok-pass-in-One.ensures.passed
     (λ may. idle_heavy P c.args.self.now c.args.goal c.requires.at c.requires.call.0 c.requires.call.1 c.args.clause.0 c.requires.only
     c.requires.no_room c.in-One.sole judged) in
     both.1
@@ -49,7 +50,8 @@ returns-in_ok-pass-in-One-clause-came_to g c =
     let told = c.in_ok-judge_next.ensures.judged in
     let judged = subst (λ (j : Judged). IsJudged P c.args.self.now.row c.args.goal j) c.in-One.is told in
     let both = passed P true c.args.self.now c.judge_next.new.self c.pass.new.self c.args.goal (Heavy c.in-One.sole) c.requires.at
-    (watches_still P c.args.self.now c.judge_next.new.self c.in_ok-judge_next.ensures.unchanged) c.in_ok-pass-in-One.ensures.moved c.in_ok-pass-in-One.ensures.passed
+    (watches_still P c.args.self.now c.judge_next.new.self c.in_ok-judge_next.ensures.unchanged)
+    c.in_ok-pass-in-One.ensures.moved c.in_ok-pass-in-One.ensures.passed
     (λ may. idle_heavy P c.args.self.now c.args.goal c.requires.at c.requires.call.0 c.requires.call.1 c.args.clause.0 c.requires.only
     c.requires.no_room c.in-One.sole judged) in
     both.0
