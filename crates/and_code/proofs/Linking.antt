@@ -7,7 +7,7 @@ use Rattle.std.proofs.lemmas.List.{get_or-set_other, get_or_append_left, get_or_
 use Rattle.std.proofs.lemmas.List.Elements.{All-contains}
 use Rattle.std.proofs.lemmas.Option.{same_Some, slice_get_within, get_or_from_slice_get, slice_get-get_or}
 use Rattle.and_model.specs.declared.goal.Reduction.{Reduction}
-use Rattle.and_code.specs.Places.{IsLast, AreLinked, IsFound, IsMissing, IsLeft}
+use Rattle.and_code.specs.Places.{IsLast, AreLinked, IsFound, IsMissing, IsLeft, IsPlace, IsPassed}
 
 -- ---- One more
 
@@ -144,3 +144,29 @@ module _ (rs : List Reduction) (node item : ℕ) where
   pub found_none : IsLeft rs node item 0 → IsMissing rs node item
   found_none left r (k, low, is) parent same =
       left.none k r (omega arith) (slice_get-get_or rs k r low ∙ ap (λ (x : Reduction). Some x) is) parent same
+
+-- ---- Place by place
+
+-- The reduction that is read at such a place takes the call,
+pub place_found : (rs : List Reduction) (node item place : ℕ) (r : Reduction) → IsPlace rs node item place → slice_get rs place ≡ Some r
+    → IsFound rs node item r
+place_found rs node item place r (x, there, found) e = subst (IsFound rs node item) (same_Some x r (sym there ∙ e)) found
+
+-- and there is one.
+pub place_within : (rs : List Reduction) (node item place : ℕ) → IsPlace rs node item place → place < length rs
+place_within rs node item place (x, there, found) = slice_get_within rs place x there
+
+-- One more place is passed,
+pub passed_more : (rs : List Reduction) (node item from k : ℕ) (r : Reduction) → slice_get rs k ≡ Some r → IsPassed rs node item from k
+    → (r.parent ≡ node → r.item ≢ item) → IsPassed rs node item from (k + 1)
+passed_more rs node item from k r here_is passed none = λ j x low high e. elim (cases_lt j k) [
+  | inl before ↦ passed j x low before e
+  | inr past ↦
+      subst (λ (y : Reduction). y.parent ≡ node → y.item ≢ item) (sym (same_here rs r k here_is j x (omega arith) e)) none
+]
+
+-- or all are.
+pub none_anywhere : (rs : List Reduction) (node item count : ℕ) → count ≡ length rs → IsPassed rs node item 0 count → IsMissing rs node item
+none_anywhere rs node item count long passed = λ r there.
+    passed there.0 r (omega arith) (let low = there.1 in omega arith)
+    (slice_get-get_or rs there.0 r there.1 ∙ ap (λ (x : Reduction). Some x) there.2)

@@ -4,6 +4,7 @@ use Rattle.std.proofs.Common.{append_assoc, map, length, get_or, refl, sym, ap, 
 use Rattle.std.specs.Prelude.{Option, Some, None, option_to_list, slice_index_or}
 use Rattle.std.proofs.Math.ListN.{get_or-map}
 use Rattle.std.proofs.lemmas.List.{reverse-append, length-map}
+use Rattle.std.proofs.lemmas.List.Elements.{All-append}
 use Rattle.std.proofs.lemmas.List.Sums.{sum_by-cons}
 use Rattle.and_model.specs.Terms.{Term}
 use Rattle.and_model.specs.Programs
@@ -28,6 +29,10 @@ use Rattle.and_code.specs.declared.visiting.Visit.{Visit}
 -- The last of a stack is gone through first.
 pub top : (vs : List Visit) (v : Visit) → visits_of (vs ++ v ∷ []) ≡ visit_of v ∷ visits_of vs
 top vs v = ap (map visit_of) (reverse-append vs (v ∷ []))
+
+-- What waits behind calls is at calls too.
+pub waits_too : (P : Program) (vs ws : List Visits.Visit) → AreAtCalls P vs → AreAtCalls P ws → AreAtCalls P (vs ++ ws)
+waits_too P vs ws first second = All-append (IsAtCall P) vs ws first second
 
 -- ---- Items
 

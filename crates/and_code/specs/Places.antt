@@ -27,6 +27,14 @@ IsFound rs node item r = Contains rs r × (r.parent ≡ node) × (r.item ≡ ite
 abbrev pub IsMissing : List Reduction → (node item : ℕ) → Type 0
 IsMissing rs node item = (r : Reduction) → Contains rs r → r.parent ≡ node → r.item ≡ item → ⊥
 
+-- the reduction at the place takes it
+abbrev pub IsPlace : List Reduction → (node item place : ℕ) → Type 0
+IsPlace rs node item place = (r : Reduction) × (slice_get rs place ≡ Some r) × IsFound rs node item r
+
+-- none from one place on and before another takes it
+abbrev pub IsPassed : List Reduction → (node item from to : ℕ) → Type 0
+IsPassed rs node item from to = (k : ℕ) (r : Reduction) → from ≤ k → k < to → slice_get rs k ≡ Some r → r.parent ≡ node → r.item ≢ item
+
 -- None from a place on takes it, and the reduction just before that place takes a call at the node.
 pub record IsLeft (rs : List Reduction) (node item from : ℕ) : Type 0 where
   pub low : from ≤ length rs

@@ -11,7 +11,7 @@ ghost use Rattle.and_program.specs.Loaded.{program_of};
 ghost use Rattle.and_code.specs.Written.{all_written};
 ghost use Rattle.and_branch_laws.specs.Visits.{at_query, Decides};
 
-use crate::places::{Links, find};
+use crate::places::{LOOKS, find};
 use crate::visiting::{Visit, at_call, go_on};
 use and_model::{ClauseNo, Code, ReductionList};
 use and_program::Loaded;
@@ -27,20 +27,27 @@ pub fn decided_by(
     requires made { (t : QueryTree (program_of loaded.now)) × Makes (program_of loaded.now) (all_written reductions.now) t }
     ensures { IfOk result (Decides (program_of loaded.now) (all_written reductions.now) (at_query ∷ [])) }
 {
-    let links = Links::of(alloc, reductions)?;
+    let mut links = None;
+    let mut looks = LOOKS;
     let mut code = Code::new(alloc);
     let mut visits = Vec::new(alloc);
-    let mut next = at_call(loaded, QUERY);
+    let mut next = at_call(loaded, loaded.items(QUERY.clause), QUERY);
     loop {
         match next {
             None => return Ok(code),
-            Some(visit) => match find(&links, reductions, visit.node, visit.item) {
-                None => return Ok(code),
-                Some(reduction) => {
-                    code.push(reduction.clause)?;
-                    next = go_on(loaded, visit, reduction, &mut visits)?;
+            Some(visit) => {
+                let taken = find(
+                    alloc, &mut links, &mut looks, reductions, visit.node, visit.item, visit.from,
+                )?;
+                match taken {
+                    None => return Ok(code),
+                    Some(place) => {
+                        let reduction = *reductions.at(place);
+                        code.push(reduction.clause)?;
+                        next = go_on(loaded, visit, reduction, place.wrapping_add(1), &mut visits)?;
+                    }
                 }
-            },
+            }
         }
     }
 }
@@ -50,4 +57,5 @@ const QUERY: Visit = Visit {
     node: 0,
     clause: ClauseNo(0),
     item: 0,
+    from: 0,
 };

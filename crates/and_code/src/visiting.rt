@@ -1,8 +1,10 @@
 //! Bodies that are gone through, in preorder.
 
-ghost use Rattle.std.specs.Prelude.{◌≡◌, ◌≤◌, ◌++◌, ◌∷◌, List, length, IfOk, OnOk};
+ghost use Rattle.std.specs.Prelude.{◌≡◌, ◌≤◌, ◌++◌, ◌∷◌, List, map, length, IfOk, OnOk};
 ghost use Rattle.and_program.specs.Items.{node_item};
-ghost use Rattle.and_program.specs.Loaded.{program_of};
+ghost use Rattle.and_program.specs.Loaded.{program_of, skeleton_of};
+ghost use Rattle.and_program.specs.Skeletons.{item_of};
+ghost use Rattle.and_model.specs.Programs.{clause_at};
 ghost use Rattle.and_branch_laws.specs.Visits;
 ghost use Rattle.and_branch_laws.specs.Visits.{into, onward};
 ghost use Rattle.and_code.specs.Visiting.{AreAtCalls, IsAtCall, LeadsTo, is_call_item, visit_of, visited, visits_of, waiting};
@@ -18,6 +20,8 @@ pub(crate) struct Visit {
     pub(crate) node: u32,
     pub(crate) clause: ClauseNo,
     pub(crate) item: usize,
+    /// Where the reduction that takes the call is looked for first: just behind the one that was found last.
+    pub(crate) from: usize,
 }
 
 /// Whether an item is a call.
@@ -41,13 +45,13 @@ fn is_call(item: ItemNode) -> bool
     }
 }
 
-/// The visit of the body's first call from an item on; `None` where no call comes.
-pub(crate) fn at_call(loaded: &Loaded, visit: Visit) -> Option<Visit>
-    requires { visit.clause.0 ≤ length (program_of loaded.now).clauses }
-    ensures calls { AreAtCalls (program_of loaded.now) (visited result) }
-    ensures leads { (vs : List Visits.Visit) → LeadsTo (program_of loaded.now) (visit_of visit ∷ vs) (visited result ++ vs) }
+/// The visit of the first call of a body, which has these items, from one on; `None` where no call comes.
+pub(crate) fn at_call(_loaded: &Loaded, items: &[ItemNode], visit: Visit) -> Option<Visit>
+    requires named { visit.clause.0 ≤ length (program_of _loaded.now).clauses }
+    requires body { map (item_of (skeleton_of _loaded.now).nodes) (map node_item items.now) ≡ (clause_at (program_of _loaded.now) visit.clause.0).body }
+    ensures calls { AreAtCalls (program_of _loaded.now) (visited result) }
+    ensures leads { (vs : List Visits.Visit) → LeadsTo (program_of _loaded.now) (visit_of visit ∷ vs) (visited result ++ vs) }
 {
-    let items = loaded.items(visit.clause);
     for item in visit.item..items.len() {
         if is_call(items[item]) {
             return Some(Visit { item, ..visit });
@@ -57,11 +61,12 @@ pub(crate) fn at_call(loaded: &Loaded, visit: Visit) -> Option<Visit>
 }
 
 /// Goes on behind a call that a reduction took: in the body of its clause, later behind the call, and
-/// then in the bodies that wait. An error is want of memory.
+/// then in the bodies that wait. Their calls are looked for from a place on. An error is want of memory.
 pub(crate) fn go_on(
     loaded: &Loaded,
     visit: Visit,
     reduction: Reduction,
+    from: usize,
     visits: &mut Vec<Visit>,
 ) -> Result<Option<Visit>, AllocError>
     requires here { IsAtCall (program_of loaded.now) (visit_of visit) }
@@ -71,8 +76,8 @@ pub(crate) fn go_on(
     ensures leads { IfOk result (λ next. LeadsTo (program_of loaded.now)
         (into (written reduction) ∷ onward (visit_of visit) ∷ visits_of visits.old.items) (waiting visits.new.items next)) }
 {
-    let rest = behind(loaded, visit);
-    match at_call(loaded, entered(reduction)) {
+    let rest = behind(loaded, visit, from);
+    match entered(loaded, reduction, from) {
         None => match rest {
             None => Ok(visits.pop()),
             Some(visit) => Ok(Some(visit)),
@@ -85,7 +90,7 @@ pub(crate) fn go_on(
 }
 
 /// The visit of the first call behind one.
-fn behind(loaded: &Loaded, visit: Visit) -> Option<Visit>
+fn behind(loaded: &Loaded, visit: Visit, from: usize) -> Option<Visit>
     requires { IsAtCall (program_of loaded.now) (visit_of visit) }
     ensures calls { AreAtCalls (program_of loaded.now) (visited result) }
     ensures leads { (vs : List Visits.Visit) → LeadsTo (program_of loaded.now) (onward (visit_of visit) ∷ vs) (visited result ++ vs) }
@@ -93,7 +98,15 @@ fn behind(loaded: &Loaded, visit: Visit) -> Option<Visit>
     let items = loaded.items(visit.clause);
     prove!(visit.item < items.len());
     let item = visit.item + 1;
-    at_call(loaded, Visit { item, ..visit })
+    at_call(
+        loaded,
+        items,
+        Visit {
+            item,
+            from,
+            ..visit
+        },
+    )
 }
 
 /// Lets a visit wait, if there is one. An error is want of memory.
@@ -109,13 +122,20 @@ fn keep(visit: Option<Visit>, visits: &mut Vec<Visit>) -> Result<(), AllocError>
     }
 }
 
-/// The whole body of the clause by which a call was reduced.
-fn entered(reduction: Reduction) -> Visit
-    ensures { visit_of result ≡ into (written reduction) }
+/// The visit of the first call in the body of the clause by which a call was reduced.
+fn entered(loaded: &Loaded, reduction: Reduction, from: usize) -> Option<Visit>
+    requires { reduction.clause.0 ≤ length (program_of loaded.now).clauses }
+    ensures calls { AreAtCalls (program_of loaded.now) (visited result) }
+    ensures leads { (vs : List Visits.Visit) → LeadsTo (program_of loaded.now) (into (written reduction) ∷ vs) (visited result ++ vs) }
 {
-    Visit {
-        node: reduction.node,
-        clause: reduction.clause,
-        item: 0,
-    }
+    at_call(
+        loaded,
+        loaded.items(reduction.clause),
+        Visit {
+            node: reduction.node,
+            clause: reduction.clause,
+            item: 0,
+            from,
+        },
+    )
 }

@@ -1,4 +1,4 @@
-use Rattle.std.proofs.Common.{◌<◌, ◌≤◌, length, refl, sym, subst}
+use Rattle.std.proofs.Common.{◌<◌, ◌≤◌, length, sym, subst}
 use Rattle.std.specs.Prelude.{Option}
 use Rattle.std.proofs.lemmas.List.Elements.{All-head, All-tail, All-contains}
 use Rattle.and_model.specs.declared.goal.Reduction.{Reduction}
@@ -6,6 +6,7 @@ use Rattle.and_program.specs.Loaded.{program_of}
 use Rattle.and_code.specs.Visiting.{IsAtCall, AreAtCalls, visit_of, visits_of, waiting, turns_left}
 use Rattle.and_code.specs.Written.{all_written}
 use Rattle.and_code.specs.declared.visiting.Visit.{Visit}
+use Rattle.and_code.proofs.Linking.{place_found, place_within}
 use Rattle.and_code.proofs.Trees.{clauses_named, places_behind}
 use Rattle.and_code.proofs.Turns.{HasGone, begun, begun_at_calls, nothing_left, call_open, call_taken, turn_fewer}
 use Rattle.and_code.proofs.decided_by.Goals as goal
@@ -17,6 +18,7 @@ loop-next-init c =
     let next = c.at_call-next.result in
     let empty = c.new-visits.ensures.items in
     record {
+      links = tt;
       calls = begun_at_calls P visits next empty c.at_call-next.ensures.calls;
       found = begun P (all_written c.args.reductions.now) visits next c.new-code.result empty c.new-code.ensures c.at_call-next.ensures.leads;
     }
@@ -29,8 +31,8 @@ returns-in-None c =
     nothing_left P rs code
     (subst (λ (next : Option Visit). HasGone P rs (waiting c.loop-next.visits.items next) code) c.in-None.is c.loop-next.invariant.found)
 
-pub returns-in-None-find : goal.returns-in-None-find
-returns-in-None-find c =
+pub returns-in-None-taken : goal.returns-in-None-taken
+returns-in-None-taken c =
     let P = program_of c.args.loaded.now in
     let rs = c.args.reductions.now in
     let v = c.in-Some.visit in
@@ -38,7 +40,7 @@ returns-in-None-find c =
     let code = c.loop-next.code in
     let calls = subst (λ (next : Option Visit). AreAtCalls P (waiting old next)) c.in-Some.is c.loop-next.invariant.calls in
     let so_far = subst (λ (next : Option Visit). HasGone P (all_written rs) (waiting old next) code) c.in-Some.is c.loop-next.invariant.found in
-    call_open P rs v (visits_of old) code so_far (All-head (IsAtCall P) (visit_of v) (visits_of old) calls) (c.in-None-find.ensures.none refl)
+    call_open P rs v (visits_of old) code so_far (All-head (IsAtCall P) (visit_of v) (visits_of old) calls) (c.in_ok-taken-in-Some.ensures.none c.in-None-taken.is)
 
 pub go_on-requires-clause-here : goal.go_on-requires-clause-here
 go_on-requires-clause-here c =
@@ -54,12 +56,21 @@ go_on-requires-clause-calls c =
     let calls = subst (λ (next : Option Visit). AreAtCalls P (waiting old next)) c.in-Some.is c.loop-next.invariant.calls in
     All-tail (IsAtCall P) (visit_of c.in-Some.visit) (visits_of old) calls
 
+pub find-requires : goal.find-requires
+find-requires c = c.loop-next.invariant.links
+
+pub at-reduction-requires : goal.at-reduction-requires
+at-reduction-requires c =
+    place_within c.args.reductions.now c.in-Some.visit.node c.in-Some.visit.item c.in-Some-taken.place
+    (c.in_ok-taken-in-Some.ensures.some c.in-Some-taken.place c.in-Some-taken.is)
+
 pub go_on-requires-clause-named : goal.go_on-requires-clause-named
 go_on-requires-clause-named c =
     let P = program_of c.args.loaded.now in
     let rs = c.args.reductions.now in
-    let r = c.in-Some-find.reduction in
-    let found = c.in-Some-find.ensures.some r refl in
+    let r = c.at-reduction.result.now in
+    let found = place_found rs c.in-Some.visit.node c.in-Some.visit.item c.in-Some-taken.place r
+    (c.in_ok-taken-in-Some.ensures.some c.in-Some-taken.place c.in-Some-taken.is) c.at-reduction.ensures in
     All-contains (λ (r : Reduction). r.clause.0 ≤ length P.clauses) rs r (clauses_named P rs c.requires.made.0 c.requires.made.1) found.0
 
 pub loop-next-smaller : goal.loop-next-smaller
@@ -67,15 +78,17 @@ loop-next-smaller c =
     let P = program_of c.args.loaded.now in
     let rs = c.args.reductions.now in
     let v = c.in-Some.visit in
-    let r = c.in-Some-find.reduction in
+    let r = c.at-reduction.result.now in
+    let found = place_found rs c.in-Some.visit.node c.in-Some.visit.item c.in-Some-taken.place r
+    (c.in_ok-taken-in-Some.ensures.some c.in-Some-taken.place c.in-Some-taken.is) c.at-reduction.ensures in
     let old = c.loop-next.visits.items in
     let code = c.loop-next.code in
-    let new = waiting c.go_on.new.visits.items c.in_ok-next-in-Some-find.next in
+    let new = waiting c.go_on.new.visits.items c.in_ok-next-in-Some-taken.next in
     let calls = subst (λ (next : Option Visit). AreAtCalls P (waiting old next)) c.in-Some.is c.loop-next.invariant.calls in
     let so_far = subst (λ (next : Option Visit). HasGone P (all_written rs) (waiting old next) code) c.in-Some.is c.loop-next.invariant.found in
     let less = turn_fewer P rs v (visits_of old) code so_far (All-head (IsAtCall P) (visit_of v) (visits_of old) calls) new r
-    (places_behind P (all_written rs) c.requires.made.0 c.requires.made.1) (c.in-Some-find.ensures.some r refl)
-    c.in_ok-next-in-Some-find.ensures.leads in
+    (places_behind P (all_written rs) c.requires.made.0 c.requires.made.1) found
+    c.in_ok-next-in-Some-taken.ensures.leads in
     subst (λ (next : Option Visit). turns_left (all_written rs) new < turns_left (all_written rs) (waiting old next)) (sym c.in-Some.is) less
 
 pub loop-next-preserved : goal.loop-next-preserved
@@ -83,14 +96,17 @@ loop-next-preserved c =
     let P = program_of c.args.loaded.now in
     let rs = c.args.reductions.now in
     let v = c.in-Some.visit in
-    let r = c.in-Some-find.reduction in
+    let r = c.at-reduction.result.now in
+    let found = place_found rs c.in-Some.visit.node c.in-Some.visit.item c.in-Some-taken.place r
+    (c.in_ok-taken-in-Some.ensures.some c.in-Some-taken.place c.in-Some-taken.is) c.at-reduction.ensures in
     let old = c.loop-next.visits.items in
     let code = c.loop-next.code in
-    let new = waiting c.go_on.new.visits.items c.in_ok-next-in-Some-find.next in
+    let new = waiting c.go_on.new.visits.items c.in_ok-next-in-Some-taken.next in
     let calls = subst (λ (next : Option Visit). AreAtCalls P (waiting old next)) c.in-Some.is c.loop-next.invariant.calls in
     let so_far = subst (λ (next : Option Visit). HasGone P (all_written rs) (waiting old next) code) c.in-Some.is c.loop-next.invariant.found in
     record {
-      calls = c.in_ok-next-in-Some-find.ensures.calls;
+      links = c.in_ok-taken-in-Some.ensures.links;
+      calls = c.in_ok-next-in-Some-taken.ensures.calls;
       found = call_taken P rs v (visits_of old) code so_far (All-head (IsAtCall P) (visit_of v) (visits_of old) calls) new r c.push.new.self
-          (c.in-Some-find.ensures.some r refl) c.in_ok-push-in-Some-find.ensures.ok c.in_ok-next-in-Some-find.ensures.leads;
+          found c.in_ok-push-in-Some-taken.ensures.ok c.in_ok-next-in-Some-taken.ensures.leads;
     }

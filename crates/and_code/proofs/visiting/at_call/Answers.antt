@@ -8,17 +8,17 @@ use Rattle.and_code.proofs.Turns.{at_item, body_long, call_here, no_call_here, l
 use Rattle.and_code.proofs.visiting.at_call.Goals as goal
 
 pub loop-item-init : goal.loop-item-init
-loop-item-init c = λ vs. leads_nowhere (program_of c.args.loaded.now) (visit_of c.args.visit ∷ vs)
+loop-item-init c = λ vs. leads_nowhere (program_of c.args._loaded.now) (visit_of c.args.visit ∷ vs)
 
 pub loop-item-preserved : goal.loop-item-preserved
 loop-item-preserved c = λ vs.
-    let P = program_of c.args.loaded.now in
-    let ss = (skeleton_of c.args.loaded.now).nodes in
-    let items = c.items-items.result.now in
+    let P = program_of c.args._loaded.now in
+    let ss = (skeleton_of c.args._loaded.now).nodes in
+    let items = c.args.items.now in
     let v = c.args.visit in
     let i = c.loop-item.item in
     let d = Call (record { 0 = 0 }) in
-    let body = c.items-items.ensures.body in
+    let body = c.requires.body in
     let long = body_long P ss items (at_item v i) d body in
     let low : i < length (clause_at P v.clause.0).body = omega arith in
     let none = no_call_here P ss items (at_item v i) d body (let l : i < length items = omega arith in l)
@@ -27,13 +27,13 @@ loop-item-preserved c = λ vs.
 
 pub returns-then-is_call-clause-calls : goal.returns-then-is_call-clause-calls
 returns-then-is_call-clause-calls c =
-    let P = program_of c.args.loaded.now in
-    let ss = (skeleton_of c.args.loaded.now).nodes in
-    let items = c.items-items.result.now in
+    let P = program_of c.args._loaded.now in
+    let ss = (skeleton_of c.args._loaded.now).nodes in
+    let items = c.args.items.now in
     let v = at_item c.args.visit c.loop-item.item in
     let low : c.loop-item.item < length items = omega arith in
     All-cons (IsAtCall P) v []
-    (call_here P ss items v (Call (record { 0 = 0 })) c.items-items.ensures.body c.requires low (sym c.is_call.ensures ∙ c.if-is_call.true))
+    (call_here P ss items v (Call (record { 0 = 0 })) c.requires.body c.requires.named low (sym c.is_call.ensures ∙ c.if-is_call.true))
     (All-nil (IsAtCall P))
 
 pub returns-then-is_call-clause-leads : goal.returns-then-is_call-clause-leads
@@ -41,11 +41,11 @@ returns-then-is_call-clause-leads c = c.loop-item.invariant
 
 pub returns-clause-leads : goal.returns-clause-leads
 returns-clause-leads c = λ vs.
-    let P = program_of c.args.loaded.now in
-    let ss = (skeleton_of c.args.loaded.now).nodes in
-    let items = c.items-items.result.now in
+    let P = program_of c.args._loaded.now in
+    let ss = (skeleton_of c.args._loaded.now).nodes in
+    let items = c.args.items.now in
     let v = c.args.visit in
     let i = c.loop-item.item in
-    let long = body_long P ss items (at_item v i) (Call (record { 0 = 0 })) c.items-items.ensures.body in
+    let long = body_long P ss items (at_item v i) (Call (record { 0 = 0 })) c.requires.body in
     let high : length (clause_at P v.clause.0).body ≤ i = omega arith in
     leads_on P (visit_of v ∷ vs) (at_item v i ∷ vs) vs (c.loop-item.invariant vs) (body_ended P (at_item v i) vs high)

@@ -6,4 +6,4 @@ use Rattle.and_code.proofs.Turns.{at_item}
 use Rattle.and_code.proofs.visiting.at_call.Given as goal
 
 abbrev pub invariant-loop-item : goal.invariant-loop-item
-invariant-loop-item l = (vs : List Visits.Visit) → LeadsTo (program_of l.loaded) (visit_of l.visit ∷ vs) (at_item l.visit l.item ∷ vs)
+invariant-loop-item l = (vs : List Visits.Visit) → LeadsTo (program_of l._loaded) (visit_of l.visit ∷ vs) (at_item l.visit l.item ∷ vs)

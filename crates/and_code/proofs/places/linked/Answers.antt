@@ -1,9 +1,9 @@
 use Rattle.std.proofs.Common.{◌+◌, ◌-◌, ◌≡◌, ◌<◌, length, get_or, sym, ◌∙◌, subst, arith}
 use Rattle.std.proofs.lemmas.Option.{same_Some, slice_get_within}
-use Rattle.and_code.specs.Places.{IsFound, IsLeft}
+use Rattle.and_code.specs.Places.{IsPlace, IsLeft}
 use Rattle.and_code.proofs.Images.{default_apart}
 use Rattle.and_code.proofs.Linking.{left_first, left_next, found_here, found_none}
-use Rattle.and_code.proofs.places.find.Goals as goal
+use Rattle.and_code.proofs.places.linked.Goals as goal
 
 pub loop-behind-init : goal.loop-behind-init
 loop-behind-init c =
@@ -42,14 +42,14 @@ loop-behind-smaller c =
     omega arith
 
 pub returns-then-reduction-item-clause-some : goal.returns-then-reduction-item-clause-some
-returns-then-reduction-item-clause-some c = λ x e.
+returns-then-reduction-item-clause-some c = λ place e.
     let rs = c.args.reductions.now in
     let behind = c.loop-behind.behind in
     let r = c.at-reduction.result.now in
     let next : behind ≡ behind - 1 + 1 = omega arith in
     let left = subst (IsLeft rs c.args.node c.args.item) next c.loop-behind.invariant in
-    subst (IsFound rs c.args.node c.args.item) (same_Some r x e)
-    (found_here rs c.args.node c.args.item (behind - 1) r c.at-reduction.ensures c.if-reduction-item.true left)
+    subst (IsPlace rs c.args.node c.args.item) (same_Some (behind - 1) place e)
+    (r, c.at-reduction.ensures, found_here rs c.args.node c.args.item (behind - 1) r c.at-reduction.ensures c.if-reduction-item.true left)
 
 pub returns-clause-none : goal.returns-clause-none
 returns-clause-none c = λ e.
