@@ -4,8 +4,7 @@ ghost use Rattle.std.specs.Prelude.{◌≡◌};
 ghost use Rattle.and_cells.specs.Parts.{named};
 
 use crate::frames::set;
-use crate::programs::Symbol::{Int, Name, Var};
-use crate::programs::{ask, table_with};
+use crate::programs::program;
 use and_cells::{Cells, Naming, PlainCells};
 use and_circles::{Circle, Explored, Explorer, cycle};
 use and_model::{ClauseNo, Ref};
@@ -15,16 +14,13 @@ use std::marker::Brand;
 use std::process::Abort;
 use std::test::Fail;
 
-/// The program of the clause `p(f(X)).` and the query `?- p(1).`
-fn program(rt: &impl Abort, alloc: Global) -> Result<Loaded, AllocError> {
-    let table = table_with(rt, alloc, &[Var(b"X"), Name(b"f", 1), Name(b"p", 1)])?;
-    ask(rt, alloc, table, &[Int(1), Name(b"p", 1)])
-}
+/// A clause whose head is a structure of structures.
+const NESTED: &str = "p(f(X)). ?- p(1).";
 
 #[test]
 fn an_empty_row_is_clear(rt: HostRuntime) -> Result<(), Fail> {
     let alloc = rt.alloc();
-    let loaded = program(&rt, alloc)?;
+    let loaded = program(&rt, alloc, NESTED);
     assert_eq!(rt; empty::<Brand>(alloc, &loaded)?, Circle::Clear);
     Ok(())
 }
@@ -39,7 +35,7 @@ fn empty<N: Naming>(alloc: Global, loaded: &Loaded) -> Result<Circle, AllocError
 #[test]
 fn a_structure_that_holds_its_cell_is_found(rt: HostRuntime) -> Result<(), Fail> {
     let alloc = rt.alloc();
-    let loaded = program(&rt, alloc)?;
+    let loaded = program(&rt, alloc, NESTED);
     let found = held::<Brand>(&rt, alloc, &loaded)?;
     assert_eq!(rt; found, Circle::Found { cell: 1 });
     Ok(())
@@ -59,7 +55,7 @@ fn held<N: Naming>(rt: &impl Abort, alloc: Global, loaded: &Loaded) -> Result<Ci
 #[test]
 fn structures_that_share_parts_are_clear(rt: HostRuntime) -> Result<(), Fail> {
     let alloc = rt.alloc();
-    let loaded = program(&rt, alloc)?;
+    let loaded = program(&rt, alloc, NESTED);
     let found = shared::<Brand>(&rt, alloc, &loaded)?;
     assert_eq!(rt; found, Circle::Clear);
     Ok(())
@@ -84,7 +80,7 @@ fn shared<N: Naming>(rt: &impl Abort, alloc: Global, loaded: &Loaded) -> Result<
 #[test]
 fn a_long_chain_is_clear(rt: HostRuntime) -> Result<(), Fail> {
     let alloc = rt.alloc();
-    let loaded = program(&rt, alloc)?;
+    let loaded = program(&rt, alloc, NESTED);
     assert_eq!(rt; chain::<Brand>(alloc, &loaded)?, Circle::Clear);
     Ok(())
 }
@@ -103,7 +99,7 @@ fn chain<N: Naming>(alloc: Global, loaded: &Loaded) -> Result<Circle, AllocError
 #[test]
 fn a_word_of_a_pair_is_told_unless_it_is_below(rt: HostRuntime) -> Result<(), Fail> {
     let alloc = rt.alloc();
-    let loaded = program(&rt, alloc)?;
+    let loaded = program(&rt, alloc, NESTED);
     assert_eq!(rt;
         below::<Brand>(alloc, &loaded, 0, false)?,
         Explored::Half { cell: 1 }
@@ -135,7 +131,7 @@ fn below<N: Naming>(
 #[test]
 fn an_explorer_is_used_again(rt: HostRuntime) -> Result<(), Fail> {
     let alloc = rt.alloc();
-    let loaded = program(&rt, alloc)?;
+    let loaded = program(&rt, alloc, NESTED);
     let found = again::<Brand>(&rt, alloc, &loaded)?;
     assert_eq!(rt; found.0, Explored::Circle { cell: 1 });
     assert_eq!(rt; found.1, Explored::Ends);

@@ -4,7 +4,8 @@ ghost use Rattle.std.specs.Prelude.{◌≡◌};
 ghost use Rattle.and_cells.specs.Parts.{named};
 
 use crate::frames::{set, structure};
-use crate::unification::{right_side, second, two_structures};
+use crate::programs::program;
+use crate::unification::{TWO_STRUCTURES, right_side, second};
 use and_cells::{Naming, PlainCells};
 use and_late_cells::LateCells;
 use and_model::Ref;
@@ -41,7 +42,7 @@ fn unify_late<N: Naming>(
 #[test]
 fn a_late_look_changes_no_answer(rt: HostRuntime) -> Result<(), Fail> {
     let alloc = rt.alloc();
-    let loaded = two_structures(&rt, alloc)?;
+    let loaded = program(&rt, alloc, TWO_STRUCTURES);
     let (unified, missed, known) = unify_late::<Brand>(&rt, alloc, &loaded, 0)?;
     assert_eq!(rt; unified, Unified::Same);
     assert_eq!(rt; missed, 1);

@@ -8,8 +8,7 @@ ghost use Rattle.and_model.specs.declared.reference.Ref.{Ref};
 ghost use Rattle.and_term_tests.specs.Flat.{IsSimple, AreSimpleFrom, IsFlatWord, IsFlat};
 
 use crate::frames::set;
-use crate::programs::Symbol::{Int, Name, Var};
-use crate::programs::{ask, table_with};
+use crate::programs::program;
 use and_cells::{Cells, Naming, PlainCells};
 use and_model::{ClauseNo, GoalList, Ref, Text};
 use and_print::{VariableNames, show_line, show_term};
@@ -170,33 +169,12 @@ fn both_terms<N: Naming, R: Abort>(
     Ok(out)
 }
 
-/// The program of the fact `t(f(A), [1,2|B], 'A b'(+(1,2)), [A])` and the query
-/// `?- t(X, Y, _Z, W)`.
-fn example(rt: &impl Abort, alloc: Global) -> Result<Loaded, AllocError> {
-    let fact = [
-        Var(b"A"),
-        Name(b"f", 1),
-        Int(1),
-        Int(2),
-        Var(b"B"),
-        Name(b".", 2),
-        Name(b".", 2),
-        Int(1),
-        Int(2),
-        Name(b"+", 2),
-        Name(b"A b", 1),
-        Var(b"A"),
-        Name(b"[]", 0),
-        Name(b".", 2),
-        Name(b"t", 4),
-    ];
-    let query = [Var(b"X"), Var(b"Y"), Var(b"_Z"), Var(b"W"), Name(b"t", 4)];
-    ask(rt, alloc, table_with(rt, alloc, &fact)?, &query)
-}
+/// A fact with an argument for each of the query's variables.
+const EXAMPLE: &str = "t(f(A),[1,2|B],'A b'(1 + 2),[A]). ?- t(X,Y,_Z,W).";
 
 /// The line of a row for that program.
 fn line_of<R: Abort>(rt: &R, alloc: Global, settings: &[Setting]) -> Result<Text, AllocError> {
-    let loaded = example(rt, alloc)?;
+    let loaded = program(rt, alloc, EXAMPLE);
     shown::<Brand, R>(rt, alloc, &loaded, settings)
 }
 
@@ -216,7 +194,7 @@ fn variables_are_named_along_the_line(rt: HostRuntime) -> Result<(), Fail> {
 #[test]
 fn names_go_on_from_term_to_term(rt: HostRuntime) -> Result<(), Fail> {
     let alloc = rt.alloc();
-    let loaded = example(&rt, alloc)?;
+    let loaded = program(&rt, alloc, EXAMPLE);
     let settings = [
         Argument { cell: 1, place: 1 },
         Argument { cell: 2, place: 0 },
@@ -244,8 +222,7 @@ fn lists_operators_and_quotes(rt: HostRuntime) -> Result<(), Fail> {
 #[test]
 fn no_variable_is_shown(rt: HostRuntime) -> Result<(), Fail> {
     let alloc = rt.alloc();
-    let table = table_with(&rt, alloc, &[Name(b"p", 0)])?;
-    let loaded = ask(&rt, alloc, table, &[Name(b"p", 0)])?;
+    let loaded = program(&rt, alloc, "p. ?- p.");
     let line = shown::<Brand, HostRuntime>(&rt, alloc, &loaded, &[])?;
     assert_eq!(rt; line.bytes(), b"true".as_slice());
     Ok(())

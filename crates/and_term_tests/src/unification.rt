@@ -9,10 +9,8 @@ ghost use Rattle.and_cells.specs.Parts.{named};
 ghost use Rattle.and_unify.specs.Pairs.{AreInRange, AreWritten};
 
 use crate::frames::structure;
-use crate::programs::Symbol::{Name, Var};
-use crate::programs::ask;
+use crate::programs::program;
 use and_cells::{Naming, PlainCells};
-use and_clauses::ClauseTable;
 use and_model::{ClauseNo, NodeNo, Ref};
 use and_program::{ItemNode, Loaded, NodeKind};
 use and_unify::{Pair, PairList, Settled, Solver, Unified, settle, unify};
@@ -21,29 +19,11 @@ use std::marker::Brand;
 use std::process::Abort;
 use std::test::Fail;
 
-/// The program of `?- X = f(a,b), Y = f(a,c).`
-pub(crate) fn two_structures(rt: &impl Abort, alloc: Global) -> Result<Loaded, AllocError> {
-    let query = [
-        Var(b"X"),
-        Name(b"a", 0),
-        Name(b"b", 0),
-        Name(b"f", 2),
-        Name(b"=", 2),
-        Var(b"Y"),
-        Name(b"a", 0),
-        Name(b"c", 0),
-        Name(b"f", 2),
-        Name(b"=", 2),
-        Name(b",", 2),
-    ];
-    ask(rt, alloc, ClauseTable::new(alloc)?, &query)
-}
+/// Two equations of structures.
+pub(crate) const TWO_STRUCTURES: &str = "?- X = f(a,b), Y = f(a,c).";
 
-/// The program of `?- X = f(X).`
-fn circle(rt: &impl Abort, alloc: Global) -> Result<Loaded, AllocError> {
-    let query = [Var(b"X"), Var(b"X"), Name(b"f", 1), Name(b"=", 2)];
-    ask(rt, alloc, ClauseTable::new(alloc)?, &query)
-}
+/// A variable, and a structure that holds it.
+const CIRCLE: &str = "?- X = f(X).";
 
 /// The right side of an equation of the query.
 pub(crate) fn right_side(rt: &impl Abort, loaded: &Loaded, place: usize) -> NodeNo
@@ -160,7 +140,7 @@ fn pairs_stay_in_order(rt: HostRuntime) -> Result<(), Fail> {
 #[test]
 fn unify_calls(rt: HostRuntime) -> Result<(), Fail> {
     let alloc = rt.alloc();
-    let loaded = two_structures(&rt, alloc)?;
+    let loaded = program(&rt, alloc, TWO_STRUCTURES);
     let apart = Unified::Apart {
         left: second(&rt, &loaded, right_side(&rt, &loaded, 0)),
         right: second(&rt, &loaded, right_side(&rt, &loaded, 1)),
@@ -216,7 +196,7 @@ fn settle_equations<N: Naming>(
 #[test]
 fn a_variable_is_no_term_that_holds_it(rt: HostRuntime) -> Result<(), Fail> {
     let alloc = rt.alloc();
-    let loaded = circle(&rt, alloc)?;
+    let loaded = program(&rt, alloc, CIRCLE);
     let (settled, _) = settle_equations::<Brand>(&rt, alloc, &loaded, 1)?;
     assert_eq!(rt; settled, Settled::NoSolution);
     Ok(())
@@ -225,7 +205,7 @@ fn a_variable_is_no_term_that_holds_it(rt: HostRuntime) -> Result<(), Fail> {
 #[test]
 fn two_pairs_are_solved(rt: HostRuntime) -> Result<(), Fail> {
     let alloc = rt.alloc();
-    let loaded = two_structures(&rt, alloc)?;
+    let loaded = program(&rt, alloc, TWO_STRUCTURES);
     let (settled, word) = settle_equations::<Brand>(&rt, alloc, &loaded, 2)?;
     assert_eq!(rt; settled, Settled::Solved);
     let node = right_side(&rt, &loaded, 0);
@@ -255,7 +235,7 @@ fn settle_frame<N: Naming>(
 #[test]
 fn a_new_frame_is_settled(rt: HostRuntime) -> Result<(), Fail> {
     let alloc = rt.alloc();
-    let loaded = circle(&rt, alloc)?;
+    let loaded = program(&rt, alloc, CIRCLE);
     let (settled, word) = settle_frame::<Brand>(&rt, alloc, &loaded)?;
     assert_eq!(rt; settled, Settled::Solved);
     assert_eq!(rt; word, Ref::Cell(1));

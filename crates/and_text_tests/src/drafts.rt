@@ -1,4 +1,4 @@
-//! Drafts that tests build.
+//! Drafts of parts that are written in postfix order.
 
 ghost use Rattle.std.specs.Prelude.{◌≡◌, IfOk, IsTrue, length};
 ghost use Rattle.and_clauses.specs.Drafts.{draft_of};
@@ -9,37 +9,25 @@ use std::alloc::{AllocError, Global};
 use std::process::Abort;
 
 /// A part of a draft.
-#[derive(Clone, Copy)]
-pub(crate) enum Given<'a> {
-    Var(&'a [u8]),
-    Int(i64),
-    Name(&'a [u8], u8),
+enum Part<'a> {
+    Variable(&'a str),
+    Number(i64),
+    Name(&'a str, u8),
 }
 
-/// The parts of `app([],L,L).`
-pub(crate) const APPEND_BASE: [Given<'static>; 4] = [
-    Given::Name(b"[]", 0),
-    Given::Var(b"L"),
-    Given::Var(b"L"),
-    Given::Name(b"app", 3),
-];
-
-/// The parts of `app([H|T],L,[H|R]) :- app(T,L,R).`
-pub(crate) const APPEND_STEP: [Given<'static>; 13] = [
-    Given::Var(b"H"),
-    Given::Var(b"T"),
-    Given::Name(b".", 2),
-    Given::Var(b"L"),
-    Given::Var(b"H"),
-    Given::Var(b"R"),
-    Given::Name(b".", 2),
-    Given::Name(b"app", 3),
-    Given::Var(b"T"),
-    Given::Var(b"L"),
-    Given::Var(b"R"),
-    Given::Name(b"app", 3),
-    Given::Name(b":-", 2),
-];
+/// The part that a word stands for: `app/3` is a name with its number of arguments, `-7` a number, and `X` a variable.
+fn part_of(word: &str) -> Part<'_> {
+    if let Some((name, count)) = word.rsplit_once('/') {
+        return match count.parse::<u8>() {
+            Ok(count) => Part::Name(name, count),
+            Err(_) => Part::Variable(word),
+        };
+    }
+    match word.parse::<i64>() {
+        Ok(value) => Part::Number(value),
+        Err(_) => Part::Variable(word),
+    }
+}
 
 /// A draft, and how many of its terms are finished.
 #[derive(Drop)]
@@ -50,7 +38,7 @@ struct Counted {
 }
 
 /// Adds a part.
-fn add_part(rt: &impl Abort, counted: Counted, part: Given) -> Result<Counted, AllocError> {
+fn add_part(rt: &impl Abort, counted: Counted, part: Part) -> Result<Counted, AllocError> {
     let Counted {
         mut draft,
         finished,
@@ -58,29 +46,29 @@ fn add_part(rt: &impl Abort, counted: Counted, part: Given) -> Result<Counted, A
     assert!(rt; !draft.is_full());
     assert!(rt; finished < 1000);
     let finished = match part {
-        Given::Var(name) => {
-            draft.variable(name)?;
+        Part::Variable(name) => {
+            draft.variable(name.as_bytes())?;
             finished + 1
         }
-        Given::Int(value) => {
+        Part::Number(value) => {
             draft.integer(value)?;
             finished + 1
         }
-        Given::Name(name, count) => {
+        Part::Name(name, count) => {
             assert!(rt; count as usize <= finished);
-            draft.compound(name, count)?;
+            draft.compound(name.as_bytes(), count)?;
             finished - count as usize + 1
         }
     };
     Ok(Counted { draft, finished })
 }
 
-/// The draft of these parts, in postfix order.
+/// The draft of these parts, with a space between.
 pub(crate) fn draft(
     rt: &impl Abort,
     alloc: Global,
     line: u32,
-    parts: &[Given],
+    parts: &str,
 ) -> Result<ClauseDraft, AllocError>
     ensures { IfOk result (λ d. length (draft_of d).finished ≡ 1) }
 {
@@ -88,8 +76,8 @@ pub(crate) fn draft(
         draft: ClauseDraft::new(alloc, line),
         finished: 0,
     };
-    for part in parts {
-        counted = add_part(rt, counted, *part)?;
+    for word in parts.split_whitespace() {
+        counted = add_part(rt, counted, part_of(word))?;
     }
     let draft = counted.draft;
     assert!(rt; draft.is_whole());
@@ -101,7 +89,7 @@ pub(crate) fn query_draft(
     rt: &impl Abort,
     alloc: Global,
     line: u32,
-    body: &[Given],
+    body: &str,
 ) -> Result<ClauseDraft, AllocError>
     ensures { IfOk result (λ d. IsTrue (is_query (draft_of d).finished)) }
 {

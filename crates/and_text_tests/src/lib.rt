@@ -2,7 +2,11 @@
 #![tactic(auto)]
 
 #[cfg(test)]
+mod answers;
+#[cfg(test)]
 mod drafts;
+#[cfg(test)]
+mod rows;
 #[cfg(test)]
 mod sealed;
 #[cfg(test)]
