@@ -73,7 +73,8 @@ const FRAME: u32 = 256;
 /// Fills a list with the clauses of a goal that are left, in textual order. A clause is left out where
 /// its head and the goal have no common solution under what is known, or a comparison of its guard is
 /// ground there and does not hold. Each pair and each part of an expression takes 1 of the fuel. A clause
-/// that a look at the goal tells apart takes none.
+/// that a look at the goal tells apart takes none, nor does one that alone serves its first argument: that
+/// is left without a trial, since to reduce the goal by it tells as much.
 ///
 /// The cells have so many words. What is set on trial is kept apart, so that none of them changes.
 pub fn select<C: Cells>(

@@ -521,7 +521,8 @@ impl<N: Naming> Team<N> {
         requires has { Has N.program shared.now.tree.now self.old.pass (self.old.stack.items) }
         requires some { self.old.stack.items ≢ [] }
         ensures same { (self.new.number ≡ self.old.number) × (self.new.found ≡ self.old.found) }
-        ensures branch { IfOk result (λ branch. (self.new.pass ≡ self.old.pass) × Has N.program shared.now.tree.now self.new.pass (Task.One branch ∷ self.new.stack.items)) }
+        ensures branch { IfOk result (λ branch. (self.new.pass ≡ self.old.pass)
+            × Has N.program shared.now.tree.now self.new.pass (Task.One branch ∷ self.new.stack.items)) }
         ensures given_up { OnErr result (Has N.program shared.now.tree.now self.new.pass (self.new.stack.items)) }
     {
         let (branch, rest) = self.part_oldest(shared)?;
