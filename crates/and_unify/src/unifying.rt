@@ -38,7 +38,7 @@ pub enum Unified {
 /// Makes the pairs equal in the most general way, without looking for circles.
 ///
 /// At first pairs are met plainly, by a descent into so many structures at most as the greatest node that the
-/// pairs name has a number, and 1024 more, or into none if there is less fuel than that; it takes none of the
+/// pairs name has a number, and 1024 more, unless there is less fuel than that; it takes none of the
 /// fuel. Of what is left then, each place of
 /// the left sides takes 1 of the fuel when it is first come to, and nothing later, however often it is come
 /// to. So the fuel is never used up with a pair left where the left sides have at most as many places as
@@ -62,8 +62,10 @@ pub fn unify<C: Cells>(
 {
     let mut bound = Vec::new(alloc);
     let most = u64::from(greatest_node(pairs)) + PLAIN_STRUCTURES;
-    let plainly = if *fuel < most { 0 } else { most };
-    descend_then_solve(loaded, cells, plainly, fuel, pairs, &mut bound)
+    if *fuel < most {
+        return solve(alloc, loaded, cells, fuel, pairs, &mut bound);
+    }
+    descend_then_solve(loaded, cells, most, fuel, pairs, &mut bound)
 }
 
 /// The same, where the cells that are set here are also put on a list.
