@@ -29,7 +29,11 @@ impl Model for Row {
 
     ghost Value = { Kept };
 
-    ghost view = { λ row. record { words = row.words.items; at_mark = had row.mark row.changes.items row.words.items; room = vec_capacity row.changes - vec_len row.changes } };
+    ghost view = { λ row. record {
+      words = row.words.items;
+      at_mark = had row.mark row.changes.items row.words.items;
+      room = vec_capacity row.changes - vec_len row.changes;
+    } };
 
     ghost invariant = { λ row. IsMarked row.mark row.changes.items row.words.items };
 }
@@ -47,7 +51,8 @@ fn put(words: &mut Vec<u32>, place: u32, word: u32)
 /// Notes what a word was, if it was there at the mark.
 fn note(changes: &mut Vec<Change>, mark: Option<usize>, place: u32, before: u32)
     requires { mark ≢ None → vec_len changes.old < vec_capacity changes.old }
-    ensures noted { (words : List ℕ) (word : ℕ) → set words place before ≡ words → had mark changes.new.items (set words place word) ≡ had mark changes.old.items words }
+    ensures noted { (words : List ℕ) (word : ℕ) → set words place before ≡ words
+        → had mark changes.new.items (set words place word) ≡ had mark changes.old.items words }
     ensures marked { (words : List ℕ) → IsMarked mark changes.old.items words → IsMarked mark changes.new.items words }
     ensures len { vec_len changes.new ≤ vec_len changes.old + 1 }
     ensures capacity { vec_capacity changes.new ≡ vec_capacity changes.old }
