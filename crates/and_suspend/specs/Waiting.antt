@@ -1,5 +1,5 @@
 -- Goals that wait for cells, and what looks at these cells found (this project's own).
-use Rattle.std.specs.Prelude.{ℕ, ◌≡◌, List, [], ◌∷◌, ◌++◌, All}
+use Rattle.std.specs.Prelude.{ℕ, List, [], ◌∷◌, IsPermutation}
 use Rattle.and_model.specs.declared.goal.Goal.{Goal}
 use Rattle.and_model.specs.declared.reference.Ref.{Ref}
 use Rattle.and_cells.specs.Ranges.{NamedProgram}
@@ -34,12 +34,8 @@ pub record LookedSet (P : NamedProgram) (cell : ℕ) (old new : Seen) : Type 0 w
   pub reads : OnlyReads old before
   pub finds : Finds P cell value before new
 
--- These looks found the cells of the first goals free, and the cell of the next one set. This goal was taken out, and no other.
-pub record Wakes (P : NamedProgram) (shared : ℕ) (goal : Goal) (was is : List Waiting) (old new : Seen) : Type 0 where
-  pub first : List Waiting
+-- This goal was taken out, and no other: the last of these steps was a look that found its cell set.
+pub record Wakes (P : NamedProgram) (goal : Goal) (was is : List Waiting) (old new : Seen) : Type 0 where
   pub cell : ℕ
-  pub others : List Waiting
-  pub was_so : was ≡ first ++ waiting_for goal cell ∷ others
-  pub is_so : is ≡ first ++ others
-  pub free : All (λ (w : Waiting). LookedFree shared w.cell old new) first
+  pub taken : IsPermutation was (waiting_for goal cell ∷ is)
   pub set : LookedSet P cell old new

@@ -1,6 +1,6 @@
 //! The list of goals that wait.
 
-ghost use Rattle.std.specs.Prelude.{◌≡◌, ◌<◌, ◌++◌, ◌∷◌, [], map, take, length, All, IfSome, IfNone, IfErr, OnOk, OnErr, slice_index_or};
+ghost use Rattle.std.specs.Prelude.{◌≡◌, ◌<◌, ◌++◌, ◌∷◌, [], map, length, All, IfSome, IfNone, IfErr, OnOk, OnErr, slice_index_or};
 ghost use Rattle.and_cells.specs.Seen.{OnlyReads};
 ghost use Rattle.and_suspend.specs.Waiting.{Waiting, waiting_for, LookedFree, LookedSet, Wakes};
 
@@ -9,11 +9,13 @@ use and_model::{Goal, GoalList, Ref};
 use std::alloc::Global;
 use std::marker::Model;
 
-/// Goals that wait, each for a cell, in the order in which they began to.
+/// Goals that wait, each for a cell.
 #[derive(Drop)]
 pub struct Suspended {
     goals: Vec<Goal>,
     cells: Vec<u32>,
+    /// Looks go from here to the first place, and then from the last place to here.
+    from: usize,
 }
 
 impl Model for Suspended {
@@ -27,23 +29,46 @@ impl Model for Suspended {
     ghost invariant = { λ s. length s.goals.items ≡ length s.cells.items };
 }
 
-/// The place of the first cell that a look finds set; `None` where each is found free. Takes no memory.
-fn first_set<C: Cells>(waited: &[u32], cells: &mut C) -> Option<usize>
+/// The place of the last cell that a look finds set; `None` where each is found free. Takes no memory.
+fn last_set<C: Cells>(waited: &[u32], cells: &mut C) -> Option<usize>
     requires { All (λ cell. cell < (C.seen cells.old).words) waited.now }
     ensures over { C.over cells.new ≡ C.over cells.old }
     ensures grew { C.Grew cells.old cells.new }
     ensures reads { OnlyReads (C.seen cells.old) (C.seen cells.new) }
     ensures none { IfNone result (All (λ cell. LookedFree (C.shared (C.over cells.old)) cell (C.seen cells.old) (C.seen cells.new)) waited.now) }
-    ensures free { IfSome result (λ place. All (λ cell. LookedFree (C.shared (C.over cells.old)) cell (C.seen cells.old) (C.seen cells.new)) (take place waited.now)) }
     ensures set { IfSome result (λ place. (place < length waited.now) × LookedSet C.program (slice_index_or waited.now place 0) (C.seen cells.old) (C.seen cells.new)) }
 {
-    for place in 0..waited.len() {
+    let mut place = waited.len();
+    while place > 0 {
+        place -= 1;
         match cells.look(waited[place]) {
             Ref::Free => {}
             _ => return Some(place),
         }
     }
     None
+}
+
+/// The place of a cell that a look finds set; `None` where each is found free. Looks go from the place before `from` to the first one,
+/// and then from the last one to `from`. Takes no memory.
+fn next_set<C: Cells>(waited: &[u32], from: usize, cells: &mut C) -> Option<usize>
+    requires { All (λ cell. cell < (C.seen cells.old).words) waited.now }
+    ensures over { C.over cells.new ≡ C.over cells.old }
+    ensures grew { C.Grew cells.old cells.new }
+    ensures reads { OnlyReads (C.seen cells.old) (C.seen cells.new) }
+    ensures none { IfNone result (All (λ cell. LookedFree (C.shared (C.over cells.old)) cell (C.seen cells.old) (C.seen cells.new)) waited.now) }
+    ensures set { IfSome result (λ place. (place < length waited.now) × LookedSet C.program (slice_index_or waited.now place 0) (C.seen cells.old) (C.seen cells.new)) }
+{
+    if from > waited.len() {
+        return last_set(waited, cells);
+    }
+    if let Some(place) = last_set(&waited[..from], cells) {
+        return Some(place);
+    }
+    match last_set(&waited[from..], cells) {
+        Some(place) => Some(from + place),
+        None => None,
+    }
 }
 
 impl Suspended {
@@ -54,6 +79,7 @@ impl Suspended {
         Suspended {
             goals: Vec::new(alloc),
             cells: Vec::new(alloc),
+            from: 0,
         }
     }
 
@@ -71,29 +97,37 @@ impl Suspended {
         Ok(())
     }
 
-    /// Takes out the first goal whose cell is found set; `None` where each cell is found free, each by a
-    /// look of this call. Takes no memory.
+    /// Takes out a goal whose cell is found set; `None` where each cell is found free, each by a look of this
+    /// call. Takes no memory.
+    ///
+    /// Looks begin before the place of the goal that was taken out last, and go round. So those whose cells are free are passed
+    /// once a round; and who began to wait later comes earlier, as in a recursion the innermost call has its value first.
     pub fn woken<C: Cells>(&mut self, cells: &mut C) -> Option<Goal>
         requires { All (λ w. w.cell < (C.seen cells.old).words) self.old }
         ensures over { C.over cells.new ≡ C.over cells.old }
         ensures grew { C.Grew cells.old cells.new }
         ensures reads { OnlyReads (C.seen cells.old) (C.seen cells.new) }
-        ensures woken { IfSome result (λ goal. Wakes C.program (C.shared (C.over cells.old)) goal self.old self.new (C.seen cells.old) (C.seen cells.new)) }
+        ensures woken { IfSome result (λ goal. Wakes C.program goal self.old self.new (C.seen cells.old) (C.seen cells.new)) }
         ensures unchanged { IfNone result (self.new ≡ self.old) }
         ensures free { IfNone result (All (λ w. LookedFree (C.shared (C.over cells.old)) w.cell (C.seen cells.old) (C.seen cells.new)) self.old) }
     {
-        let Some(place) = first_set(self.cells.as_slice(), cells) else {
+        let Some(place) = next_set(self.cells.as_slice(), self.from, cells) else {
             return None;
         };
-        self.cells.remove(place);
-        Some(self.goals.remove(place))
+        self.from = place;
+        self.cells.swap_remove(place);
+        Some(self.goals.swap_remove(place))
     }
 
     /// The goals that still wait, in order. Takes no memory.
     pub fn rest(self) -> GoalList
         ensures { result ≡ map (λ w. w.goal) self }
     {
-        let Suspended { goals, cells: _ } = self;
+        let Suspended {
+            goals,
+            cells: _,
+            from: _,
+        } = self;
         GoalList::of_items(goals)
     }
 }

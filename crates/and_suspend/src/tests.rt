@@ -40,12 +40,12 @@ fn a_goal_is_woken_once_its_cell_is_set(rt: HostRuntime) -> Result<(), Fail> {
 }
 
 #[test]
-fn the_first_goal_is_woken_first(rt: HostRuntime) -> Result<(), Fail> {
+fn the_last_goal_is_woken_first(rt: HostRuntime) -> Result<(), Fail> {
     let mut cells: PlainCells<Brand> = PlainCells::with(rt.alloc(), 3)?;
     let mut suspended = Suspended::new(rt.alloc());
-    assert!(rt; suspended.wait(FIRST, 1).is_ok());
+    assert!(rt; suspended.wait(FIRST, 2).is_ok());
     assert!(rt; suspended.wait(SECOND, 2).is_ok());
-    assert!(rt; suspended.wait(THIRD, 2).is_ok());
+    assert!(rt; suspended.wait(THIRD, 1).is_ok());
     assert_eq!(rt; cells.bind(2, Ref::Cell(0)), Bound::Won);
     assert_eq!(rt; suspended.woken(&mut cells), Some(SECOND));
     let rest = suspended.rest();

@@ -1,7 +1,8 @@
 -- What a worker does between its turns that reads only: it goes on being at work.
 use Rattle.std.proofs.Common.{ℕ, ◌∙◌, refl, ap, ◌≡◌, ◌∷◌, ◌<◌, List, Option, Some, None, sym, subst, All}
 use Rattle.std.specs.Prelude.{IfSome, IfNone}
-use Rattle.std.proofs.lemmas.List.Elements.{All-append, All-tail}
+use Rattle.std.proofs.lemmas.List.Elements.{All-tail}
+use Rattle.std.proofs.lemmas.List.Sorted.{All-permutation}
 use Rattle.and_model.specs.declared.goal.Goal.{Goal}
 use Rattle.and_cells.specs.Ranges.{NamedProgram}
 use Rattle.and_cells.specs.Seen.{Seen, OnlyReads}
@@ -12,7 +13,6 @@ use Rattle.and_model.specs.declared.reference.Ref.{Ref}
 use Rattle.and_store.specs.Calls.{HangsGoal, MissesPlace, FindsSet, FindsFailed, HandsOut}
 use Rattle.and_store.specs.Passes.{PassSeen, StoreId}
 use Rattle.and_store.specs.Worked.{IsUsed, seen_by}
-use Rattle.and_store_laws.proofs.Lists.{all_front, all_back}
 use Rattle.and_workers.specs.AtWork.{IsAtWork}
 use Rattle.and_workers.specs.declared.told.Told.{Told}
 use Rattle.and_workers.proofs.Quiet.{stays_at_work}
@@ -39,13 +39,12 @@ waits_fewer P told todo was is p fewer work = record {
 }
 
 -- a goal that was taken out leaves the others
-pub woken_leaves : (Q : Waiting → Type 0) (P : NamedProgram) (shared : _) (result : Option Goal) (was is : List Waiting) (old new : Seen)
-    → IfSome result (λ goal. Wakes P shared goal was is old new) → IfNone result (is ≡ was) → All Q was → All Q is
-woken_leaves Q P shared None was is old new some none all = subst (All Q) (sym none) all
-woken_leaves Q P shared (Some goal) was is old new some none all =
-    let parts = subst (All Q) some.was_so all in
-    subst (All Q) (sym some.is_so) (All-append Q some.first some.others (all_front Q some.first (waiting_for goal some.cell ∷ some.others) parts)
-    (All-tail Q (waiting_for goal some.cell) some.others (all_back Q some.first (waiting_for goal some.cell ∷ some.others) parts)))
+pub woken_leaves : (Q : Waiting → Type 0) (P : NamedProgram) (result : Option Goal) (was is : List Waiting) (old new : Seen)
+    → IfSome result (λ goal. Wakes P goal was is old new) → IfNone result (is ≡ was) → All Q was → All Q is
+woken_leaves Q P None was is old new some none all = subst (All Q) (sym none) all
+woken_leaves Q P (Some goal) was is old new some none all =
+    let first = waiting_for goal some.cell in
+    All-tail Q first is (All-permutation Q was (first ∷ is) some.taken all)
 
 -- ---- A goal is to wait
 

@@ -24,7 +24,7 @@ use and_cells::Naming;
 use and_io::Gate;
 use and_model::limits::MAX_LIMIT;
 use and_model::{ClauseNo, Goal, NodeNo, Reduction};
-use and_program::Loaded;
+use and_program::{ItemNode, Loaded};
 use and_selection::{Selected, select, waits_on};
 use and_store::{Pass, Worker};
 use and_unify::{PairList, Unified, unify};
@@ -226,7 +226,7 @@ impl<'a, N: Naming> Reducer<Worker<'a, N>> {
         }
     }
 
-    /// Puts the goals of a body into the hand.
+    /// Puts the calls of a body into the hand, and its arithmetic beside it.
     fn put_body(&mut self, loaded: &Loaded, clause: ClauseNo, node: u32)
         requires { clause.0 ≤ length (program_of loaded.now).clauses }
         ensures { (self.new.told ≡ self.old.told) × (self.new.suspended ≡ self.old.suspended) }
@@ -234,10 +234,24 @@ impl<'a, N: Naming> Reducer<Worker<'a, N>> {
         let items = loaded.items(clause);
         for place in 0..items.len() {
             if let Ok(number) = u32::try_from(place) {
-                if let Some(goal) = goal_in(items[place], number, clause, node) {
-                    self.put(goal);
-                }
+                self.put_item(items[place], number, clause, node);
             }
+        }
+    }
+
+    /// Puts the goal of an item into the hand if it is a call, and beside it if it is arithmetic.
+    fn put_item(&mut self, item: ItemNode, place: u32, clause: ClauseNo, node: u32)
+        ensures { (self.new.told ≡ self.old.told) × (self.new.suspended ≡ self.old.suspended) }
+    {
+        let Some(goal) = goal_in(item, place, clause, node) else {
+            return;
+        };
+        match item {
+            ItemNode::Call { .. } => self.put(goal),
+            ItemNode::Equal { .. } => {}
+            ItemNode::Is { .. } => self.put_own(goal),
+            ItemNode::Compare { .. } => self.put_own(goal),
+            ItemNode::Fail => {}
         }
     }
 }

@@ -57,6 +57,8 @@ pub struct Job {
 pub(crate) struct Reducer<C: Cells> {
     pub number: u32,
     pub hand: Hand,
+    /// Arithmetic of frames that this worker took, which no other may run.
+    pub own: Vec<Goal>,
     pub suspended: Suspended,
     pub told: Told,
     pub clauses: ClauseList,
@@ -147,6 +149,7 @@ impl<'a, N: Naming> Reducer<Worker<'a, N>> {
         Reducer {
             number,
             hand,
+            own: Vec::new(alloc),
             suspended: Suspended::new(alloc),
             told: Told::nothing(alloc),
             clauses: ClauseList::new(alloc),
@@ -224,15 +227,25 @@ impl<'a, N: Naming> Reducer<Worker<'a, N>> {
         }
     }
 
-    /// The next goal: of the hands, or one that waited.
+    /// The next goal: arithmetic of its own, one of the hands, or one that waited.
     fn next(&mut self, cells: &mut Worker<'a, N>) -> Option<Goal>
         requires { IsAtWork N.program self.old.told [] self.old.suspended cells.old.pass }
         ensures store { cells.new.pass.store ≡ cells.old.pass.store }
         ensures at_work { IsAtWork N.program self.new.told [] self.new.suspended cells.new.pass }
     {
-        match self.hand.take() {
+        match self.take() {
             Some(goal) => Some(goal),
             None => self.suspended.woken(cells),
+        }
+    }
+
+    /// Takes arithmetic of its own or, where there is none, a goal of the hands.
+    fn take(&mut self) -> Option<Goal>
+        ensures { (self.new.told ≡ self.old.told) × (self.new.suspended ≡ self.old.suspended) }
+    {
+        match self.own.pop() {
+            Some(goal) => Some(goal),
+            None => self.hand.take(),
         }
     }
 
@@ -289,6 +302,13 @@ impl<'a, N: Naming> Reducer<Worker<'a, N>> {
         ensures { (self.new.told ≡ self.old.told) × (self.new.suspended ≡ self.old.suspended) × (self.new.pairs ≡ self.old.pairs) }
     {
         let _refused = self.hand.put(goal);
+    }
+
+    /// Puts arithmetic of a frame that this worker took beside the hand, where no other takes it. Where there is no room it is left over.
+    pub(crate) fn put_own(&mut self, goal: Goal)
+        ensures { (self.new.told ≡ self.old.told) × (self.new.suspended ≡ self.old.suspended) × (self.new.pairs ≡ self.old.pairs) }
+    {
+        let _refused = self.own.push(goal);
     }
 
     /// Keeps a goal until this worker finds the cell set.
