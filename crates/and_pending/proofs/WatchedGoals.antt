@@ -1,0 +1,275 @@
+-- Goals whose cells stand in a list.
+use Rattle.std.proofs.Common.{ℕ, ◌≡◌, ◌+◌, ◌-◌, ◌<◌, ◌≤◌, List, [], ◌∷◌, ◌++◌, map, length, get_or, set, take, drop, reverse, refl, sym, ap, ◌∙◌, subst, arith}
+use Rattle.std.specs.Prelude.{All, Option, Some, None, IfSome, slice_range}
+use Rattle.std.proofs.lemmas.List.{append-nil, length-append, length-map, length-take-le, map-append, drop-append-le, take-append-le}
+use Rattle.std.proofs.lemmas.List.{length-drop, take_more, take-append-drop, append_assoc}
+use Rattle.std.proofs.lemmas.List.Elements.{All-cons, All-append, All-head, All-tail, All-same, All-map, All-weaker}
+use Rattle.std.proofs.lemmas.Option.{IfSome_then}
+use Rattle.std.proofs.Math.Seq.{drop-append_seam, take-length}
+use Rattle.and_model.specs.declared.goal.Goal.{Goal}
+use Rattle.and_model.specs.declared.reference.Ref.{Ref}
+use Rattle.and_pending.specs.Pending.{Watched, Pending, Sleeps, IsWithin, goals_of, unwatched, cells_at, watched_in, all_watched_in}
+use Rattle.and_pending.specs.declared.watch.Range.{Range}
+use Rattle.and_pending.specs.declared.pending.PendingGoal.{PendingGoal}
+use Rattle.and_pending.proofs.Stacks.{top_popped, top_read, top_set, map_reverse, all_left, all_right, all_reverse}
+
+-- a goal that has no range
+abbrev pub not_watched : Goal → PendingGoal
+not_watched g = record { goal = g; watch = None }
+
+-- the goal alone
+abbrev pub goal_of : PendingGoal → Goal
+goal_of p = p.goal
+
+-- a goal without its range
+abbrev pub cleared : PendingGoal → PendingGoal
+cleared p = record { goal = p.goal; watch = None }
+
+-- The goal, whose cells stand in the list, sleeps in the row.
+abbrev pub SleepsIn : List ℕ → List Ref → PendingGoal → Type 0
+SleepsIn cells row p = Sleeps row (watched_in cells p)
+
+-- ---- More cells
+
+range_more : (cells more : List ℕ) (from to : ℕ) → from ≤ to → to ≤ length cells → slice_range (cells ++ more) from to ≡ slice_range cells from to
+range_more cells more from to ordered within =
+    let low : from ≤ length cells = omega arith in
+    let long : to - from ≤ length (drop from cells) = let e = length-drop from cells in omega arith in
+    ap (λ (l : List ℕ). take (to - from) l) (drop-append-le from cells more low) ∙ take-append-le (to - from) (drop from cells) more long
+
+cells_more : (cells more : List ℕ) (watch : Option Range) → IfSome watch (λ (range : Range). (range.first ≤ range.past) × (range.past ≤ length cells))
+    → cells_at (cells ++ more) watch ≡ cells_at cells watch
+cells_more cells more None within = refl
+cells_more cells more (Some range) within =
+    ap (λ (l : List ℕ). Some l) (range_more cells more range.first range.past within.0 within.1)
+
+-- The goals are watched by the same cells,
+pub watched_more : (cells more : List ℕ) (ps : List PendingGoal) → All (IsWithin cells) ps
+    → all_watched_in (cells ++ more) ps ≡ all_watched_in cells ps
+watched_more cells more [] each = refl
+watched_more cells more (p ∷ ps) each =
+    let here_is : watched_in (cells ++ more) p ≡ watched_in cells p =
+    ap (λ (o : Option (List ℕ)). record { goal = p.goal; cells = o }) (cells_more cells more p.watch (All-head (IsWithin cells) p ps each)) in
+    let rest = watched_more cells more ps (All-tail (IsWithin cells) p ps each) in
+    ap (λ (w : Watched). w ∷ all_watched_in (cells ++ more) ps) here_is ∙ ap (λ (ws : List Watched). watched_in cells p ∷ ws) rest
+
+-- which stand there.
+pub within_more : (cells more : List ℕ) (ps : List PendingGoal) → All (IsWithin cells) ps → All (IsWithin (cells ++ more)) ps
+within_more cells more ps each =
+    let long = length-append cells more in
+    All-weaker (IsWithin cells) (IsWithin (cells ++ more))
+    (λ p h. IfSome_then p.watch h (λ range within. (within.0, let high = within.1 in omega arith))) ps each
+
+-- The cells at the end are those that were put there.
+pub cells_gained : (cells gained : List ℕ) (from to : ℕ) → from ≡ length cells → to ≡ length (cells ++ gained)
+    → slice_range (cells ++ gained) from to ≡ gained
+cells_gained cells gained from to first past =
+    let long = length-append cells gained in
+    let count : to - from ≡ length gained = omega arith in
+    ap (λ (n : ℕ). take n (drop from (cells ++ gained))) count
+    ∙ ap (λ (n : ℕ). take (length gained) (drop n (cells ++ gained))) first
+    ∙ ap (λ (l : List ℕ). take (length gained) l) (drop-append_seam cells gained)
+    ∙ take-length gained
+
+-- ---- Stacks of goals
+
+module _ (cells : List ℕ) (left right : List PendingGoal) (each : All (IsWithin cells) (left ++ reverse right)) where
+  pub left_within : All (IsWithin cells) left
+  left_within = all_left (IsWithin cells) left (reverse right) each
+
+  pub right_within : All (IsWithin cells) (reverse right)
+  right_within = all_right (IsWithin cells) left (reverse right) each
+
+  -- One goal is taken away,
+  pub one_less : (rest : List PendingGoal) (p : PendingGoal) → right ≡ rest ++ p ∷ [] → All (IsWithin cells) (left ++ reverse rest)
+  one_less rest p popped =
+      All-append (IsWithin cells) left (reverse rest) left_within
+      (All-tail (IsWithin cells) p (reverse rest)
+      (All-same (IsWithin cells) (p ∷ reverse rest) (reverse right) (sym (top_popped right rest p popped)) right_within))
+
+  -- or put there,
+  pub one_more : (new : List PendingGoal) (p : PendingGoal) → new ≡ right ++ p ∷ [] → IsWithin cells p → All (IsWithin cells) (left ++ reverse new)
+  one_more new p pushed its =
+      All-append (IsWithin cells) left (reverse new) left_within
+      (All-same (IsWithin cells) (reverse new) (p ∷ reverse right) (top_popped new right p pushed)
+      (All-cons (IsWithin cells) p (reverse right) its right_within))
+
+  -- or gets a range.
+  pub one_watched : (more : List ℕ) (i : ℕ) (p q : PendingGoal) (rest : List PendingGoal) → i + 1 ≡ length right → reverse right ≡ p ∷ rest
+      → IsWithin (cells ++ more) q → All (IsWithin (cells ++ more)) (left ++ reverse (set right i q))
+  one_watched more i p q rest long is its =
+      All-append (IsWithin (cells ++ more)) left (reverse (set right i q)) (within_more cells more left left_within)
+      (All-same (IsWithin (cells ++ more)) (reverse (set right i q)) (q ∷ rest) (top_set right i p rest long is q)
+      (All-cons (IsWithin (cells ++ more)) q rest its
+      (within_more cells more rest (All-tail (IsWithin cells) p rest
+      (All-same (IsWithin cells) (p ∷ rest) (reverse right) (sym is) right_within)))))
+
+-- The top stands there,
+pub top_within : (cells : List ℕ) (left right : List PendingGoal) → All (IsWithin cells) (left ++ reverse right) → (i : ℕ) (p : PendingGoal)
+    → i + 1 ≡ length right → p ≡ get_or right i p → IsWithin cells p
+top_within cells left right each i p long read =
+    All-head (IsWithin cells) p (reverse (take i right))
+    (All-same (IsWithin cells) (p ∷ reverse (take i right)) (reverse right) (sym (top_read right i p long read)) (right_within cells left right each))
+
+-- and so does the last goal of a list, which is put on the other stack.
+module _ (cells : List ℕ) (left right : List PendingGoal) (each : All (IsWithin cells) (left ++ reverse right)) (front : List PendingGoal)
+    (p : PendingGoal) (is : left ≡ front ++ p ∷ []) where
+  parts_within : All (IsWithin cells) (front ++ p ∷ [])
+  parts_within = All-same (IsWithin cells) (front ++ p ∷ []) left (sym is) (left_within cells left right each)
+
+  pub one_gone : (new : List PendingGoal) → new ≡ right → All (IsWithin cells) (front ++ reverse new)
+  one_gone new kept =
+      subst (λ (ps : List PendingGoal). All (IsWithin cells) (front ++ reverse ps)) (sym kept)
+      (All-append (IsWithin cells) front (reverse right) (all_left (IsWithin cells) front (p ∷ []) parts_within) (right_within cells left right each))
+
+  pub one_back : (new : List PendingGoal) → new ≡ right ++ p ∷ [] → All (IsWithin cells) (front ++ reverse new)
+  one_back new pushed =
+      one_more cells front right (one_gone right refl) new p pushed
+      (All-head (IsWithin cells) p [] (all_right (IsWithin cells) front (p ∷ []) parts_within))
+
+-- ---- The goals alone
+
+pub goals_watched : (cells : List ℕ) (ps : List PendingGoal) → goals_of (all_watched_in cells ps) ≡ map goal_of ps
+goals_watched cells [] = refl
+goals_watched cells (p ∷ ps) = ap (λ (gs : List Goal). p.goal ∷ gs) (goals_watched cells ps)
+
+-- The list taken apart at a place.
+pub parts_at : {X : Type 0} (xs : List X) (i : ℕ) (x : X) → i < length xs → x ≡ get_or xs i x → xs ≡ take i xs ++ x ∷ drop (i + 1) xs
+parts_at {X} xs i x low read =
+    sym (take-append-drop (i + 1) xs)
+    ∙ ap (λ (ys : List X). ys ++ drop (i + 1) xs) (take_more xs i x low ∙ ap (λ (y : X). take i xs ++ y ∷ []) (sym read))
+    ∙ append_assoc (take i xs) (x ∷ []) (drop (i + 1) xs)
+
+-- ---- Goals that are not watched
+
+pub none_watched : (cells : List ℕ) (gs : List Goal) → all_watched_in cells (map not_watched gs) ≡ map unwatched gs
+none_watched cells [] = refl
+none_watched cells (g ∷ gs) = ap (λ (ws : List Watched). unwatched g ∷ ws) (none_watched cells gs)
+
+pub none_within : (cells : List ℕ) (gs : List Goal) → All (IsWithin cells) (map not_watched gs)
+none_within cells gs = All-map (IsWithin cells) not_watched gs (λ k d low. tt)
+
+pub watched_cleared : (cells new : List ℕ) (ps : List PendingGoal)
+    → all_watched_in new (map cleared ps) ≡ map unwatched (goals_of (all_watched_in cells ps))
+watched_cleared cells new [] = refl
+watched_cleared cells new (p ∷ ps) = ap (λ (ws : List Watched). unwatched p.goal ∷ ws) (watched_cleared cells new ps)
+
+-- So it is the other way round.
+pub reverse_cleared : (cells new : List ℕ) (ps : List PendingGoal)
+    → all_watched_in new (reverse (map cleared ps)) ≡ map unwatched (goals_of (all_watched_in cells (reverse ps)))
+reverse_cleared cells new ps =
+    ap (λ (qs : List PendingGoal). all_watched_in new qs) (sym (map_reverse cleared ps)) ∙ watched_cleared cells new (reverse ps)
+
+pub all_cleared : (cells : List ℕ) (left right : List PendingGoal) → All (IsWithin cells) (map cleared left ++ reverse (map cleared right))
+all_cleared cells left right =
+    All-append (IsWithin cells) (map cleared left) (reverse (map cleared right))
+    (All-map (IsWithin cells) cleared left (λ k d low. tt))
+    (all_reverse (IsWithin cells) (map cleared right) (All-map (IsWithin cells) cleared right (λ k d low. tt)))
+
+-- ---- What the methods do
+
+first_same : (v w : Watched) (vs ws : List Watched) → v ∷ vs ≡ w ∷ ws → v ≡ w
+first_same v w vs ws e = cc
+
+rest_same : (v w : Watched) (vs ws : List Watched) → v ∷ vs ≡ w ∷ ws → vs ≡ ws
+rest_same v w vs ws e = cc
+
+-- goals about a place of work
+abbrev pub parted : List Watched → List Watched → Pending
+parted left right = record { left = left; right = right }
+
+-- goals whose cells stand there, in two stacks
+abbrev pub parted_in : List ℕ → List PendingGoal → List PendingGoal → Pending
+parted_in cells left right = parted (all_watched_in cells left) (all_watched_in cells (reverse right))
+
+-- a goal, with a range
+abbrev pub with_range : PendingGoal → Range → PendingGoal
+with_range p range = record { goal = p.goal; watch = Some range }
+
+-- All goals are listed.
+pub all_goals : (cells : List ℕ) (left right : List PendingGoal) (first second third : List Goal) → first ≡ [] → second ≡ first ++ map goal_of left
+    → third ≡ second ++ map goal_of (reverse right) → third ≡ goals_of (all_watched_in cells left ++ all_watched_in cells (reverse right))
+all_goals cells left right first second third none before after =
+    after
+    ∙ ap (λ (gs : List Goal). gs ++ map goal_of (reverse right)) (before ∙ ap (λ (gs : List Goal). gs ++ map goal_of left) none)
+    ∙ ap (λ (gs : List Goal). gs ++ map goal_of (reverse right)) (sym (goals_watched cells left))
+    ∙ ap (λ (gs : List Goal). goals_of (all_watched_in cells left) ++ gs) (sym (goals_watched cells (reverse right)))
+    ∙ sym (map-append (λ (w : Watched). w.goal) (all_watched_in cells left) (all_watched_in cells (reverse right)))
+
+-- A goal stands among others.
+pub goals_at : (cells : List ℕ) (ps : List PendingGoal) (i : ℕ) (p : PendingGoal) → i < length ps → p ≡ get_or ps i p
+    → (front : List Goal) × (back : List Goal) × (goals_of (all_watched_in cells ps) ≡ front ++ p.goal ∷ back) × (length front ≡ i)
+goals_at cells ps i p low read = (
+  map goal_of (take i ps),
+  map goal_of (drop (i + 1) ps),
+  goals_watched cells ps
+      ∙ ap (λ (qs : List PendingGoal). map goal_of qs) (parts_at ps i p low read)
+      ∙ map-append goal_of (take i ps) (p ∷ drop (i + 1) ps),
+  length-map (take i ps) goal_of ∙ length-take-le i ps (omega arith),
+)
+
+-- Goals were put there.
+pub all_put : (cells : List ℕ) (left right first : List PendingGoal) (gs : List Goal) → first ≡ [] → left ≡ first ++ map not_watched gs → right ≡ []
+    → parted_in cells left right ≡ parted (map unwatched gs) []
+all_put cells left right first gs none put empty =
+    ap (λ (ps : List PendingGoal). parted_in cells ps right) (put ∙ ap (λ (ps : List PendingGoal). ps ++ map not_watched gs) none)
+    ∙ ap (λ (ps : List PendingGoal). parted_in cells (map not_watched gs) ps) empty
+    ∙ ap (λ (ws : List Watched). parted ws []) (none_watched cells gs)
+
+pub all_put_within : (cells : List ℕ) (left right first : List PendingGoal) (gs : List Goal) → first ≡ [] → left ≡ first ++ map not_watched gs → right ≡ []
+    → All (IsWithin cells) (left ++ reverse right)
+all_put_within cells left right first gs none put empty =
+    subst (λ (ps : List PendingGoal). All (IsWithin cells) (left ++ reverse ps)) (sym empty)
+    (subst (λ (ps : List PendingGoal). All (IsWithin cells) ps)
+    (sym (append-nil left ∙ put ∙ ap (λ (ps : List PendingGoal). ps ++ map not_watched gs) none)) (none_within cells gs))
+
+-- None of the goals is watched any longer.
+pub forgotten : (cells new : List ℕ) (left right left' right' : List PendingGoal) → left' ≡ map cleared left → right' ≡ map cleared right
+    → parted_in new left' right'
+    ≡ parted (map unwatched (goals_of (all_watched_in cells left))) (map unwatched (goals_of (all_watched_in cells (reverse right))))
+forgotten cells new left right left' right' first second =
+    ap (λ (ps : List PendingGoal). parted_in new ps right') first
+    ∙ ap (λ (ps : List PendingGoal). parted_in new (map cleared left) ps) second
+    ∙ ap (λ (ws : List Watched). parted ws (all_watched_in new (reverse (map cleared right)))) (watched_cleared cells new left)
+    ∙ ap (λ (ws : List Watched). parted (map unwatched (goals_of (all_watched_in cells left))) ws) (reverse_cleared cells new right)
+
+module _ (cells gained all : List ℕ) (left right : List PendingGoal) (each : All (IsWithin cells) (left ++ reverse right)) (grown : all ≡ cells ++ gained)
+    (i : ℕ) (p : PendingGoal) (long : i + 1 ≡ length right) (read : p ≡ get_or right i p)
+    (range : Range) (first : range.first ≡ length cells) (past : range.past ≡ length all) where
+  longer : length all ≡ length cells + length gained
+  longer = ap (λ (l : List ℕ). length l) grown ∙ length-append cells gained
+
+  -- The goal that gets a range is within,
+  pub within_watched : All (IsWithin all) (left ++ reverse (set right i (with_range p range)))
+  within_watched =
+      let more = longer in
+      let same : length all ≡ length (cells ++ gained) = ap (λ (l : List ℕ). length l) grown in
+      subst (λ (l : List ℕ). All (IsWithin l) (left ++ reverse (set right i (with_range p range)))) (sym grown)
+      (one_watched cells left right each gained i p (with_range p range) (reverse (take i right)) long (top_read right i p long read)
+      (omega arith, omega arith))
+
+  its_cells : slice_range all range.first range.past ≡ gained
+  its_cells =
+      ap (λ (l : List ℕ). slice_range l range.first range.past) grown
+      ∙ cells_gained cells gained range.first range.past first (past ∙ ap (λ (l : List ℕ). length l) grown)
+
+  others : (ps : List PendingGoal) → All (IsWithin cells) ps → all_watched_in all ps ≡ all_watched_in cells ps
+  others ps low = ap (λ (l : List ℕ). all_watched_in l ps) grown ∙ watched_more cells gained ps low
+
+  -- and watched by these cells.
+  pub view_watched : (w : Watched) (rest : List Watched) → all_watched_in cells (reverse right) ≡ w ∷ rest
+      → parted_in all left (set right i (with_range p range)) ≡ parted (all_watched_in cells left) (record { goal = w.goal; cells = Some gained } ∷ rest)
+  view_watched w rest is =
+      let under = reverse (take i right) in
+      let top : reverse right ≡ p ∷ under = top_read right i p long read in
+      let low : All (IsWithin cells) under =
+      All-tail (IsWithin cells) p under (All-same (IsWithin cells) (p ∷ under) (reverse right) (sym top) (right_within cells left right each)) in
+      let both : w ∷ rest ≡ watched_in cells p ∷ all_watched_in cells under =
+      sym is ∙ ap (λ (ps : List PendingGoal). all_watched_in cells ps) top in
+      let its : w ≡ watched_in cells p = first_same w (watched_in cells p) rest (all_watched_in cells under) both in
+      let theirs : rest ≡ all_watched_in cells under = rest_same w (watched_in cells p) rest (all_watched_in cells under) both in
+      ap (λ (ws : List Watched). parted ws (all_watched_in all (reverse (set right i (with_range p range))))) (others left (left_within cells left right each))
+      ∙ ap (λ (ps : List PendingGoal). parted (all_watched_in cells left) (all_watched_in all ps)) (top_set right i p under long top (with_range p range))
+      ∙ ap (λ (l : List ℕ). parted (all_watched_in cells left) (record { goal = p.goal; cells = Some l } ∷ all_watched_in all under)) its_cells
+      ∙ ap (λ (ws : List Watched). parted (all_watched_in cells left) (record { goal = p.goal; cells = Some gained } ∷ ws)) (others under low ∙ sym theirs)
+      ∙ ap (λ (v : Watched). parted (all_watched_in cells left) (record { goal = v.goal; cells = Some gained } ∷ rest)) (sym its)

@@ -1,0 +1,42 @@
+use Rattle.std.proofs.Common.{ℕ, ◌≡◌, ◌+◌, ◌-◌, List, ◌∷◌, length, reverse, Some, ap, ◌∙◌, arith}
+use Rattle.std.proofs.lemmas.List.{length-reverse, length-map}
+use Rattle.and_pending.specs.Pending.{Watched, Pending, watched_in, all_watched_in}
+use Rattle.and_pending.specs.declared.watch.Range.{Range}
+use Rattle.and_pending.specs.declared.pending.PendingGoal.{PendingGoal}
+use Rattle.and_pending.proofs.WatchedGoals.{within_watched, view_watched, parted}
+use Rattle.and_pending.proofs.pending.PendingGoals.watch.Goals as goal
+
+-- There is a last one, if there is any.
+last_of : (cells : List ℕ) (ps : List PendingGoal) (w : Watched) (rest : List Watched) (count : ℕ) → count ≡ length ps
+    → all_watched_in cells (reverse ps) ≡ w ∷ rest → count - 1 + 1 ≡ length ps
+last_of cells ps w rest count many is =
+    let long = length-reverse ps in
+    let mapped = length-map (reverse ps) (watched_in cells) in
+    let some = ap (λ (ws : List Watched). length ws) is in
+    omega arith
+
+pub invariant_of-self-2 : goal.invariant_of-self-2
+invariant_of-self-2 c =
+    let cells = c.self.inside.cells.items in
+    let right = c.self.inside.right.items in
+    within_watched cells c.args.cells.now c.extend_from_slice.new.self.items c.self.inside.left.items right c.self.invariant
+    c.in_ok-extend_from_slice.ensures.items (c.len-last.result - 1) c.index_mut.result.now
+    (last_of cells right c.requires.0 c.requires.1 c.len-last.result (c.len-last.ensures ∙ c.self.inside.right.ok.0)
+    (ap (λ (v : Pending). v.right) c.self.view_is ∙ c.requires.2))
+    c.index_mut.ensures.value c.in_ok-range.range
+    (ap (λ (r : Range). r.first) c.in_ok-range.ensures ∙ c.len-first.ensures ∙ c.self.inside.cells.ok.0)
+    (ap (λ (r : Range). r.past) c.in_ok-range.ensures ∙ c.len.ensures ∙ c.extend_from_slice.new.self.ok.0)
+
+pub returns : goal.returns
+returns c = λ w rest e.
+    let cells = c.self.inside.cells.items in
+    let right = c.self.inside.right.items in
+    let is : all_watched_in cells (reverse right) ≡ w ∷ rest = ap (λ (v : Pending). v.right) c.self.view_is ∙ e in
+    view_watched cells c.args.cells.now c.extend_from_slice.new.self.items c.self.inside.left.items right c.self.invariant
+    c.in_ok-extend_from_slice.ensures.items (c.len-last.result - 1) c.index_mut.result.now
+    (last_of cells right w rest c.len-last.result (c.len-last.ensures ∙ c.self.inside.right.ok.0) is)
+    c.index_mut.ensures.value c.in_ok-range.range
+    (ap (λ (r : Range). r.first) c.in_ok-range.ensures ∙ c.len-first.ensures ∙ c.self.inside.cells.ok.0)
+    (ap (λ (r : Range). r.past) c.in_ok-range.ensures ∙ c.len.ensures ∙ c.extend_from_slice.new.self.ok.0)
+    w rest is
+    ∙ ap (λ (v : Pending). parted v.left (record { goal = w.goal; cells = Some c.args.cells.now } ∷ rest)) c.self.view_is

@@ -1,0 +1,53 @@
+-- Goals that are left, and watched (this project's own).
+use Rattle.std.specs.Prelude.{ℕ, ◌≡◌, ◌≤◌, List, ◌++◌, map, length, Option, None, Some, slice_range, All, IfSome}
+use Rattle.and_model.specs.declared.goal.Goal.{Goal}
+use Rattle.and_model.specs.declared.reference.Ref.{Ref}
+use Rattle.and_determinacy.specs.Watching.{AreFree}
+use Rattle.and_pending.specs.declared.watch.Range.{Range}
+use Rattle.and_pending.specs.declared.pending.PendingGoal.{PendingGoal}
+
+-- A goal, and the cells by which it is watched, if it is.
+pub record Watched : Type 0 where
+  pub goal : Goal
+  pub cells : Option (List ℕ)
+
+-- Goals in their order: those before the place of work, and those from there on.
+pub record Pending : Type 0 where
+  pub left : List Watched
+  pub right : List Watched
+
+-- the goals
+abbrev pub goals_of : List Watched → List Goal
+goals_of ws = map (λ (w : Watched). w.goal) ws
+
+-- a goal that is not watched
+abbrev pub unwatched : Goal → Watched
+unwatched g = record { goal = g; cells = None }
+
+-- The goal is watched, and its cells are free in the row.
+abbrev pub Sleeps : List Ref → Watched → Type 0
+Sleeps row w = (cells : List ℕ) × (w.cells ≡ Some cells) × AreFree row cells
+
+-- Goals at the place of work were passed over, all of which sleep in the row.
+pub record HasPassedSleepers (row : List Ref) (old new : Pending) : Type 0 where
+  pub passed : List Watched
+  pub right : old.right ≡ passed ++ new.right
+  pub left : new.left ≡ old.left ++ passed
+  pub asleep : All (Sleeps row) passed
+
+-- the cells at a range of a list, if there is one
+abbrev pub cells_at : List ℕ → Option Range → Option (List ℕ)
+cells_at cells None = None
+cells_at cells (Some range) = Some (slice_range cells range.first range.past)
+
+-- a goal whose cells stand in a list,
+abbrev pub watched_in : List ℕ → PendingGoal → Watched
+watched_in cells p = record { goal = p.goal; cells = cells_at cells p.watch }
+
+-- and such goals
+abbrev pub all_watched_in : List ℕ → List PendingGoal → List Watched
+all_watched_in cells ps = map (watched_in cells) ps
+
+-- The range is one of the list.
+abbrev pub IsWithin : List ℕ → PendingGoal → Type 0
+IsWithin cells p = IfSome p.watch (λ (range : Range). (range.first ≤ range.past) × (range.past ≤ length cells))

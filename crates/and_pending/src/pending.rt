@@ -1,0 +1,291 @@
+//! Goals that are left.
+
+ghost use Rattle.std.specs.Prelude.{◌≡◌, ◌+◌, ◌<◌, ◌≤◌, ◌^◌, ◌++◌, ◌∷◌, [], Some, None, true, false, List, map, reverse, length, All};
+ghost use Rattle.std.specs.Prelude.{OnOk, IfOk, IfSome, IsNone};
+ghost use Rattle.and_pending.specs.Pending.{Pending, Watched, HasPassedSleepers, Sleeps, goals_of, unwatched, watched_in, IsWithin};
+
+use crate::filling::{fill, list_goals, list_reversed, move_all, put_goals, stop_watching};
+use crate::watch::{Range, all_free};
+use and_cells::{Naming, PlainCells};
+use and_model::Goal;
+use std::alloc::{AllocError, Global};
+use std::marker::Model;
+
+/// How many cells are listed at most before it is asked whether most are those of goals that are gone.
+const FEW: usize = 4096;
+
+/// How many times as many cells as goals are listed then at most.
+const TIMES: usize = 16;
+
+/// A goal that is left, and where its cells are listed, if it is watched.
+#[derive(Clone, Copy)]
+pub struct PendingGoal {
+    pub goal: Goal,
+    pub(crate) watch: Option<Range>,
+}
+
+/// Goals that are left, in their order.
+#[derive(Drop)]
+pub struct PendingGoals {
+    /// Those before the place of work,
+    left: Vec<PendingGoal>,
+    /// and those from there on, the next one last.
+    right: Vec<PendingGoal>,
+    /// The cells by which they are watched, and by which goals were that are gone.
+    cells: Vec<u32>,
+}
+
+impl Model for PendingGoals {
+    ghost use Rattle.std.specs.Prelude.{◌++◌, All, reverse};
+    ghost use Rattle.and_pending.specs.Pending.{Pending, all_watched_in, IsWithin};
+
+    ghost Value = { Pending };
+
+    ghost view = { λ goals. record {
+      left = all_watched_in goals.cells.items goals.left.items;
+      right = all_watched_in goals.cells.items (reverse goals.right.items);
+    } };
+
+    ghost invariant = { λ goals. All (IsWithin goals.cells.items) (goals.left.items ++ reverse goals.right.items) };
+}
+
+impl PendingGoals {
+    /// No goal is left. Takes no memory.
+    pub fn new(alloc: Global) -> PendingGoals
+        ensures { result ≡ record { left = []; right = [] } }
+    {
+        PendingGoals {
+            left: Vec::new(alloc),
+            right: Vec::new(alloc),
+            cells: Vec::new(alloc),
+        }
+    }
+
+    /// These goals are left, none of which is watched, and the place of work is behind them. An error is want of memory.
+    pub fn of(alloc: Global, goals: &[Goal]) -> Result<PendingGoals, AllocError>
+        ensures { IfOk result (λ made. made ≡ record { left = map unwatched goals.now; right = [] }) }
+    {
+        let mut left = Vec::new(alloc);
+        put_goals(&mut left, goals)?;
+        Ok(PendingGoals {
+            left,
+            right: Vec::new(alloc),
+            cells: Vec::new(alloc),
+        })
+    }
+
+    /// There are not so many that their number could not be told: a law.
+    pub fn are_few(&self)
+        ensures { length self.now.left + length self.now.right < 2 ^ 64 }
+    {
+        let _left = self.left.len();
+        let _right = self.right.len();
+    }
+
+    /// How many there are before the place of work. Takes no memory.
+    pub fn count_before(&self) -> usize
+        ensures { result ≡ length self.now.left }
+    {
+        self.left.len()
+    }
+
+    /// The goal at a place before the place of work, counted from 0. Takes no memory.
+    pub fn at(&self, place: usize) -> Goal
+        requires { place < length self.now.left }
+        ensures { (front : List Goal) × (back : List Goal) × (goals_of self.now.left ≡ front ++ result ∷ back) × (length front ≡ place) }
+    {
+        self.left[place].goal
+    }
+
+    /// Where memory is taken from. Takes none.
+    pub fn allocator(&self) -> Global {
+        *self.left.allocator()
+    }
+
+    /// All goals, in their order. An error is want of memory.
+    pub fn all(&self, alloc: Global) -> Result<Vec<Goal>, AllocError>
+        ensures { IfOk result (λ goals. goals.items ≡ goals_of (self.now.left ++ self.now.right)) }
+    {
+        let mut goals = Vec::new(alloc);
+        list_goals(&mut goals, &self.left)?;
+        list_reversed(&mut goals, &self.right)?;
+        Ok(goals)
+    }
+
+    /// The goal at the place of work. Takes no memory.
+    pub fn next(&self) -> Option<Goal>
+        ensures none { IsNone result → self.now.right ≡ [] }
+        ensures some { IfSome result (λ g. (w : Watched) × (rest : List Watched) × (self.now.right ≡ w ∷ rest) × (w.goal ≡ g)) }
+    {
+        let count = self.right.len();
+        if count == 0 {
+            None
+        } else {
+            Some(self.right[count - 1].goal)
+        }
+    }
+
+    /// Goes back before all goals. An error is want of memory.
+    pub fn rewind(&mut self) -> Result<(), AllocError>
+        ensures { OnOk result (self.new ≡ record { left = []; right = self.old.left ++ self.old.right }) }
+    {
+        move_all(&mut self.left, &mut self.right)
+    }
+
+    /// Goes past the next goal. An error is want of memory, and the goal is lost.
+    pub fn pass(&mut self) -> Result<(), AllocError>
+        requires { (w : Watched) × (rest : List Watched) × (self.old.right ≡ w ∷ rest) }
+        ensures { OnOk result ((w : Watched) (rest : List Watched) → self.old.right ≡ w ∷ rest
+            → self.new ≡ record { left = self.old.left ++ w ∷ []; right = rest }) }
+    {
+        let Some(pending) = self.right.pop() else {
+            unreachable!()
+        };
+        self.left.push(pending)?;
+        Ok(())
+    }
+
+    /// Goes back before the last goal that was passed, if there is one, and answers whether there is. An error is want of memory, and
+    /// the goal is lost.
+    pub fn go_back(&mut self) -> Result<bool, AllocError>
+        ensures none { result ≡ Ok false → (self.old.left ≡ []) × (self.new ≡ self.old) }
+        ensures back { result ≡ Ok true → (front : List Watched) × (w : Watched) × (self.old.left ≡ front ++ w ∷ [])
+            × (self.new ≡ record { left = front; right = w ∷ self.old.right }) }
+    {
+        let Some(pending) = self.left.pop() else {
+            return Ok(false);
+        };
+        self.right.push(pending)?;
+        Ok(true)
+    }
+
+    /// Goes past the goals that sleep in a row, up to the next one that does not. An error is want of memory, and a goal is lost.
+    pub fn pass_sleepers<N: Naming>(&mut self, row: &PlainCells<N>) -> Result<(), AllocError>
+        ensures { OnOk result (HasPassedSleepers row.now self.old self.new) }
+    {
+        while self.next_sleeps(row) {
+            self.pass()?;
+        }
+        Ok(())
+    }
+
+    /// Whether there is a next goal, which sleeps in a row. Takes no memory.
+    fn next_sleeps<N: Naming>(&self, row: &PlainCells<N>) -> bool
+        ensures { result ≡ true → (w : Watched) × (rest : List Watched) × (self.now.right ≡ w ∷ rest) × Sleeps row.now w }
+    {
+        let count = self.right.len();
+        count > 0 && sleeps(&self.cells, row, self.right[count - 1])
+    }
+
+    /// Whether all goals before the place of work sleep in a row. Takes no memory.
+    pub fn are_asleep<N: Naming>(&self, row: &PlainCells<N>) -> bool
+        ensures { result ≡ true → All (Sleeps row.now) self.now.left }
+    {
+        all_sleep(&self.cells, row, &self.left)
+    }
+
+    /// Takes out the goal at the place of work. Takes no memory.
+    pub fn pop(&mut self) -> Option<Goal>
+        ensures none { IsNone result → (self.old.right ≡ []) × (self.new ≡ self.old) }
+        ensures some { IfSome result (λ g. (w : Watched) × (rest : List Watched) × (self.old.right ≡ w ∷ rest) × (w.goal ≡ g)
+            × (self.new ≡ record { left = self.old.left; right = rest })) }
+    {
+        let pending = self.right.pop()?;
+        Some(pending.goal)
+    }
+
+    /// Puts a goal at the place of work, which is not watched. An error is want of memory.
+    pub fn push(&mut self, goal: Goal) -> Result<(), AllocError>
+        ensures { OnOk result (self.new ≡ record { left = self.old.left; right = unwatched goal ∷ self.old.right }) }
+    {
+        self.right.push(PendingGoal { goal, watch: None })?;
+        Ok(())
+    }
+
+    /// Watches the goal at the place of work by these cells. An error is want of memory.
+    pub fn watch(&mut self, cells: &[u32]) -> Result<(), AllocError>
+        requires { (w : Watched) × (rest : List Watched) × (self.old.right ≡ w ∷ rest) }
+        ensures { OnOk result ((w : Watched) (rest : List Watched) → self.old.right ≡ w ∷ rest → self.new ≡ record {
+          left = self.old.left;
+          right = record { goal = w.goal; cells = Some cells.now } ∷ rest;
+        }) }
+    {
+        let first = self.cells.len();
+        self.cells.extend_from_slice(cells)?;
+        let range = range_of(first, self.cells.len())?;
+        let last = self.right.len() - 1;
+        self.right[last].watch = Some(range);
+        Ok(())
+    }
+
+    /// Whether most cells that are listed are those of goals that are gone. Takes no memory.
+    pub fn are_worn(&self) -> bool {
+        let goals = self.left.len().saturating_add(self.right.len());
+        self.cells.len() > goals.saturating_mul(TIMES).saturating_add(FEW)
+    }
+
+    /// Watches none of the goals any longer. Takes no memory.
+    pub fn forget_watches(&mut self)
+        ensures { self.new ≡ record { left = map unwatched (goals_of self.old.left); right = map unwatched (goals_of self.old.right) } }
+    {
+        stop_watching(&mut self.left);
+        stop_watching(&mut self.right);
+        self.cells.clear();
+    }
+
+    /// The same once more. An error is want of memory.
+    pub fn copy(&self, alloc: Global) -> Result<PendingGoals, AllocError>
+        ensures { IfOk result (λ goals. goals ≡ self.now) }
+    {
+        Ok(PendingGoals {
+            left: Vec::from_slice(alloc, &self.left)?,
+            right: Vec::from_slice(alloc, &self.right)?,
+            cells: Vec::from_slice(alloc, &self.cells)?,
+        })
+    }
+
+    /// Becomes the same as other goals. An error is want of memory, and no goal is left.
+    pub fn fill_from(&mut self, others: &PendingGoals) -> Result<(), AllocError>
+        ensures { OnOk result (self.new ≡ others.now) }
+    {
+        self.left.clear();
+        self.right.clear();
+        self.cells.clear();
+        self.cells.extend_from_slice(&others.cells)?;
+        fill(&mut self.left, &mut self.right, &others.left, &others.right)
+    }
+}
+
+/// Whether a goal whose cells stand in a list sleeps in a row: it is watched, and they are free. Takes no memory.
+fn sleeps<N: Naming>(cells: &[u32], row: &PlainCells<N>, pending: PendingGoal) -> bool
+    requires { IsWithin cells.now pending }
+    ensures { result ≡ true → Sleeps row.now (watched_in cells.now pending) }
+{
+    match pending.watch {
+        Some(range) => all_free(row, &cells[range.first as usize..range.past as usize]),
+        None => false,
+    }
+}
+
+/// Whether all of these goals sleep in a row. Takes no memory.
+fn all_sleep<N: Naming>(cells: &[u32], row: &PlainCells<N>, goals: &[PendingGoal]) -> bool
+    requires { All (IsWithin cells.now) goals.now }
+    ensures { result ≡ true → All (λ p. Sleeps row.now (watched_in cells.now p)) goals.now }
+{
+    for pending in goals {
+        if !sleeps(cells, row, *pending) {
+            return false;
+        }
+    }
+    true
+}
+
+/// The range between two places. An error is want of memory. (There is none for 2^32 cells.)
+fn range_of(first: usize, past: usize) -> Result<Range, AllocError>
+    ensures { IfOk result (λ range. range ≡ record { first = first; past = past }) }
+{
+    let (Ok(first), Ok(past)) = (u32::try_from(first), u32::try_from(past)) else {
+        return Err(AllocError);
+    };
+    Ok(Range { first, past })
+}
