@@ -1,9 +1,8 @@
 -- Arithmetic that is run in a branch.
 use Rattle.std.proofs.Common.{◌≡◌, ◌≤◌, true, false, List, [], ◌∷◌, ◌++◌, length, refl, ap, sym, ◌∙◌, subst, inl, inr}
-use Rattle.std.proofs.Common.{Contains, arith, reverse, ◌+◌, add-one, length-append}
+use Rattle.std.proofs.Common.{Contains, arith, ◌+◌, add-one, length-append}
 use Rattle.std.specs.Prelude.{All}
 use Rattle.std.proofs.lemmas.Bool.{true≢false}
-use Rattle.std.proofs.lemmas.List.{reverse-append}
 use Rattle.std.proofs.lemmas.List.Elements.{All-contains, Contains-append_right, Contains-push_cases}
 use Rattle.and_model.specs.Programs.{Item, call, equal, arithmetic, fail, Program}
 use Rattle.and_model.specs.Stands.{Framed}
@@ -93,19 +92,18 @@ module _ (P : NamedProgram) (loaded : IsLoaded P) (b : Held) (t : QueryTree P.pr
 
   module _ (g : Goal) (rest : List Goal) (next : b.right ≡ g ∷ rest) where
     -- So the branch stands for the same tree,
-    pub ran_branch : (new : List Ref) (trail : Noted) → HasRun P b.row new g → IsBranchOf P (record b { row = new; right = rest; trail = trail }) t
-    ran_branch new trail h = run_branch P loaded b (record b { row = new; right = rest; trail = trail }) t x live
-        (record { key = refl; limit = refl }) refl refl g rest next h refl refl live refl
+    pub ran_branch : (new : List Ref) (left right : List Goal) (watches : List Watched) (trail : Noted) → HasRun P b.row new g → left ≡ b.left
+        → right ≡ rest → ((w : Watched) → Contains watches w → Contains b.watches w)
+        → IsBranchOf P (record b { row = new; left = left; right = right; watches = watches; trail = trail }) t
+    ran_branch new left right watches trail h before behind were =
+        run_branch P loaded b (record b { row = new; left = left; right = right; watches = watches; trail = trail }) t x live
+        (record { key = refl; limit = refl }) refl refl g rest next h before behind live were
 
     -- or is marked failed.
     pub failed_branch : (new : List Ref) (trail : Noted) → CannotHold P b.row g
-        → IsBranchOf P (record b { row = new; right = rest; is_failed = true; trail = trail }) t
-    failed_branch new trail h = false_branch P loaded b (record b { row = new; right = rest; is_failed = true; trail = trail }) t x live
+        → IsBranchOf P (record b { row = new; is_failed = true; trail = trail }) t
+    failed_branch new trail h = false_branch P loaded b (record b { row = new; is_failed = true; trail = trail }) t x live
         (record { key = refl; limit = refl }) refl refl g rest next h refl
-
--- The next goal is the last of the stack.
-pub popped : (xs ys : List Goal) (g : Goal) → xs ≡ ys ++ g ∷ [] → reverse xs ≡ g ∷ reverse ys
-popped xs ys g e = ap reverse e ∙ reverse-append ys (g ∷ [])
 
 -- ---- The place of work is moved
 

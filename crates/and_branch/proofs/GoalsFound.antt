@@ -1,41 +1,40 @@
 -- What is found of goals, with one more behind.
-use Rattle.std.proofs.Common.{ℕ, ◌≡◌, ◌<◌, ◌≤◌, ◌+◌, get_or, Bool, true, false, List, [], ◌∷◌, ◌++◌, take, drop, length, append_assoc, refl}
-use Rattle.std.proofs.Common.{ap, sym, ◌∙◌, subst, inl, inr}
+use Rattle.std.proofs.Common.{ℕ, ◌≡◌, ◌≤◌, ◌+◌, Bool, true, false, List, [], ◌∷◌, ◌++◌, take, drop, length, append_assoc, refl}
+use Rattle.std.proofs.Common.{ap, sym, ◌∙◌, subst, inl, inr, arith, length-append}
 use Rattle.std.proofs.Common.{Contains}
-use Rattle.std.specs.Prelude.{◌↔◌, IsTrue}
+use Rattle.std.specs.Prelude.{◌↔◌, IsTrue, All}
 use Rattle.std.proofs.lemmas.Bool.{true≢false}
-use Rattle.std.proofs.lemmas.List.{take_more, take_all, take-append-drop}
-use Rattle.std.proofs.lemmas.List.Elements.{Contains-append_left, Contains-push, Contains-push_cases}
+use Rattle.std.proofs.lemmas.List.{take_all, take-append-drop}
+use Rattle.std.proofs.lemmas.List.Elements.{All-contains, Contains-append_left, Contains-append_right, Contains-push, Contains-push_cases}
+use Rattle.std.proofs.Math.Seq.{take-append_seam}
 use Rattle.and_model.specs.declared.goal.Goal.{Goal}
 use Rattle.and_model.specs.declared.numbers.ClauseNo.{ClauseNo}
 use Rattle.and_model.specs.declared.reference.Ref.{Ref}
+use Rattle.and_laws.proofs.Ordered.{contains_first}
 use Rattle.and_cells.specs.Ranges.{NamedProgram}
 use Rattle.and_branch_laws.specs.Judging.{CandidateInCells, SoleInCells, FitsBehind}
 use Rattle.and_branch_laws.specs.Kept.{item_at}
 use Rattle.and_branch.specs.Branches.{is_arithmetic, IsArithmeticGoal}
 use Rattle.and_branch.specs.Watching.{HasTwo}
 use Rattle.and_branch.specs.Finding.{IsCallGoal, AllCalls, HasOne, HasNoSole, HasNoFitting, IsCallAmong, IsSeveral, IsHeavy}
-use Rattle.and_branch.specs.Finding.{IsFitting}
-use Rattle.and_branch.specs.Finding.{IsStuck, HasFound, HasSeen, with_several, with_one, with_seen}
+use Rattle.and_branch.specs.Finding.{IsFitting, IsSeen, IsStuck, HasFound, with_several, with_one}
 use Rattle.and_branch.specs.declared.finding.Found.{Found}
 use Rattle.and_branch.specs.declared.finding.Found.TheVariants.{NoCall, Several, Heavy, Fitting, Stuck}
-use Rattle.and_branch.specs.declared.finding.Seen.{Seen}
-use Rattle.and_branch.specs.declared.finding.Seen.TheVariants as seen
 
-two_one : (P : NamedProgram) (row : List Ref) (g : Goal) → HasTwo P row g → HasOne P row g
+pub two_one : (P : NamedProgram) (row : List Ref) (g : Goal) → HasTwo P row g → HasOne P row g
 two_one P row g x = (x.0, x.3)
 
-two_no_sole : (P : NamedProgram) (row : List Ref) (g : Goal) → HasTwo P row g → HasNoSole P row g
+pub two_no_sole : (P : NamedProgram) (row : List Ref) (g : Goal) → HasTwo P row g → HasNoSole P row g
 two_no_sole P row g x d sole = x.2 (sole.1 x.0 x.3 ∙ sym (sole.1 x.1 x.4))
 
-two_no_fitting : (P : NamedProgram) (limit : ℕ) (row : List Ref) (g : Goal) → HasTwo P row g → HasNoFitting P limit row g
+pub two_no_fitting : (P : NamedProgram) (limit : ℕ) (row : List Ref) (g : Goal) → HasTwo P row g → HasNoFitting P limit row g
 two_no_fitting P limit row g x d sole fits = two_no_sole P row g x d sole
 
 -- the calls of a list, and of one with a goal more
-calls_weaker : (P : NamedProgram) (Q R : Goal → Type 0) → ((g : Goal) → Q g → R g) → (gs : List Goal) → AllCalls P Q gs → AllCalls P R gs
+pub calls_weaker : (P : NamedProgram) (Q R : Goal → Type 0) → ((g : Goal) → Q g → R g) → (gs : List Goal) → AllCalls P Q gs → AllCalls P R gs
 calls_weaker P Q R f gs h g i called = f g (h g i called)
 
-calls_push : (P : NamedProgram) (Q : Goal → Type 0) (gs : List Goal) (goal : Goal) → AllCalls P Q gs → (IsCallGoal P goal → Q goal)
+pub calls_push : (P : NamedProgram) (Q : Goal → Type 0) (gs : List Goal) (goal : Goal) → AllCalls P Q gs → (IsCallGoal P goal → Q goal)
     → AllCalls P Q (gs ++ goal ∷ [])
 calls_push P Q gs goal h x g i called = elim (Contains-push_cases gs goal g i) [
   | inl j ↦ h g j called
@@ -51,7 +50,7 @@ among_more P gs goal first x = record {
   called = x.called;
 }
 
-abbrev among_last : (P : NamedProgram) (gs : List Goal) (goal : Goal) → IsCallGoal P goal → IsCallAmong P (gs ++ goal ∷ []) goal
+abbrev pub among_last : (P : NamedProgram) (gs : List Goal) (goal : Goal) → IsCallGoal P goal → IsCallAmong P (gs ++ goal ∷ []) goal
 among_last P gs goal called = record { front = gs; back = []; all = refl; called = called }
 
 module _ (P : NamedProgram) (limit : ℕ) (row : List Ref) (gs : List Goal) (goal : Goal) where
@@ -72,7 +71,7 @@ module _ (P : NamedProgram) (limit : ℕ) (row : List Ref) (gs : List Goal) (goa
   several_more first x two =
       record { among = among_more P gs goal first x.among; first = x.first; each = calls_push P (HasTwo P row) gs goal x.each two }
 
-  heavy_more : (first : Goal) (c : ℕ) → IsHeavy P limit row gs first c → (IsCallGoal P goal → HasOne P row goal)
+  pub heavy_more : (first : Goal) (c : ℕ) → IsHeavy P limit row gs first c → (IsCallGoal P goal → HasOne P row goal)
       → (IsCallGoal P goal → HasNoFitting P limit row goal) → IsHeavy P limit row (gs ++ goal ∷ []) first c
   heavy_more first c x one none = record {
     among = among_more P gs goal first x.among;
@@ -120,7 +119,7 @@ module _ (P : NamedProgram) (limit : ℕ) (row : List Ref) (gs : List Goal) (goa
     found_several Stuck x two = stuck_more x
 
     module _ (clause : ClauseNo) (sole : SoleInCells P row goal clause.0) where
-      one_here : IsCallGoal P goal → HasOne P row goal
+      pub one_here : IsCallGoal P goal → HasOne P row goal
       one_here _ = (clause.0, sole.0)
 
       -- What is found first with one candidate,
@@ -135,10 +134,10 @@ module _ (P : NamedProgram) (limit : ℕ) (row : List Ref) (gs : List Goal) (goa
       }
 
       -- one that is too heavy has none that fits,
-      heavy_here : (FitsBehind P limit row clause.0 → ⊥) → IsCallGoal P goal → HasNoFitting P limit row goal
+      pub heavy_here : (FitsBehind P limit row clause.0 → ⊥) → IsCallGoal P goal → HasNoFitting P limit row goal
       heavy_here n _ d other fits = n (subst (FitsBehind P limit row) (sole.1 d other.0) fits)
 
-      first_heavy : AllCalls P (HasNoSole P row) gs → AllCalls P (HasOne P row) gs → (FitsBehind P limit row clause.0 → ⊥)
+      pub first_heavy : AllCalls P (HasNoSole P row) gs → AllCalls P (HasOne P row) gs → (FitsBehind P limit row clause.0 → ⊥)
           → IsHeavy P limit row (gs ++ goal ∷ []) goal clause.0
       first_heavy none each n = record {
         among = among_last P gs goal called;
@@ -177,24 +176,33 @@ module _ (P : NamedProgram) (limit : ℕ) (row : List Ref) (gs : List Goal) (goa
       found_one f x true is = one_of_fit f x (is.0 refl)
       found_one f x false is = one_of_heavy f x (λ fits. true≢false (sym (is.1 fits)))
 
-  -- So it is with a goal of which this was seen.
-  pub found_seen : (f : Found) (s : Seen) → HasFound P limit row gs f → HasSeen P limit row goal s
-      → HasFound P limit row (gs ++ goal ∷ []) (with_seen f goal s)
-  found_seen f seen.Arithmetic x arithmetic = found_other f x (λ called. true≢false (sym arithmetic ∙ called))
-  found_seen f seen.Several x (called, two) = found_several called f x two
-  found_seen f (seen.Heavy clause) x (called, sole, heavy) = one_of_heavy called clause sole f x heavy
-  found_seen f seen.NotJudged x h = absurd h
-
 -- ---- All goals, one after another
 
+-- the goal is at a place of a list
+abbrev pub IsAt : List Goal → Goal → ℕ → Type 0
+IsAt gs g i = (front : List Goal) × (back : List Goal) × (gs ≡ front ++ g ∷ back) × (length front ≡ i)
+
+taken_more : (gs : List Goal) (g : Goal) (i : ℕ) → IsAt gs g i → take (i + 1) gs ≡ take i gs ++ g ∷ []
+taken_more gs g i (front, back, is, long) =
+    let one : take i gs ≡ front =
+    ap (λ (n : ℕ). take n gs) (sym long) ∙ ap (λ (l : List Goal). take (length front) l) is ∙ take-append_seam front (g ∷ back) in
+    let all : gs ≡ (front ++ g ∷ []) ++ back = is ∙ sym (append_assoc front (g ∷ []) back) in
+    let count : i + 1 ≡ length (front ++ g ∷ []) = let e = length-append front (g ∷ []) in omega arith in
+    ap (λ (n : ℕ). take n gs) count ∙ ap (λ (l : List Goal). take (length (front ++ g ∷ [])) l) all
+    ∙ take-append_seam (front ++ g ∷ []) back ∙ ap (λ (l : List Goal). l ++ g ∷ []) (sym one)
+
+pub seen_at : (P : NamedProgram) (row : List Ref) (gs : List Goal) (g : Goal) (i : ℕ) → IsAt gs g i → All (IsSeen P row) gs → IsSeen P row g
+seen_at P row gs g i (front, back, is, long) all = All-contains (IsSeen P row) gs g all
+    (subst (λ (l : List Goal). Contains l g) (sym is) (Contains-append_right front (g ∷ back) g (contains_first g back)))
+
 pub found_next : (P : NamedProgram) (limit : ℕ) (row mid : List Ref) (gs : List Goal) (i : ℕ) (g : Goal) (f r : Found) → mid ≡ row
-    → i < length gs
+    → IsAt gs g i
     → HasFound P limit row (take i gs) f
-    → ((hs : List Goal) → HasFound P limit mid hs f → HasFound P limit mid (hs ++ get_or gs i g ∷ []) r)
+    → ((hs : List Goal) → HasFound P limit mid hs f → HasFound P limit mid (hs ++ g ∷ []) r)
     → HasFound P limit row (take (i + 1) gs) r
-found_next P limit row mid gs i g f r same low x step =
-    subst (λ (hs : List Goal). HasFound P limit row hs r) (sym (take_more gs i g low))
-    (subst (λ (cells : List Ref). HasFound P limit cells (take i gs ++ get_or gs i g ∷ []) r) same
+found_next P limit row mid gs i g f r same at x step =
+    subst (λ (hs : List Goal). HasFound P limit row hs r) (sym (taken_more gs g i at))
+    (subst (λ (cells : List Ref). HasFound P limit cells (take i gs ++ g ∷ []) r) same
     (step (take i gs) (subst (λ (cells : List Ref). HasFound P limit cells (take i gs) f) (sym same) x)))
 
 pub found_all : (P : NamedProgram) (limit : ℕ) (row : List Ref) (gs : List Goal) (i : ℕ) (f : Found) → length gs ≤ i

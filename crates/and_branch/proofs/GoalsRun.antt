@@ -104,8 +104,8 @@ module _ (P : NamedProgram) (loaded : IsLoaded P) (old new : Held) (t : QueryTre
   the_goal = found P old t old.left g rest lives (ap (λ (l : List Goal). old.left ++ l) next)
 
   -- The next goal was run.
-  pub run_branch : HasRun P old.row new.row g → new.left ≡ old.left → new.right ≡ rest → new.is_failed ≡ false → new.watches ≡ old.watches
-      → IsBranchOf P new t
+  pub run_branch : HasRun P old.row new.row g → new.left ≡ old.left → new.right ≡ rest → new.is_failed ≡ false
+      → ((w : Watched) → Contains new.watches w → Contains old.watches w) → IsBranchOf P new t
   run_branch run left_is right_is new_live watches_are =
       let y = the_goal in
       let grows = run_grows P old.row new.row g (free_pair P old t old.left g rest y) run in
@@ -128,8 +128,7 @@ module _ (P : NamedProgram) (loaded : IsLoaded P) (old new : Held) (t : QueryTre
           goals = goals;
           long = keeps.long ∙ x.used ∙ sym used;
           live = new_live;
-          asleep = λ w h. sleeps_on P old.row new.row w grows
-              (lives.asleep w (subst (λ (ws : List Watched). Contains ws w) watches_are h));
+          asleep = λ w h. sleeps_on P old.row new.row w grows (lives.asleep w (watches_are w h));
         });
       }
 

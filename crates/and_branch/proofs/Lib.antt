@@ -1,6 +1,7 @@
 pub mod SeenGoals
 pub mod ArithmeticRuns
 pub mod GoalsFound
+pub mod HeavyCalls
 pub mod CandidatesParted
 pub mod StatesFound
 pub mod LinesTold
@@ -28,5 +29,5 @@ pub mod RebuiltBranches
 pub mod FramesRead
 pub mod GrownRows
 pub mod WatchedGoals
-pub mod EntriesKept
 pub mod PassedGoals
+pub mod WatchedLists

@@ -1,9 +1,8 @@
 -- The line and the code of a branch that has ended.
 use Rattle.std.proofs.Common.{ℕ, ◌≡◌, ◌≢◌, Bool, true, false, not, List, [], ◌∷◌, ◌++◌, map, filter, length, refl, ap, sym, ◌∙◌, subst, inl}
 use Rattle.std.proofs.Common.{inr, ◌⊎◌}
-use Rattle.std.proofs.Common.{Contains, cond, All, Ok, Err, ◌<◌, ◌+◌, ◌-◌, take, reverse, get_or, append_assoc, arith}
+use Rattle.std.proofs.Common.{Contains, cond, All, Ok, Err}
 use Rattle.std.specs.Prelude.{Result, IfOk}
-use Rattle.std.proofs.lemmas.List.{take_more, get_or-reverse, length-reverse}
 use Rattle.std.proofs.lemmas.List.Elements.{All-weaker}
 use Rattle.and_model.specs.Lines.{Bytes, line}
 use Rattle.and_model.specs.Listing
@@ -180,15 +179,3 @@ pub code_told : (P Q : NamedProgram) → P ≡ Q → (b : Held) → {E : Type 0}
     → IfOk r (λ code. (t : QueryTree P.program) → IsBranchOf P b t → IsWhole t → code ≡ trees.code t)
 code_told P Q same b (Ok code) d = λ t x whole. code_is P Q same b t x whole code d
 code_told P Q same b (Err error) d = tt
-
--- ---- Goals in order
-
-pub reversed_more : (first old new gs : List Goal) (i : ℕ) (d : Goal) → i < length gs → old ≡ first ++ take i (reverse gs)
-    → new ≡ old ++ get_or gs (length gs - 1 - i) d ∷ [] → new ≡ first ++ take (i + 1) (reverse gs)
-reversed_more first old new gs i d low kept is =
-    let low_there : i < length (reverse gs) = omega (arith, length-reverse gs) in
-    let item : get_or gs (length gs - 1 - i) d ≡ get_or (reverse gs) i d = sym (get_or-reverse gs i d low) in
-    is ∙ ap (λ (l : List Goal). l ++ get_or gs (length gs - 1 - i) d ∷ []) kept
-    ∙ append_assoc first (take i (reverse gs)) (get_or gs (length gs - 1 - i) d ∷ [])
-    ∙ ap (λ (x : Goal). first ++ (take i (reverse gs) ++ x ∷ [])) item
-    ∙ ap (λ (l : List Goal). first ++ l) (sym (take_more (reverse gs) i d low_there))

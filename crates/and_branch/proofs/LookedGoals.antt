@@ -1,6 +1,6 @@
 -- What a look at the next goal of a branch comes to.
-use Rattle.std.proofs.Common.{ℕ, ◌≡◌, ◌+◌, ◌<◌, ◌≤◌, Bool, true, false, cond, List, []}
-use Rattle.std.proofs.Common.{◌∷◌, ◌++◌, length, refl, ap, sym, ◌∙◌, subst, inl, inr, ◌⊎◌, arith}
+use Rattle.std.proofs.Common.{ℕ, ◌≡◌, ◌+◌, ◌<◌, ◌≤◌, Bool, true, List, []}
+use Rattle.std.proofs.Common.{◌∷◌, ◌++◌, length, refl, ap, sym, ◌∙◌, subst, inl, inr, ◌⊎◌, arith, Contains}
 use Rattle.and_model.specs.Terms.{Term}
 use Rattle.and_model.specs.Programs.{call, arithmetic, Arithmetic, clause_at, clause_weight, Of}
 use Rattle.and_model.specs.Reached.{Steps, none, more}
@@ -24,14 +24,14 @@ use Rattle.and_branch.specs.Branches.{Held, Lives, IsBranch, IsBranchOf, SameKey
 use Rattle.and_branch.specs.Finding.{HasSeen}
 use Rattle.and_branch.specs.Next.{HasNextCall, IsReduced, IsMoved}
 use Rattle.and_branch.specs.Origins.{KeepsBack}
-use Rattle.and_branch.specs.Rounds.{IsAtMost, IsIdle, StepsOn, AreFew, HasProgressed, WatchesOn, IsWatched, HasPassed, IsAt}
-use Rattle.and_branch.specs.Watching.{HasTwo, Sleeps}
+use Rattle.and_branch.specs.Rounds.{IsAtMost, IsIdle, StepsOn, AreFew, HasProgressed, WatchesOn, IsDropped, HasPassed, IsAt}
+use Rattle.and_branch.specs.Watching.{Watched, HasTwo}
 use Rattle.and_branch.specs.declared.finding.Seen.{Seen}
 use Rattle.and_branch.specs.declared.finding.Seen.TheVariants as seen
 use Rattle.and_branch.proofs.KeptOrigins.{kept_then, kept_nowhere, kept_same}
 use Rattle.and_branch.proofs.LivingGoals.{Found, found, is_kept, goal_in_range, can_be_judged, can_be_run}
 use Rattle.and_branch.proofs.MovedBranches.{moved_branch}
-use Rattle.and_branch.proofs.WatchedGoals.{watching_steps, watched_sleeps}
+use Rattle.and_branch.proofs.WatchedGoals.{watching_steps}
 use Rattle.and_branch.proofs.GoalsRun.{kind_of_kept, live_of, run_branch, false_branch, idle_branch, last_branch, branch_fits}
 
 -- ---- What holds at a goal
@@ -160,7 +160,7 @@ module _ (P : NamedProgram) (old mid : Held) (is : mid ≡ record old { trail = 
       let h : HasPassed P may (record old { trail = mid.trail }) new g saw = subst (λ (b : Held). HasPassed P may b new g saw) is passed in
       let alike = h.alike in (
         record {
-          alike = record { limit = alike.limit; row = alike.row; used = alike.used; goals = alike.goals };
+          alike = record { limit = alike.limit; row = alike.row; used = alike.used; failed = alike.failed; goals = alike.goals };
           next = h.next;
           passed = h.passed;
           idle = h.idle;
@@ -180,6 +180,7 @@ passed P may old mid new g saw x watches moved passes idle =
           limit = moved.limit ∙ ap (λ (b : Held). b.limit) same;
           row = moved.row ∙ ap (λ (b : Held). b.row) same;
           used = moved.used ∙ ap (λ (b : Held). b.used) same;
+          failed = moved.is_failed ∙ ap (λ (b : Held). b.is_failed) same;
           goals = moved.goals ∙ ap (λ (b : Held). b.left ++ b.right) same;
         };
         next = x.next ∙ ap (λ (l : List Goal). g ∷ l) (sym ends.0);
@@ -208,15 +209,6 @@ idle_several P limit row g term e (c, d, other, one, two) = (
   (ap is_arithmetic e, (c, d, other, one, two)),
 )
 
--- or that sleeps;
-pub idle_asleep : (P : NamedProgram) (limit : ℕ) (row : List Ref) (g : Goal) (called : Bool)
-    → (called ≡ true → (term : Term) × (item_at P.program g ≡ call term))
-    → (called ≡ false → (a : Arithmetic) × (item_at P.program g ≡ arithmetic a)) → Sleeps P row g
-    → IsIdle P limit row g × HasSeen P limit row g (cond called seen.Several seen.Arithmetic)
-idle_asleep P limit row g true calls runs asleep =
-    let is = calls refl in idle_several P limit row g is.0 is.1 (asleep.several is.0 is.1)
-idle_asleep P limit row g false calls runs asleep = let is = runs refl in idle_waiting P limit row g is.0 is.1 asleep.waits
-
 -- or for whose only one there is no room.
 heavy_is_idle : (P : NamedProgram) (b : Held) (g : Goal) (x : IsAt P b g) (term : Term) → item_at P.program g ≡ call term
     → (k : ℕ) → ((d : ℕ) → CandidateInCells P b.row g d → d ≡ k) → (b.used + clause_weight (clause_at P.program k) ≤ b.limit → ⊥)
@@ -238,17 +230,6 @@ pub idle_heavy : (P : NamedProgram) (b : Held) (g : Goal) (x : IsAt P b g) (term
 idle_heavy P b g x term e k only no_room sole is =
     let idle = heavy_is_idle P b g x term e k only no_room in (idle, (ap is_arithmetic e, is, idle.several term e sole.0 is))
 
--- a goal that is asleep is passed over
-pub asleep_passed : (P : NamedProgram) (may : Bool) (old mid new : Held) (g : Goal) (called : Bool) (x : IsAt P old g) → IsWatched old g
-    → WatchesOn P old mid → IsMoved mid new
-    → ((h : Goal) (rest : List Goal) → mid.right ≡ h ∷ rest → (new.right ≡ rest) × (new.left ≡ mid.left ++ h ∷ []))
-    → (called ≡ true → (term : Term) × (item_at P.program g ≡ call term))
-    → (called ≡ false → (a : Arithmetic) × (item_at P.program g ≡ arithmetic a))
-    → HasPassed P may old new g (cond called seen.Several seen.Arithmetic) × StepsOn P old new
-asleep_passed P may old mid new g called x watched watches moved passes calls runs =
-    passed P may old mid new g (cond called seen.Several seen.Arithmetic) x watches moved passes
-    (λ _. idle_asleep P old.limit old.row g called calls runs (watched_sleeps P old g x watched))
-
 -- the next goal is still there where other goals are watched
 pub next_still : (P : NamedProgram) (old mid : Held) (g : Goal) → WatchesOn P old mid → IsAt P old g
     → (h : Goal) × (rest : List Goal) × (mid.right ≡ h ∷ rest)
@@ -258,13 +239,13 @@ next_still P old mid g watches x = (g, x.rest, ap (λ (b : Held). b.right) watch
 
 pub ran : (P : NamedProgram) → IsLoaded P → (old mid new : Held) (g : Goal) (x : IsAt P old g)
     → mid ≡ record old { row = mid.row; trail = mid.trail } → KeepsBack old mid → HasRun P old.row mid.row g
-    → ((h : Goal) (rest : List Goal) → mid.right ≡ h ∷ rest → new ≡ record mid { right = rest }) → AreFew new
+    → ((h : Goal) (rest : List Goal) → mid.right ≡ h ∷ rest → IsDropped mid new rest) → AreFew new
     → HasProgressed old new × (new.used ≡ old.used) × (length new.right < length old.right) × StepsOn P old new
 ran P loaded old mid new g x mid_is back run dropped few =
-    let end : Held = record old { row = mid.row; trail = mid.trail; right = x.rest } in
+    let end : Held = record old { row = mid.row; trail = mid.trail; right = x.rest; watches = new.watches } in
     let mid_next : mid.right ≡ g ∷ x.rest = ap (λ (h : Held). h.right) mid_is ∙ x.next in
-    let dropped_is : new ≡ record mid { right = x.rest } = dropped g x.rest mid_next in
-    let new_is : new ≡ end = dropped_is ∙ ap (λ (h : Held). record h { right = x.rest }) mid_is in
+    let drops = dropped g x.rest mid_next in
+    let new_is : new ≡ end = drops.others ∙ ap (λ (h : Held). record h { right = x.rest; watches = new.watches }) mid_is in
     let used : new.used ≡ old.used = ap (λ (h : Held). h.used) new_is in
     let left : new.left ≡ old.left = ap (λ (h : Held). h.left) new_is in
     let right : new.right ≡ x.rest = ap (λ (h : Held). h.right) new_is in
@@ -282,11 +263,13 @@ ran P loaded old mid new g x mid_is back run dropped few =
               (record { key = ap (λ (h : Held). h.key) new_is; limit = ap (λ (h : Held). h.limit) new_is })
               (ap (λ (h : Held). h.reductions) new_is) used g x.rest x.next
               (subst (λ (l : List Ref). HasRun P old.row l g) (sym (ap (λ (h : Held). h.row) new_is)) run)
-              left right (ap (λ (h : Held). h.is_failed) new_is ∙ x.live) (ap (λ (h : Held). h.watches) new_is),
+              left right (ap (λ (h : Held). h.is_failed) new_is ∙ x.live)
+              (λ w h. subst (λ (ws : List Watched). Contains ws w) (ap (λ (b : Held). b.watches) mid_is) (drops.watches w h)),
           none t,
         );
         back = kept_then old mid new back
-            (subst (λ (h : Held). KeepsBack mid h) (sym dropped_is) (kept_same mid (record mid { right = x.rest }) refl refl refl));
+            (kept_same mid new (ap (λ (h : Held). h.row) drops.others) (ap (λ (h : Held). h.reductions) drops.others)
+            (ap (λ (h : Held). h.trail) drops.others));
       },
     )
 
@@ -342,7 +325,3 @@ pub reduced_more : (P : NamedProgram) (old new : Held) (c : ℕ) → new.used �
 reduced_more P old new c used few =
     let grows : old.used < new.used = let some = clause_weighs (clause_at P.program c) in omega arith in
     ((few, inl grows), grows)
-
--- Where what was asked of a branch is told of one that is the same.
-pub at_same : (P : NamedProgram) (old mid : Held) (g : Goal) → mid ≡ old → IsAt P old g → IsAt P mid g
-at_same P old mid g same x = subst (λ (h : Held). IsAt P h g) (sym same) x

@@ -83,8 +83,8 @@ module _ (P : NamedProgram) (loaded : IsLoaded P) (b new : Held) (t : QueryTree 
   pub reduced_lives :
       Settled P (widened b.row (clause_weight (clause_at P.program c))) new.row (reduction_in_cells P.program g c (length b.row))
       → new.is_failed ≡ false → new.left ≡ b.left
-      → new.right ≡ map goal_of (body_goals c b.used [] 0 (clause_at P.program c).body) ++ rest → new.watches ≡ b.watches
-      → IsBranchOf P new reduced
+      → new.right ≡ map goal_of (body_goals c b.used [] 0 (clause_at P.program c).body) ++ rest
+      → ((w : Watched) → Contains new.watches w → Contains b.watches w) → IsBranchOf P new reduced
   reduced_lives settled live left_is right_is watches_are =
       let x = the_goal in
       let grows = widened_grows P b.row new.row (clause_weight (clause_at P.program c)) (reduction_in_cells P.program g c (length b.row)) settled in
@@ -119,8 +119,7 @@ module _ (P : NamedProgram) (loaded : IsLoaded P) (b new : Held) (t : QueryTree 
           long = keeps.long
               ∙ new_weighs;
           live = live;
-          asleep = λ w h. sleeps_on P b.row new.row w grows
-              (lives.asleep w (subst (λ (ws : List Watched). Contains ws w) watches_are h));
+          asleep = λ w h. sleeps_on P b.row new.row w grows (lives.asleep w (watches_are w h));
         });
       }
 
@@ -158,8 +157,8 @@ module _ (P : NamedProgram) (loaded : IsLoaded P) (old b new : Held) (is : b ≡
   pub next_lives :
       Settled P (widened b.row (clause_weight (clause_at P.program c))) new.row (reduction_in_cells P.program goal c (length b.row))
       → new.is_failed ≡ b.is_failed → new.left ≡ b.left
-      → new.right ≡ map goal_of (body_goals c b.used [] 0 (clause_at P.program c).body) ++ back → new.watches ≡ b.watches
-      → IsReduced P old new c
+      → new.right ≡ map goal_of (body_goals c b.used [] 0 (clause_at P.program c).body) ++ back
+      → ((w : Watched) → Contains new.watches w → Contains b.watches w) → IsReduced P old new c
   next_lives settled live left_is right_is watches_are =
       subst (λ (h : Held). IsReduced P h new c) is
       (record {

@@ -1,7 +1,8 @@
 -- Branches of which other goals are watched.
-use Rattle.std.proofs.Common.{ℕ, ◌≡◌, List, [], ◌∷◌, ◌++◌, append_assoc, refl, ap, sym, ◌∙◌, subst, inl, inr, Contains, Some, slice_get}
-use Rattle.std.proofs.lemmas.List.Elements.{Contains-append_cases, Contains-append_left, Contains-append_right}
-use Rattle.std.specs.Prelude.{Result, OnOk}
+use Rattle.std.proofs.Common.{ℕ, ◌≡◌, false, List, [], ◌∷◌, ◌++◌, map, append_assoc, refl, ap, sym, ◌∙◌, subst, inl, inr}
+use Rattle.std.proofs.Common.{Contains}
+use Rattle.std.specs.Prelude.{Result, OnOk, Option, None, Some, IfSome, IsNone, All}
+use Rattle.std.proofs.lemmas.List.Elements.{All-contains, Contains-append_cases, Contains-append_left, Contains-append_right}
 use Rattle.std.proofs.lemmas.Result.{on_ok_weaker}
 use Rattle.and_model.specs.Terms.{Term}
 use Rattle.and_model.specs.Programs.{call, arithmetic, Arithmetic}
@@ -9,18 +10,23 @@ use Rattle.and_model.specs.Trees.{QueryTree}
 use Rattle.and_model.specs.Reached.{none}
 use Rattle.and_model.specs.declared.goal.Goal.{Goal}
 use Rattle.and_model.specs.declared.reference.Ref.{Ref}
-use Rattle.and_laws.proofs.Ordered.{contains_cases, contains_none}
+use Rattle.and_laws.proofs.Ordered.{contains_cases, contains_none, contains_first, contains_more}
 use Rattle.and_cells.specs.Ranges.{NamedProgram}
 use Rattle.and_branch_laws.specs.Kept.{item_at}
-use Rattle.and_branch.specs.Branches.{Held, Lives, IsBranchOf}
+use Rattle.and_branch.specs.Branches.{Held, Lives, IsBranch, IsBranchOf}
 use Rattle.and_determinacy.specs.Watching.{AreFree, RestsOn, TwoStayWhile}
+use Rattle.and_pending.specs.Pending as pending
+use Rattle.and_pending.specs.Pending.{Pending, goals_of, unwatched}
 use Rattle.and_reduction.specs.Runs.{WaitsFor}
-use Rattle.and_branch.specs.Rounds.{StepsOn, WatchesOn, IsWatched, IsAt}
-use Rattle.and_branch.specs.Watching.{Watched, HasTwo, Sleeps, IsAsleep, IsAdded}
-use Rattle.and_branch.proofs.EntriesKept.{has_at}
+use Rattle.and_branch.specs.Next.{IsMoved}
+use Rattle.and_branch.specs.Rounds.{StepsOn, WatchesOn, HasPassedSleepers, IsDropped}
+use Rattle.and_branch.specs.Watching.{Watched, with_watched, all_watched, HasTwo, Sleeps, IsAsleep}
 use Rattle.and_branch.proofs.GoalsRun.{live_of}
 use Rattle.and_branch.proofs.GrownRows.{grows_not}
 use Rattle.and_branch.proofs.KeptOrigins.{kept_same}
+use Rattle.and_branch.proofs.MovedBranches.{moved_branch}
+use Rattle.and_branch.proofs.SeenGoals.{contains_origin}
+use Rattle.and_branch.proofs.WatchedLists.{goals_append, goals_back, none_watched, watched_append, watched_with}
 
 -- ---- What is watched
 
@@ -43,6 +49,10 @@ two_stay P row g cells (c, d, other, one, two) rests = (
   λ later grows sound settled free. rests later grows sound settled free c one,
   λ later grows sound settled free. rests later grows sound settled free d two,
 )
+
+-- (These cells are all that a list gained which held none.)
+pub gained_alone : (cells out had gained : List ℕ) → cells ≡ out → out ≡ had ++ gained → had ≡ [] → cells ≡ gained
+gained_alone cells out had gained same longer nothing = same ∙ longer ∙ ap (λ (l : List ℕ). l ++ gained) nothing
 
 -- and arithmetic that waits for the cell.
 pub arithmetic_asleep : (P : NamedProgram) (row : List Ref) (w : Watched) (a : Arithmetic) → item_at P.program w.goal ≡ arithmetic a
@@ -83,117 +93,251 @@ watching_steps P old new w =
       back = kept_same old new (ap (λ (b : Held). b.row) e) (ap (λ (b : Held). b.reductions) e) (ap (λ (b : Held). b.trail) e);
     }
 
--- where all that is watched was watched before,
+-- where all that is watched was watched before.
 pub watches_still : (P : NamedProgram) (old new : Held) → new ≡ old → WatchesOn P old new
 watches_still P old new e = record {
   others = e ∙ ap (λ (ws : List Watched). record old { watches = ws }) (ap (λ (b : Held). b.watches) (sym e));
   asleep = λ w h. inl (subst (λ (b : Held). Contains b.watches w) e h);
 }
 
--- or one goal more is, which is asleep.
-pub watches_more : (P : NamedProgram) (old new : Held) (w : Watched) → new ≡ record old { watches = old.watches ++ w ∷ [] } → IsAsleep P old.row w
-    → WatchesOn P old new
-watches_more P old new w e now =
-    let same : new.watches ≡ old.watches ++ w ∷ [] = ap (λ (b : Held). b.watches) e in record {
-      others = e ∙ ap (λ (ws : List Watched). record old { watches = ws }) (sym same);
-      asleep = λ v h.
-          elim (Contains-append_cases old.watches (w ∷ []) v (subst (λ (ws : List Watched). Contains ws v) same h)) [
-            | inl there ↦ inl there
-            | inr last ↦ elim (contains_cases w v [] last) [
-              | inl is ↦ inr (subst (λ (u : Watched). IsAsleep P old.row u) (sym is) now)
-              | inr nothing ↦ absurd (contains_none v nothing)
-            ]
-          ];
-    }
+-- ---- What is watched of a list
 
--- A goal whose cells are free sleeps.
-pub watched_sleeps : (P : NamedProgram) (b : Held) (g : Goal) → IsAt P b g → IsWatched b g → Sleeps P b.row g
-watched_sleeps P b g x w =
-    let lives : Lives P b x.branch.0 = live_of P b x.branch.0 x.live x.branch.1 in
-    let k = lives.keeps in
-    let asleep = lives.asleep w.watched w.there in
-    subst (λ (h : Goal). Sleeps P b.row h) w.is (asleep.while_free b.row (grows_not b.row) k.sound k.settled w.free)
+abbrev pub entry : Goal → Option (List ℕ) → pending.Watched
+entry g cells = record { goal = g; cells = cells }
 
--- ---- The two lists of a branch
+entry_with : (g : Goal) (cells : Option (List ℕ)) (ps : List pending.Watched) (w : Watched)
+    → (Contains (all_watched ps) w → Contains ps (entry w.goal (Some w.cells))) → Contains (with_watched g cells (all_watched ps)) w
+    → Contains (entry g cells ∷ ps) (entry w.goal (Some w.cells))
+entry_with g None ps w f h = contains_more (entry g None) (entry w.goal (Some w.cells)) ps (f h)
+entry_with g (Some cells) ps w f h = elim (contains_cases (record { goal = g; cells = cells }) w (all_watched ps) h) [
+  | inl e ↦ subst (λ (v : Watched). Contains (entry g (Some cells) ∷ ps) (entry v.goal (Some v.cells))) (sym e)
+      (contains_first (entry g (Some cells)) ps)
+  | inr i ↦ contains_more (entry g (Some cells)) (entry w.goal (Some w.cells)) ps (f i)
+]
 
-module _ (P : NamedProgram) (b : Held) (ws vs : List Watched) (are : b.watches ≡ ws ++ vs) where
-  list_kept : (new : List Watched) → new ≡ vs → WatchesOn P b (record b { watches = ws ++ new })
-  list_kept new e =
-      watches_still P b (record b { watches = ws ++ new })
-      (ap (λ (l : List Watched). record b { watches = l }) (ap (λ (l : List Watched). ws ++ l) e ∙ sym are))
+-- Each is one of the list,
+pub entry_of : (ps : List pending.Watched) (w : Watched) → Contains (all_watched ps) w → Contains ps (entry w.goal (Some w.cells))
+entry_of [] w h = absurd (contains_none w h)
+entry_of (p ∷ ps) w h = entry_with p.goal p.cells ps w (entry_of ps w) h
 
-  list_more : (new : List Watched) (w : Watched) → new ≡ vs ++ w ∷ [] → IsAsleep P b.row w → WatchesOn P b (record b { watches = ws ++ new })
-  list_more new w e asleep =
-      watches_more P b (record b { watches = ws ++ new }) w
-      (ap (λ (l : List Watched). record b { watches = l })
-      (ap (λ (l : List Watched). ws ++ l) e ∙ sym (append_assoc ws vs (w ∷ [])) ∙ ap (λ (l : List Watched). l ++ w ∷ []) (sym are)))
-      asleep
+with_here : (g : Goal) (told : Option (List ℕ)) (cells : List ℕ) (ws : List Watched) → told ≡ Some cells
+    → Contains (with_watched g told ws) (record { goal = g; cells = cells })
+with_here g told cells ws e = subst (λ (o : Option (List ℕ)). Contains (with_watched g o ws) (record { goal = g; cells = cells })) (sym e)
+    (contains_first (record { goal = g; cells = cells }) ws)
 
-  -- A goal was found in the first, and its cells are free:
-  module _ (g : Goal) (place : ℕ) (f : (w : Watched) × (slice_get ws place ≡ Some w) × (w.goal ≡ g)) where
-    its_place : Contains b.watches f.0
-    its_place =
-        subst (λ (l : List Watched). Contains l f.0) (sym are) (Contains-append_left ws vs f.0 (has_at ws place f.0 f.1))
+-- and each that is watched of the list is there.
+pub entry_there : (ps : List pending.Watched) (p : pending.Watched) (cells : List ℕ) → Contains ps p → p.cells ≡ Some cells
+    → Contains (all_watched ps) (record { goal = p.goal; cells = cells })
+entry_there [] p cells h e = absurd (contains_none p h)
+entry_there (q ∷ ps) p cells h e = elim (contains_cases q p ps h) [
+  | inl is ↦ subst (λ (g : Goal). Contains (with_watched q.goal q.cells (all_watched ps)) (record { goal = g; cells = cells }))
+      (ap (λ (x : pending.Watched). x.goal) (sym is))
+      (with_here q.goal q.cells cells (all_watched ps) (ap (λ (x : pending.Watched). x.cells) (sym is) ∙ e))
+  | inr i ↦ watched_with q.goal q.cells (all_watched ps) (record { goal = p.goal; cells = cells }) (entry_there ps p cells i e)
+]
 
-    -- it is watched,
-    pub found_watched : ((w : Watched) → slice_get ws place ≡ Some w → AreFree b.row w.cells) → IsWatched b g
-    found_watched free = record { watched = f.0; there = its_place; is = f.2; free = free f.0 f.1 }
+pub watched_among : (xs ys : List pending.Watched) → ((p : pending.Watched) → Contains xs p → Contains ys p) → (w : Watched)
+    → Contains (all_watched xs) w → Contains (all_watched ys) w
+watched_among xs ys f w h = entry_there ys (entry w.goal (Some w.cells)) w.cells (f (entry w.goal (Some w.cells)) (entry_of xs w h)) refl
 
-    -- and watched on.
-    pub kept_watches : (new : List Watched) → ((w : Watched) → slice_get ws place ≡ Some w → new ≡ vs ++ w ∷ [])
-        → WatchesOn P b (record b { watches = ws ++ new })
-    kept_watches new keeps = record {
-      others = refl;
-      asleep = λ v h.
-          let rest : Contains (vs ++ f.0 ∷ []) v → Contains b.watches v = λ i.
-          elim (Contains-append_cases vs (f.0 ∷ []) v i) [
-            | inl there ↦ subst (λ (l : List Watched). Contains l v) (sym are) (Contains-append_right ws vs v there)
-            | inr last ↦ elim (contains_cases f.0 v [] last) [
-              | inl is ↦ subst (λ (u : Watched). Contains b.watches u) (sym is) its_place
-              | inr nothing ↦ absurd (contains_none v nothing)
-            ]
-          ] in
-          elim (Contains-append_cases ws new v h) [
-            | inl there ↦ inl (subst (λ (l : List Watched). Contains l v) (sym are) (Contains-append_left ws vs v there))
-            | inr here ↦ inl (rest (subst (λ (l : List Watched). Contains l v) (keeps f.0 f.1) here))
-          ];
-    }
+-- The first of a list of goals
+pub first_of_goals : (ps : List pending.Watched) (g : Goal) (rest : List Goal) → goals_of ps ≡ g ∷ rest
+    → (w : pending.Watched) × (ws : List pending.Watched) × (ps ≡ w ∷ ws) × (w.goal ≡ g) × (goals_of ws ≡ rest)
+first_of_goals [] g rest e = absurd (cc)
+first_of_goals (w ∷ ws) g rest e = let one : w.goal ≡ g = cc in let other : goals_of ws ≡ rest = cc in (w, ws, refl, one, other)
 
-  -- A call was put behind the second, with cells on which two candidates rest:
-  pub told_watches : (goal : Goal) (term : Term) → item_at P.program goal ≡ call term → (cells : List ℕ) → TwoStayWhile P b.row goal cells
-      → (new : List Watched) → new ≡ vs ++ record { goal = goal; cells = cells } ∷ [] → WatchesOn P b (record b { watches = ws ++ new })
-  told_watches goal term e cells stay new added =
-      list_more new (record { goal = goal; cells = cells }) added (call_asleep P b.row (record { goal = goal; cells = cells }) term e stay)
+-- ---- Goals that sleep
 
-  -- those that were told, or those that it holds, unless these are too many.
-  pub call_watches : (goal : Goal) (term : Term) → item_at P.program goal ≡ call term → (new : List Watched) → IsAdded P b.row goal vs new
-      → WatchesOn P b (record b { watches = ws ++ new })
-  call_watches goal term e new (inl same) = list_kept new same
-  call_watches goal term e new (inr (gained, added, stay)) = told_watches goal term e gained stay new added
+module _ (P : NamedProgram) (b : Held) (t : QueryTree P.program) (lives : Lives P b t) (ps : List pending.Watched)
+    (are : b.watches ≡ all_watched ps) where
+  pub sleeper : (p : pending.Watched) → Contains ps p → pending.Sleeps b.row p → Sleeps P b.row p.goal
+  sleeper p h (cells, is, free) =
+      let k = lives.keeps in
+      let there : Contains b.watches (record { goal = p.goal; cells = cells }) =
+      subst (λ (ws : List Watched). Contains ws (record { goal = p.goal; cells = cells })) (sym are) (entry_there ps p cells h is) in
+      let asleep = lives.asleep (record { goal = p.goal; cells = cells }) there in
+      asleep.while_free b.row (grows_not b.row) k.sound k.settled free
 
-  -- Arithmetic was.
-  pub arithmetic_watches : (goal : Goal) (a : Arithmetic) → item_at P.program goal ≡ arithmetic a → (cell : ℕ) → WaitsFor P b.row goal cell
-      → (new : List Watched) → new ≡ vs ++ record { goal = goal; cells = cell ∷ [] } ∷ [] → WatchesOn P b (record b { watches = ws ++ new })
-  arithmetic_watches goal a e cell waits new added =
-      list_more new (record { goal = goal; cells = cell ∷ [] }) added
-      (arithmetic_asleep P b.row (record { goal = goal; cells = cell ∷ [] }) a e cell refl waits)
+  pub sleepers : (qs : List pending.Watched) → ((p : pending.Watched) → Contains qs p → Contains ps p) → All (pending.Sleeps b.row) qs
+      → (g : Goal) → Contains (goals_of qs) g → Sleeps P b.row g
+  sleepers qs among all g h =
+      let (p, there, is) = contains_origin (λ (w : pending.Watched). w.goal) qs g h in
+      subst (λ (x : Goal). Sleeps P b.row x) (sym is) (sleeper p (among p there) (All-contains (pending.Sleeps b.row) qs p all there))
 
-  -- The second has taken the place of the first.
-  pub handed_on : (now emptied : List Watched) → now ≡ vs → emptied ≡ [] → WatchesOn P b (record b { watches = now ++ emptied })
-  handed_on now emptied e nothing = record {
-    others = refl;
-    asleep = λ v h.
-        let there : Contains vs v = elim (Contains-append_cases now emptied v h) [
-          | inl here ↦ subst (λ (l : List Watched). Contains l v) e here
-          | inr other ↦ absurd (contains_none v (subst (λ (l : List Watched). Contains l v) nothing other))
-        ] in
-        inl (subst (λ (l : List Watched). Contains l v) (sym are) (Contains-append_right ws vs v there));
-  }
+-- ---- The list of a branch
 
--- The same, where the branch is told to be another one.
-pub watches_at : (P : NamedProgram) (b old new : Held) → b ≡ old → WatchesOn P b new → WatchesOn P old new
-watches_at P b old new e w = subst (λ (d : Held). WatchesOn P d new) e w
+-- The branch with another list of goals
+abbrev pub with_goals : Held → Pending → Held
+with_goals b gs = record b { left = goals_of gs.left; right = goals_of gs.right; watches = all_watched (gs.left ++ gs.right) }
 
-pub on_ok_watches : {A E : Type 0} {Q : Type 0} (P : NamedProgram) (b old new : Held) → b ≡ old → (r : Result A E) → (Q → WatchesOn P b new)
-    → OnOk r Q → OnOk r (WatchesOn P old new)
-on_ok_watches P b old new e r f h = on_ok_weaker r (λ q. watches_at P b old new e (f q)) h
+module _ (b old : Held) (e : b ≡ old) (gs : Pending) (left : b.left ≡ goals_of gs.left) (right : b.right ≡ goals_of gs.right)
+    (watches : b.watches ≡ all_watched (gs.left ++ gs.right)) where
+  -- The same goals, of which none is watched that was not,
+  pub goals_kept : (new : Pending) → goals_of new.left ++ goals_of new.right ≡ goals_of gs.left ++ goals_of gs.right
+      → ((w : Watched) → Contains (all_watched (new.left ++ new.right)) w → Contains (all_watched (gs.left ++ gs.right)) w)
+      → IsMoved old (with_goals b new)
+  goals_kept new same among = subst (λ (d : Held). IsMoved d (with_goals b new)) e (record {
+    key = refl;
+    limit = refl;
+    reductions = refl;
+    row = refl;
+    used = refl;
+    is_failed = refl;
+    goals = same ∙ ap (λ (l : List Goal). l ++ goals_of gs.right) (sym left) ∙ ap (λ (l : List Goal). b.left ++ l) (sym right);
+    watches = λ w h. subst (λ (ws : List Watched). Contains ws w) (sym watches) (among w h);
+    back = kept_same b (with_goals b new) refl refl refl;
+  })
+
+  -- or each watched as it was.
+  pub goals_moved : (new : Pending) → new.left ++ new.right ≡ gs.left ++ gs.right → IsMoved old (with_goals b new)
+  goals_moved new same = goals_kept new
+      (sym (goals_append new.left new.right) ∙ ap (λ (l : List pending.Watched). goals_of l) same ∙ goals_append gs.left gs.right)
+      (λ w h. subst (λ (l : List pending.Watched). Contains (all_watched l) w) same h)
+
+  -- Some were passed over, which sleep.
+  passed_same : (row : List Ref) (new : Pending) → pending.HasPassedSleepers row gs new → new.left ++ new.right ≡ gs.left ++ gs.right
+  passed_same row new h =
+      ap (λ (l : List pending.Watched). l ++ new.right) h.left ∙ append_assoc gs.left h.passed new.right
+      ∙ ap (λ (l : List pending.Watched). gs.left ++ l) (sym h.right)
+
+  pub sleepers_moved : (new : Pending) → pending.HasPassedSleepers b.row gs new → IsMoved old (with_goals b new)
+  sleepers_moved new h = goals_moved new (passed_same b.row new h)
+
+  pub sleepers_passed : (P : NamedProgram) → IsBranch P old → (new : Pending) → pending.HasPassedSleepers b.row gs new
+      → HasPassedSleepers P old (with_goals b new)
+  sleepers_passed P branch new h =
+      let m = sleepers_moved new h in
+      let row_is : old.row ≡ b.row = ap (λ (d : Held). d.row) (sym e) in
+      let among : (p : pending.Watched) → Contains h.passed p → Contains (gs.left ++ gs.right) p = λ p i.
+      Contains-append_right gs.left gs.right p
+      (subst (λ (l : List pending.Watched). Contains l p) (sym h.right) (Contains-append_left h.passed new.right p i)) in
+      record {
+        alike = record { limit = m.limit; row = m.row; used = m.used; failed = m.is_failed; goals = m.goals };
+        passed = goals_of h.passed;
+        next = ap (λ (d : Held). d.right) (sym e) ∙ right ∙ ap (λ (l : List pending.Watched). goals_of l) h.right
+            ∙ goals_append h.passed new.right;
+        left = ap (λ (l : List pending.Watched). goals_of l) h.left ∙ goals_append gs.left h.passed
+            ∙ ap (λ (l : List Goal). l ++ goals_of h.passed) (sym left ∙ ap (λ (d : Held). d.left) e);
+        sleep = λ live g i.
+            sleepers P old branch.0 (live_of P old branch.0 live branch.1) (gs.left ++ gs.right) (ap (λ (d : Held). d.watches) (sym e) ∙ watches)
+            h.passed among (subst (λ (l : List Ref). All (pending.Sleeps l) h.passed) (sym row_is) h.asleep) g i;
+      }
+
+  -- Those before the place of work sleep.
+  pub left_asleep : (P : NamedProgram) → IsBranch P old → old.is_failed ≡ false → All (pending.Sleeps b.row) gs.left → (g : Goal)
+      → Contains old.left g → Sleeps P old.row g
+  left_asleep P branch live all g h =
+      let row_is : old.row ≡ b.row = ap (λ (d : Held). d.row) (sym e) in
+      let left_is : old.left ≡ goals_of gs.left = ap (λ (d : Held). d.left) (sym e) ∙ left in
+      sleepers P old branch.0 (live_of P old branch.0 live branch.1) (gs.left ++ gs.right) (ap (λ (d : Held). d.watches) (sym e) ∙ watches)
+      gs.left (λ p i. Contains-append_left gs.left gs.right p i)
+      (subst (λ (l : List Ref). All (pending.Sleeps l) gs.left) (sym row_is) all) g (subst (λ (l : List Goal). Contains l g) left_is h)
+
+  -- None is watched any longer.
+  pub goals_forgotten : (new : Pending)
+      → new ≡ record { left = map unwatched (goals_of gs.left); right = map unwatched (goals_of gs.right) } → IsMoved old (with_goals b new)
+  goals_forgotten new is =
+      let end : Pending = record { left = map unwatched (goals_of gs.left); right = map unwatched (goals_of gs.right) } in
+      subst (λ (p : Pending). IsMoved old (with_goals b p)) (sym is) (goals_kept end
+      (ap (λ (l : List Goal). l ++ goals_of (map unwatched (goals_of gs.right))) (goals_back (goals_of gs.left))
+      ∙ ap (λ (l : List Goal). goals_of gs.left ++ l) (goals_back (goals_of gs.right)))
+      (λ w h. absurd (contains_none w (subst (λ (ws : List Watched). Contains ws w) (nothing (goals_of gs.left) (goals_of gs.right)) h))))
+    where
+      nothing : (xs ys : List Goal) → all_watched (map unwatched xs ++ map unwatched ys) ≡ []
+      nothing xs ys =
+          watched_append (map unwatched xs) (map unwatched ys) ∙ ap (λ (ws : List Watched). ws ++ all_watched (map unwatched ys)) (none_watched xs)
+          ∙ none_watched ys
+
+  pub left_forgotten : (new : Pending)
+      → new ≡ record { left = map unwatched (goals_of gs.left); right = map unwatched (goals_of gs.right) } → goals_of new.left ≡ old.left
+  left_forgotten new is =
+      ap (λ (p : Pending). goals_of p.left) is ∙ goals_back (goals_of gs.left) ∙ sym left ∙ ap (λ (d : Held). d.left) e
+
+  -- There is a next goal,
+  pub next_is : (g : Goal) (rest : List Goal) → old.right ≡ g ∷ rest
+      → (w : pending.Watched) × (ws : List pending.Watched) × (gs.right ≡ w ∷ ws) × (w.goal ≡ g) × (goals_of ws ≡ rest)
+  next_is g rest next = first_of_goals gs.right g rest (sym right ∙ ap (λ (d : Held). d.right) e ∙ next)
+
+  pub next_there : (g : Goal) → (rest : List Goal) × (old.right ≡ g ∷ rest)
+      → (w : pending.Watched) × (ws : List pending.Watched) × (gs.right ≡ w ∷ ws)
+  next_there g (rest, next) = let (w, ws, is, same, others) = next_is g rest next in (w, ws, is)
+
+  -- which is watched now,
+  pub next_watched : (P : NamedProgram) (g : Goal) (rest : List Goal) → old.right ≡ g ∷ rest → (cells : List ℕ)
+      → IsAsleep P old.row (record { goal = g; cells = cells }) → (new : Pending)
+      → ((w : pending.Watched) (ws : List pending.Watched) → gs.right ≡ w ∷ ws
+      → new ≡ record { left = gs.left; right = entry w.goal (Some cells) ∷ ws }) → WatchesOn P old (with_goals b new)
+  next_watched P g rest next cells asleep new made =
+      let (w, ws, is, same, others) = next_is g rest next in
+      let new_is = made w ws is in
+      let lefts : goals_of new.left ≡ b.left = ap (λ (p : Pending). goals_of p.left) new_is ∙ sym left in
+      let rights : goals_of new.right ≡ b.right =
+      ap (λ (p : Pending). goals_of p.right) new_is ∙ ap (λ (l : List pending.Watched). goals_of l) (sym is) ∙ sym right in
+      let all : List Watched = all_watched (new.left ++ new.right) in
+      let front : with_goals b new ≡ record b { watches = all } =
+      ap (λ (l : List Goal). record b { left = l; right = goals_of new.right; watches = all }) lefts
+      ∙ ap (λ (l : List Goal). record b { right = l; watches = all }) rights in
+      let were : all_watched (gs.left ++ gs.right) ≡ old.watches = sym watches ∙ ap (λ (d : Held). d.watches) e in
+      record {
+        others = front ∙ ap (λ (d : Held). record d { watches = all }) e;
+        asleep = λ v h.
+            let i : Contains (gs.left ++ (entry w.goal (Some cells) ∷ ws)) (entry v.goal (Some v.cells)) =
+            subst (λ (p : Pending). Contains (p.left ++ p.right) (entry v.goal (Some v.cells))) new_is (entry_of (new.left ++ new.right) v h) in
+            let was : Contains (gs.left ++ gs.right) (entry v.goal (Some v.cells)) → Contains old.watches v = λ j.
+            subst (λ (vs : List Watched). Contains vs v) were (entry_there (gs.left ++ gs.right) (entry v.goal (Some v.cells)) v.cells j refl) in
+            elim (Contains-append_cases gs.left (entry w.goal (Some cells) ∷ ws) (entry v.goal (Some v.cells)) i) [
+              | inl j ↦ inl (was (Contains-append_left gs.left gs.right (entry v.goal (Some v.cells)) j))
+              | inr j ↦ elim (contains_cases (entry w.goal (Some cells)) (entry v.goal (Some v.cells)) ws j) [
+                | inl both ↦ inr (this_one P old.row g cells asleep v (ap (λ (x : pending.Watched). x.goal) both ∙ same)
+                    (ap (λ (x : pending.Watched). x.cells) both))
+                | inr k ↦ inl (was (Contains-append_right gs.left gs.right (entry v.goal (Some v.cells))
+                    (subst (λ (l : List pending.Watched). Contains l (entry v.goal (Some v.cells))) (sym is)
+                    (contains_more w (entry v.goal (Some v.cells)) ws k))))
+              ]
+            ];
+      }
+    where
+      this_one : (Q : NamedProgram) (row : List Ref) (h : Goal) (cs : List ℕ) → IsAsleep Q row (record { goal = h; cells = cs }) → (v : Watched)
+          → v.goal ≡ h → Some v.cells ≡ Some cs → IsAsleep Q row v
+      this_one Q row h cs x v goals some =
+          let same_cells : v.cells ≡ cs = cc in
+          subst (λ (k : Goal). IsAsleep Q row (record { goal = k; cells = v.cells })) (sym goals)
+          (subst (λ (l : List ℕ). IsAsleep Q row (record { goal = h; cells = l })) (sym same_cells) x)
+
+  -- or is left out.
+  pub next_dropped : (r : Option Goal) (new : Pending) → (IsNone r → (gs.right ≡ []) × (new ≡ gs))
+      → IfSome r (λ g. (w : pending.Watched) × (ws : List pending.Watched) × (gs.right ≡ w ∷ ws) × (w.goal ≡ g)
+      × (new ≡ record { left = gs.left; right = ws })) → (g : Goal) (rest : List Goal) → old.right ≡ g ∷ rest
+      → IsDropped old (with_goals b new) rest
+  next_dropped None new nothing some g rest next =
+      let (w, ws, is, same, others) = next_is g rest next in
+      let both : [] ≡ w ∷ ws = sym ((nothing refl).0) ∙ is in
+      absurd (cc)
+  next_dropped (Some h) new nothing (v, vs, are, goal_is, made) g rest next =
+      let rights : v.goal ∷ goals_of vs ≡ g ∷ rest =
+      ap (λ (l : List pending.Watched). goals_of l) (sym are) ∙ sym right ∙ ap (λ (d : Held). d.right) e ∙ next in
+      let right_is : goals_of new.right ≡ rest = ap (λ (p : Pending). goals_of p.right) made ∙ behind (v.goal) g (goals_of vs) rest rights in
+      let left_is : goals_of new.left ≡ b.left = ap (λ (p : Pending). goals_of p.left) made ∙ sym left in
+      let all : List Watched = all_watched (new.left ++ new.right) in
+      record {
+        others = ap (λ (l : List Goal). record b { left = l; right = goals_of new.right; watches = all }) left_is
+            ∙ ap (λ (l : List Goal). record b { right = l; watches = all }) right_is ∙ ap (λ (d : Held). record d { right = rest; watches = all }) e;
+        watches = λ w i.
+            let fewer : Contains (all_watched (gs.left ++ vs)) w = subst (λ (p : Pending). Contains (all_watched (p.left ++ p.right)) w) made i in
+            let there : Contains (all_watched (gs.left ++ (v ∷ vs))) w = watched_among (gs.left ++ vs) (gs.left ++ (v ∷ vs)) (λ p j.
+            elim (Contains-append_cases gs.left vs p j) [
+              | inl k ↦ Contains-append_left gs.left (v ∷ vs) p k
+              | inr k ↦ Contains-append_right gs.left (v ∷ vs) p (contains_more v p vs k)
+            ]) w fewer in
+            subst (λ (ws : List Watched). Contains ws w) (sym watches ∙ ap (λ (d : Held). d.watches) e)
+            (subst (λ (l : List pending.Watched). Contains (all_watched (gs.left ++ l)) w) (sym are) there);
+      }
+    where
+      behind : {X : Type 0} (x y : X) (xs ys : List X) → x ∷ xs ≡ y ∷ ys → xs ≡ ys
+      behind x y xs ys both = cc
+
+-- So it is after a call that may be wanting memory.
+pub on_ok_sleepers : {A E : Type 0} (P : NamedProgram) (old new : Held) (r : Result A E) {Q : Type 0} → (Q → IsMoved old new) → OnOk r Q
+    → OnOk r (StepsOn P old new)
+on_ok_sleepers P old new r f h =
+    on_ok_weaker r (λ q. let m = f q in record { each = λ t x. (t, moved_branch P old new t m x, none t); back = m.back }) h

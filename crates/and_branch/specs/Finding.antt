@@ -1,5 +1,5 @@
 -- What is found of the goals of a branch, from left to right.
-use Rattle.std.specs.Prelude.{ℕ, ◌+◌, ◌≡◌, ◌⊎◌, Bool, false, cond, List, ◌∷◌, ◌++◌, length, Contains}
+use Rattle.std.specs.Prelude.{ℕ, ◌+◌, ◌≡◌, ◌⊎◌, Bool, false, cond, List, ◌∷◌, ◌++◌, length, Contains, Option, None, Some}
 use Rattle.and_model.specs.Terms.{Path, Term, variables_of}
 use Rattle.and_model.specs.Programs.{Item, call, arithmetic, Arithmetic}
 use Rattle.and_model.specs.Stands.{term_of}
@@ -14,6 +14,7 @@ use Rattle.and_branch_laws.specs.Judging.{CandidateInCells, SoleInCells, FitsBeh
 use Rattle.and_reduction.specs.Runs.{HasUnnamedPair}
 use Rattle.and_branch.specs.Branches.{is_arithmetic, IsArithmeticGoal}
 use Rattle.and_branch.specs.Watching.{HasTwo}
+use Rattle.and_branch.specs.declared.finding.HeavyCall.{HeavyCall}
 use Rattle.and_branch.specs.declared.finding.Found.{Found}
 use Rattle.and_branch.specs.declared.finding.Found.TheVariants.{NoCall, Several, Heavy, Fitting, Stuck}
 use Rattle.and_branch.specs.declared.finding.Seen.{Seen}
@@ -58,6 +59,11 @@ pub record IsCallAmong (P : NamedProgram) (gs : List Goal) (goal : Goal) : Type 
   pub back : List Goal
   pub all : gs ≡ front ++ goal ∷ back
   pub called : IsCallGoal P goal
+
+-- It is the first call.
+pub record IsFirstCall (P : NamedProgram) (gs : List Goal) (goal : Goal) : Type 0 where
+  pub among : IsCallAmong P gs goal
+  pub first : AllCalls P (λ g. ⊥) among.front
 
 -- It is the first call, and each has two candidates.
 pub record IsSeveral (P : NamedProgram) (row : List Ref) (gs : List Goal) (goal : Goal) : Type 0 where
@@ -112,12 +118,19 @@ with_one (Heavy first heavy) goal clause fits = cond fits (Fitting goal clause) 
 with_one (Fitting first fitting) goal clause fits = Fitting first fitting
 with_one Stuck goal clause fits = Stuck
 
--- what is found with one more goal behind, of which this was seen
-abbrev pub with_seen : Found → Goal → Seen → Found
-with_seen f goal seen.Arithmetic = f
-with_seen f goal seen.Several = with_several f goal
-with_seen f goal (seen.Heavy clause) = with_one f goal clause false
-with_seen f goal seen.NotJudged = f
+-- This is known of the calls among goals: each has two candidates; or this is the first with one alone, for which there is no room, and none
+-- has one alone that fits.
+abbrev pub HasHeavy : NamedProgram → ℕ → List Ref → List Goal → Option HeavyCall → Type 0
+HasHeavy P limit row gs None = AllCalls P (HasTwo P row) gs
+HasHeavy P limit row gs (Some heavy) = IsHeavy P limit row gs heavy.goal heavy.clause.0
+
+-- the first such call, with one more goal behind, of which this was seen
+abbrev pub with_passed : Option HeavyCall → Goal → Seen → Option HeavyCall
+with_passed heavy goal seen.Arithmetic = heavy
+with_passed heavy goal seen.Several = heavy
+with_passed None goal (seen.Heavy clause) = Some (record { goal = goal; clause = clause })
+with_passed (Some first) goal (seen.Heavy clause) = Some first
+with_passed heavy goal seen.NotJudged = heavy
 
 -- That is what the goal is in the row.
 abbrev pub HasSeen : NamedProgram → ℕ → List Ref → Goal → Seen → Type 0

@@ -1,5 +1,5 @@
 -- The next goal, reduced by a clause.
-use Rattle.std.specs.Prelude.{ℕ, ◌≡◌, ◌+◌, ◌≤◌, Bool, true, false, List, ◌∷◌, ◌++◌, length, Contains}
+use Rattle.std.specs.Prelude.{ℕ, ◌≡◌, ◌+◌, ◌≤◌, Bool, true, false, List, ◌∷◌, ◌++◌, length, map, Contains}
 use Rattle.and_model.specs.Terms.{Term}
 use Rattle.and_model.specs.Programs.{Of, call, clause_at, clause_weight}
 use Rattle.and_model.specs.Trees.{QueryTree, Open, call_of, reduce}
@@ -12,6 +12,7 @@ use Rattle.and_cells.specs.Ranges.{NamedProgram}
 use Rattle.and_branch_laws.specs.Kept.{item_at}
 use Rattle.and_branch.specs.Branches.{Held, Lives, IsBranchOf, IsOpenGoal}
 use Rattle.and_branch.specs.Origins.{KeepsBack}
+use Rattle.and_pending.specs.Pending.{Pending, unwatched}
 use Rattle.and_branch.specs.Watching.{Watched}
 
 -- The branch, which is not failed, has a next goal, a call. The clause is there, and there is room for its frame.
@@ -48,6 +49,10 @@ is_call_node (Skeletons.equal n m) = false
 is_call_node (Skeletons.is n m pair) = false
 is_call_node (Skeletons.compare r n m) = false
 is_call_node Skeletons.fail = false
+
+-- These goals were put at the place of work, none of which is watched.
+abbrev pub HasPut : List Goal → (old new : Pending) → Type 0
+HasPut gs old new = new ≡ record { left = old.left; right = map unwatched gs ++ old.right }
 
 -- Nothing was done but that the place of work was moved, or less is watched. What could be had again of the branch still can be, or nothing
 -- is noted any longer.

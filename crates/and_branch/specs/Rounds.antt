@@ -12,11 +12,10 @@ use Rattle.and_branch_laws.specs.Judging.{CandidateInCells, SoleInCells, FitsBeh
 use Rattle.and_branch_laws.specs.Kept.{item_at}
 use Rattle.and_reduction.specs.Runs.{IsWaiting}
 use Rattle.and_branch.specs.Branches.{Held, IsBranch, IsBranchOf}
-use Rattle.and_determinacy.specs.Watching.{AreFree}
 use Rattle.and_branch.specs.Finding.{HasFound, HasSeen}
 use Rattle.and_branch.specs.Origins.{KeepsBack}
 use Rattle.and_branch.specs.Resting.{IsResting}
-use Rattle.and_branch.specs.Watching.{Watched, IsAsleep}
+use Rattle.and_branch.specs.Watching.{Watched, Sleeps, IsAsleep}
 use Rattle.and_branch.specs.declared.advancing.Looked.{Looked}
 use Rattle.and_branch.specs.declared.advancing.Looked.TheVariants.{Ended, Passed, Ran, Reduced, Failed}
 use Rattle.and_branch.specs.declared.advancing.Round.{Round}
@@ -59,6 +58,7 @@ pub record IsAlike (old new : Held) : Type 0 where
   pub limit : new.limit ≡ old.limit
   pub row : new.row ≡ old.row
   pub used : new.used ≡ old.used
+  pub failed : new.is_failed ≡ old.is_failed
   pub goals : new.left ++ new.right ≡ old.left ++ old.right
 
 -- Nothing is different but what is watched: what is so now was watched, or is asleep.
@@ -66,12 +66,10 @@ pub record WatchesOn (P : NamedProgram) (old new : Held) : Type 0 where
   pub others : new ≡ record old { watches = new.watches }
   pub asleep : (w : Watched) → Contains new.watches w → Contains old.watches w ⊎ IsAsleep P old.row w
 
--- The goal is watched, and its cells are free.
-pub record IsWatched (b : Held) (goal : Goal) : Type 0 where
-  pub watched : Watched
-  pub there : Contains b.watches watched
-  pub is : watched.goal ≡ goal
-  pub free : AreFree b.row watched.cells
+-- The next goal, before these, is left out, and what is watched was watched.
+pub record IsDropped (old new : Held) (rest : List Goal) : Type 0 where
+  pub others : new ≡ record old { right = rest; watches = new.watches }
+  pub watches : (w : Watched) → Contains new.watches w → Contains old.watches w
 
 -- The next goal was passed over; and if it might have been reduced, nothing is to be done for it, and this was seen of it.
 pub record HasPassed (P : NamedProgram) (may : Bool) (old new : Held) (goal : Goal) (seen : Seen) : Type 0 where
@@ -80,9 +78,21 @@ pub record HasPassed (P : NamedProgram) (may : Bool) (old new : Held) (goal : Go
   pub passed : new.left ≡ old.left ++ goal ∷ []
   pub idle : may ≡ true → IsIdle P old.limit old.row goal × HasSeen P old.limit old.row goal seen
 
+-- The next goals were passed over, for none of which anything is to be done: they sleep.
+pub record HasPassedSleepers (P : NamedProgram) (old new : Held) : Type 0 where
+  pub alike : IsAlike old new
+  pub passed : List Goal
+  pub next : old.right ≡ passed ++ new.right
+  pub left : new.left ≡ old.left ++ passed
+  pub sleep : old.is_failed ≡ false → (g : Goal) → Contains passed g → Sleeps P old.row g
+
+-- For none of the goals before the place of work is anything to be done.
+abbrev pub LeftIsIdle : NamedProgram → Held → Type 0
+LeftIsIdle P b = (g : Goal) → Contains b.left g → IsIdle P b.limit b.row g
+
 -- what a look at the next goal came to
 abbrev pub LookIs : NamedProgram → (may : Bool) → (old new : Held) → Looked → Type 0
-LookIs P may old new Ended = WatchesOn P old new × (old.right ≡ []) × (old.is_failed ≡ false)
+LookIs P may old new Ended = (new ≡ old) × (old.right ≡ []) × (old.is_failed ≡ false)
 LookIs P may old new (Passed goal seen) = HasPassed P may old new goal seen
 LookIs P may old new Ran = HasProgressed old new × (new.used ≡ old.used) × (length new.right < length old.right)
 LookIs P may old new Reduced = HasProgressed old new × (may ≡ true) × (old.used < new.used)

@@ -1,6 +1,6 @@
 //! Determinate goals, reduced until there are none.
 
-ghost use Rattle.std.specs.Prelude.{◌≡◌, ◌≢◌, ◌≤◌, ◌+◌, ◌⊎◌, [], ◌∷◌, ℕ, true, false, cond, List, length, Ok, OnOk, IfOk, IfSome};
+ghost use Rattle.std.specs.Prelude.{◌≡◌, ◌≢◌, ◌≤◌, ◌+◌, ◌⊎◌, [], ◌∷◌, ℕ, true, false, List, length, Ok, OnOk, IfOk, IfSome};
 ghost use Rattle.and_model.specs.Terms.{Term};
 ghost use Rattle.and_model.specs.Programs.{call, Arithmetic, arithmetic, clause_at, clause_weight};
 ghost use Rattle.and_model.specs.Trees.{QueryTree, Open};
@@ -17,14 +17,14 @@ ghost use Rattle.and_branch_laws.specs.Judging.{CandidateInCells};
 ghost use Rattle.and_branch_laws.specs.Kept.{item_at};
 ghost use Rattle.and_branch_laws.specs.States.{StateOf, determinate};
 ghost use Rattle.and_branch.specs.Branches.{IsBranch, IsBranchOf, SameKey};
+ghost use Rattle.and_branch.specs.Finding.{HasFound, HasHeavy};
 ghost use Rattle.and_branch.specs.Origins.{KeepsBack};
-ghost use Rattle.and_branch.specs.Rounds.{StepsOn, AreFew, IsAtMost, IsStill, LookIs, RoundIs, HasStilled, IsAt};
+ghost use Rattle.and_branch.specs.Rounds.{StepsOn, AreFew, IsAtMost, IsStill, LeftIsIdle, IsDropped, IsStillWith, LookIs, RoundIs, HasStilled, IsAt};
 ghost use Rattle.and_branch.specs.declared.finding.Found.{Found};
 
 use crate::branch::Branch;
-use crate::finding::{Found, Seen, with_seen};
+use crate::finding::{Found, HeavyCall, Seen, first_call, with_passed};
 use crate::goals::is_call;
-use crate::seeking::last_of;
 use crate::workspace::Workspace;
 use and_cells::Naming;
 use and_determinacy::{Determinacy, Judged, Narrowed, judge, narrow};
@@ -70,9 +70,9 @@ enum Next {
 /// What a round over all goals came to.
 #[derive(Clone, Copy)]
 pub(crate) enum Round {
-    /// Some goal was run or reduced.
+    /// Some goal was run or reduced, and for some there may be more to do.
     Changed,
-    /// None was: for none is anything to be done, and this was found of them.
+    /// For none is anything to be done, and this was found of them.
     Still(Found),
     /// The tree is dead.
     Failed,
@@ -104,9 +104,10 @@ impl<N: Naming> Branch<N> {
         Ok(())
     }
 
-    /// One round over the goals, which takes at most so many reductions. Answers whether any goal was run
-    /// or reduced; it need not answer so where the branch is then marked failed. The gate is told of each
-    /// reduction before it is made. An error is want of memory, and the branch is spent.
+    /// One round over the goals, which takes at most so many reductions. Answers whether there may be more
+    /// to do: where it answers that there is not, nothing is to be done for any goal, or the branch is marked
+    /// failed. The gate is told of each reduction before it is made. An error is want of memory, and the branch
+    /// is spent.
     pub fn advance_some<G: Gate>(
         &mut self,
         loaded: &Loaded,
@@ -175,14 +176,17 @@ impl<N: Naming> Branch<N> {
         ensures steps { OnOk result (StepsOn N.program self.old self.new) }
         ensures came_to { IfOk result (λ r. RoundIs N.program self.old self.new r) }
     {
+        loaded.skeleton_is_of_the_program();
         self.rewind()?;
+        self.clear_out();
         let mut budget = most;
         let mut changed = false;
-        let mut found = Found::NoCall;
+        let mut heavy = None;
         'goals: loop {
+            self.pass_sleepers()?;
             match self.look(loaded, table, gate, budget > 0, workspace)? {
-                Looked::Ended => return Ok(ended(changed, found)),
-                Looked::Passed { goal, seen } => found = with_seen(found, goal, seen),
+                Looked::Ended => return Ok(self.round_ended(loaded, changed, heavy)),
+                Looked::Passed { goal, seen } => heavy = with_passed(heavy, goal, seen),
                 Looked::Ran => changed = true,
                 Looked::Reduced => {
                     budget -= 1;
@@ -213,10 +217,7 @@ impl<N: Naming> Branch<N> {
         loaded.skeleton_is_of_the_program();
         match self.next_goal() {
             Next::Failed => Ok(Looked::Failed),
-            Next::Nothing => {
-                self.hand_on();
-                Ok(Looked::Ended)
-            }
+            Next::Nothing => Ok(Looked::Ended),
             Next::Goal(goal) => self.look_at(loaded, table, gate, goal, may, workspace),
         }
     }
@@ -239,13 +240,7 @@ impl<N: Naming> Branch<N> {
         ensures came_to { IfOk result (λ l. LookIs N.program may self.old self.new l) }
     {
         loaded.skeleton_is_of_the_program();
-        let called = is_call(loaded, goal);
-        if self.is_asleep(goal)? {
-            self.pass()?;
-            let seen = seen_asleep(called);
-            return Ok(Looked::Passed { goal, seen });
-        }
-        if called {
+        if is_call(loaded, goal) {
             self.look_at_call(loaded, table, gate, goal, may, workspace)
         } else {
             self.look_at_arithmetic(loaded, goal, may, workspace)
@@ -410,7 +405,7 @@ impl<N: Naming> Branch<N> {
         if self.is_failed {
             return Next::Failed;
         }
-        match last_of(&self.right) {
+        match self.goals.next() {
             Some(goal) => Next::Goal(goal),
             None => Next::Nothing,
         }
@@ -483,12 +478,57 @@ impl<N: Naming> Branch<N> {
         run(loaded, &mut self.cells, goal, &mut self.trail, tools)
     }
 
+    /// What a round came to that went over all goals, of which this was seen. Takes no memory.
+    fn round_ended(&self, loaded: &Loaded, changed: bool, heavy: Option<HeavyCall>) -> Round
+        requires program { N.program ≡ named loaded.now }
+        requires branch { IsBranch N.program self.now }
+        requires live { self.now.is_failed ≡ false }
+        requires past { self.now.right ≡ [] }
+        requires seen { changed ≡ false → LeftIsIdle N.program self.now × HasHeavy N.program self.now.limit self.now.row self.now.left heavy }
+        ensures changed { result ≡ Round.Changed → changed ≡ true }
+        ensures still { (f : Found) → result ≡ Round.Still f → IsStillWith N.program self.now f }
+        ensures never { result ≢ Round.Failed }
+    {
+        loaded.skeleton_is_of_the_program();
+        if !changed {
+            return Round::Still(self.found_with(loaded, heavy));
+        }
+        if self.goals.are_asleep(&self.cells) {
+            return Round::Still(self.found_with(loaded, None));
+        }
+        Round::Changed
+    }
+
+    /// What is found of goals for none of which anything is to be done, of which this was seen. Takes no
+    /// memory.
+    fn found_with(&self, loaded: &Loaded, heavy: Option<HeavyCall>) -> Found
+        requires program { N.program ≡ named loaded.now }
+        requires branch { IsBranch N.program self.now }
+        requires live { self.now.is_failed ≡ false }
+        requires past { self.now.right ≡ [] }
+        requires seen { HasHeavy N.program self.now.limit self.now.row self.now.left heavy }
+        ensures { HasFound N.program self.now.limit self.now.row self.now.left result }
+    {
+        loaded.skeleton_is_of_the_program();
+        match heavy {
+            Some(first) => Found::Heavy {
+                goal: first.goal,
+                clause: first.clause,
+            },
+            None => match first_call(loaded, &self.cells, &self.goals) {
+                Some(goal) => Found::Several { goal },
+                None => Found::NoCall,
+            },
+        }
+    }
+
     /// Takes the next goal out. Takes no memory.
     fn drop_next(&mut self)
-        ensures dropped { (g : Goal) (rest : List Goal) → self.old.right ≡ g ∷ rest → self.new ≡ record self.old { right = rest } }
+        ensures dropped { (g : Goal) (rest : List Goal) → self.old.right ≡ g ∷ rest → IsDropped self.old self.new rest }
         ensures few { AreFew self.new }
     {
-        let _dropped = self.right.pop();
+        let _dropped = self.goals.pop();
+        self.goals.are_few();
     }
 
     /// Marks the branch failed. Takes no memory.
@@ -510,31 +550,6 @@ impl<N: Naming> Branch<N> {
     fn goals_are_few(&self)
         ensures { AreFew self.now }
     {
-        let _left = self.left.len();
-        let _right = self.right.len();
-    }
-}
-
-/// What is seen of a goal that is asleep.
-fn seen_asleep(called: bool) -> Seen
-    ensures { result ≡ cond called Seen.Several Seen.Arithmetic }
-{
-    if called {
-        Seen::Several
-    } else {
-        Seen::Arithmetic
-    }
-}
-
-/// What a round came to that went over all goals, and found this of them.
-fn ended(changed: bool, found: Found) -> Round
-    ensures changed { result ≡ Round.Changed → changed ≡ true }
-    ensures still { (f : Found) → result ≡ Round.Still f → (changed ≡ false) × (f ≡ found) }
-    ensures never { result ≢ Round.Failed }
-{
-    if changed {
-        Round::Changed
-    } else {
-        Round::Still(found)
+        self.goals.are_few();
     }
 }

@@ -13,10 +13,10 @@ ghost use Rattle.and_code.specs.Written.{all_written};
 ghost use Rattle.and_branch.specs.Branches.{Held, IsBranch, IsBranchOf, IsOpenGoal, SameKey, view_of};
 
 use crate::goals::push_body;
-use crate::watching::Watches;
 use crate::workspace::Workspace;
 use and_cells::{Naming, PlainCells};
 use and_model::{ClauseNo, Code, Cut, Goal, ReductionList};
+use and_pending::PendingGoals;
 use and_program::Loaded;
 use and_reduction::{Entered, Trail, begin};
 use std::alloc::{AllocError, Global};
@@ -31,25 +31,20 @@ pub struct Branch<N: Naming> {
     pub(crate) limit: u32,
     pub(crate) cells: PlainCells<N>,
     pub(crate) reductions: ReductionList,
-    /// Its goals, calls and arithmetic among each other in preorder: those before the place where it
-    /// is at work,
-    pub(crate) left: Vec<Goal>,
-    /// and those from there on, the next one last.
-    pub(crate) right: Vec<Goal>,
+    /// Its goals, calls and arithmetic among each other in preorder. Those that are watched need not be
+    /// looked at as long as certain cells are free.
+    pub(crate) goals: PendingGoals,
     pub(crate) used: u32,
     pub(crate) is_failed: bool,
-    /// The goals that were watched when the round began, of which those before this place were met,
-    pub(crate) watched: Watches,
-    pub(crate) met: usize,
-    /// and those that are watched since.
-    pub(crate) watches: Watches,
     /// Which words of the row were set since it was as the branch that this one was made of had it, if
     /// that is noted.
     pub(crate) trail: Trail,
 }
 
 impl<N: Naming> Model for Branch<N> {
-    ghost use Rattle.std.specs.Prelude.{reverse, ◌++◌};
+    ghost use Rattle.std.specs.Prelude.{◌++◌};
+    ghost use Rattle.and_pending.specs.Pending.{goals_of};
+    ghost use Rattle.and_branch.specs.Watching.{all_watched};
     ghost use Rattle.and_code.specs.Written.{all_written};
     ghost use Rattle.and_branch.specs.Branches.{Held};
 
@@ -59,12 +54,12 @@ impl<N: Naming> Model for Branch<N> {
       key = branch.key;
       reductions = all_written branch.reductions;
       row = branch.cells;
-      left = branch.left.items;
-      right = reverse branch.right.items;
+      left = goals_of branch.goals.left;
+      right = goals_of branch.goals.right;
       used = branch.used;
       limit = branch.limit;
       is_failed = branch.is_failed;
-      watches = branch.watched ++ branch.watches;
+      watches = all_watched (branch.goals.left ++ branch.goals.right);
       trail = branch.trail;
     } };
 }
@@ -139,13 +134,9 @@ impl<N: Naming> Branch<N> {
             limit: _,
             cells: _,
             reductions: _,
-            left: _,
-            right: _,
+            goals: _,
             used: _,
             is_failed: _,
-            watched: _,
-            met: _,
-            watches: _,
             trail: _,
         } = self;
         key
@@ -184,20 +175,16 @@ fn begun<N: Naming>(
     loaded.skeleton_is_of_the_program();
     let mut cells = PlainCells::with(alloc, 0)?;
     let entered = begin(loaded, &mut cells, &mut workspace.tools)?;
-    let mut right = Vec::new(alloc);
-    push_body(&mut right, loaded, QUERY, 0)?;
+    let mut goals = PendingGoals::new(alloc);
+    push_body(&mut goals, loaded, QUERY, 0)?;
     Ok(Branch {
         key: Code::new(alloc),
         limit,
         cells,
         reductions: ReductionList::new(alloc),
-        left: Vec::new(alloc),
-        right,
+        goals,
         used: loaded.weight(QUERY),
         is_failed: has_failed(entered),
-        watched: Watches::new(alloc),
-        met: 0,
-        watches: Watches::new(alloc),
         trail: Trail::none(alloc),
     })
 }

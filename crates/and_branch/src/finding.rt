@@ -1,19 +1,21 @@
 //! What is found of a branch's calls: how many candidates they have.
 
-ghost use Rattle.std.specs.Prelude.{◌≡◌, ◌≤◌, ◌++◌, ◌∷◌, [], ◌↔◌, List, ℕ, length, All, IsTrue, IfOk, OnOk};
+ghost use Rattle.std.specs.Prelude.{◌≡◌, ◌≤◌, ◌++◌, ◌∷◌, [], ◌↔◌, List, ℕ, length, All, IsTrue, IsNone, IfOk, IfSome, OnOk};
 ghost use Rattle.and_model.specs.declared.goal.Goal.{Goal};
 ghost use Rattle.and_model.specs.declared.limits.TheConstants.{MAX_LIMIT};
 ghost use Rattle.and_cells.specs.Meaning.{IsSettled};
 ghost use Rattle.and_cells.specs.Parts.{named};
 ghost use Rattle.and_cells.specs.Ranges.{IsGoalInRange};
 ghost use Rattle.and_determinacy.specs.Tables.{IsTableOf};
+ghost use Rattle.and_pending.specs.Pending.{goals_of};
 ghost use Rattle.and_branch.specs.Branches.{IsArithmeticGoal};
-ghost use Rattle.and_branch.specs.Finding.{IsSeen, HasFound, with_several, with_one, with_seen};
+ghost use Rattle.and_branch.specs.Finding.{IsSeen, AllCalls, IsFirstCall, HasFound, with_several, with_one, with_passed};
 
 use crate::forking::fits;
 use and_cells::{Naming, PlainCells};
 use and_determinacy::{Determinacy, Judged, Trials, judge};
 use and_model::{ClauseNo, Goal};
+use and_pending::PendingGoals;
 use and_program::{ItemNode, Loaded};
 use std::alloc::AllocError;
 
@@ -45,16 +47,46 @@ pub(crate) enum Seen {
     NotJudged,
 }
 
-/// What is found with one more goal behind, of which this was seen.
-pub(crate) fn with_seen(found: Found, goal: Goal, seen: Seen) -> Found
-    ensures { result ≡ with_seen found goal seen }
+/// A call of one candidate alone, for which there is no room.
+#[derive(Clone, Copy)]
+pub(crate) struct HeavyCall {
+    pub goal: Goal,
+    pub clause: ClauseNo,
+}
+
+/// The first of the calls for whose one candidate there is no room, with one more goal behind, of which this was seen.
+pub(crate) fn with_passed(heavy: Option<HeavyCall>, goal: Goal, seen: Seen) -> Option<HeavyCall>
+    ensures { result ≡ with_passed heavy goal seen }
 {
     match seen {
-        Seen::Arithmetic => found,
-        Seen::Several => with_several(found, goal),
-        Seen::Heavy(clause) => with_one(found, goal, clause, false),
-        Seen::NotJudged => found,
+        Seen::Arithmetic => heavy,
+        Seen::Several => heavy,
+        Seen::Heavy(clause) => match heavy {
+            None => Some(HeavyCall { goal, clause }),
+            Some(first) => Some(first),
+        },
+        Seen::NotJudged => heavy,
     }
+}
+
+/// The first call among the goals before the place of work, if there is one. Takes no memory.
+pub(crate) fn first_call<N: Naming>(
+    loaded: &Loaded,
+    cells: &PlainCells<N>,
+    goals: &PendingGoals,
+) -> Option<Goal>
+    requires program { N.program ≡ named loaded.now }
+    requires in_range { All (IsGoalInRange N.program (length cells.now)) (goals_of goals.now.left) }
+    ensures none { IsNone result → AllCalls N.program (λ g. ⊥) (goals_of goals.now.left) }
+    ensures some { IfSome result (IsFirstCall N.program (goals_of goals.now.left)) }
+{
+    for place in 0..goals.count_before() {
+        let goal = goals.at(place);
+        if !is_arithmetic(loaded, cells, goal) {
+            return Some(goal);
+        }
+    }
+    None
 }
 
 /// What is found with one more call behind, of several candidates.
@@ -163,13 +195,13 @@ fn look<N: Naming>(
     }
 }
 
-/// Looks at all goals, from left to right. The cells are as before, but after an error, which is want
+/// Looks at all goals before the place of work, from left to right. The cells are as before, but after an error, which is want
 /// of memory.
 pub(crate) fn find<N: Naming>(
     table: &Determinacy,
     loaded: &Loaded,
     cells: &mut PlainCells<N>,
-    goals: &[Goal],
+    goals: &PendingGoals,
     limit: u32,
     trials: &mut Trials,
 ) -> Result<Found, AllocError>
@@ -178,13 +210,13 @@ pub(crate) fn find<N: Naming>(
     requires settled { IsSettled N.program cells.old }
     requires room { length cells.old ≤ limit }
     requires limit { limit ≤ MAX_LIMIT }
-    requires seen { All (IsSeen N.program cells.old) goals.now }
+    requires seen { All (IsSeen N.program cells.old) (goals_of goals.now.left) }
     ensures unchanged { OnOk result (cells.new ≡ cells.old) }
-    ensures found { IfOk result (HasFound N.program limit cells.old goals.now) }
+    ensures found { IfOk result (HasFound N.program limit cells.old (goals_of goals.now.left)) }
 {
     let mut found = Found::NoCall;
-    for goal in goals {
-        found = look(table, loaded, cells, *goal, limit, trials, found)?;
+    for place in 0..goals.count_before() {
+        found = look(table, loaded, cells, goals.at(place), limit, trials, found)?;
         if is_stuck(found) {
             return Ok(found);
         }

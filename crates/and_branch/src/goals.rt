@@ -9,23 +9,23 @@ ghost use Rattle.and_program.specs.Loaded.{program_of};
 ghost use Rattle.and_program.specs.Items.{node_item};
 ghost use Rattle.and_branch_laws.specs.Kept.{goal_of, item_at};
 ghost use Rattle.and_branch_laws.specs.Reducing.{goal_at, body_goals};
-ghost use Rattle.and_branch.specs.Next.{is_goal_item, is_call_node};
+ghost use Rattle.and_branch.specs.Next.{is_goal_item, is_call_node, HasPut};
 
 use and_model::{ClauseNo, Goal};
+use and_pending::PendingGoals;
 use and_program::{ItemNode, Loaded};
 use std::alloc::AllocError;
 
-/// Puts the calls and the arithmetic of a clause's body, whose frame begins at the node, on the list,
-/// the first one last. An error is want of memory.
+/// Puts the calls and the arithmetic of a clause's body, whose frame begins at the node, at the place of
+/// work. An error is want of memory.
 pub(crate) fn push_body(
-    goals: &mut Vec<Goal>,
+    goals: &mut PendingGoals,
     loaded: &Loaded,
     clause: ClauseNo,
     node: u32,
 ) -> Result<(), AllocError>
     requires { clause.0 ≤ length (program_of loaded.now).clauses }
-    ensures { OnOk result (reverse goals.new.items
-        ≡ map goal_of (body_goals clause.0 node [] 0 (clause_at (program_of loaded.now) clause.0).body) ++ reverse goals.old.items) }
+    ensures { OnOk result (HasPut (map goal_of (body_goals clause.0 node [] 0 (clause_at (program_of loaded.now) clause.0).body)) goals.old goals.new) }
 {
     let items = loaded.items(clause);
     let mut place = items.len();
@@ -36,17 +36,16 @@ pub(crate) fn push_body(
     Ok(())
 }
 
-/// Puts an item, if it is a call or arithmetic, as a goal on the list. An error is want of memory.
+/// Puts an item, if it is a call or arithmetic, as a goal at the place of work. An error is want of memory.
 fn push_item(
-    goals: &mut Vec<Goal>,
+    goals: &mut PendingGoals,
     item: ItemNode,
     clause: ClauseNo,
     node: u32,
     place: usize,
 ) -> Result<(), AllocError>
-    ensures goal { is_goal_item (node_item item) ≡ true
-        → OnOk result (goals.new.items ≡ goals.old.items ++ goal_of (goal_at clause.0 node [] place) ∷ []) }
-    ensures other { is_goal_item (node_item item) ≡ false → OnOk result (goals.new.items ≡ goals.old.items) }
+    ensures goal { is_goal_item (node_item item) ≡ true → OnOk result (HasPut (goal_of (goal_at clause.0 node [] place) ∷ []) goals.old goals.new) }
+    ensures other { is_goal_item (node_item item) ≡ false → OnOk result (goals.new ≡ goals.old) }
 {
     if is_goal(item) {
         push_goal(goals, clause, node, place)
@@ -68,15 +67,15 @@ fn is_goal(item: ItemNode) -> bool
     }
 }
 
-/// Puts an item as a goal on the list. An error is want of memory. (There is none for a body of 2^32
+/// Puts an item as a goal at the place of work. An error is want of memory. (There is none for a body of 2^32
 /// items.)
 fn push_goal(
-    goals: &mut Vec<Goal>,
+    goals: &mut PendingGoals,
     clause: ClauseNo,
     node: u32,
     place: usize,
 ) -> Result<(), AllocError>
-    ensures { OnOk result (goals.new.items ≡ goals.old.items ++ goal_of (goal_at clause.0 node [] place) ∷ []) }
+    ensures { OnOk result (HasPut (goal_of (goal_at clause.0 node [] place) ∷ []) goals.old goals.new) }
 {
     let Ok(item) = u32::try_from(place) else {
         return Err(AllocError);
@@ -86,8 +85,7 @@ fn push_goal(
         item,
         clause,
         base: node,
-    })?;
-    Ok(())
+    })
 }
 
 /// Whether a goal, which is a call or arithmetic, is a call. Takes no memory.

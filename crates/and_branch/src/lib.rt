@@ -19,7 +19,6 @@ mod sleeping;
 pub mod splitting;
 pub mod state;
 pub mod telling;
-mod watching;
 pub mod workspace;
 
 pub use branch::{Branch, Rooted};

@@ -9,7 +9,7 @@ ghost use Rattle.and_branch.specs.Making.{nothing_noted, noted_from};
 
 use crate::branch::Branch;
 use and_cells::Naming;
-use and_model::{Code, Goal, ReductionList};
+use and_model::{Code, ReductionList};
 use and_reduction::Trail;
 use std::alloc::{AllocError, Global};
 
@@ -47,23 +47,16 @@ impl<N: Naming> Branch<N> {
     {
         let cells = self.cells.copy()?;
         let reductions = self.reductions.copy()?;
-        let left = Vec::from_slice(alloc, &self.left)?;
-        let right = Vec::from_slice(alloc, &self.right)?;
-        let watched = self.watched.copy(alloc)?;
-        let watches = self.watches.copy(alloc)?;
+        let goals = self.goals.copy(alloc)?;
         let trail = Trail::begun(alloc, self.cells.len());
         Ok(Branch {
             key,
             limit: self.limit,
             cells,
             reductions,
-            left,
-            right,
+            goals,
             used: self.used,
             is_failed: self.is_failed,
-            watched,
-            met: self.met,
-            watches,
             trail,
         })
     }
@@ -101,25 +94,12 @@ impl<N: Naming> Branch<N> {
           trail = self.old.trail;
         }) }
     {
-        copy_goals(&mut self.left, &first.left)?;
-        copy_goals(&mut self.right, &first.right)?;
-        self.watched.fill_from(&first.watched)?;
-        self.watches.fill_from(&first.watches)?;
-        self.met = first.met;
+        self.goals.fill_from(&first.goals)?;
         self.used = first.used;
         self.limit = first.limit;
         self.is_failed = first.is_failed;
         Ok(())
     }
-}
-
-/// Makes the one list of goals the same as the other. An error is want of memory.
-fn copy_goals(to: &mut Vec<Goal>, from: &[Goal]) -> Result<(), AllocError>
-    ensures { OnOk result (to.new.items ≡ from.now) }
-{
-    to.clear();
-    to.extend_from_slice(from)?;
-    Ok(())
 }
 
 /// Takes reductions out from the end, until there are so many. Takes no memory.

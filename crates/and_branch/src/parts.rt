@@ -6,9 +6,10 @@ ghost use Rattle.and_branch.specs.Parts.{held_of, frames_of, frame_by};
 ghost use Rattle.and_branch.specs.Next.{IsMoved};
 
 use crate::branch::Branch;
-use crate::watching::Watches;
+use crate::rebuilding::NoRoom;
 use and_cells::{Naming, PlainCells};
 use and_model::{ClauseNo, Code, Goal, Reduction, ReductionList};
+use and_pending::PendingGoals;
 use and_reduction::Trail;
 
 /// What a branch is made of.
@@ -39,45 +40,28 @@ impl<N: Naming> Branch<N> {
         ensures parts { IfOk result (λ parts. IsMoved self (held_of parts)) }
         ensures given_back { IfErr result (λ branch. branch ≡ self) }
     {
+        let Ok(listed) = self.goals.all(self.goals.allocator()) else {
+            return Err(self);
+        };
         let Branch {
             key,
             limit,
             cells,
             reductions,
-            left,
-            right,
+            goals: _,
             used,
             is_failed,
-            watched,
-            met,
-            watches,
-            trail,
+            trail: _,
         } = self;
-        match in_preorder(left, right) {
-            Ok(goals) => Ok(Parts {
-                key,
-                limit,
-                cells,
-                reductions,
-                goals,
-                used,
-                is_failed,
-            }),
-            Err((left, right)) => Err(Branch {
-                key,
-                limit,
-                cells,
-                reductions,
-                left,
-                right,
-                used,
-                is_failed,
-                watched,
-                met,
-                watches,
-                trail,
-            }),
-        }
+        Ok(Parts {
+            key,
+            limit,
+            cells,
+            reductions,
+            goals: listed,
+            used,
+            is_failed,
+        })
     }
 
     /// The frame at a place, counted from 0; `None` behind the last. The query's comes first, and then
@@ -96,9 +80,10 @@ impl<N: Naming> Branch<N> {
 }
 
 impl<N: Naming> Parts<N> {
-    /// The branch of these parts. Takes no memory.
-    pub fn into_branch(self) -> Branch<N>
-        ensures { result ≡ held_of self }
+    /// The branch of these parts. An error is want of memory, and tells the key of the branch that was lost.
+    pub fn into_branch(self) -> Result<Branch<N>, NoRoom>
+        ensures branch { IfOk result (λ branch. branch ≡ held_of self) }
+        ensures no_room { IfErr result (λ refused. refused.key ≡ self.key) }
     {
         let alloc = *self.goals.allocator();
         let Parts {
@@ -110,20 +95,19 @@ impl<N: Naming> Parts<N> {
             used,
             is_failed,
         } = self;
-        Branch {
+        let Ok(goals) = PendingGoals::of(alloc, &goals) else {
+            return Err(NoRoom { key });
+        };
+        Ok(Branch {
             key,
             limit,
             cells,
             reductions,
-            left: goals,
-            right: Vec::new(alloc),
+            goals,
             used,
             is_failed,
-            watched: Watches::new(alloc),
-            met: 0,
-            watches: Watches::new(alloc),
             trail: Trail::none(alloc),
-        }
+        })
     }
 }
 
@@ -141,21 +125,4 @@ fn frame_by(reduction: Reduction) -> Frame
         base: reduction.node,
         clause: reduction.clause,
     }
-}
-
-/// The goals of both stacks in one list, in the order in which they come. An error is want of memory,
-/// and hands both back.
-fn in_preorder(left: Vec<Goal>, right: Vec<Goal>) -> Result<Vec<Goal>, (Vec<Goal>, Vec<Goal>)>
-    ensures goals { IfOk result (λ goals. goals.items ≡ left.items ++ reverse right.items) }
-    ensures given_back { IfErr result (λ back. (back.0.items ≡ left.items) × (back.1.items ≡ right.items)) }
-{
-    let mut goals = left;
-    let mut rest = right;
-    if goals.reserve(rest.len()).is_err() {
-        return Err((goals, rest));
-    }
-    while let Some(goal) = rest.pop() {
-        goals.push_reserved(goal);
-    }
-    Ok(goals)
 }

@@ -19,9 +19,9 @@ ghost use Rattle.and_branch.specs.Rebuilding.{IsWorked, reductions_of, weights_o
 
 use crate::branch::Branch;
 use crate::parts::Parts;
-use crate::watching::Watches;
 use and_cells::{Naming, PlainCells};
 use and_model::{Code, Goal, Reduction, ReductionList};
+use and_pending::PendingGoals;
 use and_program::Loaded;
 use and_reduction::Trail;
 use and_unify::{PairList, Settled as Answer, settle};
@@ -84,19 +84,18 @@ impl<N: Naming> Branch<N> {
         let Ok(used) = add_all(loaded, &mut reductions, &made, used) else {
             return Err(NoRoom { key });
         };
+        let Ok(goals) = PendingGoals::of(alloc, &goals) else {
+            return Err(NoRoom { key });
+        };
         match is_dead(alloc, loaded, &mut cells, &mut pairs, failed) {
             Ok(is_failed) => Ok(Branch {
                 key,
                 limit,
                 cells,
                 reductions,
-                left: goals,
-                right: Vec::new(alloc),
+                goals,
                 used,
                 is_failed,
-                watched: Watches::new(alloc),
-                met: 0,
-                watches: Watches::new(alloc),
                 trail: Trail::none(alloc),
             }),
             Err(_) => Err(NoRoom { key }),

@@ -36,7 +36,7 @@ impl<N: Naming> Branch<N> {
         ensures back { OnOk result (KeepsBack self.old self.new) }
     {
         loaded.skeleton_is_of_the_program();
-        let Some(goal) = self.right.pop() else {
+        let Some(goal) = self.goals.pop() else {
             unreachable!()
         };
         let node = self.used;
@@ -51,10 +51,7 @@ impl<N: Naming> Branch<N> {
             &mut self.trail,
             tools,
         )? {
-            Entered::Solved => {
-                push_body(&mut self.right, loaded, clause, node)?;
-                Ok(())
-            }
+            Entered::Solved => push_body(&mut self.goals, loaded, clause, node),
             Entered::NoSolution => {
                 self.is_failed = true;
                 Ok(())

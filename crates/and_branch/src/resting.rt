@@ -8,7 +8,6 @@ ghost use Rattle.and_branch.specs.Resting.{SameTree, IsRewound, HasDone, HasGone
 
 use crate::branch::Branch;
 use crate::finding::is_arithmetic;
-use crate::seeking::move_all;
 use and_cells::Naming;
 use and_program::Loaded;
 use and_reduction::{Ran, Tools, run};
@@ -32,7 +31,7 @@ impl<N: Naming> Branch<N> {
         ensures same { SameTree self.old self.new }
         ensures rewound { OnOk result (IsRewound self.old self.new) }
     {
-        move_all(&mut self.left, &mut self.right)
+        self.goals.rewind()
     }
 
     /// Passes over the next goal, or runs it if it is arithmetic that is ground. An error is want of
@@ -46,19 +45,22 @@ impl<N: Naming> Branch<N> {
         ensures next { IfOk result (HasDone N.program self.old self.new) }
     {
         loaded.skeleton_is_of_the_program();
-        let Some(goal) = self.right.pop() else {
+        let Some(goal) = self.goals.next() else {
             return Ok(Turn::Over);
         };
         if !is_arithmetic(loaded, &self.cells, goal) {
-            self.left.push(goal)?;
+            self.goals.pass()?;
             return Ok(Turn::Passed);
         }
         match run(loaded, &mut self.cells, goal, &mut self.trail, tools)? {
             Ran::Waits { cell: _ } => {
-                self.left.push(goal)?;
+                self.goals.pass()?;
                 Ok(Turn::Passed)
             }
-            Ran::Done => Ok(Turn::Ran),
+            Ran::Done => {
+                let _goal = self.goals.pop();
+                Ok(Turn::Ran)
+            }
             Ran::False => {
                 self.is_failed = true;
                 Ok(Turn::Failed)

@@ -1,6 +1,6 @@
 //! The place where a branch is at work among its goals.
 
-ghost use Rattle.std.specs.Prelude.{◌≡◌, ◌++◌, ◌∷◌, [], reverse, List, OnOk, IfSome, IsNone, true, false};
+ghost use Rattle.std.specs.Prelude.{◌≡◌, ◌++◌, ◌∷◌, [], List, OnOk, true, false};
 ghost use Rattle.and_model.specs.declared.goal.Goal.{Goal};
 ghost use Rattle.and_branch.specs.Branches.{SameKey};
 ghost use Rattle.and_branch.specs.Next.{IsMoved, IsSameItem, HasItem};
@@ -17,7 +17,7 @@ impl<N: Naming> Branch<N> {
         ensures moved { OnOk result (IsMoved self.old self.new) }
         ensures first { OnOk result (self.new.left ≡ []) }
     {
-        move_all(&mut self.left, &mut self.right)
+        self.goals.rewind()
     }
 
     /// Goes past the next goal. An error is want of memory, and the branch is spent.
@@ -28,11 +28,7 @@ impl<N: Naming> Branch<N> {
         ensures passed { OnOk result ((g : Goal) (rest : List Goal) → self.old.right ≡ g ∷ rest
             → (self.new.right ≡ rest) × (self.new.left ≡ self.old.left ++ g ∷ [])) }
     {
-        let Some(goal) = self.right.pop() else {
-            unreachable!()
-        };
-        self.left.push(goal)?;
-        Ok(())
+        self.goals.pass()
     }
 
     /// Goes to a goal, which is there. An error is want of memory, and the branch is spent.
@@ -42,10 +38,43 @@ impl<N: Naming> Branch<N> {
         ensures moved { OnOk result (IsMoved self.old self.new) }
         ensures found { OnOk result ((g : Goal) × (rest : List Goal) × (self.new.right ≡ g ∷ rest) × IsSameItem g goal) }
     {
-        self.rewind()?;
+        self.pass_all()?;
         while !self.is_next(goal) {
+            self.pass_back()?;
+        }
+        Ok(())
+    }
+
+    /// Goes past all goals. An error is want of memory, and the branch is spent.
+    fn pass_all(&mut self) -> Result<(), AllocError>
+        ensures same { SameKey self.old self.new }
+        ensures moved { OnOk result (IsMoved self.old self.new) }
+        ensures last { OnOk result (self.new.right ≡ []) }
+    {
+        while self.has_next() {
             self.pass()?;
         }
+        Ok(())
+    }
+
+    /// Whether there is a goal at the place of work.
+    fn has_next(&self) -> bool
+        ensures next { result ≡ true → (g : Goal) × (rest : List Goal) × (self.now.right ≡ g ∷ rest) }
+        ensures none { result ≡ false → self.now.right ≡ [] }
+    {
+        self.goals.next().is_some()
+    }
+
+    /// Goes back before the last goal that was passed, which is there. An error is want of memory, and the
+    /// branch is spent.
+    fn pass_back(&mut self) -> Result<(), AllocError>
+        requires { (front : List Goal) × (g : Goal) × (self.old.left ≡ front ++ g ∷ []) }
+        ensures same { SameKey self.old self.new }
+        ensures moved { OnOk result (IsMoved self.old self.new) }
+        ensures passed { OnOk result ((front : List Goal) (g : Goal) → self.old.left ≡ front ++ g ∷ []
+            → (self.new.left ≡ front) × (self.new.right ≡ g ∷ self.old.right)) }
+    {
+        let _is_there = self.goals.go_back()?;
         Ok(())
     }
 
@@ -54,34 +83,9 @@ impl<N: Naming> Branch<N> {
         ensures next { result ≡ true → (g : Goal) × (rest : List Goal) × (self.now.right ≡ g ∷ rest) × IsSameItem g goal }
         ensures another { result ≡ false → (g : Goal) (rest : List Goal) → self.now.right ≡ g ∷ rest → IsSameItem g goal → ⊥ }
     {
-        match last_of(&self.right) {
+        match self.goals.next() {
             Some(next) => next.node == goal.node && next.item == goal.item,
             None => false,
         }
     }
-}
-
-/// The goal that comes next on a stack.
-pub(crate) fn last_of(goals: &Vec<Goal>) -> Option<Goal>
-    ensures none { IsNone result → reverse goals.now.items ≡ [] }
-    ensures some { IfSome result (λ g. (rest : List Goal) × (reverse goals.now.items ≡ g ∷ rest)) }
-{
-    let count = goals.len();
-    if count == 0 {
-        None
-    } else {
-        Some(goals[count - 1])
-    }
-}
-
-/// Moves all goals from the one stack to the other.
-pub(crate) fn move_all(from: &mut Vec<Goal>, to: &mut Vec<Goal>) -> Result<(), AllocError>
-    ensures empty { OnOk result (from.new.items ≡ []) }
-    ensures moved { OnOk result (reverse to.new.items ≡ from.old.items ++ reverse to.old.items) }
-{
-    to.reserve(from.len())?;
-    while let Some(goal) = from.pop() {
-        to.push_reserved(goal);
-    }
-    Ok(())
 }

@@ -134,7 +134,7 @@ impl<N: Naming> Branch<N> {
             table,
             loaded,
             &mut self.cells,
-            &self.left,
+            &self.goals,
             limit,
             &mut workspace.trials,
         )?;
@@ -183,7 +183,7 @@ impl<N: Naming> Branch<N> {
         ensures { (t : QueryTree N.program.program) → IsBranchOf N.program self.now t → IsState N.program self.now t result }
     {
         loaded.skeleton_is_of_the_program();
-        if self.left.is_empty() {
+        if self.goals.count_before() == 0 {
             BranchState::Answer
         } else {
             BranchState::Floundered
@@ -225,7 +225,7 @@ impl<N: Naming> Branch<N> {
             → IsState N.program self.old t s) }
     {
         loaded.skeleton_is_of_the_program();
-        let alloc = *self.left.allocator();
+        let alloc = self.goals.allocator();
         let candidates = &mut workspace.candidates;
         candidates_of_several(
             table,

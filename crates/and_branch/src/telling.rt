@@ -1,6 +1,6 @@
 //! What is told of a branch that has ended: its line and its code.
 
-ghost use Rattle.std.specs.Prelude.{◌≡◌, ◌++◌, ◌∷◌, [], reverse, IfOk, OnOk};
+ghost use Rattle.std.specs.Prelude.{◌≡◌, ◌++◌, ◌∷◌, [], IfOk, OnOk};
 ghost use Rattle.and_model.specs.Trees as trees;
 ghost use Rattle.and_model.specs.Trees.{QueryTree, IsWhole};
 ghost use Rattle.and_cells.specs.Parts.{named};
@@ -24,7 +24,8 @@ impl<N: Naming> Branch<N> {
             → IsLineOf N.program self.now t text) }
     {
         loaded.skeleton_is_of_the_program();
-        let waiting = all_goals(alloc, &self.left, &self.right)?;
+        let goals = self.goals.all(alloc)?;
+        let waiting = list_of(alloc, &goals)?;
         show_line(alloc, loaded, &self.cells, &waiting)
     }
 
@@ -49,32 +50,13 @@ fn put(list: &mut GoalList, goal: Goal) -> Result<(), AllocError>
     }
 }
 
-/// Puts goals at the end. An error is want of memory.
-fn put_all(list: &mut GoalList, goals: &[Goal]) -> Result<(), AllocError>
-    ensures { OnOk result (list.new ≡ list.old ++ goals.now) }
-{
-    for goal in goals {
-        put(list, *goal)?;
-    }
-    Ok(())
-}
-
-/// Puts goals at the end, the last one first. An error is want of memory.
-fn put_reversed(list: &mut GoalList, goals: &[Goal]) -> Result<(), AllocError>
-    ensures { OnOk result (list.new ≡ list.old ++ reverse goals.now) }
-{
-    for place in 0..goals.len() {
-        put(list, goals[goals.len() - 1 - place])?;
-    }
-    Ok(())
-}
-
-/// All goals of a branch, in preorder. An error is want of memory.
-fn all_goals(alloc: Global, left: &[Goal], right: &[Goal]) -> Result<GoalList, AllocError>
-    ensures { IfOk result (λ list. list ≡ left.now ++ reverse right.now) }
+/// A list of these goals. An error is want of memory.
+fn list_of(alloc: Global, goals: &[Goal]) -> Result<GoalList, AllocError>
+    ensures { IfOk result (λ list. list ≡ goals.now) }
 {
     let mut list = GoalList::new(alloc);
-    put_all(&mut list, left)?;
-    put_reversed(&mut list, right)?;
+    for goal in goals {
+        put(&mut list, *goal)?;
+    }
     Ok(list)
 }

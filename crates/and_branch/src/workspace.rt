@@ -12,6 +12,7 @@ pub struct Workspace {
     pub(crate) tools: Tools,
     pub(crate) candidates: ClauseList,
     pub(crate) visits: Vec<Ref>,
+    pub(crate) watched: Vec<u32>,
 }
 
 impl Workspace {
@@ -22,6 +23,7 @@ impl Workspace {
             tools: Tools::new(alloc),
             candidates: ClauseList::new(alloc),
             visits: Vec::new(alloc),
+            watched: Vec::new(alloc),
         }
     }
 }

@@ -7,7 +7,7 @@ use Rattle.and_model.specs.declared.reference.Ref.{Ref}
 use Rattle.and_cells.specs.Meaning.{IsSettled}
 use Rattle.and_cells.specs.Ranges.{NamedProgram}
 use Rattle.and_branch_laws.specs.OwnVariables.{IsLoaded}
-use Rattle.and_branch.specs.Branches.{Held, Lives, IsBranch}
+use Rattle.and_branch.specs.Branches.{Held, Lives, IsBranch, SameKey}
 use Rattle.and_branch.specs.Finding.{IsSeen}
 use Rattle.and_branch.specs.Next.{IsMoved}
 use Rattle.and_branch.specs.Parts.{held_of}
@@ -56,6 +56,15 @@ pub steps_after : {E : Type 0} (P : NamedProgram) (one two : Held) → StepsOn P
     → IfOk r (λ b. StepsOn P one b)
 steps_after P one two x (Ok b) y = steps_then P one two b x y
 steps_after P one two x (Err e) y = tt
+
+-- A branch that is made of parts again stands for what it did.
+pub same_if_equal : {E : Type 0} (h : Held) (r : Result Held E) → IfOk r (λ b. b ≡ h) → IfOk r (λ b. SameKey h b)
+same_if_equal h (Ok b) e = record { key = ap (λ (x : Held). x.key) e; limit = ap (λ (x : Held). x.limit) e }
+same_if_equal h (Err x) e = tt
+
+pub steps_if_equal : {E : Type 0} (P : NamedProgram) (h : Held) (r : Result Held E) → IfOk r (λ b. b ≡ h) → IfOk r (λ b. StepsOn P h b)
+steps_if_equal P h (Ok b) e = let later = later_equal P h b e in later.steps
+steps_if_equal P h (Err x) e = tt
 
 -- ---- A branch that was taken apart and is not failed
 

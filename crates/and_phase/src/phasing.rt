@@ -13,7 +13,7 @@ use crate::pace::{Pace, words_of};
 use crate::sending::reduce_all;
 use crate::sighting::{Sighted, look_over, lost};
 use and_branch::{Branch, NoRoom, Parts, Workspace};
-use and_cells::Naming;
+use and_cells::{LooseCells, Naming};
 use and_determinacy::Determinacy;
 use and_io::Gate;
 use and_program::Loaded;
@@ -47,9 +47,9 @@ pub fn phase<N: Naming + Send + Sync, R: Threads + Sync, G: Gate>(
     if workers < 2 || pace.rests() {
         return Ok(branch);
     }
-    pace.note();
+    pace.note_try();
     match look_over(alloc, loaded, table, branch, gate, workspace)? {
-        Sighted::Two(parts) => shared_out(rt, alloc, loaded, table, parts, workers, gate),
+        Sighted::Two(parts) => shared_out(rt, alloc, loaded, table, parts, workers, pace, gate),
         Sighted::NotTwo(branch) => Ok(branch),
     }
 }
@@ -63,6 +63,7 @@ fn shared_out<N: Naming + Send + Sync, R: Threads + Sync, G: Gate>(
     table: &Determinacy,
     parts: Parts<N>,
     workers: u32,
+    pace: &mut Pace,
     gate: &G,
 ) -> Result<Branch<N>, NoRoom>
     requires program { N.program ≡ named loaded.now }
@@ -74,9 +75,9 @@ fn shared_out<N: Naming + Send + Sync, R: Threads + Sync, G: Gate>(
     ensures steps { IfOk result (λ b. StepsOn N.program (held_of parts) b) }
     ensures no_room { IfErr result (λ refused. refused.key ≡ parts.key) }
 {
-    match reduced(rt, alloc, loaded, table, &parts, workers, gate) {
+    match reduced(rt, alloc, loaded, table, &parts, workers, pace, gate) {
         Ok(Some(joined)) => made_again(alloc, loaded, parts, joined),
-        Ok(None) => Ok(parts.into_branch()),
+        Ok(None) => parts.into_branch(),
         Err(_) => Err(lost(parts)),
     }
 }
@@ -89,6 +90,7 @@ fn reduced<N: Naming + Send + Sync, R: Threads + Sync, G: Gate>(
     table: &Determinacy,
     parts: &Parts<N>,
     workers: u32,
+    pace: &mut Pace,
     gate: &G,
 ) -> Result<Option<Joined>, AllocError>
     requires program { N.program ≡ named loaded.now }
@@ -98,7 +100,7 @@ fn reduced<N: Naming + Send + Sync, R: Threads + Sync, G: Gate>(
     requires workers { (0 < workers) × (workers ≤ 8) }
     ensures { IfOk result (λ r. IfSome r (IsJoined N.program parts.now)) }
 {
-    let words = words_of(parts.used, parts.limit);
+    let words = words_of(parts.used, pace.room(), parts.limit);
     let goals = parts.goals.as_slice();
     let (cells, tolds) = reduce_all(
         rt,
@@ -111,6 +113,7 @@ fn reduced<N: Naming + Send + Sync, R: Threads + Sync, G: Gate>(
         workers,
         gate,
     )?;
+    pace.note_filled(filled(parts.used, &cells));
     let joined = join(
         alloc,
         loaded,
@@ -122,4 +125,12 @@ fn reduced<N: Naming + Send + Sync, R: Threads + Sync, G: Gate>(
         tolds.as_slice(),
     )?;
     Ok(joined)
+}
+
+/// How many words of a row lie behind so many.
+fn filled(opening: u32, cells: &LooseCells) -> u32 {
+    match u32::try_from(cells.len()) {
+        Ok(words) => words.saturating_sub(opening),
+        Err(_) => u32::MAX,
+    }
 }

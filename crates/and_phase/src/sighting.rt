@@ -108,7 +108,7 @@ fn look_at_parts<N: Naming>(
     ensures no_room { IfErr result (λ refused. refused.key ≡ parts.key) }
 {
     if parts.is_failed {
-        return Ok(Sighted::NotTwo(parts.into_branch()));
+        return Ok(Sighted::NotTwo(parts.into_branch()?));
     }
     loaded.skeleton_is_of_the_program();
     let mut parts = parts;
@@ -120,7 +120,7 @@ fn look_at_parts<N: Naming>(
         parts.goals.as_slice(),
     ) {
         Ok(true) => Ok(Sighted::Two(parts)),
-        Ok(false) => Ok(Sighted::NotTwo(parts.into_branch())),
+        Ok(false) => Ok(Sighted::NotTwo(parts.into_branch()?)),
         Err(_) => Err(lost(parts)),
     }
 }

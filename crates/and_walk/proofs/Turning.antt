@@ -1,5 +1,5 @@
 -- What the functions of a walk do to it, as they tell it.
-use Rattle.std.proofs.Common.{ℕ, ◌≡◌, ◌≤◌, Bool, true, false, List, [], ◌∷◌, sym, subst, arith}
+use Rattle.std.proofs.Common.{ℕ, ◌≡◌, ◌∙◌, ◌≤◌, inl, inr, Bool, true, false, List, [], ◌∷◌, sym, subst, arith}
 use Rattle.std.specs.Prelude.{None}
 use Rattle.and_model.specs.Lines.{Bytes}
 use Rattle.and_model.specs.Listing.{Ends}
@@ -10,8 +10,8 @@ use Rattle.and_model.specs.declared.numbers.ClauseNo.{ClauseNo}
 use Rattle.and_cells.specs.Ranges.{NamedProgram}
 use Rattle.and_branch_laws.specs.States.{StateOf, determinate}
 use Rattle.and_branch.specs.Branches.{Held, IsBranchOf, SameKey}
-use Rattle.and_branch.specs.Ended.{IsLineOf}
-use Rattle.and_branch.specs.States.{IsState}
+use Rattle.and_branch.specs.Ended.{IsLineOf, HasEnded}
+use Rattle.and_branch.specs.States.{IsState, IsAtRest}
 use Rattle.and_branch.specs.declared.state.BranchState.{BranchState}
 use Rattle.and_branch.specs.declared.state.BranchState.TheVariants as told
 use Rattle.and_answers.specs.Kept.{listed, outcome_with}
@@ -21,6 +21,37 @@ use Rattle.and_walk.specs.Walking.{Walking, GoesOn, EndsSo, IsAdvanced, turns}
 use Rattle.and_walk.specs.declared.stack.Task.{Task}
 use Rattle.and_walk.specs.declared.stack.Task.TheVariants.{One}
 use Rattle.and_walk.proofs.Going.{query, top_of, stepped, begun, over}
+
+-- ---- Branches that have ended
+
+-- The state is any but a failed one.
+abbrev IsUnfailed : BranchState → Type 0
+IsUnfailed (told.Determinate goal clause) = Unit {0}
+IsUnfailed (told.Fork goal clauses cut) = Unit {0}
+IsUnfailed told.Answer = Unit {0}
+IsUnfailed told.Floundered = Unit {0}
+IsUnfailed told.Failed = ⊥
+IsUnfailed (told.OverLimit cut) = Unit {0}
+
+-- A branch that is told to have floundered has ended.
+pub has_floundered : (P : NamedProgram) (b : Held) (s : BranchState) (t : QueryTree P.program) → IsBranchOf P b t → s ≡ told.Floundered
+    → IsState P b t told.Floundered → IsAtRest P b s → HasEnded P b
+has_floundered P b s t branch is state at_rest = record {
+  tree = t;
+  branch = branch;
+  state = inr state;
+  at_rest = at_rest (λ e. subst (λ x. IsUnfailed x) (sym is ∙ e) tt);
+}
+
+-- So has one that is told to be an answer.
+pub has_answered : (P : NamedProgram) (b : Held) (s : BranchState) (t : QueryTree P.program) → IsBranchOf P b t → s ≡ told.Answer
+    → IsState P b t told.Answer → IsAtRest P b s → HasEnded P b
+has_answered P b s t branch is state at_rest = record {
+  tree = t;
+  branch = branch;
+  state = inl state;
+  at_rest = at_rest (λ e. subst (λ x. IsUnfailed x) (sym is ∙ e) tt);
+}
 
 module _ (P : NamedProgram) where
   -- The line and the code of a branch are those with which its tree ends.

@@ -11,6 +11,6 @@ loop-place-preserved c =
     let next : suc (place - 1) ≡ place = omega arith in record {
       within = omega arith;
       stacked = stacked (skeleton_of c.args.loaded.now).nodes xs c.args.clause.0 c.args.node (place - 1) _ below place next
-          c.loop-place.goals.items c.push_item.new.goals.items _ c.loop-place.invariant.stacked c.in_ok-push_item.ensures.goal
+          c.args.goals.now c.loop-place.goals c.push_item.new.goals c.loop-place.invariant.stacked c.in_ok-push_item.ensures.goal
           c.in_ok-push_item.ensures.other;
     }

@@ -1,13 +1,13 @@
-use Rattle.std.proofs.Common.{◌≡◌, ◌≤◌, ◌++◌, drop, length, reverse}
+use Rattle.std.proofs.Common.{◌≤◌, drop, length}
 use Rattle.and_program.specs.Loaded.{skeleton_of}
+use Rattle.and_branch.specs.Next.{HasPut}
 use Rattle.and_branch.proofs.BodyStacks.{goals_from, body_of}
 use Rattle.and_branch.proofs.goals.push_body.Given as goal
 
 abbrev pub invariant-loop-place : goal.invariant-loop-place
 invariant-loop-place l = record {
   within : l.place ≤ length l.items;
-  stacked : reverse l.goals.items
-      ≡ goals_from l.clause.0 l.node l.place (drop l.place (body_of (skeleton_of l.loaded).nodes l.items)) ++ reverse l.initial.goals.items;
+  stacked : HasPut (goals_from l.clause.0 l.node l.place (drop l.place (body_of (skeleton_of l.loaded).nodes l.items))) l.initial.goals l.goals;
 }
 
 abbrev pub decreases-loop-place : goal.decreases-loop-place

@@ -8,7 +8,7 @@ use Rattle.and_phase.proofs.sighting.look_at_parts.Goals as goal
 
 pub returns-then-parts-clause-sighted : goal.returns-then-parts-clause-sighted
 returns-then-parts-clause-sighted g c =
-    later_equal g.N.Naming.program (held_of c.args.parts) c.into_branch.result c.into_branch.ensures
+    later_equal g.N.Naming.program (held_of c.args.parts) _ c.in_ok-into_branch.ensures.branch
 
 pub are_two-requires-clause-short : goal.are_two-requires-clause-short
 are_two-requires-clause-short g c = is_short g.N.Naming.program c.args.parts c.requires.branch c.if-parts.false
@@ -25,7 +25,6 @@ pub returns-in-Ok-true-clause-sighted : goal.returns-in-Ok-true-clause-sighted
 returns-in-Ok-true-clause-sighted g c =
     (later_parts g.N.Naming.program c.args.parts c.are_two.new.cells c.in-Ok-true.ensures _ refl, c.if-parts.false)
 
-pub returns-in-Ok-false-clause-sighted : goal.returns-in-Ok-false-clause-sighted
-returns-in-Ok-false-clause-sighted g c =
-    later_parts g.N.Naming.program c.args.parts c.are_two.new.cells c.in-Ok-false.ensures c.into_branch-in-Ok-false.result
-    c.into_branch-in-Ok-false.ensures
+pub returns-in_ok-into_branch-in-Ok-false-clause-sighted : goal.returns-in_ok-into_branch-in-Ok-false-clause-sighted
+returns-in_ok-into_branch-in-Ok-false-clause-sighted g c =
+    later_parts g.N.Naming.program c.args.parts c.are_two.new.cells c.in-Ok-false.ensures _ c.in_ok-into_branch-in-Ok-false.ensures.branch

@@ -1,5 +1,5 @@
-use Rattle.std.proofs.Common.{◌≡◌, false, List, sym, subst, All}
-use Rattle.and_model.specs.declared.goal.Goal.{Goal}
+use Rattle.std.proofs.Common.{◌≡◌, false, sym, subst}
+use Rattle.and_pending.specs.Pending.{goals_of}
 use Rattle.and_branch_laws.proofs.Lists.{all_left}
 use Rattle.and_branch.specs.Branches.{Held, IsBranch}
 use Rattle.and_branch.specs.Finding.{IsSeen}
@@ -23,5 +23,4 @@ find-requires-clause-seen g c =
     let loaded = is_loaded P c.args.loaded.now c.requires.program says.skeleton says.own_variables says.few in
     let branch = subst (λ (b : Held). IsBranch P b) (sym c.self.view_is) c.requires.branch in
     let live = subst (λ (b : Held). b.is_failed ≡ false) (sym c.self.view_is) c.requires.live in
-    subst (λ (gs : List Goal). All (IsSeen P c.self.inside.cells) gs) (sym c.deref.ensures.value)
-    (all_left (IsSeen P c.self.inside.cells) c.self.inside.left.items _ (all_seen P loaded _ branch.0 branch.1 live))
+    all_left (IsSeen P c.self.inside.cells) (goals_of c.self.inside.goals.left) _ (all_seen P loaded _ branch.0 branch.1 live)

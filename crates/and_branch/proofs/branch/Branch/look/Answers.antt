@@ -1,5 +1,5 @@
+use Rattle.std.proofs.Common.{refl}
 use Rattle.and_branch.proofs.LookedGoals.{no_steps}
-use Rattle.and_branch.proofs.WatchedGoals.{watching_steps}
 use Rattle.and_branch.proofs.branch.Branch.look.Goals as goal
 
 pub look_at-requires-clause-at : goal.look_at-requires-clause-at
@@ -11,8 +11,7 @@ pub returns-in-Failed-clause-steps : goal.returns-in-Failed-clause-steps
 returns-in-Failed-clause-steps g c = no_steps g.N.Naming.program c.args.self.now
 
 pub returns-in-Nothing-clause-steps : goal.returns-in-Nothing-clause-steps
-returns-in-Nothing-clause-steps g c = watching_steps g.N.Naming.program c.args.self.now c.hand_on.new.self c.hand_on.ensures.watches
+returns-in-Nothing-clause-steps g c = no_steps g.N.Naming.program c.args.self.now
 
 pub returns-in-Nothing-clause-came_to : goal.returns-in-Nothing-clause-came_to
-returns-in-Nothing-clause-came_to g c =
-    let says = c.next_goal.ensures.nothing c.in-Nothing.is in (c.hand_on.ensures.watches, says.1, says.0)
+returns-in-Nothing-clause-came_to g c = let says = c.next_goal.ensures.nothing c.in-Nothing.is in (refl, says.1, says.0)

@@ -1,11 +1,19 @@
-use Rattle.std.proofs.Common.{refl, reverse}
-use Rattle.and_branch.proofs.ArithmeticRuns.{popped}
-use Rattle.and_branch.proofs.KeptOrigins.{noted_nothing}
-use Rattle.and_branch.proofs.PassedGoals.{goal_passed}
+use Rattle.std.proofs.Common.{refl, ◌∙◌, ap}
+use Rattle.and_branch.specs.Branches.{Held}
+use Rattle.and_branch.proofs.PassedGoals.{some_goal, passed_moved, passed_goals}
 use Rattle.and_branch.proofs.branch.Branch.pass.Goals as goal
+
+pub pass-requires : goal.pass-requires
+pass-requires g c =
+    let (h, rest, next) = c.requires.next in
+    some_goal c.self.inside.goals.right h rest (ap (λ (b : Held). b.right) c.self.view_is ∙ next)
 
 pub returns-clause-moved : goal.returns-clause-moved
 returns-clause-moved g c =
-    goal_passed _ c.args.self.now c.self.view_is c.self.inside.cells c.push.new.self.items (reverse c.pop.new.self.items) c.self.inside.trail
-    c.in-Some.goal refl (noted_nothing c.self.inside.trail c.self.inside.cells)
-    (popped c.self.inside.right.items c.pop.new.self.items c.in-Some.goal c.in-Some.ensures.items) c.in_ok-push.ensures.items
+    passed_moved _ c.args.self.now c.self.view_is c.self.inside.goals c.pass.new.self (refl, refl, refl) c.requires.next c.pass.result
+    c.pass.ensures
+
+pub returns-clause-passed : goal.returns-clause-passed
+returns-clause-passed g c =
+    passed_goals _ c.args.self.now c.self.view_is c.self.inside.goals c.pass.new.self (refl, refl, refl) c.requires.next c.pass.result
+    c.pass.ensures

@@ -1,11 +1,11 @@
-use Rattle.std.proofs.Common.{◌+◌, ◌≤◌, refl, ap, sym, ◌∙◌, subst, reverse, Ok}
+use Rattle.std.proofs.Common.{◌+◌, ◌≤◌, refl, ap, sym, ◌∙◌, subst, Ok}
 use Rattle.and_model.specs.declared.limits.TheConstants.{MAX_LIMIT}
 use Rattle.and_cells.specs.Ranges.{NamedProgram}
 use Rattle.and_code.specs.Visiting.{HaveClauses}
 use Rattle.and_code.specs.Written.{all_written}
 use Rattle.and_branch.specs.Rebuilding.{weights_of}
-use Rattle.and_branch.proofs.EntriesKept.{none_watched}
 use Rattle.and_branch.proofs.LoadedPrograms.{is_loaded}
+use Rattle.and_branch.proofs.PassedGoals.{given_left, given_right, given_watched}
 use Rattle.and_branch.proofs.RebuiltBranches.{grown_fits, made_named, rebuilt}
 use Rattle.and_branch.proofs.branch.Branch.rebuild.Goals as goal
 
@@ -31,6 +31,7 @@ returns-in-Ok-is_dead-clause-stands g c = λ t u x.
     let loaded = is_loaded P c.args.loaded.now c.requires.program says.skeleton says.own_variables says.few in
     let used = c.in-Ok.ensures.weight
     ∙ ap (λ (Q : NamedProgram). c.args.work.parts.used + weights_of Q.program (all_written c.args.work.made)) (sym c.requires.program) in
-    rebuilt P c.args.work t u x loaded _ refl refl c.in-Ok.ensures.reductions used refl (ap reverse c.new.ensures.items)
-    (none_watched c.new-in-Ok-is_dead.result c.new-in-Ok-is_dead-2.result c.new-in-Ok-is_dead.ensures c.new-in-Ok-is_dead-2.ensures)
+    let are = c.in-Ok-of.ensures in
+    rebuilt P c.args.work t u x loaded _ refl refl c.in-Ok.ensures.reductions used (given_left c.in-Ok-of.goals _ are ∙ c.deref.ensures.value)
+    (given_right c.in-Ok-of.goals _ are) (given_watched c.in-Ok-of.goals _ are)
     (λ e. c.in-Ok-is_dead.ensures.dead (ap Ok e)) (λ e. c.in-Ok-is_dead.ensures.live (ap Ok e))

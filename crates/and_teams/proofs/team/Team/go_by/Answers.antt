@@ -1,45 +1,10 @@
-use Rattle.std.proofs.Common.{◌≡◌, ◌∙◌, inl, inr, sym, subst}
-use Rattle.and_model.specs.Trees.{QueryTree}
 use Rattle.and_cells.specs.Ranges.{NamedProgram}
-use Rattle.and_branch.specs.Branches.{Held, IsBranchOf}
-use Rattle.and_branch.specs.Ended.{HasEnded}
-use Rattle.and_branch.specs.States.{IsState, IsAtRest}
-use Rattle.and_branch.specs.declared.state.BranchState.{BranchState}
 use Rattle.and_branch.specs.declared.state.BranchState.TheVariants as told
 use Rattle.and_tree.specs.Replies.{is_last}
-use Rattle.and_walk.proofs.Turning.{state_told, not_determinate}
+use Rattle.and_walk.proofs.Turning.{state_told, not_determinate, has_floundered, has_answered}
 use Rattle.and_teams.proofs.Having.{key_there}
 use Rattle.and_teams.proofs.Turns.{failed_works, cut_works}
 use Rattle.and_teams.proofs.team.Team.go_by.Goals as goal
-
--- it is any but a failed one
-abbrev IsUnfailed : BranchState → Type 0
-IsUnfailed (told.Determinate goal clause) = Unit {0}
-IsUnfailed (told.Fork goal clauses cut) = Unit {0}
-IsUnfailed told.Answer = Unit {0}
-IsUnfailed told.Floundered = Unit {0}
-IsUnfailed told.Failed = ⊥
-IsUnfailed (told.OverLimit cut) = Unit {0}
-
--- A branch that is told to have floundered has ended.
-has_floundered : (P : NamedProgram) (b : Held) (s : BranchState) (t : QueryTree P.program) → IsBranchOf P b t → s ≡ told.Floundered
-    → IsState P b t told.Floundered → IsAtRest P b s → HasEnded P b
-has_floundered P b s t branch is state at_rest = record {
-  tree = t;
-  branch = branch;
-  state = inr state;
-  at_rest = at_rest (λ e. subst (λ x. IsUnfailed x) (sym is ∙ e) tt);
-}
-
--- So has one that is told to be an answer.
-has_answered : (P : NamedProgram) (b : Held) (s : BranchState) (t : QueryTree P.program) → IsBranchOf P b t → s ≡ told.Answer
-    → IsState P b t told.Answer → IsAtRest P b s → HasEnded P b
-has_answered P b s t branch is state at_rest = record {
-  tree = t;
-  branch = branch;
-  state = inl state;
-  at_rest = at_rest (λ e. subst (λ x. IsUnfailed x) (sym is ∙ e) tt);
-}
 
 pub unreachable-requires : goal.unreachable-requires
 unreachable-requires g c =

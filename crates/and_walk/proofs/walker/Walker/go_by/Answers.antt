@@ -2,7 +2,7 @@ use Rattle.std.proofs.Common.{reverse}
 use Rattle.and_cells.specs.Ranges.{NamedProgram}
 use Rattle.and_branch.specs.declared.state.BranchState.TheVariants as told
 use Rattle.and_walk.proofs.Going.{failed_off, cut_off}
-use Rattle.and_walk.proofs.Turning.{state_told, not_determinate}
+use Rattle.and_walk.proofs.Turning.{state_told, not_determinate, has_floundered, has_answered}
 use Rattle.and_walk.proofs.walker.Walker.go_by.Goals as goal
 
 pub unreachable-requires : goal.unreachable-requires
@@ -30,6 +30,13 @@ pub tell-requires-in-Floundered-clause-state : goal.tell-requires-in-Floundered-
 tell-requires-in-Floundered-clause-state g c =
     state_told g.N.Naming.program c.args.branch c.args.state told.Floundered c.in-Floundered.is c.requires.state
 
+pub tell-requires-in-Floundered-clause-ended : goal.tell-requires-in-Floundered-clause-ended
+tell-requires-in-Floundered-clause-ended g c =
+    let P : NamedProgram = g.N.Naming.program in
+    let stands = c.requires.advanced in
+    let state = state_told P c.args.branch c.args.state told.Floundered c.in-Floundered.is c.requires.state in
+    has_floundered P c.args.branch c.args.state stands.0 stands.1 c.in-Floundered.is (state stands.0 stands.1) c.requires.at_rest
+
 pub fork-requires-clause-state : goal.fork-requires-clause-state
 fork-requires-clause-state g c =
     state_told g.N.Naming.program c.args.branch c.args.state (told.Fork c.in-Fork.goal c.in-Fork.clauses c.in-Fork.cut) c.in-Fork.is
@@ -38,3 +45,10 @@ fork-requires-clause-state g c =
 pub tell-requires-clause-state : goal.tell-requires-clause-state
 tell-requires-clause-state g c =
     state_told g.N.Naming.program c.args.branch c.args.state told.Answer c.in-Answer.is c.requires.state
+
+pub tell-requires-clause-ended : goal.tell-requires-clause-ended
+tell-requires-clause-ended g c =
+    let P : NamedProgram = g.N.Naming.program in
+    let stands = c.requires.advanced in
+    let state = state_told P c.args.branch c.args.state told.Answer c.in-Answer.is c.requires.state in
+    has_answered P c.args.branch c.args.state stands.0 stands.1 c.in-Answer.is (state stands.0 stands.1) c.requires.at_rest

@@ -1,6 +1,0 @@
-use Rattle.std.proofs.Common.{take}
-use Rattle.and_determinacy.specs.Watching.{AreFree}
-use Rattle.and_branch.proofs.watching.all_free.Given as goal
-
-abbrev pub invariant-loop-cell : goal.invariant-loop-cell
-invariant-loop-cell g l = AreFree l.cells (take l.cell-index l.which)
