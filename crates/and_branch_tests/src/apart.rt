@@ -8,11 +8,11 @@ ghost use Rattle.and_branch.specs.Branches.{IsBranch, IsBranchOf};
 ghost use Rattle.and_branch.specs.Children.{AreChildren};
 ghost use Rattle.and_branch.specs.States.{IsState};
 
-use and_branch::{Branch, BranchList, BranchState, Frame, Parts, Rooted, Workspace};
+use and_branch::{Branch, BranchList, BranchState, Parts, Rooted, Workspace};
 use and_cells::Naming;
 use and_determinacy::{Determinacy, compile};
 use and_io::Quiet;
-use and_model::{ClauseList, ClauseNo, Cut, Goal, Reduction};
+use and_model::{ClauseList, Cut, Goal, ReductionList};
 use and_program::Loaded;
 use and_reader::read_program;
 use std::alloc::{AllocError, Global};
@@ -135,66 +135,86 @@ pub(crate) fn first_child<N: Naming>(
     first_of(rt, alloc, loaded, list, &mut workspace)
 }
 
-/// Looks at the child's frames: those of the query, of `q` and of `p`.
-fn look_at_frames<N: Naming>(rt: &impl Abort, child: &Branch<N>) {
-    let frames = [(0, 0), (6, 3), (7, 1)];
-    for place in 0..frames.len() {
-        let (base, clause) = frames[place];
-        let clause = ClauseNo(clause);
-        assert_eq!(rt; child.frame(place), Some(Frame { base, clause }));
+/// A line of each of the child's frames, and of the place behind them.
+fn frame_lines<N: Naming>(alloc: Global, child: &Branch<N>) -> Result<String, AllocError> {
+    let mut lines = String::new(alloc);
+    for place in 0..4 {
+        let line = match child.frame(place) {
+            Some(frame) => format!(in alloc; "frame {} {}\n", frame.base, frame.clause.0)?,
+            None => format!(in alloc; "no frame\n")?,
+        };
+        lines.push_str(&line)?;
     }
-    assert_eq!(rt; child.frame(3), None);
+    Ok(lines)
 }
 
-/// Looks at the child's parts: `q` and then `p` were reduced, and the sum is left.
-fn look_at_parts<N: Naming>(rt: &impl Abort, parts: &Parts<N>) {
-    assert_eq!(rt; parts.key.len(), 1);
-    assert_eq!(rt; parts.limit, LIMIT);
-    assert_eq!(rt; parts.used, 8);
-    assert_eq!(rt; parts.cells.len(), 8);
-    assert!(rt; !parts.is_failed);
-
-    assert_eq!(rt; parts.reductions.len(), 2);
-    let of_p = Reduction {
-        parent: 0,
-        item: 0,
-        clause: ClauseNo(1),
-        node: 7,
-    };
-    assert_eq!(rt; *parts.reductions.at(1), of_p);
-
-    assert_eq!(rt; parts.goals.len(), 1);
-    let sum = Goal {
-        node: 0,
-        item: 2,
-        clause: ClauseNo(0),
-        base: 0,
-    };
-    assert_eq!(rt; parts.goals[0], sum);
+/// A line of how many things the parts have.
+fn counts_line<N: Naming>(alloc: Global, parts: &Parts<N>) -> Result<String, AllocError> {
+    let key = parts.key.len();
+    let cells = parts.cells.len();
+    format!(in alloc;
+        "key {key} limit {} used {} cells {cells} failed {}\n",
+        parts.limit, parts.used, parts.is_failed
+    )
 }
 
-/// Under a name of its own.
-fn first_child_apart<N: Naming>(
+/// A line of each reduction.
+fn reduction_lines(alloc: Global, reductions: &ReductionList) -> Result<String, AllocError> {
+    let mut lines = String::new(alloc);
+    for place in 0..reductions.len() {
+        let line = format!(in alloc; "{:?}\n", reductions.at(place))?;
+        lines.push_str(&line)?;
+    }
+    Ok(lines)
+}
+
+/// A line of each goal.
+fn goal_lines(alloc: Global, goals: &[Goal]) -> Result<String, AllocError> {
+    let mut lines = String::new(alloc);
+    for goal in goals {
+        let line = format!(in alloc; "{goal:?}\n")?;
+        lines.push_str(&line)?;
+    }
+    Ok(lines)
+}
+
+/// What is told of the first child of the query: its frames, and its parts.
+fn child_apart<N: Naming>(
     rt: &impl Abort,
     alloc: Global,
     loaded: &Loaded,
     table: &Determinacy,
-) -> Result<(), AllocError>
+) -> Result<String, AllocError>
     requires program { N.program ≡ named loaded.now }
     requires table { IsTableOf N.program table.now }
 {
     let child: Branch<N> = first_child(rt, alloc, loaded, table)?;
-    look_at_frames(rt, &child);
+    let mut lines = frame_lines(alloc, &child)?;
     let Ok(parts) = child.parts() else { rt.abort() };
-    look_at_parts(rt, &parts);
-    Ok(())
+    lines.push_str(&counts_line(alloc, &parts)?)?;
+    lines.push_str(&reduction_lines(alloc, &parts.reductions)?)?;
+    lines.push_str(&goal_lines(alloc, &parts.goals)?)?;
+    Ok(lines)
 }
+
+/// The frames of the query, of `q` and of `p`; both were reduced, and the sum is left.
+const CHILD: &str = "\
+frame 0 0
+frame 6 3
+frame 7 1
+no frame
+key 1 limit 100 used 8 cells 8 failed false
+Reduction { parent: 0, item: 1, clause: ClauseNo(3), node: 6 }
+Reduction { parent: 0, item: 0, clause: ClauseNo(1), node: 7 }
+Goal { node: 0, item: 2, clause: ClauseNo(0), base: 0 }
+";
 
 #[test]
 fn a_child_is_taken_apart(rt: HostRuntime) -> Result<(), Fail> {
     let alloc = rt.alloc();
     let loaded = program(&rt, alloc);
     let table = compile(alloc, &loaded)?;
-    first_child_apart::<Brand>(&rt, alloc, &loaded, &table)?;
+    let lines = child_apart::<Brand>(&rt, alloc, &loaded, &table)?;
+    assert_eq!(rt; lines.as_str(), CHILD);
     Ok(())
 }

@@ -211,64 +211,69 @@ impl<R: Wait + Clock + Sync> Gate for Holding<R> {
     }
 }
 
-#[test]
-fn two_teams(rt: HostRuntime) -> Result<(), Fail> {
-    let alloc = rt.alloc();
-    let gate = Holding::new(rt);
-    let words = typed(alloc, "run --teams 2 --workers 1 --stats")?;
-    let text = b"p(1). p(2). r(1,a). r(2,b). ?- p(X), r(X,Y).";
-    let mut source = SureSource::new(Text::of(alloc, text)?, 7);
-    let mut sink = SureSink::new(alloc, 200)?;
-    let ended = andorra(&rt, alloc, &words, &mut source, &mut sink, &gate);
-    let lines = b"X = 1, Y = a\nX = 2, Y = b\n% complete\n% forks 1 failed 0\n".as_slice();
-    assert_eq!(rt; ended, Status::Answers);
-    assert_eq!(rt; sink.held(), lines);
-    assert!(rt; gate.told.lock(&rt).is_shared);
-    Ok(())
+/// What a run came to whose first reduction was held, what was written for it, and what had been announced meanwhile.
+#[derive(Drop)]
+struct HeldRun {
+    status: Status,
+    written: Text,
+    is_joined: bool,
+    is_shared: bool,
 }
 
-/// With the words of the line, the text is answered with these bytes and this status, and a second reduction is
-/// announced while the first one is held.
-fn is_joined<R: Threads + Wait + Clock + Sync>(
+/// The run of a text with the words of the line, whose first reduction is held.
+fn held_run<R: Threads + Wait + Clock + Sync>(
     rt: &R,
     alloc: Global,
     line: &str,
     text: &[u8],
-    written: &[u8],
-    status: Status,
-) -> Result<bool, AllocError> {
+) -> Result<HeldRun, AllocError> {
     let gate = Holding::new(rt);
     let words = typed(alloc, line)?;
     let mut source = SureSource::new(Text::of(alloc, text)?, 7);
     let mut sink = SureSink::new(alloc, 200)?;
-    let ended = andorra(rt, alloc, &words, &mut source, &mut sink, &gate);
+    let status = andorra(rt, alloc, &words, &mut source, &mut sink, &gate);
     let is_joined = gate.told.lock(rt).is_joined;
-    Ok(ended == status && sink.held() == written && is_joined)
+    let is_shared = gate.told.lock(rt).is_shared;
+    Ok(HeldRun {
+        status,
+        written: Text::of(alloc, sink.held())?,
+        is_joined,
+        is_shared,
+    })
+}
+
+#[test]
+fn two_teams(rt: HostRuntime) -> Result<(), Fail> {
+    let line = "run --teams 2 --workers 1 --stats";
+    let text = b"p(1). p(2). r(1,a). r(2,b). ?- p(X), r(X,Y).";
+    let run = held_run(&rt, rt.alloc(), line, text)?;
+    let lines = b"X = 1, Y = a\nX = 2, Y = b\n% complete\n% forks 1 failed 0\n".as_slice();
+    assert_eq!(rt; run.status, Status::Answers);
+    assert_eq!(rt; run.written.bytes(), lines);
+    assert!(rt; run.is_shared);
+    Ok(())
 }
 
 #[test]
 fn two_workers(rt: HostRuntime) -> Result<(), Fail> {
-    let line = "run --teams 1 --workers 2";
     let text = b"a(1). b(2). ?- a(X), b(Y).";
-    let written = b"X = 1, Y = 2\n% complete\n";
-    assert!(rt; is_joined(&rt, rt.alloc(), line, text, written, Status::Answers)?);
+    let run = held_run(&rt, rt.alloc(), "run --teams 1 --workers 2", text)?;
+    assert_eq!(rt; run.status, Status::Answers);
+    assert_eq!(rt;
+        run.written.bytes(),
+        b"X = 1, Y = 2\n% complete\n".as_slice()
+    );
+    assert!(rt; run.is_joined);
     Ok(())
 }
 
 #[test]
 fn racing_circle(rt: HostRuntime) -> Result<(), Fail> {
-    let line = "run --teams 1 --workers 2";
     let text = b"a(X,Y) :- X = f(Y). b(X,Y) :- Y = f(X). ?- a(X,Y), b(X,Y).";
-    assert!(rt;
-        is_joined(
-            &rt,
-            rt.alloc(),
-            line,
-            text,
-            b"% complete\n",
-            Status::NoAnswer
-        )?
-    );
+    let run = held_run(&rt, rt.alloc(), "run --teams 1 --workers 2", text)?;
+    assert_eq!(rt; run.status, Status::NoAnswer);
+    assert_eq!(rt; run.written.bytes(), b"% complete\n".as_slice());
+    assert!(rt; run.is_joined);
     Ok(())
 }
 
@@ -304,19 +309,64 @@ fn long_loop(rt: HostRuntime) -> Result<(), Fail> {
     Ok(())
 }
 
+/// Row `append-splits`: its text, and what is written for it.
+const SPLITS: &[u8] = b"app([],L,L). app([H|T],L,[H|R]) :- app(T,L,R). ?- app(X,Y,[1,2]).";
+
+const SPLITS_WRITTEN: &[u8] =
+    b"X = [], Y = [1,2]\nX = [1], Y = [2]\nX = [1,2], Y = []\n% complete\n";
+
+/// A source of these bytes, ten at a time, that fails in a call; in none where that is 0.
+fn failing_source(alloc: Global, bytes: &[u8], call: u64) -> Result<MemorySource, AllocError>
+    requires { call < 100 }
+{
+    let mut fails = CallList::new(alloc);
+    if fails.push(call).is_err() {
+        return Err(AllocError);
+    }
+    Ok(MemorySource::new(Text::of(alloc, bytes)?, 10, fails))
+}
+
+/// What a run came to, how often its source and its sink were called, and what the sink holds.
+#[derive(Drop)]
+struct Run {
+    status: Status,
+    reads: u64,
+    writes: u64,
+    held: Text,
+}
+
+/// The run with the words of the line, of a text whose reading fails in a call, and with so much room for what is written.
+fn run_of<R: Threads + Wait + Sync>(
+    rt: &R,
+    alloc: Global,
+    line: &str,
+    text: &[u8],
+    call: u64,
+    room: usize,
+) -> Result<Run, AllocError>
+    requires { call < 100 }
+{
+    let words = typed(alloc, line)?;
+    let mut source = failing_source(alloc, text, call)?;
+    let mut sink = MemorySink::new(alloc, room)?;
+    let status = andorra(rt, alloc, &words, &mut source, &mut sink, &Quiet);
+    Ok(Run {
+        status,
+        reads: source.calls(),
+        writes: sink.calls(),
+        held: Text::of(alloc, sink.held())?,
+    })
+}
+
 #[test]
 fn deep_term(rt: HostRuntime) -> Result<(), Fail> {
-    let alloc = rt.alloc();
-    let words = typed(alloc, "run --stats")?;
     let text = b"n(0,z). n(K,s(T)) :- K > 0, J is K-1, n(J,T). ?- n(20000,X).";
-    let mut source = SureSource::new(Text::of(alloc, text)?, 7);
-    let mut sink = SureSink::new(alloc, 70_000)?;
-    let ended = andorra(&rt, alloc, &words, &mut source, &mut sink, &Quiet);
-    assert_eq!(rt; ended, Status::Answers);
+    let run = run_of(&rt, rt.alloc(), "run --stats", text, 0, 70_000)?;
     let last = b"\n% complete\n% forks 0 failed 0\n".as_slice();
-    assert_eq!(rt; sink.held().len(), 60_005 + last.len());
-    assert!(rt; sink.held().starts_with(b"X = s(s(s("));
-    assert!(rt; sink.held().ends_with(last));
+    assert_eq!(rt; run.status, Status::Answers);
+    assert_eq!(rt; run.held.len(), 60_005 + last.len());
+    assert!(rt; run.held.bytes().starts_with(b"X = s(s(s("));
+    assert!(rt; run.held.bytes().ends_with(last));
     Ok(())
 }
 
@@ -355,98 +405,59 @@ fn usage(rt: HostRuntime) -> Result<(), Fail> {
         "demo 65",
     ];
     for line in lines {
-        let words = typed(alloc, line)?;
-        let mut source = failing_source(alloc, b"p(a). ?- p(X).", 0)?;
-        let mut sink = SureSink::new(alloc, 200)?;
-        let ended = andorra(&rt, alloc, &words, &mut source, &mut sink, &Quiet);
-        assert_eq!(rt; ended, Status::Usage, "at {line}");
-        assert_eq!(rt; sink.held(), USAGE);
-        assert_eq!(rt; source.calls(), 0);
+        let run = run_of(&rt, alloc, line, b"p(a). ?- p(X).", 0, 200)?;
+        assert_eq!(rt; run.status, Status::Usage, "at {line}");
+        assert_eq!(rt; run.held.bytes(), USAGE);
+        assert_eq!(rt; run.reads, 0);
     }
     Ok(())
-}
-
-/// Row `append-splits`: its text, and what is written for it.
-const SPLITS: &[u8] = b"app([],L,L). app([H|T],L,[H|R]) :- app(T,L,R). ?- app(X,Y,[1,2]).";
-
-const SPLITS_WRITTEN: &[u8] =
-    b"X = [], Y = [1,2]\nX = [1], Y = [2]\nX = [1,2], Y = []\n% complete\n";
-
-/// A source of these bytes, ten at a time, that fails in a call; in none where that is 0.
-fn failing_source(alloc: Global, bytes: &[u8], call: u64) -> Result<MemorySource, AllocError>
-    requires { call < 100 }
-{
-    let mut fails = CallList::new(alloc);
-    if fails.push(call).is_err() {
-        return Err(AllocError);
-    }
-    Ok(MemorySource::new(Text::of(alloc, bytes)?, 10, fails))
 }
 
 #[test]
 fn failing_reads(rt: HostRuntime) -> Result<(), Fail> {
     let alloc = rt.alloc();
-    let words = typed(alloc, "run")?;
     for call in 1..=8 {
-        let mut source = failing_source(alloc, SPLITS, call)?;
-        let mut sink = MemorySink::new(alloc, 200)?;
-        let ended = andorra(&rt, alloc, &words, &mut source, &mut sink, &Quiet);
-        assert_eq!(rt; ended, Status::ReadFault, "at {call}");
-        assert_eq!(rt; source.calls(), call);
-        assert!(rt; sink.held().is_empty());
-        assert_eq!(rt; sink.calls(), 0);
+        let run = run_of(&rt, alloc, "run", SPLITS, call, 200)?;
+        assert_eq!(rt; run.status, Status::ReadFault, "at {call}");
+        assert_eq!(rt; run.reads, call);
+        assert_eq!(rt; run.held.len(), 0);
+        assert_eq!(rt; run.writes, 0);
     }
-    let mut source = failing_source(alloc, SPLITS, 9)?;
-    let mut sink = MemorySink::new(alloc, 200)?;
-    let ended = andorra(&rt, alloc, &words, &mut source, &mut sink, &Quiet);
-    assert_eq!(rt; ended, Status::Answers);
-    assert_eq!(rt; source.calls(), 8);
-    assert_eq!(rt; sink.held(), SPLITS_WRITTEN);
+    Ok(())
+}
+
+#[test]
+fn a_text_is_read_to_its_end(rt: HostRuntime) -> Result<(), Fail> {
+    let run = run_of(&rt, rt.alloc(), "run", SPLITS, 9, 200)?;
+    assert_eq!(rt; run.status, Status::Answers);
+    assert_eq!(rt; run.reads, 8);
+    assert_eq!(rt; run.held.bytes(), SPLITS_WRITTEN);
     Ok(())
 }
 
 #[test]
 fn small_sinks(rt: HostRuntime) -> Result<(), Fail> {
     let alloc = rt.alloc();
-    let words = typed(alloc, "run")?;
     for room in 0..SPLITS_WRITTEN.len() {
-        let mut source = SureSource::new(Text::of(alloc, SPLITS)?, 7);
-        let mut sink = MemorySink::new(alloc, room)?;
-        let ended = andorra(&rt, alloc, &words, &mut source, &mut sink, &Quiet);
-        assert_eq!(rt; ended, Status::WriteFault, "at {room}");
-        assert_eq!(rt; sink.held(), &SPLITS_WRITTEN[..room]);
-        assert_eq!(rt; sink.calls(), if room == 0 { 1 } else { 2 });
+        let run = run_of(&rt, alloc, "run", SPLITS, 0, room)?;
+        assert_eq!(rt; run.status, Status::WriteFault, "at {room}");
+        assert_eq!(rt; run.held.bytes(), &SPLITS_WRITTEN[..room]);
+        assert_eq!(rt; run.writes, if room == 0 { 1 } else { 2 });
     }
     Ok(())
 }
 
-/// With the words of the line and a sink with so much room, writing fails, and these bytes are held.
-fn is_cut_short<R: Threads + Wait + Sync>(
-    rt: &R,
-    alloc: Global,
-    line: &str,
-    room: usize,
-    held: &[u8],
-) -> Result<bool, AllocError> {
-    let words = typed(alloc, line)?;
-    let mut source = SureSource::new(Text::of(alloc, SPLITS)?, 7);
-    let mut sink = MemorySink::new(alloc, room)?;
-    let ended = andorra(rt, alloc, &words, &mut source, &mut sink, &Quiet);
-    Ok(ended == Status::WriteFault && sink.held() == held)
-}
-
 #[test]
 fn failed_io(rt: HostRuntime) -> Result<(), Fail> {
-    let alloc = rt.alloc();
-    let words = typed(alloc, "run")?;
-    let mut source = failing_source(alloc, SPLITS, 2)?;
-    let mut sink = MemorySink::new(alloc, 200)?;
-    let ended = andorra(&rt, alloc, &words, &mut source, &mut sink, &Quiet);
-    assert_eq!(rt; ended, Status::ReadFault);
-    assert!(rt; sink.held().is_empty());
-    assert!(rt; is_cut_short(&rt, alloc, "run", 5, b"X = [")?);
-    assert!(rt; is_cut_short(&rt, alloc, "check", 3, b"saf")?);
-    assert!(rt; is_cut_short(&rt, alloc, "go", 5, b"usage")?);
+    for (line, room, held) in [
+        ("run", 5, b"X = [".as_slice()),
+        ("check", 3, b"saf"),
+        ("go", 5, b"usage"),
+    ] {
+        let run = run_of(&rt, rt.alloc(), line, SPLITS, 0, room)?;
+        assert_eq!(rt; run.status, Status::WriteFault, "at {line}");
+        assert_eq!(rt; run.held.bytes(), held);
+    }
     Ok(())
 }
 
@@ -510,11 +521,8 @@ fn shows<R: Threads + Wait + Sync>(
     line: &str,
     written: &[u8],
 ) -> Result<bool, AllocError> {
-    let words = typed(alloc, line)?;
-    let mut source = failing_source(alloc, SPLITS, 1)?;
-    let mut sink = SureSink::new(alloc, 200)?;
-    let ended = andorra(rt, alloc, &words, &mut source, &mut sink, &Quiet);
-    Ok(ended == Status::Answers && sink.held() == written && source.calls() == 0)
+    let run = run_of(rt, alloc, line, SPLITS, 1, 200)?;
+    Ok(run.status == Status::Answers && run.held.bytes() == written && run.reads == 0)
 }
 
 #[test]
@@ -531,17 +539,11 @@ fn demo_small(rt: HostRuntime) -> Result<(), Fail> {
 
 #[test]
 fn demo_64(rt: HostRuntime) -> Result<(), Fail> {
-    let alloc = rt.alloc();
-    let words = typed(alloc, "demo 64")?;
-    let mut source = failing_source(alloc, SPLITS, 1)?;
-    let mut sink = SureSink::new(alloc, 2000)?;
-    let ended = andorra(&rt, alloc, &words, &mut source, &mut sink, &Quiet);
-    assert_eq!(rt; ended, Status::Answers);
-    assert!(rt;
-        sink.held()
-            .starts_with(b"lines 2145\nfirst P = [n(0,0),n(0,1),")
-    );
-    assert!(rt; sink.held().ends_with(b",n(2,64)]\n% complete\n"));
-    assert_eq!(rt; source.calls(), 0);
+    let run = run_of(&rt, rt.alloc(), "demo 64", SPLITS, 1, 2000)?;
+    assert_eq!(rt; run.status, Status::Answers);
+    let front = b"lines 2145\nfirst P = [n(0,0),n(0,1),";
+    assert!(rt; run.held.bytes().starts_with(front));
+    assert!(rt; run.held.bytes().ends_with(b",n(2,64)]\n% complete\n"));
+    assert_eq!(rt; run.reads, 0);
     Ok(())
 }
