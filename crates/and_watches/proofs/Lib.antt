@@ -1,7 +1,0 @@
-mod Changes
-mod Linking
-mod Placing
-mod Sleeping
-mod Tables
-mod Waking
-mod Widening
