@@ -8,4 +8,5 @@ pub mod Paths
 pub mod Walking
 pub mod Opening
 pub mod Turning
+pub mod Resting
 pub mod Sufficing

@@ -12,6 +12,7 @@ use Rattle.and_cells.specs.Meaning.{IsCircle, Holds}
 use Rattle.and_cells.specs.Parts.{parts_of}
 use Rattle.and_cells.specs.Ends.{Ends}
 use Rattle.and_circles.specs.Marked.{Listed, mark_at, unmarked}
+use Rattle.and_circles.specs.Explored.{AreFinished, finished}
 use Rattle.and_circles.specs.declared.marks.Mark.TheVariants.{Open, Done}
 use Rattle.and_circles.specs.declared.explorer.Explored.{Explored}
 use Rattle.and_circles.specs.declared.explorer.Explored.TheVariants as explored
@@ -84,6 +85,13 @@ IsTaking P row root visit w = Walks P row w.floor w.halves root w.marks (visit �
 -- no cell is open, and nothing is to be visited
 abbrev pub IsAtRest : Walk → Type 0
 IsAtRest w = ((cell : ℕ) → mark_at w.marks cell ≡ Some Open → ⊥) × (w.visits.items ≡ [])
+
+-- What holds between walks of a sound row: what was walked ends, nothing is still to be visited, and each cell has its place among the marks.
+pub record IsRested (P : NamedProgram) (row : List Ref) (w : Walk) : Type 0 where
+  pub sound : IsSound P row
+  pub room : length row ≤ length w.marks
+  pub finished : AreFinished P row (finished w.marks w.structures w.floor w.halves)
+  pub rest : IsAtRest w
 
 -- each path from the structures that are kept ends
 abbrev pub AreEnded : NamedProgram → List Ref → Walk → Type 0

@@ -5,6 +5,7 @@ pub mod circles;
 pub mod explorer;
 pub mod following;
 mod marks;
+mod passing;
 mod structures;
 mod walk;
 

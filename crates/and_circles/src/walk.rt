@@ -9,7 +9,7 @@ ghost use Rattle.and_cells.specs.Parts.{named, parts_of};
 ghost use Rattle.and_cells.specs.Ends.{Ends, IsBelow};
 ghost use Rattle.and_circles.specs.Marked.{mark_at, AreUnmarked};
 ghost use Rattle.and_circles.specs.Explored.{AreFinished, finished};
-ghost use Rattle.and_circles.specs.Walks.{nearest_cell, Opens, IsTaking, IsAtRest, AreEnded, Goes, Stays, Answers};
+ghost use Rattle.and_circles.specs.Walks.{nearest_cell, Opens, IsTaking, IsAtRest, IsRested, AreEnded, Goes, Stays, Answers};
 ghost use Rattle.and_circles.specs.declared.walk.Visit.{Visit};
 ghost use Rattle.and_circles.specs.declared.explorer.Explored.{Explored};
 ghost use Rattle.and_circles.specs.declared.marks.Mark.{Mark};
@@ -94,10 +94,33 @@ impl Walk {
             × Ends N.program cells.now self.old.floor self.old.halves root }
         ensures answer { Answers N.program cells.now self.old.halves root result }
     {
-        // Arguments come before their nodes, and the row is sound: the proof needs both.
-        loaded.skeleton_is_of_the_program();
         self.marks.make_room(cells.len() as usize)?;
         self.structures.make_slots(cells.len() as usize)?;
+        if self.passes(cells, root) {
+            return Ok(Explored::Ends);
+        }
+        self.descend(loaded, cells, root)
+    }
+
+    /// The same, once there is room.
+    fn descend<N: Naming>(
+        &mut self,
+        loaded: &Loaded,
+        cells: &PlainCells<N>,
+        root: Ref,
+    ) -> Result<Explored, AllocError>
+        requires program { N.program ≡ named loaded.now }
+        requires rested { IsRested N.program cells.now self.old }
+        requires in_range { IsInRange N.program (length cells.now) root }
+        ensures stays { Stays self.old self.new }
+        ensures ends { result ≡ Ok Explored.Ends
+            → AreFinished N.program cells.now (finished self.new.marks self.new.structures self.old.floor self.old.halves)
+            × IsAtRest self.new
+            × Ends N.program cells.now self.old.floor self.old.halves root }
+        ensures answer { Answers N.program cells.now self.old.halves root result }
+    {
+        // Arguments come before their nodes: the proof needs it.
+        loaded.skeleton_is_of_the_program();
         self.visits.push(Visit::Enter(root))?;
         while let Some(visit) = self.visits.pop() {
             let found = self.turn(loaded, cells, visit)?;
