@@ -1,7 +1,6 @@
 pub mod Placing
 pub mod Turning
 pub mod Cells
-pub mod Scripted
 pub mod Rows
 pub mod FewKept
 pub mod Going

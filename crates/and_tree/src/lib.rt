@@ -19,8 +19,6 @@ mod plays;
 mod replies;
 mod rule;
 mod steps;
-#[cfg(test)]
-mod tests;
 mod tree;
 mod view;
 mod words;

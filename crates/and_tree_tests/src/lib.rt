@@ -6,4 +6,6 @@ mod calls;
 #[cfg(test)]
 mod leaves;
 #[cfg(test)]
+mod plain;
+#[cfg(test)]
 mod races;

@@ -1,8 +1,8 @@
 use Rattle.std.proofs.Common.{arith, ap, ◌∙◌}
 use Rattle.std.proofs.lemmas.List.{length-replicate}
 use Rattle.and_tree.specs.Plain.{Plain}
-use Rattle.and_tree.proofs.Scripted.{left_and_looked, opened_stage, team_on, cell_on, root_taken, root_claimed}
-use Rattle.and_tree.proofs.tests.with_claimed_root.Goals as goal
+use Rattle.and_tree_tests.proofs.Scripted.{left_and_looked, opened_stage, team_on, cell_on, root_taken, root_claimed}
+use Rattle.and_tree_tests.proofs.plain.with_claimed_root.Goals as goal
 
 pub claim-requires : goal.claim-requires
 claim-requires g c =

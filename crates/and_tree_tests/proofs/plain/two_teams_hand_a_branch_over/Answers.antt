@@ -1,6 +1,6 @@
 use Rattle.std.proofs.Common.{[], ◌∷◌, refl, arith}
-use Rattle.and_tree.proofs.Scripted.{Stage, turned, taken_over, team_on, cell_on, held_on, at_first}
-use Rattle.and_tree.proofs.tests.two_teams_hand_a_branch_over.Goals as goal
+use Rattle.and_tree_tests.proofs.Scripted.{Stage, turned, taken_over, team_on, cell_on, held_on, at_first}
+use Rattle.and_tree_tests.proofs.plain.two_teams_hand_a_branch_over.Goals as goal
 
 pub claim-requires : goal.claim-requires
 claim-requires g c =

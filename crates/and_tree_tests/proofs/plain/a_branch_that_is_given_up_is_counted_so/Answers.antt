@@ -1,6 +1,6 @@
 use Rattle.std.proofs.Common.{[], ◌∷◌, arith}
-use Rattle.and_tree.proofs.Scripted.{Stage, turned, team_on, held_on, at_first}
-use Rattle.and_tree.proofs.tests.a_branch_that_is_given_up_is_counted_so.Goals as goal
+use Rattle.and_tree_tests.proofs.Scripted.{Stage, turned, team_on, held_on, at_first}
+use Rattle.and_tree_tests.proofs.plain.a_branch_that_is_given_up_is_counted_so.Goals as goal
 
 pub give_up-requires : goal.give_up-requires
 give_up-requires g c =

@@ -1,30 +1,15 @@
-//! The tree, called directly.
+//! Calls on the tree of one thread, as worked examples.
 
 ghost use Rattle.std.specs.Prelude.{◌≡◌, ◌<◌, ◌≤◌, ◌*◌, [], ◌∷◌, length, IfOk};
 ghost use Rattle.and_model.specs.Codes.{numbers_of};
 ghost use Rattle.and_histories.specs.PlainTree.{joined, opening};
 
-use crate::{CellSeen, Claimed, Forking, Keyed, Last, PlainTree, Published};
+use crate::leaves::Leaf;
 use and_model::{ClauseList, ClauseNo, Code};
+use and_tree::{CellSeen, Claimed, Forking, Last, PlainTree, Published};
 use std::alloc::{AllocError, Global};
 use std::process::Abort;
 use std::test::Fail;
-
-/// A branch that is nothing but its key.
-#[derive(Drop)]
-struct Leaf {
-    key: Code,
-}
-
-impl Keyed for Leaf {
-    ghost key_of = { λ leaf. leaf.key };
-
-    ghost Stands = { λ limit leaf. Unit {0} };
-
-    fn key(&self) -> &Code {
-        &self.key
-    }
-}
 
 /// A fork that is nothing but its keys.
 #[derive(Drop)]
