@@ -29,5 +29,6 @@ pub mod RebuiltBranches
 pub mod FramesRead
 pub mod GrownRows
 pub mod WatchedGoals
+pub mod WaysGone
 pub mod PassedGoals
 pub mod WatchedLists

@@ -39,20 +39,20 @@ pub record RoundStands (P : NamedProgram) (start now : Held) (changed : Bool) (b
 
 -- ---- Progress
 
-same_count : (old new : Held) → IsAlike old new → goal_count new ≡ goal_count old
+pub same_count : (old new : Held) → IsAlike old new → goal_count new ≡ goal_count old
 same_count old new m =
     let e = ap (λ (l : List Goal). length l) m.goals in
     let one = length-append new.left new.right in
     let other = length-append old.left old.right in
     omega arith
 
-then_alike : (one two three : Held) → HasProgressed one two → IsAlike two three → HasProgressed one three
+pub then_alike : (one two three : Held) → HasProgressed one two → IsAlike two three → HasProgressed one three
 then_alike one two three (few, how) m =
     let e = same_count two three m in
     let used = m.used in
     (omega arith, elim how [ inl grew ↦ inl (omega arith) | inr less ↦ let a = less.0 in let b = less.1 in inr (used ∙ a, omega arith) ])
 
-alike_then : (one two three : Held) → IsAlike one two → HasProgressed two three → HasProgressed one three
+pub alike_then : (one two three : Held) → IsAlike one two → HasProgressed two three → HasProgressed one three
 alike_then one two three m (few, how) =
     let e = same_count one two m in
     let used = m.used in
@@ -79,7 +79,7 @@ alike_twice one two three m n = record {
   goals = n.goals ∙ m.goals;
 }
 
-moved_alike : (old new : Held) → IsMoved old new → IsAlike old new
+pub moved_alike : (old new : Held) → IsMoved old new → IsAlike old new
 moved_alike old new m = record { limit = m.limit; row = m.row; used = m.used; failed = m.is_failed; goals = m.goals }
 
 -- ---- A round

@@ -12,3 +12,4 @@ pub mod Parts
 pub mod Rebuilding
 pub mod Rounds
 pub mod Watching
+pub mod Ways

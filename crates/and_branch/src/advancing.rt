@@ -23,8 +23,9 @@ ghost use Rattle.and_branch.specs.Rounds.{StepsOn, AreFew, IsAtMost, IsStill, Le
 ghost use Rattle.and_branch.specs.declared.finding.Found.{Found};
 
 use crate::branch::Branch;
-use crate::finding::{Found, HeavyCall, Seen, first_call, with_passed};
+use crate::finding::{Found, HeavyCall, Seen, first_call};
 use crate::goals::is_call;
+use crate::ways::{Way, turns_back};
 use crate::workspace::Workspace;
 use and_cells::Naming;
 use and_determinacy::{Determinacy, Judged, Narrowed, judge, narrow};
@@ -158,8 +159,8 @@ impl<N: Naming> Branch<N> {
         }
     }
 
-    /// One round over the goals, from the first one on. It takes at most so many reductions. An error
-    /// is want of memory, and the branch is spent.
+    /// One round over the goals, from the first one on, and then, where it has changed something and has not come to rest, from the last
+    /// one back. It takes at most so many reductions. An error is want of memory, and the branch is spent.
     fn go_round<G: Gate>(
         &mut self,
         loaded: &Loaded,
@@ -179,14 +180,25 @@ impl<N: Naming> Branch<N> {
         loaded.skeleton_is_of_the_program();
         self.rewind()?;
         self.clear_out();
+        let mut way = Way::Onward;
         let mut budget = most;
         let mut changed = false;
         let mut heavy = None;
         'goals: loop {
-            self.pass_sleepers()?;
+            if !self.come_to_next(way)? {
+                return Ok(Round::Changed);
+            }
             match self.look(loaded, table, gate, budget > 0, workspace)? {
-                Looked::Ended => return Ok(self.round_ended(loaded, changed, heavy)),
-                Looked::Passed { goal, seen } => heavy = with_passed(heavy, goal, seen),
+                Looked::Ended => {
+                    let round = self.round_ended(loaded, changed, heavy);
+                    if !turns_back(way, round) {
+                        return Ok(round);
+                    }
+                    way = Way::Back;
+                }
+                Looked::Passed { goal, seen } => {
+                    heavy = self.note_passed(way, heavy, goal, seen)?
+                }
                 Looked::Ran => changed = true,
                 Looked::Reduced => {
                     budget -= 1;

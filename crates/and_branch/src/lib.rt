@@ -19,6 +19,7 @@ mod sleeping;
 pub mod splitting;
 pub mod state;
 pub mod telling;
+mod ways;
 pub mod workspace;
 
 pub use branch::{Branch, Rooted};

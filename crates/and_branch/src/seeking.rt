@@ -1,6 +1,6 @@
 //! The place where a branch is at work among its goals.
 
-ghost use Rattle.std.specs.Prelude.{◌≡◌, ◌++◌, ◌∷◌, [], List, OnOk, true, false};
+ghost use Rattle.std.specs.Prelude.{◌≡◌, ◌<◌, ◌++◌, ◌∷◌, [], List, OnOk, Ok, true, false, length};
 ghost use Rattle.and_model.specs.declared.goal.Goal.{Goal};
 ghost use Rattle.and_branch.specs.Branches.{SameKey};
 ghost use Rattle.and_branch.specs.Next.{IsMoved, IsSameItem, HasItem};
@@ -67,7 +67,7 @@ impl<N: Naming> Branch<N> {
 
     /// Goes back before the last goal that was passed, which is there. An error is want of memory, and the
     /// branch is spent.
-    fn pass_back(&mut self) -> Result<(), AllocError>
+    pub(crate) fn pass_back(&mut self) -> Result<(), AllocError>
         requires { (front : List Goal) × (g : Goal) × (self.old.left ≡ front ++ g ∷ []) }
         ensures same { SameKey self.old self.new }
         ensures moved { OnOk result (IsMoved self.old self.new) }
@@ -76,6 +76,16 @@ impl<N: Naming> Branch<N> {
     {
         let _is_there = self.goals.go_back()?;
         Ok(())
+    }
+
+    /// Goes back over goals that are asleep, to before the last that was passed and is not. Answers whether there is one. An error is want of
+    /// memory, and the branch is spent.
+    pub(crate) fn back_up(&mut self) -> Result<bool, AllocError>
+        ensures same { SameKey self.old self.new }
+        ensures moved { OnOk result (IsMoved self.old self.new) }
+        ensures before { result ≡ Ok true → length self.new.left < length self.old.left }
+    {
+        self.goals.go_back_over_sleepers(&self.cells)
     }
 
     /// Whether the next goal is this one.

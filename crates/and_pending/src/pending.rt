@@ -169,6 +169,24 @@ impl PendingGoals {
         Ok(())
     }
 
+    /// Goes back over the goals that sleep in a row, to before the last one that does not, and answers whether there is one. An error is want
+    /// of memory, and a goal is lost.
+    pub fn go_back_over_sleepers<N: Naming>(
+        &mut self,
+        row: &PlainCells<N>,
+    ) -> Result<bool, AllocError>
+        ensures moved { OnOk result (self.new.left ++ self.new.right ≡ self.old.left ++ self.old.right) }
+        ensures before { result ≡ Ok true → length self.new.left < length self.old.left }
+        ensures first { result ≡ Ok false → self.new.left ≡ [] }
+    {
+        while self.go_back()? {
+            if !self.next_sleeps(row) {
+                return Ok(true);
+            }
+        }
+        Ok(false)
+    }
+
     /// Whether there is a next goal, which sleeps in a row. Takes no memory.
     fn next_sleeps<N: Naming>(&self, row: &PlainCells<N>) -> bool
         ensures { result ≡ true → (w : Watched) × (rest : List Watched) × (self.now.right ≡ w ∷ rest) × Sleeps row.now w }

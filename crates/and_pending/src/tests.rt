@@ -86,6 +86,9 @@ fn act(
         b'b' => {
             let _moved = goals.go_back()?;
         }
+        b'k' => {
+            let _moved = goals.go_back_over_sleepers(row)?;
+        }
         _ => {
             let _goal = goals.pop();
         }
@@ -124,6 +127,13 @@ fn goals_that_sleep_are_passed_over(rt: HostRuntime) -> Result<(), Fail> {
 fn goals_that_are_watched_no_longer_are_not(rt: HostRuntime) -> Result<(), Fail> {
     let line = told(rt.alloc(), "32p5wz?f?rz?5w6wz?x?")?;
     assert_eq!(rt; line.as_str(), "23.323!323.223.32.-");
+    Ok(())
+}
+
+#[test]
+fn goals_that_sleep_are_gone_back_over(rt: HostRuntime) -> Result<(), Fail> {
+    let line = told(rt.alloc(), "4321p5ww6ww7ww?k?z6sk?k?")?;
+    assert_eq!(rt; line.as_str(), "1234.41234.11234.21234.1");
     Ok(())
 }
 

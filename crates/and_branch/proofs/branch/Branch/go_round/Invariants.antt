@@ -1,9 +1,9 @@
-use Rattle.std.proofs.Common.{◌+◌, ◌*◌, ◌^◌, length}
-use Rattle.and_branch.proofs.RoundsKept.{RoundStands}
+use Rattle.and_branch.specs.Ways.{turns_left}
+use Rattle.and_branch.proofs.WaysGone.{Goes}
 use Rattle.and_branch.proofs.branch.Branch.go_round.Given as goal
 
 abbrev pub invariant-goals : goal.invariant-goals
-invariant-goals g l = RoundStands g.N.Naming.program l.initial.self l.self l.changed l.budget l.heavy
+invariant-goals g l = Goes g.N.Naming.program l.initial.self l.self l.way l.changed l.budget l.heavy
 
 abbrev pub decreases-goals : goal.decreases-goals
-decreases-goals g l = l.budget * 2 ^ 64 + length l.self.right
+decreases-goals g l = turns_left l.way l.budget l.self

@@ -1,0 +1,77 @@
+//! The ways in which a round goes over the goals of a branch.
+
+ghost use Rattle.std.specs.Prelude.{◌≡◌, ◌++◌, ◌∷◌, [], List, true, OnOk, IfOk};
+ghost use Rattle.and_model.specs.declared.goal.Goal.{Goal};
+ghost use Rattle.and_branch.specs.Branches.{IsBranch, SameKey};
+ghost use Rattle.and_branch.specs.Finding.{with_passed};
+ghost use Rattle.and_branch.specs.Rounds.{StepsOn};
+ghost use Rattle.and_branch.specs.Ways.{HasCome, HasNoted};
+ghost use Rattle.and_branch.specs.declared.advancing.Round.{Round};
+ghost use Rattle.and_branch.specs.declared.ways.Way.{Way};
+
+use crate::advancing::Round;
+use crate::branch::Branch;
+use crate::finding::{HeavyCall, Seen, with_passed};
+use and_cells::Naming;
+use and_model::Goal;
+use std::alloc::AllocError;
+
+/// Which way a round goes over the goals.
+#[derive(Clone, Copy)]
+pub(crate) enum Way {
+    /// From the first to the last, so that goals come to what others before them set.
+    Onward,
+    /// From the last to the first, so that goals come to what others behind them set.
+    Back,
+}
+
+/// Whether a round that came to this on its way goes back then: it changed something, and has not come to rest.
+pub(crate) fn turns_back(way: Way, round: Round) -> bool
+    ensures { result ≡ true → (way ≡ Way.Onward) × (round ≡ Round.Changed) }
+{
+    match (way, round) {
+        (Way::Onward, Round::Changed) => true,
+        _ => false,
+    }
+}
+
+impl<N: Naming> Branch<N> {
+    /// Goes to the next goal on a round's way, past those that sleep. Answers whether there may be one. An error is want of memory, and the
+    /// branch is spent.
+    pub(crate) fn come_to_next(&mut self, way: Way) -> Result<bool, AllocError>
+        requires branch { IsBranch N.program self.old }
+        ensures same { SameKey self.old self.new }
+        ensures steps { OnOk result (StepsOn N.program self.old self.new) }
+        ensures came { IfOk result (HasCome N.program way self.old self.new) }
+    {
+        match way {
+            Way::Onward => {
+                self.pass_sleepers()?;
+                Ok(true)
+            }
+            Way::Back => self.back_up(),
+        }
+    }
+
+    /// Notes what was seen of the goal that was passed, on the way onward, and goes back before it on the way back. An error is want of memory, and the
+    /// branch is spent.
+    pub(crate) fn note_passed(
+        &mut self,
+        way: Way,
+        heavy: Option<HeavyCall>,
+        goal: Goal,
+        seen: Seen,
+    ) -> Result<Option<HeavyCall>, AllocError>
+        requires passed { (front : List Goal) × (self.old.left ≡ front ++ goal ∷ []) }
+        ensures same { SameKey self.old self.new }
+        ensures noted { IfOk result (HasNoted way self.old self.new (with_passed heavy goal seen)) }
+    {
+        match way {
+            Way::Onward => Ok(with_passed(heavy, goal, seen)),
+            Way::Back => {
+                self.pass_back()?;
+                Ok(heavy)
+            }
+        }
+    }
+}
