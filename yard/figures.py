@@ -98,6 +98,12 @@ def count(n):
     return f"count(0).\ncount(N) :- N > 0, M is N - 1, count(M).\n?- count({n}).\n"
 
 
+def length(n):
+    """A length whose sums stand first, so that each waits for the one behind it."""
+    return ("list(0, []).\nlist(N, [_|T]) :- N > 0, M is N - 1, list(M, T).\nlen([], 0).\nlen([_|T], N) :- N is M + 1, len(T, M).\n"
+            f"?- list({n}, _L), len(_L, N).\n")
+
+
 def facts(n):
     return "".join(f"p(k{k}, v{k}).\n" for k in range(n)) + f"?- p(k{n - 1}, X), p(k{n // 2}, Y), p(k0, Z).\n"
 
@@ -166,6 +172,7 @@ PROGRAMS = (
     + [("permutations of 7", permutations(7), False), ("7 pigeons in 6 holes, tests last", pigeons(7), False)]
     + [(f"a term of {n} levels", deep(n), False) for n in (5000, 10000, 20000)]
     + [("a count down from 100,000", count(100000), False)]
+    + [(f"a length of {n}, sums first", length(n), True) for n in (4000, 16000)]
 )
 
 
