@@ -8,7 +8,7 @@ use Rattle.and_branch_laws.specs.OwnVariables.{IsLoaded}
 use Rattle.and_branch.specs.Branches.{Held, SameKey}
 use Rattle.and_branch.specs.Next.{IsMoved}
 use Rattle.and_branch.specs.Rounds.{StepsOn, AreFew, goal_count, HasProgressed, IsAlike, HasPassed, HasPassedSleepers}
-use Rattle.and_branch.specs.Ways.{HasCome, HasNoted, turns_left}
+use Rattle.and_branch.specs.Ways.{HasCome, HasNoted}
 use Rattle.and_branch.specs.declared.finding.HeavyCall.{HeavyCall}
 use Rattle.and_branch.specs.declared.finding.Seen.{Seen}
 use Rattle.and_branch.specs.declared.ways.Way.{Way}
@@ -69,6 +69,11 @@ has_noted P start old new Back changed budget heavy seen more back x same (m, fe
 }
 
 -- ---- Measures
+
+-- a bound on the turns that a round has left
+abbrev pub turns_left : Way → (budget : ℕ) → Held → ℕ
+turns_left Onward budget b = budget * 2 ^ 130 + 2 ^ 129 + length b.right
+turns_left Back budget b = budget * 2 ^ 130 + goal_count b * 2 ^ 64 + length b.left
 
 moved_count : (old new : Held) → IsMoved old new → goal_count new ≡ goal_count old
 moved_count old new m = same_count old new (moved_alike old new m)

@@ -1,9 +1,9 @@
 -- The ways in which a round goes over the goals of a branch.
-use Rattle.std.specs.Prelude.{ℕ, ◌≡◌, ◌<◌, ◌+◌, ◌*◌, ◌^◌, Bool, true, length, Option}
+use Rattle.std.specs.Prelude.{◌≡◌, ◌<◌, Bool, true, length, Option}
 use Rattle.and_cells.specs.Ranges.{NamedProgram}
 use Rattle.and_branch.specs.Branches.{Held}
 use Rattle.and_branch.specs.Next.{IsMoved}
-use Rattle.and_branch.specs.Rounds.{HasPassedSleepers, goal_count}
+use Rattle.and_branch.specs.Rounds.{HasPassedSleepers}
 use Rattle.and_branch.specs.declared.finding.HeavyCall.{HeavyCall}
 use Rattle.and_branch.specs.declared.ways.Way.{Way}
 use Rattle.and_branch.specs.declared.ways.Way.TheVariants.{Onward, Back}
@@ -17,8 +17,3 @@ HasCome P Back old new there = IsMoved old new × (there ≡ true → length new
 abbrev pub HasNoted : Way → (old new : Held) → (seen more : Option HeavyCall) → Type 0
 HasNoted Onward old new seen more = (new ≡ old) × (more ≡ seen)
 HasNoted Back old new seen more = IsMoved old new × (length new.left < length old.left)
-
--- a bound on the turns that a round has left
-abbrev pub turns_left : Way → (budget : ℕ) → Held → ℕ
-turns_left Onward budget b = budget * 2 ^ 130 + 2 ^ 129 + length b.right
-turns_left Back budget b = budget * 2 ^ 130 + goal_count b * 2 ^ 64 + length b.left

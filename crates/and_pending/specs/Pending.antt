@@ -1,5 +1,5 @@
 -- Goals that are left, and watched (this project's own).
-use Rattle.std.specs.Prelude.{ℕ, ◌≡◌, ◌≤◌, List, ◌++◌, map, length, Option, None, Some, slice_range, All, IfSome}
+use Rattle.std.specs.Prelude.{ℕ, ◌≡◌, ◌≤◌, Bool, true, false, List, [], ◌∷◌, ◌++◌, map, length, Option, None, Some, slice_range, All, IfSome}
 use Rattle.and_model.specs.declared.goal.Goal.{Goal}
 use Rattle.and_model.specs.declared.reference.Ref.{Ref}
 use Rattle.and_determinacy.specs.Watching.{AreFree}
@@ -34,6 +34,13 @@ pub record HasPassedSleepers (row : List Ref) (old new : Pending) : Type 0 where
   pub right : old.right ≡ passed ++ new.right
   pub left : new.left ≡ old.left ++ passed
   pub asleep : All (Sleeps row) passed
+
+-- Goals before the place of work were gone back over, all of which sleep in the row: those behind one, before which it is then, or all.
+pub record HasGoneBack (row : List Ref) (old new : Pending) (there : Bool) : Type 0 where
+  pub passed : List Watched
+  pub asleep : All (Sleeps row) passed
+  pub one : there ≡ true → (w : Watched) × (old.left ≡ new.left ++ w ∷ passed) × (new.right ≡ w ∷ passed ++ old.right)
+  pub all : there ≡ false → (old.left ≡ passed) × (new ≡ record { left = []; right = passed ++ old.right })
 
 -- the cells at a range of a list, if there is one
 abbrev pub cells_at : List ℕ → Option Range → Option (List ℕ)

@@ -2,7 +2,7 @@
 
 ghost use Rattle.std.specs.Prelude.{◌≡◌, ◌+◌, ◌<◌, ◌≤◌, ◌^◌, ◌++◌, ◌∷◌, [], Some, None, true, false, List, map, reverse, length, All};
 ghost use Rattle.std.specs.Prelude.{OnOk, IfOk, IfSome, IsNone};
-ghost use Rattle.and_pending.specs.Pending.{Pending, Watched, HasPassedSleepers, Sleeps, goals_of, unwatched, watched_in, IsWithin};
+ghost use Rattle.and_pending.specs.Pending.{Pending, Watched, HasPassedSleepers, HasGoneBack, Sleeps, goals_of, unwatched, watched_in, IsWithin};
 
 use crate::filling::{fill, list_goals, list_reversed, move_all, put_goals, stop_watching};
 use crate::watch::{Range, all_free};
@@ -175,9 +175,9 @@ impl PendingGoals {
         &mut self,
         row: &PlainCells<N>,
     ) -> Result<bool, AllocError>
+        ensures back { IfOk result (HasGoneBack row.now self.old self.new) }
         ensures moved { OnOk result (self.new.left ++ self.new.right ≡ self.old.left ++ self.old.right) }
         ensures before { result ≡ Ok true → length self.new.left < length self.old.left }
-        ensures first { result ≡ Ok false → self.new.left ≡ [] }
     {
         while self.go_back()? {
             if !self.next_sleeps(row) {

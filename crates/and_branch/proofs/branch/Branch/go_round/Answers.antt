@@ -3,7 +3,7 @@ use Rattle.std.proofs.lemmas.Bool.Decides.{nat_tests}
 use Rattle.and_branch.specs.Branches.{Held}
 use Rattle.and_branch.specs.Finding.{with_passed}
 use Rattle.and_branch.specs.Rounds.{LookIs, AreFew}
-use Rattle.and_branch.specs.Ways.{HasCome, turns_left}
+use Rattle.and_branch.specs.Ways.{HasCome}
 use Rattle.and_branch.specs.declared.advancing.Looked.{Looked}
 use Rattle.and_branch.specs.declared.ways.Way.{Way}
 use Rattle.and_branch.specs.declared.ways.Way.TheVariants.{Onward, Back}
@@ -11,7 +11,7 @@ use Rattle.and_branch.proofs.LoadedPrograms.{is_loaded}
 use Rattle.and_branch.proofs.LookedGoals.{moved_steps, steps_then, still_branch}
 use Rattle.and_branch.proofs.MovedBranches.{moved_twice}
 use Rattle.and_branch.proofs.RoundsKept.{RoundStands, round_begun, round_passed, round_changed, round_ended, past_idle, alike_then, moved_alike}
-use Rattle.and_branch.proofs.WaysGone.{Goes, has_come, over_back, has_noted, fewer_passed, fewer_ran, fewer_reduced, fewer_back}
+use Rattle.and_branch.proofs.WaysGone.{turns_left, has_come, over_back, has_noted, fewer_passed, fewer_ran, fewer_reduced, fewer_back}
 use Rattle.and_branch.proofs.branch.Branch.go_round.Goals as goal
 
 pub goals-init : goal.goals-init
