@@ -45,7 +45,7 @@ fn merged(alloc: Global) -> Result<Found, AllocError>
 }
 
 #[test]
-fn merged_entries_come_in_the_order_of_codes(rt: HostRuntime) -> Result<(), Fail> {
+fn merge_order(rt: HostRuntime) -> Result<(), Fail> {
     let found = merged(rt.alloc())?.in_order()?;
     let entries = found.entries();
     assert_eq!(rt; entries.len(), 3);

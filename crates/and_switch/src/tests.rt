@@ -62,7 +62,7 @@ fn picked<const W: usize>(
 }
 
 #[test]
-fn a_full_switch_takes_no_other_key(rt: HostRuntime) -> Result<(), Fail> {
+fn switch_full(rt: HostRuntime) -> Result<(), Fail> {
     let mut switch = Switch::<4>::new(rt.alloc());
     let fourth = Key::Number(-7);
     let fifth = Key::Number(7);
@@ -129,7 +129,7 @@ fn is_full_with<const W: usize>(alloc: Global, keys: u16) -> Result<bool, Switch
 }
 
 #[test]
-fn wider_switches_have_as_many_rows(rt: HostRuntime) -> Result<(), Fail> {
+fn switch_sizes(rt: HostRuntime) -> Result<(), Fail> {
     assert!(rt; is_full_with::<16>(rt.alloc(), 16)?);
     assert!(rt; is_full_with::<64>(rt.alloc(), 64)?);
     Ok(())

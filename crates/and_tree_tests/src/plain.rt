@@ -88,7 +88,7 @@ fn with_claimed_root(
 }
 
 #[test]
-fn a_plain_tree_forks_its_root(rt: HostRuntime) -> Result<(), Fail> {
+fn plain_tree_calls(rt: HostRuntime) -> Result<(), Fail> {
     let alloc = rt.alloc();
     let (mut tree, branch) = with_claimed_root(&rt, alloc, 1)?;
     assert_eq!(rt; branch.key.len(), 0);

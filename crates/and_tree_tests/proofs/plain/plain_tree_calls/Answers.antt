@@ -1,6 +1,6 @@
 use Rattle.std.proofs.Common.{[], ◌∷◌, ◌++◌, ap, sym, arith}
 use Rattle.and_tree_tests.proofs.Scripted.{Stage, turned, forked_root, ended_known, team_on, held_on, few_on, at_first}
-use Rattle.and_tree_tests.proofs.plain.a_plain_tree_forks_its_root.Goals as goal
+use Rattle.and_tree_tests.proofs.plain.plain_tree_calls.Goals as goal
 
 pub fork-requires : goal.fork-requires
 fork-requires g c =
