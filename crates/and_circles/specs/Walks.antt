@@ -93,6 +93,10 @@ pub record IsRested (P : NamedProgram) (row : List Ref) (w : Walk) : Type 0 wher
   pub finished : AreFinished P row (finished w.marks w.structures w.floor w.halves)
   pub rest : IsAtRest w
 
+-- The walk came to its end: what is known to end does, nothing is to be visited, and each path from the root ends.
+abbrev pub HasWalked : NamedProgram → List Ref → (root : Ref) → (old new : Walk) → Type 0
+HasWalked P row root old new = AreFinished P row (finished new.marks new.structures old.floor old.halves) × IsAtRest new × Ends P row old.floor old.halves root
+
 -- each path from the structures that are kept ends
 abbrev pub AreEnded : NamedProgram → List Ref → Walk → Type 0
 AreEnded P row w = All (Ends P row w.floor w.halves) w.structures

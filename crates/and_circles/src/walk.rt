@@ -6,10 +6,10 @@ ghost use Rattle.and_cells.specs.Ranges.{IsInRange};
 ghost use Rattle.and_cells.specs.Meaning.{IsCircle};
 ghost use Rattle.and_program.specs.Loaded.{skeleton_of};
 ghost use Rattle.and_cells.specs.Parts.{named, parts_of};
-ghost use Rattle.and_cells.specs.Ends.{Ends, IsBelow};
+ghost use Rattle.and_cells.specs.Ends.{IsBelow};
 ghost use Rattle.and_circles.specs.Marked.{mark_at, AreUnmarked};
 ghost use Rattle.and_circles.specs.Explored.{AreFinished, finished};
-ghost use Rattle.and_circles.specs.Walks.{nearest_cell, Opens, IsTaking, IsAtRest, IsRested, AreEnded, Goes, Stays, Answers};
+ghost use Rattle.and_circles.specs.Walks.{nearest_cell, Opens, IsTaking, IsAtRest, IsRested, HasWalked, AreEnded, Goes, Stays, Answers};
 ghost use Rattle.and_circles.specs.declared.walk.Visit.{Visit};
 ghost use Rattle.and_circles.specs.declared.explorer.Explored.{Explored};
 ghost use Rattle.and_circles.specs.declared.marks.Mark.{Mark};
@@ -21,6 +21,9 @@ use and_cells::{Naming, PlainCells};
 use and_model::{NodeNo, Ref};
 use and_program::{Loaded, NodeKind};
 use std::alloc::{AllocError, Global};
+
+/// How many structures are kept at most, so that what is kept stays near.
+const MOST_SLOTS: usize = 16_384;
 
 /// What is still to be done.
 #[derive(Clone, Copy, PartialEq, Eq, Debug)]
@@ -88,14 +91,12 @@ impl Walk {
         requires at_rest { IsAtRest self.old }
         requires in_range { IsInRange N.program (length cells.now) root }
         ensures stays { Stays self.old self.new }
-        ensures ends { result ≡ Ok Explored.Ends
-            → AreFinished N.program cells.now (finished self.new.marks self.new.structures self.old.floor self.old.halves)
-            × IsAtRest self.new
-            × Ends N.program cells.now self.old.floor self.old.halves root }
+        ensures ends { result ≡ Ok Explored.Ends → HasWalked N.program cells.now root self.old self.new }
         ensures answer { Answers N.program cells.now self.old.halves root result }
     {
-        self.marks.make_room(cells.len() as usize)?;
-        self.structures.make_slots(cells.len() as usize)?;
+        let count = cells.len() as usize;
+        self.marks.make_room(count)?;
+        self.structures.make_slots(count.min(MOST_SLOTS))?;
         if self.passes(cells, root) {
             return Ok(Explored::Ends);
         }
@@ -113,10 +114,7 @@ impl Walk {
         requires rested { IsRested N.program cells.now self.old }
         requires in_range { IsInRange N.program (length cells.now) root }
         ensures stays { Stays self.old self.new }
-        ensures ends { result ≡ Ok Explored.Ends
-            → AreFinished N.program cells.now (finished self.new.marks self.new.structures self.old.floor self.old.halves)
-            × IsAtRest self.new
-            × Ends N.program cells.now self.old.floor self.old.halves root }
+        ensures ends { result ≡ Ok Explored.Ends → HasWalked N.program cells.now root self.old self.new }
         ensures answer { Answers N.program cells.now self.old.halves root result }
     {
         // Arguments come before their nodes: the proof needs it.

@@ -67,36 +67,41 @@ fn reply<R: Threads + Wait + Sync>(
     let Ok(held) = str::from_utf8(sink.held()) else {
         return format!(in alloc; "not UTF-8");
     };
-    format!(in alloc; "{held}= {}\n", ended as u8)
+    format!(in alloc; "{held}= {}", ended as u8)
 }
 
-/// The first of the rows that is answered otherwise than it says, with the words of the line, and what it is
-/// answered with. A row has the lines of a text, each behind `> `, and then its reply.
+/// Puts one line more behind those of a text.
+fn add_line(text: &mut String, line: &str) -> Result<(), AllocError> {
+    if !text.is_empty() {
+        text.push('\n')?;
+    }
+    text.push_str(line)
+}
+
+/// The first of the rows that is answered otherwise than it says, with the words of the line: its name, and what it is
+/// answered with. A row has its name behind `# `, the lines of a text, each behind `> `, and then its reply.
 fn first_broken<R: Threads + Wait + Sync>(
     rt: &R,
     alloc: Global,
     line: &str,
     rows: &str,
 ) -> Result<Option<String>, AllocError> {
+    let mut name = String::new(alloc);
     let mut text = String::new(alloc);
     let mut expected = String::new(alloc);
     for row in rows.lines() {
-        match row.strip_prefix("> ") {
-            Some(more) => {
-                if !text.is_empty() {
-                    text.push('\n')?;
-                }
-                text.push_str(more)?;
-            }
-            None => {
-                expected.push_str(row)?;
-                expected.push('\n')?;
-            }
+        if let Some(named) = row.strip_prefix("# ") {
+            name.clear();
+            name.push_str(named)?;
+        } else if let Some(more) = row.strip_prefix("> ") {
+            add_line(&mut text, more)?;
+        } else {
+            add_line(&mut expected, row)?;
         }
         if row.starts_with("= ") {
             let replied = reply(rt, alloc, line, &text)?;
             if replied != expected {
-                return Ok(Some(format!(in alloc; "{text}\n{replied}")?));
+                return Ok(Some(format!(in alloc; "{name}\n{replied}")?));
             }
             text.clear();
             expected.clear();

@@ -1,15 +1,14 @@
-use Rattle.std.proofs.Common.{◌≡◌, ◌≤◌, length, arith, ◌++◌, [], ◌∷◌, refl, sym, ap, ◌∙◌, subst}
+use Rattle.std.proofs.Common.{◌≡◌, ◌++◌, [], ◌∷◌, refl, sym, ap, ◌∙◌, subst}
 use Rattle.std.specs.Prelude.{List, reverse}
 use Rattle.and_program.specs.Skeletons.{AllFall}
 use Rattle.and_model.specs.declared.reference.Ref.{Ref}
-use Rattle.and_model.specs.declared.reference.Ref.TheVariants.{Number}
 use Rattle.and_cells.specs.Ranges.{NamedProgram}
 use Rattle.and_cells.specs.Ends.{Ends}
 use Rattle.and_circles.specs.Explored.{done_from}
 use Rattle.and_circles.specs.Walks.{Walks}
 use Rattle.and_circles.specs.declared.walk.Visit.{Visit}
 use Rattle.and_circles.specs.declared.walk.Visit.TheVariants.{Enter}
-use Rattle.and_circles.proofs.Keeping.{added, first_part, second_part}
+use Rattle.and_circles.proofs.Keeping.{first_part, second_part}
 use Rattle.and_circles.proofs.Walking.{begins}
 use Rattle.and_circles.proofs.Opening.{emptied}
 use Rattle.and_circles.proofs.Turning.{at_end}
@@ -24,9 +23,11 @@ loop-visit-init g c =
     let pushed : c.push.new.self.items ≡ Enter c.args.root ∷ [] = ◌∙◌ {b = w.visits.items ++ Enter c.args.root ∷ []} c.in_ok-push.ensures.items (ap (λ (vs : List Visit). vs ++ Enter c.args.root ∷ []) rested.rest.1) in
     let E : Ref → Type 0 = Ends P c.args.cells.now w.floor w.halves in
     let marked : List Ref = done_from 0 w.marks in
+    let done_end = first_part E marked w.structures rested.finished in
     record {
       walking = subst (λ (vs : List Visit). Walks P c.args.cells.now w.floor w.halves c.args.root w.marks (reverse vs)) (sym pushed)
-          (begins P c.args.cells.now w.floor w.halves c.args.root w.marks w.marks falls rested.sound (first_part E marked w.structures rested.finished) rested.rest.0 (λ c. refl) rested.room c.requires.in_range);
+          (begins P c.args.cells.now w.floor w.halves c.args.root w.marks w.marks falls rested.sound done_end rested.rest.0 (λ c. refl) rested.room
+          c.requires.in_range);
       stays = (refl, refl);
       ended = second_part E marked w.structures rested.finished;
     }

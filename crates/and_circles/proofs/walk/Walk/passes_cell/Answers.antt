@@ -1,4 +1,4 @@
-use Rattle.std.proofs.Common.{◌≢◌, sym, ◌∙◌}
+use Rattle.std.proofs.Common.{◌≢◌, sym}
 use Rattle.and_model.specs.declared.reference.Ref.TheVariants.{Free, Cell, Node}
 use Rattle.and_cells.specs.Ends
 use Rattle.and_circles.proofs.Resting.{done_ends, structure_ends}
