@@ -21,6 +21,18 @@ fn an_equation_hands_a_level_on(rt: HostRuntime) -> Result<(), Fail> {
 }
 
 #[test]
+fn modes_safe(rt: HostRuntime) -> Result<(), Fail> {
+    let alloc = rt.alloc();
+    let loaded = program(&rt, alloc, "inc(X,Y) :- Y is X+1. ?- inc(1,Z), W is Z+1.");
+    let modes = infer(alloc, &loaded)?;
+    let inc = NameNo(27);
+    assert_eq!(rt; modes.level(inc, 2, 0, Side::Called), Level::Integer);
+    assert_eq!(rt; modes.level(inc, 2, 1, Side::Succeeded), Level::Integer);
+    assert_eq!(rt; verdict(alloc, &loaded, &modes)?, Verdict::Safe);
+    Ok(())
+}
+
+#[test]
 fn a_sum_of_itself_waits(rt: HostRuntime) -> Result<(), Fail> {
     let alloc = rt.alloc();
     let loaded = program(&rt, alloc, "?- X is X + 0.");

@@ -10,6 +10,8 @@ mod rows;
 #[cfg(test)]
 mod sealed;
 #[cfg(test)]
+mod sizes;
+#[cfg(test)]
 mod tables;
 #[cfg(test)]
 mod texts;
