@@ -1,6 +1,7 @@
 //! Which phases a team tries workers in, and how much room they have.
 
-ghost use Rattle.std.specs.Prelude.{◌≤◌};
+ghost use Rattle.std.specs.Prelude.{◌≡◌, ◌<◌, ◌≤◌, ◌+◌, ◌*◌, true, false};
+ghost use Rattle.and_model.specs.declared.limits.TheConstants.{MAX_LIMIT};
 
 use and_model::limits::MAX_LIMIT;
 
@@ -27,7 +28,9 @@ pub struct Pace {
 
 impl Pace {
     /// No phase was tried yet.
-    pub fn new() -> Pace {
+    pub fn new() -> Pace
+        ensures { result ≡ record { rest = 0; next = 8; room = 1024 } }
+    {
         Pace {
             rest: 0,
             next: REST,
@@ -36,7 +39,10 @@ impl Pace {
     }
 
     /// Whether the next phase is left to the leader. It counts as one of those that are.
-    pub(crate) fn rests(&mut self) -> bool {
+    pub(crate) fn rests(&mut self) -> bool
+        ensures rests { result ≡ true → self.old ≡ record self.new { rest = self.new.rest + 1 } }
+        ensures tries { result ≡ false → (self.old.rest ≡ 0) × (self.new ≡ self.old) }
+    {
         if self.rest == 0 {
             return false;
         }
@@ -45,18 +51,29 @@ impl Pace {
     }
 
     /// Notes that workers are tried: the next phases are left to the leader, more than the last time.
-    pub(crate) fn note_try(&mut self) {
+    pub(crate) fn note_try(&mut self)
+        ensures rest { (self.new.rest ≡ self.old.next) × (self.new.room ≡ self.old.room) }
+        ensures longer { 8 * self.old.next ≤ 4096 → self.new.next ≡ 8 * self.old.next }
+        ensures longest { 4096 ≤ 8 * self.old.next → self.new.next ≡ 4096 }
+    {
         self.rest = self.next;
         self.next = at_most(LONGEST_REST, self.next.saturating_mul(REST));
     }
 
     /// How many words the next store has for new frames.
-    pub(crate) fn room(&self) -> u32 {
+    pub(crate) fn room(&self) -> u32
+        ensures { result ≡ self.now.room }
+    {
         self.room
     }
 
     /// Notes that new frames filled so many words of a store. Where that is more than half of its room, the next one has twice as much.
-    pub(crate) fn note_filled(&mut self, words: u32) {
+    pub(crate) fn note_filled(&mut self, words: u32)
+        ensures rests { self.new ≡ record self.old { room = self.new.room } }
+        ensures same { 2 * words ≤ self.old.room → self.new.room ≡ self.old.room }
+        ensures twice { self.old.room < 2 * words → 2 * self.old.room ≤ MAX_LIMIT → self.new.room ≡ 2 * self.old.room }
+        ensures all { self.old.room < 2 * words → MAX_LIMIT ≤ 2 * self.old.room → self.new.room ≡ MAX_LIMIT }
+    {
         if words > self.room / 2 {
             self.room = at_most(MAX_LIMIT, self.room.saturating_mul(2));
         }
@@ -68,6 +85,8 @@ pub(crate) fn words_of(opening: u32, room: u32, limit: u32) -> u32
     requires { opening ≤ limit }
     ensures opening { opening ≤ result }
     ensures limit { result ≤ limit }
+    ensures room { opening + room ≤ limit → result ≡ opening + room }
+    ensures rest { limit ≤ opening + room → result ≡ limit }
 {
     if limit - opening <= room {
         limit
@@ -77,51 +96,9 @@ pub(crate) fn words_of(opening: u32, room: u32, limit: u32) -> u32
 }
 
 /// The smaller of two numbers.
-fn at_most(most: u32, number: u32) -> u32 {
+fn at_most(most: u32, number: u32) -> u32
+    ensures number { number ≤ most → result ≡ number }
+    ensures most { most ≤ number → result ≡ most }
+{
     if number < most { number } else { most }
-}
-
-#[cfg(test)]
-mod tests {
-    use super::{Pace, words_of};
-    use std::test::Fail;
-
-    #[test]
-    fn rests_longer_each_time(rt: HostRuntime) -> Result<(), Fail> {
-        let mut pace = Pace::new();
-        assert!(rt; !pace.rests());
-        pace.note_try();
-        for _ in 0..8 {
-            assert!(rt; pace.rests());
-        }
-        assert!(rt; !pace.rests());
-        pace.note_try();
-        for _ in 0..64 {
-            assert!(rt; pace.rests());
-        }
-        assert!(rt; !pace.rests());
-        Ok(())
-    }
-
-    #[test]
-    fn doubles_room_that_was_filled(rt: HostRuntime) -> Result<(), Fail> {
-        let mut pace = Pace::new();
-        pace.note_filled(512);
-        assert_eq!(rt; pace.room(), 1024);
-        pace.note_filled(513);
-        assert_eq!(rt; pace.room(), 2048);
-        pace.note_filled(1024);
-        assert_eq!(rt; pace.room(), 2048);
-        for _ in 0..20 {
-            pace.note_filled(4_194_304);
-        }
-        assert_eq!(rt; pace.room(), 4_194_304);
-        Ok(())
-    }
-
-    #[test]
-    fn gives_room_below_the_limit(rt: HostRuntime) -> Result<(), Fail> {
-        assert!(rt; words_of(10, 1024, 1_000_000) == 1034 && words_of(10, 1024, 20) == 20);
-        Ok(())
-    }
 }
