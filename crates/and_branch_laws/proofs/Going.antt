@@ -15,7 +15,7 @@ use Rattle.and_branch_laws.specs.OwnVariables.{IsLoaded}
 use Rattle.and_branch_laws.specs.States.{Fits, determinate, over_one, over_all, fork, StateOf}
 use Rattle.and_branch_laws.specs.Views.{View, StandsIn}
 use Rattle.and_branch_laws.specs.Kept.{KeptIn}
-use Rattle.and_branch_laws.proofs.OneState.{lives_not_dead}
+use Rattle.and_branch_laws.proofs.OneState.{lives_not_dead, sole_not_shut}
 use Rattle.and_branch_laws.proofs.Reading.{kept_stands}
 use Rattle.and_model.specs.Terms.{number}
 use Rattle.std.specs.Prelude.{pos, true, false}
@@ -58,6 +58,7 @@ module _ (P : Program) (limit : ℕ) (key : List ℕ) (t : QueryTree P) (reached
     x.4.0,
     inl x.4.1,
     too_heavy limit t c (λ fits. x.3 o c x.4 fits),
+    λ p d k only. too_heavy limit t d (λ fits. x.3 p d (k, only) fits),
   )
 
   pub over_all_cut : (o : Open t) (c : ℕ) → StateOf P limit t (over_all o c) → OverLimit P limit (at_goal t o c)
@@ -70,6 +71,7 @@ module _ (P : Program) (limit : ℕ) (key : List ℕ) (t : QueryTree P) (reached
     x.4.0,
     inr (x.2.0, x.2.1),
     too_heavy limit t c (λ fits. x.3 c x.4.0 fits),
+    λ p d k only. absurd (sole_not_shut P limit t x.0 x.1 x.2.2 p d (k, only) x.2.0),
   )
 
   pub fork_cut : (o : Open t) (cs : List ℕ) (c : ℕ) → StateOf P limit t (fork o cs (Some c)) → OverLimit P limit (at_goal t o c)
@@ -82,6 +84,7 @@ module _ (P : Program) (limit : ℕ) (key : List ℕ) (t : QueryTree P) (reached
     x.6.0.0,
     inr (x.2.0, x.2.1),
     too_heavy limit t c x.6.0.1,
+    λ p d k only. absurd (sole_not_shut P limit t x.0 x.1 x.2.2 p d (k, only) x.2.0),
   )
 
 -- What a branch keeps makes it stand for the key by which its tree is reached.

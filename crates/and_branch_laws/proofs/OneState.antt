@@ -64,7 +64,7 @@ module _ (P : Program) (limit : ℕ) (t : QueryTree P) where
       let (ds, ws, y, why) = dead in
       elim why [ inl none ↦ none (solvable_moved es ds gs ws x y so) | inr w ↦ whole_has_none t whole w.0 ]
 
-  sole_not_shut : (es : List Equation) (gs : List Arithmetic) → Closed t es gs → (o : Open t) (c : ℕ) → IsSole t es o c → Shut t → ⊥
+  pub sole_not_shut : (es : List Equation) (gs : List Arithmetic) → Closed t es gs → (o : Open t) (c : ℕ) → IsSole t es o c → Shut t → ⊥
   sole_not_shut es gs x o c sole shut =
       let (ds, ws, y, so, two) = shut in
       let (a, b, apart, first, second) = two o in

@@ -1,11 +1,11 @@
 -- Trees that are Dead, and candidates over the limit, tried on small programs.
-use Rattle.std.proofs.Common.{ℕ, zero, suc, ◌≡◌, [], ◌∷◌, refl, sym, subst, ◌∙◌, inl, inr, true≢false, arith}
+use Rattle.std.proofs.Common.{ℕ, zero, suc, ◌≡◌, ◌+◌, ◌<◌, [], ◌∷◌, refl, sym, subst, ◌∙◌, inl, inr, true≢false, arith}
 use Rattle.and_model.specs.Solutions.{Solvable, falsehood}
-use Rattle.and_model.specs.Programs.{Of, clause_weight}
+use Rattle.and_model.specs.Programs.{Of, clause_at, clause_weight}
 use Rattle.and_model.specs.Closure.{Closes}
-use Rattle.and_model.specs.Trees.{Open, IsLeftmost, call_of, reduce, equations}
+use Rattle.and_model.specs.Trees.{Open, IsLeftmost, call_of, reduce, equations, weight}
 use Rattle.and_model.specs.Reached.{CandidateOf, Step, Steps, Shut, Dead, ReachedBy, Numbers}
-use Rattle.and_model.specs.Limits.{at_goal, OverLimit}
+use Rattle.and_model.specs.Limits.{at_goal, NoneAloneFits, OverLimit}
 use Rattle.and_model.specs.Output.{OverLeft}
 use Rattle.and_laws.proofs.Deciding.{of_bounds}
 use Rattle.and_examples.specs.ReachedExamples.{early, early_start}
@@ -33,9 +33,19 @@ lives (es, gs, closed, inr (inr (inl u), none)) =
     none 3 (subst (λ ds. CandidateOf early_start ds (inr (inl tt)) 3) (sym (only_waits [] [] es gs tt closed).0) third_fits)
 lives (es, gs, closed, inr (inr (inr n), none)) = elim n [ ]
 
+one_alone_is_over : NoneAloneFits early 2 early_start []
+unfolding clause_weight
+one_alone_is_over (inl u) c k only =
+    let one : 1 ≡ c = only 1 first_fits in
+    let two : 2 ≡ c = only 2 second_fits in
+    absurd (omega arith)
+one_alone_is_over (inr (inl u)) c k only =
+    subst (λ (d : ℕ). 2 < weight early_start + clause_weight (clause_at early d)) (only 3 third_fits) (omega arith)
+one_alone_is_over (inr (inr n)) c k only = elim n [ ]
+
 pub over : OverLimit early 2 (at_goal early_start (inr (inl tt)) 3)
 unfolding clause_weight
-over = (([], ReachedBy.start (omega arith)), lives, [], [], Closes.waiting [] [] tt, third_fits, inl early_third, omega arith)
+over = (([], ReachedBy.start (omega arith)), lives, [], [], Closes.waiting [] [] tt, third_fits, inl early_third, omega arith, one_alone_is_over)
 
 pub not_shut : Shut early_start → ⊥
 not_shut (es, gs, closed, solvable, two) =
@@ -46,8 +56,8 @@ not_shut (es, gs, closed, solvable, two) =
     ∙ sym (early_third d (subst (λ ds. CandidateOf early_start ds (inr (inl tt)) d) nothing other)))
 
 pub neither_of_two : (c : ℕ) → OverLimit early 2 (at_goal early_start (inl tt) c) → ⊥
-neither_of_two c (reached, alive, es, gs, closed, fits, inr (shut, leftmost), heavy) = not_shut shut
-neither_of_two c (reached, alive, es, gs, closed, fits, inl only, heavy) =
+neither_of_two c (reached, alive, es, gs, closed, fits, inr (shut, leftmost), heavy, none) = not_shut shut
+neither_of_two c (reached, alive, es, gs, closed, fits, inl only, heavy, none) =
     let nothing : [] ≡ es = sym (only_waits [] [] es gs tt closed).0 in
     let one : 1 ≡ c = only 1 (subst (λ ds. CandidateOf early_start ds (inl tt) 1) nothing first_fits) in
     let two : 2 ≡ c = only 2 (subst (λ ds. CandidateOf early_start ds (inl tt) 2) nothing second_fits) in

@@ -5,7 +5,7 @@ use Rattle.and_model.specs.Programs.{clause_weight}
 use Rattle.and_model.specs.Closure.{Closes}
 use Rattle.and_model.specs.Trees.{equations, weight}
 use Rattle.and_model.specs.Reached.{CandidateOf, Shut, Dead, Split, ReachedBy}
-use Rattle.and_model.specs.Limits.{at_goal, OverLimit}
+use Rattle.and_model.specs.Limits.{at_goal, NoneAloneFits, OverLimit}
 use Rattle.and_laws.proofs.Order.{below_self}
 use Rattle.and_laws.proofs.Agreeing.{dead_below_shut}
 use Rattle.and_examples.specs.ReachedExamples.{x}
@@ -79,6 +79,13 @@ at_least_2_reached =
 pub at_least_2_lives : Dead at_least_2 → ⊥
 at_least_2_lives d = dead_below_shut at_least_2 at_least_2 (below_self at_least_2) d shut_2
 
+none_alone_fits : NoneAloneFits naturals 6 at_least_2 (equations at_least_2)
+none_alone_fits (inl u) c k only =
+    let one : 1 ≡ c = only 1 zero_2 in
+    let two : 2 ≡ c = only 2 more_2 in
+    absurd (omega arith)
+none_alone_fits (inr o) c k only = elim o [ ]
+
 -- There the clause nat(z) is over the limit 6.
 pub over_six : OverLimit naturals 6 (at_goal at_least_2 (inl tt) 1)
 unfolding clause_weight
@@ -91,4 +98,5 @@ over_six = (
   zero_2,
   inr (shut_2, tt),
   omega arith,
+  none_alone_fits,
 )

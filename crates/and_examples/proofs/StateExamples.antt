@@ -7,6 +7,7 @@ use Rattle.and_model.specs.Programs.{clause_weight}
 use Rattle.and_model.specs.Closure.{Closes}
 use Rattle.and_model.specs.Trees.{Open}
 use Rattle.and_model.specs.Reached.{CandidateOf}
+use Rattle.and_model.specs.Limits.{at_goal, NoneAloneFits, OverLimit}
 use Rattle.and_laws.proofs.Deciding.{of_bounds}
 use Rattle.and_laws.proofs.Pairwise.{all_none, all_pairs_none}
 use Rattle.and_laws.proofs.Ordered.{contains_first, contains_more, contains_none, contains_cases}
@@ -20,7 +21,7 @@ use Rattle.and_examples.specs.StateExamples.{heavy_first, heavy_start, floundere
 use Rattle.and_examples.proofs.ReachedExamples.{all_are}
 use Rattle.and_examples.proofs.LimitExamples.{zero_0, more_0, shut_0}
 use Rattle.and_examples.proofs.DeadExamples.{dead, circle_dead}
-use Rattle.and_examples.proofs.Waiting.{floundered_closes, late_closes}
+use Rattle.and_examples.proofs.Waiting.{only_waits, floundered_closes, late_closes}
 
 -- ---- p(X) :- q(X). q(1). ?- p(X), q(Y). Clause 1 is the one candidate of p(X), and clause 2 that of q(Y).
 heavy : IsSole heavy_start [] (inl tt) 1
@@ -96,6 +97,15 @@ neither_fits = ([], [], lives, none_fits, heavy, before)
 -- Where the second goal's clause fits, the first goal's is not told as over.
 pub not_over : StateOf heavy_first 4 heavy_start (over_one (inl tt) 1) → ⊥
 not_over over = let same = one_state heavy_first 4 heavy_start (determinate (inr (inl tt)) 2) (over_one (inl tt) 1) second_fits over in cc
+
+-- Nor is it a cause of a cut: the tree goes on by the second goal.
+pub no_cut : (c : ℕ) → OverLimit heavy_first 4 (at_goal heavy_start (inl tt) c) → ⊥
+unfolding clause_weight
+no_cut c over =
+    let nothing : over.2 ≡ [] = (only_waits [] [] over.2 over.3 tt over.4).0 in
+    let none : NoneAloneFits heavy_first 4 heavy_start [] = subst (λ es. NoneAloneFits heavy_first 4 heavy_start es) nothing over.8 in
+    let above : 4 < 4 = none (inr (inl tt)) 2 light.0 light.1 in
+    omega arith
 
 -- ---- nat(z). nat(s(N)) :- nat(N). ?- nat(X). Both clauses are candidates. The query weighs 2, clause 1 weighs 1 and clause 2 weighs 2.
 either : (c : ℕ) → CandidateOf at_least_0 [] (inl tt) c → (c ≡ 1) ⊎ (c ≡ 2)

@@ -1,6 +1,7 @@
 //! The states of a branch's tree, each of their cases once.
 
-ghost use Rattle.std.specs.Prelude.{[], ◌∷◌, Some, None};
+ghost use Rattle.std.specs.Prelude.{ℕ, [], ◌∷◌, Some, None};
+ghost use Rattle.and_model.specs.Limits.{at_goal, OverLimit};
 ghost use Rattle.std.proofs.Common.{inl, inr};
 ghost use Rattle.and_branch_laws.specs.States.{StateOf, failed, determinate, over_one, over_all, fork, floundered, answer};
 ghost use Rattle.and_examples.specs.Texts.{circle, floundered_text, late_text};
@@ -10,12 +11,14 @@ ghost use Rattle.and_examples.specs.StateExamples.{heavy_first, heavy_start, flo
 
 /// `p(X) :- q(X). q(1). ?- p(X), q(Y).` Each goal has one candidate. The query weighs 3, and the clauses 2 and
 /// 1. So within 5 the first goal is told, and within 4 the second, since the first one's clause does not
-/// fit. Within 3 neither fits, and the first goal is told as the one that is over.
+/// fit: no clause of the first goal is the cause of a cut then. Within 3 neither fits, and the first goal is
+/// told as the one that is over.
 pub fn goals_with_one_candidate()
     ensures first_fits { StateOf heavy_first 5 heavy_start (determinate (inl tt) 1) }
     ensures second_fits { StateOf heavy_first 4 heavy_start (determinate (inr (inl tt)) 2) }
     ensures neither_fits { StateOf heavy_first 3 heavy_start (over_one (inl tt) 1) }
     ensures not_over { StateOf heavy_first 4 heavy_start (over_one (inl tt) 1) → ⊥ }
+    ensures no_cut { (c : ℕ) → OverLimit heavy_first 4 (at_goal heavy_start (inl tt) c) → ⊥ }
 {}
 
 /// `nat(z). nat(s(N)) :- nat(N). ?- nat(X).` The goal has both clauses for candidates. The query weighs 2, and the

@@ -12,3 +12,6 @@ returns-clause-neither_fits c = StateExamples.neither_fits
 
 pub returns-clause-not_over : goal.returns-clause-not_over
 returns-clause-not_over c = StateExamples.not_over
+
+pub returns-clause-no_cut : goal.returns-clause-no_cut
+returns-clause-no_cut c = StateExamples.no_cut
