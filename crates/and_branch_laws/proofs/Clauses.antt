@@ -4,7 +4,7 @@ use Rattle.std.proofs.Common.{arith}
 use Rattle.std.specs.Prelude.{slice_get}
 use Rattle.std.proofs.lemmas.List.{length-map}
 use Rattle.std.proofs.lemmas.List.Elements.{All-weaker}
-use Rattle.std.proofs.lemmas.Option.{slice_get-get_or}
+use Rattle.std.proofs.lemmas.Option.{slice_get-get_or, slice_get_within}
 use Rattle.and_model.specs.Terms.{Path, variables_of}
 use Rattle.and_model.specs.Programs
 use Rattle.and_model.specs.Programs.{Program, Item, Clause, clause_at, clause_weight, is_goals}
@@ -59,6 +59,23 @@ module _ (P : NamedProgram) (loaded : IsLoaded P) (c : ℕ) (there : c ≤ lengt
 
   pub as_many : length (nodes_at P.skeleton c).items ≡ length (clause_at P.program c).body
   as_many = let k = clause_nodes in sym (length-map (nodes_at P.skeleton c).items (item_of P.skeleton.nodes)) ∙ ap length k.body
+
+-- ---- A goal that is in range
+
+as_many_clauses : (ss : List Shape) (ns : List NodeClause) (ks : List Clause) → AllClauses ss ns ks → length ns ≡ length ks
+as_many_clauses ss [] [] all = refl
+as_many_clauses ss [] (k ∷ ks) all = elim all [ ]
+as_many_clauses ss (n ∷ ns) [] all = elim all [ ]
+as_many_clauses ss (n ∷ ns) (k ∷ ks) all = ap suc (as_many_clauses ss ns ks all.1)
+
+-- has its clause in the program.
+pub goal_clause_there : (P : NamedProgram) → IsLoaded P → (words : ℕ) (g : Goal) → IsGoalInRange P words g
+    → g.clause.0 ≤ length P.program.clauses
+goal_clause_there P loaded words g in_range =
+    let low : g.clause.0 < length P.skeleton.clauses =
+    slice_get_within P.skeleton.clauses g.clause.0 in_range.clause in_range.clause_is in
+    let same = as_many_clauses P.skeleton.nodes P.skeleton.clauses (P.program.query ∷ P.program.clauses) loaded.skeleton.1 in
+    omega arith
 
 -- ---- `is` goals are numbered
 

@@ -11,6 +11,7 @@ pub mod Reading
 pub mod Rows
 pub mod Unnamed
 pub mod Clauses
+pub mod Loading
 pub mod Pairs
 pub mod Settling
 pub mod BodyGoals

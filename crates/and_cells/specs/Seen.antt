@@ -1,6 +1,6 @@
 -- What contracts see in cells, and what one step on a word changes in it (this project's own).
 -- Cells may be a view of a row that others set words of at the same time: so they say what is known, and not what there is.
-use Rattle.std.specs.Prelude.{ℕ, suc, ◌<◌, ◌≡◌, ◌≢◌, ◌↔◌, ◌⊎◌, true, false, List, [], ◌∷◌, ◌++◌, map, length, Option, Some, None, slice_index_or, slice_set, All, Contains, IfSome, ℤ}
+use Rattle.std.specs.Prelude.{ℕ, suc, ◌<◌, ◌≤◌, ◌≡◌, ◌≢◌, ◌↔◌, ◌⊎◌, true, false, List, [], ◌∷◌, ◌++◌, map, length, Option, Some, None, slice_index_or, slice_set, All, Contains, IfSome, ℤ}
 use Rattle.std.specs.Option.{option_map}
 use Rattle.and_model.specs.Prefixes.{IsPrefix}
 use Rattle.and_model.specs.Store.{Known, Missed, word, AreDistinct}
@@ -26,6 +26,15 @@ word_at row place = slice_index_or row place Free
 -- the word at this place is set to r
 abbrev pub IsSetTo : List Ref → (place : ℕ) → Ref → Type 0
 IsSetTo row place r = (word_at row place ≡ r) × (r ≢ Free)
+
+-- The later row has what is set in the earlier one, and may be longer.
+pub record Grows (old new : List Ref) : Type 0 where
+  pub longer : length old ≤ length new
+  pub set : (place : ℕ) (r : Ref) → IsSetTo old place r → IsSetTo new place r
+
+-- these cells are free
+abbrev pub AreFree : List Ref → List ℕ → Type 0
+AreFree row cells = All (λ (cell : ℕ). word_at row cell ≡ Free) cells
 
 abbrev pub IsAmong : Option (List Ref) → List Known → (place : ℕ) → Ref → Type 0
 IsAmong None known place r = Contains (map (λ (k : Known). k.setting) known) (record { place = place; value = r })

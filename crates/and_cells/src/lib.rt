@@ -8,8 +8,6 @@ pub mod loose;
 pub mod naming;
 pub mod number;
 pub mod plain;
-#[cfg(test)]
-mod tests;
 
 ghost use Rattle.and_cells.specs.Ranges.{IsGoalInRange};
 ghost use Rattle.and_cells.specs.Meaning.{IsSettled, equations_of};

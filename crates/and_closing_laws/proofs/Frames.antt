@@ -7,7 +7,7 @@ use Rattle.and_model.specs.Stands.{Framed, ClauseHas}
 use Rattle.and_model.specs.declared.goal.Goal.{Goal}
 use Rattle.and_model.specs.declared.goal.Reduction.{Reduction}
 use Rattle.and_model.specs.declared.reference.Ref.{Ref}
-use Rattle.and_branch.specs.declared.parts.Frame.{Frame}
+use Rattle.and_model.specs.declared.goal.Frame.{Frame}
 use Rattle.and_branch_laws.specs.Kept.{goal_of}
 use Rattle.and_branch_laws.specs.Reducing.{body_goals}
 use Rattle.and_branch_laws.proofs.BodyGoals.{body_goals_all}

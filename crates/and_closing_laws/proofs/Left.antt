@@ -17,7 +17,7 @@ use Rattle.and_cells.specs.Ranges.{NamedProgram}
 use Rattle.and_cells.specs.Seen.{word_at}
 use Rattle.and_cells.specs.Meaning.{equations_of, equations_between, shallow_cells}
 use Rattle.and_code.specs.Written.{written, all_written}
-use Rattle.and_branch.specs.declared.parts.Frame.{Frame}
+use Rattle.and_model.specs.declared.goal.Frame.{Frame}
 use Rattle.and_branch_laws.specs.Kept.{Kept, goal_of}
 use Rattle.and_branch_laws.specs.Reducing.{reduction_in_cells}
 use Rattle.and_branch_laws.specs.Variables.{IsVariable}

@@ -14,7 +14,7 @@ use Rattle.and_cells.specs.Ranges.{NamedProgram}
 use Rattle.and_cells.specs.Seen.{word_at}
 use Rattle.and_cells.proofs.SetWords.{set_in_is}
 use Rattle.and_code.specs.Written.{all_written}
-use Rattle.and_branch.specs.declared.parts.Frame as parts
+use Rattle.and_model.specs.declared.goal.Frame as framing
 use Rattle.and_branch_laws.specs.Kept.{Kept, goal_of}
 use Rattle.and_branch_laws.proofs.Clauses.{clause_weighs_more}
 use Rattle.and_branch_laws.proofs.Lists.{all_of}
@@ -59,7 +59,7 @@ module _ (P : NamedProgram) (old : List declared.Reduction.Reduction) (first row
     (t : QueryTree P.program) (tolds : List Told) (limit : ℕ) (g : Gathered) (k : Kept P (all_written old) first kept t)
     (h : HasPhased P first row tolds) (gathered : IsGathered P.program (map goal_of kept) (weight t) limit tolds g)
     (whole : IsWhole P (all_frames (old ++ g.made)) row) (s : Structure P first row (map goal_of kept) (weight t) tolds g h) where
-  abbrev frames : List parts.Frame
+  abbrev frames : List framing.Frame
   frames = all_frames (old ++ g.made)
 
   row_fits : Row first (passes_of h.passes) h.journal row

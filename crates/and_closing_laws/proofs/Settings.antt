@@ -17,7 +17,7 @@ use Rattle.and_store_laws.proofs.Lists.{contains_cases}
 use Rattle.and_whole.specs.Places.{IsWhole, IsWholeFrame, IsVariableCell}
 use Rattle.and_worker_laws.specs.Acts
 use Rattle.and_worker_laws.specs.Acts.{Act}
-use Rattle.and_branch.specs.declared.parts.Frame.{Frame}
+use Rattle.and_model.specs.declared.goal.Frame.{Frame}
 use Rattle.and_closing_laws.specs.Acting.{IsSetting, nothing}
 
 -- A reference that is set, and is no half, is a term.

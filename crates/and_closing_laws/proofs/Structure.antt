@@ -7,7 +7,7 @@ use Rattle.and_model.specs.declared.goal.Goal.{Goal}
 use Rattle.and_model.specs.declared.reference.Ref.{Ref}
 use Rattle.and_cells.specs.Ranges.{NamedProgram}
 use Rattle.and_cells.specs.Seen.{word_at}
-use Rattle.and_branch.specs.declared.parts.Frame.{Frame}
+use Rattle.and_model.specs.declared.goal.Frame.{Frame}
 use Rattle.and_branch_laws.specs.Kept.{Kept, goal_of}
 use Rattle.and_code.specs.Written.{all_written}
 use Rattle.and_workers.specs.declared.told.Cause.TheVariants.{NoCandidate}

@@ -9,7 +9,7 @@ use Rattle.and_model.specs.declared.goal.Reduction as declared
 use Rattle.and_model.specs.declared.reference.Ref.{Ref}
 use Rattle.and_cells.specs.Ranges.{NamedProgram}
 use Rattle.and_cells.specs.Seen.{word_at}
-use Rattle.and_branch.specs.declared.parts.Frame as parts
+use Rattle.and_model.specs.declared.goal.Frame as framing
 use Rattle.and_code.specs.Written.{written}
 use Rattle.and_store.specs.Ended.{passes_of}
 use Rattle.and_store.specs.Passes.{PassSeen}
@@ -77,7 +77,7 @@ module _ (P : NamedProgram) (first row : List Ref) (tolds : List Told) (h : HasP
 
   -- ---- there are acts
 
-  module _ (frames : List parts.Frame) (whole : IsWhole P frames row) where
+  module _ (frames : List framing.Frame) (whole : IsWhole P frames row) where
     act_for : (n : ℕ) (m : Made) → Contains h.journal (record { pass = n; made = m })
         → (a : Act) × IsActOf P (word_at row) ended (record { pass = n; made = m }) a
     act_for n (sets s) among =

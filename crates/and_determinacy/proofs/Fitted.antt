@@ -33,7 +33,8 @@ use Rattle.and_branch_laws.specs.Judging.{outside}
 use Rattle.and_branch_laws.specs.Running.{IsRead}
 use Rattle.and_branch_laws.proofs.Speaking.{variables_applied}
 use Rattle.and_unify.specs.Setting.{HaveBeenSet}
-use Rattle.and_determinacy.specs.Watching.{Grows, AreFree, HaveWhatWasSet}
+use Rattle.and_cells.specs.Seen.{Grows, AreFree}
+use Rattle.and_determinacy.specs.Watching.{HaveWhatWasSet}
 use Rattle.and_determinacy.proofs.Growing.{variable_is_held, image_has, IsNumberSet}
 use Rattle.and_determinacy.proofs.Reading.{AreWhole}
 use Rattle.and_determinacy.proofs.TakenBack.{among_or_not}

@@ -19,7 +19,8 @@ use Rattle.and_cells.proofs.OneTerm.{one_term}
 use Rattle.and_cell_laws.proofs.TermsOfRows.{term_of_set, cell_is_below}
 use Rattle.and_branch_laws.specs.Running.{IsRead}
 use Rattle.and_branch_laws.proofs.Speaking.{variables_applied}
-use Rattle.and_determinacy.specs.Watching.{Grows, AreFree, IsWatched}
+use Rattle.and_cells.specs.Seen.{Grows, AreFree}
+use Rattle.and_determinacy.specs.Watching.{IsWatched}
 use Rattle.and_determinacy.proofs.Valuing.{has_no_variable}
 
 -- What is put for a variable of a term has its variables in what becomes of the term.

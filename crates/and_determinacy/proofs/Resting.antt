@@ -24,7 +24,8 @@ use Rattle.and_cell_laws.proofs.TermsOfRows.{rows_with_terms_are_solutions, cell
 use Rattle.and_branch_laws.specs.Variables.{cells_from, placed}
 use Rattle.and_branch_laws.specs.Judging.{outside}
 use Rattle.and_determinacy.specs.Candidates.{IsNodeOf}
-use Rattle.and_determinacy.specs.Watching.{Grows, AreFree, RestsOn, IsWatched}
+use Rattle.and_cells.specs.Seen.{Grows, AreFree}
+use Rattle.and_determinacy.specs.Watching.{RestsOn, IsWatched}
 use Rattle.and_determinacy.proofs.Growing.{cell_stays}
 use Rattle.and_determinacy.proofs.Watched.{variables_watched}
 use Rattle.and_determinacy.proofs.Reading.{AreWhole}

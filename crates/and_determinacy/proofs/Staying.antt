@@ -34,7 +34,8 @@ use Rattle.and_unify.specs.Settling.{equations_with}
 use Rattle.and_unify.specs.declared.pairs.Pair.{Pair}
 use Rattle.and_determinacy.specs.Guards.{CanBeRead, IsFalseIn, IsGuardFalse}
 use Rattle.and_determinacy.specs.Trials.{IsPrepared}
-use Rattle.and_determinacy.specs.Watching.{Grows, AreFree, StaysWhile, HaveWhatWasSet}
+use Rattle.and_cells.specs.Seen.{Grows, AreFree}
+use Rattle.and_determinacy.specs.Watching.{StaysWhile, HaveWhatWasSet}
 use Rattle.and_determinacy.proofs.Fitted.{Tried, both, both_solve, both_ground, both_wait}
 use Rattle.and_determinacy.proofs.Prepared.{clause_there, of_applied}
 use Rattle.and_determinacy.proofs.Refuting.{not_true}

@@ -6,7 +6,7 @@ use Rattle.and_model.specs.declared.reference.Ref.{Ref}
 use Rattle.and_cells.specs.Ranges.{NamedProgram}
 use Rattle.and_cells.specs.Rows.{IsSound}
 use Rattle.and_branch_laws.specs.Running.{IsRead}
-use Rattle.and_determinacy.specs.Watching.{Grows, AreFree}
+use Rattle.and_cells.specs.Seen.{Grows, AreFree}
 use Rattle.and_determinacy.specs.declared.guards.Side.{Side}
 use Rattle.and_determinacy.specs.declared.guards.Side.TheVariants.{Waits, NoValue, Number}
 

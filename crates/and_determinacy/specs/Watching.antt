@@ -8,19 +8,10 @@ use Rattle.and_model.specs.declared.reference.Ref.{Ref}
 use Rattle.and_model.specs.declared.reference.Ref.TheVariants.{Free, Cell}
 use Rattle.and_cells.specs.Ranges.{NamedProgram, IsInRange}
 use Rattle.and_cells.specs.Rows.{IsSound}
-use Rattle.and_cells.specs.Seen.{word_at, IsSetTo}
+use Rattle.and_cells.specs.Seen.{word_at, Grows, AreFree}
 use Rattle.and_cells.specs.Meaning.{IsSettled, Holds, equations_of}
 use Rattle.and_branch_laws.specs.Judging.{CandidateInCells, outside}
 use Rattle.and_branch_laws.specs.Variables.{placed}
-
--- The later row has what is set in the earlier one, and may be longer.
-pub record Grows (old new : List Ref) : Type 0 where
-  pub longer : length old ≤ length new
-  pub set : (place : ℕ) (r : Ref) → IsSetTo old place r → IsSetTo new place r
-
--- these cells are free
-abbrev pub AreFree : List Ref → List ℕ → Type 0
-AreFree row cells = All (λ (cell : ℕ). word_at row cell ≡ Free) cells
 
 -- What a goal can be taken by rests on these cells: in whatever settled row it grows to while they are free, each candidate of the goal is one still.
 abbrev pub RestsOn : NamedProgram → List Ref → Goal → List ℕ → Type 0

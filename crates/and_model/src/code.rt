@@ -90,38 +90,3 @@ pub fn codes_are_in_total_order()
     ensures total { (one other : List ℕ) → Precedes one other ⊎ (one ≡ other) ⊎ Precedes other one }
     ensures transitive { (one two three : List ℕ) → Precedes one two → Precedes two three → Precedes one three }
 {}
-
-#[cfg(test)]
-mod tests {
-    use crate::{ClauseNo, Code};
-    use std::alloc::{AllocError, Global};
-    use std::cmp::Ordering;
-    use std::test::Fail;
-
-    fn code_of(alloc: Global, numbers: &[u16]) -> Result<Code, AllocError> {
-        let mut code = Code::new(alloc);
-        for number in numbers {
-            code.push(ClauseNo(*number))?;
-        }
-        Ok(code)
-    }
-
-    #[test]
-    fn codes_stand_in_lexicographic_order(rt: HostRuntime) -> Result<(), Fail> {
-        let alloc = rt.alloc();
-        let empty = code_of(alloc, &[])?;
-        let one = code_of(alloc, &[1])?;
-        let one_three = code_of(alloc, &[1, 3])?;
-        let two = code_of(alloc, &[2])?;
-        assert_eq!(rt; empty.order(&one), Ordering::Less);
-        assert_eq!(rt; one.order(&one_three), Ordering::Less);
-        assert_eq!(rt; one_three.order(&two), Ordering::Less);
-        assert_eq!(rt; two.order(&one_three), Ordering::Greater);
-
-        let copied = one_three.copy()?;
-        assert_eq!(rt; copied.order(&one_three), Ordering::Equal);
-        assert_eq!(rt; copied.len(), 2);
-        assert_eq!(rt; *copied.at(1), ClauseNo(3));
-        Ok(())
-    }
-}

@@ -31,6 +31,13 @@ pub struct Reduction {
     pub node: u32,
 }
 
+/// The cells of a clause's variables and pairs, by the first of them, and the clause.
+#[derive(Clone, Copy, PartialEq, Eq, Debug)]
+pub struct Frame {
+    pub base: u32,
+    pub clause: ClauseNo,
+}
+
 /// Where a search was cut off by the limit: a partial tree, an open goal of it, and a candidate of
 /// this goal that is too heavy to be added.
 ///

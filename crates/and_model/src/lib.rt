@@ -17,7 +17,7 @@ ghost use Rattle.and_model.specs.Output.{Output};
 
 pub use builtins::numbers_of_names_are_places;
 pub use code::{Code, codes_are_in_total_order};
-pub use goal::{CallList, ClauseList, Cut, Goal, GoalList, Reduction, ReductionList};
+pub use goal::{CallList, ClauseList, Cut, Frame, Goal, GoalList, Reduction, ReductionList};
 pub use laws_of_stores::{a_word_has_one_winner, what_is_known_stays};
 pub use list::ListOf;
 pub use numbers::{ClauseNo, NameNo, NodeNo};

@@ -88,30 +88,3 @@ pub fn word_read_back(kept: Ref) -> Option<Ref>
 pub fn words_tell_references_apart()
     ensures { (one other : Ref) → HasWord one → HasWord other → word_of one ≡ word_of other → one ≡ other }
 {}
-
-#[cfg(test)]
-mod tests {
-    use crate::{NodeNo, Ref};
-
-    #[test]
-    fn each_kind_is_read_back_at_its_bounds(rt: HostRuntime) {
-        assert_eq!(rt; Ref::Free.to_word(), 0);
-        assert_eq!(rt; Ref::of_word(0), Some(Ref::Free));
-
-        let cell = Ref::Cell(8_388_607);
-        assert_eq!(rt; Ref::of_word(cell.to_word()), Some(cell));
-        let node = Ref::Node {
-            node: NodeNo(1_048_575),
-            base: 8_388_607,
-        };
-        assert_eq!(rt; Ref::of_word(node.to_word()), Some(node));
-        let number = Ref::Number(8_388_607);
-        assert_eq!(rt; Ref::of_word(number.to_word()), Some(number));
-        let half = Ref::Half(u32::MAX);
-        assert_eq!(rt; Ref::of_word(half.to_word()), Some(half));
-
-        assert_eq!(rt; Ref::of_word(8), None);
-        assert_eq!(rt; Ref::of_word(7), None);
-        assert_eq!(rt; Ref::of_word(u64::MAX), None);
-    }
-}

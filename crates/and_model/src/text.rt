@@ -66,19 +66,3 @@ impl Text {
         Ok(())
     }
 }
-
-#[cfg(test)]
-mod tests {
-    use crate::Text;
-    use std::test::Fail;
-
-    #[test]
-    fn a_text_holds_its_bytes(rt: HostRuntime) -> Result<(), Fail> {
-        let mut text = Text::of(rt.alloc(), b"ab")?;
-        text.append(b"c")?;
-        assert_eq!(rt; text.bytes(), b"abc".as_slice());
-        assert_eq!(rt; text.len(), 3);
-        assert_eq!(rt; *text.at(2), b'c');
-        Ok(())
-    }
-}

@@ -2,7 +2,7 @@
 use Rattle.std.specs.Prelude.{ℕ, ◌≡◌, ◌≤◌, Bool, true, false, List, [], ◌∷◌, ◌++◌, map, length, Option, None, Some, slice_range, All, IfSome}
 use Rattle.and_model.specs.declared.goal.Goal.{Goal}
 use Rattle.and_model.specs.declared.reference.Ref.{Ref}
-use Rattle.and_determinacy.specs.Watching.{AreFree}
+use Rattle.and_cells.specs.Seen.{AreFree}
 use Rattle.and_pending.specs.declared.watch.Range.{Range}
 use Rattle.and_pending.specs.declared.pending.PendingGoal.{PendingGoal}
 

@@ -3,7 +3,7 @@
 ghost use Rattle.std.specs.Prelude.{◌≡◌, true, length, slice_range, All};
 ghost use Rattle.and_model.specs.declared.reference.Ref.{Ref};
 ghost use Rattle.and_cells.specs.Seen.{word_at};
-ghost use Rattle.and_determinacy.specs.Watching.{AreFree};
+ghost use Rattle.and_cells.specs.Seen.{AreFree};
 
 use and_cells::{Naming, PlainCells};
 use and_model::Ref;

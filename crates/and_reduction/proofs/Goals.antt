@@ -13,7 +13,7 @@ use Rattle.and_model.specs.Store.{is_half}
 use Rattle.and_model.specs.declared.goal.Goal.{Goal}
 use Rattle.and_model.specs.declared.reference.Ref.{Ref}
 use Rattle.and_program.specs.Skeletons
-use Rattle.and_program.specs.Skeletons.{NodeItem, NodeClause, Shape, node_term, item_of, AllClauses}
+use Rattle.and_program.specs.Skeletons.{NodeItem, NodeClause, Shape, node_term, item_of}
 use Rattle.and_program.specs.Items.{node_item}
 use Rattle.and_program.specs.Loaded.{nodes_at, skeleton_of}
 use Rattle.and_program.specs.declared.item.ItemNode.{ItemNode}
@@ -23,19 +23,13 @@ use Rattle.and_cells.specs.Ranges.{NamedProgram, IsNodeInRange, IsItemInRange, I
 use Rattle.and_cells.specs.Seen.{word_at}
 use Rattle.and_branch_laws.specs.OwnVariables.{IsLoaded, IsOwn}
 use Rattle.and_branch_laws.specs.Kept.{item_at, node_item_at, HasFreePair}
-use Rattle.and_branch_laws.proofs.Clauses.{item_of_nodes}
+use Rattle.and_branch_laws.proofs.Clauses.{item_of_nodes, goal_clause_there}
 use Rattle.and_branch_laws.proofs.Growing.{body_is_own}
 use Rattle.and_branch_laws.proofs.Owning.{ItemSpeaksOf, item_speaks}
 use Rattle.and_determinacy.specs.Candidates.{CanBeJudged, IsNodeOf}
 use Rattle.and_determinacy.specs.Guards.{CanBeRead}
 use Rattle.and_reduction.specs.Assigning.{CanBeAssigned}
 use Rattle.and_reduction.specs.Runs.{CanBeRun, HasUnnamedPair}
-
-as_many : (ss : List Shape) (ns : List NodeClause) (ks : List Programs.Clause) → AllClauses ss ns ks → length ns ≡ length ks
-as_many ss [] [] all = refl
-as_many ss [] (k ∷ ks) all = elim all [ ]
-as_many ss (n ∷ ns) [] all = elim all [ ]
-as_many ss (n ∷ ns) (k ∷ ks) all = ap suc (as_many ss ns ks all.1)
 
 -- the item that was found of a goal
 pub node_found : (P : NamedProgram) (l : Loaded) (g : Goal) (i j : ItemNode) → P ≡ named l
@@ -46,12 +40,8 @@ node_found P l g i j same e is =
 -- ---- A goal that is in range
 
 module _ (P : NamedProgram) (loaded : IsLoaded P) (words : ℕ) (g : Goal) (in_range : IsGoalInRange P words g) where
-  pub clause_there : g.clause.0 ≤ length P.program.clauses
-  clause_there =
-      let low : g.clause.0 < length P.skeleton.clauses =
-      slice_get_within P.skeleton.clauses g.clause.0 in_range.clause in_range.clause_is in
-      let same = as_many P.skeleton.nodes P.skeleton.clauses (P.program.query ∷ P.program.clauses) loaded.skeleton.1 in
-      omega arith
+  clause_there : g.clause.0 ≤ length P.program.clauses
+  clause_there = goal_clause_there P loaded words g in_range
 
   nodes_are : nodes_at P.skeleton g.clause.0 ≡ in_range.clause
   nodes_are = get_or_from_slice_get P.skeleton.clauses g.clause.0 in_range.clause (record { head = 0; items = [] }) in_range.clause_is

@@ -1,4 +1,3 @@
-pub mod Loading
 pub mod ReadyPairs
 pub mod NewFrames
 pub mod Numbers

@@ -19,7 +19,7 @@ use Rattle.and_branch_laws.specs.Kept.{item_at, node_item_at, HasFreePair}
 use Rattle.and_branch_laws.specs.Running.{IsRead, AreRead}
 use Rattle.and_branch_laws.specs.Settling.{Settled, IsWritten}
 use Rattle.and_branch_laws.specs.Variables.{placed}
-use Rattle.and_determinacy.specs.Watching.{Grows, AreFree}
+use Rattle.and_cells.specs.Seen.{Grows, AreFree}
 
 -- No word that was set names this place as a cell.
 abbrev pub IsUnnamed : NamedProgram → List Ref → (place : ℕ) → Type 0

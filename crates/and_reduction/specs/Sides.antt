@@ -6,7 +6,7 @@ use Rattle.and_model.specs.declared.reference.Ref.{Ref}
 use Rattle.and_cells.specs.Ranges.{NamedProgram}
 use Rattle.and_cells.specs.Rows.{IsSound}
 use Rattle.and_branch_laws.specs.Running.{IsRead, AreRead}
-use Rattle.and_determinacy.specs.Watching.{Grows, AreFree}
+use Rattle.and_cells.specs.Seen.{Grows, AreFree}
 use Rattle.and_reduction.specs.declared.running.Ran.{Ran}
 use Rattle.and_reduction.specs.declared.running.Ran.TheVariants as run
 use Rattle.and_determinacy.specs.declared.guards.Side.{Side}

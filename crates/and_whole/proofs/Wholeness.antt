@@ -10,7 +10,7 @@ use Rattle.and_model.specs.declared.reference.Ref.TheVariants.{Free, Node, Numbe
 use Rattle.and_program.specs.Skeletons.{node_term}
 use Rattle.and_cells.specs.Ranges.{NamedProgram, CanHold}
 use Rattle.and_cells.specs.Seen.{word_at}
-use Rattle.and_branch.specs.declared.parts.Frame.{Frame}
+use Rattle.and_model.specs.declared.goal.Frame.{Frame}
 use Rattle.and_whole.specs.Places.{AreBelow, IsInPlace, IsVariableCell, IsWhole, IsWholeFrame, NamesVariables}
 use Rattle.and_whole.proofs.Loops.{each_next}
 

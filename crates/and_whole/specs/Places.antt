@@ -11,7 +11,7 @@ use Rattle.and_cells.specs.Meaning.{shallow_cells}
 use Rattle.and_cells.specs.Ranges.{NamedProgram, IsInRange}
 use Rattle.and_cells.specs.Rows.{IsSound, plain}
 use Rattle.and_cells.specs.Seen.{word_at, IsWrittenIfNumber}
-use Rattle.and_branch.specs.declared.parts.Frame.{Frame}
+use Rattle.and_model.specs.declared.goal.Frame.{Frame}
 use Rattle.and_unify.specs.declared.pairs.Pair.{Pair}
 
 -- The numbers of the term's variables are below this.

@@ -8,7 +8,7 @@ ghost use Rattle.and_program.specs.Shown.{argument_of};
 ghost use Rattle.and_program.specs.Skeletons.{node_term};
 ghost use Rattle.and_model.specs.Programs.{clause_at};
 ghost use Rattle.and_model.specs.Store.{is_half};
-ghost use Rattle.and_branch.specs.declared.parts.Frame.{Frame};
+ghost use Rattle.and_model.specs.declared.goal.Frame.{Frame};
 ghost use Rattle.and_cells.specs.Parts.{named};
 ghost use Rattle.and_cells.specs.Ranges.{CanHold, IsInRange};
 ghost use Rattle.and_cells.specs.Rows.{plain};
@@ -16,9 +16,8 @@ ghost use Rattle.and_cells.specs.Seen.{word_at, IsWrittenIfNumber};
 ghost use Rattle.and_unify.specs.Pairs.{AreInRange};
 ghost use Rattle.and_whole.specs.Places.{AreBelow, ArePairsWhole, AreSpans, IsInPlace, IsVariableCell, IsVariableOf, IsWhole, IsWholeFrame, NamesVariables, all_frames, frame_of};
 
-use and_branch::Frame;
 use and_cells::LooseCells;
-use and_model::{ClauseNo, NodeNo, ReductionList, Ref};
+use and_model::{ClauseNo, Frame, NodeNo, ReductionList, Ref};
 use and_program::{Loaded, NodeKind};
 use and_unify::PairList;
 use std::alloc::{AllocError, Global};
@@ -104,7 +103,7 @@ pub struct Frames {
 
 impl Model for Frames {
     ghost use Rattle.std.specs.Prelude.{List};
-    ghost use Rattle.and_branch.specs.declared.parts.Frame.{Frame};
+    ghost use Rattle.and_model.specs.declared.goal.Frame.{Frame};
 
     ghost Value = { List Frame };
 

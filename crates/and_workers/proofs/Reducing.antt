@@ -19,7 +19,7 @@ use Rattle.and_program.specs.Skeletons
 use Rattle.and_program.specs.Skeletons.{node_term}
 use Rattle.and_program.specs.Loaded.{nodes_at}
 use Rattle.and_laws.proofs.Deciding.{of_bounds}
-use Rattle.and_reduction.proofs.Goals.{clause_there}
+use Rattle.and_branch_laws.proofs.Clauses.{goal_clause_there}
 use Rattle.and_branch_laws.specs.OwnVariables.{IsLoaded}
 use Rattle.and_branch_laws.specs.Reducing.{reduction_in_cells}
 use Rattle.and_cells.specs.Ranges.{NamedProgram, IsInRange}
@@ -306,7 +306,7 @@ module _ (P : NamedProgram) (loaded : IsLoaded P) (told now : Told) (goal : Goal
       → Asks P p.store.about.words AreWhole its_pairs (reduction_in_cells P.program goal clause.0 floor)
   its_asks none =
       let within = takes.within in
-      reduction_asked P loaded p.store.about.words goal n over_pass (clause_there P loaded p.store.about.words goal over_pass.in_range) clause.0 floor there
+      reduction_asked P loaded p.store.about.words goal n over_pass (goal_clause_there P loaded p.store.about.words goal over_pass.in_range) clause.0 floor there
       (omega arith) (omega arith) none
 
   pub reduced_at_work : has_fail (nodes_at P.skeleton clause.0).items ≡ false → IsAtWork P now its_pairs waiting q

@@ -17,7 +17,7 @@ use crate::told::{Cause, Ran};
 use crate::worker::{Reducer, Shared, Turn, Turned};
 use and_arith::{Valued, compare, value};
 use and_cells::{Cells, Naming};
-use and_io::Gate;
+use and_gate::Gate;
 use and_model::{ClauseNo, Goal, NodeNo, Ref, Relation};
 use and_store::Worker;
 use std::alloc::AllocError;

@@ -21,7 +21,7 @@ use crate::items::goal_in;
 use crate::told::{Cause, Reduced};
 use crate::worker::{Reducer, Shared, Turn, Turned};
 use and_cells::Naming;
-use and_io::Gate;
+use and_gate::Gate;
 use and_model::limits::MAX_LIMIT;
 use and_model::{ClauseNo, Goal, NodeNo, Reduction};
 use and_program::{ItemNode, Loaded};

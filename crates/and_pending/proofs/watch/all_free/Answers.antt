@@ -3,7 +3,7 @@ use Rattle.std.proofs.lemmas.List.{take_all}
 use Rattle.std.proofs.lemmas.List.Elements.{All-more}
 use Rattle.and_model.specs.declared.reference.Ref.TheVariants.{Free}
 use Rattle.and_cells.specs.Seen.{word_at}
-use Rattle.and_determinacy.specs.Watching.{AreFree}
+use Rattle.and_cells.specs.Seen.{AreFree}
 use Rattle.and_pending.proofs.watch.all_free.Goals as goal
 
 pub loop-cell-preserved : goal.loop-cell-preserved

@@ -1,5 +1,5 @@
 use Rattle.std.proofs.Common.{take}
-use Rattle.and_determinacy.specs.Watching.{AreFree}
+use Rattle.and_cells.specs.Seen.{AreFree}
 use Rattle.and_pending.proofs.watch.all_free.Given as goal
 
 abbrev pub invariant-loop-cell : goal.invariant-loop-cell

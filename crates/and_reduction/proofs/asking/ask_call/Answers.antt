@@ -12,7 +12,7 @@ use Rattle.and_cells.specs.Parts.{named}
 use Rattle.and_determinacy.specs.Candidates.{CanBeJudged, IsNodeOf}
 use Rattle.and_reduction.proofs.AskedPairs.{call_asked}
 use Rattle.and_reduction.proofs.Goals.{has_node, node_is}
-use Rattle.and_reduction.proofs.Loading.{loaded_is, resolved_is}
+use Rattle.and_branch_laws.proofs.Loading.{loaded_is, resolved_is}
 use Rattle.and_reduction.proofs.asking.ask_call.Goals as goal
 
 -- the node of the call

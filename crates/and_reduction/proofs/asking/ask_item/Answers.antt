@@ -7,7 +7,7 @@ use Rattle.and_branch_laws.specs.Reducing.{body_equations}
 use Rattle.and_branch_laws.specs.Variables.{placed}
 use Rattle.and_reduction.specs.Asking.{Ask, CanBeAsked}
 use Rattle.and_reduction.proofs.AskedPairs.{sides_asked}
-use Rattle.and_reduction.proofs.Loading.{loaded_is, resolved_is}
+use Rattle.and_branch_laws.proofs.Loading.{loaded_is, resolved_is}
 use Rattle.and_reduction.proofs.asking.ask_item.Goals as goal
 
 pub returns-in_ok-push-in-Equal-clause-asked : goal.returns-in_ok-push-in-Equal-clause-asked

@@ -6,7 +6,7 @@ use Rattle.and_program.specs.declared.item.ItemNode.TheVariants.{Call, Fail}
 use Rattle.and_cells.specs.Ranges.{NamedProgram}
 use Rattle.and_reduction.specs.Asking.{CanBeAsked}
 use Rattle.and_reduction.proofs.AskedPairs.{body_of, nth_node, has_fail}
-use Rattle.and_reduction.proofs.Loading.{loaded_is}
+use Rattle.and_branch_laws.proofs.Loading.{loaded_is}
 use Rattle.and_reduction.proofs.NewFrames.{item_can_be_asked}
 use Rattle.and_reduction.proofs.asking.ask_items.Goals as goal
 

@@ -2,7 +2,7 @@ use Rattle.std.proofs.Common.{◌+◌, w64, subst, arith}
 use Rattle.std.proofs.lemmas.Int.{to_z-of_z}
 use Rattle.and_branch_laws.specs.Settling.{IsWritten}
 use Rattle.and_reduction.proofs.AskedNumbers.{number_asked, number_assigned, number_refused}
-use Rattle.and_reduction.proofs.Loading.{loaded_is, resolved_is}
+use Rattle.and_branch_laws.proofs.Loading.{loaded_is, resolved_is}
 use Rattle.and_reduction.proofs.NotedSteps.{assigning_noted}
 use Rattle.and_reduction.proofs.Numbers.{still_settled, nothing_new}
 use Rattle.and_reduction.proofs.running.assign.Goals as goal

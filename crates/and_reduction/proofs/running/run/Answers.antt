@@ -15,7 +15,7 @@ use Rattle.and_reduction.specs.Sides.{IsComparison}
 use Rattle.and_reduction.specs.Trails.{KeepsNoted}
 use Rattle.and_reduction.proofs.Goals.{node_found, no_call, no_equal, no_fail, arithmetic_here, item_so, compared_reads, assigned_reads}
 use Rattle.and_reduction.proofs.Goals.{pair_in_range, can_be_assigned}
-use Rattle.and_reduction.proofs.Loading.{loaded_is}
+use Rattle.and_branch_laws.proofs.Loading.{loaded_is}
 use Rattle.and_reduction.proofs.Outcomes.{comparison_waits, comparison_waits_for, comparison_done, comparison_fails}
 use Rattle.and_reduction.proofs.Outcomes.{is_waits, is_waits_for, is_valueless, is_assigned, is_refused}
 use Rattle.and_reduction.proofs.Noting.{unchanged_noted, any_noted}

@@ -3,7 +3,7 @@ use Rattle.std.proofs.lemmas.Result.{on_ok_weaker}
 use Rattle.and_model.specs.Programs.{clause_at, clause_weight}
 use Rattle.and_reduction.specs.Frames.{IsCallBelow}
 use Rattle.and_reduction.proofs.Goals.{call_cells}
-use Rattle.and_reduction.proofs.Loading.{loaded_is}
+use Rattle.and_branch_laws.proofs.Loading.{loaded_is}
 use Rattle.and_reduction.proofs.NewFrames.{call_below}
 use Rattle.and_reduction.proofs.NotedSteps.{framed_noted}
 use Rattle.and_reduction.proofs.taking.take.Goals as goal

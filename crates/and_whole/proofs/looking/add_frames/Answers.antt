@@ -1,6 +1,6 @@
 use Rattle.std.proofs.Common.{◌++◌, ◌∷◌, [], List, map, take, ap, sym, ◌∙◌, append_assoc}
 use Rattle.std.proofs.lemmas.List.{map-append}
-use Rattle.and_branch.specs.declared.parts.Frame.{Frame}
+use Rattle.and_model.specs.declared.goal.Frame.{Frame}
 use Rattle.and_model.specs.declared.goal.Reduction.{Reduction}
 use Rattle.and_whole.specs.Places.{frame_of}
 use Rattle.and_whole.proofs.Loops.{next_got}

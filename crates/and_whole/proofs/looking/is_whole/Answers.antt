@@ -1,5 +1,5 @@
 use Rattle.std.proofs.Common.{Ok, List, All, ap, subst, arith}
-use Rattle.and_branch.specs.declared.parts.Frame.{Frame}
+use Rattle.and_model.specs.declared.goal.Frame.{Frame}
 use Rattle.and_cells.specs.Parts.{named}
 use Rattle.and_model.specs.declared.reference.Ref.{Ref}
 use Rattle.and_program.specs.Loaded.{program_of, skeleton_of}

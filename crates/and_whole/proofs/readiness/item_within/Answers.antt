@@ -1,6 +1,6 @@
 use Rattle.std.proofs.Common.{refl, arith}
 use Rattle.and_cells.specs.Parts.{named}
-use Rattle.and_reduction.proofs.Loading.{loaded_is}
+use Rattle.and_branch_laws.proofs.Loading.{loaded_is}
 use Rattle.and_whole.proofs.ReadyGoals.{item_is, in_range}
 use Rattle.and_whole.proofs.readiness.item_within.Goals as goal
 

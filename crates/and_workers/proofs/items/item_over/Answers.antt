@@ -5,7 +5,7 @@ use Rattle.std.specs.Option.{option_map}
 use Rattle.and_program.specs.Items.{node_item}
 use Rattle.and_program.specs.Skeletons.{NodeItem}
 use Rattle.and_cells.specs.Parts.{named}
-use Rattle.and_reduction.proofs.Loading.{loaded_is}
+use Rattle.and_branch_laws.proofs.Loading.{loaded_is}
 use Rattle.and_workers.specs.Items.{IsItemOver}
 use Rattle.and_workers.proofs.Placed.{is_item_over, copied_is}
 use Rattle.and_workers.proofs.items.item_over.Goals as goal

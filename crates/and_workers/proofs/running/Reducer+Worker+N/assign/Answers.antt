@@ -6,7 +6,7 @@ use Rattle.and_cells.specs.Ranges.{NamedProgram, IsPairInRange}
 use Rattle.and_cells.specs.Meaning.{Words}
 use Rattle.and_unify.specs.Pairs.{NameNoHalf}
 use Rattle.and_unify.specs.declared.pairs.Pair.{Pair}
-use Rattle.and_reduction.proofs.Loading.{loaded_is, resolved_is}
+use Rattle.and_branch_laws.proofs.Loading.{loaded_is, resolved_is}
 use Rattle.and_store.specs.Passes.{PassSeen, StoreId}
 use Rattle.and_workers.specs.AtWork.{IsAtWork}
 use Rattle.and_workers.specs.Handed.{FitsSeen}

@@ -6,7 +6,7 @@ use Rattle.and_cells.specs.Parts.{part_at}
 use Rattle.and_cells.specs.Ranges.{IsInRange}
 use Rattle.and_arith.specs.Values.{HasValue, Reaches}
 use Rattle.and_determinacy.proofs.TriedClauses as tried
-use Rattle.and_reduction.proofs.Loading.{falls_in, resolved_is}
+use Rattle.and_branch_laws.proofs.Loading.{falls_in, resolved_is}
 use Rattle.and_store.specs.Worked.{seen_by}
 use Rattle.and_workers.proofs.Learning.{reads_learnt}
 use Rattle.and_workers.proofs.Values.{number_is_known, reached_in_range}

@@ -13,7 +13,7 @@ use Rattle.and_store.specs.Passes.{PassSeen, StoreId}
 use Rattle.and_store.specs.Worked.{seen_by}
 use Rattle.and_unify.specs.Pairs.{NameNoHalf}
 use Rattle.and_unify.specs.declared.pairs.Pair.{Pair}
-use Rattle.and_reduction.proofs.Loading.{loaded_is}
+use Rattle.and_branch_laws.proofs.Loading.{loaded_is}
 use Rattle.and_workers.specs.Asking.{Notes, call_pair, item_pairs, has_fail}
 use Rattle.and_workers.specs.AtWork.{IsAtWork, IsTurned}
 use Rattle.and_workers.specs.Handed.{FitsSeen}

@@ -1,7 +1,7 @@
 use Rattle.std.proofs.Common.{◌<◌, [], ◌∙◌, subst}
 use Rattle.and_store.specs.Passes.{StoreId}
 use Rattle.and_store.specs.Worked.{seen_by}
-use Rattle.and_reduction.proofs.Loading.{falls_in}
+use Rattle.and_branch_laws.proofs.Loading.{falls_in}
 use Rattle.and_workers.proofs.Waited.{awaited_is_low}
 use Rattle.and_workers.proofs.Working.{reads_at_work}
 use Rattle.and_workers.proofs.taking.Reducer+Worker+N.wait_for_argument.Goals as goal
