@@ -2,21 +2,16 @@
 use Rattle.std.proofs.Common.{◌≡◌, ℕ, ◌+◌, ◌≤◌, List, ◌++◌, Option, Some, None, length, take, drop, ◌-◌, arith, ap, sym, ◌∙◌, append_assoc}
 use Rattle.std.proofs.lemmas.Grind.{common_steps}
 use Rattle.std.proofs.Math.Seq.{take-add}
-use Rattle.and_io.specs.Flow.{Stays, Takes, Gains}
+use Rattle.and_io.specs.Flow.{Stays, Takes}
 
 -- a count that stays in each of two calls stays in both
 pub stays_on : (last : Option ℕ) (a b c : ℕ) → Stays last a b → Stays last b c → Stays last a c
 stays_on None a b c first then = tt
 stays_on (Some last) a b c first then = λ at. then (first at)
 
--- what two calls gain stands in their order
-pub gains_more : (a b c : Option (List ℕ)) (xs ys zs : List ℕ) → xs ++ ys ≡ zs → Gains a b xs → Gains b c ys → Gains a c zs
-gains_more None None c xs ys zs joined first then = then
-gains_more None (Some b) c xs ys zs joined first then = absurd (cc)
-gains_more (Some a) None None xs ys zs joined first then = tt
-gains_more (Some a) None (Some c) xs ys zs joined first then = absurd (cc)
-gains_more (Some a) (Some b) None xs ys zs joined first then = tt
-gains_more (Some a) (Some b) (Some c) xs ys zs joined first then =
+-- what two calls add stands in their order
+pub adds_more : (a b c xs ys zs : List ℕ) → xs ++ ys ≡ zs → b ≡ a ++ xs → c ≡ b ++ ys → c ≡ a ++ zs
+adds_more a b c xs ys zs joined first then =
     then ∙ ap (λ l. l ++ ys) first ∙ append_assoc a xs ys ∙ ap (λ l. a ++ l) joined
 
 -- a piece of what stands behind k goes on behind the first k

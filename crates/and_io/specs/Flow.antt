@@ -1,5 +1,5 @@
--- What a call on a source or a sink may do to the bytes that are told, and to the count of faults.
--- All of it is this project's own. Bytes that are not told are `None`.
+-- What a call on a source may do to the bytes that are left, and what a call on a source or a sink may do to the count of faults.
+-- All of it is this project's own. Where a source does not tell what is left, that is `None`.
 use Rattle.std.specs.Prelude.{◌≡◌, ℕ, ◌<◌, ◌≤◌, ◌⊎◌, List, ◌++◌, length, Option, Some, None}
 
 -- The count of faults rose, or stands at its last value, where it has one
@@ -26,10 +26,3 @@ AreAll (Some left) bytes = left ≡ bytes
 -- Some front of what was left was taken, of at most so many bytes
 abbrev pub TakesAtMost : ℕ → Option (List ℕ) → Option (List ℕ) → Type 0
 TakesAtMost most old new = (bytes : List ℕ) × Takes old new bytes × (length bytes ≤ most)
-
--- These bytes stand behind what was held, where that is told before and after. A sink that does not
--- tell its bytes never tells them later
-abbrev pub Gains : Option (List ℕ) → Option (List ℕ) → List ℕ → Type 0
-Gains None new bytes = new ≡ None
-Gains (Some old) None bytes = Unit {0}
-Gains (Some old) (Some new) bytes = new ≡ old ++ bytes

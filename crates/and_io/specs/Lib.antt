@@ -1,4 +1,5 @@
 pub mod Flow
 pub mod Memory
 pub mod ReadAll
+pub mod Std
 pub mod Sure

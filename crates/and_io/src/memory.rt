@@ -23,12 +23,13 @@ pub struct MemorySource {
 }
 
 impl Model for MemorySource {
-    ghost use Rattle.std.specs.Prelude.{ℕ, ◌<◌, ◌≤◌, ◌≢◌, drop, length, All};
+    ghost use Rattle.std.specs.Prelude.{ℕ, ◌<◌, ◌≤◌, ◌≢◌, drop, length, take, All};
     ghost use Rattle.and_io.specs.Memory.{Feed, most};
 
     ghost Value = { Feed };
 
     ghost view = { λ s. record {
+      taken = take s.at s.text;
       bytes = drop s.at s.text;
       piece = s.piece;
       fails = s.fails;
@@ -56,6 +57,7 @@ impl MemorySource {
     pub fn new(bytes: Text, piece: usize, fails: CallList) -> MemorySource
         requires some { 0 < piece }
         requires last_is_free { All (λ call. call ≢ most) fails }
+        ensures taken { result.taken ≡ [] }
         ensures bytes { result.bytes ≡ bytes }
         ensures piece { result.piece ≡ piece }
         ensures fails { result.fails ≡ fails }
@@ -82,6 +84,7 @@ impl MemorySource {
     /// Moves some of the bytes that are left to the front of `into`, and gives their number.
     fn give(&mut self, into: &mut [u8]) -> usize
         ensures given { result ≡ given_to (length into.old) self.old }
+        ensures taken { self.new.taken ≡ self.old.taken ++ take result into.new }
         ensures front { Takes (Some self.old.bytes) (Some self.new.bytes) (take result into.new) }
         ensures end { result ≡ 0 → 0 < length into.old → self.old.bytes ≡ [] }
         ensures piece { self.new.piece ≡ self.old.piece }
@@ -98,6 +101,10 @@ impl MemorySource {
 }
 
 impl Source for MemorySource {
+    ghost taken = { λ s. s.taken };
+
+    ghost ended = { λ s. s.bytes ≡ [] };
+
     ghost left = { λ s. Some s.bytes };
 
     ghost faults = { λ s. s.faults };
@@ -112,6 +119,8 @@ impl Source for MemorySource {
 
         // The bytes.
         ensures given { OnOk result (result ≡ Ok (given_to (length into.old) self.old)) }
+        ensures taken { IfOk result (λ n. self.new.taken ≡ self.old.taken ++ take n into.new) }
+        ensures none_taken { OnErr result (self.new.taken ≡ self.old.taken) }
         ensures front { IfOk result (λ n. Takes (Some self.old.bytes) (Some self.new.bytes) (take n into.new)) }
         ensures end { IfOk result (λ n. n ≡ 0 → 0 < length into.old → self.old.bytes ≡ []) }
         ensures kept { OnErr result (self.new.bytes ≡ self.old.bytes) }
@@ -183,7 +192,7 @@ impl MemorySink {
 }
 
 impl Sink for MemorySink {
-    ghost held = { λ s. Some s.bytes };
+    ghost given = { λ s. s.bytes };
 
     ghost faults = { λ s. s.faults };
 
@@ -213,108 +222,5 @@ impl Sink for MemorySink {
         }
         self.kept.extend_from_slice(&from[..n]).unwrap();
         Ok(n)
-    }
-}
-
-#[cfg(test)]
-mod tests {
-    use super::*;
-    use crate::reading::{ReadAll, ReadStop, read_all};
-    use crate::writing::{Stopped, write_all_counted};
-    use std::test::Fail;
-
-    /// A source of ten bytes, four at a time, that fails in two calls.
-    fn source(alloc: Global, first: u64, second: u64) -> Result<MemorySource, AllocError>
-        requires first { first < 100 }
-        requires second { second < 100 }
-    {
-        let mut fails = CallList::new(alloc);
-        if fails.push(first).is_err() || fails.push(second).is_err() {
-            return Err(AllocError);
-        }
-        Ok(MemorySource::new(Text::of(alloc, b"hello, you")?, 4, fails))
-    }
-
-    fn is_whole(read: &ReadAll, bytes: &[u8]) -> bool {
-        match read {
-            ReadAll::Whole(text) => text.bytes() == bytes,
-            ReadAll::Over(_) => false,
-        }
-    }
-
-    #[test]
-    fn gives_a_piece_at_a_time(rt: HostRuntime) -> Result<(), Fail> {
-        let mut source = source(rt.alloc(), 0, 0)?;
-        let mut into = [0u8; 8];
-        assert_eq!(rt; source.read(&mut into), Ok(4));
-        assert_eq!(rt; &into[..4], b"hell".as_slice());
-        let mut few = [0u8; 3];
-        assert_eq!(rt; source.read(&mut few), Ok(3));
-        assert_eq!(rt; few.as_slice(), b"o, ".as_slice());
-        assert_eq!(rt; source.read(&mut into), Ok(3));
-        assert_eq!(rt; source.read(&mut into), Ok(0));
-        assert_eq!(rt; source.calls(), 4);
-        Ok(())
-    }
-
-    #[test]
-    fn fails_in_the_calls_that_it_is_told(rt: HostRuntime) -> Result<(), Fail> {
-        let mut source = source(rt.alloc(), 2, 3)?;
-        let mut into = [0u8; 8];
-        assert_eq!(rt; source.read(&mut into), Ok(4));
-        assert_eq!(rt; source.read(&mut into), Err(Failed));
-        assert_eq!(rt; source.read(&mut into), Err(Failed));
-        assert_eq!(rt; source.faults, 2);
-        assert_eq!(rt; source.read(&mut into), Ok(4));
-        assert_eq!(rt; &into[..4], b"o, y".as_slice());
-        assert_eq!(rt; source.calls(), 4);
-        assert_eq!(rt; source.faults, 2);
-        Ok(())
-    }
-
-    #[test]
-    fn a_failed_read_stops_reading(rt: HostRuntime) -> Result<(), Fail> {
-        let alloc = rt.alloc();
-        for call in 1..=4 {
-            let mut source = source(alloc, call, call)?;
-            assert_eq!(rt;
-                read_all(alloc, &mut source, 100).err(),
-                Some(ReadStop::Failed)
-            );
-            assert_eq!(rt; source.calls(), call);
-        }
-        let mut source = source(alloc, 5, 9)?;
-        assert!(rt; is_whole(&read_all(alloc, &mut source, 100)?, b"hello, you"));
-        Ok(())
-    }
-
-    #[test]
-    fn a_full_sink_fails(rt: HostRuntime) -> Result<(), Fail> {
-        let mut sink = MemorySink::new(rt.alloc(), 4)?;
-        assert_eq!(rt; sink.write(b"abc"), Ok(3));
-        assert_eq!(rt; sink.write(b"def"), Ok(1));
-        assert_eq!(rt; sink.write(b""), Ok(0));
-        assert_eq!(rt; sink.faults, 0);
-        assert_eq!(rt; sink.write(b"g"), Err(Failed));
-        assert_eq!(rt; sink.held(), b"abcd".as_slice());
-        assert_eq!(rt; sink.calls(), 4);
-        assert_eq!(rt; sink.faults, 1);
-        Ok(())
-    }
-
-    #[test]
-    fn writing_stops_at_a_full_sink(rt: HostRuntime) -> Result<(), Fail> {
-        let mut sink = MemorySink::new(rt.alloc(), 5)?;
-        assert_eq!(rt;
-            write_all_counted(&mut sink, b"hello, you"),
-            Err(Stopped { written: 5 })
-        );
-        assert_eq!(rt; sink.held(), b"hello".as_slice());
-        assert_eq!(rt; sink.calls(), 2);
-        let mut sink = MemorySink::new(rt.alloc(), 10)?;
-        assert_eq!(rt; write_all_counted(&mut sink, b"hello, you"), Ok(()));
-        assert_eq!(rt; sink.held(), b"hello, you".as_slice());
-        assert_eq!(rt; sink.calls(), 1);
-        Ok(())
     }
 }

@@ -1,6 +1,6 @@
 //! Writing all bytes, and counting those that went.
-ghost use Rattle.std.specs.Prelude.{◌<◌, ◌≤◌, length, take, OnOk, OnErr, IfErr};
-ghost use Rattle.and_io.specs.Flow.{Rose, Stays, Gains};
+ghost use Rattle.std.specs.Prelude.{◌≡◌, ◌<◌, ◌≤◌, ◌++◌, length, take, OnOk, OnErr, IfErr};
+ghost use Rattle.and_io.specs.Flow.{Rose, Stays};
 
 use crate::outside::{Failed, Sink};
 
@@ -11,14 +11,13 @@ pub struct Stopped {
     pub written: usize,
 }
 
-/// Writes all bytes. Where the sink fails, it has gained the first `written` of them. Takes no
+/// Writes all bytes. Where the sink fails, it was given the first `written` of them. Takes no
 /// memory.
 pub fn write_all_counted<K: Sink>(sink: &mut K, bytes: &[u8]) -> Result<(), Stopped>
     // The bytes.
-    ensures all { OnOk result (Gains (K.held sink.old) (K.held sink.new) bytes.now) }
+    ensures all { OnOk result (K.given sink.new ≡ K.given sink.old ++ bytes.now) }
     ensures before_the_end { IfErr result (λ s. s.written < length bytes.now) }
-    ensures first { IfErr result (λ s.
-        Gains (K.held sink.old) (K.held sink.new) (take s.written bytes.now)) }
+    ensures first { IfErr result (λ s. K.given sink.new ≡ K.given sink.old ++ take s.written bytes.now) }
 
     // The faults.
     ensures count { K.faults sink.old ≤ K.faults sink.new }

@@ -1,4 +1,4 @@
-use Rattle.std.proofs.Common.{◌+◌, ◌-◌, ◌≤◌, length}
+use Rattle.std.proofs.Common.{◌≡◌, ◌+◌, ◌-◌, ◌≤◌, ◌++◌, length}
 use Rattle.and_io.specs.Flow.{Stays, Takes}
 use Rattle.and_io.proofs.reading.read_all.Given as goal
 
@@ -6,6 +6,7 @@ abbrev pub invariant-reading : goal.invariant-reading
 invariant-reading g l =
     record {
       within : length l.text ≤ l.limit + 1;
+      gave : g.S.Source.taken l.source ≡ g.S.Source.taken l.initial.source ++ l.text;
       taken : Takes (g.S.Source.left l.initial.source) (g.S.Source.left l.source) l.text;
       count : g.S.Source.faults l.initial.source ≤ g.S.Source.faults l.source;
       stays : Stays g.S.Source.last (g.S.Source.faults l.initial.source) (g.S.Source.faults l.source);
