@@ -1,0 +1,13 @@
+pub mod Arithmetics
+pub mod Fronts
+pub mod Instances
+pub mod Reading
+pub mod Resolving
+pub mod Relevant
+pub mod Strict
+pub mod Meeting
+pub mod Queries
+pub mod Computed
+pub mod Pure
+pub mod Variants
+pub mod Trials

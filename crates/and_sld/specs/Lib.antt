@@ -1,0 +1,5 @@
+pub mod Resolution
+pub mod Relevant
+pub mod Atoms
+pub mod Computed
+pub mod Trials
