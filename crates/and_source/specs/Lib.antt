@@ -1,0 +1,4 @@
+pub mod Source
+pub mod Unfolding
+pub mod SourceListing
+pub mod Lifted
