@@ -8,10 +8,10 @@ use Rattle.and_team_laws.specs.Owed.{SameItems}
 
 module _ {A : Type 0} (is_same : A → A → Bool) (same : (x y : A) → is_same x y ≡ true → x ≡ y) (own : (x : A) → is_same x x ≡ true) where
   -- 1 at the item
-  abbrev at_item : A → A → ℕ
+  abbrev pub at_item : A → A → ℕ
   at_item x y = cond (is_same x y) 1 0
 
-  contains_counts : (x : A) (xs : List A) → Contains xs x → 1 ≤ sum_by (at_item x) xs
+  pub contains_counts : (x : A) (xs : List A) → Contains xs x → 1 ≤ sum_by (at_item x) xs
   contains_counts x [] h = absurd (contains_none x h)
   contains_counts x (y ∷ ys) h =
       let whole = sum_by-cons (at_item x) y ys in
@@ -20,7 +20,7 @@ module _ {A : Type 0} (is_same : A → A → Bool) (same : (x y : A) → is_same
         | inr i ↦ (let rest = contains_counts x ys i in omega arith)
       ]
 
-  counts_contains : (x : A) (xs : List A) → 1 ≤ sum_by (at_item x) xs → Contains xs x
+  pub counts_contains : (x : A) (xs : List A) → 1 ≤ sum_by (at_item x) xs → Contains xs x
   counts_contains x [] some = absurd (omega arith)
   counts_contains x (y ∷ ys) some = by_test (is_same x y) refl (counts_contains x ys)
     where

@@ -12,3 +12,9 @@ pub mod Teams
 pub mod Counted
 pub mod Forking
 pub mod Listed
+pub mod Once
+pub mod OneFork
+pub mod Justified
+pub mod ForkedOnce
+pub mod Sorting
+pub mod Agreeing

@@ -22,7 +22,7 @@ use Rattle.and_team_laws.proofs.Roots.{from_query, from_split}
 use Rattle.and_team_laws.proofs.Owing.{any_root, any_walked, any_forked, any_none}
 
 -- The key that a fork or an end takes is in hand.
-abbrev IsHeld : State → Event → Type 0
+abbrev pub IsHeld : State → Event → Type 0
 IsHeld s (fork team key longer clauses) = Holds s team key
 IsHeld s (publish team cell key) = Unit {0}
 IsHeld s (claim team cell serial) = Unit {0}
@@ -31,7 +31,7 @@ IsHeld s (end team key how) = Holds s team key
 IsHeld s (look team cell) = Unit {0}
 IsHeld s (left team) = Unit {0}
 
-is_held : (s next : State) (event : Event) (reply : Reply) → Does s event reply next → IsHeld s event
+pub is_held : (s next : State) (event : Event) (reply : Reply) → Does s event reply next → IsHeld s event
 is_held s next event reply (Does.forks team key longer clauses held is_prefix) = held
 is_held s next event reply (Does.finds_spent team cell key is_cell owns held is) = tt
 is_held s next event reply (Does.finds_not_free team cell key is_cell owns held is other) = tt
@@ -44,7 +44,7 @@ is_held s next event reply (Does.looks team cell is_team is_cell) = tt
 is_held s next event reply (Does.counts team is_team) = tt
 
 -- An event that only moves a key, or asks, changes no sum over the keys.
-moves_none : (f : Key → ℕ) (s next : State) (event : Event) (reply : Reply) → IsPassing event → Does s event reply next
+pub moves_none : (f : Key → ℕ) (s next : State) (event : Event) (reply : Reply) → IsPassing event → Does s event reply next
     → sum_by f (keys_left next) ≡ sum_by f (keys_left s)
 moves_none f s next (fork team key longer clauses) reply is does = absurd is
 moves_none f s next (publish team cell key) reply is does = let kept = keys_are_kept f s next (publish team cell key) reply does in omega arith
@@ -55,11 +55,11 @@ moves_none f s next (look team cell) reply is does = let kept = keys_are_kept f 
 moves_none f s next (left team) reply is does = let kept = keys_are_kept f s next (left team) reply does in omega arith
 
 -- 1 at the key
-abbrev at_key : Key → Key → ℕ
+abbrev pub at_key : Key → Key → ℕ
 at_key key k = cond (pointwise nat_eq key k) 1 0
 
 -- A key in hand is among those that are left.
-held_counts : (s : State) (team : ℕ) (key : Key) → Holds s team key → 1 ≤ sum_by (at_key key) (keys_left s)
+pub held_counts : (s : State) (team : ℕ) (key : Key) → Holds s team key → 1 ≤ sum_by (at_key key) (keys_left s)
 held_counts s team key held =
     let one : at_key key key ≡ 1 = ap (λ b. cond b 1 0) ((bytes_decides key key).1 refl) in
     let kept = total_keys (at_key key) s team key [] held in

@@ -29,6 +29,15 @@ module _ (P : Program) (limit : ℕ) where
     pub fitting : (c : ℕ) → Contains clauses c ↔ ((next : QueryTree P) × Split t c next × (weight next ≤ limit))
     pub heavy : (is_cut ≡ true) ↔ ((c : ℕ) × (next : QueryTree P) × Split t c next × (limit < weight next))
 
+  -- The fork is of the leftmost goal of a Shut tree that is reached by its key, by exactly those of the goal's candidates that
+  -- fit.
+  pub record IsJustified (x : Fork) : Type 0 where
+    pub tree : QueryTree P
+    pub is_cut : Bool
+    pub reached : ReachedBy P limit x.key tree
+    pub longer : x.decided ≡ decided tree
+    pub splits : IsForkedBy tree x.candidates is_cut
+
   -- Did event entries forks failed is_cut: what the event found and counted, and whether it cut off anything. A key ends for a tree that is
   -- reached by it, and whose walk finds one entry and counts nothing, or finds nothing. (All clauses of a goal may be too heavy: the
   -- walk counts a fork then, and is cut.) No key is given up.
@@ -93,12 +102,17 @@ answered_so answered key = key ∷ []
 answered_so retired key = []
 answered_so given_up key = []
 
+abbrev pub retired_so : Ending → Key → List Key
+retired_so answered key = []
+retired_so retired key = key ∷ []
+retired_so given_up key = []
+
 abbrev pub given_up_so : Ending → Key → List Key
 given_up_so answered key = []
 given_up_so retired key = []
 given_up_so given_up key = key ∷ []
 
--- the key that an event answers, or gives up
+-- the key that an event answers, retires or gives up
 abbrev pub answered_in : Event → List Key
 answered_in (fork team key longer clauses) = []
 answered_in (publish team cell key) = []
@@ -107,6 +121,15 @@ answered_in (clear team cell) = []
 answered_in (end team key how) = answered_so how key
 answered_in (look team cell) = []
 answered_in (left team) = []
+
+abbrev pub retired_in : Event → List Key
+retired_in (fork team key longer clauses) = []
+retired_in (publish team cell key) = []
+retired_in (claim team cell serial) = []
+retired_in (clear team cell) = []
+retired_in (end team key how) = retired_so how key
+retired_in (look team cell) = []
+retired_in (left team) = []
 
 abbrev pub given_up_in : Event → List Key
 given_up_in (fork team key longer clauses) = []
@@ -119,6 +142,9 @@ given_up_in (left team) = []
 
 abbrev pub keys_answered : List HistoryEntry → List Key
 keys_answered history = flat_map (λ (e : HistoryEntry). answered_in e.event) history
+
+abbrev pub keys_retired : List HistoryEntry → List Key
+keys_retired history = flat_map (λ (e : HistoryEntry). retired_in e.event) history
 
 abbrev pub keys_given_up : List HistoryEntry → List Key
 keys_given_up history = flat_map (λ (e : HistoryEntry). given_up_in e.event) history

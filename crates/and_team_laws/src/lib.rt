@@ -8,15 +8,16 @@
 ghost use Rattle.std.specs.Prelude.{ℕ, ◌≡◌, ◌≢◌, ◌+◌, ◌≤◌, ◌<◌, ◌↔◌, Bool, false, ◌||◌, List, [], ◌∷◌, ◌++◌, All, AllPairs, Contains, length};
 ghost use Rattle.and_model.specs.Programs.{Program};
 ghost use Rattle.and_model.specs.Trees.{QueryTree, query_agenda, blank, decided, weight};
-ghost use Rattle.and_model.specs.Reached.{Steps, Split, ReachedBy, Fork, Forks};
+ghost use Rattle.and_model.specs.Reached.{Steps, Split, ReachedBy, Fork};
 ghost use Rattle.and_model.specs.Listing.{Entry, Listing};
 ghost use Rattle.and_histories.specs.PlainTree.{State, opening, left_of};
 ghost use Rattle.and_histories.specs.Histories.{HistoryEntry, Carries, team_of};
 ghost use Rattle.and_histories.specs.Covering.{AreCovering};
-ghost use Rattle.and_laws.specs.CodeOrder.{Before, Rises};
+ghost use Rattle.and_laws.specs.CodeOrder.{Before};
 ghost use Rattle.and_walk_laws.specs.Walks.{Walks, SplitsBy};
 ghost use Rattle.and_team_laws.specs.Owed.{SameItems, OwesAnyhow};
-ghost use Rattle.and_team_laws.specs.Done.{Did, DidAll, IsForkedBy, Part, DidParts, all_parts, forks_of, keys_answered, keys_given_up, AreAnswers};
+ghost use Rattle.and_team_laws.specs.Done.{Did, DidAll, IsForkedBy, IsJustified, Part, DidParts, all_parts, forks_of, keys_answered, keys_given_up, AreAnswers};
+ghost use Rattle.and_team_laws.specs.Runs.{WholeRun, AreInOrder, AreForksOfQuery};
 
 /// One root: all trees that are reached by the empty key come by Steps from the query; and those that
 /// are reached by the key of a split come by Steps from this split.
@@ -102,12 +103,55 @@ pub fn answers_told()
         → DidAll P limit history entries forks failed is_cut → keys_given_up history ≡ [] }
 {}
 
-/// Forks in order: where nothing was cut off, the forks of the history, put in the order of their keys,
-/// are those of the exploration of the query.
+/// Forks are justified: each fork of a history that did something, cut off or not, is of the leftmost
+/// goal of a Shut tree that is reached by its key, by exactly those of its candidates that fit.
+pub fn forks_are_justified()
+    ensures { (P : Program) (limit : ℕ) (history : List HistoryEntry) (entries : List Entry) (forks failed : ℕ)
+        (is_cut : Bool) → DidAll P limit history entries forks failed is_cut
+        → All (λ (x : Fork). IsJustified P limit x) (forks_of history) }
+{}
+
+/// No key is forked twice, whatever was cut off; so the forks of a history can be put in the order of
+/// their keys.
+pub fn no_key_is_forked_twice()
+    ensures once { (P : Program) (limit teams : ℕ) (history : List HistoryEntry) (s : State) (entries : List Entry)
+        (forks failed : ℕ) (is_cut : Bool) → 0 < teams → Carries (opening teams) history s
+        → DidAll P limit history entries forks failed is_cut
+        → AllPairs (λ (x y : Fork). x.key ≢ y.key) (forks_of history) }
+    ensures order { (P : Program) (limit teams : ℕ) (history : List HistoryEntry) (s : State) (entries : List Entry)
+        (forks failed : ℕ) (is_cut : Bool) → 0 < teams → Carries (opening teams) history s
+        → DidAll P limit history entries forks failed is_cut → (ordered : List Fork) × AreInOrder history ordered }
+{}
+
+/// Forks in order: where nothing was cut off, the forks of the history can be put in the order of their
+/// keys, and so they are those of the exploration of the query, and as many as were counted.
 pub fn forks_in_order()
-    ensures { (P : Program) (limit teams : ℕ) (history : List HistoryEntry) (s : State) (entries : List Entry) (forks failed : ℕ)
-        → 0 < teams → weight (blank {P = P} (query_agenda P)) ≤ limit → Carries (opening teams) history s → left_of s ≡ 0
-        → DidAll P limit history entries forks failed false
-        → (ordered : List Fork) → SameItems (forks_of history) ordered → AllPairs Rises ordered
-        → Forks (blank {P = P} (query_agenda P)) [] ordered }
+    ensures some_order { (P : Program) (limit teams : ℕ) (history : List HistoryEntry) (entries : List Entry)
+        (forks failed : ℕ) → WholeRun P limit teams history entries forks failed false
+        → (ordered : List Fork) × AreForksOfQuery P history ordered × (forks ≡ length (forks_of history)) }
+    ensures each_order { (P : Program) (limit teams : ℕ) (history : List HistoryEntry) (entries : List Entry)
+        (forks failed : ℕ) → WholeRun P limit teams history entries forks failed false
+        → (ordered : List Fork) → AreInOrder history ordered → AreForksOfQuery P history ordered }
+{}
+
+/// Runs agree: two runs of a program in which nothing was cut off, at any limits, by any number of
+/// teams, and whatever their workers and schedules, have made the same forks, which in the order of
+/// their keys are those of the exploration of the query. So they counted as many forks and failures,
+/// and found the same entries.
+pub fn runs_agree()
+    ensures forks { (P : Program) (limit other_limit teams other_teams : ℕ) (history other : List HistoryEntry)
+        (entries others : List Entry) (forks failed other_forks other_failed : ℕ)
+        → WholeRun P limit teams history entries forks failed false
+        → WholeRun P other_limit other_teams other others other_forks other_failed false
+        → (ordered : List Fork) × AreForksOfQuery P history ordered × AreForksOfQuery P other ordered }
+    ensures numbers { (P : Program) (limit other_limit teams other_teams : ℕ) (history other : List HistoryEntry)
+        (entries others : List Entry) (forks failed other_forks other_failed : ℕ)
+        → WholeRun P limit teams history entries forks failed false
+        → WholeRun P other_limit other_teams other others other_forks other_failed false
+        → (forks ≡ other_forks) × (failed ≡ other_failed) }
+    ensures entries { (P : Program) (limit other_limit teams other_teams : ℕ) (history other : List HistoryEntry)
+        (entries others : List Entry) (forks failed other_forks other_failed : ℕ)
+        → WholeRun P limit teams history entries forks failed false
+        → WholeRun P other_limit other_teams other others other_forks other_failed false
+        → SameItems entries others }
 {}

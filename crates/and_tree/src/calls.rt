@@ -96,6 +96,7 @@ impl<B: Keyed + Drop> Tree<B> {
         requires tree { pass.old.tree ≡ self.now }
         requires hand { Contains pass.old.hand (S.fork_of split.now).key }
         requires longer { IsPrefix (S.fork_of split.now).key (S.fork_of split.now).longer }
+        requires is_fork { B.IsFork self.now.about.limit (S.fork_of split.now) }
         requires few { length pass.old.hand + length (S.fork_of split.now).clauses ≤ most_in_hand }
         ensures { Makes (Event.fork pass.old.team (S.fork_of split.now).key (S.fork_of split.now).longer (S.fork_of split.now).clauses) Reply.forked
             pass.old pass.new }

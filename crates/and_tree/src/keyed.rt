@@ -15,6 +15,9 @@ pub trait Keyed {
     /// It stands for its key under this limit.
     ghost Stands: { (limit : ℕ) → Self → Type 0 };
 
+    /// What holds of each fork of a tree of such branches under this limit.
+    ghost IsFork: { (limit : ℕ) → Fork → Type 0 };
+
     /// The key that it keeps. Takes no memory.
     fn key(&self) -> &Code
         ensures { result.now ≡ key_of self.now };

@@ -64,6 +64,7 @@ impl<B: Keyed + Drop> PlainTree<B> {
     pub fn fork<S: Forking>(&mut self, team: u32, split: &S) -> Result<(), AllocError>
         requires hand { Holds self.old.state team (S.fork_of split.now).key }
         requires longer { IsPrefix (S.fork_of split.now).key (S.fork_of split.now).longer }
+        requires is_fork { B.IsFork self.old.limit (S.fork_of split.now) }
         requires few { length (hand_of self.old.state team) + length (S.fork_of split.now).clauses ≤ most_in_hand }
         ensures ok { OnOk result (Turns (Event.fork team (S.fork_of split.now).key (S.fork_of split.now).longer (S.fork_of split.now).clauses) Reply.forked
             self.old self.new) }
