@@ -12,7 +12,7 @@ use Rattle.and_branch_laws.specs.Kept.{node_item_at, HasFreePair}
 use Rattle.and_branch_laws.specs.Settling.{widened, Settled}
 use Rattle.and_branch_laws.proofs.Rows.{widened_words}
 use Rattle.and_reduction.specs.Runs.{HasRun, compared, assigned}
-use Rattle.and_determinacy.specs.Watching.{Grows}
+use Rattle.and_cells.specs.Seen.{Grows}
 use Rattle.and_branch.specs.Watching.{Watched, IsAsleep}
 
 pub grows_not : (row : List Ref) → Grows row row

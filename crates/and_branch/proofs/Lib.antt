@@ -18,7 +18,6 @@ pub mod RootedBranches
 pub mod MovedBranches
 pub mod GoalsRun
 pub mod RoundsDone
-pub mod OneReduced
 pub mod SoughtGoals
 pub mod NodeItems
 pub mod LookedGoals
@@ -26,7 +25,6 @@ pub mod RoundsKept
 pub mod StilledBranches
 pub mod StandingBranches
 pub mod RebuiltBranches
-pub mod FramesRead
 pub mod GrownRows
 pub mod WatchedGoals
 pub mod WaysGone

@@ -1,17 +1,14 @@
 -- Branches whose place of work was moved, and what holds of a branch whose tree has a state.
 use Rattle.std.proofs.Common.{ℕ, ◌≡◌, List, length, refl, ap, sym, ◌∙◌, subst, inl, inr, arith}
-use Rattle.and_model.specs.Trees.{QueryTree, Open}
+use Rattle.and_model.specs.Trees.{QueryTree}
 use Rattle.and_model.specs.Reached.{ReachedBy}
 use Rattle.and_model.specs.Reductions.{Reduction, Makes}
 use Rattle.and_model.specs.Stands.{Framed}
-use Rattle.and_model.specs.declared.goal.Goal.{Goal}
 use Rattle.and_model.specs.declared.reference.Ref.{Ref}
 use Rattle.and_laws.proofs.Placing.{makes_same}
 use Rattle.and_cells.specs.Ranges.{NamedProgram}
 use Rattle.and_branch_laws.specs.Kept.{Kept}
-use Rattle.and_branch_laws.specs.States.{StateOf, failed, determinate}
-use Rattle.and_branch_laws.proofs.OneState
-use Rattle.and_branch.specs.Branches.{Held, Lives, IsBranchOf, IsOpenGoal}
+use Rattle.and_branch.specs.Branches.{Held, Lives, IsBranchOf}
 use Rattle.and_branch.specs.Next.{IsMoved}
 use Rattle.and_branch.specs.Watching.{IsAsleep}
 use Rattle.and_branch.proofs.KeptOrigins.{kept_then, kept_nowhere}
@@ -38,10 +35,6 @@ moved_branch P old new t m x = record {
   state = elim x.state [ inl dead ↦ inl (m.is_failed ∙ dead.0, dead.1) | inr lives ↦ inr (moved_lives P old new t m lives) ];
 }
 
-pub moved_open : (P : NamedProgram) (old new : Held) (t : QueryTree P.program) → IsMoved old new → (o : Open t) (g : Goal)
-    → IsOpenGoal P old.reductions t o g → IsOpenGoal P new.reductions t o g
-moved_open P old new t m o g x = subst (λ (l : List Reduction). IsOpenGoal P l t o g) (sym m.reductions) x
-
 pub moved_twice : (one two three : Held) → IsMoved one two → IsMoved two three → IsMoved one three
 moved_twice one two three m n = record {
   key = n.key ∙ m.key;
@@ -67,16 +60,6 @@ moved_nowhere b = record {
   watches = λ w h. h;
   back = kept_nowhere b;
 }
-
--- A tree that is not failed is not dead, and the branch lives.
-pub determinate_lives : (P : NamedProgram) (b : Held) (t : QueryTree P.program) (o : Open t) (c : ℕ) → IsBranchOf P b t
-    → StateOf P.program b.limit t (determinate o c) → Lives P b t
-determinate_lives P b t o c x state = elim x.state [
-  | inl dead ↦
-      let same : determinate o c ≡ failed = OneState.one_state P.program b.limit t (determinate o c) failed state dead.1 in
-      absurd (cc)
-  | inr lives ↦ lives
-]
 
 -- A branch stands for one tree.
 pub one_tree : (P : NamedProgram) (b : Held) (t u : QueryTree P.program) → IsBranchOf P b t → IsBranchOf P b u → t ≡ u

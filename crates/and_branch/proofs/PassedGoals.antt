@@ -1,17 +1,14 @@
 -- The place of work, moved over goals, and what is watched of them then.
 use Rattle.std.proofs.Common.{◌≡◌, Bool, true, false, List, [], ◌∷◌, ◌++◌, map, refl, ap, sym, ◌∙◌, subst, append-nil, append_assoc, Contains}
-use Rattle.std.specs.Prelude.{Result, OnOk, Option, None, Some, IsNone, IfSome}
+use Rattle.std.specs.Prelude.{Result, OnOk}
 use Rattle.std.proofs.lemmas.Result.{on_ok_weaker}
 use Rattle.and_model.specs.declared.goal.Goal.{Goal}
 use Rattle.and_model.specs.declared.reference.Ref.{Ref}
-use Rattle.and_cells.specs.Ranges.{NamedProgram}
 use Rattle.and_pending.specs.Pending as pending
 use Rattle.and_pending.specs.Pending.{Pending, goals_of, unwatched}
-use Rattle.and_reduction.specs.Runs.{IsWaiting}
 use Rattle.and_reduction.specs.Trails.{Noted, KeepsNoted}
-use Rattle.and_branch.specs.Branches.{Held, IsArithmeticGoal}
+use Rattle.and_branch.specs.Branches.{Held}
 use Rattle.and_branch.specs.Next.{IsMoved, HasPut}
-use Rattle.and_branch.specs.Resting.{Passes, Drops}
 use Rattle.and_branch.specs.Watching.{Watched, all_watched}
 use Rattle.and_branch.proofs.KeptOrigins.{kept_noted, noted_nothing}
 use Rattle.and_branch.proofs.WatchedLists.{goals_append, goals_back, none_watched, watched_put, watched_before}
@@ -119,32 +116,6 @@ passed_goals b old e p q has (h, hs, there) r passed =
       passed_left p q w rest next one ∙ ap (λ (l : List Goal). l ++ w.goal ∷ []) left ∙ ap (λ (x : Goal). old.left ++ x ∷ []) first,
     ))) passed
 
--- A goal that waits was passed, or a call.
-pub goal_waits : (P : NamedProgram) (b old : Held) → b ≡ old → (p q : Pending) → HasGoals b p → (w : pending.Watched)
-    (rest : List pending.Watched) → p.right ≡ w ∷ rest → HasPassedOne p q → (g : Goal) → w.goal ≡ g
-    → (row : List Ref) (trail : Noted) → row ≡ b.row → old.is_failed ≡ false → (IsArithmeticGoal P g → IsWaiting P b.row g)
-    → Passes P old (record b {
-      row = row;
-      left = goals_of q.left;
-      right = goals_of q.right;
-      watches = all_watched (q.left ++ q.right);
-      trail = trail;
-    })
-goal_waits P b old e p q has w rest next passed g is row trail same live waits =
-    let new : Held = record b {
-      row = row;
-      left = goals_of q.left;
-      right = goals_of q.right;
-      watches = all_watched (q.left ++ q.right);
-      trail = trail;
-    } in
-    let right : b.right ≡ g ∷ goals_of q.right =
-    has.1 ∙ first_goal p.right rest w g next is ∙ ap (λ (l : List Goal). g ∷ l) (sym (passed_right p q w rest next passed)) in
-    let left : goals_of q.left ≡ b.left ++ g ∷ [] =
-    passed_left p q w rest next passed ∙ ap (λ (l : List Goal). l ++ w.goal ∷ []) (sym has.0) ∙ ap (λ (x : Goal). b.left ++ x ∷ []) is in
-    subst (λ (d : Held). d.is_failed ≡ false → Passes P d new) e
-    (λ live. record { goal = g; right = right; left = left; row = same; waits = waits; live = live }) live
-
 -- ---- All goals
 
 -- back over all
@@ -172,19 +143,6 @@ one_back b old e p q has false none back =
 
 -- ---- The next goal was taken out
 
--- where there is one
-pub popped_next : (p mid : Pending) (o : Option Goal) → (IsNone o → (p.right ≡ []) × (mid ≡ p))
-    → IfSome o (λ g. (w : pending.Watched) × (rest : List pending.Watched) × (p.right ≡ w ∷ rest) × (w.goal ≡ g)
-    × (mid ≡ record { left = p.left; right = rest }))
-    → (w : pending.Watched) (rest : List pending.Watched) → p.right ≡ w ∷ rest → mid ≡ record { left = p.left; right = rest }
-popped_next p mid None none some w rest next =
-    let e : [] ≡ w ∷ rest = sym (none refl).0 ∙ next in
-    absurd (cc)
-popped_next p mid (Some g) none (v, others, there, is, popped) w rest next =
-    let both : v ∷ others ≡ w ∷ rest = sym there ∙ next in
-    let same : others ≡ rest = cc in
-    popped ∙ ap (λ (ws : List pending.Watched). record { left = p.left; right = ws }) same
-
 module _ (p mid : Pending) (w : pending.Watched) (rest : List pending.Watched) (next : p.right ≡ w ∷ rest)
     (popped : mid ≡ record { left = p.left; right = rest }) where
   pub popped_left : goals_of mid.left ≡ goals_of p.left
@@ -199,28 +157,6 @@ module _ (p mid : Pending) (w : pending.Watched) (rest : List pending.Watched) (
   pub popped_watched : (v : Watched) → Contains (all_watched (mid.left ++ mid.right)) v → Contains (all_watched (p.left ++ p.right)) v
   popped_watched v h =
       less_watched v (subst (λ (q : Pending). Contains (all_watched (q.left ++ q.right)) v) popped h)
-
-  pub goal_dropped : (b old : Held) → b ≡ old → HasGoals b p → (g : Goal) → w.goal ≡ g → (row : List Ref) (trail : Noted)
-      → old.is_failed ≡ false
-      → Drops old (record b {
-        row = row;
-        left = goals_of mid.left;
-        right = goals_of mid.right;
-        watches = all_watched (mid.left ++ mid.right);
-        trail = trail;
-      })
-  goal_dropped b old e has g is row trail live =
-      let new : Held = record b {
-        row = row;
-        left = goals_of mid.left;
-        right = goals_of mid.right;
-        watches = all_watched (mid.left ++ mid.right);
-        trail = trail;
-      } in
-      let right : b.right ≡ g ∷ goals_of mid.right =
-      has.1 ∙ first_goal p.right rest w g next is ∙ ap (λ (l : List Goal). g ∷ l) (sym popped_right) in
-      subst (λ (d : Held). d.is_failed ≡ false → Drops d new) e
-      (λ live. record { goal = g; right = right; left = popped_left ∙ sym has.0; live = live }) live
 
   -- and others are in its place.
   module _ (new : Pending) (gs : List Goal) (put : HasPut gs mid new) where

@@ -1,6 +1,6 @@
 -- Branches that are made again of what a phase left.
 use Rattle.std.proofs.Common.{ℕ, ◌≡◌, ◌+◌, ◌≤◌, true, false, List, [], ◌∷◌, ◌++◌}
-use Rattle.std.proofs.Common.{refl, ap, sym, ◌∙◌, subst, inl, inr, arith, append-nil, append_assoc, length, suc, Contains}
+use Rattle.std.proofs.Common.{ap, sym, ◌∙◌, subst, inl, inr, arith, append-nil, append_assoc, length, suc, Contains}
 use Rattle.std.proofs.Common.{add-one, drop, drop-cons, slice_get, Some}
 use Rattle.std.proofs.lemmas.List.{map-append}
 use Rattle.std.proofs.lemmas.List.Sums.{sum_by-append}
@@ -14,21 +14,17 @@ use Rattle.and_model.specs.Reductions.{Reduction, Makes, none, one_more}
 use Rattle.and_model.specs.declared.goal
 use Rattle.and_model.specs.declared.goal.Goal.{Goal}
 use Rattle.and_model.specs.declared.limits.TheConstants.{MAX_LIMIT}
-use Rattle.and_model.specs.declared.reference.Ref.{Ref}
 use Rattle.and_laws.proofs.Equality.{bool_cases}
 use Rattle.and_laws.proofs.Order.{blank_weighs, reduce_weight}
 use Rattle.and_laws.proofs.Ordered.{contains_none}
 use Rattle.and_phase_laws.proofs.Building.{steps_reach}
 use Rattle.and_cells.specs.Ranges.{NamedProgram}
-use Rattle.and_cells.specs.Rows.{IsSound}
 use Rattle.and_cells.specs.Seen.{word_at}
 use Rattle.and_code.specs.Visiting.{HaveClauses}
 use Rattle.and_code.specs.Written.{written, all_written}
 use Rattle.and_code.proofs.Trees.{clauses_named}
 use Rattle.and_unify.specs.Pairs.{equations_of_pairs}
-use Rattle.and_unify.specs.Settling.{equations_with, Settles}
-use Rattle.and_unify.specs.declared.pairs.Pair.{Pair}
-use Rattle.and_unify.specs.declared.settling.Settled.TheVariants.{Solved}
+use Rattle.and_unify.specs.Settling.{equations_with}
 use Rattle.and_branch_laws.specs.OwnVariables.{IsLoaded}
 use Rattle.and_branch_laws.specs.Kept.{Kept}
 use Rattle.and_branch_laws.specs.Settling.{Settled}
@@ -36,6 +32,7 @@ use Rattle.and_branch_laws.proofs.Settling as settling
 use Rattle.and_branch.specs.Branches.{Held, Lives, IsBranchOf}
 use Rattle.and_branch.specs.Watching.{Watched}
 use Rattle.and_branch.specs.Rebuilding.{IsLeft, IsWorked, reductions_of, weights_of}
+use Rattle.and_branch.specs.declared.parts.Parts.{Parts}
 use Rattle.and_branch.specs.declared.rebuilding.Worked.{Worked}
 
 -- ---- Weights
@@ -85,28 +82,28 @@ module _ (made : List goal.Reduction.Reduction) (n : ℕ) (r : goal.Reduction.Re
 
 -- ---- The branch
 
-module _ {N : Type 0} (P : NamedProgram) (w : Worked N) (t u : QueryTree P.program) (x : IsWorked P w t u) where
+module _ {N : Type 0} (P : NamedProgram) (parts : Parts N) (w : Worked N) (t u : QueryTree P.program) (x : IsWorked P parts w t u) where
   -- The new tree weighs what the old one did, and the clauses of the reductions that were made.
-  pub grown_weighs : weight u ≡ w.parts.used + weights_of P.program (all_written w.made)
+  pub grown_weighs : weight u ≡ parts.used + weights_of P.program (all_written w.made)
   grown_weighs =
-      let before = made_weighs P.program (all_written w.parts.reductions) t x.branch.made in
-      let after = made_weighs P.program (reductions_of w) u x.made in
-      let apart = weights_join P.program (all_written w.parts.reductions) (all_written w.made) in
+      let before = made_weighs P.program (all_written parts.reductions) t x.branch.made in
+      let after = made_weighs P.program (reductions_of parts w) u x.made in
+      let apart = weights_join P.program (all_written parts.reductions) (all_written w.made) in
       let used = x.branch.used in
       omega arith
 
-  pub grown_fits : w.parts.used + weights_of P.program (all_written w.made) ≤ MAX_LIMIT
+  pub grown_fits : parts.used + weights_of P.program (all_written w.made) ≤ MAX_LIMIT
   grown_fits = let e = grown_weighs in let fits = x.fits in let bounded = x.branch.bounded in omega arith
 
   -- The clauses of the reductions that were made are the program's.
   pub made_named : HaveClauses P.program w.made
   made_named =
-      All-back (λ (r : goal.Reduction.Reduction). r.clause.0 ≤ length P.program.clauses) w.parts.reductions w.made
-      (clauses_named P.program (w.parts.reductions ++ w.made) u
-      (subst (λ (l : List Reduction). Makes P.program l u) (sym (map-append written w.parts.reductions w.made)) x.made))
+      All-back (λ (r : goal.Reduction.Reduction). r.clause.0 ≤ length P.program.clauses) parts.reductions w.made
+      (clauses_named P.program (parts.reductions ++ w.made) u
+      (subst (λ (l : List Reduction). Makes P.program l u) (sym (map-append written parts.reductions w.made)) x.made))
 
-  module _ (loaded : IsLoaded P) (b : Held) (key : b.key ≡ w.parts.key) (limit : b.limit ≡ w.parts.limit)
-      (reductions : b.reductions ≡ reductions_of w) (used : b.used ≡ w.parts.used + weights_of P.program (all_written w.made))
+  module _ (loaded : IsLoaded P) (b : Held) (key : b.key ≡ parts.key) (limit : b.limit ≡ parts.limit)
+      (reductions : b.reductions ≡ reductions_of parts w) (used : b.used ≡ parts.used + weights_of P.program (all_written w.made))
       (left_is : b.left ≡ w.goals.items) (right_is : b.right ≡ []) (watches_are : b.watches ≡ []) where
     made : Makes P.program b.reductions u
     made = subst (λ (l : List Reduction). Makes P.program l u) (sym reductions) x.made
@@ -114,8 +111,8 @@ module _ {N : Type 0} (P : NamedProgram) (w : Worked N) (t u : QueryTree P.progr
     reached : ReachedBy P.program b.limit b.key u
     reached =
         subst (λ (k : List ℕ). ReachedBy P.program b.limit k u) (sym key)
-        (subst (λ (n : ℕ). ReachedBy P.program n w.parts.key u) (sym limit)
-        (steps_reach P.program w.parts.limit w.parts.key t u x.steps x.branch.reached x.fits))
+        (subst (λ (n : ℕ). ReachedBy P.program n parts.key u) (sym limit)
+        (steps_reach P.program parts.limit parts.key t u x.steps x.branch.reached x.fits))
 
     bounded : b.limit ≤ MAX_LIMIT
     bounded = let e = limit in let l = x.branch.bounded in omega arith
@@ -123,11 +120,11 @@ module _ {N : Type 0} (P : NamedProgram) (w : Worked N) (t u : QueryTree P.progr
     weighs : weight u ≡ b.used
     weighs = grown_weighs ∙ sym used
 
-    lives : (l : IsLeft P w u) → b.is_failed ≡ false → Settled P w.cells b.row (equations_of_pairs P (word_at w.cells) w.pairs) → Lives P b u
+    lives : (l : IsLeft P parts w u) → b.is_failed ≡ false → Settled P w.cells b.row (equations_of_pairs P (word_at w.cells) w.pairs) → Lives P b u
     lives l live settled =
         let keeps : Kept P b.reductions b.row l.kept u =
         subst (λ (rs : List Reduction). Kept P rs b.row l.kept u) (sym reductions)
-        (settling.settled_kept P loaded (reductions_of w) w.cells (equations_of_pairs P (word_at w.cells) w.pairs) l.kept u l.unsettled
+        (settling.settled_kept P loaded (reductions_of parts w) w.cells (equations_of_pairs P (word_at w.cells) w.pairs) l.kept u l.unsettled
         b.row settled) in
         record {
           kept = l.kept;
@@ -153,17 +150,10 @@ module _ {N : Type 0} (P : NamedProgram) (w : Worked N) (t u : QueryTree P.progr
           elim (bool_cases w.failed) [
             | inl found ↦ x.dead found
             | inr not_found ↦
-                settling.unsettled_is_dead P loaded (reductions_of w) w.cells (equations_of_pairs P (word_at w.cells) w.pairs)
+                settling.unsettled_is_dead P loaded (reductions_of parts w) w.cells (equations_of_pairs P (word_at w.cells) w.pairs)
                 (x.left not_found).kept u (x.left not_found).unsettled (dies failed not_found)
           ],
         )
         | inr live ↦ inr (lives (x.left (lives_on live).0) live (lives_on live).1)
       ];
     }
-
--- ---- What is settled
-
--- what settling came to, as the laws of branches say it
-pub settled_by : (P : NamedProgram) (row new : List Ref) (pairs : List Pair) → Settles P row new pairs Solved → IsSound P new
-    → Settled P row new (equations_of_pairs P (word_at row) pairs)
-settled_by P row new pairs s sound = record { solved = s.solved refl; sound = sound; settled = s.settled refl; keeps = s.keeps; halves = s.halves }

@@ -1,5 +1,5 @@
 -- Where nothing is to be done for any goal, no goal is determinate.
-use Rattle.std.proofs.Common.{ℕ, ◌≡◌, true, List, [], ◌∷◌, map, ap, sym, ◌∙◌, subst, inl, inr, arith, Contains, Option, Some, None}
+use Rattle.std.proofs.Common.{ℕ, ◌≡◌, true, List, [], ◌∷◌, map, ap, sym, ◌∙◌, subst, inl, inr, arith, Contains}
 use Rattle.std.proofs.lemmas.Bool.{true≢false}
 use Rattle.and_model.specs.Programs.{Program, Item, Arithmetic, arithmetic}
 use Rattle.and_model.specs.Solutions.{Equation}
@@ -16,8 +16,7 @@ use Rattle.and_branch_laws.specs.Kept.{item_at, task_in, is_call, IsCall, goal_o
 use Rattle.and_branch_laws.proofs.OneState
 use Rattle.and_branch_laws.proofs.Judging
 use Rattle.and_branch.specs.Branches.{Held, Lives, IsBranchOf}
-use Rattle.and_branch.specs.Rounds.{IsIdle, IsStill, HasStilled}
-use Rattle.and_branch.specs.declared.finding.Found.{Found}
+use Rattle.and_branch.specs.Rounds.{IsIdle, IsStill}
 use Rattle.and_branch.proofs.KeptCalls.{open_kept}
 use Rattle.and_branch.proofs.GoalsRun.{kind_of_kept}
 
@@ -84,9 +83,3 @@ failed_branch P b t x failed_is o c state = elim x.state [
   | inl dead ↦ dead_is_not P b.limit t o c dead.1 state
   | inr lives ↦ absurd (true≢false (sym failed_is ∙ lives.live))
 ]
-
--- So it is of each branch with which the rounds ended.
-pub stilled_branch : (P : NamedProgram) (loaded : IsLoaded P) (b : Held) (r : Option Found) → HasStilled P b r
-    → (t : QueryTree P.program) (o : Open t) (c : ℕ) → IsBranchOf P b t → StateOf P.program b.limit t (determinate o c) → ⊥
-stilled_branch P loaded b None marked t o c x state = failed_branch P b t x marked o c state
-stilled_branch P loaded b (Some found) with_found t o c x state = still_branch P loaded b t x with_found.still o c state

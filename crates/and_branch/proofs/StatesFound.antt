@@ -5,7 +5,6 @@ use Rattle.std.specs.Prelude.{All, filter, ◌↔◌}
 use Rattle.std.specs.Option.{option_map}
 use Rattle.std.proofs.lemmas.List.Elements.{All-contains, Contains-append_left, Contains-append_right}
 use Rattle.and_model.specs.Trees.{QueryTree, Open, path}
-use Rattle.and_model.specs.Reached.{Dead}
 use Rattle.and_model.specs.Stands.{Framed}
 use Rattle.and_model.specs.Limits.{at_goal}
 use Rattle.and_model.specs.declared.goal.Cut.{Cut}
@@ -16,24 +15,23 @@ use Rattle.and_laws.proofs.Deciding.{of_bounds}
 use Rattle.and_laws.proofs.Ordered.{contains_first, contains_none}
 use Rattle.and_branch_laws.proofs.Lists.{all_of}
 use Rattle.and_cells.specs.Ranges.{NamedProgram}
-use Rattle.and_branch.proofs.SeenGoals.{contains_image, contains_origin}
+use Rattle.and_branch.proofs.SeenGoals.{contains_image}
 use Rattle.and_determinacy.specs.Candidates.{AreCandidates, CanBeJudged}
 use Rattle.and_branch_laws.specs.OwnVariables.{IsLoaded}
-use Rattle.and_branch_laws.specs.Judging.{CandidateInCells, SoleInCells, FitsBehind, NoneIsGround, EachHasTwo, NoCall, outside}
+use Rattle.and_branch_laws.specs.Judging.{CandidateInCells, SoleInCells, FitsBehind, NoneIsGround, EachHasTwo, NoCall}
 use Rattle.and_branch_laws.specs.Kept.{IsCall, goal_of, Kept}
-use Rattle.and_branch_laws.specs.States.{State, StateOf, IsFirst, IsCut}
+use Rattle.and_branch_laws.specs.States.{StateOf, IsFirst, IsCut}
 use Rattle.and_branch_laws.specs.States as laws
 use Rattle.and_branch_laws.proofs.Judging
 use Rattle.and_branch_laws.proofs.Keeping
-use Rattle.and_branch_laws.proofs.Stepping
 use Rattle.and_code.specs.Written.{all_written}
 use Rattle.and_branch.specs.Branches.{Held, is_arithmetic, Lives, IsBranchOf, IsOpenGoal}
 use Rattle.and_branch.specs.States.{numbers, IsCutAt, IsCutOf, IsState}
 use Rattle.and_branch.specs.declared.state.BranchState.{BranchState}
-use Rattle.and_branch.specs.declared.state.BranchState.TheVariants.{Determinate, Fork, OverLimit}
+use Rattle.and_branch.specs.declared.state.BranchState.TheVariants.{Fork, OverLimit}
 use Rattle.and_branch.specs.Watching.{HasTwo}
-use Rattle.and_branch.specs.Finding.{IsCallGoal, AllCalls, HasOne, HasNoSole, HasNoFitting, IsCallAmong, IsStuck, IsSeveral}
-use Rattle.and_branch.specs.Finding.{IsHeavy, IsFitting, IsSeen}
+use Rattle.and_branch.specs.Finding.{IsCallGoal, AllCalls, HasOne, HasNoSole, HasNoFitting, IsCallAmong, IsSeveral}
+use Rattle.and_branch.specs.Finding.{IsHeavy, IsSeen}
 use Rattle.and_branch.specs.Forking.{fits_in, first_other, HasCutBy}
 use Rattle.and_branch.specs.Resting.{IsResting}
 use Rattle.and_branch.proofs.LivingGoals.{Parts, parted}
@@ -85,15 +83,6 @@ module _ (P : NamedProgram) (loaded : IsLoaded P) (b : Held) (t : QueryTree P.pr
     floundered_is some = Judging.state_floundered P loaded b.reductions b.row l.kept t l.keeps b.limit none_ground no_call_kept
         (λ e. some (sym all_left ∙ ap (map goal_of) e))
 
-  -- A call has no candidate.
-  pub stuck_is : IsStuck P b.row b.left → Dead t
-  stuck_is s =
-      let (f, i, same) = contains_origin goal_of l.kept s.goal (subst (λ (gs : List Goal). Contains gs s.goal) (sym all_left) s.there) in
-      let is_call : IsCall P.program f = called P f (subst (IsCallGoal P) same s.called) in
-      let found = Keeping.kept_open P loaded.own b.reductions b.row l.kept t l.keeps f i is_call in
-      Stepping.none_is_dead P loaded b.reductions b.row l.kept t l.keeps f i is_call found.0 found.1 outside (λ e. cc)
-      (λ d c. s.none d (subst (λ (g : Goal). CandidateInCells P b.row g d) (sym same) c))
-
   -- ---- A call decides
 
   module _ (goal : Goal) (among : IsCallAmong P b.left goal) where
@@ -135,15 +124,6 @@ module _ (P : NamedProgram) (loaded : IsLoaded P) (b : Held) (t : QueryTree P.pr
 
     of_goal : (Q : Goal → Type 0) → Q goal → Q place.middle.goal
     of_goal Q h = subst Q (sym place.middle_is) h
-
-    -- The first call with one candidate alone that fits
-    pub determinate_is : (c : ℕ) → SoleInCells P b.row goal c → FitsBehind P b.limit b.row c
-        → AllCalls P (HasNoFitting P b.limit b.row) among.front
-        → AllCalls P (HasOne P b.row) b.left → StateOf P.program b.limit t (laws.determinate opened.0 c)
-    determinate_is c sole fits first each =
-        Judging.state_determinate P loaded b.reductions b.row place.front place.middle place.back t keeps none_there is_call b.limit opened.0
-        opened.1 (λ f i k. in_all (HasOne P b.row) each f i k) c (of_goal (λ (g : Goal). SoleInCells P b.row g c) sole) fits
-        (λ f d i k s z. in_front (HasNoFitting P b.limit b.row) first f i k d s z)
 
     -- or that does not
     pub over_one_is : (c : ℕ) → SoleInCells P b.row goal c → AllCalls P (HasNoSole P b.row) among.front → AllCalls P (HasOne P b.row) b.left
@@ -242,14 +222,6 @@ candidates_there P row goal cs are =
 
 module _ (P : NamedProgram) (loaded : IsLoaded P) (b : Held) (t : QueryTree P.program) (x : IsBranchOf P b t)
     (live : b.is_failed ≡ false) (rests : IsResting P b) where
-  pub told_fitting : (goal : Goal) (clause : ClauseNo) → IsFitting P b.limit b.row b.left goal clause.0
-      → IsState P b t (Determinate goal clause)
-  told_fitting goal clause f = (
-    (opened P loaded b t x live rests goal f.among).0,
-    open_goal P loaded b t x live rests goal f.among,
-    determinate_is P loaded b t x live rests goal f.among clause.0 f.sole f.fits f.first f.each,
-  )
-
   pub told_heavy : (goal : Goal) (clause : ClauseNo) → IsHeavy P b.limit b.row b.left goal clause.0 → (cut : Cut)
       → all_written cut.partial ≡ b.reductions → cut.goal ≡ goal → cut.clause ≡ clause → IsState P b t (OverLimit cut)
   told_heavy goal clause f cut partial same_goal same = (

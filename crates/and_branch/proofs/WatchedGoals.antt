@@ -5,7 +5,7 @@ use Rattle.std.specs.Prelude.{Result, OnOk, Option, None, Some, IfSome, IsNone, 
 use Rattle.std.proofs.lemmas.List.Elements.{All-contains, Contains-append_cases, Contains-append_left, Contains-append_right}
 use Rattle.std.proofs.lemmas.Result.{on_ok_weaker}
 use Rattle.and_model.specs.Terms.{Term}
-use Rattle.and_model.specs.Programs.{call, arithmetic, Arithmetic}
+use Rattle.and_model.specs.Programs.{call, arithmetic}
 use Rattle.and_model.specs.Trees.{QueryTree}
 use Rattle.and_model.specs.Reached.{none}
 use Rattle.and_model.specs.declared.goal.Goal.{Goal}
@@ -14,10 +14,9 @@ use Rattle.and_laws.proofs.Ordered.{contains_cases, contains_none, contains_firs
 use Rattle.and_cells.specs.Ranges.{NamedProgram}
 use Rattle.and_branch_laws.specs.Kept.{item_at}
 use Rattle.and_branch.specs.Branches.{Held, Lives, IsBranch, IsBranchOf}
-use Rattle.and_determinacy.specs.Watching.{AreFree, RestsOn, TwoStayWhile}
+use Rattle.and_determinacy.specs.Watching.{RestsOn, TwoStayWhile}
 use Rattle.and_pending.specs.Pending as pending
 use Rattle.and_pending.specs.Pending.{Pending, goals_of, unwatched}
-use Rattle.and_reduction.specs.Runs.{WaitsFor}
 use Rattle.and_branch.specs.Next.{IsMoved}
 use Rattle.and_branch.specs.Rounds.{StepsOn, WatchesOn, HasPassedSleepers, IsDropped}
 use Rattle.and_branch.specs.Watching.{Watched, with_watched, all_watched, HasTwo, Sleeps, IsAsleep}
@@ -53,16 +52,6 @@ two_stay P row g cells (c, d, other, one, two) rests = (
 -- (These cells are all that a list gained which held none.)
 pub gained_alone : (cells out had gained : List ℕ) → cells ≡ out → out ≡ had ++ gained → had ≡ [] → cells ≡ gained
 gained_alone cells out had gained same longer nothing = same ∙ longer ∙ ap (λ (l : List ℕ). l ++ gained) nothing
-
--- and arithmetic that waits for the cell.
-pub arithmetic_asleep : (P : NamedProgram) (row : List Ref) (w : Watched) (a : Arithmetic) → item_at P.program w.goal ≡ arithmetic a
-    → (cell : ℕ) → w.cells ≡ cell ∷ [] → WaitsFor P row w.goal cell → IsAsleep P row w
-arithmetic_asleep P row w a e cell is waits = record {
-  while_free = λ later grows sound settled free. record {
-    waits = waits later grows sound settled (subst (λ (cells : List ℕ). AreFree later cells) is free);
-    several = λ t f. (let both : arithmetic a ≡ call t = sym e ∙ f in absurd (cc));
-  };
-}
 
 -- ---- The branch
 

@@ -1,11 +1,10 @@
 -- What is found of the goals of a branch, from left to right.
-use Rattle.std.specs.Prelude.{ℕ, ◌+◌, ◌≡◌, ◌⊎◌, Bool, false, cond, List, ◌∷◌, ◌++◌, length, Contains, Option, None, Some}
+use Rattle.std.specs.Prelude.{ℕ, ◌+◌, ◌≡◌, ◌⊎◌, false, List, ◌∷◌, ◌++◌, length, Contains, Option, None, Some}
 use Rattle.and_model.specs.Terms.{Path, Term, variables_of}
 use Rattle.and_model.specs.Programs.{Item, call, arithmetic, Arithmetic}
 use Rattle.and_model.specs.Stands.{term_of}
 use Rattle.and_model.specs.Store.{is_half}
 use Rattle.and_model.specs.declared.goal.Goal.{Goal}
-use Rattle.and_model.specs.declared.numbers.ClauseNo.{ClauseNo}
 use Rattle.and_model.specs.declared.reference.Ref.{Ref}
 use Rattle.and_cells.specs.Ranges.{NamedProgram, IsGoalInRange}
 use Rattle.and_cells.specs.Seen.{word_at}
@@ -16,7 +15,7 @@ use Rattle.and_branch.specs.Branches.{is_arithmetic, IsArithmeticGoal}
 use Rattle.and_branch.specs.Watching.{HasTwo}
 use Rattle.and_branch.specs.declared.finding.HeavyCall.{HeavyCall}
 use Rattle.and_branch.specs.declared.finding.Found.{Found}
-use Rattle.and_branch.specs.declared.finding.Found.TheVariants.{NoCall, Several, Heavy, Fitting, Stuck}
+use Rattle.and_branch.specs.declared.finding.Found.TheVariants.{NoCall, Several, Heavy}
 use Rattle.and_branch.specs.declared.finding.Seen.{Seen}
 use Rattle.and_branch.specs.declared.finding.Seen.TheVariants as seen
 
@@ -79,44 +78,11 @@ pub record IsHeavy (P : NamedProgram) (limit : ℕ) (row : List Ref) (gs : List 
   pub each : AllCalls P (HasOne P row) gs
   pub none : AllCalls P (HasNoFitting P limit row) gs
 
--- It is the first with one candidate alone that fits.
-pub record IsFitting (P : NamedProgram) (limit : ℕ) (row : List Ref) (gs : List Goal) (goal : Goal) (clause : ℕ) : Type 0 where
-  pub among : IsCallAmong P gs goal
-  pub sole : SoleInCells P row goal clause
-  pub fits : FitsBehind P limit row clause
-  pub first : AllCalls P (HasNoFitting P limit row) among.front
-  pub each : AllCalls P (HasOne P row) gs
-
--- Some call has no candidate.
-pub record IsStuck (P : NamedProgram) (row : List Ref) (gs : List Goal) : Type 0 where
-  pub goal : Goal
-  pub there : Contains gs goal
-  pub called : IsCallGoal P goal
-  pub none : (c : ℕ) → CandidateInCells P row goal c → ⊥
-
 -- That was found of these goals.
 abbrev pub HasFound : NamedProgram → ℕ → List Ref → List Goal → Found → Type 0
 HasFound P limit row gs NoCall = AllCalls P (λ g. ⊥) gs
 HasFound P limit row gs (Several goal) = IsSeveral P row gs goal
 HasFound P limit row gs (Heavy goal clause) = IsHeavy P limit row gs goal clause.0
-HasFound P limit row gs (Fitting goal clause) = IsFitting P limit row gs goal clause.0
-HasFound P limit row gs Stuck = IsStuck P row gs
-
--- what is found with one more call behind, of several candidates,
-abbrev pub with_several : Found → Goal → Found
-with_several NoCall goal = Several goal
-with_several (Several first) goal = Several first
-with_several (Heavy first clause) goal = Heavy first clause
-with_several (Fitting first clause) goal = Fitting first clause
-with_several Stuck goal = Stuck
-
--- or of one candidate
-abbrev pub with_one : Found → Goal → ClauseNo → (fits : Bool) → Found
-with_one NoCall goal clause fits = cond fits (Fitting goal clause) (Heavy goal clause)
-with_one (Several first) goal clause fits = cond fits (Fitting goal clause) (Heavy goal clause)
-with_one (Heavy first heavy) goal clause fits = cond fits (Fitting goal clause) (Heavy first heavy)
-with_one (Fitting first fitting) goal clause fits = Fitting first fitting
-with_one Stuck goal clause fits = Stuck
 
 -- This is known of the calls among goals: each has two candidates; or this is the first with one alone, for which there is no room, and none
 -- has one alone that fits.

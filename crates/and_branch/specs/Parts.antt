@@ -1,9 +1,7 @@
--- Branches that are taken apart, and their frames.
-use Rattle.std.specs.Prelude.{List, [], ◌∷◌, None, map}
-use Rattle.and_model.specs.Reductions.{Reduction}
+-- Branches that are taken apart.
+use Rattle.std.specs.Prelude.{[], None}
 use Rattle.and_code.specs.Written.{all_written}
 use Rattle.and_branch.specs.Branches.{Held}
-use Rattle.and_branch.specs.declared.parts.Frame.{Frame}
 use Rattle.and_branch.specs.declared.parts.Parts.{Parts}
 
 -- the branch of these parts, at work behind its goals, of which none is watched, and of whose row nothing is noted
@@ -20,11 +18,3 @@ held_of parts = record {
   watches = [];
   trail = record { mark = None; cells = [] };
 }
-
--- the frame of the clause by which a call was reduced: it begins at the number of the clause's place
-abbrev pub frame_by : Reduction → Frame
-frame_by r = record { base = r.node; clause = record { 0 = r.clause } }
-
--- the frames of a branch: the query's, and that of each reduction
-abbrev pub frames_of : List Reduction → List Frame
-frames_of rs = record { base = 0; clause = record { 0 = 0 } } ∷ map frame_by rs

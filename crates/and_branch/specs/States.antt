@@ -7,12 +7,12 @@ use Rattle.and_model.specs.declared.goal.Goal.{Goal}
 use Rattle.and_model.specs.declared.numbers.ClauseNo.{ClauseNo}
 use Rattle.and_cells.specs.Ranges.{NamedProgram}
 use Rattle.and_branch_laws.specs.States as laws
-use Rattle.and_branch_laws.specs.States.{State, StateOf, IsCut}
+use Rattle.and_branch_laws.specs.States.{StateOf, IsCut}
 use Rattle.and_reduction.specs.Runs.{IsWaiting}
 use Rattle.and_code.specs.Written.{all_written}
 use Rattle.and_branch.specs.Branches.{Held, IsOpenGoal, IsArithmeticGoal}
 use Rattle.and_branch.specs.declared.state.BranchState.{BranchState}
-use Rattle.and_branch.specs.declared.state.BranchState.TheVariants.{Determinate, Fork, Answer, Floundered, Failed, OverLimit}
+use Rattle.and_branch.specs.declared.state.BranchState.TheVariants.{Fork, Answer, Floundered, Failed, OverLimit}
 
 abbrev pub numbers : List ClauseNo → List ℕ
 numbers cs = map (λ (c : ClauseNo). c.0) cs
@@ -30,8 +30,6 @@ IsCutOf P t o (Some c) (Some cut) = IsCutAt P t o c cut
 
 -- What is told is the state of the tree.
 abbrev pub IsState : (P : NamedProgram) (b : Held) (t : QueryTree P.program) → BranchState → Type 0
-IsState P b t (Determinate goal clause) =
-    (o : Open t) × IsOpenGoal P b.reductions t o goal × StateOf P.program b.limit t (laws.determinate o clause.0)
 IsState P b t (Fork goal clauses cut) =
     (o : Open t) × (first : Option ℕ) × IsOpenGoal P b.reductions t o goal × IsCutOf P t o first cut
     × StateOf P.program b.limit t (laws.fork o (numbers clauses) first)

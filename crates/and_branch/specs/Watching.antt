@@ -10,7 +10,7 @@ use Rattle.and_cells.specs.Rows.{IsSound}
 use Rattle.and_branch_laws.specs.Judging.{CandidateInCells}
 use Rattle.and_branch_laws.specs.Kept.{item_at}
 use Rattle.and_reduction.specs.Runs.{IsWaiting}
-use Rattle.and_determinacy.specs.Watching.{Grows, AreFree}
+use Rattle.and_cells.specs.Seen.{Grows, AreFree}
 use Rattle.and_pending.specs.Pending as pending
 
 -- A goal that is watched, and the cells that are.

@@ -3,8 +3,6 @@
 ghost use Rattle.std.specs.Prelude.{◌≡◌, ◌≢◌, ◌≤◌, ◌+◌, ◌⊎◌, [], ◌∷◌, ℕ, true, false, List, length, Ok, OnOk, IfOk, IfSome};
 ghost use Rattle.and_model.specs.Terms.{Term};
 ghost use Rattle.and_model.specs.Programs.{call, Arithmetic, arithmetic, clause_at, clause_weight};
-ghost use Rattle.and_model.specs.Trees.{QueryTree, Open};
-ghost use Rattle.and_model.specs.Reached.{Steps};
 ghost use Rattle.and_model.specs.declared.limits.TheConstants.{MAX_LIMIT};
 ghost use Rattle.and_model.specs.declared.goal.Goal.{Goal};
 ghost use Rattle.and_cells.specs.Meaning.{IsSettled};
@@ -15,29 +13,28 @@ ghost use Rattle.and_determinacy.specs.Watching.{TwoStayWhile};
 ghost use Rattle.and_reduction.specs.Runs.{CanBeRun, IsWaiting, HasRun, CannotHold, WaitsFor};
 ghost use Rattle.and_branch_laws.specs.Judging.{CandidateInCells};
 ghost use Rattle.and_branch_laws.specs.Kept.{item_at};
-ghost use Rattle.and_branch_laws.specs.States.{StateOf, determinate};
-ghost use Rattle.and_branch.specs.Branches.{IsBranch, IsBranchOf, SameKey};
+ghost use Rattle.and_branch.specs.Branches.{IsBranch, SameKey};
 ghost use Rattle.and_branch.specs.Finding.{HasFound, HasHeavy};
 ghost use Rattle.and_branch.specs.Origins.{KeepsBack};
-ghost use Rattle.and_branch.specs.Rounds.{StepsOn, AreFew, IsAtMost, IsStill, LeftIsIdle, IsDropped, IsStillWith, LookIs, RoundIs, HasStilled, IsAt};
+ghost use Rattle.and_branch.specs.Rounds.{StepsOn, AreFew, IsAtMost, IsStill, LeftIsIdle, IsDropped, IsStillWith, LookIs, RoundIs, HasProgressed, HasStilled, IsAt};
 ghost use Rattle.and_branch.specs.declared.finding.Found.{Found};
 
 use crate::branch::Branch;
 use crate::finding::{Found, HeavyCall, Seen, first_call};
 use crate::goals::is_call;
-use crate::ways::{Way, turns_back};
+use crate::ways::{Share, Way, turns_back};
 use crate::workspace::Workspace;
 use and_cells::Naming;
 use and_determinacy::{Determinacy, Judged, Narrowed, judge, narrow};
-use and_io::Gate;
+use and_gate::Gate;
 use and_model::{ClauseNo, Goal};
 use and_program::Loaded;
 use and_reduction::{Ran, run};
 use std::alloc::AllocError;
 
-/// How many reductions the first round takes at most. Each later one takes twice as many, so that no
-/// goal keeps the others waiting for long.
-const FIRST_ROUND: u32 = 64;
+/// How many reductions the first round has for each goal that stands at its beginning. Each later one has twice
+/// as many, so that no goal keeps the others waiting for long.
+pub const FIRST_ROUND: u32 = 64;
 
 /// The number under which a gate is told of these reductions: that of the first worker.
 const LEADER: u32 = 0;
@@ -80,35 +77,10 @@ pub(crate) enum Round {
 }
 
 impl<N: Naming> Branch<N> {
-    /// Reduces goals that have one candidate alone, until none has one that fits. In which order they
-    /// are reduced makes no difference to what is found. The gate is told of each reduction before it is
-    /// made. An error is want of memory, and the branch is spent.
-    pub fn advance<G: Gate>(
-        &mut self,
-        loaded: &Loaded,
-        table: &Determinacy,
-        gate: &G,
-        workspace: &mut Workspace,
-    ) -> Result<(), AllocError>
-        requires program { N.program ≡ named loaded.now }
-        requires table { IsTableOf N.program table.now }
-        requires branch { IsBranch N.program self.old }
-        ensures same { SameKey self.old self.new }
-        ensures steps { OnOk result ((t : QueryTree N.program.program) → IsBranchOf N.program self.old t
-            → (u : QueryTree N.program.program) × IsBranchOf N.program self.new u × Steps t u) }
-        ensures back { OnOk result (KeepsBack self.old self.new) }
-        ensures done { OnOk result ((t : QueryTree N.program.program) (o : Open t) (c : ℕ) → IsBranchOf N.program self.new t
-            → StateOf N.program.program self.new.limit t (determinate o c) → ⊥) }
-    {
-        loaded.skeleton_is_of_the_program();
-        let _found = self.go_rounds(loaded, table, gate, workspace)?;
-        Ok(())
-    }
-
-    /// One round over the goals, which takes at most so many reductions. Answers whether there may be more
-    /// to do: where it answers that there is not, nothing is to be done for any goal, or the branch is marked
-    /// failed. The gate is told of each reduction before it is made. An error is want of memory, and the branch
-    /// is spent.
+    /// One round over the goals, which has so many reductions for each that stands at its beginning. Answers
+    /// whether there may be more to do: where it answers that there is not, nothing is to be done for any goal,
+    /// or the branch is marked failed. The gate is told of each reduction before it is made. An error is want of
+    /// memory, and the branch is spent.
     pub fn advance_some<G: Gate>(
         &mut self,
         loaded: &Loaded,
@@ -123,6 +95,7 @@ impl<N: Naming> Branch<N> {
         requires most { 1 ≤ most }
         ensures same { SameKey self.old self.new }
         ensures steps { OnOk result (StepsOn N.program self.old self.new) }
+        ensures progressed { result ≡ Ok true → HasProgressed self.old self.new }
         ensures done { result ≡ Ok false → (self.new.is_failed ≡ true) ⊎ IsStill N.program self.new }
     {
         match self.go_round(loaded, table, gate, most, workspace)? {
@@ -132,24 +105,26 @@ impl<N: Naming> Branch<N> {
         }
     }
 
-    /// Rounds over the goals, until for none is anything to be done. Answers what was found of them
-    /// then, or nothing where the branch is marked failed. An error is want of memory, and the branch is
-    /// spent.
+    /// Rounds over the goals, until for none is anything to be done. The first has so many reductions for each
+    /// goal. Answers what was found of them then, or nothing where the branch is marked failed. An error is want
+    /// of memory, and the branch is spent.
     pub(crate) fn go_rounds<G: Gate>(
         &mut self,
         loaded: &Loaded,
         table: &Determinacy,
         gate: &G,
+        first: u32,
         workspace: &mut Workspace,
     ) -> Result<Option<Found>, AllocError>
         requires program { N.program ≡ named loaded.now }
         requires table { IsTableOf N.program table.now }
         requires branch { IsBranch N.program self.old }
+        requires first { 1 ≤ first }
         ensures same { SameKey self.old self.new }
         ensures steps { OnOk result (StepsOn N.program self.old self.new) }
         ensures stilled { IfOk result (HasStilled N.program self.new) }
     {
-        let mut most = FIRST_ROUND;
+        let mut most = first;
         'rounds: loop {
             match self.go_round(loaded, table, gate, most, workspace)? {
                 Round::Changed => most = most.saturating_mul(2),
@@ -159,8 +134,10 @@ impl<N: Naming> Branch<N> {
         }
     }
 
-    /// One round over the goals, from the first one on, and then, where it has changed something and has not come to rest, from the last
-    /// one back. It takes at most so many reductions. An error is want of memory, and the branch is spent.
+    /// One round over the goals, from the first one on, and then, where it has changed something and has not come
+    /// to rest, from the last one back. On the way onward it has so many reductions for each goal that stands at
+    /// its beginning, with all that comes of it, and on the way back as many in all. An error is want of memory,
+    /// and the branch is spent.
     fn go_round<G: Gate>(
         &mut self,
         loaded: &Loaded,
@@ -181,14 +158,15 @@ impl<N: Naming> Branch<N> {
         self.rewind()?;
         self.clear_out();
         let mut way = Way::Onward;
-        let mut budget = most;
+        let mut share = Share::of(most);
         let mut changed = false;
         let mut heavy = None;
         'goals: loop {
             if !self.come_to_next(way)? {
                 return Ok(Round::Changed);
             }
-            match self.look(loaded, table, gate, budget > 0, workspace)? {
+            share = share.at(self.count_ahead());
+            match self.look(loaded, table, gate, share.left > 0, workspace)? {
                 Looked::Ended => {
                     let round = self.round_ended(loaded, changed, heavy);
                     if !turns_back(way, round) {
@@ -201,7 +179,7 @@ impl<N: Naming> Branch<N> {
                 }
                 Looked::Ran => changed = true,
                 Looked::Reduced => {
-                    budget -= 1;
+                    share.left -= 1;
                     changed = true;
                 }
                 Looked::Failed => return Ok(Round::Failed),

@@ -1,16 +1,16 @@
-//! A branch, its root, and one reduction of it.
+//! A branch, and its root.
 
-ghost use Rattle.std.specs.Prelude.{◌≡◌, ◌<◌, ◌≤◌, [], true, false, OnOk, IfOk};
-ghost use Rattle.and_model.specs.Programs.{clause_weight, Of};
-ghost use Rattle.and_model.specs.Trees.{QueryTree, query_agenda, blank, Open, call_of, reduce};
+ghost use Rattle.std.specs.Prelude.{◌≡◌, ◌<◌, ◌≤◌, [], true, false, IfOk};
+ghost use Rattle.and_model.specs.Programs.{clause_weight};
+ghost use Rattle.and_model.specs.Trees.{query_agenda, blank};
 ghost use Rattle.and_model.specs.Limits.{query_alone};
 ghost use Rattle.and_model.specs.declared.limits.TheConstants.{MAX_LIMIT};
 ghost use Rattle.and_model.specs.declared.goal.Cut.{Cut};
 ghost use Rattle.and_cells.specs.Parts.{named};
-ghost use Rattle.and_branch_laws.specs.States.{IsCut, StateOf, determinate};
+ghost use Rattle.and_branch_laws.specs.States.{IsCut};
 ghost use Rattle.and_branch_laws.specs.Views.{StandsIn};
 ghost use Rattle.and_code.specs.Written.{all_written};
-ghost use Rattle.and_branch.specs.Branches.{Held, IsBranch, IsBranchOf, IsOpenGoal, SameKey, view_of};
+ghost use Rattle.and_branch.specs.Branches.{Held, IsBranch, IsBranchOf, view_of};
 
 use crate::goals::push_body;
 use crate::workspace::Workspace;
@@ -95,27 +95,6 @@ impl<N: Naming> Branch<N> {
             Ok(branch) => Rooted::Ready(branch),
             Err(_) => Rooted::Memory,
         }
-    }
-
-    /// Reduces a goal by its one candidate. An error is want of memory, and the branch is spent.
-    pub fn reduce_one(
-        &mut self,
-        loaded: &Loaded,
-        goal: Goal,
-        clause: ClauseNo,
-        workspace: &mut Workspace,
-    ) -> Result<(), AllocError>
-        requires program { N.program ≡ named loaded.now }
-        requires determinate { (t : QueryTree N.program.program) × (o : Open t) × IsBranchOf N.program self.old t
-            × IsOpenGoal N.program self.old.reductions t o goal × StateOf N.program.program self.old.limit t (determinate o clause.0) }
-        ensures same { SameKey self.old self.new }
-        ensures reduced { OnOk result ((t : QueryTree N.program.program) (o : Open t) (of_it : Of N.program.program (call_of t o) clause.0)
-            → IsBranchOf N.program self.old t → IsOpenGoal N.program self.old.reductions t o goal
-            → IsBranchOf N.program self.new (reduce t o clause.0 of_it)) }
-    {
-        self.seek(goal)?;
-        self.reduce_next(loaded, clause, workspace)?;
-        Ok(())
     }
 
     /// What was decided where the branch was split off, and then its clause. Takes no memory.

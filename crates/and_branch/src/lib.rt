@@ -13,7 +13,6 @@ mod making;
 pub mod parts;
 pub mod rebuilding;
 mod reducing;
-mod resting;
 mod seeking;
 mod sleeping;
 pub mod splitting;
@@ -22,8 +21,9 @@ pub mod telling;
 mod ways;
 pub mod workspace;
 
+pub use advancing::FIRST_ROUND;
 pub use branch::{Branch, Rooted};
-pub use parts::{Frame, Parts};
+pub use parts::Parts;
 pub use rebuilding::{NoRoom, Worked};
 pub use splitting::{BranchList, Split};
 pub use state::BranchState;

@@ -1,14 +1,13 @@
-//! Branches that are taken apart, and their frames.
+//! Branches that are taken apart.
 
-ghost use Rattle.std.specs.Prelude.{◌≡◌, ◌++◌, reverse, slice_get, IfOk, IfErr};
-ghost use Rattle.and_code.specs.Written.{written};
-ghost use Rattle.and_branch.specs.Parts.{held_of, frames_of, frame_by};
+ghost use Rattle.std.specs.Prelude.{◌≡◌, IfOk, IfErr};
+ghost use Rattle.and_branch.specs.Parts.{held_of};
 ghost use Rattle.and_branch.specs.Next.{IsMoved};
 
 use crate::branch::Branch;
 use crate::rebuilding::NoRoom;
 use and_cells::{Naming, PlainCells};
-use and_model::{ClauseNo, Code, Goal, Reduction, ReductionList};
+use and_model::{Code, Goal, ReductionList};
 use and_pending::PendingGoals;
 use and_reduction::Trail;
 
@@ -25,13 +24,6 @@ pub struct Parts<N: Naming> {
     pub used: u32,
     /// Whether its tree was found dead. Its cells and goals then say nothing.
     pub is_failed: bool,
-}
-
-/// The cells of a clause's variables and pairs, by the first of them, and the clause.
-#[derive(Clone, Copy, PartialEq, Eq, Debug)]
-pub struct Frame {
-    pub base: u32,
-    pub clause: ClauseNo,
 }
 
 impl<N: Naming> Branch<N> {
@@ -62,20 +54,6 @@ impl<N: Naming> Branch<N> {
             used,
             is_failed,
         })
-    }
-
-    /// The frame at a place, counted from 0; `None` behind the last. The query's comes first, and then
-    /// that of each reduction, as they were made. Takes no memory.
-    pub fn frame(&self, place: usize) -> Option<Frame>
-        ensures { result ≡ slice_get (frames_of self.now.reductions) place }
-    {
-        if place == 0 {
-            return Some(QUERY_FRAME);
-        }
-        if place > self.reductions.len() {
-            return None;
-        }
-        Some(frame_by(*self.reductions.at(place - 1)))
     }
 }
 
@@ -108,21 +86,5 @@ impl<N: Naming> Parts<N> {
             is_failed,
             trail: Trail::none(alloc),
         })
-    }
-}
-
-/// The query's frame.
-const QUERY_FRAME: Frame = Frame {
-    base: 0,
-    clause: ClauseNo(0),
-};
-
-/// The frame of the clause by which a call was reduced: it begins at the number of the clause's place.
-fn frame_by(reduction: Reduction) -> Frame
-    ensures { result ≡ frame_by (written reduction) }
-{
-    Frame {
-        base: reduction.node,
-        clause: reduction.clause,
     }
 }

@@ -1,6 +1,6 @@
 //! Branches that are made again of what a phase left.
 
-ghost use Rattle.std.specs.Prelude.{◌≡◌, ◌≤◌, ◌+◌, ◌++◌, ◌∷◌, [], true, false, None, length, Ok, OnOk, IfOk, IfErr};
+ghost use Rattle.std.specs.Prelude.{◌≡◌, ◌≤◌, ◌+◌, ◌++◌, ◌∷◌, [], true, false, None, length, Ok, OnOk, IfOk};
 ghost use Rattle.and_model.specs.Solutions.{Solvable};
 ghost use Rattle.and_model.specs.Trees.{QueryTree};
 ghost use Rattle.and_model.specs.declared.limits.TheConstants.{MAX_LIMIT};
@@ -30,7 +30,6 @@ use std::alloc::{AllocError, Global};
 /// What a phase left of a branch that was taken apart.
 #[derive(Drop)]
 pub struct Worked<N: Naming> {
-    pub parts: Parts<N>,
     /// The cells as they are now, with a frame more for each reduction that was made.
     pub cells: PlainCells<N>,
     /// The reductions that were made.
@@ -50,56 +49,48 @@ pub struct NoRoom {
 }
 
 impl<N: Naming> Branch<N> {
-    /// Settles what a phase left, and makes a branch of it, of whose row nothing is noted. It is marked
-    /// failed where the phase found the tree dead, and where what is left has no solution.
-    pub fn rebuild(alloc: Global, loaded: &Loaded, work: Worked<N>) -> Result<Branch<N>, NoRoom>
+    /// Settles what a phase left of the branch with these parts, and makes a branch of it, of whose row nothing is
+    /// noted. It is marked failed where the phase found the tree dead, and where what is left has no solution. An
+    /// error is want of memory. (The parts are kept, so that the branch of before can be had again.)
+    pub fn rebuild(
+        alloc: Global,
+        loaded: &Loaded,
+        parts: &Parts<N>,
+        work: Worked<N>,
+    ) -> Result<Branch<N>, AllocError>
         requires program { N.program ≡ named loaded.now }
-        requires worked { (t : QueryTree N.program.program) × (u : QueryTree N.program.program) × IsWorked N.program work t u }
-        ensures same { IfOk result (λ branch. SameKey (held_of work.parts) branch) }
-        ensures reductions { IfOk result (λ branch. branch.reductions ≡ reductions_of work) }
-        ensures stands { IfOk result (λ branch. (t u : QueryTree N.program.program) → IsWorked N.program work t u
+        requires worked { (t : QueryTree N.program.program) × (u : QueryTree N.program.program)
+            × IsWorked N.program parts.now work t u }
+        ensures same { IfOk result (λ branch. SameKey (held_of parts.now) branch) }
+        ensures reductions { IfOk result (λ branch. branch.reductions ≡ reductions_of parts.now work) }
+        ensures stands { IfOk result (λ branch. (t u : QueryTree N.program.program) → IsWorked N.program parts.now work t u
             → IsBranchOf N.program branch u) }
         ensures trail { IfOk result (λ branch. branch.trail.mark ≡ None) }
         ensures failed { IfOk result (λ branch. work.failed ≡ true → branch.is_failed ≡ true) }
-        ensures no_room { IfErr result (λ refused. refused.key ≡ work.parts.key) }
     {
         loaded.skeleton_is_of_the_program();
         let Worked {
-            parts,
             mut cells,
             made,
             goals,
             mut pairs,
             failed,
         } = work;
-        let Parts {
+        let key = parts.key.copy()?;
+        let mut reductions = parts.reductions.copy()?;
+        let used = add_all(loaded, &mut reductions, &made, parts.used)?;
+        let goals = PendingGoals::of(alloc, &goals)?;
+        let is_failed = is_dead(alloc, loaded, &mut cells, &mut pairs, failed)?;
+        Ok(Branch {
             key,
-            limit,
-            cells: _,
-            mut reductions,
-            goals: _,
+            limit: parts.limit,
+            cells,
+            reductions,
+            goals,
             used,
-            is_failed: _,
-        } = parts;
-        let Ok(used) = add_all(loaded, &mut reductions, &made, used) else {
-            return Err(NoRoom { key });
-        };
-        let Ok(goals) = PendingGoals::of(alloc, &goals) else {
-            return Err(NoRoom { key });
-        };
-        match is_dead(alloc, loaded, &mut cells, &mut pairs, failed) {
-            Ok(is_failed) => Ok(Branch {
-                key,
-                limit,
-                cells,
-                reductions,
-                goals,
-                used,
-                is_failed,
-                trail: Trail::none(alloc),
-            }),
-            Err(_) => Err(NoRoom { key }),
-        }
+            is_failed,
+            trail: Trail::none(alloc),
+        })
     }
 }
 

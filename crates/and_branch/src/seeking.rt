@@ -65,6 +65,13 @@ impl<N: Naming> Branch<N> {
         self.goals.next().is_some()
     }
 
+    /// How many goals there are from the place of work on. Takes no memory.
+    pub(crate) fn count_ahead(&self) -> usize
+        ensures { result ≡ length self.now.right }
+    {
+        self.goals.count_ahead()
+    }
+
     /// Goes back before the last goal that was passed, which is there. An error is want of memory, and the
     /// branch is spent.
     pub(crate) fn pass_back(&mut self) -> Result<(), AllocError>

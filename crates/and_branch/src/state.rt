@@ -1,6 +1,6 @@
 //! The state of a branch: what its tree allows next.
 
-ghost use Rattle.std.specs.Prelude.{ℕ, ◌≡◌, ◌≢◌, [], Some, false, OnOk, IfOk, IsSome};
+ghost use Rattle.std.specs.Prelude.{ℕ, ◌≡◌, ◌≢◌, ◌≤◌, [], Some, false, OnOk, IfOk, IsSome};
 ghost use Rattle.and_model.specs.Trees.{QueryTree, Open};
 ghost use Rattle.and_model.specs.Reached.{Steps};
 ghost use Rattle.and_model.specs.declared.goal.Cut.{Cut};
@@ -15,13 +15,14 @@ ghost use Rattle.and_branch.specs.Origins.{KeepsBack};
 ghost use Rattle.and_branch.specs.Resting.{SameTree, IsResting};
 ghost use Rattle.and_branch.specs.States.{IsState, IsAtRest};
 
+use crate::advancing::FIRST_ROUND;
 use crate::branch::Branch;
-use crate::finding::{Found, find};
+use crate::finding::Found;
 use crate::forking::part;
 use crate::workspace::Workspace;
 use and_cells::Naming;
 use and_determinacy::{Determinacy, candidates_of_several};
-use and_io::Gate;
+use and_gate::Gate;
 use and_model::{ClauseList, ClauseNo, Cut, Goal};
 use and_program::Loaded;
 use std::alloc::AllocError;
@@ -29,11 +30,6 @@ use std::alloc::AllocError;
 /// What a branch's tree allows next.
 #[derive(Drop)]
 pub enum BranchState {
-    /// A goal has one candidate alone, which fits: the leftmost such goal.
-    Determinate {
-        goal: Goal,
-        clause: ClauseNo,
-    },
     /// Each goal has two candidates or more. The leftmost goal is to be forked, with those of its
     /// candidates that fit; the cut is that of the first that does not.
     Fork {
@@ -53,37 +49,9 @@ pub enum BranchState {
 }
 
 impl<N: Naming> Branch<N> {
-    /// Runs the arithmetic that is ground, and judges what the tree allows next. An error is want of
-    /// memory, and the branch is spent.
-    pub fn state(
-        &mut self,
-        loaded: &Loaded,
-        table: &Determinacy,
-        workspace: &mut Workspace,
-    ) -> Result<BranchState, AllocError>
-        requires program { N.program ≡ named loaded.now }
-        requires table { IsTableOf N.program table.now }
-        requires branch { IsBranch N.program self.old }
-        ensures same { SameKey self.old self.new }
-        ensures reductions { self.new.reductions ≡ self.old.reductions }
-        ensures stands { OnOk result ((t : QueryTree N.program.program) → IsBranchOf N.program self.old t → IsBranchOf N.program self.new t) }
-        ensures judged { IfOk result (λ s. (t : QueryTree N.program.program) → IsBranchOf N.program self.new t
-            → IsState N.program self.new t s) }
-        ensures at_rest { IfOk result (λ s. IsAtRest N.program self.new s) }
-    {
-        if self.is_failed {
-            return Ok(BranchState::Failed);
-        }
-        self.rest(loaded, &mut workspace.tools)?;
-        if self.is_failed {
-            return Ok(BranchState::Failed);
-        }
-        self.judged(loaded, table, workspace)
-    }
-
-    /// Reduces determinate goals until none is left that fits, and tells what the tree allows then: what
-    /// `advance` and then `state` do, but each goal is judged once where it has come to rest. The gate is told
-    /// of each reduction before it is made. An error is want of memory, and the branch is spent.
+    /// Reduces goals that have one candidate alone, until none has one that fits, and tells what the tree allows
+    /// then. In which order they are reduced makes no difference to what is found. The gate is told of each
+    /// reduction before it is made. An error is want of memory, and the branch is spent.
     pub fn advance_to_state<G: Gate>(
         &mut self,
         loaded: &Loaded,
@@ -104,41 +72,38 @@ impl<N: Naming> Branch<N> {
         ensures done { OnOk result ((t : QueryTree N.program.program) (o : Open t) (c : ℕ) → IsBranchOf N.program self.new t
             → StateOf N.program.program self.new.limit t (determinate o c) → ⊥) }
     {
-        loaded.skeleton_is_of_the_program();
-        match self.go_rounds(loaded, table, gate, workspace)? {
-            Some(found) => self.told(loaded, table, found, workspace),
-            None => Ok(BranchState::Failed),
-        }
+        self.advance_from(loaded, table, gate, FIRST_ROUND, workspace)
     }
 
-    /// The state of a branch at rest. An error is want of memory, and the branch is spent.
-    fn judged(
+    /// The same, where the first round over the goals has so many reductions for each. (Who made some rounds by
+    /// `advance_some` goes on as if there had been no break.)
+    pub fn advance_from<G: Gate>(
         &mut self,
         loaded: &Loaded,
         table: &Determinacy,
+        gate: &G,
+        first: u32,
         workspace: &mut Workspace,
     ) -> Result<BranchState, AllocError>
         requires program { N.program ≡ named loaded.now }
         requires table { IsTableOf N.program table.now }
         requires branch { IsBranch N.program self.old }
-        requires live { self.old.is_failed ≡ false }
-        requires rests { IsResting N.program self.old }
-        ensures same { SameTree self.old self.new }
-        ensures stays { OnOk result (self.new ≡ self.old) }
-        ensures judged { IfOk result (λ s. (t : QueryTree N.program.program) → IsBranchOf N.program self.old t
-            → IsState N.program self.old t s) }
+        requires first { 1 ≤ first }
+        ensures same { SameKey self.old self.new }
+        ensures steps { OnOk result ((t : QueryTree N.program.program) → IsBranchOf N.program self.old t
+            → (u : QueryTree N.program.program) × IsBranchOf N.program self.new u × Steps t u) }
+        ensures judged { IfOk result (λ s. (t : QueryTree N.program.program) → IsBranchOf N.program self.new t
+            → IsState N.program self.new t s) }
+        ensures at_rest { IfOk result (λ s. IsAtRest N.program self.new s) }
+        ensures back { OnOk result (KeepsBack self.old self.new) }
+        ensures done { OnOk result ((t : QueryTree N.program.program) (o : Open t) (c : ℕ) → IsBranchOf N.program self.new t
+            → StateOf N.program.program self.new.limit t (determinate o c) → ⊥) }
     {
         loaded.skeleton_is_of_the_program();
-        let limit = self.limit;
-        let found = find(
-            table,
-            loaded,
-            &mut self.cells,
-            &self.goals,
-            limit,
-            &mut workspace.trials,
-        )?;
-        self.told(loaded, table, found, workspace)
+        match self.go_rounds(loaded, table, gate, first, workspace)? {
+            Some(found) => self.told(loaded, table, found, workspace),
+            None => Ok(BranchState::Failed),
+        }
     }
 
     /// The state of a branch at rest, of whose goals this was found. An error is want of memory, and the
@@ -169,8 +134,6 @@ impl<N: Naming> Branch<N> {
                 let cut = self.cut(goal, clause)?;
                 Ok(BranchState::OverLimit(cut))
             }
-            Found::Fitting { goal, clause } => Ok(BranchState::Determinate { goal, clause }),
-            Found::Stuck => Ok(BranchState::Failed),
         }
     }
 

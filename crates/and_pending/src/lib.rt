@@ -4,8 +4,6 @@
 
 mod filling;
 mod pending;
-#[cfg(test)]
-mod tests;
 mod watch;
 
 pub use pending::{PendingGoal, PendingGoals};

@@ -89,6 +89,13 @@ impl PendingGoals {
         self.left.len()
     }
 
+    /// How many there are from the place of work on. Takes no memory.
+    pub fn count_ahead(&self) -> usize
+        ensures { result ≡ length self.now.right }
+    {
+        self.right.len()
+    }
+
     /// The goal at a place before the place of work, counted from 0. Takes no memory.
     pub fn at(&self, place: usize) -> Goal
         requires { place < length self.now.left }

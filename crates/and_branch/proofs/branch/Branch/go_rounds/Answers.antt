@@ -11,7 +11,7 @@ rounds-init g c = record {
   same = record { key = refl; limit = refl };
   steps = no_steps g.N.Naming.program c.args.self.now;
   branch = c.requires.branch;
-  some = omega arith;
+  some = c.requires.first;
 }
 
 pub rounds-preserved : goal.rounds-preserved

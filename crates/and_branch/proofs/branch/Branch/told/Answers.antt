@@ -2,7 +2,7 @@ use Rattle.std.proofs.Common.{subst}
 use Rattle.and_branch.specs.Finding.{HasFound}
 use Rattle.and_branch.specs.declared.finding.Found.{Found}
 use Rattle.and_branch.proofs.LoadedPrograms.{is_loaded}
-use Rattle.and_branch.proofs.StatesFound.{stuck_is, told_fitting, told_heavy}
+use Rattle.and_branch.proofs.StatesFound.{told_heavy}
 use Rattle.and_branch.proofs.branch.Branch.told.Goals as goal
 
 pub returns-in_ok-cut-in-Heavy-clause-judged : goal.returns-in_ok-cut-in-Heavy-clause-judged
@@ -15,21 +15,3 @@ returns-in_ok-cut-in-Heavy-clause-judged g c = λ t x.
     let cut = c.in_ok-cut-in-Heavy.ensures in
     told_heavy P loaded b t x c.requires.live c.requires.rests c.in-Heavy.goal c.in-Heavy.clause found c.in_ok-cut-in-Heavy.cut cut.partial
     cut.goal cut.clause
-
-pub returns-in-Fitting-clause-judged : goal.returns-in-Fitting-clause-judged
-returns-in-Fitting-clause-judged g c = λ t x.
-    let P = g.N.Naming.program in
-    let b = c.args.self.now in
-    let says = c.skeleton_is_of_the_program.ensures in
-    let loaded = is_loaded P c.args.loaded.now c.requires.program says.skeleton says.own_variables says.few in
-    let found = subst (λ (f : Found). HasFound P b.limit b.row b.left f) c.in-Fitting.is c.requires.found in
-    told_fitting P loaded b t x c.requires.live c.requires.rests c.in-Fitting.goal c.in-Fitting.clause found
-
-pub returns-in-Stuck-clause-judged : goal.returns-in-Stuck-clause-judged
-returns-in-Stuck-clause-judged g c = λ t x.
-    let P = g.N.Naming.program in
-    let b = c.args.self.now in
-    let says = c.skeleton_is_of_the_program.ensures in
-    let loaded = is_loaded P c.args.loaded.now c.requires.program says.skeleton says.own_variables says.few in
-    let found = subst (λ (f : Found). HasFound P b.limit b.row b.left f) c.in-Stuck.is c.requires.found in
-    stuck_is P loaded b t x c.requires.live c.requires.rests found

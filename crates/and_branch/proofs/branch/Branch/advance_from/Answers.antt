@@ -8,7 +8,7 @@ use Rattle.and_branch.proofs.LoadedPrograms.{is_loaded}
 use Rattle.and_branch.proofs.LookedGoals.{still_branch}
 use Rattle.and_branch.proofs.RoundsDone
 use Rattle.and_branch.proofs.StilledBranches.{failed_state, told_steps, told_state, told_at_rest}
-use Rattle.and_branch.proofs.branch.Branch.advance_to_state.Goals as goal
+use Rattle.and_branch.proofs.branch.Branch.advance_from.Goals as goal
 
 pub told-requires-clause-branch : goal.told-requires-clause-branch
 told-requires-clause-branch g c =
