@@ -29,7 +29,7 @@ use Rattle.and_branch.specs.Origins.{lost}
 use Rattle.and_branch.specs.Parts.{held_of}
 use Rattle.and_branch.specs.Rebuilding.{IsLeft, IsWorked}
 use Rattle.and_branch.specs.Rounds.{StepsOn}
-use Rattle.and_branch.specs.declared.parts.Frame.{Frame}
+use Rattle.and_model.specs.declared.goal.Frame.{Frame}
 use Rattle.and_branch.specs.declared.parts.Parts.{Parts}
 use Rattle.and_branch.specs.declared.rebuilding.Worked.{Worked}
 use Rattle.and_phase.specs.Joined.{IsJoined, IsWorkOf, LooksWhole}
@@ -88,9 +88,9 @@ module _ {N : Type 0} (P : NamedProgram) (own : OwnVariables P) (law : PhasesLea
       (subst (λ (gs : List Goal). IsGathered P.program gs parts.used parts.limit x.tolds j.done) goals x.gathered))
       x.whole.long x.whole.whole
 
-  module _ (w : Worked N) (same : IsWorkOf parts j w) (t : QueryTree P.program) (b : IsBranchOf P (held_of parts) t) where
+  module _ (w : Worked N) (same : IsWorkOf j w) (t : QueryTree P.program) (b : IsBranchOf P (held_of parts) t) where
     left : (u : QueryTree P.program) → Left P parts.reductions j.done.made j.cells j.done.pairs j.done.goals.items u
-        → ArePairsWhole P (all_frames (parts.reductions ++ j.done.made)) j.cells j.done.pairs → IsLeft P w u
+        → ArePairsWhole P (all_frames (parts.reductions ++ j.done.made)) j.cells j.done.pairs → IsLeft P parts w u
     left u l whole =
         let frames : List Frame = all_frames (parts.reductions ++ j.done.made) in
         let pairs : ArePairsWhole P frames w.cells w.pairs =
@@ -100,30 +100,27 @@ module _ {N : Type 0} (P : NamedProgram) (own : OwnVariables P) (law : PhasesLea
           kept = l.0;
           goals = l.1 ∙ sym same.goals;
           unsettled =
-              subst (λ (rs : List declared.Reduction.Reduction). Unsettled P (all_written rs ++ all_written w.made) w.cells
-              (equations_of_pairs P (word_at w.cells) w.pairs) l.0 u) (sym same.reductions)
-              (subst (λ (rs : List declared.Reduction.Reduction). Unsettled P (all_written parts.reductions ++ all_written rs) w.cells
+              subst (λ (rs : List declared.Reduction.Reduction). Unsettled P (all_written parts.reductions ++ all_written rs) w.cells
               (equations_of_pairs P (word_at w.cells) w.pairs) l.0 u) (sym same.made)
               (subst (λ (row : List Ref). Unsettled P (all_written parts.reductions ++ all_written j.done.made) row
               (equations_of_pairs P (word_at row) w.pairs) l.0 u) (sym same.cells)
               (subst (λ (ps : List Pair). Unsettled P (all_written parts.reductions ++ all_written j.done.made) j.cells
-              (equations_of_pairs P (word_at j.cells) ps) l.0 u) (sym same.pairs) l.2)));
+              (equations_of_pairs P (word_at j.cells) ps) l.0 u) (sym same.pairs) l.2));
           in_range = sides_in_range P frames w.cells w.pairs pairs;
           written = sides_written P frames w.cells w.pairs pairs;
         }
 
-    pub is_worked : (u : QueryTree P.program) × IsWorked P w t u
+    pub is_worked : (u : QueryTree P.program) × IsWorked P parts w t u
     is_worked =
         let l = leaves t b in (
           l.0,
           record {
-            branch = subst (λ (h : Held). IsBranchOf P h t) (sym same.held) b;
+            branch = b;
             made =
-                subst (λ (rs : List declared.Reduction.Reduction). Makes P.program (all_written rs ++ all_written w.made) l.0) (sym same.reductions)
-                (subst (λ (rs : List declared.Reduction.Reduction). Makes P.program (all_written parts.reductions ++ all_written rs) l.0)
-                (sym same.made) l.1);
+                subst (λ (rs : List declared.Reduction.Reduction). Makes P.program (all_written parts.reductions ++ all_written rs) l.0)
+                (sym same.made) l.1;
             steps = l.2;
-            fits = subst (λ (h : Held). weight l.0 ≤ h.limit) (sym same.held) l.3;
+            fits = l.3;
             dead = λ e. l.4 (sym same.failed ∙ e);
             left = λ e.
                 let lived = sym same.failed ∙ e in
@@ -132,14 +129,14 @@ module _ {N : Type 0} (P : NamedProgram) (own : OwnVariables P) (law : PhasesLea
         )
 
 -- A branch that is made of all that was worked stands for what Steps lead to. Nothing is noted of its row.
-pub steps_on : {E : Type 0} {N : Type 0} (P : NamedProgram) (old : Held) (w : Worked N) (r : Result Held E)
-    → IfOk r (λ b. b.trail.mark ≡ None) → IfOk r (λ b. (t u : QueryTree P.program) → IsWorked P w t u → IsBranchOf P b u)
-    → ((t : QueryTree P.program) → IsBranchOf P old t → (u : QueryTree P.program) × IsWorked P w t u) → IfOk r (λ b. StepsOn P old b)
-steps_on P old w (Ok b) nothing stands worked = record {
+pub steps_on : {E : Type 0} {N : Type 0} (P : NamedProgram) (old : Held) (parts : Parts N) (w : Worked N) (r : Result Held E)
+    → IfOk r (λ b. b.trail.mark ≡ None) → IfOk r (λ b. (t u : QueryTree P.program) → IsWorked P parts w t u → IsBranchOf P b u)
+    → ((t : QueryTree P.program) → IsBranchOf P old t → (u : QueryTree P.program) × IsWorked P parts w t u) → IfOk r (λ b. StepsOn P old b)
+steps_on P old parts w (Ok b) nothing stands worked = record {
   each = λ t x. (let y = worked t x in (y.0, stands t y.0 y.1, y.1.steps));
   back = lost nothing;
 }
-steps_on P old w (Err e) nothing stands worked = tt
+steps_on P old parts w (Err e) nothing stands worked = tt
 
 -- What was joined, as the parts have it.
 pub joined : {N : Type 0} (P Q : NamedProgram) → P ≡ Q → (parts : Parts N) (cells : List Ref) (tolds : List Told) (goals : List Goal)

@@ -17,7 +17,9 @@ use Rattle.and_branch.proofs.GoalsRun.{branch_fits}
 use Rattle.and_branch.proofs.LookedGoals.{no_steps, steps_then, still_branch, moved_steps}
 use Rattle.and_branch.proofs.RoundsKept.{same_then}
 use Rattle.and_branch.proofs.SeenGoals.{kept_seen}
+use Rattle.and_phase.specs.Advanced.{HasAdvanced}
 use Rattle.and_phase.specs.Sighting.{IsLater, IsSighted}
+use Rattle.and_phase.specs.declared.advanced.Advanced.{Advanced}
 use Rattle.and_phase.specs.declared.sighting.Sighted.{Sighted}
 use Rattle.and_phase.specs.declared.sighting.Sighted.TheVariants.{Two, NotTwo}
 
@@ -42,7 +44,7 @@ pub later_parts : {N : Type 0} (P : NamedProgram) (parts : Parts N) (cells : Lis
     → b ≡ held_of (record parts { cells = cells }) → IsLater P (held_of parts) b
 later_parts P parts cells same b is = later_equal P (held_of parts) b (is ∙ ap (λ (row : List Ref). record (held_of parts) { row = row }) same)
 
-sighted_then : {N : Type 0} (P : NamedProgram) (one two : Held) → IsLater P one two → (s : Sighted N) → IsSighted P two s → IsSighted P one s
+pub sighted_then : {N : Type 0} (P : NamedProgram) (one two : Held) → IsLater P one two → (s : Sighted N) → IsSighted P two s → IsSighted P one s
 sighted_then P one two x (Two parts) y = (later_then P one two (held_of parts) x y.0, y.1)
 sighted_then P one two x (NotTwo b) y = later_then P one two b x y
 
@@ -52,19 +54,20 @@ pub look_then : {N E : Type 0} (P : NamedProgram) (one two : Held) → IsLater P
 look_then P one two x (Ok s) y = sighted_then P one two x s y
 look_then P one two x (Err e) y = tt
 
-pub steps_after : {E : Type 0} (P : NamedProgram) (one two : Held) → StepsOn P one two → (r : Result Held E) → IfOk r (λ b. StepsOn P two b)
-    → IfOk r (λ b. StepsOn P one b)
-steps_after P one two x (Ok b) y = steps_then P one two b x y
-steps_after P one two x (Err e) y = tt
+-- So does what is told of the state to which it was brought.
+pub advanced_then : {N : Type 0} (P : NamedProgram) (one two : Held) → IsLater P one two → (a : Advanced N) → HasAdvanced P two a → HasAdvanced P one a
+advanced_then P one two x a h = record {
+  same = same_then one two a.branch x.same h.same;
+  steps = steps_then P one two a.branch x.steps h.steps;
+  judged = h.judged;
+  at_rest = h.at_rest;
+  done = h.done;
+}
 
--- A branch that is made of parts again stands for what it did.
-pub same_if_equal : {E : Type 0} (h : Held) (r : Result Held E) → IfOk r (λ b. b ≡ h) → IfOk r (λ b. SameKey h b)
-same_if_equal h (Ok b) e = record { key = ap (λ (x : Held). x.key) e; limit = ap (λ (x : Held). x.limit) e }
-same_if_equal h (Err x) e = tt
-
-pub steps_if_equal : {E : Type 0} (P : NamedProgram) (h : Held) (r : Result Held E) → IfOk r (λ b. b ≡ h) → IfOk r (λ b. StepsOn P h b)
-steps_if_equal P h (Ok b) e = let later = later_equal P h b e in later.steps
-steps_if_equal P h (Err x) e = tt
+pub advanced_after : {N E : Type 0} (P : NamedProgram) (one two : Held) → IsLater P one two → (r : Result (Advanced N) E)
+    → IfOk r (HasAdvanced P two) → IfOk r (HasAdvanced P one)
+advanced_after P one two x (Ok a) h = advanced_then P one two x a h
+advanced_after P one two x (Err e) h = tt
 
 -- ---- A branch that was taken apart and is not failed
 

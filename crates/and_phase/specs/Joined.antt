@@ -4,7 +4,6 @@ use Rattle.and_model.specs.declared.goal.Reduction.{Reduction}
 use Rattle.and_model.specs.declared.reference.Ref.{Ref}
 use Rattle.and_cells.specs.Ranges.{NamedProgram}
 use Rattle.and_worker_laws.specs.Leavings.{AreReady}
-use Rattle.and_branch.specs.Parts.{held_of}
 use Rattle.and_branch.specs.declared.parts.Parts.{Parts}
 use Rattle.and_branch.specs.declared.rebuilding.Worked.{Worked}
 use Rattle.and_gathering.specs.Gathering.{IsGathered}
@@ -30,9 +29,7 @@ pub record IsJoined {N : Type 0} (P : NamedProgram) (parts : Parts N) (j : Joine
   pub whole : LooksWhole P parts.reductions j.cells j.done
 
 -- That is to be made a branch again.
-pub record IsWorkOf {N : Type 0} (parts : Parts N) (j : Joined) (w : Worked N) : Type 0 where
-  pub held : held_of w.parts ≡ held_of parts
-  pub reductions : w.parts.reductions ≡ parts.reductions
+pub record IsWorkOf {N : Type 0} (j : Joined) (w : Worked N) : Type 0 where
   pub cells : w.cells ≡ j.cells
   pub made : w.made ≡ j.done.made
   pub goals : w.goals.items ≡ j.done.goals.items

@@ -1,2 +1,3 @@
+pub mod Advanced
 pub mod Joined
 pub mod Sighting

@@ -1,6 +1,6 @@
 //! What workers leave, looked at and made a branch again.
 
-ghost use Rattle.std.specs.Prelude.{◌≡◌, ◌≤◌, ℕ, true, false, List, Ok, IfSome, IfOk, IfErr};
+ghost use Rattle.std.specs.Prelude.{◌≡◌, ◌≤◌, ℕ, true, false, List, Ok, IfSome, IfOk};
 ghost use Rattle.and_model.specs.declared.limits.TheConstants.{MAX_LIMIT};
 ghost use Rattle.and_model.specs.declared.reference.Ref.{Ref};
 ghost use Rattle.and_program.specs.Loaded.{program_of};
@@ -16,7 +16,7 @@ ghost use Rattle.and_gathering.specs.Gathering.{IsGathered};
 ghost use Rattle.and_closing_laws.specs.Phases.{HasPhased};
 ghost use Rattle.and_phase.specs.Joined.{IsJoined, IsWorkOf, LooksWhole};
 
-use and_branch::{Branch, NoRoom, Parts, Worked};
+use and_branch::{Branch, Parts, Worked};
 use and_cells::{LooseCells, Naming};
 use and_closing_laws::phases_leave_branches;
 use and_gathering::{Gathered, gather};
@@ -92,30 +92,29 @@ pub(crate) fn join(
     }
 }
 
-/// The branch of these parts with what was made of it. An error is want of memory, and tells the key of the branch that was lost.
+/// The branch of these parts with what was made of it. An error is want of memory.
 pub(crate) fn made_again<N: Naming>(
     alloc: Global,
     loaded: &Loaded,
-    parts: Parts<N>,
+    parts: &Parts<N>,
     joined: Joined,
-) -> Result<Branch<N>, NoRoom>
+) -> Result<Branch<N>, AllocError>
     requires program { N.program ≡ named loaded.now }
-    requires branch { IsBranch N.program (held_of parts) }
-    requires live { parts.is_failed ≡ false }
-    requires joined { IsJoined N.program parts joined }
-    ensures same { IfOk result (λ b. SameKey (held_of parts) b) }
-    ensures steps { IfOk result (λ b. StepsOn N.program (held_of parts) b) }
-    ensures no_room { IfErr result (λ refused. refused.key ≡ parts.key) }
+    requires branch { IsBranch N.program (held_of parts.now) }
+    requires live { parts.now.is_failed ≡ false }
+    requires joined { IsJoined N.program parts.now joined }
+    ensures same { IfOk result (λ b. SameKey (held_of parts.now) b) }
+    ensures steps { IfOk result (λ b. StepsOn N.program (held_of parts.now) b) }
 {
     loaded.skeleton_is_of_the_program();
     phases_leave_branches();
-    Branch::rebuild(alloc, loaded, work_of(parts, joined))
+    Branch::rebuild(alloc, loaded, parts, work_of(joined))
 }
 
 /// What is to be made a branch again.
-fn work_of<N: Naming>(parts: Parts<N>, joined: Joined) -> Worked<N>
+fn work_of<N: Naming>(joined: Joined) -> Worked<N>
     requires { IsSound N.program joined.cells }
-    ensures { IsWorkOf parts joined result }
+    ensures { IsWorkOf joined result }
 {
     let Joined { cells, done } = joined;
     let Gathered {
@@ -126,7 +125,6 @@ fn work_of<N: Naming>(parts: Parts<N>, joined: Joined) -> Worked<N>
         failed,
     } = done;
     Worked {
-        parts,
         cells: cells.into_plain(),
         made,
         goals,

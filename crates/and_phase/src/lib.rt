@@ -4,6 +4,7 @@
 //! what is proved of a phase rests on no account of goals.
 #![tactic(auto)]
 
+mod advanced;
 mod dealing;
 mod determinate;
 mod joining;
@@ -12,5 +13,6 @@ mod phasing;
 mod sending;
 mod sighting;
 
+pub use advanced::Advanced;
 pub use pace::Pace;
-pub use phasing::phase;
+pub use phasing::phase_to_state;

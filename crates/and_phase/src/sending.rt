@@ -11,7 +11,7 @@ ghost use Rattle.and_closing_laws.specs.Phases.{HasPhased};
 use crate::dealing::{deal, taken_in};
 use and_cells::{LooseCells, Naming, PlainCells};
 use and_determinacy::Determinacy;
-use and_io::Gate;
+use and_gate::Gate;
 use and_model::Goal;
 use and_program::Loaded;
 use and_store::Store;

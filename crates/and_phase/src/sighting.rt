@@ -8,17 +8,14 @@ ghost use Rattle.and_branch.specs.Parts.{held_of};
 ghost use Rattle.and_phase.specs.Sighting.{IsLater, IsSighted};
 
 use crate::determinate::are_two;
-use and_branch::{Branch, NoRoom, Parts, Workspace};
+use and_branch::{Branch, FIRST_ROUND, NoRoom, Parts, Workspace};
 use and_cells::Naming;
 use and_determinacy::Determinacy;
-use and_io::Gate;
+use and_gate::Gate;
 use and_program::Loaded;
 use std::alloc::Global;
 
-/// How many reductions the leader makes at most before it looks for work again, the first time. Each later time it makes twice as many.
-const FIRST_ROUND: u32 = 64;
-
-/// How many times it does so.
+/// How many rounds over the goals the leader goes at most before workers are given up.
 const ROUNDS: u32 = 4;
 
 /// A branch that was looked over for work.
@@ -30,6 +27,14 @@ pub(crate) enum Sighted<N: Naming> {
     NotTwo(Branch<N>),
 }
 
+/// What a look for work came to, after some of the leader's rounds.
+#[derive(Drop)]
+pub(crate) struct LookedOver<N: Naming> {
+    pub sighted: Sighted<N>,
+    /// How many reductions the leader's next round has for each goal.
+    pub next: u32,
+}
+
 /// A branch, and whether it is worth a look again.
 #[derive(Drop)]
 struct Led<N: Naming> {
@@ -37,7 +42,7 @@ struct Led<N: Naming> {
     has_changed: bool,
 }
 
-/// Looks for work for two workers. Where there is none, the leader alone makes some reductions first, as a program often begins with one goal that
+/// Looks for work for two workers. Where there is none, the leader alone goes its first rounds, as a program often begins with one goal that
 /// spawns many. An error is want of memory, and tells the key of the branch that was lost.
 pub(crate) fn look_over<N: Naming, G: Gate>(
     alloc: Global,
@@ -46,33 +51,43 @@ pub(crate) fn look_over<N: Naming, G: Gate>(
     branch: Branch<N>,
     gate: &G,
     workspace: &mut Workspace,
-) -> Result<Sighted<N>, NoRoom>
+) -> Result<LookedOver<N>, NoRoom>
     requires program { N.program ≡ named loaded.now }
     requires table { IsTableOf N.program table.now }
     requires branch { IsBranch N.program branch }
-    ensures sighted { IfOk result (IsSighted N.program branch) }
+    ensures sighted { IfOk result (λ looked. IsSighted N.program branch looked.sighted) }
+    ensures next { IfOk result (λ looked. 1 ≤ looked.next) }
     ensures no_room { IfErr result (λ refused. refused.key ≡ branch.key) }
 {
     let mut branch = branch;
-    let mut most = FIRST_ROUND;
+    let mut next = FIRST_ROUND;
     'looks: for _ in 0..ROUNDS {
         match look(alloc, loaded, table, branch)? {
-            Sighted::Two(parts) => return Ok(Sighted::Two(parts)),
+            Sighted::Two(parts) => {
+                return Ok(LookedOver {
+                    sighted: Sighted::Two(parts),
+                    next,
+                });
+            }
             Sighted::NotTwo(left) => {
-                let led = lead(loaded, table, left, gate, most, workspace)?;
+                let led = lead(loaded, table, left, gate, next, workspace)?;
                 let Led {
-                    branch: next,
+                    branch: later,
                     has_changed,
                 } = led;
                 if !has_changed {
-                    return Ok(Sighted::NotTwo(next));
+                    return Ok(LookedOver {
+                        sighted: Sighted::NotTwo(later),
+                        next,
+                    });
                 }
-                branch = next;
+                branch = later;
             }
         }
-        most = most.saturating_mul(2);
+        next = next.saturating_mul(2);
     }
-    look(alloc, loaded, table, branch)
+    let sighted = look(alloc, loaded, table, branch)?;
+    Ok(LookedOver { sighted, next })
 }
 
 /// Looks for work for two workers. An error is want of memory, and tells the key of the branch that was lost.
@@ -126,13 +141,13 @@ fn look_at_parts<N: Naming>(
 }
 
 /// What is told of a branch that was lost.
-pub(crate) fn lost<N: Naming>(parts: Parts<N>) -> NoRoom
+fn lost<N: Naming>(parts: Parts<N>) -> NoRoom
     ensures { result.key ≡ parts.key }
 {
     NoRoom { key: parts.key }
 }
 
-/// Lets the leader alone make at most so many reductions. An error is want of memory, and tells the key of the branch that was lost.
+/// Lets the leader alone go one round, which has so many reductions for each goal. An error is want of memory, and tells the key of the branch that was lost.
 fn lead<N: Naming, G: Gate>(
     loaded: &Loaded,
     table: &Determinacy,

@@ -1,10 +1,15 @@
+use Rattle.std.proofs.Common.{sym, subst}
+use Rattle.and_branch.specs.Branches.{Held, IsBranch}
 use Rattle.and_branch.specs.Parts.{held_of}
-use Rattle.and_phase.proofs.Later.{same_if_equal, steps_if_equal}
+use Rattle.and_phase.proofs.Later.{later_equal, advanced_after}
 use Rattle.and_phase.proofs.phasing.shared_out.Goals as goal
 
-pub returns-in-Ok-None-clause-same : goal.returns-in-Ok-None-clause-same
-returns-in-Ok-None-clause-same g c = same_if_equal (held_of c.args.parts) c.into_branch.result c.into_branch.ensures.branch
+pub led_to_state-requires-clause-branch : goal.led_to_state-requires-clause-branch
+led_to_state-requires-clause-branch g c κs within =
+    subst (λ (b : Held). IsBranch g.N.Naming.program b) (sym c.in_ok-branch.ensures.branch) c.requires.branch
 
-pub returns-in-Ok-None-clause-steps : goal.returns-in-Ok-None-clause-steps
-returns-in-Ok-None-clause-steps g c =
-    steps_if_equal g.N.Naming.program (held_of c.args.parts) c.into_branch.result c.into_branch.ensures.branch
+pub returns-clause-advanced : goal.returns-clause-advanced
+returns-clause-advanced g c =
+    let P = g.N.Naming.program in
+    advanced_after P (held_of c.args.parts) c.in_ok-branch.branch
+    (later_equal P (held_of c.args.parts) c.in_ok-branch.branch c.in_ok-branch.ensures.branch) c.led_to_state.result c.led_to_state.ensures.advanced

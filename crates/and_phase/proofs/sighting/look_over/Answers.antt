@@ -1,6 +1,6 @@
 use Rattle.std.proofs.Common.{arith, subst}
 use Rattle.and_phase.specs.Sighting.{IsSighted}
-use Rattle.and_phase.proofs.Later.{later_same, later_then, later_branch, look_then}
+use Rattle.and_phase.proofs.Later.{later_same, later_then, later_branch, sighted_then}
 use Rattle.and_phase.specs.declared.sighting.Sighted.{Sighted}
 use Rattle.and_phase.proofs.sighting.look_over.Goals as goal
 
@@ -35,9 +35,9 @@ looks-preserved g c =
     record {
       later = later;
       branch = later_branch P c.args.branch c.in_ok-led-in-NotTwo.led.branch later c.requires.branch;
-      some = let doubled = c.saturating_mul-most.ensures in let some = c.looks.invariant.some in omega arith;
+      some = let doubled = c.saturating_mul-next.ensures in let some = c.looks.invariant.some in omega arith;
     }
 
 pub returns-clause-sighted : goal.returns-clause-sighted
 returns-clause-sighted g c =
-    look_then g.N.Naming.program c.args.branch c.looks.branch c.looks.invariant.later c.look-2.result c.look-2.ensures.sighted
+    sighted_then g.N.Naming.program c.args.branch c.looks.branch c.looks.invariant.later c.in_ok-sighted.sighted c.in_ok-sighted.ensures.sighted

@@ -7,5 +7,5 @@ abbrev pub invariant-looks : goal.invariant-looks
 invariant-looks g l = record {
   later : IsLater g.N.Naming.program l.initial.branch l.branch;
   branch : IsBranch g.N.Naming.program l.branch;
-  some : 1 ≤ l.most;
+  some : 1 ≤ l.next;
 }
