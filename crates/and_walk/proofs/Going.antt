@@ -24,11 +24,11 @@ use Rattle.and_branch.specs.declared.state.BranchState.TheVariants as told
 use Rattle.and_code.specs.Written.{all_written}
 use Rattle.and_answers.specs.Kept.{listed, total, SameEnd}
 use Rattle.and_answers.specs.declared.found.Found.{Found}
-use Rattle.and_walk_laws.specs.Walks.{Owes, SplitsBy}
+use Rattle.and_walk_laws.specs.Walks.{Walks, Owes, SplitsBy}
 use Rattle.and_walk_laws.proofs.Owing.{owed_root, owed_steps, owed_dead, owed_end, owed_over, owed_none}
 use Rattle.and_walk_laws.proofs.Forking.{owed_fitting}
 use Rattle.and_walk_laws.proofs.Numbering.{alone_over}
-use Rattle.and_walk.specs.Found.{IsEnd, IsFound}
+use Rattle.and_walk.specs.Found.{IsEnd, IsFound, IsWalk, WasWalked}
 use Rattle.and_walk.specs.Walking.{StackHas, IsEndSoFar, Walking, GoesOn, turns}
 use Rattle.and_walk.specs.declared.stack.Task.{Task}
 use Rattle.and_walk.specs.declared.stack.Task.TheVariants.{One}
@@ -55,6 +55,11 @@ module _ (P : NamedProgram) (limit : ℕ) where
         listing = subst (λ es. Listing.Listing P.program limit es) (sym none) both.0;
         end = subst (λ c. IsEnd P.program limit found c) (sym is_cut) (query_alone, is, both.1);
       }
+
+  pub never_walked : (found : Found) → limit < clause_weight P.program.query → WasWalked P.program limit found
+  never_walked found heavy =
+      let weighs : weight (query P) ≡ clause_weight P.program.query = omega (arith, blank_weighs P.program (query_agenda P.program)) in
+      inl (omega (arith, weighs, heavy))
 
   -- the state under this limit
   pub state_within : (b : Held) (t : QueryTree P.program) (s : State t) → b.limit ≡ limit → StateOf P.program b.limit t s
@@ -145,10 +150,22 @@ module _ {N : Type 0} (P : NamedProgram) (limit : ℕ) where
   })
 
   -- A walk is over where the stack is empty.
+  has_walked : (found : Found) (w : Walking {N = N} P limit found []) → Walks P.program limit (query P) (listed found) w.forks w.failed w.is_cut
+  has_walked found w =
+      owed_none P.program limit (query P) (listed found) w.forks w.failed w.is_cut
+      (subst (λ ts. Owes P.program limit (query P) ts (listed found) w.forks w.failed w.is_cut) w.has w.owes)
+
   pub over : (found : Found) → Walking {N = N} P limit found [] → IsFound P.program limit found
-  over found w = walked_found P.program limit found w.forks w.failed w.is_cut
-      (owed_none P.program limit (query P) (listed found) w.forks w.failed w.is_cut
-      (subst (λ ts. Owes P.program limit (query P) ts (listed found) w.forks w.failed w.is_cut) w.has w.owes)) w.end
+  over found w = walked_found P.program limit found w.forks w.failed w.is_cut (has_walked found w) w.end
+
+  pub over_walk : (found : Found) → Walking {N = N} P limit found [] → IsWalk P.program limit found
+  over_walk found w = record {
+    forks = w.forks;
+    failed = w.failed;
+    is_cut = w.is_cut;
+    walks = has_walked found w;
+    counted = λ none. subst (λ c. IsEndSoFar P.program limit found w.forks w.failed w.is_cut c) none w.end;
+  }
 
   -- The branch on top is replaced by one whose tree it comes to by Steps.
   pub stepped : (found : Found) (b d : Held) (stack : List (Task N)) → Walking P limit found (One b ∷ stack) → SameKey b d

@@ -16,17 +16,16 @@ use Rattle.and_branch.specs.declared.state.BranchState.{BranchState}
 use Rattle.and_branch.specs.declared.state.BranchState.TheVariants as told
 use Rattle.and_answers.specs.Kept.{listed, outcome_with}
 use Rattle.and_answers.specs.declared.found.Found.{Found}
-use Rattle.and_walk.specs.Found.{IsFound}
+use Rattle.and_walk.specs.Found.{IsFound, IsWalk}
 use Rattle.and_walk.specs.Walking.{Walking, GoesOn, EndsSo, IsAdvanced, turns}
 use Rattle.and_walk.specs.declared.stack.Task.{Task}
 use Rattle.and_walk.specs.declared.stack.Task.TheVariants.{One}
-use Rattle.and_walk.proofs.Going.{query, top_of, stepped, begun, over}
+use Rattle.and_walk.proofs.Going.{query, top_of, stepped, begun, over, over_walk}
 
 -- ---- Branches that have ended
 
 -- The state is any but a failed one.
 abbrev IsUnfailed : BranchState → Type 0
-IsUnfailed (told.Determinate goal clause) = Unit {0}
 IsUnfailed (told.Fork goal clauses cut) = Unit {0}
 IsUnfailed told.Answer = Unit {0}
 IsUnfailed told.Floundered = Unit {0}
@@ -72,13 +71,6 @@ module _ (P : NamedProgram) where
       → (t : QueryTree P.program) → IsBranchOf P b t → IsState P b t r
   state_told b s r same state t branch = subst (λ x. IsState P b t x) same (state t branch)
 
-  -- An advanced branch is not determinate.
-  pub not_determinate : (b : Held) (s : BranchState) (g : Goal) (k : ClauseNo) → s ≡ told.Determinate g k
-      → ((t : QueryTree P.program) → IsBranchOf P b t → IsState P b t s) → IsAdvanced P b → ⊥
-  not_determinate b s g k same state done =
-      let x = state_told b s (told.Determinate g k) same state done.0 done.1 in
-      done.2 x.0 k.0 x.2
-
 module _ {N : Type 0} (P : NamedProgram) (limit : ℕ) where
   -- A branch that was advanced.
   module _ (found : Found) (b d : Held) (stack : List (Task N)) (w : Walking P limit found (One b ∷ stack)) (advanced : SameKey b d)
@@ -112,3 +104,8 @@ module _ {N : Type 0} (P : NamedProgram) (limit : ℕ) where
       → IsFound P.program n found
   over_on found stack n w empty same =
       subst (λ m. IsFound P.program m found) same (over P limit found (subst (λ (ts : List (Task N)). Walking P limit found ts) empty w))
+
+  pub over_walk_on : (found : Found) (stack : List (Task N)) (n : ℕ) → Walking P limit found stack → stack ≡ [] → limit ≡ n
+      → IsWalk P.program n found
+  over_walk_on found stack n w empty same =
+      subst (λ m. IsWalk P.program m found) same (over_walk P limit found (subst (λ (ts : List (Task N)). Walking P limit found ts) empty w))

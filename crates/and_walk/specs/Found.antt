@@ -1,15 +1,16 @@
 -- What a whole walk of a program's query has found (this project's own).
-use Rattle.std.specs.Prelude.{ℕ, ◌≡◌, ◌-◌, ◌^◌, min, Option, Some, None}
+use Rattle.std.specs.Prelude.{ℕ, ◌≡◌, ◌-◌, ◌^◌, ◌<◌, ◌⊎◌, min, Bool, false, Option, Some, None}
 use Rattle.and_model.specs.Limits.{Cut, OverLimit}
 use Rattle.and_model.specs.Listing.{Listing, Exhausted}
 use Rattle.and_model.specs.Programs.{Program}
 use Rattle.and_model.specs.Reached.{Numbers}
-use Rattle.and_model.specs.Trees.{blank, query_agenda}
+use Rattle.and_model.specs.Trees.{blank, query_agenda, weight}
 use Rattle.and_model.specs.declared.goal
 use Rattle.and_branch_laws.specs.States.{IsCut}
 use Rattle.and_code.specs.Written.{all_written}
 use Rattle.and_answers.specs.Kept.{listed}
 use Rattle.and_answers.specs.declared.found.Found.{Found}
+use Rattle.and_walk_laws.specs.Walks.{Walks}
 
 -- a count as it is kept: it stays at the largest number of 64 bits
 abbrev pub kept_count : ℕ → ℕ
@@ -33,3 +34,16 @@ IsEnd P limit found (Some cut) = (over : Cut P) × IsCut (all_written cut.partia
 pub record IsFound (P : Program) (limit : ℕ) (found : Found) : Type 0 where
   pub listing : Listing P limit (listed found)
   pub end : IsEnd P limit found found.cut
+
+-- A walk of the query finds this. Each of its forks is of the leftmost goal of a Shut tree, by all the candidates of that goal in the order
+-- of the text, and those that fit are walked. Where nothing was cut off, its forks and failures are counted.
+pub record IsWalk (P : Program) (limit : ℕ) (found : Found) : Type 0 where
+  pub forks : ℕ
+  pub failed : ℕ
+  pub is_cut : Bool
+  pub walks : Walks P limit (blank (query_agenda P)) (listed found) forks failed is_cut
+  pub counted : found.cut ≡ None → (is_cut ≡ false) × (found.forks ≡ kept_count forks) × (found.failed ≡ kept_count failed)
+
+-- The query was walked, unless it is too heavy by itself.
+abbrev pub WasWalked : Program → ℕ → Found → Type 0
+WasWalked P limit found = (limit < weight (blank {P = P} (query_agenda P))) ⊎ IsWalk P limit found

@@ -6,7 +6,7 @@ ghost use Rattle.and_model.specs.declared.limits.TheConstants.{MAX_LIMIT};
 ghost use Rattle.and_program.specs.Loaded.{program_of};
 ghost use Rattle.and_cells.specs.Parts.{named};
 ghost use Rattle.and_determinacy.specs.Tables.{IsTableOf};
-ghost use Rattle.and_walk.specs.Found.{IsFound};
+ghost use Rattle.and_walk.specs.Found.{IsFound, WasWalked};
 
 mod stack;
 mod walker;
@@ -14,6 +14,7 @@ mod walker;
 use crate::walker::walk_named;
 use and_answers::Found;
 use and_determinacy::Determinacy;
+use and_gate::{Gate, Quiet};
 use and_program::Loaded;
 use std::alloc::{AllocError, Global};
 use std::marker::Brand;
@@ -28,7 +29,25 @@ pub fn walk(
 ) -> Result<Found, AllocError>
     requires table { IsTableOf (named loaded.now) table.now }
     requires limit { limit ≤ MAX_LIMIT }
-    ensures { IfOk result (IsFound (program_of loaded.now) limit) }
+    ensures found { IfOk result (IsFound (program_of loaded.now) limit) }
+    ensures walked { IfOk result (WasWalked (program_of loaded.now) limit) }
 {
-    walk_named::<Brand>(alloc, loaded, table, limit)
+    walk_watched(alloc, loaded, table, limit, &Quiet)
+}
+
+/// All answers of a program within a limit, in the order of their codes, and how the search ended. A gate is told
+/// of each reduction before it is made. An error is want of memory.
+pub fn walk_watched<G: Gate>(
+    alloc: Global,
+    loaded: &Loaded,
+    table: &Determinacy,
+    limit: u32,
+    gate: &G,
+) -> Result<Found, AllocError>
+    requires table { IsTableOf (named loaded.now) table.now }
+    requires limit { limit ≤ MAX_LIMIT }
+    ensures found { IfOk result (IsFound (program_of loaded.now) limit) }
+    ensures walked { IfOk result (WasWalked (program_of loaded.now) limit) }
+{
+    walk_named::<Brand, G>(alloc, loaded, table, limit, gate)
 }

@@ -10,7 +10,7 @@ ghost use Rattle.and_branch.specs.Branches.{IsBranchOf};
 ghost use Rattle.and_branch.specs.Ended.{HasEnded};
 ghost use Rattle.and_branch.specs.States.{IsState, IsAtRest};
 ghost use Rattle.and_answers.specs.Kept.{SameEnd, listed, entry_of};
-ghost use Rattle.and_walk.specs.Found.{IsFound};
+ghost use Rattle.and_walk.specs.Found.{IsFound, IsWalk, WasWalked};
 ghost use Rattle.and_walk.specs.Walking.{Walking, GoesOn, EndsSo, IsAdvanced, SameButCut};
 
 use crate::stack::{Task, put, take_top};
@@ -18,7 +18,7 @@ use and_answers::{Entry, Found};
 use and_branch::{Branch, BranchList, BranchState, Rooted, Workspace};
 use and_cells::Naming;
 use and_determinacy::Determinacy;
-use and_io::Quiet;
+use and_gate::Gate;
 use and_model::{ClauseList, Cut, Goal};
 use and_program::Loaded;
 use std::alloc::{AllocError, Global};
@@ -34,17 +34,19 @@ struct Walker<N: Naming> {
     workspace: Workspace,
 }
 
-/// All answers of a program within a limit, and how the search ended. An error is want of memory.
-pub fn walk_named<N: Naming>(
+/// All answers of a program within a limit, and how the search ended, before a gate. An error is want of memory.
+pub fn walk_named<N: Naming, G: Gate>(
     alloc: Global,
     loaded: &Loaded,
     table: &Determinacy,
     limit: u32,
+    gate: &G,
 ) -> Result<Found, AllocError>
     requires program { N.program ≡ named loaded.now }
     requires table { IsTableOf N.program table.now }
     requires limit { limit ≤ MAX_LIMIT }
-    ensures { IfOk result (IsFound N.program.program limit) }
+    ensures found { IfOk result (IsFound N.program.program limit) }
+    ensures walked { IfOk result (WasWalked N.program.program limit) }
 {
     let mut workspace = Workspace::new(alloc);
     match Branch::<N>::root(alloc, loaded, limit, &mut workspace) {
@@ -55,8 +57,8 @@ pub fn walk_named<N: Naming>(
                 stack: Vec::new(alloc),
                 workspace,
             };
-            walker.explore(alloc, loaded, table, branch)?;
-            walker.finish(alloc, loaded, table)
+            walker.explore(alloc, loaded, table, gate, branch)?;
+            walker.finish(alloc, loaded, table, gate)
         }
         Rooted::TooHeavy(cut) => {
             let mut found = Found::new(alloc);
@@ -90,31 +92,34 @@ fn keep_cut(found: &mut Found, cut: Option<Cut>)
 
 impl<N: Naming> Walker<N> {
     /// Walks what is on the stack. An error is want of memory.
-    fn finish(
+    fn finish<G: Gate>(
         mut self,
         alloc: Global,
         loaded: &Loaded,
         table: &Determinacy,
+        gate: &G,
     ) -> Result<Found, AllocError>
         requires program { N.program ≡ named loaded.now }
         requires table { IsTableOf N.program table.now }
         requires walking { Walking N.program self.limit self.found (reverse self.stack.items) }
-        ensures { IfOk result (IsFound N.program.program self.limit) }
+        ensures found { IfOk result (IsFound N.program.program self.limit) }
+        ensures walked { IfOk result (IsWalk N.program.program self.limit) }
     {
         'walking: loop {
             match take_top(&mut self.stack) {
-                Some(task) => self.turn(alloc, loaded, table, task)?,
+                Some(task) => self.turn(alloc, loaded, table, gate, task)?,
                 None => return Ok(self.found),
             }
         }
     }
 
     /// Goes on with what was on top of the stack.
-    fn turn(
+    fn turn<G: Gate>(
         &mut self,
         alloc: Global,
         loaded: &Loaded,
         table: &Determinacy,
+        gate: &G,
         task: Task<N>,
     ) -> Result<(), AllocError>
         requires program { N.program ≡ named loaded.now }
@@ -125,7 +130,7 @@ impl<N: Naming> Walker<N> {
         ensures limit { self.new.limit ≡ self.old.limit }
     {
         match task {
-            Task::One(branch) => self.explore(alloc, loaded, table, branch),
+            Task::One(branch) => self.explore(alloc, loaded, table, gate, branch),
             Task::Children(list, count) => self.next_child(alloc, loaded, list, count),
         }
     }
@@ -179,11 +184,12 @@ impl<N: Naming> Walker<N> {
     }
 
     /// Goes on with a branch: reduces its determinate goals, and then by its state.
-    fn explore(
+    fn explore<G: Gate>(
         &mut self,
         alloc: Global,
         loaded: &Loaded,
         table: &Determinacy,
+        gate: &G,
         mut branch: Branch<N>,
     ) -> Result<(), AllocError>
         requires program { N.program ≡ named loaded.now }
@@ -193,7 +199,7 @@ impl<N: Naming> Walker<N> {
             self.new.found (reverse self.new.stack.items)) }
         ensures limit { self.new.limit ≡ self.old.limit }
     {
-        let state = branch.advance_to_state(loaded, table, &Quiet, &mut self.workspace)?;
+        let state = branch.advance_to_state(loaded, table, gate, &mut self.workspace)?;
         self.go_by(alloc, loaded, branch, state)
     }
 
@@ -215,7 +221,6 @@ impl<N: Naming> Walker<N> {
         ensures limit { self.new.limit ≡ self.old.limit }
     {
         match state {
-            BranchState::Determinate { goal: _, clause: _ } => unreachable!(),
             BranchState::Fork { goal, clauses, cut } => {
                 self.fork(alloc, loaded, branch, goal, clauses, cut)
             }

@@ -1,11 +1,11 @@
 //! A line on standard error that tells how far a long run has come.
 
-use and_io::Gate;
+use and_gate::Gate;
 use std::fmt::{Display, Formatter};
 use std::io::Write;
 use std::sync::atomic::{AtomicBool, AtomicU64, Ordering};
 use std::time::{Clock, Duration, Instant};
-use std::{fmt, io};
+use std::{env, fmt, io};
 
 /// So many reductions lie between two looks at the clock.
 const PACE: u64 = 1024;
@@ -142,12 +142,25 @@ pub struct Watch<R> {
     progress: Option<Progress<R>>,
 }
 
-impl<R: Clock + Eprint + Drop> Watch<R> {
-    /// Tells by this, if there is one.
-    pub fn new(progress: Option<Progress<R>>) -> Watch<R> {
-        Watch { progress }
+/// What tells how far a run has come, where the environment asks for it by `ANDORRA_PROGRESS=1` and there is a
+/// clock.
+fn progress_asked_for(rt: &HostRuntime) -> Option<Progress<&HostRuntime>> {
+    match env::var(rt, "ANDORRA_PROGRESS") {
+        Ok(value) if value.as_str() == "1" => Progress::new(rt).ok(),
+        _ => None,
     }
+}
 
+impl<'a> Watch<&'a HostRuntime> {
+    /// Tells where the environment asks for it.
+    pub fn asked_for(rt: &'a HostRuntime) -> Watch<&'a HostRuntime> {
+        Watch {
+            progress: progress_asked_for(rt),
+        }
+    }
+}
+
+impl<R: Clock + Eprint + Drop> Watch<R> {
     /// Takes the line away, where one stands on the screen.
     pub fn clear(&self) {
         if let Some(progress) = &self.progress {

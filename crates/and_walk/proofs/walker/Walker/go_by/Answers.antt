@@ -2,13 +2,8 @@ use Rattle.std.proofs.Common.{reverse}
 use Rattle.and_cells.specs.Ranges.{NamedProgram}
 use Rattle.and_branch.specs.declared.state.BranchState.TheVariants as told
 use Rattle.and_walk.proofs.Going.{failed_off, cut_off}
-use Rattle.and_walk.proofs.Turning.{state_told, not_determinate, has_floundered, has_answered}
+use Rattle.and_walk.proofs.Turning.{state_told, has_floundered, has_answered}
 use Rattle.and_walk.proofs.walker.Walker.go_by.Goals as goal
-
-pub unreachable-requires : goal.unreachable-requires
-unreachable-requires g c =
-    not_determinate g.N.Naming.program c.args.branch c.args.state c.in-Determinate.goal c.in-Determinate.clause
-    c.in-Determinate.is c.requires.state c.requires.advanced
 
 pub returns-in-Failed-clause-goes : goal.returns-in-Failed-clause-goes
 returns-in-Failed-clause-goes g c =

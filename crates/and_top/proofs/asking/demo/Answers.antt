@@ -1,0 +1,22 @@
+use Rattle.std.proofs.Common.{◌∙◌, subst}
+use Rattle.and_gen_laws.proofs.Reading.{generated_is_read}
+use Rattle.and_top.specs.declared.question.Question.TheVariants.{Run}
+use Rattle.and_top.specs.declared.showing.Show.TheVariants.{Summary}
+use Rattle.and_top.specs.Top.{Answered}
+use Rattle.and_top.proofs.TopLemmas.{never_refused}
+use Rattle.and_top.proofs.asking.demo.Goals as goal
+
+pub returns-in-Ok-clause-answered : goal.returns-in-Ok-clause-answered
+returns-in-Ok-clause-answered g c =
+    let held = g.K.Sink.given in
+    let asked = subst (λ q. Answered q (held c.args.sink.now) (held c.respond.new.sink) c.respond.result c.bytes.result.now)
+    c.summary.ensures c.respond.ensures.answered in
+    subst (Answered (Run Summary c.args.settings.limit) (held c.args.sink.now) (held c.respond.new.sink) c.respond.result)
+    (c.bytes.ensures ∙ c.in-Ok.ensures.text) asked
+
+pub returns-in-Ok-clause-not_refused : goal.returns-in-Ok-clause-not_refused
+returns-in-Ok-clause-not_refused g c =
+    let read = generated_is_read c.args.number c.requires.few in
+    let held = g.K.Sink.given in
+    never_refused Summary c.args.settings.limit (held c.args.sink.now) (held c.respond.new.sink) read.0 _ c.respond.result read.1
+    (returns-in-Ok-clause-answered g c)

@@ -1,0 +1,4 @@
+pub mod Shown
+pub mod Checked
+pub mod Top
+pub mod Obeyed

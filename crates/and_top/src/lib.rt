@@ -1,0 +1,17 @@
+//! The top call: what the program does with the words of its command line, a source and a sink.
+//!
+//! [`andorra`] is for all words. [`andorra_alone`] waits for nobody and starts no thread, so that it is proved to
+//! return; it answers with the same bytes.
+#![tactic(auto)]
+
+pub mod answering;
+pub mod asking;
+pub mod checking;
+pub mod question;
+pub mod searching;
+pub mod showing;
+pub mod status;
+pub mod top;
+
+pub use status::Status;
+pub use top::{andorra, andorra_alone};

@@ -1,0 +1,63 @@
+//! Who searches a program for its answers.
+
+ghost use Rattle.std.specs.Prelude.{◌≤◌, ◌<◌, IfOk};
+ghost use Rattle.and_model.specs.declared.limits.TheConstants.{MAX_LIMIT};
+ghost use Rattle.and_program.specs.Loaded.{program_of};
+ghost use Rattle.and_walk.specs.Found.{IsFound};
+
+use and_answers::Found;
+use and_determinacy::compile;
+use and_gate::Gate;
+use and_program::Loaded;
+use and_teams::{Explored, Settings, explore};
+use and_walk::walk_watched;
+use std::alloc::{AllocError, Global};
+use std::sync::Wait;
+use std::thread::Threads;
+
+/// Several workers: so many teams of so many.
+#[derive(Clone, Copy)]
+pub struct Hands {
+    pub(crate) teams: u32,
+    pub(crate) workers: u32,
+    ghost few: { (0 < teams) × (teams ≤ 16) },
+    ghost few_workers: { (0 < workers) × (workers ≤ 8) },
+}
+
+/// All answers of a program within a limit, in the order of their codes, and how the search ended, by these
+/// workers. An error is want of memory.
+pub fn found_by<R: Threads + Wait + Sync, G: Gate>(
+    rt: &R,
+    alloc: Global,
+    loaded: &Loaded,
+    limit: u32,
+    hands: Hands,
+    gate: &G,
+) -> Result<Found, AllocError>
+    requires { limit ≤ MAX_LIMIT }
+    ensures { IfOk result (IsFound (program_of loaded.now) limit) }
+{
+    let table = compile(alloc, loaded)?;
+    let settings = Settings {
+        limit,
+        teams: hands.teams,
+        workers: hands.workers,
+    };
+    let explored = explore(rt, alloc, loaded, &table, settings, gate)?;
+    let Explored { found, closed: _ } = explored;
+    Ok(found)
+}
+
+/// The same on the thread of the caller, who waits for nobody.
+pub fn found_alone<G: Gate>(
+    alloc: Global,
+    loaded: &Loaded,
+    limit: u32,
+    gate: &G,
+) -> Result<Found, AllocError>
+    requires { limit ≤ MAX_LIMIT }
+    ensures { IfOk result (IsFound (program_of loaded.now) limit) }
+{
+    let table = compile(alloc, loaded)?;
+    walk_watched(alloc, loaded, &table, limit, gate)
+}
