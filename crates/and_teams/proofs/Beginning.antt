@@ -91,6 +91,7 @@ fresh_works P tree number t f =
         is_cut = false;
         did = subst (λ es. DidAll P.program tree.about.limit [] es 0 0 false) (sym f.entries) DidAll.none;
         counted = f.forks;
+        failed_are = f.failed;
         end = subst (λ c. IsEndSoFar P.program tree.about.limit t.found 0 0 false c) (sym f.cut) (refl, f.forks, f.failed);
       };
     }))

@@ -43,7 +43,7 @@ at_top n m above = min-eq_right above
 under : (n m : ℕ) → n ≤ m → min n m ≡ n
 under n m below = min-eq_left below
 
-capped : (a b m : ℕ) → min (min a m + b) m ≡ min (a + b) m
+pub capped : (a b m : ℕ) → min (min a m + b) m ≡ min (a + b) m
 capped a b m = elim (cases_lt m a) [
   | inl over ↦
       let above : m ≤ a = omega (arith, over) in
@@ -180,6 +180,7 @@ module _ (P : Program) (tree : TreeId) where
     pub entries : listed found ≡ (all_parts parts).entries
     pub end : IsEndSoFar P tree.about.limit found (all_parts parts).forks (all_parts parts).failed (all_parts parts).is_cut found.cut
     pub counted : found.forks ≡ (tally_of_all passes).forks
+    pub failed_are : found.failed ≡ kept_count (all_parts parts).failed
 
   none_together : (history : List HistoryEntry) (found : Found) (passes : List PassSeen) → listed found ≡ [] → found.forks ≡ 0 → found.failed ≡ 0
       → found.cut ≡ None → passes ≡ [] → Together history 0 found passes
@@ -190,6 +191,7 @@ module _ (P : Program) (tree : TreeId) where
     entries = entries;
     end = subst (λ c. IsEndSoFar P tree.about.limit found 0 0 false c) (sym cut) (refl, forks, failed);
     counted = forks ∙ ap (λ l. (tally_of_all l).forks) (sym none);
+    failed_are = failed;
   }
 
   -- the part of a team that is done
@@ -219,6 +221,8 @@ module _ (P : Program) (tree : TreeId) where
             merges r.end t.end)));
         counted = merges.forks ∙ ap (λ n. total n other.forks) r.counted ∙ ap (λ n. total (tally_of_all ps).forks n) t.counted
             ∙ sym (forks_more ps p);
+        failed_are = merges.failed ∙ total_kept one.failed other.failed (all_parts r.parts).failed t.failed r.failed_are t.failed_are
+            ∙ ap kept_count (sym (failed_more r.parts part));
       }
 
 module _ {N : Type 0} {G : Ghosts N} (P : Program) (tree : TreeId) where

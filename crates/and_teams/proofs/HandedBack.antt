@@ -7,7 +7,7 @@ use Rattle.and_cells.specs.Ranges.{NamedProgram}
 use Rattle.and_branch.specs.Branches.{Held}
 use Rattle.and_branch.specs.Children.{Fork, IsChild}
 use Rattle.and_branch.specs.Origins.{GoesBack, KeepsBack}
-use Rattle.and_branch.proofs.KeptOrigins.{kept_then, goes_back, goes_back_on}
+use Rattle.and_branch.proofs.KeptOrigins.{goes_back, goes_back_on}
 use Rattle.and_teams.specs.declared.stack.Task.{Task}
 use Rattle.and_teams.specs.declared.stack.Task.TheVariants.{One, Children}
 
@@ -61,16 +61,9 @@ ended_goes_back child ended told task rest stack before after is back put some e
 -- ---- A branch that has ended, after steps
 
 module _ {E S : Type 0} (one two : Held) (before after : S) (keeps : KeepsBack one two) where
-  -- It is the branch that was stepped to,
+  -- It is the branch that was stepped to.
   pub ended_as : (r : Result (Option Held) E) → IfOk r (λ o. IfSome o (λ b. (b ≡ two) × (after ≡ before)))
       → IfOk r (λ o. IfSome o (λ b. KeepsBack one b × (after ≡ before)))
   ended_as (Ok (Some b)) (is, same) = (subst (λ (d : Held). KeepsBack one d) (sym is) keeps, same)
   ended_as (Ok None) x = tt
   ended_as (Err e) x = tt
-
-  -- or what this one was stepped to.
-  pub ended_after : (r : Result (Option Held) E) → IfOk r (λ o. IfSome o (λ b. KeepsBack two b × (after ≡ before)))
-      → IfOk r (λ o. IfSome o (λ b. KeepsBack one b × (after ≡ before)))
-  ended_after (Ok (Some b)) (more, same) = (kept_then one two b keeps more, same)
-  ended_after (Ok None) x = tt
-  ended_after (Err e) x = tt

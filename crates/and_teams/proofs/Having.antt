@@ -152,9 +152,22 @@ child_ended others key longer clauses rest c how is_last p q is key_is m same = 
     let of = ap f key_is in
     omega (arith, ended, all, whole, one, of)
 
+-- A hand with the keys of no task is empty.
+nothing_in_hand : (hand : List Key) → SameItems hand [] → hand ≡ []
+nothing_in_hand [] same = refl
+nothing_in_hand (k ∷ keys) same =
+    let one = same (λ (key : Key). 1) in
+    let whole = sum_by-cons (λ (key : Key). 1) k keys in
+    absurd (omega (arith, one, whole))
+
 -- ---- what a team has
 
 module _ {N : Type 0} (P : NamedProgram) (tree : TreeId) where
+  -- A team without tasks has no key in its hand.
+  pub has_nothing : (pass : PassSeen) (tasks : List (Task N)) → tasks ≡ [] → Has P tree pass tasks → pass.hand ≡ []
+  has_nothing pass tasks none h =
+      nothing_in_hand pass.hand (subst (λ (ts : List (Task N)). Has P tree pass ts) none h).hand
+
   -- other tasks of the same keys
   pub has_others : (pass : PassSeen) (tasks others : List (Task N)) → Has P tree pass tasks → AreTasks P tree.about.limit others
       → SameItems (all_keys tasks) (all_keys others) → Has P tree pass others

@@ -11,3 +11,5 @@ pub mod Closing
 pub mod Mapping
 pub mod NextChild
 pub mod HandedBack
+pub mod Counted
+pub mod Agreeing

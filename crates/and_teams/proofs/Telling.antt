@@ -8,6 +8,7 @@ use Rattle.and_tree.specs.Plain.{Tally, tallied}
 use Rattle.and_tree.specs.Passes.{PassSeen, Makes, tally_on, tally_of}
 use Rattle.and_answers.specs.Kept.{listed}
 use Rattle.and_answers.specs.declared.found.Found.{Found}
+use Rattle.and_walk.specs.Found.{kept_count}
 use Rattle.and_walk.specs.Walking.{IsEndSoFar}
 use Rattle.and_team_laws.specs.Done.{IsPassing, Did, DidAll}
 use Rattle.and_team_laws.proofs.Bools.{or_false}
@@ -33,8 +34,9 @@ module _ (P : Program) (limit : ℕ) where
   pub tells_more : (event : Event) (reply : Reply) (p q : PassSeen) (found told : Found) (es : List Entry) (f m : ℕ) (b : Bool)
       → (t : Tells P limit p found) → Makes event reply p q → team_of event ≡ p.team → Did P limit event es f m b
       → listed told ≡ listed found ++ es → IsEndSoFar P limit told (t.forks + f) (t.failed + m) (t.is_cut || b) told.cut
-      → ((y : Tally) → y.forks ≡ found.forks → told.forks ≡ (tallied event y).forks) → Tells P limit q told
-  tells_more event reply p q found told es f m b t makes of_team did listed_is ends counted =
+      → ((y : Tally) → y.forks ≡ found.forks → told.forks ≡ (tallied event y).forks) → told.failed ≡ kept_count (t.failed + m)
+      → Tells P limit q told
+  tells_more event reply p q found told es f m b t makes of_team did listed_is ends counted failed_are =
       let more : calls q.seen q.team ≡ calls p.seen p.team ++ record { event = event; reply = reply } ∷ [] = calls_more event reply p q makes of_team in
       record {
         forks = t.forks + f;
@@ -46,6 +48,7 @@ module _ (P : Program) (limit : ℕ) where
         counted = counted (tally_of (calls p.seen p.team)) (sym t.counted)
             ∙ sym (ap (λ h. (tally_of h).forks) more
             ∙ ap (λ (y : Tally). y.forks) (tally_more (record { forks = 0; answers = 0; retired = 0; given_up = 0 }) (calls p.seen p.team) (record { event = event; reply = reply })));
+        failed_are = failed_are;
         end = ends;
       }
 
@@ -58,4 +61,4 @@ module _ (P : Program) (limit : ℕ) where
       (subst (λ n. IsEndSoFar P limit found t.forks n (t.is_cut || false) found.cut) (omega arith)
       (subst (λ b. IsEndSoFar P limit found t.forks t.failed b found.cut) (sym (or_false t.is_cut)) t.end)) in
       tells_more event reply p q found found [] 0 0 false t makes of_team (Did.passed event is) (sym (append-nil (listed found))) ends
-      (λ y same. sym same ∙ sym (passing_counts event y is))
+      (λ y same. sym same ∙ sym (passing_counts event y is)) (subst (λ n. found.failed ≡ kept_count n) (omega arith) t.failed_are)

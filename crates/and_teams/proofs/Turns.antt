@@ -24,7 +24,7 @@ use Rattle.and_program.specs.declared.loaded.Loaded.{Loaded}
 use Rattle.and_cells.specs.Parts.{named}
 use Rattle.and_cells.specs.Ranges.{NamedProgram}
 use Rattle.and_histories.specs.PlainTree as plain
-use Rattle.and_histories.specs.PlainTree.{Key, Event, Reply, Ending, answered, retired, given_up, end, last, forked}
+use Rattle.and_histories.specs.PlainTree.{Key, Ending, answered, retired, given_up, end, last, forked}
 use Rattle.and_tree.specs.Few.{most_in_hand}
 use Rattle.and_tree.specs.Passes.{TreeId, PassSeen, Makes}
 use Rattle.and_tree.specs.Plain.{Tally, ended_so}
@@ -40,13 +40,13 @@ use Rattle.and_walk.specs.Walking.{IsEndSoFar, SameButCut}
 use Rattle.and_walk.proofs.Ending.{one_counted, end_counted, end_cut}
 use Rattle.and_walk.proofs.Going.{state_within}
 use Rattle.and_team_laws.specs.Done.{Did}
-use Rattle.and_teams.specs.Placed.{StandsWithin}
+use Rattle.and_teams.specs.Placed.{StandsWithin, IsForkWithin, fork_of}
 use Rattle.and_teams.specs.Working.{keys_of, Has, Works, Tells}
 use Rattle.and_teams.specs.declared.stack.Task.{Task}
 use Rattle.and_teams.specs.declared.stack.Task.TheVariants.{One, Children}
 use Rattle.and_teams.specs.declared.team.TheConstants.{MOST_TASKS}
 use Rattle.and_teams.proofs.Having.{has_popped, has_pushed, has_swapped, hand_bounded, has_ended_under, has_forked}
-use Rattle.and_teams.proofs.Judging.{is_there, reached_at, did_tell, did_fail, WasOver, was_over, few_forked, did_fork, forked_end}
+use Rattle.and_teams.proofs.Judging.{is_there, reached_at, did_tell, did_fail, WasOver, was_over, forked_by, few_forked, did_fork, forked_end}
 use Rattle.and_teams.proofs.Telling.{tells_more}
 
 -- An end counts no fork.
@@ -165,13 +165,13 @@ module _ {N : Type 0} (P : NamedProgram) (tree : TreeId) where
       → Makes (end p.team key how) (last is_last) p q → Did P.program tree.about.limit (end p.team b.key how) es f m d
       → listed new ≡ listed old ++ es → new.forks ≡ old.forks
       → IsEndSoFar P.program tree.about.limit new (w.tells.forks + f) (w.tells.failed + m) (w.tells.is_cut || d) new.cut
-      → Works P tree q new tasks
-  ended_works how is_last p q old new b key tasks es f m d w same makes did listed_is forks so_far =
+      → new.failed ≡ kept_count (w.tells.failed + m) → Works P tree q new tasks
+  ended_works how is_last p q old new b key tasks es f m d w same makes did listed_is forks so_far failed =
       let now : Makes (end p.team b.key how) (last is_last) p q = subst (λ (k : Key). Makes (end p.team k how) (last is_last) p q) same makes in
       record {
         has = has_ended_under P tree key b tasks how is_last p q same makes w.has;
         tells = tells_more P.program tree.about.limit (end p.team b.key how) (last is_last) p q old new es f m d w.tells now refl did
-            listed_is so_far (λ y e. forks ∙ sym e ∙ sym (ended_counts how y));
+            listed_is so_far (λ y e. forks ∙ sym e ∙ sym (ended_counts how y)) failed;
       }
 
   -- It has failed.
@@ -189,6 +189,7 @@ module _ {N : Type 0} (P : NamedProgram) (tree : TreeId) where
       (λ e. or-false t.is_cut ∙ e)
       (λ e. forks ∙ subst (λ n. old.forks ≡ kept_count n) (omega arith) e)
       (λ e. failed ∙ one_counted old.failed t.failed e) t.end)
+      (failed ∙ one_counted old.failed t.failed t.failed_are)
 
   -- It is over the limit, and the cut is kept if none is.
   pub cut_works : (is_last : Bool) (p q : PassSeen) (old new : Found) (b : Held) (key : Key) (tasks : List (Task N)) (cut : goal.Cut.Cut)
@@ -204,6 +205,7 @@ module _ {N : Type 0} (P : NamedProgram) (tree : TreeId) where
       ended_works retired is_last p q old new b key tasks [] over.forks 0 true w same makes over.did
       (rest.entries ∙ sym (append-nil (listed old))) rest.forks
       (end_cut P.program limit old new t.forks t.failed (t.forks + over.forks) (t.failed + 0) t.is_cut (t.is_cut || true) cut kept over.meets t.end)
+      (rest.failed ∙ subst (λ n. old.failed ≡ kept_count n) (omega arith) t.failed_are)
 
   -- It has ended with this outcome, and was told.
   pub told_works : (is_last : Bool) (p q : PassSeen) (old new : Found) (b : Held) (key : Key) (tasks : List (Task N))
@@ -222,6 +224,7 @@ module _ {N : Type 0} (P : NamedProgram) (tree : TreeId) where
       (λ e. or-false t.is_cut ∙ e)
       (λ e. rest.forks ∙ subst (λ n. old.forks ≡ kept_count n) (omega arith) e)
       (λ e. rest.failed ∙ subst (λ n. old.failed ≡ kept_count n) (omega arith) e) t.end)
+      (rest.failed ∙ subst (λ n. old.failed ≡ kept_count n) (omega arith) t.failed_are)
 
   -- ---- a branch that is forked
 
@@ -229,6 +232,21 @@ module _ {N : Type 0} (P : NamedProgram) (tree : TreeId) where
   pub few_in_hand : (p : PassSeen) (b : Held) (tasks : List (Task N)) (clauses : List ℕ) → Has P tree p (One b ∷ tasks)
       → length tasks < MOST_TASKS → length clauses ≤ 2 ^ 16 → length p.hand + length clauses ≤ most_in_hand
   few_in_hand p b tasks clauses h few short = omega (arith, hand_bounded P tree p (One b ∷ tasks) h, few, short)
+
+  -- The fork is of the leftmost goal of a Shut tree.
+  pub justified_fork : (p : PassSeen) (found : Found) (f : Fork) (tasks : List (Task N)) (t : QueryTree P.program) (o : Open t) (first : Option ℕ)
+      → Works P tree p found (One f.parent ∷ tasks) → IsBranchOf P f.parent t → AreChildren P f t
+      → StateOf P.program f.parent.limit t (fork o f.clauses first) → IsForkWithin P tree.about.limit (fork_of f)
+  justified_fork p found f tasks t o first w branch are state =
+      let limit : ℕ = tree.about.limit in
+      let limited : f.parent.limit ≡ limit = w.has.tasks_are.0.limited in
+      record {
+        tree = t;
+        is_cut = is_there first;
+        reached = reached_at P limit f.parent t branch limited;
+        longer = are.longer;
+        splits = forked_by P limit t o f.clauses first (state_within P limit f.parent t (fork o f.clauses first) limited state);
+      }
 
   -- The children are a task in the place of the branch.
   pub forked_works : (p q : PassSeen) (old new : Found) (f : Fork) (tasks : List (Task N))
@@ -252,7 +270,7 @@ module _ {N : Type 0} (P : NamedProgram) (tree : TreeId) where
         tells = tells_more P.program limit (plain.fork p.team b.key f.longer f.clauses) forked p q old new [] 1 0 (is_there first) tells makes refl did
             (entries ∙ sym (append-nil (listed old)))
             (subst (λ n. IsEndSoFar P.program limit new (tells.forks + 1) n (tells.is_cut || is_there first) new.cut) (omega arith) so_far)
-            (λ y e. forks ∙ ap (λ n. total n 1) (sym e));
+            (λ y e. forks ∙ ap (λ n. total n 1) (sym e)) (failed ∙ subst (λ n. old.failed ≡ kept_count n) (omega arith) tells.failed_are);
       }
 
   -- What is asked where a branch is split,

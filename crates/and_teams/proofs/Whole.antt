@@ -1,21 +1,21 @@
 -- What all teams found and what their tree leaves, where no key is left.
-use Rattle.std.proofs.Common.{ℕ, ◌≡◌, ◌<◌, Bool, false, List, map, reverse, length, refl, sym, ap, subst, ◌∙◌, arith}
+use Rattle.std.proofs.Common.{ℕ, ◌≡◌, ◌<◌, ◌≤◌, Bool, false, List, map, reverse, length, refl, sym, ap, subst, ◌∙◌, arith}
 use Rattle.std.proofs.Common.{All, Contains}
 use Rattle.std.specs.Prelude.{Option, Some, None, sum_by}
 use Rattle.std.proofs.lemmas.List.Elements.{All-contains, All-weaker}
 use Rattle.std.proofs.lemmas.List.{length-map}
 use Rattle.std.proofs.lemmas.List.Sorted.{sum_by-IsPermutation}
 use Rattle.and_model.specs.Programs.{Program}
-use Rattle.and_model.specs.Trees.{blank, query_agenda}
+use Rattle.and_model.specs.Trees.{blank, query_agenda, weight}
 use Rattle.and_model.specs.Listing.{Entry}
 use Rattle.and_model.specs.Prefixes.{IsPrefix}
 use Rattle.and_model.specs.declared.goal
-use Rattle.and_histories.specs.PlainTree.{State, Event, fork, publish, claim, clear, end, look, left, opening, left_of}
+use Rattle.and_histories.specs.PlainTree.{State, opening, left_of}
 use Rattle.and_histories.specs.Histories.{HistoryEntry, Carries, team_of}
 use Rattle.and_histories.proofs.Carrying.{one_state, carried_in_parts}
 use Rattle.and_histories.proofs.CoveringForks.{none_comes_again}
-use Rattle.and_tree.specs.Passes.{TreeId, PassSeen, tally_on}
-use Rattle.and_tree.specs.Plain.{Tally, tallied}
+use Rattle.and_tree.specs.Passes.{TreeId, PassSeen, tally_of}
+use Rattle.and_tree.specs.Plain.{Tally}
 use Rattle.and_tree.specs.Ended.{Closes}
 use Rattle.and_tree.proofs.Tallies.{tallies_agree, all_there}
 use Rattle.and_answers.specs.Kept.{listed, SameEnd}
@@ -23,51 +23,28 @@ use Rattle.and_answers.specs.Order.{HasDistinctCodes, InOrder}
 use Rattle.and_answers.specs.declared.found.Found.{Found}
 use Rattle.and_walk_laws.specs.Walks.{Walks}
 use Rattle.and_walk_laws.proofs.Numbering.{numbered, whole_exhausts}
-use Rattle.and_walk.specs.Found.{IsEnd, IsFound}
+use Rattle.and_walk.specs.Found.{kept_count, IsEnd, IsFound}
 use Rattle.and_walk.specs.Walking.{IsEndSoFar}
 use Rattle.and_team_laws.specs.Owed.{SameItems}
-use Rattle.and_team_laws.specs.Done.{IsPassing, Did, DidAll, Part, all_parts, forks_of}
+use Rattle.and_team_laws.specs.Done.{DidAll, Part, all_parts}
+use Rattle.and_team_laws.specs.Runs.{WholeRun}
 use Rattle.and_team_laws.proofs.Acting.{history_teams}
+use Rattle.and_team_laws.proofs.Agreeing.{some_order, each_order}
 use Rattle.and_team_laws.proofs.Covers.{history_covers}
-use Rattle.and_team_laws.proofs.Forking.{forks_ordered}
+use Rattle.and_team_laws.proofs.Justified.{history_justified}
 use Rattle.and_team_laws.proofs.Listed.{any_order_once, any_order_listing}
-use Rattle.and_team_laws.proofs.Made.{history_makes}
 use Rattle.and_team_laws.proofs.Teams.{did_together}
-use Rattle.and_team_laws.proofs.Told.{history_answers}
+use Rattle.and_team_laws.proofs.Told.{history_answers, history_gives_none}
 use Rattle.and_team_laws.proofs.Walked.{history_walked}
 use Rattle.and_cells.specs.declared.naming.Naming.{Ghosts}
 use Rattle.and_teams.specs.Ended.{AreDone, AllFound, IsRun}
 use Rattle.and_teams.specs.declared.work.Worked.{Worked}
+use Rattle.and_teams.proofs.Counted.{history_tally}
 use Rattle.and_teams.proofs.Gathering.{AreDoneDown, done_down, Seats, seats, OneSees, one_sees, Together, together}
 
 -- the same items as those that are the same as others
 same_through : {A : Type 0} (xs ys zs : List A) → SameItems xs ys → SameItems ys zs → SameItems xs zs
 same_through xs ys zs one other f = one f ∙ other f
-
--- ---- none was given up
-
-passing_loses : (event : Event) (t : Tally) → IsPassing event → (tallied event t).given_up ≡ t.given_up
-passing_loses (fork team key longer clauses) t is = absurd is
-passing_loses (publish team cell key) t is = refl
-passing_loses (claim team cell serial) t is = refl
-passing_loses (clear team cell) t is = refl
-passing_loses (end team key how) t is = absurd is
-passing_loses (look team cell) t is = refl
-passing_loses (left team) t is = refl
-
-module _ (P : Program) (limit : ℕ) where
-  loses_none : (event : Event) (es : List Entry) (f m : ℕ) (b : Bool) → Did P limit event es f m b → (t : Tally)
-      → (tallied event t).given_up ≡ t.given_up
-  loses_none event es f m b (Did.forked team key clauses tree is_cut reached is) t = refl
-  loses_none event es f m b (Did.told team key tree e reached walks) t = refl
-  loses_none event es f m b (Did.ended team key tree forks failed is_cut reached walks none) t = refl
-  loses_none event es f m b (Did.passed event' is) t = passing_loses event' t is
-
-  all_lose_none : (history : List HistoryEntry) (es : List Entry) (f m : ℕ) (b : Bool) → DidAll P limit history es f m b → (t : Tally)
-      → (tally_on t history).given_up ≡ t.given_up
-  all_lose_none history es f m b DidAll.none t = refl
-  all_lose_none history es f m b (DidAll.more e rest ks others f1 m1 f2 m2 b1 b2 did x) t =
-      all_lose_none rest others f2 m2 b2 x (tallied e.event t) ∙ loses_none e.event ks f1 m1 b1 did t
 
 -- ---- no key is left
 
@@ -92,12 +69,12 @@ module _ (P : Program) (limit teams : ℕ) (found : Found) (history : List Histo
     pub walks : Walks P limit (blank (query_agenda P)) all forks failed is_cut
     pub same : SameItems all (listed found)
     pub end : IsEndSoFar P limit found forks failed is_cut found.cut
-    pub made : is_cut ≡ false → forks ≡ length (forks_of history)
     pub state : State
     pub carried : Carries (opening teams) history state
     pub none_left : left_of state ≡ 0
     pub forks_are : counts.forks ≡ found.forks
-    pub none_given_up : counts.given_up ≡ 0
+    pub counted : counts ≡ tally_of history
+    pub failed_are : found.failed ≡ kept_count failed
 
 module _ {N : Type 0} {G : Ghosts N} (P : Program) (tree : TreeId) where
   pub whole : (ws : List (Worked N G)) (found : Found) (passes : List PassSeen) (history : List HistoryEntry) (counts : Tally)
@@ -141,13 +118,12 @@ module _ {N : Type 0} {G : Ghosts N} (P : Program) (tree : TreeId) where
         walks = walks;
         same = same_through all entries (listed found) same as_found;
         end = r.end;
-        made = history_makes P limit history entries p.forks p.failed p.is_cut did;
         state = after;
         carried = closes.legal.1;
         none_left = none;
         forks_are = ap (λ (t : Tally). t.forks) (closes.counted ∙ sym agree) ∙ sym r.counted;
-        none_given_up = ap (λ (t : Tally). t.given_up) closes.counted
-            ∙ all_lose_none P limit history entries p.forks p.failed p.is_cut did (record { forks = 0; answers = 0; retired = 0; given_up = 0 });
+        counted = closes.counted;
+        failed_are = r.failed_are;
       }
 
 module _ (P : Program) (limit teams : ℕ) (found : Found) (history : List HistoryEntry) (counts : Tally)
@@ -191,20 +167,36 @@ module _ (P : Program) (limit teams : ℕ) (found : Found) (history : List Histo
     none_cut : (c : Option goal.Cut.Cut) → IsEndSoFar P limit ordered w.forks w.failed w.is_cut c → c ≡ None → w.is_cut ≡ false
     none_cut c e is = (subst (λ z. IsEndSoFar P limit ordered w.forks w.failed w.is_cut z) is e).0
 
-    pub whole_run : IsRun P limit teams ordered history counts
-    whole_run = record {
-      state = w.state;
-      carried = w.carried;
-      none_left = w.none_left;
-      covering = history_covers P limit history w.entries w.forks w.failed w.is_cut w.did;
-      entries = w.entries;
-      answered = history_answers P limit history w.entries w.forks w.failed w.is_cut w.did;
-      same = same_through w.entries (listed found) (listed ordered) w.told same_listed;
-      none_given_up = w.none_given_up;
-      forks_are = w.forks_are ∙ sym same_end.forks;
-      in_order = λ is fs same rising.
-          let none : w.is_cut ≡ false = none_cut ordered.cut ordered_end is in
-          forks_ordered P limit history w.entries w.all w.forks w.failed
-          (subst (λ z. DidAll P limit history w.entries w.forks w.failed z) none w.did)
-          (subst (λ z. Walks P limit (blank (query_agenda P)) w.all w.forks w.failed z) none w.walks) (w.made none) fs same rising;
-    }
+    pub whole_run : weight (blank {P = P} (query_agenda P)) ≤ limit → 0 < teams → IsRun P limit teams ordered history counts
+    whole_run fits some =
+        let run : WholeRun P limit teams history w.entries w.forks w.failed w.is_cut = record {
+          some_team = some;
+          fits = fits;
+          state = w.state;
+          carried = w.carried;
+          none_left = w.none_left;
+          did = w.did;
+        } in
+        let (fs, order) = some_order P limit teams history w.state w.entries w.forks w.failed w.is_cut some w.carried w.did in
+        record {
+          entries = w.entries;
+          forks = w.forks;
+          failed = w.failed;
+          is_cut = w.is_cut;
+          run = run;
+          same = same_through w.entries (listed found) (listed ordered) w.told same_listed;
+          failed_are = same_end.failed ∙ w.failed_are;
+          whole = λ is. let e = subst (λ c. IsEndSoFar P limit ordered w.forks w.failed w.is_cut c) is ordered_end in (e.0, e.1);
+          justified = history_justified P limit history w.entries w.forks w.failed w.is_cut w.did;
+          covering = history_covers P limit history w.entries w.forks w.failed w.is_cut w.did;
+          ordered = fs;
+          in_order = order;
+          of_query = λ is.
+              let none : w.is_cut ≡ false = none_cut ordered.cut ordered_end is in
+              each_order P limit teams history w.entries w.forks w.failed
+              (subst (λ z. WholeRun P limit teams history w.entries w.forks w.failed z) none run) fs order;
+          answered = history_answers P limit history w.entries w.forks w.failed w.is_cut w.did;
+          none_given_up = history_gives_none P limit history w.entries w.forks w.failed w.is_cut w.did;
+          counted = history_tally history counts w.counted;
+          forks_are = w.forks_are ∙ sym same_end.forks;
+        }

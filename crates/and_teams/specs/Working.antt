@@ -9,6 +9,7 @@ use Rattle.and_histories.specs.Histories.{Carries, calls}
 use Rattle.and_tree.specs.Passes.{TreeId, PassSeen, tally_of}
 use Rattle.and_answers.specs.Kept.{listed}
 use Rattle.and_answers.specs.declared.found.Found.{Found}
+use Rattle.and_walk.specs.Found.{kept_count}
 use Rattle.and_walk.specs.Walking.{IsEndSoFar}
 use Rattle.and_team_laws.specs.Owed.{SameItems}
 use Rattle.and_team_laws.specs.Done.{DidAll}
@@ -16,13 +17,15 @@ use Rattle.and_teams.specs.Placed.{StandsWithin}
 use Rattle.and_teams.specs.declared.stack.Task.{Task}
 use Rattle.and_teams.specs.declared.stack.Task.TheVariants.{One, Children}
 
--- What a team found and counted is what its calls did, and any cut of it is over the limit. It counts the forks that it made.
+-- What a team found and counted is what its calls did, and any cut of it is over the limit. It counts the forks that it made
+-- and the branches that failed.
 pub record Tells (P : Program) (limit : ℕ) (pass : PassSeen) (found : Found) : Type 0 where
   pub forks : ℕ
   pub failed : ℕ
   pub is_cut : Bool
   pub did : DidAll P limit (calls pass.seen pass.team) (listed found) forks failed is_cut
   pub counted : found.forks ≡ (tally_of (calls pass.seen pass.team)).forks
+  pub failed_are : found.failed ≡ kept_count failed
   pub end : IsEndSoFar P limit found forks failed is_cut found.cut
 
 -- the keys of a task, the next one first

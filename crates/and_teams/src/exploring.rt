@@ -21,7 +21,7 @@ use and_answers::Found;
 use and_branch::{Branch, Rooted, Workspace};
 use and_cells::Naming;
 use and_determinacy::Determinacy;
-use and_io::Gate;
+use and_gate::Gate;
 use and_program::Loaded;
 use and_tree::{ClosedTree, Tree, TreePassList};
 use std::alloc::{AllocError, Global};

@@ -6,10 +6,11 @@
 #![tactic(auto)]
 
 pub mod exploring;
+pub mod laws;
 mod placed;
-mod reducing;
 mod stack;
 mod team;
 mod work;
 
 pub use exploring::{Explored, Settings, explore};
+pub use laws::explorations_agree;

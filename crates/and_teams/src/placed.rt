@@ -14,11 +14,13 @@ pub struct PlacedBranch<N: Naming> {
 }
 
 impl<N: Naming> Keyed for PlacedBranch<N> {
-    ghost use Rattle.and_teams.specs.Placed.{StandsWithin};
+    ghost use Rattle.and_teams.specs.Placed.{StandsWithin, IsForkWithin};
 
     ghost key_of = { λ placed. placed.branch.key };
 
     ghost Stands = { λ limit placed. StandsWithin N.program limit placed.branch };
+
+    ghost IsFork = { λ limit fork. IsForkWithin N.program limit fork };
 
     fn key(&self) -> &Code {
         self.branch.key()

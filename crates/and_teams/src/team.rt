@@ -16,21 +16,20 @@ ghost use Rattle.and_branch.specs.Origins.{GoesBack, KeepsBack};
 ghost use Rattle.and_branch.specs.States.{IsState, IsAtRest, IsCutOf};
 ghost use Rattle.and_answers.specs.Kept.{SameEnd, listed, entry_of};
 ghost use Rattle.and_histories.specs.PlainTree.{Key, Owns, children};
-ghost use Rattle.and_walk.specs.Walking.{EndsSo, IsAdvanced, SameButCut};
+ghost use Rattle.and_walk.specs.Walking.{EndsSo, SameButCut};
 ghost use Rattle.and_team_laws.specs.Owed.{SameItems};
 ghost use Rattle.and_teams.specs.Working.{Has, Works, some_task};
 ghost use Rattle.and_teams.specs.declared.team.TheConstants.{MOST_TASKS};
 
 use crate::placed::{PlacedBranch, PlacedSplit};
-use crate::reducing::{advance, reduced_by_workers};
 use crate::stack::Task;
 use and_answers::{Entry, Found};
 use and_branch::{Branch, BranchList, BranchState, Split, Workspace};
 use and_cells::Naming;
 use and_determinacy::Determinacy;
-use and_io::Gate;
+use and_gate::Gate;
 use and_model::{ClauseList, Cut, Goal};
-use and_phase::Pace;
+use and_phase::{Pace, phase_to_state};
 use and_program::Loaded;
 use and_tree::{CELLS_PER_TEAM, CellSeen, Claimed, Published, Tree, TreePass};
 use std::alloc::{AllocError, Global};
@@ -169,8 +168,8 @@ impl<N: Naming + Send + Sync> Team<N> {
         Ok(())
     }
 
-    /// Explores a branch: its determinate goals are reduced by the workers of the team, and what they leave is explored alone.
-    /// Answers the branch, if it has ended.
+    /// Explores a branch: its determinate goals are reduced, by the workers of the team where that may pay,
+    /// and it goes on by its state. Answers the branch, if it has ended.
     fn explore<R: Threads + Sync, G: Gate>(
         &mut self,
         rt: &R,
@@ -185,9 +184,19 @@ impl<N: Naming + Send + Sync> Team<N> {
         ensures ended { IfOk result (λ ended. IfSome ended (λ b. KeepsBack branch b × (self.new.stack.items ≡ self.old.stack.items))) }
         ensures same { self.new.number ≡ self.old.number }
     {
-        let reduced = reduced_by_workers(rt, shared, branch, &mut self.pace, &mut self.workspace);
-        match reduced {
-            Ok(branch) => self.explore_alone(shared, branch),
+        let advanced = phase_to_state(
+            rt,
+            shared.alloc,
+            shared.loaded,
+            shared.table,
+            branch,
+            shared.workers,
+            &mut self.pace,
+            shared.gate,
+            &mut self.workspace,
+        );
+        match advanced {
+            Ok(done) => self.go_by(shared, done.branch, done.state),
             Err(refused) => {
                 shared.tree.give_up(&mut self.pass, &refused.key);
                 Err(AllocError)
@@ -265,37 +274,6 @@ impl<N: Naming> Team<N> {
         Err(AllocError)
     }
 
-    /// Explores a branch by itself: reduces its determinate goals, and goes on by its state. Answers the
-    /// branch, if it has ended.
-    fn explore_alone<G: Gate>(
-        &mut self,
-        shared: &Shared<N, G>,
-        mut branch: Branch<N>,
-    ) -> Result<Option<Branch<N>>, AllocError>
-        requires program { N.program ≡ named shared.now.loaded.now }
-        requires table { IsTableOf N.program shared.now.table.now }
-        requires works { Works N.program shared.now.tree.now self.old.pass self.old.found (Task.One branch ∷ self.old.stack.items) }
-        ensures has { Has N.program shared.now.tree.now self.new.pass (self.new.stack.items) }
-        ensures works { OnOk result (Works N.program shared.now.tree.now self.new.pass self.new.found (self.new.stack.items)) }
-        ensures ended { IfOk result (λ ended. IfSome ended (λ b. KeepsBack branch b × (self.new.stack.items ≡ self.old.stack.items))) }
-        ensures same { self.new.number ≡ self.old.number }
-    {
-        let state = advance(
-            shared.loaded,
-            shared.table,
-            shared.gate,
-            &mut branch,
-            &mut self.workspace,
-        );
-        match state {
-            Ok(state) => self.go_by(shared, branch, state),
-            Err(AllocError) => {
-                shared.tree.give_up(&mut self.pass, branch.key());
-                Err(AllocError)
-            }
-        }
-    }
-
     /// Goes on with a branch by its state. Answers the branch, if it has ended, and nothing where it was
     /// forked.
     fn go_by<G: Gate>(
@@ -308,14 +286,12 @@ impl<N: Naming> Team<N> {
         requires works { Works N.program shared.now.tree.now self.old.pass self.old.found (Task.One branch ∷ self.old.stack.items) }
         requires state { (t : QueryTree N.program.program) → IsBranchOf N.program branch t → IsState N.program branch t state }
         requires at_rest { IsAtRest N.program branch state }
-        requires advanced { IsAdvanced N.program branch }
         ensures has { Has N.program shared.now.tree.now self.new.pass (self.new.stack.items) }
         ensures works { OnOk result (Works N.program shared.now.tree.now self.new.pass self.new.found (self.new.stack.items)) }
         ensures ended { IfOk result (λ ended. IfSome ended (λ b. (b ≡ branch) × (self.new.stack.items ≡ self.old.stack.items))) }
         ensures same { self.new.number ≡ self.old.number }
     {
         match state {
-            BranchState::Determinate { goal: _, clause: _ } => unreachable!(),
             BranchState::Fork { goal, clauses, cut } => {
                 self.fork(shared, branch, goal, clauses, cut)?;
                 Ok(None)
@@ -621,6 +597,7 @@ impl<N: Naming> Team<N> {
     pub fn give_up<G: Gate>(&mut self, shared: &Shared<N, G>)
         requires has { Has N.program shared.now.tree.now self.old.pass (self.old.stack.items) }
         ensures has { (self.new.stack.items ≡ []) × Has N.program shared.now.tree.now self.new.pass (self.new.stack.items) }
+        ensures hand { self.new.pass.hand ≡ [] }
         ensures same { self.new.number ≡ self.old.number }
     {
         while let Some(task) = self.stack.pop() {

@@ -7,7 +7,7 @@ ghost use Rattle.and_teams.specs.Working.{Has, Works, IsDone, SeesNone};
 
 use crate::team::{Shared, Team};
 use and_cells::Naming;
-use and_io::Gate;
+use and_gate::Gate;
 use crossbeam_utils::Backoff;
 use std::alloc::AllocError;
 use std::sync::Wait;
@@ -21,7 +21,7 @@ pub struct Worked<N: Naming> {
 }
 
 /// Works until no branch is left, of this team or of another. After want of memory the team gives up
-/// what it has, and stops.
+/// what it has, so that others do not wait for it, and stops with no key in its hand.
 pub fn work<N: Naming + Send + Sync, R: Threads + Wait + Sync, G: Gate>(
     rt: &R,
     shared: &Shared<N, G>,
@@ -33,6 +33,7 @@ pub fn work<N: Naming + Send + Sync, R: Threads + Wait + Sync, G: Gate>(
     ensures tree { result.team.pass.tree ≡ shared.now.tree.now }
     ensures team { result.team.number ≡ team.number }
     ensures done { result.has_failed ≡ false → IsDone N.program.program shared.now.tree.now result.team.pass result.team.found }
+    ensures given_up { result.has_failed ≡ true → result.team.pass.hand ≡ [] }
 {
     'working: for _ in rt.forever() {
         match go_on(rt, shared, &mut team) {

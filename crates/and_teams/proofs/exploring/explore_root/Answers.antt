@@ -49,8 +49,6 @@ returns-in-Ok-in_order-clause-closed g c =
     history counts c.requires.teams.0 c.close-closed.ensures in
     let order = c.in-Ok-in_order.ensures.ok in
     let P = g.N.Naming.program.program in
-    let within = reached_within P c.args.branch.limit c.args.branch.key (blank (query_agenda P)) c.requires.root.reached in (
-      subst (λ n. weight (blank {P = P} (query_agenda P)) ≤ n) c.requires.plain.1 within,
-      whole_run g.N.Naming.program.program c.args.settings.limit c.args.settings.teams c.in_ok-found.found history counts whole
-          c.in-Ok-in_order.found order.0 order.1,
-    )
+    let within = reached_within P c.args.branch.limit c.args.branch.key (blank (query_agenda P)) c.requires.root.reached in
+    whole_run P c.args.settings.limit c.args.settings.teams c.in_ok-found.found history counts whole c.in-Ok-in_order.found order.0 order.1
+    (subst (λ n. weight (blank {P = P} (query_agenda P)) ≤ n) c.requires.plain.1 within) c.requires.teams.0

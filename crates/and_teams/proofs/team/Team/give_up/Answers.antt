@@ -5,7 +5,7 @@ use Rattle.and_cells.specs.Ranges.{NamedProgram}
 use Rattle.and_tree.specs.Passes.{TreeId, PassSeen}
 use Rattle.and_teams.specs.Working.{Has}
 use Rattle.and_teams.specs.declared.stack.Task.{Task}
-use Rattle.and_teams.proofs.Having.{has_last_off, has_none_off}
+use Rattle.and_teams.proofs.Having.{has_last_off, has_none_off, has_nothing}
 use Rattle.and_teams.proofs.team.Team.give_up.Goals as goal
 
 pub loop-task-init : goal.loop-task-init
@@ -50,3 +50,10 @@ returns-clause-has g c =
       nil_from_length c.pop.new.self.items (omega (arith, long, none)),
       has_none_off P tree c.loop-task.self.pass c.loop-task.self.stack.items c.pop.new.self.items c.in_default.ensures.items c.loop-task.invariant.0,
     )
+
+pub returns-clause-hand : goal.returns-clause-hand
+returns-clause-hand g c =
+    let P : NamedProgram = g.N.Naming.program in
+    let tree : TreeId = c.args.shared.now.tree.now in
+    let (none, has) = returns-clause-has g c in
+    has_nothing P tree c.loop-task.self.pass c.pop.new.self.items none has

@@ -1,15 +1,10 @@
 use Rattle.and_cells.specs.Ranges.{NamedProgram}
 use Rattle.and_branch.specs.declared.state.BranchState.TheVariants as told
 use Rattle.and_tree.specs.Replies.{is_last}
-use Rattle.and_walk.proofs.Turning.{state_told, not_determinate, has_floundered, has_answered}
+use Rattle.and_walk.proofs.Turning.{state_told, has_floundered, has_answered}
 use Rattle.and_teams.proofs.Having.{key_there}
 use Rattle.and_teams.proofs.Turns.{failed_works, cut_works}
 use Rattle.and_teams.proofs.team.Team.go_by.Goals as goal
-
-pub unreachable-requires : goal.unreachable-requires
-unreachable-requires g c =
-    not_determinate g.N.Naming.program c.args.branch c.args.state c.in-Determinate.goal c.in-Determinate.clause
-    c.in-Determinate.is c.requires.state c.requires.advanced
 
 pub tell-requires-in-Floundered-clause-state : goal.tell-requires-in-Floundered-clause-state
 tell-requires-in-Floundered-clause-state g c κs within =

@@ -10,7 +10,7 @@ use Rattle.and_teams.specs.Working.{Has, Works}
 use Rattle.and_teams.specs.declared.stack.Task.TheVariants.{Children}
 use Rattle.and_teams.proofs.Having.{key_there}
 use Rattle.and_teams.proofs.Sharing.{has_either, works_put}
-use Rattle.and_teams.proofs.Turns.{begins_longer, few_children, few_in_hand, forked_works}
+use Rattle.and_teams.proofs.Turns.{begins_longer, few_children, few_in_hand, justified_fork, forked_works}
 use Rattle.and_teams.proofs.team.Team.replace.Goals as goal
 
 pub fork-requires-clause-hand : goal.fork-requires-clause-hand
@@ -23,6 +23,12 @@ pub fork-requires-clause-longer : goal.fork-requires-clause-longer
 fork-requires-clause-longer g c =
     let (t, o, first, branch, are, is_cut, state) = c.requires.split in
     begins_longer g.N.Naming.program c.args.split t branch are
+
+pub fork-requires-clause-is_fork : goal.fork-requires-clause-is_fork
+fork-requires-clause-is_fork g c =
+    let s = c.args.self.now in
+    let (t, o, first, branch, are, is_cut, state) = c.requires.split in
+    justified_fork g.N.Naming.program c.args.shared.now.tree.now s.pass s.found c.args.split s.stack.items t o first c.requires.works branch are state
 
 pub fork-requires-clause-few : goal.fork-requires-clause-few
 fork-requires-clause-few g c =
