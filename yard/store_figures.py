@@ -3,19 +3,18 @@
 same, and writes for each case the processor time of all threads and the wall time (the least of the runs), the same net of the run that does
 nothing with its cells, and the peak of memory. It compares the counts with those that are due.
 
-    yard/store_figures.py [--runs N] [--only WORD]
+    yard/store_figures.py [--runs N] [--only WORD] [--copy FOLDER]
 
-The program has to be built (`rt run -- plain looks` in crates/and_store_bench builds it). docs/figures.md has what was measured.
+yard/measure.py builds the program, in a folder of its own or in FOLDER, which is kept. docs/figures.md has what was measured.
 """
 
 import argparse
-import os
 import sys
 import time
 
-from figures import HERE, megabytes, run
+import measure
+from figures import megabytes, run
 
-PROGRAM = os.path.join(HERE, "..", "crates", "and_store_bench", "out", "and_store_bench")
 COUNT = 1_000_000
 
 # name, words, how many workers look at a million cells, and how many times a million cells are there to be set
@@ -26,19 +25,19 @@ CASES = (
 )
 
 
-def measured(words):
+def measured(program, words):
     """The lines, the processor time and the wall time in milliseconds, and the peak of memory in MB of a run."""
     begun = time.perf_counter()
-    lines, _, processor, memory = run([PROGRAM, *words], "")
+    lines, _, processor, memory = run([program, *words], "")
     return lines, processor, (time.perf_counter() - begun) * 1000, memory
 
 
-def runs_of(words, works, runs):
+def runs_of(program, words, works, runs):
     """The runs of each work, taken in turns, so that what else the machine does meets all of them."""
     results = {work: [] for work in works}
     for _ in range(runs):
         for work in works:
-            results[work].append(measured([*words, work]))
+            results[work].append(measured(program, [*words, work]))
     return results
 
 
@@ -50,7 +49,14 @@ def main():
     options = argparse.ArgumentParser(description=__doc__, formatter_class=argparse.RawDescriptionHelpFormatter)
     options.add_argument("--runs", type=int, default=20)
     options.add_argument("--only", default="")
+    options.add_argument("--copy", metavar="FOLDER")
     given = options.parse_args()
+    with measure.program("and_store_bench", ["plain", "looks"], given.copy) as program:
+        return compared(program, given)
+
+
+def compared(program, given):
+    """Runs the cases and writes what they took. The status is 1 where a count is not the one that is due."""
     print(f"{'cells':32} {'work':8} {'processor':>9} {'wall':>8} {'net':>8} {'net wall':>8} {'MB':>5}  count")
     differ = False
     for name, words, looking, ranges in CASES:
@@ -58,7 +64,7 @@ def main():
             continue
         _, _, _, floor = run(["true"], "")
         due = {"nothing": 0, "looks": looking * COUNT, "sets": ranges * (COUNT - 1)}
-        results = runs_of(words, due, given.runs)
+        results = runs_of(program, words, due, given.runs)
         idle, idle_wall = least(results["nothing"])
         for work, count in due.items():
             processor, wall = least(results[work])

@@ -1,3 +1,2 @@
 mod LineLemmas
 mod OrderLemmas
-mod TestLemmas

@@ -3,7 +3,5 @@
 
 pub mod found;
 mod printing;
-#[cfg(test)]
-mod tests;
 
 pub use found::{Entry, Found};

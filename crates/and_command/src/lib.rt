@@ -6,8 +6,6 @@
 pub mod given;
 pub mod options;
 pub mod reading;
-#[cfg(test)]
-mod tests;
 
 pub use given::Settings;
 pub use reading::{Command, command_of};

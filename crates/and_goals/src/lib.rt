@@ -6,8 +6,6 @@ mod deque;
 mod hand;
 mod leaving;
 mod opening;
-#[cfg(test)]
-mod tests;
 
 pub use hand::{Hand, HandList};
 pub use leaving::rest;

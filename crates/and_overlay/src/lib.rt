@@ -5,8 +5,6 @@ pub mod laws;
 pub mod overlay;
 pub mod places;
 pub mod scratch;
-#[cfg(test)]
-mod tests;
 
 pub use laws::a_trial_goes_the_same_way;
 pub use overlay::Overlay;

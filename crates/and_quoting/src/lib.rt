@@ -91,6 +91,3 @@ pub fn write_name(text: &mut Text, name: &[u8]) -> Result<(), AllocError>
     }
     text.append(b"'")
 }
-
-#[cfg(test)]
-mod tests;

@@ -2,7 +2,5 @@
 #![tactic(auto)]
 
 mod suspended;
-#[cfg(test)]
-mod tests;
 
 pub use suspended::Suspended;

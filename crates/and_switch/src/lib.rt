@@ -10,8 +10,6 @@ pub mod index;
 pub mod key;
 mod lists;
 pub mod switch;
-#[cfg(test)]
-mod tests;
 
 pub use first_arguments::{Addition, FirstArguments};
 pub use index::KeyIndex;

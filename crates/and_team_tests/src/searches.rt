@@ -2,7 +2,7 @@
 
 use and_answers::Found;
 use and_determinacy::compile;
-use and_io::Quiet;
+use and_gate::Quiet;
 use and_model::Text;
 use and_model::limits::MAX_LIMIT;
 use and_reader::read_program;

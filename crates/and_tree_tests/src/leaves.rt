@@ -19,6 +19,8 @@ impl Keyed for Leaf {
 
     ghost Stands = { λ limit leaf. Unit {0} };
 
+    ghost IsFork = { λ limit fork. Unit {0} };
+
     fn key(&self) -> &Code {
         &self.key
     }

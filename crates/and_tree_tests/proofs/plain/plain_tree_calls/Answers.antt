@@ -10,6 +10,7 @@ fork-requires g c =
     let (key_is, longer_is) = c.in_ok-fork_of_root.ensures.key in record {
       hand = held_on 0 split.key stage (at_first split.key [] [] key_is);
       longer = (split.longer, ap (λ k. k ++ split.longer) (sym key_is));
+      is_fork = tt;
       few = few_on 0 _ _ stage (rw c.in_ok-fork_of_root.ensures.clauses (omega arith));
     }
 

@@ -1,2 +1,0 @@
-pub mod FirstChildren
-pub mod UntouchedBranches

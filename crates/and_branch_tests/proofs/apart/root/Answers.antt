@@ -1,5 +1,0 @@
-use Rattle.std.proofs.Common.{refl}
-use Rattle.and_branch_tests.proofs.apart.root.Goals as goal
-
-pub returns-in-Ready : goal.returns-in-Ready
-returns-in-Ready g c = (_, c.in-Ready.ensures.ready c.in-Ready.branch refl)
