@@ -1,3 +1,5 @@
+% A family. What to see: a rule asks what other rules say, and a query asks in any direction: ./ask examples/family.pl 'ancestor(X, gus)'.
+
 parent(adam,beth).
 parent(adam,carl).
 parent(beth,dina).

@@ -1,3 +1,5 @@
+% Routes of a metro, each as a term. What to see: two ways lead round the same corner, and each is an answer.
+
 line(central,oak).
 line(oak,harbour).
 line(oak,museum).

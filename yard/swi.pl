@@ -15,7 +15,7 @@ main(Words) :-
     compile_predicates([]),
     include(is_shown, Names, Shown),
     statistics(cputime, Start),
-    (   query(How, Query, Goal), catch(call(Goal), _, fail), line(Shown), fail
+    (   query(How, Query, Goal), catch(program:Goal, _, fail), line(Shown), fail
     ;   writeln('% complete')
     ),
     statistics(cputime, End),
@@ -26,7 +26,7 @@ load(Stream, How, Query, Names) :-
     read_term(Stream, Term, [variable_names(Bound)]),
     (   Term == end_of_file -> true
     ;   Term = (?- Goal) -> Query = Goal, Names = Bound, load(Stream, How, Query, Names)
-    ;   clause_of(How, Term, Clause), assertz(user:Clause), load(Stream, How, Query, Names)
+    ;   clause_of(How, Term, Clause), assertz(program:Clause), load(Stream, How, Query, Names)
     ).
 
 clause_of(How, (Head :- Body), (Head :- Goal)) :- !, query(How, Body, Goal).
