@@ -7,10 +7,10 @@ use Rattle.std.proofs.lemmas.Slice.Eq.{bytes_eq-Decides}
 use Rattle.and_model.specs.Lines.{Bytes}
 use Rattle.and_syntax.specs.Written
 use Rattle.and_syntax.specs.Written.{Written, Many}
-use Rattle.and_language.specs.Words.{Word, products, sums, relations, is_one_of}
+use Rattle.and_language.specs.Words.{Word, products, sums, relations, is_one_of, is_reserved}
 use Rattle.and_language.specs.Words as words
-use Rattle.and_language.specs.Grammar.{term0, term200, term400, term500, term700, term1000, binary, unary, cell, nil, IsAtom, IsFunctor, IsSum, Reads, Arguments, Elements, IsClause}
-use Rattle.and_automaton.specs.Machine.{Half, Pending, nothing_pending, with_half, negated, at200, at400, at500, at700, Bracket, plain, arguments, elements, tail, Frame, ClausePart, head, body, query, Outermost, wanted, numeral, operand, State, start, inside, opened_list, over, depth, conjunction, many, list, role, take_operand, take_numeral, take_operator, take_name, take_sum, take_relation, take_neck, take_comma, take_bar, take_close_bracket, take_close_list, take_end, take_functor, begins_query, closes_list, operand_exceeds, operator_exceeds, comma_exceeds, go, exceeds, step, and_then, run}
+use Rattle.and_language.specs.Grammar.{Sort, Neck, symbol_of, sort_of, term0, term200, term400, term500, term700, term1000, term1100, binary, unary, cell, nil, IsAtom, IsFunctor, IsSum, Reads, Arguments, Elements, IsClause}
+use Rattle.and_automaton.specs.Machine.{Half, Pending, nothing_pending, with_half, negated, at200, at400, at500, at700, Bracket, plain, braces, arguments, elements, tail, Frame, ClausePart, head, body, query, Outermost, wanted, numeral, operand, State, start, inside, opened_list, over, depth, conjunction, disjunction, at1100, many, list, role, take_operand, take_numeral, take_operator, take_name, take_sum, take_relation, take_neck, take_comma, take_semicolon, take_bar, take_close_bracket, take_close_brace, take_close_list, take_end, take_functor, begins_query, closes_list, operand_exceeds, operator_exceeds, comma_exceeds, go, exceeds, step, and_then, run}
 use Rattle.and_automaton.proofs.Steps.{step_tells, shallow_told, by_role}
 use Rattle.and_model.specs.declared.limits.TheConstants.{MAX_ARGUMENTS, MAX_NESTING}
 
@@ -71,21 +71,32 @@ module _ (limited : Bool) (whole : List Word) where
         by_relation None e = subst (λ s. Reads limited n term700 s rest (at500 p w)) (sym e) (Reads.as700 n o.at_sum rest (at500 p w) complete500)
         by_relation (Some h) g = Reads.relation n from o.at_sum rest h.operator h.left (at500 p w) g.0 g.1 complete500
 
-  -- What stands in a bracket from one place on makes an operand that begins at the other.
+  -- The terms before the last comma, and those from the one place on, are a conjunction that begins at the other.
+  abbrev Conjoins : ℕ → List Written → List Word → List Word → Type 0
+  Conjoins n b mid from = (rest : List Word) (w : Written) → Reads limited n term1000 from rest w → Reads limited n term1000 mid rest (conjunction b w)
+
+  -- What stands in a bracket from one place on makes an operand that begins at the other. (Its last alternative begins between them.)
   abbrev Inside : ℕ → Bracket → List Written → List Word → List Word → Type 0
-  Inside n plain b at from = (rest : List Word) (w : Written) → Reads limited (suc n) term1000 from (words.close_bracket ∷ rest) w → Reads limited n term0 at rest (conjunction b w)
+  Inside n (plain es) b at from =
+      (mid : List Word) × Conjoins (suc n) b mid from × ((rest : List Word) (w : Written) → Reads limited (suc n) term1100 mid (words.close_bracket ∷ rest) w → Reads limited n term0 at rest (disjunction es w))
+  Inside n (braces es) b at from =
+      (mid : List Word) × Conjoins (suc n) b mid from
+      × ((rest : List Word) (w : Written) → Reads limited (suc n) term1100 mid (words.close_brace ∷ rest) w → Reads limited n term0 at rest (unary (codes "{}") (disjunction es w)))
   Inside n (arguments c) b at from = (rest : List Word) (ts : Many) → Arguments limited (suc n) (length b) from rest ts → Reads limited n term0 at rest (Written.compound c (many b ts))
   Inside n elements b at from = (rest : List Word) (w : Written) → Elements limited (suc n) from rest w → Reads limited n term0 at rest (list b w)
   Inside n tail b at from = (rest : List Word) (w : Written) → Reads limited (suc n) term700 from (words.close_list ∷ rest) w → Reads limited n term0 at rest (list b w)
 
-  -- What stands outside of brackets from a place on makes the clause.
-  abbrev Outside : ClausePart → List Written → List Word → Type 0
-  Outside head b from = (rest : List Word) (w : Written) → Reads limited 0 term1000 from rest w → Reads limited 0 term1000 whole rest (conjunction b w)
-  Outside (body h) b from = (w : Written) → Reads limited 0 term1000 from (words.end ∷ []) w → IsClause limited whole false (binary (codes ":-") h (conjunction b w))
-  Outside query b from = (w : Written) → Reads limited 0 term1000 from (words.end ∷ []) w → IsClause limited whole true (unary (codes "?-") (conjunction b w))
+  -- What stands outside of brackets makes the clause, where its last alternative begins at the place.
+  abbrev Completes : ClausePart → List Written → List Word → Type 0
+  Completes head es mid = (rest : List Word) (w : Written) → Reads limited 0 term1100 mid rest w → Reads limited 0 term1100 whole rest (disjunction es w)
+  Completes (body n h) es mid = (w : Written) → Reads limited 0 term1100 mid (words.end ∷ []) w → IsClause limited whole (sort_of n) (binary (symbol_of n) h (disjunction es w))
+  Completes query es mid = (w : Written) → Reads limited 0 term1100 mid (words.end ∷ []) w → IsClause limited whole Sort.query (unary (codes "?-") (disjunction es w))
+
+  abbrev Outside : ClausePart → List Written → List Written → List Word → Type 0
+  Outside k es b from = (mid : List Word) × Conjoins 0 b mid from × Completes k es mid
 
   abbrev Within : Outermost → List Frame → List Word → Type 0
-  Within l [] from = Outside l.part l.before from
+  Within l [] from = Outside l.part l.alternatives l.before from
   Within l (f ∷ fs) from = (outer at : List Word) × Within l fs outer × Opened (depth fs) f.outside outer at × Inside (f.outside.minuses + depth fs) f.bracket f.before at from
 
   -- the word of a name that can be a compound's
@@ -113,14 +124,13 @@ module _ (limited : Bool) (whole : List Word) where
   operand_kept l fs p (words.variable x) here from low i o = (from, words.variable x ∷ here, i, o, Reads.variable (p.minuses + depth fs) x here, tt)
   operand_kept l fs p (words.integer z) here from low i o =
       (from, words.integer z ∷ here, i, o, Reads.integer (p.minuses + depth fs) z here (λ h. leb-false 9223372036854775808 z (low h)), tt)
-  operand_kept l fs p (words.name c) here from low i o = tested (bytes_eq c (codes ":-")) refl (bytes_eq c (codes "?-")) refl
+  operand_kept l fs p (words.name c) here from low i o = tested (is_reserved c) refl
     where
-      tested : (a : Bool) → bytes_eq c (codes ":-") ≡ a → (b : Bool) → bytes_eq c (codes "?-") ≡ b
-          → Keeps (cond (a || b) None (Some (inside l fs p (operand (Written.compound c Written.none) (Some c))))) here
-      tested true e b f = tt
-      tested false e true f = tt
-      tested false e false f =
-          (from, words.name c ∷ here, i, o, Reads.atom (p.minuses + depth fs) (words.name c) c here (IsAtom.name c e f), (words.name c, IsFunctor.name c e f, refl))
+      tested : (b : Bool) → is_reserved c ≡ b
+          → Keeps (cond b None (Some (inside l fs p (operand (Written.compound c Written.none) (Some c))))) here
+      tested true e = tt
+      tested false e =
+          (from, words.name c ∷ here, i, o, Reads.atom (p.minuses + depth fs) (words.name c) c here (IsAtom.name c e), (words.name c, IsFunctor.name c e, refl))
   operand_kept l fs p (words.quoted c) here from low i o =
       (from, words.quoted c ∷ here, i, o, Reads.atom (p.minuses + depth fs) (words.quoted c) c here (IsAtom.quoted c), (words.quoted c, IsFunctor.quoted c, refl))
   operand_kept l fs p (words.minus words.integer) here from low i o = (from, i, o)
@@ -146,11 +156,16 @@ module _ (limited : Bool) (whole : List Word) where
       suc_plus m n = omega arith
   operand_kept l fs p (words.open_bracket behind) here from low i o =
       let n : ℕ = p.minuses + depth fs in
-      (here, (from, words.open_bracket behind ∷ here, i, o, λ rest w d. Reads.bracketed n behind here rest w (shallow_told limited n low) d), fresh (suc n) here)
+      (here, (from, words.open_bracket behind ∷ here, i, o, (here, (λ rest w t. t), λ rest w d. Reads.bracketed n behind here rest w (shallow_told limited n low) d)), fresh (suc n) here)
+  operand_kept l fs p words.open_brace here from low i o =
+      let n : ℕ = p.minuses + depth fs in
+      (here, (from, words.open_brace ∷ here, i, o, (here, (λ rest w t. t), λ rest w d. Reads.braced n here rest w (shallow_told limited n low) d)), fresh (suc n) here)
   operand_kept l fs p words.open_list here from low i o = (from, i, o, shallow_told limited (p.minuses + depth fs) low)
   operand_kept l fs p words.close_bracket here from low i o = tt
   operand_kept l fs p words.close_list here from low i o = tt
+  operand_kept l fs p words.close_brace here from low i o = tt
   operand_kept l fs p words.comma here from low i o = tt
+  operand_kept l fs p words.semicolon here from low i o = tt
   operand_kept l fs p words.bar here from low i o = tt
   operand_kept l fs p words.end here from low i o = tt
 
@@ -166,33 +181,49 @@ module _ (limited : Bool) (whole : List Word) where
   numeral_kept l fs p words.close_bracket here from i o = tt
   numeral_kept l fs p words.open_list here from i o = tt
   numeral_kept l fs p words.close_list here from i o = tt
+  numeral_kept l fs p words.open_brace here from i o = tt
+  numeral_kept l fs p words.close_brace here from i o = tt
   numeral_kept l fs p words.comma here from i o = tt
+  numeral_kept l fs p words.semicolon here from i o = tt
   numeral_kept l fs p words.bar here from i o = tt
   numeral_kept l fs p words.end here from i o = tt
 
   -- the words behind a term of the priority 700
-  neck_kept : (l : Outermost) (fs : List Frame) (a : Written) (here from : List Word) → Within l fs from → Reads limited (depth fs) term700 from (words.name (codes ":-") ∷ here) a → Keeps (take_neck l fs a) here
-  neck_kept l (f ∷ fs) a here from i d = tt
-  neck_kept l [] a here from i d = by_part l.part l.before i
+  neck_kept : (l : Outermost) (fs : List Frame) (n : Neck) (a : Written) (here from : List Word) → Within l fs from → Reads limited (depth fs) term700 from (words.name (symbol_of n) ∷ here) a
+      → Keeps (take_neck l fs n a) here
+  neck_kept l (f ∷ fs) n a here from i d = tt
+  neck_kept l [] n a here from i d = by_part l.part l.alternatives l.before i
     where
-      by_part : (k : ClausePart) (b : List Written) → Outside k b from → Keeps (take_neck (record { part = k; before = b }) [] a) here
-      by_part head b out = (here, (λ w t. IsClause.rule whole here (conjunction b a) w (out (words.name (codes ":-") ∷ here) a (Reads.as1000 0 from (words.name (codes ":-") ∷ here) a d)) t), fresh 0 here)
-      by_part (body h) b out = tt
-      by_part query b out = tt
+      next : List Word
+      next = words.name (symbol_of n) ∷ here
+
+      by_part : (k : ClausePart) (es b : List Written) → Outside k es b from → Keeps (take_neck (record { part = k; alternatives = es; before = b }) [] n a) here
+      by_part head es b (mid, joins, out) = (
+        here,
+        (
+          here,
+          (λ rest w t. t),
+          λ w t. IsClause.rule whole here n (at1100 es b a) w (out next (conjunction b a) (Reads.as1100 0 mid next (conjunction b a) (joins next a (Reads.as1000 0 from next a d)))) t,
+        ),
+        fresh 0 here,
+      )
+      by_part (body m h) es b out = tt
+      by_part query es b out = tt
 
   comma_kept : (l : Outermost) (fs : List Frame) (a : Written) (here from : List Word) → (limited ≡ true → comma_exceeds fs ≡ false) → Within l fs from
       → Reads limited (depth fs) term700 from (words.comma ∷ here) a → Keeps (take_comma l fs a) here
-  comma_kept l [] a here from low i d = (here, by_part l.part l.before i, fresh 0 here)
-    where
-      by_part : (k : ClausePart) (b : List Written) → Outside k b from → Outside k (a ∷ b) here
-      by_part head b out = λ rest w t. out rest (binary (codes ",") a w) (Reads.conjunction 0 from here rest a w d t)
-      by_part (body h) b out = λ w t. out (binary (codes ",") a w) (Reads.conjunction 0 from here (words.end ∷ []) a w d t)
-      by_part query b out = λ w t. out (binary (codes ",") a w) (Reads.conjunction 0 from here (words.end ∷ []) a w d t)
+  comma_kept l [] a here from low (mid, joins, out) d =
+      (here, (mid, (λ rest w t. joins rest (binary (codes ",") a w) (Reads.conjunction 0 from here rest a w d t)), out), fresh 0 here)
   comma_kept l (f ∷ fs) a here from low (outer, at, i, o, inner) d = by_bracket f.bracket f.before low inner
     where
       by_bracket : (k : Bracket) (b : List Written) → (limited ≡ true → comma_exceeds (record { bracket = k; before = b; outside = f.outside } ∷ fs) ≡ false)
           → Inside (f.outside.minuses + depth fs) k b at from → Keeps (take_comma l (record { bracket = k; before = b; outside = f.outside } ∷ fs) a) here
-      by_bracket plain b few inner = (here, (outer, at, i, o, λ rest w t. inner rest (binary (codes ",") a w) (Reads.conjunction (suc (f.outside.minuses + depth fs)) from here (words.close_bracket ∷ rest) a w d t)), fresh (suc (f.outside.minuses + depth fs)) here)
+      by_bracket (plain es) b few (mid, joins, inner) =
+          let n : ℕ = suc (f.outside.minuses + depth fs) in
+          (here, (outer, at, i, o, (mid, (λ rest w t. joins rest (binary (codes ",") a w) (Reads.conjunction n from here rest a w d t)), inner)), fresh n here)
+      by_bracket (braces es) b few (mid, joins, inner) =
+          let n : ℕ = suc (f.outside.minuses + depth fs) in
+          (here, (outer, at, i, o, (mid, (λ rest w t. joins rest (binary (codes ",") a w) (Reads.conjunction n from here rest a w d t)), inner)), fresh n here)
       by_bracket (arguments c) b few inner = (
         here,
         (
@@ -208,12 +239,45 @@ module _ (limited : Bool) (whole : List Word) where
       by_bracket elements b few inner = (here, (outer, at, i, o, λ rest w t. inner rest (cell a w) (Elements.next_element (suc (f.outside.minuses + depth fs)) from here rest a w d t)), fresh (suc (f.outside.minuses + depth fs)) here)
       by_bracket tail b few inner = tt
 
+  semicolon_kept : (l : Outermost) (fs : List Frame) (a : Written) (here from : List Word) → Within l fs from → Reads limited (depth fs) term700 from (words.semicolon ∷ here) a
+      → Keeps (take_semicolon l fs a) here
+  semicolon_kept l [] a here from (mid, joins, out) d = (here, (here, (λ rest w t. t), by_part l.part l.alternatives out), fresh 0 here)
+    where
+      v : Written
+      v = conjunction l.before a
+
+      before : Reads limited 0 term1000 mid (words.semicolon ∷ here) v
+      before = joins (words.semicolon ∷ here) a (Reads.as1000 0 from (words.semicolon ∷ here) a d)
+
+      by_part : (k : ClausePart) (es : List Written) → Completes k es mid → Completes k (v ∷ es) here
+      by_part head es out = λ rest w t. out rest (binary (codes ";") v w) (Reads.disjunction 0 mid here rest v w before t)
+      by_part (body n h) es out = λ w t. out (binary (codes ";") v w) (Reads.disjunction 0 mid here (words.end ∷ []) v w before t)
+      by_part query es out = λ w t. out (binary (codes ";") v w) (Reads.disjunction 0 mid here (words.end ∷ []) v w before t)
+  semicolon_kept l (f ∷ fs) a here from (outer, at, i, o, inner) d = by_bracket f.bracket f.before inner
+    where
+      n : ℕ
+      n = suc (f.outside.minuses + depth fs)
+
+      by_bracket : (k : Bracket) (b : List Written) → Inside (f.outside.minuses + depth fs) k b at from → Keeps (take_semicolon l (record { bracket = k; before = b; outside = f.outside } ∷ fs) a) here
+      by_bracket (plain es) b (mid, joins, inner) =
+          let v : Written = conjunction b a in
+          let before : Reads limited (suc (f.outside.minuses + depth fs)) term1000 mid (words.semicolon ∷ here) v = joins (words.semicolon ∷ here) a (Reads.as1000 n from (words.semicolon ∷ here) a d) in
+          (here, (outer, at, i, o, (here, (λ rest w t. t), λ rest w t. inner rest (binary (codes ";") v w) (Reads.disjunction n mid here (words.close_bracket ∷ rest) v w before t))), fresh n here)
+      by_bracket (braces es) b (mid, joins, inner) =
+          let v : Written = conjunction b a in
+          let before : Reads limited (suc (f.outside.minuses + depth fs)) term1000 mid (words.semicolon ∷ here) v = joins (words.semicolon ∷ here) a (Reads.as1000 n from (words.semicolon ∷ here) a d) in
+          (here, (outer, at, i, o, (here, (λ rest w t. t), λ rest w t. inner rest (binary (codes ";") v w) (Reads.disjunction n mid here (words.close_brace ∷ rest) v w before t))), fresh n here)
+      by_bracket (arguments c) b inner = tt
+      by_bracket elements b inner = tt
+      by_bracket tail b inner = tt
+
   bar_kept : (l : Outermost) (fs : List Frame) (a : Written) (here from : List Word) → Within l fs from → Reads limited (depth fs) term700 from (words.bar ∷ here) a → Keeps (take_bar l fs a) here
   bar_kept l [] a here from i d = tt
   bar_kept l (f ∷ fs) a here from (outer, at, i, o, inner) d = by_bracket f.bracket f.before inner
     where
       by_bracket : (k : Bracket) (b : List Written) → Inside (f.outside.minuses + depth fs) k b at from → Keeps (take_bar l (record { bracket = k; before = b; outside = f.outside } ∷ fs) a) here
-      by_bracket plain b inner = tt
+      by_bracket (plain es) b inner = tt
+      by_bracket (braces es) b inner = tt
       by_bracket (arguments c) b inner = tt
       by_bracket elements b inner = (here, (outer, at, i, o, λ rest w t. inner rest (cell a w) (Elements.tail (suc (f.outside.minuses + depth fs)) from here rest a w d t)), fresh (suc (f.outside.minuses + depth fs)) here)
       by_bracket tail b inner = tt
@@ -224,8 +288,27 @@ module _ (limited : Bool) (whole : List Word) where
   close_bracket_kept l (f ∷ fs) a here from (outer, at, i, o, inner) d = by_bracket f.bracket f.before inner
     where
       by_bracket : (k : Bracket) (b : List Written) → Inside (f.outside.minuses + depth fs) k b at from → Keeps (take_close_bracket l (record { bracket = k; before = b; outside = f.outside } ∷ fs) a) here
-      by_bracket plain b inner = (outer, at, i, o, inner here a (Reads.as1000 (suc (f.outside.minuses + depth fs)) from (words.close_bracket ∷ here) a d), tt)
+      by_bracket (plain es) b (mid, joins, inner) =
+          let n : ℕ = suc (f.outside.minuses + depth fs) in
+          let next : List Word = words.close_bracket ∷ here in
+          (outer, at, i, o, inner here (conjunction b a) (Reads.as1100 n mid next (conjunction b a) (joins next a (Reads.as1000 n from next a d))), tt)
+      by_bracket (braces es) b inner = tt
       by_bracket (arguments c) b inner = (outer, at, i, o, inner here (Written.more a Written.none) (Arguments.last_argument (suc (f.outside.minuses + depth fs)) (length b) from here a d), tt)
+      by_bracket elements b inner = tt
+      by_bracket tail b inner = tt
+
+  close_brace_kept : (l : Outermost) (fs : List Frame) (a : Written) (here from : List Word) → Within l fs from → Reads limited (depth fs) term700 from (words.close_brace ∷ here) a
+      → Keeps (take_close_brace l fs a) here
+  close_brace_kept l [] a here from i d = tt
+  close_brace_kept l (f ∷ fs) a here from (outer, at, i, o, inner) d = by_bracket f.bracket f.before inner
+    where
+      by_bracket : (k : Bracket) (b : List Written) → Inside (f.outside.minuses + depth fs) k b at from → Keeps (take_close_brace l (record { bracket = k; before = b; outside = f.outside } ∷ fs) a) here
+      by_bracket (plain es) b inner = tt
+      by_bracket (braces es) b (mid, joins, inner) =
+          let n : ℕ = suc (f.outside.minuses + depth fs) in
+          let next : List Word = words.close_brace ∷ here in
+          (outer, at, i, o, inner here (conjunction b a) (Reads.as1100 n mid next (conjunction b a) (joins next a (Reads.as1000 n from next a d))), tt)
+      by_bracket (arguments c) b inner = tt
       by_bracket elements b inner = tt
       by_bracket tail b inner = tt
 
@@ -235,22 +318,26 @@ module _ (limited : Bool) (whole : List Word) where
   close_list_kept l (f ∷ fs) a here from (outer, at, i, o, inner) d = by_bracket f.bracket f.before inner
     where
       by_bracket : (k : Bracket) (b : List Written) → Inside (f.outside.minuses + depth fs) k b at from → Keeps (take_close_list l (record { bracket = k; before = b; outside = f.outside } ∷ fs) a) here
-      by_bracket plain b inner = tt
+      by_bracket (plain es) b inner = tt
+      by_bracket (braces es) b inner = tt
       by_bracket (arguments c) b inner = tt
       by_bracket elements b inner = (outer, at, i, o, inner here (cell a nil) (Elements.last_element (suc (f.outside.minuses + depth fs)) from here a d), tt)
       by_bracket tail b inner = (outer, at, i, o, inner here a d, tt)
 
   end_kept : (l : Outermost) (fs : List Frame) (a : Written) (here from : List Word) → Within l fs from → Reads limited (depth fs) term700 from (words.end ∷ here) a → Keeps (take_end l fs a) here
   end_kept l (f ∷ fs) a here from i d = tt
-  end_kept l [] a here from i d = by_part l.part l.before i
+  end_kept l [] a here from i d = by_part l.part l.alternatives l.before i
     where
       ended : here ≡ [] → Reads limited 0 term1000 from (words.end ∷ []) a
       ended e = subst (λ r. Reads limited 0 term1000 from (words.end ∷ r) a) e (Reads.as1000 0 from (words.end ∷ here) a d)
 
-      by_part : (k : ClausePart) (b : List Written) → Outside k b from → Keeps (take_end (record { part = k; before = b }) [] a) here
-      by_part head b out = λ e. IsClause.fact whole (conjunction b a) (out (words.end ∷ []) a (ended e))
-      by_part (body h) b out = λ e. out a (ended e)
-      by_part query b out = λ e. out a (ended e)
+      joined : (b : List Written) (mid : List Word) → Conjoins 0 b mid from → here ≡ [] → Reads limited 0 term1100 mid (words.end ∷ []) (conjunction b a)
+      joined b mid joins e = Reads.as1100 0 mid (words.end ∷ []) (conjunction b a) (joins (words.end ∷ []) a (ended e))
+
+      by_part : (k : ClausePart) (es b : List Written) → Outside k es b from → Keeps (take_end (record { part = k; alternatives = es; before = b }) [] a) here
+      by_part head es b (mid, joins, out) = λ e. IsClause.fact whole (at1100 es b a) (out (words.end ∷ []) (conjunction b a) (joined b mid joins e))
+      by_part (body n h) es b (mid, joins, out) = λ e. out (conjunction b a) (joined b mid joins e)
+      by_part query es b (mid, joins, out) = λ e. out (conjunction b a) (joined b mid joins e)
 
   -- a word behind an operand
   module _ (l : Outermost) (fs : List Frame) (p : Pending) (w : Written) (from at : List Word) (i : Within l fs from) (o : Opened (depth fs) p from at) where
@@ -309,7 +396,7 @@ module _ (limited : Bool) (whole : List Word) where
 
     name_kept : (c : Bytes) (here : List Word) → Reads limited (p.minuses + depth fs) term0 at (words.name c ∷ here) w → Keeps (take_name l fs p w c (role c)) here
     name_kept c here d = by_role c (λ r. Keeps (take_name l fs p w c r) here) (product_kept c here d) (λ e. sum_kept (words.name c) c here (IsSum.name c e) d) (relation_kept c here d)
-        (λ e. neck_kept l fs (at700 p w) here from i (subst (λ z. Reads limited (depth fs) term700 from (words.name z ∷ here) (at700 p w)) e (complete700 (depth fs) p from at (words.name c ∷ here) w o d)))
+        (λ n e. neck_kept l fs n (at700 p w) here from i (subst (λ z. Reads limited (depth fs) term700 from (words.name z ∷ here) (at700 p w)) e (complete700 (depth fs) p from at (words.name c ∷ here) w o d)))
         tt
 
     functor_kept : (f : Option Bytes) (here : List Word) → (limited ≡ true → leb MAX_NESTING (p.minuses + depth fs) ≡ false) → Named f at (words.open_bracket true ∷ here) → Keeps (take_functor l fs p f) here
@@ -336,6 +423,8 @@ module _ (limited : Bool) (whole : List Word) where
     operator_kept f (words.open_bracket false) here low d named = tt
     operator_kept f words.close_bracket here low d named = close_bracket_kept l fs (at700 p w) here from i (complete700 (depth fs) p from at (words.close_bracket ∷ here) w o d)
     operator_kept f words.close_list here low d named = close_list_kept l fs (at700 p w) here from i (complete700 (depth fs) p from at (words.close_list ∷ here) w o d)
+    operator_kept f words.close_brace here low d named = close_brace_kept l fs (at700 p w) here from i (complete700 (depth fs) p from at (words.close_brace ∷ here) w o d)
+    operator_kept f words.semicolon here low d named = semicolon_kept l fs (at700 p w) here from i (complete700 (depth fs) p from at (words.semicolon ∷ here) w o d)
     operator_kept f words.comma here low d named = comma_kept l fs (at700 p w) here from low i (complete700 (depth fs) p from at (words.comma ∷ here) w o d)
     operator_kept f words.bar here low d named = bar_kept l fs (at700 p w) here from i (complete700 (depth fs) p from at (words.bar ∷ here) w o d)
     operator_kept f words.end here low d named = end_kept l fs (at700 p w) here from i (complete700 (depth fs) p from at (words.end ∷ here) w o d)
@@ -343,14 +432,20 @@ module _ (limited : Bool) (whole : List Word) where
     operator_kept f (words.integer z) here low d named = tt
     operator_kept f (words.quoted c) here low d named = tt
     operator_kept f words.open_list here low d named = tt
+    operator_kept f words.open_brace here low d named = tt
 
   start_kept : (x : Word) (here : List Word) → (limited ≡ true → exceeds start x ≡ false) → whole ≡ x ∷ here → Keeps (go start x) here
   start_kept x here low e = by_test (begins_query x) refl
     where
       by_test : (b : Bool) → begins_query x ≡ b
-          → Keeps (cond b (Some (inside (record { part = query; before = [] }) [] nothing_pending wanted)) (take_operand (record { part = head; before = [] }) [] nothing_pending x)) here
-      by_test true is = (here, (λ w d. subst (λ z. IsClause limited z true (unary (codes "?-") w)) (sym (e ∙ ap (λ y. y ∷ here) (query_word x is))) (IsClause.query here w d)), fresh 0 here)
-      by_test false is = operand_kept (record { part = head; before = [] }) [] nothing_pending x here (x ∷ here) low (λ rest w d. subst (λ z. Reads limited 0 term1000 z rest w) (sym e) d) (fresh 0 (x ∷ here))
+          → Keeps (cond b (Some (inside (record { part = query; alternatives = []; before = [] }) [] nothing_pending wanted)) (take_operand (record { part = head; alternatives = []; before = [] }) [] nothing_pending x)) here
+      by_test true is = (
+        here,
+        (here, (λ rest w t. t), λ w d. subst (λ z. IsClause limited z Sort.query (unary (codes "?-") w)) (sym (e ∙ ap (λ y. y ∷ here) (query_word x is))) (IsClause.query here w d)),
+        fresh 0 here,
+      )
+      by_test false is = operand_kept (record { part = head; alternatives = []; before = [] }) [] nothing_pending x here (x ∷ here) low
+          (x ∷ here, (λ rest w t. t), λ rest w d. subst (λ z. Reads limited 0 term1100 z rest w) (sym e) d) (fresh 0 (x ∷ here))
 
   list_kept : (l : Outermost) (fs : List Frame) (p : Pending) (x : Word) (here from : List Word) → (limited ≡ true → exceeds (opened_list l fs p) x ≡ false)
       → Within l fs from → Opened (depth fs) p from (words.open_list ∷ x ∷ here) → (limited ≡ true → p.minuses + depth fs < MAX_NESTING) → Keeps (go (opened_list l fs p) x) here
@@ -381,5 +476,5 @@ module _ (limited : Bool) (whole : List Word) where
       run_kept xs u t (subst (λ o. Keeps o xs) told.1 (kept s x xs told.0 f)) more
 
 -- So what the machine accepts as a clause is one.
-pub clause_accepted : (limited : Bool) (ws : List Word) (q : Bool) (w : Written) → run limited start ws ≡ Some (over q w) → IsClause limited ws q w
+pub clause_accepted : (limited : Bool) (ws : List Word) (q : Sort) (w : Written) → run limited start ws ≡ Some (over q w) → IsClause limited ws q w
 clause_accepted limited ws q w e = run_kept limited ws ws start (over q w) refl e refl

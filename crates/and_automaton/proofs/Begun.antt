@@ -5,11 +5,11 @@ use Rattle.std.specs.Str.{bytes_eq}
 use Rattle.and_model.specs.Lines.{Bytes}
 use Rattle.and_syntax.specs.Written
 use Rattle.and_syntax.specs.Written.{Written}
-use Rattle.and_language.specs.Words.{Word, Placed}
+use Rattle.and_language.specs.Words.{Word, Placed, is_reserved}
 use Rattle.and_language.specs.Words as words
 use Rattle.and_language.specs.Grammar.{nil, Statement, IsText, CanGoOn}
 use Rattle.and_language.specs.Refusals.{NoneEnds}
-use Rattle.and_automaton.specs.Machine.{Half, Pending, nothing_pending, at700, Bracket, plain, arguments, elements, tail, Frame, ClausePart, head, body, query, Outermost, wanted, numeral, operand, State, start, inside, opened_list, over, is_over, Role, is_product, is_sum, is_relation, is_neck, is_none, role, take_operand, take_numeral, take_operator, take_name, take_relation, take_neck, take_comma, take_bar, take_close_bracket, take_close_list, take_functor, begins_query, closes_list, in_part, go, exceeds, step, and_then, run, Reading, between, at_state, take_word, take_words, words_of}
+use Rattle.and_automaton.specs.Machine.{Half, Pending, nothing_pending, at700, Bracket, plain, braces, arguments, elements, tail, Frame, ClausePart, head, body, query, Outermost, wanted, numeral, operand, State, start, inside, opened_list, over, is_over, Role, is_product, is_sum, is_relation, is_neck, is_none, role, take_operand, take_numeral, take_operator, take_name, take_relation, take_neck, take_comma, take_semicolon, take_bar, take_close_bracket, take_close_brace, take_close_list, take_functor, begins_query, closes_list, in_part, go, exceeds, step, and_then, run, Reading, between, at_state, take_word, take_words, words_of}
 use Rattle.and_automaton.proofs.Steps.{step_tells}
 use Rattle.and_automaton.proofs.Accepted.{and_then_tells}
 use Rattle.and_automaton.proofs.Texts.{read_both, text_taken, went_on, word_goes_on, run_free, text_free}
@@ -25,7 +25,7 @@ Ended x (Some (opened_list l fs p)) = Unit {0}
 operand_ended : (l : Outermost) (fs : List Frame) (p : Pending) (x : Word) → Ended x (take_operand l fs p x)
 operand_ended l fs p (words.variable x) = tt
 operand_ended l fs p (words.integer z) = tt
-operand_ended l fs p (words.name c) = by_test (bytes_eq c (codes ":-") || bytes_eq c (codes "?-"))
+operand_ended l fs p (words.name c) = by_test (is_reserved c)
   where
     by_test : (b : Bool) → Ended (words.name c) (cond b None (Some (inside l fs p (operand (Written.compound c Written.none) (Some c)))))
     by_test true = tt
@@ -39,7 +39,10 @@ operand_ended l fs p (words.open_bracket b) = tt
 operand_ended l fs p words.close_bracket = tt
 operand_ended l fs p words.open_list = tt
 operand_ended l fs p words.close_list = tt
+operand_ended l fs p words.open_brace = tt
+operand_ended l fs p words.close_brace = tt
 operand_ended l fs p words.comma = tt
+operand_ended l fs p words.semicolon = tt
 operand_ended l fs p words.bar = tt
 operand_ended l fs p words.end = tt
 
@@ -55,12 +58,12 @@ name_ended l fs p w c is_relation = by_relation p.relation
     by_relation : (r : Option Half) → Ended (words.name c) (take_relation l fs (record p { relation = r }) w c)
     by_relation None = tt
     by_relation (Some h) = tt
-name_ended l (f ∷ fs) p w c is_neck = tt
-name_ended l [] p w c is_neck = by_part l.part
+name_ended l (f ∷ fs) p w c (is_neck n) = tt
+name_ended l [] p w c (is_neck n) = by_part l.part
   where
-    by_part : (k : ClausePart) → Ended (words.name c) (take_neck (record l { part = k }) [] (at700 p w))
+    by_part : (k : ClausePart) → Ended (words.name c) (take_neck (record l { part = k }) [] n (at700 p w))
     by_part head = tt
-    by_part (body h) = tt
+    by_part (body m h) = tt
     by_part query = tt
 name_ended l fs p w c is_none = tt
 
@@ -70,7 +73,8 @@ comma_ended l (f ∷ fs) a = by_bracket f.bracket
   where
     by_bracket : (k : Bracket) → Ended words.comma (take_comma l (record f { bracket = k } ∷ fs) a)
     by_bracket tail = tt
-    by_bracket plain = tt
+    by_bracket (plain es) = tt
+    by_bracket (braces es) = tt
     by_bracket (arguments c) = tt
     by_bracket elements = tt
 
@@ -80,7 +84,8 @@ bar_ended l (f ∷ fs) a = by_bracket f.bracket
   where
     by_bracket : (k : Bracket) → Ended words.bar (take_bar l (record f { bracket = k } ∷ fs) a)
     by_bracket tail = tt
-    by_bracket plain = tt
+    by_bracket (plain es) = tt
+    by_bracket (braces es) = tt
     by_bracket (arguments c) = tt
     by_bracket elements = tt
 
@@ -90,7 +95,30 @@ close_bracket_ended l (f ∷ fs) a = by_bracket f.bracket
   where
     by_bracket : (k : Bracket) → Ended words.close_bracket (take_close_bracket l (record f { bracket = k } ∷ fs) a)
     by_bracket tail = tt
-    by_bracket plain = tt
+    by_bracket (plain es) = tt
+    by_bracket (braces es) = tt
+    by_bracket (arguments c) = tt
+    by_bracket elements = tt
+
+semicolon_ended : (l : Outermost) (fs : List Frame) (a : Written) → Ended words.semicolon (take_semicolon l fs a)
+semicolon_ended l [] a = tt
+semicolon_ended l (f ∷ fs) a = by_bracket f.bracket
+  where
+    by_bracket : (k : Bracket) → Ended words.semicolon (take_semicolon l (record f { bracket = k } ∷ fs) a)
+    by_bracket tail = tt
+    by_bracket (plain es) = tt
+    by_bracket (braces es) = tt
+    by_bracket (arguments c) = tt
+    by_bracket elements = tt
+
+close_brace_ended : (l : Outermost) (fs : List Frame) (a : Written) → Ended words.close_brace (take_close_brace l fs a)
+close_brace_ended l [] a = tt
+close_brace_ended l (f ∷ fs) a = by_bracket f.bracket
+  where
+    by_bracket : (k : Bracket) → Ended words.close_brace (take_close_brace l (record f { bracket = k } ∷ fs) a)
+    by_bracket tail = tt
+    by_bracket (plain es) = tt
+    by_bracket (braces es) = tt
     by_bracket (arguments c) = tt
     by_bracket elements = tt
 
@@ -100,7 +128,8 @@ close_list_ended l (f ∷ fs) a = by_bracket f.bracket
   where
     by_bracket : (k : Bracket) → Ended words.close_list (take_close_list l (record f { bracket = k } ∷ fs) a)
     by_bracket tail = tt
-    by_bracket plain = tt
+    by_bracket (plain es) = tt
+    by_bracket (braces es) = tt
     by_bracket (arguments c) = tt
     by_bracket elements = tt
 
@@ -123,21 +152,24 @@ operator_ended l fs p w f (words.open_bracket true) = functor_ended l fs p f
 operator_ended l fs p w f (words.open_bracket false) = tt
 operator_ended l fs p w f words.close_bracket = close_bracket_ended l fs (at700 p w)
 operator_ended l fs p w f words.close_list = close_list_ended l fs (at700 p w)
+operator_ended l fs p w f words.close_brace = close_brace_ended l fs (at700 p w)
 operator_ended l fs p w f words.comma = comma_ended l fs (at700 p w)
+operator_ended l fs p w f words.semicolon = semicolon_ended l fs (at700 p w)
 operator_ended l fs p w f words.bar = bar_ended l fs (at700 p w)
 operator_ended l fs p w f words.end = end_ended (take_operator l fs p w f words.end)
 operator_ended l fs p w f (words.variable x) = tt
 operator_ended l fs p w f (words.integer z) = tt
 operator_ended l fs p w f (words.quoted c) = tt
 operator_ended l fs p w f words.open_list = tt
+operator_ended l fs p w f words.open_brace = tt
 
 either : (x : Word) (b : Bool) (o p : Option State) → Ended x o → Ended x p → Ended x (cond b o p)
 either x true o p h k = h
 either x false o p h k = k
 
 ended : (s : State) (x : Word) → Ended x (go s x)
-ended start x = either x (begins_query x) (Some (in_part query)) (take_operand (record { part = head; before = [] }) [] nothing_pending x) tt
-    (operand_ended (record { part = head; before = [] }) [] nothing_pending x)
+ended start x = either x (begins_query x) (Some (in_part query)) (take_operand (record { part = head; alternatives = []; before = [] }) [] nothing_pending x) tt
+    (operand_ended (record { part = head; alternatives = []; before = [] }) [] nothing_pending x)
 ended (inside l fs p wanted) x = operand_ended l fs p x
 ended (inside l fs p numeral) x = numeral_ended l fs p x
 ended (inside l fs p (operand w f)) x = operator_ended l fs p w f x

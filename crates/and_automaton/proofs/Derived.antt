@@ -6,11 +6,11 @@ use Rattle.std.proofs.lemmas.Bool.{lt-leb}
 use Rattle.and_model.specs.Lines.{Bytes}
 use Rattle.and_syntax.specs.Written
 use Rattle.and_syntax.specs.Written.{Written, Many}
-use Rattle.and_language.specs.Words.{Word, Placed}
+use Rattle.and_language.specs.Words.{Word, Placed, is_reserved}
 use Rattle.and_language.specs.Words as words
-use Rattle.and_language.specs.Grammar.{Level, term0, term200, term400, term500, term700, term1000, binary, unary, cell, nil, IsAtom, IsFunctor, IsSum, Reads, Arguments, Elements, IsClause}
-use Rattle.and_automaton.specs.Machine.{Half, Pending, nothing_pending, with_half, negated, at700, Bracket, plain, arguments, elements, tail, Frame, ClausePart, head, body, query, Outermost, wanted, numeral, operand, State, start, inside, opened_list, over, depth, conjunction, many, list, is_reserved, take_name, take_sum, begins_query, closes_list, in_part, go, exceeds, comma_exceeds, and_then, run}
-use Rattle.and_automaton.proofs.Steps.{run_step, shallow, product_role, sum_role, relation_role}
+use Rattle.and_language.specs.Grammar.{Sort, Neck, turnstile, arrow, symbol_of, sort_of, Level, term0, term200, term400, term500, term700, term1000, term1100, binary, unary, cell, nil, IsAtom, IsFunctor, IsSum, Reads, Arguments, Elements, IsClause}
+use Rattle.and_automaton.specs.Machine.{Half, Pending, nothing_pending, with_half, negated, at700, Bracket, plain, braces, arguments, elements, tail, Frame, ClausePart, head, body, query, Outermost, wanted, numeral, operand, State, start, inside, opened_list, over, depth, conjunction, disjunction, at1100, many, list, take_name, take_sum, begins_query, closes_list, in_part, go, exceeds, comma_exceeds, and_then, run}
+use Rattle.and_automaton.proofs.Steps.{run_step, shallow, product_role, sum_role, relation_role, neck_role}
 use Rattle.and_model.specs.declared.limits.TheConstants.{MAX_ARGUMENTS}
 
 abbrev pending : Option Half → Option Half → Option Half → ℕ → Pending
@@ -28,31 +28,37 @@ abbrev CanBegin : List Word → Type 0
 CanBegin [] = ⊥
 CanBegin (x ∷ xs) = (begins_query x ≡ false) × (closes_list x ≡ false)
 
-reserved : (c : Bytes) → bytes_eq c (codes ":-") ≡ false → bytes_eq c (codes "?-") ≡ false → is_reserved c ≡ false
-reserved c e f = ap (λ b. b || bytes_eq c (codes "?-")) e ∙ f
+no_query : (c : Bytes) → is_reserved c ≡ false → bytes_eq c (codes "?-") ≡ false
+no_query c e = last (bytes_eq c (codes ":-")) (bytes_eq c (codes "-->")) (bytes_eq c (codes "?-")) e
+  where
+    last : (x y z : Bool) → x || y || z ≡ false → z ≡ false
+    last x y false e = refl
+    last true y true e = absurd (cc e)
+    last false true true e = absurd (cc e)
+    last false false true e = absurd (cc e)
 
 same_binary : (c : Bytes) (a b x y : Written) → a ≡ x → b ≡ y → binary c a b ≡ binary c x y
 same_binary c a b x y e f = cc
 
 -- An atom, a functor and an operator of the priority 500 are taken for what they are.
 atom_begins : {x : Word} {c : Bytes} → IsAtom x c → (begins_query x ≡ false) × (closes_list x ≡ false)
-atom_begins (IsAtom.name c e f) = (f, refl)
+atom_begins (IsAtom.name c e) = (no_query c e, refl)
 atom_begins (IsAtom.quoted c) = (refl, refl)
 atom_begins IsAtom.minus = (refl, refl)
 
 functor_begins : {x : Word} {c : Bytes} → IsFunctor x c → (begins_query x ≡ false) × (closes_list x ≡ false)
-functor_begins (IsFunctor.name c e f) = (f, refl)
+functor_begins (IsFunctor.name c e) = (no_query c e, refl)
 functor_begins (IsFunctor.quoted c) = (refl, refl)
 
 atom_step : {x : Word} {c : Bytes} → IsAtom x c → (l : Outermost) (fs : List Frame) (p : Pending)
     → (f : Option Bytes) × (exceeds (inside l fs p wanted) x ≡ false) × (go (inside l fs p wanted) x ≡ Some (inside l fs p (operand (Written.compound c Written.none) f)))
-atom_step (IsAtom.name c e f) l fs p = (Some c, refl, ap (λ b. cond b None (Some (inside l fs p (operand (Written.compound c Written.none) (Some c))))) (reserved c e f))
+atom_step (IsAtom.name c e) l fs p = (Some c, refl, ap (λ b. cond b None (Some (inside l fs p (operand (Written.compound c Written.none) (Some c))))) e)
 atom_step (IsAtom.quoted c) l fs p = (Some c, refl, refl)
 atom_step IsAtom.minus l fs p = (None, refl, refl)
 
 functor_step : {x : Word} {c : Bytes} → IsFunctor x c → (l : Outermost) (fs : List Frame) (p : Pending)
     → (exceeds (inside l fs p wanted) x ≡ false) × (go (inside l fs p wanted) x ≡ Some (inside l fs p (operand (Written.compound c Written.none) (Some c))))
-functor_step (IsFunctor.name c e f) l fs p = (refl, ap (λ b. cond b None (Some (inside l fs p (operand (Written.compound c Written.none) (Some c))))) (reserved c e f))
+functor_step (IsFunctor.name c e) l fs p = (refl, ap (λ b. cond b None (Some (inside l fs p (operand (Written.compound c Written.none) (Some c))))) e)
 functor_step (IsFunctor.quoted c) l fs p = (refl, refl)
 
 sum_step : {x : Word} {c : Bytes} → IsSum x c → (l : Outermost) (fs : List Frame) (p : Pending) (w : Written) (f : Option Bytes)
@@ -68,6 +74,7 @@ begins (Reads.negative n z rest) = (refl, refl)
 begins (Reads.atom n a c rest i) = atom_begins i
 begins (Reads.compound n a c ws rest ts i low x) = functor_begins i
 begins (Reads.bracketed n b ws rest w low d) = (refl, refl)
+begins (Reads.braced n ws rest w low d) = (refl, refl)
 begins (Reads.empty_list n rest low) = (refl, refl)
 begins (Reads.list n ws rest w low x) = (refl, refl)
 begins (Reads.negated n ws rest w low d) = (refl, refl)
@@ -75,11 +82,13 @@ begins (Reads.product n ws us rest c a b d i e) = begins d
 begins (Reads.sum n ws us rest o c a b d i e) = begins d
 begins (Reads.relation n ws us rest c a b d i e) = begins d
 begins (Reads.conjunction n ws us rest a b d e) = begins d
+begins (Reads.disjunction n ws us rest a b d e) = begins d
 begins (Reads.as200 n ws rest w d) = begins d
 begins (Reads.as400 n ws rest w d) = begins d
 begins (Reads.as500 n ws rest w d) = begins d
 begins (Reads.as700 n ws rest w d) = begins d
 begins (Reads.as1000 n ws rest w d) = begins d
+begins (Reads.as1100 n ws rest w d) = begins d
 
 elements_begin : {limited : Bool} {n : ℕ} {ws rest : List Word} {w : Written} → Elements limited n ws rest w → CanBegin ws
 elements_begin (Elements.last_element n ws rest a d) = begins d
@@ -107,6 +116,11 @@ module _ (limited : Bool) where
   Commas l fs = (b : List Written) (p : Pending) (w : Written) (f : Option Bytes)
       → (comma_exceeds (fs b) ≡ false) × (go (inside (l b) (fs b) p (operand w f)) words.comma ≡ Some (inside (l (at700 p w ∷ b)) (fs (at700 p w ∷ b)) nothing_pending wanted))
 
+  -- where a semicolon joins the alternatives before it and the next one
+  abbrev Semicolons : (List Written → List Written → Outermost) → (List Written → List Written → List Frame) → Type 0
+  Semicolons l fs = (es b : List Written) (p : Pending) (w : Written) (f : Option Bytes)
+      → (go (inside (l es b) (fs es b) p (operand w f)) words.semicolon ≡ Some (inside (l (conjunction b (at700 p w) ∷ es) []) (fs (conjunction b (at700 p w) ∷ es) []) nothing_pending wanted))
+
   -- The words of a term of some priority are taken where nothing tighter is pending, and become that term together with what is left pending.
   abbrev Taken : Level → ℕ → List Word → List Word → Written → Type 0
   Taken term0 n ws rest w = (l : Outermost) (fs : List Frame) (p : Pending) → n ≡ p.minuses + depth fs → (f : Option Bytes) × Goes l fs p ws p w f rest
@@ -121,6 +135,10 @@ module _ (limited : Bool) where
   Taken term1000 n ws rest w = (l : List Written → Outermost) (fs : List Written → List Frame) → ((b : List Written) → n ≡ depth (fs b)) → Commas l fs → (b : List Written)
       → (d : List Written) × (p : Pending) × (v : Written) × (f : Option Bytes) × (conjunction d (at700 p v) ≡ conjunction b w)
       × (run limited (inside (l b) (fs b) nothing_pending wanted) ws ≡ run limited (inside (l d) (fs d) p (operand v f)) rest)
+  Taken term1100 n ws rest w = (l : List Written → List Written → Outermost) (fs : List Written → List Written → List Frame) → ((es b : List Written) → n ≡ depth (fs es b))
+      → ((es : List Written) → Commas (l es) (fs es)) → Semicolons l fs → (es : List Written)
+      → (gs d : List Written) × (p : Pending) × (v : Written) × (f : Option Bytes) × (at1100 gs d (at700 p v) ≡ disjunction es w)
+      × (run limited (inside (l es []) (fs es []) nothing_pending wanted) ws ≡ run limited (inside (l gs d) (fs gs d) p (operand v f)) rest)
 
   abbrev TakenArguments : ℕ → ℕ → List Word → List Word → Many → Type 0
   TakenArguments n k ws rest ts = (l : Outermost) (fs : List Frame) (p : Pending) (c : Bytes) (b : List Written) → n ≡ suc (p.minuses + depth fs) → k ≡ length b
@@ -152,12 +170,20 @@ module _ (limited : Bool) where
               ∙ taken_arguments x l fs p c [] (ap suc e) refl,
         )
     taken (Reads.bracketed n behind ws rest w low d) = λ l fs p e.
-        let (b, q, v, f, is, went) = taken d (λ _. l) (λ b. framed plain b p fs) (λ _. ap suc e) (λ b q u g. (refl, refl)) [] in (
+        let (es, b, q, v, f, is, went) = taken d (λ _ _. l) (λ es b. framed (plain es) b p fs) (λ _ _. ap suc e) (λ es b q u g. (refl, refl)) (λ es b q u g. refl) [] in (
           None,
-          run_step limited (inside l fs p wanted) (words.open_bracket behind) (inside l (framed plain [] p fs) nothing_pending wanted) ws (shallow limited n (p.minuses + depth fs) e low) refl
+          run_step limited (inside l fs p wanted) (words.open_bracket behind) (inside l (framed (plain []) [] p fs) nothing_pending wanted) ws (shallow limited n (p.minuses + depth fs) e low) refl
               ∙ went
-              ∙ run_step limited (inside l (framed plain b p fs) q (operand v f)) words.close_bracket (inside l fs p (operand (conjunction b (at700 q v)) None)) rest (λ _. refl) refl
+              ∙ run_step limited (inside l (framed (plain es) b p fs) q (operand v f)) words.close_bracket (inside l fs p (operand (at1100 es b (at700 q v)) None)) rest (λ _. refl) refl
               ∙ ap (λ u. run limited (inside l fs p (operand u None)) rest) is,
+        )
+    taken (Reads.braced n ws rest w low d) = λ l fs p e.
+        let (es, b, q, v, f, is, went) = taken d (λ _ _. l) (λ es b. framed (braces es) b p fs) (λ _ _. ap suc e) (λ es b q u g. (refl, refl)) (λ es b q u g. refl) [] in (
+          None,
+          run_step limited (inside l fs p wanted) words.open_brace (inside l (framed (braces []) [] p fs) nothing_pending wanted) ws (shallow limited n (p.minuses + depth fs) e low) refl
+              ∙ went
+              ∙ run_step limited (inside l (framed (braces es) b p fs) q (operand v f)) words.close_brace (inside l fs p (operand (unary (codes "{}") (at1100 es b (at700 q v))) None)) rest (λ _. refl) refl
+              ∙ ap (λ u. run limited (inside l fs p (operand (unary (codes "{}") u) None)) rest) is,
         )
     taken (Reads.empty_list n rest low) = λ l fs p e. (
       None,
@@ -220,11 +246,25 @@ module _ (limited : Bool) where
           same ∙ ap (λ z. conjunction b (binary (codes ",") z w)) is,
           went ∙ run_step limited (inside (l b) (fs b) p (operand v f)) words.comma (inside (l (at700 p v ∷ b)) (fs (at700 p v ∷ b)) nothing_pending wanted) us (λ _. low) next ∙ on,
         )
+    taken (Reads.disjunction n ws us rest a w d t) = λ l fs e commas semicolons es.
+        let (b, p, v, f, is, went) = taken d (l es) (fs es) (e es) (commas es) [] in
+        let x : Written = conjunction b (at700 p v) in
+        let (gs, y, q, u, g, same, on) = taken t l fs e commas semicolons (x ∷ es) in (
+          gs,
+          y,
+          q,
+          u,
+          g,
+          same ∙ ap (λ z. disjunction es (binary (codes ";") z w)) is,
+          went ∙ run_step limited (inside (l es b) (fs es b) p (operand v f)) words.semicolon (inside (l (x ∷ es) []) (fs (x ∷ es) []) nothing_pending wanted) us (λ _. refl) (semicolons es b p v f) ∙ on,
+        )
     taken (Reads.as200 n ws rest w d) = λ l fs r s c m e. let (f, went) = taken d l fs (pending r s c m) e in (m, w, f, refl, went)
     taken (Reads.as400 n ws rest w d) = λ l fs r s e. let (k, v, f, is, went) = taken d l fs r s None 0 (e ∙ sym (zero-add (depth fs))) in (None, k, v, f, is, went)
     taken (Reads.as500 n ws rest w d) = λ l fs r e. let (c, k, v, f, is, went) = taken d l fs r None e in (None, c, k, v, f, is, went)
     taken (Reads.as700 n ws rest w d) = λ l fs e. let (s, c, k, v, f, is, went) = taken d l fs None e in (pending None s c k, v, f, is, went)
     taken (Reads.as1000 n ws rest w d) = λ l fs e commas b. let (p, v, f, is, went) = taken d (l b) (fs b) (e b) in (b, p, v, f, ap (conjunction b) is, went)
+    taken (Reads.as1100 n ws rest w d) = λ l fs e commas semicolons es.
+        let (b, p, v, f, is, went) = taken d (l es) (fs es) (e es) (commas es) [] in (es, b, p, v, f, ap (disjunction es) is, went)
 
     taken_arguments : {n k : ℕ} {ws rest : List Word} {ts : Many} → Arguments limited n k ws rest ts → TakenArguments n k ws rest ts
     taken_arguments (Arguments.last_argument n k ws rest w d) l fs p c b e same =
@@ -262,29 +302,30 @@ module _ (limited : Bool) where
         ∙ ap (λ u. run limited (inside l fs p (operand (list b (cell u w)) None)) rest) is
 
   -- the terms of a part of a clause
-  part_taken : (a : ClausePart) {ws rest : List Word} {w : Written} → Reads limited 0 term1000 ws rest w
-      → (d : List Written) × (p : Pending) × (v : Written) × (f : Option Bytes) × (conjunction d (at700 p v) ≡ w)
-      × (run limited (in_part a) ws ≡ run limited (inside (record { part = a; before = d }) [] p (operand v f)) rest)
-  part_taken a d = taken d (λ b. record { part = a; before = b }) (λ b. []) (λ b. refl) (λ b p w f. (refl, refl)) []
+  part_taken : (a : ClausePart) {ws rest : List Word} {w : Written} → Reads limited 0 term1100 ws rest w
+      → (es d : List Written) × (p : Pending) × (v : Written) × (f : Option Bytes) × (at1100 es d (at700 p v) ≡ w)
+      × (run limited (in_part a) ws ≡ run limited (inside (record { part = a; alternatives = es; before = d }) [] p (operand v f)) rest)
+  part_taken a d = taken d (λ es b. record { part = a; alternatives = es; before = b }) (λ es b. []) (λ es b. refl) (λ es b p w f. (refl, refl)) (λ es b p w f. refl) []
 
   -- So the machine takes the words of a clause, and ends with its term.
-  pub clause_taken : {ws : List Word} {q : Bool} {w : Written} → IsClause limited ws q w → run limited start ws ≡ Some (over q w)
+  pub clause_taken : {ws : List Word} {q : Sort} {w : Written} → IsClause limited ws q w → run limited start ws ≡ Some (over q w)
   clause_taken (IsClause.fact ws h d) =
-      let (b, p, v, f, is, went) = part_taken head d in
+      let (es, b, p, v, f, is, went) = part_taken head d in
       clause_begins limited ws (begins d) ∙ went
-      ∙ run_step limited (inside (record { part = head; before = b }) [] p (operand v f)) words.end (over false (conjunction b (at700 p v))) [] (λ _. refl) refl
-      ∙ ap (λ u. Some (over false u)) is
-  clause_taken (IsClause.rule ws us h w d t) =
-      let (b, p, v, f, is, went) = part_taken head d in
-      let x : Written = conjunction b (at700 p v) in
-      let (c, q, u, g, same, on) = part_taken (body x) t in
+      ∙ run_step limited (inside (record { part = head; alternatives = es; before = b }) [] p (operand v f)) words.end (over Sort.clause (at1100 es b (at700 p v))) [] (λ _. refl) refl
+      ∙ ap (λ u. Some (over Sort.clause u)) is
+  clause_taken (IsClause.rule ws us k h w d t) =
+      let (es, b, p, v, f, is, went) = part_taken head d in
+      let x : Written = at1100 es b (at700 p v) in
+      let (gs, c, q, u, g, same, on) = part_taken (body k x) t in
       clause_begins limited ws (begins d) ∙ went
-      ∙ run_step limited (inside (record { part = head; before = b }) [] p (operand v f)) (words.name (codes ":-")) (in_part (body x)) us (λ _. refl) refl
+      ∙ run_step limited (inside (record { part = head; alternatives = es; before = b }) [] p (operand v f)) (words.name (symbol_of k)) (in_part (body k x)) us (λ _. refl)
+      (ap (take_name (record { part = head; alternatives = es; before = b }) [] p v (symbol_of k)) (neck_role k))
       ∙ on
-      ∙ run_step limited (inside (record { part = body x; before = c }) [] q (operand u g)) words.end (over false (binary (codes ":-") x (conjunction c (at700 q u)))) [] (λ _. refl) refl
-      ∙ ap (λ z. Some (over false z)) (same_binary (codes ":-") x (conjunction c (at700 q u)) h w is same)
+      ∙ run_step limited (inside (record { part = body k x; alternatives = gs; before = c }) [] q (operand u g)) words.end (over (sort_of k) (binary (symbol_of k) x (at1100 gs c (at700 q u)))) [] (λ _. refl) refl
+      ∙ ap (λ z. Some (over (sort_of k) z)) (same_binary (symbol_of k) x (at1100 gs c (at700 q u)) h w is same)
   clause_taken (IsClause.query ws w d) =
-      let (b, p, v, f, is, went) = part_taken query d in
+      let (es, b, p, v, f, is, went) = part_taken query d in
       run_step limited start (words.name (codes "?-")) (in_part query) ws (λ _. refl) refl ∙ went
-      ∙ run_step limited (inside (record { part = query; before = b }) [] p (operand v f)) words.end (over true (unary (codes "?-") (conjunction b (at700 p v)))) [] (λ _. refl) refl
-      ∙ ap (λ u. Some (over true (unary (codes "?-") u))) is
+      ∙ run_step limited (inside (record { part = query; alternatives = es; before = b }) [] p (operand v f)) words.end (over Sort.query (unary (codes "?-") (at1100 es b (at700 p v)))) [] (λ _. refl) refl
+      ∙ ap (λ u. Some (over Sort.query (unary (codes "?-") u))) is

@@ -7,6 +7,7 @@ use Rattle.std.proofs.lemmas.Bool.{lt-leb, leb-false}
 use Rattle.std.proofs.lemmas.Slice.Eq.{bytes_eq-Decides}
 use Rattle.and_model.specs.Lines.{Bytes}
 use Rattle.and_language.specs.Words.{Word, Placed, products, sums, relations, is_one_of}
+use Rattle.and_language.specs.Grammar.{Neck, turnstile, arrow, symbol_of}
 use Rattle.and_automaton.specs.Machine.{State, Role, is_product, is_sum, is_relation, is_neck, is_none, role, go, exceeds, step, run, and_then, words_of}
 use Rattle.and_model.specs.declared.limits.TheConstants.{MAX_NESTING}
 
@@ -60,24 +61,32 @@ sum_role = role_in is_sum sums (refl, (refl, tt))
 pub relation_role : (c : Bytes) → is_one_of relations c ≡ true → role c ≡ is_relation
 relation_role = role_in is_relation relations (refl, (refl, (refl, (refl, (refl, (refl, (refl, (refl, tt))))))))
 
+pub neck_role : (n : Neck) → role (symbol_of n) ≡ is_neck n
+neck_role turnstile = refl
+neck_role arrow = refl
+
 -- Whatever holds of a role where its test passes, holds of a name's role.
 pub by_role : (c : Bytes) (M : Role → Type 0) → (is_one_of products c ≡ true → M is_product) → (is_one_of sums c ≡ true → M is_sum) → (is_one_of relations c ≡ true → M is_relation)
-    → (c ≡ codes ":-" → M is_neck) → M is_none → M (role c)
+    → ((n : Neck) → c ≡ symbol_of n → M (is_neck n)) → M is_none → M (role c)
 by_role c M p s r n o = one (is_one_of products c) refl
   where
-    four : (b : Bool) → bytes_eq c (codes ":-") ≡ b → M (cond b is_neck is_none)
-    four true e = n ((bytes_eq-Decides c (codes ":-")).0 e)
-    four false e = o
+    five : (b : Bool) → bytes_eq c (codes "-->") ≡ b → M (cond b (is_neck arrow) is_none)
+    five true e = n arrow ((bytes_eq-Decides c (codes "-->")).0 e)
+    five false e = o
 
-    three : (b : Bool) → is_one_of relations c ≡ b → M (cond b is_relation (cond (bytes_eq c (codes ":-")) is_neck is_none))
+    four : (b : Bool) → bytes_eq c (codes ":-") ≡ b → M (cond b (is_neck turnstile) (cond (bytes_eq c (codes "-->")) (is_neck arrow) is_none))
+    four true e = n turnstile ((bytes_eq-Decides c (codes ":-")).0 e)
+    four false e = five (bytes_eq c (codes "-->")) refl
+
+    three : (b : Bool) → is_one_of relations c ≡ b → M (cond b is_relation (cond (bytes_eq c (codes ":-")) (is_neck turnstile) (cond (bytes_eq c (codes "-->")) (is_neck arrow) is_none)))
     three true e = r e
     three false e = four (bytes_eq c (codes ":-")) refl
 
-    two : (b : Bool) → is_one_of sums c ≡ b → M (cond b is_sum (cond (is_one_of relations c) is_relation (cond (bytes_eq c (codes ":-")) is_neck is_none)))
+    two : (b : Bool) → is_one_of sums c ≡ b → M (cond b is_sum (cond (is_one_of relations c) is_relation (cond (bytes_eq c (codes ":-")) (is_neck turnstile) (cond (bytes_eq c (codes "-->")) (is_neck arrow) is_none))))
     two true e = s e
     two false e = three (is_one_of relations c) refl
 
-    one : (b : Bool) → is_one_of products c ≡ b → M (cond b is_product (cond (is_one_of sums c) is_sum (cond (is_one_of relations c) is_relation (cond (bytes_eq c (codes ":-")) is_neck is_none))))
+    one : (b : Bool) → is_one_of products c ≡ b → M (cond b is_product (cond (is_one_of sums c) is_sum (cond (is_one_of relations c) is_relation (cond (bytes_eq c (codes ":-")) (is_neck turnstile) (cond (bytes_eq c (codes "-->")) (is_neck arrow) is_none)))))
     one true e = p e
     one false e = two (is_one_of sums c) refl
 

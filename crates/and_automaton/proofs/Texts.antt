@@ -4,19 +4,19 @@ use Rattle.std.specs.Prelude.{codes}
 use Rattle.and_syntax.specs.Written.{Written}
 use Rattle.and_language.specs.Words.{Word, Placed}
 use Rattle.and_language.specs.Words as words
-use Rattle.and_language.specs.Grammar.{binary, unary, Statement, IsText, CanGoOn}
+use Rattle.and_language.specs.Grammar.{binary, unary, Sort, symbol_of, sort_of, Statement, IsText, CanGoOn}
 use Rattle.and_language.specs.Refusals.{NoneEnds}
-use Rattle.and_automaton.specs.Machine.{ClausePart, head, body, query, wanted, numeral, operand, State, start, inside, opened_list, over, is_over, at700, conjunction, go, step, and_then, run, Reading, between, within, at_state, take_word, take_words, words_of}
+use Rattle.and_automaton.specs.Machine.{ClausePart, head, body, query, wanted, numeral, operand, State, start, inside, opened_list, over, is_over, at700, at1100, go, step, and_then, run, Reading, between, within, at_state, take_word, take_words, words_of}
 use Rattle.and_automaton.proofs.Steps.{step_tells}
 use Rattle.and_automaton.proofs.Derived.{clause_taken}
 use Rattle.and_automaton.proofs.Accepted.{and_then_tells, clause_accepted}
 use Rattle.and_automaton.proofs.Closing.{state_ends}
 
-abbrev pub statement : Bool → Written → ℕ → Statement
-statement q w n = record { is_query = q; term = w; place = n }
+abbrev pub statement : Sort → Written → ℕ → Statement
+statement q w n = record { sort = q; term = w; place = n }
 
 module _ (limited : Bool) where
-  nothing_behind : (q : Bool) (w : Written) (x : Word) (s : State) → step limited (over q w) x ≡ Some s → ⊥
+  nothing_behind : (q : Sort) (w : Written) (x : Word) (s : State) → step limited (over q w) x ≡ Some s → ⊥
   nothing_behind q w x s e = let told = (step_tells limited (over q w) x s e).1 in cc
 
   -- A word that takes a clause on takes its text on,
@@ -69,17 +69,17 @@ module _ (limited : Bool) where
 
   abbrev FromState : List Placed → Type 0
   FromState ps = (s : State) (n : ℕ) (before all : List Statement) → take_words limited (at_state before n s) ps ≡ Some (between all)
-      → (others rest : List Placed) × (q : Bool) × (w : Written) × (ss : List Statement) × (ps ≡ others ++ rest) × (run limited s (words_of others) ≡ Some (over q w))
+      → (others rest : List Placed) × (q : Sort) × (w : Written) × (ss : List Statement) × (ps ≡ others ++ rest) × (run limited s (words_of others) ≡ Some (over q w))
       × IsText limited rest ss × (all ≡ (before ++ statement q w n ∷ []) ++ ss)
 
-  from_over : (ps : List Placed) → FromBetween ps → (q : Bool) (w : Written) (n : ℕ) (before all : List Statement) → take_words limited (at_state before n (over q w)) ps ≡ Some (between all)
-      → (others rest : List Placed) × (v : Bool) × (u : Written) × (ss : List Statement) × (ps ≡ others ++ rest) × (run limited (over q w) (words_of others) ≡ Some (over v u))
+  from_over : (ps : List Placed) → FromBetween ps → (q : Sort) (w : Written) (n : ℕ) (before all : List Statement) → take_words limited (at_state before n (over q w)) ps ≡ Some (between all)
+      → (others rest : List Placed) × (v : Sort) × (u : Written) × (ss : List Statement) × (ps ≡ others ++ rest) × (run limited (over q w) (words_of others) ≡ Some (over v u))
       × IsText limited rest ss × (all ≡ (before ++ statement v u n ∷ []) ++ ss)
   from_over ps h q w n before all e = let (ss, text, is) = h (before ++ statement q w n ∷ []) all e in ([], ps, q, w, ss, refl, refl, text, is)
 
   from_word : (p : Placed) (ps : List Placed) → FromState ps → (s : State) (n : ℕ) (before all : List Statement)
       → and_then (and_then (step limited s p.word) (λ t. Some (at_state before n t))) (λ r. take_words limited r ps) ≡ Some (between all)
-      → (others rest : List Placed) × (q : Bool) × (w : Written) × (ss : List Statement) × (p ∷ ps ≡ (p ∷ others) ++ rest) × (run limited s (p.word ∷ words_of others) ≡ Some (over q w))
+      → (others rest : List Placed) × (q : Sort) × (w : Written) × (ss : List Statement) × (p ∷ ps ≡ (p ∷ others) ++ rest) × (run limited s (p.word ∷ words_of others) ≡ Some (over q w))
       × IsText limited rest ss × (all ≡ (before ++ statement q w n ∷ []) ++ ss)
   from_word p ps h s n before all e =
       let (r, one, more) = and_then_tells (and_then (step limited s p.word) (λ t. Some (at_state before n t))) (λ r. take_words limited r ps) (between all) e in
@@ -111,7 +111,7 @@ module _ (limited : Bool) where
 
       again : FromState ps → (s : State) (n : ℕ) (before all : List Statement)
           → and_then (and_then (step limited s p.word) (λ t. Some (at_state before n t))) (λ r. take_words limited r ps) ≡ Some (between all)
-          → (others rest : List Placed) × (q : Bool) × (w : Written) × (ss : List Statement) × (p ∷ ps ≡ others ++ rest) × (run limited s (words_of others) ≡ Some (over q w))
+          → (others rest : List Placed) × (q : Sort) × (w : Written) × (ss : List Statement) × (p ∷ ps ≡ others ++ rest) × (run limited s (words_of others) ≡ Some (over q w))
           × IsText limited rest ss × (all ≡ (before ++ statement q w n ∷ []) ++ ss)
       again h s n before all e =
           let (others, rest, q, w, ss, parted, ran, text, whole) = from_word p ps h s n before all e in
@@ -218,12 +218,12 @@ module _ (limited : Bool) where
   end_is_over (inside l fs p wanted) t e = absurd (cc)
   end_is_over (inside l fs p numeral) t e = absurd (cc)
   end_is_over (inside l (f ∷ fs) p (operand w g)) t e = absurd (cc)
-  end_is_over (inside l [] p (operand w g)) t e = by_part l.part l.before e
+  end_is_over (inside l [] p (operand w g)) t e = by_part l.part l.alternatives l.before e
     where
-      by_part : (k : ClausePart) (b : List Written) → go (inside (record { part = k; before = b }) [] p (operand w g)) words.end ≡ Some t → is_over t ≡ true
-      by_part head b e = seen (over false (conjunction b (at700 p w))) t e refl
-      by_part (body h) b e = seen (over false (binary (codes ":-") h (conjunction b (at700 p w)))) t e refl
-      by_part query b e = seen (over true (unary (codes "?-") (conjunction b (at700 p w)))) t e refl
+      by_part : (k : ClausePart) (es b : List Written) → go (inside (record { part = k; alternatives = es; before = b }) [] p (operand w g)) words.end ≡ Some t → is_over t ≡ true
+      by_part head es b e = seen (over Sort.clause (at1100 es b (at700 p w))) t e refl
+      by_part (body n h) es b e = seen (over (sort_of n) (binary (symbol_of n) h (at1100 es b (at700 p w)))) t e refl
+      by_part query es b e = seen (over Sort.query (unary (codes "?-") (at1100 es b (at700 p w)))) t e refl
   end_is_over (opened_list l fs p) t e = absurd (cc)
   end_is_over (over q w) t e = absurd (cc)
 
@@ -249,7 +249,7 @@ module _ (limited : Bool) where
   pub joined : (ps qs : List Placed) (ss ts : List Statement) → IsText limited ps ss → IsText limited qs ts → IsText limited (ps ++ qs) (ss ++ ts)
   joined ps qs ss ts a b = text_accepted (ps ++ qs) (ss ++ ts) (read_through (between []) (between ss) (between (ss ++ ts)) ps qs (text_taken ps ss a []) (text_taken qs ts b ss))
 
-  pub one_clause : (p : Placed) (ps : List Placed) (q : Bool) (w : Written) → run limited start (words_of (p ∷ ps)) ≡ Some (over q w) → IsText limited (p ∷ ps) (statement q w p.place ∷ [])
+  pub one_clause : (p : Placed) (ps : List Placed) (q : Sort) (w : Written) → run limited start (words_of (p ∷ ps)) ≡ Some (over q w) → IsText limited (p ∷ ps) (statement q w p.place ∷ [])
   one_clause p ps q w e = text_accepted (p ∷ ps) (statement q w p.place ∷ []) (clause_read [] p ps (over q w) e)
 
   pub same_text : (ps : List Placed) (ss ts : List Statement) → IsText limited ps ss → IsText limited ps ts → ss ≡ ts

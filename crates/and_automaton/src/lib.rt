@@ -5,17 +5,17 @@
 //! and the grammar of `and_language`. The proofs' own lemmas stand in `proofs/`.
 #![tactic(auto)]
 
-ghost use Rattle.std.specs.Prelude.{ℕ, ◌≡◌, ◌++◌, ◌↔◌, Bool, true, false, List, [], ◌∷◌, Some, None};
+ghost use Rattle.std.specs.Prelude.{◌≡◌, ◌++◌, ◌↔◌, Bool, true, false, List, [], ◌∷◌, Some, None};
 ghost use Rattle.and_syntax.specs.Written.{Written};
 ghost use Rattle.and_language.specs.Words.{Word, Placed};
-ghost use Rattle.and_language.specs.Grammar.{IsClause, IsText, CanGoOn, Statement};
+ghost use Rattle.and_language.specs.Grammar.{IsClause, IsText, CanGoOn, Sort, Statement};
 ghost use Rattle.and_language.specs.Refusals.{NoneEnds};
 ghost use Rattle.and_automaton.specs.Machine.{State, start, over, is_over, go, exceeds, step, run, Reading, between, take_words, words_of};
 
 /// Accepted is derived: words over which the machine comes to the end of a clause or query are
 /// one, with that term; and a text that it takes is one of the grammar, with those statements.
 pub fn accepted_is_derived()
-    ensures clause { (limited : Bool) (ws : List Word) (q : Bool) (w : Written)
+    ensures clause { (limited : Bool) (ws : List Word) (q : Sort) (w : Written)
         → run limited start ws ≡ Some (over q w) → IsClause limited ws q w }
     ensures text { (limited : Bool) (ws : List Placed) (ss : List Statement)
         → take_words limited (between []) ws ≡ Some (between ss) → IsText limited ws ss }
@@ -24,7 +24,7 @@ pub fn accepted_is_derived()
 /// Derived is accepted: over the words of a clause or query the machine comes to its end, with its
 /// term; and it takes each text, with its statements. So a text has one list of statements.
 pub fn derived_is_accepted()
-    ensures clause { (limited : Bool) (ws : List Word) (q : Bool) (w : Written)
+    ensures clause { (limited : Bool) (ws : List Word) (q : Sort) (w : Written)
         → IsClause limited ws q w → run limited start ws ≡ Some (over q w) }
     ensures text { (limited : Bool) (ws : List Placed) (ss : List Statement)
         → IsText limited ws ss → take_words limited (between []) ws ≡ Some (between ss) }
@@ -35,7 +35,7 @@ pub fn derived_is_accepted()
 /// Each state goes on: from each state some words lead to the end of a clause or query.
 pub fn each_state_goes_on()
     ensures { (limited : Bool) (s : State)
-        → (us : List Word) × (q : Bool) × (w : Written) × (run limited s us ≡ Some (over q w)) }
+        → (us : List Word) × (q : Sort) × (w : Written) × (run limited s us ≡ Some (over q w)) }
 {}
 
 /// What can go on: words can be continued to a text exactly where the machine takes them all.
@@ -80,9 +80,9 @@ pub fn refused_words()
 pub fn clause_by_clause()
     ensures joined { (limited : Bool) (ps qs : List Placed) (ss ts : List Statement)
         → IsText limited ps ss → IsText limited qs ts → IsText limited (ps ++ qs) (ss ++ ts) }
-    ensures one { (limited : Bool) (p : Placed) (ps : List Placed) (q : Bool) (w : Written)
+    ensures one { (limited : Bool) (p : Placed) (ps : List Placed) (q : Sort) (w : Written)
         → run limited start (words_of (p ∷ ps)) ≡ Some (over q w)
-        → IsText limited (p ∷ ps) (record { is_query = q; term = w; place = p.place } ∷ []) }
+        → IsText limited (p ∷ ps) (record { sort = q; term = w; place = p.place } ∷ []) }
     ensures none_ends { (limited : Bool) (ps : List Placed) (s : State)
         → run limited start (words_of ps) ≡ Some s → is_over s ≡ false → NoneEnds ps }
     ensures one_split { (limited : Bool) (whole begun front back : List Placed)

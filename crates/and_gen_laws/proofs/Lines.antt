@@ -1,9 +1,10 @@
 -- The lines of the generated text, as pieces, words and terms.
-use Rattle.std.proofs.Common.{ℕ, ◌≡◌, ◌<◌, Bool, true, false, leb, List, [], ◌∷◌, ◌++◌, refl, sym, ap, ◌∙◌, arith, Some, pos, codes, append_assoc}
+use Rattle.std.proofs.Common.{ℕ, ◌≡◌, ◌<◌, true, false, leb, List, [], ◌∷◌, ◌++◌, refl, sym, ap, ◌∙◌, arith, Some, pos, codes, append_assoc}
 use Rattle.std.specs.Fmt.{decimal}
 use Rattle.and_model.specs.Lines.{Bytes}
 use Rattle.and_syntax.specs.Written as written
 use Rattle.and_syntax.specs.Written.{Written, Many}
+use Rattle.and_language.specs.Grammar.{Sort, clause, query}
 use Rattle.and_automaton.specs.Machine.{start, over, run, words_of}
 use Rattle.and_gen.specs.Layered as generated
 use Rattle.and_gen_laws.proofs.Pieces.{Piece, text_of, AllFit, placed_of, IsGap, no_gap, blank, named, signed, variable, number, opening, closing, open_list, close_list, comma, bar, stop, fits_name, fits_variable, fits_symbol, fits_number, fits_open, fits_close, fits_open_list, fits_close_list, fits_comma, fits_bar, fits_stop}
@@ -268,18 +269,18 @@ line_term goes_on =
     (two x_ y_)) (path y_ z_ p_))))
 line_term (asks n) = written.compound (codes "?-") (written.more (path (place_term 0 0) (place_term 2 n) p_) written.none)
 
-abbrev pub is_query : Line → Bool
-is_query (edge e) = false
-is_query ends = false
-is_query goes_on = false
-is_query (asks n) = true
+abbrev pub sort_in : Line → Sort
+sort_in (edge e) = clause
+sort_in ends = clause
+sort_in goes_on = clause
+sort_in (asks n) = query
 
 narrow : (n : ℕ) → n < 1000 → leb 9223372036854775808 n ≡ false
 narrow n h = grind arith
 
 -- the machine reads it as that term
 pub runs : (p : ℕ) (g : Bytes) (l : Line) → IsSmall l
-    → run true start (words_of (placed_of p (pieces g l))) ≡ Some (over (is_query l) (line_term l))
+    → run true start (words_of (placed_of p (pieces g l))) ≡ Some (over (sort_in l) (line_term l))
 runs p g (edge e) small = rw (narrow e.rail small.0, narrow e.at small.1, narrow e.next_rail small.2, narrow e.next small.3) refl
 runs p g ends small = refl
 runs p g goes_on small = refl

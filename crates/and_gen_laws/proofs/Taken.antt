@@ -15,7 +15,7 @@ use Rattle.and_language.specs.Refusals.{Takes, statement_fault, with_statement}
 use Rattle.and_language.specs.Refusals as refusals
 use Rattle.and_model.specs.declared.limits.TheConstants.{MAX_CLAUSES, MAX_NODES}
 use Rattle.and_gen_laws.proofs.Pieces.{after}
-use Rattle.and_gen_laws.proofs.Lines.{Edge, Line, edge, ends, goes_on, asks, pieces, line_term, is_query}
+use Rattle.and_gen_laws.proofs.Lines.{Edge, Line, edge, ends, goes_on, asks, pieces, line_term, sort_in}
 use Rattle.and_gen_laws.proofs.Texts.{statements}
 
 -- edges, what a path is, and the question
@@ -107,7 +107,7 @@ module _ (bytes : Bytes) where
 
   -- a clause or query at some place
   abbrev at : Line → ℕ → Statement
-  at l p = statement (is_query l) (line_term l) p
+  at l p = statement (sort_in l) (line_term l) p
 
   abbrev clause_in : Table → Line → ℕ → Clause
   clause_in T l p = clause_of (line_term l) (line_at bytes p) (head_of (term_with T (line_term l))) (body_of (term_with T (line_term l)))

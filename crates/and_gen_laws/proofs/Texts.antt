@@ -1,11 +1,11 @@
 -- Lines one after another, as a text of the grammar.
-use Rattle.std.proofs.Common.{ℕ, ◌+◌, ◌≡◌, true, false, List, [], ◌∷◌, ◌++◌, length, refl, sym, ap, subst, ◌∙◌}
+use Rattle.std.proofs.Common.{ℕ, ◌+◌, ◌≡◌, true, List, [], ◌∷◌, ◌++◌, length, refl, sym, ap, subst, ◌∙◌}
 use Rattle.and_model.specs.Lines.{Bytes}
 use Rattle.and_language.specs.Words.{Placed}
-use Rattle.and_language.specs.Grammar.{Statement, IsText}
+use Rattle.and_language.specs.Grammar.{clause, query, Statement, IsText}
 use Rattle.and_automaton.proofs.Texts.{statement, joined, one_clause}
 use Rattle.and_gen_laws.proofs.Pieces.{Piece, text_of, AllFit, placed_of, after, text-append, placed-append, fit-append, IsGap, newline}
-use Rattle.and_gen_laws.proofs.Lines.{Line, edge, ends, goes_on, asks, line_text, pieces, IsSmall, spelled, fit, line_term, is_query, runs}
+use Rattle.and_gen_laws.proofs.Lines.{Line, edge, ends, goes_on, asks, line_text, pieces, IsSmall, spelled, fit, line_term, sort_in, runs}
 
 -- the bytes of lines, each with a newline
 abbrev pub text : List Line → Bytes
@@ -42,14 +42,14 @@ all_fit g gap (l ∷ ls) small =
 -- a clause or query for each line
 abbrev pub statements : ℕ → Bytes → List Line → List Statement
 statements p g [] = []
-statements p g (l ∷ ls) = statement (is_query l) (line_term l) (p + length g) ∷ statements (after p (pieces g l)) (10 ∷ []) ls
+statements p g (l ∷ ls) = statement (sort_in l) (line_term l) (p + length g) ∷ statements (after p (pieces g l)) (10 ∷ []) ls
 
 one_text : (p : ℕ) (g : Bytes) (l : Line) → IsSmall l
-    → IsText true (placed_of p (pieces g l)) (statement (is_query l) (line_term l) (p + length g) ∷ [])
-one_text p g (edge e) small = one_clause true _ _ false (line_term (edge e)) (runs p g (edge e) small)
-one_text p g ends small = one_clause true _ _ false (line_term ends) (runs p g ends small)
-one_text p g goes_on small = one_clause true _ _ false (line_term goes_on) (runs p g goes_on small)
-one_text p g (asks n) small = one_clause true _ _ true (line_term (asks n)) (runs p g (asks n) small)
+    → IsText true (placed_of p (pieces g l)) (statement (sort_in l) (line_term l) (p + length g) ∷ [])
+one_text p g (edge e) small = one_clause true _ _ clause (line_term (edge e)) (runs p g (edge e) small)
+one_text p g ends small = one_clause true _ _ clause (line_term ends) (runs p g ends small)
+one_text p g goes_on small = one_clause true _ _ clause (line_term goes_on) (runs p g goes_on small)
+one_text p g (asks n) small = one_clause true _ _ query (line_term (asks n)) (runs p g (asks n) small)
 
 pub is_text : (p : ℕ) (g : Bytes) (ls : List Line) → AllSmall ls → IsText true (placed_of p (all_pieces g ls)) (statements p g ls)
 is_text p g [] small = IsText.nothing
@@ -57,5 +57,5 @@ is_text p g (l ∷ ls) small =
     let next = after p (pieces g l) in
     subst (λ (ps : List Placed). IsText true ps (statements p g (l ∷ ls))) (sym (placed-append p (pieces g l) (all_pieces (10 ∷ []) ls)))
     (joined true (placed_of p (pieces g l)) (placed_of next (all_pieces (10
-    ∷ []) ls)) (statement (is_query l) (line_term l) (p + length g) ∷ []) (statements next (10 ∷ []) ls)
+    ∷ []) ls)) (statement (sort_in l) (line_term l) (p + length g) ∷ []) (statements next (10 ∷ []) ls)
     (one_text p g l small.0) (is_text next (10 ∷ []) ls small.1))

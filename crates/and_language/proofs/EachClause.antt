@@ -1,21 +1,21 @@
 -- What holds of each clause and query that a table takes holds of each of the program of a text.
-use Rattle.std.proofs.Common.{ℕ, zero, suc, ◌≡◌, Bool, true, false, List, [], ◌∷◌, ◌++◌, subst, Option, Some, None, get_or}
+use Rattle.std.proofs.Common.{ℕ, zero, suc, ◌≡◌, List, [], ◌∷◌, ◌++◌, subst, Option, Some, None, get_or}
 use Rattle.and_model.specs.Terms.{compound, none}
 use Rattle.and_model.specs.Lines.{Bytes}
 use Rattle.and_model.specs.Programs.{Program, Clause, clause_at}
 use Rattle.and_model.specs.declared.builtins.TheConstants.{TRUE}
 use Rattle.and_syntax.specs.Written.{Written}
 use Rattle.and_syntax.specs.Clauses.{head_of, body_of, asked_of}
-use Rattle.and_syntax.specs.Tables.{Fault, Table, Asked, empty, clause_fault, query_fault, clause_of, with_clause, with_query, term_with}
+use Rattle.and_syntax.specs.Tables.{Fault, not_pure, Table, Asked, empty, clause_fault, query_fault, clause_of, with_clause, with_query, term_with}
 use Rattle.and_language.specs.Tokens.{line_at}
-use Rattle.and_language.specs.Grammar.{Statement}
+use Rattle.and_language.specs.Grammar.{Sort, clause, query, grammar_rule, Statement}
 use Rattle.and_language.specs.Refusals.{Takes, statement_fault, with_statement, Reads}
 
-abbrev kind_fault : Bool → Table → Written → Option Fault
-kind_fault q T w = elim q [ false ↦ clause_fault T w | true ↦ query_fault T w ]
+abbrev sort_fault : Sort → Table → Written → Option Fault
+sort_fault s T w = elim s [ clause ↦ clause_fault T w | query ↦ query_fault T w | grammar_rule ↦ Some not_pure ]
 
-abbrev with_kind : Bool → Table → Written → ℕ → Table
-with_kind q T w line = elim q [ false ↦ with_clause T w line | true ↦ with_query T w line ]
+abbrev with_sort : Sort → Table → Written → ℕ → Table
+with_sort s T w line = elim s [ clause ↦ with_clause T w line | query ↦ with_query T w line | grammar_rule ↦ T ]
 
 module _ (Q : Clause → Type 0)
     (of_clause : (T : Table) (w : Written) (line : ℕ) → clause_fault T w ≡ None
@@ -38,12 +38,13 @@ module _ (Q : Clause → Type 0)
   one_more [] k a h = (h, tt)
   one_more (c ∷ ks) k a h = (a.0, one_more ks k a.1 h)
 
-  by_kind : (T : Table) (q : Bool) (w : Written) (line : ℕ) → OfTable T → kind_fault q T w ≡ None → OfTable (with_kind q T w line)
-  by_kind T false w line h e = (one_more T.clauses _ h.0 (of_clause T w line e), h.1)
-  by_kind T true w line h e = (h.0, of_query T w line e)
+  by_sort : (T : Table) (s : Sort) (w : Written) (line : ℕ) → OfTable T → sort_fault s T w ≡ None → OfTable (with_sort s T w line)
+  by_sort T clause w line h e = (one_more T.clauses _ h.0 (of_clause T w line e), h.1)
+  by_sort T query w line h e = (h.0, of_query T w line e)
+  by_sort T grammar_rule w line h e = absurd (cc e)
 
   of_statement : (bytes : Bytes) (T : Table) (s : Statement) → OfTable T → statement_fault T s ≡ None → OfTable (with_statement bytes T s)
-  of_statement bytes T s h e = by_kind T s.is_query s.term (line_at bytes s.place) h e
+  of_statement bytes T s h e = by_sort T s.sort s.term (line_at bytes s.place) h e
 
   of_table : (bytes : Bytes) (T U : Table) (ss : List Statement) → Takes bytes T ss U → OfTable T → OfTable U
   of_table bytes T U [] (Takes.nothing _) h = h

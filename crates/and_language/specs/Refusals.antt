@@ -6,8 +6,8 @@ use Rattle.and_syntax.specs.Tables.{What, source, arguments, nesting, Table, Ask
 use Rattle.and_syntax.specs.Tables as tables
 use Rattle.and_language.specs.Tokens.{line_at, Answer, no_more, one, none_for, Token}
 use Rattle.and_language.specs.Tokens as tokens
-use Rattle.and_language.specs.Words.{Word, Placed, AreWords, variable, integer, name, quoted, minus, open_bracket, close_bracket, open_list, close_list, comma, bar, end}
-use Rattle.and_language.specs.Grammar.{Statement, IsText, CanGoOn}
+use Rattle.and_language.specs.Words.{Word, Placed, AreWords, variable, integer, name, quoted, minus, open_bracket, close_bracket, open_list, close_list, open_brace, close_brace, comma, semicolon, bar, end}
+use Rattle.and_language.specs.Grammar.{Sort, Statement, IsText, CanGoOn}
 use Rattle.and_model.specs.declared.limits.TheConstants.{MAX_BYTES}
 
 -- why a text is refused
@@ -44,12 +44,12 @@ fault_at bytes (tokens.not_text p) = at bytes p not_text
 fault_at bytes (tokens.too_wide p) = at bytes p too_wide
 fault_at bytes (tokens.not_pure p) = at bytes p not_pure
 
--- what a clause or query is refused for, and the table with it
+-- What a clause or query is refused for, and the table with it. (A grammar rule is not pure.)
 abbrev pub statement_fault : Table → Statement → Option tables.Fault
-statement_fault T s = elim s.is_query [ false ↦ clause_fault T s.term | true ↦ query_fault T s.term ]
+statement_fault T s = elim s.sort [ Sort.clause ↦ clause_fault T s.term | Sort.query ↦ query_fault T s.term | Sort.grammar_rule ↦ Some tables.not_pure ]
 
 abbrev pub with_statement : Bytes → Table → Statement → Table
-with_statement bytes T s = elim s.is_query [ false ↦ with_clause T s.term (line_at bytes s.place) | true ↦ with_query T s.term (line_at bytes s.place) ]
+with_statement bytes T s = elim s.sort [ Sort.clause ↦ with_clause T s.term (line_at bytes s.place) | Sort.query ↦ with_query T s.term (line_at bytes s.place) | Sort.grammar_rule ↦ T ]
 
 -- The clauses and queries are taken one after another by the one table, which becomes the other.
 pub data Takes (bytes : Bytes) : Table → List Statement → Table → Type 0 where
@@ -88,7 +88,10 @@ limit_of (open_bracket b) = too_big nesting
 limit_of close_bracket = syntax
 limit_of open_list = too_big nesting
 limit_of close_list = syntax
+limit_of open_brace = too_big nesting
+limit_of close_brace = syntax
 limit_of comma = too_big arguments
+limit_of semicolon = syntax
 limit_of bar = syntax
 limit_of end = syntax
 

@@ -13,7 +13,10 @@ pub data Kind : Type 0 where
   close_bracket : Kind
   open_list : Kind
   close_list : Kind
+  open_brace : Kind
+  close_brace : Kind
   comma : Kind
+  semicolon : Kind
   bar : Kind
   end_of_clause : Kind
 
@@ -92,17 +95,17 @@ abbrev pub goes_on : Bytes → Bool
 goes_on [] = false
 goes_on (b ∷ bs) = is_word b || nat_eq b 39 || (nat_eq b 46 && begins is_digit bs)
 
--- the symbols `\+`, `->` and `-->`, which pure programs do not have
+-- the symbols `\+` and `->`, which pure programs do not have
 abbrev pub is_impure : Bytes → Bool
-is_impure s = bytes_eq s (codes "\\+") || bytes_eq s (codes "->") || bytes_eq s (codes "-->")
+is_impure s = bytes_eq s (codes "\\+") || bytes_eq s (codes "->")
 
--- one of ! ; { } " and the backquote
+-- one of ! " and the backquote
 abbrev pub is_impure_character : ℕ → Bool
-is_impure_character b = holds_of_some (nat_eq b) (codes "!;{}\"`")
+is_impure_character b = holds_of_some (nat_eq b) (codes "!\"`")
 
--- one of ( ) [ ] , | and the quote
+-- one of ( ) [ ] { } , ; | and the quote
 abbrev pub is_solo : ℕ → Bool
-is_solo b = holds_of_some (nat_eq b) (codes "()[],|'")
+is_solo b = holds_of_some (nat_eq b) (codes "()[]{},;|'")
 
 -- The written bytes between quotes, and the text that they name.
 pub data Names : Bytes → Bytes → Type 0 where
@@ -158,7 +161,10 @@ module _ (cut : Bool) where
   IsToken close_bracket bs rest = bs ≡ codes ")"
   IsToken open_list bs rest = bs ≡ codes "["
   IsToken close_list bs rest = bs ≡ codes "]"
+  IsToken open_brace bs rest = bs ≡ codes "{"
+  IsToken close_brace bs rest = bs ≡ codes "}"
   IsToken comma bs rest = bs ≡ codes ","
+  IsToken semicolon bs rest = bs ≡ codes ";"
   IsToken bar bs rest = bs ≡ codes "|"
   IsToken end_of_clause bs rest = (bs ≡ codes ".") × (ends_clause rest ≡ true)
 

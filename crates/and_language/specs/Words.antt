@@ -24,7 +24,10 @@ pub data Word : Type 0 where
   close_bracket : Word
   open_list : Word
   close_list : Word
+  open_brace : Word
+  close_brace : Word
   comma : Word
+  semicolon : Word
   bar : Word
   end : Word
 
@@ -49,9 +52,13 @@ sums = codes "+" ∷ codes "-" ∷ []
 abbrev pub relations : List Bytes
 relations = codes "=" ∷ codes "is" ∷ codes "<" ∷ codes ">" ∷ codes "=<" ∷ codes ">=" ∷ codes "=:=" ∷ codes "=\\=" ∷ []
 
+-- `:-`, `-->` and `?-` are no atoms
+abbrev pub is_reserved : Bytes → Bool
+is_reserved c = bytes_eq c (codes ":-") || bytes_eq c (codes "-->") || bytes_eq c (codes "?-")
+
 -- an operator other than the minus
 abbrev pub is_operator : Bytes → Bool
-is_operator c = bytes_eq c (codes ":-") || bytes_eq c (codes "+") || is_one_of products c || is_one_of relations c
+is_operator c = bytes_eq c (codes ":-") || bytes_eq c (codes "-->") || bytes_eq c (codes "+") || is_one_of products c || is_one_of relations c
 
 abbrev pub if_operator : Bytes → Before
 if_operator c = cond (is_operator c) stop operand
@@ -70,7 +77,10 @@ before_kind bytes t tokens.open_bracket = if_spaced t bracket
 before_kind bytes t tokens.close_bracket = stop
 before_kind bytes t tokens.open_list = operand
 before_kind bytes t tokens.close_list = stop
+before_kind bytes t tokens.open_brace = operand
+before_kind bytes t tokens.close_brace = stop
 before_kind bytes t tokens.comma = stop
+before_kind bytes t tokens.semicolon = stop
 before_kind bytes t tokens.bar = stop
 before_kind bytes t tokens.end_of_clause = stop
 
@@ -94,7 +104,10 @@ pub data IsWord (bytes : Bytes) (t : Token) (b : Before) : Kind → Word → Typ
   close_bracket_token : IsWord bytes t b tokens.close_bracket close_bracket
   open_list_token : IsWord bytes t b tokens.open_list open_list
   close_list_token : IsWord bytes t b tokens.close_list close_list
+  open_brace_token : IsWord bytes t b tokens.open_brace open_brace
+  close_brace_token : IsWord bytes t b tokens.close_brace close_brace
   comma_token : IsWord bytes t b tokens.comma comma
+  semicolon_token : IsWord bytes t b tokens.semicolon semicolon
   bar_token : IsWord bytes t b tokens.bar bar
   end_token : IsWord bytes t b tokens.end_of_clause end
 

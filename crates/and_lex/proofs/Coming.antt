@@ -3,7 +3,7 @@ use Rattle.std.proofs.Common.{ℕ, zero, suc, ◌+◌, ◌≡◌, ◌≤◌, ◌
 use Rattle.std.proofs.lemmas.List.{take-append-drop, append-nil, length-append, length-take, length-drop, drop_all}
 use Rattle.std.proofs.lemmas.Bool.{cases_lt}
 use Rattle.and_model.specs.Lines.{Bytes}
-use Rattle.and_language.specs.Tokens.{Kind, variable, name, quoted, symbol, integer, open_bracket, close_bracket, open_list, close_list, comma, bar, end_of_clause, Separates, is_separated, is_some, Answer, no_more, one, none_for, Next, finished, read, stopped, IsFront, Comes, IsToken}
+use Rattle.and_language.specs.Tokens.{Kind, variable, name, quoted, symbol, integer, open_bracket, close_bracket, open_list, close_list, open_brace, close_brace, comma, semicolon, bar, end_of_clause, Separates, is_separated, is_some, Answer, no_more, one, none_for, Next, finished, read, stopped, IsFront, Comes, IsToken}
 use Rattle.and_language.specs.Tokens as tokens
 use Rattle.and_lex.specs.Scanning.{Found, end_of_text, one_token, one_fault, piece_len, found_at}
 use Rattle.and_lex.proofs.Separators.{gap_more, separated_where_none}
@@ -59,7 +59,10 @@ some_bytes cut open_bracket [] rest h = absurd (cc h)
 some_bytes cut close_bracket [] rest h = absurd (cc h)
 some_bytes cut open_list [] rest h = absurd (cc h)
 some_bytes cut close_list [] rest h = absurd (cc h)
+some_bytes cut open_brace [] rest h = absurd (cc h)
+some_bytes cut close_brace [] rest h = absurd (cc h)
 some_bytes cut comma [] rest h = absurd (cc h)
+some_bytes cut semicolon [] rest h = absurd (cc h)
 some_bytes cut bar [] rest h = absurd (cc h)
 some_bytes cut end_of_clause [] rest h = absurd (cc h.0)
 

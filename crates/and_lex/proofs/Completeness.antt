@@ -7,7 +7,7 @@ use Rattle.std.proofs.lemmas.List.{append-nil, length-append, take_at, drop_at, 
 use Rattle.std.proofs.lemmas.Bool.{eqb-true, le-leb, cases_lt}
 use Rattle.std.proofs.lemmas.Slice.Eq.{bytes_eq-Decides}
 use Rattle.and_model.specs.Lines.{Bytes, is_small, is_word, is_symbol, holds_of_all, holds_of_some, begins_comment}
-use Rattle.and_language.specs.Tokens.{Kind, variable, name, quoted, symbol, integer, open_bracket, close_bracket, open_list, close_list, comma, bar, end_of_clause, Fault, syntax, not_text, not_pure, begins, is_layout, is_capital, is_digit, is_impure, is_impure_character, is_solo, is_numeral, is_run, goes_on, ends_clause, number_of, broken, is_separated, Separates, is_some, Token, Answer, one, none_for, Next, finished, read, stopped, IsFront, Comes, HasTokens, no_token, token, is_last, IsToken, Names, IsFault, bytes_at_fault, open_comment, open_quote, open_escape, raw_newline, escaped_raw_newline, unknown_escape, numeral_goes_on, wide_numeral, impure_symbol, impure_character, other_character}
+use Rattle.and_language.specs.Tokens.{Kind, variable, name, quoted, symbol, integer, open_bracket, close_bracket, open_list, close_list, open_brace, close_brace, comma, semicolon, bar, end_of_clause, Fault, syntax, not_text, not_pure, begins, is_layout, is_capital, is_digit, is_impure, is_impure_character, is_solo, is_numeral, is_run, goes_on, ends_clause, number_of, broken, is_separated, Separates, is_some, Token, Answer, one, none_for, Next, finished, read, stopped, IsFront, Comes, HasTokens, no_token, token, is_last, IsToken, Names, IsFault, bytes_at_fault, open_comment, open_quote, open_escape, raw_newline, escaped_raw_newline, unknown_escape, numeral_goes_on, wide_numeral, impure_symbol, impure_character, other_character}
 use Rattle.and_lex.specs.declared.quotes.QuoteEnd.{QuoteEnd}
 use Rattle.and_lex.specs.declared.quotes.QuoteEnd.TheVariants.{Closed, Open, Newline, Unknown}
 use Rattle.and_lex.specs.Quoting.{quote_end}
@@ -113,7 +113,10 @@ token_there cut p open_bracket t rest h = subst (λ (x : Bytes). found_at cut p 
 token_there cut p close_bracket t rest h = subst (λ (x : Bytes). found_at cut p (x ++ rest) ≡ one_token close_bracket (length x)) (sym h) refl
 token_there cut p open_list t rest h = subst (λ (x : Bytes). found_at cut p (x ++ rest) ≡ one_token open_list (length x)) (sym h) refl
 token_there cut p close_list t rest h = subst (λ (x : Bytes). found_at cut p (x ++ rest) ≡ one_token close_list (length x)) (sym h) refl
+token_there cut p open_brace t rest h = subst (λ (x : Bytes). found_at cut p (x ++ rest) ≡ one_token open_brace (length x)) (sym h) refl
+token_there cut p close_brace t rest h = subst (λ (x : Bytes). found_at cut p (x ++ rest) ≡ one_token close_brace (length x)) (sym h) refl
 token_there cut p comma t rest h = subst (λ (x : Bytes). found_at cut p (x ++ rest) ≡ one_token comma (length x)) (sym h) refl
+token_there cut p semicolon t rest h = subst (λ (x : Bytes). found_at cut p (x ++ rest) ≡ one_token semicolon (length x)) (sym h) refl
 token_there cut p bar t rest h = subst (λ (x : Bytes). found_at cut p (x ++ rest) ≡ one_token bar (length x)) (sym h) refl
 token_there cut p end_of_clause t rest h =
     let one_point : found_at cut p (46 ∷ rest) ≡ one_token end_of_clause 1 = run_there cut p (46 ∷ []) rest refl (ended_run cut rest h.1) ∙ first_choice (ends_clause cut rest) _ _ h.1 in
@@ -127,15 +130,9 @@ impure_run s e = first (bytes_eq s (codes "\\+")) refl
     Fits : Bytes → Type 0
     Fits x = (is_run x ≡ true) × (begins_comment x ≡ false)
 
-    third : bytes_eq s (codes "\\+") ≡ false → bytes_eq s (codes "->") ≡ false → Fits s
-    third k l =
-        let last : bytes_eq s (codes "-->") ≡ true = sym (ap (λ (v : Bool). v || bytes_eq s (codes "-->")) (both_false (bytes_eq s (codes "\\+")) (bytes_eq s (codes "->")) k l)) ∙ e in
-        let P : Bytes → Type 0 = λ x. (is_run x ≡ true) × (begins_comment x ≡ false) in
-        subst P (sym ((bytes_eq-Decides s (codes "-->")).0 last)) (refl, refl)
-
     second : (v : Bool) → bytes_eq s (codes "->") ≡ v → bytes_eq s (codes "\\+") ≡ false → Fits s
     second true l k = let P : Bytes → Type 0 = λ x. (is_run x ≡ true) × (begins_comment x ≡ false) in subst P (sym ((bytes_eq-Decides s (codes "->")).0 l)) (refl, refl)
-    second false l k = third k l
+    second false l k = absurd (cc (sym (both_false (bytes_eq s (codes "\\+")) (bytes_eq s (codes "->")) k l) ∙ e))
 
     first : (v : Bool) → bytes_eq s (codes "\\+") ≡ v → Fits s
     first true k = let P : Bytes → Type 0 = λ x. (is_run x ≡ true) × (begins_comment x ≡ false) in subst P (sym ((bytes_eq-Decides s (codes "\\+")).0 k)) (refl, refl)
@@ -156,15 +153,19 @@ above_all n m h = grind (arith, nat_tests)
 character_there : (cut : Bool) (p b : ℕ) (rest : Bytes) → is_word b ≡ false → is_symbol b ≡ false → is_solo b ≡ false → found_at cut p (b ∷ rest) ≡ cond (is_impure_character b) (one_fault (not_pure p)) (one_fault (syntax p))
 character_there cut p b rest w s o =
     let k = no_word_parts b w in
-    let n0 = or_false (nat_eq b 40) (holds_of_some (nat_eq b) (codes ")[],|'")) o in
-    let n1 = or_false (nat_eq b 41) (holds_of_some (nat_eq b) (codes "[],|'")) n0.1 in
-    let n2 = or_false (nat_eq b 91) (holds_of_some (nat_eq b) (codes "],|'")) n1.1 in
-    let n3 = or_false (nat_eq b 93) (holds_of_some (nat_eq b) (codes ",|'")) n2.1 in
-    let n4 = or_false (nat_eq b 44) (holds_of_some (nat_eq b) (codes "|'")) n3.1 in
-    let n5 = or_false (nat_eq b 124) (holds_of_some (nat_eq b) (codes "'")) n4.1 in
-    let n6 = or_false (nat_eq b 39) false n5.1 in
-    second_choice (is_capital b) _ _ k.0 ∙ second_choice (is_small b) _ _ k.1 ∙ second_choice (is_digit b) _ _ k.2 ∙ second_choice (is_symbol b) _ _ s ∙ second_choice (nat_eq b 39) _ _ n6.0
-    ∙ second_choice (nat_eq b 40) _ _ n0.0 ∙ second_choice (nat_eq b 41) _ _ n1.0 ∙ second_choice (nat_eq b 91) _ _ n2.0 ∙ second_choice (nat_eq b 93) _ _ n3.0 ∙ second_choice (nat_eq b 44) _ _ n4.0 ∙ second_choice (nat_eq b 124) _ _ n5.0
+    let n0 = or_false (nat_eq b 40) (holds_of_some (nat_eq b) (codes ")[]{},;|'")) o in
+    let n1 = or_false (nat_eq b 41) (holds_of_some (nat_eq b) (codes "[]{},;|'")) n0.1 in
+    let n2 = or_false (nat_eq b 91) (holds_of_some (nat_eq b) (codes "]{},;|'")) n1.1 in
+    let n3 = or_false (nat_eq b 93) (holds_of_some (nat_eq b) (codes "{},;|'")) n2.1 in
+    let n4 = or_false (nat_eq b 123) (holds_of_some (nat_eq b) (codes "},;|'")) n3.1 in
+    let n5 = or_false (nat_eq b 125) (holds_of_some (nat_eq b) (codes ",;|'")) n4.1 in
+    let n6 = or_false (nat_eq b 44) (holds_of_some (nat_eq b) (codes ";|'")) n5.1 in
+    let n7 = or_false (nat_eq b 59) (holds_of_some (nat_eq b) (codes "|'")) n6.1 in
+    let n8 = or_false (nat_eq b 124) (holds_of_some (nat_eq b) (codes "'")) n7.1 in
+    let n9 = or_false (nat_eq b 39) false n8.1 in
+    second_choice (is_capital b) _ _ k.0 ∙ second_choice (is_small b) _ _ k.1 ∙ second_choice (is_digit b) _ _ k.2 ∙ second_choice (is_symbol b) _ _ s ∙ second_choice (nat_eq b 39) _ _ n9.0
+    ∙ second_choice (nat_eq b 40) _ _ n0.0 ∙ second_choice (nat_eq b 41) _ _ n1.0 ∙ second_choice (nat_eq b 91) _ _ n2.0 ∙ second_choice (nat_eq b 93) _ _ n3.0
+    ∙ second_choice (nat_eq b 123) _ _ n4.0 ∙ second_choice (nat_eq b 125) _ _ n5.0 ∙ second_choice (nat_eq b 44) _ _ n6.0 ∙ second_choice (nat_eq b 59) _ _ n7.0 ∙ second_choice (nat_eq b 124) _ _ n8.0
 
 fault_there : (cut : Bool) (p : ℕ) {bs : Bytes} {f : Fault} → IsFault cut p bs f → found_at cut p bs ≡ one_fault f
 fault_there cut p (bytes_at_fault e c) = ap (found_at cut p) e ∙ first_choice cut (one_fault (not_text p)) end_of_text c
@@ -185,7 +186,7 @@ fault_there cut p (impure_symbol s rest e l i) =
     ap (found_at cut p) e ∙ run_there cut p s rest k.0 l ∙ second_choice (begins_comment s) _ _ k.1 ∙ first_choice (is_impure s) (one_fault (not_pure p)) _ i
 fault_there cut p (impure_character b rest e i) =
     let test : (c : ℕ) → Bool = λ c. not (is_word c || is_symbol c || is_solo c) in
-    let none = not_true (is_word b || is_symbol b || is_solo b) (one_of test b (codes "!;{}\"`") i refl) in
+    let none = not_true (is_word b || is_symbol b || is_solo b) (one_of test b (codes "!\"`") i refl) in
     let k = or_false (is_word b || is_symbol b) (is_solo b) none in
     let l = or_false (is_word b) (is_symbol b) k.0 in
     ap (found_at cut p) e ∙ character_there cut p b rest l.0 l.1 k.1 ∙ first_choice (is_impure_character b) (one_fault (not_pure p)) (one_fault (syntax p)) i

@@ -8,7 +8,7 @@ use Rattle.std.proofs.lemmas.List.{take-append-drop, append-nil, length-append, 
 use Rattle.std.proofs.lemmas.Bool.{eqb-true, leb-true}
 use Rattle.std.proofs.lemmas.Slice.Eq.{bytes_eq-Decides}
 use Rattle.and_model.specs.Lines.{Bytes, is_small, is_word, is_symbol, holds_of_all, is_plain_name, begins_comment}
-use Rattle.and_language.specs.Tokens.{Kind, variable, name, quoted, symbol, integer, open_bracket, close_bracket, open_list, close_list, comma, bar, end_of_clause, syntax, too_wide, not_pure, is_capital, is_digit, is_impure, is_impure_character, is_variable, is_numeral, is_run, goes_on, ends_clause, number_of, broken, is_separated, closes_comment, Separates, is_some, Answer, no_more, one, none_for, Next, finished, read, stopped, IsFront, Comes, IsToken, IsFault, bytes_at_fault, open_comment, open_quote, open_escape, raw_newline, escaped_raw_newline, unknown_escape, numeral_goes_on, wide_numeral, impure_symbol, impure_character, other_character}
+use Rattle.and_language.specs.Tokens.{Kind, variable, name, quoted, symbol, integer, open_bracket, close_bracket, open_list, close_list, open_brace, close_brace, comma, semicolon, bar, end_of_clause, syntax, too_wide, not_pure, is_capital, is_digit, is_impure, is_impure_character, is_variable, is_numeral, is_run, goes_on, ends_clause, number_of, broken, is_separated, closes_comment, Separates, is_some, Answer, no_more, one, none_for, Next, finished, read, stopped, IsFront, Comes, IsToken, IsFault, bytes_at_fault, open_comment, open_quote, open_escape, raw_newline, escaped_raw_newline, unknown_escape, numeral_goes_on, wide_numeral, impure_symbol, impure_character, other_character}
 use Rattle.and_lex.specs.Scanning.{Found, end_of_text, one_token, one_fault, numeral_found, symbol_found, quoted_found, found_at_quote_end, single_found, found_at, IsWithin}
 use Rattle.and_lex.specs.declared.quotes.QuoteEnd.{QuoteEnd}
 use Rattle.and_lex.specs.declared.quotes.QuoteEnd.TheVariants.{Closed, Open, Newline, Unknown}
@@ -113,10 +113,13 @@ single_found_there cut p b bs w s q =
     either_way P (nat_eq b 41) (one_token close_bracket 1) _ (λ e. solo_found cut p b 41 bs close_bracket e refl) (λ n1.
     either_way P (nat_eq b 91) (one_token open_list 1) _ (λ e. solo_found cut p b 91 bs open_list e refl) (λ n2.
     either_way P (nat_eq b 93) (one_token close_list 1) _ (λ e. solo_found cut p b 93 bs close_list e refl) (λ n3.
-    either_way P (nat_eq b 44) (one_token comma 1) _ (λ e. solo_found cut p b 44 bs comma e refl) (λ n4.
-    either_way P (nat_eq b 124) (one_token bar 1) _ (λ e. solo_found cut p b 124 bs bar e refl) (λ n5.
-    either_way P (is_impure_character b) (one_fault (not_pure p)) (one_fault (syntax p)) (λ e. impure_character b bs refl e) (λ n6.
-    other_character b bs refl (rw (w, s, n0, n1, n2, n3, n4, n5, q, n6) refl))))))))
+    either_way P (nat_eq b 123) (one_token open_brace 1) _ (λ e. solo_found cut p b 123 bs open_brace e refl) (λ n4.
+    either_way P (nat_eq b 125) (one_token close_brace 1) _ (λ e. solo_found cut p b 125 bs close_brace e refl) (λ n5.
+    either_way P (nat_eq b 44) (one_token comma 1) _ (λ e. solo_found cut p b 44 bs comma e refl) (λ n6.
+    either_way P (nat_eq b 59) (one_token semicolon 1) _ (λ e. solo_found cut p b 59 bs semicolon e refl) (λ n7.
+    either_way P (nat_eq b 124) (one_token bar 1) _ (λ e. solo_found cut p b 124 bs bar e refl) (λ n8.
+    either_way P (is_impure_character b) (one_fault (not_pure p)) (one_fault (syntax p)) (λ e. impure_character b bs refl e) (λ n9.
+    other_character b bs refl (rw (w, s, n0, n1, n2, n3, n4, n5, n6, n7, n8, q, n9) refl)))))))))))
 
 -- ---- quoted tokens
 

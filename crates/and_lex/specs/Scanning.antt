@@ -3,7 +3,7 @@ use Rattle.std.specs.Prelude.{ℕ, suc, ◌+◌, ◌<◌, ◌≤◌, Bool, false
 use Rattle.std.specs.List.{prefix_len}
 use Rattle.std.specs.Str.{bytes_eq}
 use Rattle.and_model.specs.Lines.{Bytes, is_small, is_word, is_symbol, begins_comment}
-use Rattle.and_language.specs.Tokens.{Kind, variable, name, quoted, symbol, integer, open_bracket, close_bracket, open_list, close_list, comma, bar, end_of_clause, Fault, syntax, not_text, too_wide, not_pure, begins, is_layout, is_newline, is_capital, is_digit, is_impure, is_impure_character, goes_on, ends_clause, number_of, broken}
+use Rattle.and_language.specs.Tokens.{Kind, variable, name, quoted, symbol, integer, open_bracket, close_bracket, open_list, close_list, open_brace, close_brace, comma, semicolon, bar, end_of_clause, Fault, syntax, not_text, too_wide, not_pure, begins, is_layout, is_newline, is_capital, is_digit, is_impure, is_impure_character, goes_on, ends_clause, number_of, broken}
 use Rattle.and_lex.specs.declared.quotes.QuoteEnd.{QuoteEnd}
 use Rattle.and_lex.specs.declared.quotes.QuoteEnd.TheVariants.{Closed, Open, Newline, Unknown}
 use Rattle.and_lex.specs.Quoting.{quote_end}
@@ -69,7 +69,8 @@ quoted_found cut p bs = found_at_quote_end cut p (length bs) (quote_end 0 bs)
 abbrev pub single_found : ℕ → ℕ → Found
 single_found p b =
     cond (nat_eq b 40) (one_token open_bracket 1) (cond (nat_eq b 41) (one_token close_bracket 1) (cond (nat_eq b 91) (one_token open_list 1) (cond (nat_eq b 93) (one_token close_list 1)
-    (cond (nat_eq b 44) (one_token comma 1) (cond (nat_eq b 124) (one_token bar 1) (cond (is_impure_character b) (one_fault (not_pure p)) (one_fault (syntax p))))))))
+    (cond (nat_eq b 123) (one_token open_brace 1) (cond (nat_eq b 125) (one_token close_brace 1) (cond (nat_eq b 44) (one_token comma 1) (cond (nat_eq b 59) (one_token semicolon 1)
+    (cond (nat_eq b 124) (one_token bar 1) (cond (is_impure_character b) (one_fault (not_pure p)) (one_fault (syntax p)))))))))))
 
 -- What the bytes at the place p begin with, where no layout and no whole comment begins them.
 abbrev pub found_at : Bool → ℕ → Bytes → Found

@@ -2,7 +2,7 @@
 use Rattle.std.specs.Prelude.{ℕ, ◌<◌, ◌≤◌, Option, Some, None, Result, Ok, Err}
 use Rattle.and_language.specs.Tokens
 use Rattle.and_lex.specs.declared.tokens.Kind.{Kind}
-use Rattle.and_lex.specs.declared.tokens.Kind.TheVariants.{Variable, Name, Quoted, Symbol, Integer, Open, Close, OpenList, CloseList, Comma, Bar, End}
+use Rattle.and_lex.specs.declared.tokens.Kind.TheVariants.{Variable, Name, Quoted, Symbol, Integer, Open, Close, OpenList, CloseList, OpenBrace, CloseBrace, Comma, Semicolon, Bar, End}
 use Rattle.and_lex.specs.declared.tokens.Token.{Token}
 use Rattle.and_lex.specs.declared.tokens.LexFault.{LexFault}
 use Rattle.and_lex.specs.declared.tokens.LexFault.TheVariants.{Syntax, NotText, TooWide, NotPure}
@@ -18,7 +18,10 @@ kind_of Open = Tokens.open_bracket
 kind_of Close = Tokens.close_bracket
 kind_of OpenList = Tokens.open_list
 kind_of CloseList = Tokens.close_list
+kind_of OpenBrace = Tokens.open_brace
+kind_of CloseBrace = Tokens.close_brace
 kind_of Comma = Tokens.comma
+kind_of Semicolon = Tokens.semicolon
 kind_of Bar = Tokens.bar
 kind_of End = Tokens.end_of_clause
 

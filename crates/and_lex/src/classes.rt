@@ -45,7 +45,7 @@ pub(crate) fn is_symbol_byte(byte: u8) -> bool
 pub(crate) fn is_impure_byte(byte: u8) -> bool
     ensures { result ≡ is_impure_character byte }
 {
-    b"!;{}\"`".contains(&byte)
+    b"!\"`".contains(&byte)
 }
 
 /// How many bytes of a word the text begins with.

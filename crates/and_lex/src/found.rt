@@ -44,7 +44,7 @@ fn is_end(is_cut: bool, rest: &[u8]) -> bool
 fn is_impure_symbol(symbol: &[u8]) -> bool
     ensures { result ≡ is_impure symbol.now }
 {
-    symbol == b"\\+".as_slice() || symbol == b"->".as_slice() || symbol == b"-->".as_slice()
+    symbol == b"\\+".as_slice() || symbol == b"->".as_slice()
 }
 
 /// The number that digits stand for, and `None` where it is above `LARGEST`.
@@ -130,7 +130,10 @@ fn find_single(at: usize, byte: u8) -> Found
         b')' => Ok(Some((Kind::Close, 1))),
         b'[' => Ok(Some((Kind::OpenList, 1))),
         b']' => Ok(Some((Kind::CloseList, 1))),
+        b'{' => Ok(Some((Kind::OpenBrace, 1))),
+        b'}' => Ok(Some((Kind::CloseBrace, 1))),
         b',' => Ok(Some((Kind::Comma, 1))),
+        b';' => Ok(Some((Kind::Semicolon, 1))),
         b'|' => Ok(Some((Kind::Bar, 1))),
         _ if is_impure_byte(byte) => Err(LexFault::NotPure { at }),
         _ => Err(LexFault::Syntax { at }),

@@ -12,7 +12,10 @@ pub enum Kind {
     Close,
     OpenList,
     CloseList,
+    OpenBrace,
+    CloseBrace,
     Comma,
+    Semicolon,
     Bar,
     End,
 }

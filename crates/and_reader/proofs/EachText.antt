@@ -9,7 +9,7 @@ use Rattle.and_syntax.specs.Tables
 use Rattle.and_syntax.specs.Tables.{Table, Asked, Unknown, source, empty, unknown_of, program_of}
 use Rattle.and_language.specs.Tokens.{Answer, no_more, one, none_for, IsFront}
 use Rattle.and_language.specs.Words.{Word, Placed, before}
-use Rattle.and_language.specs.Grammar.{Statement, IsText, CanGoOn}
+use Rattle.and_language.specs.Grammar.{Sort, Statement, IsText, CanGoOn}
 use Rattle.and_language.specs.Refusals
 use Rattle.and_language.specs.Refusals.{Refusal, at, cause_of, limit_of, Takes, HasWords, IsPassed, IsDirective, directive, no_grammar, over_limit, IsTaken, IsRefused, too_long, at_word, at_clause, at_token, unended, without_query, with_unknown, statement_fault, with_statement, Reads}
 use Rattle.and_automaton.specs.Machine.{State, start, inside, opened_list, over, is_over, go, exceeds, step, run, words_of}
@@ -74,13 +74,13 @@ module _ (bytes : Bytes) (small : length bytes ≤ MAX_BYTES) (ws : List Placed)
       inr (passed bytes (ws ++ p ∷ []) h.whole (h.begun ++ p ∷ []) h.statements h.table t on_joined h.spelled h.taken (run_more true start h.begun p s t ran e) o)
 
   -- the clause or query that it ends
-  abbrev ended : Bool → Written → Statement
-  ended q w = record { is_query = q; term = w; place = first_place h.begun p.place }
+  abbrev ended : Sort → Written → Statement
+  ended q w = record { sort = q; term = w; place = first_place h.begun p.place }
 
-  ended_text : (q : Bool) (w : Written) → step true s p.word ≡ Some (over q w) → IsText true (h.begun ++ p ∷ []) (ended q w ∷ [])
+  ended_text : (q : Sort) (w : Written) → step true s p.word ≡ Some (over q w) → IsText true (h.begun ++ p ∷ []) (ended q w ∷ [])
   ended_text q w e = over_text h.begun p.word p.place s q w ran e
 
-  clause_taken : (q : Bool) (w : Written) → step true s p.word ≡ Some (over q w) → statement_fault h.table (ended q w) ≡ None → Further
+  clause_taken : (q : Sort) (w : Written) → step true s p.word ≡ Some (over q w) → statement_fault h.table (ended q w) ≡ None → Further
   clause_taken q w e f =
       let T : Table = with_statement bytes h.table (ended q w) in
       let whole : List Placed = h.whole ++ (h.begun ++ p ∷ []) in
@@ -89,7 +89,7 @@ module _ (bytes : Bytes) (small : length bytes ≤ MAX_BYTES) (ws : List Placed)
       (joined true h.whole (h.begun ++ p ∷ []) h.statements (ended q w ∷ []) h.spelled (ended_text q w e))
       (takes_more bytes T (ended q w) h.taken f refl) refl refl)
 
-  clause_refused : (q : Bool) (w : Written) → step true s p.word ≡ Some (over q w) → (f : Tables.Fault) → statement_fault h.table (ended q w) ≡ Some f → Further
+  clause_refused : (q : Sort) (w : Written) → step true s p.word ≡ Some (over q w) → (f : Tables.Fault) → statement_fault h.table (ended q w) ≡ Some f → Further
   clause_refused q w e f g =
       let H : List Placed → Type 0 = λ vs. HasWords bytes vs a in
       let taken : IsTaken bytes h.whole h.table = record { statements = h.statements; spelled = h.spelled; taken = h.taken } in
@@ -98,7 +98,7 @@ module _ (bytes : Bytes) (small : length bytes ≤ MAX_BYTES) (ws : List Placed)
         at_clause h.whole (h.begun ++ p ∷ []) a h.table (ended q w) f small (subst H on_joined hw) taken (ended_text q w e) g,
       ))
 
-  clause_over : (q : Bool) (w : Written) → step true s p.word ≡ Some (over q w) → Further
+  clause_over : (q : Sort) (w : Written) → step true s p.word ≡ Some (over q w) → Further
   clause_over q w e = by (statement_fault h.table (ended q w)) refl
     where
       by : (o : Option Tables.Fault) → statement_fault h.table (ended q w) ≡ o → Further

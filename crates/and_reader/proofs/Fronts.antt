@@ -3,7 +3,7 @@ use Rattle.std.proofs.Common.{◌≡◌, ℕ, true≢false, List, [], ◌∷◌,
 use Rattle.and_model.specs.Lines.{Bytes}
 use Rattle.and_language.specs.Tokens
 use Rattle.and_language.specs.Tokens.{Token, Answer, no_more, one, none_for, Comes, HasTokens, no_token, token, Quotes}
-use Rattle.and_language.specs.Words.{Before, bracket, Word, Placed, before, IsWord, AreWords, variable_token, integer_token, name_token, symbol_token, minus_token, functor_token, quoted_token, open_bracket_token, close_bracket_token, open_list_token, close_list_token, comma_token, bar_token, end_token}
+use Rattle.and_language.specs.Words.{Before, bracket, Word, Placed, before, IsWord, AreWords, variable_token, integer_token, name_token, symbol_token, minus_token, functor_token, quoted_token, open_bracket_token, close_bracket_token, open_list_token, close_list_token, open_brace_token, close_brace_token, comma_token, semicolon_token, bar_token, end_token}
 use Rattle.and_language.specs.Words as words
 use Rattle.and_language.specs.Refusals.{HasWords}
 use Rattle.and_lex.specs.Quoting.{text_between}
@@ -35,7 +35,10 @@ one_word bytes t b open_bracket_token open_bracket_token = refl
 one_word bytes t b close_bracket_token close_bracket_token = refl
 one_word bytes t b open_list_token open_list_token = refl
 one_word bytes t b close_list_token close_list_token = refl
+one_word bytes t b open_brace_token open_brace_token = refl
+one_word bytes t b close_brace_token close_brace_token = refl
 one_word bytes t b comma_token comma_token = refl
+one_word bytes t b semicolon_token semicolon_token = refl
 one_word bytes t b bar_token bar_token = refl
 one_word bytes t b end_token end_token = refl
 

@@ -10,7 +10,7 @@ use Rattle.and_syntax.specs.Tables.{Table, Asked, Unknown, source, empty, unknow
 use Rattle.and_language.specs.Tokens.{Token, Answer, no_more, one, none_for}
 use Rattle.and_language.specs.Words.{Word, Placed}
 use Rattle.and_language.specs.Words as words
-use Rattle.and_language.specs.Grammar.{Statement, IsText, CanGoOn}
+use Rattle.and_language.specs.Grammar.{Sort, Statement, IsText, CanGoOn}
 use Rattle.and_language.specs.Grammar as grammar
 use Rattle.and_language.specs.Refusals
 use Rattle.and_language.specs.Refusals.{Cause, Refusal, at, cause_of, limit_of, fault_at, Takes, HasWords, NoneEnds, IsPassed, IsDirective, IsRefusedWord, directive, no_grammar, over_limit, IsTaken, IsRefused, too_long, at_word, at_clause, at_token, unended, without_query, with_unknown, statement_fault, with_statement, IsTextOf}
@@ -55,8 +55,8 @@ abbrev put : Bytes → Table → Statement → Option Tables.Fault → Outcome
 put bytes T s None = reached (with_statement bytes T s) 0 start
 put bytes T s (Some f) = refused (at bytes s.place (cause_of f))
 
-abbrev statement : Bool → Written → ℕ → Statement
-statement q w n = record { is_query = q; term = w; place = n }
+abbrev statement : Sort → Written → ℕ → Statement
+statement q w n = record { sort = q; term = w; place = n }
 
 abbrev settled : Bytes → Table → ℕ → State → Outcome
 settled bytes T n (over q w) = put bytes T (statement q w n) (statement_fault T (statement q w n))
@@ -112,7 +112,7 @@ run_settled bytes T (q ∷ ps) n s t p e =
     by (opened_list l fs k) f g h = h (opened_list l fs k) (place_of s n p.place) g
     by (over k w) f g h = cc
 
-clause_settled : (bytes : Bytes) (T : Table) (first : Placed) (others : List Placed) (q : Bool) (w : Written) → grammar.IsClause true (words_of (first ∷ others)) q w
+clause_settled : (bytes : Bytes) (T : Table) (first : Placed) (others : List Placed) (q : Sort) (w : Written) → grammar.IsClause true (words_of (first ∷ others)) q w
     → outcome bytes (reached T 0 start) (first ∷ others) ≡ put bytes T (statement q w first.place) (statement_fault T (statement q w first.place))
 clause_settled bytes T first others q w c = run_settled bytes T others 0 start (over q w) first (clause_taken true c)
 

@@ -1,5 +1,5 @@
 -- How far a text is read, word by word.
-use Rattle.std.proofs.Common.{◌≡◌, ℕ, ◌≤◌, Bool, true, false, List, [], ◌∷◌, ◌++◌, length, Option, Some, None, sym, refl, ap, ◌∙◌, subst, append_assoc}
+use Rattle.std.proofs.Common.{◌≡◌, ℕ, ◌≤◌, true, false, List, [], ◌∷◌, ◌++◌, length, Option, Some, None, sym, refl, ap, ◌∙◌, subst, append_assoc}
 use Rattle.std.specs.Option.{IfSome}
 use Rattle.std.proofs.lemmas.List.{append-nil}
 use Rattle.and_model.specs.Lines.{Bytes}
@@ -9,7 +9,7 @@ use Rattle.and_syntax.specs.Tables.{Table, empty}
 use Rattle.and_language.specs.Tokens
 use Rattle.and_language.specs.Tokens.{Token, Answer, no_more, one, none_for, line_at, Comes}
 use Rattle.and_language.specs.Words.{Word, Placed}
-use Rattle.and_language.specs.Grammar.{Statement, IsText, CanGoOn}
+use Rattle.and_language.specs.Grammar.{Sort, Statement, IsText, CanGoOn}
 use Rattle.and_language.specs.Refusals
 use Rattle.and_language.specs.Refusals.{Refusal, at, cause_of, limit_of, fault_at, Takes, HasWords, NoneEnds, IsPassed, IsRefusedWord, directive, no_grammar, over_limit, IsTaken, IsRefused, at_word, at_clause, at_token, unended, without_query, with_unknown, statement_fault, with_statement, IsTextOf}
 use Rattle.and_automaton.specs.Machine.{State, start, over, is_over, go, step, run, words_of}
@@ -152,8 +152,8 @@ word_refused bytes place r b ws x a h c y small w = by (views.cause_of c) (refus
 
 -- A clause or query is over.
 
-pub over_text : (ps : List Placed) (x : Word) (place : ℕ) (s : State) (q : Bool) (w : Written) → run true start (words_of ps) ≡ Some s → step true s x ≡ Some (over q w)
-    → IsText true (ps ++ record { word = x; place = place } ∷ []) (record { is_query = q; term = w; place = first_place ps place } ∷ [])
+pub over_text : (ps : List Placed) (x : Word) (place : ℕ) (s : State) (q : Sort) (w : Written) → run true start (words_of ps) ≡ Some s → step true s x ≡ Some (over q w)
+    → IsText true (ps ++ record { word = x; place = place } ∷ []) (record { sort = q; term = w; place = first_place ps place } ∷ [])
 over_text [] x place s q w r e = one_clause true (record { word = x; place = place }) [] q w (run_more true start [] (record { word = x; place = place }) s (over q w) r e)
 over_text (p ∷ ps) x place s q w r e = one_clause true p (ps ++ record { word = x; place = place } ∷ []) q w (run_more true start (p ∷ ps) (record { word = x; place = place }) s (over q w) r e)
 
@@ -164,14 +164,14 @@ takes_more bytes V s (Refusals.nothing T) f e =
 takes_more bytes V s (Refusals.more T U u us f h) g e = Refusals.more T V u (us ++ s ∷ []) f (takes_more bytes V s h g e)
 
 -- its clause or query is in the table
-pub read_over : (bytes : Bytes) (place : ℕ) (r z : Reader) (b : Begun) (ws : List Placed) (x : Word) (q : Bool) (w : Written) (h : IsReadBefore bytes place r b ws) → step true h.rest.state x ≡ Some (over q w)
+pub read_over : (bytes : Bytes) (place : ℕ) (r z : Reader) (b : Begun) (ws : List Placed) (x : Word) (q : Sort) (w : Written) (h : IsReadBefore bytes place r b ws) → step true h.rest.state x ≡ Some (over q w)
     → z.bytes ≡ r.bytes → z.cursor ≡ r.cursor → z.clause ≡ None
-    → statement_fault (table_of r.table) (record { is_query = q; term = w; place = first_place h.begun place }) ≡ None
-    → table_of z.table ≡ with_statement bytes (table_of r.table) (record { is_query = q; term = w; place = first_place h.begun place })
+    → statement_fault (table_of r.table) (record { sort = q; term = w; place = first_place h.begun place }) ≡ None
+    → table_of z.table ≡ with_statement bytes (table_of r.table) (record { sort = q; term = w; place = first_place h.begun place })
     → IsRead bytes z (ws ++ record { word = x; place = place } ∷ [])
 read_over bytes place r z b ws x q w h e sb sc sn f t =
     let p : Placed = record { word = x; place = place } in
-    let s : Statement = record { is_query = q; term = w; place = first_place h.begun place } in
+    let s : Statement = record { sort = q; term = w; place = first_place h.begun place } in
     let C : Option Begun → Type 0 = λ o. IsClause bytes o [] in
     record {
       text = ap (λ y. y.now) sb ∙ h.text;
@@ -186,13 +186,13 @@ read_over bytes place r z b ws x q w h e sb sc sn f t =
     }
 
 -- it is refused
-pub clause_refused : (bytes : Bytes) (place : ℕ) (r : Reader) (b : Begun) (ws : List Placed) (x : Word) (a : Answer) (q : Bool) (w : Written) (h : IsReadBefore bytes place r b ws) → step true h.rest.state x ≡ Some (over q w)
+pub clause_refused : (bytes : Bytes) (place : ℕ) (r : Reader) (b : Begun) (ws : List Placed) (x : Word) (a : Answer) (q : Sort) (w : Written) (h : IsReadBefore bytes place r b ws) → step true h.rest.state x ≡ Some (over q w)
     → length bytes ≤ MAX_BYTES → HasWords bytes (ws ++ record { word = x; place = place } ∷ []) a → (f : Tables.Fault)
-    → statement_fault (table_of r.table) (record { is_query = q; term = w; place = first_place h.begun place }) ≡ Some f
+    → statement_fault (table_of r.table) (record { sort = q; term = w; place = first_place h.begun place }) ≡ Some f
     → IsRefused bytes (at bytes (first_place h.begun place) (cause_of f))
 clause_refused bytes place r b ws x a q w h e small hw f g =
     let p : Placed = record { word = x; place = place } in
-    let s : Statement = record { is_query = q; term = w; place = first_place h.begun place } in
+    let s : Statement = record { sort = q; term = w; place = first_place h.begun place } in
     let P : List Placed → Type 0 = λ vs. HasWords bytes vs a in
     at_clause h.whole (h.begun ++ p ∷ []) a (table_of r.table) s f small
     (subst P (ap (λ vs. vs ++ p ∷ []) h.joined ∙ append_assoc h.whole h.begun (p ∷ [])) hw)

@@ -5,7 +5,7 @@ use Rattle.std.specs.Str.{bytes_eq}
 use Rattle.and_model.specs.Lines.{Bytes}
 use Rattle.and_language.specs.Tokens.{Kind, Token, Answer, one, IsToken, Comes, HasTokens, no_token, token}
 use Rattle.and_language.specs.Tokens as tokens
-use Rattle.and_language.specs.Words.{Before, Word, Placed, bytes_of, before, IsWord, variable_token, integer_token, name_token, symbol_token, minus_token, functor_token, quoted_token, open_bracket_token, close_bracket_token, open_list_token, close_list_token, comma_token, bar_token, end_token, AreWords}
+use Rattle.and_language.specs.Words.{Before, Word, Placed, bytes_of, before, IsWord, variable_token, integer_token, name_token, symbol_token, minus_token, functor_token, quoted_token, open_bracket_token, close_bracket_token, open_list_token, close_list_token, open_brace_token, close_brace_token, comma_token, semicolon_token, bar_token, end_token, AreWords}
 use Rattle.and_language.specs.Words as words
 use Rattle.and_language.specs.Refusals.{HasWords}
 use Rattle.and_lex.proofs.Written.{written}
@@ -27,7 +27,10 @@ kind_word bytes t b cut rest tokens.open_bracket h = (words.open_bracket (not t.
 kind_word bytes t b cut rest tokens.close_bracket h = (words.close_bracket, close_bracket_token)
 kind_word bytes t b cut rest tokens.open_list h = (words.open_list, open_list_token)
 kind_word bytes t b cut rest tokens.close_list h = (words.close_list, close_list_token)
+kind_word bytes t b cut rest tokens.open_brace h = (words.open_brace, open_brace_token)
+kind_word bytes t b cut rest tokens.close_brace h = (words.close_brace, close_brace_token)
 kind_word bytes t b cut rest tokens.comma h = (words.comma, comma_token)
+kind_word bytes t b cut rest tokens.semicolon h = (words.semicolon, semicolon_token)
 kind_word bytes t b cut rest tokens.bar h = (words.bar, bar_token)
 kind_word bytes t b cut rest tokens.end_of_clause h = (words.end, end_token)
 

@@ -8,7 +8,7 @@ use Rattle.and_model.specs.Lines.{Bytes}
 use Rattle.and_syntax.specs.Written.{Written}
 use Rattle.and_language.specs.Grammar.{binary, unary, cell}
 use Rattle.and_automaton.specs.Machine
-use Rattle.and_automaton.specs.Machine.{Half, with_half, negated, conjunction, list}
+use Rattle.and_automaton.specs.Machine.{Half, with_half, negated, conjunction, disjunction, list}
 use Rattle.and_clauses.specs.Parts.{many}
 use Rattle.and_reader.specs.Standing.{name_in, with_left}
 use Rattle.and_reader.specs.Answered.{paired}
@@ -72,6 +72,10 @@ some_first n (w ∷ us) lt = let p = split n us (omega arith) in (w, p.0, p.1, a
 pub conjunction_is : (ws : List Written) (w : Written) → paired (codes ",") ws w ≡ conjunction ws w
 conjunction_is [] w = refl
 conjunction_is (a ∷ ws) w = conjunction_is ws (binary (codes ",") a w)
+
+pub disjunction_is : (ws : List Written) (w : Written) → paired (codes ";") ws w ≡ disjunction ws w
+disjunction_is [] w = refl
+disjunction_is (a ∷ ws) w = disjunction_is ws (binary (codes ";") a w)
 
 pub list_is : (ws : List Written) (w : Written) → paired (codes ".") ws w ≡ list ws w
 list_is [] w = refl

@@ -1,5 +1,5 @@
 -- What the parts of a parser do, piece by piece with the machine.
-use Rattle.std.specs.Prelude.{ℕ, ◌≤◌, ◌≡◌, Bool, true, false, IsTrue, List, [], ◌∷◌, length, reverse, Option, Some, None, Result, Ok, Err, cond, codes}
+use Rattle.std.specs.Prelude.{ℕ, ◌≤◌, ◌≡◌, Bool, true, false, IsTrue, List, [], ◌∷◌, ◌++◌, length, reverse, Option, Some, None, Result, Ok, Err, cond, codes}
 use Rattle.std.specs.Str.{bytes_eq}
 use Rattle.and_model.specs.Lines.{Bytes}
 use Rattle.and_syntax.specs.Written.{Written}
@@ -7,6 +7,7 @@ use Rattle.and_language.specs.Words
 use Rattle.and_language.specs.Words.{Word}
 use Rattle.and_language.specs.Refusals
 use Rattle.and_language.specs.Refusals.{limit_of}
+use Rattle.and_language.specs.Grammar
 use Rattle.and_language.specs.Grammar.{binary}
 use Rattle.and_automaton.specs.Machine
 use Rattle.and_automaton.specs.Machine.{Half, Outermost, State, over, is_over, depth}
@@ -23,6 +24,7 @@ use Rattle.and_reader.specs.declared.refusal.Cause.{Cause}
 use Rattle.and_reader.specs.declared.refusal.Cause.TheVariants as causes
 use Rattle.and_reader.specs.declared.words.First.{First}
 use Rattle.and_reader.specs.declared.words.First.TheVariants as firsts
+use Rattle.and_reader.specs.Views.{sort_of}
 use Rattle.and_reader.specs.Standing.{terms, part_of, name_in, IsPending, AreFrames, with_left, with_lefts, waiting, Stands, IsState}
 use Rattle.and_model.specs.declared.limits.TheConstants.{MAX_ARGUMENTS, MAX_NESTING}
 
@@ -35,6 +37,10 @@ paired c (a ∷ ws) w = paired c ws (binary c a w)
 abbrev pub HasInfix : ClauseDraft → Option Bytes → Type 0
 HasInfix d c = (o : Option Half) × (w : Written) × (rest : List Written) × (c ≡ name_in o) × (terms d ≡ w ∷ with_left o rest)
 
+-- the latest finished terms are one, those before so many commas, and those before so many semicolons
+abbrev pub HasAlternatives : ClauseDraft → ℕ → ℕ → Type 0
+HasAlternatives d n m = (w : Written) × (b es rest : List Written) × (terms d ≡ w ∷ (b ++ (es ++ rest))) × (length b ≡ m) × (length es ≡ n)
+
 -- the latest finished terms are an operand and the left operands of what is pending
 abbrev pub HasOperand : ClauseDraft → Pending → Type 0
 HasOperand d P = (p : Machine.Pending) × (w : Written) × (rest : List Written) × IsPending P p × (terms d ≡ w ∷ with_lefts p rest)
@@ -42,6 +48,7 @@ HasOperand d P = (p : Machine.Pending) × (w : Written) × (rest : List Written)
 -- The parser has these brackets open; its latest finished term is a, and nothing is pending with it.
 pub record Finished (P : Parser) (l : Outermost) (fs : List Machine.Frame) (a : Written) : Type 0 where
   pub part : P.part ≡ part_of l.part
+  pub alternatives : P.alternatives ≡ length l.alternatives
   pub before : P.before ≡ length l.before
   pub frames : AreFrames (reverse P.frames.items) fs
   pub opened : P.depth ≡ depth fs
@@ -74,8 +81,8 @@ IsCaused s b x causes.Memory = Unit {0}
 -- The word leads to s where no limit is asked, and b tells whether it is over one; it is answered so.
 abbrev pub Answered : Option State → Bool → Word → Result Next Cause → Parser → Type 0
 Answered s b x (Ok next.Inside) P = (t : State) × (s ≡ Some t) × (b ≡ false) × (is_over t ≡ false) × IsState P t
-Answered s b x (Ok next.Clause) P = (w : Written) × (s ≡ Some (over false w)) × (b ≡ false) × ((draft_of P.draft).finished ≡ w ∷ [])
-Answered s b x (Ok next.Query) P = (w : Written) × (s ≡ Some (over true w)) × (b ≡ false) × ((draft_of P.draft).finished ≡ w ∷ []) × IsTrue (is_asking w)
+Answered s b x (Ok (next.Over sort)) P =
+    (w : Written) × (s ≡ Some (over (sort_of sort) w)) × (b ≡ false) × ((draft_of P.draft).finished ≡ w ∷ []) × (sort_of sort ≡ Grammar.Sort.query → IsTrue (is_asking w))
 Answered s b x (Err c) P = IsCaused s b x c
 
 -- why no comma stands in a bracket, where n arguments or elements are before it
@@ -86,17 +93,27 @@ IsCommaFault b n c = ⊥
 
 -- a comma may stand in the bracket
 abbrev pub TakesComma : Machine.Bracket → Type 0
-TakesComma Machine.plain = Unit {0}
+TakesComma (Machine.plain es) = Unit {0}
+TakesComma (Machine.braces es) = Unit {0}
 TakesComma (Machine.arguments c) = Unit {0}
 TakesComma Machine.elements = Unit {0}
 TakesComma Machine.tail = ⊥
 
 -- a bar may stand in the bracket
 abbrev pub takes_bar : Machine.Bracket → Bool
-takes_bar Machine.plain = false
+takes_bar (Machine.plain es) = false
+takes_bar (Machine.braces es) = false
 takes_bar (Machine.arguments c) = false
 takes_bar Machine.elements = true
 takes_bar Machine.tail = false
+
+-- a semicolon may stand in the bracket
+abbrev pub takes_semicolon : Machine.Bracket → Bool
+takes_semicolon (Machine.plain es) = true
+takes_semicolon (Machine.braces es) = true
+takes_semicolon (Machine.arguments c) = false
+takes_semicolon Machine.elements = false
+takes_semicolon Machine.tail = false
 
 -- what the first word of a clause begins
 abbrev pub first_of : Word → First

@@ -1,10 +1,10 @@
 -- How far a text is read.
-use Rattle.std.specs.Prelude.{ℕ, ◌≡◌, ◌++◌, Bool, true, false, List, [], ◌∷◌, Option, Some, None}
+use Rattle.std.specs.Prelude.{ℕ, ◌≡◌, ◌++◌, true, false, List, [], ◌∷◌, Option, Some, None}
 use Rattle.and_model.specs.Lines.{Bytes}
 use Rattle.and_syntax.specs.Tables.{empty, Table, Fault}
 use Rattle.and_language.specs.Tokens.{line_at}
 use Rattle.and_language.specs.Words.{Word, Placed}
-use Rattle.and_language.specs.Grammar.{Statement, IsText}
+use Rattle.and_language.specs.Grammar.{Sort, Statement, IsText}
 use Rattle.and_language.specs.Refusals.{Takes, Refusal, at, cause_of, statement_fault, with_statement}
 use Rattle.and_automaton.specs.Machine.{State, start, is_over, run, words_of}
 use Rattle.and_clauses.specs.Drafts.{Draft, draft_of}
@@ -57,9 +57,9 @@ IsReadBefore bytes place r b words = Reads bytes r words (IsBegun bytes place b)
 abbrev pub with_word : List Placed → Word → ℕ → List Placed
 with_word words w place = words ++ record { word = w; place = place } ∷ []
 
--- The draft is that of the clause or query, whose first token is on the draft's line.
-pub record IsDraftOf (bytes : Bytes) (draft : Draft) (is_query : Bool) (s : Statement) : Type 0 where
-  pub kind : s.is_query ≡ is_query
+-- The draft is that of the clause, query or rule, which is of that sort, and whose first token is on the draft's line.
+pub record IsDraftOf (bytes : Bytes) (draft : Draft) (sort : Sort) (s : Statement) : Type 0 where
+  pub kind : s.sort ≡ sort
   pub term : draft.finished ≡ s.term ∷ []
   pub line : draft.line ≡ line_at bytes s.place
 

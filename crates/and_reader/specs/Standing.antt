@@ -5,6 +5,7 @@ use Rattle.and_model.specs.Lines.{Bytes}
 use Rattle.and_syntax.specs.Written
 use Rattle.and_syntax.specs.Written.{Written}
 use Rattle.and_language.specs.Words
+use Rattle.and_language.specs.Grammar
 use Rattle.and_language.specs.Refusals
 use Rattle.and_language.specs.Refusals.{limit_of}
 use Rattle.and_automaton.specs.Machine
@@ -15,7 +16,7 @@ use Rattle.and_clauses.specs.Faults.{what_of}
 use Rattle.and_clauses.specs.declared.draft.ClauseDraft.{ClauseDraft}
 use Rattle.and_reader.specs.declared.state.Pending.{Pending}
 use Rattle.and_reader.specs.declared.state.Bracket.{Bracket}
-use Rattle.and_reader.specs.declared.state.Bracket.TheVariants.{Plain, Arguments, Elements, Tail}
+use Rattle.and_reader.specs.declared.state.Bracket.TheVariants.{Plain, Braces, Arguments, Elements, Tail}
 use Rattle.and_reader.specs.declared.state.Frame.{Frame}
 use Rattle.and_reader.specs.declared.state.ClausePart.{ClausePart}
 use Rattle.and_reader.specs.declared.state.ClausePart.TheVariants.{Head, Body, Query}
@@ -26,24 +27,33 @@ use Rattle.and_reader.specs.declared.parser.Parser.{Parser}
 use Rattle.and_reader.specs.declared.words.Name.{Name}
 use Rattle.and_reader.specs.declared.refusal.Cause.{Cause}
 use Rattle.and_reader.specs.declared.refusal.Cause.TheVariants as causes
-use Rattle.and_reader.specs.Views.{name_of}
+use Rattle.and_reader.specs.Views.{name_of, neck_in, sort_of}
 use Rattle.and_model.specs.declared.limits.TheConstants.{MAX_ARGUMENTS, MAX_NESTING}
 
 -- the finished terms of a draft, the latest first
 abbrev pub terms : ClauseDraft → List Written
 terms d = reverse (draft_of d).finished
 
--- the bracket of the machine that an open bracket stands for
-abbrev pub bracket_of : Bracket → Machine.Bracket
-bracket_of Plain = Machine.plain
-bracket_of (Arguments n) = Machine.arguments (name_of n)
-bracket_of Elements = Machine.elements
-bracket_of Tail = Machine.tail
+-- the bracket of the machine that an open bracket with those alternatives stands for
+abbrev pub bracket_of : Bracket → List Written → Machine.Bracket
+bracket_of Plain es = Machine.plain es
+bracket_of Braces es = Machine.braces es
+bracket_of (Arguments n) es = Machine.arguments (name_of n)
+bracket_of Elements es = Machine.elements
+bracket_of Tail es = Machine.tail
+
+-- the alternatives before the last semicolon in a bracket
+abbrev pub alternatives_in : Machine.Bracket → List Written
+alternatives_in (Machine.plain es) = es
+alternatives_in (Machine.braces es) = es
+alternatives_in (Machine.arguments c) = []
+alternatives_in Machine.elements = []
+alternatives_in Machine.tail = []
 
 -- the parser's part of a clause, which does not keep the head
 abbrev pub part_of : Machine.ClausePart → ClausePart
 part_of Machine.head = Head
-part_of (Machine.body h) = Body
+part_of (Machine.body n h) = Body (neck_in n)
 part_of Machine.query = Query
 
 -- the name of an operator that is pending, if there is one
@@ -60,14 +70,16 @@ pub record IsPending (P : Pending) (p : Machine.Pending) : Type 0 where
 
 -- A name has fewer than 255 arguments before the last comma.
 abbrev pub IsNarrow : Machine.Bracket → ℕ → Type 0
-IsNarrow Machine.plain n = Unit {0}
+IsNarrow (Machine.plain es) n = Unit {0}
+IsNarrow (Machine.braces es) n = Unit {0}
 IsNarrow (Machine.arguments c) n = n < MAX_ARGUMENTS
 IsNarrow Machine.elements n = Unit {0}
 IsNarrow Machine.tail n = Unit {0}
 
 -- an open bracket is one of the machine's frames
 pub record IsFrame (F : Frame) (f : Machine.Frame) : Type 0 where
-  pub bracket : bracket_of F.bracket ≡ f.bracket
+  pub bracket : bracket_of F.bracket (alternatives_in f.bracket) ≡ f.bracket
+  pub alternatives : F.alternatives ≡ length (alternatives_in f.bracket)
   pub before : F.before ≡ length f.before
   pub outside : IsPending F.outside f.outside
   pub narrow : IsNarrow f.bracket (length f.before)
@@ -91,17 +103,18 @@ with_lefts p ws = with_left p.product (with_left p.sum (with_left p.relation ws)
 -- the head that stands before a body
 abbrev pub head_in : Machine.ClausePart → List Written
 head_in Machine.head = []
-head_in (Machine.body h) = h ∷ []
+head_in (Machine.body n h) = h ∷ []
 head_in Machine.query = []
 
 -- the terms that wait outside of what is pending, the latest first
 abbrev pub waiting : Outermost → List Machine.Frame → List Written
-waiting l [] = l.before ++ head_in l.part
-waiting l (f ∷ fs) = f.before ++ with_lefts f.outside (waiting l fs)
+waiting l [] = l.before ++ (l.alternatives ++ head_in l.part)
+waiting l (f ∷ fs) = f.before ++ (alternatives_in f.bracket ++ with_lefts f.outside (waiting l fs))
 
 -- The parser has these brackets open and these operators pending; among its finished terms ws are the latest.
 pub record Stands (P : Parser) (l : Outermost) (fs : List Machine.Frame) (p : Machine.Pending) (ws : List Written) : Type 0 where
   pub part : P.part ≡ part_of l.part
+  pub alternatives : P.alternatives ≡ length l.alternatives
   pub before : P.before ≡ length l.before
   pub frames : AreFrames (reverse P.frames.items) fs
   pub pending : IsPending P.pending p
@@ -111,7 +124,7 @@ pub record Stands (P : Parser) (l : Outermost) (fs : List Machine.Frame) (p : Ma
 
 -- the same, where nothing of the clause is read
 abbrev pub StandsFirst : Parser → Type 0
-StandsFirst P = Stands P (record { part = Machine.head; before = [] }) [] Machine.nothing_pending []
+StandsFirst P = Stands P (record { part = Machine.head; alternatives = []; before = [] }) [] Machine.nothing_pending []
 
 -- The parser stands for the state. (It stands for none behind the end of a clause.)
 abbrev pub IsState : Parser → State → Type 0
@@ -149,9 +162,8 @@ Refuses s x causes.NoQuery = ⊥
 Refuses s x causes.SecondQuery = ⊥
 Refuses s x causes.Memory = Unit {0}
 
--- In the state, the word is answered so: the clause goes on, and the parser stands for the state behind the word; the clause or query is over, and the draft has its term; or the word is refused.
+-- In the state, the word is answered so: the clause goes on, and the parser stands for the state behind the word; it is over, of that sort, and the draft has its term; or the word is refused.
 abbrev pub Answers : State → Words.Word → Result Next Cause → Parser → Type 0
 Answers s x (Ok next.Inside) P = (t : State) × (step true s x ≡ Some t) × (is_over t ≡ false) × IsState P t
-Answers s x (Ok next.Clause) P = (w : Written) × (step true s x ≡ Some (over false w)) × ((draft_of P.draft).finished ≡ w ∷ [])
-Answers s x (Ok next.Query) P = (w : Written) × (step true s x ≡ Some (over true w)) × ((draft_of P.draft).finished ≡ w ∷ []) × IsTrue (is_asking w)
+Answers s x (Ok (next.Over sort)) P = (w : Written) × (step true s x ≡ Some (over (sort_of sort) w)) × ((draft_of P.draft).finished ≡ w ∷ []) × (sort_of sort ≡ Grammar.Sort.query → IsTrue (is_asking w))
 Answers s x (Err c) P = Refuses s x c

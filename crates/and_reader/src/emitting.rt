@@ -3,12 +3,12 @@
 ghost use Rattle.std.specs.Prelude.{◌≡◌, ◌≤◌, ◌<◌, ◌++◌, ◌∷◌, List, length, reverse, Option, OnOk};
 ghost use Rattle.std.specs.Option.{option_copied};
 ghost use Rattle.and_syntax.specs.Written.{Written, compound};
-ghost use Rattle.and_automaton.specs.Machine.{Half, with_half, negated, at400, at500, at700};
+ghost use Rattle.and_automaton.specs.Machine.{Half, with_half, negated, at400, at500, at700, at1100};
 ghost use Rattle.and_automaton.specs.Machine as machine;
 ghost use Rattle.and_clauses.specs.Parts.{many};
 ghost use Rattle.and_clauses.specs.Drafts.{draft_of};
 ghost use Rattle.and_reader.specs.Standing.{terms, name_in, IsPending, with_left, with_lefts};
-ghost use Rattle.and_reader.specs.Answered.{paired, HasInfix, HasOperand};
+ghost use Rattle.and_reader.specs.Answered.{paired, HasInfix, HasOperand, HasAlternatives};
 
 use crate::state::Pending;
 use and_clauses::ClauseDraft;
@@ -42,6 +42,23 @@ pub(crate) fn finish_pairs(
         finish(draft, name, 2)?;
     }
     Ok(())
+}
+
+/// Finishes the last conjunction, with so many commas, and then a disjunction of it and so many
+/// alternatives before it.
+pub(crate) fn finish_disjunction(
+    draft: &mut ClauseDraft,
+    alternatives: usize,
+    commas: usize,
+) -> Result<(), AllocError>
+    requires { HasAlternatives draft.old alternatives commas }
+    ensures ok { (w : Written) (b es rest : List Written)
+        → terms draft.old ≡ w ∷ (b ++ (es ++ rest)) → length b ≡ commas
+        → length es ≡ alternatives → OnOk result (terms draft.new ≡ at1100 es b w ∷ rest) }
+    ensures line { (draft_of draft.new).line ≡ (draft_of draft.old).line }
+{
+    finish_pairs(draft, b",", commas)?;
+    finish_pairs(draft, b";", alternatives)
 }
 
 /// Finishes prefix minuses before the last finished term.

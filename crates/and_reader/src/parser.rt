@@ -1,6 +1,6 @@
 //! A clause, read word by word.
 
-ghost use Rattle.std.specs.Prelude.{◌≡◌, ◌+◌, ◌<◌, [], List, Some, ◌≤◌, pos, neg_ℤ, ◌∷◌, length};
+ghost use Rattle.std.specs.Prelude.{◌≡◌, ◌+◌, ◌<◌, [], List, Some, ◌≤◌, pos, neg_ℤ, ◌∷◌, ◌++◌, length};
 ghost use Rattle.std.specs.Prelude.{reverse, None, nat_le, Bool, OnOk, false, nat_lt, codes};
 ghost use Rattle.and_syntax.specs.Written.{compound, none, variable, integer, Written};
 ghost use Rattle.and_automaton.specs.Machine.{State, Outermost, start, inside, opened_list};
@@ -9,7 +9,8 @@ ghost use Rattle.and_automaton.specs.Machine.{operand_exceeds, role, is_product,
 ghost use Rattle.and_automaton.specs.Machine.{is_relation, list, at700, comma_exceeds};
 ghost use Rattle.and_automaton.specs.Machine.{operator_exceeds};
 ghost use Rattle.and_clauses.specs.Drafts.{draft_of};
-ghost use Rattle.and_reader.specs.Views.{word_of, name_of, before_of};
+ghost use Rattle.and_reader.specs.Views.{word_of, name_of, before_of, neck_of};
+ghost use Rattle.and_language.specs.Grammar.{symbol_of};
 ghost use Rattle.and_reader.specs.Standing.{IsState, IsFit, Answers, Stands, StandsFirst, terms};
 ghost use Rattle.and_reader.specs.Standing.{part_of, bracket_of, IsFrame, AreFrames, waiting};
 ghost use Rattle.and_reader.specs.Standing.{IsPending, with_lefts};
@@ -18,13 +19,16 @@ ghost use Rattle.and_language.specs.Words as words;
 ghost use Rattle.and_automaton.specs.Machine as machine;
 ghost use Rattle.and_model.specs.declared.limits.TheConstants.{MAX_NESTING};
 
-use crate::emitting::{finish, finish_pairs, finish_product, finish_relation, finish_sum};
+use crate::emitting::{
+    finish, finish_disjunction, finish_pairs, finish_product, finish_relation, finish_sum,
+};
 use crate::refusal::Cause;
 use crate::state::{
-    Bracket, ClausePart, Frame, Mode, NOTHING, Next, Pending, check_comma, takes_bar,
+    Bracket, ClausePart, Frame, Mode, NOTHING, Neck, Next, Pending, Sort, check_comma, neck_sort,
+    neck_symbol, takes_bar, takes_semicolon,
 };
 use crate::words::{
-    Before, First, Name, Word, closes_list, is_behind, is_neck, is_product, is_relation,
+    Before, First, Name, Word, closes_list, is_arrow, is_behind, is_neck, is_product, is_relation,
     is_reserved, is_sum, start_of,
 };
 use and_clauses::{ClauseDraft, What};
@@ -40,7 +44,9 @@ const LARGEST: u64 = 9_223_372_036_854_775_807;
 pub(crate) struct Parser<'a> {
     pub draft: ClauseDraft,
     pub part: ClausePart,
-    /// How many terms stand before the last comma outside of brackets.
+    /// How many alternatives stand before the last semicolon outside of brackets.
+    pub alternatives: usize,
+    /// How many terms stand since then and before the last comma.
     pub before: usize,
     /// The open brackets, the innermost last.
     pub frames: Vec<Frame<'a>>,
@@ -59,6 +65,7 @@ impl<'a> Parser<'a> {
         Parser {
             draft: ClauseDraft::new(alloc, line),
             part: ClausePart::Head,
+            alternatives: 0,
             before: 0,
             frames: Vec::new(alloc),
             pending: NOTHING,
@@ -77,10 +84,11 @@ impl<'a> Parser<'a> {
         self.pending.minuses + self.depth >= MAX_NESTING
     }
 
-    /// Goes on behind the bracket, comma or bar of a frame, which becomes the innermost.
+    /// Goes on behind the bracket, comma, semicolon or bar of a frame, which becomes the innermost.
     pub(crate) fn enter(&mut self, frame: Frame<'a>) -> Result<(), AllocError>
         ensures ok { (l : Outermost) (fs : List machine.Frame) (f : machine.Frame)
-            → self.old.part ≡ part_of l.part → self.old.before ≡ length l.before
+            → self.old.part ≡ part_of l.part → self.old.alternatives ≡ length l.alternatives
+            → self.old.before ≡ length l.before
             → AreFrames (reverse self.old.frames.items) fs → IsFrame frame.entry f
             → self.old.depth ≡ depth (f ∷ fs) → depth (f ∷ fs) ≤ MAX_NESTING
             → terms self.old.draft ≡ waiting l (f ∷ fs)
@@ -100,7 +108,7 @@ impl<'a> Parser<'a> {
         requires { self.old.pending.minuses + self.old.depth < MAX_NESTING }
         ensures ok { (l : Outermost) (fs : List machine.Frame) (p : machine.Pending)
             → Stands self.old l fs p []
-            → let b = bracket_of bracket.entry in
+            → let b = bracket_of bracket.entry [] in
             let f : machine.Frame = record { bracket = b; before = []; outside = p } in
             OnOk result (IsState self.new (inside l (f ∷ fs) nothing_pending wanted)) }
         ensures line { (draft_of self.new.draft).line ≡ (draft_of self.old.draft).line }
@@ -109,6 +117,7 @@ impl<'a> Parser<'a> {
         self.depth += outside.minuses + 1;
         self.enter(Frame {
             bracket,
+            alternatives: 0,
             before: 0,
             outside,
         })
@@ -229,6 +238,21 @@ impl<'a> Parser<'a> {
         Ok(Next::Inside)
     }
 
+    /// Takes an opening brace.
+    fn take_open_brace(&mut self) -> Result<Next, Cause>
+        requires { IsBefore self.old }
+        ensures answer { (l : Outermost) (fs : List machine.Frame) (p : machine.Pending)
+            → Stands self.old l fs p [] → let x : words.Word = words.open_brace in
+            Answered (machine.take_operand l fs p x) (operand_exceeds fs p x) x result self.new }
+        ensures line { (draft_of self.new.draft).line ≡ (draft_of self.old.draft).line }
+    {
+        if self.is_deep() {
+            return Err(Cause::TooBig(What::Nesting));
+        }
+        self.open(Bracket::Braces)?;
+        Ok(Next::Inside)
+    }
+
     /// Takes the opening bracket of a list.
     fn take_open_list(&mut self) -> Result<Next, Cause>
         requires { IsBefore self.old }
@@ -266,9 +290,14 @@ impl<'a> Parser<'a> {
             Word::Minus(before) => self.take_minus(before),
             Word::OpenBracket { .. } => self.take_open_bracket(),
             Word::OpenList => self.take_open_list(),
-            Word::CloseBracket | Word::CloseList | Word::Comma | Word::Bar | Word::End => {
-                Err(Cause::Syntax)
-            }
+            Word::OpenBrace => self.take_open_brace(),
+            Word::CloseBracket
+            | Word::CloseList
+            | Word::CloseBrace
+            | Word::Comma
+            | Word::Semicolon
+            | Word::Bar
+            | Word::End => Err(Cause::Syntax),
         }
     }
 
@@ -293,7 +322,10 @@ impl<'a> Parser<'a> {
             | Word::CloseBracket
             | Word::OpenList
             | Word::CloseList
+            | Word::OpenBrace
+            | Word::CloseBrace
             | Word::Comma
+            | Word::Semicolon
             | Word::Bar
             | Word::End => Err(Cause::Syntax),
         }
@@ -377,25 +409,28 @@ impl<'a> Parser<'a> {
     }
 
     /// Goes on outside of brackets.
-    pub(crate) fn begin(&mut self, part: ClausePart, before: usize)
+    pub(crate) fn begin(&mut self, part: ClausePart, alternatives: usize, before: usize)
         ensures ok { (l : Outermost)
             → length (reverse self.old.frames.items) ≡ 0 → part ≡ part_of l.part
-            → before ≡ length l.before → self.old.depth ≡ 0 → terms self.old.draft ≡ waiting l []
+            → alternatives ≡ length l.alternatives → before ≡ length l.before → self.old.depth ≡ 0 → terms self.old.draft ≡ waiting l []
             → IsState self.new (inside l [] nothing_pending wanted) }
         ensures line { (draft_of self.new.draft).line ≡ (draft_of self.old.draft).line }
     {
         self.part = part;
+        self.alternatives = alternatives;
         self.before = before;
         self.pending = NOTHING;
         self.mode = Mode::Wanted;
     }
 
-    /// Takes the `:-` behind a head.
-    fn take_neck(&mut self) -> Result<Next, Cause>
+    /// Takes the `:-` or `-->` behind a head.
+    fn take_neck(&mut self, neck: Neck) -> Result<Next, Cause>
         requires { IsFinished self.old }
         ensures answer { (l : Outermost) (fs : List machine.Frame) (a : Written)
             → Finished self.old l fs a
-            → Answered (machine.take_neck l fs a) false (words.name (codes ":-")) result self.new }
+            → let n = neck_of neck in
+            let x : words.Word = words.name (symbol_of n) in
+            Answered (machine.take_neck l fs n a) false x result self.new }
         ensures line { (draft_of self.new.draft).line ≡ (draft_of self.old.draft).line }
     {
         if self.is_inside() {
@@ -403,11 +438,11 @@ impl<'a> Parser<'a> {
         }
         match self.part {
             ClausePart::Head => {
-                finish_pairs(&mut self.draft, b",", self.before)?;
-                self.begin(ClausePart::Body, 0);
+                finish_disjunction(&mut self.draft, self.alternatives, self.before)?;
+                self.begin(ClausePart::Body(neck), 0, 0);
                 Ok(Next::Inside)
             }
-            ClausePart::Body | ClausePart::Query => Err(Cause::Syntax),
+            ClausePart::Body(_) | ClausePart::Query => Err(Cause::Syntax),
         }
     }
 
@@ -422,11 +457,12 @@ impl<'a> Parser<'a> {
             let Some(more) = self.before.checked_add(1) else {
                 return Err(Cause::Memory);
             };
-            self.begin(self.part, more);
+            self.begin(self.part, self.alternatives, more);
             return Ok(Next::Inside);
         };
         let Frame {
             bracket,
+            alternatives,
             before,
             outside,
         } = frame;
@@ -436,8 +472,51 @@ impl<'a> Parser<'a> {
         check_comma(&bracket, before)?;
         self.enter(Frame {
             bracket,
+            alternatives,
             before,
             outside,
+        })?;
+        Ok(Next::Inside)
+    }
+
+    /// Takes a semicolon outside of brackets.
+    fn take_outer_semicolon(&mut self) -> Result<Next, Cause>
+        requires { (l : Outermost) × (a : Written) × Finished self.old l [] a }
+        ensures answer { (l : Outermost) (a : Written) → Finished self.old l [] a
+            → Answered (machine.take_semicolon l [] a) false words.semicolon result self.new }
+        ensures line { (draft_of self.new.draft).line ≡ (draft_of self.old.draft).line }
+    {
+        finish_pairs(&mut self.draft, b",", self.before)?;
+        let Some(more) = self.alternatives.checked_add(1) else {
+            return Err(Cause::Memory);
+        };
+        self.begin(self.part, more, 0);
+        Ok(Next::Inside)
+    }
+
+    /// Takes a semicolon.
+    fn take_semicolon(&mut self) -> Result<Next, Cause>
+        requires { IsFinished self.old }
+        ensures answer { (l : Outermost) (fs : List machine.Frame) (a : Written)
+            → Finished self.old l fs a
+            → Answered (machine.take_semicolon l fs a) false words.semicolon result self.new }
+        ensures line { (draft_of self.new.draft).line ≡ (draft_of self.old.draft).line }
+    {
+        let Some(frame) = self.frames.pop() else {
+            return self.take_outer_semicolon();
+        };
+        if !takes_semicolon(&frame.bracket) {
+            return Err(Cause::Syntax);
+        }
+        finish_pairs(&mut self.draft, b",", frame.before)?;
+        let Some(alternatives) = frame.alternatives.checked_add(1) else {
+            return Err(Cause::Memory);
+        };
+        self.enter(Frame {
+            bracket: frame.bracket,
+            alternatives,
+            before: 0,
+            outside: frame.outside,
         })?;
         Ok(Next::Inside)
     }
@@ -460,6 +539,7 @@ impl<'a> Parser<'a> {
         };
         self.enter(Frame {
             bracket: Bracket::Tail,
+            alternatives: 0,
             before,
             outside: frame.outside,
         })?;
@@ -470,7 +550,8 @@ impl<'a> Parser<'a> {
     fn leave(&mut self, outside: Pending<'a>)
         requires { outside.minuses + 1 ≤ self.old.depth }
         ensures ok { (l : Outermost) (fs : List machine.Frame) (f : machine.Frame) (w : Written)
-            → self.old.part ≡ part_of l.part → self.old.before ≡ length l.before
+            → self.old.part ≡ part_of l.part → self.old.alternatives ≡ length l.alternatives
+            → self.old.before ≡ length l.before
             → AreFrames (reverse self.old.frames.items) fs → IsPending outside.entry f.outside
             → self.old.depth ≡ depth (f ∷ fs) → depth (f ∷ fs) ≤ MAX_NESTING
             → terms self.old.draft ≡ w ∷ with_lefts f.outside (waiting l fs)
@@ -496,12 +577,13 @@ impl<'a> Parser<'a> {
         };
         let Frame {
             bracket,
+            alternatives,
             before,
             outside,
         } = frame;
         match bracket {
             Bracket::Plain => {
-                finish_pairs(&mut self.draft, b",", before)?;
+                finish_disjunction(&mut self.draft, alternatives, before)?;
                 self.leave(outside);
                 Ok(Next::Inside)
             }
@@ -510,7 +592,36 @@ impl<'a> Parser<'a> {
                 self.leave(outside);
                 Ok(Next::Inside)
             }
-            Bracket::Elements | Bracket::Tail => Err(Cause::Syntax),
+            Bracket::Braces | Bracket::Elements | Bracket::Tail => Err(Cause::Syntax),
+        }
+    }
+
+    /// Takes a closing brace.
+    fn take_close_brace(&mut self) -> Result<Next, Cause>
+        requires { IsFinished self.old }
+        ensures answer { (l : Outermost) (fs : List machine.Frame) (a : Written)
+            → Finished self.old l fs a
+            → Answered (machine.take_close_brace l fs a) false words.close_brace result self.new }
+        ensures line { (draft_of self.new.draft).line ≡ (draft_of self.old.draft).line }
+    {
+        let Some(frame) = self.frames.pop() else {
+            return Err(Cause::Syntax);
+        };
+        let Frame {
+            bracket,
+            alternatives,
+            before,
+            outside,
+        } = frame;
+        match bracket {
+            Bracket::Braces => {
+                finish_disjunction(&mut self.draft, alternatives, before)?;
+                finish(&mut self.draft, b"{}", 1)?;
+                self.leave(outside);
+                Ok(Next::Inside)
+            }
+            Bracket::Arguments(_name) => Err(Cause::Syntax),
+            Bracket::Plain | Bracket::Elements | Bracket::Tail => Err(Cause::Syntax),
         }
     }
 
@@ -519,10 +630,12 @@ impl<'a> Parser<'a> {
         requires many { before < length (terms self.old.draft) }
         requires opened { outside.minuses + 1 ≤ self.old.depth }
         ensures answer { (l : Outermost) (fs : List machine.Frame) (f : machine.Frame) (a : Written)
-            → self.old.part ≡ part_of l.part → self.old.before ≡ length l.before
+            → self.old.part ≡ part_of l.part → self.old.alternatives ≡ length l.alternatives
+            → self.old.before ≡ length l.before
             → AreFrames (reverse self.old.frames.items) fs → before ≡ length f.before
             → IsPending outside.entry f.outside → self.old.depth ≡ depth (f ∷ fs)
-            → depth (f ∷ fs) ≤ MAX_NESTING → terms self.old.draft ≡ a ∷ waiting l (f ∷ fs)
+            → depth (f ∷ fs) ≤ MAX_NESTING
+            → terms self.old.draft ≡ a ∷ (f.before ++ with_lefts f.outside (waiting l fs))
             → let s : machine.State = inside l fs f.outside (operand (list f.before a) None) in
             Answered (Some s) false words.close_list result self.new }
         ensures line { (draft_of self.new.draft).line ≡ (draft_of self.old.draft).line }
@@ -547,6 +660,7 @@ impl<'a> Parser<'a> {
             bracket,
             before,
             outside,
+            ..
         } = frame;
         match bracket {
             Bracket::Elements => {
@@ -556,7 +670,7 @@ impl<'a> Parser<'a> {
             }
             Bracket::Tail => self.close_list(before, outside),
             Bracket::Arguments(_name) => Err(Cause::Syntax),
-            Bracket::Plain => Err(Cause::Syntax),
+            Bracket::Plain | Bracket::Braces => Err(Cause::Syntax),
         }
     }
 
@@ -571,16 +685,16 @@ impl<'a> Parser<'a> {
         if self.is_inside() {
             return Err(Cause::Syntax);
         }
-        finish_pairs(&mut self.draft, b",", self.before)?;
+        finish_disjunction(&mut self.draft, self.alternatives, self.before)?;
         match self.part {
-            ClausePart::Head => Ok(Next::Clause),
-            ClausePart::Body => {
-                finish(&mut self.draft, b":-", 2)?;
-                Ok(Next::Clause)
+            ClausePart::Head => Ok(Next::Over(Sort::Clause)),
+            ClausePart::Body(neck) => {
+                finish(&mut self.draft, neck_symbol(neck), 2)?;
+                Ok(Next::Over(neck_sort(neck)))
             }
             ClausePart::Query => {
                 finish(&mut self.draft, b"?-", 1)?;
-                Ok(Next::Query)
+                Ok(Next::Over(Sort::Query))
             }
         }
     }
@@ -605,7 +719,10 @@ impl<'a> Parser<'a> {
             self.take_relation(name)
         } else if is_neck(name) {
             self.finish_pending()?;
-            self.take_neck()
+            self.take_neck(Neck::Turnstile)
+        } else if is_arrow(name) {
+            self.finish_pending()?;
+            self.take_neck(Neck::Arrow)
         } else {
             Err(Cause::Syntax)
         }
@@ -635,9 +752,17 @@ impl<'a> Parser<'a> {
                 self.finish_pending()?;
                 self.take_close_list()
             }
+            Word::CloseBrace => {
+                self.finish_pending()?;
+                self.take_close_brace()
+            }
             Word::Comma => {
                 self.finish_pending()?;
                 self.take_comma()
+            }
+            Word::Semicolon => {
+                self.finish_pending()?;
+                self.take_semicolon()
             }
             Word::Bar => {
                 self.finish_pending()?;
@@ -648,9 +773,11 @@ impl<'a> Parser<'a> {
                 self.take_end()
             }
             Word::Quoted(_text) => Err(Cause::Syntax),
-            Word::Variable(_) | Word::Integer(_) | Word::OpenBracket { .. } | Word::OpenList => {
-                Err(Cause::Syntax)
-            }
+            Word::Variable(_)
+            | Word::Integer(_)
+            | Word::OpenBracket { .. }
+            | Word::OpenList
+            | Word::OpenBrace => Err(Cause::Syntax),
         }
     }
 
@@ -664,7 +791,7 @@ impl<'a> Parser<'a> {
     {
         match start_of(&word) {
             First::Query => {
-                self.begin(ClausePart::Query, 0);
+                self.begin(ClausePart::Query, 0, 0);
                 Ok(Next::Inside)
             }
             First::Directive => Err(Cause::NotPure),

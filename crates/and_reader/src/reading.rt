@@ -1,6 +1,7 @@
 //! Texts as programs.
 
 ghost use Rattle.std.specs.Prelude.{◌≡◌, ◌≤◌, ◌<◌, ◌-◌, ◌^◌, ℕ, List, [], length, Some, None};
+ghost use Rattle.and_language.specs.Grammar.{Sort as StatementSort};
 ghost use Rattle.std.specs.Prelude.{IsTrue, IfOk, OnOk, IfErr, IfSome};
 ghost use Rattle.and_model.specs.Lines.{Bytes};
 ghost use Rattle.and_language.specs.Tokens.{line_at, Answer, no_more};
@@ -11,7 +12,7 @@ ghost use Rattle.and_clauses.specs.Drafts.{draft_of};
 ghost use Rattle.and_clauses.specs.Views.{table_of, is_query as asks};
 ghost use Rattle.and_program.specs.Loaded.{program_of};
 ghost use Rattle.and_clauses.specs.Faults.{fault_of};
-ghost use Rattle.and_reader.specs.Views.{word_of as word_shown};
+ghost use Rattle.and_reader.specs.Views.{word_of as word_shown, sort_of};
 ghost use Rattle.and_reader.specs.Standing.{IsFit};
 ghost use Rattle.and_reader.specs.Causes.{refusal_of};
 ghost use Rattle.and_reader.specs.Reading.{IsRead, IsReadBefore, with_word};
@@ -21,7 +22,7 @@ ghost use Rattle.and_model.specs.declared.limits.TheConstants.{MAX_BYTES};
 use crate::lines::{Cursor, line_at};
 use crate::parser::Parser;
 use crate::refusal::{Cause, ReadRefusal, fault_refusal, seal_refusal, table_cause};
-use crate::state::Next;
+use crate::state::{Next, Sort};
 use crate::words::{Word, word_of};
 use and_clauses::{ClauseDraft, ClauseTable, Loaded, TableFault, What};
 use and_lex::Lexer;
@@ -56,25 +57,25 @@ fn memory() -> ReadRefusal
     }
 }
 
-/// Puts a whole clause or query into the table.
-fn put(table: &mut ClauseTable, draft: ClauseDraft, is_query: bool) -> Result<(), TableFault>
+/// Puts a whole clause or query into the table. A grammar rule is not pure.
+fn put(table: &mut ClauseTable, draft: ClauseDraft, sort: Sort) -> Result<(), TableFault>
     requires whole { length (draft_of draft).finished ≡ 1 }
-    requires query { IsTrue is_query → IsTrue (asks (draft_of draft).finished) }
+    requires query { sort_of sort ≡ StatementSort.query → IsTrue (asks (draft_of draft).finished) }
     ensures added { (bytes : Bytes) (s : Statement)
-        → IsDraftOf bytes (draft_of draft) is_query s
+        → IsDraftOf bytes (draft_of draft) (sort_of sort) s
         → OnOk result (IsAdded bytes (table_of table.old) s (table_of table.new)) }
     ensures refused { (bytes : Bytes) (s : Statement)
-        → IsDraftOf bytes (draft_of draft) is_query s
+        → IsDraftOf bytes (draft_of draft) (sort_of sort) s
         → IfErr result (λ e. IfSome (fault_of e)
         (λ f. statement_fault (table_of table.old) s ≡ Some f)) }
 {
-    if is_query {
-        table.set_query(draft)
-    } else {
-        match table.add_clause(draft) {
+    match sort {
+        Sort::Query => table.set_query(draft),
+        Sort::Clause => match table.add_clause(draft) {
             Ok(_) => Ok(()),
             Err(fault) => Err(fault),
-        }
+        },
+        Sort::GrammarRule => Err(TableFault::NotPure),
     }
 }
 
@@ -111,15 +112,16 @@ impl<'a> Reader<'a> {
         }
     }
 
-    /// Puts the clause or query, which is over, into the table.
-    fn finish(&mut self, begun: Begun<'a>, is_query: bool) -> Result<(), ReadRefusal>
+    /// Puts the clause, query or rule, which is over, into the table.
+    fn finish(&mut self, begun: Begun<'a>, sort: Sort) -> Result<(), ReadRefusal>
         requires whole { length (draft_of begun.parser.draft).finished ≡ 1 }
-        requires query { IsTrue is_query → IsTrue (asks (draft_of begun.parser.draft).finished) }
+        requires query { sort_of sort ≡ StatementSort.query
+            → IsTrue (asks (draft_of begun.parser.draft).finished) }
         ensures added { (bytes : Bytes) (s : Statement)
-            → IsDraftOf bytes (draft_of begun.entry.parser.draft) is_query s
+            → IsDraftOf bytes (draft_of begun.entry.parser.draft) (sort_of sort) s
             → OnOk result (IsAdded bytes (table_of self.old.table) s (table_of self.new.table)) }
         ensures refused { (bytes : Bytes) (s : Statement)
-            → IsDraftOf bytes (draft_of begun.entry.parser.draft) is_query s
+            → IsDraftOf bytes (draft_of begun.entry.parser.draft) (sort_of sort) s
             → begun.entry.line ≡ line_at bytes s.place
             → IfErr result (λ e. IfSome (refusal_of e)
             (IsFaultOf bytes (table_of self.old.table) s)) }
@@ -128,7 +130,7 @@ impl<'a> Reader<'a> {
         ensures clause { self.new.clause ≡ self.old.clause }
     {
         let Begun { line, parser } = begun;
-        match put(&mut self.table, parser.draft, is_query) {
+        match put(&mut self.table, parser.draft, sort) {
             Ok(()) => Ok(()),
             Err(fault) => Err(ReadRefusal {
                 line,
@@ -160,8 +162,7 @@ impl<'a> Reader<'a> {
                 self.clause = Some(begun);
                 Ok(())
             }
-            Ok(Next::Clause) => self.finish(begun, false),
-            Ok(Next::Query) => self.finish(begun, true),
+            Ok(Next::Over(sort)) => self.finish(begun, sort),
             Err(cause) => Err(self.at(place, cause)),
         }
     }

@@ -2,12 +2,12 @@
 
 ghost use Rattle.std.specs.Prelude.{◌≡◌, ◌≤◌, ℕ, length, [], IfOk, Ok, Some, codes};
 ghost use Rattle.std.specs.Str.{bytes_eq};
-ghost use Rattle.and_language.specs.Words.{is_one_of, products, sums, relations, is_operator};
+ghost use Rattle.and_language.specs.Words.{is_one_of, products, sums, relations, is_operator, is_reserved};
 ghost use Rattle.and_language.specs.Words.{bytes_of, before_kind, before, IsWord};
 ghost use Rattle.and_language.specs.Tokens.{Comes, one, symbol as symbol_kind};
 ghost use Rattle.and_language.specs.Tokens;
 ghost use Rattle.and_lex.specs.Views.{token_of, kind_of, answer_of};
-ghost use Rattle.and_automaton.specs.Machine.{is_reserved, closes_list};
+ghost use Rattle.and_automaton.specs.Machine.{closes_list};
 ghost use Rattle.and_reader.specs.Views.{name_of, word_of};
 ghost use Rattle.and_reader.specs.Seen.{seen_of, IsWithin};
 ghost use Rattle.and_reader.specs.Standing.{IsFit};
@@ -60,7 +60,10 @@ pub(crate) enum Word<'a> {
     CloseBracket,
     OpenList,
     CloseList,
+    OpenBrace,
+    CloseBrace,
     Comma,
+    Semicolon,
     Bar,
     End,
 }
@@ -103,6 +106,13 @@ pub(crate) fn is_neck(name: &[u8]) -> bool
     name == b":-".as_slice()
 }
 
+/// The symbol between the head and the body of a grammar rule.
+pub(crate) fn is_arrow(name: &[u8]) -> bool
+    ensures { result ≡ bytes_eq name.now (codes "-->") }
+{
+    name == b"-->".as_slice()
+}
+
 /// The symbol that begins a query.
 pub(crate) fn is_query(name: &[u8]) -> bool
     ensures { result ≡ bytes_eq name.now (codes "?-") }
@@ -114,14 +124,18 @@ pub(crate) fn is_query(name: &[u8]) -> bool
 pub(crate) fn is_reserved(name: &[u8]) -> bool
     ensures { result ≡ is_reserved name.now }
 {
-    is_neck(name) || is_query(name)
+    is_neck(name) || is_arrow(name) || is_query(name)
 }
 
 /// An operator other than the minus.
 fn is_operator(name: &[u8]) -> bool
     ensures { result ≡ is_operator name.now }
 {
-    name == b":-".as_slice() || name == b"+".as_slice() || is_product(name) || is_relation(name)
+    name == b":-".as_slice()
+        || name == b"-->".as_slice()
+        || name == b"+".as_slice()
+        || is_product(name)
+        || is_relation(name)
 }
 
 /// What comes next, seen from a minus; `None` for a bracket right behind it.
@@ -132,7 +146,7 @@ fn before_token(bytes: &[u8], token: &Token) -> Option<Before>
         ≡ before_kind bytes.now (token_of token.now) (kind_of token.now.kind) }
 {
     match token.kind {
-        Kind::Variable | Kind::Quoted | Kind::OpenList => Some(Before::Operand),
+        Kind::Variable | Kind::Quoted | Kind::OpenList | Kind::OpenBrace => Some(Before::Operand),
         Kind::Name | Kind::Symbol => {
             if is_operator(&bytes[token.start..token.end]) {
                 Some(Before::Stop)
@@ -154,7 +168,13 @@ fn before_token(bytes: &[u8], token: &Token) -> Option<Before>
                 None
             }
         }
-        Kind::Close | Kind::CloseList | Kind::Comma | Kind::Bar | Kind::End => Some(Before::Stop),
+        Kind::Close
+        | Kind::CloseList
+        | Kind::CloseBrace
+        | Kind::Comma
+        | Kind::Semicolon
+        | Kind::Bar
+        | Kind::End => Some(Before::Stop),
     }
 }
 
@@ -218,7 +238,10 @@ pub(crate) fn word_of<'a>(
         Kind::Close => Ok(Word::CloseBracket),
         Kind::OpenList => Ok(Word::OpenList),
         Kind::CloseList => Ok(Word::CloseList),
+        Kind::OpenBrace => Ok(Word::OpenBrace),
+        Kind::CloseBrace => Ok(Word::CloseBrace),
         Kind::Comma => Ok(Word::Comma),
+        Kind::Semicolon => Ok(Word::Semicolon),
         Kind::Bar => Ok(Word::Bar),
         Kind::End => Ok(Word::End),
     }
@@ -254,7 +277,10 @@ pub(crate) fn start_of(word: &Word) -> First
         | Word::CloseBracket
         | Word::OpenList
         | Word::CloseList
+        | Word::OpenBrace
+        | Word::CloseBrace
         | Word::Comma
+        | Word::Semicolon
         | Word::Bar
         | Word::End => First::Other,
     }

@@ -1,5 +1,5 @@
 use Rattle.std.proofs.Common.{ap}
-use Rattle.and_language.specs.Words.{variable_token, integer_token, name_token, quoted_token, open_bracket_token, close_bracket_token, open_list_token, close_list_token, comma_token, bar_token, end_token}
+use Rattle.and_language.specs.Words.{variable_token, integer_token, name_token, quoted_token, open_bracket_token, close_bracket_token, open_list_token, close_list_token, open_brace_token, close_brace_token, comma_token, semicolon_token, bar_token, end_token}
 use Rattle.and_lex.specs.Views.{kind_of, token_of}
 use Rattle.and_reader.proofs.WordLemmas.{of_kind, quoted_text, small_integer}
 use Rattle.and_reader.proofs.words.word_of.Goals as goal
@@ -33,6 +33,15 @@ returns-in-CloseList-clause-word c = of_kind _ _ _ _ _ _ c.in-CloseList.is close
 
 pub returns-in-Comma-clause-word : goal.returns-in-Comma-clause-word
 returns-in-Comma-clause-word c = of_kind _ _ _ _ _ _ c.in-Comma.is comma_token
+
+pub returns-in-OpenBrace-clause-word : goal.returns-in-OpenBrace-clause-word
+returns-in-OpenBrace-clause-word c = of_kind _ _ _ _ _ _ c.in-OpenBrace.is open_brace_token
+
+pub returns-in-CloseBrace-clause-word : goal.returns-in-CloseBrace-clause-word
+returns-in-CloseBrace-clause-word c = of_kind _ _ _ _ _ _ c.in-CloseBrace.is close_brace_token
+
+pub returns-in-Semicolon-clause-word : goal.returns-in-Semicolon-clause-word
+returns-in-Semicolon-clause-word c = of_kind _ _ _ _ _ _ c.in-Semicolon.is semicolon_token
 
 pub returns-in-Bar-clause-word : goal.returns-in-Bar-clause-word
 returns-in-Bar-clause-word c = of_kind _ _ _ _ _ _ c.in-Bar.is bar_token

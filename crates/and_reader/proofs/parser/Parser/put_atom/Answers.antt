@@ -7,6 +7,7 @@ returns-clause-ok c l fs p s = (
   refl,
   record {
     part = s.part;
+    alternatives = s.alternatives;
     before = s.before;
     frames = s.frames;
     pending = s.pending;

@@ -1,6 +1,7 @@
 use Rattle.std.proofs.Common.{◌≡◌, Some, false, refl}
 use Rattle.and_syntax.specs.Written.{compound, none}
-use Rattle.and_automaton.specs.Machine.{inside, operand, is_reserved}
+use Rattle.and_language.specs.Words.{is_reserved}
+use Rattle.and_automaton.specs.Machine.{inside, operand}
 use Rattle.and_reader.specs.declared.words.Name.TheVariants as names
 use Rattle.and_reader.proofs.parser.Parser.take_atom.Goals as goal
 
@@ -17,6 +18,6 @@ returns-clause-answer c l fs p s =
         refl,
         refl,
         refl,
-        record { part = s.part; before = s.before; frames = s.frames; pending = s.pending; opened = s.opened; nesting = s.nesting; finished = s.finished },
+        record { part = s.part; alternatives = s.alternatives; before = s.before; frames = s.frames; pending = s.pending; opened = s.opened; nesting = s.nesting; finished = s.finished },
       ),
     )

@@ -26,7 +26,7 @@ returns-in-Integer-clause-answer c l fs p s = (
   ap (λ (b : Before). Machine.take_operand l fs p (Words.minus (before_of b))) c.in-Integer.is,
   ap (λ (b : Before). operand_exceeds fs p (Words.minus (before_of b))) c.in-Integer.is,
   refl,
-  (refl, record { part = s.part; before = s.before; frames = s.frames; pending = s.pending; opened = s.opened; nesting = s.nesting; finished = s.finished }),
+  (refl, record { part = s.part; alternatives = s.alternatives; before = s.before; frames = s.frames; pending = s.pending; opened = s.opened; nesting = s.nesting; finished = s.finished }),
 )
 
 pub returns-in_ok-put_atom-in-Stop-clause-answer : goal.returns-in_ok-put_atom-in-Stop-clause-answer
@@ -52,6 +52,7 @@ returns-else-is_deep-clause-answer c l fs p s =
         refl,
         record {
           part = s.part;
+          alternatives = s.alternatives;
           before = s.before;
           frames = s.frames;
           pending = record { relation = s.pending.relation; sum = s.pending.sum; product = s.pending.product; minuses = one };

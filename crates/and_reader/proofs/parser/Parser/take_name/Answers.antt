@@ -8,6 +8,9 @@ use Rattle.and_reader.proofs.parser.Parser.take_name.Goals as goal
 pub take_neck-requires : goal.take_neck-requires
 take_neck-requires c = let q = c.requires in (q.0, q.1, at700 q.2 q.3, c.in_ok-finish_pending.ensures.ok q.0 q.1 q.2 q.3 q.4)
 
+pub take_neck-requires-then-is_arrow : goal.take_neck-requires-then-is_arrow
+take_neck-requires-then-is_arrow c = let q = c.requires in (q.0, q.1, at700 q.2 q.3, c.in_ok-finish_pending-2.ensures.ok q.0 q.1 q.2 q.3 q.4)
+
 pub returns-in_ok-take_product-clause-answer : goal.returns-in_ok-take_product-clause-answer
 returns-in_ok-take_product-clause-answer c l fs p w s =
     let b = c.args.name.now in

@@ -12,6 +12,12 @@ take_close_bracket-requires c = let q = c.requires in (q.0, q.1, at700 q.2 q.3, 
 pub take_close_list-requires : goal.take_close_list-requires
 take_close_list-requires c = let q = c.requires in (q.0, q.1, at700 q.2 q.3, c.in_ok-finish_pending-in-CloseList.ensures.ok q.0 q.1 q.2 q.3 q.4)
 
+pub take_close_brace-requires : goal.take_close_brace-requires
+take_close_brace-requires c = let q = c.requires in (q.0, q.1, at700 q.2 q.3, c.in_ok-finish_pending-in-CloseBrace.ensures.ok q.0 q.1 q.2 q.3 q.4)
+
+pub take_semicolon-requires : goal.take_semicolon-requires
+take_semicolon-requires c = let q = c.requires in (q.0, q.1, at700 q.2 q.3, c.in_ok-finish_pending-in-Semicolon.ensures.ok q.0 q.1 q.2 q.3 q.4)
+
 pub take_end-requires : goal.take_end-requires
 take_end-requires c = let q = c.requires in (q.0, q.1, at700 q.2 q.3, c.in_ok-finish_pending-in-End.ensures.ok q.0 q.1 q.2 q.3 q.4)
 

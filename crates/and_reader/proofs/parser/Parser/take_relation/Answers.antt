@@ -19,6 +19,7 @@ returns-clause-answer c l fs p w s =
         refl,
         record {
           part = s.part;
+          alternatives = s.alternatives;
           before = s.before;
           frames = s.frames;
           pending = record { relation = refl; sum = refl; product = refl; minuses = refl };

@@ -1,15 +1,16 @@
-use Rattle.std.proofs.Common.{IsTrue, ◌≤◌, true, false, ◌∙◌, ap, sym, refl, arith, length, subst}
+use Rattle.std.proofs.Common.{IsTrue, ◌≤◌, ◌∙◌, ap, sym, refl, arith, length, subst}
 use Rattle.std.specs.Option.{IfSome}
 use Rattle.and_language.specs.Tokens.{line_at}
-use Rattle.and_language.specs.Grammar.{Statement}
+use Rattle.and_language.specs.Grammar.{Sort, Statement}
 use Rattle.and_language.specs.Refusals.{Refusal, IsRefused}
 use Rattle.and_clauses.specs.Views.{table_of, is_query}
 use Rattle.and_reader.specs.declared.refusal.ReadRefusal.{ReadRefusal}
 use Rattle.and_reader.specs.Causes.{cause_of, refusal_of, refusal_with}
 use Rattle.and_reader.specs.Reading.{first_place, IsFaultOf}
 use Rattle.and_model.specs.Lines.{Bytes}
-use Rattle.and_reader.specs.Views.{word_of}
-use Rattle.and_reader.specs.declared.state.Next.TheVariants.{Inside, Clause, Query}
+use Rattle.and_reader.specs.declared.state.Next.{Next}
+use Rattle.and_reader.specs.Views.{word_of, sort_of}
+use Rattle.and_reader.specs.declared.state.Next.TheVariants.{Inside, Over}
 use Rattle.and_reader.proofs.TermLemmas.{on_ok}
 use Rattle.and_reader.proofs.ReadingLemmas.{read_more, read_over, clause_refused, word_refused}
 use Rattle.and_reader.proofs.Told.{answer_told, refusal_told}
@@ -22,20 +23,16 @@ take-requires-clause-stands c = let h = c.begin-begun.ensures.begun c.requires.r
 pub finish-requires-clause-whole : goal.finish-requires-clause-whole
 finish-requires-clause-whole c =
     let h = c.begin-begun.ensures.begun c.requires.read.0 c.requires.read.1 c.requires.read.2 in
-    let a = answer_told h.rest.state (word_of c.args.word) c.take.new.self c.in-Ok-Clause.field-0 Clause c.in-Ok-Clause.field-0-is (c.in-Ok-Clause.ensures.answer h.rest.state h.rest.stands) in
+    let n : Next = Over c.in-Ok-Over.sort in
+    let a = answer_told h.rest.state (word_of c.args.word) c.take.new.self c.in-Ok-Over.field-0 n c.in-Ok-Over.field-0-is (c.in-Ok-Over.ensures.answer h.rest.state h.rest.stands) in
     ap length a.2
 
-pub finish-requires-in-Ok-Query-clause-whole : goal.finish-requires-in-Ok-Query-clause-whole
-finish-requires-in-Ok-Query-clause-whole c =
+pub finish-requires-clause-query : goal.finish-requires-clause-query
+finish-requires-clause-query c = λ q.
     let h = c.begin-begun.ensures.begun c.requires.read.0 c.requires.read.1 c.requires.read.2 in
-    let a = answer_told h.rest.state (word_of c.args.word) c.take.new.self c.in-Ok-Query.field-0 Query c.in-Ok-Query.field-0-is (c.in-Ok-Query.ensures.answer h.rest.state h.rest.stands) in
-    ap length a.2
-
-pub finish-requires-in-Ok-Query-clause-query : goal.finish-requires-in-Ok-Query-clause-query
-finish-requires-in-Ok-Query-clause-query c = λ _.
-    let h = c.begin-begun.ensures.begun c.requires.read.0 c.requires.read.1 c.requires.read.2 in
-    let a = answer_told h.rest.state (word_of c.args.word) c.take.new.self c.in-Ok-Query.field-0 Query c.in-Ok-Query.field-0-is (c.in-Ok-Query.ensures.answer h.rest.state h.rest.stands) in
-    subst (λ ws. IsTrue (is_query ws)) (sym a.2) a.3
+    let n : Next = Over c.in-Ok-Over.sort in
+    let a = answer_told h.rest.state (word_of c.args.word) c.take.new.self c.in-Ok-Over.field-0 n c.in-Ok-Over.field-0-is (c.in-Ok-Over.ensures.answer h.rest.state h.rest.stands) in
+    subst (λ ws. IsTrue (is_query ws)) (sym a.2) (a.3 q)
 
 pub at-requires : goal.at-requires
 at-requires c =
@@ -48,49 +45,31 @@ returns-in-Ok-Inside-clause-taken c = λ bytes words r.
     let a = answer_told h.rest.state (word_of c.args.word) c.take.new.self c.in-Ok-Inside.field-0 Inside c.in-Ok-Inside.field-0-is (c.in-Ok-Inside.ensures.answer h.rest.state h.rest.stands) in
     read_more bytes c.args.place c.begin-begun.new.self c.begin-begun.result (record c.begin-begun.result { parser = c.take.new.self }) words (word_of c.args.word) h a.0 a.1 a.2 a.3 refl c.in-Ok-Inside.ensures.line
 
-pub returns-in-Ok-Clause-clause-taken : goal.returns-in-Ok-Clause-clause-taken
-returns-in-Ok-Clause-clause-taken c = λ bytes words r.
+pub returns-in-Ok-Over-clause-taken : goal.returns-in-Ok-Over-clause-taken
+returns-in-Ok-Over-clause-taken c = λ bytes words r.
     let h = c.begin-begun.ensures.begun bytes words r in
-    let a = answer_told h.rest.state (word_of c.args.word) c.take.new.self c.in-Ok-Clause.field-0 Clause c.in-Ok-Clause.field-0-is (c.in-Ok-Clause.ensures.answer h.rest.state h.rest.stands) in
-    let s : Statement = record { is_query = false; term = a.0; place = first_place h.begun c.args.place } in
-    let drafted = c.in-Ok-Clause.ensures.line ∙ (h.rest.drafted ∙ h.rest.line) in
+    let n : Next = Over c.in-Ok-Over.sort in
+    let q : Sort = sort_of c.in-Ok-Over.sort in
+    let a = answer_told h.rest.state (word_of c.args.word) c.take.new.self c.in-Ok-Over.field-0 n c.in-Ok-Over.field-0-is (c.in-Ok-Over.ensures.answer h.rest.state h.rest.stands) in
+    let s : Statement = record { sort = q; term = a.0; place = first_place h.begun c.args.place } in
+    let drafted = c.in-Ok-Over.ensures.line ∙ (h.rest.drafted ∙ h.rest.line) in
     on_ok c.finish.result
-    (λ f. read_over bytes c.args.place c.begin-begun.new.self c.finish.new.self c.begin-begun.result words (word_of c.args.word) false a.0 h a.1 c.finish.ensures.text c.finish.ensures.cursor (c.finish.ensures.clause ∙ c.begin-begun.ensures.moved) f.0 f.1)
+    (λ f. read_over bytes c.args.place c.begin-begun.new.self c.finish.new.self c.begin-begun.result words (word_of c.args.word) q a.0 h a.1 c.finish.ensures.text c.finish.ensures.cursor (c.finish.ensures.clause ∙ c.begin-begun.ensures.moved) f.0 f.1)
     (c.finish.ensures.added bytes s (record { kind = refl; term = a.2; line = drafted }))
 
-pub returns-in-Ok-Clause-clause-refused : goal.returns-in-Ok-Clause-clause-refused
-returns-in-Ok-Clause-clause-refused c = λ bytes words next r w.
+pub returns-in-Ok-Over-clause-refused : goal.returns-in-Ok-Over-clause-refused
+returns-in-Ok-Over-clause-refused c = λ bytes words next r w.
     let h = c.begin-begun.ensures.begun bytes words r in
-    let a = answer_told h.rest.state (word_of c.args.word) c.take.new.self c.in-Ok-Clause.field-0 Clause c.in-Ok-Clause.field-0-is (c.in-Ok-Clause.ensures.answer h.rest.state h.rest.stands) in
-    let s : Statement = record { is_query = false; term = a.0; place = first_place h.begun c.args.place } in
-    let drafted = c.in-Ok-Clause.ensures.line ∙ (h.rest.drafted ∙ h.rest.line) in
+    let n : Next = Over c.in-Ok-Over.sort in
+    let q : Sort = sort_of c.in-Ok-Over.sort in
+    let a = answer_told h.rest.state (word_of c.args.word) c.take.new.self c.in-Ok-Over.field-0 n c.in-Ok-Over.field-0-is (c.in-Ok-Over.ensures.answer h.rest.state h.rest.stands) in
+    let s : Statement = record { sort = q; term = a.0; place = first_place h.begun c.args.place } in
+    let drafted = c.in-Ok-Over.ensures.line ∙ (h.rest.drafted ∙ h.rest.line) in
     let P : Refusal → Type 0 = IsRefused bytes in
     let small : length bytes ≤ MAX_BYTES = omega (arith, ap length r.text, c.requires.few) in
     refusal_told (IsFaultOf bytes (table_of c.begin-begun.new.self.table) s) P c.finish.result
-    (λ x f. subst P (sym f.2) (clause_refused bytes c.args.place c.begin-begun.new.self c.begin-begun.result words (word_of c.args.word) next false a.0 h a.1 small w f.0 f.1))
+    (λ x f. subst P (sym f.2) (clause_refused bytes c.args.place c.begin-begun.new.self c.begin-begun.result words (word_of c.args.word) next q a.0 h a.1 small w f.0 f.1))
     (c.finish.ensures.refused bytes s (record { kind = refl; term = a.2; line = drafted }) h.rest.line)
-
-pub returns-in-Ok-Query-clause-taken : goal.returns-in-Ok-Query-clause-taken
-returns-in-Ok-Query-clause-taken c = λ bytes words r.
-    let h = c.begin-begun.ensures.begun bytes words r in
-    let a = answer_told h.rest.state (word_of c.args.word) c.take.new.self c.in-Ok-Query.field-0 Query c.in-Ok-Query.field-0-is (c.in-Ok-Query.ensures.answer h.rest.state h.rest.stands) in
-    let s : Statement = record { is_query = true; term = a.0; place = first_place h.begun c.args.place } in
-    let drafted = c.in-Ok-Query.ensures.line ∙ (h.rest.drafted ∙ h.rest.line) in
-    on_ok c.finish-in-Ok-Query.result
-    (λ f. read_over bytes c.args.place c.begin-begun.new.self c.finish-in-Ok-Query.new.self c.begin-begun.result words (word_of c.args.word) true a.0 h a.1 c.finish-in-Ok-Query.ensures.text c.finish-in-Ok-Query.ensures.cursor (c.finish-in-Ok-Query.ensures.clause ∙ c.begin-begun.ensures.moved) f.0 f.1)
-    (c.finish-in-Ok-Query.ensures.added bytes s (record { kind = refl; term = a.2; line = drafted }))
-
-pub returns-in-Ok-Query-clause-refused : goal.returns-in-Ok-Query-clause-refused
-returns-in-Ok-Query-clause-refused c = λ bytes words next r w.
-    let h = c.begin-begun.ensures.begun bytes words r in
-    let a = answer_told h.rest.state (word_of c.args.word) c.take.new.self c.in-Ok-Query.field-0 Query c.in-Ok-Query.field-0-is (c.in-Ok-Query.ensures.answer h.rest.state h.rest.stands) in
-    let s : Statement = record { is_query = true; term = a.0; place = first_place h.begun c.args.place } in
-    let drafted = c.in-Ok-Query.ensures.line ∙ (h.rest.drafted ∙ h.rest.line) in
-    let P : Refusal → Type 0 = IsRefused bytes in
-    let small : length bytes ≤ MAX_BYTES = omega (arith, ap length r.text, c.requires.few) in
-    refusal_told (IsFaultOf bytes (table_of c.begin-begun.new.self.table) s) P c.finish-in-Ok-Query.result
-    (λ x f. subst P (sym f.2) (clause_refused bytes c.args.place c.begin-begun.new.self c.begin-begun.result words (word_of c.args.word) next true a.0 h a.1 small w f.0 f.1))
-    (c.finish-in-Ok-Query.ensures.refused bytes s (record { kind = refl; term = a.2; line = drafted }) h.rest.line)
 
 pub returns-in-Err-clause-refused : goal.returns-in-Err-clause-refused
 returns-in-Err-clause-refused c = λ bytes words next r w.
