@@ -17,7 +17,7 @@ use Rattle.and_laws.proofs.Solving.{solves_then}
 use Rattle.and_laws.proofs.Substitutions.{then, apply_then, same, apply_same, apply_ground}
 use Rattle.and_cells.specs.Ranges.{NamedProgram}
 use Rattle.and_cells.specs.Rows.{IsSound}
-use Rattle.and_cells.specs.Seen.{word_at}
+use Rattle.and_cells.specs.Seen.{word_at, Grows, AreFree}
 use Rattle.and_cells.specs.Numbers.{number_of}
 use Rattle.and_cells.specs.Joined.{value}
 use Rattle.and_cells.specs.Meaning
@@ -33,13 +33,13 @@ use Rattle.and_branch_laws.specs.Judging.{outside}
 use Rattle.and_branch_laws.specs.Running.{IsRead}
 use Rattle.and_branch_laws.proofs.Speaking.{variables_applied}
 use Rattle.and_unify.specs.Setting.{HaveBeenSet}
-use Rattle.and_cells.specs.Seen.{Grows, AreFree}
 use Rattle.and_determinacy.specs.Watching.{HaveWhatWasSet}
-use Rattle.and_determinacy.proofs.Growing.{variable_is_held, image_has, IsNumberSet}
-use Rattle.and_determinacy.proofs.Reading.{AreWhole}
-use Rattle.and_determinacy.proofs.TakenBack.{among_or_not}
-use Rattle.and_determinacy.proofs.Valuing.{has_no_variable}
-use Rattle.and_determinacy.proofs.Widening.{solved_alike}
+use Rattle.and_guards.proofs.Held.{variable_is_held, image_has}
+use Rattle.and_determinacy.proofs.Growing.{IsNumberSet}
+use Rattle.and_guards.proofs.Reading.{AreWhole}
+use Rattle.and_guards.proofs.Listed.{among_or_not}
+use Rattle.and_guards.proofs.Valuing.{has_no_variable}
+use Rattle.and_guards.proofs.Widening.{solved_alike}
 
 -- ---- Terms in rows
 

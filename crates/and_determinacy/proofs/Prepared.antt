@@ -1,27 +1,25 @@
 -- What is prepared for a trial meets what unification asks, and what its answers say of the clause.
-use Rattle.std.proofs.Common.{ℕ, ◌+◌, ◌≡◌, ◌<◌, ◌≤◌, Bool, true, false, true≢false, not, ◌&&◌, leb, ltb, nat_eq, List, [], ◌∷◌, length, map, refl, sym, ap, ◌∙◌, subst, inl, inr, arith}
+use Rattle.std.proofs.Common.{ℕ, ◌+◌, ◌≡◌, ◌<◌, ◌≤◌, Bool, true, false, true≢false, not, ◌&&◌, leb, ltb, nat_eq, List, [], ◌∷◌, length, map, refl, sym, ap}
+use Rattle.std.proofs.Common.{◌∙◌, subst, inl, inr, arith}
 use Rattle.std.specs.Prelude.{◌↔◌}
-use Rattle.std.proofs.lemmas.Bool.Decides.{nat_tests}
 use Rattle.std.proofs.lemmas.List.Elements.{All-weaker}
 use Rattle.and_model.specs.Terms.{Path, Term, Terms, variable, number, compound, none, more, variables_of, Substitution, apply, apply_all}
 use Rattle.and_model.specs.Solutions.{Solvable}
-use Rattle.and_model.specs.OwnVariables.{HaveOwnVariables}
 use Rattle.and_model.specs.Programs.{Program, Of, clause_at, same_count, same_predicate}
 use Rattle.and_model.specs.Candidates.{Candidate}
 use Rattle.and_model.specs.Store.{is_half}
-use Rattle.and_model.specs.declared.limits.TheConstants.{MAX_LIMIT, MAX_NODES}
+use Rattle.and_model.specs.declared.limits.TheConstants.{MAX_LIMIT}
 use Rattle.and_model.specs.declared.reference.Ref.{Ref}
 use Rattle.and_model.specs.declared.reference.Ref.TheVariants.{Free}
-use Rattle.and_program.specs.Skeletons.{NodeItem, call, equal, is, compare, fail, node_term, item_of, AllThere, IsSkeleton}
-use Rattle.and_program.specs.Loaded.{nodes_at, skeleton_of, program_of}
-use Rattle.and_program.specs.declared.loaded.Loaded.{Loaded}
+use Rattle.and_program.specs.Skeletons.{NodeItem, call, equal, is, compare, fail, node_term, item_of, AllThere}
+use Rattle.and_program.specs.Loaded.{nodes_at}
 use Rattle.and_laws.proofs.Equality.{bool_cases}
 use Rattle.and_laws.proofs.Substitutions.{and_left, and_right}
 use Rattle.and_cells.specs.Ranges.{NamedProgram, IsNodeInRange}
 use Rattle.and_cells.specs.Rows.{IsSound, plain}
 use Rattle.and_cells.specs.Seen.{word_at, Keeps}
 use Rattle.and_cells.specs.Meaning.{IsSettled, equations_of}
-use Rattle.and_cells.specs.Parts.{named, part_at}
+use Rattle.and_cells.specs.Parts.{part_at}
 use Rattle.and_cells.specs.Solved.{IsMostGeneral}
 use Rattle.and_branch_laws.specs.OwnVariables.{IsLoaded, IsOwn, AreOwn}
 use Rattle.and_branch_laws.specs.Variables.{placed, cells_from}
@@ -29,28 +27,14 @@ use Rattle.and_branch_laws.specs.Settling.{widened}
 use Rattle.and_branch_laws.specs.Judging.{outside}
 use Rattle.and_branch_laws.proofs.Clauses.{clause_nodes}
 use Rattle.and_branch_laws.proofs.Growing.{BodyIsOwn, head_is_own, body_is_own}
-use Rattle.and_unify.specs.Pairs.{AreInRange, AreWritten, NameNoHalf}
+use Rattle.and_unify.specs.Pairs.{AreInRange, NameNoHalf}
 use Rattle.and_unify.specs.Settling.{AreNewFrom, equations_with}
 use Rattle.and_unify.specs.declared.pairs.Pair.{Pair}
-use Rattle.and_determinacy.specs.Guards.{CanBeRead, GuardCanBeRead, IsGuardFalse}
+use Rattle.and_clause_index.proofs.ClauseLists.{clause_there}
+use Rattle.and_guards.specs.Guards.{CanBeRead, GuardCanBeRead, IsGuardFalse}
 use Rattle.and_determinacy.specs.Trials.{IsPrepared}
-use Rattle.and_determinacy.proofs.Widening.{widened_length, free_behind, settled_still}
-use Rattle.and_determinacy.proofs.TriedClauses.{asked_in_range, asked_written, asked_whole, asked_new, unsolved, solved, refuted}
-
--- What was loaded is a loaded program.
-pub loaded_is : (N : NamedProgram) (l : Loaded) → N ≡ named l → IsSkeleton (skeleton_of l) (program_of l) → HaveOwnVariables (program_of l)
-    → length (skeleton_of l).nodes ≤ MAX_NODES + 1 → IsLoaded N
-loaded_is N l same skeleton own few =
-    let loaded : IsLoaded (named l) = record { skeleton = skeleton; own = own; written = omega arith; few = few } in
-    subst IsLoaded (sym same) loaded
-
--- A clause of a predicate is there.
-pub clause_there : (P : Program) (g : Term) (c : ℕ) → Of P g c → c ≤ length P.clauses
-clause_there P g c of =
-    let there : Bool = ltb 0 c && leb c (length P.clauses) in
-    let both : there ≡ true = and_left there (same_predicate g (clause_at P c).head) of in
-    let low : leb c (length P.clauses) ≡ true = and_right (ltb 0 c) (leb c (length P.clauses)) both in
-    grind (arith, nat_tests)
+use Rattle.and_guards.proofs.Widening.{widened_length, free_behind, settled_still}
+use Rattle.and_determinacy.proofs.TriedClauses.{asked_in_range, asked_whole, asked_new, unsolved, solved, refuted}
 
 -- A call's clauses are those of what it is placed from.
 same_count_applied : (r : Substitution) (ts us : Terms) → same_count (apply_all r ts) us ≡ same_count ts us
@@ -123,10 +107,6 @@ module _ (P : NamedProgram) (loaded : IsLoaded P) (row : List Ref) (short : leng
   made_in_range =
       as_made (λ r ps m. AreInRange P (length r) ps) (asked_in_range P loaded.skeleton.0 row by made.sound n b reads head head_in_range)
 
-  pub made_written : AreWritten (plain wide) pairs
-  made_written =
-      as_made (λ r ps m. AreWritten (plain r) ps) (asked_written P loaded.skeleton.0 row by made.sound n b reads head head_in_range)
-
   pub made_whole : NameNoHalf P (word_at wide) pairs
   made_whole =
       as_made (λ r ps m. NameNoHalf P (word_at r) ps) (asked_whole P loaded.skeleton.0 row by made.sound n b reads head head_in_range)
@@ -190,9 +170,6 @@ module _ (P : NamedProgram) (loaded : IsLoaded P) (row : List Ref) (short : leng
       let two : Q (widened row (1 + variables)) (record { left = part_at P b n; right = part_at P floor head } ∷ []) =
       subst (λ (ps : List Pair). Q (widened row (1 + variables)) ps) made.asked one in
       subst (λ (m : ℕ). Q (widened row (1 + variables)) (record { left = part_at P b n; right = part_at P m head } ∷ [])) made.behind two
-
-  abbrev IsCandidate : Type 0
-  IsCandidate = Candidate P.program (equations_of P row) outside (placed b (node_term P.skeleton.nodes n)) c
 
   pub no_candidate : (Solvable (equations_with P wide pairs) → ⊥)
       → Candidate P.program (equations_of P row) outside (placed b (node_term P.skeleton.nodes n)) c → ⊥

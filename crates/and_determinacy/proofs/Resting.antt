@@ -23,13 +23,13 @@ use Rattle.and_cell_laws.proofs.Settling.{settled_rows_have_terms}
 use Rattle.and_cell_laws.proofs.TermsOfRows.{rows_with_terms_are_solutions, cell_is_below, cell_is_whole}
 use Rattle.and_branch_laws.specs.Variables.{cells_from, placed}
 use Rattle.and_branch_laws.specs.Judging.{outside}
-use Rattle.and_determinacy.specs.Candidates.{IsNodeOf}
+use Rattle.and_guards.specs.Goals.{IsNodeOf}
 use Rattle.and_cells.specs.Seen.{Grows, AreFree}
 use Rattle.and_determinacy.specs.Watching.{RestsOn, IsWatched}
 use Rattle.and_determinacy.proofs.Growing.{cell_stays}
 use Rattle.and_determinacy.proofs.Watched.{variables_watched}
-use Rattle.and_determinacy.proofs.Reading.{AreWhole}
-use Rattle.and_determinacy.proofs.Widening.{solved_alike}
+use Rattle.and_guards.proofs.Reading.{AreWhole}
+use Rattle.and_guards.proofs.Widening.{solved_alike}
 
 -- they give the variables of the frame outside the same
 abbrev AgreeOutside : Substitution → Substitution → Type 0

@@ -1,13 +1,13 @@
 -- The first candidates of a list of clauses, and what they say of a goal.
-use Rattle.std.proofs.Common.{ℕ, ◌+◌, ◌≡◌, ◌<◌, ◌≤◌, false, List, length, get_or, Some, refl, sym, ap, ◌∙◌, subst, inl, inr, arith}
+use Rattle.std.proofs.Common.{ℕ, ◌+◌, ◌≡◌, ◌<◌, ◌≤◌, List, length, get_or, Some, refl, sym, ap, ◌∙◌, subst, inl, inr, arith}
 use Rattle.std.specs.Prelude.{All, Contains, ◌⊎◌, ◌∷◌, [], ◌≢◌, ◌++◌, slice_get, Result, Ok, Err, IfOk, OnOk}
 use Rattle.std.specs.declared.alloc.AllocError.{AllocError}
 use Rattle.std.proofs.lemmas.Bool.{cases_lt}
 use Rattle.std.proofs.lemmas.List.Elements.{All-contains, All-nil, All-cons}
 use Rattle.std.proofs.lemmas.List.Kept.{AllPairs-cons}
 use Rattle.std.proofs.lemmas.Option.{get_or_from_slice_get, slice_get-get_or, slice_get_within, same_Some}
-use Rattle.and_model.specs.Terms.{Term, variable, Substitution, apply}
-use Rattle.and_model.specs.Programs.{Of, clause_at}
+use Rattle.and_model.specs.Terms.{Term}
+use Rattle.and_model.specs.Programs.{Of}
 use Rattle.and_model.specs.Candidates.{Candidate}
 use Rattle.and_model.specs.Stands.{term_of}
 use Rattle.and_model.specs.declared.goal.Goal.{Goal}
@@ -22,24 +22,22 @@ use Rattle.and_branch_laws.specs.Variables.{placed}
 use Rattle.and_branch_laws.proofs.Lists.{all_of}
 use Rattle.and_laws.proofs.Ordered.{contains_first, contains_more, contains_cases, contains_none}
 use Rattle.and_laws.proofs.Pairwise.{all_pairs_none}
-use Rattle.and_laws.proofs.Substitutions.{apply_then}
-use Rattle.and_determinacy.specs.Candidates.{IsNodeOf, AreCandidates, IsJudged, IsNarrowed, narrowed_as}
-use Rattle.and_determinacy.specs.Looks.{IsLook, IsLeft}
-use Rattle.and_determinacy.specs.Prints.{print_of, are_apart, PrintTells}
-use Rattle.and_determinacy.specs.Searches.{NodeHas, AreServed, NoneFrom, IsNextOf, IsCount, AreTwo}
+use Rattle.and_guards.specs.Goals.{IsNodeOf}
+use Rattle.and_determinacy.specs.Candidates.{AreCandidates, IsJudged, IsNarrowed, narrowed_as}
+use Rattle.and_clause_index.specs.Looks.{IsLook, IsLeft}
+use Rattle.and_clause_index.specs.Served.{NodeHas, AreServed}
+use Rattle.and_determinacy.specs.Searches.{NoneFrom, IsNextOf, IsCount, AreTwo}
 use Rattle.and_determinacy.specs.declared.judging.Found.{Found}
 use Rattle.and_determinacy.specs.declared.judging.Judged.{Judged}
 use Rattle.and_determinacy.specs.declared.judging.Two.{Two}
 use Rattle.and_determinacy.specs.declared.judging.Judged.TheVariants.{Nothing, One, Several}
 use Rattle.and_determinacy.specs.declared.judging.Narrowed.TheVariants as narrowed
-use Rattle.and_determinacy.specs.declared.looking.Look.{Look}
-use Rattle.and_determinacy.specs.declared.prints.Print.{Print}
-use Rattle.and_determinacy.specs.declared.table.Determinacy.{Determinacy}
-use Rattle.and_determinacy.specs.Tables.{IsTableOf, print_at}
-use Rattle.and_determinacy.proofs.Calls.{of_placed}
-use Rattle.and_determinacy.proofs.ClauseLists.{IsEarlier}
-use Rattle.and_determinacy.proofs.Prepared.{clause_there}
-use Rattle.and_determinacy.proofs.Printing.{instance_tells, prints_meet}
+use Rattle.and_clause_index.specs.declared.looking.Look.{Look}
+use Rattle.and_clause_index.specs.declared.table.Determinacy.{Determinacy}
+use Rattle.and_clause_index.specs.Tables.{IsTableOf}
+use Rattle.and_clause_index.proofs.Calls.{of_placed}
+use Rattle.and_clause_index.proofs.ClauseLists.{IsEarlier, clause_there}
+use Rattle.and_clause_index.proofs.Left.{candidate_left}
 use Rattle.and_determinacy.proofs.Picking.{Picks, picked_is, all_picked, picked_in_order}
 
 -- ---- One after another
@@ -76,22 +74,6 @@ module _ (Q : ClauseNo → Type 0) (clauses : List ClauseNo) (from : ℕ) where
 pub none_fewer : (Q R : ClauseNo → Type 0) (clauses : List ClauseNo) (from to : ℕ) → ((c : ClauseNo) → Q c → R c)
     → NoneFrom R clauses from to → NoneFrom Q clauses from to
 none_fewer Q R clauses from to fewer none k c after low there is = none k c after low there (fewer c is)
-
--- A candidate is left by the prints.
-pub candidate_left : (P : NamedProgram) (table : Determinacy) → IsTableOf P table → (row : List Ref) (node base : ℕ) (look : Look)
-    → IsLook P row node base look → (c : ClauseNo) → NodeHas P row node base c → IsLeft table look c
-candidate_left P table is_of row node base look is c has =
-    let (s, solves) = has.1 in
-    let own : Term = node_term P.skeleton.nodes node in
-    let head : Term = (clause_at P.program c.0).head in
-    let call : Term = apply s (placed base own) in
-    let clauses : Substitution = λ r j. s outside j in
-    let same : call ≡ apply clauses head = solves.0 ∙ apply_then (λ r j. variable outside j) s head in
-    let told : PrintTells (print_of head) (print_of call) =
-    subst (λ (t : Term). PrintTells (print_of head) (print_of t)) (sym same) (instance_tells clauses head) in
-    let at : print_at table c.0 ≡ print_of head = is_of.prints.each c.0 (clause_there P.program (placed base own) c.0 has.0) in
-    subst (λ (p : Print). are_apart look.print p ≡ false) (sym at)
-    (prints_meet look.print (print_of head) (print_of call) (is s solves.1).print told)
 
 -- Where none is left no clause is a candidate.
 pub none_seen : (P : NamedProgram) (table : Determinacy) → IsTableOf P table → (row : List Ref) (node base : ℕ) (look : Look)

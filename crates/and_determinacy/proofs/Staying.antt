@@ -17,7 +17,7 @@ use Rattle.and_laws.proofs.Solving.{solves_front, solves_back}
 use Rattle.and_laws.proofs.Substitutions.{and_left, and_right}
 use Rattle.and_cells.specs.Ranges.{NamedProgram}
 use Rattle.and_cells.specs.Rows.{IsSound}
-use Rattle.and_cells.specs.Seen.{word_at}
+use Rattle.and_cells.specs.Seen.{word_at, Grows, AreFree}
 use Rattle.and_cells.specs.Meaning.{IsSettled, equations_of, equations_between}
 use Rattle.and_cells.specs.Parts.{part_at}
 use Rattle.and_cells.specs.Solved.{IsMostGeneral}
@@ -32,14 +32,14 @@ use Rattle.and_unify.specs.Pairs.{equations_of_pairs}
 use Rattle.and_unify.specs.Setting.{HaveBeenSet}
 use Rattle.and_unify.specs.Settling.{equations_with}
 use Rattle.and_unify.specs.declared.pairs.Pair.{Pair}
-use Rattle.and_determinacy.specs.Guards.{CanBeRead, IsFalseIn, IsGuardFalse}
+use Rattle.and_guards.specs.Guards.{CanBeRead, IsFalseIn, IsGuardFalse}
 use Rattle.and_determinacy.specs.Trials.{IsPrepared}
-use Rattle.and_cells.specs.Seen.{Grows, AreFree}
 use Rattle.and_determinacy.specs.Watching.{StaysWhile, HaveWhatWasSet}
 use Rattle.and_determinacy.proofs.Fitted.{Tried, both, both_solve, both_ground, both_wait}
-use Rattle.and_determinacy.proofs.Prepared.{clause_there, of_applied}
-use Rattle.and_determinacy.proofs.Refuting.{not_true}
-use Rattle.and_determinacy.proofs.Widening.{widened_length, free_behind}
+use Rattle.and_clause_index.proofs.ClauseLists.{clause_there}
+use Rattle.and_determinacy.proofs.Prepared.{of_applied}
+use Rattle.and_guards.proofs.Refuting.{not_true}
+use Rattle.and_guards.proofs.Widening.{widened_length, free_behind}
 
 -- ---- Guards
 

@@ -1,29 +1,17 @@
 -- What a trial set is taken back.
-use Rattle.std.proofs.Common.{ℕ, ◌≡◌, ◌⊎◌, List, [], ◌∷◌, length, sym, ap, ◌∙◌, subst, inl, inr, arith}
-use Rattle.std.specs.Prelude.{Contains}
-use Rattle.std.proofs.lemmas.Bool.{cases_eq}
+use Rattle.std.proofs.Common.{ℕ, ◌≡◌, List, [], length, refl, sym, ap, ◌∙◌, subst, inl, inr, arith}
 use Rattle.std.proofs.lemmas.List.Elements.{All-contains}
 use Rattle.and_model.specs.declared.reference.Ref.{Ref}
 use Rattle.and_model.specs.declared.reference.Ref.TheVariants.{Free}
-use Rattle.and_laws.proofs.Ordered.{contains_first, contains_more, contains_cases, contains_none}
 use Rattle.and_cells.specs.Rows.{OnlySet, taken_back}
 use Rattle.and_cells.specs.Seen.{word_at}
 use Rattle.and_cells.proofs.TakingBack.{took_back}
 use Rattle.and_branch_laws.specs.Settling.{widened}
 use Rattle.and_branch_laws.proofs.Rows.{widened_words}
 use Rattle.and_unify.specs.Setting.{HaveBeenSet}
-use Rattle.and_determinacy.proofs.Widening.{widened_length}
-
--- a number is in a list or not
-pub among_or_not : (xs : List ℕ) (x : ℕ) → Contains xs x ⊎ (Contains xs x → ⊥)
-among_or_not [] x = inr (λ c. contains_none x c)
-among_or_not (y ∷ xs) x = elim (cases_eq x y) [
-  | inl e ↦ inl (subst (λ (z : ℕ). Contains (y ∷ xs) z) (sym e) (contains_first y xs))
-  | inr other ↦ elim (among_or_not xs x) [
-    | inl c ↦ inl (contains_more y x xs c)
-    | inr none ↦ inr (λ c. elim (contains_cases y x xs c) [ inl e ↦ other e | inr i ↦ none i ])
-  ]
-]
+use Rattle.and_laws.proofs.Ordered.{contains_none}
+use Rattle.and_guards.proofs.Listed.{among_or_not}
+use Rattle.and_guards.proofs.Widening.{widened_length}
 
 -- What was set behind and in the row, only that was set.
 pub only_these : (row wide new : List Ref) (by : ℕ) (cells : List ℕ) → wide ≡ widened row by → HaveBeenSet wide new cells
@@ -38,6 +26,15 @@ only_these row wide new by cells is set =
         | inr none ↦ inl (set.others place none ∙ word place)
       ];
     }
+
+-- Where nothing was, nothing is to be taken back.
+pub nothing_set : (row new : List Ref) (cells : List ℕ) → cells ≡ [] → new ≡ row → OnlySet cells row new
+nothing_set row new cells none same =
+    subst (λ (xs : List ℕ). OnlySet xs row new) (sym none) (subst (OnlySet [] row) (sym same) (record {
+      longer = omega arith;
+      free = λ cell c low. absurd (contains_none cell c);
+      others = λ place low. inl refl;
+    }))
 
 -- So the row is what it was.
 pub back_is : (row new : List Ref) (cells bound : List ℕ) (floor : ℕ) → floor ≡ length row → bound ≡ cells → OnlySet cells row new

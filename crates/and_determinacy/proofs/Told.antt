@@ -14,8 +14,9 @@ use Rattle.and_laws.proofs.Ordered.{contains_cases, contains_none}
 use Rattle.and_cells.specs.Ranges.{NamedProgram, IsInRange}
 use Rattle.and_cells.specs.Seen.{word_at}
 use Rattle.and_branch_laws.proofs.Lists.{all_of}
-use Rattle.and_determinacy.specs.Candidates.{IsNodeOf}
-use Rattle.and_determinacy.specs.Searches.{NodeHas, NodeKeeps, AreServed, IsNextOf, IsCount}
+use Rattle.and_guards.specs.Goals.{IsNodeOf}
+use Rattle.and_clause_index.specs.Served.{NodeHas, AreServed}
+use Rattle.and_determinacy.specs.Searches.{NodeKeeps, IsNextOf, IsCount}
 use Rattle.and_determinacy.specs.declared.judging.Found.{Found}
 use Rattle.and_determinacy.specs.declared.judging.Judged.TheVariants.{Several}
 use Rattle.and_determinacy.specs.Watching.{IsWatched, IsListed, StaysWhile, TwoStayWhile, HaveWhatWasSet, HadBefore, AreListed, told_if}

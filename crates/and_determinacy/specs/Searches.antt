@@ -1,33 +1,20 @@
 -- The first of a list of clauses that is a candidate.
-use Rattle.std.specs.Prelude.{ℕ, ◌+◌, ◌≡◌, ◌<◌, ◌≤◌, List, length, slice_get, Some, All, AllPairs, Contains}
-use Rattle.and_model.specs.Candidates.{Candidate}
-use Rattle.and_model.specs.Programs.{Of}
+use Rattle.std.specs.Prelude.{ℕ, ◌+◌, ◌≡◌, ◌<◌, ◌≤◌, List, length, slice_get, Some}
 use Rattle.and_model.specs.declared.numbers.ClauseNo.{ClauseNo}
 use Rattle.and_model.specs.declared.reference.Ref.{Ref}
 use Rattle.and_program.specs.Skeletons.{node_term}
 use Rattle.and_cells.specs.Ranges.{NamedProgram}
-use Rattle.and_cells.specs.Meaning.{equations_of}
-use Rattle.and_branch_laws.specs.Judging.{outside}
-use Rattle.and_branch_laws.specs.Variables.{placed}
+use Rattle.and_clause_index.specs.Served.{NodeHas}
 use Rattle.and_determinacy.specs.Watching.{StaysWhile}
 use Rattle.and_determinacy.specs.declared.judging.Found.{Found}
 use Rattle.and_determinacy.specs.declared.judging.Judged.{Judged}
 use Rattle.and_determinacy.specs.declared.judging.Judged.TheVariants.{Nothing, One, Several}
 use Rattle.and_determinacy.specs.declared.judging.Two.{Two}
 
--- the clause is a candidate of the node, read in the frame at the base
-abbrev pub NodeHas : NamedProgram → List Ref → (node base : ℕ) → ClauseNo → Type 0
-NodeHas P row node base c = Candidate P.program (equations_of P row) outside (placed base (node_term P.skeleton.nodes node)) c.0
-
--- and stays one while these cells are free
+-- the clause is a candidate of the node, and stays one while these cells are free
 abbrev pub NodeKeeps : NamedProgram → List Ref → (node base : ℕ) → List ℕ → ClauseNo → Type 0
-NodeKeeps P row node base cells c = NodeHas P row node base c × StaysWhile P row base (node_term P.skeleton.nodes node) cells c.0
-
--- The clauses are of the node's predicate, in textual order, and all its candidates are among them.
-pub record AreServed (P : NamedProgram) (row : List Ref) (node base : ℕ) (clauses : List ClauseNo) : Type 0 where
-  pub of : All (λ (c : ClauseNo). Of P.program (node_term P.skeleton.nodes node) c.0) clauses
-  pub rise : AllPairs (λ (c d : ClauseNo). c.0 < d.0) clauses
-  pub all : (c : ClauseNo) → NodeHas P row node base c → Contains clauses c
+NodeKeeps P row node base cells c = NodeHas P row node base c
+    × StaysWhile P row base (node_term P.skeleton.nodes node) cells c.0
 
 -- Of the clauses from one place on, none before the other is so.
 abbrev pub NoneFrom : (ClauseNo → Type 0) → List ClauseNo → (from to : ℕ) → Type 0
@@ -46,8 +33,10 @@ pub record IsNextOf (Q : ClauseNo → Type 0) (clauses : List ClauseNo) (from : 
 abbrev pub IsCount : (ClauseNo → Type 0) → List ClauseNo → (from : ℕ) → Judged → Type 0
 IsCount Q clauses from Nothing = NoneFrom Q clauses from (length clauses)
 IsCount Q clauses from (One clause) =
-    (found : Found) × (found.clause ≡ clause) × IsNextOf Q clauses from found × NoneFrom Q clauses found.behind (length clauses)
-IsCount Q clauses from Several = (one : Found) × (two : Found) × IsNextOf Q clauses from one × IsNextOf Q clauses one.behind two
+    (found : Found) × (found.clause ≡ clause) × IsNextOf Q clauses from found
+    × NoneFrom Q clauses found.behind (length clauses)
+IsCount Q clauses from Several = (one : Found) × (two : Found) × IsNextOf Q clauses from one
+    × IsNextOf Q clauses one.behind two
 
 -- No clause but those at two places is so.
 pub record AreTwo (Q : ClauseNo → Type 0) (clauses : List ClauseNo) (two : Two) : Type 0 where

@@ -1,5 +1,6 @@
 -- What is judged of a goal while some cells are free.
-use Rattle.std.specs.Prelude.{ℕ, ◌≡◌, ◌≢◌, ◌<◌, ◌≤◌, ◌++◌, List, length, drop, All, Contains, Bool, true, false, Option, Some, None}
+use Rattle.std.specs.Prelude.{ℕ, ◌≡◌, ◌≢◌, ◌<◌, ◌≤◌, ◌++◌, List, length, drop, All, Contains, Bool, true, false}
+use Rattle.std.specs.Prelude.{Option, Some, None}
 use Rattle.and_model.specs.Terms.{Term}
 use Rattle.and_model.specs.Candidates.{Candidate}
 use Rattle.and_model.specs.Stands.{term_of}
@@ -13,13 +14,15 @@ use Rattle.and_cells.specs.Meaning.{IsSettled, Holds, equations_of}
 use Rattle.and_branch_laws.specs.Judging.{CandidateInCells, outside}
 use Rattle.and_branch_laws.specs.Variables.{placed}
 
--- What a goal can be taken by rests on these cells: in whatever settled row it grows to while they are free, each candidate of the goal is one still.
+-- What a goal can be taken by rests on these cells: in whatever settled row it grows to while they are free, each
+-- candidate of the goal is one still.
 abbrev pub RestsOn : NamedProgram → List Ref → Goal → List ℕ → Type 0
 RestsOn P row g cells =
     (later : List Ref) → Grows row later → IsSound P later → IsSettled P later → AreFree later cells
     → (c : ℕ) → CandidateInCells P row g c → CandidateInCells P later g c
 
--- The clause is a candidate of a call, read in the frame at the base, in whatever settled row this one grows to while these cells are free.
+-- The clause is a candidate of a call, read in the frame at the base, in whatever settled row this one grows to while
+-- these cells are free.
 abbrev pub StaysWhile : NamedProgram → List Ref → (base : ℕ) → Term → List ℕ → ℕ → Type 0
 StaysWhile P row base call cells c =
     (later : List Ref) → Grows row later → IsSound P later → IsSettled P later → AreFree later cells
@@ -28,16 +31,19 @@ StaysWhile P row base call cells c =
 -- Two clauses are.
 abbrev pub TwoStayWhile : NamedProgram → List Ref → Goal → List ℕ → Type 0
 TwoStayWhile P row g cells =
-    (c : ℕ) × (d : ℕ) × (c ≢ d) × StaysWhile P row g.base (term_of P.program g) cells c × StaysWhile P row g.base (term_of P.program g) cells d
+    (c : ℕ) × (d : ℕ) × (c ≢ d) × StaysWhile P row g.base (term_of P.program g) cells c
+    × StaysWhile P row g.base (term_of P.program g) cells d
 
 -- ---- While they are gathered
 
 -- Each free cell below the floor that the term of a reference holds is among these.
 abbrev pub IsWatched : NamedProgram → List Ref → (floor : ℕ) → List ℕ → Ref → Type 0
-IsWatched P row floor cells r = (cell : ℕ) → Holds P row r cell → word_at row cell ≡ Free → cell < floor → Contains cells cell
+IsWatched P row floor cells r = (cell : ℕ) → Holds P row r cell → word_at row cell ≡ Free → cell < floor
+    → Contains cells cell
 
 -- These are in range, and where what they hold is watched, with the cells of a list from a place on, the goal holds.
-pub record Suffice (P : NamedProgram) (row : List Ref) (floor begun : ℕ) (listed : List ℕ) (rest : List Ref) (goal : List ℕ → Type 0) : Type 0 where
+pub record Suffice (P : NamedProgram) (row : List Ref) (floor begun : ℕ) (listed : List ℕ) (rest : List Ref)
+    (goal : List ℕ → Type 0) : Type 0 where
   pub in_range : All (IsInRange P (length row)) rest
   pub owes : (cells : List ℕ) → ((cell : ℕ) → Contains (drop begun listed) cell → Contains cells cell)
       → All (IsWatched P row floor cells) rest → goal cells
@@ -49,7 +55,8 @@ pub record IsListed (cell begun : ℕ) (old new : List ℕ) : Type 0 where
   pub there : Contains (drop begun new) cell
 
 -- What is to be watched at a place was listed or put on the list of visits.
-pub record IsFollowed (P : NamedProgram) (row : List Ref) (floor begun : ℕ) (at : Ref) (old new : List Ref) (had has : List ℕ) : Type 0 where
+pub record IsFollowed (P : NamedProgram) (row : List Ref) (floor begun : ℕ) (at : Ref) (old new : List Ref)
+    (had has : List ℕ) : Type 0 where
   pub more : List Ref
   pub put : new ≡ old ++ more
   pub gained : List ℕ

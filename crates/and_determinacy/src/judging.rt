@@ -1,6 +1,7 @@
 //! The candidates of goals.
 
-ghost use Rattle.std.specs.Prelude.{◌≡◌, ◌≤◌, ◌<◌, ◌++◌, ◌∷◌, [], ℕ, Some, None, Ok, length, slice_get, All, OnOk, IfOk, IfSome};
+ghost use Rattle.std.specs.Prelude.{◌≡◌, ◌≤◌, ◌<◌, ◌++◌, ◌∷◌, [], ℕ, Some, None, Ok, length, slice_get, All, OnOk};
+ghost use Rattle.std.specs.Prelude.{IfOk, IfSome};
 ghost use Rattle.and_model.specs.Programs.{Of};
 ghost use Rattle.and_model.specs.declared.limits.TheConstants.{MAX_LIMIT};
 ghost use Rattle.and_model.specs.declared.numbers.ClauseNo.{ClauseNo};
@@ -8,18 +9,19 @@ ghost use Rattle.and_program.specs.Loaded.{nodes_at, program_of, skeleton_of};
 ghost use Rattle.and_program.specs.Skeletons.{call, node_term};
 ghost use Rattle.and_cells.specs.Meaning.{IsSettled};
 ghost use Rattle.and_cells.specs.Parts.{named};
-ghost use Rattle.and_determinacy.specs.Candidates.{CanBeJudged, IsNodeOf, AreCandidates, IsJudged, IsNarrowed, narrowed_as};
-ghost use Rattle.and_determinacy.specs.Guards.{CanBeRead};
-ghost use Rattle.and_determinacy.specs.Looks.{IsLook, IsLeft};
-ghost use Rattle.and_determinacy.specs.Searches.{NodeHas, AreServed, IsNextOf, IsCount, NoneFrom, AreTwo, NodeKeeps};
+ghost use Rattle.and_guards.specs.Goals.{CanBeJudged, IsNodeOf};
+ghost use Rattle.and_determinacy.specs.Candidates.{AreCandidates, IsJudged, IsNarrowed, narrowed_as};
+ghost use Rattle.and_guards.specs.Guards.{CanBeRead};
+ghost use Rattle.and_clause_index.specs.Looks.{IsLook, IsLeft};
+ghost use Rattle.and_clause_index.specs.Served.{NodeHas, AreServed};
+ghost use Rattle.and_determinacy.specs.Searches.{IsNextOf, IsCount, NoneFrom, AreTwo, NodeKeeps};
 ghost use Rattle.and_determinacy.specs.Watching.{HadBefore, StaysWhile, TwoStayWhile};
 ghost use Rattle.and_determinacy.specs.declared.judging.Found.{Found};
-ghost use Rattle.and_determinacy.specs.Tables.{IsKnown, IsTableOf};
+ghost use Rattle.and_clause_index.specs.Tables.{IsKnown, IsTableOf};
 
-use crate::looking::Look;
-use crate::table::Determinacy;
 use crate::trying::Trials;
 use and_cells::{Naming, PlainCells};
+use and_clause_index::{Determinacy, Look};
 use and_model::{ClauseList, ClauseNo, Goal, NodeNo};
 use and_program::{ItemNode, Loaded};
 use std::alloc::AllocError;
@@ -49,7 +51,8 @@ pub enum Narrowed {
 /// The node of a call, by its place in the body of a clause.
 fn call_at(loaded: &Loaded, clause: ClauseNo, item: u32) -> NodeNo
     requires clause { clause.0 ≤ length (program_of loaded.now).clauses }
-    requires call { (node : ℕ) × (slice_get (nodes_at (skeleton_of loaded.now) clause.0).items item ≡ Some (call node)) }
+    requires call { (node : ℕ)
+        × (slice_get (nodes_at (skeleton_of loaded.now) clause.0).items item ≡ Some (call node)) }
     ensures { slice_get (nodes_at (skeleton_of loaded.now) clause.0).items item ≡ Some (call result.0) }
 {
     match loaded.items(clause)[item as usize] {
@@ -103,8 +106,8 @@ struct Found {
     behind: usize,
 }
 
-/// The first candidate of a call among these clauses, from a place on. The cells are as before, but
-/// after an error, which is want of memory.
+/// The first candidate of a call among these clauses, from a place on. The cells are as before. An error
+/// is want of memory.
 fn next_candidate<N: Naming>(
     table: &Determinacy,
     loaded: &Loaded,
@@ -120,11 +123,14 @@ fn next_candidate<N: Naming>(
     requires settled { IsSettled N.program cells.old }
     requires short { length cells.old ≤ MAX_LIMIT }
     requires node { CanBeRead N.program cells.old base node.0 }
-    requires clauses { All (λ (c : ClauseNo). Of N.program.program (node_term N.program.skeleton.nodes node.0) c.0) clauses.now }
+    requires clauses { All (λ (c : ClauseNo). Of N.program.program (node_term N.program.skeleton.nodes node.0) c.0)
+        clauses.now }
     requires look { IsLook N.program cells.old node.0 base trials.old.look }
-    ensures some { (found : Found) → result ≡ Ok (Some found) → IsNextOf (NodeHas N.program cells.old node.0 base) clauses.now from found }
-    ensures none { result ≡ Ok None → NoneFrom (NodeHas N.program cells.old node.0 base) clauses.now from (length clauses.now) }
-    ensures unchanged { OnOk result (cells.new ≡ cells.old) }
+    ensures some { (found : Found) → result ≡ Ok (Some found)
+        → IsNextOf (NodeHas N.program cells.old node.0 base) clauses.now from found }
+    ensures none { result ≡ Ok None
+        → NoneFrom (NodeHas N.program cells.old node.0 base) clauses.now from (length clauses.now) }
+    ensures unchanged { cells.new ≡ cells.old }
     ensures look { trials.new.look ≡ trials.old.look }
     ensures before { (found : Found) → result ≡ Ok (Some found) → IfSome trials.new.rests (HadBefore trials.old.rests) }
     ensures stays { (found : Found) → result ≡ Ok (Some found) → IfSome trials.new.rests (λ has.
@@ -141,8 +147,7 @@ fn next_candidate<N: Naming>(
 }
 
 /// Tells whether none, one or more of these clauses, from a place on, are candidates of a call. It
-/// stops at the second that it finds. The cells are as before, but after an error, which is want of
-/// memory.
+/// stops at the second that it finds. The cells are as before. An error is want of memory.
 fn judge_from<N: Naming>(
     table: &Determinacy,
     loaded: &Loaded,
@@ -158,12 +163,13 @@ fn judge_from<N: Naming>(
     requires settled { IsSettled N.program cells.old }
     requires short { length cells.old ≤ MAX_LIMIT }
     requires node { CanBeRead N.program cells.old base node.0 }
-    requires clauses { All (λ (c : ClauseNo). Of N.program.program (node_term N.program.skeleton.nodes node.0) c.0) clauses.now }
+    requires clauses { All (λ (c : ClauseNo). Of N.program.program (node_term N.program.skeleton.nodes node.0) c.0)
+        clauses.now }
     requires look { IsLook N.program cells.old node.0 base trials.old.look }
     ensures count { IfOk result (IsCount (NodeHas N.program cells.old node.0 base) clauses.now from) }
     ensures stay { result ≡ Ok Judged.Several → IfSome trials.new.rests (λ has.
         IsCount (NodeKeeps N.program cells.old node.0 base has) clauses.now from Judged.Several) }
-    ensures unchanged { OnOk result (cells.new ≡ cells.old) }
+    ensures unchanged { cells.new ≡ cells.old }
 {
     match next_candidate(table, loaded, cells, node, base, clauses, from, trials)? {
         None => Ok(Judged::Nothing),
@@ -177,7 +183,7 @@ fn judge_from<N: Naming>(
 }
 
 /// Tells whether a goal has no candidate, one, or more. It stops at the second that it finds. The
-/// cells are as before, but after an error, which is want of memory.
+/// cells are as before. An error is want of memory.
 pub fn judge<N: Naming>(
     table: &Determinacy,
     loaded: &Loaded,
@@ -191,7 +197,7 @@ pub fn judge<N: Naming>(
     requires short { length cells.old ≤ MAX_LIMIT }
     requires goal { CanBeJudged N.program cells.old goal }
     ensures judged { IfOk result (IsJudged N.program cells.old goal) }
-    ensures unchanged { OnOk result (cells.new ≡ cells.old) }
+    ensures unchanged { cells.new ≡ cells.old }
 {
     let node = node_of(loaded, cells, goal);
     trials.look_at(table, loaded, cells, node, goal.base);
@@ -228,8 +234,8 @@ fn narrowed_from(judged: Judged) -> Narrowed
 
 /// Tells whether a goal has no candidate, at most one, or more. A clause is tried only where a look at
 /// the goal leaves two or more, so that a call that it leaves one costs no unification. The cells are
-/// as before, but after an error, which is want of memory. Where it has two, [`Trials::told`] tells on
-/// which cells these rest.
+/// as before. An error is want of memory. Where it has two, [`Trials::told`] tells on which cells these
+/// rest.
 pub fn narrow<N: Naming>(
     table: &Determinacy,
     loaded: &Loaded,
@@ -244,7 +250,7 @@ pub fn narrow<N: Naming>(
     requires goal { CanBeJudged N.program cells.old goal }
     ensures narrowed { IfOk result (IsNarrowed N.program cells.old goal) }
     ensures told { result ≡ Ok Narrowed.Several → IfSome trials.new.rests (TwoStayWhile N.program cells.old goal) }
-    ensures unchanged { OnOk result (cells.new ≡ cells.old) }
+    ensures unchanged { cells.new ≡ cells.old }
 {
     let node = node_of(loaded, cells, goal);
     trials.look_at(table, loaded, cells, node, goal.base);
@@ -285,7 +291,7 @@ fn two_left(table: &Determinacy, look: &Look, clauses: &[ClauseNo]) -> Option<Tw
 }
 
 /// Puts those of these clauses on a list that are candidates of a goal, whose node is given. The cells
-/// are as before, but after an error, which is want of memory.
+/// are as before. An error is want of memory.
 fn pick<N: Naming>(
     table: &Determinacy,
     loaded: &Loaded,
@@ -305,7 +311,7 @@ fn pick<N: Naming>(
     requires look { IsLook N.program cells.old node.0 goal.base trials.old.look }
     requires empty { out.old ≡ [] }
     ensures candidates { OnOk result (AreCandidates N.program cells.old goal out.new) }
-    ensures unchanged { OnOk result (cells.new ≡ cells.old) }
+    ensures unchanged { cells.new ≡ cells.old }
 {
     for clause in clauses {
         if trials.fits(table, loaded, cells, node, goal.base, *clause)? {
@@ -315,8 +321,8 @@ fn pick<N: Naming>(
     Ok(())
 }
 
-/// Fills a list with just the candidates of a goal, in textual order. The cells are as before, but
-/// after an error, which is want of memory.
+/// Fills a list with just the candidates of a goal, in textual order. The cells are as before. An error is
+/// want of memory.
 pub fn candidates_of<N: Naming>(
     table: &Determinacy,
     loaded: &Loaded,
@@ -331,7 +337,7 @@ pub fn candidates_of<N: Naming>(
     requires short { length cells.old ≤ MAX_LIMIT }
     requires goal { CanBeJudged N.program cells.old goal }
     ensures candidates { OnOk result (AreCandidates N.program cells.old goal out.new) }
-    ensures unchanged { OnOk result (cells.new ≡ cells.old) }
+    ensures unchanged { cells.new ≡ cells.old }
 {
     clear(out);
     let node = node_of(loaded, cells, goal);
@@ -357,7 +363,7 @@ pub fn candidates_of_several<N: Naming>(
     requires goal { CanBeJudged N.program cells.old goal }
     requires several { IsJudged N.program cells.old goal Judged.Several }
     ensures candidates { OnOk result (AreCandidates N.program cells.old goal out.new) }
-    ensures unchanged { OnOk result (cells.new ≡ cells.old) }
+    ensures unchanged { cells.new ≡ cells.old }
 {
     clear(out);
     let node = node_of(loaded, cells, goal);

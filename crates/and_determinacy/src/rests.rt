@@ -87,7 +87,8 @@ impl Rests {
         requires clause { clause.0 ≤ length N.program.program.clauses }
         requires in_row { All (λ (cell : ℕ). cell < length cells.now) bound.now }
         ensures before { OnOk result (IfSome self.new (HadBefore self.old)) }
-        ensures no_guard { OnOk result (IfSome self.new (λ has. guard [] (clause_at N.program.program clause.0).body ≡ [])) }
+        ensures no_guard { OnOk result
+            (IfSome self.new (λ has. guard [] (clause_at N.program.program clause.0).body ≡ [])) }
         ensures have { OnOk result (IfSome self.new (HaveWhatWasSet N.program cells.now floor bound.now)) }
     {
         if !self.are_told {

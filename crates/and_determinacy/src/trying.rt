@@ -1,6 +1,7 @@
 //! Trials of clauses on settled cells, which are taken back.
 
-ghost use Rattle.std.specs.Prelude.{◌≡◌, ◌≤◌, ◌↔◌, Bool, true, false, length, None, Ok, IfOk, IfSome, OnOk, option_copied};
+ghost use Rattle.std.specs.Prelude.{◌≡◌, ◌≤◌, ◌↔◌, Bool, true, false, length, None, Ok, [], IfOk, IfSome, OnErr};
+ghost use Rattle.std.specs.Prelude.{option_copied};
 ghost use Rattle.and_model.specs.Candidates.{Candidate};
 ghost use Rattle.and_model.specs.Programs.{Of};
 ghost use Rattle.and_model.specs.declared.limits.TheConstants.{MAX_LIMIT};
@@ -11,18 +12,17 @@ ghost use Rattle.and_cells.specs.Parts.{named};
 ghost use Rattle.and_cells.specs.Rows.{OnlySet};
 ghost use Rattle.and_branch_laws.specs.Judging.{outside};
 ghost use Rattle.and_branch_laws.specs.Variables.{placed};
-ghost use Rattle.and_determinacy.specs.Guards.{CanBeRead};
-ghost use Rattle.and_determinacy.specs.Looks.{IsLook};
-ghost use Rattle.and_determinacy.specs.Tables.{IsTableOf};
+ghost use Rattle.and_guards.specs.Guards.{CanBeRead};
+ghost use Rattle.and_clause_index.specs.Looks.{IsLook};
+ghost use Rattle.and_clause_index.specs.Tables.{IsTableOf};
 ghost use Rattle.and_determinacy.specs.Trials.{IsPrepared};
 ghost use Rattle.and_determinacy.specs.Watching.{HadBefore, StaysWhile};
 
-use crate::guards::is_guard_false;
-use crate::looking::Look;
 use crate::rests::Rests;
-use crate::table::Determinacy;
 use and_arith::WorkList;
 use and_cells::{Naming, PlainCells};
+use and_clause_index::{Determinacy, Look};
+use and_guards::is_guard_false;
 use and_model::{ClauseNo, NodeNo};
 use and_program::Loaded;
 use and_unify::{PairList, Settled, Solver};
@@ -73,8 +73,8 @@ impl Trials {
         self.look = Look::at(table, loaded, cells, node, base);
     }
 
-    /// Whether a clause is a candidate of the call that was looked at. The cells are as before, but after
-    /// an error, which is want of memory.
+    /// Whether a clause is a candidate of the call that was looked at. The cells are as before. An error is
+    /// want of memory.
     pub(crate) fn fits<N: Naming>(
         &mut self,
         table: &Determinacy,
@@ -91,9 +91,10 @@ impl Trials {
         requires node { CanBeRead N.program cells.old base node.0 }
         requires of { Of N.program.program (node_term N.program.skeleton.nodes node.0) clause.0 }
         requires look { IsLook N.program cells.old node.0 base self.old.look }
-        ensures fits { (b : Bool) → result ≡ Ok b → (b ≡ true) ↔ Candidate N.program.program (equations_of N.program cells.old) outside
+        ensures fits { (b : Bool) → result ≡ Ok b
+            → (b ≡ true) ↔ Candidate N.program.program (equations_of N.program cells.old) outside
             (placed base (node_term N.program.skeleton.nodes node.0)) clause.0 }
-        ensures unchanged { OnOk result (cells.new ≡ cells.old) }
+        ensures unchanged { cells.new ≡ cells.old }
         ensures look { self.new.look ≡ self.old.look }
         ensures before { result ≡ Ok true → IfSome self.new.rests (HadBefore self.old.rests) }
         ensures stays { result ≡ Ok true → IfSome self.new.rests (λ has.
@@ -127,7 +128,7 @@ impl Tools {
     }
 
     /// Whether a clause is a candidate of the call whose node is given, in the frame at the base. The
-    /// cells are as before, but after an error, which is want of memory.
+    /// cells are as before. An error is want of memory.
     fn fits<N: Naming>(
         &mut self,
         loaded: &Loaded,
@@ -142,22 +143,24 @@ impl Tools {
         requires short { length cells.old ≤ MAX_LIMIT }
         requires node { CanBeRead N.program cells.old base node.0 }
         requires of { Of N.program.program (node_term N.program.skeleton.nodes node.0) clause.0 }
-        ensures fits { (b : Bool) → result ≡ Ok b → (b ≡ true) ↔ Candidate N.program.program (equations_of N.program cells.old) outside
+        ensures fits { (b : Bool) → result ≡ Ok b
+            → (b ≡ true) ↔ Candidate N.program.program (equations_of N.program cells.old) outside
             (placed base (node_term N.program.skeleton.nodes node.0)) clause.0 }
-        ensures unchanged { OnOk result (cells.new ≡ cells.old) }
+        ensures unchanged { cells.new ≡ cells.old }
         ensures before { result ≡ Ok true → IfSome rests.new (HadBefore rests.old) }
         ensures stays { result ≡ Ok true → IfSome rests.new (λ has.
             StaysWhile N.program cells.old base (node_term N.program.skeleton.nodes node.0) has clause.0) }
         ensures same { result ≡ Ok false → rests.new ≡ rests.old }
     {
         let floor = cells.len();
-        let fits = self.meets(loaded, cells, node, base, clause, rests)?;
+        self.solver.forget();
+        let fits = self.meets(loaded, cells, node, base, clause, rests);
         cells.take_back(self.solver.bound(), floor);
-        Ok(fits)
+        fits
     }
 
     /// The same, but that a frame for the clause was put behind the cells, and the cells that the
-    /// solver tells were set.
+    /// solver tells were set; after an error perhaps not.
     fn meets<N: Naming>(
         &mut self,
         loaded: &Loaded,
@@ -172,9 +175,11 @@ impl Tools {
         requires short { length cells.old ≤ MAX_LIMIT }
         requires node { CanBeRead N.program cells.old base node.0 }
         requires of { Of N.program.program (node_term N.program.skeleton.nodes node.0) clause.0 }
-        ensures fits { (b : Bool) → result ≡ Ok b → (b ≡ true) ↔ Candidate N.program.program (equations_of N.program cells.old) outside
+        requires nothing_set { self.old.solver ≡ [] }
+        ensures fits { (b : Bool) → result ≡ Ok b
+            → (b ≡ true) ↔ Candidate N.program.program (equations_of N.program cells.old) outside
             (placed base (node_term N.program.skeleton.nodes node.0)) clause.0 }
-        ensures only_set { OnOk result (OnlySet self.new.solver cells.old cells.new) }
+        ensures only_set { OnlySet self.new.solver cells.old cells.new }
         ensures before { result ≡ Ok true → IfSome rests.new (HadBefore rests.old) }
         ensures stays { result ≡ Ok true → IfSome rests.new (λ has.
             StaysWhile N.program cells.old base (node_term N.program.skeleton.nodes node.0) has clause.0) }
@@ -201,7 +206,8 @@ impl Tools {
     }
 
     /// Puts a frame for the clause behind the cells, and asks that the clause's head be made one there
-    /// with the call. It answers where the frame begins. An error is want of memory.
+    /// with the call. It answers where the frame begins. An error is want of memory, and the cells are then as
+    /// before.
     fn prepare<N: Naming>(
         &mut self,
         loaded: &Loaded,
@@ -214,15 +220,17 @@ impl Tools {
         requires short { length cells.old ≤ MAX_LIMIT }
         requires node { IsNodeInRange N.program (length cells.old) node.0 base }
         requires clause { clause.0 ≤ length N.program.program.clauses }
-        ensures { IfOk result (IsPrepared N.program cells.old cells.new self.new.pairs node.0 base clause.0) }
+        ensures prepared { IfOk result (IsPrepared N.program cells.old cells.new self.new.pairs node.0 base clause.0) }
+        ensures unchanged { OnErr result (cells.new ≡ cells.old) }
+        ensures same { self.new.solver ≡ self.old.solver }
     {
         let floor = cells.len();
-        cells.extend(1 + u32::from(loaded.variables(clause)))?;
-        let _words = cells.len();
         let call = loaded.resolve(node, base);
         let head = loaded.resolve(loaded.head(clause), floor);
         self.pairs.clear();
         self.pairs.push(call, head)?;
+        cells.extend(1 + u32::from(loaded.variables(clause)))?;
+        let _words = cells.len();
         Ok(floor)
     }
 }

@@ -1,17 +1,18 @@
 //! The cells on which the candidates of a call rest.
 
-ghost use Rattle.std.specs.Prelude.{◌≡◌, ◌++◌, ◌<◌, ◌≤◌, ◌^◌, ℕ, Bool, List, Some, Ok, true, false, length, drop, slice_get, All, OnOk};
+ghost use Rattle.std.specs.Prelude.{◌≡◌, ◌++◌, ◌<◌, ◌≤◌, ◌^◌, ℕ, Bool, List, Some, Ok, true, false, length, drop};
+ghost use Rattle.std.specs.Prelude.{slice_get, All, OnOk};
 ghost use Rattle.and_model.specs.declared.reference.Ref.{Ref};
 ghost use Rattle.and_program.specs.Loaded.{nodes_at, program_of, skeleton_of};
 ghost use Rattle.and_program.specs.Skeletons.{AllFall, call};
 ghost use Rattle.and_cells.specs.Ranges.{IsInRange};
 ghost use Rattle.and_cells.specs.Meaning.{IsSettled};
 ghost use Rattle.and_cells.specs.Parts.{named, parts_of};
-ghost use Rattle.and_determinacy.specs.Candidates.{CanBeJudged};
+ghost use Rattle.and_guards.specs.Goals.{CanBeJudged};
 ghost use Rattle.and_determinacy.specs.Watching.{RestsOn, IsWatched, IsListed, IsFollowed};
 
-use crate::prints::count_in;
 use and_cells::{Naming, PlainCells};
+use and_clause_index::count_in;
 use and_model::{ClauseNo, Goal, NodeNo, Ref};
 use and_program::{ItemNode, Loaded};
 use std::alloc::AllocError;
@@ -35,7 +36,8 @@ pub fn watch<N: Naming>(
     requires program { N.program ≡ named loaded.now }
     requires settled { IsSettled N.program cells.now }
     requires goal { CanBeJudged N.program cells.now goal }
-    ensures all { result ≡ Ok true → (gained : List ℕ) × (out.new.items ≡ out.old.items ++ gained) × RestsOn N.program cells.now goal gained }
+    ensures all { result ≡ Ok true → (gained : List ℕ) × (out.new.items ≡ out.old.items ++ gained)
+        × RestsOn N.program cells.now goal gained }
     ensures none { result ≡ Ok false → out.new.items ≡ out.old.items }
 {
     loaded.skeleton_is_of_the_program();
@@ -54,7 +56,8 @@ pub fn watch<N: Naming>(
 /// The node of a call, by its place in the body of a clause.
 fn call_at(loaded: &Loaded, clause: ClauseNo, item: u32) -> NodeNo
     requires clause { clause.0 ≤ length (program_of loaded.now).clauses }
-    requires call { (node : ℕ) × (slice_get (nodes_at (skeleton_of loaded.now) clause.0).items item ≡ Some (call node)) }
+    requires call { (node : ℕ)
+        × (slice_get (nodes_at (skeleton_of loaded.now) clause.0).items item ≡ Some (call node)) }
     ensures { slice_get (nodes_at (skeleton_of loaded.now) clause.0).items item ≡ Some (call result.0) }
 {
     let ItemNode::Call { goal } = loaded.items(clause)[item as usize] else {
@@ -78,7 +81,8 @@ pub(crate) fn gather<N: Naming>(
     requires in_range { All (IsInRange N.program (length cells.now)) visits.old.items }
     requires begun { begun ≤ length out.old.items }
     ensures longer { OnOk result ((gained : List ℕ) × (out.new.items ≡ out.old.items ++ gained)) }
-    ensures all { result ≡ Ok true → All (IsWatched N.program cells.now floor (drop begun out.new.items)) visits.old.items }
+    ensures all { result ≡ Ok true
+        → All (IsWatched N.program cells.now floor (drop begun out.new.items)) visits.old.items }
 {
     let mut left = MOST_PLACES;
     while left > 0 {
@@ -106,7 +110,8 @@ fn follow<N: Naming>(
     requires falls { AllFall 0 N.program.skeleton.nodes }
     requires in_range { IsInRange N.program (length cells.now) at }
     requires begun { begun ≤ length out.old.items }
-    ensures { OnOk result (IsFollowed N.program cells.now floor begun at visits.old.items visits.new.items out.old.items out.new.items) }
+    ensures { OnOk result (IsFollowed N.program cells.now floor begun at visits.old.items visits.new.items
+        out.old.items out.new.items) }
 {
     match at {
         Ref::Cell(cell) => follow_cell(cells, cell, floor, begun, visits, out),
@@ -129,7 +134,8 @@ fn follow_cell<N: Naming>(
 ) -> Result<(), AllocError>
     requires in_range { cell < length cells.now }
     requires begun { begun ≤ length out.old.items }
-    ensures { OnOk result (IsFollowed N.program cells.now floor begun (Ref.Cell cell) visits.old.items visits.new.items out.old.items out.new.items) }
+    ensures { OnOk result (IsFollowed N.program cells.now floor begun (Ref.Cell cell) visits.old.items visits.new.items
+        out.old.items out.new.items) }
 {
     let word = cells.word(cell);
     match word {

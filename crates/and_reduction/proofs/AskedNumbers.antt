@@ -14,7 +14,7 @@ use Rattle.and_branch_laws.specs.Variables.{placed}
 use Rattle.and_unify.specs.declared.pairs.Pair.{Pair}
 use Rattle.and_unify.specs.declared.settling.Settled.TheVariants.{Solved, NoSolution}
 use Rattle.and_unify.specs.Settling.{Settles}
-use Rattle.and_determinacy.specs.Guards.{CanBeRead}
+use Rattle.and_guards.specs.Guards.{CanBeRead}
 use Rattle.and_reduction.specs.Asking.{Ask}
 use Rattle.and_reduction.specs.Assigning.{CanBeAssigned, IsAssigned, IsRefused}
 use Rattle.and_reduction.proofs.AskedPairs.{found_ready}

@@ -17,7 +17,7 @@ use Rattle.and_program.specs.Items.{node_item}
 use Rattle.and_program.specs.declared.item.ItemNode.{ItemNode}
 use Rattle.and_program.specs.declared.item.ItemNode.TheVariants.{Fail}
 use Rattle.and_cell_laws.proofs.Images.{contains_image}
-use Rattle.and_program.specs.Loaded.{nodes_at}
+use Rattle.and_program.specs.Loaded.{nodes_at, shape_at}
 use Rattle.and_cells.specs.Ranges.{NamedProgram}
 use Rattle.and_cells.specs.Seen.{word_at}
 use Rattle.and_cells.specs.Meaning.{shallow_cells}
@@ -31,13 +31,12 @@ use Rattle.and_branch_laws.proofs.PairEquations.{part_cells}
 use Rattle.and_unify.specs.Pairs.{equations_of_pairs}
 use Rattle.and_unify.specs.Settling.{KeepsBelow}
 use Rattle.and_unify.specs.declared.pairs.Pair.{Pair}
-use Rattle.and_determinacy.specs.Candidates.{IsNodeOf}
+use Rattle.and_guards.specs.Goals.{IsNodeOf}
 use Rattle.and_reduction.specs.Asking.{AreReady, Ask, CanBeAsked}
 use Rattle.and_reduction.specs.Frames.{IsFrame, IsCallBelow}
 use Rattle.and_reduction.proofs.NewFrames.{own_keeps, head_reads, first_asked}
-use Rattle.and_determinacy.proofs.TriedClauses.{resolved_not_below}
+use Rattle.and_guards.proofs.Resolved.{resolved_not_below}
 use Rattle.and_reduction.proofs.ReadyPairs.{IsReady, one_more, only_one, nodes_ready}
-use Rattle.and_program.specs.Loaded.{shape_at}
 
 -- a pair of references that are found there is ready where that of what is found is
 pub found_ready : (P : NamedProgram) (row : List Ref) (floor : ℕ) (left right a b : Ref) (es : List Equation) → left ≡ a → right ≡ b

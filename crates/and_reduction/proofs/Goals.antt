@@ -26,8 +26,8 @@ use Rattle.and_branch_laws.specs.Kept.{item_at, node_item_at, HasFreePair}
 use Rattle.and_branch_laws.proofs.Clauses.{item_of_nodes, goal_clause_there}
 use Rattle.and_branch_laws.proofs.Growing.{body_is_own}
 use Rattle.and_branch_laws.proofs.Owning.{ItemSpeaksOf, item_speaks}
-use Rattle.and_determinacy.specs.Candidates.{CanBeJudged, IsNodeOf}
-use Rattle.and_determinacy.specs.Guards.{CanBeRead}
+use Rattle.and_guards.specs.Goals.{CanBeJudged, IsNodeOf}
+use Rattle.and_guards.specs.Guards.{CanBeRead}
 use Rattle.and_reduction.specs.Assigning.{CanBeAssigned}
 use Rattle.and_reduction.specs.Runs.{CanBeRun, HasUnnamedPair}
 

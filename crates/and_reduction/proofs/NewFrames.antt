@@ -28,12 +28,12 @@ use Rattle.and_branch_laws.proofs.Clauses.{clause_nodes, item_in_range, clause_w
 use Rattle.and_branch_laws.proofs.Growing.{head_is_own}
 use Rattle.and_branch_laws.proofs.Lists.{all_of}
 use Rattle.and_unify.specs.Settling.{KeepsBelow}
-use Rattle.and_determinacy.specs.Candidates.{CanBeJudged}
-use Rattle.and_determinacy.specs.Guards.{CanBeRead}
+use Rattle.and_guards.specs.Goals.{CanBeJudged}
+use Rattle.and_guards.specs.Guards.{CanBeRead}
 use Rattle.and_reduction.specs.Asking.{CanBeAsked}
 use Rattle.and_reduction.specs.Frames.{IsFrame, IsCallBelow}
-use Rattle.and_determinacy.proofs.TriedClauses.{resolved_not_below}
-use Rattle.and_determinacy.proofs.Widening.{widened_length, free_behind, names_within, settled_still}
+use Rattle.and_guards.proofs.Resolved.{resolved_not_below}
+use Rattle.and_guards.proofs.Widening.{widened_length, free_behind, names_within, settled_still}
 use Rattle.and_branch_laws.proofs.Rows.{widened_words}
 
 -- A frame that was put behind a settled row.

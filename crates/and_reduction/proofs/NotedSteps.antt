@@ -1,7 +1,9 @@
 -- What the steps of a branch set.
-use Rattle.std.proofs.Common.{ℕ, ℤ, suc, ◌≡◌, inl, inr, List, [], ◌∷◌, append-nil, length, sym, ap, ◌∙◌, subst, arith}
+use Rattle.std.proofs.Common.{ℕ, ℤ, suc, ◌≡◌, inl, inr, List, [], ◌∷◌, length, sym, ap, ◌∙◌, subst, arith}
 use Rattle.std.specs.Prelude.{Contains}
+use Rattle.std.proofs.lemmas.List.Elements.{All-contains}
 use Rattle.and_model.specs.declared.reference.Ref.{Ref}
+use Rattle.and_model.specs.declared.reference.Ref.TheVariants.{Free}
 use Rattle.and_laws.proofs.Ordered.{contains_first, contains_more, contains_cases, contains_none}
 use Rattle.and_cells.specs.Ranges.{NamedProgram}
 use Rattle.and_cells.specs.Rows.{OnlySet}
@@ -13,8 +15,8 @@ use Rattle.and_unify.specs.Settling.{Settles}
 use Rattle.and_unify.specs.declared.pairs.Pair.{Pair}
 use Rattle.and_unify.specs.declared.settling.Settled.{Settled as Answer}
 use Rattle.and_unify.specs.declared.settling.Settled.TheVariants.{Memory}
-use Rattle.and_determinacy.proofs.TakenBack.{only_these}
-use Rattle.and_determinacy.proofs.Widening.{widened_length}
+use Rattle.and_guards.proofs.Listed.{among_or_not}
+use Rattle.and_guards.proofs.Widening.{widened_length}
 use Rattle.and_reduction.specs.Assigning.{IsFreePair}
 use Rattle.and_reduction.specs.Trails.{Noted, KeepsNoted, AreNoted}
 use Rattle.and_reduction.proofs.Noting.{step_noted, none_noted, both_noted}
@@ -36,8 +38,11 @@ framed_noted old new row wide after by is settled = both_noted old old new row w
 -- Pairs were settled.
 pub settling_noted : (old new : Noted) (cells : List ℕ) (before after : List Ref) → HaveBeenSet before after cells → AreNoted old new cells
     → KeepsNoted old new before after
-settling_noted old new cells before after set are =
-    step_noted old new cells before after are (only_these before before after 0 cells (sym (append-nil before)) set)
+settling_noted old new cells before after set are = step_noted old new cells before after are record {
+  longer = let same = set.words in omega arith;
+  free = λ cell c low. All-contains (λ (x : ℕ). word_at before x ≡ Free) cells cell set.were_free c;
+  others = λ place low. elim (among_or_not cells place) [ inl c ↦ inr c | inr none ↦ inl (set.others place none) ];
+}
 
 -- A number was written into a free pair.
 written_only : (P : NamedProgram) (row new : List Ref) (pair : ℕ) (z : ℤ) → IsFreePair P row pair → IsWritten row new pair z

@@ -25,12 +25,12 @@ use Rattle.and_branch_laws.specs.Settling.{IsWritten}
 use Rattle.and_branch_laws.proofs.Lists.{all_of}
 use Rattle.and_unify.specs.Settling.{KeepsBelow, AreNewFrom}
 use Rattle.and_unify.specs.declared.pairs.Pair.{Pair}
-use Rattle.and_determinacy.specs.Guards.{CanBeRead}
+use Rattle.and_guards.specs.Guards.{CanBeRead}
 use Rattle.and_reduction.specs.Asking.{AreReady}
 use Rattle.and_reduction.specs.Assigning.{IsFreePair, CanBeAssigned}
 use Rattle.and_reduction.specs.Runs.{IsUnnamed}
-use Rattle.and_determinacy.proofs.TriedClauses.{part_names_below}
-use Rattle.and_determinacy.proofs.Widening.{names_within}
+use Rattle.and_guards.proofs.Resolved.{part_names_below}
+use Rattle.and_guards.proofs.Widening.{names_within}
 
 -- Two words that were set to the halves of a number.
 pub halves_written : (old mid new : List Ref) (pair next : ℕ) (z : ℤ) (high low : Ref) → suc pair < length old → next ≡ suc pair

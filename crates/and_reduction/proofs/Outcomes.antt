@@ -16,12 +16,12 @@ use Rattle.and_branch_laws.specs.Kept.{item_at, node_item_at}
 use Rattle.and_reduction.specs.Assigning.{IsAssigned, IsRefused}
 use Rattle.and_reduction.specs.Runs.{CanBeRun, IsWaiting, WaitsFor, HasRun, CannotHold, compared, assigned, no_value}
 use Rattle.and_reduction.specs.Runs as runs
-use Rattle.and_determinacy.specs.Sides.{IsSide, IsOpen}
+use Rattle.and_guards.specs.Sides.{IsSide, IsOpen}
 use Rattle.and_reduction.specs.Sides.{AreCompared, IsComparison, AreOpen, compared_with}
 use Rattle.and_reduction.specs.Sides as sides
 use Rattle.and_reduction.specs.declared.running.Ran.TheVariants as run
-use Rattle.and_determinacy.specs.declared.guards.Side.{Side}
-use Rattle.and_determinacy.specs.declared.guards.Side.TheVariants.{Waits, NoValue, Number}
+use Rattle.and_guards.specs.declared.guards.Side.{Side}
+use Rattle.and_guards.specs.declared.guards.Side.TheVariants.{Waits, NoValue, Number}
 
 holds_by : (o : Relation) (u w : Term) (x y : Option ℤ) → value u ≡ x → value w ≡ y → holds o u w ≡ both_related o x y
 unfolding holds

@@ -22,9 +22,9 @@ use Rattle.and_branch_laws.proofs.PairEquations.{part_cells, nodes_ask, number_a
 use Rattle.and_unify.specs.Pairs.{equations_of_pairs}
 use Rattle.and_unify.specs.Settling.{KeepsBelow}
 use Rattle.and_unify.specs.declared.pairs.Pair.{Pair}
-use Rattle.and_determinacy.specs.Guards.{CanBeRead}
+use Rattle.and_guards.specs.Guards.{CanBeRead}
 use Rattle.and_reduction.specs.Asking.{AreReady, Ask}
-use Rattle.and_determinacy.proofs.TriedClauses.{part_in_range, part_written}
+use Rattle.and_guards.proofs.Resolved.{part_in_range, part_written}
 
 -- no pairs
 pub none_ready : (P : NamedProgram) (row : List Ref) (floor : ℕ) (pairs : List Pair) → pairs ≡ [] → AreReady P row floor pairs

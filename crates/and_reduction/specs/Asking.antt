@@ -9,7 +9,7 @@ use Rattle.and_cells.specs.Seen.{word_at}
 use Rattle.and_unify.specs.Pairs.{AreInRange, AreWritten, NameNoHalf, equations_of_pairs}
 use Rattle.and_unify.specs.Settling.{KeepsBelow}
 use Rattle.and_unify.specs.declared.pairs.Pair.{Pair}
-use Rattle.and_determinacy.specs.Guards.{CanBeRead}
+use Rattle.and_guards.specs.Guards.{CanBeRead}
 
 -- The pairs can be handed to unification over the row, whose words from the floor on are new.
 pub record AreReady (P : NamedProgram) (row : List Ref) (floor : ℕ) (pairs : List Pair) : Type 0 where

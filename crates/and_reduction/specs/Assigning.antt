@@ -11,7 +11,7 @@ use Rattle.and_cells.specs.Seen.{word_at}
 use Rattle.and_cells.specs.Meaning.{equations_of}
 use Rattle.and_branch_laws.specs.Settling.{Settled, IsWritten}
 use Rattle.and_branch_laws.specs.Variables.{placed}
-use Rattle.and_determinacy.specs.Guards.{CanBeRead}
+use Rattle.and_guards.specs.Guards.{CanBeRead}
 use Rattle.and_reduction.specs.Runs.{IsUnnamed}
 
 -- Both words of the pair are of the row, are free, and are named by no word that was set.
@@ -22,8 +22,8 @@ pub record IsFreePair (P : NamedProgram) (row : List Ref) (pair : ℕ) : Type 0 
   pub high_unnamed : IsUnnamed P row pair
   pub low_unnamed : IsUnnamed P row (suc pair)
 
--- A number can be written into the pair and settled with the node: this can be read in the frame at the base, and its cells lie before
--- the pair.
+-- A number can be written into the pair and settled with the node: this can be read in the frame at the base, and its
+-- cells lie before the pair.
 pub record CanBeAssigned (P : NamedProgram) (row : List Ref) (base node pair : ℕ) : Type 0 where
   pub reads : CanBeRead P row base node
   pub pair_is_free : IsFreePair P row pair

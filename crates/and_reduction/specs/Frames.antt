@@ -11,10 +11,10 @@ use Rattle.and_cells.specs.Ranges.{NamedProgram}
 use Rattle.and_cells.specs.Seen.{word_at, IsSetTo}
 use Rattle.and_cells.specs.Meaning.{IsSettled}
 use Rattle.and_unify.specs.Settling.{NamesBelow}
-use Rattle.and_determinacy.specs.Candidates.{CanBeJudged}
+use Rattle.and_guards.specs.Goals.{CanBeJudged}
 
--- The words from the floor on are a new frame of the clause: they are free, and no word that was set names one of them. What lies before
--- them is settled.
+-- The words from the floor on are a new frame of the clause: they are free, and no word that was set names one of
+-- them. What lies before them is settled.
 pub record IsFrame (P : NamedProgram) (row : List Ref) (clause floor : ℕ) : Type 0 where
   pub long : length row ≡ floor + clause_weight (clause_at P.program clause)
   pub free : (cell : ℕ) → floor ≤ cell → word_at row cell ≡ Free

@@ -9,8 +9,8 @@ use Rattle.and_branch_laws.specs.Running.{IsRead, AreRead}
 use Rattle.and_cells.specs.Seen.{Grows, AreFree}
 use Rattle.and_reduction.specs.declared.running.Ran.{Ran}
 use Rattle.and_reduction.specs.declared.running.Ran.TheVariants as run
-use Rattle.and_determinacy.specs.declared.guards.Side.{Side}
-use Rattle.and_determinacy.specs.declared.guards.Side.TheVariants.{Waits, NoValue, Number}
+use Rattle.and_guards.specs.declared.guards.Side.{Side}
+use Rattle.and_guards.specs.declared.guards.Side.TheVariants.{Waits, NoValue, Number}
 
 -- a comparison that came to this, where both sides are ground
 abbrev pub compared : Bool → Ran
@@ -28,7 +28,8 @@ compared_with o (Number a) NoValue = run.False
 compared_with o (Number a) (Number b) = compared (related o a b)
 
 -- Both terms read as ground terms, of which the comparison holds or not.
-pub record AreCompared (P : NamedProgram) (row : List Ref) (base : ℕ) (o : Relation) (a b : Term) (outcome : Bool) : Type 0 where
+pub record AreCompared (P : NamedProgram) (row : List Ref) (base : ℕ) (o : Relation) (a b : Term)
+    (outcome : Bool) : Type 0 where
   pub left : Term
   pub right : Term
   pub left_read : IsRead P row base a left
@@ -43,10 +44,12 @@ AreOpen P row base ts = (us : Terms) → AreRead P row base ts us → are_ground
 
 -- Nor do they in whatever row this one grows to while the cell is free.
 abbrev pub AreOpenBy : NamedProgram → List Ref → (base : ℕ) → Terms → (cell : ℕ) → Type 0
-AreOpenBy P row base ts cell = (later : List Ref) → Grows row later → IsSound P later → AreFree later (cell ∷ []) → AreOpen P later base ts
+AreOpenBy P row base ts cell = (later : List Ref) → Grows row later → IsSound P later → AreFree later (cell ∷ [])
+    → AreOpen P later base ts
 
 -- This is what a comparison of two terms comes to in the frame at the base.
 abbrev pub IsComparison : NamedProgram → List Ref → (base : ℕ) → Relation → (a b : Term) → Ran → Type 0
-IsComparison P row base o a b (run.Waits cell) = AreOpen P row base (more a (more b none)) × AreOpenBy P row base (more a (more b none)) cell
+IsComparison P row base o a b (run.Waits cell) =
+    AreOpen P row base (more a (more b none)) × AreOpenBy P row base (more a (more b none)) cell
 IsComparison P row base o a b run.Done = AreCompared P row base o a b true
 IsComparison P row base o a b run.False = AreCompared P row base o a b false

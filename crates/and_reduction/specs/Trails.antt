@@ -3,12 +3,14 @@ use Rattle.std.specs.Prelude.{ℕ, ◌<◌, ◌≡◌, ◌⊎◌, Option, Some, 
 use Rattle.and_model.specs.declared.reference.Ref.{Ref}
 use Rattle.and_cells.specs.Rows.{OnlySet}
 
--- What is noted of a row: how many words it had at first, if it is to be had again, and which of its words were set since.
+-- What is noted of a row: how many words it had at first, if it is to be had again, and which of its words were set
+-- since.
 pub record Noted : Type 0 where
   pub mark : Option ℕ
   pub cells : List ℕ
 
--- The first row can be had again from this one: it had as many words as is noted, and none of them but those noted, which were free, was set.
+-- The first row can be had again from this one: it had as many words as is noted, and none of them but those noted,
+-- which were free, was set.
 pub record IsNoted (first : List Ref) (n : Noted) (row : List Ref) : Type 0 where
   pub mark : n.mark ≡ Some (length first)
   pub only : OnlySet n.cells first row

@@ -1,6 +1,7 @@
 //! What unification is asked in a new frame.
 
-ghost use Rattle.std.specs.Prelude.{◌≡◌, ◌≤◌, ◌∷◌, ◌++◌, [], ℕ, true, false, Some, Ok, length, slice_get, OnOk, Contains};
+ghost use Rattle.std.specs.Prelude.{◌≡◌, ◌≤◌, ◌∷◌, ◌++◌, [], ℕ, true, false, Some, Ok, length, slice_get, OnOk};
+ghost use Rattle.std.specs.Prelude.{Contains};
 ghost use Rattle.and_model.specs.Programs.{clause_at, fail};
 ghost use Rattle.and_model.specs.Stands.{term_of};
 ghost use Rattle.and_program.specs.Items.{node_item};
@@ -23,7 +24,8 @@ use std::alloc::AllocError;
 /// The node of a call, by its place in the body of a clause.
 fn call_at(loaded: &Loaded, clause: ClauseNo, item: u32) -> NodeNo
     requires clause { clause.0 ≤ length (program_of loaded.now).clauses }
-    requires call { (node : ℕ) × (slice_get (nodes_at (skeleton_of loaded.now) clause.0).items item ≡ Some (call node)) }
+    requires call { (node : ℕ)
+        × (slice_get (nodes_at (skeleton_of loaded.now) clause.0).items item ≡ Some (call node)) }
     ensures { slice_get (nodes_at (skeleton_of loaded.now) clause.0).items item ≡ Some (call result.0) }
 {
     match loaded.items(clause)[item as usize] {
@@ -58,7 +60,10 @@ pub(crate) fn ask_call<N: Naming>(
     requires frame { IsFrame N.program cells.now clause.0 floor }
     requires call { IsCallBelow N.program cells.now floor goal }
     ensures { OnOk result (Ask N.program cells.now floor pairs.new
-        ((placed goal.base (term_of N.program.program goal), placed floor (clause_at N.program.program clause.0).head) ∷ [])) }
+        ((
+          placed goal.base (term_of N.program.program goal),
+          placed floor (clause_at N.program.program clause.0).head,
+        ) ∷ [])) }
 {
     loaded.skeleton_is_of_the_program();
     let call = loaded.resolve(call_at(loaded, goal.clause, goal.item), goal.base);
@@ -107,7 +112,8 @@ fn ask_item<N: Naming>(
     requires program { N.program ≡ named loaded.now }
     requires item { CanBeAsked N.program cells.now floor (node_item item) }
     requires ready { AreReady N.program cells.now floor pairs.old }
-    ensures asked { result ≡ Ok true → Ask N.program cells.now floor pairs.new (equations_of_pairs N.program (word_at cells.now) pairs.old
+    ensures asked { result ≡ Ok true
+        → Ask N.program cells.now floor pairs.new (equations_of_pairs N.program (word_at cells.now) pairs.old
         ++ body_equations (placed floor) (item_of N.program.skeleton.nodes (node_item item) ∷ [])) }
     ensures failing { result ≡ Ok false → item ≡ ItemNode.Fail }
 {

@@ -10,7 +10,7 @@ ghost use Rattle.and_cells.specs.Meaning.{IsSettled};
 ghost use Rattle.and_cells.specs.Parts.{named};
 ghost use Rattle.and_cells.specs.Ranges.{pair_of};
 ghost use Rattle.and_cells.specs.Rows.{IsSound};
-ghost use Rattle.and_determinacy.specs.Guards.{CanBeRead};
+ghost use Rattle.and_guards.specs.Guards.{CanBeRead};
 ghost use Rattle.and_branch_laws.specs.Settling.{IsWritten};
 ghost use Rattle.and_reduction.specs.Runs.{CanBeRun, IsWaiting, WaitsFor, HasRun, CannotHold};
 ghost use Rattle.and_reduction.specs.Assigning.{CanBeAssigned, IsAssigned, IsFreePair, IsRefused};
@@ -23,7 +23,7 @@ use crate::taking::Tools;
 use crate::trail::Trail;
 use and_arith::WorkList;
 use and_cells::{Naming, PlainCells, halves};
-use and_determinacy::guards::{Side, evaluate};
+use and_guards::{Side, evaluate};
 use and_model::{ClauseNo, Goal, NodeNo, Ref, Relation};
 use and_program::{ItemNode, Loaded};
 use and_unify::Settled as Answer;
@@ -123,7 +123,8 @@ fn run_comparison<N: Naming>(
     requires settled { IsSettled N.program cells.old }
     requires left { CanBeRead N.program cells.old base left.0 }
     requires right { CanBeRead N.program cells.old base right.0 }
-    ensures compared { IfOk result (IsComparison N.program cells.old base (relation by) (node_term N.program.skeleton.nodes left.0)
+    ensures compared { IfOk result
+        (IsComparison N.program cells.old base (relation by) (node_term N.program.skeleton.nodes left.0)
         (node_term N.program.skeleton.nodes right.0)) }
     ensures unchanged { cells.new ≡ cells.old }
 {

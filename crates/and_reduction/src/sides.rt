@@ -6,7 +6,7 @@ ghost use Rattle.and_reduction.specs.Sides.{compared_with};
 
 use crate::running::Ran;
 use and_arith::compare;
-use and_determinacy::guards::Side;
+use and_guards::Side;
 use and_model::Relation;
 
 /// What a comparison of these sides comes to.

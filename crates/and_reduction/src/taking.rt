@@ -13,7 +13,7 @@ ghost use Rattle.and_unify.specs.Pairs.{equations_of_pairs};
 ghost use Rattle.and_branch_laws.specs.Reducing.{body_equations, reduction_in_cells};
 ghost use Rattle.and_branch_laws.specs.Settling.{Settled, widened};
 ghost use Rattle.and_branch_laws.specs.Variables.{placed};
-ghost use Rattle.and_determinacy.specs.Candidates.{CanBeJudged};
+ghost use Rattle.and_guards.specs.Goals.{CanBeJudged};
 ghost use Rattle.and_reduction.specs.Asking.{AreReady};
 ghost use Rattle.and_reduction.specs.Frames.{IsFrame};
 ghost use Rattle.and_reduction.specs.Trails.{KeepsNoted};
@@ -68,7 +68,8 @@ pub fn begin<N: Naming>(
 ) -> Result<Entered, AllocError>
     requires program { N.program ≡ named loaded.now }
     requires empty { cells.old ≡ [] }
-    ensures solved { result ≡ Ok Entered.Solved → Settled N.program (replicate (clause_weight N.program.program.query) Ref.Free) cells.new
+    ensures solved { result ≡ Ok Entered.Solved
+        → Settled N.program (replicate (clause_weight N.program.program.query) Ref.Free) cells.new
         (body_equations (placed 0) N.program.program.query.body) }
     ensures unsolved { result ≡ Ok Entered.NoSolution
         → Solvable (equations_of N.program (replicate (clause_weight N.program.program.query) Ref.Free)
@@ -127,7 +128,8 @@ fn open_frame<N: Naming>(
     requires clause { clause.0 ≤ length N.program.program.clauses }
     requires fits { length cells.old + clause_weight (clause_at N.program.program clause.0) ≤ MAX_LIMIT }
     ensures floor { IfOk result (λ floor. floor ≡ length cells.old) }
-    ensures widened { OnOk result (cells.new ≡ widened cells.old (clause_weight (clause_at N.program.program clause.0))) }
+    ensures widened { OnOk result (cells.new
+        ≡ widened cells.old (clause_weight (clause_at N.program.program clause.0))) }
     ensures frame { IfOk result (IsFrame N.program cells.new clause.0) }
     ensures sound { IsSound N.program cells.old }
 {

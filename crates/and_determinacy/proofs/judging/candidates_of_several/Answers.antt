@@ -1,7 +1,7 @@
 use Rattle.std.proofs.Common.{subst}
 use Rattle.std.specs.Prelude.{OnOk}
 use Rattle.and_determinacy.specs.Candidates.{AreCandidates}
-use Rattle.and_determinacy.specs.Searches.{AreServed}
+use Rattle.and_clause_index.specs.Served.{AreServed}
 use Rattle.and_determinacy.specs.declared.judging.Two.{Two}
 use Rattle.and_determinacy.proofs.Searching.{served_printed, two_seen, two_put}
 use Rattle.and_determinacy.proofs.judging.candidates_of_several.Goals as goal

@@ -1,7 +1,7 @@
 use Rattle.std.proofs.Common.{sym, ap, subst, ◌∙◌}
-use Rattle.and_determinacy.specs.Searches.{AreServed}
-use Rattle.and_determinacy.specs.Tables.{tried, entry_at}
-use Rattle.and_determinacy.proofs.Serving.{first_serves}
+use Rattle.and_clause_index.specs.Served.{AreServed}
+use Rattle.and_clause_index.specs.Tables.{tried, entry_at}
+use Rattle.and_clause_index.proofs.Serving.{first_serves}
 use Rattle.and_determinacy.proofs.judging.clauses_to_try.Goals as goal
 
 pub returns : goal.returns

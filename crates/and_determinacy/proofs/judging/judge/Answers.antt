@@ -1,6 +1,7 @@
 use Rattle.std.proofs.Common.{subst}
 use Rattle.std.specs.Prelude.{IfOk}
-use Rattle.and_determinacy.specs.Searches.{NodeHas, AreServed, IsCount}
+use Rattle.and_clause_index.specs.Served.{NodeHas, AreServed}
+use Rattle.and_determinacy.specs.Searches.{IsCount}
 use Rattle.and_determinacy.proofs.Searching.{counted_if}
 use Rattle.and_determinacy.proofs.judging.judge.Goals as goal
 

@@ -1,7 +1,8 @@
 use Rattle.std.proofs.Common.{length, Ok, ap, refl, subst}
 use Rattle.std.specs.Prelude.{IfSome}
 use Rattle.and_program.specs.Skeletons.{node_term}
-use Rattle.and_determinacy.specs.Searches.{NodeHas, NoneFrom, IsNextOf}
+use Rattle.and_clause_index.specs.Served.{NodeHas}
+use Rattle.and_determinacy.specs.Searches.{NoneFrom, IsNextOf}
 use Rattle.and_determinacy.specs.Watching.{StaysWhile}
 use Rattle.and_determinacy.proofs.Told.{both_keep}
 use Rattle.and_determinacy.proofs.judging.judge_from.Goals as goal
@@ -17,7 +18,7 @@ returns-in-None-2-clause-count g c =
       refl,
       c.in_ok-next_candidate.ensures.some found (ap (λ x. Ok x) c.in-Some.is),
       subst (λ r. NoneFrom (NodeHas g.N.Naming.program r c.args.node.0 c.args.base) clauses found.behind (length clauses))
-          c.in_ok-next_candidate.ensures.unchanged (c.in_ok-next_candidate-in-Some.ensures.none (ap (λ x. Ok x) c.in-None-2.is)),
+          c.next_candidate.ensures.unchanged (c.in_ok-next_candidate-in-Some.ensures.none (ap (λ x. Ok x) c.in-None-2.is)),
     )
 
 pub returns-in-Some-2-clause-count : goal.returns-in-Some-2-clause-count
@@ -28,7 +29,7 @@ returns-in-Some-2-clause-count g c =
       other,
       c.in_ok-next_candidate.ensures.some found (ap (λ x. Ok x) c.in-Some.is),
       subst (λ r. IsNextOf (NodeHas g.N.Naming.program r c.args.node.0 c.args.base) c.args.clauses.now found.behind other)
-          c.in_ok-next_candidate.ensures.unchanged (c.in_ok-next_candidate-in-Some.ensures.some other (ap (λ x. Ok x) c.in-Some-2.is)),
+          c.next_candidate.ensures.unchanged (c.in_ok-next_candidate-in-Some.ensures.some other (ap (λ x. Ok x) c.in-Some-2.is)),
     )
 
 pub returns-in-Some-2-clause-stay : goal.returns-in-Some-2-clause-stay
@@ -40,7 +41,7 @@ returns-in-Some-2-clause-stay g c = λ e.
     let call = node_term P.skeleton.nodes node in
     let found = c.in-Some.field-0 in
     let other = c.in-Some-2.field-0 in
-    let same = c.in_ok-next_candidate.ensures.unchanged in
+    let same = c.next_candidate.ensures.unchanged in
     let one_is = ap (λ x. Ok x) c.in-Some.is in
     let two_is = ap (λ x. Ok x) c.in-Some-2.is in
     let told = c.next_candidate-in-Some.new.trials.rests in

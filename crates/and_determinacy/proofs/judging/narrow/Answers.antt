@@ -3,7 +3,8 @@ use Rattle.std.specs.Prelude.{IfSome}
 use Rattle.std.proofs.lemmas.List.{get_or_default}
 use Rattle.and_model.specs.declared.numbers.ClauseNo.{ClauseNo}
 use Rattle.and_determinacy.specs.Candidates.{IsNarrowed, narrowed_as}
-use Rattle.and_determinacy.specs.Searches.{NodeHas, NodeKeeps, AreServed, IsCount}
+use Rattle.and_clause_index.specs.Served.{NodeHas, AreServed}
+use Rattle.and_determinacy.specs.Searches.{NodeKeeps, IsCount}
 use Rattle.and_determinacy.specs.declared.judging.Judged.{Judged}
 use Rattle.and_determinacy.specs.declared.judging.Judged.TheVariants.{Nothing, One, Several}
 use Rattle.and_determinacy.specs.declared.judging.Narrowed.TheVariants as narrowed

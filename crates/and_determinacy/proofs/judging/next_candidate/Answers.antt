@@ -4,7 +4,8 @@ use Rattle.std.proofs.lemmas.List.{get_or_default}
 use Rattle.and_model.specs.declared.numbers.ClauseNo.{ClauseNo}
 use Rattle.and_model.specs.declared.reference.Ref.{Ref}
 use Rattle.and_program.specs.Skeletons.{node_term}
-use Rattle.and_determinacy.specs.Searches.{NodeHas, IsNextOf}
+use Rattle.and_clause_index.specs.Served.{NodeHas}
+use Rattle.and_determinacy.specs.Searches.{IsNextOf}
 use Rattle.and_determinacy.specs.Watching.{HadBefore, StaysWhile}
 use Rattle.and_determinacy.specs.declared.judging.Found.{Found}
 use Rattle.and_determinacy.proofs.Searching.{next_found, none_more}
@@ -57,7 +58,7 @@ loop-place-preserved g c =
     true≢false (sym (tells.1 (subst (λ r. HasIn r clause) (sym c.loop-place.invariant.same) q)) ∙ c.if-branch.false) in
     let read = get_or_default clauses place (record { 0 = 0 }) clause low in
     record {
-      same = c.in_ok-fits.ensures.unchanged ∙ c.loop-place.invariant.same;
+      same = c.fits.ensures.unchanged ∙ c.loop-place.invariant.same;
       look = c.fits.ensures.look ∙ c.loop-place.invariant.look;
       rests = c.in_ok-fits.ensures.same (ap (λ b. Ok b) c.if-branch.false) ∙ c.loop-place.invariant.rests;
       none = none_more Q clauses c.args.from place clause read fails c.loop-place.invariant.none;

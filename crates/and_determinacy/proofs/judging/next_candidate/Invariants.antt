@@ -1,5 +1,6 @@
 use Rattle.std.proofs.Common.{◌≡◌}
-use Rattle.and_determinacy.specs.Searches.{NodeHas, NoneFrom}
+use Rattle.and_clause_index.specs.Served.{NodeHas}
+use Rattle.and_determinacy.specs.Searches.{NoneFrom}
 use Rattle.and_determinacy.proofs.judging.next_candidate.Given as goal
 
 abbrev pub invariant-loop-place : goal.invariant-loop-place

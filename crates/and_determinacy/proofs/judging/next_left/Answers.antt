@@ -1,7 +1,7 @@
 use Rattle.std.proofs.Common.{◌<◌, length, get_or, true≢false, sym, arith, ◌∙◌}
 use Rattle.std.proofs.lemmas.List.{get_or_default}
 use Rattle.and_model.specs.declared.numbers.ClauseNo.{ClauseNo}
-use Rattle.and_determinacy.specs.Looks.{IsLeft}
+use Rattle.and_clause_index.specs.Looks.{IsLeft}
 use Rattle.and_determinacy.proofs.Searching.{none_more}
 use Rattle.and_determinacy.proofs.judging.next_left.Goals as goal
 

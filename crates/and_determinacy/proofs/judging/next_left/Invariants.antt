@@ -1,4 +1,4 @@
-use Rattle.and_determinacy.specs.Looks.{IsLeft}
+use Rattle.and_clause_index.specs.Looks.{IsLeft}
 use Rattle.and_determinacy.specs.Searches.{NoneFrom}
 use Rattle.and_determinacy.proofs.judging.next_left.Given as goal
 

@@ -3,8 +3,7 @@ use Rattle.std.specs.Prelude.{slice_get}
 use Rattle.and_program.specs.Loaded.{nodes_at}
 use Rattle.and_program.specs.Skeletons.{call}
 use Rattle.and_cells.specs.Ranges.{NamedProgram}
-use Rattle.and_determinacy.proofs.Prepared.{loaded_is}
-use Rattle.and_determinacy.proofs.Calls.{has_node, node_is}
+use Rattle.and_guards.proofs.Nodes.{loaded_is, has_node, node_is}
 use Rattle.and_determinacy.proofs.judging.node_of.Goals as goal
 
 pub call_at-requires-clause-call : goal.call_at-requires-clause-call

@@ -1,8 +1,8 @@
 use Rattle.std.proofs.Common.{◌+◌, ◌≡◌, ◌<◌, ◌++◌, ◌∷◌, [], length, take, get_or, true≢false, refl, sym, subst, arith, ◌∙◌}
 use Rattle.std.proofs.lemmas.List.{take_more, take_all}
 use Rattle.and_model.specs.declared.numbers.ClauseNo.{ClauseNo}
-use Rattle.and_determinacy.specs.Looks.{IsLook}
-use Rattle.and_determinacy.specs.Searches.{NodeHas}
+use Rattle.and_clause_index.specs.Looks.{IsLook}
+use Rattle.and_clause_index.specs.Served.{NodeHas}
 use Rattle.and_determinacy.proofs.Picking.{Picks, nothing, picked, passed}
 use Rattle.and_determinacy.proofs.Searching.{picked_are}
 use Rattle.and_determinacy.proofs.judging.pick.Goals as goal
@@ -32,7 +32,7 @@ loop-clause-preserved g c =
     let same = c.loop-clause.invariant.same in
     let picks = c.loop-clause.invariant.picks in
     record {
-      same = c.in_ok-fits.ensures.unchanged ∙ same;
+      same = c.fits.ensures.unchanged ∙ same;
       look = subst (IsLook P c.args.cells.now node base) (sym c.fits.ensures.look) c.loop-clause.invariant.look;
       picks = subst (λ ks. Picks Q ks c.if-branch.out) (sym more) (elim c.if-branch.branch [
         | then-branch+in_ok-put w ↦

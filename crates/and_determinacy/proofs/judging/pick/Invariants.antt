@@ -1,6 +1,6 @@
 use Rattle.std.proofs.Common.{◌≡◌, take}
-use Rattle.and_determinacy.specs.Searches.{NodeHas}
-use Rattle.and_determinacy.specs.Looks.{IsLook}
+use Rattle.and_clause_index.specs.Served.{NodeHas}
+use Rattle.and_clause_index.specs.Looks.{IsLook}
 use Rattle.and_determinacy.proofs.Picking.{Picks}
 use Rattle.and_determinacy.proofs.judging.pick.Given as goal
 

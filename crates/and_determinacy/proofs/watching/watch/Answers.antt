@@ -6,11 +6,9 @@ use Rattle.and_program.specs.Loaded.{nodes_at}
 use Rattle.and_program.specs.Skeletons.{call}
 use Rattle.and_cells.specs.Ranges.{NamedProgram, IsInRange}
 use Rattle.and_determinacy.specs.Watching.{IsWatched}
-use Rattle.and_determinacy.proofs.Calls.{has_node, node_is}
-use Rattle.and_determinacy.proofs.Prepared.{loaded_is}
+use Rattle.and_guards.proofs.Nodes.{has_node, node_is, loaded_is}
 use Rattle.and_determinacy.proofs.Resting.{rests_on}
-use Rattle.and_determinacy.proofs.SideAnswers.{resolved_is, falls_in}
-use Rattle.and_determinacy.proofs.TriedClauses.{part_in_range}
+use Rattle.and_guards.proofs.Resolved.{resolved_is, falls_in, part_in_range}
 use Rattle.and_determinacy.proofs.Watched.{root_watched}
 use Rattle.and_determinacy.proofs.watching.watch.Goals as goal
 

@@ -9,7 +9,7 @@ use Rattle.and_program.specs.Skeletons.{call, IsSkeleton}
 use Rattle.and_program.specs.declared.loaded.Loaded.{Loaded}
 use Rattle.and_cells.specs.Ranges.{NamedProgram}
 use Rattle.and_cells.specs.Parts.{named}
-use Rattle.and_determinacy.specs.Candidates.{CanBeJudged, IsNodeOf}
+use Rattle.and_guards.specs.Goals.{CanBeJudged, IsNodeOf}
 use Rattle.and_reduction.proofs.AskedPairs.{call_asked}
 use Rattle.and_reduction.proofs.Goals.{has_node, node_is}
 use Rattle.and_branch_laws.proofs.Loading.{loaded_is, resolved_is}

@@ -9,7 +9,7 @@ use Rattle.and_program.specs.Skeletons.{node_term}
 use Rattle.and_program.specs.declared.item.ItemNode.TheVariants.{Call, Equal, Is, Compare, Fail}
 use Rattle.and_cells.specs.Ranges.{NamedProgram, pair_of}
 use Rattle.and_reduction.specs.Assigning.{CanBeAssigned, IsAssigned, IsRefused}
-use Rattle.and_determinacy.specs.Sides.{IsSide}
+use Rattle.and_guards.specs.Sides.{IsSide}
 use Rattle.and_reduction.specs.Runs.{WaitsFor}
 use Rattle.and_reduction.specs.Sides.{IsComparison}
 use Rattle.and_reduction.specs.Trails.{KeepsNoted}

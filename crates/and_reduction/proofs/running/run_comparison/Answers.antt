@@ -1,7 +1,7 @@
 use Rattle.std.proofs.Common.{sym, subst}
 use Rattle.and_program.specs.Items.{relation}
 use Rattle.and_program.specs.Skeletons.{node_term}
-use Rattle.and_determinacy.specs.Sides.{IsSide}
+use Rattle.and_guards.specs.Sides.{IsSide}
 use Rattle.and_reduction.specs.Sides.{IsComparison}
 use Rattle.and_reduction.proofs.Outcomes.{sides_compare}
 use Rattle.and_reduction.proofs.running.run_comparison.Goals as goal

@@ -6,5 +6,5 @@ use Rattle.and_reduction.proofs.settling.settle_noted.Goals as goal
 pub returns-in-Ok-clause-noted : goal.returns-in-Ok-clause-noted
 returns-in-Ok-clause-noted g c = λ other.
     settling_noted c.args.trail.now c.note.new.self c.settle_further-answer.new.self c.args.cells.now c.settle_further-answer.new.cells
-    (c.settle_further-answer.ensures.bound other)
+    c.settle_further-answer.ensures.bound
     (subst (AreNoted c.args.trail.now c.note.new.self) c.bound.ensures c.in-Ok.ensures)

@@ -12,11 +12,12 @@ use Rattle.and_program.specs.Items.{node_item}
 use Rattle.and_cells.specs.Meaning.{equations_of}
 use Rattle.and_branch_laws.specs.Judging.{outside}
 use Rattle.and_branch_laws.specs.Variables.{placed}
-use Rattle.and_determinacy.specs.Guards.{GuardCanBeRead, IsGuardFalse}
+use Rattle.and_guards.specs.Guards.{GuardCanBeRead, IsGuardFalse}
 use Rattle.and_determinacy.specs.Watching.{HaveWhatWasSet, StaysWhile}
-use Rattle.and_determinacy.proofs.Prepared.{loaded_is, made_in_range, made_settled, made_whole, made_new, made_reads, no_candidate, guard_tells}
+use Rattle.and_guards.proofs.Nodes.{loaded_is}
+use Rattle.and_determinacy.proofs.Prepared.{made_in_range, made_settled, made_whole, made_new, made_reads, no_candidate, guard_tells}
 use Rattle.and_determinacy.proofs.Staying.{stays}
-use Rattle.and_determinacy.proofs.TakenBack.{only_these}
+use Rattle.and_determinacy.proofs.TakenBack.{only_these, nothing_set}
 use Rattle.and_determinacy.proofs.Told.{both_told}
 use Rattle.and_determinacy.proofs.trying.Tools.meets.Goals as goal
 
@@ -31,7 +32,7 @@ settle_further-requires-clause-in_range g c =
     let facts = loaded_is P c.args.loaded.now c.requires.program c.skeleton_is_of_the_program.ensures.skeleton
     c.skeleton_is_of_the_program.ensures.own_variables c.skeleton_is_of_the_program.ensures.few in
     made_in_range P facts c.args.cells.now c.requires.short c.args.node.0 c.args.base c.args.clause.0 c.requires.node c.requires.of
-    c.prepare.new.cells c.prepare.new.self.pairs c.in_ok-floor.floor c.in_ok-floor.ensures
+    c.prepare.new.cells c.prepare.new.self.pairs c.in_ok-floor.floor c.in_ok-floor.ensures.prepared
 
 pub settle_further-requires-clause-settled : goal.settle_further-requires-clause-settled
 settle_further-requires-clause-settled g c =
@@ -39,7 +40,7 @@ settle_further-requires-clause-settled g c =
     let facts = loaded_is P c.args.loaded.now c.requires.program c.skeleton_is_of_the_program.ensures.skeleton
     c.skeleton_is_of_the_program.ensures.own_variables c.skeleton_is_of_the_program.ensures.few in
     made_settled P facts c.args.cells.now c.requires.short c.args.node.0 c.args.base c.args.clause.0 c.requires.node c.requires.of
-    c.prepare.new.cells c.prepare.new.self.pairs c.in_ok-floor.floor c.in_ok-floor.ensures c.requires.settled
+    c.prepare.new.cells c.prepare.new.self.pairs c.in_ok-floor.floor c.in_ok-floor.ensures.prepared c.requires.settled
 
 pub settle_further-requires-clause-no_half : goal.settle_further-requires-clause-no_half
 settle_further-requires-clause-no_half g c =
@@ -47,7 +48,7 @@ settle_further-requires-clause-no_half g c =
     let facts = loaded_is P c.args.loaded.now c.requires.program c.skeleton_is_of_the_program.ensures.skeleton
     c.skeleton_is_of_the_program.ensures.own_variables c.skeleton_is_of_the_program.ensures.few in
     made_whole P facts c.args.cells.now c.requires.short c.args.node.0 c.args.base c.args.clause.0 c.requires.node c.requires.of
-    c.prepare.new.cells c.prepare.new.self.pairs c.in_ok-floor.floor c.in_ok-floor.ensures
+    c.prepare.new.cells c.prepare.new.self.pairs c.in_ok-floor.floor c.in_ok-floor.ensures.prepared
 
 pub settle_further-requires-clause-new : goal.settle_further-requires-clause-new
 settle_further-requires-clause-new g c =
@@ -55,7 +56,7 @@ settle_further-requires-clause-new g c =
     let facts = loaded_is P c.args.loaded.now c.requires.program c.skeleton_is_of_the_program.ensures.skeleton
     c.skeleton_is_of_the_program.ensures.own_variables c.skeleton_is_of_the_program.ensures.few in
     made_new P facts c.args.cells.now c.requires.short c.args.node.0 c.args.base c.args.clause.0 c.requires.node c.requires.of
-    c.prepare.new.cells c.prepare.new.self.pairs c.in_ok-floor.floor c.in_ok-floor.ensures
+    c.prepare.new.cells c.prepare.new.self.pairs c.in_ok-floor.floor c.in_ok-floor.ensures.prepared
 
 pub is_guard_false-requires-clause-readable : goal.is_guard_false-requires-clause-readable
 is_guard_false-requires-clause-readable g c =
@@ -67,7 +68,7 @@ is_guard_false-requires-clause-readable g c =
     let settles = c.in-Solved.ensures.settles in
     subst (λ is. GuardCanBeRead P c.settle_further.new.cells c.in_ok-floor.floor is) (sym items)
     (made_reads P facts c.args.cells.now c.requires.short c.args.node.0 c.args.base c.args.clause.0 c.requires.node c.requires.of
-    c.prepare.new.cells c.prepare.new.self.pairs c.in_ok-floor.floor c.in_ok-floor.ensures
+    c.prepare.new.cells c.prepare.new.self.pairs c.in_ok-floor.floor c.in_ok-floor.ensures.prepared
     c.settle_further.new.cells settles.keeps settles.halves)
 
 pub returns-then-refuted-clause-fits : goal.returns-then-refuted-clause-fits
@@ -86,7 +87,7 @@ returns-then-refuted-clause-fits g c =
     let row = c.args.cells.now in
     let wide = c.prepare.new.cells in
     let pairs = c.prepare.new.self.pairs in
-    let made = c.in_ok-floor.ensures in
+    let made = c.in_ok-floor.ensures.prepared in
     let reads = made_reads P facts row c.requires.short c.args.node.0 c.args.base c.args.clause.0 c.requires.node c.requires.of
     wide pairs floor made new settles.keeps settles.halves in
     let tells = guard_tells P facts row c.requires.short c.args.node.0 c.args.base c.args.clause.0 c.requires.node c.requires.of
@@ -101,8 +102,8 @@ returns-then-refuted-clause-only_set g c =
     let P = g.N.Naming.program in
     let facts = loaded_is P c.args.loaded.now c.requires.program c.skeleton_is_of_the_program.ensures.skeleton
     c.skeleton_is_of_the_program.ensures.own_variables c.skeleton_is_of_the_program.ensures.few in
-    let made = c.in_ok-floor.ensures in
-    let set = c.in-Solved.ensures.bound (λ e. cc) in
+    let made = c.in_ok-floor.ensures.prepared in
+    let set = c.in-Solved.ensures.bound in
     subst (OnlySet c.settle_further.new.self c.args.cells.now) (sym c.in_ok-refuted-in-Solved.ensures.unchanged)
     (only_these c.args.cells.now c.prepare.new.cells c.settle_further.new.cells (1 + (clause_at P.program c.args.clause.0).variables)
     c.settle_further.new.self made.wide_is set)
@@ -123,7 +124,7 @@ returns-in_ok-add-in-Solved-clause-fits g c =
     let row = c.args.cells.now in
     let wide = c.prepare.new.cells in
     let pairs = c.prepare.new.self.pairs in
-    let made = c.in_ok-floor.ensures in
+    let made = c.in_ok-floor.ensures.prepared in
     let reads = made_reads P facts row c.requires.short c.args.node.0 c.args.base c.args.clause.0 c.requires.node c.requires.of
     wide pairs floor made new settles.keeps settles.halves in
     let tells = guard_tells P facts row c.requires.short c.args.node.0 c.args.base c.args.clause.0 c.requires.node c.requires.of
@@ -138,8 +139,8 @@ returns-in_ok-add-in-Solved-clause-only_set g c =
     let P = g.N.Naming.program in
     let facts = loaded_is P c.args.loaded.now c.requires.program c.skeleton_is_of_the_program.ensures.skeleton
     c.skeleton_is_of_the_program.ensures.own_variables c.skeleton_is_of_the_program.ensures.few in
-    let made = c.in_ok-floor.ensures in
-    let set = c.in-Solved.ensures.bound (λ e. cc) in
+    let made = c.in_ok-floor.ensures.prepared in
+    let set = c.in-Solved.ensures.bound in
     subst (OnlySet c.settle_further.new.self c.args.cells.now) (sym c.in_ok-refuted-in-Solved.ensures.unchanged)
     (only_these c.args.cells.now c.prepare.new.cells c.settle_further.new.cells (1 + (clause_at P.program c.args.clause.0).variables)
     c.settle_further.new.self made.wide_is set)
@@ -150,7 +151,7 @@ returns-in_ok-add-in-Solved-clause-stays g c = λ e.
     let facts = loaded_is P c.args.loaded.now c.requires.program c.skeleton_is_of_the_program.ensures.skeleton
     c.skeleton_is_of_the_program.ensures.own_variables c.skeleton_is_of_the_program.ensures.few in
     let settles = c.in-Solved.ensures.settles in
-    let set = c.in-Solved.ensures.bound (λ e. cc) in
+    let set = c.in-Solved.ensures.bound in
     let row = c.args.cells.now in
     let wide = c.prepare.new.cells in
     let new = c.settle_further.new.cells in
@@ -166,7 +167,7 @@ returns-in_ok-add-in-Solved-clause-stays g c = λ e.
     c.in_ok-add-in-Solved.ensures.have) in
     both_told (λ has. guard [] (clause_at P.program clause).body ≡ []) (HaveWhatWasSet P new floor bound)
     (λ has. StaysWhile P row base (node_term P.skeleton.nodes node) has clause) told
-    (λ has no_guard had. stays P facts row wide new pairs node base clause floor bound has c.in_ok-floor.ensures c.requires.settled
+    (λ has no_guard had. stays P facts row wide new pairs node base clause floor bound has c.in_ok-floor.ensures.prepared c.requires.settled
     c.requires.node c.requires.of set settles.halves (settles.solved refl) no_guard had)
     c.in_ok-add-in-Solved.ensures.no_guard have
 
@@ -177,7 +178,7 @@ returns-in-NoSolution-clause-fits g c =
     c.skeleton_is_of_the_program.ensures.own_variables c.skeleton_is_of_the_program.ensures.few in
     let settles = c.in-NoSolution.ensures.settles in
     let none_is = no_candidate P facts c.args.cells.now c.requires.short c.args.node.0 c.args.base c.args.clause.0 c.requires.node
-    c.requires.of c.prepare.new.cells c.prepare.new.self.pairs c.in_ok-floor.floor c.in_ok-floor.ensures
+    c.requires.of c.prepare.new.cells c.prepare.new.self.pairs c.in_ok-floor.floor c.in_ok-floor.ensures.prepared
     (settles.no_solution refl) in
     λ b e. (let same : false ≡ b = cc in
     ((λ is. absurd (true≢false (sym is ∙ sym same))), (λ k. absurd (none_is k))))
@@ -187,7 +188,38 @@ returns-in-NoSolution-clause-only_set g c =
     let P = g.N.Naming.program in
     let facts = loaded_is P c.args.loaded.now c.requires.program c.skeleton_is_of_the_program.ensures.skeleton
     c.skeleton_is_of_the_program.ensures.own_variables c.skeleton_is_of_the_program.ensures.few in
-    let made = c.in_ok-floor.ensures in
-    let set = c.in-NoSolution.ensures.bound (λ e. cc) in
+    let made = c.in_ok-floor.ensures.prepared in
+    let set = c.in-NoSolution.ensures.bound in
+    only_these c.args.cells.now c.prepare.new.cells c.settle_further.new.cells (1 + (clause_at P.program c.args.clause.0).variables)
+    c.settle_further.new.self made.wide_is set
+
+pub returns-in_err-floor-clause-only_set : goal.returns-in_err-floor-clause-only_set
+returns-in_err-floor-clause-only_set g c =
+    nothing_set c.args.cells.now c.prepare.new.cells c.prepare.new.self.solver (c.prepare.ensures.same ∙ c.requires.nothing_set)
+    c.in_err-floor.ensures.unchanged
+
+pub returns-in_err-refuted-in-Solved-clause-only_set : goal.returns-in_err-refuted-in-Solved-clause-only_set
+returns-in_err-refuted-in-Solved-clause-only_set g c =
+    let P = g.N.Naming.program in
+    let made = c.in_ok-floor.ensures.prepared in
+    let set = c.in-Solved.ensures.bound in
+    subst (OnlySet c.settle_further.new.self c.args.cells.now) (sym c.is_guard_false.ensures.unchanged)
+    (only_these c.args.cells.now c.prepare.new.cells c.settle_further.new.cells (1 + (clause_at P.program c.args.clause.0).variables)
+    c.settle_further.new.self made.wide_is set)
+
+pub returns-in_err-add-in-Solved-clause-only_set : goal.returns-in_err-add-in-Solved-clause-only_set
+returns-in_err-add-in-Solved-clause-only_set g c =
+    let P = g.N.Naming.program in
+    let made = c.in_ok-floor.ensures.prepared in
+    let set = c.in-Solved.ensures.bound in
+    subst (OnlySet c.settle_further.new.self c.args.cells.now) (sym c.in_ok-refuted-in-Solved.ensures.unchanged)
+    (only_these c.args.cells.now c.prepare.new.cells c.settle_further.new.cells (1 + (clause_at P.program c.args.clause.0).variables)
+    c.settle_further.new.self made.wide_is set)
+
+pub returns-in-Memory-clause-only_set : goal.returns-in-Memory-clause-only_set
+returns-in-Memory-clause-only_set g c =
+    let P = g.N.Naming.program in
+    let made = c.in_ok-floor.ensures.prepared in
+    let set = c.in-Memory.ensures.bound in
     only_these c.args.cells.now c.prepare.new.cells c.settle_further.new.cells (1 + (clause_at P.program c.args.clause.0).variables)
     c.settle_further.new.self made.wide_is set

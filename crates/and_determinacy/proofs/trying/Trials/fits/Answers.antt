@@ -1,6 +1,6 @@
 use Rattle.std.proofs.Common.{◌≡◌, false, true≢false, sym, ◌∙◌, arith}
-use Rattle.and_determinacy.proofs.Prepared.{clause_there}
-use Rattle.and_determinacy.proofs.Searching.{candidate_left}
+use Rattle.and_clause_index.proofs.ClauseLists.{clause_there}
+use Rattle.and_clause_index.proofs.Left.{candidate_left}
 use Rattle.and_program.specs.Skeletons.{node_term}
 use Rattle.and_determinacy.proofs.trying.Trials.fits.Goals as goal
 

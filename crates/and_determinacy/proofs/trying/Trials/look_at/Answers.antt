@@ -1,6 +1,6 @@
 use Rattle.std.proofs.Common.{subst}
 use Rattle.std.proofs.lemmas.Option.{same_Some}
-use Rattle.and_determinacy.specs.Looks.{IsLook}
+use Rattle.and_clause_index.specs.Looks.{IsLook}
 use Rattle.and_determinacy.proofs.trying.Trials.look_at.Goals as goal
 
 pub returns-clause-look : goal.returns-clause-look

@@ -1,0 +1,9 @@
+pub mod Additions
+pub mod Calls
+pub mod ClauseLists
+pub mod Differing
+pub mod Entries
+pub mod Glimpses
+pub mod Left
+pub mod Printing
+pub mod Serving

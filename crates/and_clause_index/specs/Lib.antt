@@ -1,0 +1,4 @@
+pub mod Looks
+pub mod Prints
+pub mod Served
+pub mod Tables

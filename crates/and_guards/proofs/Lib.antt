@@ -1,0 +1,10 @@
+pub mod Held
+pub mod Listed
+pub mod Moving
+pub mod Nodes
+pub mod Reading
+pub mod Refuting
+pub mod Resolved
+pub mod SideAnswers
+pub mod Valuing
+pub mod Widening

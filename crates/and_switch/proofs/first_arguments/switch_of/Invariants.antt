@@ -1,6 +1,0 @@
-use Rattle.std.proofs.Common.{drop}
-use Rattle.and_switch.proofs.AdditionsLemmas.{Fills}
-use Rattle.and_switch.proofs.first_arguments.switch_of.Given as goal
-
-abbrev pub invariant-loop-addition : goal.invariant-loop-addition
-invariant-loop-addition g l = Fills l.switch (drop l.addition-index l.additions) l.additions
