@@ -20,11 +20,11 @@ use Rattle.and_store_laws.proofs.Lists.{contains_there}
 use Rattle.and_worker_laws.specs.Acts
 use Rattle.and_worker_laws.specs.Acts.{Act, RunInCells, stated, added_by_run, added_by}
 use Rattle.and_worker_laws.specs.Facts.{known_by, told_by}
-use Rattle.and_workers.specs.Handed
-use Rattle.and_workers.specs.Handed.{settings_from, HasAll, SolvesAll, SolvesAsked, SolvesRun, IsSole, WasRun, HasActed, EndsBy, frame_of}
-use Rattle.and_workers.specs.declared.told.Cause.{Cause}
-use Rattle.and_workers.specs.declared.told.Reduced.{Reduced}
-use Rattle.and_workers.specs.declared.told.Ran.{Ran}
+use Rattle.and_handed.specs.Handed
+use Rattle.and_handed.specs.Handed.{settings_from, HasAll, SolvesAll, SolvesAsked, SolvesRun, IsSole, WasRun, HasActed, EndsBy, frame_of}
+use Rattle.and_handed.specs.declared.told.Cause.{Cause}
+use Rattle.and_handed.specs.declared.told.Reduced.{Reduced}
+use Rattle.and_handed.specs.declared.told.Ran.{Ran}
 use Rattle.and_closing_laws.specs.Acting.{Ended, IsTaking, IsRunOf, AreActsOf, seen_before_fail, lesser}
 use Rattle.and_closing_laws.proofs.Entries.{act_by, acts_long, entry_act}
 use Rattle.and_closing_laws.proofs.Lists.{where_stands, stands_in, in_reverse}

@@ -15,9 +15,9 @@ use Rattle.and_cells.specs.Seen.{word_at}
 use Rattle.and_code.specs.Written.{written, all_written}
 use Rattle.and_store_laws.proofs.Lists.{contains_more, contains_map, map_contains, contains_there}
 use Rattle.and_store_laws.proofs.Pairwise.{all_first}
-use Rattle.and_workers.specs.Handed.{IsSole}
-use Rattle.and_workers.specs.declared.told.Reduced.{Reduced}
-use Rattle.and_workers.specs.declared.told.Told.{Told}
+use Rattle.and_handed.specs.Handed.{IsSole}
+use Rattle.and_handed.specs.declared.told.Reduced.{Reduced}
+use Rattle.and_handed.specs.declared.told.Told.{Told}
 use Rattle.and_gathering.specs.Gathering.{IsGathered, goal_taken}
 use Rattle.and_gathering.specs.declared.gathering.Gathered.{Gathered}
 use Rattle.and_gathering.specs.declared.links.Taken.TheVariants as variants

@@ -16,7 +16,7 @@ use Rattle.and_branch_laws.specs.Kept.{Kept, Unsettled, goal_of}
 use Rattle.and_worker_laws.specs.Facts.{IsDone}
 use Rattle.and_worker_laws.specs.Leavings.{AreReady, IsLeftIn}
 use Rattle.and_worker_laws.proofs.Phase.{workers_end}
-use Rattle.and_workers.specs.declared.told.Told.{Told}
+use Rattle.and_handed.specs.declared.told.Told.{Told}
 use Rattle.and_gathering.specs.declared.gathering.Gathered.{Gathered}
 use Rattle.and_gathering.specs.Gathering.{IsGathered}
 use Rattle.and_whole.specs.Places.{all_frames, IsWhole, ArePairsWhole}

@@ -16,7 +16,7 @@ use Rattle.and_branch_laws.specs.Kept.{Kept, goal_of, item_at}
 use Rattle.and_worker_laws.specs.Acts.{Act, RunInCells, arithmetic_at}
 use Rattle.and_worker_laws.specs.Facts.{Fact, known_by}
 use Rattle.and_worker_laws.specs.Leavings.{IsLeftIn}
-use Rattle.and_workers.specs.declared.told.Told.{Told}
+use Rattle.and_handed.specs.declared.told.Told.{Told}
 use Rattle.and_gathering.specs.declared.gathering.Gathered.{Gathered}
 use Rattle.and_gathering.specs.Gathering.{IsGathered}
 use Rattle.and_whole.specs.Places.{all_frames, IsWhole, ArePairsWhole}

@@ -20,7 +20,7 @@ use Rattle.and_gathering.specs.declared.links.Taken.TheVariants.{Reduced, Ran}
 use Rattle.and_store_laws.proofs.Lists.{contains_first, contains_more, contains_cases, contains_none, contains_map, map_contains}
 use Rattle.and_whole.specs.Places
 use Rattle.and_whole.specs.Places.{all_frames, frame_of}
-use Rattle.and_workers.specs.Handed.{IsWholeFrame}
+use Rattle.and_handed.specs.Handed.{IsWholeFrame}
 
 abbrev pub frame_at : (base clause : ℕ) → Frame
 frame_at base clause = record { base = base; clause = record { 0 = clause } }

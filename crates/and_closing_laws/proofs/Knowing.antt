@@ -22,18 +22,18 @@ use Rattle.and_cells.specs.Ranges.{NamedProgram}
 use Rattle.and_cells.specs.Seen.{word_at}
 use Rattle.and_cells.specs.Meaning.{equations_of}
 use Rattle.and_code.specs.Written.{written}
-use Rattle.and_selection.specs.Selecting.{AreLeft}
+use Rattle.and_shared_determinacy.specs.Selecting.{AreLeft}
 use Rattle.and_store.specs.Worked.{shown}
 use Rattle.and_store_laws.specs.Steps.{entry}
 use Rattle.and_store_laws.proofs.Lists.{contains_there}
 use Rattle.and_worker_laws.specs.Acts
 use Rattle.and_worker_laws.specs.Acts.{Act, RunInCells}
 use Rattle.and_worker_laws.specs.Facts.{AreAmong, Fact, known_by, told_by}
-use Rattle.and_workers.specs.Handed.{settings_from, HasAll, SolvesAll, IsWholeFrame, EndsBy, frame_of}
-use Rattle.and_workers.specs.declared.told.Cause.{Cause}
-use Rattle.and_workers.specs.declared.told.Cause.TheVariants.{NoCandidate, NoSolution}
-use Rattle.and_workers.specs.declared.told.Ran.{Ran}
-use Rattle.and_workers.specs.declared.told.Reduced.{Reduced}
+use Rattle.and_handed.specs.Handed.{settings_from, HasAll, SolvesAll, IsWholeFrame, EndsBy, frame_of}
+use Rattle.and_handed.specs.declared.told.Cause.{Cause}
+use Rattle.and_handed.specs.declared.told.Cause.TheVariants.{NoCandidate, NoSolution}
+use Rattle.and_handed.specs.declared.told.Ran.{Ran}
+use Rattle.and_handed.specs.declared.told.Reduced.{Reduced}
 use Rattle.and_closing_laws.specs.Acting.{Ended, IsActOf, seen_before_fail, lesser}
 use Rattle.and_closing_laws.proofs.Asked.{acted, sole_of, run_of, reaches_at, reaches_fail, asked_by_then, fail_sets_nothing}
 use Rattle.and_closing_laws.proofs.Cutting.{ByThen, Next, then_long}

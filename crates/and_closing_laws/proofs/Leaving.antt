@@ -16,11 +16,11 @@ use Rattle.and_code.specs.Written.{written}
 use Rattle.and_store.specs.Passes.{PassSeen}
 use Rattle.and_store_laws.specs.Steps.{entry}
 use Rattle.and_store_laws.proofs.Lists.{contains_first, contains_more, contains_cases, contains_none, contains_there, all_of}
-use Rattle.and_workers.specs.Handed.{EndsBy, WasRun, HasFrame, frame_of}
-use Rattle.and_workers.specs.declared.told.Cause.{Cause}
-use Rattle.and_workers.specs.declared.told.Cause.TheVariants.{NoCandidate}
-use Rattle.and_workers.specs.declared.told.Ran.{Ran}
-use Rattle.and_workers.specs.declared.told.Told.{Told}
+use Rattle.and_handed.specs.Handed.{EndsBy, WasRun, HasFrame, frame_of}
+use Rattle.and_handed.specs.declared.told.Cause.{Cause}
+use Rattle.and_handed.specs.declared.told.Cause.TheVariants.{NoCandidate}
+use Rattle.and_handed.specs.declared.told.Ran.{Ran}
+use Rattle.and_handed.specs.declared.told.Told.{Told}
 use Rattle.and_gathering.specs.Gathering as gathering
 use Rattle.and_gathering.specs.Gathering.{IsGathered, Walks, over, stays}
 use Rattle.and_gathering.specs.declared.gathering.Gathered.{Gathered}

@@ -29,9 +29,9 @@ use Rattle.and_worker_laws.specs.Acts
 use Rattle.and_worker_laws.specs.Acts.{Act, RunInCells, asked, all_added, added_by_run}
 use Rattle.and_worker_laws.specs.Facts.{known_by}
 use Rattle.and_worker_laws.specs.Leavings.{IsCellOf, IsLeftIn}
-use Rattle.and_workers.specs.Handed.{SolvesAll, SolvesAsked, PairsLeft, EndsBy}
-use Rattle.and_workers.specs.declared.told.Cause.{Cause}
-use Rattle.and_workers.specs.declared.told.Told.{Told}
+use Rattle.and_handed.specs.Handed.{SolvesAll, SolvesAsked, PairsLeft, EndsBy}
+use Rattle.and_handed.specs.declared.told.Cause.{Cause}
+use Rattle.and_handed.specs.declared.told.Told.{Told}
 use Rattle.and_gathering.specs.Gathering.{IsGathered}
 use Rattle.and_gathering.specs.declared.gathering.Gathered.{Gathered}
 use Rattle.and_whole.specs.Places.{all_frames, IsWhole, IsVariableCell, IsSideWhole, ArePairsWhole}

@@ -23,11 +23,11 @@ use Rattle.and_store.specs.Ended.{passes_of}
 use Rattle.and_store.specs.Passes.{PassSeen}
 use Rattle.and_store_laws.proofs.Lists.{contains_more, contains_map, map_contains}
 use Rattle.and_store_laws.proofs.Lists.{map_append}
-use Rattle.and_workers.specs.Handed.{EndsBy, IsWholeFrame, settings_from}
-use Rattle.and_workers.specs.declared.told.Cause.TheVariants.{NoCandidate}
-use Rattle.and_workers.specs.declared.told.Ran as run
-use Rattle.and_workers.specs.declared.told.Reduced as making
-use Rattle.and_workers.specs.declared.told.Told.{Told}
+use Rattle.and_handed.specs.Handed.{EndsBy, IsWholeFrame, settings_from}
+use Rattle.and_handed.specs.declared.told.Cause.TheVariants.{NoCandidate}
+use Rattle.and_handed.specs.declared.told.Ran as run
+use Rattle.and_handed.specs.declared.told.Reduced as making
+use Rattle.and_handed.specs.declared.told.Told.{Told}
 use Rattle.and_gathering.specs.Gathering as gathering
 use Rattle.and_gathering.specs.Gathering.{IsGathered, all_made, all_ran, made_by, ran_by}
 use Rattle.and_gathering.specs.declared.gathering.Gathered.{Gathered}

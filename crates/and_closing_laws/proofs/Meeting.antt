@@ -15,9 +15,9 @@ use Rattle.and_model.specs.declared.goal.Reduction.{Reduction}
 use Rattle.and_store_laws.proofs.Lists.{contains_first, contains_more, contains_cases, contains_none, contains_map, contains_flat, map_contains, flat_contains}
 use Rattle.and_store_laws.proofs.Lists.{all_of, contains_split}
 use Rattle.and_store_laws.proofs.Pairwise.{all_pairs_none, all_pairs_first, all_pairs_rest}
-use Rattle.and_workers.specs.declared.told.Ran as run
-use Rattle.and_workers.specs.declared.told.Reduced as making
-use Rattle.and_workers.specs.declared.told.Told.{Told}
+use Rattle.and_handed.specs.declared.told.Ran as run
+use Rattle.and_handed.specs.declared.told.Reduced as making
+use Rattle.and_handed.specs.declared.told.Told.{Told}
 use Rattle.and_gathering.specs.Gathering.{AreOf, AreTiled, IsGathered, goal_taken, all_made, all_ran, made_by, ran_by}
 use Rattle.and_gathering.specs.declared.gathering.Gathered.{Gathered}
 use Rattle.and_gathering.specs.declared.links.Taken.{Taken}

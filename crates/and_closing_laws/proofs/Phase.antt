@@ -14,9 +14,9 @@ use Rattle.and_store.specs.Passes.{PassSeen}
 use Rattle.and_store_laws.proofs.Journal.{made_settings}
 use Rattle.and_store_laws.proofs.Lists.{contains_map, map_contains, contains_split}
 use Rattle.and_worker_laws.specs.Acts.{Act, RunInCells, IsThere}
-use Rattle.and_workers.specs.Handed.{settings_from, FitsSeen, IsWholeFrame, EndsBy}
-use Rattle.and_workers.specs.declared.told.Cause.TheVariants.{NoCandidate}
-use Rattle.and_workers.specs.declared.told.Reduced.{Reduced}
+use Rattle.and_handed.specs.Handed.{settings_from, FitsSeen, IsWholeFrame, EndsBy}
+use Rattle.and_handed.specs.declared.told.Cause.TheVariants.{NoCandidate}
+use Rattle.and_handed.specs.declared.told.Reduced.{Reduced}
 use Rattle.and_closing_laws.specs.Acting.{Ended, AreActsOf, AreAllRuns}
 use Rattle.and_closing_laws.proofs.Entries.{setting_entry}
 use Rattle.and_closing_laws.proofs.Words.{IsClean, set_is_low}

@@ -10,10 +10,10 @@ use Rattle.and_cells.specs.Ranges.{NamedProgram}
 use Rattle.and_store.specs.Passes.{PassSeen}
 use Rattle.and_store_laws.specs.Steps.{entry}
 use Rattle.and_store_laws.proofs.Lists.{contains_first, contains_more, contains_cases, contains_none, map_append}
-use Rattle.and_workers.specs.Handed.{WasRun, IsKnownRun, EndsBy}
-use Rattle.and_workers.specs.declared.told.Cause.{Cause}
-use Rattle.and_workers.specs.declared.told.Ran.{Ran}
-use Rattle.and_workers.specs.declared.told.Told.{Told}
+use Rattle.and_handed.specs.Handed.{WasRun, IsKnownRun, EndsBy}
+use Rattle.and_handed.specs.declared.told.Cause.{Cause}
+use Rattle.and_handed.specs.declared.told.Ran.{Ran}
+use Rattle.and_handed.specs.declared.told.Told.{Told}
 use Rattle.and_gathering.specs.Gathering.{all_ran, ran_by}
 use Rattle.and_gathering.specs.declared.links.Taken.TheVariants as variants
 use Rattle.and_worker_laws.specs.Acts.{RunInCells}

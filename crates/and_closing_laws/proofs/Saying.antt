@@ -16,7 +16,7 @@ use Rattle.and_cells.proofs.SetWords.{set_in_is, set_in_has}
 use Rattle.and_store_laws.proofs.Lists.{map_contains}
 use Rattle.and_worker_laws.specs.Acts.{Act, RunInCells, stated}
 use Rattle.and_worker_laws.specs.Facts.{known_by}
-use Rattle.and_workers.specs.Handed.{settings_from}
+use Rattle.and_handed.specs.Handed.{settings_from}
 use Rattle.and_closing_laws.specs.Acting.{Ended, AreActsOf}
 use Rattle.and_closing_laws.proofs.Entries.{setting_entry, entry_setting, stated_says, says_stated}
 use Rattle.and_closing_laws.proofs.Lists.{in_reverse, of_reverse}

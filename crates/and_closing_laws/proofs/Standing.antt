@@ -15,7 +15,7 @@ use Rattle.and_store_laws.proofs.Lists.{contains_first, contains_none, contains_
 use Rattle.and_store_laws.proofs.Lists.{distinct_apart, distinct_back, map_append}
 use Rattle.and_store_laws.specs.Steps.{entry}
 use Rattle.and_branch_laws.proofs.Lists.{filter_contains}
-use Rattle.and_workers.specs.Handed.{settings_from}
+use Rattle.and_handed.specs.Handed.{settings_from}
 use Rattle.and_closing_laws.proofs.Entries.{made_sets, setting_entry, entry_setting}
 use Rattle.and_closing_laws.proofs.Lists.{where_stands, one_place}
 use Rattle.and_closing_laws.proofs.Told.{in_filter}

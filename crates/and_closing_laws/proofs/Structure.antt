@@ -10,8 +10,8 @@ use Rattle.and_cells.specs.Seen.{word_at}
 use Rattle.and_model.specs.declared.goal.Frame.{Frame}
 use Rattle.and_branch_laws.specs.Kept.{Kept, goal_of}
 use Rattle.and_code.specs.Written.{all_written}
-use Rattle.and_workers.specs.declared.told.Cause.TheVariants.{NoCandidate}
-use Rattle.and_workers.specs.declared.told.Told.{Told}
+use Rattle.and_handed.specs.declared.told.Cause.TheVariants.{NoCandidate}
+use Rattle.and_handed.specs.declared.told.Told.{Told}
 use Rattle.and_gathering.specs.Gathering.{IsGathered}
 use Rattle.and_gathering.specs.declared.gathering.Gathered.{Gathered}
 use Rattle.and_whole.specs.Places.{IsWhole}

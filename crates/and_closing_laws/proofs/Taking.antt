@@ -16,9 +16,9 @@ use Rattle.and_store.specs.Passes.{PassSeen}
 use Rattle.and_store_laws.proofs.Lists.{contains_first, contains_map, map_contains, contains_flat}
 use Rattle.and_store_laws.proofs.Journal.{made_settings, entries_of, made_in, made_by}
 use Rattle.and_store_laws.proofs.Going.{made_frames}
-use Rattle.and_workers.specs.Handed.{frame_of}
-use Rattle.and_workers.specs.declared.told.Reduced.{Reduced}
-use Rattle.and_workers.specs.declared.told.Told.{Told}
+use Rattle.and_handed.specs.Handed.{frame_of}
+use Rattle.and_handed.specs.declared.told.Reduced.{Reduced}
+use Rattle.and_handed.specs.declared.told.Told.{Told}
 use Rattle.and_gathering.specs.Gathering.{IsGathered}
 use Rattle.and_gathering.specs.declared.gathering.Gathered.{Gathered}
 use Rattle.and_whole.specs.Places.{IsWhole}

@@ -18,9 +18,9 @@ use Rattle.and_cells.specs.Meaning.{Words}
 use Rattle.and_store_laws.proofs.Lists.{contains_first, contains_more, contains_cases, contains_none}
 use Rattle.and_worker_laws.specs.Acts
 use Rattle.and_worker_laws.specs.Acts.{Act, RunInCells, asked, added_by_run, all_added, added_by}
-use Rattle.and_workers.specs.Handed
-use Rattle.and_workers.specs.Handed.{HasAll, SolvesAll, HasTerms, SolvesRun}
-use Rattle.and_workers.specs.declared.told.Ran.{Ran}
+use Rattle.and_handed.specs.Handed
+use Rattle.and_handed.specs.Handed.{HasAll, SolvesAll, HasTerms, SolvesRun}
+use Rattle.and_handed.specs.declared.told.Ran.{Ran}
 use Rattle.and_closing_laws.specs.Acting.{Ended, IsRunOf, AreRunsOf, AreAllRuns}
 
 pub in_filter : {X : Type 0} (p : X → Bool) (xs : List X) (x : X) → Contains xs x → p x ≡ true → Contains (filter p xs) x

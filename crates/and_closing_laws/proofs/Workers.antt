@@ -10,11 +10,11 @@ use Rattle.and_store.specs.Sight.{About}
 use Rattle.and_store_laws.proofs.Lists.{contains_first, contains_more, contains_cases, contains_none}
 use Rattle.and_store_laws.proofs.Pairwise.{all_first, all_rest}
 use Rattle.and_store_laws.specs.Steps.{entry}
-use Rattle.and_workers.specs.Handed.{EndsBy, HasActed, IsSole, WasRun, frame_of}
-use Rattle.and_workers.specs.declared.told.Ran.{Ran}
-use Rattle.and_workers.specs.declared.told.Reduced.{Reduced}
-use Rattle.and_workers.specs.declared.told.Cause.{Cause}
-use Rattle.and_workers.specs.declared.told.Told.{Told}
+use Rattle.and_handed.specs.Handed.{EndsBy, HasActed, IsSole, WasRun, frame_of}
+use Rattle.and_handed.specs.declared.told.Ran.{Ran}
+use Rattle.and_handed.specs.declared.told.Reduced.{Reduced}
+use Rattle.and_handed.specs.declared.told.Cause.{Cause}
+use Rattle.and_handed.specs.declared.told.Told.{Told}
 use Rattle.and_closing_laws.specs.Phases.{AllHandOn, HasPhased}
 use Rattle.and_closing_laws.specs.Acting.{Ended, all_ended}
 

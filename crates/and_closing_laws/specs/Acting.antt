@@ -1,5 +1,6 @@
 -- The journal of a store as acts, and what its workers ran (this project's own).
-use Rattle.std.specs.Prelude.{ℕ, pos, ◌-◌, ◌≡◌, ◌⊎◌, true, false, List, [], ◌∷◌, ◌++◌, length, Option, Some, None, Contains}
+use Rattle.std.specs.Prelude.{ℕ, pos, ◌-◌, ◌≡◌, ◌⊎◌, true, false, List, [], ◌∷◌, ◌++◌, length, Option, Some, None}
+use Rattle.std.specs.Prelude.{Contains}
 use Rattle.and_model.specs.Terms.{number}
 use Rattle.and_model.specs.Solutions.{Equation}
 use Rattle.and_model.specs.Store.{JournalEntry, Setting, Frame, sets, gives, fails, hangs, is_half}
@@ -9,11 +10,11 @@ use Rattle.and_cells.specs.Ranges.{NamedProgram}
 use Rattle.and_cells.specs.Meaning.{Words, equations_between}
 use Rattle.and_code.specs.Written.{written}
 use Rattle.and_store.specs.Passes.{PassSeen}
-use Rattle.and_workers.specs.Handed.{HasTerms, frame_of}
-use Rattle.and_workers.specs.declared.told.Ran.{Ran}
-use Rattle.and_workers.specs.declared.told.Reduced.{Reduced}
-use Rattle.and_workers.specs.declared.told.Told.{Told}
-use Rattle.and_workers.specs.declared.told.Cause.{Cause}
+use Rattle.and_handed.specs.Handed.{HasTerms, frame_of}
+use Rattle.and_handed.specs.declared.told.Ran.{Ran}
+use Rattle.and_handed.specs.declared.told.Reduced.{Reduced}
+use Rattle.and_handed.specs.declared.told.Told.{Told}
+use Rattle.and_handed.specs.declared.told.Cause.{Cause}
 use Rattle.and_worker_laws.specs.Acts
 use Rattle.and_worker_laws.specs.Acts.{Act, RunInCells}
 
@@ -44,9 +45,11 @@ pub record IsTaking (P : NamedProgram) (ended : List Ended) (worker : ℕ) (f : 
 -- The act is a setting: what is set says what its equation says of the cells, and a word of a pair says nothing.
 abbrev pub IsSetting : NamedProgram → Words → (worker : ℕ) → Setting → Act → Type 0
 IsSetting P w n s a = ((is_half s.value ≡ true) × (a ≡ Acts.sets n nothing))
-    ⊎ ((is_half s.value ≡ false) × ((d : Equation) × (equations_between P w (Cell s.place) s.value ≡ d ∷ []) × (a ≡ Acts.sets n d)))
+    ⊎ ((is_half s.value ≡ false)
+    × ((d : Equation) × (equations_between P w (Cell s.place) s.value ≡ d ∷ []) × (a ≡ Acts.sets n d)))
 
--- The act is the entry of the journal, where the words of the row are these at the end. (That a goal was hung says nothing.)
+-- The act is the entry of the journal, where the words of the row are these at the end. (That a goal was hung says
+-- nothing.)
 abbrev pub IsActOf : NamedProgram → Words → List Ended → JournalEntry → Act → Type 0
 IsActOf P w ended e a = elim e.made [
   | sets s ↦ IsSetting P w e.pass s a
@@ -88,4 +91,5 @@ AreRunsOf P first who (r ∷ ran) (x ∷ runs) = IsRunOf P first who r x × AreR
 abbrev pub AreAllRuns : NamedProgram → (first : List Ref) → List Ended → List RunInCells → Type 0
 AreAllRuns P first [] runs = runs ≡ []
 AreAllRuns P first (who ∷ ended) runs =
-    (own others : List RunInCells) × (runs ≡ own ++ others) × AreRunsOf P first who who.0.ran.items own × AreAllRuns P first ended others
+    (own others : List RunInCells) × (runs ≡ own ++ others) × AreRunsOf P first who who.0.ran.items own
+    × AreAllRuns P first ended others

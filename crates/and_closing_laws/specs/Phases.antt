@@ -7,8 +7,8 @@ use Rattle.and_cells.specs.Ranges.{NamedProgram}
 use Rattle.and_store.specs.Ended.{Closes, passes_of}
 use Rattle.and_store.specs.Passes.{PassSeen}
 use Rattle.and_store.specs.Sight.{About}
-use Rattle.and_workers.specs.Handed.{HandsOn}
-use Rattle.and_workers.specs.declared.told.Told.{Told}
+use Rattle.and_handed.specs.Handed.{HandsOn}
+use Rattle.and_handed.specs.declared.told.Told.{Told}
 
 -- each worker hands on what it may, of its own pass
 abbrev pub AllHandOn : NamedProgram → List Told → List PassSeen → Type 0
@@ -17,7 +17,8 @@ AllHandOn P [] (p ∷ ps) = ⊥
 AllHandOn P (t ∷ ts) [] = ⊥
 AllHandOn P (t ∷ ts) (p ∷ ps) = HandsOn P t p × AllHandOn P ts ps
 
--- HasPhased P opening row tolds: workers went over a store that began with these cells. They left this row, and hand this on.
+-- HasPhased P opening row tolds: workers went over a store that began with these cells. They left this row, and hand
+-- this on.
 pub record HasPhased (P : NamedProgram) (opening row : List Ref) (tolds : List Told) : Type 0 where
   pub about : About
   pub first : about.first ≡ opening

@@ -12,8 +12,8 @@ use Rattle.and_model.specs.declared.goal.Reduction.{Reduction}
 use Rattle.and_gathering.specs.Gathering.{AreOf, AreTiled, all_made, made_by}
 use Rattle.and_gathering.specs.declared.links.Taken.{Taken}
 use Rattle.and_gathering.specs.declared.links.Taken.TheVariants.{Reduced, Ran}
-use Rattle.and_workers.specs.declared.told.Reduced as making
-use Rattle.and_workers.specs.declared.told.Told.{Told}
+use Rattle.and_handed.specs.declared.told.Reduced as making
+use Rattle.and_handed.specs.declared.told.Told.{Told}
 
 -- A reduction stands behind the others, where the last frame ends.
 pub tiled_on : (P : Program) (node : ℕ) (rs : List Reduction) (till : ℕ) (r : Reduction) → AreTiled P node rs till → r.node ≡ till

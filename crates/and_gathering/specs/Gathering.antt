@@ -1,5 +1,6 @@
 -- What all workers of a phase did, put together (this project's own).
-use Rattle.std.specs.Prelude.{ℕ, ◌+◌, ◌≡◌, ◌≢◌, ◌<◌, ◌≤◌, ◌⊎◌, true, false, List, [], ◌∷◌, ◌++◌, map, flat_map, length, reverse, slice_get, Option, Some, None, All, Contains, IsPermutation}
+use Rattle.std.specs.Prelude.{ℕ, ◌+◌, ◌≡◌, ◌≢◌, ◌<◌, ◌≤◌, ◌⊎◌, true, false, List, [], ◌∷◌, ◌++◌, map, flat_map}
+use Rattle.std.specs.Prelude.{length, reverse, slice_get, Option, Some, None, All, Contains, IsPermutation}
 use Rattle.and_model.specs.Programs.{Program, Item, clause_at, clause_weight}
 use Rattle.and_model.specs.declared.goal.Goal.{Goal}
 use Rattle.and_model.specs.declared.goal.Reduction.{Reduction}
@@ -11,10 +12,10 @@ use Rattle.and_gathering.specs.declared.links.Links.{Links}
 use Rattle.and_gathering.specs.declared.gathering.Gathered.{Gathered}
 use Rattle.and_gathering.specs.declared.gathering.Next.{Next}
 use Rattle.and_gathering.specs.declared.gathering.Walk.{Walk}
-use Rattle.and_workers.specs.declared.told.Cause.TheVariants.{NoCandidate}
-use Rattle.and_workers.specs.declared.told.Ran as run
-use Rattle.and_workers.specs.declared.told.Reduced as making
-use Rattle.and_workers.specs.declared.told.Told.{Told}
+use Rattle.and_handed.specs.declared.told.Cause.TheVariants.{NoCandidate}
+use Rattle.and_handed.specs.declared.told.Ran as run
+use Rattle.and_handed.specs.declared.told.Reduced as making
+use Rattle.and_handed.specs.declared.told.Told.{Told}
 
 abbrev pub goal_taken : Taken → Goal
 goal_taken (Reduced goal reduction) = goal
@@ -35,8 +36,8 @@ all_made tolds = flat_map made_by tolds
 abbrev pub all_ran : List Told → List Taken
 all_ran tolds = flat_map ran_by tolds
 
--- AreTiled P node rs end: the first reduction stands at the node, each other one where the frame of the one before it ends, and the last frame
--- ends there.
+-- AreTiled P node rs end: the first reduction stands at the node, each other one where the frame of the one before it
+-- ends, and the last frame ends there.
 abbrev pub AreTiled : Program → (node : ℕ) → List Reduction → (end : ℕ) → Type 0
 AreTiled P node [] end = end ≡ node
 AreTiled P node (r ∷ rs) end = (r.node ≡ node) × AreTiled P (node + clause_weight (clause_at P r.clause.0)) rs end
@@ -45,13 +46,14 @@ AreTiled P node (r ∷ rs) end = (r.node ≡ node) × AreTiled P (node + clause_
 abbrev pub goals_of_body : Program → Reduction → List Goal
 goals_of_body P r = map goal_of (body_goals r.clause.0 r.node [] 0 (clause_at P r.clause.0).body)
 
--- Walks P goals left met: of these goals, in order, some were taken and some are left. In the place of a call that was reduced stand the goals of
--- the body, at a larger node. What was met so is listed too.
+-- Walks P goals left met: of these goals, in order, some were taken and some are left. In the place of a call that
+-- was reduced stand the goals of the body, at a larger node. What was met so is listed too.
 pub data Walks (P : Program) : List Goal → (left : List Goal) → (met : List Taken) → Type 0 where
   over : Walks P [] [] []
   stays : (g : Goal) (gs left : List Goal) (met : List Taken) → Walks P gs left met → Walks P (g ∷ gs) (g ∷ left) met
   ran : (g : Goal) (gs left : List Goal) (met : List Taken) → Walks P gs left met → Walks P (g ∷ gs) left (Ran g ∷ met)
-  reduced : (g : Goal) (r : Reduction) (gs left : List Goal) (met : List Taken) → g.node < r.node → r.clause.0 ≤ length P.clauses
+  reduced : (g : Goal) (r : Reduction) (gs left : List Goal) (met : List Taken) → g.node < r.node
+      → r.clause.0 ≤ length P.clauses
       → Walks P (goals_of_body P r ++ gs) left met → Walks P (g ∷ gs) left (Reduced g r ∷ met)
 
 -- The goal is one of these, or stands in the frame of one of the reductions.
@@ -66,9 +68,10 @@ AreOf (Reduced g r ∷ taken) [] = ⊥
 AreOf (Reduced g r ∷ taken) (s ∷ rs) = (s ≡ r) × AreOf taken rs
 AreOf (Ran g ∷ taken) rs = ⊥
 
--- IsGathered P goals used limit tolds g: what the workers did on a tree of that weight, with these goals. Each reduction that a worker made is one
--- of the steps, and each step and all arithmetic was met in the tree, once.
-pub record IsGathered (P : Program) (goals : List Goal) (used limit : ℕ) (tolds : List Told) (g : Gathered) : Type 0 where
+-- IsGathered P goals used limit tolds g: what the workers did on a tree of that weight, with these goals. Each
+-- reduction that a worker made is one of the steps, and each step and all arithmetic was met in the tree, once.
+pub record IsGathered (P : Program) (goals : List Goal) (used limit : ℕ) (tolds : List Told)
+    (g : Gathered) : Type 0 where
   pub tiled : AreTiled P used g.made g.end
   pub fits : g.end ≤ limit
   pub steps : List Taken
@@ -106,7 +109,8 @@ pub record IsNext (tolds : List Told) (places : List ℕ) (node : ℕ) (next : N
   pub step : slice_get (made_by told) place ≡ Some (Reduced next.goal next.reduction)
   pub here : next.reduction.node ≡ node
 
--- What was taken is followed: the goals of the body of a reduction, which stands behind the call's node, come onto the stack.
+-- What was taken is followed: the goals of the body of a reduction, which stands behind the call's node, come onto
+-- the stack.
 abbrev pub IsFollowed : Program → Taken → (old new : List Goal) → Type 0
 IsFollowed P (Ran g) old new = new ≡ old
 IsFollowed P (Reduced g r) old new =
@@ -114,7 +118,9 @@ IsFollowed P (Reduced g r) old new =
 
 -- A goal was met on a walk: it is left, or what was taken of it is followed.
 pub data IsMet (P : Program) (goal : Goal) (old new : Walk) : Type 0 where
-  kept : unmet new.links ≡ unmet old.links → new.stack.items ≡ old.stack.items → new.left.items ≡ old.left.items ++ goal ∷ []
+  kept : unmet new.links ≡ unmet old.links → new.stack.items ≡ old.stack.items
+      → new.left.items ≡ old.left.items ++ goal ∷ []
       → new.found ≡ old.found → IsMet P goal old new
   followed : (t : Taken) → goal_taken t ≡ goal → IsPermutation (unmet old.links) (t ∷ unmet new.links)
-      → IsFollowed P t old.stack.items new.stack.items → new.left.items ≡ old.left.items → new.found ≡ old.found + 1 → IsMet P goal old new
+      → IsFollowed P t old.stack.items new.stack.items → new.left.items ≡ old.left.items → new.found ≡ old.found + 1
+      → IsMet P goal old new

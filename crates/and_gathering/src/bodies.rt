@@ -1,6 +1,7 @@
 //! The goals of bodies.
 
-ghost use Rattle.std.specs.Prelude.{◌≡◌, ◌≤◌, ◌++◌, ◌∷◌, [], List, length, map, reverse, IfSome, IfNone, OnOk, Some, None};
+ghost use Rattle.std.specs.Prelude.{◌≡◌, ◌≤◌, ◌++◌, ◌∷◌, [], List, length, map, reverse, IfSome, IfNone, OnOk, Some};
+ghost use Rattle.std.specs.Prelude.{None};
 ghost use Rattle.and_model.specs.Programs.{clause_at};
 ghost use Rattle.and_program.specs.Items.{node_item};
 ghost use Rattle.and_program.specs.Loaded.{program_of};
@@ -15,8 +16,10 @@ use std::alloc::AllocError;
 
 /// The goal of an item, if it is a call or arithmetic, of the clause whose frame begins at the node.
 fn goal_in(item: ItemNode, place: u32, clause: ClauseNo, node: u32) -> Option<Goal>
-    ensures some { IfSome result (λ goal. (shapes : List Shape) → goals_of_item clause.0 node place (item_of shapes (node_item item)) ≡ goal ∷ []) }
-    ensures none { IfNone result ((shapes : List Shape) → goals_of_item clause.0 node place (item_of shapes (node_item item)) ≡ []) }
+    ensures some { IfSome result (λ goal. (shapes : List Shape)
+        → goals_of_item clause.0 node place (item_of shapes (node_item item)) ≡ goal ∷ []) }
+    ensures none { IfNone result ((shapes : List Shape)
+        → goals_of_item clause.0 node place (item_of shapes (node_item item)) ≡ []) }
 {
     match item {
         ItemNode::Equal { .. } => None,
@@ -48,7 +51,8 @@ pub(crate) fn push_body(
 ) -> Result<(), AllocError>
     requires { clause.0 ≤ length (program_of loaded.now).clauses }
     ensures { OnOk result (reverse stack.new.items
-        ≡ map goal_of (body_goals clause.0 node [] 0 (clause_at (program_of loaded.now) clause.0).body) ++ reverse stack.old.items) }
+        ≡ map goal_of (body_goals clause.0 node [] 0 (clause_at (program_of loaded.now) clause.0).body)
+        ++ reverse stack.old.items) }
 {
     let items = loaded.items(clause);
     let mut place = items.len();

@@ -4,24 +4,26 @@
 //! run, has to be that of a goal of the tree, taken once. A call for which no candidate was found has to be one of the
 //! tree's too. Where this is not so, nothing is rested on what the workers did.
 
-ghost use Rattle.std.specs.Prelude.{◌≡◌, ◌≢◌, ◌≤◌, ◌<◌, ◌+◌, ◌++◌, ◌∷◌, [], true, false, None, Some, Ok, All, Contains, IsPermutation, List, map, flat_map, length, reverse, IfOk, IfSome, OnOk};
+ghost use Rattle.std.specs.Prelude.{◌≡◌, ◌≢◌, ◌≤◌, ◌<◌, ◌+◌, ◌++◌, ◌∷◌, [], true, false, None, Some, Ok, All};
+ghost use Rattle.std.specs.Prelude.{Contains, IsPermutation, List, map, flat_map, length, reverse, IfOk, IfSome, OnOk};
 ghost use Rattle.and_model.specs.declared.goal.Goal.{Goal};
 ghost use Rattle.and_model.specs.declared.limits.TheConstants.{MAX_LIMIT};
 ghost use Rattle.and_model.specs.Programs.{clause_at, clause_weight};
 ghost use Rattle.and_program.specs.Loaded.{program_of};
 ghost use Rattle.and_gathering.specs.declared.links.Taken.{Taken};
 ghost use Rattle.and_gathering.specs.declared.links.Taken.TheVariants as variants;
-ghost use Rattle.and_workers.specs.declared.told.Cause.TheVariants.{NoCandidate};
-ghost use Rattle.and_workers.specs.declared.told.Ran as run;
-ghost use Rattle.and_workers.specs.declared.told.Told.{Told};
-ghost use Rattle.and_gathering.specs.Gathering.{AreOf, AreTiled, IsGathered, IsMet, IsFollowed, IsNext, IsThere, Walks, all_made, all_ran, unmet};
+ghost use Rattle.and_handed.specs.declared.told.Cause.TheVariants.{NoCandidate};
+ghost use Rattle.and_handed.specs.declared.told.Ran as run;
+ghost use Rattle.and_handed.specs.declared.told.Told.{Told};
+ghost use Rattle.and_gathering.specs.Gathering.{AreOf, AreTiled, IsGathered, IsMet, IsFollowed, IsNext, IsThere};
+ghost use Rattle.and_gathering.specs.Gathering.{Walks, all_made, all_ran, unmet};
 
 use crate::bodies::push_body;
 use crate::links::{Links, Taken};
+use and_handed::{Cause, Ran, Told};
 use and_model::{Goal, Reduction, ReductionList};
 use and_program::Loaded;
 use and_unify::PairList;
-use and_workers::{Cause, Ran, Told};
 use std::alloc::{AllocError, Global};
 
 /// What all workers did.
@@ -180,7 +182,8 @@ fn in_order(
     ensures tiled { IfOk result (λ row. AreTiled (program_of loaded.now) used row.made row.end) }
     ensures fits { IfOk result (λ row. row.end ≤ limit) }
     ensures steps { IfOk result (λ row. AreOf row.steps.items row.made) }
-    ensures made { IfOk result (λ row. (others : List Taken) × IsPermutation (all_made tolds.now) (row.steps.items ++ others)) }
+    ensures made { IfOk result (λ row. (others : List Taken)
+        × IsPermutation (all_made tolds.now) (row.steps.items ++ others)) }
 {
     let mut places = Vec::from_elem(alloc, 0, tolds.len())?;
     let mut row = Row {
@@ -201,9 +204,11 @@ impl Row {
     /// Puts a reduction behind the others, if its frame lies below the limit. An error is want of memory.
     fn add(&mut self, loaded: &Loaded, limit: u32, next: Next) -> Result<bool, AllocError>
         requires { self.old.end ≤ limit }
-        ensures steps { result ≡ Ok true → self.new.steps.items ≡ self.old.steps.items ++ variants.Reduced next.goal next.reduction ∷ [] }
+        ensures steps { result ≡ Ok true → self.new.steps.items
+            ≡ self.old.steps.items ++ variants.Reduced next.goal next.reduction ∷ [] }
         ensures made { result ≡ Ok true → self.new.made ≡ self.old.made ++ next.reduction ∷ [] }
-        ensures end { result ≡ Ok true → self.new.end ≡ self.old.end + clause_weight (clause_at (program_of loaded.now) next.reduction.clause.0) }
+        ensures end { result ≡ Ok true → self.new.end
+            ≡ self.old.end + clause_weight (clause_at (program_of loaded.now) next.reduction.clause.0) }
         ensures fits { result ≡ Ok true → self.new.end ≤ limit }
         ensures same_steps { result ≡ Ok false → self.new.steps.items ≡ self.old.steps.items }
         ensures same_made { result ≡ Ok false → self.new.made ≡ self.old.made }
@@ -231,7 +236,8 @@ impl Row {
 
 /// Whether each call that had no candidate is a goal of the tree.
 fn are_there(goals: &[Goal], made: &ReductionList, tolds: &[Told]) -> bool
-    ensures { result ≡ true → All (λ (t : Told). (goal : Goal) → t.cause ≡ Some (NoCandidate goal) → IsThere goals.now made.now goal) tolds.now }
+    ensures { result ≡ true → All (λ (t : Told). (goal : Goal) → t.cause ≡ Some (NoCandidate goal)
+        → IsThere goals.now made.now goal) tolds.now }
 {
     for told in tolds {
         if !is_cause_there(goals, made, told.cause) {
@@ -291,7 +297,8 @@ fn link_ran(links: &mut Links, tolds: &[Told]) -> Result<bool, AllocError>
 
 /// The same with what one worker ran.
 fn link_goals(links: &mut Links, ran: &[Ran]) -> Result<bool, AllocError>
-    ensures { result ≡ Ok true → unmet links.new ≡ unmet links.old ++ map (λ (r : run.Ran). variants.Ran r.goal) ran.now }
+    ensures { result ≡ Ok true → unmet links.new
+        ≡ unmet links.old ++ map (λ (r : run.Ran). variants.Ran r.goal) ran.now }
 {
     for run in ran {
         if !links.add(Taken::Ran { goal: run.goal })? {
@@ -344,7 +351,8 @@ fn goals_left(
     goals: &[Goal],
     links: Links,
 ) -> Result<Option<Vec<Goal>>, AllocError>
-    ensures { IfOk result (λ r. IfSome r (λ left. (met : List Taken) × Walks (program_of loaded.now) goals.now left.items met
+    ensures { IfOk result (λ r. IfSome r (λ left. (met : List Taken)
+        × Walks (program_of loaded.now) goals.now left.items met
         × IsPermutation (unmet links) met)) }
 {
     let all = links.len();
@@ -400,8 +408,8 @@ impl Walk {
     }
 }
 
-/// Puts the body of a call that was reduced on a stack, the first goal last. Answers whether the reduction stands behind
-/// the call's node. An error is want of memory.
+/// Puts the body of a call that was reduced on a stack, the first goal last. Answers whether the reduction stands
+/// behind the call's node. An error is want of memory.
 fn follow(stack: &mut Vec<Goal>, loaded: &Loaded, taken: Taken) -> Result<bool, AllocError>
     ensures { result ≡ Ok true → IsFollowed (program_of loaded.now) taken stack.old.items stack.new.items }
 {

@@ -1,6 +1,7 @@
 //! What was taken of a tree's goals, by the goals.
 
-ghost use Rattle.std.specs.Prelude.{◌≡◌, ◌≤◌, ◌++◌, ◌∷◌, [], IfSome, IfNone, IfOk, Ok, Some, true, length, slice_get, IsPermutation};
+ghost use Rattle.std.specs.Prelude.{◌≡◌, ◌≤◌, ◌++◌, ◌∷◌, [], IfSome, IfNone, IfOk, Ok, Some, true, length, slice_get};
+ghost use Rattle.std.specs.Prelude.{IsPermutation};
 ghost use Rattle.and_gathering.specs.Gathering.{goal_taken, unmet};
 ghost use Rattle.and_gathering.specs.declared.links.Taken.{Taken};
 
@@ -28,8 +29,8 @@ impl Taken {
     }
 }
 
-/// What was taken and not met yet, linked by the nodes whose clauses have the goals. A link is the place just behind that
-/// to which it leads, and 0 where it leads to none.
+/// What was taken and not met yet, linked by the nodes whose clauses have the goals. A link is the place just behind
+/// that to which it leads, and 0 where it leads to none.
 #[derive(Drop)]
 pub(crate) struct Links {
     /// By place; nothing where it was met.
@@ -110,7 +111,8 @@ impl Links {
 
     /// The place of what was taken of a goal and not met yet; `None` where there is none.
     fn place_of(&self, goal: Goal) -> Option<usize>
-        ensures { IfSome result (λ place. (t : Taken) × (slice_get self.now.taken.items place ≡ Some (Some t)) × (goal_taken t ≡ goal)) }
+        ensures { IfSome result (λ place. (t : Taken) × (slice_get self.now.taken.items place ≡ Some (Some t))
+            × (goal_taken t ≡ goal)) }
     {
         let mut behind = self.last_of(goal.node);
         while behind > 0 {
@@ -127,7 +129,8 @@ impl Links {
     ///
     /// It may be `None` too of a goal that was taken under a wrong node. So a caller counts what it meets.
     pub(crate) fn take(&mut self, goal: Goal) -> Option<Taken>
-        ensures some { IfSome result (λ t. (goal_taken t ≡ goal) × IsPermutation (unmet self.old) (t ∷ unmet self.new)) }
+        ensures some { IfSome result (λ t. (goal_taken t ≡ goal)
+            × IsPermutation (unmet self.old) (t ∷ unmet self.new)) }
         ensures none { IfNone result (unmet self.new ≡ unmet self.old) }
     {
         let place = self.place_of(goal)?;

@@ -36,7 +36,8 @@ word_free (Node node base) e = absurd (omega arith)
 word_free (Number pair) e = absurd (omega arith)
 word_free (Half bits) e = absurd (omega arith)
 
-module _ (P : NamedProgram) (a : About) (s : State (Unit {0}) Sight) (id : ℕ) (v : Sight) (kept : Kept P a s) (at : get_elem? s.views id ≡ some v) (alone : IsAlone v) where
+module _ (P : NamedProgram) (a : About) (s : State (Unit {0}) Sight) (id : ℕ) (v : Sight) (kept : Kept P a s) (at : get_elem? s.views id ≡ some v)
+    (alone : IsAlone v) where
   module _ (cell : ℕ) (within : cell < a.words) where
     abbrev r : Ref
     r = word_at kept.held.row cell
@@ -45,7 +46,8 @@ module _ (P : NamedProgram) (a : About) (s : State (Unit {0}) Sight) (id : ℕ) 
     looking = looked cell r kept.held.journal (mine_of v)
 
     pub cell_found : get_or s.words cell 0 ≡ word_of r
-    cell_found = ap (λ l. get_or l cell 0) kept.words ∙ row_at kept.held kept.goals a.words (row_long P a s id v kept at alone) (places_long P a s id v kept at alone) cell within
+    cell_found = ap (λ l. get_or l cell 0) kept.words
+        ∙ row_at kept.held kept.goals a.words (row_long P a s id v kept at alone) (places_long P a s id v kept at alone) cell within
 
     look_rule : Rule (opening_of P a) (after P a s id v kept at alone looking []) kept.held
     look_rule =
@@ -53,7 +55,8 @@ module _ (P : NamedProgram) (a : About) (s : State (Unit {0}) Sight) (id : ℕ) 
         (record { m = mine_of v; moves = moved P a s id v kept at alone looking []; held = refl })
 
     pub look_kept : Kept P a (stepped s cell (get_or s.words cell 0) id [] (stepped_to v looking) keeps)
-    look_kept = goes_plainly P a s id v kept at alone looking kept.held (set s.words cell (get_or s.words cell 0)) (set-get_or s.words cell 0 ∙ kept.words) kept.named look_rule kept.hung
+    look_kept = goes_plainly P a s id v kept at alone looking kept.held (set s.words cell (get_or s.words cell 0)) (set-get_or s.words cell 0 ∙ kept.words)
+        kept.named look_rule kept.hung
 
     pub look_told : LookTold P cell v (get_or s.words cell 0) (stepped_to v looking)
     look_told = record {
@@ -69,7 +72,8 @@ module _ (P : NamedProgram) (a : About) (s : State (Unit {0}) Sight) (id : ℕ) 
     abbrev set_held : Ref → Held
     set_held to = record kept.held { row = set kept.held.row cell to; journal = kept.held.journal ++ own_entry cell to (mine_of v) ∷ [] }
 
-    set_rule : (to : Ref) → CanSet P a.words cell to (mine_of v).pass.known → (mine_of v).pending ≡ None → r ≡ Free → Rule (opening_of P a) (after P a s id v kept at alone (setting to) []) (set_held to)
+    set_rule : (to : Ref) → CanSet P a.words cell to (mine_of v).pass.known → (mine_of v).pending ≡ None → r ≡ Free
+        → Rule (opening_of P a) (after P a s id v kept at alone (setting to) []) (set_held to)
     set_rule to can rest free =
         sets_keep (opening_of P a) cell to (map seat_of s.views) kept.held (after P a s id v kept at alone (setting to) []) (set_held to) kept.rule (record {
           m = mine_of v;
@@ -83,14 +87,18 @@ module _ (P : NamedProgram) (a : About) (s : State (Unit {0}) Sight) (id : ℕ) 
           held = refl;
         })
 
-    pub set_kept : (to : Ref) → CanSet P a.words cell to (mine_of v).pass.known → (mine_of v).pending ≡ None → r ≡ Free → Kept P a (stepped s cell (word_of to) id [] (stepped_to v (setting to)) keeps)
+    pub set_kept : (to : Ref) → CanSet P a.words cell to (mine_of v).pass.known → (mine_of v).pending ≡ None → r ≡ Free
+        → Kept P a (stepped s cell (word_of to) id [] (stepped_to v (setting to)) keeps)
     set_kept to can rest free =
         goes_plainly P a s id v kept at alone (setting to) (set_held to) (set s.words cell (word_of to))
-        (ap (λ l. set l cell (word_of to)) kept.words ∙ row_set kept.held kept.goals a.words (row_long P a s id v kept at alone) (places_long P a s id v kept at alone) cell to within)
+        (ap (λ l. set l cell (word_of to)) kept.words
+        ∙ row_set kept.held kept.goals a.words (row_long P a s id v kept at alone) (places_long P a s id v kept at alone) cell to within)
         (All-set HasWord kept.held.row cell to can.named kept.named) (set_rule to can rest free)
-        (subst (All (λ (g : HungGoal). HasGoal kept.goals g.waiter g.goal)) (sym (nothing_more made_hung kept.held.journal (own_entry cell to (mine_of v) ∷ []) refl)) kept.hung)
+        (subst (All (λ (g : HungGoal). HasGoal kept.goals g.waiter g.goal))
+        (sym (nothing_more made_hung kept.held.journal (own_entry cell to (mine_of v) ∷ []) refl)) kept.hung)
 
-    pub set_told : (to : Ref) → CanSet P a.words cell to (mine_of v).pass.known → (mine_of v).pending ≡ None → r ≡ Free → SetTold P cell to v (stepped_to v (setting to))
+    pub set_told : (to : Ref) → CanSet P a.words cell to (mine_of v).pass.known → (mine_of v).pending ≡ None → r ≡ Free
+        → SetTold P cell to v (stepped_to v (setting to))
     set_told to can rest free = record {
       held = kept.held;
       went = went P a s id v kept at alone (setting to) (set_held to) (set_rule to can rest free);
@@ -99,12 +107,18 @@ module _ (P : NamedProgram) (a : About) (s : State (Unit {0}) Sight) (id : ℕ) 
 
 pub looks : (P : NamedProgram) (a : About) (slots id cell : ℕ) (v : Sight) (c : List (ℕ × Unit {0})) → IsAlone v → c ≡ [] → cell < a.words
     → Allows (Kept P a) slots id (v, c) cell (λ n. n) (λ n me. LookTold P cell v n me.0 × (me.1 ≡ []))
-looks P a slots id cell v c alone none within s kept homes at small =
-    (stepped_to v (looking P a s id v kept at alone cell within), keeps, tt, look_kept P a s id v kept at alone cell within, (look_told P a s id v kept at alone cell within, none))
+looks P a slots id cell v c alone none within s kept homes at small = (
+  stepped_to v (looking P a s id v kept at alone cell within),
+  keeps,
+  tt,
+  look_kept P a s id v kept at alone cell within,
+  (look_told P a s id v kept at alone cell within, none),
+)
 
 pub sets_word : (P : NamedProgram) (a : About) (slots id cell : ℕ) (v : Sight) (c : List (ℕ × Unit {0})) (to : Ref) → IsAlone v → c ≡ [] → cell < a.words
     → CanSet P a.words cell to (mine_of v).pass.known → (mine_of v).pending ≡ None
-    → Allows (Kept P a) slots id (v, c) cell (λ n. either (eqb n 0) (word_of to) n) (λ n me. ((t : Ref) → HasWord t → word_of t ≡ word_of to → BindTold P cell t v n me.0) × (me.1 ≡ []))
+    → Allows (Kept P a) slots id (v, c) cell (λ n. either (eqb n 0) (word_of to) n)
+    (λ n me. ((t : Ref) → HasWord t → word_of t ≡ word_of to → BindTold P cell t v n me.0) × (me.1 ≡ []))
 sets_word P a slots id cell v c to alone none within can rest s kept homes at small =
     let n = get_or s.words cell 0 in
     let is = cell_found P a s id v kept at alone cell within in
@@ -118,7 +132,8 @@ sets_word P a slots id cell v c to alone none within can rest s kept homes at sm
       set_kept P a s id v kept at alone cell within to can rest free,
       (
         (λ t has e. (
-          (λ found. subst (λ t. SetTold P cell t v (stepped_to v (setting P a s id v kept at alone cell within to))) (sym (same_ref t to has can.named e)) (set_told P a s id v kept at alone cell within to can rest free)),
+          (λ found. subst (λ t. SetTold P cell t v (stepped_to v (setting P a s id v kept at alone cell within to))) (sym (same_ref t to has can.named e))
+              (set_told P a s id v kept at alone cell within to can rest free)),
           (λ ne. absurd (ne zero_found)),
         )),
         none,

@@ -1,5 +1,6 @@
 -- The table of a store at the opening, and how its seats are dealt out and gathered.
-use Rattle.std.proofs.Common.{ℕ, zero, suc, ◌+◌, ◌-◌, ◌*◌, ◌≡◌, ◌≢◌, ◌<◌, ◌≤◌, List, [], ◌∷◌, ◌++◌, map, length, length-append, set, take, replicate, get_or, refl, sym, ap, subst, ◌∙◌, arith, append_assoc, All}
+use Rattle.std.proofs.Common.{ℕ, zero, suc, ◌+◌, ◌-◌, ◌*◌, ◌≡◌, ◌≢◌, ◌<◌, ◌≤◌, List, [], ◌∷◌, ◌++◌, map, length, length-append, set, take, replicate, get_or}
+use Rattle.std.proofs.Common.{refl, sym, ap, subst, ◌∙◌, arith, append_assoc, All}
 use Rattle.std.proofs.lemmas.List.{map-set, length-map, take_all}
 use Rattle.std.proofs.lemmas.List.Elements.{All-set, All-append, All-replicate}
 use mathlib.Core.Option.{some}
@@ -51,26 +52,32 @@ module _ (P : NamedProgram) (a : About) (goals : ℕ) (short : length a.first �
   rest = a.words - length first
 
   -- the words as they are put together
-  module _ (r1 r2 r3 r4 r6 : List ℕ) (is1 : r1 ≡ map word_of first) (is2 : r2 ≡ take a.words r1 ++ replicate (a.words - length r1) 0) (is3 : r3 ≡ r2 ++ map first_place_word first)
-      (is4 : r4 ≡ take (a.words + a.words + goals) r3 ++ replicate (a.words + a.words + goals - length r3) 0) (is6 : r6 ≡ (r4 ++ length first ∷ []) ++ 0 ∷ []) where
+  module _ (r1 r2 r3 r4 r6 : List ℕ) (is1 : r1 ≡ map word_of first) (is2 : r2 ≡ take a.words r1 ++ replicate (a.words - length r1) 0)
+      (is3 : r3 ≡ r2 ++ map first_place_word first)
+      (is4 : r4 ≡ take (a.words + a.words + goals) r3 ++ replicate (a.words + a.words + goals - length r3) 0)
+      (is6 : r6 ≡ (r4 ++ length first ∷ []) ++ 0 ∷ []) where
     long1 : length r1 ≡ length first
     long1 = ap length is1 ∙ length-map first word_of
 
     row_so : r2 ≡ map word_of first ++ replicate rest 0
-    row_so = is2 ∙ ap (λ l. l ++ replicate (a.words - length r1) 0) (take_all a.words r1 (omega (arith, long1, short)) ∙ is1) ∙ ap (λ n. map word_of first ++ replicate (a.words - n) 0) long1
+    row_so = is2 ∙ ap (λ l. l ++ replicate (a.words - length r1) 0) (take_all a.words r1 (omega (arith, long1, short)) ∙ is1)
+        ∙ ap (λ n. map word_of first ++ replicate (a.words - n) 0) long1
 
     long2 : length r2 ≡ a.words
-    long2 = let x = ap length row_so in let y = length-append (map word_of first) (replicate rest 0) in let z = length-map first word_of in let w = length-replicate {X = ℕ} rest 0 in omega (arith, x, y, z, w, short)
+    long2 = let x = ap length row_so in let y = length-append (map word_of first) (replicate rest 0) in let z = length-map first word_of in
+        let w = length-replicate {X = ℕ} rest 0 in omega (arith, x, y, z, w, short)
 
     long3 : length r3 ≡ a.words + length first
-    long3 = let x = ap length is3 in let y = length-append r2 (map first_place_word first) in let z = length-map first first_place_word in let w = long2 in omega (arith, x, y, z, w)
+    long3 = let x = ap length is3 in let y = length-append r2 (map first_place_word first) in let z = length-map first first_place_word in
+        let w = long2 in omega (arith, x, y, z, w)
 
     tail : a.words + a.words + goals - length r3 ≡ rest + goals
     tail = let x = long3 in omega (arith, x, short)
 
     places_so : r4 ≡ r2 ++ ((map first_place_word first ++ replicate rest 0) ++ replicate goals 0)
     places_so = is4
-        ∙ ap (λ l. l ++ replicate (a.words + a.words + goals - length r3) 0) (take_all (a.words + a.words + goals) r3 (let x = long3 in omega (arith, x, short)) ∙ is3)
+        ∙ ap (λ l. l ++ replicate (a.words + a.words + goals - length r3) 0)
+        (take_all (a.words + a.words + goals) r3 (let x = long3 in omega (arith, x, short)) ∙ is3)
         ∙ ap (λ n. (r2 ++ map first_place_word first) ++ replicate n 0) tail
         ∙ ap (λ l. (r2 ++ map first_place_word first) ++ l) (replicate-more rest goals 0)
         ∙ append_assoc r2 (map first_place_word first) (replicate rest 0 ++ replicate goals 0)
@@ -102,7 +109,8 @@ opens_kept P a words modest sound named short are = record {
   modest = modest;
   named = All-append HasWord a.first (replicate (a.words - length a.first) Free) named (All-replicate HasWord (a.words - length a.first) Free tt);
   rule = opens (opening_of P a) (record { sound = sound; long = short; shared = modest.some_seat; seated = modest.some_seat });
-  about = all_push (λ (v : Sight). v.seat.members ≢ [] → v.about ≡ a) [] (opener a) (all_none (λ (v : Sight). v.seat.members ≢ [] → v.about ≡ a)) (λ some_member. refl);
+  about = all_push (λ (v : Sight). v.seat.members ≢ [] → v.about ≡ a) [] (opener a) (all_none (λ (v : Sight). v.seat.members ≢ [] → v.about ≡ a))
+      (λ some_member. refl);
   hung = all_none (λ (g : HungGoal). HasGoal (replicate (2 * (a.seats * a.waiters)) 0) g.waiter g.goal);
   noted = all_push (λ (v : Sight). AreNoted (opening_of P a) (replicate (2 * (a.seats * a.waiters)) 0) v.seat.members v.noted) [] (opener a)
       (all_none (λ (v : Sight). AreNoted (opening_of P a) (replicate (2 * (a.seats * a.waiters)) 0) v.seat.members v.noted)) tt;
@@ -110,7 +118,8 @@ opens_kept P a words modest sound named short are = record {
 
 -- ---- a seat is dealt
 
-pub deals : (P : NamedProgram) (a : About) (id made : ℕ) → 0 < made → made < a.seats → Splits {S = Unit {0}} (Kept P a) id (dealing a made) (one_more (dealing a made)) (newcomer (dealing a made))
+pub deals : (P : NamedProgram) (a : About) (id made : ℕ) → 0 < made → made < a.seats
+    → Splits {S = Unit {0}} (Kept P a) id (dealing a made) (one_more (dealing a made)) (newcomer (dealing a made))
 deals P a id made some_made few s kept at =
     let v = dealing a made in
     let o = opening_of P a in
@@ -118,9 +127,11 @@ deals P a id made some_made few s kept at =
     let left : ℕ = a.seats + 1 - made - 1 in
     let views = set s.views id (one_more v) ++ newcomer v ∷ [] in
     let sum : a.seats + 1 - made ≡ left + 1 = omega (arith, few) in
-    let here : get_elem? seats id ≡ some (seat (left + 1) made (blank 0 ∷ [])) = at_map seat_of s.views id v at ∙ ap (λ n. some (seat n made (blank 0 ∷ []))) sum in
+    let here : get_elem? seats id ≡ some (seat (left + 1) made (blank 0 ∷ [])) =
+    at_map seat_of s.views id v at ∙ ap (λ n. some (seat n made (blank 0 ∷ []))) sum in
     let after : map seat_of views ≡ set seats id (seat left (made + 1) (blank 0 ∷ [])) ++ seat 1 0 (blank made ∷ []) ∷ [] =
-    map_append seat_of (set s.views id (one_more v)) (newcomer v ∷ []) ∙ ap (λ l. l ++ seat 1 0 (blank made ∷ []) ∷ []) (map-set seat_of s.views id (one_more v)) in
+    map_append seat_of (set s.views id (one_more v)) (newcomer v ∷ [])
+    ∙ ap (λ l. l ++ seat 1 0 (blank made ∷ []) ∷ []) (map-set seat_of s.views id (one_more v)) in
     let about = all_at (λ (v : Sight). v.seat.members ≢ [] → v.about ≡ a) s.views id v kept.about at (λ none. absurd (cc)) in
     record {
       held = kept.held;
@@ -146,7 +157,8 @@ dealt_one a made some_made few =
 
 -- ---- one seat takes in another
 
-pub gathers : (P : NamedProgram) (a : About) (id other : ℕ) (v w : Sight) → IsAlone v → v.noted ≡ [] → Joins {S = Unit {0}} (Kept P a) id v other w (taken_in v w) spent
+pub gathers : (P : NamedProgram) (a : About) (id other : ℕ) (v w : Sight) → IsAlone v → v.noted ≡ []
+    → Joins {S = Unit {0}} (Kept P a) id v other w (taken_in v w) spent
 gathers P a id other v w alone noted s kept at apart at_other =
     let o = opening_of P a in
     let seats = map seat_of s.views in
@@ -170,7 +182,8 @@ gathers P a id other v w alone noted s kept at apart at_other =
       hung = kept.hung;
       noted = All-set (λ (v : Sight). AreNoted o kept.goals v.seat.members v.noted) mid other spent tt
           (All-set (λ (v : Sight). AreNoted o kept.goals v.seat.members v.noted) s.views id (taken_in v w)
-          (subst (λ l. AreNoted o kept.goals (l ++ w.seat.members) v.noted) (sym alone) (subst (AreNoted o kept.goals (mine_of v ∷ w.seat.members)) (sym noted) tt)) kept.noted);
+          (subst (λ l. AreNoted o kept.goals (l ++ w.seat.members) v.noted) (sym alone)
+          (subst (AreNoted o kept.goals (mine_of v ∷ w.seat.members)) (sym noted) tt)) kept.noted);
     }
 
 pub fresh_push : (store : StoreId) (number count : ℕ) → fresh_from store number count ++ fresh store (number + count) ∷ [] ≡ fresh_from store number (suc count)
@@ -186,11 +199,13 @@ take_next (x ∷ xs) (suc i) h =
     let e : suc i + 1 ≡ suc (i + 1) = omega arith in
     ap (λ n. take n (x ∷ xs)) e ∙ ap (λ l. x ∷ l) (take_next xs i (omega arith))
 
-pub words_next : (xs : List Ref) (i : ℕ) (r : Ref) (ws : List ℕ) (w : ℕ) (old row : List ℕ) → i < length xs → r ≡ get_or xs i Free → HasWord r → w ≡ word_of r → row ≡ old ++ map word_of (take i xs) → All HasWord (take i xs)
+pub words_next : (xs : List Ref) (i : ℕ) (r : Ref) (ws : List ℕ) (w : ℕ) (old row : List ℕ) → i < length xs → r ≡ get_or xs i Free → HasWord r → w ≡ word_of r
+    → row ≡ old ++ map word_of (take i xs) → All HasWord (take i xs)
     → ws ≡ row ++ w ∷ [] → (ws ≡ old ++ map word_of (take (i + 1) xs)) × All HasWord (take (i + 1) xs)
 words_next xs i r ws w old row h is named e has all push =
     let next = take_next xs i h ∙ ap (λ x. take i xs ++ x ∷ []) (sym is) in (
       push ∙ ap (λ l. l ++ w ∷ []) has ∙ append_assoc old (map word_of (take i xs)) (w ∷ [])
-          ∙ ap (λ l. old ++ l) (ap (λ n. map word_of (take i xs) ++ n ∷ []) e ∙ sym (map_append word_of (take i xs) (r ∷ []))) ∙ ap (λ l. old ++ map word_of l) (sym next),
+          ∙ ap (λ l. old ++ l) (ap (λ n. map word_of (take i xs) ++ n ∷ []) e ∙ sym (map_append word_of (take i xs) (r ∷ [])))
+          ∙ ap (λ l. old ++ map word_of l) (sym next),
       subst (All HasWord) (sym next) (all_push HasWord (take i xs) r all named),
     )

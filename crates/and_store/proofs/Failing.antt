@@ -35,7 +35,8 @@ module _ (first : List Ref) (mark : ℕ) (passes : List Pass) (journal : List Jo
       let of = All-contains (λ (e : JournalEntry). Contains (map (λ (p : Pass). p.number) passes) e.pass) journal e.0 by_a_pass e.1 in
       let p = map_contains (λ (p : Pass). p.number) e.0.pass passes of in
       let is = (All-contains (Fits first mark journal) passes p.0 fit p.1).fails in
-      let own = subst (λ (n : ℕ). Contains (fails_of (entries_by (record p.0 { number = n }) journal)) one.0) (sym p.2) (made_by made_fails journal e.0 one.0 e.1 e.2) in
+      let own = subst (λ (n : ℕ). Contains (fails_of (entries_by (record p.0 { number = n }) journal)) one.0) (sym p.2)
+      (made_by made_fails journal e.0 one.0 e.1 e.2) in
       (p.0, p.1, λ none. contains_none one.0 (subst (λ l. Contains l one.0) (sym is ∙ none) own))
 
   some_failed : (p : Pass) → Contains passes p → p.fails ≢ [] → fails_of journal ≢ []

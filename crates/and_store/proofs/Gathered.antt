@@ -1,5 +1,6 @@
 -- The seats of all passes are put together, and the store is closed.
-use Rattle.std.proofs.Common.{ℕ, zero, suc, ◌+◌, ◌-◌, ◌≡◌, ◌≢◌, ◌<◌, ◌≤◌, ◌⊎◌, inl, inr, true, false, Bool, cond, List, [], ◌∷◌, ◌++◌, map, length, take, drop, get_or, None, refl, sym, ap, subst, ◌∙◌, arith, append_assoc, All, Contains}
+use Rattle.std.proofs.Common.{ℕ, zero, suc, ◌+◌, ◌-◌, ◌≡◌, ◌≢◌, ◌<◌, ◌≤◌, ◌⊎◌, inl, inr, true, false, Bool, cond, List, [], ◌∷◌, ◌++◌, map, length, take}
+use Rattle.std.proofs.Common.{drop, get_or, None, refl, sym, ap, subst, ◌∙◌, arith, append_assoc, All, Contains}
 use Rattle.std.specs.Prelude.{◌↔◌, nat_eq, not}
 use Rattle.std.proofs.lemmas.Bool.{cases_lt}
 use Rattle.std.proofs.lemmas.List.{get_or_past}
@@ -28,7 +29,8 @@ use Rattle.and_store.proofs.Failing.{failing}
 use Rattle.and_store.proofs.Raised.{fail_index}
 use Rattle.and_store.proofs.Words.{row_at, fail_found}
 
-pub gathers_on : (a : About) (v w : Sight) (p : PassSeen) (ps : List PassSeen) → IsGathered a v (p ∷ []) → IsGathered a w ps → IsGathered a (taken_in v w) (p ∷ ps)
+pub gathers_on : (a : About) (v w : Sight) (p : PassSeen) (ps : List PassSeen) → IsGathered a v (p ∷ []) → IsGathered a w ps
+    → IsGathered a (taken_in v w) (p ∷ ps)
 gathers_on a v w p ps g h = record {
   about = g.about;
   shares = let x = g.shares in let y = h.shares in omega arith;
@@ -41,7 +43,8 @@ parted [] i x e = absurd (some-ne-none x (sym e))
 parted (y ∷ xs) zero x e = ap (λ z. z ∷ xs) (some-injective y x e)
 parted (y ∷ xs) (suc i) x e = ap (λ l. y ∷ l) (parted xs i x e)
 
-module _ (P : NamedProgram) (a : About) (passes : List PassSeen) (id : ℕ) (v : Sight) (words : List ℕ) (xs : List (Unit {0})) (g : IsGathered a v passes) (all : length passes ≡ a.seats)
+module _ (P : NamedProgram) (a : About) (passes : List PassSeen) (id : ℕ) (v : Sight) (words : List ℕ) (xs : List (Unit {0})) (g : IsGathered a v passes)
+    (all : length passes ≡ a.seats)
     (final : Final (Seen (Kept P a) id v) words xs) where
   abbrev s : State (Unit {0}) Sight
   s = final.0
@@ -74,7 +77,8 @@ module _ (P : NamedProgram) (a : About) (passes : List PassSeen) (id : ℕ) (v :
   members_all = all_of_them o front back v.seat rule_parted.seated shares
 
   pub end_row : Row a.first (passes_of passes) end_kept.held.journal end_kept.held.row
-  end_row = subst (λ ps. Row a.first ps end_kept.held.journal end_kept.held.row) g.members (close_keeps o front back v.seat end_kept.held rule_parted shares g.at_rest)
+  end_row = subst (λ ps. Row a.first ps end_kept.held.journal end_kept.held.row) g.members
+      (close_keeps o front back v.seat end_kept.held rule_parted shares g.at_rest)
 
   pub end_journal : journal_of v.seat.members ≡ end_kept.held.journal
   end_journal = ap journal_of (sym members_all) ∙ journal_is o (all_members (front ++ v.seat ∷ back)) end_kept.held rule_parted.at_work
@@ -82,9 +86,11 @@ module _ (P : NamedProgram) (a : About) (passes : List PassSeen) (id : ℕ) (v :
   pub end_words : words ≡ words_of end_kept.held end_kept.goals
   end_words = sym final.2 ∙ end_kept.words
 
-pub from_store : (store : StoreId) (all left rest ps : List PassSeen) (p : PassSeen) → All (λ (p : PassSeen). p.store ≡ store) all → all ≡ left ++ ps → left ≡ rest ++ p ∷ [] → p.store ≡ store
+pub from_store : (store : StoreId) (all left rest ps : List PassSeen) (p : PassSeen) → All (λ (p : PassSeen). p.store ≡ store) all → all ≡ left ++ ps
+    → left ≡ rest ++ p ∷ [] → p.store ≡ store
 from_store store all left rest ps p h e f =
-    All-contains (λ (p : PassSeen). p.store ≡ store) (rest ++ p ∷ ps) p (subst (All (λ (p : PassSeen). p.store ≡ store)) (e ∙ ap (λ l. l ++ ps) f ∙ append_assoc rest (p ∷ []) ps) h) (contains_there rest ps p)
+    All-contains (λ (p : PassSeen). p.store ≡ store) (rest ++ p ∷ ps) p
+    (subst (All (λ (p : PassSeen). p.store ≡ store)) (e ∙ ap (λ l. l ++ ps) f ∙ append_assoc rest (p ∷ []) ps) h) (contains_there rest ps p)
 
 -- ---- the row is cut off behind what is set
 
@@ -107,7 +113,8 @@ set_cut k (suc n) [] free = refl
 set_cut k (suc n) (r ∷ row) free =
     ap (λ l. cond {A = List Setting} (is_free r) l (record { place = k; value = r } ∷ l)) (set_cut (suc k) n row (λ i h. free (suc i) (omega arith)))
 
-row_cut : (first : List Ref) (passes : List Pass) (journal : List JournalEntry) (row : List Ref) (n : ℕ) → FreeFrom n row → Row first passes journal row → Row first passes journal (take n row)
+row_cut : (first : List Ref) (passes : List Pass) (journal : List JournalEntry) (row : List Ref) (n : ℕ) → FreeFrom n row → Row first passes journal row
+    → Row first passes journal (take n row)
 row_cut first passes journal row n free r =
     let same : set_in (take n row) ≡ set_in row = set_cut 0 n row free in record {
       set_words = subst (λ l. (s : Setting) → Contains l s ↔ Contains (set_in first ++ settings_of journal) s) (sym same) r.set_words;
@@ -166,9 +173,12 @@ flag_up : (b : Bool) → not (nat_eq (flag b) 0) ≡ b
 flag_up true = refl
 flag_up false = refl
 
-module _ (P : NamedProgram) (a : About) (passes : List PassSeen) (id : ℕ) (v : Sight) (words : List ℕ) (xs : List (Unit {0})) (g : IsGathered a v passes) (all : length passes ≡ a.seats)
-    (final : Final (Seen (Kept P a) id v) words xs) (least end : ℕ) (least_is : LastEnds a (passes_of passes) least) (least_in : least ≤ end) (in_words : end ≤ a.words)
-    (free : (place : ℕ) → end ≤ place → place < a.words → get_or words place 0 ≡ 0) (no_longer : (end ≡ least) ⊎ ((0 < end) × (get_or words (end - 1) 0 ≢ 0))) where
+module _ (P : NamedProgram) (a : About) (passes : List PassSeen) (id : ℕ) (v : Sight) (words : List ℕ) (xs : List (Unit {0})) (g : IsGathered a v passes)
+    (all : length passes ≡ a.seats)
+    (final : Final (Seen (Kept P a) id v) words xs) (least end : ℕ) (least_is : LastEnds a (passes_of passes) least) (least_in : least ≤ end)
+    (in_words : end ≤ a.words)
+    (free : (place : ℕ) → end ≤ place → place < a.words → get_or words place 0 ≡ 0) (no_longer : (end ≡ least)
+    ⊎ ((0 < end) × (get_or words (end - 1) 0 ≢ 0))) where
   abbrev k : Kept P a final.0
   k = end_kept P a passes id v words xs g all final
 
@@ -249,13 +259,15 @@ ends_on a ps end found p h is last which =
       | inl x ↦ (let less = x.0 in let e = x.1 in record {
         first = let f = h.first in omega (arith, f, less, e);
         frames = all_push (λ (p : Pass). last_end p.frames ≤ last) (passes_of ps) p.pass
-            (All-weaker (λ (p : Pass). last_end p.frames ≤ end) (λ (p : Pass). last_end p.frames ≤ last) (λ p k. omega (arith, k, less, e)) (passes_of ps) h.frames) (omega (arith, is, e));
+            (All-weaker (λ (p : Pass). last_end p.frames ≤ end) (λ (p : Pass). last_end p.frames ≤ last) (λ p k. omega (arith, k, less, e)) (passes_of ps)
+            h.frames) (omega (arith, is, e));
         of_one = inr (p.pass, Contains-push (passes_of ps) p.pass, sym is ∙ sym e);
       })
       | inr x ↦ (let less = x.0 in let e = x.1 in record {
         first = let f = h.first in omega (arith, f, e);
         frames = all_push (λ (p : Pass). last_end p.frames ≤ last) (passes_of ps) p.pass
-            (All-weaker (λ (p : Pass). last_end p.frames ≤ end) (λ (p : Pass). last_end p.frames ≤ last) (λ p k. omega (arith, k, e)) (passes_of ps) h.frames) (omega (arith, is, e, less));
+            (All-weaker (λ (p : Pass). last_end p.frames ≤ end) (λ (p : Pass). last_end p.frames ≤ last) (λ p k. omega (arith, k, e)) (passes_of ps) h.frames)
+            (omega (arith, is, e, less));
         of_one = elim h.of_one [ inl o ↦ inl (e ∙ o) | inr o ↦ inr (o.0, Contains-append_left (passes_of ps) (p.pass ∷ []) o.0 o.1, o.2 ∙ sym e) ];
       })
     ])
@@ -263,7 +275,8 @@ ends_on a ps end found p h is last which =
 pub next_pass : (ps : List PassSeen) (i : ℕ) (p : PassSeen) → i < length ps → p ≡ get_or ps i p → take (i + 1) ps ≡ take i ps ++ p ∷ []
 next_pass [] i p h e = absurd (omega arith)
 next_pass (x ∷ xs) zero p h e = ap (λ z. z ∷ []) (sym e)
-next_pass (x ∷ xs) (suc i) p h e = let next : suc i + 1 ≡ suc (i + 1) = omega arith in ap (λ n. take n (x ∷ xs)) next ∙ ap (λ l. x ∷ l) (next_pass xs i p (omega arith) e)
+next_pass (x ∷ xs) (suc i) p h e = let next : suc i + 1 ≡ suc (i + 1) =
+    omega arith in ap (λ n. take n (x ∷ xs)) next ∙ ap (λ l. x ∷ l) (next_pass xs i p (omega arith) e)
 
 pub pass_in : (ps : List PassSeen) (i : ℕ) (p : PassSeen) → i < length ps → p ≡ get_or ps i p → Contains ps p
 pass_in ps i p h e = subst (Contains ps) (sym e) (all_get ps i p h)

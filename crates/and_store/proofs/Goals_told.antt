@@ -1,5 +1,6 @@
 -- What hanging a goal, and handing one out, tell of the pass.
-use Rattle.std.proofs.Common.{ℕ, zero, suc, get_or, ◌+◌, ◌*◌, ◌≡◌, ◌≢◌, ◌<◌, List, [], ◌∷◌, ◌++◌, map, length, length-append, drop, Bool, Some, option_to_list, refl, sym, ap, subst, ◌∙◌, arith, append-nil, append_assoc, Contains}
+use Rattle.std.proofs.Common.{ℕ, zero, suc, get_or, ◌+◌, ◌*◌, ◌≡◌, ◌≢◌, ◌<◌, List, [], ◌∷◌, ◌++◌, map, length, length-append, drop, Bool, Some}
+use Rattle.std.proofs.Common.{option_to_list, refl, sym, ap, subst, ◌∙◌, arith, append-nil, append_assoc, Contains}
 use Rattle.std.specs.Prelude.{filter, nat_eq}
 use Rattle.std.proofs.lemmas.List.Elements.{All-contains, Contains-push, filter-append}
 use Rattle.and_model.specs.Store.{JournalEntry, HungGoal, Made, hangs, Pass, Found, Took, Waiting, empty, occupied, closed, hung_of, entries_by}
@@ -11,7 +12,7 @@ use Rattle.and_store_laws.proofs.Going.{hung_later}
 use Rattle.and_store_laws.proofs.Lists.{map_append, flat_contains, contains_first, contains_more}
 use Rattle.and_store_laws.proofs.AtClose.{in_option}
 use Rattle.and_store_laws.proofs.Opened.{others_since}
-use Rattle.and_store.specs.Calls.{Sees, LooksAt, HangsGoal, MissesPlace, FindsSet, HandsOut}
+use Rattle.and_store.specs.Calls.{Sees, LooksAt, HangsGoal, MissesPlace, FindsWaiter, FindsSet, HandsOut}
 use Rattle.and_model.specs.declared.reference.Ref.{Ref}
 use Rattle.and_store.specs.Kept.{UpperIs, LowerIs, place_word}
 use Rattle.and_store.specs.Passes.{StoreId, IsPass, numbers_from}
@@ -38,11 +39,13 @@ numbers_end first (suc count) =
     ap (λ l. first ∷ l) (ap (λ n. numbers_from (suc first) count ++ n ∷ []) e ∙ numbers_end (suc first) count)
 
 -- one goal more is hung under the next number
-numbers_push : (hung : List HungGoal) (g : HungGoal) (first count : ℕ) → map (λ (g : HungGoal). g.waiter) hung ≡ numbers_from first count → g.waiter ≡ first + count
+numbers_push : (hung : List HungGoal) (g : HungGoal) (first count : ℕ) → map (λ (g : HungGoal). g.waiter) hung ≡ numbers_from first count
+    → g.waiter ≡ first + count
     → map (λ (g : HungGoal). g.waiter) (hung ++ g ∷ []) ≡ numbers_from first (count + 1)
 numbers_push hung g first count are is =
     let next : suc count ≡ count + 1 = omega arith in
-    map_append (λ (g : HungGoal). g.waiter) hung (g ∷ []) ∙ ap (λ l. l ++ g.waiter ∷ []) are ∙ ap (λ n. numbers_from first count ++ n ∷ []) is ∙ numbers_end first count ∙ ap (numbers_from first) next
+    map_append (λ (g : HungGoal). g.waiter) hung (g ∷ []) ∙ ap (λ l. l ++ g.waiter ∷ []) are ∙ ap (λ n. numbers_from first count ++ n ∷ []) is
+    ∙ numbers_end first count ∙ ap (numbers_from first) next
 
 module _ (P : NamedProgram) (x y : ℕ) (v u w : Sight) (s : NoteTold P x v u) (t : NoteTold P y u w) where
   u_is : u ≡ noting v (sees s.held.journal (mine_of v)) (v.noted ++ x ∷ [])
@@ -52,7 +55,8 @@ module _ (P : NamedProgram) (x y : ℕ) (v u w : Sight) (s : NoteTold P x v u) (
   second = subst (λ u. NoteTold P y u w) u_is t
 
   -- a pass that noted two words has only seen the journal
-  pub noted_twice : (journal : List JournalEntry) × (w ≡ noting v (sees journal (mine_of v)) ((v.noted ++ x ∷ []) ++ y ∷ [])) × Sees [] (mine_of v).pass (sees journal (mine_of v)).pass
+  pub noted_twice : (journal : List JournalEntry) × (w ≡ noting v (sees journal (mine_of v)) ((v.noted ++ x ∷ []) ++ y ∷ []))
+      × Sees [] (mine_of v).pass (sees journal (mine_of v)).pass
   noted_twice = (
     second.held.journal,
     second.view,
@@ -61,8 +65,10 @@ module _ (P : NamedProgram) (x y : ℕ) (v u w : Sight) (s : NoteTold P x v u) (
         (sees_none (opening_of P v.about) (sees s.held.journal (mine_of v)) second.held (sees second.held.journal (mine_of v)).pass second.before refl),
   )
 
-module _ (P : NamedProgram) (cell : ℕ) (goal : Goal) (v w : Sight) (found : ℕ) (number hung : ℕ) (is_refused : Bool) (ends : ℕ) (items : List ℕ) (room handed : ℕ)
-    (old : IsPass v number hung is_refused ends items room handed) (journal : List JournalEntry) (ns : List ℕ) (seen : Sees [] (mine_of v).pass (sees journal (mine_of v)).pass)
+module _ (P : NamedProgram) (cell : ℕ) (goal : Goal) (v w : Sight) (found : ℕ) (number hung : ℕ) (is_refused : Bool) (ends : ℕ)
+    (items : List ℕ) (room handed : ℕ)
+    (old : IsPass v number hung is_refused ends items room handed) (journal : List JournalEntry) (ns : List ℕ)
+    (seen : Sees [] (mine_of v).pass (sees journal (mine_of v)).pass)
     (t : HangTold P cell goal (noting v (sees journal (mine_of v)) ns) found w) where
   abbrev m : Member
   m = mine_of v
@@ -124,6 +130,14 @@ module _ (P : NamedProgram) (cell : ℕ) (goal : Goal) (v w : Sight) (found : �
       becomes = refl;
     })
 
+    pub finds_waiter : (waiter : ℕ) → place_at t.held.places cell ≡ occupied waiter → FindsWaiter cell m.pass (mine_of w).pass
+    finds_waiter waiter is = record {
+      waiter = waiter;
+      misses = subst (λ k. MissesPlace cell k m.pass (mine_of w).pass) is missed_tells;
+      was_hung = subst (λ (w : Sight). WasHung (mine_of w).pass.seen waiter cell) (sym (t.not_hung some_found).view)
+          ((t.not_hung some_found).before.at_work.holds.occupied_hung cell waiter is);
+    }
+
 pub is_closed : (place : Waiting) (found : ℕ) → found ≡ place_word place → found ≡ 1 → place ≡ closed
 is_closed empty found e h = absurd (omega (arith, e, h))
 is_closed closed found e h = refl
@@ -154,7 +168,8 @@ at_in (y ∷ xs) (suc i) x h e = contains_more y x xs (at_in xs i x (omega arith
 pub drop_first : (xs : List ℕ) (i x : ℕ) → i < length xs → x ≡ get_or xs i x → drop i xs ≡ x ∷ drop (i + 1) xs
 drop_first [] i x h e = absurd (omega arith)
 drop_first (y ∷ xs) zero x h e = ap (λ z. z ∷ xs) (sym e)
-drop_first (y ∷ xs) (suc i) x h e = let next : suc i + 1 ≡ suc (i + 1) = omega arith in drop_first xs i x (omega arith) e ∙ ap (λ n. x ∷ drop n (y ∷ xs)) (sym next)
+drop_first (y ∷ xs) (suc i) x h e = let next : suc i + 1 ≡ suc (i + 1) =
+    omega arith in drop_first xs i x (omega arith) e ∙ ap (λ n. x ∷ drop n (y ∷ xs)) (sym next)
 
 module _ (P : NamedProgram) (v u w : Sight) (waiter upper lower : ℕ) (number hung : ℕ) (is_refused : Bool) (ends : ℕ) (items : List ℕ) (room handed : ℕ)
     (old : IsPass v number hung is_refused ends items room handed) (is_taken : Contains items waiter)
@@ -178,7 +193,8 @@ module _ (P : NamedProgram) (v u w : Sight) (waiter upper lower : ℕ) (number h
   was_hung : (g : HungGoal) × Contains (hung_of m0.pass.seen) g × (g.waiter ≡ waiter)
   was_hung =
       let x = flat_contains (λ (t : Took). option_to_list t.waiter) waiter m0.pass.took (subst (λ l. Contains l waiter) old.taken_are is_taken) in
-      let h = All-contains (λ (t : Took). (waiter : ℕ) → t.waiter ≡ Some waiter → WasHung m0.pass.seen waiter t.cell) m0.pass.took x.0 (works_of o0 m0 s.held s.went.before).took_hung x.1 waiter (in_option x.0.waiter waiter x.2) in
+      let h = All-contains (λ (t : Took). (waiter : ℕ) → t.waiter ≡ Some waiter
+      → WasHung m0.pass.seen waiter t.cell) m0.pass.took x.0 (works_of o0 m0 s.held s.went.before).took_hung x.1 waiter (in_option x.0.waiter waiter x.2) in
       (h.0, h.1, h.2)
 
   abbrev hung_goal : HungGoal
@@ -201,18 +217,22 @@ module _ (P : NamedProgram) (v u w : Sight) (waiter upper lower : ℕ) (number h
   lower_is = (then_looks.found_is hung_goal in_second).1 (let e = was_hung.2 in omega (arith, e))
 
   goal_in_range : IsGoalInRange P v.about.words hung_goal.goal
-  goal_in_range = All-contains (λ (g : HungGoal). IsGoalInRange P v.about.words g.goal) (hung_of s.held.journal) hung_goal s.went.before.at_work.holds.goals in_first
+  goal_in_range = All-contains (λ (g : HungGoal). IsGoalInRange P v.about.words g.goal) (hung_of s.held.journal) hung_goal
+      s.went.before.at_work.holds.goals in_first
 
   pub hands_out : (goal : Goal) → UpperIs upper goal → LowerIs lower goal → (store store2 : StoreId) (kept : List ℕ) → drop handed items ≡ waiter ∷ kept
-      → HandsOut P v.about.words goal (record { store = store; pass = m0.pass; kept = drop handed items }) (record { store = store2; pass = (mine_of w).pass; kept = kept })
+      → HandsOut P v.about.words goal (record { store = store; pass = m0.pass; kept = drop handed items })
+      (record { store = store2; pass = (mine_of w).pass; kept = kept })
   hands_out goal up low store store2 kept first =
       let same : goal ≡ hung_goal.goal = one_goal goal hung_goal.goal upper lower up low upper_is lower_is in
-      subst (λ (w : Sight). HandsOut P v.about.words goal (record { store = store; pass = m0.pass; kept = drop handed items }) (record { store = store2; pass = (mine_of w).pass; kept = kept })) (sym then_looks.went.view) (record {
+      subst (λ (w : Sight). HandsOut P v.about.words goal (record { store = store; pass = m0.pass; kept = drop handed items })
+      (record { store = store2; pass = (mine_of w).pass; kept = kept })) (sym then_looks.went.view) (record {
         hung = hung_goal;
         kept = first ∙ ap (λ n. n ∷ kept) (sym was_hung.2);
         was_seen = was_hung.1;
         is_goal = same;
         in_range = subst (IsGoalInRange P v.about.words) (sym same) goal_in_range;
-        sees = sees_on [] m0.pass m1.pass m2.pass refl (sees_none o0 m0 s.held m1.pass s.went.before refl) (sees_none o0 m1 then_looks.held m2.pass then_looks.went.before refl);
+        sees = sees_on [] m0.pass m1.pass m2.pass refl (sees_none o0 m0 s.held m1.pass s.went.before refl)
+            (sees_none o0 m1 then_looks.held m2.pass then_looks.went.before refl);
         becomes = refl;
       })

@@ -29,10 +29,12 @@ amid_middle : (o : Opening) (seats : List Seat) (front back : List Seat) (shares
 amid_middle o seats front back shares made m others h e r = record {
   members = all_members seats;
   at_work = r.at_work;
-  there = subst (λ l. Contains l m) (sym (ap all_members e ∙ flat_middle front back shares made m others)) (contains_there (all_members front) (others ++ all_members back) m);
+  there = subst (λ l. Contains l m) (sym (ap all_members e ∙ flat_middle front back shares made m others))
+      (contains_there (all_members front) (others ++ all_members back) m);
 }
 
-module _ (P : NamedProgram) (a : About) (s : State (Unit {0}) Sight) (id : ℕ) (v : Sight) (kept : Kept P a s) (at : get_elem? s.views id ≡ some v) (alone : IsAlone v) where
+module _ (P : NamedProgram) (a : About) (s : State (Unit {0}) Sight) (id : ℕ) (v : Sight) (kept : Kept P a s) (at : get_elem? s.views id ≡ some v)
+    (alone : IsAlone v) where
   abbrev o : Opening
   o = opening_of P a
 
@@ -69,7 +71,8 @@ module _ (P : NamedProgram) (a : About) (s : State (Unit {0}) Sight) (id : ℕ) 
       amid_middle o (after n ns) x.front x.back x.shares x.made n x.others k x.becomes r
 
   -- The words change, and the seat goes on.
-  pub goes : (n : Member) (ns : List ℕ) (k : Held) (goals words : List ℕ) → words ≡ words_of k goals → length goals ≡ 2 * (a.seats * a.waiters) → All HasWord k.row
+  pub goes : (n : Member) (ns : List ℕ) (k : Held) (goals words : List ℕ) → words ≡ words_of k goals
+      → length goals ≡ 2 * (a.seats * a.waiters) → All HasWord k.row
       → Rule o (after n ns) k → All (λ (g : HungGoal). HasGoal goals g.waiter g.goal) (hung_of k.journal)
       → All (λ (u : Sight). AreNoted o goals u.seat.members u.noted) (set s.views id (noting v n ns))
       → Kept P a (record { words = words; homes = s.homes; views = set s.views id (noting v n ns) })

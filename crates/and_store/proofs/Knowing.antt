@@ -8,14 +8,16 @@ use Rattle.and_store_laws.specs.Steps.{setting, knows_place, learnt, KnowsWritte
 use Rattle.and_store_laws.proofs.Lists.{map_append}
 
 settings_in : (ks ls : List Known) (s : Setting) → Contains (map (λ (k : Known). k.setting) ks) s → Contains (map (λ (k : Known). k.setting) (ks ++ ls)) s
-settings_in ks ls s c = subst (λ l. Contains l s) (sym (map_append (λ (k : Known). k.setting) ks ls)) (Contains-append_left (map (λ (k : Known). k.setting) ks) (map (λ (k : Known). k.setting) ls) s c)
+settings_in ks ls s c = subst (λ l. Contains l s) (sym (map_append (λ (k : Known). k.setting) ks ls))
+    (Contains-append_left (map (λ (k : Known). k.setting) ks) (map (λ (k : Known). k.setting) ls) s c)
 
 places_in : (ks ls : List Known) (n : ℕ) → Contains (map (λ (s : Setting). s.place) (map (λ (k : Known). k.setting) ks)) n
     → Contains (map (λ (s : Setting). s.place) (map (λ (k : Known). k.setting) (ks ++ ls))) n
 places_in ks ls n c =
     subst (λ l. Contains (map (λ (s : Setting). s.place) l) n) (sym (map_append (λ (k : Known). k.setting) ks ls))
     (subst (λ l. Contains l n) (sym (map_append (λ (s : Setting). s.place) (map (λ (k : Known). k.setting) ks) (map (λ (k : Known). k.setting) ls)))
-    (Contains-append_left (map (λ (s : Setting). s.place) (map (λ (k : Known). k.setting) ks)) (map (λ (s : Setting). s.place) (map (λ (k : Known). k.setting) ls)) n c))
+    (Contains-append_left (map (λ (s : Setting). s.place) (map (λ (k : Known). k.setting) ks))
+    (map (λ (s : Setting). s.place) (map (λ (k : Known). k.setting) ls)) n c))
 
 pub knows_more : (ks ls : List Known) (pair : ℕ) → KnowsWritten ks pair → KnowsWritten (ks ++ ls) pair
 knows_more ks ls pair (inl w) = inl (places_in ks ls pair w.0, places_in ks ls (suc pair) w.1)
@@ -23,13 +25,15 @@ knows_more ks ls pair (inr w) = inr (w.0, settings_in ks ls (setting w.0 (Number
 
 -- learning adds at the end, or nothing
 pub learnt_is : (place : ℕ) (r : Ref) (known : List Known) → (more : List Known) × (learnt place r known ≡ known ++ more)
-learnt_is place r known = elim (is_free r) as (λ b. (more : List Known) × (cond b known (cond (knows_place place known) known (known ++ record { setting = setting place r; is_own = false } ∷ [])) ≡ known ++ more)) [
-  | true ↦ ([], sym (nil known))
-  | false ↦ elim (knows_place place known) as (λ b. (more : List Known) × (cond b known (known ++ record { setting = setting place r; is_own = false } ∷ []) ≡ known ++ more)) [
-    | true ↦ ([], sym (nil known))
-    | false ↦ (record { setting = setting place r; is_own = false } ∷ [], refl)
-  ]
-]
+learnt_is place r known = elim (is_free r) as (λ b. (more : List Known)
+    × (cond b known (cond (knows_place place known) known (known ++ record { setting = setting place r; is_own = false } ∷ [])) ≡ known ++ more)) [
+      | true ↦ ([], sym (nil known))
+      | false ↦ elim (knows_place place known) as (λ b. (more : List Known)
+          × (cond b known (known ++ record { setting = setting place r; is_own = false } ∷ []) ≡ known ++ more)) [
+            | true ↦ ([], sym (nil known))
+            | false ↦ (record { setting = setting place r; is_own = false } ∷ [], refl)
+          ]
+    ]
   where
     nil : (ks : List Known) → ks ++ [] ≡ ks
     nil [] = refl

@@ -1,5 +1,6 @@
 -- What is marked, and what is left over.
-use Rattle.std.proofs.Common.{ℕ, zero, suc, ◌+◌, ◌-◌, ◌*◌, ◌≡◌, ◌<◌, ◌≤◌, eq-eqb, ne_eqb, inl, inr, true, false, Bool, cond, List, [], ◌∷◌, ◌++◌, map, length, set, take, drop, replicate, get_or, refl, sym, ap, ◌∙◌, arith, append-nil, append_assoc, subst, All}
+use Rattle.std.proofs.Common.{ℕ, zero, suc, ◌+◌, ◌-◌, ◌*◌, ◌≡◌, ◌<◌, ◌≤◌, eq-eqb, ne_eqb, inl, inr, true, false, Bool, cond, List, [], ◌∷◌, ◌++◌, map, length}
+use Rattle.std.proofs.Common.{set, take, drop, replicate, get_or, refl, sym, ap, ◌∙◌, arith, append-nil, append_assoc, subst, All}
 use Rattle.std.specs.Prelude.{filter, flat_map, not, nat_eq}
 use Rattle.std.proofs.lemmas.Bool.{cases_eq}
 use Rattle.std.proofs.lemmas.Nat.{row_fits}
@@ -30,19 +31,22 @@ either_turned false b = sym (either_nothing b)
 
 pub among_append : (n : ℕ) (xs ys : List ℕ) → is_among n (xs ++ ys) ≡ either_one (is_among n xs) (is_among n ys)
 among_append n [] ys = refl
-among_append n (x ∷ xs) ys = elim (nat_eq x n) as (λ b. cond b true (is_among n (xs ++ ys)) ≡ either_one (cond b true (is_among n xs)) (is_among n ys)) [ true ↦ refl | false ↦ among_append n xs ys ]
+among_append n (x ∷ xs) ys = elim (nat_eq x n) as (λ b. cond b true (is_among n (xs ++ ys)) ≡ either_one (cond b true (is_among n xs)) (is_among n ys))
+    [ true ↦ refl | false ↦ among_append n xs ys ]
 
 pub take_step : (xs : List ℕ) (i x : ℕ) → i < length xs → x ≡ get_or xs i x → take (i + 1) xs ≡ take i xs ++ x ∷ []
 take_step [] i x h e = absurd (omega arith)
 take_step (y ∷ ys) zero x h e = ap (λ z. z ∷ []) (sym e)
-take_step (y ∷ ys) (suc i) x h e = let next : suc i + 1 ≡ suc (i + 1) = omega arith in ap (λ n. take n (y ∷ ys)) next ∙ ap (λ l. y ∷ l) (take_step ys i x (omega arith) e)
+take_step (y ∷ ys) (suc i) x h e = let next : suc i + 1 ≡ suc (i + 1) =
+    omega arith in ap (λ n. take n (y ∷ ys)) next ∙ ap (λ l. y ∷ l) (take_step ys i x (omega arith) e)
 
 -- one waiter is marked
 pub marks_one : (old marks : List Bool) (ws : List ℕ) (i x : ℕ) → i < length ws → x ≡ get_or ws i x → length marks ≡ length old
     → ((w : ℕ) → w < length old → get_or marks w false ≡ either_one (is_among w (take i ws)) (get_or old w false))
     → (w : ℕ) → w < length old → get_or (set marks x true) w false ≡ either_one (is_among w (take (i + 1) ws)) (get_or old w false)
 marks_one old marks ws i x h e long so w within =
-    let grown : is_among w (take (i + 1) ws) ≡ either_one (is_among w (take i ws)) (is_among w (x ∷ [])) = ap (is_among w) (take_step ws i x h e) ∙ among_append w (take i ws) (x ∷ []) in
+    let grown : is_among w (take (i + 1) ws) ≡ either_one (is_among w (take i ws)) (is_among w (x ∷ [])) =
+    ap (is_among w) (take_step ws i x h e) ∙ among_append w (take i ws) (x ∷ []) in
     elim (cases_eq w x) [
       | inl same ↦
           ap (λ n. get_or (set marks x true) n false) same ∙ get_or-set_same marks x true false (omega (arith, within, long, same))
@@ -51,7 +55,8 @@ marks_one old marks ws i x h e long so w within =
       | inr ne ↦
           get_or-set_other marks x w true false ne ∙ so w within
           ∙ ap (λ b. either_one b (get_or old w false))
-          (sym (grown ∙ ap (λ b. either_one (is_among w (take i ws)) (cond b true false)) (ne_eqb x w (λ k. ne (sym k))) ∙ either_nothing (is_among w (take i ws))))
+          (sym (grown ∙ ap (λ b. either_one (is_among w (take i ws)) (cond b true false)) (ne_eqb x w (λ k. ne (sym k)))
+          ∙ either_nothing (is_among w (take i ws))))
     ]
 
 -- ---- numbers one after another
@@ -63,13 +68,15 @@ numbers_more first (suc i) =
     let e : first + suc i ≡ suc first + i = omega arith in
     ap (numbers_from first) next ∙ ap (λ l. first ∷ l) (numbers_more (suc first) i ∙ ap (λ n. numbers_from (suc first) i ++ n ∷ []) (sym e))
 
-pub left_more : (marks : List Bool) (first i : ℕ) → left_numbers marks (numbers_from first (i + 1)) ≡ left_numbers marks (numbers_from first i) ++ cond (not (get_or marks (first + i) false)) ((first + i) ∷ []) []
+pub left_more : (marks : List Bool) (first i : ℕ) → left_numbers marks (numbers_from first (i + 1))
+    ≡ left_numbers marks (numbers_from first i) ++ cond (not (get_or marks (first + i) false)) ((first + i) ∷ []) []
 left_more marks first i =
     ap (left_numbers marks) (numbers_more first i) ∙ filter-append (λ n. not (get_or marks n false)) (numbers_from first i) ((first + i) ∷ [])
 
 pub numbers_below : (first count bound : ℕ) → first + count ≤ bound → All (λ n. n < bound) (numbers_from first count)
 numbers_below first zero bound h = all_none (λ n. n < bound)
-numbers_below first (suc count) bound h = All-cons (λ n. n < bound) first (numbers_from (suc first) count) (omega arith) (numbers_below (suc first) count bound (omega arith))
+numbers_below first (suc count) bound h =
+    All-cons (λ n. n < bound) first (numbers_from (suc first) count) (omega arith) (numbers_below (suc first) count bound (omega arith))
 
 -- the waiters of a pass that hung no more goals than it may are among those of all
 pub fits_before : (number each seats hung first : ℕ) → first ≡ number * each → number < seats → hung ≤ each → first + hung ≤ seats * each
@@ -83,7 +90,8 @@ fits_before number each seats hung first is below few =
 
 -- ---- what one pass more has handed out
 
-pub handed_is : (p : PassSeen) (taken : List ℕ) (handed : ℕ) → taken ≡ waiters_of p.pass.took → p.kept ≡ drop handed taken → handed ≤ length taken → take handed taken ≡ handed_by p
+pub handed_is : (p : PassSeen) (taken : List ℕ) (handed : ℕ) → taken ≡ waiters_of p.pass.took → p.kept ≡ drop handed taken → handed ≤ length taken
+    → take handed taken ≡ handed_by p
 handed_is p taken handed are kept within =
     let long : length p.kept ≡ length taken - handed = ap length kept ∙ length-drop taken handed in
     let count : handed ≡ length taken - length p.kept = omega (arith, long, within) in
@@ -94,7 +102,8 @@ handed_is p taken handed are kept within =
     length-drop [] (suc n) = omega arith
     length-drop (x ∷ xs) (suc n) = let e = length-drop xs n in omega arith
 
-pub handed_more : (w : ℕ) (ps : List PassSeen) (p : PassSeen) → is_among w (handed_out (ps ++ p ∷ [])) ≡ either_one (is_among w (handed_by p)) (is_among w (handed_out ps))
+pub handed_more : (w : ℕ) (ps : List PassSeen) (p : PassSeen)
+    → is_among w (handed_out (ps ++ p ∷ [])) ≡ either_one (is_among w (handed_by p)) (is_among w (handed_out ps))
 handed_more w ps p =
     ap (is_among w) (flat_map-append handed_by ps (p ∷ []) ∙ ap (λ l. handed_out ps ++ l) (append-nil (handed_by p)))
     ∙ among_append w (handed_out ps) (handed_by p) ∙ either_turned (is_among w (handed_out ps)) (is_among w (handed_by p))
@@ -108,7 +117,8 @@ hung_append xs ys =
     ∙ map_append (λ (g : HungGoal). g.waiter) (all_hung (passes_of xs)) (all_hung (passes_of ys))
 
 -- what one pass adds for a number
-pub own_below : (p : PassSeen) (number own hung each seats : ℕ) → own < seats → hung ≤ each → map (λ (g : HungGoal). g.waiter) p.pass.hung ≡ numbers_from (own * each) hung
+pub own_below : (p : PassSeen) (number own hung each seats : ℕ) → own < seats → hung ≤ each
+    → map (λ (g : HungGoal). g.waiter) p.pass.hung ≡ numbers_from (own * each) hung
     → All (λ w. w < seats * each) (waiters_hung (numbered number (p ∷ [])))
 own_below p number own hung each seats below few are =
     elim (nat_eq p.pass.number number) as (λ b. All (λ w. w < seats * each) (waiters_hung (cond {A = List PassSeen} b (p ∷ []) []))) [
@@ -126,7 +136,8 @@ numbered_more number i ps p next =
     ∙ hung_append (numbered number (take i ps)) (numbered number (p ∷ []))
 
 -- one number more
-pub order_more : (number : ℕ) (ps : List PassSeen) → waiters_hung (in_order (number + 1) ps) ≡ waiters_hung (in_order number ps) ++ waiters_hung (numbered number ps)
+pub order_more : (number : ℕ) (ps : List PassSeen) → waiters_hung (in_order (number + 1) ps)
+    ≡ waiters_hung (in_order number ps) ++ waiters_hung (numbered number ps)
 order_more number ps =
     let here : 0 + number ≡ number = omega arith in
     ap waiters_hung (ap (λ ns. flat_map (λ n. numbered n ps) ns) (numbers_more 0 number)
@@ -175,7 +186,8 @@ goals_left f p (g ∷ hung) h =
     let rest = goals_left f p hung (all_rest (λ (g : HungGoal). f g.waiter ≡ g.goal) g hung h) in
     elim (p g.waiter) as (λ b. map f (cond b (g.waiter ∷ filter p (map (λ (g : HungGoal). g.waiter) hung)) (filter p (map (λ (g : HungGoal). g.waiter) hung)))
     ≡ map (λ (g : HungGoal). g.goal) (cond b (g ∷ filter (λ (g : HungGoal). p g.waiter) hung) (filter (λ (g : HungGoal). p g.waiter) hung))) [
-      | true ↦ ap (λ x. x ∷ map f (filter p (map (λ (g : HungGoal). g.waiter) hung))) (all_first (λ (g : HungGoal). f g.waiter ≡ g.goal) g hung h) ∙ ap (λ l. g.goal ∷ l) rest
+      | true ↦ ap (λ x. x ∷ map f (filter p (map (λ (g : HungGoal). g.waiter) hung))) (all_first (λ (g : HungGoal). f g.waiter ≡ g.goal) g hung h)
+          ∙ ap (λ l. g.goal ∷ l) rest
       | false ↦ rest
     ]
 
@@ -210,17 +222,21 @@ at_default (x ∷ xs) (suc i) h = any xs i 0 (get_or xs i 0) (omega arith)
     any (x ∷ xs) (suc i) d e h = any xs i d e (omega arith)
 
 -- one waiter more was looked at
-pub pushed : (marks : List Bool) (first i : ℕ) (old before : List ℕ) → before ≡ old ++ left_numbers marks (numbers_from first i) → get_or marks (first + i) false ≡ false
+pub pushed : (marks : List Bool) (first i : ℕ) (old before : List ℕ) → before ≡ old ++ left_numbers marks (numbers_from first i)
+    → get_or marks (first + i) false ≡ false
     → before ++ (first + i) ∷ [] ≡ old ++ left_numbers marks (numbers_from first (i + 1))
 pushed marks first i old before e off =
     ap (λ l. l ++ (first + i) ∷ []) e ∙ append_assoc old (left_numbers marks (numbers_from first i)) ((first + i) ∷ [])
     ∙ ap (λ l. old ++ l) (sym (left_more marks first i ∙ ap (λ b. left_numbers marks (numbers_from first i) ++ cond (not b) ((first + i) ∷ []) []) off))
 
-pub skipped : (marks : List Bool) (first i : ℕ) (old before : List ℕ) → before ≡ old ++ left_numbers marks (numbers_from first i) → get_or marks (first + i) false ≡ true
+pub skipped : (marks : List Bool) (first i : ℕ) (old before : List ℕ) → before ≡ old ++ left_numbers marks (numbers_from first i)
+    → get_or marks (first + i) false ≡ true
     → before ≡ old ++ left_numbers marks (numbers_from first (i + 1))
 skipped marks first i old before e on =
-    e ∙ ap (λ l. old ++ l) (sym (left_more marks first i ∙ ap (λ b. left_numbers marks (numbers_from first i) ++ cond (not b) ((first + i) ∷ []) []) on ∙ append-nil (left_numbers marks (numbers_from first i))))
+    e ∙ ap (λ l. old ++ l) (sym (left_more marks first i ∙ ap (λ b. left_numbers marks (numbers_from first i) ++ cond (not b) ((first + i) ∷ []) []) on
+    ∙ append-nil (left_numbers marks (numbers_from first i))))
 
-pub goals_step : (f : ℕ → Goal) (ws : List ℕ) (i x : ℕ) (goals : List Goal) (g : Goal) → i < length ws → x ≡ get_or ws i x → goals ≡ map f (take i ws) → g ≡ f x → goals ++ g ∷ [] ≡ map f (take (i + 1) ws)
+pub goals_step : (f : ℕ → Goal) (ws : List ℕ) (i x : ℕ) (goals : List Goal) (g : Goal) → i < length ws → x ≡ get_or ws i x → goals ≡ map f (take i ws)
+    → g ≡ f x → goals ++ g ∷ [] ≡ map f (take (i + 1) ws)
 goals_step f ws i x goals g h e are is =
     ap (λ l. l ++ g ∷ []) are ∙ ap (λ y. map f (take i ws) ++ y ∷ []) is ∙ sym (map_append f (take i ws) (x ∷ [])) ∙ ap (map f) (sym (take_step ws i x h e))

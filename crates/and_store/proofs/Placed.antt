@@ -16,7 +16,8 @@ use Rattle.and_store.specs.Told.{mine_of, IsAlone, stepped_to, TakeTold, waiters
 use Rattle.and_store.proofs.Words.{place_found, place_set}
 use Rattle.and_store.proofs.Keeping.{after, moved, goes_plainly, went, row_long, places_long, about_is, amid_after}
 
-module _ (P : NamedProgram) (a : About) (s : State (Unit {0}) Sight) (id : ℕ) (v : Sight) (kept : Kept P a s) (at : get_elem? s.views id ≡ some v) (alone : IsAlone v)
+module _ (P : NamedProgram) (a : About) (s : State (Unit {0}) Sight) (id : ℕ) (v : Sight) (kept : Kept P a s)
+    (at : get_elem? s.views id ≡ some v) (alone : IsAlone v)
     (cell : ℕ) (within : cell < a.words) (pends : (mine_of v).pending ≡ Some cell) where
   abbrev h : Held
   h = kept.held
@@ -33,11 +34,13 @@ module _ (P : NamedProgram) (a : About) (s : State (Unit {0}) Sight) (id : ℕ) 
 
   pub take_kept : Kept P a (stepped s (a.words + cell) 1 id [] (stepped_to v taking) keeps)
   take_kept = goes_plainly P a s id v kept at alone taking taken_held (set s.words (a.words + cell) 1)
-      (ap (λ l. set l (a.words + cell) 1) kept.words ∙ place_set h kept.goals a.words (row_long P a s id v kept at alone) (places_long P a s id v kept at alone) cell closed within)
+      (ap (λ l. set l (a.words + cell) 1) kept.words
+      ∙ place_set h kept.goals a.words (row_long P a s id v kept at alone) (places_long P a s id v kept at alone) cell closed within)
       kept.named take_rule kept.hung
 
   place_is : get_or s.words (a.words + cell) 0 ≡ place_word (place_at h.places cell)
-  place_is = ap (λ l. get_or l (a.words + cell) 0) kept.words ∙ place_found h kept.goals a.words (row_long P a s id v kept at alone) (places_long P a s id v kept at alone) cell within
+  place_is = ap (λ l. get_or l (a.words + cell) 0) kept.words
+      ∙ place_found h kept.goals a.words (row_long P a s id v kept at alone) (places_long P a s id v kept at alone) cell within
 
   same_bound : v.about.seats * v.about.waiters ≡ a.seats * a.waiters
   same_bound = ap (λ (b : About). b.seats * b.waiters) (about_is P a s id v kept at alone)
@@ -66,7 +69,8 @@ module _ (P : NamedProgram) (a : About) (s : State (Unit {0}) Sight) (id : ℕ) 
     few = subst (λ n. length (waiters_of taking.pass.took) ≤ n) (sym same_bound) taken_few;
   }
 
-pub closes_place : (P : NamedProgram) (a : About) (slots id cell : ℕ) (v : Sight) (c : List (ℕ × Unit {0})) → IsAlone v → c ≡ [] → cell < a.words → (mine_of v).pending ≡ Some cell
+pub closes_place : (P : NamedProgram) (a : About) (slots id cell : ℕ) (v : Sight) (c : List (ℕ × Unit {0})) → IsAlone v → c ≡ [] → cell < a.words
+    → (mine_of v).pending ≡ Some cell
     → Allows (Kept P a) slots id (v, c) (a.words + cell) (λ _. 1) (λ n me. ((d : ℕ) → a.words + cell ≡ v.about.words + d → TakeTold P d v n me.0) × (me.1 ≡ []))
 closes_place P a slots id cell v c alone none within pends s kept homes at fits =
     let words : v.about.words ≡ a.words = ap (λ (b : About). b.words) (about_is P a s id v kept at alone) in
@@ -75,5 +79,9 @@ closes_place P a slots id cell v c alone none within pends s kept homes at fits 
       keeps,
       tt,
       take_kept P a s id v kept at alone cell within pends,
-      ((λ d e. let same : cell ≡ d = omega (arith, words, e) in subst (λ d. TakeTold P d v (get_or s.words (a.words + cell) 0) w) same (take_told P a s id v kept at alone cell within pends)), none),
+      (
+        (λ d e. let same : cell ≡ d = omega (arith, words, e) in subst (λ d. TakeTold P d v (get_or s.words (a.words + cell) 0) w) same
+            (take_told P a s id v kept at alone cell within pends)),
+        none,
+      ),
     )

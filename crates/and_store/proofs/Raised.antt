@@ -1,5 +1,6 @@
 -- Each raise of the mark and of the fail word is allowed by the table's rule, and so are looks at the fail word.
-use Rattle.std.proofs.Common.{ℕ, ◌+◌, ◌*◌, ◌%◌, ◌^◌, ◌≡◌, ◌<◌, ◌≤◌, inl, inr, true, List, [], ◌∷◌, ◌++◌, map, set, get_or, refl, sym, ap, subst, ◌∙◌, All, mod-eq_of_lt}
+use Rattle.std.proofs.Common.{ℕ, ◌+◌, ◌*◌, ◌%◌, ◌^◌, ◌≡◌, ◌<◌, ◌≤◌, inl, inr, true, List, [], ◌∷◌, ◌++◌, map, set, get_or, refl, sym, ap, subst, ◌∙◌, All}
+use Rattle.std.proofs.Common.{mod-eq_of_lt}
 use Rattle.std.proofs.lemmas.Bool.{cases_lt}
 use Rattle.std.proofs.lemmas.List.{set-get_or}
 use mathlib.Core.Option.{some}
@@ -27,7 +28,8 @@ mark_index a = a.words + (a.words + (2 * (a.seats * a.waiters) + 0))
 abbrev pub fail_index : About → ℕ
 fail_index a = a.words + (a.words + (2 * (a.seats * a.waiters) + 1))
 
-module _ (P : NamedProgram) (a : About) (s : State (Unit {0}) Sight) (id : ℕ) (v : Sight) (kept : Kept P a s) (at : get_elem? s.views id ≡ some v) (alone : IsAlone v) where
+module _ (P : NamedProgram) (a : About) (s : State (Unit {0}) Sight) (id : ℕ) (v : Sight) (kept : Kept P a s) (at : get_elem? s.views id ≡ some v)
+    (alone : IsAlone v) where
   abbrev h : Held
   h = kept.held
 
@@ -64,7 +66,8 @@ module _ (P : NamedProgram) (a : About) (s : State (Unit {0}) Sight) (id : ℕ) 
       (record { m = m; moves = moved P a s id v kept at alone asking []; held = refl })
 
   pub ask_kept : Kept P a (stepped s (fail_index a) (get_or s.words (fail_index a) 0) id [] (stepped_to v asking) keeps)
-  ask_kept = goes_plainly P a s id v kept at alone asking h (set s.words (fail_index a) (get_or s.words (fail_index a) 0)) (set-get_or s.words (fail_index a) 0 ∙ kept.words) kept.named ask_rule kept.hung
+  ask_kept = goes_plainly P a s id v kept at alone asking h (set s.words (fail_index a) (get_or s.words (fail_index a) 0)) (set-get_or s.words (fail_index a) 0
+      ∙ kept.words) kept.named ask_rule kept.hung
 
   pub ask_told : FailedTold P v (get_or s.words (fail_index a) 0) (stepped_to v asking)
   ask_told = record { held = h; went = went P a s id v kept at alone asking h ask_rule; found_is = fail_is }
@@ -81,7 +84,8 @@ module _ (P : NamedProgram) (a : About) (s : State (Unit {0}) Sight) (id : ℕ) 
 
   pub fail_kept : Kept P a (stepped s (fail_index a) 1 id [] (stepped_to v failing) keeps)
   fail_kept = goes_plainly P a s id v kept at alone failing failed_held (set s.words (fail_index a) 1) fail_put kept.named fail_rule
-      (subst (All (λ (g : HungGoal). HasGoal kept.goals g.waiter g.goal)) (sym (nothing_more made_hung h.journal (entry m.pass.number fails ∷ []) refl)) kept.hung)
+      (subst (All (λ (g : HungGoal). HasGoal kept.goals g.waiter g.goal))
+      (sym (nothing_more made_hung h.journal (entry m.pass.number fails ∷ []) refl)) kept.hung)
 
   pub fail_told : FailTold P v (stepped_to v failing)
   fail_told = record { held = h; went = went P a s id v kept at alone failing failed_held fail_rule }
@@ -118,20 +122,25 @@ module _ (P : NamedProgram) (a : About) (s : State (Unit {0}) Sight) (id : ℕ) 
     words_then : set s.words (mark_index a) ((get_or s.words (mark_index a) 0 + weight) % 2 ^ 64) ≡ words_of raised_held kept.goals
     words_then = ap (set s.words (mark_index a)) sum_fits ∙ mark_put (h.mark + weight)
 
-    pub raises_so : (w : Sight) × (b : Act (Unit {0})) × Valid s.homes [] b × Kept P a (stepped s (mark_index a) ((get_or s.words (mark_index a) 0 + weight) % 2 ^ 64) id [] w b)
+    pub raises_so : (w : Sight) × (b : Act (Unit {0})) × Valid s.homes [] b
+        × Kept P a (stepped s (mark_index a) ((get_or s.words (mark_index a) 0 + weight) % 2 ^ 64) id [] w b)
         × (FrameTold P weight v (get_or s.words (mark_index a) 0) w × (carried_after [] b ≡ []))
     raises_so = elim (cases_lt a.words (h.mark + weight)) [
       | inl above ↦ (
         stepped_to v without,
         keeps,
         tt,
-        goes_plainly P a s id v kept at alone without raised_held (set s.words (mark_index a) ((get_or s.words (mark_index a) 0 + weight) % 2 ^ 64)) words_then kept.named (refuse_rule above) kept.hung,
+        goes_plainly P a s id v kept at alone without raised_held (set s.words (mark_index a) ((get_or s.words (mark_index a) 0 + weight) % 2 ^ 64)) words_then
+            kept.named (refuse_rule above) kept.hung,
         (
           record {
             held = h;
             found_is = mark_is;
             small = sum_small;
-            went = inr (rw (ap (λ (b : About). b.words) (about_is P a s id v kept at alone)) above, went P a s id v kept at alone without raised_held (refuse_rule above));
+            went = inr (
+              rw (ap (λ (b : About). b.words) (about_is P a s id v kept at alone)) above,
+              went P a s id v kept at alone without raised_held (refuse_rule above),
+            );
           },
           refl,
         ),
@@ -140,23 +149,30 @@ module _ (P : NamedProgram) (a : About) (s : State (Unit {0}) Sight) (id : ℕ) 
         stepped_to v with_frame,
         keeps,
         tt,
-        goes_plainly P a s id v kept at alone with_frame given_held (set s.words (mark_index a) ((get_or s.words (mark_index a) 0 + weight) % 2 ^ 64)) words_then kept.named (give_rule fits)
-            (subst (All (λ (g : HungGoal). HasGoal kept.goals g.waiter g.goal)) (sym (nothing_more made_hung h.journal (entry m.pass.number (gives (frame_at weight h)) ∷ []) refl)) kept.hung),
+        goes_plainly P a s id v kept at alone with_frame given_held (set s.words (mark_index a) ((get_or s.words (mark_index a) 0 + weight) % 2 ^ 64))
+            words_then kept.named (give_rule fits)
+            (subst (All (λ (g : HungGoal). HasGoal kept.goals g.waiter g.goal))
+            (sym (nothing_more made_hung h.journal (entry m.pass.number (gives (frame_at weight h)) ∷ []) refl)) kept.hung),
         (
           record {
             held = h;
             found_is = mark_is;
             small = sum_small;
-            went = inl (rw (ap (λ (b : About). b.words) (about_is P a s id v kept at alone)) fits, went P a s id v kept at alone with_frame given_held (give_rule fits));
+            went = inl (
+              rw (ap (λ (b : About). b.words) (about_is P a s id v kept at alone)) fits,
+              went P a s id v kept at alone with_frame given_held (give_rule fits),
+            );
           },
           refl,
         ),
       )
     ]
 
-pub raises_mark : (P : NamedProgram) (a : About) (slots id weight : ℕ) (v : Sight) (c : List (ℕ × Unit {0})) → IsAlone v → c ≡ [] → weight ≤ 4194304 → over a.words (mine_of v).pass.asked ≡ []
+pub raises_mark : (P : NamedProgram) (a : About) (slots id weight : ℕ) (v : Sight) (c : List (ℕ × Unit {0})) → IsAlone v → c ≡ [] → weight ≤ 4194304
+    → over a.words (mine_of v).pass.asked ≡ []
     → Allows (Kept P a) slots id (v, c) (mark_index a) (λ n. (n + weight) % 2 ^ 64) (λ n me. FrameTold P weight v n me.0 × (me.1 ≡ []))
-raises_mark P a slots id weight v c alone none small none_over = subst (λ c. Allows (Kept P a) slots id (v, c) (mark_index a) (λ n. (n + weight) % 2 ^ 64) (λ n me. FrameTold P weight v n me.0 × (me.1 ≡ []))) (sym none)
+raises_mark P a slots id weight v c alone none small none_over =
+    subst (λ c. Allows (Kept P a) slots id (v, c) (mark_index a) (λ n. (n + weight) % 2 ^ 64) (λ n me. FrameTold P weight v n me.0 × (me.1 ≡ []))) (sym none)
     (λ s kept homes at fits. raises_so P a s id v kept at alone weight small none_over)
 
 pub raises_fail : (P : NamedProgram) (a : About) (slots id : ℕ) (v : Sight) (c : List (ℕ × Unit {0})) → IsAlone v → c ≡ []

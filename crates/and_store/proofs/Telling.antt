@@ -30,14 +30,16 @@ sees_after o m h made q a e =
     let s = others_since o h m (works_of o m h a) in
     (record { since = s.0; of_others = s.2; seen = e ∙ ap (λ j. j ++ map (entry m.pass.number) made) s.1 }, s.1)
 
-pub sees_made : (o : Opening) (m : Member) (h : Held) (made : List Made) (q : Pass) → Amid o m h → q.seen ≡ h.journal ++ map (entry m.pass.number) made → Sees made m.pass q
+pub sees_made : (o : Opening) (m : Member) (h : Held) (made : List Made) (q : Pass) → Amid o m h → q.seen ≡ h.journal ++ map (entry m.pass.number) made
+    → Sees made m.pass q
 sees_made o m h made q a e = (sees_after o m h made q a e).0
 
 pub sees_none : (o : Opening) (m : Member) (h : Held) (q : Pass) → Amid o m h → q.seen ≡ h.journal → Sees [] m.pass q
 sees_none o m h q a e = sees_made o m h [] q a (e ∙ sym (append-nil h.journal))
 
 -- nothing of the cell is known where its word is free
-unknown : (o : Opening) (m : Member) (h : Held) (cell : ℕ) → Amid o m h → word_at h.row cell ≡ Free → (k : Known) → Contains m.pass.known k → k.setting.place ≢ cell
+unknown : (o : Opening) (m : Member) (h : Held) (cell : ℕ) → Amid o m h → word_at h.row cell ≡ Free → (k : Known) → Contains m.pass.known k
+    → k.setting.place ≢ cell
 unknown o m h cell a free k c e =
     let so = known_is_so o a.members h m k a.at_work a.there c in
     so.1 (sym so.0 ∙ ap (word_at h.row) e ∙ free)
@@ -65,13 +67,15 @@ look_tells P cell v found w t =
           let is : r ≡ k.setting.value = ap (word_at h.row) (sym e) ∙ so.0 in
           (is, λ free. so.1 (sym is ∙ free));
       written = λ pair knows here.
-          let both = is_written o h m.pass.known pair t.went.before.at_work.holds (knew o.first h.mark h.journal m.pass (works_of o m h t.went.before).fits) knows in
+          let both = is_written o h m.pass.known pair t.went.before.at_work.holds
+          (knew o.first h.mark h.journal m.pass (works_of o m h t.went.before).fits) knows in
           elim here [
             | inl e ↦ λ free. free_unset o h pair t.went.before.at_work.holds (ap (word_at h.row) (sym e) ∙ free) both.0
             | inr e ↦ λ free. free_unset o h (suc pair) t.went.before.at_work.holds (ap (word_at h.row) (sym e) ∙ free) both.1
           ];
       place_closed = λ f c e is free.
-          All-contains (λ (f : Found). f.place ≡ closed → word_at h.row f.cell ≢ Free) m.pass.found f (works_of o m h t.went.before).found_closed c e (ap (word_at h.row) is ∙ free);
+          All-contains (λ (f : Found). f.place ≡ closed → word_at h.row f.cell ≢ Free) m.pass.found f (works_of o m h t.went.before).found_closed c e
+          (ap (word_at h.row) is ∙ free);
       is_word = (
         λ ne. (t.went.before.at_work.holds.set_words (setting cell r)).0 (set_in_has h.row cell r refl ne),
         λ free. free_of o h cell t.went.before.at_work.holds free,
@@ -120,7 +124,8 @@ raised : (b : Bool) → not (nat_eq (flag b) 0) ≡ b
 raised true = refl
 raised false = refl
 
-pub failed_tells : (P : NamedProgram) (v : Sight) (found : ℕ) (w : Sight) → FailedTold P v found w → FindsFailed (not (nat_eq found 0)) (mine_of v).pass (mine_of w).pass
+pub failed_tells : (P : NamedProgram) (v : Sight) (found : ℕ) (w : Sight) → FailedTold P v found w
+    → FindsFailed (not (nat_eq found 0)) (mine_of v).pass (mine_of w).pass
 failed_tells P v found w t =
     let o = opening_of P v.about in
     let m = mine_of v in

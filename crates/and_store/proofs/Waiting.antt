@@ -27,7 +27,8 @@ of_pass p journal h c =
     let e = flat_contains made_hung h (entries_by p journal) c in
     contains_flat made_hung e.0 h journal (filtered (λ (e : JournalEntry). nat_eq e.pass p.number) journal e.0 e.1) e.2
 
-module _ (P : NamedProgram) (a : About) (passes : List PassSeen) (id : ℕ) (v : Sight) (words : List ℕ) (xs : List (Unit {0})) (g : IsGathered a v passes) (all : length passes ≡ a.seats)
+module _ (P : NamedProgram) (a : About) (passes : List PassSeen) (id : ℕ) (v : Sight) (words : List ℕ) (xs : List (Unit {0})) (g : IsGathered a v passes)
+    (all : length passes ≡ a.seats)
     (final : Final (Seen (Kept P a) id v) words xs) where
   abbrev k : Kept P a final.0
   k = end_kept P a passes id v words xs g all final
@@ -77,7 +78,8 @@ module _ (P : NamedProgram) (a : About) (passes : List PassSeen) (id : ℕ) (v :
   all_in_range : All (λ (h : HungGoal). IsGoalInRange P a.words h.goal) ordered
   all_in_range =
       all_of (λ (h : HungGoal). IsGoalInRange P a.words h.goal) ordered
-      (λ h c. All-contains (λ (h : HungGoal). IsGoalInRange P a.words h.goal) (hung_of k.held.journal) h k.rule.at_work.holds.goals (in_journal h (in_passes h c)))
+      (λ h c. All-contains (λ (h : HungGoal). IsGoalInRange P a.words h.goal) (hung_of k.held.journal) h k.rule.at_work.holds.goals
+      (in_journal h (in_passes h c)))
 
   pub leaves_so : (left : List ℕ) (waiting : List Goal) → left ≡ left_waiters a.seats passes → waiting ≡ map (λ w. goal_at words (a.words + a.words) w) left
       → LeavesGoals P a passes waiting
@@ -92,6 +94,7 @@ module _ (P : NamedProgram) (a : About) (passes : List PassSeen) (id : ℕ) (v :
       }
 
 -- the words of each waiter that is left lie in the table
-pub places_in : (words count place : ℕ) (size : ℕ) (left : List ℕ) → place ≡ words + words → size ≡ words + (words + (2 * count + 2)) → All (λ w. w < count) left → All (λ w. place + (2 * w + 1) < size) left
+pub places_in : (words count place : ℕ) (size : ℕ) (left : List ℕ) → place ≡ words + words → size ≡ words + (words + (2 * count + 2))
+    → All (λ w. w < count) left → All (λ w. place + (2 * w + 1) < size) left
 places_in words count place size left is long below =
     all_of (λ w. place + (2 * w + 1) < size) left (λ w c. let low = All-contains (λ w. w < count) left w below c in omega (arith, is, long, low))

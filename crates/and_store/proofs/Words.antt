@@ -47,10 +47,12 @@ module _ (h : Held) (goals : List ℕ) (words : ℕ) (row_long : length h.row �
   pub place_found : (cell : ℕ) → cell < words → get_or (words_of h goals) (words + cell) 0 ≡ place_word (place_at h.places cell)
   place_found cell within = past_row cell ∙ get_or-mapped place_word empty h.places rest cell (omega (arith, places_long))
 
-  pub place_set : (cell : ℕ) (w : Waiting) → cell < words → set (words_of h goals) (words + cell) (place_word w) ≡ words_of (record h { places = set h.places cell w }) goals
+  pub place_set : (cell : ℕ) (w : Waiting) → cell < words
+      → set (words_of h goals) (words + cell) (place_word w) ≡ words_of (record h { places = set h.places cell w }) goals
   place_set cell w within =
       past_row_set cell (place_word w)
-      ∙ ap (λ l. map word_of h.row ++ l) (set-append_left (map place_word h.places) rest cell (place_word w) (omega (arith, places_are)) ∙ ap (λ l. l ++ rest) (sym (map-set place_word h.places cell w)))
+      ∙ ap (λ l. map word_of h.row ++ l) (set-append_left (map place_word h.places) rest cell (place_word w) (omega (arith, places_are))
+      ∙ ap (λ l. l ++ rest) (sym (map-set place_word h.places cell w)))
 
   past_places : (n : ℕ) → get_or (words_of h goals) (words + (words + n)) 0 ≡ get_or rest n 0
   past_places n = past_row (words + n) ∙ ap (λ k. get_or behind (k + n) 0) (sym places_are) ∙ get_or-append-add (map place_word h.places) rest n 0
@@ -77,10 +79,12 @@ module _ (h : Held) (goals : List ℕ) (words : ℕ) (row_long : length h.row �
   mark_found = past_places (length goals + 0) ∙ get_or-append-add goals (h.mark ∷ flag h.is_failed ∷ []) 0 0
 
   pub mark_set : (x : ℕ) → set (words_of h goals) (words + (words + (length goals + 0))) x ≡ words_of (record h { mark = x }) goals
-  mark_set x = past_places_set (length goals + 0) x ∙ ap (λ l. map word_of h.row ++ (map place_word h.places ++ l)) (set-append-add goals (h.mark ∷ flag h.is_failed ∷ []) 0 x)
+  mark_set x = past_places_set (length goals + 0) x
+      ∙ ap (λ l. map word_of h.row ++ (map place_word h.places ++ l)) (set-append-add goals (h.mark ∷ flag h.is_failed ∷ []) 0 x)
 
   pub fail_found : get_or (words_of h goals) (words + (words + (length goals + 1))) 0 ≡ flag h.is_failed
   fail_found = past_places (length goals + 1) ∙ get_or-append-add goals (h.mark ∷ flag h.is_failed ∷ []) 1 0
 
   pub fail_set : set (words_of h goals) (words + (words + (length goals + 1))) 1 ≡ words_of (record h { is_failed = true }) goals
-  fail_set = past_places_set (length goals + 1) 1 ∙ ap (λ l. map word_of h.row ++ (map place_word h.places ++ l)) (set-append-add goals (h.mark ∷ flag h.is_failed ∷ []) 1 1)
+  fail_set = past_places_set (length goals + 1) 1
+      ∙ ap (λ l. map word_of h.row ++ (map place_word h.places ++ l)) (set-append-add goals (h.mark ∷ flag h.is_failed ∷ []) 1 1)

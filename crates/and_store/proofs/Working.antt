@@ -1,5 +1,6 @@
 -- What the calls of a pass are to a worker, which is cells.
-use Rattle.std.proofs.Common.{arith, ◌<◌, ℕ, suc, ◌≡◌, ◌≢◌, ◌⊎◌, inl, inr, true, false, cond, ne_eqb, true≢false, ℤ, FitsSigned, w64, List, [], ◌∷◌, ◌++◌, map, refl, sym, ap, subst, ◌∙◌, append_assoc, append-nil, Contains}
+use Rattle.std.proofs.Common.{arith, ◌<◌, ℕ, suc, ◌≡◌, ◌≢◌, ◌⊎◌, inl, inr, true, false, cond, ne_eqb, true≢false, ℤ, FitsSigned, w64, List, [], ◌∷◌, ◌++◌}
+use Rattle.std.proofs.Common.{map, refl, sym, ap, subst, ◌∙◌, append_assoc, append-nil, Contains}
 use Rattle.std.proofs.lemmas.Bool.{cases_eq}
 use Rattle.std.proofs.lemmas.List.Elements.{Contains-append_left, Contains-push, Contains-push_cases}
 use Rattle.and_model.specs.Prefixes.{IsPrefix}
@@ -28,18 +29,23 @@ settings ks = map (λ (k : Known). k.setting) ks
 
 -- ---- what is known grows by a setting
 
-forth : (ks : List Known) (k : Known) (p : ℕ) (q : Ref) → Contains (settings (ks ++ k ∷ [])) (setting p q) → Contains (settings ks) (setting p q) ⊎ ((p ≡ k.setting.place) × (q ≡ k.setting.value))
+forth : (ks : List Known) (k : Known) (p : ℕ) (q : Ref) → Contains (settings (ks ++ k ∷ [])) (setting p q)
+    → Contains (settings ks) (setting p q) ⊎ ((p ≡ k.setting.place) × (q ≡ k.setting.value))
 forth ks k p q c =
-    elim (Contains-push_cases (settings ks) k.setting (setting p q) (subst (λ xs. Contains xs (setting p q)) (map_append (λ (k : Known). k.setting) ks (k ∷ [])) c)) [
+    elim (Contains-push_cases (settings ks) k.setting (setting p q)
+    (subst (λ xs. Contains xs (setting p q)) (map_append (λ (k : Known). k.setting) ks (k ∷ [])) c)) [
       | inl before ↦ inl before
       | inr is ↦ inr (sym (ap (λ (s : Setting). s.place) is), sym (ap (λ (s : Setting). s.value) is))
     ]
 
-back : (ks : List Known) (k : Known) (p : ℕ) (q : Ref) → Contains (settings ks) (setting p q) ⊎ ((p ≡ k.setting.place) × (q ≡ k.setting.value)) → Contains (settings (ks ++ k ∷ [])) (setting p q)
-back ks k p q (inl before) = subst (λ xs. Contains xs (setting p q)) (sym (map_append (λ (k : Known). k.setting) ks (k ∷ []))) (Contains-append_left (settings ks) (k.setting ∷ []) (setting p q) before)
+back : (ks : List Known) (k : Known) (p : ℕ) (q : Ref) → Contains (settings ks) (setting p q) ⊎ ((p ≡ k.setting.place) × (q ≡ k.setting.value))
+    → Contains (settings (ks ++ k ∷ [])) (setting p q)
+back ks k p q (inl before) = subst (λ xs. Contains xs (setting p q)) (sym (map_append (λ (k : Known). k.setting) ks (k ∷ [])))
+    (Contains-append_left (settings ks) (k.setting ∷ []) (setting p q) before)
 back ks k p q (inr is) =
     let here : k.setting ≡ setting p q = λ i. record { place = sym is.0 i; value = sym is.1 i } in
-    subst (λ xs. Contains xs (setting p q)) (sym (map_append (λ (k : Known). k.setting) ks (k ∷ []))) (subst (Contains (settings ks ++ k.setting ∷ [])) here (Contains-push (settings ks) k.setting))
+    subst (λ xs. Contains xs (setting p q)) (sym (map_append (λ (k : Known). k.setting) ks (k ∷ [])))
+    (subst (Contains (settings ks ++ k.setting ∷ [])) here (Contains-push (settings ks) k.setting))
 
 -- ---- sets and finds
 
@@ -61,17 +67,24 @@ place_known : (place : ℕ) (ks : List Known) → knows_place place ks ≡ true 
 place_known place [] e = absurd (true≢false (sym e))
 place_known place (k ∷ ks) e = elim (cases_eq k.setting.place place) [
   | inl here ↦ (k, contains_first k ks, here)
-  | inr ne ↦ (let r = place_known place ks (ap (λ b. cond b true (knows_place place ks)) (sym (ne_eqb k.setting.place place ne)) ∙ e) in (r.0, contains_more k r.0 ks r.1, r.2))
+  | inr ne ↦ (let r = place_known place ks (ap (λ b. cond b true (knows_place place ks)) (sym (ne_eqb k.setting.place place ne)) ∙ e) in (
+    r.0,
+    contains_more k r.0 ks r.1,
+    r.2,
+  ))
 ]
 
-finds_with : (P : NamedProgram) (a : About) (cell : ℕ) (r : Ref) (p q : Pass) → LooksAt P a cell r p q → r ≢ Free → (known : List Known) → learnt cell r p.known ≡ known → q ≡ record p { seen = q.seen; known = known; missed = p.missed }
-    → Adds cell r (shown a.words p) (shown a.words (record p { known = known })) → (known ≡ p.known) ⊎ (known ≡ p.known ++ record { setting = setting cell r; is_own = false } ∷ [])
+finds_with : (P : NamedProgram) (a : About) (cell : ℕ) (r : Ref) (p q : Pass) → LooksAt P a cell r p q → r ≢ Free → (known : List Known)
+    → learnt cell r p.known ≡ known → q ≡ record p { seen = q.seen; known = known; missed = p.missed }
+    → Adds cell r (shown a.words p) (shown a.words (record p { known = known }))
+    → (known ≡ p.known) ⊎ (known ≡ p.known ++ record { setting = setting cell r; is_own = false } ∷ [])
     → Finds P cell r (shown a.words p) (shown a.words q)
 finds_with P a cell r p q l ne known is becomes adds gains =
     subst (λ q. Finds P cell r (shown a.words p) (shown a.words q)) (sym becomes) (record {
       is_set = ne;
       fits = l.fits;
-      as_known = λ t c. let x = map_contains (λ (k : Known). k.setting) (setting cell t) p.known c in (l.as_known x.0 x.1 (ap (λ (s : Setting). s.place) x.2)).0 ∙ ap (λ (s : Setting). s.value) x.2;
+      as_known = λ t c. let x = map_contains (λ (k : Known). k.setting) (setting cell t) p.known c in
+          (l.as_known x.0 x.1 (ap (λ (s : Setting). s.place) x.2)).0 ∙ ap (λ (s : Setting). s.value) x.2;
       adds = adds;
       gains = gains;
       words = refl;
@@ -82,7 +95,8 @@ finds_with P a cell r p q l ne known is becomes adds gains =
 not_missing : (cell : ℕ) (r : Ref) → r ≢ Free → missing cell r ≡ []
 not_missing cell r ne = elim (free_or r) [ inl f ↦ absurd (ne f.1) | inr f ↦ ap (λ b. cond {A = List Missed} b (word cell ∷ []) []) f.0 ]
 
-pub finds_so : (P : NamedProgram) (a : About) (cell : ℕ) (r : Ref) (p q : Pass) → LooksAt P a cell r p q → r ≢ Free → Finds P cell r (shown a.words p) (shown a.words q)
+pub finds_so : (P : NamedProgram) (a : About) (cell : ℕ) (r : Ref) (p q : Pass) → LooksAt P a cell r p q → r ≢ Free
+    → Finds P cell r (shown a.words p) (shown a.words q)
 finds_so P a cell r p q l ne =
     let k : Known = record { setting = setting cell r; is_own = false } in
     let full : is_free r ≡ false = elim (free_or r) [ inl f ↦ absurd (ne f.1) | inr f ↦ f.0 ] in
@@ -111,11 +125,13 @@ finds_so P a cell r p q l ne =
           (λ n t. (forth p.known k n t, back p.known k n t)) (inr refl)
     ]) refl
 
-pub misses_so : (P : NamedProgram) (a : About) (cell : ℕ) (r : Ref) (p q : Pass) → LooksAt P a cell r p q → r ≡ Free → Misses a.words cell (shown a.words p) (shown a.words q)
+pub misses_so : (P : NamedProgram) (a : About) (cell : ℕ) (r : Ref) (p q : Pass) → LooksAt P a cell r p q → r ≡ Free
+    → Misses a.words cell (shown a.words p) (shown a.words q)
 misses_so P a cell r p q l free =
     let becomes = l.becomes ∙ ap (λ t. record p { seen = q.seen; known = learnt cell t p.known; missed = p.missed ++ missing cell t }) free in
     subst (λ q. Misses a.words cell (shown a.words p) (shown a.words q)) (sym becomes) (record {
-      not_known = λ t c. let x = map_contains (λ (k : Known). k.setting) (setting cell t) p.known c in (l.as_known x.0 x.1 (ap (λ (s : Setting). s.place) x.2)).1 free;
+      not_known = λ t c. let x =
+          map_contains (λ (k : Known). k.setting) (setting cell t) p.known c in (l.as_known x.0 x.1 (ap (λ (s : Setting). s.place) x.2)).1 free;
       free = tt;
       known = refl;
       words = refl;
@@ -130,7 +146,8 @@ looks_reads P a cell r p q l = elim (free_or r) [
   | inr f ↦ finds_reads P cell r (shown a.words p) (shown a.words q) (finds_so P a cell r p q l f.1)
 ]
 
-pub fills_so : (P : NamedProgram) (a : About) (place : ℕ) (half r : Ref) (p q : Pass) → FillsWord P a place half r p q → Fills P place half r (shown a.words p) (shown a.words q)
+pub fills_so : (P : NamedProgram) (a : About) (place : ℕ) (half r : Ref) (p q : Pass) → FillsWord P a place half r p q
+    → Fills P place half r (shown a.words p) (shown a.words q)
 fills_so P a place half r p q (inl s) = inl (subst (λ t. Sets place t (shown a.words p) (shown a.words q)) (sym s.1) (sets_so a place half p q s.0), s.1)
 fills_so P a place half r p q (inr l) = inr (finds_so P a place r p q l.0 l.1)
 
@@ -212,30 +229,36 @@ wins_sets a cell to p q w =
     subst (λ (q : Pass). Sets cell to (shown a.words p.pass) (shown a.words q)) (sym w.closes.becomes) (sets_so a cell to p.pass w.between w.set)
 
 pub wins_grew : (a : About) (cell : ℕ) (to : Ref) (p q : PassSeen) → Wins a cell to p q → Grew p.pass q.pass
-wins_grew a cell to p q w = grew_on p.pass w.between q.pass (sets_grew a cell to p.pass w.between w.set) (closes_grew cell w.between q.pass p.kept q.kept w.closes)
+wins_grew a cell to p q w =
+    grew_on p.pass w.between q.pass (sets_grew a cell to p.pass w.between w.set) (closes_grew cell w.between q.pass p.kept q.kept w.closes)
 
 pub wins_once : (a : About) (cell : ℕ) (to : Ref) (p q : PassSeen) → Wins a cell to p q → IsOnce p.pass.known → IsOnce q.pass.known
 wins_once a cell to p q w once = closes_once cell w.between q.pass p.kept q.kept w.closes (sets_once a cell to p.pass w.between w.set once)
 
 -- ---- pairs
 
-pub writes_so : (P : NamedProgram) (a : About) (pair : ℕ) (value result : ℤ) (p q : Pass) → WritesPair P a pair value result p q → FitsSigned w64 value → WritesNumber P pair value result (shown a.words p) (shown a.words q)
+pub writes_so : (P : NamedProgram) (a : About) (pair : ℕ) (value result : ℤ) (p q : Pass) → WritesPair P a pair value result p q → FitsSigned w64 value
+    → WritesNumber P pair value result (shown a.words p) (shown a.words q)
 writes_so P a pair value result p q w fits =
     writes_number P pair value result w.high w.low (shown a.words p) (shown a.words w.between) (shown a.words q)
     (fills_so P a pair (high_half value) w.high p w.between w.first) (fills_so P a (suc pair) (low_half value) w.low w.between q w.second) w.holds fits
 
-pub pair_once : (P : NamedProgram) (a : About) (pair : ℕ) (value result : ℤ) (p q : Pass) → WritesPair P a pair value result p q → IsOnce p.known → IsOnce q.known
+pub pair_once : (P : NamedProgram) (a : About) (pair : ℕ) (value result : ℤ) (p q : Pass) → WritesPair P a pair value result p q
+    → IsOnce p.known → IsOnce q.known
 pair_once P a pair value result p q w once =
     fills_once P a (suc pair) (low_half value) w.low w.between q w.second (fills_once P a pair (high_half value) w.high p w.between w.first once)
 
-pub reads_so : (P : NamedProgram) (a : About) (pair : ℕ) (result : ℤ) (p q : Pass) → ReadsPair P a pair result p q → ReadsNumber P pair result (shown a.words p) (shown a.words q)
+pub reads_so : (P : NamedProgram) (a : About) (pair : ℕ) (result : ℤ) (p q : Pass) → ReadsPair P a pair result p q
+    → ReadsNumber P pair result (shown a.words p) (shown a.words q)
 reads_so P a pair result p q r =
     reads_number P pair (suc pair) result r.high r.low (shown a.words p) (shown a.words r.between) (shown a.words q) refl
     (finds_so P a pair r.high p r.between r.first r.both.0) (finds_so P a (suc pair) r.low r.between q r.second r.both.1) r.holds
 
-pub pair_reads : (P : NamedProgram) (a : About) (pair : ℕ) (result : ℤ) (p q : Pass) → ReadsPair P a pair result p q → OnlyReads (shown a.words p) (shown a.words q)
+pub pair_reads : (P : NamedProgram) (a : About) (pair : ℕ) (result : ℤ) (p q : Pass) → ReadsPair P a pair result p q
+    → OnlyReads (shown a.words p) (shown a.words q)
 pair_reads P a pair result p q r =
-    reads_more (shown a.words p) (shown a.words r.between) (shown a.words q) (looks_reads P a pair r.high p r.between r.first) (looks_reads P a (suc pair) r.low r.between q r.second)
+    reads_more (shown a.words p) (shown a.words r.between) (shown a.words q) (looks_reads P a pair r.high p r.between r.first)
+    (looks_reads P a (suc pair) r.low r.between q r.second)
 
 pub read_once : (P : NamedProgram) (a : About) (pair : ℕ) (result : ℤ) (p q : Pass) → ReadsPair P a pair result p q → IsOnce p.known → IsOnce q.known
 read_once P a pair result p q r once = looks_once P a (suc pair) r.low r.between q r.second (looks_once P a pair r.high p r.between r.first once)
@@ -253,7 +276,8 @@ module _ (P : NamedProgram) (p q : PassSeen) (store : q.store ≡ p.store) where
   looks_used cell r within l kept = one_step (CellStep.looks_at cell r within l kept)
 
   -- a word of a pair was set or looked at
-  filled : (place : ℕ) (half r : Ref) (x y : PassSeen) → place < about.words → CanHold P about.words place half → y.kept ≡ x.kept → FillsWord P about place half r x.pass y.pass → CellStep P about x y
+  filled : (place : ℕ) (half r : Ref) (x y : PassSeen) → place < about.words → CanHold P about.words place half → y.kept ≡ x.kept
+      → FillsWord P about place half r x.pass y.pass → CellStep P about x y
   filled place half r x y within fits kept (inl s) = CellStep.fills place half within fits s.0 kept
   filled place half r x y within fits kept (inr l) = CellStep.looks_at place r within l.0 kept
 
@@ -266,7 +290,8 @@ module _ (P : NamedProgram) (p q : PassSeen) (store : q.store ≡ p.store) where
   writes_used pair value result within w kept = record {
     store = store;
     steps = CellSteps.step_first p (between_of w.between) q (filled pair (high_half value) w.high p (between_of w.between) (omega arith) tt refl w.first)
-        (CellSteps.step_first (between_of w.between) q q (filled (suc pair) (low_half value) w.low (between_of w.between) q within tt kept w.second) (CellSteps.no_step q));
+        (CellSteps.step_first (between_of w.between) q q (filled (suc pair) (low_half value) w.low (between_of w.between) q within tt kept w.second)
+        (CellSteps.no_step q));
   }
 
   pub reads_used : (pair : ℕ) (result : ℤ) → suc pair < about.words → ReadsPair P about pair result p.pass q.pass → q.kept ≡ p.kept → IsUsed P p q
@@ -289,7 +314,8 @@ steps_grew P a p q (CellSteps.step_first x y z step rest) = grew_on x.pass y.pas
 
 -- a word of a pair that was filled is known, and what was known still is
 fill_known : (P : NamedProgram) (a : About) (place : ℕ) (half r : Ref) (p q : Pass) → FillsWord P a place half r p q
-    → ((t : Ref) × Contains (settings q.known) (setting place t)) × ((n : ℕ) (t : Ref) → Contains (settings p.known) (setting n t) → Contains (settings q.known) (setting n t))
+    → ((t : Ref) × Contains (settings q.known) (setting place t))
+    × ((n : ℕ) (t : Ref) → Contains (settings p.known) (setting n t) → Contains (settings q.known) (setting n t))
 fill_known P a place half r p q (inl s) =
     let adds = (sets_so a place half p q s.0).adds in
     ((half, (adds place half).1 (inr (refl, refl))), λ n t c. (adds n t).1 (inl c))
@@ -310,7 +336,10 @@ pair_known P a pair value result p q w =
 -- what a worker knows of a pair
 pub knows_pair : (words : ℕ) (p : Pass) (pair : ℕ) → IsKnownWritten (shown words p) pair → KnowsWritten p.known pair
 knows_pair words p pair (inl both) =
-    inl (contains_map (λ (s : Setting). s.place) (setting pair both.0.0) (settings p.known) both.0.1, contains_map (λ (s : Setting). s.place) (setting (suc pair) both.1.0) (settings p.known) both.1.1)
+    inl (
+      contains_map (λ (s : Setting). s.place) (setting pair both.0.0) (settings p.known) both.0.1,
+      contains_map (λ (s : Setting). s.place) (setting (suc pair) both.1.0) (settings p.known) both.1.1,
+    )
 knows_pair words p pair (inr cell) = inr cell
 
 -- What is in range may stand at a place, if it is no cell from there on.
@@ -329,7 +358,8 @@ by_bound Q (Already r) won already = already r refl
 module _ (P : NamedProgram) (a : About) (cell : ℕ) (to : Ref) (b : Bound) (p q : PassSeen) (won : b ≡ Won → Wins a cell to p q)
     (already : (r : Ref) → b ≡ Already r → LooksAt P a cell r p.pass q.pass × (r ≢ Free) × (q.kept ≡ p.kept)) where
   pub bound_once : IsOnce p.pass.known → IsOnce q.pass.known
-  bound_once once = by_bound (IsOnce q.pass.known) b (λ e. wins_once a cell to p q (won e) once) (λ r e. looks_once P a cell r p.pass q.pass (already r e).0 once)
+  bound_once once = by_bound (IsOnce q.pass.known) b (λ e. wins_once a cell to p q (won e) once)
+      (λ r e. looks_once P a cell r p.pass q.pass (already r e).0 once)
 
   pub bound_used : cell < p.store.about.words → CanHold P p.store.about.words cell to → q.store ≡ p.store → p.store.about ≡ a → IsUsed P p q
   bound_used within fits store is = by_bound (IsUsed P p q) b

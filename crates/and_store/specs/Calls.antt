@@ -1,6 +1,8 @@
 -- What the calls of a pass make of it (this project's own).
-use Rattle.std.specs.Prelude.{ℕ, suc, ◌*◌, length, ℤ, Bool, cond, ◌↔◌, ◌+◌, ◌≡◌, ◌≢◌, ◌<◌, ◌≤◌, ◌⊎◌, true, List, [], ◌∷◌, ◌++◌, map, Option, Some, option_to_list, Contains}
-use Rattle.and_model.specs.Store.{Setting, Made, sets, gives, fails, hangs, fail_word, HungGoal, JournalEntry, Known, Waiting, closed, Found, Pass, settings_of, fails_of, hung_of, set_in, entries_by}
+use Rattle.std.specs.Prelude.{ℕ, suc, ◌*◌, length, ℤ, Bool, cond, ◌↔◌, ◌+◌, ◌≡◌, ◌≢◌, ◌<◌, ◌≤◌, ◌⊎◌, true, List, []}
+use Rattle.std.specs.Prelude.{◌∷◌, ◌++◌, map, Option, Some, option_to_list, Contains}
+use Rattle.and_model.specs.Store.{Setting, Made, sets, gives, fails, hangs, fail_word, HungGoal, JournalEntry, Known}
+use Rattle.and_model.specs.Store.{Waiting, closed, occupied, Found, Pass, settings_of, fails_of, hung_of, set_in, entries_by}
 use Rattle.and_model.specs.declared.goal.Goal.{Goal}
 use Rattle.and_model.specs.declared.reference.Ref.{Ref}
 use Rattle.and_model.specs.declared.reference.Ref.TheVariants.{Free}
@@ -11,7 +13,8 @@ use Rattle.and_store_laws.specs.Steps.{setting, entry, learnt, missing, KnowsWri
 use Rattle.and_store.specs.Passes.{PassSeen}
 use Rattle.and_store.specs.Sight.{About}
 
--- A step: the pass has seen all of the journal. What it had not seen yet were entries of others, and then those that this step made.
+-- A step: the pass has seen all of the journal. What it had not seen yet were entries of others, and then those that
+-- this step made.
 pub record Sees (made : List Made) (p q : Pass) : Type 0 where
   pub since : List JournalEntry
   pub of_others : entries_by p since ≡ []
@@ -103,7 +106,8 @@ pub record RaisesInVain (words weight : ℕ) (p q : Pass) : Type 0 where
   pub above : words < mark + weight
 
 abbrev pub GetsNone : (words weight : ℕ) → (p q : Pass) → Type 0
-GetsNone words weight p q = ((over words p.asked ≢ []) × (q ≡ p)) ⊎ ((over words p.asked ≡ []) × RaisesInVain words weight p q)
+GetsNone words weight p q = ((over words p.asked ≢ []) × (q ≡ p))
+    ⊎ ((over words p.asked ≡ []) × RaisesInVain words weight p q)
 
 -- The pass failed.
 pub record Fails (p q : Pass) : Type 0 where
@@ -123,12 +127,21 @@ pub record HangsGoal (waiters cell : ℕ) (goal : Goal) (p q : Pass) : Type 0 wh
   pub next : waiter ≡ p.number * waiters + length p.hung
   pub left : length p.hung < waiters
   pub sees : Sees (hangs (record { waiter = waiter; cell = cell; goal = goal }) ∷ []) p q
-  pub becomes : q ≡ record p { seen = q.seen; hung = p.hung ++ record { waiter = waiter; cell = cell; goal = goal } ∷ [] }
+  pub becomes : q ≡ record p {
+    seen = q.seen;
+    hung = p.hung ++ record { waiter = waiter; cell = cell; goal = goal } ∷ [];
+  }
 
 -- The pass found the place of a cell not empty, but so.
 pub record MissesPlace (cell : ℕ) (place : Waiting) (p q : Pass) : Type 0 where
   pub sees : Sees [] p q
   pub becomes : q ≡ record p { seen = q.seen; found = p.found ++ record { cell = cell; place = place } ∷ [] }
+
+-- The pass found a waiter in the place of a cell. Its goal had been hung on this cell.
+pub record FindsWaiter (cell : ℕ) (p q : Pass) : Type 0 where
+  pub waiter : ℕ
+  pub misses : MissesPlace cell (occupied waiter) p q
+  pub was_hung : WasHung q.seen waiter cell
 
 -- The pass found the place of a cell closed, and then the cell set.
 pub record FindsSet (P : NamedProgram) (a : About) (cell : ℕ) (r : Ref) (p q : Pass) : Type 0 where

@@ -30,12 +30,14 @@ journal_in [] = []
 journal_in (v ∷ vs) = journal_of v.seat.members
 
 -- What holds of the row, the fail word and the journal that a store leaves.
-pub record Closes (P : NamedProgram) (a : About) (passes : List Pass) (row : List Ref) (failed : Bool) (journal : List JournalEntry)
+pub record Closes (P : NamedProgram) (a : About) (passes : List Pass) (row : List Ref) (failed : Bool)
+    (journal : List JournalEntry)
     : Type 0 where
   pub row_fits : Row a.first passes journal row
   -- What is set is in range of the words that the store had.
   pub fits : (s : Setting) → Contains (set_in row) s → CanHold P a.words s.place s.value
-  -- The row ends behind the opening's cells, the frames and what is set, and no further; and within the words that the store had.
+  -- The row ends behind the opening's cells, the frames and what is set, and no further; and within the words that
+  -- the store had.
   pub least : ℕ
   pub least_is : LastEnds a passes least
   pub behind : least ≤ length row

@@ -1,5 +1,6 @@
 -- The table of a store: its words, and what holds of them and of the seats at every moment.
-use Rattle.std.specs.Prelude.{ℕ, ◌+◌, ◌*◌, ◌/◌, ◌%◌, ◌^◌, ◌≡◌, ◌≢◌, ◌<◌, Bool, cond, List, [], ◌∷◌, ◌++◌, map, length, slice_index, All}
+use Rattle.std.specs.Prelude.{ℕ, ◌+◌, ◌*◌, ◌/◌, ◌%◌, ◌^◌, ◌≡◌, ◌≢◌, ◌<◌, Bool, cond, List, [], ◌∷◌, ◌++◌, map, length}
+use Rattle.std.specs.Prelude.{slice_index, All}
 use Rattle.and_model.specs.Store.{HungGoal, Waiting, empty, occupied, closed, hung_of}
 use Rattle.and_model.specs.Words.{HasWord, word_of}
 use Rattle.and_model.specs.declared.goal.Goal.{Goal}
@@ -42,7 +43,8 @@ HasGoal goals waiter g = UpperIs (slice_index goals (2 * waiter)) g × LowerIs (
 abbrev pub AreNoted : Opening → (goals : List ℕ) → List Member → List ℕ → Type 0
 AreNoted o goals [] ns = Unit {0}
 AreNoted o goals (m ∷ members) [] = Unit {0}
-AreNoted o goals (m ∷ members) (n ∷ []) = (length m.pass.hung < o.waiters) × (slice_index goals (2 * next_waiter o m) ≡ n)
+AreNoted o goals (m ∷ members) (n ∷ []) =
+    (length m.pass.hung < o.waiters) × (slice_index goals (2 * next_waiter o m) ≡ n)
 AreNoted o goals (m ∷ members) (n ∷ k ∷ ns) =
     (length m.pass.hung < o.waiters)
     × (slice_index goals (2 * next_waiter o m) ≡ n) × (slice_index goals (2 * next_waiter o m + 1) ≡ k)

@@ -1,5 +1,6 @@
 -- The goals that are left when a store is closed (this project's own).
-use Rattle.std.specs.Prelude.{ℕ, ◌+◌, ◌-◌, ◌*◌, ◌/◌, ◌%◌, ◌^◌, ◌≡◌, Bool, true, false, not, cond, List, [], ◌∷◌, map, filter, flat_map, length, take, nat_eq, slice_index, slice_index_or, All}
+use Rattle.std.specs.Prelude.{ℕ, ◌+◌, ◌-◌, ◌*◌, ◌/◌, ◌%◌, ◌^◌, ◌≡◌, Bool, true, false, not, cond, List, [], ◌∷◌, map}
+use Rattle.std.specs.Prelude.{filter, flat_map, length, take, nat_eq, slice_index, slice_index_or, All}
 use Rattle.and_model.specs.Store.{HungGoal, all_hung}
 use Rattle.and_model.specs.declared.goal.Goal.{Goal}
 use Rattle.and_cells.specs.Ranges.{NamedProgram, IsGoalInRange}
@@ -38,11 +39,12 @@ numbered number passes = filter (λ (p : PassSeen). nat_eq p.pass.number number)
 abbrev pub in_order : (seats : ℕ) → List PassSeen → List PassSeen
 in_order seats passes = flat_map (λ n. numbered n passes) (numbers_from 0 seats)
 
--- the goals that were hung and handed to nobody, in the order of their waiters: a pass of a larger number has later waiters,
--- and each pass used its waiters one after another
+-- the goals that were hung and handed to nobody, in the order of their waiters: a pass of a larger number has later
+-- waiters, and each pass used its waiters one after another
 abbrev pub left_hung : (seats : ℕ) → List PassSeen → List HungGoal
 left_hung seats passes =
-    filter (λ (g : HungGoal). not (is_among g.waiter (handed_out passes))) (all_hung (passes_of (in_order seats passes)))
+    filter (λ (g : HungGoal). not (is_among g.waiter (handed_out passes)))
+    (all_hung (passes_of (in_order seats passes)))
 
 abbrev pub left_waiters : (seats : ℕ) → List PassSeen → List ℕ
 left_waiters seats passes = filter (λ n. not (is_among n (handed_out passes))) (waiters_hung (in_order seats passes))
@@ -57,7 +59,8 @@ goal_in upper lower = record {
 }
 
 abbrev pub goal_at : List ℕ → (place waiter : ℕ) → Goal
-goal_at words place waiter = goal_in (slice_index words (place + 2 * waiter)) (slice_index words (place + (2 * waiter + 1)))
+goal_at words place waiter =
+    goal_in (slice_index words (place + 2 * waiter)) (slice_index words (place + (2 * waiter + 1)))
 
 -- What a store leaves to be run: the goals that were hung and handed to nobody, each in range of its words.
 pub record LeavesGoals (P : NamedProgram) (a : About) (passes : List PassSeen) (waiting : List Goal) : Type 0 where

@@ -1,5 +1,6 @@
 -- What contracts see of a store and of its passes (this project's own).
-use Rattle.std.specs.Prelude.{ℕ, zero, suc, ◌+◌, ◌*◌, ◌≡◌, ◌≢◌, ◌<◌, ◌≤◌, Bool, true, false, List, [], ◌∷◌, map, length, None, All}
+use Rattle.std.specs.Prelude.{ℕ, zero, suc, ◌+◌, ◌*◌, ◌≡◌, ◌≢◌, ◌<◌, ◌≤◌, Bool, true, false, List, [], ◌∷◌, map}
+use Rattle.std.specs.Prelude.{length, None, All}
 use Rattle.atomic_table.specs.Seated.{TableId}
 use Rattle.and_model.specs.Store.{Pass, HungGoal, Known, Frame, AreDistinct}
 use Rattle.and_model.specs.Words.{HasWord}
@@ -37,9 +38,10 @@ abbrev pub numbers_from : (first count : ℕ) → List ℕ
 numbers_from first zero = []
 numbers_from first (suc count) = first ∷ numbers_from (suc first) count
 
--- What a pass keeps beside its seat: its number, how many goals it hung, whether it was refused a frame, the end of its last frame,
--- the waiters that it took, for how many of them there is room, and how many of them it handed out.
-pub record IsPass (v : Sight) (number hung : ℕ) (refused : Bool) (frames_end : ℕ) (taken : List ℕ) (room handed : ℕ) : Type 0 where
+-- What a pass keeps beside its seat: its number, how many goals it hung, whether it was refused a frame, the end of
+-- its last frame, the waiters that it took, for how many of them there is room, and how many of them it handed out.
+pub record IsPass (v : Sight) (number hung : ℕ) (refused : Bool) (frames_end : ℕ) (taken : List ℕ)
+    (room handed : ℕ) : Type 0 where
   pub alone : IsAlone v
   pub share : v.seat.shares ≡ 1
   pub nothing_noted : v.noted ≡ []

@@ -14,7 +14,14 @@ pub record About : Type 0 where
 
 -- each seat is dealt one share
 abbrev pub opening_of : NamedProgram → About → Opening
-opening_of P a = record { program = P; first = a.first; words = a.words; waiters = a.waiters; shares = a.seats; seats = a.seats }
+opening_of P a = record {
+  program = P;
+  first = a.first;
+  words = a.words;
+  waiters = a.waiters;
+  shares = a.seats;
+  seats = a.seats;
+}
 
 pub record IsModest (a : About) : Type 0 where
   pub words : a.words ≤ 4194304
@@ -22,7 +29,8 @@ pub record IsModest (a : About) : Type 0 where
   pub some_seat : 0 < a.seats
   pub waiters : a.waiters ≤ 4096
 
--- The view of a seat of the table. While its first pass hangs a goal, `noted` are the words of it that stand in the table already.
+-- The view of a seat of the table. While its first pass hangs a goal, `noted` are the words of it that stand in the
+-- table already.
 pub record Sight : Type 0 where
   pub about : About
   pub seat : Seat

@@ -1,5 +1,6 @@
 -- What each step on a store's table tells the pass that makes it.
-use Rattle.std.specs.Prelude.{ℕ, ◌+◌, ◌*◌, ◌^◌, ◌≡◌, ◌≢◌, ◌<◌, ◌≤◌, ◌⊎◌, List, [], ◌∷◌, ◌++◌, flat_map, length, slice_set, true, option_to_list, Contains}
+use Rattle.std.specs.Prelude.{ℕ, ◌+◌, ◌*◌, ◌^◌, ◌≡◌, ◌≢◌, ◌<◌, ◌≤◌, ◌⊎◌, List, [], ◌∷◌, ◌++◌, flat_map, length}
+use Rattle.std.specs.Prelude.{slice_set, true, option_to_list, Contains}
 use Rattle.and_model.specs.Store.{gives, fails, hangs, HungGoal, JournalEntry, Took, closed, occupied, hung_of}
 use Rattle.and_model.specs.Words.{HasWord, word_of}
 use Rattle.and_model.specs.declared.goal.Goal.{Goal}
@@ -7,7 +8,8 @@ use Rattle.and_model.specs.declared.reference.Ref.{Ref}
 use Rattle.and_model.specs.declared.reference.Ref.TheVariants.{Free}
 use Rattle.and_cells.specs.Ranges.{NamedProgram}
 use Rattle.and_store_laws.specs.AtWork.{Opening, Member, Held, AtWork, word_at, place_at}
-use Rattle.and_store_laws.specs.Steps.{blank, looked, own_entry, set_as, entry, frame_at, given, refused, failed_as, asks_failed, goal_of, hung_as, not_hung, taken}
+use Rattle.and_store_laws.specs.Steps.{blank, looked, own_entry, set_as, entry, frame_at, given, refused, failed_as}
+use Rattle.and_store_laws.specs.Steps.{asks_failed, goal_of, hung_as, not_hung, taken}
 use Rattle.and_store.specs.Kept.{flag, place_word, UpperIs, LowerIs}
 use Rattle.and_store.specs.Sight.{Sight, opening_of}
 
@@ -78,7 +80,10 @@ pub record FrameTold (P : NamedProgram) (weight : ℕ) (v : Sight) (found : ℕ)
   pub went :
       ((held.mark + weight ≤ v.about.words)
       × Went P v w held
-      (record held { mark = held.mark + weight; journal = held.journal ++ entry (mine_of v).pass.number (gives (frame_at weight held)) ∷ [] })
+      (record held {
+        mark = held.mark + weight;
+        journal = held.journal ++ entry (mine_of v).pass.number (gives (frame_at weight held)) ∷ [];
+      })
       (given weight held (mine_of v)))
       ⊎ ((v.about.words < held.mark + weight)
       × Went P v w held (record held { mark = held.mark + weight }) (refused weight held (mine_of v)))

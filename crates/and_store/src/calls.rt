@@ -1,13 +1,15 @@
 //! The calls by which a pass looks at words and sets them.
 
-ghost use Rattle.std.specs.Prelude.{◌≡◌, ◌≢◌, ◌<◌, ◌≤◌, ◌+◌, ◌^◌, ◌⊎◌, ◌↔◌, ℕ, suc, [], ◌∷◌, true, length, IfSome, IfNone, IsTrue, IsNone, None};
+ghost use Rattle.std.specs.Prelude.{◌≡◌, ◌≢◌, ◌<◌, ◌≤◌, ◌+◌, ◌^◌, ◌⊎◌, ◌↔◌, ℕ, suc, [], ◌∷◌, true, length, IfSome};
+ghost use Rattle.std.specs.Prelude.{IfNone, IsTrue, IsNone, None};
 ghost use Rattle.and_model.specs.Store.{fails_of, is_half};
 ghost use Rattle.and_model.specs.Words.{HasWord, word_of};
 ghost use Rattle.and_model.specs.declared.reference.Ref.{Ref};
 ghost use Rattle.and_cells.specs.Numbers.{number_of, high_half, low_half};
 ghost use Rattle.and_cells.specs.Ranges.{IsInRange, IsPairInRange, CanHold};
 ghost use Rattle.and_store_laws.specs.Steps.{KnowsWritten};
-ghost use Rattle.and_store.specs.Calls.{Sees, LooksAt, SetsCell, Wins, FillsWord, WritesPair, ReadsPair, TakesFrame, GetsNone, Fails, FindsFailed};
+ghost use Rattle.and_store.specs.Calls.{Sees, LooksAt, SetsCell, Wins, FillsWord, WritesPair, ReadsPair, TakesFrame};
+ghost use Rattle.and_store.specs.Calls.{GetsNone, Fails, FindsFailed};
 
 use crate::pass::Pass;
 use crate::steps::FIRST_WAITER;

@@ -1,6 +1,7 @@
 //! How a store is closed.
 
-ghost use Rattle.std.specs.Prelude.{◌≡◌, ◌≢◌, ◌<◌, ◌≤◌, ◌-◌, ◌⊎◌, ◌∷◌, [], ℕ, length, take, slice_index, vec_capacity, All, IfOk, IfErr};
+ghost use Rattle.std.specs.Prelude.{◌≡◌, ◌≢◌, ◌<◌, ◌≤◌, ◌-◌, ◌⊎◌, ◌∷◌, [], ℕ, length, take, slice_index, vec_capacity};
+ghost use Rattle.std.specs.Prelude.{All, IfOk, IfErr};
 ghost use Rattle.std.specs.Slots.{slots_items, slots_len, IsFull};
 ghost use Rattle.and_store.specs.Ended.{Closes, IsGathered, LastEnds, journal_in, passes_of};
 ghost use Rattle.and_store.specs.Left.{LeavesGoals};
@@ -76,7 +77,8 @@ fn row_end(table: &Ended<(), Global>, least: u32, words: u32) -> u32
     requires full { IsFull table.now.words }
     ensures within { (least ≤ result) × (result ≤ words) }
     ensures free { (place : ℕ) → result ≤ place → place < words → slice_index (slots_items table.now.words) place ≡ 0 }
-    ensures no_longer { (result ≡ least) ⊎ ((0 < result) × (slice_index (slots_items table.now.words) (result - 1) ≢ 0)) }
+    ensures no_longer { (result ≡ least)
+        ⊎ ((0 < result) × (slice_index (slots_items table.now.words) (result - 1) ≢ 0)) }
 {
     let mut end = words;
     while end > least && table.word(end as usize - 1) == 0 {
@@ -122,7 +124,8 @@ impl<N: Naming> Store<N> {
         requires store { All (λ p. p.store ≡ self) passes }
         requires all { length passes ≡ self.about.seats }
         ensures ok { IfOk result (λ closed.
-            Closes N.program self.about (passes_of passes) closed.cells closed.failed (journal_in closed.last.value.views)) }
+            Closes N.program self.about (passes_of passes) closed.cells closed.failed
+            (journal_in closed.last.value.views)) }
         ensures waiting { IfOk result (λ closed. LeavesGoals N.program self.about passes closed.waiting.items) }
         ensures refused { IfErr result (λ back. (back.0 ≡ self) × (back.1 ≡ passes)) }
     {

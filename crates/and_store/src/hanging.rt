@@ -1,11 +1,10 @@
 //! The calls by which goals wait for cells.
 
 ghost use Rattle.std.specs.Prelude.{◌≡◌, ◌≢◌, ◌<◌, ◌≤◌, ◌+◌, ◌*◌, ◌^◌, [], ◌∷◌, ℕ, length, IfSome, IfNone};
-ghost use Rattle.and_model.specs.Store.{closed, occupied};
 ghost use Rattle.and_model.specs.declared.goal.Goal.{Goal};
 ghost use Rattle.and_model.specs.declared.reference.Ref.{Ref};
 ghost use Rattle.and_cells.specs.Ranges.{IsGoalInRange};
-ghost use Rattle.and_store.specs.Calls.{HangsGoal, MissesPlace, FindsSet, HandsOut};
+ghost use Rattle.and_store.specs.Calls.{HangsGoal, FindsWaiter, FindsSet, HandsOut};
 ghost use Rattle.and_store.specs.Kept.{UpperIs, LowerIs};
 
 use crate::pass::Pass;
@@ -81,7 +80,7 @@ impl<N: Naming> Store<N> {
             → (back ≡ goal) × (pass.new.pass ≡ pass.old.pass) × (length pass.old.pass.hung ≡ self.now.about.waiters) }
         ensures occupied { (back : Goal) → result ≡ Hung.Occupied back
             → (back ≡ goal) × (length pass.old.pass.hung < self.now.about.waiters)
-            × ((waiter : ℕ) × MissesPlace cell (occupied waiter) pass.old.pass pass.new.pass) }
+            × FindsWaiter cell pass.old.pass pass.new.pass }
         ensures bound { (to : Ref) (back : Goal) → result ≡ Hung.Bound to back
             → (back ≡ goal) × (length pass.old.pass.hung < self.now.about.waiters)
             × FindsSet N.program self.now.about cell to pass.old.pass pass.new.pass }

@@ -1,8 +1,10 @@
 //! The goals that still hang, or whose waiters are kept, when a store is closed.
 
-ghost use Rattle.std.specs.Prelude.{◌≡◌, ◌<◌, ◌≤◌, ◌+◌, ◌*◌, ◌++◌, ◌∷◌, [], ℕ, List, map, length, All, IfOk, OnOk, slice_index_or, vec_capacity, false};
+ghost use Rattle.std.specs.Prelude.{◌≡◌, ◌<◌, ◌≤◌, ◌+◌, ◌*◌, ◌++◌, ◌∷◌, [], ℕ, List, map, length, All, IfOk, OnOk};
+ghost use Rattle.std.specs.Prelude.{slice_index_or, vec_capacity, false};
 ghost use Rattle.std.specs.Slots.{slots_items, slots_len, IsFull};
-ghost use Rattle.and_store.specs.Left.{is_among, either_one, handed_out, left_numbers, left_waiters, waiters_hung, numbered, goal_at};
+ghost use Rattle.and_store.specs.Left.{is_among, either_one, handed_out, left_numbers, left_waiters, waiters_hung};
+ghost use Rattle.and_store.specs.Left.{numbered, goal_at};
 ghost use Rattle.and_store.specs.Passes.{numbers_from};
 
 use crate::hanging::goal_of_words;
@@ -51,7 +53,8 @@ impl<N: Naming> Store<N> {
         requires long { length marks.old ≡ self.now.about.seats * self.now.about.waiters }
         requires none { (w : ℕ) → slice_index_or marks.old w false ≡ false }
         ensures len { length marks.new ≡ length marks.old }
-        ensures marked { (w : ℕ) → w < length marks.old → slice_index_or marks.new w false ≡ is_among w (handed_out passes.now) }
+        ensures marked { (w : ℕ) → w < length marks.old
+            → slice_index_or marks.new w false ≡ is_among w (handed_out passes.now) }
     {
         let passes = passes.passes.as_slice();
         for i in 0..passes.len() {
@@ -70,8 +73,10 @@ impl<N: Naming> Store<N> {
     ) -> Result<(), AllocError>
         requires store { pass.now.store ≡ self.now }
         requires long { length marks.now ≡ self.now.about.seats * self.now.about.waiters }
-        ensures below { All (λ w. w < self.now.about.seats * self.now.about.waiters) (waiters_hung (numbered number (pass.now ∷ []))) }
-        ensures pushed { OnOk result (left.new.items ≡ left.old.items ++ left_numbers marks.now (waiters_hung (numbered number (pass.now ∷ [])))) }
+        ensures below { All (λ w. w < self.now.about.seats * self.now.about.waiters)
+            (waiters_hung (numbered number (pass.now ∷ []))) }
+        ensures pushed { OnOk result (left.new.items
+            ≡ left.old.items ++ left_numbers marks.now (waiters_hung (numbered number (pass.now ∷ [])))) }
     {
         let own = pass.number;
         if own != number {
@@ -90,8 +95,10 @@ impl<N: Naming> Store<N> {
     ) -> Result<(), AllocError>
         requires store { All (λ p. p.store ≡ self.now) passes.now }
         requires long { length marks.now ≡ self.now.about.seats * self.now.about.waiters }
-        ensures below { OnOk result (All (λ w. w < self.now.about.seats * self.now.about.waiters) (waiters_hung (numbered number passes.now))) }
-        ensures pushed { OnOk result (left.new.items ≡ left.old.items ++ left_numbers marks.now (waiters_hung (numbered number passes.now))) }
+        ensures below { OnOk result
+            (All (λ w. w < self.now.about.seats * self.now.about.waiters) (waiters_hung (numbered number passes.now))) }
+        ensures pushed { OnOk result (left.new.items
+            ≡ left.old.items ++ left_numbers marks.now (waiters_hung (numbered number passes.now))) }
     {
         let passes = passes.passes.as_slice();
         for i in 0..passes.len() {

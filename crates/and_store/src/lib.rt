@@ -11,11 +11,11 @@ mod plays;
 mod rule;
 mod steps;
 mod store;
+mod store_cells;
 mod view;
-mod worker;
 
 pub use closing::Closed;
 pub use hanging::Hung;
 pub use pass::{Pass, PassList};
 pub use store::Store;
-pub use worker::{Worker, a_used_worker_grew};
+pub use store_cells::{StoreCells, a_used_worker_grew};

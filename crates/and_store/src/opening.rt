@@ -1,6 +1,7 @@
 //! How a store is opened.
 
-ghost use Rattle.std.specs.Prelude.{◌≡◌, ◌<◌, ◌≤◌, ◌+◌, ◌-◌, ◌*◌, ◌^◌, ◌++◌, ◌∷◌, [], ℕ, map, length, replicate, All, IsOk, IfOk, OnOk};
+ghost use Rattle.std.specs.Prelude.{◌≡◌, ◌<◌, ◌≤◌, ◌+◌, ◌-◌, ◌*◌, ◌^◌, ◌++◌, ◌∷◌, [], ℕ, map, length, replicate, All};
+ghost use Rattle.std.specs.Prelude.{IsOk, IfOk, OnOk};
 ghost use Rattle.and_model.specs.Words.{HasWord, word_of};
 ghost use Rattle.and_cells.specs.Rows.{IsSound};
 ghost use Rattle.and_model.specs.declared.limits.TheConstants.{MAX_LIMIT};
@@ -93,7 +94,8 @@ impl<N: Naming> Store<N> {
         requires words { (length cells.now ≤ words) × (words ≤ MAX_LIMIT) }
         requires seats { (0 < seats) × (seats ≤ 64) }
         requires waiters { waiters ≤ 4096 }
-        ensures about { IfOk result (λ r. r.0.about ≡ record { first = cells.now; words = words; seats = seats; waiters = waiters }) }
+        ensures about { IfOk result (λ r. r.0.about
+            ≡ record { first = cells.now; words = words; seats = seats; waiters = waiters }) }
         ensures passes { IfOk result (λ r. r.1 ≡ fresh_from r.0 0 seats) }
     {
         let row = first_words(alloc, cells, words, seats, waiters)?;

@@ -6,7 +6,8 @@ ghost use Rattle.and_model.specs.declared.reference.Ref.{Ref};
 ghost use Rattle.and_model.specs.declared.goal.Goal.{Goal};
 ghost use Rattle.and_store.specs.Kept.{UpperIs, LowerIs};
 ghost use Rattle.and_store.specs.Sight.{one_more, newcomer, taken_in, spent};
-ghost use Rattle.and_store.specs.Told.{LookTold, BindTold, TakeTold, FrameTold, FailTold, FailedTold, NoteTold, HangTold, GoalTold};
+ghost use Rattle.and_store.specs.Told.{LookTold, BindTold, TakeTold, FrameTold, FailTold, FailedTold, NoteTold};
+ghost use Rattle.and_store.specs.Told.{HangTold, GoalTold};
 
 use crate::view::View;
 use and_cells::Naming;
@@ -29,7 +30,8 @@ pub struct SetsCell<N: Naming> {
 
 impl<N: Naming> Play<(), View> for SetsCell<N> {
     ghost then = { λ step v found w.
-        ((to : Ref) → HasWord to → word_of to ≡ step.second → BindTold N.program step.word to v.0 found w.0) × (w.1 ≡ []) };
+        ((to : Ref) → HasWord to → word_of to ≡ step.second → BindTold N.program step.word to v.0 found w.0)
+        × (w.1 ≡ []) };
 }
 
 /// The place of a cell becomes closed.

@@ -7,7 +7,8 @@ ghost use Rattle.and_store_laws.specs.Steps.{next_waiter};
 ghost use Rattle.and_store.specs.Kept.{UpperIs, LowerIs};
 ghost use Rattle.and_store.specs.Passes.{CanSet, size_of};
 ghost use Rattle.and_store.specs.Sight.{opening_of};
-ghost use Rattle.and_store.specs.Told.{mine_of, IsAlone, LookTold, BindTold, TakeTold, FrameTold, FailTold, FailedTold, NoteTold, HangTold, GoalTold};
+ghost use Rattle.and_store.specs.Told.{mine_of, IsAlone, LookTold, BindTold, TakeTold, FrameTold, FailTold};
+ghost use Rattle.and_store.specs.Told.{FailedTold, NoteTold, HangTold, GoalTold};
 
 use crate::plays::{
     ClosesPlace, HangsWaiter, LooksAtCell, LooksAtFail, LooksAtGoal, NotesWord, RaisesFail,
@@ -163,7 +164,8 @@ impl<N: Naming> Store<N> {
         requires about { seat.old.me.0.about ≡ self.now.about }
         requires waiter { waiter < self.now.about.seats * self.now.about.waiters }
         ensures same { seat.new.table_id ≡ seat.old.table_id }
-        ensures told { GoalTold N.program (2 * waiter + cond is_lower 1 0) seat.old.me.0 result seat.new.me.0 × (seat.new.me.1 ≡ []) }
+        ensures told { GoalTold N.program (2 * waiter + cond is_lower 1 0) seat.old.me.0 result seat.new.me.0
+            × (seat.new.me.1 ≡ []) }
     {
         let place = self.goal_place(waiter, is_lower);
         self.table.shared.load::<LooksAtGoal<N>>(seat, place)
@@ -191,7 +193,8 @@ impl<N: Naming> Store<N> {
 
     /// Where the mark is; the fail word is the next one, and the last.
     pub(crate) fn mark_place(&self) -> usize
-        ensures value { result ≡ self.now.about.words + (self.now.about.words + 2 * (self.now.about.seats * self.now.about.waiters)) }
+        ensures value { result ≡ self.now.about.words
+            + (self.now.about.words + 2 * (self.now.about.seats * self.now.about.waiters)) }
         ensures size { self.now.table.words ≡ result + 2 }
         ensures fits { result < 2 ^ 32 }
     {

@@ -30,11 +30,11 @@ use Rattle.and_branch_laws.proofs.Growing.{body_is_own, head_is_own}
 use Rattle.and_branch_laws.proofs.Owning.{ItemSpeaksOf, item_speaks}
 use Rattle.and_branch_laws.proofs.Lists.{all_of}
 use Rattle.and_branch_laws.proofs.PairEquations.{IsWholeIn, part_cells, nodes_ask}
-use Rattle.and_determinacy.proofs.TriedClauses.{part_in_range, part_written}
+use Rattle.and_guards.proofs.Resolved.{part_in_range, part_written}
 use Rattle.and_unify.specs.Pairs.{AreInRange, AreWritten, NameNoHalf, equations_of_pairs}
 use Rattle.and_unify.specs.declared.pairs.Pair.{Pair}
 use Rattle.and_workers.specs.Asking.{nodes_pair, call_pair, item_pairs, HasSides, is_fail, has_fail}
-use Rattle.and_workers.specs.Handed.{IsWholeFrame}
+use Rattle.and_handed.specs.Handed.{IsWholeFrame}
 use Rattle.and_workers.specs.Items.{IsItemOver}
 
 -- ---- Item by item

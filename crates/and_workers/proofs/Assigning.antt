@@ -1,5 +1,6 @@
 -- A number that an `is` goal asks for was written, and is to be made one with the left side.
-use Rattle.std.proofs.Common.{ℕ, ℤ, suc, ◌≡◌, ◌<◌, ◌&&◌, inl, inr, Bool, true, false, List, [], ◌∷◌, ◌++◌, append-nil, length, Some, sym, ap, subst, ◌∙◌, All, Contains}
+use Rattle.std.proofs.Common.{ℕ, ℤ, suc, ◌≡◌, ◌<◌, ◌&&◌, inl, inr, Bool, true, false, List, [], ◌∷◌, ◌++◌, append-nil, length, Some, sym, ap, subst, ◌∙◌, All}
+use Rattle.std.proofs.Common.{Contains}
 use Rattle.std.proofs.lemmas.List.Elements.{All-nil, All-cons, Contains-append_cases}
 use Rattle.and_model.specs.Arithmetic.{value}
 use Rattle.and_model.specs.Closure.{added, equals}
@@ -19,7 +20,7 @@ use Rattle.and_cells.specs.Ranges.{NamedProgram, IsInRange, IsPairInRange}
 use Rattle.and_cells.specs.Seen.{Knows, IsKnownWritten, IsWrittenIfNumber}
 use Rattle.and_unify.specs.declared.pairs.Pair.{Pair}
 use Rattle.and_unify.specs.Pairs.{NameNoHalf, AreInRange, AreWritten, equations_of_pairs}
-use Rattle.and_determinacy.proofs.TriedClauses as tried
+use Rattle.and_guards.proofs.Resolved as tried
 use Rattle.and_branch_laws.specs.Kept.{item_at}
 use Rattle.and_branch_laws.specs.OwnVariables.{IsLoaded, IsOwn}
 use Rattle.and_branch_laws.specs.Variables.{placed}
@@ -31,11 +32,11 @@ use Rattle.and_store.specs.Passes.{PassSeen}
 use Rattle.and_store.specs.Worked.{seen_by}
 use Rattle.and_store_laws.proofs.Lists.{all_of, contains_none}
 use Rattle.and_workers.specs.AtWork.{IsAtWork}
-use Rattle.and_workers.specs.Handed.{HasAll, SolvesAll, HasTerms, SolvesRun, FitsSeen, IsWholeFrame, arithmetic_at}
+use Rattle.and_handed.specs.Handed.{HasAll, SolvesAll, HasTerms, SolvesRun, FitsSeen, IsWholeFrame, arithmetic_at}
 use Rattle.and_workers.specs.Items.{IsItemOver}
 use Rattle.and_workers.specs.Running.{MayRun, NotesRun, HasNumber}
-use Rattle.and_workers.specs.declared.told.Ran.{Ran}
-use Rattle.and_workers.specs.declared.told.Told.{Told}
+use Rattle.and_handed.specs.declared.told.Ran.{Ran}
+use Rattle.and_handed.specs.declared.told.Told.{Told}
 use Rattle.and_workers.proofs.Runs.{solves_run, noting, noting_is, is_there, was_run, work_noted}
 use Rattle.and_workers.proofs.Values.{KnowsSeen, words_have_known}
 

@@ -13,8 +13,8 @@ use Rattle.and_store_laws.specs.Steps.{entry}
 use Rattle.and_workers.specs.AtWork.{IsAtWork, IsTurned, GoesOn, IsStopped}
 use Rattle.and_workers.specs.declared.worker.Turn.{Turn}
 use Rattle.and_workers.specs.declared.worker.Turn.TheVariants.{Worked, Idle, Over}
-use Rattle.and_workers.specs.Handed.{settings_from, HandsOn, EndsBy, HasDone, PairsLeft, IsSole, WasRun, frame_of}
-use Rattle.and_workers.specs.declared.told.Told.{Told}
+use Rattle.and_handed.specs.Handed.{settings_from, HandsOn, EndsBy, HasDone, PairsLeft, IsSole, WasRun, frame_of}
+use Rattle.and_handed.specs.declared.told.Told.{Told}
 
 -- A worker at work with no pair to do beside those put off hands on what it did.
 pub work_is_handed_on : (P : NamedProgram) (told : Told) (waiting : List Waiting) (p : PassSeen) → IsAtWork P told [] waiting p → HandsOn P told p

@@ -20,12 +20,12 @@ use Rattle.and_suspend.specs.Waiting.{Waiting}
 use Rattle.and_store.specs.Passes.{PassSeen}
 use Rattle.and_store.specs.Worked.{seen_by}
 use Rattle.and_workers.specs.AtWork.{IsAtWork}
-use Rattle.and_workers.specs.Handed.{HasAll, SolvesAll, HasTerms, HasActed, Kills}
+use Rattle.and_handed.specs.Handed.{HasAll, SolvesAll, HasTerms, HasActed, Kills}
 use Rattle.and_workers.specs.Items.{IsItemOver}
 use Rattle.and_workers.specs.Running.{MayRun, NotesRun, IsDecided}
-use Rattle.and_workers.specs.declared.told.Cause.TheVariants.{NoSolution}
-use Rattle.and_workers.specs.declared.told.Ran.{Ran}
-use Rattle.and_workers.specs.declared.told.Told.{Told}
+use Rattle.and_handed.specs.declared.told.Cause.TheVariants.{NoSolution}
+use Rattle.and_handed.specs.declared.told.Ran.{Ran}
+use Rattle.and_handed.specs.declared.told.Told.{Told}
 use Rattle.and_workers.proofs.Runs.{solves_run, noting_is, is_there, by_now, was_run, acted_noted, work_noted}
 
 -- what holds where a result is no error holds of one that is none

@@ -4,17 +4,17 @@ use Rattle.std.proofs.lemmas.List.{append_assoc}
 use Rattle.std.proofs.lemmas.List.Elements.{All-weaker, Contains-append_cases}
 use Rattle.and_model.specs.Store.{JournalEntry, Pass, sets, fails}
 use Rattle.and_cells.specs.Ranges.{NamedProgram}
-use Rattle.and_selection.specs.Selecting.{CanBeTried, AreLeft}
+use Rattle.and_shared_determinacy.specs.Selecting.{CanBeTried, AreLeft}
 use Rattle.and_store.specs.Calls.{Fails}
 use Rattle.and_store.specs.Passes.{PassSeen}
 use Rattle.and_store.specs.Worked.{seen_by}
 use Rattle.and_store_laws.proofs.Lists.{contains_cases, contains_none}
 use Rattle.and_store_laws.specs.Steps.{entry}
-use Rattle.and_workers.specs.Handed.{HasActed, HandsOn, Kills, FitsSeen, SolvesAsked, WasRun}
-use Rattle.and_workers.specs.declared.told.Cause.{Cause}
-use Rattle.and_workers.specs.declared.told.Cause.TheVariants.{NoCandidate, NoSolution}
-use Rattle.and_workers.specs.declared.told.Told.{Told}
-use Rattle.and_workers.specs.declared.told.Ran.{Ran}
+use Rattle.and_handed.specs.Handed.{HasActed, HandsOn, Kills, FitsSeen, SolvesAsked, WasRun}
+use Rattle.and_handed.specs.declared.told.Cause.{Cause}
+use Rattle.and_handed.specs.declared.told.Cause.TheVariants.{NoCandidate, NoSolution}
+use Rattle.and_handed.specs.declared.told.Told.{Told}
+use Rattle.and_handed.specs.declared.told.Ran.{Ran}
 use Rattle.and_workers.proofs.Quiet.{SawOnly, saw_acted, saw_none, hanging_sets_halves}
 use Rattle.and_workers.proofs.Learning.{others_hang}
 

@@ -19,7 +19,7 @@ use Rattle.and_store_laws.proofs.Journal.{made_by, entries_of}
 use Rattle.and_store_laws.proofs.Lists.{contains_first, contains_cases, contains_none, contains_map, map_contains, all_back}
 use Rattle.and_store_laws.specs.Steps.{entry, setting, knows_place}
 use Rattle.and_workers.proofs.Quiet.{HangOnly, Learns, OnlyLearnt, all_set_more}
-use Rattle.and_workers.specs.Handed.{settings_from}
+use Rattle.and_handed.specs.Handed.{settings_from}
 
 -- ---- Entries
 

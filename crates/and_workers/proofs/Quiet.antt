@@ -20,11 +20,12 @@ use Rattle.and_store_laws.proofs.Journal.{made_settings}
 use Rattle.and_store_laws.proofs.Lists.{contains_there}
 use Rattle.and_store_laws.specs.Steps.{entry, setting}
 use Rattle.and_workers.specs.AtWork.{IsAtWork}
-use Rattle.and_workers.specs.Handed.{settings_from, HasAll, SolvesAll, SolvesAsked, FitsSeen, IsSole, WasRun, SettingsFollow, PairsLeft, HasActed, HasDone, Kills, frame_of}
-use Rattle.and_workers.specs.declared.told.Cause.TheVariants.{NoSolution}
-use Rattle.and_workers.specs.declared.told.Reduced.{Reduced}
-use Rattle.and_workers.specs.declared.told.Ran.{Ran}
-use Rattle.and_workers.specs.declared.told.Told.{Told}
+use Rattle.and_handed.specs.Handed.{settings_from, HasAll, SolvesAll, SolvesAsked, FitsSeen, IsSole, WasRun, SettingsFollow, PairsLeft, HasActed, HasDone}
+use Rattle.and_handed.specs.Handed.{Kills, frame_of}
+use Rattle.and_handed.specs.declared.told.Cause.TheVariants.{NoSolution}
+use Rattle.and_handed.specs.declared.told.Reduced.{Reduced}
+use Rattle.and_handed.specs.declared.told.Ran.{Ran}
+use Rattle.and_handed.specs.declared.told.Told.{Told}
 
 -- of these entries those of the pass with this number hung goals
 abbrev pub HangOnly : (number : ℕ) → List JournalEntry → Type 0

@@ -25,7 +25,7 @@ use Rattle.and_branch_laws.specs.Reducing.{reduction_in_cells}
 use Rattle.and_cells.specs.Ranges.{NamedProgram, IsInRange}
 use Rattle.and_cells.specs.Seen.{Seen, IsWrittenIfNumber}
 use Rattle.and_cells.specs.Meaning.{Words}
-use Rattle.and_selection.specs.Selecting.{CanBeTried, AreLeft}
+use Rattle.and_shared_determinacy.specs.Selecting.{CanBeTried, AreLeft}
 use Rattle.and_suspend.specs.Waiting.{Waiting}
 use Rattle.and_unify.specs.declared.pairs.Pair.{Pair}
 use Rattle.and_unify.specs.Pairs.{equations_of_pairs, NameNoHalf}
@@ -37,12 +37,12 @@ use Rattle.and_store_laws.specs.Steps.{entry}
 use Rattle.and_workers.specs.Asking.{Notes, call_pair, item_pairs, has_fail}
 use Rattle.and_workers.specs.AtWork.{IsAtWork}
 use Rattle.and_workers.specs.Items.{IsItemOver}
-use Rattle.and_workers.specs.Handed.{SolvesAsked, IsKnownRun, FitsSeen, IsWholeFrame, asked_by, frame_of}
-use Rattle.and_workers.specs.Handed.{IsSole, WasRun, PairsLeft, HasActed, HasDone, Kills}
-use Rattle.and_workers.specs.declared.told.Cause.TheVariants.{NoSolution}
-use Rattle.and_workers.specs.declared.told.Reduced.{Reduced}
-use Rattle.and_workers.specs.declared.told.Ran.{Ran}
-use Rattle.and_workers.specs.declared.told.Told.{Told}
+use Rattle.and_handed.specs.Handed.{SolvesAsked, IsKnownRun, FitsSeen, IsWholeFrame, asked_by, frame_of}
+use Rattle.and_handed.specs.Handed.{IsSole, WasRun, PairsLeft, HasActed, HasDone, Kills}
+use Rattle.and_handed.specs.declared.told.Cause.TheVariants.{NoSolution}
+use Rattle.and_handed.specs.declared.told.Reduced.{Reduced}
+use Rattle.and_handed.specs.declared.told.Ran.{Ran}
+use Rattle.and_handed.specs.declared.told.Told.{Told}
 use Rattle.and_workers.proofs.Asked.{Asks, reduction_asked, failing_reduction}
 use Rattle.and_workers.proofs.Learning.{others_hang, fits_same}
 use Rattle.and_workers.proofs.Quiet.{SawOnly, SetHalves, saw_done, front_is_short, all_set_more, hanging_sets_halves}
@@ -306,7 +306,8 @@ module _ (P : NamedProgram) (loaded : IsLoaded P) (told now : Told) (goal : Goal
       → Asks P p.store.about.words AreWhole its_pairs (reduction_in_cells P.program goal clause.0 floor)
   its_asks none =
       let within = takes.within in
-      reduction_asked P loaded p.store.about.words goal n over_pass (goal_clause_there P loaded p.store.about.words goal over_pass.in_range) clause.0 floor there
+      reduction_asked P loaded p.store.about.words goal n over_pass (goal_clause_there P loaded p.store.about.words goal over_pass.in_range)
+      clause.0 floor there
       (omega arith) (omega arith) none
 
   pub reduced_at_work : has_fail (nodes_at P.skeleton clause.0).items ≡ false → IsAtWork P now its_pairs waiting q

@@ -1,7 +1,8 @@
 -- A worker notes that arithmetic was run, and goes on with what this asks.
 use Rattle.std.proofs.Common.{ℕ, ◌≡◌, ◌<◌, ◌≤◌, inl, inr, List, [], ◌∷◌, ◌++◌, append-nil, length, sym, ap, subst, ◌∙◌, arith, All, Contains}
 use Rattle.std.proofs.lemmas.List.Concat.{flat_map-append}
-use Rattle.std.proofs.lemmas.List.Elements.{All-nil, All-cons, All-weaker, All-append, All-contains, Contains-append_left, Contains-append_right, Contains-append_cases}
+use Rattle.std.proofs.lemmas.List.Elements.{All-nil, All-cons, All-weaker, All-append, All-contains, Contains-append_left, Contains-append_right}
+use Rattle.std.proofs.lemmas.List.Elements.{Contains-append_cases}
 use Rattle.and_model.specs.Closure.{added, needs}
 use Rattle.and_model.specs.Programs.{Arithmetic, arithmetic}
 use Rattle.and_model.specs.Solutions.{Solves}
@@ -22,10 +23,11 @@ use Rattle.and_store.specs.Worked.{seen_by}
 use Rattle.and_store_laws.proofs.Lists.{contains_first, contains_cases, contains_none, contains_there}
 use Rattle.and_store_laws.specs.Steps.{entry}
 use Rattle.and_workers.specs.AtWork.{IsAtWork}
-use Rattle.and_workers.specs.Handed.{HasAll, SolvesAll, HasTerms, IsKnownRun, SolvesRun, SolvesAsked, FitsSeen, IsSole, WasRun, PairsLeft, HasActed, frame_of, arithmetic_at}
+use Rattle.and_handed.specs.Handed.{HasAll, SolvesAll, HasTerms, IsKnownRun, SolvesRun, SolvesAsked, FitsSeen, IsSole, WasRun, PairsLeft, HasActed, frame_of}
+use Rattle.and_handed.specs.Handed.{arithmetic_at}
 use Rattle.and_workers.specs.Running.{MayRun, NotesRun}
-use Rattle.and_workers.specs.declared.told.Ran.{Ran}
-use Rattle.and_workers.specs.declared.told.Told.{Told}
+use Rattle.and_handed.specs.declared.told.Ran.{Ran}
+use Rattle.and_handed.specs.declared.told.Told.{Told}
 
 -- ---- What a run asks is told by any terms that are known
 

@@ -26,10 +26,10 @@ use Rattle.and_store.specs.Worked.{IsUsed, seen_by}
 use Rattle.and_store_laws.proofs.Lists.{map_contains}
 use Rattle.and_store_laws.specs.Steps.{entry, setting}
 use Rattle.and_workers.specs.AtWork.{IsAtWork}
-use Rattle.and_workers.specs.Handed.{settings_from, HasAll, SolvesAll, SolvesAsked, FitsSeen, IsSole, WasRun, SettingsFollow, HasDone, Kills}
-use Rattle.and_workers.specs.declared.told.Cause.TheVariants.{NoSolution}
-use Rattle.and_workers.specs.declared.told.Told.{Told}
-use Rattle.and_workers.specs.declared.told.Ran.{Ran}
+use Rattle.and_handed.specs.Handed.{settings_from, HasAll, SolvesAll, SolvesAsked, FitsSeen, IsSole, WasRun, SettingsFollow, HasDone, Kills}
+use Rattle.and_handed.specs.declared.told.Cause.TheVariants.{NoSolution}
+use Rattle.and_handed.specs.declared.told.Told.{Told}
+use Rattle.and_handed.specs.declared.told.Ran.{Ran}
 use Rattle.and_workers.proofs.Quiet.{later, solves_less, asked_less, front_is_short, fits_before, sole_later, run_later, pairs_later}
 use Rattle.and_workers.proofs.Steps.{Works, AllStand, IsKnownAt, made_own, entry_splits, steps_work, fits_used}
 

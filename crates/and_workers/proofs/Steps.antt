@@ -16,7 +16,7 @@ use Rattle.std.proofs.lemmas.List.Elements.{Contains-append_right, Contains-appe
 use Rattle.std.proofs.lemmas.List.Concat.{flat_map-append}
 use Rattle.and_store_laws.proofs.Journal.{made_settings}
 use Rattle.and_store_laws.specs.Steps.{entry, setting}
-use Rattle.and_workers.specs.Handed.{settings_from}
+use Rattle.and_handed.specs.Handed.{settings_from}
 use Rattle.and_model.specs.Store.{settings_of, set_in}
 use Rattle.and_workers.proofs.Quiet.{Learns, all_set_more}
 use Rattle.and_workers.proofs.Learning.{looked_learns, none_own, fits_looked}

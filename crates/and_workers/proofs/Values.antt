@@ -25,7 +25,7 @@ use Rattle.and_store.specs.Passes.{PassSeen}
 use Rattle.and_store.specs.Worked.{seen_by}
 use Rattle.and_store_laws.proofs.Lists.{map_contains}
 use Rattle.and_store_laws.specs.Steps.{setting}
-use Rattle.and_workers.specs.Handed.{settings_from, HasAll, SolvesAll}
+use Rattle.and_handed.specs.Handed.{settings_from, HasAll, SolvesAll}
 use Rattle.and_workers.specs.Running.{HasNumber}
 use Rattle.and_workers.proofs.Quiet.{has_less, solves_less}
 

@@ -9,8 +9,8 @@ use Rattle.and_program.specs.Skeletons.{AllFall}
 use Rattle.and_cells.specs.Ranges.{NamedProgram, CanHold, IsInRange}
 use Rattle.and_cells.specs.Seen.{Seen, OnlyReads, LeadsTo}
 use Rattle.and_overlay.specs.Overlaid.{IsKnownFit}
-use Rattle.and_selection.specs.Selecting.{GoalWaitsOn}
-use Rattle.and_selection.proofs.Awaited.{argument_follows}
+use Rattle.and_shared_determinacy.specs.Selecting.{GoalWaitsOn}
+use Rattle.and_shared_determinacy.proofs.Awaited.{argument_follows}
 
 -- the only element of a list
 pub one_of : {X : Type 0} (xs : List X) (x : X) → length xs ≡ 1 → slice_get xs 0 ≡ Some x → xs ≡ x ∷ []

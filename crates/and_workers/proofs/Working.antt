@@ -14,7 +14,7 @@ use Rattle.and_store.specs.Calls.{HangsGoal, MissesPlace, FindsSet, FindsFailed,
 use Rattle.and_store.specs.Passes.{PassSeen, StoreId}
 use Rattle.and_store.specs.Worked.{IsUsed, seen_by}
 use Rattle.and_workers.specs.AtWork.{IsAtWork}
-use Rattle.and_workers.specs.declared.told.Told.{Told}
+use Rattle.and_handed.specs.declared.told.Told.{Told}
 use Rattle.and_workers.proofs.Quiet.{stays_at_work}
 use Rattle.and_workers.proofs.Learning.{reads_learnt, fits_same, fits_looked, hung_learns, missed_learns, set_found_learns, failed_learns, hands_learns}
 use Rattle.and_workers.proofs.Steps.{fits_used}

@@ -15,8 +15,8 @@ use Rattle.and_store.specs.Worked.{IsUsed, seen_by}
 use Rattle.and_store_laws.proofs.Lists.{contains_cases, contains_none, contains_there}
 use Rattle.and_store_laws.specs.Steps.{entry}
 use Rattle.and_workers.specs.AtWork.{IsAtWork}
-use Rattle.and_workers.specs.Handed.{settings_from}
-use Rattle.and_workers.specs.declared.told.Told.{Told}
+use Rattle.and_handed.specs.Handed.{settings_from}
+use Rattle.and_handed.specs.declared.told.Told.{Told}
 use Rattle.and_workers.proofs.Quiet.{SawOnly, saw_done}
 use Rattle.and_workers.proofs.Steps.{Works, made_own, steps_work, fits_used}
 

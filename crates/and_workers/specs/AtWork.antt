@@ -7,14 +7,15 @@ use Rattle.and_suspend.specs.Waiting.{Waiting}
 use Rattle.and_unify.specs.declared.pairs.Pair.{Pair}
 use Rattle.and_store.specs.Passes.{PassSeen}
 use Rattle.and_store.specs.Worked.{seen_by}
-use Rattle.and_workers.specs.Handed.{HasDone, HandsOn, settings_from}
-use Rattle.and_workers.specs.declared.told.Told.{Told}
+use Rattle.and_handed.specs.Handed.{HasDone, HandsOn, settings_from}
+use Rattle.and_handed.specs.declared.told.Told.{Told}
 use Rattle.and_workers.specs.declared.worker.Turn.{Turn}
 use Rattle.and_workers.specs.declared.worker.Turn.TheVariants.{Worked, Idle, Over}
 
--- IsAtWork P told todo waiting p: a worker that has called no `fail` keeps this of what it did, with these pairs still to do beside those that it
--- has put off, these goals waiting for cells, and this pass.
-pub record IsAtWork (P : NamedProgram) (told : Told) (todo : List Pair) (waiting : List Waiting) (p : PassSeen) : Type 0 where
+-- IsAtWork P told todo waiting p: a worker that has called no `fail` keeps this of what it did, with these pairs
+-- still to do beside those that it has put off, these goals waiting for cells, and this pass.
+pub record IsAtWork (P : NamedProgram) (told : Told) (todo : List Pair) (waiting : List Waiting)
+    (p : PassSeen) : Type 0 where
   pub done : HasDone P told (told.pairs ++ todo) p
   pub no_fail : p.pass.fails ≡ []
   -- All that its pass knows was set at the opening, or in what it has seen.

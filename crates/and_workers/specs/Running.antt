@@ -10,11 +10,11 @@ use Rattle.and_program.specs.Skeletons.{node_term}
 use Rattle.and_cells.specs.Meaning.{Words}
 use Rattle.and_cells.specs.Ranges.{NamedProgram}
 use Rattle.and_branch_laws.specs.Variables.{placed}
-use Rattle.and_workers.specs.Handed.{HasAll, SolvesAll}
+use Rattle.and_handed.specs.Handed.{HasAll, SolvesAll}
 use Rattle.and_store.specs.Passes.{PassSeen}
-use Rattle.and_workers.specs.declared.told.Reduced.{Reduced}
-use Rattle.and_workers.specs.declared.told.Ran.{Ran}
-use Rattle.and_workers.specs.declared.told.Told.{Told}
+use Rattle.and_handed.specs.declared.told.Reduced.{Reduced}
+use Rattle.and_handed.specs.declared.told.Ran.{Ran}
+use Rattle.and_handed.specs.declared.told.Told.{Told}
 
 -- One of these reductions took the frame at the base, for the clause.
 pub record HasMade (made : List Reduced) (base : ℕ) (clause : ClauseNo) : Type 0 where
@@ -28,7 +28,8 @@ abbrev pub MayRun : (opening : ℕ) → List Reduced → Goal → Type 0
 MayRun opening made goal = (goal.base < opening) ⊎ HasMade made goal.base goal.clause
 
 -- Where so much of the journal is seen, the node in the frame at the base stands for this ground term.
-pub record IsKnownTerm (P : NamedProgram) (first : List Ref) (journal : List JournalEntry) (base node : ℕ) (t : Term) : Type 0 where
+pub record IsKnownTerm (P : NamedProgram) (first : List Ref) (journal : List JournalEntry) (base node : ℕ)
+    (t : Term) : Type 0 where
   pub ground : is_ground t ≡ true
   pub term : (w : Words) → HasAll w first journal → (u : Substitution) → SolvesAll P w first journal u
       → apply u (placed base (node_term P.skeleton.nodes node)) ≡ t
@@ -38,7 +39,8 @@ abbrev pub HasNumber : NamedProgram → (first : List Ref) → List JournalEntry
 HasNumber P first journal base node z = (t : Term) × IsKnownTerm P first journal base node t × (value t ≡ Some z)
 
 -- Both sides of a comparison have values, and it holds of them or not.
-pub record IsDecided (P : NamedProgram) (first : List Ref) (journal : List JournalEntry) (base : ℕ) (relation : Relation) (left right : ℕ)
+pub record IsDecided (P : NamedProgram) (first : List Ref) (journal : List JournalEntry) (base : ℕ)
+    (relation : Relation) (left right : ℕ)
     (holds : Bool) : Type 0 where
   pub one : ℤ
   pub other : ℤ

@@ -66,7 +66,8 @@ fn ask_item(
 ) -> Result<bool, AllocError>
     requires item { HasSides (length (skeleton_of loaded.now).nodes) (node_item item) }
     requires floor { floor < 2 ^ 23 }
-    ensures asked { result ≡ Ok true → pairs.new ≡ pairs.old ++ item_pairs (named loaded.now) floor (node_item item ∷ []) }
+    ensures asked { result ≡ Ok true → pairs.new
+        ≡ pairs.old ++ item_pairs (named loaded.now) floor (node_item item ∷ []) }
     ensures none { result ≡ Ok true → is_fail (node_item item) ≡ false }
     ensures failing { result ≡ Ok false → is_fail (node_item item) ≡ true }
 {

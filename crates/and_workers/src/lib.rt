@@ -1,5 +1,5 @@
-//! Workers over one row of cells: each reduces calls that have one candidate and runs arithmetic whose terms are known, and hands
-//! on what it did.
+//! Workers over one row of cells: each reduces calls that have one candidate and runs arithmetic whose terms are
+//! known, and hands on what it did.
 #![tactic(auto)]
 
 mod asking;
@@ -7,8 +7,6 @@ mod calls;
 mod items;
 mod running;
 mod taking;
-mod told;
 mod worker;
 
-pub use told::{Cause, Ended, Ran, Reduced, Told};
 pub use worker::{Job, Shared, work};

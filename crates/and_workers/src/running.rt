@@ -7,25 +7,25 @@ ghost use Rattle.and_cells.specs.Ranges.{IsGoalInRange, IsNodeInRange};
 ghost use Rattle.and_program.specs.Skeletons;
 ghost use Rattle.and_program.specs.Items.{relation as relation_of};
 ghost use Rattle.and_cells.specs.Parts.{named};
-ghost use Rattle.and_determinacy.specs.Tables.{IsTableOf};
+ghost use Rattle.and_clause_index.specs.Tables.{IsTableOf};
 ghost use Rattle.and_workers.specs.AtWork.{IsAtWork, IsTurned};
 ghost use Rattle.and_workers.specs.Items.{IsItemOver};
 ghost use Rattle.and_workers.specs.Running.{HasMade, MayRun, HasNumber, NotesRun, IsDecided};
 
 use crate::calls::pass_now;
-use crate::told::{Cause, Ran};
 use crate::worker::{Reducer, Shared, Turn, Turned};
 use and_arith::{Valued, compare, value};
 use and_cells::{Cells, Naming};
 use and_gate::Gate;
+use and_handed::{Cause, Ran};
 use and_model::{ClauseNo, Goal, NodeNo, Ref, Relation};
-use and_store::Worker;
+use and_store::StoreCells;
 use std::alloc::AllocError;
 
 /// How many parts of an expression a worker looks at.
 const PARTS: u64 = 65_536;
 
-impl<'a, N: Naming> Reducer<Worker<'a, N>> {
+impl<'a, N: Naming> Reducer<StoreCells<'a, N>> {
     /// Whether this worker made the reduction whose frame begins at the base. Its frames rise.
     fn has_made(&self, base: u32, clause: ClauseNo) -> bool
         ensures { result ≡ true → HasMade self.now.told.made.items base clause }
@@ -58,7 +58,7 @@ impl<'a, N: Naming> Reducer<Worker<'a, N>> {
     fn value_of<G: Gate>(
         &mut self,
         shared: &Shared<'a, N, G>,
-        cells: &mut Worker<'a, N>,
+        cells: &mut StoreCells<'a, N>,
         node: NodeNo,
         base: u32,
     ) -> Valued
@@ -90,7 +90,7 @@ impl<'a, N: Naming> Reducer<Worker<'a, N>> {
     fn wait_for_value<G: Gate>(
         &mut self,
         shared: &Shared<'a, N, G>,
-        cells: Worker<'a, N>,
+        cells: StoreCells<'a, N>,
         goal: Goal,
         cell: u32,
     ) -> Turned<'a, N>
@@ -114,7 +114,7 @@ impl<'a, N: Naming> Reducer<Worker<'a, N>> {
     pub(crate) fn look_at_is<G: Gate>(
         &mut self,
         shared: &Shared<'a, N, G>,
-        cells: Worker<'a, N>,
+        cells: StoreCells<'a, N>,
         goal: Goal,
         left: NodeNo,
         right: NodeNo,
@@ -145,9 +145,9 @@ impl<'a, N: Naming> Reducer<Worker<'a, N>> {
     fn note_run<G: Gate>(
         &mut self,
         shared: &Shared<'a, N, G>,
-        cells: Worker<'a, N>,
+        cells: StoreCells<'a, N>,
         goal: Goal,
-    ) -> (Worker<'a, N>, Result<(), AllocError>)
+    ) -> (StoreCells<'a, N>, Result<(), AllocError>)
         requires store { cells.pass.store ≡ shared.now.store.now }
         ensures same { result.0.pass ≡ cells.entry.pass }
         ensures kept { self.new.suspended ≡ self.old.suspended }
@@ -164,7 +164,7 @@ impl<'a, N: Naming> Reducer<Worker<'a, N>> {
     fn assign<G: Gate>(
         &mut self,
         shared: &Shared<'a, N, G>,
-        cells: Worker<'a, N>,
+        cells: StoreCells<'a, N>,
         goal: Goal,
         left: NodeNo,
         right: NodeNo,
@@ -177,7 +177,8 @@ impl<'a, N: Naming> Reducer<Worker<'a, N>> {
         requires at_work { IsAtWork N.program self.old.told [] self.old.suspended cells.pass }
         requires may { MayRun shared.now.opening self.old.told.made.items goal }
         requires goal { IsItemOver N.program shared.now.words goal (Skeletons.is left.0 right.0 number) }
-        requires number { HasNumber N.program cells.pass.store.about.first cells.pass.pass.seen goal.base right.0 value }
+        requires number { HasNumber N.program cells.pass.store.about.first cells.pass.pass.seen
+            goal.base right.0 value }
         ensures store { result.0.pass.store ≡ cells.entry.pass.store }
         ensures turned { IsTurned N.program self.new.told self.new.suspended result.0.pass result.1 }
     {
@@ -205,7 +206,7 @@ impl<'a, N: Naming> Reducer<Worker<'a, N>> {
     fn compared<G: Gate>(
         &mut self,
         shared: &Shared<'a, N, G>,
-        cells: Worker<'a, N>,
+        cells: StoreCells<'a, N>,
         goal: Goal,
         relation: Relation,
         left: NodeNo,
@@ -216,8 +217,10 @@ impl<'a, N: Naming> Reducer<Worker<'a, N>> {
         requires store { cells.pass.store ≡ shared.now.store.now }
         requires at_work { IsAtWork N.program self.old.told [] self.old.suspended cells.pass }
         requires may { MayRun shared.now.opening self.old.told.made.items goal }
-        requires goal { IsItemOver N.program shared.now.words goal (Skeletons.compare (relation_of relation) left.0 right.0) }
-        requires decided { IsDecided N.program cells.pass.store.about.first cells.pass.pass.seen goal.base (relation_of relation) left.0 right.0 holds }
+        requires goal { IsItemOver N.program shared.now.words goal
+            (Skeletons.compare (relation_of relation) left.0 right.0) }
+        requires decided { IsDecided N.program cells.pass.store.about.first cells.pass.pass.seen goal.base
+            (relation_of relation) left.0 right.0 holds }
         ensures store { result.0.pass.store ≡ cells.entry.pass.store }
         ensures turned { IsTurned N.program self.new.told self.new.suspended result.0.pass result.1 }
     {
@@ -235,7 +238,7 @@ impl<'a, N: Naming> Reducer<Worker<'a, N>> {
     pub(crate) fn look_at_comparison<G: Gate>(
         &mut self,
         shared: &Shared<'a, N, G>,
-        cells: Worker<'a, N>,
+        cells: StoreCells<'a, N>,
         goal: Goal,
         relation: Relation,
         left: NodeNo,
@@ -245,7 +248,8 @@ impl<'a, N: Naming> Reducer<Worker<'a, N>> {
         requires table { IsTableOf N.program shared.now.table.now }
         requires store { cells.pass.store ≡ shared.now.store.now }
         requires at_work { IsAtWork N.program self.old.told [] self.old.suspended cells.pass }
-        requires goal { IsItemOver N.program shared.now.words goal (Skeletons.compare (relation_of relation) left.0 right.0) }
+        requires goal { IsItemOver N.program shared.now.words goal
+            (Skeletons.compare (relation_of relation) left.0 right.0) }
         ensures store { result.0.pass.store ≡ cells.entry.pass.store }
         ensures turned { IsTurned N.program self.new.told self.new.suspended result.0.pass result.1 }
     {
@@ -281,8 +285,10 @@ enum Compared {
 /// What a comparison comes to where this became of its sides.
 fn outcome(relation: Relation, first: Valued, second: Valued) -> Compared
     ensures made { (holds : Bool) → result ≡ Compared.Made holds
-        → (x : ℤ) × (y : ℤ) × (first ≡ Valued.Number x) × (second ≡ Valued.Number y) × (holds ≡ related (relation_of relation) x y) }
-    ensures waits { (cell : ℕ) → result ≡ Compared.Waits cell → (first ≡ Valued.Waits cell) ⊎ (second ≡ Valued.Waits cell) }
+        → (x : ℤ) × (y : ℤ) × (first ≡ Valued.Number x) × (second ≡ Valued.Number y)
+        × (holds ≡ related (relation_of relation) x y) }
+    ensures waits { (cell : ℕ) → result ≡ Compared.Waits cell
+        → (first ≡ Valued.Waits cell) ⊎ (second ≡ Valued.Waits cell) }
 {
     match first {
         Valued::Memory => Compared::Memory,

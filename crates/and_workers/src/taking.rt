@@ -4,29 +4,29 @@ ghost use Rattle.std.specs.Prelude.{◌≡◌, ◌<◌, ◌≤◌, ◌++◌, ◌
 ghost use Rattle.and_model.specs.Programs.{clause_at, clause_weight};
 ghost use Rattle.and_program.specs.Loaded.{nodes_at, program_of, skeleton_of};
 ghost use Rattle.and_program.specs.Skeletons;
-ghost use Rattle.and_selection.specs.Selecting.{CanBeTried, AreLeft};
+ghost use Rattle.and_shared_determinacy.specs.Selecting.{CanBeTried, AreLeft};
 ghost use Rattle.and_store.specs.Worked.{seen_by};
 ghost use Rattle.and_cells.specs.Meaning.{Words};
 ghost use Rattle.and_cells.specs.Parts.{named};
 ghost use Rattle.and_unify.specs.Pairs.{NameNoHalf};
-ghost use Rattle.and_determinacy.specs.Tables.{IsTableOf};
+ghost use Rattle.and_clause_index.specs.Tables.{IsTableOf};
 ghost use Rattle.and_workers.specs.AtWork.{IsAtWork, IsTurned};
 ghost use Rattle.and_workers.specs.Asking.{Notes, call_pair, item_pairs, has_fail};
-ghost use Rattle.and_workers.specs.Handed.{FitsSeen};
+ghost use Rattle.and_handed.specs.Handed.{FitsSeen};
 ghost use Rattle.and_workers.specs.Items.{IsItemOver};
 
 use crate::asking::{ask_call, ask_items};
 use crate::calls::take_frame;
 use crate::items::goal_in;
-use crate::told::{Cause, Reduced};
 use crate::worker::{Reducer, Shared, Turn, Turned};
 use and_cells::Naming;
 use and_gate::Gate;
+use and_handed::{Cause, Reduced};
 use and_model::limits::MAX_LIMIT;
 use and_model::{ClauseNo, Goal, NodeNo, Reduction};
 use and_program::{ItemNode, Loaded};
-use and_selection::{Selected, select, waits_on};
-use and_store::{Pass, Worker};
+use and_shared_determinacy::{Selected, select, waits_on};
+use and_store::{Pass, StoreCells};
 use and_unify::{PairList, Unified, unify};
 use std::alloc::AllocError;
 use std::snapshot::Snapshot;
@@ -48,12 +48,12 @@ pub(crate) fn add_pairs(all: &mut PairList, pairs: &PairList) -> Result<(), Allo
     Ok(())
 }
 
-impl<'a, N: Naming> Reducer<Worker<'a, N>> {
+impl<'a, N: Naming> Reducer<StoreCells<'a, N>> {
     /// Reduces a call, whose node is given, if it has one candidate alone.
     pub(crate) fn look_at_call<G: Gate>(
         &mut self,
         shared: &Shared<'a, N, G>,
-        cells: Worker<'a, N>,
+        cells: StoreCells<'a, N>,
         goal: Goal,
         node: NodeNo,
     ) -> Turned<'a, N>
@@ -97,7 +97,7 @@ impl<'a, N: Naming> Reducer<Worker<'a, N>> {
     fn wait_for_argument<G: Gate>(
         &mut self,
         shared: &Shared<'a, N, G>,
-        cells: Worker<'a, N>,
+        cells: StoreCells<'a, N>,
         goal: Goal,
     ) -> Turned<'a, N>
         requires program { N.program ≡ named shared.now.loaded.now }
@@ -120,7 +120,7 @@ impl<'a, N: Naming> Reducer<Worker<'a, N>> {
     fn reduce<G: Gate>(
         &mut self,
         shared: &Shared<'a, N, G>,
-        cells: Worker<'a, N>,
+        cells: StoreCells<'a, N>,
         goal: Goal,
         node: NodeNo,
         clause: ClauseNo,
@@ -197,13 +197,14 @@ impl<'a, N: Naming> Reducer<Worker<'a, N>> {
     pub(crate) fn solve<G: Gate>(
         &mut self,
         shared: &Shared<'a, N, G>,
-        cells: Worker<'a, N>,
+        cells: StoreCells<'a, N>,
     ) -> Turned<'a, N>
         requires program { N.program ≡ named shared.now.loaded.now }
         requires table { IsTableOf N.program shared.now.table.now }
         requires store { cells.pass.store ≡ shared.now.store.now }
         requires at_work { IsAtWork N.program self.old.told self.old.pairs self.old.suspended cells.pass }
-        requires whole { (w : Words) → FitsSeen N.program self.old.told cells.pass w → NameNoHalf N.program w self.old.pairs }
+        requires whole { (w : Words) → FitsSeen N.program self.old.told cells.pass w
+            → NameNoHalf N.program w self.old.pairs }
         ensures store { result.0.pass.store ≡ cells.entry.pass.store }
         ensures turned { IsTurned N.program self.new.told self.new.suspended result.0.pass result.1 }
     {

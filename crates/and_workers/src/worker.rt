@@ -4,25 +4,25 @@ ghost use Rattle.std.specs.Prelude.{◌≡◌, ◌<◌, ◌≤◌, ◌++◌, [],
 ghost use Rattle.and_model.specs.declared.limits.TheConstants.{MAX_LIMIT};
 ghost use Rattle.and_cells.specs.Parts.{named};
 ghost use Rattle.and_cells.specs.Ranges.{IsGoalInRange};
-ghost use Rattle.and_determinacy.specs.Tables.{IsTableOf};
+ghost use Rattle.and_clause_index.specs.Tables.{IsTableOf};
 ghost use Rattle.and_store.specs.Passes.{fresh};
 ghost use Rattle.and_workers.specs.AtWork.{IsAtWork, IsTurned, GoesOn, IsStopped};
 ghost use Rattle.and_workers.specs.declared.worker.Going.{Going};
-ghost use Rattle.and_workers.specs.Handed.{HandsOn, HasActed, Kills};
+ghost use Rattle.and_handed.specs.Handed.{HandsOn, HasActed, Kills};
 
 use crate::calls::{fail, hang, has_failed, woken};
 use crate::items::item_over;
-use crate::told::{Cause, Ended, Told};
 use and_arith::WorkList;
 use and_cells::{Cells, Naming};
-use and_determinacy::Determinacy;
+use and_clause_index::Determinacy;
 use and_gate::Gate;
 use and_goals::Hand;
+use and_handed::{Cause, Ended, Told};
 use and_model::{ClauseList, Goal};
 use and_overlay::Scratch;
 use and_program::{ItemNode, Loaded};
-use and_selection::Selector;
-use and_store::{Hung, Pass, Store, Worker};
+use and_shared_determinacy::Selector;
+use and_store::{Hung, Pass, Store, StoreCells};
 use and_suspend::Suspended;
 use and_unify::PairList;
 use std::alloc::{AllocError, Global};
@@ -80,7 +80,7 @@ pub(crate) enum Turn {
 }
 
 /// The cells after a turn, and what it came to. An error is want of memory.
-pub(crate) type Turned<'a, N> = (Worker<'a, N>, Result<Turn, AllocError>);
+pub(crate) type Turned<'a, N> = (StoreCells<'a, N>, Result<Turn, AllocError>);
 
 /// How many turns in a row a worker may find no goal, before it ends.
 const PATIENCE: u32 = 256;
@@ -95,7 +95,7 @@ pub fn work<'a, N: Naming, G: Gate>(shared: &Shared<'a, N, G>, job: Job) -> Ende
 {
     let Job { number, pass, hand } = job;
     let mut reducer = Reducer::new(shared.alloc, number, hand);
-    let cells = Worker::new(shared.store, pass);
+    let cells = StoreCells::new(shared.store, pass);
     let (cells, worked) = reducer.run(shared, cells);
     match worked {
         Ok(()) => Ended {
@@ -140,10 +140,11 @@ fn after_turn(turned: Result<Turn, AllocError>, idle: &mut u32) -> Going
     }
 }
 
-impl<'a, N: Naming> Reducer<Worker<'a, N>> {
+impl<'a, N: Naming> Reducer<StoreCells<'a, N>> {
     /// A worker that has done nothing yet. Takes no memory.
-    fn new(alloc: Global, number: u32, hand: Hand) -> Reducer<Worker<'a, N>>
-        ensures told { (result.told.made.items ≡ []) × (result.told.ran.items ≡ []) × (result.told.pairs ≡ []) × (result.told.cause ≡ None) }
+    fn new(alloc: Global, number: u32, hand: Hand) -> Reducer<StoreCells<'a, N>>
+        ensures told { (result.told.made.items ≡ []) × (result.told.ran.items ≡ []) × (result.told.pairs ≡ [])
+            × (result.told.cause ≡ None) }
         ensures suspended { result.suspended ≡ [] }
     {
         Reducer {
@@ -164,8 +165,8 @@ impl<'a, N: Naming> Reducer<Worker<'a, N>> {
     fn run<G: Gate>(
         &mut self,
         shared: &Shared<'a, N, G>,
-        cells: Worker<'a, N>,
-    ) -> (Worker<'a, N>, Result<(), AllocError>)
+        cells: StoreCells<'a, N>,
+    ) -> (StoreCells<'a, N>, Result<(), AllocError>)
         requires program { N.program ≡ named shared.now.loaded.now }
         requires table { IsTableOf N.program shared.now.table.now }
         requires store { cells.pass.store ≡ shared.now.store.now }
@@ -188,7 +189,11 @@ impl<'a, N: Naming> Reducer<Worker<'a, N>> {
     }
 
     /// Looks for a goal, and does what can be done for it.
-    fn turn<G: Gate>(&mut self, shared: &Shared<'a, N, G>, cells: Worker<'a, N>) -> Turned<'a, N>
+    fn turn<G: Gate>(
+        &mut self,
+        shared: &Shared<'a, N, G>,
+        cells: StoreCells<'a, N>,
+    ) -> Turned<'a, N>
         requires program { N.program ≡ named shared.now.loaded.now }
         requires table { IsTableOf N.program shared.now.table.now }
         requires store { cells.pass.store ≡ shared.now.store.now }
@@ -211,7 +216,7 @@ impl<'a, N: Naming> Reducer<Worker<'a, N>> {
     fn look_at_next<G: Gate>(
         &mut self,
         shared: &Shared<'a, N, G>,
-        cells: Worker<'a, N>,
+        cells: StoreCells<'a, N>,
     ) -> Turned<'a, N>
         requires program { N.program ≡ named shared.now.loaded.now }
         requires table { IsTableOf N.program shared.now.table.now }
@@ -228,7 +233,7 @@ impl<'a, N: Naming> Reducer<Worker<'a, N>> {
     }
 
     /// The next goal: arithmetic of its own, one of the hands, or one that waited.
-    fn next(&mut self, cells: &mut Worker<'a, N>) -> Option<Goal>
+    fn next(&mut self, cells: &mut StoreCells<'a, N>) -> Option<Goal>
         requires { IsAtWork N.program self.old.told [] self.old.suspended cells.old.pass }
         ensures store { cells.new.pass.store ≡ cells.old.pass.store }
         ensures at_work { IsAtWork N.program self.new.told [] self.new.suspended cells.new.pass }
@@ -253,7 +258,7 @@ impl<'a, N: Naming> Reducer<Worker<'a, N>> {
     fn look<G: Gate>(
         &mut self,
         shared: &Shared<'a, N, G>,
-        cells: Worker<'a, N>,
+        cells: StoreCells<'a, N>,
         goal: Goal,
     ) -> Turned<'a, N>
         requires program { N.program ≡ named shared.now.loaded.now }
@@ -283,7 +288,7 @@ impl<'a, N: Naming> Reducer<Worker<'a, N>> {
     pub(crate) fn give_up(
         &mut self,
         store: &'a Store<N>,
-        cells: Worker<'a, N>,
+        cells: StoreCells<'a, N>,
         cause: Cause,
     ) -> Turned<'a, N>
         requires store { cells.pass.store ≡ store.now }
@@ -299,20 +304,28 @@ impl<'a, N: Naming> Reducer<Worker<'a, N>> {
 
     /// Puts a goal into the hand. Where the hand refuses it, it is left over.
     pub(crate) fn put(&mut self, goal: Goal)
-        ensures { (self.new.told ≡ self.old.told) × (self.new.suspended ≡ self.old.suspended) × (self.new.pairs ≡ self.old.pairs) }
+        ensures { (self.new.told ≡ self.old.told) × (self.new.suspended ≡ self.old.suspended)
+            × (self.new.pairs ≡ self.old.pairs) }
     {
         let _refused = self.hand.put(goal);
     }
 
-    /// Puts arithmetic of a frame that this worker took beside the hand, where no other takes it. Where there is no room it is left over.
+    /// Puts arithmetic of a frame that this worker took beside the hand, where no other takes it. Where there is no
+    /// room it is left over.
     pub(crate) fn put_own(&mut self, goal: Goal)
-        ensures { (self.new.told ≡ self.old.told) × (self.new.suspended ≡ self.old.suspended) × (self.new.pairs ≡ self.old.pairs) }
+        ensures { (self.new.told ≡ self.old.told) × (self.new.suspended ≡ self.old.suspended)
+            × (self.new.pairs ≡ self.old.pairs) }
     {
         let _refused = self.own.push(goal);
     }
 
     /// Keeps a goal until this worker finds the cell set.
-    pub(crate) fn keep<'b>(&mut self, cells: Worker<'b, N>, goal: Goal, cell: u32) -> Turned<'b, N>
+    pub(crate) fn keep<'b>(
+        &mut self,
+        cells: StoreCells<'b, N>,
+        goal: Goal,
+        cell: u32,
+    ) -> Turned<'b, N>
         requires cell { cell < cells.pass.store.about.words }
         requires at_work { IsAtWork N.program self.old.told [] self.old.suspended cells.pass }
         ensures store { result.0.pass.store ≡ cells.entry.pass.store }
@@ -328,7 +341,7 @@ impl<'a, N: Naming> Reducer<Worker<'a, N>> {
     pub(crate) fn wait(
         &mut self,
         store: &'a Store<N>,
-        cells: Worker<'a, N>,
+        cells: StoreCells<'a, N>,
         goal: Goal,
         cell: u32,
     ) -> Turned<'a, N>

@@ -1,7 +1,7 @@
 use Rattle.std.proofs.Common.{◌≡◌, Some, All, take}
 use Rattle.and_model.specs.declared.goal.Goal.{Goal}
-use Rattle.and_workers.specs.declared.told.Cause.TheVariants.{NoCandidate}
-use Rattle.and_workers.specs.declared.told.Told.{Told}
+use Rattle.and_handed.specs.declared.told.Cause.TheVariants.{NoCandidate}
+use Rattle.and_handed.specs.declared.told.Told.{Told}
 use Rattle.and_gathering.specs.Gathering.{IsThere}
 use Rattle.and_gathering.proofs.gathering.are_there.Given as goal
 

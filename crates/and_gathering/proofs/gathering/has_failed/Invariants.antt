@@ -1,5 +1,5 @@
 use Rattle.std.proofs.Common.{◌≡◌, None, All, take}
-use Rattle.and_workers.specs.declared.told.Told.{Told}
+use Rattle.and_handed.specs.declared.told.Told.{Told}
 use Rattle.and_gathering.proofs.gathering.has_failed.Given as goal
 
 abbrev pub invariant-loop-told : goal.invariant-loop-told

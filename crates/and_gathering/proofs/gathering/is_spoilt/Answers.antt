@@ -1,5 +1,5 @@
 use Rattle.std.proofs.Common.{◌≡◌, false}
-use Rattle.and_workers.specs.declared.told.Told.{Told}
+use Rattle.and_handed.specs.declared.told.Told.{Told}
 use Rattle.and_gathering.proofs.Loops.{all_next, all_done}
 use Rattle.and_gathering.proofs.gathering.is_spoilt.Goals as goal
 

@@ -3,7 +3,7 @@ use Rattle.std.specs.Prelude.{slice_get}
 use Rattle.std.proofs.lemmas.Option.{slice_get_read, slice_get-get_or}
 use Rattle.and_gathering.specs.Gathering.{made_by}
 use Rattle.and_gathering.specs.declared.links.Taken.TheVariants.{Reduced}
-use Rattle.and_workers.specs.declared.told.Told.{Told}
+use Rattle.and_handed.specs.declared.told.Told.{Told}
 use Rattle.and_gathering.proofs.Stepping.{step_is}
 use Rattle.and_gathering.proofs.gathering.next_of.Goals as goal
 

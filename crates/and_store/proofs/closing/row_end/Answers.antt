@@ -22,4 +22,7 @@ loop-end-preserved c =
 pub returns-else-word-eq0-clause-no_longer : goal.returns-else-word-eq0-clause-no_longer
 returns-else-word-eq0-clause-no_longer c =
     let some_left = c.loop-end-test.true in
-    inr (omega (arith, some_left), λ e. c.if-word-eq0.false (sym (at_value (slots_items c.args.table.now.words) (c.loop-end.end - 1) c.word.result c.word.ensures) ∙ e))
+    inr (
+      omega (arith, some_left),
+      λ e. c.if-word-eq0.false (sym (at_value (slots_items c.args.table.now.words) (c.loop-end.end - 1) c.word.result c.word.ensures) ∙ e),
+    )

@@ -17,6 +17,7 @@ loop-i-preserved c =
     goal_so c.word.result c.word-in-loop-i.result c.goal_of_words.result c.goal_of_words.ensures.0 c.goal_of_words.ensures.1
     ∙ ap (λ (n : ℕ). goal_in n c.word-in-loop-i.result) (sym upper) ∙ ap (goal_in (get_or items (c.args.place + 2 * x) 0)) (sym lower) in (
       c.push_reserved.ensures.items
-          ∙ goals_step (goal_at items c.args.place) ws c.loop-i.i x c.loop-i.goals.items c.goal_of_words.result c.loop-i-test.true (at_default ws c.loop-i.i c.loop-i-test.true) c.loop-i.invariant.0 is,
+          ∙ goals_step (goal_at items c.args.place) ws c.loop-i.i x c.loop-i.goals.items c.goal_of_words.result c.loop-i-test.true
+          (at_default ws c.loop-i.i c.loop-i-test.true) c.loop-i.invariant.0 is,
       let a = c.loop-i.invariant.1 in let b = c.push_reserved.ensures.capacity in omega (arith, a, b),
     )

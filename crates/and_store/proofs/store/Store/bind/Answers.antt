@@ -26,7 +26,9 @@ invariant_of-pass-then-place-ge-FIRST_WAITER g c =
     let found = c.close_place-place.result in
     let set = c.set_cell-found.ensures.told.0.0 c.if-found-ne0.false in (
       c.close_place-place.ensures.told.1,
-      rw (c.push_reserved.ensures.items, c.push_reserved.ensures.capacity) (won_some g.N.Naming.program c.args.cell c.args.to p.seat.me.0 c.set_cell-found.new.seat.me.0 w found p.number p.hung p.is_refused p.frames_end p.taken.items
+      rw (c.push_reserved.ensures.items, c.push_reserved.ensures.capacity)
+          (won_some g.N.Naming.program c.args.cell c.args.to p.seat.me.0 c.set_cell-found.new.seat.me.0 w found p.number p.hung p.is_refused
+          p.frames_end p.taken.items
           (vec_capacity p.taken) p.handed c.pass.invariant.1 set c.close_place-place.ensures.told.0 c.if-place-ge-FIRST_WAITER.true),
     )
 
@@ -37,7 +39,8 @@ invariant_of-pass-else-place-ge-FIRST_WAITER g c =
     let found = c.close_place-place.result in
     let set = c.set_cell-found.ensures.told.0.0 c.if-found-ne0.false in (
       c.close_place-place.ensures.told.1,
-      won_none g.N.Naming.program c.args.cell c.args.to p.seat.me.0 c.set_cell-found.new.seat.me.0 w found p.number p.hung p.is_refused p.frames_end p.taken.items
+      won_none g.N.Naming.program c.args.cell c.args.to p.seat.me.0 c.set_cell-found.new.seat.me.0 w found p.number p.hung p.is_refused
+          p.frames_end p.taken.items
           (vec_capacity p.taken) p.handed c.pass.invariant.1 set c.close_place-place.ensures.told.0 c.if-place-ge-FIRST_WAITER.false,
     )
 
@@ -47,17 +50,21 @@ returns-then-place-ge-FIRST_WAITER-clause-won g c =
     let w = c.close_place-place.new.seat.me.0 in
     let found = c.close_place-place.result in
     let set = c.set_cell-found.ensures.told.0.0 c.if-found-ne0.false in
-    let b = between g.N.Naming.program c.args.cell c.args.to p.seat.me.0 c.set_cell-found.new.seat.me.0 w found p.number p.hung p.is_refused p.frames_end p.taken.items
+    let b = between g.N.Naming.program c.args.cell c.args.to p.seat.me.0 c.set_cell-found.new.seat.me.0 w found p.number p.hung p.is_refused
+    p.frames_end p.taken.items
     (vec_capacity p.taken) p.handed c.pass.invariant.1 set c.close_place-place.ensures.told.0 in
     let about : p.seat.me.0.about ≡ c.args.self.now.about = ap (λ z. z.store.about) c.pass.view_is ∙ ap (λ z. z.about) c.requires.store in
     λ won. record {
       between = b;
       set = subst (λ (a : About). SetsCell a c.args.cell c.args.to c.args.pass.now.pass b) about
           (subst (λ q. SetsCell p.seat.me.0.about c.args.cell c.args.to q b) (ap (λ z. z.pass) c.pass.view_is)
-          (won_set g.N.Naming.program c.args.cell c.args.to p.seat.me.0 c.set_cell-found.new.seat.me.0 w found p.number p.hung p.is_refused p.frames_end p.taken.items
+          (won_set g.N.Naming.program c.args.cell c.args.to p.seat.me.0 c.set_cell-found.new.seat.me.0 w found p.number p.hung p.is_refused
+          p.frames_end p.taken.items
           (vec_capacity p.taken) p.handed c.pass.invariant.1 set c.close_place-place.ensures.told.0));
       closes = subst (λ l. ClosesPlace c.args.cell b (mine_of w).pass l (drop p.handed c.push_reserved.new.self.items)) (ap (λ z. z.kept) c.pass.view_is)
-          (rw c.push_reserved.ensures.items (closes_some g.N.Naming.program c.args.cell c.args.to p.seat.me.0 c.set_cell-found.new.seat.me.0 w found p.number p.hung p.is_refused p.frames_end p.taken.items
+          (rw c.push_reserved.ensures.items
+          (closes_some g.N.Naming.program c.args.cell c.args.to p.seat.me.0 c.set_cell-found.new.seat.me.0 w found p.number p.hung p.is_refused
+          p.frames_end p.taken.items
           (vec_capacity p.taken) p.handed c.pass.invariant.1 set c.close_place-place.ensures.told.0 c.if-place-ge-FIRST_WAITER.true));
     }
 
@@ -67,17 +74,20 @@ returns-else-place-ge-FIRST_WAITER-clause-won g c =
     let w = c.close_place-place.new.seat.me.0 in
     let found = c.close_place-place.result in
     let set = c.set_cell-found.ensures.told.0.0 c.if-found-ne0.false in
-    let b = between g.N.Naming.program c.args.cell c.args.to p.seat.me.0 c.set_cell-found.new.seat.me.0 w found p.number p.hung p.is_refused p.frames_end p.taken.items
+    let b = between g.N.Naming.program c.args.cell c.args.to p.seat.me.0 c.set_cell-found.new.seat.me.0 w found p.number p.hung p.is_refused
+    p.frames_end p.taken.items
     (vec_capacity p.taken) p.handed c.pass.invariant.1 set c.close_place-place.ensures.told.0 in
     let about : p.seat.me.0.about ≡ c.args.self.now.about = ap (λ z. z.store.about) c.pass.view_is ∙ ap (λ z. z.about) c.requires.store in
     λ won. record {
       between = b;
       set = subst (λ (a : About). SetsCell a c.args.cell c.args.to c.args.pass.now.pass b) about
           (subst (λ q. SetsCell p.seat.me.0.about c.args.cell c.args.to q b) (ap (λ z. z.pass) c.pass.view_is)
-          (won_set g.N.Naming.program c.args.cell c.args.to p.seat.me.0 c.set_cell-found.new.seat.me.0 w found p.number p.hung p.is_refused p.frames_end p.taken.items
+          (won_set g.N.Naming.program c.args.cell c.args.to p.seat.me.0 c.set_cell-found.new.seat.me.0 w found p.number p.hung p.is_refused
+          p.frames_end p.taken.items
           (vec_capacity p.taken) p.handed c.pass.invariant.1 set c.close_place-place.ensures.told.0));
       closes = subst (λ l. ClosesPlace c.args.cell b (mine_of w).pass l (drop p.handed p.taken.items)) (ap (λ z. z.kept) c.pass.view_is)
-          (closes_none g.N.Naming.program c.args.cell c.args.to p.seat.me.0 c.set_cell-found.new.seat.me.0 w found p.number p.hung p.is_refused p.frames_end p.taken.items
+          (closes_none g.N.Naming.program c.args.cell c.args.to p.seat.me.0 c.set_cell-found.new.seat.me.0 w found p.number p.hung p.is_refused
+          p.frames_end p.taken.items
           (vec_capacity p.taken) p.handed c.pass.invariant.1 set c.close_place-place.ensures.told.0 c.if-place-ge-FIRST_WAITER.false);
     }
 
@@ -85,6 +95,7 @@ pub overflow_cast-place : goal.overflow_cast-place
 overflow_cast-place g c =
     let p = c.pass.inside in
     let set = c.set_cell-found.ensures.told.0.0 c.if-found-ne0.false in
-    let fits = waiter_fits g.N.Naming.program c.args.cell c.args.to p.seat.me.0 c.set_cell-found.new.seat.me.0 c.close_place-place.new.seat.me.0 c.close_place-place.result c.pass.invariant.1.modest set
+    let fits = waiter_fits g.N.Naming.program c.args.cell c.args.to p.seat.me.0 c.set_cell-found.new.seat.me.0 c.close_place-place.new.seat.me.0
+    c.close_place-place.result c.pass.invariant.1.modest set
     c.close_place-place.ensures.told.0 in
     omega (arith, fits)

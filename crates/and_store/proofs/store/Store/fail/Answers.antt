@@ -6,4 +6,5 @@ use Rattle.and_store.proofs.store.Store.fail.Goals as goal
 
 pub returns-clause-fails : goal.returns-clause-fails
 returns-clause-fails g c =
-    subst (λ p. Fails p (mine_of c.raise_fail.new.seat.me.0).pass) (ap (λ z. z.pass) c.pass.view_is) (fail_tells g.N.Naming.program _ _ c.raise_fail.ensures.told.0)
+    subst (λ p. Fails p (mine_of c.raise_fail.new.seat.me.0).pass) (ap (λ z. z.pass) c.pass.view_is)
+    (fail_tells g.N.Naming.program _ _ c.raise_fail.ensures.told.0)

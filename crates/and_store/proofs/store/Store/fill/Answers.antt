@@ -20,6 +20,7 @@ returns-clause-fills g c =
     let told = c.set_cell-found.ensures.told.0.0 c.if-found-ne0.false in
     let P = g.N.Naming.program in
     let w = c.set_cell-found.new.seat.me.0 in
-    subst (λ (a : About). FillsWord P a c.args.place c.args.half c.args.half c.args.pass.now.pass (mine_of w).pass) (ap (λ z. z.store.about) c.pass.view_is ∙ ap (λ z. z.about) c.requires.store)
+    subst (λ (a : About). FillsWord P a c.args.place c.args.half c.args.half c.args.pass.now.pass (mine_of w).pass) (ap (λ z. z.store.about) c.pass.view_is
+    ∙ ap (λ z. z.about) c.requires.store)
     (subst (λ p. FillsWord P c.pass.inside.seat.me.0.about c.args.place c.args.half c.args.half p (mine_of w).pass) (ap (λ z. z.pass) c.pass.view_is)
     (inl (set_tells P c.args.place c.args.half _ _ told, refl)))

@@ -10,7 +10,8 @@ pub join_seat-requires : goal.join_seat-requires
 join_seat-requires g c =
     let table = sym (ap (λ z. z.table) c.self.view_is) in
     let i = c.loop-pass.invariant in
-    let of = from_store c.args.self.now c.args.passes c.loop-pass.passes c.pop-in-loop-pass.new.self i.2.0 c.in-Some-pop.pass c.requires.store i.2.1 c.in-Some-pop.ensures.last in
+    let of = from_store c.args.self.now c.args.passes c.loop-pass.passes c.pop-in-loop-pass.new.self i.2.0 c.in-Some-pop.pass c.requires.store i.2.1
+    c.in-Some-pop.ensures.last in
     let seat = c.into_seat-seat.ensures in (
       seat.table.0 ∙ ap (λ z. z.table) of ∙ table,
       i.0 ∙ table,
@@ -22,10 +23,12 @@ join_seat-requires g c =
 pub loop-pass-preserved : goal.loop-pass-preserved
 loop-pass-preserved g c =
     let i = c.loop-pass.invariant in
-    let of = from_store c.args.self.now c.args.passes c.loop-pass.passes c.pop-in-loop-pass.new.self i.2.0 c.in-Some-pop.pass c.requires.store i.2.1 c.in-Some-pop.ensures.last in
+    let of = from_store c.args.self.now c.args.passes c.loop-pass.passes c.pop-in-loop-pass.new.self i.2.0 c.in-Some-pop.pass c.requires.store i.2.1
+    c.in-Some-pop.ensures.last in
     let seat = c.into_seat-seat.ensures in
     let a : About = c.args.self.now.about in
-    let own : IsGathered a c.into_seat-seat.result.me.0 (c.in-Some-pop.pass ∷ []) = subst (λ (b : About). IsGathered b c.into_seat-seat.result.me.0 (c.in-Some-pop.pass ∷ [])) (ap (λ z. z.about) of) seat.gathered in
+    let own : IsGathered a c.into_seat-seat.result.me.0 (c.in-Some-pop.pass ∷ []) =
+    subst (λ (b : About). IsGathered b c.into_seat-seat.result.me.0 (c.in-Some-pop.pass ∷ [])) (ap (λ z. z.about) of) seat.gathered in
     let both = gathers_on a c.into_seat-seat.result.me.0 c.loop-pass.all.me.0 c.in-Some-pop.pass i.2.0 own i.2.2 in
     let now = c.join_seat.ensures in (
       now.0 ∙ seat.table.0 ∙ ap (λ z. z.table) of,

@@ -17,12 +17,15 @@ compare_exchange-requires g c =
     let noted = c.requires.noted in (
       c.requires.same ∙ sym (ap (λ z. z.table) c.self.view_is),
       place_in _ _ _ _ _ _ c.self.invariant c.args.cell within,
-      rw (← c.self.invariant.words_are) (hangs_waiter g.N.Naming.program c.self.inside.table.shared.key _ _ c.args.cell c.args.waiter noted.0 noted.1 c.args.goal.now
+      rw (← c.self.invariant.words_are)
+          (hangs_waiter g.N.Naming.program c.self.inside.table.shared.key _ _ c.args.cell c.args.waiter noted.0 noted.1 c.args.goal.now
           c.args.seat.now.me.0 c.args.seat.now.me.1 c.requires.alone.0 c.requires.alone.1 within noted.2 noted.3 noted.4 in_range left waiter),
     )
 
 pub returns-clause-told : goal.returns-clause-told
 returns-clause-told g c =
     let noted = c.requires.noted in
-    let here = sym c.self.invariant.words_are ∙ ap (λ z. z.about.words) c.self.view_is ∙ sym (ap (λ z. z.words) c.requires.about) in
-    (c.compare_exchange.ensures.2.0 c.args.cell noted.0 noted.1 c.args.goal.now (ap (λ n. n + c.args.cell) here) noted.2 noted.3 noted.4, c.compare_exchange.ensures.2.1)
+    let here = sym c.self.invariant.words_are ∙ ap (λ z. z.about.words) c.self.view_is ∙ sym (ap (λ z. z.words) c.requires.about) in (
+      c.compare_exchange.ensures.2.0 c.args.cell noted.0 noted.1 c.args.goal.now (ap (λ n. n + c.args.cell) here) noted.2 noted.3 noted.4,
+      c.compare_exchange.ensures.2.1,
+    )

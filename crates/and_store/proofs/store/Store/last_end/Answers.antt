@@ -17,8 +17,10 @@ loop-i-preserved g c =
     let of = All-contains (λ (p : PassSeen). p.store ≡ c.args.self.now) ps p c.requires.store (pass_in ps i p within at) in
     let ends = c.pass.invariant.1 in
     let found_is : c.pass.inside.frames_end ≡ last_end p.pass.frames = ends.ends ∙ ap (λ (q : PassSeen). last_end q.pass.frames) c.pass.view_is in
-    let fits : c.pass.inside.frames_end ≤ c.args.self.now.about.words = subst (λ (n : ℕ). c.pass.inside.frames_end ≤ n) (ap (λ (q : PassSeen). q.store.about.words) c.pass.view_is ∙ ap (λ z. z.about.words) of) ends.ends_fit in
-    let which : ((c.loop-i.end < c.pass.inside.frames_end) × (c.if-pass-end.end ≡ c.pass.inside.frames_end)) ⊎ ((c.pass.inside.frames_end ≤ c.loop-i.end) × (c.if-pass-end.end ≡ c.loop-i.end)) =
+    let fits : c.pass.inside.frames_end ≤ c.args.self.now.about.words =
+    subst (λ (n : ℕ). c.pass.inside.frames_end ≤ n) (ap (λ (q : PassSeen). q.store.about.words) c.pass.view_is ∙ ap (λ z. z.about.words) of) ends.ends_fit in
+    let which : ((c.loop-i.end < c.pass.inside.frames_end) × (c.if-pass-end.end ≡ c.pass.inside.frames_end))
+    ⊎ ((c.pass.inside.frames_end ≤ c.loop-i.end) × (c.if-pass-end.end ≡ c.loop-i.end)) =
     elim c.if-pass-end.branch [ then-pass-end w ↦ inl (w.if-pass-end.true, w.end-is) | else-pass-end w ↦ inr (w.if-pass-end.false, w.end-is) ] in
     let next = next_pass ps i p within at in (
       subst (λ (l : _). LastEnds c.args.self.now.about (passes_of l) c.if-pass-end.end) (sym next)

@@ -30,7 +30,8 @@ returns-clause-left g c =
     let seats : c.self.inside.seats ≡ c.args.self.now.about.seats = sym c.self.invariant.seats_are ∙ ap (λ z. z.about.seats) c.self.view_is in
     let each : c.self.inside.waiters ≡ c.args.self.now.about.waiters = sym c.self.invariant.waiters_are ∙ ap (λ z. z.about.waiters) c.self.view_is in
     let many : length c.as_mut_slice.result.now ≡ bound =
-    ap length c.as_mut_slice.ensures.value ∙ long ∙ c.in_ok-marks.ensures.len ∙ ap (λ (n : ℕ). n * c.self.inside.waiters) seats ∙ ap (λ (n : ℕ). c.args.self.now.about.seats * n) each in
+    ap length c.as_mut_slice.ensures.value ∙ long ∙ c.in_ok-marks.ensures.len ∙ ap (λ (n : ℕ). n * c.self.inside.waiters) seats
+    ∙ ap (λ (n : ℕ). c.args.self.now.about.seats * n) each in
     let last : c.loop-number.number ≤ c.self.inside.seats = c.loop-number.auto.number-end in
     let done : c.loop-number.number ≡ c.self.inside.seats = omega (arith, last, c.loop-number-test.false) in
     let all : c.loop-number.number ≡ c.args.self.now.about.seats = done ∙ seats in

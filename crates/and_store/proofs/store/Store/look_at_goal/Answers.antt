@@ -10,7 +10,8 @@ load-requires g c =
     let place = c.goal_place-place.ensures.value ∙ ap (λ (b : About). b.words + (b.words + (2 * c.args.waiter + cond c.args.is_lower 1 0))) about in (
       c.requires.same ∙ sym (ap (λ z. z.table) c.self.view_is),
       rw (ap (λ z. z.table.words) c.self.view_is) c.goal_place-place.ensures.within,
-      rw place (looks_at_goal g.N.Naming.program c.self.inside.table.shared.key _ _ (2 * c.args.waiter + cond c.args.is_lower 1 0) c.args.seat.now.me.0 c.args.seat.now.me.1 c.requires.alone.0 c.requires.alone.1 within),
+      rw place (looks_at_goal g.N.Naming.program c.self.inside.table.shared.key _ _ (2 * c.args.waiter + cond c.args.is_lower 1 0) c.args.seat.now.me.0
+          c.args.seat.now.me.1 c.requires.alone.0 c.requires.alone.1 within),
     )
 
 pub returns-clause-told : goal.returns-clause-told

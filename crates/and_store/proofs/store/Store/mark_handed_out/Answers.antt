@@ -17,7 +17,9 @@ loop-i-preserved g c =
     let next = next_pass ps i p within at in
     let own = c.pass.invariant.1 in
     let handed : take c.pass.inside.handed c.as_slice.result.now ≡ handed_by p =
-    ap (take c.pass.inside.handed) c.as_slice.ensures.value ∙ handed_is p c.pass.inside.taken.items c.pass.inside.handed (own.taken_are ∙ ap (λ (q : PassSeen). waiters_of q.pass.took) c.pass.view_is) (sym (ap (λ (q : PassSeen). q.kept) c.pass.view_is)) own.handed_out in (
+    ap (take c.pass.inside.handed) c.as_slice.ensures.value
+    ∙ handed_is p c.pass.inside.taken.items c.pass.inside.handed (own.taken_are ∙ ap (λ (q : PassSeen). waiters_of q.pass.took) c.pass.view_is)
+    (sym (ap (λ (q : PassSeen). q.kept) c.pass.view_is)) own.handed_out in (
       c.mark.ensures.len ∙ c.loop-i.invariant.0,
       λ w within_marks. c.mark.ensures.marked w (subst (λ (n : ℕ). w < n) (sym c.loop-i.invariant.0) within_marks)
           ∙ ap (λ l. either_one (is_among w l) (get_or c.loop-i.marks w false)) handed

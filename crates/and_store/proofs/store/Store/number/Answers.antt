@@ -16,8 +16,10 @@ pub returns-clause-read : goal.returns-clause-read
 returns-clause-read g c =
     let first = c.look-high.ensures.looks in
     let next : c.args.pair + 1 ≡ suc c.args.pair = omega arith in
-    let second = subst (λ n. LooksAt g.N.Naming.program c.args.self.now.about n c.look-low.result c.look-high.new.pass.pass c.look-low.new.pass.pass) next c.look-low.ensures.looks in
-    let knows = subst (λ l. KnowsWritten l c.args.pair) (sym (ap (λ q. q.known) first.becomes)) (knows_learnt c.args.pair c.look-high.result c.args.pass.now.pass.known c.args.pair c.requires.written) in record {
+    let second = subst (λ n. LooksAt g.N.Naming.program c.args.self.now.about n c.look-low.result c.look-high.new.pass.pass c.look-low.new.pass.pass) next
+    c.look-low.ensures.looks in
+    let knows = subst (λ l. KnowsWritten l c.args.pair) (sym (ap (λ q. q.known) first.becomes))
+    (knows_learnt c.args.pair c.look-high.result c.args.pass.now.pass.known c.args.pair c.requires.written) in record {
       high = c.look-high.result;
       low = c.look-low.result;
       between = c.look-high.new.pass.pass;

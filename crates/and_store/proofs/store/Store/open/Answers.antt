@@ -17,4 +17,5 @@ of_words-requires g c =
     opens_kept P a c.as_slice.result.now
     (record { words = c.requires.words.1; seats = c.requires.seats.1; some_seat = c.requires.seats.0; waiters = c.requires.waiters })
     (subst (IsSound P) same sound.1) (subst (All HasWord) same sound.0) (subst (λ (l : List Ref). length l ≤ c.args.words) same c.requires.words.0)
-    (c.as_slice.ensures.value ∙ c.in_ok-row.ensures.words ∙ ap (λ (l : List Ref). words_of (opened (opening_of P (record a { first = l }))) (replicate (2 * (c.args.seats * c.args.waiters)) 0)) same)
+    (c.as_slice.ensures.value ∙ c.in_ok-row.ensures.words
+    ∙ ap (λ (l : List Ref). words_of (opened (opening_of P (record a { first = l }))) (replicate (2 * (c.args.seats * c.args.waiters)) 0)) same)

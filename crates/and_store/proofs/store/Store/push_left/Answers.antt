@@ -30,7 +30,8 @@ loop-i-preserved g c =
     let next = next_pass ps i p within at in (
       c.in_ok-push_left_of.ensures.pushed ∙ pass_put c.args.marks.now number i ps p c.args.left.now.items c.loop-i.left.items next c.loop-i.invariant.0,
       subst (All (λ w. w < bound)) (sym (numbered_more number i ps p next))
-          (All-append (λ w. w < bound) (waiters_hung (numbered number (take i ps))) (waiters_hung (numbered number (p ∷ []))) c.loop-i.invariant.1 c.in_ok-push_left_of.ensures.below),
+          (All-append (λ w. w < bound) (waiters_hung (numbered number (take i ps))) (waiters_hung (numbered number (p ∷ []))) c.loop-i.invariant.1
+          c.in_ok-push_left_of.ensures.below),
     )
 
 pub returns-clause-below : goal.returns-clause-below

@@ -12,7 +12,9 @@ compare_exchange-requires g c =
     let can = subst (λ n. CanSet g.N.Naming.program n c.args.cell c.args.to (mine_of c.args.seat.now.me.0).pass.known) words c.requires.can in (
       c.requires.same ∙ sym (ap (λ z. z.table) c.self.view_is),
       cell_in _ _ _ _ _ _ c.self.invariant c.args.cell within,
-      rw (c.to_word.ensures, c.to_word-2.ensures) (sets_word g.N.Naming.program c.self.inside.table.shared.key _ _ c.args.cell c.args.seat.now.me.0 c.args.seat.now.me.1 c.args.to c.requires.alone.0 c.requires.alone.1 within can c.requires.at_rest),
+      rw (c.to_word.ensures, c.to_word-2.ensures)
+          (sets_word g.N.Naming.program c.self.inside.table.shared.key _ _ c.args.cell c.args.seat.now.me.0 c.args.seat.now.me.1 c.args.to c.requires.alone.0
+          c.requires.alone.1 within can c.requires.at_rest),
     )
 
 pub returns-clause-told : goal.returns-clause-told

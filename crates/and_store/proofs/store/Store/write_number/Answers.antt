@@ -23,9 +23,11 @@ returns-clause-written g c =
       high = c.fill-high.result;
       low = c.fill-low.result;
       between = middle;
-      first = subst (λ h. FillsWord P a c.args.pair h c.fill-high.result c.args.pass.now.pass middle) (c.halves-high.ensures.high ∙ ap high_half value) c.fill-high.ensures.fills;
+      first = subst (λ h. FillsWord P a c.args.pair h c.fill-high.result c.args.pass.now.pass middle) (c.halves-high.ensures.high ∙ ap high_half value)
+          c.fill-high.ensures.fills;
       second = subst (λ n. FillsWord P a n (low_half c.args.value) c.fill-low.result middle end) next
-          (subst (λ h. FillsWord P a (c.args.pair + 1) h c.fill-low.result middle end) (c.halves-high.ensures.low ∙ ap low_half value) c.fill-low.ensures.fills);
+          (subst (λ h. FillsWord P a (c.args.pair + 1) h c.fill-low.result middle end) (c.halves-high.ensures.low ∙ ap low_half value)
+          c.fill-low.ensures.fills);
       holds = to_z-of_z w64 c.joined.result (record { sfits = c.joined.type_inv }) ∙ c.joined.ensures;
     }
 
