@@ -5,3 +5,4 @@ pub mod found;
 mod printing;
 
 pub use found::{Entry, Found};
+pub use printing::write_lines;

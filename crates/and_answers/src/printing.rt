@@ -10,7 +10,7 @@ use itoa::Buffer;
 use std::alloc::AllocError;
 
 /// Writes each line, with a newline. After want of memory the text is spent.
-pub(crate) fn write_lines(text: &mut Text, entries: &[Entry]) -> Result<(), AllocError>
+pub fn write_lines(text: &mut Text, entries: &[Entry]) -> Result<(), AllocError>
     ensures { OnOk result (text.new ≡ text.old ++ lines_of (map entry_of entries.now)) }
 {
     for entry in entries {
@@ -22,7 +22,8 @@ pub(crate) fn write_lines(text: &mut Text, entries: &[Entry]) -> Result<(), Allo
 
 /// Writes the line of the counts. After want of memory the text is spent.
 pub(crate) fn write_counts(text: &mut Text, forks: u64, failed: u64) -> Result<(), AllocError>
-    ensures { OnOk result (text.new ≡ text.old ++ codes "% forks " ++ counted forks ++ codes " failed " ++ counted failed ++ 10 ∷ []) }
+    ensures { OnOk result (text.new ≡ text.old ++ codes "% forks " ++ counted forks ++ codes " failed "
+        ++ counted failed ++ 10 ∷ []) }
 {
     text.append(b"% forks ")?;
     text.append(Buffer::new().format(forks).as_bytes())?;

@@ -12,7 +12,7 @@ use Rattle.and_model.specs.declared.reference.Ref.{Ref}
 use Rattle.and_cells.specs.Ranges.{NamedProgram}
 use Rattle.and_branch_laws.specs.OwnVariables.{IsLoaded}
 use Rattle.and_branch_laws.specs.Kept.{item_at, task_in, is_call, IsCall}
-use Rattle.and_determinacy.specs.Candidates.{CanBeJudged}
+use Rattle.and_guards.specs.Goals.{CanBeJudged}
 use Rattle.and_branch.specs.Branches.{Held, is_arithmetic, Lives, IsBranchOf}
 use Rattle.and_branch.specs.Finding.{IsCallGoal, IsCallOrArithmetic, IsSeen}
 use Rattle.and_branch.proofs.GoalsRun.{live_of, reached_fits}

@@ -1,8 +1,9 @@
 -- A branch that is split: its children.
-use Rattle.std.proofs.Common.{ℕ, suc, ◌≡◌, ◌+◌, ◌≤◌, ◌<◌, add-one, drop, drop-cons, get_or, Some, Ok, List, [], ◌∷◌, ◌++◌, map, length}
-use Rattle.std.proofs.Common.{refl, ap, sym, ◌∙◌, subst, inl, inr, ◌⊎◌, arith, Contains, Option, None}
+use Rattle.std.proofs.Common.{ℕ, suc, ◌≡◌, ◌≢◌, ◌+◌, ◌≤◌, ◌<◌, add-one, drop, drop-cons, get_or, Some, Ok, List, [], ◌∷◌, ◌++◌, map, length}
+use Rattle.std.proofs.Common.{refl, ap, sym, ◌∙◌, subst, inl, inr, arith, Contains, Option}
 use Rattle.std.specs.Prelude.{Result, slice_get}
-use Rattle.std.proofs.lemmas.List.{length-map, get_or-map, drop-drop}
+use Rattle.std.proofs.lemmas.Bool.{cases_lt}
+use Rattle.std.proofs.lemmas.List.{length-map, get_or-map, drop-drop, drop_all}
 use Rattle.std.proofs.lemmas.List.Elements.{Contains-append_right}
 use Rattle.std.proofs.lemmas.Option.{get_or_from_slice_get, slice_get_within}
 use Rattle.and_model.specs.Programs.{Of}
@@ -17,6 +18,7 @@ use Rattle.and_laws.proofs.Deciding.{of_bounds}
 use Rattle.and_laws.proofs.Ordered.{contains_first, contains_cases, contains_none}
 use Rattle.and_laws.proofs.Splitting.{leftmost_same}
 use Rattle.and_cells.specs.Ranges.{NamedProgram}
+use Rattle.and_cells.specs.Rows.{IsSound}
 use Rattle.and_branch_laws.specs.Kept.{goal_of}
 use Rattle.and_branch_laws.specs.States.{State, StateOf, fork, failed}
 use Rattle.and_branch_laws.proofs.Going
@@ -24,11 +26,9 @@ use Rattle.and_branch_laws.proofs.OneState
 use Rattle.and_reduction.specs.Trails.{Noted}
 use Rattle.and_branch.specs.Branches.{Held, Lives, IsBranchOf, IsOpenGoal, SameKey}
 use Rattle.and_branch.specs.Children.{Fork, AreChildren, IsChild}
-use Rattle.and_branch.specs.Making.{CanBeMade, IsBegun, IsMade, nothing_noted, noted_from}
-use Rattle.and_branch.specs.Origins.{GoesBack, KeepsBack}
+use Rattle.and_branch.specs.Making.{CanBeMade, IsBegun, IsMade}
 use Rattle.and_branch.specs.States.{numbers}
 use Rattle.and_branch.specs.Next.{HasNextCall, IsReduced, IsMoved, IsSameItem, HasItem}
-use Rattle.and_branch.proofs.KeptOrigins.{kept_then, goes_back_on, goes_nowhere}
 use Rattle.and_branch.proofs.LivingGoals.{Found, found, is_framed}
 use Rattle.and_branch.proofs.MovedBranches.{moved_lives, one_tree}
 use Rattle.and_branch.proofs.KeptCalls.{call_of_open}
@@ -144,6 +144,12 @@ pub parent_has : (P : NamedProgram) (f : Fork) (c : ℕ) → CanBeMade P f c →
 parent_has P f c x =
     let k = x.children in goal_there P f.parent x.tree k.branch k.open_goal f.goal k.goal_is (k.made ++ c ∷ x.rest) k.cut k.state
 
+-- The row of the branch that was forked is sound.
+pub parent_sound : (P : NamedProgram) (f : Fork) (t : QueryTree P.program) → AreChildren P f t → IsSound P f.parent.row
+parent_sound P f t k =
+    let lives : Lives P f.parent t = fork_lives P f.parent t k.branch k.open_goal f.goal k.goal_is (k.made ++ f.clauses) k.cut k.state in
+    lives.keeps.sound
+
 pub child_next : (P : NamedProgram) (f : Fork) (c : ℕ) → CanBeMade P f c → (key : List ℕ) (trail : Noted) (mid : Held)
     → IsMoved (record f.parent { key = key; trail = trail }) mid
     → (g : Goal) × (rest : List Goal) × (mid.right ≡ g ∷ rest) × IsSameItem g f.goal → HasNextCall P mid c
@@ -155,28 +161,25 @@ child_next P f c x key trail mid moved (g, rest, next, same) =
 pub child_made : (P : NamedProgram) (f : Fork) (c : ℕ) (key : List ℕ) (trail : Noted) → key ≡ f.longer ++ c ∷ [] → (mid new : Held)
     → IsMoved (record f.parent { key = key; trail = trail }) mid
     → (g : Goal) × (rest : List Goal) × (mid.right ≡ g ∷ rest) × IsSameItem g f.goal
-    → SameKey mid new → IsReduced P mid new c → (new.trail.mark ≡ None) ⊎ GoesBack f.parent new → IsMade P f c new
-child_made P f c key trail is mid new moved (g, rest, next, same) keys reduced back = record {
+    → SameKey mid new → IsReduced P mid new c → IsMade P f c new
+child_made P f c key trail is mid new moved (g, rest, next, same) keys reduced = record {
   key = keys.key ∙ moved.key ∙ is;
   limit = keys.limit ∙ moved.limit;
   stands = λ others t u k split.
       child_stands P f.parent t k.branch k.open_goal f.goal k.goal_is (k.made ++ c ∷ others) k.cut k.state key trail mid moved g rest next same
       c (in_middle k.made others c) new keys reduced (is ∙ ap (λ (l : List ℕ). l ++ c ∷ []) k.longer) u split;
-  back = back;
 }
 
 -- ---- Its beginning
 
 pub begun_is : (P : NamedProgram) (f : Fork) (c : ℕ) (goal : Goal) (key : List ℕ) (trail : Noted) (b : Held) → CanBeMade P f c → goal ≡ f.goal
-    → key ≡ f.longer ++ c ∷ [] → (trail ≡ nothing_noted) ⊎ (trail ≡ noted_from f.parent.row)
-    → b ≡ record f.parent { key = key; trail = trail } → IsBegun P f c goal b
-begun_is P f c goal key trail b can of is begins e =
+    → key ≡ f.longer ++ c ∷ [] → b ≡ record f.parent { key = key; trail = trail } → IsBegun P f c goal b
+begun_is P f c goal key trail b can of is e =
     let noted : trail ≡ b.trail = sym (ap (λ (h : Held). h.trail) e) in record {
       can = can;
       goal_is = of;
       branch = e ∙ ap (λ (k : List ℕ). record f.parent { key = k; trail = trail }) is
           ∙ ap (λ (n : Noted). record f.parent { key = f.longer ++ c ∷ []; trail = n }) noted;
-      trail = subst (λ (n : Noted). (n ≡ nothing_noted) ⊎ (n ≡ noted_from f.parent.row)) noted begins;
     }
 
 module _ (P : NamedProgram) (f : Fork) (c : ℕ) (goal : Goal) (b : Held) (x : IsBegun P f c goal b) where
@@ -184,9 +187,6 @@ module _ (P : NamedProgram) (f : Fork) (c : ℕ) (goal : Goal) (b : Held) (x : I
   begun_has =
       subst (λ (h : Held). HasItem (h.left ++ h.right) goal) (sym x.branch)
       (subst (λ (g : Goal). HasItem (f.parent.left ++ f.parent.right) g) (sym x.goal_is) (parent_has P f c x.can))
-
-  begun_back : (b.trail.mark ≡ None) ⊎ GoesBack f.parent b
-  begun_back = goes_nowhere f.parent b (ap (λ (h : Held). h.row) x.branch) (ap (λ (h : Held). h.reductions) x.branch) x.trail
 
   module _ (mid : Held) (moved : IsMoved b mid) (at : (g : Goal) × (rest : List Goal) × (mid.right ≡ g ∷ rest) × IsSameItem g goal) where
     begun_moved : IsMoved (record f.parent { key = f.longer ++ c ∷ []; trail = b.trail }) mid
@@ -198,10 +198,8 @@ module _ (P : NamedProgram) (f : Fork) (c : ℕ) (goal : Goal) (b : Held) (x : I
     pub begun_next : HasNextCall P mid c
     begun_next = child_next P f c x.can (f.longer ++ c ∷ []) b.trail mid begun_moved begun_at
 
-    pub begun_made : (new : Held) → SameKey mid new → IsReduced P mid new c → KeepsBack mid new → IsMade P f c new
-    begun_made new keys reduced back =
-        child_made P f c (f.longer ++ c ∷ []) b.trail refl mid new begun_moved begun_at keys reduced
-        (goes_back_on f.parent b new (kept_then b mid new moved.back back) begun_back)
+    pub begun_made : (new : Held) → SameKey mid new → IsReduced P mid new c → IsMade P f c new
+    begun_made new keys reduced = child_made P f c (f.longer ++ c ∷ []) b.trail refl mid new begun_moved begun_at keys reduced
 
 -- ---- The children that are still to come
 
@@ -215,6 +213,15 @@ next_clause cs ns n c e at =
     ∙ ap (λ (d : ClauseNo). d.0) (get_or_from_slice_get cs n c c at) in
     let within : n < length ns = omega arith in
     drop-cons ns n 0 within ∙ ap (λ (k : ℕ). k ∷ drop (suc n) ns) item ∙ ap (λ (k : ℕ). c.0 ∷ drop k ns) (sym (add-one n))
+
+-- Where some are still to come, fewer were made than there are.
+pub some_left : (cs : List ClauseNo) (made : ℕ) → drop made (numbers cs) ≢ [] → made < length cs
+some_left cs made some = elim (cases_lt made (length cs)) [
+  | inl below ↦ below
+  | inr above ↦
+      (let long : length (numbers cs) ≡ length cs = length-map cs (λ (d : ClauseNo). d.0) in
+      absurd (some (drop_all made (numbers cs) (omega arith))))
+]
 
 -- one behind so many of those that are still to come
 pub later_clause : (ns : List ℕ) (made place c : ℕ) → drop (made + place) ns ≡ c ∷ drop (made + place + 1) ns
@@ -240,7 +247,6 @@ child_is P f n c e b m = record {
   limit = m.limit;
   stands = λ t u k split. m.stands (drop (n + 1) f.clauses) t u (subst (λ (l : List ℕ). AreChildren P (record f { clauses = l }) t) e k)
       split;
-  back = m.back;
 }
 
 pub same_value : {A E : Type 0} (r : Result (Option A) E) (x y : A) → r ≡ Ok (Some x) → r ≡ Ok (Some y) → x ≡ y

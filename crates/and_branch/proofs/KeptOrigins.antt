@@ -1,12 +1,13 @@
 -- What can be had again of a branch, after steps.
-use Rattle.std.proofs.Common.{ℕ, ◌≡◌, ◌≢◌, ◌⊎◌, inl, inr, List, [], ◌∷◌, ◌++◌, length, append-nil, append_assoc}
-use Rattle.std.proofs.Common.{refl, ap, sym, ◌∙◌, subst, arith, take, None}
+use Rattle.std.proofs.Common.{ℕ, ◌≡◌, ◌≢◌, ◌⊎◌, Bool, inl, inr, List, [], ◌∷◌, ◌++◌, length, append-nil, append_assoc}
+use Rattle.std.proofs.Common.{refl, ap, sym, ◌∙◌, subst, arith, take, None, Some}
 use Rattle.std.specs.Prelude.{Result, OnOk}
-use Rattle.std.proofs.lemmas.List.{length-map, take-map}
+use Rattle.std.proofs.lemmas.List.{take-map}
 use Rattle.std.proofs.lemmas.Result.{on_ok_weaker}
 use Rattle.std.proofs.Math.Seq.{take-append_seam}
 use Rattle.and_model.specs.Reductions.{Reduction}
 use Rattle.and_model.specs.declared.goal
+use Rattle.and_model.specs.declared.goal.Goal.{Goal}
 use Rattle.and_model.specs.declared.reference.Ref.{Ref}
 use Rattle.and_cells.specs.Ranges.{NamedProgram}
 use Rattle.and_cells.specs.Rows.{OnlySet, IsSound, taken_back}
@@ -14,35 +15,43 @@ use Rattle.and_cells.proofs.TakingBack.{took_back}
 use Rattle.and_code.specs.Written.{written, all_written}
 use Rattle.and_reduction.specs.Trails.{Noted, IsNoted, KeepsNoted}
 use Rattle.and_branch.specs.Branches.{Held}
-use Rattle.and_branch.specs.Origins.{GoesBack, KeepsBack, lost, kept}
+use Rattle.and_branch.specs.Origins.{GoesBack, KeepsBack, KeepsWhatIsNoted, GoBackFrom}
 use Rattle.and_branch.specs.Making.{nothing_noted, noted_from}
+use Rattle.and_branch.specs.Outlines.{IsOutlineOf, outlined}
+use Rattle.and_branch.specs.Watching.{Watched}
+use Rattle.and_branch.specs.declared.outline.Outline.{Outline}
 
 -- It is kept by two steps,
 pub kept_then : (one two three : Held) → KeepsBack one two → KeepsBack two three → KeepsBack one three
-kept_then one two three x (lost e) = lost e
-kept_then one two three (lost e) (kept same back) = lost (same ∙ e)
-kept_then one two three (kept is first_back) (kept same back) = kept (same ∙ is) (λ first x. back first (first_back first x))
+kept_then one two three x y =
+    record { mark = y.mark ∙ x.mark; again = λ first h. y.again first (x.again first h) }
 
 -- by one that noted what it set, and made reductions,
 pub kept_noted : (old new : Held) (made : List Reduction) → new.reductions ≡ old.reductions ++ made
     → KeepsNoted old.trail new.trail old.row new.row → KeepsBack old new
-kept_noted old new made e noted = kept noted.mark (λ first x. record {
-  row = noted.noted first.row x.row;
-  made = x.made ++ made;
-  reductions = e ∙ ap (λ (l : List Reduction). l ++ made) x.reductions ∙ append_assoc first.reductions x.made made;
-})
+kept_noted old new made e noted = record {
+  mark = noted.mark;
+  again = λ first x. record {
+    row = noted.noted first.row x.row;
+    made = x.made ++ made;
+    reductions = e ∙ ap (λ (l : List Reduction). l ++ made) x.reductions ∙ append_assoc first.reductions x.made made;
+  };
+}
 
 pub noted_nothing : (n : Noted) (row : List Ref) → KeepsNoted n n row row
 noted_nothing n row = record { mark = refl; noted = λ first x. x }
 
 -- and where nothing that it rests on is different;
 pub kept_same : (old new : Held) → new.row ≡ old.row → new.reductions ≡ old.reductions → new.trail ≡ old.trail → KeepsBack old new
-kept_same old new row reductions trail = kept (ap (λ (n : Noted). n.mark) trail) (λ first x. record {
-  row = subst (λ (n : Noted). IsNoted first.row n new.row) (sym trail)
-      (subst (λ (l : List Ref). IsNoted first.row old.trail l) (sym row) x.row);
-  made = x.made;
-  reductions = reductions ∙ x.reductions;
-})
+kept_same old new row reductions trail = record {
+  mark = ap (λ (n : Noted). n.mark) trail;
+  again = λ first x. record {
+    row = subst (λ (n : Noted). IsNoted first.row n new.row) (sym trail)
+        (subst (λ (l : List Ref). IsNoted first.row old.trail l) (sym row) x.row);
+    made = x.made;
+    reductions = reductions ∙ x.reductions;
+  };
+}
 
 pub kept_nowhere : (b : Held) → KeepsBack b b
 kept_nowhere b = kept_same b b refl refl refl
@@ -63,12 +72,27 @@ pub reduced_back : (b old : Held) → b ≡ old → (new : Held) (made : Reducti
     → KeepsNoted b.trail new.trail b.row new.row → KeepsBack old new
 reduced_back b old e new made is noted = subst (λ (d : Held). KeepsBack d new) e (kept_noted b new (made ∷ []) is noted)
 
--- What a branch goes back to, it goes back to after steps.
-pub goes_back_on : (first old new : Held) → KeepsBack old new → (old.trail.mark ≡ None) ⊎ GoesBack first old
+-- What a branch goes back to, it goes back to after steps, unless nothing is noted any longer.
+pub goes_back_on : (first old new : Held) → KeepsWhatIsNoted old new → (old.trail.mark ≡ None) ⊎ GoesBack first old
     → (new.trail.mark ≡ None) ⊎ GoesBack first new
-goes_back_on first old new (lost e) x = inl e
-goes_back_on first old new (kept same back) (inl e) = inl (same ∙ e)
-goes_back_on first old new (kept same back) (inr x) = inr (back first x)
+goes_back_on first old new (inl e) x = inl e
+goes_back_on first old new (inr k) (inl e) = inl (k.mark ∙ e)
+goes_back_on first old new (inr k) (inr x) = inr (k.again first x)
+
+-- It is so of all that branches one behind the other go back to.
+pub go_back_on : (old new : Held) (forked : List Held) → KeepsBack old new → GoBackFrom old forked → GoBackFrom new forked
+go_back_on old new [] k x = tt
+go_back_on old new (first ∷ others) k (x, rest) = (k.again first x, rest)
+
+-- Where nothing is noted, all that could be had can be.
+pub kept_unnoted : (old new : Held) → old.trail ≡ nothing_noted → new.trail.mark ≡ None → KeepsBack old new
+kept_unnoted old new none lost = record {
+  mark = lost ∙ sym (ap (λ (n : Noted). n.mark) none);
+  again = λ first x. absurd (let e = x.row.mark in let n = ap (λ (n : Noted). n.mark) none in none_noted old first e n);
+}
+  where
+    none_noted : (b first : Held) → b.trail.mark ≡ Some (length first.row) → b.trail.mark ≡ None → ⊥
+    none_noted b first e n = cc
 
 -- Where something is noted, it goes back.
 pub goes_back : (first b : Held) → (b.trail.mark ≡ None) ⊎ GoesBack first b → b.trail.mark ≢ None → GoesBack first b
@@ -84,54 +108,47 @@ nothing_set row = record {
   others = λ place below. inl refl;
 }
 
-pub goes_nowhere : (first b : Held) → b.row ≡ first.row → b.reductions ≡ first.reductions
-    → (b.trail ≡ nothing_noted) ⊎ (b.trail ≡ noted_from first.row) → (b.trail.mark ≡ None) ⊎ GoesBack first b
-goes_nowhere first b row reductions (inl e) = inl (ap (λ (n : Noted). n.mark) e)
-goes_nowhere first b row reductions (inr e) = inr (record {
+pub goes_nowhere : (first b : Held) → b.row ≡ first.row → b.reductions ≡ first.reductions → b.trail ≡ noted_from first.row
+    → GoesBack first b
+goes_nowhere first b row reductions e = record {
   row = subst (λ (n : Noted). IsNoted first.row n b.row) (sym e)
       (subst (λ (l : List Ref). IsNoted first.row (noted_from first.row) l) (sym row) (record { mark = refl; only = nothing_set first.row }));
   made = [];
   reductions = reductions ∙ sym (append-nil first.reductions);
-})
+}
 
 -- ---- A branch that goes back
 
 -- what the reductions come to, cut off
-reductions_again : (rs fs : List goal.Reduction.Reduction) (made : List Reduction) (count : ℕ) → all_written rs ≡ all_written fs ++ made
-    → count ≡ length fs → all_written (take count rs) ≡ all_written fs
-reductions_again rs fs made count e is =
-    let long : length (all_written fs) ≡ length fs = length-map fs written in
+reductions_again : (rs : List goal.Reduction.Reduction) (firsts made : List Reduction) (count : ℕ) → all_written rs ≡ firsts ++ made
+    → length firsts ≡ count → all_written (take count rs) ≡ firsts
+reductions_again rs firsts made count e is =
     sym (take-map written count rs)
-    ∙ ap (λ (n : ℕ). take n (all_written rs)) (is ∙ sym long)
-    ∙ ap (λ (l : List Reduction). take (length (all_written fs)) l) e
-    ∙ take-append_seam (all_written fs) made
+    ∙ ap (λ (n : ℕ). take n (all_written rs)) (sym is)
+    ∙ ap (λ (l : List Reduction). take (length firsts) l) e
+    ∙ take-append_seam firsts made
 
-module _ (b old f first : Held) (is : b ≡ old) (first_is : f ≡ first) (x : GoesBack first old) where
+module _ (b old first : Held) (is : b ≡ old) (x : GoesBack first old) where
   -- its row is that of the first branch,
-  pub row_again : (cells : List ℕ) (words : ℕ) → cells ≡ b.trail.cells → words ≡ length f.row → taken_back b.row cells words ≡ f.row
+  pub row_again : (cells : List ℕ) (words : ℕ) → cells ≡ b.trail.cells → length first.row ≡ words → taken_back b.row cells words ≡ first.row
   row_again cells words cells_are words_are =
       let noted = x.row in
-      let at_first : words ≡ length first.row = words_are ∙ ap (λ (h : Held). length h.row) first_is in
       let set : cells ≡ old.trail.cells = cells_are ∙ ap (λ (h : Held). h.trail.cells) is in
       ap (λ (h : Held). taken_back h.row cells words) is
       ∙ ap (λ (l : List ℕ). taken_back old.row l words) set
-      ∙ ap (λ (n : ℕ). taken_back old.row old.trail.cells n) at_first
+      ∙ ap (λ (n : ℕ). taken_back old.row old.trail.cells n) (sym words_are)
       ∙ took_back first.row old.row old.trail.cells noted.only
-      ∙ ap (λ (h : Held). h.row) (sym first_is)
 
-  pub row_sound : (P : NamedProgram) (cells : List ℕ) (words : ℕ) → cells ≡ b.trail.cells → words ≡ length f.row → IsSound P f.row
+  pub row_sound : (P : NamedProgram) (cells : List ℕ) (words : ℕ) → cells ≡ b.trail.cells → length first.row ≡ words → IsSound P first.row
       → IsSound P (taken_back b.row cells words)
   row_sound P cells words cells_are words_are sound =
       subst (λ (l : List Ref). IsSound P l) (sym (row_again cells words cells_are words_are)) sound
 
   -- and its reductions are,
-  pub reductions_back : (rs fs : List goal.Reduction.Reduction) (count : ℕ) → all_written rs ≡ b.reductions → all_written fs ≡ f.reductions
-      → count ≡ length fs → all_written (take count rs) ≡ first.reductions
-  reductions_back rs fs count rs_are fs_are count_is =
-      let firsts : all_written fs ≡ first.reductions = fs_are ∙ ap (λ (h : Held). h.reductions) first_is in
-      let all : all_written rs ≡ all_written fs ++ x.made =
-      rs_are ∙ ap (λ (h : Held). h.reductions) is ∙ x.reductions ∙ ap (λ (l : List Reduction). l ++ x.made) (sym firsts) in
-      reductions_again rs fs x.made count all count_is ∙ firsts
+  pub reductions_back : (rs : List goal.Reduction.Reduction) (count : ℕ) → all_written rs ≡ b.reductions → length first.reductions ≡ count
+      → all_written (take count rs) ≡ first.reductions
+  reductions_back rs count rs_are count_is =
+      reductions_again rs first.reductions x.made count (rs_are ∙ ap (λ (h : Held). h.reductions) is ∙ x.reductions) count_is
 
 -- so that it is the branch that it was, but for the rest.
 pub gone_back : (b old first : Held) → b ≡ old → (row : List Ref) (reductions : List Reduction) (trail : Noted) → row ≡ first.row
@@ -143,11 +160,38 @@ gone_back b old first e row reductions trail row_is reductions_are trail_is =
     ∙ ap (λ (l : List Reduction). record old { row = first.row; reductions = l; trail = trail }) reductions_are
     ∙ ap (λ (n : Noted). record old { row = first.row; reductions = first.reductions; trail = n }) trail_is
 
--- The rest is filled in.
-pub made_again : (b mid new first : Held) (key : List ℕ)
-    → mid ≡ record b { row = first.row; reductions = first.reductions; trail = noted_from first.row }
-    → new ≡ record first { key = mid.key; row = mid.row; reductions = mid.reductions; trail = mid.trail }
-    → record new { key = key } ≡ record first { key = key; trail = noted_from first.row }
-made_again b mid new first key back filled =
-    ap (λ (h : Held). record h { key = key }) filled
-    ∙ ap (λ (h : Held). record first { key = key; row = h.row; reductions = h.reductions; trail = h.trail }) back
+-- ---- What stands in an outline
+
+-- A branch has the outline that is made of it,
+pub outline_is : (b old : Held) (o : Outline) → b ≡ old → IsOutlineOf b o → IsOutlineOf old o
+outline_is b old o e x = subst (λ (h : Held). IsOutlineOf h o) e x
+
+-- and of the outline, the row and the reductions it is made again.
+module _ (first : Held) (o : Outline) (x : IsOutlineOf first o) where
+  outlined_is : (b : Held) → outlined b o ≡ record first { key = b.key; row = b.row; reductions = b.reductions; trail = b.trail }
+  outlined_is b =
+      ap (λ (l : List Goal). record (outlined b o) { left = l }) (sym x.left)
+      ∙ ap (λ (l : List Goal). record (outlined b o) { left = first.left; right = l }) (sym x.right)
+      ∙ ap (λ (l : List Watched). record (outlined b o) { left = first.left; right = first.right; watches = l }) (sym x.watches)
+      ∙ ap (λ (n : ℕ). record (outlined b o) { left = first.left; right = first.right; watches = first.watches; used = n }) (sym x.used)
+      ∙ ap (λ (n : ℕ). record (outlined b o) {
+        left = first.left;
+        right = first.right;
+        watches = first.watches;
+        used = first.used;
+        limit = n;
+      }) (sym x.limit)
+      ∙ ap (λ (f : Bool). record first { key = b.key; row = b.row; reductions = b.reductions; trail = b.trail; is_failed = f }) (sym x.is_failed)
+
+  module _ (b mid new : Held) (key : List ℕ)
+      (back : mid ≡ record b { row = first.row; reductions = first.reductions; trail = noted_from first.row }) where
+    pub outlined_again : new ≡ outlined mid o → record new { key = key } ≡ record first { key = key; trail = noted_from first.row }
+    outlined_again filled =
+        ap (λ (h : Held). record h { key = key }) (filled ∙ outlined_is mid)
+        ∙ ap (λ (h : Held). record first { key = key; row = h.row; reductions = h.reductions; trail = h.trail }) back
+
+    pub outlined_first : new ≡ record (outlined mid o) { trail = o.trail } → record new { key = key } ≡ record first { key = key }
+    outlined_first filled =
+        ap (λ (h : Held). record h { key = key }) (filled ∙ ap (λ (h : Held). record h { trail = o.trail }) (outlined_is mid))
+        ∙ ap (λ (h : Held). record first { key = key; row = h.row; reductions = h.reductions; trail = o.trail }) back
+        ∙ ap (λ (n : Noted). record first { key = key; trail = n }) (sym x.trail)

@@ -14,7 +14,7 @@ use Rattle.and_branch_laws.specs.OwnVariables.{IsLoaded}
 use Rattle.and_branch_laws.specs.Kept.{item_at, node_item_at, task_in, is_call, IsCall, HasFreePair, goal_of, Kept}
 use Rattle.and_branch_laws.proofs.Places.{middle_has}
 use Rattle.and_branch_laws.proofs.Asking
-use Rattle.and_determinacy.specs.Candidates.{CanBeJudged}
+use Rattle.and_guards.specs.Goals.{CanBeJudged}
 use Rattle.and_reduction.specs.Runs.{CanBeRun, HasUnnamedPair}
 use Rattle.and_reduction.proofs.KeptGoals.{kept_pair_is_unnamed}
 use Rattle.and_branch.specs.Branches.{Held, Lives, IsOpenGoal}

@@ -17,7 +17,7 @@ use Rattle.and_cells.specs.Meaning.{IsSettled}
 use Rattle.and_branch_laws.specs.OwnVariables.{IsLoaded}
 use Rattle.and_branch_laws.specs.Judging.{CandidateInCells, SoleInCells}
 use Rattle.and_branch_laws.specs.Kept.{item_at}
-use Rattle.and_determinacy.specs.Candidates.{CanBeJudged}
+use Rattle.and_guards.specs.Goals.{CanBeJudged}
 use Rattle.and_reduction.specs.Runs.{CanBeRun, IsWaiting, HasRun, CannotHold}
 use Rattle.and_reduction.specs.Trails.{Noted}
 use Rattle.and_branch.specs.Branches.{Held, Lives, IsBranch, IsBranchOf, SameKey, is_arithmetic, IsArithmeticGoal}
@@ -96,7 +96,7 @@ module _ (P : NamedProgram) (b : Held) (g : Goal) (x : IsAt P b g) where
 pub no_steps : (P : NamedProgram) (b : Held) → StepsOn P b b
 no_steps P b = record { each = λ t x. (t, x, none t); back = kept_nowhere b }
 
-steps_join : (P : NamedProgram) (t u v : QueryTree P.program) → Steps t u → Steps u v → Steps t v
+pub steps_join : (P : NamedProgram) (t u v : QueryTree P.program) → Steps t u → Steps u v → Steps t v
 steps_join P t u v x (none w) = x
 steps_join P t u v x (more y w next steps step) = more t w next (steps_join P t y w x steps) step
 

@@ -8,6 +8,7 @@ use Rattle.and_model.specs.declared.reference.Ref.{Ref}
 use Rattle.and_laws.proofs.Placing.{makes_same}
 use Rattle.and_cells.specs.Ranges.{NamedProgram}
 use Rattle.and_branch_laws.specs.Kept.{Kept}
+use Rattle.and_reduction.specs.Trails.{Noted}
 use Rattle.and_branch.specs.Branches.{Held, Lives, IsBranchOf}
 use Rattle.and_branch.specs.Next.{IsMoved}
 use Rattle.and_branch.specs.Watching.{IsAsleep}
@@ -64,3 +65,17 @@ moved_nowhere b = record {
 -- A branch stands for one tree.
 pub one_tree : (P : NamedProgram) (b : Held) (t u : QueryTree P.program) → IsBranchOf P b t → IsBranchOf P b u → t ≡ u
 one_tree P b t u x y = makes_same P.program b.reductions b.reductions t u x.made y.made (λ r. (λ h. h, λ h. h))
+
+-- What is noted of its row is of no account to what a branch stands for.
+pub unnoted_branch : (P : NamedProgram) (b : Held) (n : Noted) (t : QueryTree P.program) → IsBranchOf P b t
+    → IsBranchOf P (record b { trail = n }) t
+unnoted_branch P b n t x = record {
+  made = x.made;
+  reached = x.reached;
+  bounded = x.bounded;
+  used = x.used;
+  state = elim x.state [
+    | inl dead ↦ inl dead
+    | inr l ↦ inr (record { kept = l.kept; keeps = l.keeps; goals = l.goals; long = l.long; live = l.live; asleep = l.asleep })
+  ];
+}

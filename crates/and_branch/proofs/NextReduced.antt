@@ -19,7 +19,7 @@ use Rattle.and_branch_laws.specs.Reducing.{reduction_in_cells, reduction_by, goa
 use Rattle.and_branch_laws.specs.Settling.{widened, Settled}
 use Rattle.and_branch_laws.specs.Kept.{item_at, goal_of, IsCall, Kept}
 use Rattle.and_branch_laws.proofs.Stepping
-use Rattle.and_determinacy.specs.Candidates.{CanBeJudged}
+use Rattle.and_guards.specs.Goals.{CanBeJudged}
 use Rattle.and_branch.specs.Branches.{Held, Lives, IsBranchOf, IsOpenGoal, SameKey}
 use Rattle.and_branch.specs.Next.{HasNextCall, IsReduced}
 use Rattle.and_branch.specs.Watching.{Watched}

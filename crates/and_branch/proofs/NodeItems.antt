@@ -8,7 +8,7 @@ use Rattle.and_program.specs.Items.{node_item}
 use Rattle.and_program.specs.Skeletons
 use Rattle.and_program.specs.Skeletons.{Shape, NodeItem, item_of, node_term}
 use Rattle.and_program.specs.declared.item.ItemNode.{ItemNode}
-use Rattle.and_branch.specs.Next.{is_call_node}
+use Rattle.and_program.specs.Items.{is_call_node}
 use Rattle.and_branch.proofs.BodyStacks.{body_of}
 
 -- an item of a body is that of its nodes

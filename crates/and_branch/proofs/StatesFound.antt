@@ -16,7 +16,8 @@ use Rattle.and_laws.proofs.Ordered.{contains_first, contains_none}
 use Rattle.and_branch_laws.proofs.Lists.{all_of}
 use Rattle.and_cells.specs.Ranges.{NamedProgram}
 use Rattle.and_branch.proofs.SeenGoals.{contains_image}
-use Rattle.and_determinacy.specs.Candidates.{AreCandidates, CanBeJudged}
+use Rattle.and_determinacy.specs.Candidates.{AreCandidates}
+use Rattle.and_guards.specs.Goals.{CanBeJudged}
 use Rattle.and_branch_laws.specs.OwnVariables.{IsLoaded}
 use Rattle.and_branch_laws.specs.Judging.{CandidateInCells, SoleInCells, FitsBehind, NoneIsGround, EachHasTwo, NoCall}
 use Rattle.and_branch_laws.specs.Kept.{IsCall, goal_of, Kept}
@@ -30,8 +31,7 @@ use Rattle.and_branch.specs.States.{numbers, IsCutAt, IsCutOf, IsState}
 use Rattle.and_branch.specs.declared.state.BranchState.{BranchState}
 use Rattle.and_branch.specs.declared.state.BranchState.TheVariants.{Fork, OverLimit}
 use Rattle.and_branch.specs.Watching.{HasTwo}
-use Rattle.and_branch.specs.Finding.{IsCallGoal, AllCalls, HasOne, HasNoSole, HasNoFitting, IsCallAmong, IsSeveral}
-use Rattle.and_branch.specs.Finding.{IsHeavy, IsSeen}
+use Rattle.and_branch.specs.Finding.{IsCallGoal, AllCalls, HasOne, HasNoSole, HasNoFitting, IsCallAmong, IsSeveral, IsHeavy, IsSeen}
 use Rattle.and_branch.specs.Forking.{fits_in, first_other, HasCutBy}
 use Rattle.and_branch.specs.Resting.{IsResting}
 use Rattle.and_branch.proofs.LivingGoals.{Parts, parted}

@@ -1,5 +1,6 @@
 -- What holds of each branch (this project's own).
-use Rattle.std.specs.Prelude.{ℕ, ◌≡◌, ◌≤◌, ◌⊎◌, Bool, true, false, List, [], ◌∷◌, ◌++◌, map, filter, length, not, Contains}
+use Rattle.std.specs.Prelude.{ℕ, ◌≡◌, ◌≤◌, ◌⊎◌, Bool, true, false, List, [], ◌∷◌, ◌++◌, map, filter, length, not}
+use Rattle.std.specs.Prelude.{Contains}
 use Rattle.and_model.specs.Trees.{QueryTree, Open, weight, path}
 use Rattle.and_model.specs.Reached.{Dead, ReachedBy}
 use Rattle.and_model.specs.Reductions.{Reduction, Makes, PlaceHas}
@@ -41,7 +42,8 @@ pub record Held : Type 0 where
   pub reductions : List Reduction
   -- its cells
   pub row : List Ref
-  -- its goals, calls and arithmetic among each other in preorder: those before the place where it is at work, and those from there on
+  -- its goals, calls and arithmetic among each other in preorder: those before the place where it is at work, and
+  -- those from there on
   pub left : List Goal
   pub right : List Goal
   -- the weight used, and its limit
@@ -75,8 +77,8 @@ pub record Lives (P : NamedProgram) (b : Held) (t : QueryTree P.program) : Type 
   pub live : b.is_failed ≡ false
   pub asleep : (w : Watched) → Contains b.watches w → IsAsleep P b.row w
 
--- IsBranchOf P b t: the branch stands for the tree that its reductions make, which is reached by its key under its limit. It is marked
--- failed, and the tree is dead; or it keeps what a branch keeps.
+-- IsBranchOf P b t: the branch stands for the tree that its reductions make, which is reached by its key under its
+-- limit. It is marked failed, and the tree is dead; or it keeps what a branch keeps.
 pub record IsBranchOf (P : NamedProgram) (b : Held) (t : QueryTree P.program) : Type 0 where
   pub made : Makes P.program b.reductions t
   pub reached : ReachedBy P.program b.limit b.key t
@@ -94,7 +96,8 @@ pub record SameKey (old new : Held) : Type 0 where
   pub limit : new.limit ≡ old.limit
 
 -- Of the tree that these reductions make, the open call is the goal.
-pub record IsOpenGoal (P : NamedProgram) (rs : List Reduction) (t : QueryTree P.program) (o : Open t) (g : Goal) : Type 0 where
+pub record IsOpenGoal (P : NamedProgram) (rs : List Reduction) (t : QueryTree P.program) (o : Open t)
+    (g : Goal) : Type 0 where
   pub frame : Path
   pub place : PlaceHas rs g.node frame
   pub clause : ClauseHas rs g.node g.clause.0

@@ -1,22 +1,22 @@
 -- The children of a fork that are still to come.
-use Rattle.std.specs.Prelude.{ℕ, ◌≡◌, ◌⊎◌, ◌++◌, [], ◌∷◌, List, Option, None}
+use Rattle.std.specs.Prelude.{ℕ, ◌≡◌, ◌++◌, [], ◌∷◌, List, Option}
 use Rattle.and_model.specs.Trees.{QueryTree, Open, decided}
 use Rattle.and_model.specs.Reached.{Split}
 use Rattle.and_model.specs.declared.goal.Goal.{Goal}
 use Rattle.and_cells.specs.Ranges.{NamedProgram}
 use Rattle.and_branch_laws.specs.States.{StateOf, fork}
 use Rattle.and_branch.specs.Branches.{Held, IsBranchOf, IsOpenGoal}
-use Rattle.and_branch.specs.Origins.{GoesBack}
 
--- What contracts see of the children that are still to come: the branch that was forked, the goal that is taken by each, the key of each
--- but for the clause, and the clauses.
+-- What contracts see of the children that are still to come: the branch that was forked, the goal that is taken by
+-- each, the key of each but for the clause, and the clauses.
 pub record Fork : Type 0 where
   pub parent : Held
   pub goal : Goal
   pub longer : List ℕ
   pub clauses : List ℕ
 
--- The branch stands for the tree, whose state is a fork by some clauses of its leftmost goal, of which these are the last.
+-- The branch stands for the tree, whose state is a fork by some clauses of its leftmost goal, of which these are the
+-- last.
 pub record AreChildren (P : NamedProgram) (f : Fork) (t : QueryTree P.program) : Type 0 where
   pub branch : IsBranchOf P f.parent t
   pub open_goal : Open t
@@ -32,8 +32,7 @@ pub record IsForkOf (b : Held) (g : Goal) (clauses : List ℕ) (f : Fork) : Type
   pub goal : f.goal ≡ g
   pub clauses_are : f.clauses ≡ clauses
 
--- The branch is the child by the next of the clauses: it stands for the split of the tree by this clause. The branch that was forked can be
--- had again from it, or nothing is noted.
+-- The branch is the child by the next of the clauses: it stands for the split of the tree by this clause.
 pub record IsChild (P : NamedProgram) (old new : Fork) (b : Held) : Type 0 where
   pub clause : ℕ
   pub next : old.clauses ≡ clause ∷ new.clauses
@@ -43,4 +42,3 @@ pub record IsChild (P : NamedProgram) (old new : Fork) (b : Held) : Type 0 where
   pub key : b.key ≡ old.longer ++ clause ∷ []
   pub limit : b.limit ≡ old.parent.limit
   pub stands : (t u : QueryTree P.program) → AreChildren P old t → Split t clause u → IsBranchOf P b u
-  pub back : (b.trail.mark ≡ None) ⊎ GoesBack old.parent b

@@ -27,12 +27,13 @@ IsCallGoal P g = is_arithmetic (item_at P.program g) ≡ false
 abbrev pub IsCallOrArithmetic : Item → Type 0
 IsCallOrArithmetic i = ((term : Term) × (i ≡ call term)) ⊎ ((what : Arithmetic) × (i ≡ arithmetic what))
 
--- A goal that a branch keeps, as its cells have it: it is in range, a call or arithmetic, no cell of its variables is a word of a pair, and
--- its own pair is free and named by no word.
+-- A goal that a branch keeps, as its cells have it: it is in range, a call or arithmetic, no cell of its variables is
+-- a word of a pair, and its own pair is free and named by no word.
 pub record IsSeen (P : NamedProgram) (row : List Ref) (g : Goal) : Type 0 where
   pub in_range : IsGoalInRange P (length row) g
   pub kind : IsCallOrArithmetic (item_at P.program g)
-  pub whole : (v : Path × ℕ) → Contains (variables_of (term_of P.program g)) v → is_half (word_at row (g.base + 1 + v.1)) ≡ false
+  pub whole : (v : Path × ℕ) → Contains (variables_of (term_of P.program g)) v
+      → is_half (word_at row (g.base + 1 + v.1)) ≡ false
   pub free : HasFreePair P row g (node_item_at P g)
   pub unnamed : HasUnnamedPair P row g (node_item_at P g)
 
@@ -71,7 +72,8 @@ pub record IsSeveral (P : NamedProgram) (row : List Ref) (gs : List Goal) (goal 
   pub each : AllCalls P (HasTwo P row) gs
 
 -- It is the first with one candidate alone, and no call has one alone that fits.
-pub record IsHeavy (P : NamedProgram) (limit : ℕ) (row : List Ref) (gs : List Goal) (goal : Goal) (clause : ℕ) : Type 0 where
+pub record IsHeavy (P : NamedProgram) (limit : ℕ) (row : List Ref) (gs : List Goal) (goal : Goal)
+    (clause : ℕ) : Type 0 where
   pub among : IsCallAmong P gs goal
   pub sole : SoleInCells P row goal clause
   pub first : AllCalls P (HasNoSole P row) among.front
@@ -84,8 +86,8 @@ HasFound P limit row gs NoCall = AllCalls P (λ g. ⊥) gs
 HasFound P limit row gs (Several goal) = IsSeveral P row gs goal
 HasFound P limit row gs (Heavy goal clause) = IsHeavy P limit row gs goal clause.0
 
--- This is known of the calls among goals: each has two candidates; or this is the first with one alone, for which there is no room, and none
--- has one alone that fits.
+-- This is known of the calls among goals: each has two candidates; or this is the first with one alone, for which
+-- there is no room, and none has one alone that fits.
 abbrev pub HasHeavy : NamedProgram → ℕ → List Ref → List Goal → Option HeavyCall → Type 0
 HasHeavy P limit row gs None = AllCalls P (HasTwo P row) gs
 HasHeavy P limit row gs (Some heavy) = IsHeavy P limit row gs heavy.goal heavy.clause.0

@@ -28,4 +28,5 @@ abbrev pub HasCutBy : Held → Goal → Option ClauseNo → Option Cut → Type 
 HasCutBy b goal None None = Unit {0}
 HasCutBy b goal None (Some cut) = ⊥
 HasCutBy b goal (Some clause) None = ⊥
-HasCutBy b goal (Some clause) (Some cut) = (all_written cut.partial ≡ b.reductions) × (cut.goal ≡ goal) × (cut.clause ≡ clause)
+HasCutBy b goal (Some clause) (Some cut) =
+    (all_written cut.partial ≡ b.reductions) × (cut.goal ≡ goal) × (cut.clause ≡ clause)

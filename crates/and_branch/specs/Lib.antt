@@ -8,6 +8,7 @@ pub mod Resting
 pub mod Making
 pub mod Next
 pub mod Origins
+pub mod Outlines
 pub mod Parts
 pub mod Rebuilding
 pub mod Rounds

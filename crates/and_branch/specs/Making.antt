@@ -1,5 +1,5 @@
 -- How the children of a fork are made.
-use Rattle.std.specs.Prelude.{ℕ, ◌≡◌, ◌⊎◌, List, [], ◌∷◌, ◌++◌, length, None, Some}
+use Rattle.std.specs.Prelude.{ℕ, ◌≡◌, List, [], ◌∷◌, ◌++◌, length, None, Some}
 use Rattle.and_model.specs.Trees.{QueryTree}
 use Rattle.and_model.specs.Reached.{Split}
 use Rattle.and_model.specs.declared.goal.Goal.{Goal}
@@ -8,7 +8,6 @@ use Rattle.and_cells.specs.Ranges.{NamedProgram}
 use Rattle.and_reduction.specs.Trails.{Noted}
 use Rattle.and_branch.specs.Branches.{Held, IsBranchOf}
 use Rattle.and_branch.specs.Children.{Fork, AreChildren}
-use Rattle.and_branch.specs.Origins.{GoesBack}
 
 -- the fork from this clause on
 abbrev pub with_next : Fork → (clause : ℕ) → (rest : List ℕ) → Fork
@@ -20,12 +19,12 @@ pub record CanBeMade (P : NamedProgram) (f : Fork) (clause : ℕ) : Type 0 where
   pub tree : QueryTree P.program
   pub children : AreChildren P (with_next f clause rest) tree
 
--- The branch is the child by this clause. The branch that was forked can be had again from it, or nothing is noted.
+-- The branch is the child by this clause.
 pub record IsMade (P : NamedProgram) (f : Fork) (clause : ℕ) (b : Held) : Type 0 where
   pub key : b.key ≡ f.longer ++ clause ∷ []
   pub limit : b.limit ≡ f.parent.limit
-  pub stands : (rest : List ℕ) (t u : QueryTree P.program) → AreChildren P (with_next f clause rest) t → Split t clause u → IsBranchOf P b u
-  pub back : (b.trail.mark ≡ None) ⊎ GoesBack f.parent b
+  pub stands : (rest : List ℕ) (t u : QueryTree P.program) → AreChildren P (with_next f clause rest) t
+      → Split t clause u → IsBranchOf P b u
 
 -- nothing is noted of a row,
 abbrev pub nothing_noted : Noted
@@ -35,10 +34,9 @@ nothing_noted = record { mark = None; cells = [] }
 abbrev pub noted_from : List Ref → Noted
 noted_from row = record { mark = Some (length row); cells = [] }
 
--- The branch is the beginning of the child by this clause: the branch that was forked, with the child's key, where this goal is to be taken.
--- Either nothing is noted of its row, or what is set from here on.
+-- The branch is the beginning of the child by this clause: the branch that was forked, with the child's key, where
+-- this goal is to be taken. What is noted of its row is of no account.
 pub record IsBegun (P : NamedProgram) (f : Fork) (clause : ℕ) (goal : Goal) (b : Held) : Type 0 where
   pub can : CanBeMade P f clause
   pub goal_is : goal ≡ f.goal
   pub branch : b ≡ record f.parent { key = f.longer ++ clause ∷ []; trail = b.trail }
-  pub trail : (b.trail ≡ nothing_noted) ⊎ (b.trail ≡ noted_from f.parent.row)

@@ -27,10 +27,11 @@ pub record HasNextCall (P : NamedProgram) (b : Held) (clause : ℕ) : Type 0 whe
   pub there : clause ≤ length P.program.clauses
   pub fits : b.used + clause_weight (clause_at P.program clause) ≤ MAX_LIMIT
 
--- Where the old branch keeps what a branch does of a tree, the new one stands for the tree in which the next goal, where that is this open
--- call, is reduced by the clause; if this tree is reached by the key that the new branch has.
+-- Where the old branch keeps what a branch does of a tree, the new one stands for the tree in which the next goal,
+-- where that is this open call, is reduced by the clause; if this tree is reached by the key that the new branch has.
 pub record IsReduced (P : NamedProgram) (old new : Held) (c : ℕ) : Type 0 where
-  pub stands : (t : QueryTree P.program) (o : Open t) (g : Goal) (rest : List Goal) (of_it : Of P.program (call_of t o) c)
+  pub stands : (t : QueryTree P.program) (o : Open t) (g : Goal) (rest : List Goal)
+      (of_it : Of P.program (call_of t o) c)
       → Lives P old t → old.limit ≤ MAX_LIMIT → old.right ≡ g ∷ rest → IsOpenGoal P old.reductions t o g
       → ReachedBy P.program new.limit new.key (reduce t o c of_it) → IsBranchOf P new (reduce t o c of_it)
 
@@ -42,20 +43,12 @@ is_goal_item (Skeletons.is n m pair) = true
 is_goal_item (Skeletons.compare r n m) = true
 is_goal_item Skeletons.fail = false
 
--- It is a call.
-abbrev pub is_call_node : NodeItem → Bool
-is_call_node (Skeletons.call n) = true
-is_call_node (Skeletons.equal n m) = false
-is_call_node (Skeletons.is n m pair) = false
-is_call_node (Skeletons.compare r n m) = false
-is_call_node Skeletons.fail = false
-
 -- These goals were put at the place of work, none of which is watched.
 abbrev pub HasPut : List Goal → (old new : Pending) → Type 0
 HasPut gs old new = new ≡ record { left = old.left; right = map unwatched gs ++ old.right }
 
--- Nothing was done but that the place of work was moved, or less is watched. What could be had again of the branch still can be, or nothing
--- is noted any longer.
+-- Nothing was done but that the place of work was moved, or less is watched. What could be had again of the branch
+-- still can be, or nothing is noted any longer.
 pub record IsMoved (old new : Held) : Type 0 where
   pub key : new.key ≡ old.key
   pub limit : new.limit ≡ old.limit

@@ -1,5 +1,5 @@
 -- Branches of which the row and the reductions of another one can be had again (this project's own).
-use Rattle.std.specs.Prelude.{◌≡◌, ◌++◌, List, None}
+use Rattle.std.specs.Prelude.{◌≡◌, ◌⊎◌, ◌++◌, List, [], ◌∷◌, None}
 use Rattle.and_model.specs.Reductions.{Reduction}
 use Rattle.and_reduction.specs.Trails.{IsNoted}
 use Rattle.and_branch.specs.Branches.{Held}
@@ -10,7 +10,16 @@ pub record GoesBack (first b : Held) : Type 0 where
   pub made : List Reduction
   pub reductions : b.reductions ≡ first.reductions ++ made
 
--- KeepsBack old new: what could be had from the old branch can be had from the new one; or nothing is noted any longer.
-pub data KeepsBack (old new : Held) : Type 0 where
-  lost : new.trail.mark ≡ None → KeepsBack old new
-  kept : new.trail.mark ≡ old.trail.mark → ((first : Held) → GoesBack first old → GoesBack first new) → KeepsBack old new
+-- What could be had from the old branch can be had from the new one.
+pub record KeepsBack (old new : Held) : Type 0 where
+  pub mark : new.trail.mark ≡ old.trail.mark
+  pub again : (first : Held) → GoesBack first old → GoesBack first new
+
+-- So it is, or nothing is noted any longer.
+abbrev pub KeepsWhatIsNoted : (old new : Held) → Type 0
+KeepsWhatIsNoted old new = (new.trail.mark ≡ None) ⊎ KeepsBack old new
+
+-- Each of these branches can be had again from the one before it, and the first of them from the branch at work.
+abbrev pub GoBackFrom : Held → (forked : List Held) → Type 0
+GoBackFrom b [] = Unit {0}
+GoBackFrom b (first ∷ others) = GoesBack first b × GoBackFrom first others

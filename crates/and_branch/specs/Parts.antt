@@ -1,7 +1,9 @@
 -- Branches that are taken apart.
-use Rattle.std.specs.Prelude.{[], None}
+use Rattle.std.specs.Prelude.{[]}
 use Rattle.and_code.specs.Written.{all_written}
 use Rattle.and_branch.specs.Branches.{Held}
+use Rattle.and_branch.specs.Branches.{Held}
+use Rattle.and_branch.specs.Making.{nothing_noted}
 use Rattle.and_branch.specs.declared.parts.Parts.{Parts}
 
 -- the branch of these parts, at work behind its goals, of which none is watched, and of whose row nothing is noted
@@ -16,5 +18,9 @@ held_of parts = record {
   limit = parts.limit;
   is_failed = parts.is_failed;
   watches = [];
-  trail = record { mark = None; cells = [] };
+  trail = nothing_noted;
 }
+
+-- a branch, of whose row nothing is noted any longer
+abbrev pub unnoted : Held → Held
+unnoted b = record b { trail = nothing_noted }

@@ -1,5 +1,6 @@
 -- Rounds over the goals of a branch.
-use Rattle.std.specs.Prelude.{ℕ, ◌≡◌, ◌<◌, ◌+◌, ◌^◌, ◌⊎◌, Bool, true, false, List, [], ◌∷◌, ◌++◌, length, Contains, Option, Some, None}
+use Rattle.std.specs.Prelude.{ℕ, ◌≡◌, ◌<◌, ◌+◌, ◌^◌, ◌⊎◌, Bool, true, false, List, [], ◌∷◌, ◌++◌, length, Contains}
+use Rattle.std.specs.Prelude.{Option, Some, None}
 use Rattle.and_model.specs.Terms.{Term}
 use Rattle.and_model.specs.Programs.{call, Of}
 use Rattle.and_model.specs.Trees.{QueryTree}
@@ -27,16 +28,19 @@ use Rattle.and_branch.specs.declared.finding.Seen.{Seen}
 abbrev pub IsAtMost : NamedProgram → List Ref → Goal → ℕ → Type 0
 IsAtMost P row g c = Of P.program (term_of P.program g) c × ((d : ℕ) → CandidateInCells P row g d → d ≡ c)
 
--- Nothing is to be done for the goal in the row: it is arithmetic that waits, or a call that has no candidate alone which fits.
+-- Nothing is to be done for the goal in the row: it is arithmetic that waits, or a call that has no candidate alone
+-- which fits.
 pub record IsIdle (P : NamedProgram) (limit : ℕ) (row : List Ref) (g : Goal) : Type 0 where
   pub waits : IsWaiting P row g
-  pub several : (term : Term) → item_at P.program g ≡ call term → (c : ℕ) → SoleInCells P row g c → FitsBehind P limit row c → ⊥
+  pub several : (term : Term) → item_at P.program g ≡ call term → (c : ℕ) → SoleInCells P row g c
+      → FitsBehind P limit row c → ⊥
 
 -- So it is with each goal of the branch.
 abbrev pub IsStill : NamedProgram → Held → Type 0
 IsStill P b = (g : Goal) → Contains (b.left ++ b.right) g → IsIdle P b.limit b.row g
 
--- The new branch stands for a tree to which Steps lead from the old one's, and what could be had again of the old one can be of the new.
+-- The new branch stands for a tree to which Steps lead from the old one's, and what could be had again of the old one
+-- can be of the new.
 pub record StepsOn (P : NamedProgram) (old new : Held) : Type 0 where
   pub each : (t : QueryTree P.program) → IsBranchOf P old t → (u : QueryTree P.program) × IsBranchOf P new u × Steps t u
   pub back : KeepsBack old new
@@ -51,7 +55,8 @@ AreFew b = goal_count b < 2 ^ 64
 
 -- The tree grew, or a goal less is left.
 abbrev pub HasProgressed : (old new : Held) → Type 0
-HasProgressed old new = AreFew new × ((old.used < new.used) ⊎ ((new.used ≡ old.used) × (goal_count new < goal_count old)))
+HasProgressed old new = AreFew new
+    × ((old.used < new.used) ⊎ ((new.used ≡ old.used) × (goal_count new < goal_count old)))
 
 -- Nothing was done for any goal.
 pub record IsAlike (old new : Held) : Type 0 where
@@ -71,7 +76,8 @@ pub record IsDropped (old new : Held) (rest : List Goal) : Type 0 where
   pub others : new ≡ record old { right = rest; watches = new.watches }
   pub watches : (w : Watched) → Contains new.watches w → Contains old.watches w
 
--- The next goal was passed over; and if it might have been reduced, nothing is to be done for it, and this was seen of it.
+-- The next goal was passed over; and if it might have been reduced, nothing is to be done for it, and this was seen
+-- of it.
 pub record HasPassed (P : NamedProgram) (may : Bool) (old new : Held) (goal : Goal) (seen : Seen) : Type 0 where
   pub alike : IsAlike old new
   pub next : old.right ≡ goal ∷ new.right

@@ -39,4 +39,5 @@ pub record Sleeps (P : NamedProgram) (row : List Ref) (g : Goal) : Type 0 where
 
 -- So it is in whatever settled row this one grows to, as long as the cells that are watched are free.
 pub record IsAsleep (P : NamedProgram) (row : List Ref) (w : Watched) : Type 0 where
-  pub while_free : (later : List Ref) → Grows row later → IsSound P later → IsSettled P later → AreFree later w.cells → Sleeps P later w.goal
+  pub while_free : (later : List Ref) → Grows row later → IsSound P later → IsSettled P later → AreFree later w.cells
+      → Sleeps P later w.goal

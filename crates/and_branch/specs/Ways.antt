@@ -8,7 +8,8 @@ use Rattle.and_branch.specs.declared.finding.HeavyCall.{HeavyCall}
 use Rattle.and_branch.specs.declared.ways.Way.{Way}
 use Rattle.and_branch.specs.declared.ways.Way.TheVariants.{Onward, Back}
 
--- The place of work came to the next goal on this way: onward over goals that sleep, or back over goals of which there are fewer before it then.
+-- The place of work came to the next goal on this way: onward over goals that sleep, or back over goals of which
+-- there are fewer before it then.
 abbrev pub HasCome : NamedProgram → Way → (old new : Held) → (there : Bool) → Type 0
 HasCome P Onward old new there = (there ≡ true) × HasPassedSleepers P old new
 HasCome P Back old new there = IsMoved old new × (there ≡ true → length new.left < length old.left)

@@ -1,14 +1,16 @@
 //! Determinate goals, reduced until there are none.
 
-ghost use Rattle.std.specs.Prelude.{◌≡◌, ◌≢◌, ◌≤◌, ◌+◌, ◌⊎◌, [], ◌∷◌, ℕ, true, false, List, length, Ok, OnOk, IfOk, IfSome};
+ghost use Rattle.std.specs.Prelude.{◌≡◌, ◌≢◌, ◌≤◌, ◌+◌, ◌⊎◌, [], ◌∷◌, ℕ, true, false, List, length, Ok, OnOk, IfOk};
+ghost use Rattle.std.specs.Prelude.{IfSome};
 ghost use Rattle.and_model.specs.Terms.{Term};
 ghost use Rattle.and_model.specs.Programs.{call, Arithmetic, arithmetic, clause_at, clause_weight};
 ghost use Rattle.and_model.specs.declared.limits.TheConstants.{MAX_LIMIT};
 ghost use Rattle.and_model.specs.declared.goal.Goal.{Goal};
 ghost use Rattle.and_cells.specs.Meaning.{IsSettled};
 ghost use Rattle.and_cells.specs.Parts.{named};
-ghost use Rattle.and_determinacy.specs.Candidates.{CanBeJudged, IsJudged, IsNarrowed};
-ghost use Rattle.and_determinacy.specs.Tables.{IsTableOf};
+ghost use Rattle.and_guards.specs.Goals.{CanBeJudged};
+ghost use Rattle.and_determinacy.specs.Candidates.{IsJudged, IsNarrowed};
+ghost use Rattle.and_clause_index.specs.Tables.{IsTableOf};
 ghost use Rattle.and_determinacy.specs.Watching.{TwoStayWhile};
 ghost use Rattle.and_reduction.specs.Runs.{CanBeRun, IsWaiting, HasRun, CannotHold, WaitsFor};
 ghost use Rattle.and_branch_laws.specs.Judging.{CandidateInCells};
@@ -16,7 +18,8 @@ ghost use Rattle.and_branch_laws.specs.Kept.{item_at};
 ghost use Rattle.and_branch.specs.Branches.{IsBranch, SameKey};
 ghost use Rattle.and_branch.specs.Finding.{HasFound, HasHeavy};
 ghost use Rattle.and_branch.specs.Origins.{KeepsBack};
-ghost use Rattle.and_branch.specs.Rounds.{StepsOn, AreFew, IsAtMost, IsStill, LeftIsIdle, IsDropped, IsStillWith, LookIs, RoundIs, HasProgressed, HasStilled, IsAt};
+ghost use Rattle.and_branch.specs.Rounds.{StepsOn, AreFew, IsAtMost, IsStill, LeftIsIdle, IsDropped, IsStillWith};
+ghost use Rattle.and_branch.specs.Rounds.{LookIs, RoundIs, HasProgressed, HasStilled, IsAt};
 ghost use Rattle.and_branch.specs.declared.finding.Found.{Found};
 
 use crate::branch::Branch;
@@ -25,7 +28,8 @@ use crate::goals::is_call;
 use crate::ways::{Share, Way, turns_back};
 use crate::workspace::Workspace;
 use and_cells::Naming;
-use and_determinacy::{Determinacy, Judged, Narrowed, judge, narrow};
+use and_clause_index::Determinacy;
+use and_determinacy::{Judged, Narrowed, judge, narrow};
 use and_gate::Gate;
 use and_model::{ClauseNo, Goal};
 use and_program::Loaded;
@@ -256,7 +260,7 @@ impl<N: Naming> Branch<N> {
         ensures came_to { IfOk result (λ l. LookIs N.program may self.old self.new l) }
     {
         loaded.skeleton_is_of_the_program();
-        match self.narrow_next(loaded, table, goal, workspace)? {
+        match self.narrow_goal(loaded, table, goal, workspace)? {
             Narrowed::Nothing => {
                 self.mark_failed();
                 Ok(Looked::Failed)
@@ -390,7 +394,8 @@ impl<N: Naming> Branch<N> {
     fn next_goal(&self) -> Next
         ensures failed { result ≡ Next.Failed → self.now.is_failed ≡ true }
         ensures nothing { result ≡ Next.Nothing → (self.now.is_failed ≡ false) × (self.now.right ≡ []) }
-        ensures goal { (g : Goal) → result ≡ Next.Goal g → (self.now.is_failed ≡ false) × (rest : List Goal) × (self.now.right ≡ g ∷ rest) }
+        ensures goal { (g : Goal) → result ≡ Next.Goal g
+            → (self.now.is_failed ≡ false) × (rest : List Goal) × (self.now.right ≡ g ∷ rest) }
     {
         if self.is_failed {
             return Next::Failed;
@@ -401,9 +406,9 @@ impl<N: Naming> Branch<N> {
         }
     }
 
-    /// Narrows the candidates of the next goal, a call. Where it has several, the trials tell cells on
-    /// which two of them rest, or tell nothing. An error is want of memory, and the branch is spent.
-    fn narrow_next(
+    /// Narrows the candidates of a goal, a call. Where it has several, the trials tell cells on which two of
+    /// them rest, or tell nothing. The branch is as before. An error is want of memory.
+    pub fn narrow_goal(
         &mut self,
         loaded: &Loaded,
         table: &Determinacy,
@@ -417,13 +422,14 @@ impl<N: Naming> Branch<N> {
         requires goal { CanBeJudged N.program self.old.row goal }
         ensures same { SameKey self.old self.new }
         ensures narrowed { IfOk result (IsNarrowed N.program self.old.row goal) }
-        ensures told { result ≡ Ok Narrowed.Several → IfSome workspace.new.trials.rests (TwoStayWhile N.program self.old.row goal) }
-        ensures unchanged { OnOk result (self.new ≡ self.old) }
+        ensures told { result ≡ Ok Narrowed.Several
+            → IfSome workspace.new.trials.rests (TwoStayWhile N.program self.old.row goal) }
+        ensures unchanged { self.new ≡ self.old }
     {
         narrow(table, loaded, &mut self.cells, goal, &mut workspace.trials)
     }
 
-    /// Judges the next goal, a call. An error is want of memory, and the branch is spent.
+    /// Judges the next goal, a call. The branch is as before. An error is want of memory.
     fn judge_next(
         &mut self,
         loaded: &Loaded,
@@ -438,7 +444,7 @@ impl<N: Naming> Branch<N> {
         requires goal { CanBeJudged N.program self.old.row goal }
         ensures same { SameKey self.old self.new }
         ensures judged { IfOk result (IsJudged N.program self.old.row goal) }
-        ensures unchanged { OnOk result (self.new ≡ self.old) }
+        ensures unchanged { self.new ≡ self.old }
     {
         judge(table, loaded, &mut self.cells, goal, &mut workspace.trials)
     }
@@ -474,7 +480,8 @@ impl<N: Naming> Branch<N> {
         requires branch { IsBranch N.program self.now }
         requires live { self.now.is_failed ≡ false }
         requires past { self.now.right ≡ [] }
-        requires seen { changed ≡ false → LeftIsIdle N.program self.now × HasHeavy N.program self.now.limit self.now.row self.now.left heavy }
+        requires seen { changed ≡ false → LeftIsIdle N.program self.now
+            × HasHeavy N.program self.now.limit self.now.row self.now.left heavy }
         ensures changed { result ≡ Round.Changed → changed ≡ true }
         ensures still { (f : Found) → result ≡ Round.Still f → IsStillWith N.program self.now f }
         ensures never { result ≢ Round.Failed }

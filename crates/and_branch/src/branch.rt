@@ -82,7 +82,8 @@ impl<N: Naming> Branch<N> {
     pub fn root(alloc: Global, loaded: &Loaded, limit: u32, workspace: &mut Workspace) -> Rooted<N>
         requires program { N.program ≡ named loaded.now }
         requires limit { limit ≤ MAX_LIMIT }
-        ensures ready { (b : Held) → result ≡ Rooted.Ready b → IsBranchOf N.program b (blank (query_agenda N.program.program)) }
+        ensures ready { (b : Held) → result ≡ Rooted.Ready b
+            → IsBranchOf N.program b (blank (query_agenda N.program.program)) }
         ensures plain { (b : Held) → result ≡ Rooted.Ready b → (b.key ≡ []) × (b.limit ≡ limit) × (b.reductions ≡ []) }
         ensures heavy { (cut : Cut) → result ≡ Rooted.TooHeavy cut → limit < clause_weight N.program.program.query }
         ensures cut { (cut : Cut) → result ≡ Rooted.TooHeavy cut
@@ -126,6 +127,13 @@ impl<N: Naming> Branch<N> {
         ensures { result ≡ self.now.used }
     {
         self.used
+    }
+
+    /// Whether its tree was found dead. Takes no memory.
+    pub fn is_failed(&self) -> bool
+        ensures { result ≡ self.now.is_failed }
+    {
+        self.is_failed
     }
 
     /// A branch stands for its key: a law of branches.

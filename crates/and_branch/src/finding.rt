@@ -10,7 +10,8 @@ ghost use Rattle.and_branch.specs.Finding.{AllCalls, IsFirstCall, with_passed};
 
 use crate::forking::fits;
 use and_cells::{Naming, PlainCells};
-use and_determinacy::{Determinacy, Judged, Trials, judge};
+use and_clause_index::Determinacy;
+use and_determinacy::{Judged, Trials, judge};
 use and_model::{ClauseNo, Goal};
 use and_pending::PendingGoals;
 use and_program::{ItemNode, Loaded};

@@ -9,7 +9,7 @@ ghost use Rattle.and_program.specs.Loaded.{program_of};
 ghost use Rattle.and_program.specs.Items.{node_item};
 ghost use Rattle.and_branch_laws.specs.Kept.{goal_of, item_at};
 ghost use Rattle.and_branch_laws.specs.Reducing.{goal_at, body_goals};
-ghost use Rattle.and_branch.specs.Next.{is_goal_item, is_call_node, HasPut};
+ghost use Rattle.and_branch.specs.Next.{is_goal_item, HasPut};
 
 use and_model::{ClauseNo, Goal};
 use and_pending::PendingGoals;
@@ -25,7 +25,9 @@ pub(crate) fn push_body(
     node: u32,
 ) -> Result<(), AllocError>
     requires { clause.0 ≤ length (program_of loaded.now).clauses }
-    ensures { OnOk result (HasPut (map goal_of (body_goals clause.0 node [] 0 (clause_at (program_of loaded.now) clause.0).body)) goals.old goals.new) }
+    ensures { OnOk result (HasPut
+        (map goal_of (body_goals clause.0 node [] 0 (clause_at (program_of loaded.now) clause.0).body))
+        goals.old goals.new) }
 {
     let items = loaded.items(clause);
     let mut place = items.len();
@@ -44,7 +46,8 @@ fn push_item(
     node: u32,
     place: usize,
 ) -> Result<(), AllocError>
-    ensures goal { is_goal_item (node_item item) ≡ true → OnOk result (HasPut (goal_of (goal_at clause.0 node [] place) ∷ []) goals.old goals.new) }
+    ensures goal { is_goal_item (node_item item) ≡ true
+        → OnOk result (HasPut (goal_of (goal_at clause.0 node [] place) ∷ []) goals.old goals.new) }
     ensures other { is_goal_item (node_item item) ≡ false → OnOk result (goals.new ≡ goals.old) }
 {
     if is_goal(item) {
@@ -96,18 +99,5 @@ pub(crate) fn is_call(loaded: &Loaded, goal: Goal) -> bool
     ensures call { result ≡ true → (term : Term) × (item_at (program_of loaded.now) goal ≡ call term) }
     ensures arithmetic { result ≡ false → (a : Arithmetic) × (item_at (program_of loaded.now) goal ≡ arithmetic a) }
 {
-    is_call_item(loaded.items(goal.clause)[goal.item as usize])
-}
-
-/// Whether the item is a call.
-fn is_call_item(item: ItemNode) -> bool
-    ensures { result ≡ is_call_node (node_item item) }
-{
-    match item {
-        ItemNode::Call { .. } => true,
-        ItemNode::Equal { .. } => false,
-        ItemNode::Is { .. } => false,
-        ItemNode::Compare { .. } => false,
-        ItemNode::Fail => false,
-    }
+    loaded.items(goal.clause)[goal.item as usize].is_call()
 }

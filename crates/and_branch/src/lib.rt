@@ -6,10 +6,12 @@
 
 pub mod advancing;
 pub mod branch;
+pub mod choicepoint;
 mod finding;
 mod forking;
 mod goals;
 mod making;
+mod outline;
 pub mod parts;
 pub mod rebuilding;
 mod reducing;
@@ -23,6 +25,7 @@ pub mod workspace;
 
 pub use advancing::FIRST_ROUND;
 pub use branch::{Branch, Rooted};
+pub use choicepoint::{Choicepoint, Forked};
 pub use parts::Parts;
 pub use rebuilding::{NoRoom, Worked};
 pub use splitting::{BranchList, Split};

@@ -3,7 +3,8 @@
 //! The first is a copy. Where a child has ended, the next one is made of it at the cost of what it
 //! changed.
 
-ghost use Rattle.std.specs.Prelude.{◌≡◌, take, OnOk, IfOk, IfSome};
+ghost use Rattle.std.specs.Prelude.{◌≡◌, length, take, OnOk, IfOk, IfSome};
+ghost use Rattle.and_cells.specs.Rows.{IsSound};
 ghost use Rattle.and_branch.specs.Origins.{GoesBack};
 ghost use Rattle.and_branch.specs.Making.{nothing_noted, noted_from};
 
@@ -12,6 +13,7 @@ use and_cells::Naming;
 use and_model::{Code, ReductionList};
 use and_reduction::Trail;
 use std::alloc::{AllocError, Global};
+use std::snapshot::Snapshot;
 
 impl<N: Naming> Branch<N> {
     /// The same branch, but for the key, of whose row nothing is noted. Takes no memory.
@@ -76,12 +78,32 @@ impl<N: Naming> Branch<N> {
     /// Goes back to the row and the reductions of the first branch. Takes no memory.
     fn go_back(&mut self, first: &Branch<N>)
         requires { GoesBack first.now self.old }
-        ensures { self.new ≡ record self.old { row = first.now.row; reductions = first.now.reductions; trail = noted_from first.now.row } }
+        ensures { self.new ≡ record self.old {
+          row = first.now.row;
+          reductions = first.now.reductions;
+          trail = noted_from first.now.row;
+        } }
     {
         let words = first.cells.len();
+        let count = first.reductions.len();
+        self.go_back_by(&Snapshot::of(first), words, count);
+    }
+
+    /// The same, where the first branch's row has so many words, and so many reductions were made.
+    pub(crate) fn go_back_by(&mut self, first: &Snapshot<Branch<N>>, words: u32, count: usize)
+        requires sound { IsSound N.program first.now.value.row }
+        requires words { length first.now.value.row ≡ words }
+        requires count { length first.now.value.reductions ≡ count }
+        requires back { GoesBack first.now.value self.old }
+        ensures { self.new ≡ record self.old {
+          row = first.now.value.row;
+          reductions = first.now.value.reductions;
+          trail = noted_from first.now.value.row;
+        } }
+    {
         self.cells.take_back(self.trail.cells(), words);
         self.trail.begin_again(words);
-        cut_off(&mut self.reductions, first.reductions.len());
+        cut_off(&mut self.reductions, count);
     }
 
     /// Takes over from the first branch whatever does not stand in the row, the reductions or the key. An

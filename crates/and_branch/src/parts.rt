@@ -1,7 +1,7 @@
 //! Branches that are taken apart.
 
-ghost use Rattle.std.specs.Prelude.{◌≡◌, IfOk, IfErr};
-ghost use Rattle.and_branch.specs.Parts.{held_of};
+ghost use Rattle.std.specs.Prelude.{◌≡◌, ◌++◌, IfOk, IfErr};
+ghost use Rattle.and_branch.specs.Parts.{held_of, unnoted};
 ghost use Rattle.and_branch.specs.Next.{IsMoved};
 
 use crate::branch::Branch;
@@ -10,6 +10,7 @@ use and_cells::{Naming, PlainCells};
 use and_model::{Code, Goal, ReductionList};
 use and_pending::PendingGoals;
 use and_reduction::Trail;
+use std::alloc::AllocError;
 
 /// What a branch is made of.
 #[derive(Drop)]
@@ -27,9 +28,16 @@ pub struct Parts<N: Naming> {
 }
 
 impl<N: Naming> Branch<N> {
+    /// Its goals, calls and arithmetic among each other in preorder. An error is want of memory.
+    pub fn listed_goals(&self) -> Result<Vec<Goal>, AllocError>
+        ensures { IfOk result (λ goals. goals.items ≡ self.now.left ++ self.now.right) }
+    {
+        self.goals.all(self.goals.allocator())
+    }
+
     /// Takes the branch apart. An error is want of memory, and hands the branch back.
     pub fn parts(self) -> Result<Parts<N>, Branch<N>>
-        ensures parts { IfOk result (λ parts. IsMoved self (held_of parts)) }
+        ensures parts { IfOk result (λ parts. IsMoved (unnoted self) (held_of parts)) }
         ensures given_back { IfErr result (λ branch. branch ≡ self) }
     {
         let Ok(listed) = self.goals.all(self.goals.allocator()) else {

@@ -63,7 +63,8 @@ impl<N: Naming> Branch<N> {
             × IsWorked N.program parts.now work t u }
         ensures same { IfOk result (λ branch. SameKey (held_of parts.now) branch) }
         ensures reductions { IfOk result (λ branch. branch.reductions ≡ reductions_of parts.now work) }
-        ensures stands { IfOk result (λ branch. (t u : QueryTree N.program.program) → IsWorked N.program parts.now work t u
+        ensures stands { IfOk result (λ branch. (t u : QueryTree N.program.program)
+            → IsWorked N.program parts.now work t u
             → IsBranchOf N.program branch u) }
         ensures trail { IfOk result (λ branch. branch.trail.mark ≡ None) }
         ensures failed { IfOk result (λ branch. work.failed ≡ true → branch.is_failed ≡ true) }

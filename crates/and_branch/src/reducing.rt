@@ -31,7 +31,8 @@ impl<N: Naming> Branch<N> {
         requires program { N.program ≡ named loaded.now }
         requires next { HasNextCall N.program self.old clause.0 }
         ensures same { SameKey self.old self.new }
-        ensures used { OnOk result (self.new.used ≡ self.old.used + clause_weight (clause_at N.program.program clause.0)) }
+        ensures used { OnOk result (self.new.used
+            ≡ self.old.used + clause_weight (clause_at N.program.program clause.0)) }
         ensures reduced { OnOk result (IsReduced N.program self.old self.new clause.0) }
         ensures back { OnOk result (KeepsBack self.old self.new) }
     {
@@ -68,7 +69,8 @@ fn push_reduction(
     clause: ClauseNo,
     node: u32,
 ) -> Result<(), AllocError>
-    ensures { OnOk result (all_written reductions.new ≡ all_written reductions.old ++ reduction_by goal clause.0 node ∷ []) }
+    ensures { OnOk result (all_written reductions.new
+        ≡ all_written reductions.old ++ reduction_by goal clause.0 node ∷ []) }
 {
     let reduction = Reduction {
         parent: goal.node,

@@ -36,7 +36,8 @@ impl<N: Naming> Branch<N> {
         requires there { HasItem (self.old.left ++ self.old.right) goal }
         ensures same { SameKey self.old self.new }
         ensures moved { OnOk result (IsMoved self.old self.new) }
-        ensures found { OnOk result ((g : Goal) × (rest : List Goal) × (self.new.right ≡ g ∷ rest) × IsSameItem g goal) }
+        ensures found { OnOk result ((g : Goal) × (rest : List Goal) × (self.new.right ≡ g ∷ rest)
+            × IsSameItem g goal) }
     {
         self.pass_all()?;
         while !self.is_next(goal) {
@@ -85,8 +86,8 @@ impl<N: Naming> Branch<N> {
         Ok(())
     }
 
-    /// Goes back over goals that are asleep, to before the last that was passed and is not. Answers whether there is one. An error is want of
-    /// memory, and the branch is spent.
+    /// Goes back over goals that are asleep, to before the last that was passed and is not. Answers whether there is
+    /// one. An error is want of memory, and the branch is spent.
     pub(crate) fn back_up(&mut self) -> Result<bool, AllocError>
         ensures same { SameKey self.old self.new }
         ensures moved { OnOk result (IsMoved self.old self.new) }
@@ -97,8 +98,10 @@ impl<N: Naming> Branch<N> {
 
     /// Whether the next goal is this one.
     fn is_next(&self, goal: Goal) -> bool
-        ensures next { result ≡ true → (g : Goal) × (rest : List Goal) × (self.now.right ≡ g ∷ rest) × IsSameItem g goal }
-        ensures another { result ≡ false → (g : Goal) (rest : List Goal) → self.now.right ≡ g ∷ rest → IsSameItem g goal → ⊥ }
+        ensures next { result ≡ true → (g : Goal) × (rest : List Goal) × (self.now.right ≡ g ∷ rest)
+            × IsSameItem g goal }
+        ensures another { result ≡ false → (g : Goal) (rest : List Goal) → self.now.right ≡ g ∷ rest
+            → IsSameItem g goal → ⊥ }
     {
         match self.goals.next() {
             Some(next) => next.node == goal.node && next.item == goal.item,

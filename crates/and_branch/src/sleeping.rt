@@ -5,7 +5,7 @@ ghost use Rattle.and_model.specs.Programs.{Arithmetic, arithmetic};
 ghost use Rattle.and_model.specs.declared.goal.Goal.{Goal};
 ghost use Rattle.and_cells.specs.Meaning.{IsSettled};
 ghost use Rattle.and_cells.specs.Parts.{named};
-ghost use Rattle.and_determinacy.specs.Candidates.{CanBeJudged};
+ghost use Rattle.and_guards.specs.Goals.{CanBeJudged};
 ghost use Rattle.and_determinacy.specs.Watching.{TwoStayWhile};
 ghost use Rattle.and_branch_laws.specs.Kept.{item_at};
 ghost use Rattle.and_reduction.specs.Runs.{WaitsFor};

@@ -1,6 +1,7 @@
 //! Forks: a branch that is split, and its children.
 
-ghost use Rattle.std.specs.Prelude.{◌≡◌, ◌≢◌, ◌<◌, ◌+◌, ◌∷◌, [], drop, length, ℕ, Option, None, Some, Ok, OnErr, IfOk, IfErr, IfSome};
+ghost use Rattle.std.specs.Prelude.{◌≡◌, ◌≢◌, ◌<◌, ◌+◌, ◌∷◌, [], drop, length, ℕ, Option, None, Some, Ok, OnErr, IfOk};
+ghost use Rattle.std.specs.Prelude.{IfErr, IfSome};
 ghost use Rattle.and_model.specs.Trees.{QueryTree, Open};
 ghost use Rattle.and_cells.specs.Parts.{named};
 ghost use Rattle.and_branch_laws.specs.States.{StateOf, fork};
@@ -8,7 +9,7 @@ ghost use Rattle.and_branch.specs.Branches.{Held, IsBranchOf, IsOpenGoal};
 ghost use Rattle.and_branch.specs.States.{numbers};
 ghost use Rattle.and_branch.specs.Children.{Fork, AreChildren, IsChild, IsForkOf};
 ghost use Rattle.and_branch.specs.Making.{CanBeMade, IsBegun, IsMade};
-ghost use Rattle.and_branch.specs.Origins.{GoesBack};
+ghost use Rattle.and_branch.specs.Origins.{GoesBack, KeepsBack};
 
 use crate::branch::Branch;
 use crate::workspace::Workspace;
@@ -35,7 +36,12 @@ impl<N: Naming> Model for Split<N> {
 
     ghost Value = { Fork };
 
-    ghost view = { λ split. record { parent = split.parent; goal = split.goal; longer = split.longer; clauses = numbers split.clauses } };
+    ghost view = { λ split. record {
+      parent = split.parent;
+      goal = split.goal;
+      longer = split.longer;
+      clauses = numbers split.clauses;
+    } };
 }
 
 /// The children of a fork that are still to come, in textual order. Each is made when its turn comes.
@@ -71,10 +77,13 @@ impl<N: Naming> Branch<N> {
         clauses: ClauseList,
     ) -> Result<Split<N>, Branch<N>>
         requires program { N.program ≡ named loaded.now }
-        requires fork { (t : QueryTree N.program.program) × (o : Open t) × (cut : Option ℕ) × IsBranchOf N.program self t
-            × IsOpenGoal N.program self.reductions t o goal × StateOf N.program.program self.limit t (fork o (numbers clauses) cut) }
+        requires fork { (t : QueryTree N.program.program) × (o : Open t) × (cut : Option ℕ)
+            × IsBranchOf N.program self t
+            × IsOpenGoal N.program self.reductions t o goal
+            × StateOf N.program.program self.limit t (fork o (numbers clauses) cut) }
         ensures split { IfOk result (IsForkOf self goal (numbers clauses)) }
-        ensures children { IfOk result (λ s. (t : QueryTree N.program.program) → IsBranchOf N.program self t → AreChildren N.program s t) }
+        ensures children { IfOk result (λ s. (t : QueryTree N.program.program) → IsBranchOf N.program self t
+            → AreChildren N.program s t) }
         ensures given_back { IfErr result (λ branch. branch ≡ self) }
     {
         match decided_by(alloc, loaded, &self.reductions) {
@@ -90,7 +99,7 @@ impl<N: Naming> Branch<N> {
 
     /// The child of a fork, of which this is the beginning: the goal is taken by the clause. An error is
     /// want of memory.
-    fn taking(
+    pub(crate) fn taking(
         self,
         loaded: &Loaded,
         goal: Goal,
@@ -99,7 +108,9 @@ impl<N: Naming> Branch<N> {
     ) -> Result<Branch<N>, AllocError>
         requires program { N.program ≡ named loaded.now }
         requires begun { (f : Fork) × IsBegun N.program f clause.0 goal self }
-        ensures { IfOk result (λ b. (f : Fork) → IsBegun N.program f clause.0 goal self → IsMade N.program f clause.0 b) }
+        ensures made { IfOk result (λ b. (f : Fork) → IsBegun N.program f clause.0 goal self
+            → IsMade N.program f clause.0 b) }
+        ensures back { IfOk result (KeepsBack self) }
     {
         let mut child = self;
         child.seek(goal)?;
@@ -143,7 +154,8 @@ impl<N: Naming> Split<N> {
         requires program { N.program ≡ named loaded.now }
         requires next { CanBeMade N.program self.now clause.0 }
         requires spare { IfSome spare (GoesBack self.now.parent) }
-        ensures { IfOk result (IsMade N.program self.now clause.0) }
+        ensures made { IfOk result (IsMade N.program self.now clause.0) }
+        ensures back { IfOk result (GoesBack self.now.parent) }
     {
         let mut key = self.longer.copy()?;
         key.push(clause)?;
@@ -235,6 +247,7 @@ impl<N: Naming> BranchList<N> {
         requires children { (t : QueryTree N.program.program) × AreChildren N.program self.old t }
         ensures none { result ≡ Ok None → self.old.clauses ≡ [] }
         ensures some { (b : Held) → result ≡ Ok (Some b) → IsChild N.program self.old self.new b }
+        ensures back { (b : Held) → result ≡ Ok (Some b) → GoesBack self.old.parent b }
         ensures unchanged { OnErr result (self.new ≡ self.old) }
     {
         if self.made >= self.split.clauses().len() {

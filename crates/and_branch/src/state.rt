@@ -6,7 +6,7 @@ ghost use Rattle.and_model.specs.Reached.{Steps};
 ghost use Rattle.and_model.specs.declared.goal.Cut.{Cut};
 ghost use Rattle.and_cells.specs.Parts.{named};
 ghost use Rattle.and_code.specs.Written.{all_written};
-ghost use Rattle.and_determinacy.specs.Tables.{IsTableOf};
+ghost use Rattle.and_clause_index.specs.Tables.{IsTableOf};
 ghost use Rattle.and_branch.specs.Branches.{IsBranch, IsBranchOf, SameKey};
 ghost use Rattle.and_branch_laws.specs.States.{StateOf, determinate};
 ghost use Rattle.and_branch.specs.Finding.{AllCalls, IsSeveral, HasFound};
@@ -21,7 +21,8 @@ use crate::finding::Found;
 use crate::forking::part;
 use crate::workspace::Workspace;
 use and_cells::Naming;
-use and_determinacy::{Determinacy, candidates_of_several};
+use and_clause_index::Determinacy;
+use and_determinacy::candidates_of_several;
 use and_gate::Gate;
 use and_model::{ClauseList, ClauseNo, Cut, Goal};
 use and_program::Loaded;
@@ -69,7 +70,8 @@ impl<N: Naming> Branch<N> {
             → IsState N.program self.new t s) }
         ensures at_rest { IfOk result (λ s. IsAtRest N.program self.new s) }
         ensures back { OnOk result (KeepsBack self.old self.new) }
-        ensures done { OnOk result ((t : QueryTree N.program.program) (o : Open t) (c : ℕ) → IsBranchOf N.program self.new t
+        ensures done { OnOk result ((t : QueryTree N.program.program) (o : Open t) (c : ℕ)
+            → IsBranchOf N.program self.new t
             → StateOf N.program.program self.new.limit t (determinate o c) → ⊥) }
     {
         self.advance_from(loaded, table, gate, FIRST_ROUND, workspace)
@@ -96,7 +98,8 @@ impl<N: Naming> Branch<N> {
             → IsState N.program self.new t s) }
         ensures at_rest { IfOk result (λ s. IsAtRest N.program self.new s) }
         ensures back { OnOk result (KeepsBack self.old self.new) }
-        ensures done { OnOk result ((t : QueryTree N.program.program) (o : Open t) (c : ℕ) → IsBranchOf N.program self.new t
+        ensures done { OnOk result ((t : QueryTree N.program.program) (o : Open t) (c : ℕ)
+            → IsBranchOf N.program self.new t
             → StateOf N.program.program self.new.limit t (determinate o c) → ⊥) }
     {
         loaded.skeleton_is_of_the_program();
@@ -143,7 +146,8 @@ impl<N: Naming> Branch<N> {
         requires live { self.now.is_failed ≡ false }
         requires rests { IsResting N.program self.now }
         requires none { AllCalls N.program (λ g. ⊥) self.now.left }
-        ensures { (t : QueryTree N.program.program) → IsBranchOf N.program self.now t → IsState N.program self.now t result }
+        ensures { (t : QueryTree N.program.program) → IsBranchOf N.program self.now t
+            → IsState N.program self.now t result }
     {
         loaded.skeleton_is_of_the_program();
         if self.goals.count_before() == 0 {

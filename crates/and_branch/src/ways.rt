@@ -78,8 +78,8 @@ pub(crate) fn turns_back(way: Way, round: Round) -> bool
 }
 
 impl<N: Naming> Branch<N> {
-    /// Goes to the next goal on a round's way, past those that sleep. Answers whether there may be one. An error is want of memory, and the
-    /// branch is spent.
+    /// Goes to the next goal on a round's way, past those that sleep. Answers whether there may be one. An error is
+    /// want of memory, and the branch is spent.
     pub(crate) fn come_to_next(&mut self, way: Way) -> Result<bool, AllocError>
         requires branch { IsBranch N.program self.old }
         ensures same { SameKey self.old self.new }
@@ -95,8 +95,8 @@ impl<N: Naming> Branch<N> {
         }
     }
 
-    /// Notes what was seen of the goal that was passed, on the way onward, and goes back before it on the way back. An error is want of memory, and the
-    /// branch is spent.
+    /// Notes what was seen of the goal that was passed, on the way onward, and goes back before it on the way back.
+    /// An error is want of memory, and the branch is spent.
     pub(crate) fn note_passed(
         &mut self,
         way: Way,

@@ -4,14 +4,14 @@ use Rattle.std.proofs.Common.{append_assoc, map, length, get_or, refl, sym, ap, 
 use Rattle.std.specs.Prelude.{Option, Some, None, option_to_list, slice_index_or}
 use Rattle.std.proofs.Math.ListN.{get_or-map}
 use Rattle.std.proofs.lemmas.List.{reverse-append, length-map}
-use Rattle.std.proofs.lemmas.List.Elements.{All-append}
+use Rattle.std.proofs.lemmas.List.Elements.{All-append, Contains-append_left}
 use Rattle.std.proofs.lemmas.List.Sums.{sum_by-cons}
 use Rattle.and_model.specs.Terms.{Term}
 use Rattle.and_model.specs.Programs
 use Rattle.and_model.specs.Programs.{Program, Item, clause_at}
 use Rattle.and_model.specs.Reductions.{Reduction}
 use Rattle.and_model.specs.declared.goal
-use Rattle.and_program.specs.Items.{node_item}
+use Rattle.and_program.specs.Items.{is_call_node, node_item}
 use Rattle.and_program.specs.declared.item.ItemNode.{ItemNode}
 use Rattle.and_program.specs.declared.item.ItemNode.TheVariants.{Fail}
 use Rattle.and_program.specs.Skeletons
@@ -21,7 +21,8 @@ use Rattle.and_branch_laws.specs.Visits
 use Rattle.and_branch_laws.specs.Visits.{Decides, ended, past, other, taken, not_taken, item_visited, onward, into, at_query}
 use Rattle.and_code.proofs.Measures.{later_below, taken_below}
 use Rattle.and_code.specs.Places.{IsFound, IsMissing}
-use Rattle.and_code.specs.Visiting.{visit_of, visits_of, visited, waiting, is_call_item, IsAtCall, AreAtCalls, LeadsTo, AreBehind, above_all}
+use Rattle.and_code.specs.Telling.{IsTold}
+use Rattle.and_code.specs.Visiting.{visit_of, visits_of, visited, waiting, IsAtCall, AreAtCalls, LeadsTo, AreBehind, above_all}
 use Rattle.and_code.specs.Visiting.{turns_below, turns_of, turns_left}
 use Rattle.and_code.specs.Written.{written, all_written}
 use Rattle.and_code.specs.declared.visiting.Visit.{Visit}
@@ -43,14 +44,14 @@ visited_is : (P : Program) (ss : List Shape) (items : List NodeItem) (v : Visits
 visited_is P ss items v e =
     ap (λ (body : List Item). get_or body v.item Programs.fail) (sym e) ∙ get_or-map (item_of ss) items v.item Skeletons.fail
 
-is_a_call : (ss : List Shape) (i : NodeItem) → is_call_item i ≡ true → (g : Term) × (item_of ss i ≡ Programs.call g)
+is_a_call : (ss : List Shape) (i : NodeItem) → is_call_node i ≡ true → (g : Term) × (item_of ss i ≡ Programs.call g)
 is_a_call ss (Skeletons.call n) e = (node_term ss n, refl)
 is_a_call ss (Skeletons.equal n m) e = absurd (true≢false (sym e))
 is_a_call ss (Skeletons.is n m pair) e = absurd (true≢false (sym e))
 is_a_call ss (Skeletons.compare o n m) e = absurd (true≢false (sym e))
 is_a_call ss Skeletons.fail e = absurd (true≢false (sym e))
 
-is_no_call : (ss : List Shape) (i : NodeItem) → is_call_item i ≡ false → (g : Term) → item_of ss i ≢ Programs.call g
+is_no_call : (ss : List Shape) (i : NodeItem) → is_call_node i ≡ false → (g : Term) → item_of ss i ≢ Programs.call g
 is_no_call ss (Skeletons.call n) e g f = true≢false e
 is_no_call ss (Skeletons.equal n m) e g f = cc
 is_no_call ss (Skeletons.is n m pair) e g f = cc
@@ -71,7 +72,7 @@ module _ (P : Program) (ss : List Shape) (items : List ItemNode) (v : Visits.Vis
   visited_here low = visited_is P ss (map node_item items) v body ∙ ap (item_of ss) (nth_node items v.item d low)
 
   -- the item that is visited is a call,
-  pub call_here : v.clause ≤ length P.clauses → v.item < length items → is_call_item (node_item (get_or items v.item d)) ≡ true → IsAtCall P v
+  pub call_here : v.clause ≤ length P.clauses → v.item < length items → is_call_node (node_item (get_or items v.item d)) ≡ true → IsAtCall P v
   call_here named low e =
       let found = is_a_call ss (node_item (get_or items v.item d)) e in
       record {
@@ -82,7 +83,7 @@ module _ (P : Program) (ss : List Shape) (items : List ItemNode) (v : Visits.Vis
       }
 
   -- or it is none
-  pub no_call_here : v.item < length items → is_call_item (node_item (get_or items v.item d)) ≡ false → (g : Term)
+  pub no_call_here : v.item < length items → is_call_node (node_item (get_or items v.item d)) ≡ false → (g : Term)
       → item_visited P v ≢ Programs.call g
   no_call_here low e g is = is_no_call ss (node_item (get_or items v.item d)) e g (sym (visited_here low) ∙ is)
 
@@ -184,7 +185,15 @@ module _ (P : Program) (v w : Visits.Visit) (vs : List Visits.Visit) where
 
 -- What the new visits find comes behind the code.
 abbrev pub HasGone : Program → List Reduction → (new : List Visits.Visit) → (code : List ℕ) → Type 0
-HasGone P rs new code = (cs : List ℕ) → Decides P rs new cs → Decides P rs (at_query ∷ []) (code ++ cs)
+HasGone P rs new code =
+    (more : List Reduction) (cs : List ℕ) → Decides P (rs ++ more) new cs → Decides P (rs ++ more) (at_query ∷ []) (code ++ cs)
+
+-- (where nothing comes behind the reductions)
+gone_so_far : (P : Program) (rs : List Reduction) (new : List Visits.Visit) (code cs : List ℕ) → HasGone P rs new code → Decides P rs new cs
+    → Decides P rs (at_query ∷ []) (code ++ cs)
+gone_so_far P rs new code cs so_far d =
+    subst (λ (l : List Reduction). Decides P l (at_query ∷ []) (code ++ cs)) (append-nil rs)
+    (so_far [] cs (subst (λ (l : List Reduction). Decides P l new cs) (sym (append-nil rs)) d))
 
 module _ (P : Program) (rs : List goal.Reduction.Reduction) (v : Visit) (vs : List Visits.Visit) (code : List ℕ)
     (so_far : HasGone P (all_written rs) (visit_of v ∷ vs) code) (here : IsAtCall P (visit_of v)) where
@@ -192,17 +201,19 @@ module _ (P : Program) (rs : List goal.Reduction.Reduction) (v : Visit) (vs : Li
   pub call_taken : (new : List Visits.Visit) (r : goal.Reduction.Reduction) (after : List ℕ) → IsFound rs v.node v.item r
       → after ≡ code ++ r.clause.0 ∷ [] → LeadsTo P (into (written r) ∷ onward (visit_of v) ∷ vs) new
       → HasGone P (all_written rs) new after
-  call_taken new r after found code_is leads cs d =
-      let before = taken (visit_of v) vs cs here.goal (written r) here.calls (contains_image written rs r found.0) (found.1, found.2)
-      (leads.found (all_written rs) cs d) in
-      subst (λ (ds : List ℕ). Decides P (all_written rs) (at_query ∷ []) ds)
-      (sym (append_assoc code (r.clause.0 ∷ []) cs) ∙ ap (λ (ds : List ℕ). ds ++ cs) (sym code_is)) (so_far (r.clause.0 ∷ cs) before)
+  call_taken new r after found code_is leads more cs d =
+      let all : List Reduction = all_written rs ++ more in
+      let before = taken (visit_of v) vs cs here.goal (written r) here.calls
+      (Contains-append_left (all_written rs) more (written r) (contains_image written rs r found.0)) (found.1, found.2)
+      (leads.found all cs d) in
+      subst (λ (ds : List ℕ). Decides P all (at_query ∷ []) ds)
+      (sym (append_assoc code (r.clause.0 ∷ []) cs) ∙ ap (λ (ds : List ℕ). ds ++ cs) (sym code_is)) (so_far more (r.clause.0 ∷ cs) before)
 
   -- A call that none takes.
   pub call_open : IsMissing rs v.node v.item → Decides P (all_written rs) (at_query ∷ []) code
   call_open none =
       subst (λ (ds : List ℕ). Decides P (all_written rs) (at_query ∷ []) ds) (append-nil code)
-      (so_far [] (not_taken (visit_of v) vs here.goal here.calls (λ r c takes.
+      (gone_so_far P (all_written rs) (visit_of v ∷ vs) code [] so_far (not_taken (visit_of v) vs here.goal here.calls (λ r c takes.
       let (own, at, same_as) = contains_origin written rs r c in
       none own at (ap (λ (x : Reduction). x.parent) (sym same_as) ∙ takes.0) (ap (λ (x : Reduction). x.item) (sym same_as) ∙ takes.1))))
 
@@ -223,7 +234,8 @@ module _ (P : Program) (rs : List goal.Reduction.Reduction) (v : Visit) (vs : Li
 
 -- No visit is left.
 pub nothing_left : (P : Program) (rs : List Reduction) (code : List ℕ) → HasGone P rs [] code → Decides P rs (at_query ∷ []) code
-nothing_left P rs code so_far = subst (λ (ds : List ℕ). Decides P rs (at_query ∷ []) ds) (append-nil code) (so_far [] ended)
+nothing_left P rs code so_far =
+    subst (λ (ds : List ℕ). Decides P rs (at_query ∷ []) ds) (append-nil code) (gone_so_far P rs [] code [] so_far ended)
 
 -- No visit waits yet.
 none_waits : (visits : List Visit) (next : Option Visit) → visits ≡ [] → waiting visits next ≡ visited next
@@ -233,10 +245,21 @@ none_waits visits (Some v) empty = ap (λ (vs : List Visit). visit_of v ∷ visi
 -- The first call of the query's body.
 pub begun : (P : Program) (rs : List Reduction) (visits : List Visit) (next : Option Visit) (code : List ℕ) → visits ≡ [] → code ≡ []
     → ((vs : List Visits.Visit) → LeadsTo P (at_query ∷ vs) (visited next ++ vs)) → HasGone P rs (waiting visits next) code
-begun P rs visits next code empty none leads = λ cs d.
+begun P rs visits next code empty none leads = λ more cs d.
     let first = leads [] in
-    subst (λ (ds : List ℕ). Decides P rs (at_query ∷ []) (ds ++ cs)) (sym none)
-    (first.found rs cs (subst (λ (vs : List Visits.Visit). Decides P rs vs cs) (none_waits visits next empty ∙ sym (append-nil (visited next))) d))
+    let all : List Reduction = rs ++ more in
+    subst (λ (ds : List ℕ). Decides P all (at_query ∷ []) (ds ++ cs)) (sym none)
+    (first.found all cs (subst (λ (vs : List Visits.Visit). Decides P all vs cs) (none_waits visits next empty ∙ sym (append-nil (visited next))) d))
+
+-- What was told of reductions is told of these with more behind them.
+pub told_on : (P : Program) (rs more : List Reduction) (left : List Visits.Visit) (code : List ℕ) → IsTold P rs left code
+    → IsTold P (rs ++ more) left code
+told_on P rs more left code t = record {
+  calls = t.calls;
+  goes_on = λ others cs d.
+      subst (λ (l : List Reduction). Decides P l (at_query ∷ []) (code ++ cs)) (sym (append_assoc rs more others))
+      (t.goes_on (more ++ others) cs (subst (λ (l : List Reduction). Decides P l left cs) (append_assoc rs more others) d));
+}
 
 pub begun_at_calls : (P : Program) (visits : List Visit) (next : Option Visit) → visits ≡ [] → AreAtCalls P (visited next)
     → AreAtCalls P (waiting visits next)

@@ -1,3 +1,4 @@
 pub mod Places
+pub mod Telling
 pub mod Visiting
 pub mod Written

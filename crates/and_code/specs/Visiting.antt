@@ -1,5 +1,6 @@
 -- Stacks of bodies that are gone through.
-use Rattle.std.specs.Prelude.{ℕ, zero, suc, ◌+◌, ◌-◌, ◌<◌, ◌≤◌, ◌≡◌, Bool, true, false, cond, ◌&&◌, nat_eq, nat_le, List, [], ◌∷◌}
+use Rattle.std.specs.Prelude.{ℕ, zero, suc, ◌+◌, ◌-◌, ◌<◌, ◌≤◌, ◌≡◌, Bool, true, false, cond, ◌&&◌, nat_eq, nat_le}
+use Rattle.std.specs.Prelude.{List, [], ◌∷◌}
 use Rattle.std.specs.Prelude.{map, reverse, length, sum_by, All, Option, Some, None}
 use Rattle.and_model.specs.Terms.{Term}
 use Rattle.and_model.specs.Programs
@@ -29,13 +30,6 @@ abbrev pub waiting : List Visit → Option Visit → List Visits.Visit
 waiting vs None = []
 waiting vs (Some v) = visit_of v ∷ visits_of vs
 
-abbrev pub is_call_item : NodeItem → Bool
-is_call_item (call n) = true
-is_call_item (equal n m) = false
-is_call_item (is n m pair) = false
-is_call_item (compare o n m) = false
-is_call_item fail = false
-
 -- The clause is the program's, and the item that is visited is a call of its body.
 pub record IsAtCall (P : Program) (v : Visits.Visit) : Type 0 where
   pub named : v.clause ≤ length P.clauses
@@ -57,11 +51,12 @@ AreBehind rs = All (λ (r : Reduction). r.parent < r.node) rs
 abbrev pub takes_from : (node item : ℕ) → Reduction → Bool
 takes_from n i r = nat_eq r.parent n && nat_le i r.item
 
--- The turns below a node, from an item of its body on: one for each clause that takes a call there, and those below it. (The fuel is how
--- many places there may be, one below the other.)
+-- The turns below a node, from an item of its body on: one for each clause that takes a call there, and those below
+-- it. (The fuel is how many places there may be, one below the other.)
 abbrev pub turns_below : List Reduction → (fuel node item : ℕ) → ℕ
 turns_below rs zero n i = 0
-turns_below rs (suc fuel) n i = sum_by (λ (r : Reduction). cond (takes_from n i r) (1 + turns_below rs fuel r.node 0) 0) rs
+turns_below rs (suc fuel) n i =
+    sum_by (λ (r : Reduction). cond (takes_from n i r) (1 + turns_below rs fuel r.node 0) 0) rs
 
 -- a number above those of all places
 abbrev pub above_all : List Reduction → ℕ
@@ -77,7 +72,8 @@ turns_left rs vs = sum_by (turns_of rs) vs
 
 -- ---- One step
 
--- Whatever the reductions, the clauses that the new visits find are those that the old ones find, and no turns are added.
+-- Whatever the reductions, the clauses that the new visits find are those that the old ones find, and no turns are
+-- added.
 pub record LeadsTo (P : Program) (old new : List Visits.Visit) : Type 0 where
   pub found : (rs : List Reduction) (cs : List ℕ) → Decides P rs new cs → Decides P rs old cs
   pub turns : (rs : List Reduction) → turns_left rs new ≤ turns_left rs old

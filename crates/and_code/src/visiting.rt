@@ -7,7 +7,7 @@ ghost use Rattle.and_program.specs.Skeletons.{item_of};
 ghost use Rattle.and_model.specs.Programs.{clause_at};
 ghost use Rattle.and_branch_laws.specs.Visits;
 ghost use Rattle.and_branch_laws.specs.Visits.{into, onward};
-ghost use Rattle.and_code.specs.Visiting.{AreAtCalls, IsAtCall, LeadsTo, is_call_item, visit_of, visited, visits_of, waiting};
+ghost use Rattle.and_code.specs.Visiting.{AreAtCalls, IsAtCall, LeadsTo, visit_of, visited, visits_of, waiting};
 ghost use Rattle.and_code.specs.Written.{written};
 
 use and_model::{ClauseNo, Reduction};
@@ -24,36 +24,17 @@ pub(crate) struct Visit {
     pub(crate) from: usize,
 }
 
-/// Whether an item is a call.
-fn is_call(item: ItemNode) -> bool
-    ensures { result ≡ is_call_item (node_item item) }
-{
-    match item {
-        ItemNode::Call { goal: _ } => true,
-        ItemNode::Equal { left: _, right: _ } => false,
-        ItemNode::Is {
-            left: _,
-            right: _,
-            pair: _,
-        } => false,
-        ItemNode::Compare {
-            relation: _,
-            left: _,
-            right: _,
-        } => false,
-        ItemNode::Fail => false,
-    }
-}
-
 /// The visit of the first call of a body, which has these items, from one on; `None` where no call comes.
 pub(crate) fn at_call(_loaded: &Loaded, items: &[ItemNode], visit: Visit) -> Option<Visit>
     requires named { visit.clause.0 ≤ length (program_of _loaded.now).clauses }
-    requires body { map (item_of (skeleton_of _loaded.now).nodes) (map node_item items.now) ≡ (clause_at (program_of _loaded.now) visit.clause.0).body }
+    requires body { map (item_of (skeleton_of _loaded.now).nodes) (map node_item items.now)
+        ≡ (clause_at (program_of _loaded.now) visit.clause.0).body }
     ensures calls { AreAtCalls (program_of _loaded.now) (visited result) }
-    ensures leads { (vs : List Visits.Visit) → LeadsTo (program_of _loaded.now) (visit_of visit ∷ vs) (visited result ++ vs) }
+    ensures leads { (vs : List Visits.Visit)
+        → LeadsTo (program_of _loaded.now) (visit_of visit ∷ vs) (visited result ++ vs) }
 {
     for item in visit.item..items.len() {
-        if is_call(items[item]) {
+        if items[item].is_call() {
             return Some(Visit { item, ..visit });
         }
     }
@@ -74,7 +55,8 @@ pub(crate) fn go_on(
     requires calls { AreAtCalls (program_of loaded.now) (visits_of visits.old.items) }
     ensures calls { IfOk result (λ next. AreAtCalls (program_of loaded.now) (waiting visits.new.items next)) }
     ensures leads { IfOk result (λ next. LeadsTo (program_of loaded.now)
-        (into (written reduction) ∷ onward (visit_of visit) ∷ visits_of visits.old.items) (waiting visits.new.items next)) }
+        (into (written reduction) ∷ onward (visit_of visit) ∷ visits_of visits.old.items)
+        (waiting visits.new.items next)) }
 {
     let rest = behind(loaded, visit, from);
     match entered(loaded, reduction, from) {
@@ -93,7 +75,8 @@ pub(crate) fn go_on(
 fn behind(loaded: &Loaded, visit: Visit, from: usize) -> Option<Visit>
     requires { IsAtCall (program_of loaded.now) (visit_of visit) }
     ensures calls { AreAtCalls (program_of loaded.now) (visited result) }
-    ensures leads { (vs : List Visits.Visit) → LeadsTo (program_of loaded.now) (onward (visit_of visit) ∷ vs) (visited result ++ vs) }
+    ensures leads { (vs : List Visits.Visit)
+        → LeadsTo (program_of loaded.now) (onward (visit_of visit) ∷ vs) (visited result ++ vs) }
 {
     let items = loaded.items(visit.clause);
     prove!(visit.item < items.len());
@@ -126,7 +109,8 @@ fn keep(visit: Option<Visit>, visits: &mut Vec<Visit>) -> Result<(), AllocError>
 fn entered(loaded: &Loaded, reduction: Reduction, from: usize) -> Option<Visit>
     requires { reduction.clause.0 ≤ length (program_of loaded.now).clauses }
     ensures calls { AreAtCalls (program_of loaded.now) (visited result) }
-    ensures leads { (vs : List Visits.Visit) → LeadsTo (program_of loaded.now) (into (written reduction) ∷ vs) (visited result ++ vs) }
+    ensures leads { (vs : List Visits.Visit)
+        → LeadsTo (program_of loaded.now) (into (written reduction) ∷ vs) (visited result ++ vs) }
 {
     at_call(
         loaded,

@@ -4,7 +4,7 @@
 /// Who is called as the work goes on. Nothing is known of what a gate does, and a call may wait: a
 /// gate that waits keeps the runtime that it needs in a field of its own.
 pub trait Gate: Sync {
-    /// Comes before each reduction of a goal in a phase. The leader's reductions name worker 0.
+    /// Comes before each reduction of a goal. Those of a leader, and of a search on one thread, name worker 0.
     fn reduce(&self, worker: u32);
 
     /// Comes after each claim that took a branch.
@@ -12,6 +12,9 @@ pub trait Gate: Sync {
 
     /// Comes after each publish that was done.
     fn publish(&self, team: u32);
+
+    /// Comes after each answer, floundered or not, that was found.
+    fn found(&self, team: u32);
 }
 
 /// The gate that does nothing.
@@ -24,4 +27,6 @@ impl Gate for Quiet {
     fn claim(&self, _team: u32) {}
 
     fn publish(&self, _team: u32) {}
+
+    fn found(&self, _team: u32) {}
 }

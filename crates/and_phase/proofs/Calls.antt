@@ -5,7 +5,7 @@ use Rattle.and_model.specs.Terms.{Term}
 use Rattle.and_model.specs.Programs.{Item, call, fail, clause_at}
 use Rattle.and_model.specs.declared.goal.Goal.{Goal}
 use Rattle.and_model.specs.declared.reference.Ref.{Ref}
-use Rattle.and_program.specs.Items.{node_item}
+use Rattle.and_program.specs.Items.{is_call_node, node_item}
 use Rattle.and_program.specs.Loaded.{program_of, skeleton_of, nodes_at}
 use Rattle.and_program.specs.declared.item.ItemNode.{ItemNode}
 use Rattle.and_program.specs.declared.loaded.Loaded.{Loaded}
@@ -13,10 +13,9 @@ use Rattle.and_cells.specs.Ranges.{NamedProgram, IsGoalInRange}
 use Rattle.and_cells.specs.Parts.{named}
 use Rattle.and_branch_laws.specs.Kept.{item_at}
 use Rattle.and_branch_laws.specs.OwnVariables.{IsLoaded}
-use Rattle.and_determinacy.specs.Candidates.{CanBeJudged}
+use Rattle.and_guards.specs.Goals.{CanBeJudged}
 use Rattle.and_reduction.proofs.Goals.{item_there}
 use Rattle.and_branch.specs.Finding.{IsSeen}
-use Rattle.and_branch.specs.Next.{is_call_node}
 use Rattle.and_branch.proofs.BodyStacks.{body_of}
 use Rattle.and_branch.proofs.NodeItems.{item_is, called}
 

@@ -6,9 +6,9 @@ use Rattle.std.proofs.lemmas.List.Elements as elements
 use Rattle.and_cells.specs.Ranges.{NamedProgram}
 use Rattle.and_store.specs.Passes.{PassSeen, StoreId, fresh, fresh_from}
 use Rattle.and_store_laws.proofs.Lists.{all_front}
-use Rattle.and_workers.specs.Handed.{HandsOn}
-use Rattle.and_workers.specs.declared.told.Ended.{Ended}
-use Rattle.and_workers.specs.declared.told.Told.{Told}
+use Rattle.and_handed.specs.Handed.{HandsOn}
+use Rattle.and_handed.specs.declared.told.Ended.{Ended}
+use Rattle.and_handed.specs.declared.told.Told.{Told}
 use Rattle.and_workers.specs.declared.worker.Job.{Job}
 use Rattle.and_closing_laws.specs.Phases.{AllHandOn}
 

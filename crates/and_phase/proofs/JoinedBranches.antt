@@ -19,19 +19,18 @@ use Rattle.and_code.specs.Written.{all_written}
 use Rattle.and_branch_laws.specs.OwnVariables.{OwnVariables}
 use Rattle.and_branch_laws.specs.Kept.{Kept, Unsettled, goal_of}
 use Rattle.and_worker_laws.specs.Leavings.{AreReady}
-use Rattle.and_workers.specs.declared.told.Told.{Told}
+use Rattle.and_handed.specs.declared.told.Told.{Told}
 use Rattle.and_gathering.specs.Gathering.{IsGathered}
 use Rattle.and_gathering.specs.declared.gathering.Gathered.{Gathered}
 use Rattle.and_whole.specs.Places.{all_frames, ArePairsWhole, IsSideWhole, IsWhole}
 use Rattle.and_closing_laws.specs.Phases.{HasPhased}
 use Rattle.and_branch.specs.Branches.{Held, Lives, IsBranchOf}
-use Rattle.and_branch.specs.Origins.{lost}
 use Rattle.and_branch.specs.Parts.{held_of}
 use Rattle.and_branch.specs.Rebuilding.{IsLeft, IsWorked}
-use Rattle.and_branch.specs.Rounds.{StepsOn}
 use Rattle.and_model.specs.declared.goal.Frame.{Frame}
 use Rattle.and_branch.specs.declared.parts.Parts.{Parts}
 use Rattle.and_branch.specs.declared.rebuilding.Worked.{Worked}
+use Rattle.and_phase.specs.Leading.{LeadsOn}
 use Rattle.and_phase.specs.Joined.{IsJoined, IsWorkOf, LooksWhole}
 use Rattle.and_phase.specs.declared.joining.Joined.{Joined}
 
@@ -131,10 +130,10 @@ module _ {N : Type 0} (P : NamedProgram) (own : OwnVariables P) (law : PhasesLea
 -- A branch that is made of all that was worked stands for what Steps lead to. Nothing is noted of its row.
 pub steps_on : {E : Type 0} {N : Type 0} (P : NamedProgram) (old : Held) (parts : Parts N) (w : Worked N) (r : Result Held E)
     → IfOk r (λ b. b.trail.mark ≡ None) → IfOk r (λ b. (t u : QueryTree P.program) → IsWorked P parts w t u → IsBranchOf P b u)
-    → ((t : QueryTree P.program) → IsBranchOf P old t → (u : QueryTree P.program) × IsWorked P parts w t u) → IfOk r (λ b. StepsOn P old b)
+    → ((t : QueryTree P.program) → IsBranchOf P old t → (u : QueryTree P.program) × IsWorked P parts w t u) → IfOk r (λ b. LeadsOn P old b)
 steps_on P old parts w (Ok b) nothing stands worked = record {
   each = λ t x. (let y = worked t x in (y.0, stands t y.0 y.1, y.1.steps));
-  back = lost nothing;
+  back = inl nothing;
 }
 steps_on P old parts w (Err e) nothing stands worked = tt
 

@@ -12,9 +12,9 @@ use Rattle.and_unify.specs.declared.pairs.Pair.{Pair}
 use Rattle.and_store.specs.Passes.{PassSeen}
 use Rattle.and_store.specs.Sight.{About}
 use Rattle.and_store_laws.proofs.Words.{set_in_has}
-use Rattle.and_workers.specs.Handed.{EndsBy}
-use Rattle.and_workers.specs.declared.told.Cause.{Cause}
-use Rattle.and_workers.specs.declared.told.Told.{Told}
+use Rattle.and_handed.specs.Handed.{EndsBy}
+use Rattle.and_handed.specs.declared.told.Cause.{Cause}
+use Rattle.and_handed.specs.declared.told.Told.{Told}
 use Rattle.and_gathering.specs.Gathering.{IsGathered}
 use Rattle.and_gathering.specs.declared.gathering.Gathered.{Gathered}
 use Rattle.and_closing_laws.specs.Phases.{HasPhased, AllHandOn}

@@ -1,3 +1,4 @@
 pub mod Advanced
 pub mod Joined
+pub mod Leading
 pub mod Sighting

@@ -2,7 +2,7 @@
 
 ghost use Rattle.std.specs.Prelude.{◌≡◌, ◌≤◌, false, true, IfErr, IfOk, IfSome};
 ghost use Rattle.and_cells.specs.Parts.{named};
-ghost use Rattle.and_determinacy.specs.Tables.{IsTableOf};
+ghost use Rattle.and_clause_index.specs.Tables.{IsTableOf};
 ghost use Rattle.and_branch.specs.Branches.{IsBranch};
 ghost use Rattle.and_branch.specs.Parts.{held_of};
 ghost use Rattle.and_phase.specs.Advanced.{ComesToRest, HasAdvanced};
@@ -11,7 +11,7 @@ ghost use Rattle.and_phase.specs.Joined.{IsJoined};
 use crate::joining::{Joined, made_again};
 use and_branch::{Branch, BranchState, NoRoom, Parts, Workspace};
 use and_cells::Naming;
-use and_determinacy::Determinacy;
+use and_clause_index::Determinacy;
 use and_gate::Gate;
 use and_program::Loaded;
 use std::alloc::Global;

@@ -3,13 +3,14 @@
 ghost use Rattle.std.specs.Prelude.{◌≡◌, ◌<◌, ◌≤◌, ◌++◌, ◌∷◌, [], length, All, IfSome, IfOk, OnOk};
 ghost use Rattle.and_cells.specs.Ranges.{NamedProgram};
 ghost use Rattle.and_store.specs.Passes.{StoreId, fresh, fresh_from};
-ghost use Rattle.and_workers.specs.Handed.{HandsOn};
+ghost use Rattle.and_handed.specs.Handed.{HandsOn};
 ghost use Rattle.and_closing_laws.specs.Phases.{AllHandOn};
 
 use and_goals::{Hand, open_hands};
+use and_handed::{Ended, Told};
 use and_model::Goal;
 use and_store::{Pass, PassList};
-use and_workers::{Ended, Job, Told};
+use and_workers::Job;
 use std::alloc::{AllocError, Global};
 
 /// The hands of so many workers, in order. An error is want of memory.
@@ -91,8 +92,10 @@ pub(crate) fn taken_in(
     ended: Vec<Ended>,
 ) -> Result<(PassList, Vec<Told>), AllocError>
     ensures len { IfOk result (λ r. length r.0 ≡ length ended.items) }
-    ensures store { IfOk result (λ r. (store : StoreId) → All (λ e. e.pass.store ≡ store) ended.items → All (λ p. p.store ≡ store) r.0) }
-    ensures hand_on { IfOk result (λ r. (P : NamedProgram) → All (λ e. IfSome e.told (λ told. HandsOn P told e.pass)) ended.items
+    ensures store { IfOk result (λ r. (store : StoreId) → All (λ e. e.pass.store ≡ store) ended.items
+        → All (λ p. p.store ≡ store) r.0) }
+    ensures hand_on { IfOk result (λ r. (P : NamedProgram)
+        → All (λ e. IfSome e.told (λ told. HandsOn P told e.pass)) ended.items
         → AllHandOn P r.1.items r.0) }
 {
     let mut ended = ended;

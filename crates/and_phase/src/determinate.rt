@@ -1,37 +1,24 @@
 //! Whether there is work for two workers.
 
-ghost use Rattle.std.specs.Prelude.{◌≡◌, ◌≤◌, ℕ, true, false, All, length, OnOk, IfOk};
+ghost use Rattle.std.specs.Prelude.{◌≡◌, ◌≤◌, ℕ, true, All, length};
 ghost use Rattle.and_model.specs.Programs.{call};
 ghost use Rattle.and_model.specs.Terms.{Term};
 ghost use Rattle.and_model.specs.declared.limits.TheConstants.{MAX_LIMIT};
-ghost use Rattle.and_program.specs.Items.{node_item};
 ghost use Rattle.and_program.specs.Loaded.{program_of};
 ghost use Rattle.and_cells.specs.Meaning.{IsSettled};
 ghost use Rattle.and_cells.specs.Parts.{named};
 ghost use Rattle.and_cells.specs.Ranges.{IsGoalInRange};
 ghost use Rattle.and_branch_laws.specs.Kept.{item_at};
-ghost use Rattle.and_determinacy.specs.Tables.{IsTableOf};
+ghost use Rattle.and_clause_index.specs.Tables.{IsTableOf};
 ghost use Rattle.and_branch.specs.Finding.{IsSeen};
-ghost use Rattle.and_branch.specs.Next.{is_call_node};
 
-use and_cells::{Naming, PlainCells};
-use and_determinacy::{Determinacy, Narrowed, Trials, narrow};
+use and_branch::{Branch, Workspace};
+use and_cells::Naming;
+use and_clause_index::Determinacy;
+use and_determinacy::Narrowed;
 use and_model::Goal;
-use and_program::{ItemNode, Loaded};
-use std::alloc::{AllocError, Global};
-
-/// Whether the item is a call.
-fn is_call_item(item: ItemNode) -> bool
-    ensures { result ≡ is_call_node (node_item item) }
-{
-    match item {
-        ItemNode::Call { .. } => true,
-        ItemNode::Equal { .. } => false,
-        ItemNode::Is { .. } => false,
-        ItemNode::Compare { .. } => false,
-        ItemNode::Fail => false,
-    }
-}
+use and_program::Loaded;
+use std::alloc::AllocError;
 
 /// Whether the goal is a call.
 fn is_call(loaded: &Loaded, goal: Goal) -> bool
@@ -39,53 +26,54 @@ fn is_call(loaded: &Loaded, goal: Goal) -> bool
     ensures { result ≡ true → (term : Term) × (item_at (program_of loaded.now) goal ≡ call term) }
 {
     loaded.skeleton_is_of_the_program();
-    is_call_item(loaded.items(goal.clause)[goal.item as usize])
+    loaded.items(goal.clause)[goal.item as usize].is_call()
 }
 
-/// Whether no more than one clause can be a candidate of the goal, a call. An error is want of memory.
+/// Whether no more than one clause can be a candidate of the goal, a call. The branch is as before. An error is want of
+/// memory.
 fn is_sole<N: Naming>(
     loaded: &Loaded,
     table: &Determinacy,
-    cells: &mut PlainCells<N>,
+    branch: &mut Branch<N>,
     goal: Goal,
-    trials: &mut Trials,
+    workspace: &mut Workspace,
 ) -> Result<bool, AllocError>
     requires program { N.program ≡ named loaded.now }
     requires table { IsTableOf N.program table.now }
-    requires settled { IsSettled N.program cells.old }
-    requires short { length cells.old ≤ MAX_LIMIT }
-    requires seen { IsSeen N.program cells.old goal }
-    ensures { OnOk result (cells.new ≡ cells.old) }
+    requires settled { IsSettled N.program branch.old.row }
+    requires short { length branch.old.row ≤ MAX_LIMIT }
+    requires seen { IsSeen N.program branch.old.row goal }
+    ensures { branch.new ≡ branch.old }
 {
     if !is_call(loaded, goal) {
         return Ok(false);
     }
-    match narrow(table, loaded, cells, goal, trials)? {
+    match branch.narrow_goal(loaded, table, goal, workspace)? {
         Narrowed::AtMost(_) => Ok(true),
         Narrowed::Nothing => Ok(true),
         Narrowed::Several => Ok(false),
     }
 }
 
-/// Whether two of the calls, or more, can be reduced to begin with. An error is want of memory.
+/// Whether two of the calls among these goals of the branch, or more, can be reduced to begin with. The branch is as
+/// before. An error is want of memory.
 pub(crate) fn are_two<N: Naming>(
-    alloc: Global,
     loaded: &Loaded,
     table: &Determinacy,
-    cells: &mut PlainCells<N>,
+    branch: &mut Branch<N>,
     goals: &[Goal],
+    workspace: &mut Workspace,
 ) -> Result<bool, AllocError>
     requires program { N.program ≡ named loaded.now }
     requires table { IsTableOf N.program table.now }
-    requires settled { IsSettled N.program cells.old }
-    requires short { length cells.old ≤ MAX_LIMIT }
-    requires seen { All (IsSeen N.program cells.old) goals.now }
-    ensures { OnOk result (cells.new ≡ cells.old) }
+    requires settled { IsSettled N.program branch.old.row }
+    requires short { length branch.old.row ≤ MAX_LIMIT }
+    requires seen { All (IsSeen N.program branch.old.row) goals.now }
+    ensures { branch.new ≡ branch.old }
 {
-    let mut trials = Trials::new(alloc);
     let mut is_one = false;
     for place in 0..goals.len() {
-        if is_sole(loaded, table, cells, goals[place], &mut trials)? {
+        if is_sole(loaded, table, branch, goals[place], workspace)? {
             if is_one {
                 return Ok(true);
             }

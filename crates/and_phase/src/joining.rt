@@ -11,19 +11,19 @@ ghost use Rattle.and_cells.specs.Seen.{word_at};
 ghost use Rattle.and_unify.specs.Pairs.{AreInRange};
 ghost use Rattle.and_branch.specs.Branches.{IsBranch, SameKey};
 ghost use Rattle.and_branch.specs.Parts.{held_of};
-ghost use Rattle.and_branch.specs.Rounds.{StepsOn};
 ghost use Rattle.and_gathering.specs.Gathering.{IsGathered};
 ghost use Rattle.and_closing_laws.specs.Phases.{HasPhased};
+ghost use Rattle.and_phase.specs.Leading.{LeadsOn};
 ghost use Rattle.and_phase.specs.Joined.{IsJoined, IsWorkOf, LooksWhole};
 
 use and_branch::{Branch, Parts, Worked};
 use and_cells::{LooseCells, Naming};
 use and_closing_laws::phases_leave_branches;
 use and_gathering::{Gathered, gather};
+use and_handed::Told;
 use and_model::{Goal, ReductionList};
 use and_program::Loaded;
 use and_whole::{are_pairs_whole, are_ready, frames_of, is_whole};
-use and_workers::Told;
 use std::alloc::{AllocError, Global};
 
 /// What the workers of a phase made of a branch: the row that they leave, and what they did.
@@ -33,8 +33,8 @@ pub(crate) struct Joined {
     pub done: Gathered,
 }
 
-/// Whether the row fits what was done, and is whole, the pairs are, and the goals are ready. Where the workers found the tree dead, the row alone
-/// is looked at. An error is want of memory.
+/// Whether the row fits what was done, and is whole, the pairs are, and the goals are ready. Where the workers found
+/// the tree dead, the row alone is looked at. An error is want of memory.
 fn looks_whole(
     alloc: Global,
     loaded: &Loaded,
@@ -63,7 +63,8 @@ fn looks_whole(
     )
 }
 
-/// What workers did on a branch with these reductions and goals, if nothing is amiss with it. An error is want of memory.
+/// What workers did on a branch with these reductions and goals, if nothing is amiss with it. An error is want of
+/// memory.
 pub(crate) fn join(
     alloc: Global,
     loaded: &Loaded,
@@ -77,7 +78,8 @@ pub(crate) fn join(
     requires limit { (used ≤ limit) × (limit ≤ MAX_LIMIT) }
     requires phased { (first : List Ref) × HasPhased (named loaded.now) first cells tolds.now }
     ensures cells { IfOk result (λ r. IfSome r (λ j. j.cells ≡ cells)) }
-    ensures gathered { IfOk result (λ r. IfSome r (λ j. IsGathered (program_of loaded.now) goals.now used limit tolds.now j.done)) }
+    ensures gathered { IfOk result
+        (λ r. IfSome r (λ j. IsGathered (program_of loaded.now) goals.now used limit tolds.now j.done)) }
     ensures whole { IfOk result (λ r. IfSome r (λ j. LooksWhole (named loaded.now) reductions.now cells j.done)) }
 {
     match gather(alloc, loaded, goals, used, limit, tolds)? {
@@ -104,7 +106,7 @@ pub(crate) fn made_again<N: Naming>(
     requires live { parts.now.is_failed ≡ false }
     requires joined { IsJoined N.program parts.now joined }
     ensures same { IfOk result (λ b. SameKey (held_of parts.now) b) }
-    ensures steps { IfOk result (λ b. StepsOn N.program (held_of parts.now) b) }
+    ensures steps { IfOk result (λ b. LeadsOn N.program (held_of parts.now) b) }
 {
     loaded.skeleton_is_of_the_program();
     phases_leave_branches();

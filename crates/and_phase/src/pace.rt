@@ -5,7 +5,8 @@ ghost use Rattle.and_model.specs.declared.limits.TheConstants.{MAX_LIMIT};
 
 use and_model::limits::MAX_LIMIT;
 
-/// How many phases are left to the leader in a row after the first try, and how many times as many after each further one.
+/// How many phases are left to the leader in a row after the first try, and how many times as many after each further
+/// one.
 const REST: u32 = 8;
 
 /// How many are at most.
@@ -14,8 +15,8 @@ const LONGEST_REST: u32 = 4096;
 /// How many words the first store has for new frames.
 const FIRST_ROOM: u32 = 1024;
 
-/// Which phases of a team its workers are tried in: the first, and then ever more rarely, since they cost more than they save today. And
-/// how much room the next one's store has for new frames: it grows with the work that is found.
+/// Which phases of a team its workers are tried in: the first, and then ever more rarely, since they cost more than
+/// they save today. And how much room the next one's store has for new frames: it grows with the work that is found.
 #[derive(Drop)]
 pub struct Pace {
     /// How many phases are still left to the leader.
@@ -67,7 +68,8 @@ impl Pace {
         self.room
     }
 
-    /// Notes that new frames filled so many words of a store. Where that is more than half of its room, the next one has twice as much.
+    /// Notes that new frames filled so many words of a store. Where that is more than half of its room, the next one
+    /// has twice as much.
     pub(crate) fn note_filled(&mut self, words: u32)
         ensures rests { self.new ≡ record self.old { room = self.new.room } }
         ensures same { 2 * words ≤ self.old.room → self.new.room ≡ self.old.room }

@@ -2,7 +2,7 @@
 
 ghost use Rattle.std.specs.Prelude.{◌≡◌, ◌<◌, ◌≤◌, false, IfOk, IfErr, IfSome};
 ghost use Rattle.and_cells.specs.Parts.{named};
-ghost use Rattle.and_determinacy.specs.Tables.{IsTableOf};
+ghost use Rattle.and_clause_index.specs.Tables.{IsTableOf};
 ghost use Rattle.and_branch.specs.Branches.{IsBranch};
 ghost use Rattle.and_branch.specs.Parts.{held_of};
 ghost use Rattle.and_phase.specs.Advanced.{ComesToRest, HasAdvanced};
@@ -15,19 +15,22 @@ use crate::sending::reduce_all;
 use crate::sighting::{LookedOver, Sighted, look_over};
 use and_branch::{Branch, FIRST_ROUND, NoRoom, Parts, Workspace};
 use and_cells::{LooseCells, Naming};
-use and_determinacy::Determinacy;
+use and_clause_index::Determinacy;
 use and_gate::Gate;
 use and_program::Loaded;
 use std::alloc::{AllocError, Global};
 use std::thread::Threads;
 
-/// Reduces determinate goals of a branch until none is left that fits, and tells its state, with so many workers at once where they are worth
-/// it. Where there is one worker alone, where the pace leaves the phase to the leader, or where no two goals are determinate, no thread is started.
+/// Reduces determinate goals of a branch until none is left that fits, and tells its state, with so many workers at
+/// once where they are worth it. Where there is one worker alone, where the pace leaves the phase to the leader, or
+/// where no two goals are determinate, no thread is started.
 ///
-/// What workers did counts only where the branch then comes to rest, since all orders in which it does come to the same. Otherwise the leader
-/// goes on from the branch of before, alone and in its own order: so which of failure and limit is met first does not rest on who came first.
+/// What workers did counts only where the branch then comes to rest, since all orders in which it does come to the
+/// same. Otherwise the leader goes on from the branch of before, alone and in its own order: so which of failure and
+/// limit is met first does not rest on who came first.
 ///
-/// The branch that comes back stands for the same key. An error is want of memory, and tells the key of the branch that was lost.
+/// The branch that comes back stands for the same key. An error is want of memory, and tells the key of the branch
+/// that was lost.
 pub fn phase_to_state<N: Naming + Send + Sync, R: Threads + Sync, G: Gate>(
     rt: &R,
     alloc: Global,
@@ -50,7 +53,7 @@ pub fn phase_to_state<N: Naming + Send + Sync, R: Threads + Sync, G: Gate>(
         return led_to_state(loaded, table, branch, gate, FIRST_ROUND, workspace);
     }
     pace.note_try();
-    let looked = look_over(alloc, loaded, table, branch, gate, workspace)?;
+    let looked = look_over(loaded, table, branch, gate, workspace)?;
     let LookedOver { sighted, next } = looked;
     match sighted {
         Sighted::Two(parts) => shared_out(
@@ -60,7 +63,8 @@ pub fn phase_to_state<N: Naming + Send + Sync, R: Threads + Sync, G: Gate>(
     }
 }
 
-/// The same, of a branch that was taken apart, and of which the leader's next round has so many reductions for each goal.
+/// The same, of a branch that was taken apart, and of which the leader's next round has so many reductions for each
+/// goal.
 fn shared_out<N: Naming + Send + Sync, R: Threads + Sync, G: Gate>(
     rt: &R,
     alloc: Global,

@@ -3,19 +3,20 @@
 ghost use Rattle.std.specs.Prelude.{◌≡◌, ◌<◌, ◌≤◌, All, length, IfSome, IfOk};
 ghost use Rattle.and_model.specs.declared.limits.TheConstants.{MAX_LIMIT};
 ghost use Rattle.and_cells.specs.Parts.{named};
-ghost use Rattle.and_determinacy.specs.Tables.{IsTableOf};
+ghost use Rattle.and_clause_index.specs.Tables.{IsTableOf};
 ghost use Rattle.and_store.specs.Passes.{fresh};
-ghost use Rattle.and_workers.specs.Handed.{HandsOn};
+ghost use Rattle.and_handed.specs.Handed.{HandsOn};
 ghost use Rattle.and_closing_laws.specs.Phases.{HasPhased};
 
 use crate::dealing::{deal, taken_in};
 use and_cells::{LooseCells, Naming, PlainCells};
-use and_determinacy::Determinacy;
+use and_clause_index::Determinacy;
 use and_gate::Gate;
+use and_handed::{Ended, Told};
 use and_model::Goal;
 use and_program::Loaded;
 use and_store::Store;
-use and_workers::{Ended, Job, Shared, Told, work};
+use and_workers::{Job, Shared, work};
 use std::alloc::{AllocError, Global};
 use std::thread;
 use std::thread::Threads;
@@ -23,8 +24,8 @@ use std::thread::Threads;
 /// How many goals each worker may hang on cells.
 const WAITERS: u32 = 1024;
 
-/// Sends so many workers off over a store of so many words, and waits for them. Answers the row that they leave, and what each of them
-/// hands on. An error is want of memory.
+/// Sends so many workers off over a store of so many words, and waits for them. Answers the row that they leave, and
+/// what each of them hands on. An error is want of memory.
 pub(crate) fn reduce_all<N: Naming + Send + Sync, R: Threads + Sync, G: Gate>(
     rt: &R,
     alloc: Global,
@@ -81,7 +82,8 @@ fn send_off<N: Naming + Send + Sync, R: Threads + Sync, G: Gate>(
     requires jobs { All (λ j. j.pass ≡ fresh store.now j.number) jobs.items }
     ensures len { IfOk result (λ ended. length ended.items ≡ length jobs.items) }
     ensures store { IfOk result (λ ended. All (λ e. e.pass.store ≡ store.now) ended.items) }
-    ensures hands_on { IfOk result (λ ended. All (λ e. IfSome e.told (λ told. HandsOn N.program told e.pass)) ended.items) }
+    ensures hands_on { IfOk result
+        (λ ended. All (λ e. IfSome e.told (λ told. HandsOn N.program told e.pass)) ended.items) }
 {
     let shared = Shared {
         alloc,

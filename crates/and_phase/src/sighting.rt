@@ -1,19 +1,18 @@
 //! Branches that are looked over for work.
 
-ghost use Rattle.std.specs.Prelude.{◌≡◌, ◌≤◌, IfOk, IfErr};
+ghost use Rattle.std.specs.Prelude.{◌≡◌, ◌≤◌, true, false, Ok, IfOk, IfErr};
 ghost use Rattle.and_cells.specs.Parts.{named};
-ghost use Rattle.and_determinacy.specs.Tables.{IsTableOf};
+ghost use Rattle.and_clause_index.specs.Tables.{IsTableOf};
 ghost use Rattle.and_branch.specs.Branches.{IsBranch};
-ghost use Rattle.and_branch.specs.Parts.{held_of};
 ghost use Rattle.and_phase.specs.Sighting.{IsLater, IsSighted};
 
 use crate::determinate::are_two;
 use and_branch::{Branch, FIRST_ROUND, NoRoom, Parts, Workspace};
 use and_cells::Naming;
-use and_determinacy::Determinacy;
+use and_clause_index::Determinacy;
 use and_gate::Gate;
 use and_program::Loaded;
-use std::alloc::Global;
+use std::alloc::AllocError;
 
 /// How many rounds over the goals the leader goes at most before workers are given up.
 const ROUNDS: u32 = 4;
@@ -42,10 +41,9 @@ struct Led<N: Naming> {
     has_changed: bool,
 }
 
-/// Looks for work for two workers. Where there is none, the leader alone goes its first rounds, as a program often begins with one goal that
-/// spawns many. An error is want of memory, and tells the key of the branch that was lost.
+/// Looks for work for two workers. Where there is none, the leader alone goes its first rounds, as a program often
+/// begins with one goal that spawns many. An error is want of memory, and tells the key of the branch that was lost.
 pub(crate) fn look_over<N: Naming, G: Gate>(
-    alloc: Global,
     loaded: &Loaded,
     table: &Determinacy,
     branch: Branch<N>,
@@ -62,7 +60,7 @@ pub(crate) fn look_over<N: Naming, G: Gate>(
     let mut branch = branch;
     let mut next = FIRST_ROUND;
     'looks: for _ in 0..ROUNDS {
-        match look(alloc, loaded, table, branch)? {
+        match look(loaded, table, branch, workspace) {
             Sighted::Two(parts) => {
                 return Ok(LookedOver {
                     sighted: Sighted::Two(parts),
@@ -86,68 +84,64 @@ pub(crate) fn look_over<N: Naming, G: Gate>(
         }
         next = next.saturating_mul(2);
     }
-    let sighted = look(alloc, loaded, table, branch)?;
+    let sighted = look(loaded, table, branch, workspace);
     Ok(LookedOver { sighted, next })
 }
 
-/// Looks for work for two workers. An error is want of memory, and tells the key of the branch that was lost.
+/// Looks for work for two workers; where memory is wanting for the look, there is none.
 fn look<N: Naming>(
-    alloc: Global,
     loaded: &Loaded,
     table: &Determinacy,
     branch: Branch<N>,
-) -> Result<Sighted<N>, NoRoom>
+    workspace: &mut Workspace,
+) -> Sighted<N>
     requires program { N.program ≡ named loaded.now }
     requires table { IsTableOf N.program table.now }
     requires branch { IsBranch N.program branch }
-    ensures sighted { IfOk result (IsSighted N.program branch) }
-    ensures no_room { IfErr result (λ refused. refused.key ≡ branch.key) }
+    ensures { IsSighted N.program branch result }
 {
-    match branch.parts() {
-        Ok(parts) => look_at_parts(alloc, loaded, table, parts),
-        Err(branch) => Ok(Sighted::NotTwo(branch)),
+    let mut branch = branch;
+    match has_two(loaded, table, &mut branch, workspace) {
+        Ok(true) => taken_apart(branch),
+        Ok(false) => Sighted::NotTwo(branch),
+        Err(_) => Sighted::NotTwo(branch),
     }
 }
 
-/// The same, of a branch that was taken apart.
-fn look_at_parts<N: Naming>(
-    alloc: Global,
+/// Whether there is work for two workers in the branch, which is as before. An error is want of memory.
+fn has_two<N: Naming>(
     loaded: &Loaded,
     table: &Determinacy,
-    parts: Parts<N>,
-) -> Result<Sighted<N>, NoRoom>
+    branch: &mut Branch<N>,
+    workspace: &mut Workspace,
+) -> Result<bool, AllocError>
     requires program { N.program ≡ named loaded.now }
     requires table { IsTableOf N.program table.now }
-    requires branch { IsBranch N.program (held_of parts) }
-    ensures sighted { IfOk result (IsSighted N.program (held_of parts)) }
-    ensures no_room { IfErr result (λ refused. refused.key ≡ parts.key) }
+    requires branch { IsBranch N.program branch.old }
+    ensures unchanged { branch.new ≡ branch.old }
+    ensures live { result ≡ Ok true → branch.old.is_failed ≡ false }
 {
-    if parts.is_failed {
-        return Ok(Sighted::NotTwo(parts.into_branch()?));
+    if branch.is_failed() {
+        return Ok(false);
     }
     loaded.skeleton_is_of_the_program();
-    let mut parts = parts;
-    match are_two(
-        alloc,
-        loaded,
-        table,
-        &mut parts.cells,
-        parts.goals.as_slice(),
-    ) {
-        Ok(true) => Ok(Sighted::Two(parts)),
-        Ok(false) => Ok(Sighted::NotTwo(parts.into_branch()?)),
-        Err(_) => Err(lost(parts)),
+    let goals = branch.listed_goals()?;
+    are_two(loaded, table, branch, goals.as_slice(), workspace)
+}
+
+/// A branch in which there is work for two workers, taken apart where there is the memory.
+fn taken_apart<N: Naming>(branch: Branch<N>) -> Sighted<N>
+    requires { branch.is_failed ≡ false }
+    ensures { IsSighted N.program branch result }
+{
+    match branch.parts() {
+        Ok(parts) => Sighted::Two(parts),
+        Err(branch) => Sighted::NotTwo(branch),
     }
 }
 
-/// What is told of a branch that was lost.
-fn lost<N: Naming>(parts: Parts<N>) -> NoRoom
-    ensures { result.key ≡ parts.key }
-{
-    NoRoom { key: parts.key }
-}
-
-/// Lets the leader alone go one round, which has so many reductions for each goal. An error is want of memory, and tells the key of the branch that was lost.
+/// Lets the leader alone go one round, which has so many reductions for each goal. An error is want of memory, and
+/// tells the key of the branch that was lost.
 fn lead<N: Naming, G: Gate>(
     loaded: &Loaded,
     table: &Determinacy,

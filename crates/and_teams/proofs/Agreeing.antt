@@ -7,7 +7,7 @@ use Rattle.and_histories.specs.Histories.{HistoryEntry}
 use Rattle.and_tree.specs.Plain.{Tally}
 use Rattle.and_answers.specs.Kept.{listed}
 use Rattle.and_answers.specs.declared.found.Found.{Found}
-use Rattle.and_walk.specs.Found.{kept_count}
+use Rattle.and_search_laws.specs.Found.{kept_count}
 use Rattle.and_team_laws.specs.Owed.{SameItems}
 use Rattle.and_team_laws.specs.Runs.{WholeRun, AreForksOfQuery}
 use Rattle.and_team_laws.proofs.Agreeing.{agreed_forks, agreed_numbers, agreed_entries}

@@ -11,7 +11,7 @@ use Rattle.and_cells.specs.Ranges.{NamedProgram}
 use Rattle.and_laws.proofs.Pairwise.{all_none}
 use Rattle.and_tree.specs.Passes.{TreeId, PassSeen, fresh, fresh_from}
 use Rattle.and_answers.specs.Kept.{listed}
-use Rattle.and_walk.specs.Walking.{IsEndSoFar}
+use Rattle.and_search_laws.specs.Ended.{IsEndSoFar}
 use Rattle.and_team_laws.specs.Done.{DidAll}
 use Rattle.and_cells.specs.declared.naming.Naming.{Ghosts}
 use Rattle.and_teams.specs.Working.{Works}

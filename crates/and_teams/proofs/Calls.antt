@@ -6,7 +6,8 @@ use Rattle.std.proofs.lemmas.Bool.Decides.{Decides-eqb}
 use Rattle.std.proofs.lemmas.List.Sums.{sum_by-append, sum_by-cons}
 use Rattle.std.proofs.lemmas.List.Elements.{filter-append}
 use Rattle.and_laws.proofs.Ordered.{contains_first, contains_more, contains_none, contains_cases}
-use Rattle.and_histories.specs.PlainTree.{Key, State, Seen, Event, fork, publish, claim, end, look, left, Reply, forked, done, not_free, spent, moved, last, Ending}
+use Rattle.and_histories.specs.PlainTree.{Key, State, Seen, Event, fork, publish, claim, end, look, left, Reply, forked, done, not_free, spent, moved, last}
+use Rattle.and_histories.specs.PlainTree.{Ending}
 use Rattle.and_histories.specs.PlainTree.{Does, hand_of, children}
 use Rattle.and_histories.specs.Histories.{HistoryEntry, calls, team_of}
 use Rattle.and_histories.proofs.KeptKeys.{sum_in_place}

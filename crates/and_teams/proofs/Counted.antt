@@ -5,7 +5,7 @@ use Rattle.and_histories.specs.PlainTree.{Event, fork, publish, claim, clear, en
 use Rattle.and_histories.specs.Histories.{HistoryEntry}
 use Rattle.and_tree.specs.Passes.{tally_on, tally_of}
 use Rattle.and_tree.specs.Plain.{Tally, one_more, tallied}
-use Rattle.and_walk.specs.Found.{kept_count}
+use Rattle.and_search_laws.specs.Found.{kept_count}
 use Rattle.and_team_laws.specs.Done.{forks_in, answered_in, retired_in, given_up_in}
 use Rattle.and_teams.specs.Ended.{IsTallyOf}
 use Rattle.and_teams.proofs.Gathering.{capped}

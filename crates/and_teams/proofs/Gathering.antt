@@ -18,8 +18,8 @@ use Rattle.and_tree.specs.Passes.{TreeId, PassSeen, tally_of}
 use Rattle.and_tree.specs.Ended.{tally_of_all}
 use Rattle.and_answers.specs.Kept.{listed, total, Merges}
 use Rattle.and_answers.specs.declared.found.Found.{Found}
-use Rattle.and_walk.specs.Found.{kept_count}
-use Rattle.and_walk.specs.Walking.{IsEndSoFar}
+use Rattle.and_search_laws.specs.Found.{kept_count}
+use Rattle.and_search_laws.specs.Ended.{IsEndSoFar}
 use Rattle.and_team_laws.specs.Done.{DidAll, Part, DidParts, all_parts}
 use Rattle.and_team_laws.proofs.Bools.{or_assoc, or_false}
 use Rattle.and_cells.specs.declared.naming.Naming.{Ghosts}

@@ -20,7 +20,7 @@ use Rattle.and_histories.specs.PlainTree as plain
 use Rattle.and_histories.specs.PlainTree.{Key, Ending, children}
 use Rattle.and_tree.specs.Passes.{TreeId, PassSeen, Makes, Takes}
 use Rattle.and_tree.proofs.Hands.{taken_hand}
-use Rattle.and_walk.proofs.Splitting.{candidate_splits}
+use Rattle.and_search_laws.proofs.Splitting.{candidate_splits}
 use Rattle.and_team_laws.specs.Owed.{SameItems}
 use Rattle.and_teams.specs.Placed.{StandsWithin}
 use Rattle.and_teams.specs.Working.{keys_of, IsTask, AreTasks, Has}

@@ -8,8 +8,8 @@ use Rattle.and_tree.specs.Plain.{Tally, tallied}
 use Rattle.and_tree.specs.Passes.{PassSeen, Makes, tally_on, tally_of}
 use Rattle.and_answers.specs.Kept.{listed}
 use Rattle.and_answers.specs.declared.found.Found.{Found}
-use Rattle.and_walk.specs.Found.{kept_count}
-use Rattle.and_walk.specs.Walking.{IsEndSoFar}
+use Rattle.and_search_laws.specs.Found.{kept_count}
+use Rattle.and_search_laws.specs.Ended.{IsEndSoFar}
 use Rattle.and_team_laws.specs.Done.{IsPassing, Did, DidAll}
 use Rattle.and_team_laws.proofs.Bools.{or_false}
 use Rattle.and_team_laws.proofs.Doing.{did_more}
@@ -47,7 +47,8 @@ module _ (P : Program) (limit : ℕ) where
             (did_more P limit (calls p.seen p.team) (record { event = event; reply = reply }) (listed found) es t.forks t.failed f m t.is_cut b t.did did));
         counted = counted (tally_of (calls p.seen p.team)) (sym t.counted)
             ∙ sym (ap (λ h. (tally_of h).forks) more
-            ∙ ap (λ (y : Tally). y.forks) (tally_more (record { forks = 0; answers = 0; retired = 0; given_up = 0 }) (calls p.seen p.team) (record { event = event; reply = reply })));
+            ∙ ap (λ (y : Tally). y.forks)
+            (tally_more (record { forks = 0; answers = 0; retired = 0; given_up = 0 }) (calls p.seen p.team) (record { event = event; reply = reply })));
         failed_are = failed_are;
         end = ends;
       }

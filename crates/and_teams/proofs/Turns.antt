@@ -35,10 +35,10 @@ use Rattle.and_branch.specs.States.{numbers, IsState, IsCutOf}
 use Rattle.and_branch.specs.declared.state.BranchState.TheVariants as told
 use Rattle.and_answers.specs.Kept.{listed, total, SameEnd}
 use Rattle.and_answers.specs.declared.found.Found.{Found}
-use Rattle.and_walk.specs.Found.{kept_count}
-use Rattle.and_walk.specs.Walking.{IsEndSoFar, SameButCut}
-use Rattle.and_walk.proofs.Ending.{one_counted, end_counted, end_cut}
-use Rattle.and_walk.proofs.Going.{state_within}
+use Rattle.and_search_laws.specs.Found.{kept_count}
+use Rattle.and_search_laws.specs.Ended.{IsEndSoFar, SameButCut}
+use Rattle.and_search_laws.proofs.Ending.{one_counted, end_counted, end_cut}
+use Rattle.and_search_laws.proofs.Telling.{state_within}
 use Rattle.and_team_laws.specs.Done.{Did}
 use Rattle.and_teams.specs.Placed.{StandsWithin, IsForkWithin, fork_of}
 use Rattle.and_teams.specs.Working.{keys_of, Has, Works, Tells}

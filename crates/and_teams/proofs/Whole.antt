@@ -23,8 +23,8 @@ use Rattle.and_answers.specs.Order.{HasDistinctCodes, InOrder}
 use Rattle.and_answers.specs.declared.found.Found.{Found}
 use Rattle.and_walk_laws.specs.Walks.{Walks}
 use Rattle.and_walk_laws.proofs.Numbering.{numbered, whole_exhausts}
-use Rattle.and_walk.specs.Found.{kept_count, IsEnd, IsFound}
-use Rattle.and_walk.specs.Walking.{IsEndSoFar}
+use Rattle.and_search_laws.specs.Found.{kept_count, IsEnd, IsFound}
+use Rattle.and_search_laws.specs.Ended.{IsEndSoFar}
 use Rattle.and_team_laws.specs.Owed.{SameItems}
 use Rattle.and_team_laws.specs.Done.{DidAll, Part, all_parts}
 use Rattle.and_team_laws.specs.Runs.{WholeRun}

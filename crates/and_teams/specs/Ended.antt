@@ -16,7 +16,7 @@ use Rattle.and_team_laws.specs.Done.{IsJustified, forks_of, keys_answered, keys_
 use Rattle.and_team_laws.specs.Runs.{WholeRun, AreInOrder, AreForksOfQuery}
 use Rattle.and_answers.specs.Kept.{listed, Merges}
 use Rattle.and_answers.specs.declared.found.Found.{Found}
-use Rattle.and_walk.specs.Found.{kept_count}
+use Rattle.and_search_laws.specs.Found.{kept_count}
 use Rattle.and_cells.specs.declared.naming.Naming.{Ghosts}
 use Rattle.and_teams.specs.Working.{IsDone}
 use Rattle.and_teams.specs.declared.team.Team.{Team}
@@ -38,7 +38,8 @@ AreFresh tree number [] = Unit {0}
 AreFresh tree number (t ∷ teams) = IsFresh tree number t × AreFresh tree (suc number) teams
 
 -- The team of this number has worked: it is done, or after want of memory no key is in its hand.
-pub record IsWorked {N : Type 0} {G : Ghosts N} (P : Program) (tree : TreeId) (number : ℕ) (w : Worked N G) : Type 0 where
+pub record IsWorked {N : Type 0} {G : Ghosts N} (P : Program) (tree : TreeId) (number : ℕ)
+    (w : Worked N G) : Type 0 where
   pub number_is : w.team.number ≡ number
   pub of_tree : w.team.pass.tree ≡ tree
   pub done : w.has_failed ≡ false → IsDone P tree w.team.pass w.team.found
@@ -49,9 +50,11 @@ abbrev pub AreDone : {N : Type 0} {G : Ghosts N} → Program → TreeId → (num
 AreDone P tree number [] = Unit {0}
 AreDone P tree number (w ∷ worked) = IsWorked P tree number w × AreDone P tree (suc number) worked
 
--- None met want of memory. What was found is what all found, those of the last in the list first, and these are their passes.
+-- None met want of memory. What was found is what all found, those of the last in the list first, and these are their
+-- passes.
 abbrev pub AllFound : {N : Type 0} {G : Ghosts N} → List (Worked N G) → Found → List PassSeen → Type 0
-AllFound [] found passes = (listed found ≡ []) × (found.forks ≡ 0) × (found.failed ≡ 0) × (found.cut ≡ None) × (passes ≡ [])
+AllFound [] found passes = (listed found ≡ []) × (found.forks ≡ 0) × (found.failed ≡ 0)
+    × (found.cut ≡ None) × (passes ≡ [])
 AllFound (w ∷ worked) found passes =
     (w.has_failed ≡ false) × (others : Found) × (rest : List PassSeen) × AllFound worked others rest
     × Merges others w.team.found found × (passes ≡ rest ++ w.team.pass ∷ [])
@@ -63,12 +66,14 @@ pub record IsTallyOf (history : List HistoryEntry) (counts : Tally) : Type 0 whe
   pub retired : counts.retired ≡ kept_count (length (keys_retired history))
   pub given_up : counts.given_up ≡ kept_count (length (keys_given_up history))
 
--- What the tree of a run leaves, whatever was cut off: a history of all teams, until no key was left, and what it did is what was
--- found. Each fork of it is of the leftmost goal of a Shut tree, by exactly those of its candidates that fit, and leaves no code
--- out; no key is forked twice, so the forks have an order. The keys that were answered are prefixes of the codes of the entries,
--- each of its own; none was given up. The tree counts what stands in the history. Where nothing was cut off, its forks, in the
--- order of their keys, are those of the exploration of the query.
-pub record IsRun (P : Program) (limit teams : ℕ) (found : Found) (history : List HistoryEntry) (counts : Tally) : Type 0 where
+-- What the tree of a run leaves, whatever was cut off: a history of all teams, until no key was left, and what it did
+-- is what was found. Each fork of it is of the leftmost goal of a Shut tree, by exactly those of its candidates that
+-- fit, and leaves no code out; no key is forked twice, so the forks have an order. The keys that were answered are
+-- prefixes of the codes of the entries, each of its own; none was given up. The tree counts what stands in the
+-- history. Where nothing was cut off, its forks, in the order of their keys, are those of the exploration of the
+-- query.
+pub record IsRun (P : Program) (limit teams : ℕ) (found : Found) (history : List HistoryEntry)
+    (counts : Tally) : Type 0 where
   pub entries : List Entry
   pub forks : ℕ
   pub failed : ℕ
@@ -90,4 +95,5 @@ pub record IsRun (P : Program) (limit teams : ℕ) (found : Found) (history : Li
 -- There is no tree exactly where the query by itself is too heavy.
 abbrev pub IsRunOf : Program → (limit teams : ℕ) → Found → Option ClosedTree → Type 0
 IsRunOf P limit teams found None = limit < weight (blank {P = P} (query_agenda P))
-IsRunOf P limit teams found (Some closed) = IsRun P limit teams found (history_in closed.last.value.views) (tally closed.counts)
+IsRunOf P limit teams found (Some closed) =
+    IsRun P limit teams found (history_in closed.last.value.views) (tally closed.counts)

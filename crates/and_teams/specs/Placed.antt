@@ -13,9 +13,11 @@ pub record StandsWithin (P : NamedProgram) (limit : ℕ) (b : Held) : Type 0 whe
   pub branch : IsBranchOf P b tree
   pub limited : b.limit ≡ limit
 
--- The fork is of the leftmost goal of a Shut tree that is reached by its key, by exactly those of its candidates that fit.
+-- The fork is of the leftmost goal of a Shut tree that is reached by its key, by exactly those of its candidates that
+-- fit.
 abbrev pub IsForkWithin : (P : NamedProgram) (limit : ℕ) → Fork → Type 0
-IsForkWithin P limit f = IsJustified P.program limit (record { key = f.key; decided = f.longer; candidates = f.clauses })
+IsForkWithin P limit f =
+    IsJustified P.program limit (record { key = f.key; decided = f.longer; candidates = f.clauses })
 
 -- what a tree knows of a fork
 abbrev pub fork_of : branches.Fork → Fork

@@ -9,16 +9,16 @@ use Rattle.and_histories.specs.Histories.{Carries, calls}
 use Rattle.and_tree.specs.Passes.{TreeId, PassSeen, tally_of}
 use Rattle.and_answers.specs.Kept.{listed}
 use Rattle.and_answers.specs.declared.found.Found.{Found}
-use Rattle.and_walk.specs.Found.{kept_count}
-use Rattle.and_walk.specs.Walking.{IsEndSoFar}
+use Rattle.and_search_laws.specs.Found.{kept_count}
+use Rattle.and_search_laws.specs.Ended.{IsEndSoFar}
 use Rattle.and_team_laws.specs.Owed.{SameItems}
 use Rattle.and_team_laws.specs.Done.{DidAll}
 use Rattle.and_teams.specs.Placed.{StandsWithin}
 use Rattle.and_teams.specs.declared.stack.Task.{Task}
 use Rattle.and_teams.specs.declared.stack.Task.TheVariants.{One, Children}
 
--- What a team found and counted is what its calls did, and any cut of it is over the limit. It counts the forks that it made
--- and the branches that failed.
+-- What a team found and counted is what its calls did, and any cut of it is over the limit. It counts the forks that
+-- it made and the branches that failed.
 pub record Tells (P : Program) (limit : ℕ) (pass : PassSeen) (found : Found) : Type 0 where
   pub forks : ℕ
   pub failed : ℕ
@@ -36,7 +36,8 @@ keys_of (Children f) = children f.longer f.clauses
 -- A task stands for trees of its keys. A fork has no more children than there are clause numbers.
 abbrev pub IsTask : {N : Type 0} (P : NamedProgram) (limit : ℕ) → Task N → Type 0
 IsTask P limit (One b) = StandsWithin P limit b
-IsTask P limit (Children f) = (t : QueryTree P.program) × AreChildren P f t × (f.parent.limit ≡ limit) × (length f.clauses ≤ 2 ^ 16)
+IsTask P limit (Children f) = (t : QueryTree P.program) × AreChildren P f t × (f.parent.limit ≡ limit)
+    × (length f.clauses ≤ 2 ^ 16)
 
 abbrev pub AreTasks : {N : Type 0} (P : NamedProgram) (limit : ℕ) → List (Task N) → Type 0
 AreTasks P limit [] = Unit {0}
@@ -54,7 +55,8 @@ pub record Has {N : Type 0} (P : NamedProgram) (tree : TreeId) (pass : PassSeen)
   pub tasks_are : AreTasks P tree.about.limit tasks
 
 -- A team at work has told, too, what it did.
-pub record Works {N : Type 0} (P : NamedProgram) (tree : TreeId) (pass : PassSeen) (found : Found) (tasks : List (Task N)) : Type 0 where
+pub record Works {N : Type 0} (P : NamedProgram) (tree : TreeId) (pass : PassSeen) (found : Found)
+    (tasks : List (Task N)) : Type 0 where
   pub has : Has P tree pass tasks
   pub tells : Tells P.program tree.about.limit pass found
 

@@ -5,12 +5,12 @@ ghost use Rattle.std.specs.Thread.{IsSync};
 ghost use Rattle.and_model.specs.declared.limits.TheConstants.{MAX_LIMIT};
 ghost use Rattle.and_program.specs.Loaded.{program_of};
 ghost use Rattle.and_cells.specs.Parts.{named};
-ghost use Rattle.and_determinacy.specs.Tables.{IsTableOf};
+ghost use Rattle.and_clause_index.specs.Tables.{IsTableOf};
 ghost use Rattle.and_model.specs.Trees.{blank, query_agenda};
 ghost use Rattle.and_branch.specs.Branches.{IsBranchOf};
 ghost use Rattle.and_answers.specs.Kept.{Merges};
 ghost use Rattle.and_tree.specs.Passes.{fresh_from};
-ghost use Rattle.and_walk.specs.Found.{IsFound};
+ghost use Rattle.and_search_laws.specs.Found.{IsFound};
 ghost use Rattle.and_teams.specs.Working.{Works};
 ghost use Rattle.and_teams.specs.Ended.{AreFresh, IsWorked, AreDone, AllFound, IsRunOf};
 
@@ -20,7 +20,7 @@ use crate::work::{Worked, work};
 use and_answers::Found;
 use and_branch::{Branch, Rooted, Workspace};
 use and_cells::Naming;
-use and_determinacy::Determinacy;
+use and_clause_index::Determinacy;
 use and_gate::Gate;
 use and_program::Loaded;
 use and_tree::{ClosedTree, Tree, TreePassList};
@@ -66,7 +66,8 @@ pub fn explore<R: Threads + Wait + Sync, G: Gate>(
     requires teams { (0 < settings.teams) × (settings.teams ≤ 16) }
     requires workers { (0 < settings.workers) × (settings.workers ≤ 8) }
     ensures found { IfOk result (λ explored. IsFound (program_of loaded.now) settings.limit explored.found) }
-    ensures closed { IfOk result (λ explored. IsRunOf (program_of loaded.now) settings.limit settings.teams explored.found explored.closed) }
+    ensures closed { IfOk result
+        (λ explored. IsRunOf (program_of loaded.now) settings.limit settings.teams explored.found explored.closed) }
 {
     explore_named::<Brand, R, G>(rt, alloc, loaded, table, settings, gate)
 }
@@ -86,7 +87,8 @@ fn explore_named<N: Naming + Send + Sync, R: Threads + Wait + Sync, G: Gate>(
     requires teams { (0 < settings.teams) × (settings.teams ≤ 16) }
     requires workers { (0 < settings.workers) × (settings.workers ≤ 8) }
     ensures found { IfOk result (λ explored. IsFound N.program.program settings.limit explored.found) }
-    ensures closed { IfOk result (λ explored. IsRunOf N.program.program settings.limit settings.teams explored.found explored.closed) }
+    ensures closed { IfOk result
+        (λ explored. IsRunOf N.program.program settings.limit settings.teams explored.found explored.closed) }
 {
     let mut workspace = Workspace::new(alloc);
     match Branch::<N>::root(alloc, loaded, settings.limit, &mut workspace) {
@@ -121,7 +123,8 @@ fn explore_root<N: Naming + Send + Sync, R: Threads + Wait + Sync, G: Gate>(
     requires root { IsBranchOf N.program branch (blank (query_agenda N.program.program)) }
     requires plain { (branch.key ≡ []) × (branch.limit ≡ settings.limit) }
     ensures found { IfOk result (λ explored. IsFound N.program.program settings.limit explored.found) }
-    ensures closed { IfOk result (λ explored. IsRunOf N.program.program settings.limit settings.teams explored.found explored.closed) }
+    ensures closed { IfOk result
+        (λ explored. IsRunOf N.program.program settings.limit settings.teams explored.found explored.closed) }
 {
     let Settings {
         limit,
@@ -170,7 +173,8 @@ fn work_by_teams<N: Naming + Send + Sync, R: Threads + Wait + Sync, G: Gate>(
         rt,
         teams,
         &|team: Team<N>| -> Worked<N>
-            requires { IsSync R.row × (N.program ≡ named shared.now.loaded.now) × IsTableOf N.program shared.now.table.now
+            requires { IsSync R.row × (N.program ≡ named shared.now.loaded.now)
+                × IsTableOf N.program shared.now.table.now
                 × Works N.program shared.now.tree.now team.pass team.found team.stack.items }
             ensures { IsWorked N.program.program shared.entry.now.tree.now team.number result }
         { work(rt, shared, team) },
@@ -183,8 +187,10 @@ fn with_passes<N: Naming, G: Gate>(
     mut passes: TreePassList<PlacedBranch<N>>,
 ) -> Result<Vec<Team<N>>, AllocError>
     requires { passes ≡ fresh_from shared.now.tree.now 0 shared.now.teams }
-    ensures fresh { IfOk result (λ teams. AreFresh shared.now.tree.now 0 (reverse teams.items) × (length teams.items ≡ shared.now.teams)) }
-    ensures at_work { IfOk result (λ teams. All (λ t. Works N.program shared.now.tree.now t.pass t.found t.stack.items) teams.items) }
+    ensures fresh { IfOk result (λ teams. AreFresh shared.now.tree.now 0 (reverse teams.items)
+        × (length teams.items ≡ shared.now.teams)) }
+    ensures at_work { IfOk result
+        (λ teams. All (λ t. Works N.program shared.now.tree.now t.pass t.found t.stack.items) teams.items) }
 {
     let mut teams = Vec::with_capacity(shared.alloc, passes.len())?;
     while let Some(pass) = passes.pop() {

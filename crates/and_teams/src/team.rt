@@ -1,22 +1,23 @@
 //! A team: what it has found, and what it has still to explore.
 
-ghost use Rattle.std.specs.Prelude.{◌≡◌, ◌≢◌, ◌⊎◌, ◌<◌, ◌*◌, ◌^◌, ◌≤◌, length, ◌++◌, ◌∷◌, [], ℕ, List, Option, None, Some, OnOk, OnErr, IfOk, IfSome, IfNone, true};
+ghost use Rattle.std.specs.Prelude.{◌≡◌, ◌≢◌, ◌⊎◌, ◌<◌, ◌*◌, ◌^◌, ◌≤◌, length, ◌++◌, ◌∷◌, [], ℕ, List, Option, None};
+ghost use Rattle.std.specs.Prelude.{Some, OnOk, OnErr, IfOk, IfSome, IfNone, true};
 ghost use Rattle.std.specs.Option.{option_or};
 ghost use Rattle.and_model.specs.declared.limits.TheConstants.{MAX_LIMIT};
 ghost use Rattle.and_model.specs.Trees.{QueryTree, Open};
 ghost use Rattle.and_model.specs.Trees as trees;
 ghost use Rattle.and_model.specs.Listing.{Outcome, Ends};
 ghost use Rattle.and_cells.specs.Parts.{named};
-ghost use Rattle.and_determinacy.specs.Tables.{IsTableOf};
+ghost use Rattle.and_clause_index.specs.Tables.{IsTableOf};
 ghost use Rattle.and_branch_laws.specs.States.{StateOf, fork};
 ghost use Rattle.and_branch.specs.Branches.{IsBranchOf};
 ghost use Rattle.and_branch.specs.Children.{AreChildren, Fork};
 ghost use Rattle.and_branch.specs.Ended.{HasEnded};
-ghost use Rattle.and_branch.specs.Origins.{GoesBack, KeepsBack};
+ghost use Rattle.and_branch.specs.Origins.{GoesBack, KeepsWhatIsNoted};
 ghost use Rattle.and_branch.specs.States.{IsState, IsAtRest, IsCutOf};
 ghost use Rattle.and_answers.specs.Kept.{SameEnd, listed, entry_of};
 ghost use Rattle.and_histories.specs.PlainTree.{Key, Owns, children};
-ghost use Rattle.and_walk.specs.Walking.{EndsSo, SameButCut};
+ghost use Rattle.and_search_laws.specs.Ended.{EndsSo, SameButCut};
 ghost use Rattle.and_team_laws.specs.Owed.{SameItems};
 ghost use Rattle.and_teams.specs.Working.{Has, Works, some_task};
 ghost use Rattle.and_teams.specs.declared.team.TheConstants.{MOST_TASKS};
@@ -26,7 +27,7 @@ use crate::stack::Task;
 use and_answers::{Entry, Found};
 use and_branch::{Branch, BranchList, BranchState, Split, Workspace};
 use and_cells::Naming;
-use and_determinacy::Determinacy;
+use and_clause_index::Determinacy;
 use and_gate::Gate;
 use and_model::{ClauseList, Cut, Goal};
 use and_phase::{Pace, phase_to_state};
@@ -96,7 +97,8 @@ impl<N: Naming> Team<N> {
     /// A team that has done nothing.
     pub fn new(alloc: Global, number: u32, pass: TreePass<PlacedBranch<N>>) -> Team<N>
         requires { pass.team ≡ number }
-        ensures { (result.pass ≡ pass) × (listed result.found ≡ []) × (result.found.cut ≡ None) × (result.found.forks ≡ 0)
+        ensures { (result.pass ≡ pass) × (listed result.found ≡ []) × (result.found.cut ≡ None)
+            × (result.found.forks ≡ 0)
             × (result.found.failed ≡ 0) × (result.stack.items ≡ []) }
     {
         Team {
@@ -122,7 +124,8 @@ impl<N: Naming + Send + Sync> Team<N> {
         requires table { IsTableOf N.program shared.now.table.now }
         requires works { Works N.program shared.now.tree.now self.old.pass self.old.found (self.old.stack.items) }
         ensures has { Has N.program shared.now.tree.now self.new.pass (self.new.stack.items) }
-        ensures works { OnOk result (Works N.program shared.now.tree.now self.new.pass self.new.found (self.new.stack.items)) }
+        ensures works { OnOk result
+            (Works N.program shared.now.tree.now self.new.pass self.new.found (self.new.stack.items)) }
         ensures same { self.new.number ≡ self.old.number }
     {
         match self.stack.pop() {
@@ -148,9 +151,11 @@ impl<N: Naming + Send + Sync> Team<N> {
     ) -> Result<(), AllocError>
         requires program { N.program ≡ named shared.now.loaded.now }
         requires table { IsTableOf N.program shared.now.table.now }
-        requires works { Works N.program shared.now.tree.now self.old.pass self.old.found (Task.Children list ∷ self.old.stack.items) }
+        requires works { Works N.program shared.now.tree.now self.old.pass self.old.found
+            (Task.Children list ∷ self.old.stack.items) }
         ensures has { Has N.program shared.now.tree.now self.new.pass (self.new.stack.items) }
-        ensures works { OnOk result (Works N.program shared.now.tree.now self.new.pass self.new.found (self.new.stack.items)) }
+        ensures works { OnOk result
+            (Works N.program shared.now.tree.now self.new.pass self.new.found (self.new.stack.items)) }
         ensures same { self.new.number ≡ self.old.number }
     {
         let (child, rest) = self.next_child(shared, list)?;
@@ -178,10 +183,13 @@ impl<N: Naming + Send + Sync> Team<N> {
     ) -> Result<Option<Branch<N>>, AllocError>
         requires program { N.program ≡ named shared.now.loaded.now }
         requires table { IsTableOf N.program shared.now.table.now }
-        requires works { Works N.program shared.now.tree.now self.old.pass self.old.found (Task.One branch ∷ self.old.stack.items) }
+        requires works { Works N.program shared.now.tree.now self.old.pass self.old.found
+            (Task.One branch ∷ self.old.stack.items) }
         ensures has { Has N.program shared.now.tree.now self.new.pass (self.new.stack.items) }
-        ensures works { OnOk result (Works N.program shared.now.tree.now self.new.pass self.new.found (self.new.stack.items)) }
-        ensures ended { IfOk result (λ ended. IfSome ended (λ b. KeepsBack branch b × (self.new.stack.items ≡ self.old.stack.items))) }
+        ensures works { OnOk result
+            (Works N.program shared.now.tree.now self.new.pass self.new.found (self.new.stack.items)) }
+        ensures ended { IfOk result
+            (λ ended. IfSome ended (λ b. KeepsWhatIsNoted branch b × (self.new.stack.items ≡ self.old.stack.items))) }
         ensures same { self.new.number ≡ self.old.number }
     {
         let advanced = phase_to_state(
@@ -215,9 +223,11 @@ impl<N: Naming> Team<N> {
     ) -> Result<(Branch<N>, Option<Task<N>>), AllocError>
         requires program { N.program ≡ named shared.now.loaded.now }
         requires has { Has N.program shared.now.tree.now self.old.pass (Task.Children list ∷ self.old.stack.items) }
-        ensures same { (self.new.number ≡ self.old.number) × (self.new.found ≡ self.old.found) × (self.new.stack ≡ self.old.stack) }
+        ensures same { (self.new.number ≡ self.old.number) × (self.new.found ≡ self.old.found)
+            × (self.new.stack ≡ self.old.stack) }
         ensures child { IfOk result (λ next. (self.new.pass ≡ self.old.pass)
-            × Has N.program shared.now.tree.now self.new.pass (Task.One next.0 ∷ some_task next.1 ++ self.new.stack.items)) }
+            × Has N.program shared.now.tree.now self.new.pass
+            (Task.One next.0 ∷ some_task next.1 ++ self.new.stack.items)) }
         ensures back { IfOk result (λ next. (f : Fork) → next.1 ≡ Some (Task.Children f)
             → (next.0.trail.mark ≡ None) ⊎ GoesBack f.parent next.0) }
         ensures given_up { OnErr result (Has N.program shared.now.tree.now self.new.pass (self.new.stack.items)) }
@@ -242,7 +252,8 @@ impl<N: Naming> Team<N> {
         requires back { (f : Fork) (below : List (Task N)) → self.old.stack.items ≡ below ++ Task.Children f ∷ []
             → child.trail.mark ≢ None → GoesBack f.parent child }
         ensures stack { self.new.stack.items ≡ self.old.stack.items }
-        ensures same { (self.new.number ≡ self.old.number) × (self.new.found ≡ self.old.found) × (self.new.pass ≡ self.old.pass) }
+        ensures same { (self.new.number ≡ self.old.number) × (self.new.found ≡ self.old.found)
+            × (self.new.pass ≡ self.old.pass) }
     {
         if let Some(task) = self.stack.last_mut() {
             task.take_in(child);
@@ -259,7 +270,8 @@ impl<N: Naming> Team<N> {
         requires program { N.program ≡ named shared.now.loaded.now }
         requires one { length list.clauses ≡ 1 }
         requires has { Has N.program shared.now.tree.now self.old.pass (Task.Children list ∷ self.old.stack.items) }
-        ensures same { (self.new.number ≡ self.old.number) × (self.new.found ≡ self.old.found) × (self.new.stack ≡ self.old.stack) }
+        ensures same { (self.new.number ≡ self.old.number) × (self.new.found ≡ self.old.found)
+            × (self.new.stack ≡ self.old.stack) }
         ensures child { IfOk result (λ child. (self.new.pass ≡ self.old.pass)
             × Has N.program shared.now.tree.now self.new.pass (Task.One child ∷ self.new.stack.items)) }
         ensures given_up { OnErr result (Has N.program shared.now.tree.now self.new.pass (self.new.stack.items)) }
@@ -283,12 +295,16 @@ impl<N: Naming> Team<N> {
         state: BranchState,
     ) -> Result<Option<Branch<N>>, AllocError>
         requires program { N.program ≡ named shared.now.loaded.now }
-        requires works { Works N.program shared.now.tree.now self.old.pass self.old.found (Task.One branch ∷ self.old.stack.items) }
-        requires state { (t : QueryTree N.program.program) → IsBranchOf N.program branch t → IsState N.program branch t state }
+        requires works { Works N.program shared.now.tree.now self.old.pass self.old.found
+            (Task.One branch ∷ self.old.stack.items) }
+        requires state { (t : QueryTree N.program.program) → IsBranchOf N.program branch t
+            → IsState N.program branch t state }
         requires at_rest { IsAtRest N.program branch state }
         ensures has { Has N.program shared.now.tree.now self.new.pass (self.new.stack.items) }
-        ensures works { OnOk result (Works N.program shared.now.tree.now self.new.pass self.new.found (self.new.stack.items)) }
-        ensures ended { IfOk result (λ ended. IfSome ended (λ b. (b ≡ branch) × (self.new.stack.items ≡ self.old.stack.items))) }
+        ensures works { OnOk result
+            (Works N.program shared.now.tree.now self.new.pass self.new.found (self.new.stack.items)) }
+        ensures ended { IfOk result
+            (λ ended. IfSome ended (λ b. (b ≡ branch) × (self.new.stack.items ≡ self.old.stack.items))) }
         ensures same { self.new.number ≡ self.old.number }
     {
         match state {
@@ -327,11 +343,13 @@ impl<N: Naming> Team<N> {
         cut: Option<Cut>,
     ) -> Result<(), AllocError>
         requires program { N.program ≡ named shared.now.loaded.now }
-        requires works { Works N.program shared.now.tree.now self.old.pass self.old.found (Task.One branch ∷ self.old.stack.items) }
+        requires works { Works N.program shared.now.tree.now self.old.pass self.old.found
+            (Task.One branch ∷ self.old.stack.items) }
         requires state { (t : QueryTree N.program.program) → IsBranchOf N.program branch t
             → IsState N.program branch t (BranchState.Fork goal clauses cut) }
         ensures has { Has N.program shared.now.tree.now self.new.pass (self.new.stack.items) }
-        ensures works { OnOk result (Works N.program shared.now.tree.now self.new.pass self.new.found (self.new.stack.items)) }
+        ensures works { OnOk result
+            (Works N.program shared.now.tree.now self.new.pass self.new.found (self.new.stack.items)) }
         ensures same { self.new.number ≡ self.old.number }
     {
         if self.stack.len() >= MOST_TASKS {
@@ -358,13 +376,16 @@ impl<N: Naming> Team<N> {
         cut: Option<Cut>,
     ) -> Result<(), AllocError>
         requires program { N.program ≡ named shared.now.loaded.now }
-        requires works { Works N.program shared.now.tree.now self.old.pass self.old.found (Task.One split.parent ∷ self.old.stack.items) }
+        requires works { Works N.program shared.now.tree.now self.old.pass self.old.found
+            (Task.One split.parent ∷ self.old.stack.items) }
         requires few { length self.old.stack.items < MOST_TASKS }
-        requires split { (t : QueryTree N.program.program) × (o : Open t) × (first : Option ℕ) × IsBranchOf N.program split.parent t
+        requires split { (t : QueryTree N.program.program) × (o : Open t) × (first : Option ℕ)
+            × IsBranchOf N.program split.parent t
             × AreChildren N.program split t × IsCutOf N.program t o first cut
             × StateOf N.program.program split.parent.limit t (fork o split.clauses first) }
         ensures has { Has N.program shared.now.tree.now self.new.pass (self.new.stack.items) }
-        ensures works { OnOk result (Works N.program shared.now.tree.now self.new.pass self.new.found (self.new.stack.items)) }
+        ensures works { OnOk result
+            (Works N.program shared.now.tree.now self.new.pass self.new.found (self.new.stack.items)) }
         ensures same { self.new.number ≡ self.old.number }
     {
         let placed = PlacedSplit { split };
@@ -382,12 +403,14 @@ impl<N: Naming> Team<N> {
         floundered: bool,
     ) -> Result<(), AllocError>
         requires program { N.program ≡ named shared.now.loaded.now }
-        requires works { Works N.program shared.now.tree.now self.old.pass self.old.found (Task.One branch.now ∷ self.old.stack.items) }
+        requires works { Works N.program shared.now.tree.now self.old.pass self.old.found
+            (Task.One branch.now ∷ self.old.stack.items) }
         requires ended { HasEnded N.program branch.now }
         requires state { (t : QueryTree N.program.program) → IsBranchOf N.program branch.now t
             → EndsSo N.program branch.now t floundered }
         ensures has { Has N.program shared.now.tree.now self.new.pass (self.new.stack.items) }
-        ensures works { OnOk result (Works N.program shared.now.tree.now self.new.pass self.new.found (self.new.stack.items)) }
+        ensures works { OnOk result
+            (Works N.program shared.now.tree.now self.new.pass self.new.found (self.new.stack.items)) }
         ensures same { (self.new.number ≡ self.old.number) × (self.new.stack ≡ self.old.stack) }
     {
         if self.add(shared, branch, floundered).is_err() {
@@ -395,6 +418,7 @@ impl<N: Naming> Team<N> {
             return Err(AllocError);
         }
         shared.tree.answer(&mut self.pass, branch.key());
+        shared.gate.found(self.number);
         Ok(())
     }
 
@@ -409,9 +433,11 @@ impl<N: Naming> Team<N> {
         requires ended { HasEnded N.program branch.now }
         ensures entries { OnOk result ((t : QueryTree N.program.program) → IsBranchOf N.program branch.now t
             → EndsSo N.program branch.now t floundered → (outcome : Outcome) × Ends t outcome
-            × (listed self.new.found ≡ listed self.old.found ++ record { code = trees.code t; outcome = outcome } ∷ [])) }
+            × (listed self.new.found ≡ listed self.old.found
+            ++ record { code = trees.code t; outcome = outcome } ∷ [])) }
         ensures end { SameEnd self.old.found self.new.found }
-        ensures same { (self.new.number ≡ self.old.number) × (self.new.pass ≡ self.old.pass) × (self.new.stack ≡ self.old.stack) }
+        ensures same { (self.new.number ≡ self.old.number) × (self.new.pass ≡ self.old.pass)
+            × (self.new.stack ≡ self.old.stack) }
     {
         let code = branch.code(shared.alloc, shared.loaded)?;
         let line = branch.line(shared.alloc, shared.loaded)?;
@@ -430,7 +456,8 @@ impl<N: Naming> Team<N> {
         requires program { N.program ≡ named shared.now.loaded.now }
         requires works { Works N.program shared.now.tree.now self.old.pass self.old.found (self.old.stack.items) }
         ensures has { Has N.program shared.now.tree.now self.new.pass (self.new.stack.items) }
-        ensures works { OnOk result (Works N.program shared.now.tree.now self.new.pass self.new.found (self.new.stack.items)) }
+        ensures works { OnOk result
+            (Works N.program shared.now.tree.now self.new.pass self.new.found (self.new.stack.items)) }
         ensures same { self.new.number ≡ self.old.number }
     {
         // (Each team's number is below that of the teams. This says so to what follows.)
@@ -474,7 +501,8 @@ impl<N: Naming> Team<N> {
         requires some { self.old.stack.items ≢ [] }
         requires own { Owns self.old.number cell }
         ensures has { Has N.program shared.now.tree.now self.new.pass (self.new.stack.items) }
-        ensures works { OnOk result (Works N.program shared.now.tree.now self.new.pass self.new.found (self.new.stack.items)) }
+        ensures works { OnOk result
+            (Works N.program shared.now.tree.now self.new.pass self.new.found (self.new.stack.items)) }
         ensures same { self.new.number ≡ self.old.number }
     {
         let branch = self.take_oldest(shared)?;
@@ -526,7 +554,8 @@ impl<N: Naming> Team<N> {
         requires some { self.old.stack.items ≢ [] }
         ensures same { (self.new.number ≡ self.old.number) × (self.new.found ≡ self.old.found) }
         ensures child { IfOk result (λ next. (self.new.pass ≡ self.old.pass)
-            × Has N.program shared.now.tree.now self.new.pass (Task.One next.0 ∷ some_task next.1 ++ self.new.stack.items)) }
+            × Has N.program shared.now.tree.now self.new.pass
+            (Task.One next.0 ∷ some_task next.1 ++ self.new.stack.items)) }
         ensures given_up { OnErr result (Has N.program shared.now.tree.now self.new.pass (self.new.stack.items)) }
     {
         match self.stack.remove(0) {
@@ -540,7 +569,8 @@ impl<N: Naming> Team<N> {
     pub fn take_over<G: Gate>(&mut self, shared: &Shared<N, G>) -> Result<bool, AllocError>
         requires works { Works N.program shared.now.tree.now self.old.pass self.old.found (self.old.stack.items) }
         ensures has { Has N.program shared.now.tree.now self.new.pass (self.new.stack.items) }
-        ensures works { OnOk result (Works N.program shared.now.tree.now self.new.pass self.new.found (self.new.stack.items)) }
+        ensures works { OnOk result
+            (Works N.program shared.now.tree.now self.new.pass self.new.found (self.new.stack.items)) }
         ensures same { self.new.number ≡ self.old.number }
     {
         let cells = shared.teams * CELLS_PER_TEAM;
@@ -560,8 +590,11 @@ impl<N: Naming> Team<N> {
     fn claim<G: Gate>(&mut self, shared: &Shared<N, G>, cell: u32) -> Option<Branch<N>>
         requires works { Works N.program shared.now.tree.now self.old.pass self.old.found (self.old.stack.items) }
         requires cell { cell < 8 * shared.now.teams }
-        ensures none { IfNone result (Works N.program shared.now.tree.now self.new.pass self.new.found (self.new.stack.items)) }
-        ensures some { IfSome result (λ branch. Works N.program shared.now.tree.now self.new.pass self.new.found (Task.One branch ∷ self.new.stack.items)) }
+        ensures none { IfNone result
+            (Works N.program shared.now.tree.now self.new.pass self.new.found (self.new.stack.items)) }
+        ensures some { IfSome result
+            (λ branch. Works N.program shared.now.tree.now self.new.pass self.new.found
+            (Task.One branch ∷ self.new.stack.items)) }
         ensures same { (self.new.number ≡ self.old.number) × (self.new.stack ≡ self.old.stack) }
     {
         match shared.tree.look(&mut self.pass, cell) {
@@ -580,9 +613,11 @@ impl<N: Naming> Team<N> {
     fn put<G: Gate>(&mut self, shared: &Shared<N, G>, task: Task<N>) -> Result<(), AllocError>
         requires has { (others : List (Task N)) × Has N.program shared.now.tree.now self.old.pass (task ∷ others) }
         ensures same { (self.new.number ≡ self.old.number) × (self.new.found ≡ self.old.found) }
-        ensures put { OnOk result ((self.new.pass ≡ self.old.pass) × (self.new.stack.items ≡ self.old.stack.items ++ task ∷ [])) }
+        ensures put { OnOk result ((self.new.pass ≡ self.old.pass)
+            × (self.new.stack.items ≡ self.old.stack.items ++ task ∷ [])) }
         ensures given_up { OnErr result ((self.new.stack.items ≡ self.old.stack.items) × ((others : List (Task N))
-            → Has N.program shared.now.tree.now self.old.pass (task ∷ others) → Has N.program shared.now.tree.now self.new.pass others)) }
+            → Has N.program shared.now.tree.now self.old.pass (task ∷ others)
+            → Has N.program shared.now.tree.now self.new.pass others)) }
     {
         match self.stack.push(task) {
             Ok(()) => Ok(()),
@@ -596,7 +631,8 @@ impl<N: Naming> Team<N> {
     /// Gives up all that it has still to explore.
     pub fn give_up<G: Gate>(&mut self, shared: &Shared<N, G>)
         requires has { Has N.program shared.now.tree.now self.old.pass (self.old.stack.items) }
-        ensures has { (self.new.stack.items ≡ []) × Has N.program shared.now.tree.now self.new.pass (self.new.stack.items) }
+        ensures has { (self.new.stack.items ≡ [])
+            × Has N.program shared.now.tree.now self.new.pass (self.new.stack.items) }
         ensures hand { self.new.pass.hand ≡ [] }
         ensures same { self.new.number ≡ self.old.number }
     {
@@ -610,7 +646,8 @@ impl<N: Naming> Team<N> {
         requires has { (others : List (Task N)) × Has N.program shared.now.tree.now self.old.pass (task ∷ others) }
         ensures has { (others : List (Task N)) → Has N.program shared.now.tree.now self.old.pass (task ∷ others)
             → Has N.program shared.now.tree.now self.new.pass others }
-        ensures same { (self.new.number ≡ self.old.number) × (self.new.found ≡ self.old.found) × (self.new.stack ≡ self.old.stack) }
+        ensures same { (self.new.number ≡ self.old.number) × (self.new.found ≡ self.old.found)
+            × (self.new.stack ≡ self.old.stack) }
     {
         match task {
             Task::One(branch) => {
@@ -623,11 +660,14 @@ impl<N: Naming> Team<N> {
     /// Gives up the children of a fork that are still to come.
     fn give_up_children<G: Gate>(&mut self, shared: &Shared<N, G>, list: &BranchList<N>)
         requires tree { self.old.pass.tree ≡ shared.now.tree.now }
-        requires hand { (rest : List Key) × SameItems self.old.pass.hand (children list.now.longer list.now.clauses ++ rest) }
-        ensures hand { (rest : List Key) → SameItems self.old.pass.hand (children list.now.longer list.now.clauses ++ rest)
+        requires hand { (rest : List Key)
+            × SameItems self.old.pass.hand (children list.now.longer list.now.clauses ++ rest) }
+        ensures hand { (rest : List Key)
+            → SameItems self.old.pass.hand (children list.now.longer list.now.clauses ++ rest)
             → SameItems self.new.pass.hand rest }
         ensures tree { self.new.pass.tree ≡ self.old.pass.tree }
-        ensures same { (self.new.number ≡ self.old.number) × (self.new.found ≡ self.old.found) × (self.new.stack ≡ self.old.stack) }
+        ensures same { (self.new.number ≡ self.old.number) × (self.new.found ≡ self.old.found)
+            × (self.new.stack ≡ self.old.stack) }
     {
         for place in 0..list.left() {
             let longer = Snapshot::of(list.longer());

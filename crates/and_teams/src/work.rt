@@ -2,7 +2,7 @@
 
 ghost use Rattle.std.specs.Prelude.{◌≡◌, [], false, OnOk, IfOk, true};
 ghost use Rattle.and_cells.specs.Parts.{named};
-ghost use Rattle.and_determinacy.specs.Tables.{IsTableOf};
+ghost use Rattle.and_clause_index.specs.Tables.{IsTableOf};
 ghost use Rattle.and_teams.specs.Working.{Has, Works, IsDone, SeesNone};
 
 use crate::team::{Shared, Team};
@@ -32,7 +32,8 @@ pub fn work<N: Naming + Send + Sync, R: Threads + Wait + Sync, G: Gate>(
     requires works { Works N.program shared.now.tree.now team.pass team.found team.stack.items }
     ensures tree { result.team.pass.tree ≡ shared.now.tree.now }
     ensures team { result.team.number ≡ team.number }
-    ensures done { result.has_failed ≡ false → IsDone N.program.program shared.now.tree.now result.team.pass result.team.found }
+    ensures done { result.has_failed ≡ false
+        → IsDone N.program.program shared.now.tree.now result.team.pass result.team.found }
     ensures given_up { result.has_failed ≡ true → result.team.pass.hand ≡ [] }
 {
     'working: for _ in rt.forever() {
@@ -66,7 +67,8 @@ fn go_on<N: Naming + Send + Sync, R: Threads + Wait + Sync, G: Gate>(
     requires table { IsTableOf N.program shared.now.table.now }
     requires works { Works N.program shared.now.tree.now team.old.pass team.old.found team.old.stack.items }
     ensures has { Has N.program shared.now.tree.now team.new.pass team.new.stack.items }
-    ensures works { OnOk result (Works N.program shared.now.tree.now team.new.pass team.new.found team.new.stack.items) }
+    ensures works { OnOk result
+        (Works N.program shared.now.tree.now team.new.pass team.new.found team.new.stack.items) }
     ensures over { IfOk result (λ goes_on. goes_on ≡ false → SeesNone team.new.pass) }
     ensures same { team.new.number ≡ team.old.number }
 {
@@ -84,7 +86,8 @@ fn wait<N: Naming, R: Wait, G: Gate>(
 ) -> Result<bool, AllocError>
     requires works { Works N.program shared.now.tree.now team.old.pass team.old.found team.old.stack.items }
     ensures has { Has N.program shared.now.tree.now team.new.pass team.new.stack.items }
-    ensures works { OnOk result (Works N.program shared.now.tree.now team.new.pass team.new.found team.new.stack.items) }
+    ensures works { OnOk result
+        (Works N.program shared.now.tree.now team.new.pass team.new.found team.new.stack.items) }
     ensures over { IfOk result (λ goes_on. goes_on ≡ false → SeesNone team.new.pass) }
     ensures same { team.new.number ≡ team.old.number }
 {

@@ -1,9 +1,11 @@
 -- Links of classes, kept in a map from references.
-use Rattle.std.proofs.Common.{ℕ, suc, ◌≡◌, ◌≢◌, ◌<◌, ◌≤◌, ◌⊎◌, inl, inr, Bool, true, false, cond, List, [], ◌∷◌, ◌++◌, length, Option, Some, None, Contains, refl, sym, ap, subst, ◌∙◌, true≢false, eqb, arith, rules, tests}
+use Rattle.std.proofs.Common.{ℕ, suc, ◌≡◌, ◌≢◌, ◌<◌, ◌≤◌, ◌⊎◌, inl, inr, Bool, true, false, cond, List, [], ◌∷◌, ◌++◌, length, Option, Some, None, Contains}
+use Rattle.std.proofs.Common.{refl, sym, ap, subst, ◌∙◌, true≢false, eqb, arith, rules, tests}
 use Rattle.std.specs.Option.{IfSome, IsNone}
 use Rattle.std.specs.Map.{lookup}
 use Rattle.std.proofs.lemmas.Bool.{eqb-true}
-use Rattle.std.proofs.lemmas.List.Elements.{All-nil, All-cons, All-head, All-tail, All-push, All-contains, Contains-get_or, Contains-append_right, Contains-append_cases, Contains-push_cases}
+use Rattle.std.proofs.lemmas.List.Elements.{All-nil, All-cons, All-head, All-tail, All-push, All-contains, Contains-get_or, Contains-append_right}
+use Rattle.std.proofs.lemmas.List.Elements.{Contains-append_cases, Contains-push_cases}
 use Rattle.and_model.proofs.Tested.{first_true, second_true}
 use Rattle.and_model.specs.declared.reference.Ref.{Ref}
 use Rattle.and_model.specs.declared.reference.Ref.TheVariants.{Free, Cell, Node, Number, Half}
@@ -65,7 +67,8 @@ pub none_root : (ls : List (Ref × Ref)) (r : Ref) → IsNone (lookup (is_same r
 none_root [] r none = All-nil (λ (l : Ref × Ref). l.0 ≢ r)
 none_root (l ∷ ls) r none = by (is_same r l.0) refl none (none_root ls r)
   where
-    by : (b : Bool) → is_same r l.0 ≡ b → IsNone (cond b (Some l.1) (lookup (is_same r) ls)) → (IsNone (lookup (is_same r) ls) → IsRoot ls r) → IsRoot (l ∷ ls) r
+    by : (b : Bool) → is_same r l.0 ≡ b → IsNone (cond b (Some l.1) (lookup (is_same r) ls))
+        → (IsNone (lookup (is_same r) ls) → IsRoot ls r) → IsRoot (l ∷ ls) r
     by true same found rest = absurd (true≢false found)
     by false differ nothing rest = All-cons (λ (m : Ref × Ref). m.0 ≢ r) l ls (λ e. differ_is r l.0 differ (sym e)) (rest nothing)
 
@@ -119,7 +122,10 @@ links_fall (l ∷ ls) r q climbs linked = by (Contains-append_cases (l ∷ []) l
   where
     by : Contains (l ∷ []) (r, q) ⊎ Contains ls (r, q) → (Linked ls r q → links_on ls q < links_on ls r) → links_on (l ∷ ls) q < links_on (l ∷ ls) r
     by (inl first) falls =
-        let is : l ≡ (r, q) = elim (Contains-push_cases [] l (r, q) first) [ inl none ↦ absurd (let below : none.0 < 0 = none.1 in omega arith) | inr same ↦ same ] in
+        let is : l ≡ (r, q) = elim (Contains-push_cases [] l (r, q) first) [
+          | inl none ↦ absurd (let below : none.0 < 0 = none.1 in omega arith)
+          | inr same ↦ same
+        ] in
         let within = links_within ls q in
         let past = links_past l ls q (λ e. climbs.0 (ap (λ m. m.1) is ∙ sym e)) in
         let whole = links_here l ls r (ap (λ m. m.0) is) in
@@ -144,7 +150,8 @@ joins_left old links new left right one other is first second adds =
     subst (λ ls. Joins left right ls new) is (record { one = other; other = one; adds = adds; between = inr (back right other second, back left one first) })
 
 -- two that have one root are of one class
-pub one_root : (old links : List (Ref × Ref)) (left right one other : Ref) → links ≡ old → InOneClass links left one → InOneClass links right other → one ≡ other
+pub one_root : (old links : List (Ref × Ref)) (left right one other : Ref) → links ≡ old → InOneClass links left one
+    → InOneClass links right other → one ≡ other
     → InOneClass old left right
 one_root old links left right one other is first second same =
     subst (λ ls. InOneClass ls left right) is (then left one right first (subst (λ r. InOneClass links r right) (sym same) (back right other second)))

@@ -30,7 +30,8 @@ use Rattle.and_unify.proofs.TurnAnswers.{follows_end, left_end, suffice_end, equ
 
 -- Where structures of one shape lead to the pairs of their arguments, this is a step that makes them one, whatever links there were.
 pub plainly_joins : (P Q : NamedProgram) (p : Pair) (one other : Ref) (old new : Seen) (list longer : List Pair) (bound further : List ℕ) → P ≡ Q
-    → MeetStructures P p.left p.right old new one other → further ≡ bound → longer ≡ list ++ pairs_of (parts_of Q one) (parts_of Q other) → StepsPlainly P p old new list longer bound further
+    → MeetStructures P p.left p.right old new one other → further ≡ bound → longer ≡ list ++ pairs_of (parts_of Q one) (parts_of Q other)
+    → StepsPlainly P p old new list longer bound further
 plainly_joins P Q p one other old new list longer bound further named m stays gains links =
     let more = links ++ (one, other) ∷ [] in (
       more,
@@ -53,7 +54,8 @@ pub named_falls : (P Q : NamedProgram) → P ≡ Q → AllFall 0 Q.skeleton.node
 named_falls P Q named fall = subst (λ (p : NamedProgram). AllFall 0 p.skeleton.nodes) (sym named) fall
 
 -- A descent begins so,
-pub held_begun : (P : NamedProgram) (first : Seen) (asked : List Pair) (began : List ℕ) → AreInRange P first.words asked → AreWritten first asked → Held P first asked began first (Contains asked) began
+pub held_begun : (P : NamedProgram) (first : Seen) (asked : List Pair) (began : List ℕ) → AreInRange P first.words asked → AreWritten first asked
+    → Held P first asked began first (Contains asked) began
 held_begun P first asked began range written = record {
   links = [];
   kept = kept_same P first asked began first [] (IsTodo (begins first asked 0)) (Contains asked) began
@@ -62,8 +64,10 @@ held_begun P first asked began range written = record {
 }
 
 -- and it is kept where a pair steps.
-pub held_steps : (P : NamedProgram) (first : Seen) (asked : List Pair) (began : List ℕ) (old new : Seen) (bound further : List ℕ) (rest longer : List Pair) (p : Pair) → AllFall 0 P.skeleton.nodes
-    → StepsPlainly P p old new rest longer bound further → Held P first asked began old (IsOutOr p rest) bound → Held P first asked began new (Contains longer) further
+pub held_steps : (P : NamedProgram) (first : Seen) (asked : List Pair) (began : List ℕ) (old new : Seen) (bound further : List ℕ) (rest longer : List Pair)
+    (p : Pair) → AllFall 0 P.skeleton.nodes
+    → StepsPlainly P p old new rest longer bound further → Held P first asked began old (IsOutOr p rest) bound
+    → Held P first asked began new (Contains longer) further
 held_steps P first asked began old new bound further rest longer p fall steps h =
     let (more, step) = steps h.links in
     let leaves : Leaves p rest longer (IsOutOr p rest) (Contains longer) = record {
@@ -74,14 +78,16 @@ held_steps P first asked began old new bound further rest longer p fall steps h 
       comes = λ q later. inr later;
     } in
     let knows = (steps_keep P p old new h.links more rest longer bound further step).knows in
-    let later : (q : Pair) → IsOutOr p rest q → IsPlace P new (left_sides asked) q.left = λ q todo. place_later P old new (left_sides asked) q.left knows (h.lefts q todo) in record {
+    let later : (q : Pair) → IsOutOr p rest q → IsPlace P new (left_sides asked) q.left =
+    λ q todo. place_later P old new (left_sides asked) q.left knows (h.lefts q todo) in record {
       links = more;
       kept = kept_steps P p old new h.links more rest longer bound further first asked began (IsOutOr p rest) (Contains longer) fall leaves step h.kept;
       lefts = lefts_steps P p old new h.links more rest longer bound further (left_sides asked) step (later p (inl refl)) (λ q at. later q (inr at));
     }
 
 -- Where the last step stopped, all is kept.
-pub held_stopped : (P : NamedProgram) (first : Seen) (asked : List Pair) (began : List ℕ) (old now : Seen) (bound further : List ℕ) (Todo : Pair → Type 0) → OnlyReads old now × (further ≡ bound)
+pub held_stopped : (P : NamedProgram) (first : Seen) (asked : List Pair) (began : List ℕ) (old now : Seen) (bound further : List ℕ) (Todo : Pair → Type 0)
+    → OnlyReads old now × (further ≡ bound)
     → Held P first asked began old Todo bound → Held P first asked began now Todo further
 held_stopped P first asked began old now bound further Todo stopped h = record {
   links = h.links;
@@ -90,21 +96,24 @@ held_stopped P first asked began old now bound further Todo stopped h = record {
 }
 
 -- a side of a pair that is to do is a place
-side_is_place : (P : NamedProgram) (s : Seen) (roots : List Ref) (left : List Pair) (r : Ref) → ((p : Pair) → Contains left p → SidesAt P s roots p) → Contains (sides left) r → IsPlace P s roots r
+side_is_place : (P : NamedProgram) (s : Seen) (roots : List Ref) (left : List Pair) (r : Ref) → ((p : Pair) → Contains left p → SidesAt P s roots p)
+    → Contains (sides left) r → IsPlace P s roots r
 side_is_place P s roots left r each at = elim (Contains-append_cases (left_sides left) _ r at) [
   | inl one ↦ let (p, among, is) = contains_origin (λ (p : Pair). p.left) left r one in subst (IsPlace P s roots) (sym is) (each p among).0
   | inr other ↦ let (p, among, is) = contains_origin (λ (p : Pair). p.right) left r other in subst (IsPlace P s roots) (sym is) (each p among).1
 ]
 
 -- a descent that is over with one answer, by which nothing is put off, is over with this
-pub over_is : (P : NamedProgram) (old new : Seen) (asked left : List Pair) (answer unified : Unified) → answer ≢ PutOff → Over answer ≡ Over unified → Unifies P old new asked left answer
+pub over_is : (P : NamedProgram) (old new : Seen) (asked left : List Pair) (answer unified : Unified) → answer ≢ PutOff → Over answer ≡ Over unified
+    → Unifies P old new asked left answer
     → Unifies P old new asked left unified × (unified ≢ PutOff)
 over_is P old new asked left answer unified not_off e u =
     let is : answer ≡ unified = cc in
     (subst (Unifies P old new asked left) is u, λ off. not_off (is ∙ off))
 
 -- whether the row is told stays
-told_stays : (P : NamedProgram) (first : Seen) (asked : List Pair) (began : List ℕ) (s : Seen) (links : List (Ref × Ref)) (Todo : Pair → Type 0) (bound : List ℕ) → Kept P first asked began s links Todo bound
+told_stays : (P : NamedProgram) (first : Seen) (asked : List Pair) (began : List ℕ) (s : Seen) (links : List (Ref × Ref)) (Todo : Pair
+    → Type 0) (bound : List ℕ) → Kept P first asked began s links Todo bound
     → IsNone first.told ↔ IsNone s.told
 told_stays P first asked began s links Todo bound k = by_row first.told refl
   where
@@ -115,7 +124,8 @@ told_stays P first asked began s links Todo bound k = by_row first.told refl
     by_row None is = (λ none. ap is_some (k.if_untold is).told, λ none. ap is_some is)
 
 -- the sides of what is left, where the row is told
-told_sides : (P : NamedProgram) (first : Seen) (asked : List Pair) (began : List ℕ) (s : Seen) (links : List (Ref × Ref)) (left : List Pair) (bound : List ℕ) → Kept P first asked began s links (Contains left) bound
+told_sides : (P : NamedProgram) (first : Seen) (asked : List Pair) (began : List ℕ) (s : Seen) (links : List (Ref × Ref)) (left : List Pair) (bound : List ℕ)
+    → Kept P first asked began s links (Contains left) bound
     → IfSome first.told (λ row. LeadOnFrom P first left asked)
 told_sides P first asked began s links left bound k = by_row first.told refl
   where
@@ -138,7 +148,8 @@ descends_end P old new asked began bound left fall h = record {
 }
 
 -- none is left,
-pub same_end : (P : NamedProgram) (old new : Seen) (asked : List Pair) (began bound : List ℕ) (xs left : List Pair) → AllFall 0 P.skeleton.nodes → AreInRange P old.words asked
+pub same_end : (P : NamedProgram) (old new : Seen) (asked : List Pair) (began bound : List ℕ) (xs left : List Pair) → AllFall 0 P.skeleton.nodes
+    → AreInRange P old.words asked
     → (xs ≡ []) × (left ≡ []) → Held P old asked began new (Contains xs) bound → Unifies P old new asked left Same
 same_end P old new asked began bound xs left fall range none h = record {
   follows = follows_end P old asked began new h.links (Contains xs) bound h.kept;

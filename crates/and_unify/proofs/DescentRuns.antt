@@ -1,9 +1,11 @@
 -- Pairs that are met plainly, one after the other: what is kept, and what they come to.
-use Rattle.std.proofs.Common.{ℕ, zero, suc, ◌+◌, ◌≡◌, ◌<◌, ◌≤◌, ◌⊎◌, List, [], ◌∷◌, ◌++◌, length, drop, slice_get, Option, Some, None, refl, sym, ap, subst, ◌∙◌, inl, inr, arith}
+use Rattle.std.proofs.Common.{ℕ, zero, suc, ◌+◌, ◌≡◌, ◌<◌, ◌≤◌, ◌⊎◌, List, [], ◌∷◌, ◌++◌, length, drop, slice_get, Option, Some, None, refl, sym, ap, subst}
+use Rattle.std.proofs.Common.{◌∙◌, inl, inr, arith}
 use Rattle.std.specs.Prelude.{Contains}
 use Rattle.std.proofs.lemmas.Option.{get_or_from_slice_get, slice_get_within}
 use Rattle.std.proofs.lemmas.List.{drop_all}
-use Rattle.std.proofs.lemmas.List.Elements.{All-contains, All-contains_itself, All-weaker, Contains-get_or, Contains-append_cases, Contains-append_left, Contains-append_right}
+use Rattle.std.proofs.lemmas.List.Elements.{All-contains, All-contains_itself, All-weaker, Contains-get_or, Contains-append_cases, Contains-append_left}
+use Rattle.std.proofs.lemmas.List.Elements.{Contains-append_right}
 use Rattle.and_model.specs.declared.reference.Ref.{Ref}
 use Rattle.and_program.specs.Skeletons.{AllFall}
 use Rattle.and_cells.specs.Ranges.{NamedProgram, IsInRange}
@@ -92,13 +94,17 @@ pub same_before : (xs rest : List Pair) (p : Pair) → xs ≡ rest ++ p ∷ [] �
 same_before xs rest p e q = (to, from)
   where
     to : Contains xs q → Contains (p ∷ rest) q
-    to at = elim (last_cases xs rest p q e at) [ inl is ↦ subst (Contains (p ∷ rest)) (sym is) (contains_first p rest) | inr among ↦ contains_more p q rest among ]
+    to at = elim (last_cases xs rest p q e at) [
+      | inl is ↦ subst (Contains (p ∷ rest)) (sym is) (contains_first p rest)
+      | inr among ↦ contains_more p q rest among
+    ]
 
     from : Contains (p ∷ rest) q → Contains xs q
     from at = elim (contains_cases p q rest at) [ inl is ↦ subst (Contains xs) (sym is) (last_was xs rest p e) | inr among ↦ rest_was xs rest p q e among ]
 
 -- Runs follow one another.
-pub runs_then : (P : NamedProgram) (old mid : Seen) (todo list : List Pair) (bound further : List ℕ) (new : Seen) (left : List Pair) (last : List ℕ) → Runs P old todo bound mid list further → Runs P mid list further new left last
+pub runs_then : (P : NamedProgram) (old mid : Seen) (todo list : List Pair) (bound further : List ℕ) (new : Seen) (left : List Pair) (last : List ℕ)
+    → Runs P old todo bound mid list further → Runs P mid list further new left last
     → Runs P old todo bound new left last
 runs_then P old mid todo list bound further new left last first start = first
 runs_then P old mid todo list bound further new left last first (looked between now kept more runs reads) =
@@ -109,7 +115,8 @@ runs_then P old mid todo list bound further new left last first (stepped between
     stepped between now p rest kept more most (runs_then P old mid todo list bound further between (p ∷ rest) more first runs) step
 
 -- No words come to be.
-pub runs_words : (P : NamedProgram) (old : Seen) (todo : List Pair) (bound : List ℕ) (new : Seen) (left : List Pair) (last : List ℕ) → Runs P old todo bound new left last → new.words ≡ old.words
+pub runs_words : (P : NamedProgram) (old : Seen) (todo : List Pair) (bound : List ℕ) (new : Seen) (left : List Pair) (last : List ℕ)
+    → Runs P old todo bound new left last → new.words ≡ old.words
 runs_words P old todo bound new left last start = refl
 runs_words P old todo bound new left last (looked mid now kept more runs reads) = reads.words ∙ runs_words P old todo bound mid kept more runs
 runs_words P old todo bound new left last (sorted now one other more runs same) = runs_words P old todo bound now one more runs
@@ -127,11 +134,13 @@ out_or p rest q (inl is) = subst (Contains (p ∷ rest)) (sym is) (contains_firs
 out_or p rest q (inr at) = contains_more p q rest at
 
 -- What is left fits.
-pub runs_fit : (P : NamedProgram) (old : Seen) (todo : List Pair) (bound : List ℕ) (new : Seen) (left : List Pair) (last : List ℕ) → AllFall 0 P.skeleton.nodes → Runs P old todo bound new left last → AllFit P old todo → AllFit P new left
+pub runs_fit : (P : NamedProgram) (old : Seen) (todo : List Pair) (bound : List ℕ) (new : Seen) (left : List Pair) (last : List ℕ) → AllFall 0 P.skeleton.nodes
+    → Runs P old todo bound new left last → AllFit P old todo → AllFit P new left
 runs_fit P old todo bound new left last fall start fit = fit
 runs_fit P old todo bound new left last fall (looked mid now kept more runs reads) fit = λ q at.
     subst (λ n. IsFit P n now q) (sym reads.words) (fit_later P mid.words mid now q reads.keeps (runs_fit P old todo bound mid kept more fall runs fit q at))
-runs_fit P old todo bound new left last fall (sorted now one other more runs same) fit = λ q at. runs_fit P old todo bound now one more fall runs fit q ((same q).1 at)
+runs_fit P old todo bound new left last fall (sorted now one other more runs same) fit =
+    λ q at. runs_fit P old todo bound now one more fall runs fit q ((same q).1 at)
 runs_fit P old todo bound new left last fall (stepped mid now p rest kept more most runs step) fit = λ q at.
     let (links, plain) = step [] in
     let before = runs_fit P old todo bound mid (p ∷ rest) more fall runs fit in
@@ -143,7 +152,8 @@ runs_fit P old todo bound new left last fall (stepped mid now p rest kept more m
       comes = λ x later. inr later;
     } in
     subst (λ n. IsFit P n now q) (sym (steps_keep P p mid now [] links rest kept more most plain).words)
-    (fits_steps P p mid now [] links rest kept more most (IsOutOr p rest) (Contains kept) mid.words fall refl leaves plain (λ x out. before x (out_or p rest x out)) q at)
+    (fits_steps P p mid now [] links rest kept more most (IsOutOr p rest) (Contains kept) mid.words fall refl leaves plain
+    (λ x out. before x (out_or p rest x out)) q at)
 
 -- What is kept over some pairs is kept over the same.
 held_same : (P : NamedProgram) (first : Seen) (asked : List Pair) (began : List ℕ) (s : Seen) (bound : List ℕ) (Todo Later : Pair → Type 0)
@@ -161,19 +171,22 @@ held_first P first asked began s bound p rest h =
     held_same P first asked began s bound (Contains (p ∷ rest)) (IsOutOr p rest) (λ q at. contains_cases p q rest at) (λ q out. out_or p rest q out) h
 
 -- and pairs are met.
-pub held_runs : (P : NamedProgram) (first : Seen) (asked : List Pair) (began : List ℕ) (old : Seen) (todo : List Pair) (bound : List ℕ) (new : Seen) (left : List Pair) (last : List ℕ) → AllFall 0 P.skeleton.nodes
+pub held_runs : (P : NamedProgram) (first : Seen) (asked : List Pair) (began : List ℕ) (old : Seen) (todo : List Pair) (bound : List ℕ) (new : Seen)
+    (left : List Pair) (last : List ℕ) → AllFall 0 P.skeleton.nodes
     → Runs P old todo bound new left last → Held P first asked began old (Contains todo) bound → Held P first asked began new (Contains left) last
 held_runs P first asked began old todo bound new left last fall start h = h
 held_runs P first asked began old todo bound new left last fall (looked mid now kept more runs reads) h =
     held_stopped P first asked began mid now more more (Contains kept) (reads, refl) (held_runs P first asked began old todo bound mid kept more fall runs h)
 held_runs P first asked began old todo bound new left last fall (sorted now one other more runs same) h =
-    held_same P first asked began now more (Contains one) (Contains other) (λ q. (same q).0) (λ q. (same q).1) (held_runs P first asked began old todo bound now one more fall runs h)
+    held_same P first asked began now more (Contains one) (Contains other) (λ q. (same q).0) (λ q. (same q).1)
+    (held_runs P first asked began old todo bound now one more fall runs h)
 held_runs P first asked began old todo bound new left last fall (stepped mid now p rest kept more most runs step) h =
     held_steps P first asked began mid now more most rest kept p fall step
     (held_first P first asked began mid more p rest (held_runs P first asked began old todo bound mid (p ∷ rest) more fall runs h))
 
 -- What runs come to, if then this comes.
-pub comes_after : (P : NamedProgram) (old mid new : Seen) (todo list left : List Pair) (bound further last : List ℕ) (r : Plainly) → Runs P old todo bound mid list further
+pub comes_after : (P : NamedProgram) (old mid new : Seen) (todo list left : List Pair) (bound further last : List ℕ) (r : Plainly)
+    → Runs P old todo bound mid list further
     → ComesTo P mid new list left further last r → ComesTo P old new todo left bound last r
 comes_after P old mid new todo list left bound further last Done first comes = runs_then P old mid todo list bound further new left last first comes
 comes_after P old mid new todo list left bound further last (Onward both) first comes =
@@ -185,10 +198,12 @@ comes_after P old mid new todo list left bound further last (Apart one other) fi
   runs = runs_then P old mid todo list bound further comes.mid (comes.p ∷ comes.rest) last first comes.runs;
   meets = comes.meets;
 }
-comes_after P old mid new todo list left bound further last Memory first comes = (comes.0, runs_then P old mid todo list bound further new comes.0 last first comes.1)
+comes_after P old mid new todo list left bound further last Memory first comes =
+    (comes.0, runs_then P old mid todo list bound further new comes.0 last first comes.1)
 
 -- What comes of the first of the pairs that are to do.
-pub comes_of_first : (P : NamedProgram) (old mid new : Seen) (todo rest : List Pair) (bound further last : List ℕ) (p : Pair) (r : Plainly) → Runs P old todo bound mid (p ∷ rest) further
+pub comes_of_first : (P : NamedProgram) (old mid new : Seen) (todo rest : List Pair) (bound further last : List ℕ) (p : Pair) (r : Plainly)
+    → Runs P old todo bound mid (p ∷ rest) further
     → MeetsPlainly P p mid new further last r → ComesTo P old new todo rest bound last r
 comes_of_first P old mid new todo rest bound further last p Done runs meets = stepped mid new p rest rest further last runs (meets rest)
 comes_of_first P old mid new todo rest bound further last p (Onward both) runs meets =
@@ -210,7 +225,8 @@ comes_of_first P old mid new todo rest bound further last p Memory runs meets =
     (p ∷ rest, looked mid new (p ∷ rest) last (subst (Runs P old todo bound mid (p ∷ rest)) (sym meets.1) runs) meets.0)
 
 -- A step behind looks is a step.
-steps_after : (P : NamedProgram) (p : Pair) (old mid new : Seen) (links more_links : List (Ref × Ref)) (list longer : List Pair) (bound further : List ℕ) → OnlyReads old mid
+steps_after : (P : NamedProgram) (p : Pair) (old mid new : Seen) (links more_links : List (Ref × Ref)) (list longer : List Pair) (bound further : List ℕ)
+    → OnlyReads old mid
     → Steps P p mid new links more_links list longer bound further → Steps P p old new links more_links list longer bound further
 steps_after P p old mid new links more_links list longer bound further reads (alike met a b c) =
     alike (alike_on P p.left p.right p.left p.right old mid new (lead_here p.left p.right old mid reads) met) a b c
@@ -222,7 +238,8 @@ steps_after P p old mid new links more_links list longer bound further reads (jo
     joins one other (structures_on P p.left p.right p.left p.right one other old mid new (lead_here p.left p.right old mid reads) met) joined a b
 
 -- So is what a pair comes to.
-pub meets_after : (P : NamedProgram) (p : Pair) (old mid new : Seen) (bound further last : List ℕ) (r : Plainly) → OnlyReads old mid × (further ≡ bound) → MeetsPlainly P p mid new further last r
+pub meets_after : (P : NamedProgram) (p : Pair) (old mid new : Seen) (bound further last : List ℕ) (r : Plainly) → OnlyReads old mid × (further ≡ bound)
+    → MeetsPlainly P p mid new further last r
     → MeetsPlainly P p old new bound last r
 meets_after P p old mid new bound further last Done looks meets = λ list links.
     let (more, step) = meets list links in
@@ -249,7 +266,8 @@ written_of_fit P s list fit = All-weaker (Contains list) (λ (p : Pair). IsWritt
     (λ p at. ((fit p at).left_written, (fit p at).right_written)) list (All-contains_itself list)
 
 -- The pairs of the arguments of structures of one shape fit.
-pub arguments_fit : (P : NamedProgram) (s : Seen) (both : Pair) → AllFall 0 P.skeleton.nodes → AreOfOneShape P s.words both.left both.right → AllFit P s (arguments_of_both P both)
+pub arguments_fit : (P : NamedProgram) (s : Seen) (both : Pair) → AllFall 0 P.skeleton.nodes → AreOfOneShape P s.words both.left both.right
+    → AllFit P s (arguments_of_both P both)
 arguments_fit P s both fall shape p at =
     let (left, right) = sides_of_pairs (parts_of P both.left) (parts_of P both.right) p at in record {
       left_in_range = part_in_range P s.words both.left p.left fall shape.left_in_range left;
@@ -293,7 +311,8 @@ argument_fits P s both pair k fall shape left right =
     }
 
 -- What is left of pairs begins with the one at this place.
-drop_pair : (rs qs : List Ref) (k : ℕ) (p : Pair) → slice_get rs k ≡ Some p.left → slice_get qs k ≡ Some p.right → drop k (pairs_of rs qs) ≡ p ∷ drop (suc k) (pairs_of rs qs)
+drop_pair : (rs qs : List Ref) (k : ℕ) (p : Pair) → slice_get rs k ≡ Some p.left → slice_get qs k ≡ Some p.right
+    → drop k (pairs_of rs qs) ≡ p ∷ drop (suc k) (pairs_of rs qs)
 drop_pair [] qs k p left right = let below : k < 0 = slice_get_within [] k p.left left in absurd (omega arith)
 drop_pair (r ∷ rs) [] k p left right = let below : k < 0 = slice_get_within [] k p.right right in absurd (omega arith)
 drop_pair (r ∷ rs) (q ∷ qs) zero p left right =
@@ -315,7 +334,8 @@ pub first_argument : (P : NamedProgram) (old s : Seen) (todo list : List Pair) (
 first_argument P old s todo list bound further both pair next k left right runs =
     let all = arguments_of_both P both in
     let later : suc k ≡ k + 1 = omega arith in
-    let is : drop k all ≡ pair ∷ drop (k + 1) all = drop_pair (parts_of P both.left) (parts_of P both.right) k pair left right ∙ ap (λ n. pair ∷ drop n all) later in
+    let is : drop k all ≡ pair ∷ drop (k + 1) all = drop_pair (parts_of P both.left) (parts_of P both.right) k pair left right
+    ∙ ap (λ n. pair ∷ drop n all) later in
     subst (λ l. Runs P old todo bound s (l ++ (waits P next ++ list)) further) is runs
 
 -- and at the end only what waits is left.
@@ -329,46 +349,58 @@ last_argument P old s todo list bound further both next name count k structure p
     subst (λ l. Runs P old todo bound s (l ++ (waits P next ++ list)) further) is runs
 
 -- The first structures that arguments lead to are gone on with, and of later ones the pair is put on the list.
-pub put_by_runs : (P : NamedProgram) (old mid new : Seen) (todo ds list longer : List Pair) (bound further last : List ℕ) (p both kept : Pair) (next : Option Pair)
+pub put_by_runs : (P : NamedProgram) (old mid new : Seen) (todo ds list longer : List Pair) (bound further last : List ℕ) (p both kept : Pair)
+    (next : Option Pair)
     → Runs P old todo bound mid (p ∷ (ds ++ (waits P next ++ list))) further → MeetsPlainly P p mid new further last (Onward both)
     → ((next ≡ None) × (kept ≡ both) × (longer ≡ list)) ⊎ ((next ≡ Some kept) × (longer ≡ list ++ p ∷ []))
     → Runs P old todo bound new (ds ++ (waits P (Some kept) ++ longer)) last
 put_by_runs P old mid new todo ds list longer bound further last p both kept next runs meets (inl first) =
     let all = arguments_of_both P both in
-    let alone : Runs P old todo bound mid (p ∷ (ds ++ list)) further = subst (λ n. Runs P old todo bound mid (p ∷ (ds ++ (waits P n ++ list))) further) first.0 runs in
+    let alone : Runs P old todo bound mid (p ∷ (ds ++ list)) further =
+    subst (λ n. Runs P old todo bound mid (p ∷ (ds ++ (waits P n ++ list))) further) first.0 runs in
     let step = plainly_joins P P p both.left both.right mid new (ds ++ list) ((ds ++ list) ++ all) further last refl meets.0 meets.1 refl in
     subst (λ l. Runs P old todo bound new (ds ++ (waits P (Some kept) ++ l)) last) (sym first.2)
     (subst (λ b. Runs P old todo bound new (ds ++ (waits P (Some b) ++ list)) last) (sym first.1)
-    (sorted new ((ds ++ list) ++ all) (ds ++ (all ++ list)) last (stepped mid new p (ds ++ list) ((ds ++ list) ++ all) further last alone step) (same_between ds list all)))
+    (sorted new ((ds ++ list) ++ all) (ds ++ (all ++ list)) last (stepped mid new p (ds ++ list) ((ds ++ list) ++ all) further last alone step)
+    (same_between ds list all)))
 put_by_runs P old mid new todo ds list longer bound further last p both kept next runs meets (inr later) =
-    let read = looked mid new (p ∷ (ds ++ (waits P next ++ list))) last (subst (Runs P old todo bound mid (p ∷ (ds ++ (waits P next ++ list)))) (sym meets.1) runs) meets.0.lead.reads in
+    let read = looked mid new (p ∷ (ds ++ (waits P next ++ list))) last
+    (subst (Runs P old todo bound mid (p ∷ (ds ++ (waits P next ++ list)))) (sym meets.1) runs) meets.0.lead.reads in
     subst (λ l. Runs P old todo bound new (ds ++ (waits P (Some kept) ++ l)) last) (sym later.1)
     (subst (λ n. Runs P old todo bound new (ds ++ (waits P n ++ (list ++ p ∷ []))) last) later.0
     (sorted new (p ∷ (ds ++ (waits P next ++ list))) (ds ++ (waits P next ++ (list ++ p ∷ []))) last read (same_behind p ds (waits P next) list)))
 
 -- What is gone on with has a shape.
-pub put_by_shape : (P : NamedProgram) (words : ℕ) (both kept : Pair) (next : Option Pair) (A B : Type 0) → HasShape P words next → AreOfOneShape P words both.left both.right
+pub put_by_shape : (P : NamedProgram) (words : ℕ) (both kept : Pair) (next : Option Pair) (A B : Type 0) → HasShape P words next
+    → AreOfOneShape P words both.left both.right
     → ((next ≡ None) × (kept ≡ both) × A) ⊎ ((next ≡ Some kept) × B) → HasShape P words (Some kept)
 put_by_shape P words both kept next A B shape own (inl first) = subst (λ b. HasShape P words (Some b)) (sym first.1) own
 put_by_shape P words both kept next A B shape own (inr later) = subst (HasShape P words) later.0 shape
 
 -- What arguments come to at the end.
-pub comes_onward : (P : NamedProgram) (old new : Seen) (todo list : List Pair) (bound last : List ℕ) (next : Option Pair) (r : Plainly) → HasShape P new.words next
-    → Runs P old todo bound new (waits P next ++ list) last → ((both : Pair) → next ≡ Some both → r ≡ Onward both) → (next ≡ None → r ≡ Done) → ComesTo P old new todo list bound last r
+pub comes_onward : (P : NamedProgram) (old new : Seen) (todo list : List Pair) (bound last : List ℕ) (next : Option Pair) (r : Plainly)
+    → HasShape P new.words next
+    → Runs P old todo bound new (waits P next ++ list) last → ((both : Pair) → next ≡ Some both → r ≡ Onward both) → (next ≡ None → r ≡ Done)
+    → ComesTo P old new todo list bound last r
 comes_onward P old new todo list bound last None r shape runs some none = subst (ComesTo P old new todo list bound last) (sym (none refl)) runs
-comes_onward P old new todo list bound last (Some both) r shape runs some none = subst (ComesTo P old new todo list bound last) (sym (some both refl)) (shape, runs)
+comes_onward P old new todo list bound last (Some both) r shape runs some none =
+    subst (ComesTo P old new todo list bound last) (sym (some both refl)) (shape, runs)
 
 -- What is kept, where pairs were asked for.
-pub held_asked : (P : NamedProgram) (old : Seen) (asked : List Pair) (began : List ℕ) (new : Seen) (left : List Pair) (last : List ℕ) → AllFall 0 P.skeleton.nodes → AreInRange P old.words asked
+pub held_asked : (P : NamedProgram) (old : Seen) (asked : List Pair) (began : List ℕ) (new : Seen) (left : List Pair) (last : List ℕ)
+    → AllFall 0 P.skeleton.nodes → AreInRange P old.words asked
     → AreWritten old asked → Runs P old asked began new left last → Held P old asked began new (Contains left) last
-held_asked P old asked began new left last fall range written runs = held_runs P old asked began old asked began new left last fall runs (held_begun P old asked began range written)
+held_asked P old asked began new left last fall range written runs =
+    held_runs P old asked began old asked began new left last fall runs (held_begun P old asked began range written)
 
 -- The arguments of the structures that were gone on with are put on the list.
-pub held_put : (P : NamedProgram) (first : Seen) (asked : List Pair) (began : List ℕ) (s : Seen) (bound : List ℕ) (list longer : List Pair) (both : Pair) (Q : NamedProgram) → P ≡ Q
+pub held_put : (P : NamedProgram) (first : Seen) (asked : List Pair) (began : List ℕ) (s : Seen) (bound : List ℕ) (list longer : List Pair) (both : Pair)
+    (Q : NamedProgram) → P ≡ Q
     → longer ≡ list ++ pairs_of (parts_of Q both.left) (parts_of Q both.right) → Held P first asked began s (Contains (arguments_of_both P both ++ list)) bound
     → Held P first asked began s (Contains longer) bound
 held_put P first asked began s bound list longer both Q named gains h =
     let all = arguments_of_both P both in
     let is : longer ≡ list ++ all = gains ∙ ap (λ (p : NamedProgram). list ++ pairs_of (parts_of p both.left) (parts_of p both.right)) (sym named) in
     subst (λ l. Held P first asked began s (Contains l) bound) (sym is)
-    (held_same P first asked began s bound (Contains (all ++ list)) (Contains (list ++ all)) (λ q. (same_swapped all list q).0) (λ q. (same_swapped all list q).1) h)
+    (held_same P first asked began s bound (Contains (all ++ list)) (Contains (list ++ all)) (λ q. (same_swapped all list q).0)
+    (λ q. (same_swapped all list q).1) h)

@@ -35,7 +35,8 @@ solves_before : (P : NamedProgram) (old new : Seen) (w : Words) (t : Substitutio
 solves_before P old new w t keeps solves = λ place r knows. solves place r (keeps.knows place r knows)
 
 -- Cells that were set by one call and by a next one are listed once each.
-pub lists_then : (first mid now : Seen) (began bound further : List ℕ) → Keeps first mid → Keeps mid now → Lists first mid began bound → Lists mid now bound further → Lists first now began further
+pub lists_then : (first mid now : Seen) (began bound further : List ℕ) → Keeps first mid → Keeps mid now → Lists first mid began bound
+    → Lists mid now bound further → Lists first now began further
 lists_then first mid now began bound further one two a b =
     let apart : (n : ℕ) → WasSet first mid n → All (λ m. n ≢ m) b.gained =
     λ n was. All-weaker (WasSet mid now) (λ m. n ≢ m) (λ m is e. is.not_known was.value (subst (λ x. Knows mid x was.value) e was.known)) b.gained b.were_set in
@@ -47,8 +48,10 @@ lists_then first mid now began bound further one two a b =
     } in record {
       gained = a.gained ++ b.gained;
       listed = b.listed ∙ ap (λ xs. xs ++ b.gained) a.listed ∙ append_assoc began a.gained b.gained;
-      once = all_pairs_join (λ n m. n ≢ m) a.gained b.gained a.once b.once (All-weaker (WasSet first mid) (λ n. All (λ m. n ≢ m) b.gained) apart a.gained a.were_set);
-      were_set = All-append (WasSet first now) a.gained b.gained (All-weaker (WasSet first mid) (WasSet first now) (later_set first mid now two.knows) a.gained a.were_set)
+      once = all_pairs_join (λ n m. n ≢ m) a.gained b.gained a.once b.once
+          (All-weaker (WasSet first mid) (λ n. All (λ m. n ≢ m) b.gained) apart a.gained a.were_set);
+      were_set = All-append (WasSet first now) a.gained b.gained
+          (All-weaker (WasSet first mid) (WasSet first now) (later_set first mid now two.knows) a.gained a.were_set)
           (All-weaker (WasSet mid now) (WasSet first now) late b.gained b.were_set);
     }
 
@@ -60,10 +63,12 @@ place_then P first mid asked left bound r among sets (set cell q at knows) = eli
   | inl before ↦ set cell q (place_then P first mid asked left bound (Cell cell) among sets at) before
   | inr is ↦ is.1
 ]
-place_then P first mid asked left bound r among sets (part node base q at within) = part node base q (place_then P first mid asked left bound (Node node base) among sets at) within
+place_then P first mid asked left bound r among sets (part node base q at within) =
+    part node base q (place_then P first mid asked left bound (Node node base) among sets at) within
 
 -- So all that was set is set to such places.
-sets_on : (P : NamedProgram) (first mid now : Seen) (asked left : List Pair) (bound further : List ℕ) → LeadOnFrom P first left asked → Lists mid now bound further
+sets_on : (P : NamedProgram) (first mid now : Seen) (asked left : List Pair) (bound further : List ℕ) → LeadOnFrom P first left asked
+    → Lists mid now bound further
     → SetPlaces P first mid asked bound → SetPlaces P mid now left further → SetPlaces P first now asked further
 sets_on P first mid now asked left bound further leads lists one two place r knows = elim (two place r knows) [
   | inl known ↦ elim (one place r known) [
@@ -74,22 +79,27 @@ sets_on P first mid now asked left bound further leads lists one two place r kno
 ]
 
 -- where the row is told
-pub sets_then : (P : NamedProgram) (first mid now : Seen) (asked left : List Pair) (bound further : List ℕ) → Descends P first mid asked left → Lists mid now bound further
-    → IfSome first.told (λ row. SetPlaces P first mid asked bound) → IfSome mid.told (λ row. SetPlaces P mid now left further) → IfSome first.told (λ row. SetPlaces P first now asked further)
+pub sets_then : (P : NamedProgram) (first mid now : Seen) (asked left : List Pair) (bound further : List ℕ) → Descends P first mid asked left
+    → Lists mid now bound further
+    → IfSome first.told (λ row. SetPlaces P first mid asked bound) → IfSome mid.told (λ row. SetPlaces P mid now left further)
+    → IfSome first.told (λ row. SetPlaces P first now asked further)
 sets_then P first mid now asked left bound further d lists one two = by_row first.told mid.told refl refl d.told_leads one two
   where
     by_row : (o m : Option (List Ref)) → first.told ≡ o → mid.told ≡ m → IfSome o (λ row. LeadOnFrom P first left asked)
-        → IfSome o (λ row. SetPlaces P first mid asked bound) → IfSome m (λ row. SetPlaces P mid now left further) → IfSome o (λ row. SetPlaces P first now asked further)
+        → IfSome o (λ row. SetPlaces P first mid asked bound) → IfSome m (λ row. SetPlaces P mid now left further)
+        → IfSome o (λ row. SetPlaces P first now asked further)
     by_row None m was is leads one two = tt
     by_row (Some row) None was is leads one two = absurd (true≢false (sym (ap is_some was) ∙ d.told.1 (ap is_some is)))
     by_row (Some row) (Some later) was is leads one two = sets_on P first mid now asked left bound further leads lists one two
 
 -- What was set by both follows.
-follows_then : (P : NamedProgram) (old mid new : Seen) (asked left : List Pair) → Keeps mid new → Descends P old mid asked left → Follows P left mid new → Follows P asked old new
+follows_then : (P : NamedProgram) (old mid new : Seen) (asked left : List Pair) → Keeps mid new → Descends P old mid asked left → Follows P left mid new
+    → Follows P asked old new
 follows_then P old mid new asked left keeps d two = by_row old.told mid.told refl refl d.follows two
   where
     by_row : (o m : Option (List Ref)) → old.told ≡ o → mid.told ≡ m → MatchOption o (OwnFollow P asked old mid) (λ (row : List Ref). NewFollow P asked old mid)
-        → MatchOption m (OwnFollow P left mid new) (λ (row : List Ref). NewFollow P left mid new) → MatchOption o (OwnFollow P asked old new) (λ (row : List Ref). NewFollow P asked old new)
+        → MatchOption m (OwnFollow P left mid new) (λ (row : List Ref). NewFollow P left mid new)
+        → MatchOption o (OwnFollow P asked old new) (λ (row : List Ref). NewFollow P asked old new)
     by_row None None was is one two = follow_on P asked left old mid new keeps is d.still_asked one two
     by_row None (Some later) was is one two = absurd (true≢false (sym (ap is_some is) ∙ d.told.0 (ap is_some was)))
     by_row (Some row) None was is one two = absurd (true≢false (sym (ap is_some was) ∙ d.told.1 (ap is_some is)))
@@ -99,17 +109,20 @@ follows_then P old mid new asked left keeps d two = by_row old.told mid.told ref
         two w has t solves_mid (d.still_asked w has_mid t solves_mid asks)
 
 -- A place of roots that are places is one.
-place_over : (P : NamedProgram) (s : Seen) (roots tops : List Ref) (r : Ref) → ((q : Ref) → Contains roots q → IsPlace P s tops q) → IsPlace P s roots r → IsPlace P s tops r
+place_over : (P : NamedProgram) (s : Seen) (roots tops : List Ref) (r : Ref) → ((q : Ref) → Contains roots q → IsPlace P s tops q) → IsPlace P s roots r
+    → IsPlace P s tops r
 place_over P s roots tops r each (root q at) = each q at
 place_over P s roots tops r each (set cell q at knows) = set cell q (place_over P s roots tops (Cell cell) each at) knows
 place_over P s roots tops r each (part node base q at within) = part node base q (place_over P s roots tops (Node node base) each at) within
 
 -- A place that what is left leads to is one that all pairs lead to, as more is known.
-place_after : (P : NamedProgram) (mid new : Seen) (roots tops : List Ref) (r : Ref) → Keeps mid new → ((q : Ref) → Contains roots q → IsPlace P mid tops q) → IsPlace P new roots r → IsPlace P new tops r
+place_after : (P : NamedProgram) (mid new : Seen) (roots tops : List Ref) (r : Ref) → Keeps mid new → ((q : Ref) → Contains roots q → IsPlace P mid tops q)
+    → IsPlace P new roots r → IsPlace P new tops r
 place_after P mid new roots tops r keeps each at = place_over P new roots tops r (λ q among. place_later P mid new tops q keeps.knows (each q among)) at
 
 -- So are so many of them.
-places_after : (P : NamedProgram) (mid new : Seen) (roots tops : List Ref) (count : ℕ) → Keeps mid new → ((q : Ref) → Contains roots q → IsPlace P mid tops q) → Places P new roots count → Places P new tops count
+places_after : (P : NamedProgram) (mid new : Seen) (roots tops : List Ref) (count : ℕ) → Keeps mid new → ((q : Ref) → Contains roots q → IsPlace P mid tops q)
+    → Places P new roots count → Places P new tops count
 places_after P mid new roots tops count keeps each are = record {
   places = are.places;
   distinct = are.distinct;
@@ -118,15 +131,18 @@ places_after P mid new roots tops count keeps each are = record {
 }
 
 -- What is taken of the fuel for what is left is taken for all pairs,
-pub spends_then : (P : NamedProgram) (old mid new : Seen) (asked left after : List Pair) (fuel rest : ℕ) (answer : Unified) → Keeps mid new → Descends P old mid asked left
+pub spends_then : (P : NamedProgram) (old mid new : Seen) (asked left after : List Pair) (fuel rest : ℕ) (answer : Unified) → Keeps mid new
+    → Descends P old mid asked left
     → Spends P new left after fuel rest answer → Spends P new asked after fuel rest answer
 spends_then P old mid new asked left after fuel rest answer keeps d s = record {
   spent = λ some. let (count, taken, are) = s.spent some in (count, taken, places_after P mid new (left_sides left) (left_sides asked) count keeps d.lefts are);
-  put_off = λ is. let (none, some, are) = s.put_off is in (none, some, places_after P mid new (left_sides left) (left_sides asked) (suc fuel) keeps d.lefts are);
+  put_off = λ is. let (none, some, are) =
+      s.put_off is in (none, some, places_after P mid new (left_sides left) (left_sides asked) (suc fuel) keeps d.lefts are);
 }
 
 -- and where none is left, none is taken.
-pub spends_nothing : (P : NamedProgram) (new : Seen) (asked left : List Pair) (fuel : ℕ) (answer : Unified) → answer ≢ PutOff → Spends P new asked left fuel fuel answer
+pub spends_nothing : (P : NamedProgram) (new : Seen) (asked left : List Pair) (fuel : ℕ) (answer : Unified) → answer ≢ PutOff
+    → Spends P new asked left fuel fuel answer
 spends_nothing P new asked left fuel answer not_off = record {
   spent = λ some. (
     0,

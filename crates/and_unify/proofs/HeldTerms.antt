@@ -1,5 +1,5 @@
--- In a row without circles a reference stands for a term where it holds no word of a pair. The row is looked at as if its numbers and the words of pairs were free:
--- then each cell stands for a term.
+-- In a row without circles a reference stands for a term where it holds no word of a pair. The row is looked at as if
+-- its numbers and the words of pairs were free: then each cell stands for a term.
 use Rattle.std.proofs.Common.{ℕ, zero, suc, ◌+◌, ◌≡◌, ◌<◌, ◌≤◌, false, List, [], ◌∷◌, length, map, refl, sym, ap, ◌∙◌, subst}
 use Rattle.std.proofs.lemmas.List.Elements.{All-contains}
 use Rattle.std.proofs.lemmas.Bool.{true≢false}
@@ -101,7 +101,8 @@ bare_settled P row clear = record {
 }
 
 -- a cell that is free in the bare row is free, a number or a half
-free_stands : (P : NamedProgram) (row : List Ref) (cell : ℕ) (r : Ref) → cell < length row → word_at row cell ≡ r → bare r ≡ Free → is_half r ≡ false → HasTerm P row (Cell cell)
+free_stands : (P : NamedProgram) (row : List Ref) (cell : ℕ) (r : Ref) → cell < length row → word_at row cell ≡ r → bare r ≡ Free → is_half r ≡ false
+    → HasTerm P row (Cell cell)
 free_stands P row cell Free below word is whole = (cell_variable cell, unbound cell below word)
 free_stands P row cell (Cell to) below word is whole = absurd (cc)
 free_stands P row cell (Node node base) below word is whole = absurd (cc)
@@ -112,7 +113,8 @@ free_stands P row cell (Half bits) below word is whole = absurd (true≢false wh
 -- What stands for a term in the bare row and holds no half stands for one in the row.
 stands_in_row : (P : NamedProgram) (row : List Ref) (r : Ref) (t : Term) → HoldsNoHalf P row r → StandsFor P (map bare row) r t → HasTerm P row r
 stands_in_row P row r t no_half (unbound cell below free) =
-    free_stands P row cell (word_at row cell) (subst (λ n. cell < n) (length_map bare row) below) refl (sym (bare_word row cell) ∙ free) (no_half cell (Meaning.here cell))
+    free_stands P row cell (word_at row cell) (subst (λ n. cell < n) (length_map bare row) below) refl (sym (bare_word row cell) ∙ free)
+    (no_half cell (Meaning.here cell))
 stands_in_row P row r t no_half (bound cell q u set rest) =
     let is = set_in_row row cell q set in
     let term : HasTerm P row q = stands_in_row P row q u (λ c holds. no_half c (Meaning.onward cell q c is holds)) rest in
@@ -123,7 +125,8 @@ stands_in_row P row r t no_half (structure node base s all) =
 stands_in_row P row r t no_half (integer pair) = (number_in (word_at row) pair, integer pair)
 
 -- each cell in range stands for a term in the bare row, and so does a reference in range
-bare_has_term : (P : NamedProgram) (row : List Ref) (r : Ref) → IsSound P row → ((cell : ℕ) → IsCircle P row cell → ⊥) → IsInRange P (length row) r → HasTerm P (map bare row) r
+bare_has_term : (P : NamedProgram) (row : List Ref) (r : Ref) → IsSound P row → ((cell : ℕ) → IsCircle P row cell → ⊥) → IsInRange P (length row) r
+    → HasTerm P (map bare row) r
 bare_has_term P row r sound clear fits =
     let all : AllHaveTerms P (map bare row) = (settled_rows_have_terms P (map bare row) (bare_sound P row sound)).0 (bare_settled P row clear) in
     let cells : (cell : ℕ) → cell < length row → HasTerm P (map bare row) (Cell cell) =
@@ -134,12 +137,14 @@ bare_has_term P row r sound clear fits =
     by_reference Free fits cells = absurd fits
     by_reference (Cell cell) fits cells = cells cell fits
     by_reference (Node node base) fits cells = node_has_term P (map bare row) node base (λ v at.
-        cells (base + 1 + v.1) (All-contains (λ (x : Path × ℕ). base + 1 + x.1 < length row) (variables_of (node_term P.skeleton.nodes node.0)) v fits.0.cells at))
+        cells (base + 1 + v.1) (All-contains (λ (x : Path × ℕ). base + 1 + x.1 < length row)
+        (variables_of (node_term P.skeleton.nodes node.0)) v fits.0.cells at))
     by_reference (Number pair) fits cells = (number_in (word_at (map bare row)) pair, integer pair)
     by_reference (Half bits) fits cells = absurd fits
 
 -- The law.
-pub held_has_term : (P : NamedProgram) (row : List Ref) (r : Ref) → IsSound P row → IsInRange P (length row) r → ((cell : ℕ) → IsCircle P row cell → ⊥) → HoldsNoHalf P row r → HasTerm P row r
+pub held_has_term : (P : NamedProgram) (row : List Ref) (r : Ref) → IsSound P row → IsInRange P (length row) r → ((cell : ℕ) → IsCircle P row cell → ⊥)
+    → HoldsNoHalf P row r → HasTerm P row r
 held_has_term P row r sound fits clear no_half =
     let term = bare_has_term P row r sound clear fits in
     stands_in_row P row r term.0 no_half term.1

@@ -1,5 +1,6 @@
 -- What references to numbers and structures begin with, and whether two of them differ.
-use Rattle.std.proofs.Common.{ℕ, suc, ℤ, ◌≡◌, ◌≢◌, ◌⊎◌, Bool, true, false, List, map, take, pos, Option, Some, refl, sym, ap, subst, ◌∙◌, inl, inr, true≢false, eqb, not, rules, tests, [], ◌+◌}
+use Rattle.std.proofs.Common.{ℕ, suc, ℤ, ◌≡◌, ◌≢◌, ◌⊎◌, Bool, true, false, List, map, take, pos, Option, Some, refl, sym, ap, subst, ◌∙◌, inl, inr}
+use Rattle.std.proofs.Common.{true≢false, eqb, not, rules, tests, [], ◌+◌}
 use Rattle.std.proofs.lemmas.List.{length-map}
 use Rattle.std.proofs.lemmas.Option.{slice_get_within, get_or_from_slice_get}
 use Rattle.std.proofs.lemmas.Bool.{cases_eq}
@@ -28,7 +29,8 @@ use Rattle.and_unify.specs.declared.heads.Head.{Head}
 use Rattle.and_unify.specs.declared.heads.Head.TheVariants.{Number, Name}
 
 -- a number that was read from a pair is that of the pair in all words that have what is known
-pub number_head : (P : NamedProgram) (pair : ℕ) (r : Ref) (value result : ℤ) (old new : Seen) → r ≡ reference.Number pair → value ≡ result → ReadsNumber P pair result old new
+pub number_head : (P : NamedProgram) (pair : ℕ) (r : Ref) (value result : ℤ) (old new : Seen) → r ≡ reference.Number pair → value ≡ result
+    → ReadsNumber P pair result old new
     → (w : Words) → HasKnown new w → shallow_term P w r ≡ Some (number value)
 number_head P pair r value result old new is same reads w has =
     ap (shallow_term P w) is
@@ -37,7 +39,8 @@ number_head P pair r value result old new is same reads w has =
     ∙ ap (λ z. Some (number z)) (sym reads.holds ∙ sym same)
 
 -- what a reference begins with, it begins with later
-pub head_later : (P : NamedProgram) (old new : Seen) (r : Ref) (head : Head) → ((p : ℕ) (q : Ref) → Knows old p q → Knows new p q) → HasHead P old r head → HasHead P new r head
+pub head_later : (P : NamedProgram) (old new : Seen) (r : Ref) (head : Head) → ((p : ℕ) (q : Ref) → Knows old p q → Knows new p q) → HasHead P old r head
+    → HasHead P new r head
 head_later P old new r (Number z) keeps has = λ w known. has w (λ p q knows. known p q (keeps p q knows))
 head_later P old new r (Name name count) keeps has = has
 
@@ -83,13 +86,16 @@ names_differ name called count many differ = by (cases_eq name.0 called.0)
     by (inr others) = inl others
 
 -- references that begin with different heads are apart
-pub heads_apart : (P : NamedProgram) (s : Seen) (one other : Ref) (left right : Head) → HasHead P s one left → HasHead P s other right → left ≢ right → AreApart P s one other
+pub heads_apart : (P : NamedProgram) (s : Seen) (one other : Ref) (left right : Head) → HasHead P s one left → HasHead P s other right → left ≢ right
+    → AreApart P s one other
 heads_apart P s one other (Number z) (Number y) first second differ =
     inr (inr (λ w has. differ_by _ _ (Some (number z)) (Some (number y)) (first w has) (second w has) (λ e. differ (ap Number e))))
 heads_apart P s one other (Number z) (Name name count) first second differ =
-    inr (inr (λ w has. let b = structured P w other name.0 count second in differ_by _ _ (Some (number z)) (Some (compound name.0 b.arguments)) (first w has) b.term tt))
+    inr (inr (λ w has. let b =
+    structured P w other name.0 count second in differ_by _ _ (Some (number z)) (Some (compound name.0 b.arguments)) (first w has) b.term tt))
 heads_apart P s one other (Name name count) (Number y) first second differ =
-    inr (inr (λ w has. let a = structured P w one name.0 count first in differ_by _ _ (Some (compound name.0 a.arguments)) (Some (number y)) a.term (second w has) tt))
+    inr (inr (λ w has. let a =
+    structured P w one name.0 count first in differ_by _ _ (Some (compound name.0 a.arguments)) (Some (number y)) a.term (second w has) tt))
 heads_apart P s one other (Name name count) (Name called many) first second differ =
     inr (inr (λ w has.
     let a = structured P w one name.0 count first in
@@ -98,7 +104,8 @@ heads_apart P s one other (Name name count) (Name called many) first second diff
     (elim (names_differ name called count many differ) [ inl names ↦ inl names | inr counts ↦ inr (λ e. counts (sym a.counted ∙ e ∙ b.counted)) ])))
 
 -- two numbers that begin alike are alike
-pub numbers_alike : (P : NamedProgram) (s : Seen) (one other : Ref) (left right : Head) (z : ℤ) → left ≡ Number z → right ≡ Number z → HasHead P s one left → HasHead P s other right → AreAlike P s one other
+pub numbers_alike : (P : NamedProgram) (s : Seen) (one other : Ref) (left right : Head) (z : ℤ) → left ≡ Number z → right ≡ Number z → HasHead P s one left
+    → HasHead P s other right → AreAlike P s one other
 numbers_alike P s one other left right z is same first second =
     let a : HasHead P s one (Number z) = subst (HasHead P s one) is first in
     let b : HasHead P s other (Number z) = subst (HasHead P s other) same second in

@@ -31,10 +31,12 @@ use Rattle.and_unify.proofs.SettlingSame.{Grows, same_half, solves_now, solves_n
 use Rattle.and_unify.proofs.SettlingTerms.{Binds, BoundEnd, bound_grows, all_terms}
 
 -- The list of what was set began empty, so all of it are cells of the row.
-pub listed_in_row : (old new : List Ref) (start items : List ℕ) → start ≡ [] → Keeps (plain old) (plain new) → Lists (plain old) (plain new) start items → All (λ (cell : ℕ). cell < length new) items
+pub listed_in_row : (old new : List Ref) (start items : List ℕ) → start ≡ [] → Keeps (plain old) (plain new) → Lists (plain old) (plain new) start items
+    → All (λ (cell : ℕ). cell < length new) items
 listed_in_row old new start items none keeps l =
     subst (All (λ (cell : ℕ). cell < length new)) (sym (l.listed ∙ ap (λ xs. xs ++ l.gained) none))
-    (All-weaker (WasSet (plain old) (plain new)) (λ (cell : ℕ). cell < length new) (λ cell was. subst (λ n. cell < n) (sym keeps.words) was.below) l.gained l.were_set)
+    (All-weaker (WasSet (plain old) (plain new)) (λ (cell : ℕ). cell < length new) (λ cell was. subst (λ n. cell < n) (sym keeps.words) was.below)
+    l.gained l.were_set)
 
 -- So the list has the cells that were free and are set now, each once, and no other word changed.
 pub have_been_set : (P : NamedProgram) (old new : List Ref) (pairs : List Pair) (start items : List ℕ) → start ≡ [] → Keeps (plain old) (plain new)
@@ -43,10 +45,14 @@ pub have_been_set : (P : NamedProgram) (old new : List Ref) (pairs : List Pair) 
 have_been_set P old new pairs start items none keeps made l =
     let is : items ≡ l.gained = l.listed ∙ ap (λ xs. xs ++ l.gained) none in record {
       once = subst AreDistinct (sym is) l.once;
-      in_row = subst (All (λ (cell : ℕ). cell < length old)) (sym is) (All-weaker (WasSet (plain old) (plain new)) (λ (cell : ℕ). cell < length old) (λ cell was. was.below) l.gained l.were_set);
-      were_free = subst (All (λ (cell : ℕ). word_at old cell ≡ Free)) (sym is) (All-weaker (WasSet (plain old) (plain new)) (λ (cell : ℕ). word_at old cell ≡ Free)
-          (λ cell was. elim (free_or_set (word_at old cell)) [ inl free ↦ free | inr set ↦ absurd (was.not_known (word_at old cell) (refl, set)) ]) l.gained l.were_set);
-      are_set = subst (All (λ (cell : ℕ). word_at new cell ≢ Free)) (sym is) (All-weaker (WasSet (plain old) (plain new)) (λ (cell : ℕ). word_at new cell ≢ Free)
+      in_row = subst (All (λ (cell : ℕ). cell < length old)) (sym is)
+          (All-weaker (WasSet (plain old) (plain new)) (λ (cell : ℕ). cell < length old) (λ cell was. was.below) l.gained l.were_set);
+      were_free = subst (All (λ (cell : ℕ). word_at old cell ≡ Free)) (sym is)
+          (All-weaker (WasSet (plain old) (plain new)) (λ (cell : ℕ). word_at old cell ≡ Free)
+          (λ cell was. elim (free_or_set (word_at old cell)) [ inl free ↦ free | inr set ↦ absurd (was.not_known (word_at old cell) (refl, set)) ])
+          l.gained l.were_set);
+      are_set = subst (All (λ (cell : ℕ). word_at new cell ≢ Free)) (sym is)
+          (All-weaker (WasSet (plain old) (plain new)) (λ (cell : ℕ). word_at new cell ≢ Free)
           (λ cell was. subst (λ r. r ≢ Free) (sym was.known.0) was.known.1) l.gained l.were_set);
       words = keeps.words;
       others = λ place out. elim (free_or_set (word_at new place)) [
@@ -76,13 +82,17 @@ no_new_half : (P : NamedProgram) (old new : List Ref) (pairs : List Pair) (floor
 no_new_half P old new pairs floor bindings b cell half = same_half old new cell (bound_grows P old new pairs floor bindings b) ∙ half
 
 -- The row is settled,
-settled_now : (P : NamedProgram) (old new : List Ref) (pairs : List Pair) (floor : ℕ) (bindings : List ℕ) → Binds P old new pairs floor bindings → BoundEnd P new floor bindings → IsSettled P new
-settled_now P old new pairs floor bindings b ends = let terms = settled_rows_have_terms P new ends.sound in terms.1 (all_terms P old new pairs floor bindings b ends)
+settled_now : (P : NamedProgram) (old new : List Ref) (pairs : List Pair) (floor : ℕ) (bindings : List ℕ) → Binds P old new pairs floor bindings
+    → BoundEnd P new floor bindings → IsSettled P new
+settled_now P old new pairs floor bindings b ends = let terms =
+    settled_rows_have_terms P new ends.sound in terms.1 (all_terms P old new pairs floor bindings b ends)
 
 -- and a most general solution, where the pairs are equal in each of its solutions.
-solved_now : (P : NamedProgram) (old new : List Ref) (pairs : List Pair) (floor : ℕ) (bindings : List ℕ) → Binds P old new pairs floor bindings → BoundEnd P new floor bindings
+solved_now : (P : NamedProgram) (old new : List Ref) (pairs : List Pair) (floor : ℕ) (bindings : List ℕ) → Binds P old new pairs floor bindings
+    → BoundEnd P new floor bindings
     → AreWritten (plain old) pairs → NewFollow P pairs (plain old) (plain new)
-    → ((w : Words) → HasKnown (plain new) w → NameNoHalf P w pairs → (t : Substitution) → SolvesKnown P w (plain new) t → Solves t (equations_of_pairs P w pairs))
+    → ((w : Words) → HasKnown (plain new) w → NameNoHalf P w pairs → (t : Substitution) → SolvesKnown P w (plain new) t
+    → Solves t (equations_of_pairs P w pairs))
     → IsMostGeneral P new (equations_with P old pairs)
 solved_now P old new pairs floor bindings b ends written follow equal =
     let grows : Grows old new = bound_grows P old new pairs floor bindings b in
@@ -95,13 +105,15 @@ solved_now P old new pairs floor bindings b ends written follow equal =
     (rows_with_terms_are_solutions P new ends.sound all)
 
 -- There is no solution where the row has none now,
-unsolved_now : (P : NamedProgram) (old new : List Ref) (pairs : List Pair) (floor : ℕ) (bindings : List ℕ) → Binds P old new pairs floor bindings → AreWritten (plain old) pairs
+unsolved_now : (P : NamedProgram) (old new : List Ref) (pairs : List Pair) (floor : ℕ) (bindings : List ℕ) → Binds P old new pairs floor bindings
+    → AreWritten (plain old) pairs
     → NewFollow P pairs (plain old) (plain new) → (Solvable (equations_of P new) → ⊥) → Solvable (equations_with P old pairs) → ⊥
 unsolved_now P old new pairs floor bindings b written follow none solvable =
     none (solvable.0, solves_new P old new pairs solvable.0 b.old_sound (bound_grows P old new pairs floor bindings b) written follow solvable.1)
 
 -- nor where the pairs have none under what is known now.
-apart_now : (P : NamedProgram) (old new : List Ref) (pairs : List Pair) (floor : ℕ) (bindings : List ℕ) → Binds P old new pairs floor bindings → AreWritten (plain old) pairs
+apart_now : (P : NamedProgram) (old new : List Ref) (pairs : List Pair) (floor : ℕ) (bindings : List ℕ) → Binds P old new pairs floor bindings
+    → AreWritten (plain old) pairs
     → NewFollow P pairs (plain old) (plain new)
     → ((w : Words) → HasKnown (plain new) w → (t : Substitution) → SolvesKnown P w (plain new) t → Solves t (equations_of_pairs P w pairs) → ⊥)
     → Solvable (equations_with P old pairs) → ⊥

@@ -21,7 +21,8 @@ abbrev pub NamesHalf : NamedProgram → List Ref → Ref → Type 0
 NamesHalf P row r = (cell : ℕ) × Contains (shallow_cells P r) cell × (is_half (word_at row cell) ≡ true)
 
 -- A cell that holds a word of a pair is that word.
-held_by_cell : (P : NamedProgram) (row : List Ref) (t : Substitution) (start : ℕ) (r : Ref) (cell : ℕ) → IsSound P row → Solves t (equations_of P row) → r ≡ Cell start
+held_by_cell : (P : NamedProgram) (row : List Ref) (t : Substitution) (start : ℕ) (r : Ref) (cell : ℕ) → IsSound P row
+    → Solves t (equations_of P row) → r ≡ Cell start
     → Holds P row r cell → is_half (word_at row cell) ≡ true → is_half (word_at row start) ≡ true
 held_by_cell P row t start r cell sound s e (Meaning.here c) half =
     let same : c ≡ start = cc in

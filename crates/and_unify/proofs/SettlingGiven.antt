@@ -42,7 +42,8 @@ term_is_whole P row r t (structure node base s all) = λ x at.
     ap (λ (y : ℕ). is_half (word_at row y)) is ∙ cell_is_whole P row (base + 1 + v.1) (s v.0 v.1) (all v has)
 term_is_whole P row r t (integer pair) = λ x at. absurd (contains_none x at)
 
-side_is_whole : (P : NamedProgram) (row : List Ref) (r : Ref) → AllFall 0 P.skeleton.nodes → IsSound P row → IsInRange P (length row) r → Ends P row 0 false r → IsWhole P (word_at row) r
+side_is_whole : (P : NamedProgram) (row : List Ref) (r : Ref) → AllFall 0 P.skeleton.nodes → IsSound P row → IsInRange P (length row) r → Ends P row 0 false r
+    → IsWhole P (word_at row) r
 side_is_whole P row r fall sound fits ends = let term : HasTerm P row r = ended_has_term P row r fall sound fits ends in term_is_whole P row r term.0 term.1
 
 -- and so the sides do.
@@ -79,7 +80,8 @@ held_names_in_row P words cell (Number pair) below fits = names_in_row P words (
 held_names_in_row P words cell (Half bits) below fits = all_of (λ (x : ℕ). x < words) [] (λ x at. absurd (contains_none x at))
 
 -- So none of a row's words is new where the floor is the row's end.
-pub none_is_new : (P : NamedProgram) (row : List Ref) (pairs : List Pair) (floor : ℕ) → IsSound P row → AreInRange P (length row) pairs → floor ≡ length row → AreNewFrom P row pairs floor
+pub none_is_new : (P : NamedProgram) (row : List Ref) (pairs : List Pair) (floor : ℕ) → IsSound P row → AreInRange P (length row) pairs → floor ≡ length row
+    → AreNewFrom P row pairs floor
 none_is_new P row pairs floor sound fits end = subst (AreNewFrom P row pairs) (sym end) (record {
   within = omega arith;
   free = λ cell past. get_or_past row cell Free past;

@@ -19,10 +19,12 @@ use Rattle.and_unify.specs.Settling.{equations_with}
 use Rattle.and_unify.proofs.SettlingEnds.{NamesHalf}
 
 -- What solves the equations of pairs solves those of each.
-pub solves_pair : (P : NamedProgram) (w : Words) (t : Substitution) (pairs : List Pair) (p : Pair) → Contains pairs p → Solves t (equations_of_pairs P w pairs) → Solves t (equations_between P w p.left p.right)
+pub solves_pair : (P : NamedProgram) (w : Words) (t : Substitution) (pairs : List Pair) (p : Pair) → Contains pairs p → Solves t (equations_of_pairs P w pairs)
+    → Solves t (equations_between P w p.left p.right)
 solves_pair P w t [] p at s = absurd (contains_none p at)
 solves_pair P w t (q ∷ pairs) p at s = elim (contains_cases q p pairs at) [
-  | inl e ↦ subst (λ (x : Pair). Solves t (equations_between P w x.left x.right)) (sym e) (solves_front t (equations_between P w q.left q.right) (equations_of_pairs P w pairs) s)
+  | inl e ↦ subst (λ (x : Pair). Solves t (equations_between P w x.left x.right)) (sym e)
+      (solves_front t (equations_between P w q.left q.right) (equations_of_pairs P w pairs) s)
   | inr i ↦ solves_pair P w t pairs p i (solves_back t (equations_between P w q.left q.right) (equations_of_pairs P w pairs) s)
 ]
 
@@ -36,7 +38,8 @@ pub halved_pairs : (P : NamedProgram) (row : List Ref) (pairs : List Pair) (p : 
 halved_pairs P row pairs p at halved solvable =
     let t : Substitution = solvable.0 in
     let of_row : Solves t (equations_of P row) = solves_front t (equations_of P row) (equations_of_pairs P (word_at row) pairs) solvable.1 in
-    let of_pairs : Solves t (equations_of_pairs P (word_at row) pairs) = solves_back t (equations_of P row) (equations_of_pairs P (word_at row) pairs) solvable.1 in
+    let of_pairs : Solves t (equations_of_pairs P (word_at row) pairs) =
+    solves_back t (equations_of P row) (equations_of_pairs P (word_at row) pairs) solvable.1 in
     let between : Solves t (equations_between P (word_at row) p.left p.right) = solves_pair P (word_at row) t pairs p at of_pairs in
     let none = names_no_half P (word_at row) t p.left p.right between in
     elim (halved t of_row) [
@@ -49,7 +52,8 @@ halved_pairs P row pairs p at halved solvable =
     ]
 
 -- What holds of each element before a place and of the one there holds of each before the next place.
-pub one_more : {X : Type 0} (P : X → Type 0) (xs : List X) (place : ℕ) (x : X) → slice_get xs place ≡ Some x → ((k : ℕ) (d : X) → k < place → P (get_or xs k d)) → P x
+pub one_more : {X : Type 0} (P : X → Type 0) (xs : List X) (place : ℕ) (x : X) → slice_get xs place ≡ Some x
+    → ((k : ℕ) (d : X) → k < place → P (get_or xs k d)) → P x
     → (k : ℕ) (d : X) → k < place + 1 → P (get_or xs k d)
 one_more P xs place x at before here k d below =
     elim (cases_lt k place) [

@@ -60,7 +60,8 @@ held_in_row P words cell (Number pair) below fits set whole = fits
 held_in_row P words cell (Half bits) below fits set whole = absurd (false≢true (sym whole))
 
 -- What a word is set to is in range, unless it is a half.
-pub set_in_range : (P : NamedProgram) (row : List Ref) (cell : ℕ) (r : Ref) → IsSound P row → IsSetTo row cell r → is_half r ≡ false → IsInRange P (length row) r
+pub set_in_range : (P : NamedProgram) (row : List Ref) (cell : ℕ) (r : Ref) → IsSound P row → IsSetTo row cell r → is_half r ≡ false
+    → IsInRange P (length row) r
 set_in_range P row cell r sound set whole =
     let below : cell < length row = set_is_below row cell r set in
     let fits : CanHold P (length row) cell r = subst (CanHold P (length row) cell) set.0 (sound.fits cell) in
@@ -86,7 +87,8 @@ pub record IsKept (P : NamedProgram) (row : List Ref) (floor : ℕ) (r : Ref) : 
   pub keeps : KeepsBelow P floor r
 
 -- So it is of what a word is set to, unless that is a half,
-pub word_is_kept : (P : NamedProgram) (row : List Ref) (pairs : List Pair) (floor cell : ℕ) (r : Ref) → IsSound P row → IsSettled P row → AreNewFrom P row pairs floor
+pub word_is_kept : (P : NamedProgram) (row : List Ref) (pairs : List Pair) (floor cell : ℕ) (r : Ref) → IsSound P row → IsSettled P row
+    → AreNewFrom P row pairs floor
     → IsSetTo row cell r → is_half r ≡ false → IsKept P row floor r
 word_is_kept P row pairs floor cell r sound settled new set whole = record {
   in_range = set_in_range P row cell r sound set whole;
@@ -118,7 +120,8 @@ keeps_part P floor node base (Number pair) fall at keeps = λ below. absurd belo
 keeps_part P floor node base (Half bits) fall at keeps = λ below. absurd below
 
 -- of the parts of such a reference,
-pub part_is_kept : (P : NamedProgram) (row : List Ref) (floor : ℕ) (r q : Ref) → AllFall 0 P.skeleton.nodes → Contains (parts_of P r) q → IsKept P row floor r → IsKept P row floor q
+pub part_is_kept : (P : NamedProgram) (row : List Ref) (floor : ℕ) (r q : Ref) → AllFall 0 P.skeleton.nodes → Contains (parts_of P r) q → IsKept P row floor r
+    → IsKept P row floor q
 part_is_kept P row floor Free q fall at kept = absurd (contains_none q at)
 part_is_kept P row floor (Cell cell) q fall at kept = absurd (contains_none q at)
 part_is_kept P row floor (Node node base) q fall at kept = record {
@@ -130,19 +133,30 @@ part_is_kept P row floor (Number pair) q fall at kept = absurd (contains_none q 
 part_is_kept P row floor (Half bits) q fall at kept = absurd (contains_none q at)
 
 -- of the sides of pairs,
-both_are_kept : (P : NamedProgram) (row : List Ref) (pairs : List Pair) (floor : ℕ) (p : Pair) → AreInRange P (length row) pairs → NameNoHalf P (word_at row) pairs → AreNewFrom P row pairs floor
+both_are_kept : (P : NamedProgram) (row : List Ref) (pairs : List Pair) (floor : ℕ) (p : Pair) → AreInRange P (length row) pairs
+    → NameNoHalf P (word_at row) pairs → AreNewFrom P row pairs floor
     → Contains pairs p → IsKept P row floor p.left × IsKept P row floor p.right
 both_are_kept P row pairs floor p fits no_half new at =
     let range = All-contains (λ (p : Pair). IsInRange P (length row) p.left × IsInRange P (length row) p.right) pairs p fits at in
-    let whole = All-contains (λ (p : Pair). All (λ (cell : ℕ). is_half (word_at row cell) ≡ false) (shallow_cells P p.left ++ shallow_cells P p.right)) pairs p no_half at in
+    let whole = All-contains (λ (p : Pair). All (λ (cell : ℕ). is_half (word_at row cell) ≡ false) (shallow_cells P p.left ++ shallow_cells P p.right))
+    pairs p no_half at in
     let keeps = All-contains (λ (p : Pair). KeepsBelow P floor p.left × KeepsBelow P floor p.right) pairs p new.sides at in
     let each : (cell : ℕ) → Contains (shallow_cells P p.left ++ shallow_cells P p.right) cell → is_half (word_at row cell) ≡ false =
     λ cell named. All-contains (λ (cell : ℕ). is_half (word_at row cell) ≡ false) (shallow_cells P p.left ++ shallow_cells P p.right) cell whole named in (
-      record { in_range = range.0; whole = λ cell named. each cell (Contains-append_left (shallow_cells P p.left) (shallow_cells P p.right) cell named); keeps = keeps.0 },
-      record { in_range = range.1; whole = λ cell named. each cell (Contains-append_right (shallow_cells P p.left) (shallow_cells P p.right) cell named); keeps = keeps.1 },
+      record {
+        in_range = range.0;
+        whole = λ cell named. each cell (Contains-append_left (shallow_cells P p.left) (shallow_cells P p.right) cell named);
+        keeps = keeps.0;
+      },
+      record {
+        in_range = range.1;
+        whole = λ cell named. each cell (Contains-append_right (shallow_cells P p.left) (shallow_cells P p.right) cell named);
+        keeps = keeps.1;
+      },
     )
 
-side_is_kept : (P : NamedProgram) (row : List Ref) (pairs : List Pair) (floor : ℕ) (r : Ref) → AreInRange P (length row) pairs → NameNoHalf P (word_at row) pairs → AreNewFrom P row pairs floor
+side_is_kept : (P : NamedProgram) (row : List Ref) (pairs : List Pair) (floor : ℕ) (r : Ref) → AreInRange P (length row) pairs
+    → NameNoHalf P (word_at row) pairs → AreNewFrom P row pairs floor
     → Contains (sides pairs) r → IsKept P row floor r
 side_is_kept P row pairs floor r fits no_half new at =
     let rights : List Ref = map (λ (p : Pair). p.right) pairs in
@@ -159,7 +173,8 @@ side_is_kept P row pairs floor r fits no_half new at =
 
 -- and so of all places of the sides.
 pub place_is_kept : (P : NamedProgram) (row : List Ref) (pairs : List Pair) (floor : ℕ) (r : Ref) → AllFall 0 P.skeleton.nodes → IsSound P row → IsSettled P row
-    → AreInRange P (length row) pairs → NameNoHalf P (word_at row) pairs → AreNewFrom P row pairs floor → IsPlace P (plain row) (sides pairs) r → IsKept P row floor r
+    → AreInRange P (length row) pairs → NameNoHalf P (word_at row) pairs → AreNewFrom P row pairs floor → IsPlace P (plain row) (sides pairs) r
+    → IsKept P row floor r
 place_is_kept P row pairs floor r fall sound settled fits no_half new (Places.root q at) = side_is_kept P row pairs floor r fits no_half new at
 place_is_kept P row pairs floor r fall sound settled fits no_half new (Places.set cell q place known) =
     let kept : IsKept P row floor (Cell cell) = place_is_kept P row pairs floor (Cell cell) fall sound settled fits no_half new place in

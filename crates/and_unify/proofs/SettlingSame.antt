@@ -40,14 +40,16 @@ free_or_set (Half bits) = inr (λ e. absurd (cc))
 stays_word : (old new : List Ref) (place : ℕ) → Grows old new → word_at old place ≢ Free → word_at old place ≡ word_at new place
 stays_word old new place grows set = let still = grows.stays place (word_at old place) (refl, set) in sym still.0
 
-fresh_is_whole : (old new : List Ref) (place : ℕ) → Grows old new → word_at old place ≡ Free → (word_at new place ≡ Free) ⊎ (word_at new place ≢ Free) → is_half (word_at new place) ≡ false
+fresh_is_whole : (old new : List Ref) (place : ℕ) → Grows old new → word_at old place ≡ Free → (word_at new place ≡ Free) ⊎ (word_at new place ≢ Free)
+    → is_half (word_at new place) ≡ false
 fresh_is_whole old new place grows free (inl same) = ap is_half same
 fresh_is_whole old new place grows free (inr set) = elim (grows.fresh place (word_at new place) (refl, set)) [
   | inl was ↦ absurd (was.1 (sym was.0 ∙ free))
   | inr whole ↦ whole
 ]
 
-same_half_by : (old new : List Ref) (place : ℕ) → Grows old new → (word_at old place ≡ Free) ⊎ (word_at old place ≢ Free) → is_half (word_at old place) ≡ is_half (word_at new place)
+same_half_by : (old new : List Ref) (place : ℕ) → Grows old new → (word_at old place ≡ Free) ⊎ (word_at old place ≢ Free)
+    → is_half (word_at old place) ≡ is_half (word_at new place)
 same_half_by old new place grows (inl free) = ap is_half free ∙ sym (fresh_is_whole old new place grows free (free_or_set (word_at new place)))
 same_half_by old new place grows (inr set) = ap is_half (stays_word old new place grows set)
 
@@ -56,7 +58,8 @@ pub same_half : (old new : List Ref) (place : ℕ) → Grows old new → is_half
 same_half old new place grows = same_half_by old new place grows (free_or_set (word_at old place))
 
 -- So a number that is written stays the same,
-same_number : (P : NamedProgram) (old new : List Ref) (pair : ℕ) → IsSound P old → Grows old new → IsKnownWritten (plain old) pair → number_in (word_at old) pair ≡ number_in (word_at new) pair
+same_number : (P : NamedProgram) (old new : List Ref) (pair : ℕ) → IsSound P old → Grows old new → IsKnownWritten (plain old) pair
+    → number_in (word_at old) pair ≡ number_in (word_at new) pair
 same_number P old new pair sound grows (inl both) =
     let (high, low) = both in
     let high_stays = grows.stays pair high.0 high.1 in
@@ -72,7 +75,8 @@ same_number P old new pair sound grows (inr held) =
     ap (λ (r : Ref). number (number_of r (word_at old (suc pair)))) one ∙ ap (λ (r : Ref). number (number_of (word_at new pair) r)) other
 
 -- and so does the term of a reference.
-same_term : (P : NamedProgram) (old new : List Ref) (r : Ref) → IsSound P old → Grows old new → IsWrittenIfNumber (plain old) r → shallow_term P (word_at old) r ≡ shallow_term P (word_at new) r
+same_term : (P : NamedProgram) (old new : List Ref) (r : Ref) → IsSound P old → Grows old new → IsWrittenIfNumber (plain old) r
+    → shallow_term P (word_at old) r ≡ shallow_term P (word_at new) r
 same_term P old new Free sound grows written = refl
 same_term P old new (Cell cell) sound grows written = refl
 same_term P old new (Node node base) sound grows written = refl
@@ -85,15 +89,18 @@ filter_same p q (x ∷ xs) same =
     ap (λ (b : Bool). cond b (x ∷ filter p xs) (filter p xs)) (same x) ∙ ap (λ (ys : List ℕ). cond (q x) (x ∷ ys) ys) (filter_same p q xs same)
 
 -- So the equations between two references stay the same,
-pub same_between : (P : NamedProgram) (old new : List Ref) (l r : Ref) → IsSound P old → Grows old new → IsWrittenIfNumber (plain old) l → IsWrittenIfNumber (plain old) r
+pub same_between : (P : NamedProgram) (old new : List Ref) (l r : Ref) → IsSound P old → Grows old new → IsWrittenIfNumber (plain old) l
+    → IsWrittenIfNumber (plain old) r
     → equations_between P (word_at old) l r ≡ equations_between P (word_at new) l r
 same_between P old new l r sound grows left right =
     let cells : List ℕ = shallow_cells P l ++ shallow_cells P r in
     let halves : filter (λ (cell : ℕ). is_half (word_at old cell)) cells ≡ filter (λ (cell : ℕ). is_half (word_at new cell)) cells =
     filter_same (λ (cell : ℕ). is_half (word_at old cell)) (λ (cell : ℕ). is_half (word_at new cell)) cells (λ cell. same_half old new cell grows) in
     let falsehoods : List ℕ → List Equation = λ (xs : List ℕ). map (λ (cell : ℕ). falsehood) xs in
-    ap (λ (t : Option Term). same_terms t (shallow_term P (word_at old) r) ++ falsehoods (filter (λ (cell : ℕ). is_half (word_at old cell)) cells)) (same_term P old new l sound grows left)
-    ∙ ap (λ (t : Option Term). same_terms (shallow_term P (word_at new) l) t ++ falsehoods (filter (λ (cell : ℕ). is_half (word_at old cell)) cells)) (same_term P old new r sound grows right)
+    ap (λ (t : Option Term). same_terms t (shallow_term P (word_at old) r) ++ falsehoods (filter (λ (cell : ℕ). is_half (word_at old cell)) cells))
+    (same_term P old new l sound grows left)
+    ∙ ap (λ (t : Option Term). same_terms (shallow_term P (word_at new) l) t ++ falsehoods (filter (λ (cell : ℕ). is_half (word_at old cell)) cells))
+    (same_term P old new r sound grows right)
     ∙ ap (λ (xs : List ℕ). same_terms (shallow_term P (word_at new) l) (shallow_term P (word_at new) r) ++ falsehoods xs) halves
 
 flat_map_same : {X : Type 0} (f g : X → List Equation) (xs : List X) → ((x : X) → Contains xs x → f x ≡ g x) → flat_map f xs ≡ flat_map g xs
@@ -117,16 +124,19 @@ cell_is_no_number row cell = λ pair is. absurd (cc)
 
 same_setting : (P : NamedProgram) (old new : List Ref) (place : ℕ) (r : Ref) → IsSound P old → Grows old new → IsSetTo old place r
     → equations_between P (word_at old) (Cell place) r ≡ equations_between P (word_at new) (Cell place) r
-same_setting P old new place r sound grows set = same_between P old new (Cell place) r sound grows (cell_is_no_number old place) (written_since_known (plain old) place r set)
+same_setting P old new place r sound grows set =
+    same_between P old new (Cell place) r sound grows (cell_is_no_number old place) (written_since_known (plain old) place r set)
 
 -- What solves the equations of a row solves what was known of it, under the words that it has now,
-pub known_now : (P : NamedProgram) (old new : List Ref) (t : Substitution) → IsSound P old → Grows old new → Solves t (equations_of P old) → SolvesKnown P (word_at new) (plain old) t
+pub known_now : (P : NamedProgram) (old new : List Ref) (t : Substitution) → IsSound P old → Grows old new → Solves t (equations_of P old)
+    → SolvesKnown P (word_at new) (plain old) t
 known_now P old new t sound grows s = λ place r set whole.
     let told = told_rows_are_known P old t in
     subst (Solves t) (same_setting P old new place r sound grows set) (told.1 s place r set whole)
 
 -- and the converse holds where it solves all that is known now.
-pub known_before : (P : NamedProgram) (old new : List Ref) (t : Substitution) → IsSound P old → Grows old new → SolvesKnown P (word_at new) (plain new) t → Solves t (equations_of P old)
+pub known_before : (P : NamedProgram) (old new : List Ref) (t : Substitution) → IsSound P old → Grows old new → SolvesKnown P (word_at new) (plain new) t
+    → Solves t (equations_of P old)
 known_before P old new t sound grows known =
     let told = told_rows_are_known P old t in
     told.0 (λ place r set whole. subst (Solves t) (sym (same_setting P old new place r sound grows set)) (known place r (grows.stays place r set) whole))
@@ -156,11 +166,13 @@ pub solves_old : (P : NamedProgram) (old new : List Ref) (pairs : List Pair) (t 
 solves_old P old new pairs t sound grows written equal s =
     let told = told_rows_are_known P new t in
     let known = told.1 s in
-    let of_pairs : Solves t (equations_of_pairs P (word_at old) pairs) = subst (Solves t) (sym (same_pairs P old new pairs sound grows written)) (equal t known) in
+    let of_pairs : Solves t (equations_of_pairs P (word_at old) pairs) =
+    subst (Solves t) (sym (same_pairs P old new pairs sound grows written)) (equal t known) in
     solves_join t (equations_of P old) (equations_of_pairs P (word_at old) pairs) (known_before P old new t sound grows known) of_pairs
 
 -- A most general solution of equations is one of all that have the same solutions.
-pub most_general_of : (P : NamedProgram) (row : List Ref) (es ds : List Equation) → ((t : Substitution) → Solves t es → Solves t ds) → ((t : Substitution) → Solves t ds → Solves t es)
+pub most_general_of : (P : NamedProgram) (row : List Ref) (es ds : List Equation) → ((t : Substitution) → Solves t es → Solves t ds)
+    → ((t : Substitution) → Solves t ds → Solves t es)
     → IsMostGeneral P row es → IsMostGeneral P row ds
 most_general_of P row es ds onto back m = record {
   solution = m.solution;

@@ -13,17 +13,20 @@ use Rattle.and_unify.specs.Settling.{EndsFrom}
 pub seen_or_explored : (Seen Ended : ℕ → Type 0) (bound : List ℕ) (seen : ℕ) → All Seen (take seen bound) → ((cell : ℕ) → Seen cell → Ended cell)
     → ((cell : ℕ) → Contains (take (length bound - seen) (drop seen bound)) cell → Ended cell) → (cell : ℕ) → Contains bound cell → Ended cell
 seen_or_explored Seen Ended bound seen first ends others cell listed =
-    elim (Contains-append_cases (take seen bound) (drop seen bound) cell (subst (λ (cells : List ℕ). Contains cells cell) (sym (take-append-drop seen bound)) listed)) [
+    elim (Contains-append_cases (take seen bound) (drop seen bound) cell
+    (subst (λ (cells : List ℕ). Contains cells cell) (sym (take-append-drop seen bound)) listed)) [
       | inl before ↦ ends cell (All-contains Seen (take seen bound) cell first before)
       | inr behind ↦ others cell (subst (λ (cells : List ℕ). Contains cells cell) (sym (take_rest bound seen)) behind)
     ]
 
 -- A path from a cell ends where its word is free, a number, or below the floor.
-pub ends_here : (P : NamedProgram) (row : List Ref) (floor cell : ℕ) (word : Ref) → word ≡ word_at row cell → (word ≡ Free) ⊎ ((pair : ℕ) × (word ≡ Number pair)) ⊎ IsBelow floor word
+pub ends_here : (P : NamedProgram) (row : List Ref) (floor cell : ℕ) (word : Ref) → word ≡ word_at row cell
+    → (word ≡ Free) ⊎ ((pair : ℕ) × (word ≡ Number pair)) ⊎ IsBelow floor word
     → Ends P row floor false (Cell cell)
 ends_here P row floor cell word is (inl none) = Ends.free cell (sym is ∙ none)
 ends_here P row floor cell word is (inr (inl holds)) =
-    Ends.set cell word (sym is, λ e. let both : Number holds.0 ≡ Free = sym holds.1 ∙ e in absurd (cc)) (subst (Ends P row floor false) (sym holds.1) (Ends.number holds.0))
+    Ends.set cell word (sym is, λ e. let both : Number holds.0 ≡ Free = sym holds.1 ∙ e in absurd (cc))
+    (subst (Ends P row floor false) (sym holds.1) (Ends.number holds.0))
 ends_here P row floor cell word is (inr (inr below)) = Ends.set cell word (sym is, λ e. subst (IsBelow floor) e below) (Ends.low word below)
 
 below_or : (a b : ℕ) → (a < b) ⊎ (b ≤ a)

@@ -29,7 +29,8 @@ use Rattle.and_unify.proofs.SettlingSame.{Grows, free_or_set, same_half}
 use Rattle.and_unify.proofs.SettlingPlaces.{IsKept, names_itself, whole_itself, in_range_is_whole, set_in_range, word_is_kept, part_is_kept, place_is_kept}
 
 -- A reference in range whose paths end, with no floor, stands for a term.
-pub ended_has_term : (P : NamedProgram) (row : List Ref) (r : Ref) → AllFall 0 P.skeleton.nodes → IsSound P row → IsInRange P (length row) r → Ends P row 0 false r → HasTerm P row r
+pub ended_has_term : (P : NamedProgram) (row : List Ref) (r : Ref) → AllFall 0 P.skeleton.nodes → IsSound P row → IsInRange P (length row) r
+    → Ends P row 0 false r → HasTerm P row r
 ended_has_term P row r fall sound fits ends =
     ends_are_terms P row 0 (IsInRange P (length row)) r fall sound
     (λ cell q come set whole. set_in_range P row cell q sound set whole)
@@ -77,7 +78,8 @@ placed_is_kept : (P : NamedProgram) (old new : List Ref) (pairs : List Pair) (fl
 placed_is_kept P old new pairs floor bindings r b place = place_is_kept P old pairs floor r b.fall b.old_sound b.settled b.in_range b.no_half b.are_new place
 
 -- and is no half.
-pub bound_grows : (P : NamedProgram) (old new : List Ref) (pairs : List Pair) (floor : ℕ) (bindings : List ℕ) → Binds P old new pairs floor bindings → Grows old new
+pub bound_grows : (P : NamedProgram) (old new : List Ref) (pairs : List Pair) (floor : ℕ) (bindings : List ℕ)
+    → Binds P old new pairs floor bindings → Grows old new
 bound_grows P old new pairs floor bindings b = record {
   stays = b.stays;
   fresh = λ place r set. elim (b.sets place r set) [
@@ -92,11 +94,15 @@ bound_now : (P : NamedProgram) (old new : List Ref) (pairs : List Pair) (floor :
 bound_now P old new pairs floor bindings cell b free set =
     elim (b.sets cell (word_at new cell) (refl, set)) [
       | inl was ↦ absurd (was.1 (sym was.0 ∙ free))
-      | inr made ↦ let kept = placed_is_kept P old new pairs floor bindings (word_at new cell) b made.1 in (made.0, in_range_is_whole P (length old) (word_at new cell) kept.in_range)
+      | inr made ↦ let kept = placed_is_kept P old new pairs floor bindings (word_at new cell) b made.1 in (
+        made.0,
+        in_range_is_whole P (length old) (word_at new cell) kept.in_range,
+      )
     ]
 
 -- A cell that was free and is below the floor stands for a term,
-free_below : (P : NamedProgram) (old new : List Ref) (pairs : List Pair) (floor : ℕ) (bindings : List ℕ) (cell : ℕ) → Binds P old new pairs floor bindings → BoundEnd P new floor bindings
+free_below : (P : NamedProgram) (old new : List Ref) (pairs : List Pair) (floor : ℕ) (bindings : List ℕ) (cell : ℕ) → Binds P old new pairs floor bindings
+    → BoundEnd P new floor bindings
     → cell < floor → cell < length old → word_at old cell ≡ Free → HasTerm P new (Cell cell)
 free_below P old new pairs floor bindings cell b ends low below free =
     let words : length new ≡ length old = b.words in
@@ -109,7 +115,8 @@ free_below P old new pairs floor bindings cell b ends low below free =
     ]
 
 -- and so does all that stood for a term and names cells below the floor.
-stands_below : (P : NamedProgram) (old new : List Ref) (pairs : List Pair) (floor : ℕ) (bindings : List ℕ) (r : Ref) (t : Term) → Binds P old new pairs floor bindings → BoundEnd P new floor bindings
+stands_below : (P : NamedProgram) (old new : List Ref) (pairs : List Pair) (floor : ℕ) (bindings : List ℕ) (r : Ref) (t : Term)
+    → Binds P old new pairs floor bindings → BoundEnd P new floor bindings
     → StandsFor P old r t → NamesBelow P floor r → HasTerm P new r
 stands_below P old new pairs floor bindings r t b ends (unbound cell below free) names =
     let low : cell < floor = All-contains (λ (x : ℕ). x < floor) (cell ∷ []) cell names (contains_first cell []) in
@@ -140,7 +147,8 @@ stood_below P old floor (Number pair) all kept below = absurd below
 stood_below P old floor (Half bits) all kept below = absurd below
 
 -- So what is kept and whose paths end at the floor stands for a term.
-kept_has_term : (P : NamedProgram) (old new : List Ref) (pairs : List Pair) (floor : ℕ) (bindings : List ℕ) (r : Ref) → Binds P old new pairs floor bindings → BoundEnd P new floor bindings
+kept_has_term : (P : NamedProgram) (old new : List Ref) (pairs : List Pair) (floor : ℕ) (bindings : List ℕ) (r : Ref) → Binds P old new pairs floor bindings
+    → BoundEnd P new floor bindings
     → IsKept P old floor r → Ends P new floor false r → HasTerm P new r
 kept_has_term P old new pairs floor bindings r b ends kept end =
     let all = settled_rows_have_terms P old b.old_sound in
@@ -157,7 +165,8 @@ kept_has_term P old new pairs floor bindings r b ends kept end =
     kept end
 
 -- A cell from the floor on stands for a term,
-free_above : (P : NamedProgram) (old new : List Ref) (pairs : List Pair) (floor : ℕ) (bindings : List ℕ) (cell : ℕ) → Binds P old new pairs floor bindings → BoundEnd P new floor bindings
+free_above : (P : NamedProgram) (old new : List Ref) (pairs : List Pair) (floor : ℕ) (bindings : List ℕ) (cell : ℕ) → Binds P old new pairs floor bindings
+    → BoundEnd P new floor bindings
     → floor ≤ cell → cell < length old → HasTerm P new (Cell cell)
 free_above P old new pairs floor bindings cell b ends high below =
     let words : length new ≡ length old = b.words in
@@ -176,7 +185,8 @@ free_above P old new pairs floor bindings cell b ends high below =
     ]
 
 -- and so does each cell of the row that is no half.
-pub all_terms : (P : NamedProgram) (old new : List Ref) (pairs : List Pair) (floor : ℕ) (bindings : List ℕ) → Binds P old new pairs floor bindings → BoundEnd P new floor bindings → AllHaveTerms P new
+pub all_terms : (P : NamedProgram) (old new : List Ref) (pairs : List Pair) (floor : ℕ) (bindings : List ℕ) → Binds P old new pairs floor bindings
+    → BoundEnd P new floor bindings → AllHaveTerms P new
 all_terms P old new pairs floor bindings b ends = λ cell in_new whole.
     let words : length new ≡ length old = b.words in
     let below : cell < length old = omega arith in

@@ -19,7 +19,10 @@ use Rattle.and_unify.specs.Settling.{KeepsBelow}
 
 -- the clause f(X, 3) with the number 4 beside it: node 0 is its variable 0, nodes 1 and 3 the numbers, and node 2 is f
 P : NamedProgram
-P = record { program = no_program.program; skeleton = record { nodes = skeletons.variable 0 ∷ skeletons.number (pos 3) ∷ compound 30 (0 ∷ 1 ∷ []) ∷ skeletons.number (pos 4) ∷ []; clauses = [] } }
+P = record {
+  program = no_program.program;
+  skeleton = record { nodes = skeletons.variable 0 ∷ skeletons.number (pos 3) ∷ compound 30 (0 ∷ 1 ∷ []) ∷ skeletons.number (pos 4) ∷ []; clauses = [] };
+}
 
 three : NodeNo
 three = record { 0 = 1 }
@@ -37,7 +40,8 @@ unfolding P node
 equations = refl
 
 -- and for the false one where a side names a word of a pair
-no_solution : equations_of_pairs P (λ cell. Half 0) (record { left = Cell 4; right = Cell 4 } ∷ []) ≡ (variable [] 4, variable [] 4) ∷ falsehood ∷ falsehood ∷ []
+no_solution : equations_of_pairs P (λ cell. Half 0) (record { left = Cell 4; right = Cell 4 } ∷ [])
+    ≡ (variable [] 4, variable [] 4) ∷ falsehood ∷ falsehood ∷ []
 no_solution = refl
 
 -- two numbers that differ are apart, whatever else is known

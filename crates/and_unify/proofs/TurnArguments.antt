@@ -1,5 +1,6 @@
 -- The pairs of the arguments of two structures, one after the other.
-use Rattle.std.proofs.Common.{ℕ, zero, suc, ◌+◌, ◌≡◌, ◌<◌, ◌≤◌, List, [], ◌∷◌, ◌++◌, length, map, get_or, take, slice_get, Some, refl, sym, ap, subst, ◌∙◌, ◌⊎◌, inl, inr, arith, append_assoc}
+use Rattle.std.proofs.Common.{ℕ, zero, suc, ◌+◌, ◌≡◌, ◌<◌, ◌≤◌, List, [], ◌∷◌, ◌++◌, length, map, get_or, take, slice_get, Some, refl, sym, ap, subst, ◌∙◌}
+use Rattle.std.proofs.Common.{◌⊎◌, inl, inr, arith, append_assoc}
 use Rattle.std.proofs.lemmas.Option.{get_or_from_slice_get, slice_get_within}
 use Rattle.std.proofs.lemmas.List.{length-append, length-take-le, take_all}
 use Rattle.std.proofs.lemmas.List as list
@@ -24,7 +25,8 @@ slice_get_map f (x ∷ xs) zero d h = refl
 slice_get_map f (x ∷ xs) (suc k) d h = slice_get_map f xs k d (omega arith)
 
 -- An argument is found where its node is resolved.
-pub argument_found : (P : NamedProgram) (node a : NodeNo) (base place : ℕ) (r : Ref) → place < length (arguments_at P.skeleton node.0) → a.0 ≡ get_or (arguments_at P.skeleton node.0) place 0
+pub argument_found : (P : NamedProgram) (node a : NodeNo) (base place : ℕ) (r : Ref) → place < length (arguments_at P.skeleton node.0)
+    → a.0 ≡ get_or (arguments_at P.skeleton node.0) place 0
     → r ≡ resolved (shape_at P.skeleton a.0) a base → slice_get (parts_of P (Node node base)) place ≡ Some r
 argument_found P node a base place r within is found =
     slice_get_map (part_at P base) (arguments_at P.skeleton node.0) place 0 within ∙ ap (λ n. Some (part_at P base n)) (sym is) ∙ ap (λ x. Some x) (sym found)
@@ -36,7 +38,8 @@ take_more rs k r is =
     list.take_more rs k r within ∙ ap (λ x. take k rs ++ x ∷ []) (get_or_from_slice_get rs k r r is)
 
 -- pairs of lists of one length that each gain an element
-pairs_push : (rs qs : List Ref) (r q : Ref) → length rs ≡ length qs → pairs_of (rs ++ r ∷ []) (qs ++ q ∷ []) ≡ pairs_of rs qs ++ record { left = r; right = q } ∷ []
+pairs_push : (rs qs : List Ref) (r q : Ref) → length rs ≡ length qs
+    → pairs_of (rs ++ r ∷ []) (qs ++ q ∷ []) ≡ pairs_of rs qs ++ record { left = r; right = q } ∷ []
 pairs_push [] [] r q e = refl
 pairs_push [] (y ∷ qs) r q e = absurd (omega arith)
 pairs_push (x ∷ rs) [] r q e = absurd (omega arith)
@@ -60,7 +63,8 @@ pairs_few (r ∷ rs) [] (suc k) = omega arith
 pairs_few (r ∷ rs) (q ∷ qs) (suc k) = let rest = pairs_few rs qs k in omega arith
 
 -- So a list grows by no more than were taken.
-pub list_few : (before after : List Pair) (rs qs : List Ref) (k : ℕ) → after ≡ before ++ pairs_of (take k rs) (take k qs) → k ≤ 255 → length after ≤ length before + 255
+pub list_few : (before after : List Pair) (rs qs : List Ref) (k : ℕ) → after ≡ before ++ pairs_of (take k rs) (take k qs) → k ≤ 255
+    → length after ≤ length before + 255
 list_few before after rs qs k is below =
     let len : length after ≡ length (before ++ pairs_of (take k rs) (take k qs)) = ap (λ l. length l) is in
     let one = length-append before (pairs_of (take k rs) (take k qs)) in
@@ -68,37 +72,46 @@ list_few before after rs qs k is below =
     omega arith
 
 -- A list that gained pairs gains one more.
-pub list_more : (before mid after : List Pair) (rs qs : List Ref) (k : ℕ) (r q : Ref) → slice_get rs k ≡ Some r → slice_get qs k ≡ Some q → mid ≡ before ++ pairs_of (take k rs) (take k qs)
+pub list_more : (before mid after : List Pair) (rs qs : List Ref) (k : ℕ) (r q : Ref) → slice_get rs k ≡ Some r → slice_get qs k ≡ Some q
+    → mid ≡ before ++ pairs_of (take k rs) (take k qs)
     → after ≡ mid ++ record { left = r; right = q } ∷ [] → after ≡ before ++ pairs_of (take (k + 1) rs) (take (k + 1) qs)
 list_more before mid after rs qs k r q hr hq is gains =
     let p : Pair = record { left = r; right = q } in
-    gains ∙ ap (λ l. l ++ p ∷ []) is ∙ append_assoc before (pairs_of (take k rs) (take k qs)) (p ∷ []) ∙ ap (λ ps. before ++ ps) (sym (pairs_more rs qs k r q hr hq))
+    gains ∙ ap (λ l. l ++ p ∷ []) is ∙ append_assoc before (pairs_of (take k rs) (take k qs)) (p ∷ [])
+    ∙ ap (λ ps. before ++ ps) (sym (pairs_more rs qs k r q hr hq))
 
 -- A structure is in its frame.
-pub argument_of_part : (P : NamedProgram) (whole r : Ref) (node : NodeNo) (base k : ℕ) → whole ≡ Node node base → slice_get (parts_of P (Node node base)) k ≡ Some r → slice_get (parts_of P whole) k ≡ Some r
+pub argument_of_part : (P : NamedProgram) (whole r : Ref) (node : NodeNo) (base k : ℕ) → whole ≡ Node node base
+    → slice_get (parts_of P (Node node base)) k ≡ Some r → slice_get (parts_of P whole) k ≡ Some r
 argument_of_part P whole r node base k is at = subst (λ x. slice_get (parts_of P x) k ≡ Some r) (sym is) at
 
 -- All were taken at the end.
-pub list_whole : (P : NamedProgram) (before after : List Pair) (one other : Ref) (name count k : ℕ) → IsStructure P one name count → IsStructure P other name count → count ≤ k
+pub list_whole : (P : NamedProgram) (before after : List Pair) (one other : Ref) (name count k : ℕ) → IsStructure P one name count
+    → IsStructure P other name count → count ≤ k
     → after ≡ before ++ pairs_of (take k (parts_of P one)) (take k (parts_of P other)) → after ≡ before ++ pairs_of (parts_of P one) (parts_of P other)
 list_whole P before after one other name count k left right all is =
     let first : length (parts_of P one) ≡ count = parts_counted P one name count left in
     let second : length (parts_of P other) ≡ count = parts_counted P other name count right in
-    is ∙ ap (λ xs. before ++ pairs_of xs (take k (parts_of P other))) (take_all k (parts_of P one) (omega arith)) ∙ ap (λ ys. before ++ pairs_of (parts_of P one) ys) (take_all k (parts_of P other) (omega arith))
+    is ∙ ap (λ xs. before ++ pairs_of xs (take k (parts_of P other))) (take_all k (parts_of P one) (omega arith))
+    ∙ ap (λ ys. before ++ pairs_of (parts_of P one) ys) (take_all k (parts_of P other) (omega arith))
 
 -- how many arguments a structure has
-pub arguments_counted : (P : NamedProgram) (one : Ref) (node : NodeNo) (base name count : ℕ) → one ≡ Node node base → IsStructure P one name count → length (arguments_at P.skeleton node.0) ≡ count
+pub arguments_counted : (P : NamedProgram) (one : Ref) (node : NodeNo) (base name count : ℕ) → one ≡ Node node base → IsStructure P one name count
+    → length (arguments_at P.skeleton node.0) ≡ count
 arguments_counted P one node base name count is s =
     sym (length_map (part_at P base) (arguments_at P.skeleton node.0)) ∙ ap (λ r. length (parts_of P r)) (sym is) ∙ parts_counted P one name count s
 
 -- Structures to which the sides of a pair led are of one shape.
-pub one_shape : (P Q : NamedProgram) (left right one other : Ref) (old new : Seen) → P ≡ Q → MeetStructures P left right old new one other → (words : ℕ) × AreOfOneShape Q words one other
+pub one_shape : (P Q : NamedProgram) (left right one other : Ref) (old new : Seen) → P ≡ Q → MeetStructures P left right old new one other
+    → (words : ℕ) × AreOfOneShape Q words one other
 one_shape P Q left right one other old new same m = subst (λ p. (words : ℕ) × AreOfOneShape p words one other) same (old.words, m.shape)
 
 -- What descending into structures does is a step.
-pub steps_down : (P Q : NamedProgram) (p : Pair) (one other : Ref) (old new : Seen) (links more_links : List (Ref × Ref)) (list longer : List Pair) (bound further : List ℕ) → P ≡ Q
+pub steps_down : (P Q : NamedProgram) (p : Pair) (one other : Ref) (old new : Seen) (links more_links : List (Ref × Ref)) (list longer : List Pair)
+    (bound further : List ℕ) → P ≡ Q
     → MeetStructures P p.left p.right old new one other → further ≡ bound
-    → (InOneClass links one other × (more_links ≡ links) × (longer ≡ list)) ⊎ (Joins one other links more_links × (longer ≡ list ++ pairs_of (parts_of Q one) (parts_of Q other)))
+    → (InOneClass links one other × (more_links ≡ links) × (longer ≡ list))
+    ⊎ (Joins one other links more_links × (longer ≡ list ++ pairs_of (parts_of Q one) (parts_of Q other)))
     → Steps P p old new links more_links list longer bound further
 steps_down P Q p one other old new links more_links list longer bound further same m stays (inl class) = one_class one other m class.0 class.1 class.2 stays
 steps_down P Q p one other old new links more_links list longer bound further same m stays (inr joined) =

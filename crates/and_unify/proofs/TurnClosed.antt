@@ -100,7 +100,8 @@ all_joined_after M rs qs os ps (more r q rs' qs' j rest) e (more o p os' ps' k o
     more r p rs' ps' (then r q p j (subst (λ x. Joined M x p) (sym first) k)) (all_joined_after M rs' qs' os' ps' rest second others)
 
 -- a structure has one name and one number of arguments
-one_name : (P : NamedProgram) (r : Ref) (name count other number : ℕ) → IsStructure P r name count → IsStructure P r other number → (name ≡ other) × (count ≡ number)
+one_name : (P : NamedProgram) (r : Ref) (name count other number : ℕ) → IsStructure P r name count → IsStructure P r other number
+    → (name ≡ other) × (count ≡ number)
 one_name P r name count other number a b =
     let same_node : a.node ≡ b.node = let e = sym a.reference ∙ b.reference in cc in
     let one : shape_at P.skeleton a.node.0 ≡ compound name a.arguments = shape_of_structure P r name count a in
@@ -111,7 +112,8 @@ one_name P r name count other number a b =
 
 -- Matched structures are so the other way round,
 pub matched_back : (P : NamedProgram) (M : Ref → Ref → Type 0) (r q : Ref) → AreMatched P M r q → AreMatched P M q r
-matched_back P M r q m = record { name = m.name; count = m.count; left = m.right; right = m.left; joined = all_joined_back M (parts_of P r) (parts_of P q) m.joined }
+matched_back P M r q m =
+    record { name = m.name; count = m.count; left = m.right; right = m.left; joined = all_joined_back M (parts_of P r) (parts_of P q) m.joined }
 
 -- and in chains.
 pub matched_then : (P : NamedProgram) (M : Ref → Ref → Type 0) (r q p : Ref) → AreMatched P M r q → AreMatched P M q p → AreMatched P M r p
@@ -144,11 +146,16 @@ class_matched P links M r q each (then x y z j k) = elim (class_matched P links 
 ]
 
 -- matched structures stay so where the first or the second is replaced by one of its class
-pub matched_in_class : (P : NamedProgram) (links : List (Ref × Ref)) (M : Ref → Ref → Type 0) (a b one other : Ref) → ((x y : Ref) → Contains links (x, y) → AreMatched P M x y)
+pub matched_in_class : (P : NamedProgram) (links : List (Ref × Ref)) (M : Ref → Ref → Type 0) (a b one other : Ref)
+    → ((x y : Ref) → Contains links (x, y) → AreMatched P M x y)
     → InOneClass links a one → InOneClass links b other → AreMatched P M one other → AreMatched P M a b
 matched_in_class P links M a b one other each left right m =
-    let first : AreMatched P M a other = elim (class_matched P links M a one each left) [ inl e ↦ subst (λ x. AreMatched P M x other) (sym e) m | inr n ↦ matched_then P M a one other n m ] in
-    elim (class_matched P links M b other each right) [ inl e ↦ subst (AreMatched P M a) (sym e) first | inr n ↦ matched_then P M a other b first (matched_back P M b other n) ]
+    let first : AreMatched P M a other =
+    elim (class_matched P links M a one each left) [ inl e ↦ subst (λ x. AreMatched P M x other) (sym e) m | inr n ↦ matched_then P M a one other n m ] in
+    elim (class_matched P links M b other each right) [
+      | inl e ↦ subst (AreMatched P M a) (sym e) first
+      | inr n ↦ matched_then P M a other b first (matched_back P M b other n)
+    ]
 
 -- What leads to no half is none.
 leads_whole : (s : Seen) (r to : Ref) → LeadsTo s r to → is_half to ≡ false → is_half r ≡ false
@@ -156,13 +163,15 @@ leads_whole s r to (here x) e = e
 leads_whole s r to (onward cell x y knows leads) e = refl
 
 -- A chain that is known joins its ends, unless it ends in a half.
-pub leads_joined : (P : NamedProgram) (s : Seen) (links : List (Ref × Ref)) (Todo : Pair → Type 0) (r to : Ref) → LeadsTo s r to → is_half to ≡ false → Joined (Link P s links Todo) r to
+pub leads_joined : (P : NamedProgram) (s : Seen) (links : List (Ref × Ref)) (Todo : Pair → Type 0) (r to : Ref) → LeadsTo s r to → is_half to ≡ false
+    → Joined (Link P s links Todo) r to
 leads_joined P s links Todo r to (here x) e = same x
 leads_joined P s links Todo r to (onward cell x y knows leads) e =
     then (Cell cell) x to (link (Cell cell) x (known cell x knows (leads_whole s x to leads e))) (leads_joined P s links Todo x to leads e)
 
 -- Two of one class are joined.
-class_joined : (P : NamedProgram) (s : Seen) (links : List (Ref × Ref)) (Todo : Pair → Type 0) (r q : Ref) → InOneClass links r q → Joined (Link P s links Todo) r q
+class_joined : (P : NamedProgram) (s : Seen) (links : List (Ref × Ref)) (Todo : Pair → Type 0) (r q : Ref) → InOneClass links r q
+    → Joined (Link P s links Todo) r q
 class_joined P s links Todo r q j = joined_under (Linked links) (Link P s links Todo) r q (λ x y l. link x y (made x y l)) j
 
 -- Links stay joined as more is known and made equal, where the sides of what was to do stay so.
@@ -172,7 +181,8 @@ link_later : (P : NamedProgram) (old new : Seen) (links more_links : List (Ref �
 link_later P old new links more_links Todo Later r q knows grows todos (known cell x k whole) = link (Cell cell) x (known cell x (knows cell x k) whole)
 link_later P old new links more_links Todo Later r q knows grows todos (made x y l) = link x y (made x y (grows (x, y) l))
 link_later P old new links more_links Todo Later r q knows grows todos (todo p t) = todos p t
-link_later P old new links more_links Todo Later r q knows grows todos (alike x y one) = link x y (alike x y (λ w has. one w (λ place z k. has place z (knows place z k))))
+link_later P old new links more_links Todo Later r q knows grows todos (alike x y one) =
+    link x y (alike x y (λ w has. one w (λ place z k. has place z (knows place z k))))
 
 -- So pairs stay closed where each link that is new is matched.
 closed_later : (P : NamedProgram) (old new : Seen) (links more_links : List (Ref × Ref)) (Todo Later Asked : Pair → Type 0)
@@ -206,16 +216,19 @@ alike_joined : (P : NamedProgram) (s : Seen) (links : List (Ref × Ref)) (Todo :
 alike_joined P s links Todo l r one other left right (inl e) =
     let M = Link P s links Todo in
     let back_whole : is_half other ≡ false = ap is_half (sym e.0) ∙ e.1 in
-    then l one r (leads_joined P s links Todo l one left e.1) (subst (λ x. Joined M x r) (sym e.0) (back r other (leads_joined P s links Todo r other right back_whole)))
+    then l one r (leads_joined P s links Todo l one left e.1)
+    (subst (λ x. Joined M x r) (sym e.0) (back r other (leads_joined P s links Todo r other right back_whole)))
 alike_joined P s links Todo l r one other left right (inr number) = by_ends (is_half one) (is_half other) refl refl
   where
     by_ends : (b c : Bool) → is_half one ≡ b → is_half other ≡ c → Joined (Link P s links Todo) l r
     by_ends true c e f = link l r (alike l r (λ w has. let is = (number w has).1 in absurd (half_has_no_term P w one (number w has).0 e is)))
     by_ends false true e f = link l r (alike l r (λ w has. let is = (number w has).2 in absurd (half_has_no_term P w other (number w has).0 f is)))
-    by_ends false false e f = then l one r (leads_joined P s links Todo l one left e) (then one other r (link one other (alike one other number)) (back r other (leads_joined P s links Todo r other right f)))
+    by_ends false false e f = then l one r (leads_joined P s links Todo l one left e)
+        (then one other r (link one other (alike one other number)) (back r other (leads_joined P s links Todo r other right f)))
 
 -- Sides of which one is set to the other are joined.
-set_joined : (P : NamedProgram) (s : Seen) (links : List (Ref × Ref)) (Todo : Pair → Type 0) (l r one other to : Ref) (cell : ℕ) → LeadsTo s l one → LeadsTo s r other
+set_joined : (P : NamedProgram) (s : Seen) (links : List (Ref × Ref)) (Todo : Pair → Type 0) (l r one other to : Ref) (cell : ℕ)
+    → LeadsTo s l one → LeadsTo s r other
     → Knows s cell to → is_half to ≡ false → ((one ≡ Cell cell) × (other ≡ to)) ⊎ ((other ≡ Cell cell) × (one ≡ to)) → Joined (Link P s links Todo) l r
 set_joined P s links Todo l r one other to cell left right knows whole (inl e) =
     let M = Link P s links Todo in
@@ -237,7 +250,8 @@ range_whole P words (Number pair) fits = refl
 range_whole P words (Half bits) fits = absurd fits
 
 -- Sides that lead to two of which the links join are joined.
-structures_joined : (P : NamedProgram) (s : Seen) (links : List (Ref × Ref)) (Todo : Pair → Type 0) (l r one other : Ref) (name count : ℕ) → LeadsTo s l one → LeadsTo s r other
+structures_joined : (P : NamedProgram) (s : Seen) (links : List (Ref × Ref)) (Todo : Pair → Type 0) (l r one other : Ref) (name count : ℕ)
+    → LeadsTo s l one → LeadsTo s r other
     → IsStructure P one name count → IsStructure P other name count → Joined (Link P s links Todo) one other → Joined (Link P s links Todo) l r
 structures_joined P s links Todo l r one other name count left right a b j =
     then l one r (leads_joined P s links Todo l one left (ap is_half a.reference))
@@ -261,8 +275,10 @@ pub record Leaves (p : Pair) (list longer : List Pair) (Todo Later : Pair → Ty
   pub comes : (q : Pair) → Later q → Todo q ⊎ Contains longer q
 
 -- After a step the sides of its pair are joined.
-step_joined : (P : NamedProgram) (p : Pair) (old new : Seen) (links more_links : List (Ref × Ref)) (list longer : List Pair) (bound further : List ℕ) (Later : Pair → Type 0)
-    → ((q : Pair) → Contains longer q → Later q) → Steps P p old new links more_links list longer bound further → Joined (Link P new more_links Later) p.left p.right
+step_joined : (P : NamedProgram) (p : Pair) (old new : Seen) (links more_links : List (Ref × Ref)) (list longer : List Pair) (bound further : List ℕ)
+    (Later : Pair → Type 0)
+    → ((q : Pair) → Contains longer q → Later q) → Steps P p old new links more_links list longer bound further
+    → Joined (Link P new more_links Later) p.left p.right
 step_joined P p old new links more_links list longer bound further Later takes (Turns.alike m e f g) =
     alike_joined P new more_links Later p.left p.right m.one m.other m.lead.left_leads m.lead.right_leads m.alike
 step_joined P p old new links more_links list longer bound further Later takes (sets cell m e f g) =
@@ -274,17 +290,22 @@ step_joined P p old new links more_links list longer bound further Later takes (
 step_joined P p old new links more_links list longer bound further Later takes (one_class one other m c e f g) =
     let M = Link P new more_links Later in
     let j : Joined M one other = class_joined P new more_links Later one other (subst (λ ls. InOneClass ls one other) (sym e) c) in
-    structures_joined P new more_links Later p.left p.right one other m.shape.name m.shape.count m.lead.left_leads m.lead.right_leads m.shape.left_is m.shape.right_is j
+    structures_joined P new more_links Later p.left p.right one other m.shape.name m.shape.count m.lead.left_leads m.lead.right_leads
+    m.shape.left_is m.shape.right_is j
 step_joined P p old new links more_links list longer bound further Later takes (joins one other m c f g) =
     let M = Link P new more_links Later in
     let class : (x y : Ref) → InOneClass links x y → Joined M x y =
-    λ x y j. joined_under (Linked links) M x y (λ a b l. link a b (made a b (subst (λ ls. Contains ls (a, b)) (sym c.adds) (Contains-append_left links ((c.one, c.other) ∷ []) (a, b) l)))) j in
-    let fresh : Joined M c.one c.other = link c.one c.other (made c.one c.other (subst (λ ls. Contains ls (c.one, c.other)) (sym c.adds) (Contains-push links (c.one, c.other)))) in
+    λ x y j. joined_under (Linked links) M x y
+    (λ a b l. link a b (made a b (subst (λ ls. Contains ls (a, b)) (sym c.adds) (Contains-append_left links ((c.one, c.other) ∷ []) (a, b) l)))) j in
+    let fresh : Joined M c.one c.other =
+    link c.one c.other (made c.one c.other (subst (λ ls. Contains ls (c.one, c.other)) (sym c.adds) (Contains-push links (c.one, c.other)))) in
     let j : Joined M one other = elim c.between [
       | inl straight ↦ then one c.one other (back c.one one (class c.one one straight.0)) (then c.one c.other other fresh (class c.other other straight.1))
-      | inr crossed ↦ then one c.other other (back c.other one (class c.other one crossed.1)) (then c.other c.one other (back c.one c.other fresh) (class c.one other crossed.0))
+      | inr crossed ↦ then one c.other other (back c.other one (class c.other one crossed.1))
+          (then c.other c.one other (back c.one c.other fresh) (class c.one other crossed.0))
     ] in
-    structures_joined P new more_links Later p.left p.right one other m.shape.name m.shape.count m.lead.left_leads m.lead.right_leads m.shape.left_is m.shape.right_is j
+    structures_joined P new more_links Later p.left p.right one other m.shape.name m.shape.count m.lead.left_leads m.lead.right_leads
+    m.shape.left_is m.shape.right_is j
 
 -- links only grow
 step_grows : (P : NamedProgram) (p : Pair) (old new : Seen) (links more_links : List (Ref × Ref)) (list longer : List Pair) (bound further : List ℕ)
@@ -296,12 +317,15 @@ step_grows P p old new links more_links list longer bound further (joins one oth
     subst (λ ls. Contains ls x) (sym c.adds) (Contains-append_left links ((c.one, c.other) ∷ []) x l)
 
 -- A link that is new is matched, where those before it are.
-step_matched : (P : NamedProgram) (p : Pair) (old new : Seen) (links more_links : List (Ref × Ref)) (list longer : List Pair) (bound further : List ℕ) (Later : Pair → Type 0)
+step_matched : (P : NamedProgram) (p : Pair) (old new : Seen) (links more_links : List (Ref × Ref)) (list longer : List Pair) (bound further : List ℕ)
+    (Later : Pair → Type 0)
     → ((q : Pair) → Contains longer q → Later q) → ((x y : Ref) → Contains links (x, y) → AreMatched P (Link P new more_links Later) x y)
-    → Steps P p old new links more_links list longer bound further → (r q : Ref) → Contains more_links (r, q) → Contains links (r, q) ⊎ AreMatched P (Link P new more_links Later) r q
+    → Steps P p old new links more_links list longer bound further → (r q : Ref) → Contains more_links (r, q)
+    → Contains links (r, q) ⊎ AreMatched P (Link P new more_links Later) r q
 step_matched P p old new links more_links list longer bound further Later takes each (Turns.alike m e f g) r q l = inl (subst (λ ls. Contains ls (r, q)) e l)
 step_matched P p old new links more_links list longer bound further Later takes each (sets cell m e f g) r q l = inl (subst (λ ls. Contains ls (r, q)) e l)
-step_matched P p old new links more_links list longer bound further Later takes each (one_class one other m c e f g) r q l = inl (subst (λ ls. Contains ls (r, q)) e l)
+step_matched P p old new links more_links list longer bound further Later takes each (one_class one other m c e f g) r q l =
+    inl (subst (λ ls. Contains ls (r, q)) e l)
 step_matched P p old new links more_links list longer bound further Later takes each (joins one other m c f g) r q l =
     let M = Link P new more_links Later in
     let parts : List Pair = pairs_of (parts_of P one) (parts_of P other) in
@@ -324,8 +348,10 @@ step_matched P p old new links more_links list longer bound further Later takes 
     ]
 
 -- A step keeps the sides of all pairs that were asked for joined.
-pub closed_steps : (P : NamedProgram) (p : Pair) (old new : Seen) (links more_links : List (Ref × Ref)) (list longer : List Pair) (bound further : List ℕ) (Todo Later Asked : Pair → Type 0)
-    → Leaves p list longer Todo Later → Steps P p old new links more_links list longer bound further → Closed P old links Todo Asked → Closed P new more_links Later Asked
+pub closed_steps : (P : NamedProgram) (p : Pair) (old new : Seen) (links more_links : List (Ref × Ref)) (list longer : List Pair) (bound further : List ℕ)
+    (Todo Later Asked : Pair → Type 0)
+    → Leaves p list longer Todo Later → Steps P p old new links more_links list longer bound further → Closed P old links Todo Asked
+    → Closed P new more_links Later Asked
 closed_steps P p old new links more_links list longer bound further Todo Later Asked leaves steps c =
     let M = Link P new more_links Later in
     let knows = (steps_keep P p old new links more_links list longer bound further steps).knows in
@@ -335,7 +361,8 @@ closed_steps P p old new links more_links list longer bound further Todo Later A
     λ q t. elim (leaves.keeps q t) [ inl e ↦ subst (λ (x : Pair). Joined M x.left x.right) (sym e) own | inr l ↦ link q.left q.right (todo q l) ] in
     let each : (x y : Ref) → Link P old links Todo x y → Joined M x y = λ x y l. link_later P old new links more_links Todo Later x y knows grows todos l in
     let before : (x y : Ref) → Contains links (x, y) → AreMatched P M x y = λ x y l. matched_under P (Link P old links Todo) M x y each (c.matched x y l) in
-    closed_later P old new links more_links Todo Later Asked knows grows todos (step_matched P p old new links more_links list longer bound further Later leaves.takes before steps) c
+    closed_later P old new links more_links Todo Later Asked knows grows todos
+    (step_matched P p old new links more_links list longer bound further Later leaves.takes before steps) c
 
 -- At first nothing is made equal, and all that was asked for is to do.
 pub closed_first : (P : NamedProgram) (s : Seen) (Todo Asked : Pair → Type 0) → ((p : Pair) → Asked p → Todo p) → Closed P s [] Todo Asked
@@ -345,7 +372,8 @@ closed_first P s Todo Asked all = record {
 }
 
 -- At the end all that was asked for has one value on both sides, where what is known is solved and what is to do has.
-pub closed_values : (P : NamedProgram) (s : Seen) (links : List (Ref × Ref)) (Todo Asked : Pair → Type 0) (w : Words) (t : Substitution) → AllFall 0 P.skeleton.nodes
+pub closed_values : (P : NamedProgram) (s : Seen) (links : List (Ref × Ref)) (Todo Asked : Pair → Type 0) (w : Words) (t : Substitution)
+    → AllFall 0 P.skeleton.nodes
     → Closed P s links Todo Asked → HasKnown s w → SolvesKnown P w s t → ((p : Pair) → Todo p → value P w t p.left ≡ value P w t p.right)
     → (p : Pair) → Asked p → value P w t p.left ≡ value P w t p.right
 closed_values P s links Todo Asked w t fall c has solves todos p asked = joined_have_one_value P w t L fall each p.left p.right (c.asked p asked)

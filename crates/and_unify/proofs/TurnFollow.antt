@@ -37,7 +37,8 @@ cut_joined (x ∷ xs) k ys (o ∷ os) ks e =
     ]
 
 -- It is in the first, or the first stands before it.
-cut_behind : {X : Type 0} (xs : List X) (k : X) (ys os ks : List X) → xs ++ k ∷ ys ≡ os ++ ks → ((rest : List X) × (os ≡ xs ++ k ∷ rest)) ⊎ ((rest : List X) × (xs ≡ os ++ rest))
+cut_behind : {X : Type 0} (xs : List X) (k : X) (ys os ks : List X) → xs ++ k ∷ ys ≡ os ++ ks
+    → ((rest : List X) × (os ≡ xs ++ k ∷ rest)) ⊎ ((rest : List X) × (xs ≡ os ++ rest))
 cut_behind xs k ys [] ks e = inr (xs, refl)
 cut_behind [] k ys (o ∷ os) ks e = let first : k ≡ o = cc in inl (os, ap (λ x. x ∷ os) (sym first))
 cut_behind (x ∷ xs) k ys (o ∷ os) ks e =
@@ -49,7 +50,8 @@ cut_behind (x ∷ xs) k ys (o ∷ os) ks e =
     ]
 
 -- Where the second has one element, the first list ends just before it.
-cut_last : {X : Type 0} (xs : List X) (k : X) (ys os : List X) (last : X) → xs ++ k ∷ ys ≡ os ++ last ∷ [] → ((rest : List X) × (os ≡ xs ++ k ∷ rest)) ⊎ ((k ≡ last) × (xs ≡ os))
+cut_last : {X : Type 0} (xs : List X) (k : X) (ys os : List X) (last : X) → xs ++ k ∷ ys ≡ os ++ last ∷ []
+    → ((rest : List X) × (os ≡ xs ++ k ∷ rest)) ⊎ ((k ≡ last) × (xs ≡ os))
 cut_last [] k ys [] last e = inr (cc, refl)
 cut_last [] k ys (o ∷ os) last e = let first : k ≡ o = cc in inl (os, ap (λ x. x ∷ os) (sym first))
 cut_last (x ∷ []) k ys [] last e = absurd (cc)
@@ -70,7 +72,8 @@ known_from_settings P w s t untold solves place r knows whole =
     let same_place : place ≡ k.setting.place = ap (λ (x : Setting). x.place) is in
     let same_value : r ≡ k.setting.value = ap (λ (x : Setting). x.value) is in
     let at_k : Solves t (equations_between P w (Cell k.setting.place) k.setting.value) = solves k at (ap is_half (sym same_value) ∙ whole) in
-    subst (λ n. Solves t (equations_between P w (Cell n) r)) (sym same_place) (subst (λ x. Solves t (equations_between P w (Cell k.setting.place) x)) (sym same_value) at_k)
+    subst (λ n. Solves t (equations_between P w (Cell n) r)) (sym same_place)
+    (subst (λ x. Solves t (equations_between P w (Cell k.setting.place) x)) (sym same_value) at_k)
 
 -- Each own setting follows, as long as lists only grow by what is learnt,
 pub follow_reads : (P : NamedProgram) (asked : List Pair) (first old new : Seen) → OnlyReads old new → OwnFollow P asked first old → OwnFollow P asked first new
@@ -82,9 +85,11 @@ follow_reads P asked first old new reads follow before after k is own w has t so
     ]
 
 -- and as what is set follows when it is set.
-follow_sets : (P : NamedProgram) (asked : List Pair) (first old new : Seen) (cell : ℕ) (to : Ref) → ((place : ℕ) (r : Ref) → Knows old place r → Knows new place r)
+follow_sets : (P : NamedProgram) (asked : List Pair) (first old new : Seen) (cell : ℕ) (to : Ref)
+    → ((place : ℕ) (r : Ref) → Knows old place r → Knows new place r)
     → Gains old.known new.known (record { setting = record { place = cell; value = to }; is_own = true })
-    → ((w : Words) → HasKnown old w → (t : Substitution) → SolvesSettings P w old.known t → Solves t (equations_of_pairs P w asked) → Solves t (equations_between P w (Cell cell) to))
+    → ((w : Words) → HasKnown old w → (t : Substitution) → SolvesSettings P w old.known t → Solves t (equations_of_pairs P w asked)
+    → Solves t (equations_between P w (Cell cell) to))
     → OwnFollow P asked first old → OwnFollow P asked first new
 follow_sets P asked first old new cell to knows (inl same) now follow before after k is own w has t solves asks =
     follow before after k (sym same ∙ is) own w (λ place r known. has place r (knows place r known)) t solves asks
@@ -100,7 +105,8 @@ follow_sets P asked first old new cell to knows (inr more) now follow before aft
     ]
 
 -- So a step keeps that each own setting follows, where what is to do does.
-pub follow_steps : (P : NamedProgram) (p : Pair) (old new : Seen) (links more_links : List (Ref × Ref)) (list longer : List Pair) (bound further : List ℕ) (asked : List Pair) (first : Seen) (Asked Todo : Pair → Type 0)
+pub follow_steps : (P : NamedProgram) (p : Pair) (old new : Seen) (links more_links : List (Ref × Ref)) (list longer : List Pair) (bound further : List ℕ)
+    (asked : List Pair) (first : Seen) (Asked Todo : Pair → Type 0)
     → AllFall 0 P.skeleton.nodes → old.told ≡ None → Todo p
     → ((w : Words) (t : Substitution) → Solves t (equations_of_pairs P w asked) → (q : Pair) → Asked q → PairAgrees P w t q)
     → Steps P p old new links more_links list longer bound further → Sound P old Asked Todo (λ w t. SolvesKnown P w old t)
@@ -110,7 +116,8 @@ follow_steps P p old new links more_links list longer bound further asked first 
 follow_steps P p old new links more_links list longer bound further asked first Asked Todo fall untold own asks (sets cell m e f g) sound follow =
     let before : OwnFollow P asked first m.before = follow_reads P asked first old m.before m.lead.reads follow in
     let still : m.before.told ≡ None = m.lead.reads.told ∙ untold in
-    let now : (w : Words) → HasKnown m.before w → (t : Substitution) → SolvesSettings P w m.before.known t → Solves t (equations_of_pairs P w asked) → Solves t (equations_between P w (Cell cell) m.to) =
+    let now : (w : Words) → HasKnown m.before w → (t : Substitution) → SolvesSettings P w m.before.known t → Solves t (equations_of_pairs P w asked)
+    → Solves t (equations_between P w (Cell cell) m.to) =
     λ w has t settings solves.
     let known : SolvesKnown P w m.before t = known_from_settings P w m.before t still settings in
     let known_old : SolvesKnown P w old t = λ place r k h. known place r (m.lead.reads.keeps place r k) h in
@@ -124,7 +131,8 @@ follow_steps P p old new links more_links list longer bound further asked first 
 
 -- What one call set and then a next, from pairs that follow from those that were asked for, follows from these.
 pub follow_on : (P : NamedProgram) (asked left : List Pair) (first mid now : Seen) → Keeps mid now → mid.told ≡ None
-    → ((w : Words) → HasKnown mid w → (t : Substitution) → SolvesKnown P w mid t → Solves t (equations_of_pairs P w asked) → Solves t (equations_of_pairs P w left))
+    → ((w : Words) → HasKnown mid w → (t : Substitution) → SolvesKnown P w mid t → Solves t (equations_of_pairs P w asked)
+    → Solves t (equations_of_pairs P w left))
     → OwnFollow P asked first mid → OwnFollow P left mid now → OwnFollow P asked first now
 follow_on P asked left first mid now keeps untold leads one two before after k is own w has t solves asks =
     let (gained, grows) = keeps.known in

@@ -33,7 +33,8 @@ abbrev pub SidesAt : NamedProgram → Seen → List Ref → Pair → Type 0
 SidesAt P s roots p = IsPlace P s roots p.left × IsPlace P s roots p.right
 
 -- which they stay as more is known
-sides_later : (P : NamedProgram) (old new : Seen) (roots : List Ref) (p : Pair) → ((place : ℕ) (r : Ref) → Knows old place r → Knows new place r) → SidesAt P old roots p → SidesAt P new roots p
+sides_later : (P : NamedProgram) (old new : Seen) (roots : List Ref) (p : Pair) → ((place : ℕ) (r : Ref) → Knows old place r → Knows new place r)
+    → SidesAt P old roots p → SidesAt P new roots p
 sides_later P old new roots p knows at = (place_later P old new roots p.left knows at.0, place_later P old new roots p.right knows at.1)
 
 -- What is kept of a row that is told: all follows from what was known first, each word that was set is on the list,
@@ -52,7 +53,8 @@ pub record Untold (P : NamedProgram) (first : Seen) (asked : List Pair) (s : See
   pub follow : OwnFollow P asked first s
 
 -- All that is kept.
-pub record Kept (P : NamedProgram) (first : Seen) (asked : List Pair) (began : List ℕ) (s : Seen) (links : List (Ref × Ref)) (Todo : Pair → Type 0) (bound : List ℕ) : Type 0 where
+pub record Kept (P : NamedProgram) (first : Seen) (asked : List Pair) (began : List ℕ) (s : Seen) (links : List (Ref × Ref)) (Todo : Pair
+    → Type 0) (bound : List ℕ) : Type 0 where
   pub keeps : Keeps first s
   pub closed : Closed P s links Todo (Contains asked)
   pub fits : (p : Pair) → Todo p → IsFit P first.words s p
@@ -62,7 +64,8 @@ pub record Kept (P : NamedProgram) (first : Seen) (asked : List Pair) (began : L
   pub leads : (p : Pair) → Todo p → SidesAt P s (sides asked) p
 
 -- What solves the equations of pairs makes their sides agree, and the converse.
-pub pairs_agree_from_solves : (P : NamedProgram) (w : Words) (t : Substitution) (ps : List Pair) → Solves t (equations_of_pairs P w ps) → (p : Pair) → Contains ps p → PairAgrees P w t p
+pub pairs_agree_from_solves : (P : NamedProgram) (w : Words) (t : Substitution) (ps : List Pair) → Solves t (equations_of_pairs P w ps) → (p : Pair)
+    → Contains ps p → PairAgrees P w t p
 pairs_agree_from_solves P w t [] s p at = absurd (contains_none p at)
 pairs_agree_from_solves P w t (q ∷ ps) s p at =
     let one = equations_between P w q.left q.right in
@@ -72,7 +75,8 @@ pairs_agree_from_solves P w t (q ∷ ps) s p at =
     ]
 
 -- the converse
-pub solves_from_pairs_agree : (P : NamedProgram) (w : Words) (t : Substitution) (ps : List Pair) → ((p : Pair) → Contains ps p → PairAgrees P w t p) → Solves t (equations_of_pairs P w ps)
+pub solves_from_pairs_agree : (P : NamedProgram) (w : Words) (t : Substitution) (ps : List Pair) → ((p : Pair) → Contains ps p → PairAgrees P w t p)
+    → Solves t (equations_of_pairs P w ps)
 solves_from_pairs_agree P w t [] each = tt
 solves_from_pairs_agree P w t (q ∷ ps) each =
     solves_join t (equations_between P w q.left q.right) (equations_of_pairs P w ps) (solves_from_agree P w t q.left q.right (each q (contains_first q ps)))
@@ -85,7 +89,8 @@ set_places : (P : NamedProgram) (first : Seen) (asked : List Pair) (s : Seen) (b
 set_places P first asked s bound sets_of cell x k at = elim (sets_of cell x k) [ inl before ↦ set cell x at before | inr is ↦ is.1 ]
 
 -- Looks keep all.
-told_reads : (P : NamedProgram) (first : Seen) (asked : List Pair) (old new : Seen) (Todo : Pair → Type 0) (bound : List ℕ) → OnlyReads old new → Told P first asked old Todo bound → Told P first asked new Todo bound
+told_reads : (P : NamedProgram) (first : Seen) (asked : List Pair) (old new : Seen) (Todo : Pair → Type 0) (bound : List ℕ) → OnlyReads old new
+    → Told P first asked old Todo bound → Told P first asked new Todo bound
 told_reads P first asked old new Todo bound reads k = record {
   row = k.row;
   told = reads.told ∙ k.told;
@@ -96,16 +101,19 @@ told_reads P first asked old new Todo bound reads k = record {
 }
 
 -- the same of a row that is not told
-untold_reads : (P : NamedProgram) (first : Seen) (asked : List Pair) (old new : Seen) (Todo : Pair → Type 0) → OnlyReads old new → Untold P first asked old Todo → Untold P first asked new Todo
+untold_reads : (P : NamedProgram) (first : Seen) (asked : List Pair) (old new : Seen) (Todo : Pair → Type 0) → OnlyReads old new
+    → Untold P first asked old Todo → Untold P first asked new Todo
 untold_reads P first asked old new Todo reads k = record {
   told = reads.told ∙ k.told;
-  sound = sound_reads P old new (Contains asked) Todo (λ w t. SolvesKnown P w old t) (λ w t. SolvesKnown P w new t) reads (λ w t a place r knows. a place r (reads.keeps place r knows))
+  sound = sound_reads P old new (Contains asked) Todo (λ w t. SolvesKnown P w old t) (λ w t. SolvesKnown P w new t) reads
+      (λ w t a place r knows. a place r (reads.keeps place r knows))
       (λ w t has a before. a) k.sound;
   follow = follow_reads P asked first old new reads k.follow;
 }
 
 -- so they keep all that is kept
-pub kept_reads : (P : NamedProgram) (first : Seen) (asked : List Pair) (began : List ℕ) (old new : Seen) (links : List (Ref × Ref)) (Todo : Pair → Type 0) (bound : List ℕ) → OnlyReads old new
+pub kept_reads : (P : NamedProgram) (first : Seen) (asked : List Pair) (began : List ℕ) (old new : Seen) (links : List (Ref × Ref)) (Todo : Pair
+    → Type 0) (bound : List ℕ) → OnlyReads old new
     → Kept P first asked began old links Todo bound → Kept P first asked began new links Todo bound
 kept_reads P first asked began old new links Todo bound reads k = record {
   keeps = keeps_more first old new k.keeps (reads_keeps old new reads);
@@ -118,8 +126,10 @@ kept_reads P first asked began old new links Todo bound reads k = record {
 }
 
 -- The same where what is to do is stated otherwise.
-pub kept_same : (P : NamedProgram) (first : Seen) (asked : List Pair) (began : List ℕ) (s : Seen) (links : List (Ref × Ref)) (Todo Other : Pair → Type 0) (bound : List ℕ)
-    → ((p : Pair) → Todo p → Other p) → ((p : Pair) → Other p → Todo p) → Kept P first asked began s links Todo bound → Kept P first asked began s links Other bound
+pub kept_same : (P : NamedProgram) (first : Seen) (asked : List Pair) (began : List ℕ) (s : Seen) (links : List (Ref × Ref)) (Todo Other : Pair
+    → Type 0) (bound : List ℕ)
+    → ((p : Pair) → Todo p → Other p) → ((p : Pair) → Other p → Todo p) → Kept P first asked began s links Todo bound
+    → Kept P first asked began s links Other bound
 kept_same P first asked began s links Todo Other bound to from k = record {
   keeps = k.keeps;
   closed = closed_renamed P s links Todo Other (Contains asked) to k.closed;
@@ -144,12 +154,14 @@ kept_same P first asked began s links Todo Other bound to from k = record {
 step_bounds : (P : NamedProgram) (p : Pair) (old new : Seen) (links more_links : List (Ref × Ref)) (list longer : List Pair) (bound further : List ℕ)
     → Steps P p old new links more_links list longer bound further → (cell : ℕ) → Contains bound cell → Contains further cell
 step_bounds P p old new links more_links list longer bound further (Turns.alike m e f g) cell at = subst (λ xs. Contains xs cell) (sym g) at
-step_bounds P p old new links more_links list longer bound further (sets own m e f g) cell at = subst (λ xs. Contains xs cell) (sym g) (Contains-append_left bound (own ∷ []) cell at)
+step_bounds P p old new links more_links list longer bound further (sets own m e f g) cell at =
+    subst (λ xs. Contains xs cell) (sym g) (Contains-append_left bound (own ∷ []) cell at)
 step_bounds P p old new links more_links list longer bound further (one_class one other m c e f g) cell at = subst (λ xs. Contains xs cell) (sym g) at
 step_bounds P p old new links more_links list longer bound further (joins one other m c f g) cell at = subst (λ xs. Contains xs cell) (sym g) at
 
 -- What a step sets of a told row is on the list, and a place.
-told_sets : (P : NamedProgram) (p : Pair) (old new : Seen) (links more_links : List (Ref × Ref)) (list longer : List Pair) (bound further : List ℕ) (first : Seen) (asked : List Pair) (Todo : Pair → Type 0)
+told_sets : (P : NamedProgram) (p : Pair) (old new : Seen) (links more_links : List (Ref × Ref)) (list longer : List Pair) (bound further : List ℕ)
+    (first : Seen) (asked : List Pair) (Todo : Pair → Type 0)
     → Steps P p old new links more_links list longer bound further → Todo p → Told P first asked old Todo bound → (place : ℕ) (r : Ref) → Knows new place r
     → Knows first place r ⊎ (Contains further place × IsPlace P first (sides asked) r)
 told_sets P p old new links more_links list longer bound further first asked Todo steps own k place r knows =
@@ -174,15 +186,18 @@ told_sets P p old new links more_links list longer bound further first asked Tod
     ]
 
 -- A step keeps what is kept of a told row,
-told_steps : (P : NamedProgram) (p : Pair) (old new : Seen) (links more_links : List (Ref × Ref)) (list longer : List Pair) (bound further : List ℕ) (first : Seen) (asked : List Pair) (Todo Later : Pair → Type 0)
-    → AllFall 0 P.skeleton.nodes → Leaves p list longer Todo Later → Steps P p old new links more_links list longer bound further → Told P first asked old Todo bound → Told P first asked new Later further
+told_steps : (P : NamedProgram) (p : Pair) (old new : Seen) (links more_links : List (Ref × Ref)) (list longer : List Pair) (bound further : List ℕ)
+    (first : Seen) (asked : List Pair) (Todo Later : Pair → Type 0)
+    → AllFall 0 P.skeleton.nodes → Leaves p list longer Todo Later → Steps P p old new links more_links list longer bound further
+    → Told P first asked old Todo bound → Told P first asked new Later further
 told_steps P p old new links more_links list longer bound further first asked Todo Later fall leaves steps k =
     let (row, told) = steps_told P p old new links more_links list longer bound further k.row k.told steps in
     let now = told_sets P p old new links more_links list longer bound further first asked Todo steps leaves.was k in
     let each = set_places P first asked new further now in record {
       row = row;
       told = told;
-      sound = sound_steps P p old new links more_links list longer bound further (Contains asked) Todo Later (λ w t. SolvesKnown P w first t) (λ w t. SolvesKnown P w first t) fall leaves steps (λ w t a. a)
+      sound = sound_steps P p old new links more_links list longer bound further (Contains asked) Todo Later (λ w t. SolvesKnown P w first t)
+          (λ w t. SolvesKnown P w first t) fall leaves steps (λ w t a. a)
           (λ w t has a solves own. told_solved P p old new links more_links list longer bound further k.row k.told steps w t has solves own) k.sound;
       sets = now;
       sides = λ q later. elim (leaves.comes q later) [
@@ -197,19 +212,25 @@ told_steps P p old new links more_links list longer bound further first asked To
     }
 
 -- and of one that is not told.
-untold_steps : (P : NamedProgram) (p : Pair) (old new : Seen) (links more_links : List (Ref × Ref)) (list longer : List Pair) (bound further : List ℕ) (first : Seen) (asked : List Pair) (Todo Later : Pair → Type 0)
-    → AllFall 0 P.skeleton.nodes → Leaves p list longer Todo Later → Steps P p old new links more_links list longer bound further → Untold P first asked old Todo → Untold P first asked new Later
+untold_steps : (P : NamedProgram) (p : Pair) (old new : Seen) (links more_links : List (Ref × Ref)) (list longer : List Pair) (bound further : List ℕ)
+    (first : Seen) (asked : List Pair) (Todo Later : Pair → Type 0)
+    → AllFall 0 P.skeleton.nodes → Leaves p list longer Todo Later → Steps P p old new links more_links list longer bound further
+    → Untold P first asked old Todo → Untold P first asked new Later
 untold_steps P p old new links more_links list longer bound further first asked Todo Later fall leaves steps k =
     let keep = steps_keep P p old new links more_links list longer bound further steps in record {
       told = steps_untold P p old new links more_links list longer bound further k.told steps;
-      sound = sound_steps P p old new links more_links list longer bound further (Contains asked) Todo Later (λ w t. SolvesKnown P w old t) (λ w t. SolvesKnown P w new t) fall leaves steps
+      sound = sound_steps P p old new links more_links list longer bound further (Contains asked) Todo Later (λ w t. SolvesKnown P w old t)
+          (λ w t. SolvesKnown P w new t) fall leaves steps
           (λ w t a place r knows. a place r (keep.knows place r knows)) (λ w t has a solves own. a) k.sound;
-      follow = follow_steps P p old new links more_links list longer bound further asked first (Contains asked) Todo fall k.told leaves.was (λ w t s q at. pairs_agree_from_solves P w t asked s q at) steps k.sound k.follow;
+      follow = follow_steps P p old new links more_links list longer bound further asked first (Contains asked) Todo fall k.told leaves.was
+          (λ w t s q at. pairs_agree_from_solves P w t asked s q at) steps k.sound k.follow;
     }
 
 -- After a step the sides of what is to do are places, where they were before.
-sides_steps : (P : NamedProgram) (p : Pair) (old new : Seen) (links more_links : List (Ref × Ref)) (list longer : List Pair) (bound further : List ℕ) (roots : List Ref) (Todo Later : Pair → Type 0)
-    → Leaves p list longer Todo Later → Steps P p old new links more_links list longer bound further → ((q : Pair) → Todo q → SidesAt P old roots q) → (q : Pair) → Later q → SidesAt P new roots q
+sides_steps : (P : NamedProgram) (p : Pair) (old new : Seen) (links more_links : List (Ref × Ref)) (list longer : List Pair) (bound further : List ℕ)
+    (roots : List Ref) (Todo Later : Pair → Type 0)
+    → Leaves p list longer Todo Later → Steps P p old new links more_links list longer bound further → ((q : Pair) → Todo q → SidesAt P old roots q)
+    → (q : Pair) → Later q → SidesAt P new roots q
 sides_steps P p old new links more_links list longer bound further roots Todo Later leaves steps at q later =
     let knows = (steps_keep P p old new links more_links list longer bound further steps).knows in
     let was : (q : Pair) → Todo q → SidesAt P new roots q = λ q todo. sides_later P old new roots q knows (at q todo) in
@@ -225,7 +246,8 @@ sides_steps P p old new links more_links list longer bound further roots Todo La
     ]
 
 -- So a step keeps all.
-pub kept_steps : (P : NamedProgram) (p : Pair) (old new : Seen) (links more_links : List (Ref × Ref)) (list longer : List Pair) (bound further : List ℕ) (first : Seen) (asked : List Pair) (began : List ℕ) (Todo Later : Pair → Type 0)
+pub kept_steps : (P : NamedProgram) (p : Pair) (old new : Seen) (links more_links : List (Ref × Ref)) (list longer : List Pair) (bound further : List ℕ)
+    (first : Seen) (asked : List Pair) (began : List ℕ) (Todo Later : Pair → Type 0)
     → AllFall 0 P.skeleton.nodes → Leaves p list longer Todo Later → Steps P p old new links more_links list longer bound further
     → Kept P first asked began old links Todo bound → Kept P first asked began new more_links Later further
 kept_steps P p old new links more_links list longer bound further first asked began Todo Later fall leaves steps k =

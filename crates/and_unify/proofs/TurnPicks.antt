@@ -1,5 +1,6 @@
 -- Pairs that are taken out, and what a turn with one of them does.
-use Rattle.std.proofs.Common.{ℕ, ◌+◌, ◌-◌, ◌*◌, ◌^◌, ◌≡◌, ◌<◌, ◌≤◌, Bool, true, false, List, [], ◌∷◌, ◌++◌, length, refl, sym, ap, subst, ◌∙◌, inl, inr, arith, ◌||◌, if◌then◌else◌}
+use Rattle.std.proofs.Common.{ℕ, ◌+◌, ◌-◌, ◌*◌, ◌^◌, ◌≡◌, ◌<◌, ◌≤◌, Bool, true, false, List, [], ◌∷◌, ◌++◌, length, refl, sym, ap, subst, ◌∙◌, inl, inr}
+use Rattle.std.proofs.Common.{arith, ◌||◌, if◌then◌else◌}
 use Rattle.std.specs.Prelude.{Contains}
 use Rattle.std.specs.List.{list_any}
 use Rattle.std.proofs.lemmas.List.{length_push}
@@ -29,7 +30,8 @@ pub inserted_last : (xs : List Ref) (r : Ref) → (Contains xs r → ⊥) → in
 inserted_last xs r new = ap (λ b. if b then xs else xs ++ r ∷ []) (not_found xs r new)
 
 -- The last of pairs that fit fits,
-pub last_fits : (P : NamedProgram) (s : Seen) (xs rest : List Pair) (p : Pair) → xs ≡ rest ++ p ∷ [] → AreInRange P s.words xs × AreWritten s xs → IsFit P s.words s p
+pub last_fits : (P : NamedProgram) (s : Seen) (xs rest : List Pair) (p : Pair) → xs ≡ rest ++ p ∷ [] → AreInRange P s.words xs × AreWritten s xs
+    → IsFit P s.words s p
 last_fits P s xs rest p e fits = fits_asked P s s.words xs fits.0 fits.1 p (last_was xs rest p e)
 
 -- and so does a pair that was taken out.
@@ -45,7 +47,8 @@ old_fits P p old new picks pairs rights = fit_after P p old.seen new.seen picks.
 ])
 
 -- and where its place is new.
-pub new_fits : (P : NamedProgram) (p : Pair) (old new : Stand) → PicksNew p old new → AreInRange P old.seen.words old.pairs × AreWritten old.seen old.pairs → IsFit P new.seen.words new.seen p
+pub new_fits : (P : NamedProgram) (p : Pair) (old new : Stand) → PicksNew p old new → AreInRange P old.seen.words old.pairs × AreWritten old.seen old.pairs
+    → IsFit P new.seen.words new.seen p
 new_fits P p old new picks pairs = fit_after P p old.seen new.seen picks.reads (last_fits P old.seen old.pairs new.pairs p picks.out pairs)
 
 -- a list with one more is longer by one
@@ -66,7 +69,8 @@ lighter_old p old new picks = elim picks.out [
 ]
 
 -- after a step on a pair that costs nothing
-pub lighter_after_old : (p : Pair) (old mid : Stand) (links : List (Ref × Ref)) (rights : List Pair) → PicksOld p old mid → weight links rights ≤ weight mid.links mid.rights
+pub lighter_after_old : (p : Pair) (old mid : Stand) (links : List (Ref × Ref)) (rights : List Pair) → PicksOld p old mid
+    → weight links rights ≤ weight mid.links mid.rights
     → weight links mid.pairs + length rights < weight old.links old.pairs + length old.rights
 lighter_after_old p old mid links rights picks light =
     let before : ℕ = 256 * (2 ^ 64 - length mid.links) in
@@ -77,7 +81,8 @@ lighter_after_old p old mid links rights picks light =
     subst (λ ls. weight links mid.pairs + length rights < weight ls old.pairs + length old.rights) picks.links goal
 
 -- after a step on a pair whose place is new
-pub lighter_after_new : (p : Pair) (old mid : Stand) (links : List (Ref × Ref)) (pairs : List Pair) → PicksNew p old mid → weight links pairs ≤ weight mid.links mid.pairs
+pub lighter_after_new : (p : Pair) (old mid : Stand) (links : List (Ref × Ref)) (pairs : List Pair) → PicksNew p old mid
+    → weight links pairs ≤ weight mid.links mid.pairs
     → weight links pairs + length mid.rights < weight old.links old.pairs + length old.rights
 lighter_after_new p old mid links pairs picks light =
     let before : ℕ = 256 * (2 ^ 64 - length mid.links) in

@@ -56,19 +56,23 @@ step_adds P p old new links more_links list longer bound further (joins one othe
     ]
 
 -- Pairs of arguments of a pair that agrees agree.
-part_agrees : (P : NamedProgram) (s : Seen) (words : ℕ) (p q : Pair) (w : Words) (t : Substitution) → AllFall 0 P.skeleton.nodes → HasKnown s w → SolvesKnown P w s t
+part_agrees : (P : NamedProgram) (s : Seen) (words : ℕ) (p q : Pair) (w : Words) (t : Substitution) → AllFall 0 P.skeleton.nodes → HasKnown s w
+    → SolvesKnown P w s t
     → IsPartOf P s words p q → PairAgrees P w t p → PairAgrees P w t q
 part_agrees P s words p q w t fall has solves part a =
     let ends : Agree P w t part.one part.other = agree_onward P w t s p.left p.right part.one part.other has solves part.left_leads part.right_leads a in
     parts_agree P w t part.one part.other part.shape.name part.shape.count fall part.shape.left_is part.shape.right_is ends q part.at
 
 -- A step keeps what is sound, where what is known after it is solved.
-pub sound_steps : (P : NamedProgram) (p : Pair) (old new : Seen) (links more_links : List (Ref × Ref)) (list longer : List Pair) (bound further : List ℕ) (Asked Todo Later : Pair → Type 0)
-    (Assumed Further : Words → Substitution → Type 0) → AllFall 0 P.skeleton.nodes → Leaves p list longer Todo Later → Steps P p old new links more_links list longer bound further
+pub sound_steps : (P : NamedProgram) (p : Pair) (old new : Seen) (links more_links : List (Ref × Ref)) (list longer : List Pair) (bound further : List ℕ)
+    (Asked Todo Later : Pair → Type 0)
+    (Assumed Further : Words → Substitution → Type 0) → AllFall 0 P.skeleton.nodes → Leaves p list longer Todo Later
+    → Steps P p old new links more_links list longer bound further
     → ((w : Words) (t : Substitution) → Further w t → Assumed w t)
     → ((w : Words) (t : Substitution) → HasKnown new w → Further w t → SolvesKnown P w old t → PairAgrees P w t p → SolvesKnown P w new t)
     → Sound P old Asked Todo Assumed → Sound P new Asked Later Further
-sound_steps P p old new links more_links list longer bound further Asked Todo Later Assumed Further fall leaves steps assumes solved sound w has t assumed asked =
+sound_steps P p old new links more_links list longer bound further Asked Todo Later Assumed Further fall leaves steps assumes solved sound w
+    has t assumed asked =
     let keep = steps_keep P p old new links more_links list longer bound further steps in
     let (before, todos) = sound w (λ place r k. has place r (keep.knows place r k)) t (assumes w t assumed) asked in
     let own : PairAgrees P w t p = todos p leaves.was in
@@ -100,41 +104,51 @@ reads_back old new row place r reads told knows =
     subst (λ o. IsAmong o old.known place r) (sym told) as_row
 
 -- What becomes known of a row that is told is what was set.
-pub step_learns : (P : NamedProgram) (p : Pair) (old new : Seen) (links more_links : List (Ref × Ref)) (list longer : List Pair) (bound further : List ℕ) (row : List Ref) → old.told ≡ Some row
+pub step_learns : (P : NamedProgram) (p : Pair) (old new : Seen) (links more_links : List (Ref × Ref)) (list longer : List Pair) (bound further : List ℕ)
+    (row : List Ref) → old.told ≡ Some row
     → Steps P p old new links more_links list longer bound further → (place : ℕ) (r : Ref) → Knows new place r
     → Knows old place r ⊎ ((m : MeetFree P p.left p.right place old new) × (m.to ≡ r) × (further ≡ bound ++ place ∷ []))
-step_learns P p old new links more_links list longer bound further row told (Turns.alike m e f g) place r k = inl (reads_back old new row place r m.lead.reads told k)
+step_learns P p old new links more_links list longer bound further row told (Turns.alike m e f g) place r k =
+    inl (reads_back old new row place r m.lead.reads told k)
 step_learns P p old new links more_links list longer bound further row told (sets cell m e f g) place r k = elim ((m.sets.adds place r).0 k) [
   | inl before ↦ inl (reads_back old m.before row place r m.lead.reads told before)
   | inr is ↦ inr (subst (λ n. (m : MeetFree P p.left p.right n old new) × (m.to ≡ r) × (further ≡ bound ++ n ∷ [])) (sym is.0) (m, sym is.1, g))
 ]
-step_learns P p old new links more_links list longer bound further row told (one_class one other m c e f g) place r k = inl (reads_back old new row place r m.lead.reads told k)
-step_learns P p old new links more_links list longer bound further row told (joins one other m c f g) place r k = inl (reads_back old new row place r m.lead.reads told k)
+step_learns P p old new links more_links list longer bound further row told (one_class one other m c e f g) place r k =
+    inl (reads_back old new row place r m.lead.reads told k)
+step_learns P p old new links more_links list longer bound further row told (joins one other m c f g) place r k =
+    inl (reads_back old new row place r m.lead.reads told k)
 
 -- What is set agrees with its cell, where the sides agree.
-pub set_agrees : (P : NamedProgram) (l r : Ref) (cell : ℕ) (old new : Seen) (m : MeetFree P l r cell old new) (w : Words) (t : Substitution) → HasKnown m.before w → SolvesKnown P w m.before t
+pub set_agrees : (P : NamedProgram) (l r : Ref) (cell : ℕ) (old new : Seen) (m : MeetFree P l r cell old new) (w : Words) (t : Substitution)
+    → HasKnown m.before w → SolvesKnown P w m.before t
     → Agree P w t l r → Agree P w t (Cell cell) m.to
 set_agrees P l r cell old new m w t has solves a =
     let ends : Agree P w t m.one m.other = agree_onward P w t m.before l r m.one m.other has solves m.lead.left_leads m.lead.right_leads a in
     elim m.ends [
       | inl e ↦ subst (λ x. Agree P w t x m.to) e.0 (subst (Agree P w t m.one) e.1 ends)
-      | inr e ↦ let back : Agree P w t m.other m.one = agree_back P w t m.one m.other ends in subst (λ x. Agree P w t x m.to) e.0 (subst (Agree P w t m.other) e.1 back)
+      | inr e ↦ let back : Agree P w t m.other m.one =
+          agree_back P w t m.one m.other ends in subst (λ x. Agree P w t x m.to) e.0 (subst (Agree P w t m.other) e.1 back)
     ]
 
 -- So what is known of a row that is told stays solved.
-pub told_solved : (P : NamedProgram) (p : Pair) (old new : Seen) (links more_links : List (Ref × Ref)) (list longer : List Pair) (bound further : List ℕ) (row : List Ref) → old.told ≡ Some row
-    → Steps P p old new links more_links list longer bound further → (w : Words) (t : Substitution) → HasKnown new w → SolvesKnown P w old t → PairAgrees P w t p → SolvesKnown P w new t
+pub told_solved : (P : NamedProgram) (p : Pair) (old new : Seen) (links more_links : List (Ref × Ref)) (list longer : List Pair) (bound further : List ℕ)
+    (row : List Ref) → old.told ≡ Some row
+    → Steps P p old new links more_links list longer bound further → (w : Words) (t : Substitution) → HasKnown new w → SolvesKnown P w old t
+    → PairAgrees P w t p → SolvesKnown P w new t
 told_solved P p old new links more_links list longer bound further row told steps w t has solves own place r knows whole =
     elim (step_learns P p old new links more_links list longer bound further row told steps place r knows) [
       | inl before ↦ solves place r before whole
       | inr (m, is, on) ↦
           let has_before : HasKnown m.before w = λ q x k. has q x ((m.sets.adds q x).1 (inl k)) in
           let solves_before : SolvesKnown P w m.before t = λ q x k h. solves q x (reads_back old m.before row q x m.lead.reads told k) h in
-          subst (λ x. Solves t (equations_between P w (Cell place) x)) is (solves_from_agree P w t (Cell place) m.to (set_agrees P p.left p.right place old new m w t has_before solves_before own))
+          subst (λ x. Solves t (equations_between P w (Cell place) x)) is
+          (solves_from_agree P w t (Cell place) m.to (set_agrees P p.left p.right place old new m w t has_before solves_before own))
     ]
 
 -- A row that is told stays told, and one that is not stays so.
-pub steps_told : (P : NamedProgram) (p : Pair) (old new : Seen) (links more_links : List (Ref × Ref)) (list longer : List Pair) (bound further : List ℕ) (row : List Ref) → old.told ≡ Some row
+pub steps_told : (P : NamedProgram) (p : Pair) (old new : Seen) (links more_links : List (Ref × Ref)) (list longer : List Pair) (bound further : List ℕ)
+    (row : List Ref) → old.told ≡ Some row
     → Steps P p old new links more_links list longer bound further → (changed : List Ref) × (new.told ≡ Some changed)
 steps_told P p old new links more_links list longer bound further row told (Turns.alike m e f g) = (row, m.lead.reads.told ∙ told)
 steps_told P p old new links more_links list longer bound further row told (sets cell m e f g) =
@@ -143,7 +157,8 @@ steps_told P p old new links more_links list longer bound further row told (one_
 steps_told P p old new links more_links list longer bound further row told (joins one other m c f g) = (row, m.lead.reads.told ∙ told)
 
 -- the second half
-pub steps_untold : (P : NamedProgram) (p : Pair) (old new : Seen) (links more_links : List (Ref × Ref)) (list longer : List Pair) (bound further : List ℕ) → old.told ≡ None
+pub steps_untold : (P : NamedProgram) (p : Pair) (old new : Seen) (links more_links : List (Ref × Ref)) (list longer : List Pair) (bound further : List ℕ)
+    → old.told ≡ None
     → Steps P p old new links more_links list longer bound further → new.told ≡ None
 steps_untold P p old new links more_links list longer bound further told (Turns.alike m e f g) = m.lead.reads.told ∙ told
 steps_untold P p old new links more_links list longer bound further told (sets cell m e f g) = m.sets.told ∙ ap (option_map _) (m.lead.reads.told ∙ told)

@@ -2,7 +2,8 @@
 use Rattle.std.proofs.Common.{ℕ, suc, ◌+◌, ◌≡◌, ◌≢◌, ◌⊎◌, List, [], ◌∷◌, ◌++◌, length, map, refl, sym, ap, subst, ◌∙◌, inl, inr, arith}
 use Rattle.std.specs.Prelude.{Contains, All, AllPairs}
 use Rattle.std.proofs.lemmas.List.{length_push}
-use Rattle.std.proofs.lemmas.List.Elements.{All-contains, All-nil, All-push, All-weaker, Contains-append_left, Contains-append_right, Contains-push, Contains-push_cases}
+use Rattle.std.proofs.lemmas.List.Elements.{All-contains, All-nil, All-push, All-weaker, Contains-append_left, Contains-append_right, Contains-push}
+use Rattle.std.proofs.lemmas.List.Elements.{Contains-push_cases}
 use Rattle.and_model.specs.declared.reference.Ref.{Ref}
 use Rattle.and_program.specs.Skeletons.{AllFall}
 use Rattle.and_cells.specs.Ranges.{NamedProgram, IsInRange}
@@ -49,7 +50,8 @@ pub record Holds (P : NamedProgram) (first : Seen) (asked : List Pair) (fuel : �
 
 -- More that is known leaves places paid for.
 paid_later : (P : NamedProgram) (asked : List Pair) (fuel : ℕ) (old new : Stand) → ((place : ℕ) (r : Ref) → Knows old.seen place r → Knows new.seen place r)
-    → ((p : Pair) → Contains new.pairs p → Contains old.pairs p ⊎ IsPlace P new.seen (left_sides asked) p.left) → new.taken ≡ old.taken → new.fuel ≡ old.fuel → Paid P asked fuel old → Paid P asked fuel new
+    → ((p : Pair) → Contains new.pairs p → Contains old.pairs p ⊎ IsPlace P new.seen (left_sides asked) p.left) → new.taken ≡ old.taken → new.fuel ≡ old.fuel
+    → Paid P asked fuel old → Paid P asked fuel new
 paid_later P asked fuel old new knows pairs taken left k =
     let roots = left_sides asked in
     let later : (r : Ref) → IsPlace P old.seen roots r → IsPlace P new.seen roots r = λ r at. place_later P old.seen new.seen roots r knows at in record {
@@ -109,7 +111,8 @@ new_was p old new picks q (inr (inl at)) = inl (rest_was old.pairs new.pairs p q
 new_was p old new picks q (inr (inr right)) = inr (subst (λ l. Contains l q) picks.rights right)
 
 -- Taking a pair out that costs nothing keeps all,
-pub holds_old : (P : NamedProgram) (first : Seen) (asked : List Pair) (fuel : ℕ) (began : List ℕ) (p : Pair) (old new : Stand) (bound : List ℕ) → PicksOld p old new
+pub holds_old : (P : NamedProgram) (first : Seen) (asked : List Pair) (fuel : ℕ) (began : List ℕ) (p : Pair) (old new : Stand) (bound : List ℕ)
+    → PicksOld p old new
     → Stands P first asked fuel began old bound → Holds P first asked fuel began p new bound
 holds_old P first asked fuel began p old new bound picks k =
     let kept = kept_same P first asked began new.seen old.links (IsTodo old) (IsTodoWith p new) bound (old_todo p old new picks) (old_was p old new picks)
@@ -121,14 +124,16 @@ holds_old P first asked fuel began p old new bound picks k =
     }
 
 -- the place of a pair that costs is a place of the left sides
-pub place_of_last : (P : NamedProgram) (asked : List Pair) (fuel : ℕ) (old : Stand) (rest : List Pair) (p : Pair) (now : Seen) (place : Ref) → old.pairs ≡ rest ++ p ∷ [] → OnlyReads old.seen now
+pub place_of_last : (P : NamedProgram) (asked : List Pair) (fuel : ℕ) (old : Stand) (rest : List Pair) (p : Pair) (now : Seen) (place : Ref)
+    → old.pairs ≡ rest ++ p ∷ [] → OnlyReads old.seen now
     → LeadsTo now p.left place → Paid P asked fuel old → IsPlace P now (left_sides asked) place
 place_of_last P asked fuel old rest p now place e reads leads k =
     let left = place_later P old.seen now (left_sides asked) p.left reads.keeps (k.lefts p (last_was old.pairs rest p e)) in
     place_leads P now now (left_sides asked) p.left place (place_set P now (left_sides asked)) leads left
 
 -- and so does taking one out that costs, whose left side is a place then.
-pub holds_new : (P : NamedProgram) (first : Seen) (asked : List Pair) (fuel : ℕ) (began : List ℕ) (p : Pair) (old new : Stand) (bound : List ℕ) → PicksNew p old new
+pub holds_new : (P : NamedProgram) (first : Seen) (asked : List Pair) (fuel : ℕ) (began : List ℕ) (p : Pair) (old new : Stand) (bound : List ℕ)
+    → PicksNew p old new
     → Stands P first asked fuel began old bound → Holds P first asked fuel began p new bound × IsPlace P new.seen (left_sides asked) p.left
 holds_new P first asked fuel began p old new bound picks k =
     let roots = left_sides asked in
@@ -156,10 +161,12 @@ pub step_list : (P : NamedProgram) (p : Pair) (old new : Seen) (links more_links
 step_list P p old new links more_links list longer bound further (Turns.alike m e f g) q at = subst (λ l. Contains l q) (sym f) at
 step_list P p old new links more_links list longer bound further (sets cell m e f g) q at = subst (λ l. Contains l q) (sym f) at
 step_list P p old new links more_links list longer bound further (one_class one other m c e f g) q at = subst (λ l. Contains l q) (sym f) at
-step_list P p old new links more_links list longer bound further (joins one other m c f g) q at = subst (λ l. Contains l q) (sym f) (Contains-append_left list _ q at)
+step_list P p old new links more_links list longer bound further (joins one other m c f g) q at =
+    subst (λ l. Contains l q) (sym f) (Contains-append_left list _ q at)
 
 -- What a step on the pair that was taken out leaves to do, where its arguments go to those that cost nothing,
-old_leaves : (P : NamedProgram) (p : Pair) (mid new : Stand) (bound further : List ℕ) → Steps P p mid.seen new.seen mid.links new.links mid.rights new.rights bound further
+old_leaves : (P : NamedProgram) (p : Pair) (mid new : Stand) (bound further : List ℕ)
+    → Steps P p mid.seen new.seen mid.links new.links mid.rights new.rights bound further
     → new.pairs ≡ mid.pairs → Leaves p mid.rights new.rights (IsTodoWith p mid) (IsTodo new)
 old_leaves P p mid new bound further steps pairs = record {
   was = inl refl;
@@ -176,7 +183,8 @@ old_leaves P p mid new bound further steps pairs = record {
 }
 
 -- and where they go to those that cost.
-new_leaves : (P : NamedProgram) (p : Pair) (mid new : Stand) (bound further : List ℕ) → Steps P p mid.seen new.seen mid.links new.links mid.pairs new.pairs bound further
+new_leaves : (P : NamedProgram) (p : Pair) (mid new : Stand) (bound further : List ℕ)
+    → Steps P p mid.seen new.seen mid.links new.links mid.pairs new.pairs bound further
     → new.rights ≡ mid.rights → Leaves p mid.pairs new.pairs (IsTodoWith p mid) (IsTodo new)
 new_leaves P p mid new bound further steps rights = record {
   was = inl refl;
@@ -193,12 +201,14 @@ new_leaves P p mid new bound further steps rights = record {
 }
 
 -- A turn keeps where unification stands.
-pub stands_turns : (P : NamedProgram) (first : Seen) (asked : List Pair) (fuel : ℕ) (began : List ℕ) (old new : Stand) (bound further : List ℕ) → AllFall 0 P.skeleton.nodes → Turns P old new bound further
+pub stands_turns : (P : NamedProgram) (first : Seen) (asked : List Pair) (fuel : ℕ) (began : List ℕ) (old new : Stand) (bound further : List ℕ)
+    → AllFall 0 P.skeleton.nodes → Turns P old new bound further
     → Stands P first asked fuel began old bound → Stands P first asked fuel began new further
 stands_turns P first asked fuel began old new bound further fall (on_old p mid picks steps pairs taken left) k =
     let held = holds_old P first asked fuel began p old mid bound picks k in
     let keep = steps_keep P p mid.seen new.seen mid.links new.links mid.rights new.rights bound further steps in record {
-      kept = kept_steps P p mid.seen new.seen mid.links new.links mid.rights new.rights bound further first asked began (IsTodoWith p mid) (IsTodo new) fall (old_leaves P p mid new bound further steps pairs) steps held.kept;
+      kept = kept_steps P p mid.seen new.seen mid.links new.links mid.rights new.rights bound further first asked began (IsTodoWith p mid) (IsTodo new) fall
+          (old_leaves P p mid new bound further steps pairs) steps held.kept;
       paid = paid_later P asked fuel mid new keep.knows (λ q at. inl (subst (λ l. Contains l q) pairs at)) taken left held.paid;
     }
 stands_turns P first asked fuel began old new bound further fall (on_new p mid picks steps rights taken left) k =
@@ -206,8 +216,10 @@ stands_turns P first asked fuel began old new bound further fall (on_new p mid p
     let (held, own) = holds_new P first asked fuel began p old mid bound picks k in
     let keep = steps_keep P p mid.seen new.seen mid.links new.links mid.pairs new.pairs bound further steps in
     let later : (r : Ref) → IsPlace P mid.seen roots r → IsPlace P new.seen roots r = λ r at. place_later P mid.seen new.seen roots r keep.knows at in
-    let lefts = lefts_steps P p mid.seen new.seen mid.links new.links mid.pairs new.pairs bound further roots steps (later p.left own) (λ q at. later q.left (held.paid.lefts q at)) in record {
-      kept = kept_steps P p mid.seen new.seen mid.links new.links mid.pairs new.pairs bound further first asked began (IsTodoWith p mid) (IsTodo new) fall (new_leaves P p mid new bound further steps rights) steps held.kept;
+    let lefts = lefts_steps P p mid.seen new.seen mid.links new.links mid.pairs new.pairs bound further roots steps (later p.left own)
+    (λ q at. later q.left (held.paid.lefts q at)) in record {
+      kept = kept_steps P p mid.seen new.seen mid.links new.links mid.pairs new.pairs bound further first asked began (IsTodoWith p mid) (IsTodo new) fall
+          (new_leaves P p mid new bound further steps rights) steps held.kept;
       paid = paid_later P asked fuel mid new keep.knows (λ q at. inr (lefts q at)) taken left held.paid;
     }
 
@@ -216,7 +228,8 @@ abbrev pub begins : Seen → List Pair → ℕ → Stand
 begins first asked fuel = record { seen = first; pairs = asked; rights = []; taken = []; links = []; fuel = fuel }
 
 -- pairs that are in range and written fit
-pub fits_asked : (P : NamedProgram) (s : Seen) (words : ℕ) (asked : List Pair) → AreInRange P words asked → AreWritten s asked → (p : Pair) → Contains asked p → IsFit P words s p
+pub fits_asked : (P : NamedProgram) (s : Seen) (words : ℕ) (asked : List Pair) → AreInRange P words asked → AreWritten s asked → (p : Pair)
+    → Contains asked p → IsFit P words s p
 fits_asked P s words asked range written p at =
     let in_range = All-contains (λ (p : Pair). IsInRange P words p.left × IsInRange P words p.right) asked p range at in
     let is_written = All-contains (λ (p : Pair). IsWrittenIfNumber s p.left × IsWrittenIfNumber s p.right) asked p written at in
@@ -267,8 +280,10 @@ abbrev begins_with : Seen → List Pair → (rights : List Pair) → (taken : Li
 begins_with first asked rights taken links fuel = record { seen = first; pairs = asked; rights = rights; taken = taken; links = links; fuel = fuel }
 
 -- The same, where the lists are known to be empty.
-pub stands_begun : (P : NamedProgram) (first : Seen) (asked : List Pair) (fuel : ℕ) (began : List ℕ) (rights : List Pair) (taken : List Ref) (links : List (Ref × Ref))
-    → (rights ≡ []) × (taken ≡ []) × (links ≡ []) → AreInRange P first.words asked → AreWritten first asked → Stands P first asked fuel began (begins_with first asked rights taken links fuel) began
+pub stands_begun : (P : NamedProgram) (first : Seen) (asked : List Pair) (fuel : ℕ) (began : List ℕ) (rights : List Pair) (taken : List Ref)
+    (links : List (Ref × Ref))
+    → (rights ≡ []) × (taken ≡ []) × (links ≡ []) → AreInRange P first.words asked → AreWritten first asked
+    → Stands P first asked fuel began (begins_with first asked rights taken links fuel) began
 stands_begun P first asked fuel began rights taken links empty range written =
     let one = stands_first P first asked fuel began range written in
     let two = subst (λ r. Stands P first asked fuel began (begins_with first asked r [] [] fuel) began) (sym empty.0) one in

@@ -25,4 +25,5 @@ pub record Joins (left right : Ref) (old new : List (Ref × Ref)) : Type 0 where
   pub one : Ref
   pub other : Ref
   pub adds : new ≡ old ++ (one, other) ∷ []
-  pub between : (InOneClass old one left × InOneClass old other right) ⊎ (InOneClass old one right × InOneClass old other left)
+  pub between : (InOneClass old one left × InOneClass old other right)
+      ⊎ (InOneClass old one right × InOneClass old other left)

@@ -15,7 +15,8 @@ use Rattle.and_unify.specs.Following.{Follows}
 use Rattle.and_unify.specs.Turns.{Steps}
 
 -- What becomes of a pair where links are not written down: a step, whatever links there were.
-abbrev pub StepsPlainly : NamedProgram → Pair → (old new : Seen) → (list list' : List Pair) → (bound bound' : List ℕ) → Type 0
+abbrev pub StepsPlainly : NamedProgram → Pair → (old new : Seen) → (list list' : List Pair)
+    → (bound bound' : List ℕ) → Type 0
 StepsPlainly P p old new list list' bound bound' =
     (links : List (Ref × Ref)) → (more : List (Ref × Ref)) × Steps P p old new links more list list' bound bound'
 
@@ -23,13 +24,16 @@ StepsPlainly P p old new list list' bound bound' =
 abbrev pub HaveOneValue : NamedProgram → Words → Substitution → List Pair → Type 0
 HaveOneValue P w t pairs = All (λ (p : Pair). value P w t p.left ≡ value P w t p.right) pairs
 
--- Under what is known, the pairs that are left suffice: where their sides have one value, so have those of the pairs that were asked for.
+-- Under what is known, the pairs that are left suffice: where their sides have one value, so have those of the pairs
+-- that were asked for.
 abbrev pub Suffice : NamedProgram → Seen → (left asked : List Pair) → Type 0
-Suffice P new left asked = (w : Words) → HasKnown new w → (t : Substitution) → SolvesKnown P w new t → HaveOneValue P w t left → HaveOneValue P w t asked
+Suffice P new left asked = (w : Words) → HasKnown new w → (t : Substitution) → SolvesKnown P w new t
+    → HaveOneValue P w t left → HaveOneValue P w t asked
 
 -- What was set is on the list, and leads on from the sides.
 abbrev pub SetPlaces : NamedProgram → (old new : Seen) → List Pair → List ℕ → Type 0
-SetPlaces P old new asked bound = (place : ℕ) (r : Ref) → Knows new place r → Knows old place r ⊎ (Contains bound place × IsPlace P old (sides asked) r)
+SetPlaces P old new asked bound = (place : ℕ) (r : Ref) → Knows new place r
+    → Knows old place r ⊎ (Contains bound place × IsPlace P old (sides asked) r)
 
 -- the sides of these pairs are places that the sides of all pairs lead to
 abbrev pub LeadOnFrom : NamedProgram → Seen → (left asked : List Pair) → Type 0
@@ -46,7 +50,8 @@ pub record Descends (P : NamedProgram) (old new : Seen) (asked left : List Pair)
   pub still_asked : (w : Words) → HasKnown new w → (t : Substitution) → SolvesKnown P w new t
       → Solves t (equations_of_pairs P w asked) → Solves t (equations_of_pairs P w left)
   pub in_range : AreInRange P new.words left × AreWritten new left
-  -- Their sides are places that the sides of all pairs lead to; where the row is told, with what was known before. So are their left sides of the left ones.
+  -- Their sides are places that the sides of all pairs lead to; where the row is told, with what was known before. So
+  -- are their left sides of the left ones.
   pub leads : LeadOnFrom P new left asked
   pub told_leads : IfSome old.told (λ row. LeadOnFrom P old left asked)
   pub lefts : (r : Ref) → Contains (left_sides left) r → IsPlace P new (left_sides asked) r

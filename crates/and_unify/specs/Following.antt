@@ -16,14 +16,18 @@ use Rattle.and_unify.specs.Pairs.{equations_of_pairs}
 abbrev pub OwnFollow : NamedProgram → List Pair → (old new : Seen) → Type 0
 OwnFollow P pairs old new =
     (before after : List Known) (k : Known) → new.known ≡ old.known ++ before ++ k ∷ after → k.is_own ≡ true
-    → (w : Words) → HasKnown new w → (t : Substitution) → SolvesSettings P w (old.known ++ before) t → Solves t (equations_of_pairs P w pairs)
+    → (w : Words) → HasKnown new w → (t : Substitution) → SolvesSettings P w (old.known ++ before) t
+    → Solves t (equations_of_pairs P w pairs)
     → Solves t (equations_between P w (Cell k.setting.place) k.setting.value)
 
 -- All that is known now follows from the pairs and from what was known.
 abbrev pub NewFollow : NamedProgram → List Pair → (old new : Seen) → Type 0
 NewFollow P pairs old new =
-    (w : Words) → HasKnown new w → (t : Substitution) → SolvesKnown P w old t → Solves t (equations_of_pairs P w pairs) → SolvesKnown P w new t
+    (w : Words) → HasKnown new w → (t : Substitution) → SolvesKnown P w old t → Solves t (equations_of_pairs P w pairs)
+    → SolvesKnown P w new t
 
--- What these cells set follows: where the row is told, all that is known now, since none but these cells set it; else each own setting in its turn.
+-- What these cells set follows: where the row is told, all that is known now, since none but these cells set it; else
+-- each own setting in its turn.
 abbrev pub Follows : NamedProgram → List Pair → (old new : Seen) → Type 0
-Follows P pairs old new = MatchOption old.told (OwnFollow P pairs old new) (λ (row : List Ref). NewFollow P pairs old new)
+Follows P pairs old new =
+    MatchOption old.told (OwnFollow P pairs old new) (λ (row : List Ref). NewFollow P pairs old new)

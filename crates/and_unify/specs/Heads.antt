@@ -19,7 +19,8 @@ IsEnd (reference.Node node base) = Unit {0}
 IsEnd (reference.Number pair) = Unit {0}
 IsEnd (reference.Half bits) = ⊥
 
--- The reference is that number in all words that have what is known, or a structure of that name and number of arguments.
+-- The reference is that number in all words that have what is known, or a structure of that name and number of
+-- arguments.
 abbrev pub HasHead : NamedProgram → Seen → Ref → Head → Type 0
 HasHead P s r (Number z) = (w : Words) → HasKnown s w → shallow_term P w r ≡ Some (number z)
 HasHead P s r (Name name count) = IsStructure P r name.0 count

@@ -33,7 +33,8 @@ pub record GoesOn (P : NamedProgram) (from to : Ref) (old new : Seen) : Type 0 w
 abbrev pub AreAlike : NamedProgram → Seen → Ref → Ref → Type 0
 AreAlike P s one other =
     ((one ≡ other) × (is_half one ≡ false))
-    ⊎ ((w : Words) → HasKnown s w → (z : ℤ) × (shallow_term P w one ≡ Some (number z)) × (shallow_term P w other ≡ Some (number z)))
+    ⊎ ((w : Words) → HasKnown s w → (z : ℤ) × (shallow_term P w one ≡ Some (number z))
+    × (shallow_term P w other ≡ Some (number z)))
 
 -- The sides led to the same.
 pub record MeetAlike (P : NamedProgram) (left right : Ref) (old new : Seen) : Type 0 where

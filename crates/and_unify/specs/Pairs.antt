@@ -24,7 +24,9 @@ AreWritten s pairs = All (λ (p : Pair). IsWrittenIfNumber s p.left × IsWritten
 
 -- none of the cells that the sides name is a word of a pair of words
 abbrev pub NameNoHalf : NamedProgram → Words → List Pair → Type 0
-NameNoHalf P w pairs = All (λ (p : Pair). All (λ (cell : ℕ). is_half (w cell) ≡ false) (shallow_cells P p.left ++ shallow_cells P p.right)) pairs
+NameNoHalf P w pairs = All
+    (λ (p : Pair). All (λ (cell : ℕ). is_half (w cell) ≡ false) (shallow_cells P p.left ++ shallow_cells P p.right))
+    pairs
 
 -- Terms that differ at their heads: two numbers, two names or numbers of arguments, or a number and a name.
 abbrev pub DifferAtHeads : Option Term → Option Term → Type 0
@@ -38,7 +40,9 @@ DifferAtHeads (Some (compound c ts)) (Some (variable q k)) = ⊥
 DifferAtHeads (Some (compound c ts)) (Some (number z)) = Unit {0}
 DifferAtHeads (Some (compound c ts)) (Some (compound d us)) = (c ≢ d) ⊎ (width ts ≢ width us)
 
--- The two are never the same term: one is a word of a pair, or they differ at their heads in all words that have what is known.
+-- The two are never the same term: one is a word of a pair, or they differ at their heads in all words that have what
+-- is known.
 abbrev pub AreApart : NamedProgram → Seen → Ref → Ref → Type 0
 AreApart P s left right =
-    (is_half left ≡ true) ⊎ (is_half right ≡ true) ⊎ ((w : Words) → HasKnown s w → DifferAtHeads (shallow_term P w left) (shallow_term P w right))
+    (is_half left ≡ true) ⊎ (is_half right ≡ true)
+    ⊎ ((w : Words) → HasKnown s w → DifferAtHeads (shallow_term P w left) (shallow_term P w right))

@@ -14,12 +14,13 @@ left_sides pairs = map (λ (p : Pair). p.left) pairs
 abbrev pub sides : List Pair → List Ref
 sides pairs = left_sides pairs ++ map (λ (p : Pair). p.right) pairs
 
--- A place that some of the roots lead to: a root, what a cell at a place is known to be set to, and a part of a structure at a place.
--- A place is one, however many ways lead to it.
+-- A place that some of the roots lead to: a root, what a cell at a place is known to be set to, and a part of a
+-- structure at a place. A place is one, however many ways lead to it.
 pub data IsPlace (P : NamedProgram) (s : Seen) (roots : List Ref) : Ref → Type 0 where
   root : (r : Ref) → Contains roots r → IsPlace P s roots r
   set : (cell : ℕ) (r : Ref) → IsPlace P s roots (Cell cell) → Knows s cell r → IsPlace P s roots r
-  part : (node : NodeNo) (base : ℕ) (r : Ref) → IsPlace P s roots (Node node base) → Contains (parts_of P (Node node base)) r → IsPlace P s roots r
+  part : (node : NodeNo) (base : ℕ) (r : Ref) → IsPlace P s roots (Node node base)
+      → Contains (parts_of P (Node node base)) r → IsPlace P s roots r
 
 -- so many places, no place twice
 pub record Places (P : NamedProgram) (s : Seen) (roots : List Ref) (count : ℕ) : Type 0 where

@@ -27,16 +27,19 @@ NamesBelow P floor r = All (λ (cell : ℕ). cell < floor) (shallow_cells P r)
 abbrev pub KeepsBelow : NamedProgram → (floor : ℕ) → Ref → Type 0
 KeepsBelow P floor r = IsBelow floor r → NamesBelow P floor r
 
--- The words from the floor on are new: they are free, no word that was set names one of them, and the sides of the pairs lie on one side of the floor.
+-- The words from the floor on are new: they are free, no word that was set names one of them, and the sides of the
+-- pairs lie on one side of the floor.
 pub record AreNewFrom (P : NamedProgram) (row : List Ref) (pairs : List Pair) (floor : ℕ) : Type 0 where
   pub within : floor ≤ length row
   pub free : (cell : ℕ) → floor ≤ cell → word_at row cell ≡ Free
   pub named_below : (cell : ℕ) (r : Ref) → IsSetTo row cell r → NamesBelow P floor r
   pub sides : All (λ (p : Pair). KeepsBelow P floor p.left × KeepsBelow P floor p.right) pairs
 
--- Each path from the cell ends: from one below the floor to any, and from others where it comes below the floor, if not before.
+-- Each path from the cell ends: from one below the floor to any, and from others where it comes below the floor, if
+-- not before.
 abbrev pub EndsFrom : NamedProgram → List Ref → (floor cell : ℕ) → Type 0
-EndsFrom P row floor cell = (cell < floor → Ends P row 0 false (Cell cell)) × (floor ≤ cell → Ends P row floor false (Cell cell))
+EndsFrom P row floor cell = (cell < floor → Ends P row 0 false (Cell cell))
+    × (floor ≤ cell → Ends P row floor false (Cell cell))
 
 -- What settling comes to, from what the cells were and the pairs.
 pub record Settles (P : NamedProgram) (old new : List Ref) (pairs : List Pair) (answer : Settled) : Type 0 where

@@ -15,18 +15,25 @@ pairs_of [] qs = []
 pairs_of (r ∷ rs) [] = []
 pairs_of (r ∷ rs) (q ∷ qs) = record { left = r; right = q } ∷ pairs_of rs qs
 
--- What becomes of a pair: what is seen, the links, a list that takes the pairs of arguments, and the cells that were set.
--- Its sides are alike, or one is set to the other; or they are structures of one class, or of two that are joined.
-pub data Steps (P : NamedProgram) (p : Pair) (old new : Seen) (links links' : List (Ref × Ref)) (list list' : List Pair) (bound bound' : List ℕ) : Type 0 where
-  alike : MeetAlike P p.left p.right old new → links' ≡ links → list' ≡ list → bound' ≡ bound → Steps P p old new links links' list list' bound bound'
-  sets : (cell : ℕ) → MeetFree P p.left p.right cell old new → links' ≡ links → list' ≡ list → bound' ≡ bound ++ cell ∷ []
+-- What becomes of a pair: what is seen, the links, a list that takes the pairs of arguments, and the cells that were
+-- set. Its sides are alike, or one is set to the other; or they are structures of one class, or of two that are
+-- joined.
+pub data Steps (P : NamedProgram) (p : Pair) (old new : Seen) (links links' : List (Ref × Ref))
+    (list list' : List Pair) (bound bound' : List ℕ) : Type 0 where
+  alike : MeetAlike P p.left p.right old new → links' ≡ links → list' ≡ list → bound' ≡ bound
       → Steps P p old new links links' list list' bound bound'
-  one_class : (one other : Ref) → MeetStructures P p.left p.right old new one other → InOneClass links one other → links' ≡ links → list' ≡ list → bound' ≡ bound
+  sets : (cell : ℕ) → MeetFree P p.left p.right cell old new → links' ≡ links → list' ≡ list
+      → bound' ≡ bound ++ cell ∷ []
+      → Steps P p old new links links' list list' bound bound'
+  one_class : (one other : Ref) → MeetStructures P p.left p.right old new one other → InOneClass links one other
+      → links' ≡ links → list' ≡ list → bound' ≡ bound
       → Steps P p old new links links' list list' bound bound'
   joins : (one other : Ref) → MeetStructures P p.left p.right old new one other → Joins one other links links'
-      → list' ≡ list ++ pairs_of (parts_of P one) (parts_of P other) → bound' ≡ bound → Steps P p old new links links' list list' bound bound'
+      → list' ≡ list ++ pairs_of (parts_of P one) (parts_of P other) → bound' ≡ bound
+      → Steps P p old new links links' list list' bound bound'
 
--- Where unification stands: what is seen, the pairs that are to do, the pairs to do that cost nothing, the places that were taken, the links and the fuel.
+-- Where unification stands: what is seen, the pairs that are to do, the pairs to do that cost nothing, the places
+-- that were taken, the links and the fuel.
 pub record Stand : Type 0 where
   pub seen : Seen
   pub pairs : List Pair
@@ -37,12 +44,20 @@ pub record Stand : Type 0 where
 
 -- where unification stands with this work
 abbrev pub stand : Seen → (pairs : List Pair) → Work → (fuel : ℕ) → Stand
-stand seen pairs work fuel = record { seen = seen; pairs = pairs; rights = work.rights; taken = work.taken.keys; links = work.classes; fuel = fuel }
+stand seen pairs work fuel = record {
+  seen = seen;
+  pairs = pairs;
+  rights = work.rights;
+  taken = work.taken.keys;
+  links = work.classes;
+  fuel = fuel;
+}
 
 -- A pair that costs nothing was taken out.
 pub record PicksOld (p : Pair) (old new : Stand) : Type 0 where
   pub reads : OnlyReads old.seen new.seen
-  pub out : ((old.rights ≡ new.rights ++ p ∷ []) × (new.pairs ≡ old.pairs)) ⊎ ((old.pairs ≡ new.pairs ++ p ∷ []) × (new.rights ≡ old.rights))
+  pub out : ((old.rights ≡ new.rights ++ p ∷ []) × (new.pairs ≡ old.pairs))
+      ⊎ ((old.pairs ≡ new.pairs ++ p ∷ []) × (new.rights ≡ old.rights))
   pub taken : new.taken ≡ old.taken
   pub links : new.links ≡ old.links
   pub fuel : new.fuel ≡ old.fuel
@@ -79,9 +94,11 @@ pub record PutsOff (old new : Stand) : Type 0 where
 
 -- A pair is taken out, and its arguments go on the list that it costs as much to take from.
 pub data Turns (P : NamedProgram) (old new : Stand) (bound bound' : List ℕ) : Type 0 where
-  on_old : (p : Pair) (mid : Stand) → PicksOld p old mid → Steps P p mid.seen new.seen mid.links new.links mid.rights new.rights bound bound'
+  on_old : (p : Pair) (mid : Stand) → PicksOld p old mid
+      → Steps P p mid.seen new.seen mid.links new.links mid.rights new.rights bound bound'
       → new.pairs ≡ mid.pairs → new.taken ≡ mid.taken → new.fuel ≡ mid.fuel → Turns P old new bound bound'
-  on_new : (p : Pair) (mid : Stand) → PicksNew p old mid → Steps P p mid.seen new.seen mid.links new.links mid.pairs new.pairs bound bound'
+  on_new : (p : Pair) (mid : Stand) → PicksNew p old mid
+      → Steps P p mid.seen new.seen mid.links new.links mid.pairs new.pairs bound bound'
       → new.rights ≡ mid.rights → new.taken ≡ mid.taken → new.fuel ≡ mid.fuel → Turns P old new bound bound'
 
 -- A pair is taken out, and its sides led to two that are apart.

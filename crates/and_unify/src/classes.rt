@@ -1,6 +1,7 @@
 //! Classes of references that were made equal (union by rank: Tarjan, 1975).
 
-ghost use Rattle.std.specs.Prelude.{◌≡◌, ◌≢◌, ◌<◌, ◌^◌, ◌++◌, ◌∷◌, [], length, true, false, Ok, IfSome, IsNone, OnOk, Contains};
+ghost use Rattle.std.specs.Prelude.{◌≡◌, ◌≢◌, ◌<◌, ◌^◌, ◌++◌, ◌∷◌, [], length, true, false, Ok, IfSome, IsNone, OnOk};
+ghost use Rattle.std.specs.Prelude.{Contains};
 ghost use Rattle.and_model.specs.declared.reference.Ref.{Ref};
 ghost use Rattle.and_unify.specs.Classes.{Linked, Climbs, IsRoot, InOneClass, Joins};
 

@@ -1,6 +1,7 @@
 //! A plain descent into pairs, which hashes nothing, before unification with classes.
 
-ghost use Rattle.std.specs.Prelude.{◌≡◌, ◌≢◌, ◌≤◌, ◌⊎◌, ◌∷◌, ◌++◌, [], ℕ, List, length, true, false, Some, None, IfSome, IfOk};
+ghost use Rattle.std.specs.Prelude.{◌≡◌, ◌≢◌, ◌≤◌, ◌⊎◌, ◌∷◌, ◌++◌, [], ℕ, List, length, true, false, Some, None};
+ghost use Rattle.std.specs.Prelude.{IfSome, IfOk};
 ghost use Rattle.and_model.specs.declared.reference.Ref.{Ref};
 ghost use Rattle.and_program.specs.Skeletons.{AllFall};
 ghost use Rattle.and_cells.specs.Ranges.{IsInRange};
@@ -111,7 +112,8 @@ pub(crate) fn descend_then_solve<C: Cells>(
     ensures keeps { Keeps (C.seen cells.old) (C.seen cells.new) }
     ensures unifies { Unifies C.program (C.seen cells.old) (C.seen cells.new) pairs.old pairs.new result }
     ensures spends { Spends C.program (C.seen cells.new) pairs.old pairs.new fuel.old fuel.new result }
-    ensures sets { IfSome (C.seen cells.old).told (λ row. SetPlaces C.program (C.seen cells.old) (C.seen cells.new) pairs.old bound.new.items) }
+    ensures sets { IfSome (C.seen cells.old).told
+        (λ row. SetPlaces C.program (C.seen cells.old) (C.seen cells.new) pairs.old bound.new.items) }
     ensures bound { Lists (C.seen cells.old) (C.seen cells.new) bound.old.items bound.new.items }
 {
     match descend(loaded, cells, most, pairs, bound) {
@@ -139,9 +141,12 @@ fn descend<C: Cells>(
     ensures grew { C.Grew cells.old cells.new }
     ensures keeps { Keeps (C.seen cells.old) (C.seen cells.new) }
     ensures ended { (unified : Unified) → result ≡ Descended.Over unified
-        → Unifies C.program (C.seen cells.old) (C.seen cells.new) pairs.old pairs.new unified × (unified ≢ Unified.PutOff) }
-    ensures left { result ≡ Descended.Left → Descends C.program (C.seen cells.old) (C.seen cells.new) pairs.old pairs.new }
-    ensures sets { IfSome (C.seen cells.old).told (λ row. SetPlaces C.program (C.seen cells.old) (C.seen cells.new) pairs.old bound.new.items) }
+        → Unifies C.program (C.seen cells.old) (C.seen cells.new) pairs.old pairs.new unified
+        × (unified ≢ Unified.PutOff) }
+    ensures left { result ≡ Descended.Left
+        → Descends C.program (C.seen cells.old) (C.seen cells.new) pairs.old pairs.new }
+    ensures sets { IfSome (C.seen cells.old).told
+        (λ row. SetPlaces C.program (C.seen cells.old) (C.seen cells.new) pairs.old bound.new.items) }
     ensures bound { Lists (C.seen cells.old) (C.seen cells.new) bound.old.items bound.new.items }
 {
     loaded.skeleton_is_of_the_program();
@@ -171,7 +176,8 @@ fn meet_all<C: Cells>(
     requires written { AreWritten (C.seen cells.old) pairs.old }
     ensures over { C.over cells.new ≡ C.over cells.old }
     ensures grew { C.Grew cells.old cells.new }
-    ensures comes { ComesTo C.program (C.seen cells.old) (C.seen cells.new) pairs.old pairs.new bound.old.items bound.new.items result }
+    ensures comes { ComesTo C.program (C.seen cells.old) (C.seen cells.new) pairs.old pairs.new bound.old.items
+        bound.new.items result }
     ensures empty { result ≡ Plainly.Done → pairs.new ≡ [] }
 {
     let mut came = meet_listed(loaded, cells, bound, pairs);
@@ -201,7 +207,8 @@ fn meet_below<C: Cells>(
     ensures over { C.over cells.new ≡ C.over cells.old }
     ensures grew { C.Grew cells.old cells.new }
     ensures comes { ComesTo C.program (C.seen cells.old) (C.seen cells.new)
-        (pairs_of (parts_of C.program both.left) (parts_of C.program both.right) ++ list.old) list.new bound.old.items bound.new.items result }
+        (pairs_of (parts_of C.program both.left) (parts_of C.program both.right) ++ list.old) list.new bound.old.items
+        bound.new.items result }
     ensures empty { result ≡ Plainly.Done → list.new ≡ [] }
 {
     match meet_arguments(loaded, cells, bound, both, list) {
@@ -225,7 +232,8 @@ fn meet_listed<C: Cells>(
     requires written { AreWritten (C.seen cells.old) list.old }
     ensures over { C.over cells.new ≡ C.over cells.old }
     ensures grew { C.Grew cells.old cells.new }
-    ensures comes { ComesTo C.program (C.seen cells.old) (C.seen cells.new) list.old list.new bound.old.items bound.new.items result }
+    ensures comes { ComesTo C.program (C.seen cells.old) (C.seen cells.new) list.old list.new bound.old.items
+        bound.new.items result }
     ensures empty { result ≡ Plainly.Done → list.new ≡ [] }
 {
     while let Some(pair) = list.pop() {
@@ -254,7 +262,8 @@ fn meet_arguments<C: Cells>(
     ensures over { C.over cells.new ≡ C.over cells.old }
     ensures grew { C.Grew cells.old cells.new }
     ensures comes { ComesTo C.program (C.seen cells.old) (C.seen cells.new)
-        (pairs_of (parts_of C.program both.left) (parts_of C.program both.right) ++ list.old) list.new bound.old.items bound.new.items result }
+        (pairs_of (parts_of C.program both.left) (parts_of C.program both.right) ++ list.old) list.new bound.old.items
+        bound.new.items result }
 {
     let left = as_structure(both.left);
     let right = as_structure(both.right);
@@ -281,7 +290,8 @@ fn put_by(
     pair: Pair,
     list: &mut PairList,
 ) -> Result<Pair, AllocError>
-    ensures { IfOk result (λ kept. ((first ≡ None) × (kept ≡ both) × (list.new ≡ list.old)) ⊎ ((first ≡ Some kept) × (list.new ≡ list.old ++ pair ∷ []))) }
+    ensures { IfOk result (λ kept. ((first ≡ None) × (kept ≡ both) × (list.new ≡ list.old))
+        ⊎ ((first ≡ Some kept) × (list.new ≡ list.old ++ pair ∷ []))) }
 {
     match first {
         Some(before) => {
@@ -311,11 +321,14 @@ fn meet_argument<C: Cells>(
     pair: Pair,
 ) -> Plainly
     requires program { C.program ≡ named loaded.now }
-    requires in_range { IsInRange C.program (C.seen cells.old).words pair.left × IsInRange C.program (C.seen cells.old).words pair.right }
-    requires written { IsWrittenIfNumber (C.seen cells.old) pair.left × IsWrittenIfNumber (C.seen cells.old) pair.right }
+    requires in_range { IsInRange C.program (C.seen cells.old).words pair.left
+        × IsInRange C.program (C.seen cells.old).words pair.right }
+    requires written { IsWrittenIfNumber (C.seen cells.old) pair.left
+        × IsWrittenIfNumber (C.seen cells.old) pair.right }
     ensures over { C.over cells.new ≡ C.over cells.old }
     ensures grew { C.Grew cells.old cells.new }
-    ensures meets { MeetsPlainly C.program pair (C.seen cells.old) (C.seen cells.new) bound.old.items bound.new.items result }
+    ensures meets { MeetsPlainly C.program pair (C.seen cells.old) (C.seen cells.new) bound.old.items
+        bound.new.items result }
 {
     if takes(cells, bound, pair) {
         return Plainly::Done;
@@ -326,13 +339,16 @@ fn meet_argument<C: Cells>(
 /// Whether the right side of a pair is a free cell that is now set to what the left side leads to. It is
 /// on the list then. Where there is no room on the list, none is set.
 fn takes<C: Cells>(cells: &mut C, bound: &mut Vec<u32>, pair: Pair) -> bool
-    requires in_range { IsInRange C.program (C.seen cells.old).words pair.left × IsInRange C.program (C.seen cells.old).words pair.right }
+    requires in_range { IsInRange C.program (C.seen cells.old).words pair.left
+        × IsInRange C.program (C.seen cells.old).words pair.right }
     requires written { IsWrittenIfNumber (C.seen cells.old) pair.left }
     ensures over { C.over cells.new ≡ C.over cells.old }
     ensures grew { C.Grew cells.old cells.new }
-    ensures sets { result ≡ true → (cell : ℕ) × MeetFree C.program pair.left pair.right cell (C.seen cells.old) (C.seen cells.new)
+    ensures sets { result ≡ true → (cell : ℕ)
+        × MeetFree C.program pair.left pair.right cell (C.seen cells.old) (C.seen cells.new)
         × (bound.new.items ≡ bound.old.items ++ cell ∷ []) }
-    ensures reads { result ≡ false → OnlyReads (C.seen cells.old) (C.seen cells.new) × (bound.new.items ≡ bound.old.items) }
+    ensures reads { result ≡ false → OnlyReads (C.seen cells.old) (C.seen cells.new)
+        × (bound.new.items ≡ bound.old.items) }
 {
     let Ref::Cell(cell) = pair.right else {
         return false;
@@ -356,11 +372,14 @@ fn takes<C: Cells>(cells: &mut C, bound: &mut Vec<u32>, pair: Pair) -> bool
 /// Meets the sides of a pair. A cell that is set goes on the list. Where memory is wanting, none was set.
 fn meet_pair<C: Cells>(loaded: &Loaded, cells: &mut C, bound: &mut Vec<u32>, pair: Pair) -> Plainly
     requires program { C.program ≡ named loaded.now }
-    requires in_range { IsInRange C.program (C.seen cells.old).words pair.left × IsInRange C.program (C.seen cells.old).words pair.right }
-    requires written { IsWrittenIfNumber (C.seen cells.old) pair.left × IsWrittenIfNumber (C.seen cells.old) pair.right }
+    requires in_range { IsInRange C.program (C.seen cells.old).words pair.left
+        × IsInRange C.program (C.seen cells.old).words pair.right }
+    requires written { IsWrittenIfNumber (C.seen cells.old) pair.left
+        × IsWrittenIfNumber (C.seen cells.old) pair.right }
     ensures over { C.over cells.new ≡ C.over cells.old }
     ensures grew { C.Grew cells.old cells.new }
-    ensures meets { MeetsPlainly C.program pair (C.seen cells.old) (C.seen cells.new) bound.old.items bound.new.items result }
+    ensures meets { MeetsPlainly C.program pair (C.seen cells.old) (C.seen cells.new) bound.old.items
+        bound.new.items result }
 {
     // Room for a cell is made before one is set, so that each that is set goes on the list.
     if make_room(bound).is_err() {

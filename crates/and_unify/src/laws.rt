@@ -13,7 +13,8 @@ ghost use Rattle.and_cells.specs.Solved.{HasTerm};
 
 /// A reference whose paths end, none of them in a word of a pair, stands for a term.
 pub fn references_that_end_have_terms()
-    ensures { (P : NamedProgram) (row : List Ref) (r : Ref) → AllFall 0 P.skeleton.nodes → IsSound P row → IsInRange P (length row) r
+    ensures { (P : NamedProgram) (row : List Ref) (r : Ref) → AllFall 0 P.skeleton.nodes → IsSound P row
+        → IsInRange P (length row) r
         → Ends P row 0 false r → HasTerm P row r }
 {}
 

@@ -63,7 +63,8 @@ pub(crate) fn meet<C: Cells>(loaded: &Loaded, cells: &mut C, left: Ref, right: R
     ensures grew { C.Grew cells.old cells.new }
     ensures keeps { Keeps (C.seen cells.old) (C.seen cells.new) }
     ensures same { result ≡ Met.Same → MeetAlike C.program left right (C.seen cells.old) (C.seen cells.new) }
-    ensures bound { (cell : ℕ) → result ≡ Met.Bound cell → MeetFree C.program left right cell (C.seen cells.old) (C.seen cells.new) }
+    ensures bound { (cell : ℕ) → result ≡ Met.Bound cell
+        → MeetFree C.program left right cell (C.seen cells.old) (C.seen cells.new) }
     ensures structures { (one other : Ref) → result ≡ Met.Structures one other
         → MeetStructures C.program left right (C.seen cells.old) (C.seen cells.new) one other }
     ensures apart { (one other : Ref) → result ≡ Met.Apart one other
@@ -128,13 +129,16 @@ fn try_both<C: Cells>(loaded: &Loaded, cells: &mut C, one: Ref, other: Ref) -> T
     ensures grew { C.Grew cells.old cells.new }
     ensures keeps { Keeps (C.seen cells.old) (C.seen cells.new) }
     ensures same { result ≡ Tried.Done Met.Same → MeetAlike C.program one other (C.seen cells.old) (C.seen cells.new) }
-    ensures bound { (cell : ℕ) → result ≡ Tried.Done (Met.Bound cell) → MeetFree C.program one other cell (C.seen cells.old) (C.seen cells.new) }
+    ensures bound { (cell : ℕ) → result ≡ Tried.Done (Met.Bound cell)
+        → MeetFree C.program one other cell (C.seen cells.old) (C.seen cells.new) }
     ensures structures { (p q : Ref) → result ≡ Tried.Done (Met.Structures p q)
         → MeetStructures C.program one other (C.seen cells.old) (C.seen cells.new) p q }
     ensures apart { (p q : Ref) → result ≡ Tried.Done (Met.Apart p q)
         → MeetApart C.program one other (C.seen cells.old) (C.seen cells.new) p q }
-    ensures left_is { (r : Ref) → result ≡ Tried.LeftIs r → GoesOn C.program one r (C.seen cells.old) (C.seen cells.new) }
-    ensures right_is { (r : Ref) → result ≡ Tried.RightIs r → GoesOn C.program other r (C.seen cells.old) (C.seen cells.new) }
+    ensures left_is { (r : Ref) → result ≡ Tried.LeftIs r
+        → GoesOn C.program one r (C.seen cells.old) (C.seen cells.new) }
+    ensures right_is { (r : Ref) → result ≡ Tried.RightIs r
+        → GoesOn C.program other r (C.seen cells.old) (C.seen cells.new) }
 {
     match case_of(one, other) {
         Case::Half => Tried::Done(Met::Apart {

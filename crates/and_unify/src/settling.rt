@@ -103,6 +103,13 @@ impl Solver {
         }
     }
 
+    /// Forgets which cells were set. Takes no memory.
+    pub fn forget(&mut self)
+        ensures { self.new ≡ [] }
+    {
+        self.bound.clear();
+    }
+
     /// The cells that the last call set, each once. Takes no memory.
     pub fn bound(&self) -> &[u32]
         ensures { result.now ≡ self.now }
@@ -116,7 +123,8 @@ impl Solver {
     /// to above the floor, and nothing else of the row. At first as many places are followed as the row
     /// has words, and 64 more, and as the greatest node to which a cell that is followed is set has a
     /// number, the same place perhaps several times. What is left then is explored with marks, so that no
-    /// place is explored twice. Where the pairs have no solution, the cells that were set can be freed again.
+    /// place is explored twice. The cells that were set can be freed again, where there is no solution and after
+    /// want of memory too.
     pub fn settle_further<N: Naming>(
         &mut self,
         loaded: &Loaded,
@@ -131,7 +139,7 @@ impl Solver {
         requires no_half { NameNoHalf N.program (word_at cells.old) pairs.old }
         requires new { AreNewFrom N.program cells.old pairs.old floor }
         ensures settles { Settles N.program cells.old cells.new pairs.old result }
-        ensures bound { result ≢ Settled.Memory → HaveBeenSet cells.old cells.new self.new }
+        ensures bound { HaveBeenSet cells.old cells.new self.new }
         ensures done { result ≡ Settled.Solved → pairs.new ≡ [] }
     {
         self.bound.clear();
@@ -163,7 +171,7 @@ fn settle_into<N: Naming>(
     requires new { AreNewFrom N.program cells.old pairs.old floor }
     requires empty { bound.old.items ≡ [] }
     ensures settles { Settles N.program cells.old cells.new pairs.old result }
-    ensures bound { result ≢ Settled.Memory → HaveBeenSet cells.old cells.new bound.new.items }
+    ensures bound { HaveBeenSet cells.old cells.new bound.new.items }
     ensures done { result ≡ Settled.Solved → pairs.new ≡ [] }
 {
     laws_of_rows(loaded, cells);
@@ -288,7 +296,8 @@ fn seen_to_end<N: Naming>(
 ) -> Result<usize, AllocError>
     requires program { N.program ≡ named loaded.now }
     requires in_row { All (λ (cell : ℕ). cell < length cells.now) bound.now }
-    ensures { IfOk result (λ seen. (seen ≤ length bound.now) × All (EndsFrom N.program cells.now floor) (take seen bound.now)) }
+    ensures { IfOk result (λ seen. (seen ≤ length bound.now)
+        × All (EndsFrom N.program cells.now floor) (take seen bound.now)) }
 {
     for place in 0..bound.len() {
         let cell = bound[place];
@@ -390,7 +399,8 @@ fn given_ends<N: Naming>(
     ensures cells { result ≡ Ok true → (cell : ℕ) → cell < length cells.now
         → is_half (word_at cells.now cell) ≡ false → Ends N.program cells.now 0 false (Ref.Cell cell) }
     ensures sides { result ≡ Ok true
-        → All (λ (p : Pair). Ends N.program cells.now 0 false p.left × Ends N.program cells.now 0 false p.right) pairs.now }
+        → All (λ (p : Pair). Ends N.program cells.now 0 false p.left
+        × Ends N.program cells.now 0 false p.right) pairs.now }
     ensures no_solution { result ≡ Ok false → Solvable (equations_with N.program cells.now pairs.now) → ⊥ }
 {
     let mut explorer = Explorer::new(alloc, 0, false);
@@ -409,7 +419,8 @@ fn row_ends<N: Naming>(
     requires program { N.program ≡ named loaded.now }
     requires finished { AreFinished N.program cells.now explorer.old }
     requires no_halves { explorer.old.halves ≡ false }
-    ensures settings { IfOk result (λ _. (explorer.new.floor ≡ explorer.old.floor) × (explorer.new.halves ≡ explorer.old.halves)) }
+    ensures settings { IfOk result (λ _. (explorer.new.floor ≡ explorer.old.floor)
+        × (explorer.new.halves ≡ explorer.old.halves)) }
     ensures finished { result ≡ Ok true → AreFinished N.program cells.now explorer.new }
     ensures ends { result ≡ Ok true → (cell : ℕ) → cell < length cells.now
         → is_half (word_at cells.now cell) ≡ false → Ends N.program cells.now explorer.old.floor false (Ref.Cell cell) }
@@ -462,9 +473,11 @@ fn cell_ends<N: Naming>(
     requires finished { AreFinished N.program cells.now explorer.old }
     requires no_halves { explorer.old.halves ≡ false }
     requires in_row { cell < length cells.now }
-    ensures settings { IfOk result (λ _. (explorer.new.floor ≡ explorer.old.floor) × (explorer.new.halves ≡ explorer.old.halves)) }
+    ensures settings { IfOk result (λ _. (explorer.new.floor ≡ explorer.old.floor)
+        × (explorer.new.halves ≡ explorer.old.halves)) }
     ensures finished { result ≡ Ok true → AreFinished N.program cells.now explorer.new }
-    ensures ends { result ≡ Ok true → is_half (word_at cells.now cell) ≡ false → Ends N.program cells.now explorer.old.floor false (Ref.Cell cell) }
+    ensures ends { result ≡ Ok true → is_half (word_at cells.now cell) ≡ false
+        → Ends N.program cells.now explorer.old.floor false (Ref.Cell cell) }
     ensures no_solution { result ≡ Ok false → Solvable (equations_of N.program cells.now) → ⊥ }
 {
     if is_half(cells.word(cell)) {
@@ -495,7 +508,8 @@ fn ends<N: Naming>(
     requires finished { AreFinished N.program cells.now explorer.old }
     requires no_halves { explorer.old.halves ≡ false }
     requires in_range { IsInRange N.program (length cells.now) root }
-    ensures settings { IfOk result (λ _. (explorer.new.floor ≡ explorer.old.floor) × (explorer.new.halves ≡ explorer.old.halves)) }
+    ensures settings { IfOk result (λ _. (explorer.new.floor ≡ explorer.old.floor)
+        × (explorer.new.halves ≡ explorer.old.halves)) }
     ensures finished { result ≡ Ok true → AreFinished N.program cells.now explorer.new }
     ensures ends { result ≡ Ok true → Ends N.program cells.now explorer.old.floor false root }
     ensures names_half { result ≡ Ok false → (t : Substitution) → Solves t (equations_of N.program cells.now)

@@ -1,6 +1,7 @@
 //! One pair in its turn: it is met, and the arguments of structures that are made equal come to do.
 
-ghost use Rattle.std.specs.Prelude.{◌≡◌, ◌≢◌, ◌⊎◌, ◌<◌, ◌≤◌, ◌+◌, ◌^◌, [], ◌∷◌, ◌++◌, ℕ, length, slice_get, Some, OnOk, vec_len, vec_capacity};
+ghost use Rattle.std.specs.Prelude.{◌≡◌, ◌≢◌, ◌⊎◌, ◌<◌, ◌≤◌, ◌+◌, ◌^◌, [], ◌∷◌, ◌++◌, ℕ, length, slice_get, Some};
+ghost use Rattle.std.specs.Prelude.{OnOk, vec_len, vec_capacity};
 ghost use Rattle.and_model.specs.declared.reference.Ref.{Ref};
 ghost use Rattle.and_program.specs.Loaded.{skeleton_of, arguments_at};
 ghost use Rattle.and_cells.specs.Ranges.{IsInRange};
@@ -49,15 +50,19 @@ pub(crate) fn step<C: Cells>(
     list: &mut PairList,
 ) -> Stepped
     requires program { C.program ≡ named loaded.now }
-    requires in_range { IsInRange C.program (C.seen cells.old).words pair.left × IsInRange C.program (C.seen cells.old).words pair.right }
-    requires written { IsWrittenIfNumber (C.seen cells.old) pair.left × IsWrittenIfNumber (C.seen cells.old) pair.right }
+    requires in_range { IsInRange C.program (C.seen cells.old).words pair.left
+        × IsInRange C.program (C.seen cells.old).words pair.right }
+    requires written { IsWrittenIfNumber (C.seen cells.old) pair.left
+        × IsWrittenIfNumber (C.seen cells.old) pair.right }
     ensures over { C.over cells.new ≡ C.over cells.old }
     ensures grew { C.Grew cells.old cells.new }
     ensures done { result ≡ Stepped.Done
-        → Steps C.program pair (C.seen cells.old) (C.seen cells.new) classes.old classes.new list.old list.new bound.old.items bound.new.items }
+        → Steps C.program pair (C.seen cells.old) (C.seen cells.new) classes.old classes.new list.old list.new
+        bound.old.items bound.new.items }
     ensures apart { (one other : Ref) → result ≡ Stepped.Apart one other
         → MeetApart C.program pair.left pair.right (C.seen cells.old) (C.seen cells.new) one other }
-    ensures stopped { result ≢ Stepped.Done → OnlyReads (C.seen cells.old) (C.seen cells.new) × (bound.new.items ≡ bound.old.items) }
+    ensures stopped { result ≢ Stepped.Done → OnlyReads (C.seen cells.old) (C.seen cells.new)
+        × (bound.new.items ≡ bound.old.items) }
     ensures lighter { result ≡ Stepped.Done → weight classes.new list.new ≤ weight classes.old list.old }
 {
     // Room for a cell is made before one is set, so that each that is set goes on the list.
@@ -106,7 +111,9 @@ fn descend(
     requires { (words : ℕ) × AreOfOneShape (named loaded.now) words left right }
     ensures done { result ≡ Stepped.Done
         → (InOneClass classes.old left right × (classes.new ≡ classes.old) × (list.new ≡ list.old))
-        ⊎ (Joins left right classes.old classes.new × (list.new ≡ list.old ++ pairs_of (parts_of (named loaded.now) left) (parts_of (named loaded.now) right))) }
+        ⊎ (Joins left right classes.old classes.new
+        × (list.new ≡ list.old ++ pairs_of (parts_of (named loaded.now) left)
+        (parts_of (named loaded.now) right))) }
     ensures no_end { (one other : Ref) → result ≢ Stepped.Apart one other }
     ensures lighter { result ≡ Stepped.Done → weight classes.new list.new ≤ weight classes.old list.old }
 {
@@ -129,7 +136,8 @@ pub(crate) fn push_arguments(
     list: &mut PairList,
 ) -> Result<(), AllocError>
     requires { (words : ℕ) × AreOfOneShape (named loaded.now) words left right }
-    ensures ok { OnOk result (list.new ≡ list.old ++ pairs_of (parts_of (named loaded.now) left) (parts_of (named loaded.now) right)) }
+    ensures ok { OnOk result (list.new ≡ list.old
+        ++ pairs_of (parts_of (named loaded.now) left) (parts_of (named loaded.now) right)) }
     ensures few { length list.new ≤ length list.old + 255 }
 {
     let left = as_structure(left);

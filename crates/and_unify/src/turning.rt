@@ -77,20 +77,27 @@ pub(crate) fn take_turn<C: Cells>(
 ) -> Turn
     requires program { C.program ≡ named loaded.now }
     requires pairs { AreInRange C.program (C.seen cells.old).words pairs.old × AreWritten (C.seen cells.old) pairs.old }
-    requires rights { AreInRange C.program (C.seen cells.old).words work.old.rights × AreWritten (C.seen cells.old) work.old.rights }
+    requires rights { AreInRange C.program (C.seen cells.old).words work.old.rights
+        × AreWritten (C.seen cells.old) work.old.rights }
     ensures over { C.over cells.new ≡ C.over cells.old }
     ensures grew { C.Grew cells.old cells.new }
     ensures again { result ≡ Turn.Again
-        → Turns C.program (stand (C.seen cells.old) pairs.old work.old fuel.old) (stand (C.seen cells.new) pairs.new work.new fuel.new) bound.old.items bound.new.items }
+        → Turns C.program (stand (C.seen cells.old) pairs.old work.old fuel.old)
+        (stand (C.seen cells.new) pairs.new work.new fuel.new) bound.old.items bound.new.items }
     ensures lighter { result ≡ Turn.Again
-        → weight work.new.classes pairs.new + length work.new.rights < weight work.old.classes pairs.old + length work.old.rights }
-    ensures stopped { result ≢ Turn.Again → OnlyReads (C.seen cells.old) (C.seen cells.new) × (bound.new.items ≡ bound.old.items) }
+        → weight work.new.classes pairs.new + length work.new.rights < weight work.old.classes pairs.old
+        + length work.old.rights }
+    ensures stopped { result ≢ Turn.Again → OnlyReads (C.seen cells.old) (C.seen cells.new)
+        × (bound.new.items ≡ bound.old.items) }
     ensures same { result ≡ Turn.Over Unified.Same
-        → Finishes (stand (C.seen cells.old) pairs.old work.old fuel.old) (stand (C.seen cells.new) pairs.new work.new fuel.new) }
+        → Finishes (stand (C.seen cells.old) pairs.old work.old fuel.old)
+        (stand (C.seen cells.new) pairs.new work.new fuel.new) }
     ensures put_off { result ≡ Turn.Over Unified.PutOff
-        → PutsOff (stand (C.seen cells.old) pairs.old work.old fuel.old) (stand (C.seen cells.new) pairs.new work.new fuel.new) }
+        → PutsOff (stand (C.seen cells.old) pairs.old work.old fuel.old)
+        (stand (C.seen cells.new) pairs.new work.new fuel.new) }
     ensures apart { (one other : Ref) → result ≡ Turn.Over (Unified.Apart one other)
-        → Breaks C.program (stand (C.seen cells.old) pairs.old work.old fuel.old) (stand (C.seen cells.new) pairs.new work.new fuel.new) one other }
+        → Breaks C.program (stand (C.seen cells.old) pairs.old work.old fuel.old)
+        (stand (C.seen cells.new) pairs.new work.new fuel.new) one other }
 {
     match pick_next(cells, fuel, pairs, work) {
         Pick::Old(pair) => after(step(
@@ -112,7 +119,8 @@ pub(crate) fn take_turn<C: Cells>(
 fn after(stepped: Stepped) -> Turn
     ensures again { result ≡ Turn.Again → stepped ≡ Stepped.Done }
     ensures stopped { result ≢ Turn.Again → stepped ≢ Stepped.Done }
-    ensures apart { (one other : Ref) → result ≡ Turn.Over (Unified.Apart one other) → stepped ≡ Stepped.Apart one other }
+    ensures apart { (one other : Ref) → result ≡ Turn.Over (Unified.Apart one other)
+        → stepped ≡ Stepped.Apart one other }
     ensures no_end { (result ≢ Turn.Over Unified.Same) × (result ≢ Turn.Over Unified.PutOff) }
 {
     match stepped {
@@ -129,13 +137,17 @@ fn pick_next<C: Cells>(cells: &mut C, fuel: &mut u64, pairs: &mut PairList, work
     ensures grew { C.Grew cells.old cells.new }
     ensures reads { OnlyReads (C.seen cells.old) (C.seen cells.new) }
     ensures old_pair { (p : Pair) → result ≡ Pick.Old p
-        → PicksOld p (stand (C.seen cells.old) pairs.old work.old fuel.old) (stand (C.seen cells.new) pairs.new work.new fuel.new) }
+        → PicksOld p (stand (C.seen cells.old) pairs.old work.old fuel.old)
+        (stand (C.seen cells.new) pairs.new work.new fuel.new) }
     ensures new_pair { (p : Pair) → result ≡ Pick.New p
-        → PicksNew p (stand (C.seen cells.old) pairs.old work.old fuel.old) (stand (C.seen cells.new) pairs.new work.new fuel.new) }
+        → PicksNew p (stand (C.seen cells.old) pairs.old work.old fuel.old)
+        (stand (C.seen cells.new) pairs.new work.new fuel.new) }
     ensures nothing { result ≡ Pick.Nothing
-        → Finishes (stand (C.seen cells.old) pairs.old work.old fuel.old) (stand (C.seen cells.new) pairs.new work.new fuel.new) }
+        → Finishes (stand (C.seen cells.old) pairs.old work.old fuel.old)
+        (stand (C.seen cells.new) pairs.new work.new fuel.new) }
     ensures put_off { result ≡ Pick.PutOff
-        → PutsOff (stand (C.seen cells.old) pairs.old work.old fuel.old) (stand (C.seen cells.new) pairs.new work.new fuel.new) }
+        → PutsOff (stand (C.seen cells.old) pairs.old work.old fuel.old)
+        (stand (C.seen cells.new) pairs.new work.new fuel.new) }
 {
     if let Some(pair) = work.rights.pop() {
         return Pick::Old(pair);

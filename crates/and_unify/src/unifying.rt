@@ -18,7 +18,8 @@ use and_model::Ref;
 use and_program::Loaded;
 use std::alloc::Global;
 
-/// So many structures more than the greatest node among pairs has a number are descended into plainly before classes are made.
+/// So many structures more than the greatest node among pairs has a number are descended into plainly before classes
+/// are made.
 const PLAIN_STRUCTURES: u64 = 1024;
 
 /// What became of pairs.
@@ -87,9 +88,11 @@ pub(crate) fn solve<C: Cells>(
     ensures unifies { Unifies C.program (C.seen cells.old) (C.seen cells.new) pairs.old pairs.new result }
     ensures spends { Spends C.program (C.seen cells.new) pairs.old pairs.new fuel.old fuel.new result }
     // Where the row is told, what was set here is on the list, and leads on from the sides.
-    ensures sets { IfSome (C.seen cells.old).told (λ row. SetPlaces C.program (C.seen cells.old) (C.seen cells.new) pairs.old bound.new.items) }
+    ensures sets { IfSome (C.seen cells.old).told
+        (λ row. SetPlaces C.program (C.seen cells.old) (C.seen cells.new) pairs.old bound.new.items) }
     ensures bound { Lists (C.seen cells.old) (C.seen cells.new) bound.old.items bound.new.items }
-    ensures suffice { (result ≡ Unified.Same) ⊎ (result ≡ Unified.PutOff) → Suffice C.program (C.seen cells.new) pairs.new pairs.old }
+    ensures suffice { (result ≡ Unified.Same) ⊎ (result ≡ Unified.PutOff)
+        → Suffice C.program (C.seen cells.new) pairs.new pairs.old }
 {
     loaded.skeleton_is_of_the_program();
     let mut work = Work::new(alloc);

@@ -1,11 +1,10 @@
 -- How a walk goes on where a branch is forked, and with the children of a fork.
 use Rattle.std.proofs.Common.{ℕ, suc, ◌+◌, ◌-◌, ◌^◌, ◌≡◌, ◌≢◌, ◌<◌, ◌≤◌, ◌↔◌, Bool, true, false, ◌||◌, true≢false, List, [], ◌∷◌, ◌++◌}
 use Rattle.std.proofs.Common.{length}
-use Rattle.std.proofs.Common.{refl, sym, ap, ◌∙◌, subst, arith, inl, inr, Contains, append_assoc}
+use Rattle.std.proofs.Common.{refl, sym, ap, ◌∙◌, subst, arith, Contains, append_assoc}
 use Rattle.std.specs.Prelude.{Option, Some, None}
 use Rattle.std.specs.Option.{option_or}
 use Rattle.std.proofs.Math.Bool.{or-false}
-use Rattle.std.proofs.lemmas.Bool.{cases_lt}
 use Rattle.and_model.specs.Limits.{at_goal}
 use Rattle.and_model.specs.Listing
 use Rattle.and_model.specs.Programs.{clause_at}
@@ -23,18 +22,20 @@ use Rattle.and_branch.specs.Branches.{Held, IsBranchOf, IsOpenGoal}
 use Rattle.and_branch.specs.States.{numbers, IsState, IsCutOf}
 use Rattle.and_branch.specs.declared.state.BranchState.TheVariants as told
 use Rattle.and_branch.specs.Children.{Fork, AreChildren, IsChild, IsForkOf}
+use Rattle.and_branch.specs.Origins.{GoesBack, GoBackFrom, KeepsBack}
+use Rattle.and_branch.proofs.KeptOrigins.{go_back_on}
 use Rattle.and_answers.specs.Kept.{listed, total}
 use Rattle.and_answers.specs.declared.found.Found.{Found}
 use Rattle.and_walk_laws.specs.Walks.{Owes, SplitsBy}
 use Rattle.and_walk_laws.proofs.Forking.{owed_fitting}
-use Rattle.and_walk.specs.Walking.{StackHas, IsEndSoFar, Walking, GoesOn, SameButCut}
-use Rattle.and_walk.specs.declared.stack.Task.{Task}
-use Rattle.and_walk.specs.declared.stack.Task.TheVariants.{One, Children}
-use Rattle.and_walk.proofs.Turns.{fewer_gone, fewer_forked, fewer_next, fewer_last}
-use Rattle.and_walk.proofs.Splitting.{too_heavy, split_weighs, split_grows, candidate_splits, split_candidate, some_splits, FirstSplit}
-use Rattle.and_walk.proofs.Splitting.{first_split, no_splits}
-use Rattle.and_walk.proofs.Ending.{one_counted, end_counted, end_cut}
-use Rattle.and_walk.proofs.Going.{query, Top, top_of, with_entries, state_within}
+use Rattle.and_search_laws.specs.Ended.{IsEndSoFar, SameButCut}
+use Rattle.and_walk.specs.Walking.{StackHas, Walking, GoesOn, Task, One, Children, tasks_of, parents_of}
+use Rattle.and_walk.proofs.Turns.{fewer_forked, fewer_next, fewer_last}
+use Rattle.and_search_laws.proofs.Splitting.{too_heavy, split_weighs, split_grows, candidate_splits, split_candidate, some_splits, FirstSplit}
+use Rattle.and_search_laws.proofs.Splitting.{first_split, no_splits}
+use Rattle.and_search_laws.proofs.Ending.{one_counted, end_counted, end_cut}
+use Rattle.and_search_laws.proofs.Telling.{state_within}
+use Rattle.and_walk.proofs.Going.{query, Top, top_of, with_entries}
 
 -- a list that is not empty has a first item
 some_first : (cs : List ℕ) → cs ≢ [] → (c : ℕ) × Contains cs c
@@ -134,23 +135,25 @@ module _ (P : NamedProgram) (limit : ℕ) where
         longer = is.longer ∙ x.longer;
       }
 
-module _ {N : Type 0} (P : NamedProgram) (limit : ℕ) where
+length_numbers : (cs : List ClauseNo) → length (numbers cs) ≡ length cs
+length_numbers [] = refl
+length_numbers (c ∷ cs) = ap suc (length_numbers cs)
+
+module _ (P : NamedProgram) (limit : ℕ) where
   -- The branch on top is forked: its children are on top now.
-  pub forked : (old new : Found) (b : Held) (stack : List (Task N)) (g : Goal) (clauses : List ClauseNo) (cut : Option goal.Cut.Cut)
-      (f : Fork)
-      (count : ℕ) → Walking P limit old (One b ∷ stack)
+  pub forked : (old new : Found) (b : Held) (stack : List Task) (g : Goal) (clauses : List ClauseNo) (cut : Option goal.Cut.Cut) (f : Fork)
+      → Walking P limit old (One b ∷ stack)
       → ((t : QueryTree P.program) → IsBranchOf P b t → IsState P b t (told.Fork g clauses cut))
       → new.forks ≡ total old.forks 1 → new.failed ≡ old.failed → listed new ≡ listed old → new.cut ≡ option_or old.cut cut
       → f.parent ≡ b → f.clauses ≡ numbers clauses → ((t : QueryTree P.program) → IsBranchOf P b t → AreChildren P f t)
-      → count ≡ length clauses → count ≤ 2 ^ 64 → GoesOn P limit (One b ∷ stack) new (Children f count ∷ stack)
-  forked old new b stack g clauses cut f count w state forks failed same kept parent clauses_are children counted few =
+      → length clauses ≤ 2 ^ 64 → GoesOn P limit (One b ∷ stack) new (Children f ∷ stack)
+  forked old new b stack g clauses cut f w state forks failed same kept parent clauses_are children few =
       go (top_of P limit old b stack w)
     where
-      length_numbers : (cs : List ClauseNo) → length (numbers cs) ≡ length cs
-      length_numbers [] = refl
-      length_numbers (c ∷ cs) = ap suc (length_numbers cs)
+      as_many : length f.clauses ≡ length clauses
+      as_many = ap (λ (cs : List ℕ). length cs) clauses_are ∙ length_numbers clauses
 
-      go : Top P limit old b stack → GoesOn P limit (One b ∷ stack) new (Children f count ∷ stack)
+      go : Top P limit old b stack → GoesOn P limit (One b ∷ stack) new (Children f ∷ stack)
       go x =
           let reached : ReachedBy P.program limit b.key x.tree =
           subst (λ n. ReachedBy P.program n b.key x.tree) x.limited x.branch.reached in
@@ -168,7 +171,7 @@ module _ {N : Type 0} (P : NamedProgram) (limit : ℕ) where
                   tree = x.tree;
                   children = children x.tree x.branch;
                   limited = ap (λ (d : Held). d.limit) parent ∙ x.limited;
-                  counted = counted ∙ sym (length_numbers clauses) ∙ ap (λ (cs : List ℕ). length cs) (sym clauses_are);
+                  some = subst (λ (cs : List ℕ). cs ≢ []) (sym clauses_are) now.3;
                   splits = subst (λ cs. SplitsBy x.tree cs made.0) (sym clauses_are) made.1;
                 },
                 x.below,
@@ -182,27 +185,25 @@ module _ {N : Type 0} (P : NamedProgram) (limit : ℕ) where
               end = forked_end P limit old new x.forks x.failed x.is_cut x.tree o b.key (numbers clauses)
                   first cut reached now is_cut forks failed kept x.end;
             };
-            fewer = fewer_forked limit b f count stack (ap (λ (d : Held). d.used) parent)
-                (omega (arith, room P limit x.tree o (numbers clauses) first now, x.branch.used)) few;
+            fewer = fewer_forked limit b f stack (ap (λ (d : Held). d.used) parent)
+                (omega (arith, room P limit x.tree o (numbers clauses) first now, x.branch.used)) (omega (arith, as_many, few));
           }
 
   -- (as the functions tell it)
-  pub forked_on : (old counted new : Found) (b : Held) (stack after : List (Task N)) (g : Goal) (clauses : List ClauseNo)
-      (cut : Option goal.Cut.Cut) (split f : Fork) (count : ℕ) → Walking P limit old (One b ∷ stack)
+  pub forked_on : (old counted new : Found) (b : Held) (fs after : List Fork) (g : Goal) (clauses : List ClauseNo)
+      (cut : Option goal.Cut.Cut) (f : Fork) → Walking P limit old (One b ∷ tasks_of fs)
       → ((t : QueryTree P.program) → IsBranchOf P b t → IsState P b t (told.Fork g clauses cut))
       → counted.forks ≡ total old.forks 1 → counted.failed ≡ old.failed → (counted.cut ≡ old.cut) × (listed counted ≡ listed old)
-      → SameButCut counted new → new.cut ≡ option_or counted.cut cut → IsForkOf b g (numbers clauses) split
-      → ((t : QueryTree P.program) → IsBranchOf P b t → AreChildren P split t) → f ≡ split → count ≡ length clauses → count ≤ 2 ^ 64
-      → after ≡ Children f count ∷ stack → GoesOn P limit (One b ∷ stack) new after
-  forked_on old counted new b stack after g clauses cut split f count w state forks failed rest same kept is made whole count_is few top =
-      subst (λ ts. GoesOn P limit (One b ∷ stack) new ts) (sym top)
-      (forked old new b stack g clauses cut f count w state (same.forks ∙ forks) (same.failed ∙ failed) (same.entries ∙ rest.1)
-      (kept ∙ ap (λ c. option_or c cut) rest.0) (ap (λ (x : Fork). x.parent) whole ∙ is.parent)
-      (ap (λ (x : Fork). x.clauses) whole ∙ is.clauses_are)
-      (λ t branch. subst (λ (x : Fork). AreChildren P x t) (sym whole) (made t branch)) count_is few)
+      → SameButCut counted new → new.cut ≡ option_or counted.cut cut → IsForkOf b g (numbers clauses) f
+      → ((t : QueryTree P.program) → IsBranchOf P b t → AreChildren P f t) → length clauses ≤ 2 ^ 64
+      → after ≡ f ∷ fs → GoesOn P limit (One b ∷ tasks_of fs) new (tasks_of after)
+  forked_on old counted new b fs after g clauses cut f w state forks failed rest same kept is made few top =
+      subst (λ (l : List Fork). GoesOn P limit (One b ∷ tasks_of fs) new (tasks_of l)) (sym top)
+      (forked old new b (tasks_of fs) g clauses cut f w state (same.forks ∙ forks) (same.failed ∙ failed) (same.entries ∙ rest.1)
+      (kept ∙ ap (λ c. option_or c cut) rest.0) is.parent is.clauses_are made few)
 
-  -- (what a split of the branch is asked)
-  pub fork_there : (found : Found) (b : Held) (stack : List (Task N)) (g : Goal) (clauses : List ClauseNo) (cut : Option goal.Cut.Cut)
+  -- (what a fork of the branch is asked)
+  pub fork_there : (found : Found) (b : Held) (stack : List Task) (g : Goal) (clauses : List ClauseNo) (cut : Option goal.Cut.Cut)
       → Walking P limit found (One b ∷ stack)
       → ((t : QueryTree P.program) → IsBranchOf P b t → IsState P b t (told.Fork g clauses cut))
       → (t : QueryTree P.program) × (o : Open t) × (first : Option ℕ) × IsBranchOf P b t × IsOpenGoal P b.reductions t o g
@@ -212,8 +213,16 @@ module _ {N : Type 0} (P : NamedProgram) (limit : ℕ) where
       let (o, first, goal_is, is_cut, s) = state x.tree x.branch in
       (x.tree, o, first, x.branch, goal_is, s)
 
+  -- (and what their children are)
+  pub children_there : (found : Found) (f : Fork) (stack : List Task) → Walking P limit found (Children f ∷ stack)
+      → (t : QueryTree P.program) × AreChildren P f t
+  children_there found f stack w = let (all, others, parts, come, below) = w.has in (come.tree, come.children)
+
+  pub some_there : (found : Found) (f : Fork) (stack : List Task) → Walking P limit found (Children f ∷ stack) → f.clauses ≢ []
+  some_there found f stack w = let (all, others, parts, come, below) = w.has in come.some
+
   -- Children on top, of which the next is taken.
-  record Next (found : Found) (f g : Fork) (count : ℕ) (b : Held) (stack : List (Task N)) : Type 0 where
+  record Next (found : Found) (f g : Fork) (b : Held) (stack : List Task) : Type 0 where
     pub tree : QueryTree P.program
     pub child : QueryTree P.program
     pub rest : List (QueryTree P.program)
@@ -223,7 +232,7 @@ module _ {N : Type 0} (P : NamedProgram) (limit : ℕ) where
     pub children : AreChildren P g tree
     pub parent_limited : g.parent.limit ≡ limit
     pub splits : SplitsBy tree g.clauses rest
-    pub counted : count ≡ suc (length g.clauses)
+    pub counted : length f.clauses ≡ suc (length g.clauses)
     pub grows : f.parent.used < b.used
     pub below : StackHas P limit stack others
     pub forks : ℕ
@@ -232,9 +241,9 @@ module _ {N : Type 0} (P : NamedProgram) (limit : ℕ) where
     pub owes : Owes P.program limit (query P) (child ∷ rest ++ others) (listed found) forks failed is_cut
     pub end : IsEndSoFar P.program limit found forks failed is_cut found.cut
 
-  next_of : (found : Found) (f g : Fork) (count : ℕ) (b : Held) (stack : List (Task N)) → Walking P limit found (Children f count ∷ stack)
-      → IsChild P f g b → Next found f g count b stack
-  next_of found f g count b stack w is =
+  next_of : (found : Found) (f g : Fork) (b : Held) (stack : List Task) → Walking P limit found (Children f ∷ stack)
+      → IsChild P f g b → Next found f g b stack
+  next_of found f g b stack w is =
       let (all, others, parts, come, below) = w.has in
       let one : FirstSplit come.tree is.clause g.clauses all =
       first_split come.tree is.clause g.clauses f.clauses all come.splits is.next in
@@ -250,7 +259,7 @@ module _ {N : Type 0} (P : NamedProgram) (limit : ℕ) where
         children = others_stand P limit f g b come.tree is come.children;
         parent_limited = ap (λ (d : Held). d.limit) is.parent ∙ come.limited;
         splits = one.others;
-        counted = come.counted ∙ ap (λ (cs : List ℕ). length cs) is.next;
+        counted = ap (λ (cs : List ℕ). length cs) is.next;
         grows = omega (arith, split_grows come.tree one.next is.clause one.split, branch.used, come.children.branch.used);
         below = below;
         forks = w.forks;
@@ -261,12 +270,10 @@ module _ {N : Type 0} (P : NamedProgram) (limit : ℕ) where
       }
 
   -- The next child is on top, and below it those that are still to come.
-  pub child_next : (found : Found) (f g : Fork) (count : ℕ) (b : Held) (stack : List (Task N))
-      → Walking P limit found (Children f count ∷ stack)
-      → IsChild P f g b → GoesOn P limit (Children f count ∷ stack) found (One b ∷ Children g (count - 1) ∷ stack)
-  child_next found f g count b stack w is =
-      let x = next_of found f g count b stack w is in
-      let left : count - 1 ≡ length g.clauses = omega (arith, x.counted) in
+  child_next : (found : Found) (f g : Fork) (b : Held) (stack : List Task) → Walking P limit found (Children f ∷ stack) → IsChild P f g b
+      → 1 < length f.clauses → GoesOn P limit (Children f ∷ stack) found (One b ∷ Children g ∷ stack)
+  child_next found f g b stack w is many =
+      let x = next_of found f g b stack w is in
       record {
         walking = record {
           trees = x.child ∷ x.rest ++ x.others;
@@ -279,7 +286,13 @@ module _ {N : Type 0} (P : NamedProgram) (limit : ℕ) where
               x.rest,
               x.others,
               refl,
-              record { tree = x.tree; children = x.children; limited = x.parent_limited; counted = left; splits = x.splits },
+              record {
+                tree = x.tree;
+                children = x.children;
+                limited = x.parent_limited;
+                some = λ none. absurd (omega (arith, x.counted, many, ap (λ (cs : List ℕ). length cs) none));
+                splits = x.splits;
+              },
               x.below,
             ),
           );
@@ -289,16 +302,15 @@ module _ {N : Type 0} (P : NamedProgram) (limit : ℕ) where
           owes = x.owes;
           end = x.end;
         };
-        fewer = fewer_next limit f g count (count - 1) b stack (omega (arith, x.counted)) (ap (λ (d : Held). d.used) is.parent) x.grows;
+        fewer = fewer_next limit f g b stack x.counted (ap (λ (d : Held). d.used) is.parent) x.grows;
       }
 
   -- The last child is on top.
-  pub child_last : (found : Found) (f g : Fork) (count : ℕ) (b : Held) (stack : List (Task N))
-      → Walking P limit found (Children f count ∷ stack)
-      → IsChild P f g b → count ≤ 1 → GoesOn P limit (Children f count ∷ stack) found (One b ∷ stack)
-  child_last found f g count b stack w is few =
-      let x = next_of found f g count b stack w is in
-      let none : g.clauses ≡ [] = no_length g.clauses (omega (arith, x.counted)) in
+  pub child_last : (found : Found) (f g : Fork) (b : Held) (stack : List Task) → Walking P limit found (Children f ∷ stack)
+      → IsChild P f g b → length f.clauses ≤ 1 → GoesOn P limit (Children f ∷ stack) found (One b ∷ stack)
+  child_last found f g b stack w is few =
+      let x = next_of found f g b stack w is in
+      let none : g.clauses ≡ [] = no_length g.clauses (omega (arith, x.counted, few)) in
       let empty : x.rest ≡ [] = no_splits x.tree g.clauses x.rest x.splits none in
       record {
         walking = record {
@@ -311,44 +323,42 @@ module _ {N : Type 0} (P : NamedProgram) (limit : ℕ) where
               empty x.owes;
           end = x.end;
         };
-        fewer = fewer_last limit f count 0 b stack (omega (arith, x.counted, ap (λ (cs : List ℕ). length cs) none)) x.grows;
+        fewer = fewer_last limit f (length g.clauses) b stack x.counted x.grows;
       }
     where
       no_length : (cs : List ℕ) → length cs ≡ 0 → cs ≡ []
       no_length [] e = refl
       no_length (c ∷ cs) e = absurd (omega arith)
 
-  -- The next child was put on top of those that are still to come.
-  pub child_taken : (found : Found) (f g : Fork) (count : ℕ) (b : Held) (stack middle new : List (Task N))
-      → Walking P limit found (Children f count ∷ stack) → IsChild P f g b → middle ≡ Children g (count - 1) ∷ stack → new ≡ One b ∷ middle
-      → GoesOn P limit (Children f count ∷ stack) found new
-  child_taken found f g count b stack middle new w is below top =
-      let e : new ≡ One b ∷ Children g (count - 1) ∷ stack = top ∙ ap (λ ts. One b ∷ ts) below in
-      subst (λ ts. GoesOn P limit (Children f count ∷ stack) found ts) (sym e) (child_next found f g count b stack w is)
+  -- The next child was made, and those that are still to come were put back.
+  pub child_taken : (found : Found) (f g : Fork) (b : Held) (fs after : List Fork) → Walking P limit found (Children f ∷ tasks_of fs)
+      → IsChild P f g b → 1 < length f.clauses → after ≡ g ∷ fs
+      → GoesOn P limit (Children f ∷ tasks_of fs) found (One b ∷ tasks_of after)
+  child_taken found f g b fs after w is many top =
+      subst (λ (l : List Fork). GoesOn P limit (Children f ∷ tasks_of fs) found (One b ∷ tasks_of l)) (sym top)
+      (child_next found f g b (tasks_of fs) w is many)
 
-  -- The last child was put on top.
-  pub last_taken : (found : Found) (f g : Fork) (count : ℕ) (b : Held) (stack new : List (Task N))
-      → Walking P limit found (Children f count ∷ stack) → IsChild P f g b → count ≤ 1 → new ≡ One b ∷ stack
-      → GoesOn P limit (Children f count ∷ stack) found new
-  last_taken found f g count b stack new w is few top =
-      subst (λ ts. GoesOn P limit (Children f count ∷ stack) found ts) (sym top) (child_last found f g count b stack w is few)
+-- ---- What can be had again
 
-  -- No child was left.
-  pub child_none : (found : Found) (f : Fork) (count : ℕ) (stack : List (Task N)) → Walking P limit found (Children f count ∷ stack)
-      → f.clauses ≡ [] → GoesOn P limit (Children f count ∷ stack) found stack
-  child_none found f count stack w none =
-      let (all, others, parts, come, below) = w.has in
-      let empty : all ≡ [] = no_splits come.tree f.clauses all come.splits none in
-      let trees : w.trees ≡ others = parts ∙ ap (λ ts. ts ++ others) empty in
-      record {
-        walking = record {
-          trees = others;
-          has = below;
-          forks = w.forks;
-          failed = w.failed;
-          is_cut = w.is_cut;
-          owes = subst (λ ts. Owes P.program limit (query P) ts (listed found) w.forks w.failed w.is_cut) trees w.owes;
-          end = w.end;
-        };
-        fewer = fewer_gone limit (Children f count) stack;
-      }
+-- A branch that was forked can be had again from what is left of it, and those below from it.
+pub forked_back : (b left : Held) (g : Goal) (clauses : List ℕ) (f : Fork) (fs after : List Fork) → IsForkOf b g clauses f → GoesBack b left
+    → GoBackFrom b (parents_of fs) → after ≡ f ∷ fs → GoBackFrom left (parents_of after)
+forked_back b left g clauses f fs after is back below top =
+    subst (λ (l : List Fork). GoBackFrom left (parents_of l)) (sym top) (
+      subst (λ (h : Held). GoesBack h left) (sym is.parent) back,
+      subst (λ (h : Held). GoBackFrom h (parents_of fs)) (sym is.parent) below,
+    )
+
+-- So it can from the next child,
+pub child_back : (P : NamedProgram) (left b : Held) (f g : Fork) (fs after : List Fork) → IsChild P f g b → GoesBack f.parent b
+    → GoBackFrom left (parents_of (f ∷ fs)) → after ≡ g ∷ fs → GoBackFrom b (parents_of after)
+child_back P left b f g fs after is back (has, below) top =
+    subst (λ (l : List Fork). GoBackFrom b (parents_of l)) (sym top) (
+      subst (λ (h : Held). GoesBack h b) (sym is.parent) back,
+      subst (λ (h : Held). GoBackFrom h (parents_of fs)) (sym is.parent) below,
+    )
+
+-- and those below from the last.
+pub last_back : (left b : Held) (f : Fork) (fs : List Fork) → KeepsBack f.parent b → GoBackFrom left (parents_of (f ∷ fs))
+    → GoBackFrom b (parents_of fs)
+last_back left b f fs keeps (has, below) = go_back_on f.parent b (parents_of fs) keeps below

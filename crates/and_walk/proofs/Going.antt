@@ -3,38 +3,37 @@ use Rattle.std.proofs.Common.{ℕ, ◌+◌, ◌≡◌, ◌<◌, ◌≤◌, Bool,
 use Rattle.std.proofs.Common.{refl, sym, ap, ◌∙◌, subst, arith, inl, inr}
 use Rattle.std.specs.Prelude.{Some, None}
 use Rattle.std.specs.Option.{option_or}
-use Rattle.and_model.specs.Limits.{at_goal, query_alone}
+use Rattle.and_model.specs.Limits.{at_goal}
 use Rattle.and_model.specs.Listing
-use Rattle.and_model.specs.Listing.{Ends, Outcome}
+use Rattle.and_model.specs.Listing.{Ends}
 use Rattle.and_model.specs.Programs.{clause_weight}
-use Rattle.and_model.specs.Trees.{QueryTree, Open, blank, query_agenda, code, reduce, weight}
-use Rattle.and_model.specs.Reached.{Step, Steps, Dead, CandidateOf, ReachedBy}
+use Rattle.and_model.specs.Trees.{QueryTree, Open, blank, query_agenda, code, weight}
+use Rattle.and_model.specs.Reached.{Steps, Dead, ReachedBy}
 use Rattle.and_model.specs.declared.goal
-use Rattle.and_laws.proofs.Order.{reduce_weight, below_weight, blank_weighs}
+use Rattle.and_laws.proofs.Order.{below_weight, blank_weighs}
 use Rattle.and_laws.proofs.Agreeing.{steps_above}
 use Rattle.and_laws.proofs.Reaching.{reached_within}
 use Rattle.and_laws.proofs.Ordered.{contains_none}
 use Rattle.and_laws.proofs.Pairwise.{all_pairs_none}
 use Rattle.and_cells.specs.Ranges.{NamedProgram}
-use Rattle.and_branch_laws.specs.States.{State, StateOf, over_one, over_all, IsCut}
+use Rattle.and_branch_laws.specs.States.{StateOf, over_one, over_all}
 use Rattle.and_branch_laws.proofs.Going.{over_one_cut, over_all_cut}
 use Rattle.and_branch.specs.Branches.{Held, IsBranchOf, SameKey}
 use Rattle.and_branch.specs.States.{IsState}
 use Rattle.and_branch.specs.declared.state.BranchState.TheVariants as told
-use Rattle.and_code.specs.Written.{all_written}
 use Rattle.and_answers.specs.Kept.{listed, total, SameEnd}
 use Rattle.and_answers.specs.declared.found.Found.{Found}
 use Rattle.and_walk_laws.specs.Walks.{Walks, Owes, SplitsBy}
 use Rattle.and_walk_laws.proofs.Owing.{owed_root, owed_steps, owed_dead, owed_end, owed_over, owed_none}
 use Rattle.and_walk_laws.proofs.Forking.{owed_fitting}
-use Rattle.and_walk_laws.proofs.Numbering.{alone_over}
-use Rattle.and_walk.specs.Found.{IsEnd, IsFound, IsWalk, WasWalked}
-use Rattle.and_walk.specs.Walking.{StackHas, IsEndSoFar, Walking, GoesOn, turns}
-use Rattle.and_walk.specs.declared.stack.Task.{Task}
-use Rattle.and_walk.specs.declared.stack.Task.TheVariants.{One}
+use Rattle.and_search_laws.specs.Found.{IsFound}
+use Rattle.and_walk.specs.Walked.{IsWalk, WasWalked}
+use Rattle.and_search_laws.specs.Ended.{IsEndSoFar}
+use Rattle.and_walk.specs.Walking.{StackHas, Walking, GoesOn, turns, Task, One}
 use Rattle.and_walk.proofs.Turns.{fewer_gone, grown_turns}
-use Rattle.and_walk.proofs.Splitting.{too_heavy, split_weighs, candidate_splits, split_candidate}
-use Rattle.and_walk.proofs.Ending.{one_counted, MeetsLimit, end_counted, end_cut, walked_found}
+use Rattle.and_search_laws.proofs.Splitting.{too_heavy, split_weighs, candidate_splits, split_candidate, one_over}
+use Rattle.and_search_laws.proofs.Telling.{state_within}
+use Rattle.and_search_laws.proofs.Ending.{one_counted, MeetsLimit, end_counted, end_cut, walked_found}
 
 abbrev pub query : (P : NamedProgram) → QueryTree P.program
 query P = blank (query_agenda P.program)
@@ -45,34 +44,10 @@ module _ (P : NamedProgram) (limit : ℕ) where
       → Owes P.program limit (query P) ts es f m b → Owes P.program limit (query P) ts ks f m b
   with_entries ts es ks f m b same o = subst (λ z. Owes P.program limit (query P) ts z f m b) (sym same) o
 
-  -- The query by itself was too heavy.
-  pub alone : (found : Found) (cut : goal.Cut.Cut) → listed found ≡ [] → found.cut ≡ Some cut → limit < clause_weight P.program.query
-      → IsCut {P = P.program} (all_written cut.partial) cut.goal cut.clause.0 query_alone → IsFound P.program limit found
-  alone found cut none is_cut heavy is =
-      let weighs : weight (query P) ≡ clause_weight P.program.query = omega (arith, blank_weighs P.program (query_agenda P.program)) in
-      let both = alone_over P.program limit (omega (arith, weighs, heavy)) in
-      record {
-        listing = subst (λ es. Listing.Listing P.program limit es) (sym none) both.0;
-        end = subst (λ c. IsEnd P.program limit found c) (sym is_cut) (query_alone, is, both.1);
-      }
-
   pub never_walked : (found : Found) → limit < clause_weight P.program.query → WasWalked P.program limit found
   never_walked found heavy =
       let weighs : weight (query P) ≡ clause_weight P.program.query = omega (arith, blank_weighs P.program (query_agenda P.program)) in
       inl (omega (arith, weighs, heavy))
-
-  -- the state under this limit
-  pub state_within : (b : Held) (t : QueryTree P.program) (s : State t) → b.limit ≡ limit → StateOf P.program b.limit t s
-      → StateOf P.program limit t s
-  state_within b t s same x = subst (λ n. StateOf P.program n t s) same x
-
-  -- The goal's one candidate is too heavy: a Step that is over the limit.
-  one_over : (t : QueryTree P.program) (o : Open t) (c : ℕ) → StateOf P.program limit t (over_one o c)
-      → (next : QueryTree P.program) × Step t next × (limit < weight next)
-  one_over t o c x =
-      let k : CandidateOf t x.0 o c = x.4.0 in
-      let heavy = too_heavy limit t c (λ fits. x.3 o c x.4 fits) in
-      (reduce t o c k.0, (x.0, x.1, x.2.0, o, c, k.0, refl, x.4.1), omega (arith, heavy, reduce_weight t o c k.0))
 
   -- All candidates of the leftmost goal are too heavy: a fork with no split that fits.
   all_over : (ts : List (QueryTree P.program)) (es : List Listing.Entry) (f m : ℕ) (b : Bool) (t : QueryTree P.program) (o : Open t) (c : ℕ)
@@ -91,9 +66,9 @@ module _ (P : NamedProgram) (limit : ℕ) where
         λ s. refl,
       )
 
-module _ {N : Type 0} (P : NamedProgram) (limit : ℕ) where
+module _ (P : NamedProgram) (limit : ℕ) where
   -- A walk with a branch on top, taken apart.
-  pub record Top (found : Found) (b : Held) (stack : List (Task N)) : Type 0 where
+  pub record Top (found : Found) (b : Held) (stack : List Task) : Type 0 where
     pub tree : QueryTree P.program
     pub others : List (QueryTree P.program)
     pub branch : IsBranchOf P b tree
@@ -105,7 +80,7 @@ module _ {N : Type 0} (P : NamedProgram) (limit : ℕ) where
     pub owes : Owes P.program limit (query P) (tree ∷ others) (listed found) forks failed is_cut
     pub end : IsEndSoFar P.program limit found forks failed is_cut found.cut
 
-  pub top_of : (found : Found) (b : Held) (stack : List (Task N)) → Walking P limit found (One b ∷ stack) → Top found b stack
+  pub top_of : (found : Found) (b : Held) (stack : List Task) → Walking P limit found (One b ∷ stack) → Top found b stack
   top_of found b stack w =
       let (first, others, parts, one, below) = w.has in
       let trees : w.trees ≡ one.tree ∷ others = parts ∙ ap (λ ts. ts ++ others) one.alone in
@@ -122,7 +97,7 @@ module _ {N : Type 0} (P : NamedProgram) (limit : ℕ) where
         end = w.end;
       }
 
-  of_top : (found : Found) (b : Held) (stack : List (Task N)) → Top found b stack → Walking P limit found (One b ∷ stack)
+  of_top : (found : Found) (b : Held) (stack : List Task) → Top found b stack → Walking P limit found (One b ∷ stack)
   of_top found b stack x = record {
     trees = x.tree ∷ x.others;
     has = (x.tree ∷ [], x.others, refl, record { tree = x.tree; branch = x.branch; limited = x.limited; alone = refl }, x.below);
@@ -135,7 +110,7 @@ module _ {N : Type 0} (P : NamedProgram) (limit : ℕ) where
 
   -- A walk begins with the branch of the query.
   pub begun : (found : Found) (b : Held) → listed found ≡ [] → (found.forks ≡ 0) × (found.failed ≡ 0) × (found.cut ≡ None)
-      → IsBranchOf P b (query P) → b.limit ≡ limit → Walking {N = N} P limit found (One b ∷ [])
+      → IsBranchOf P b (query P) → b.limit ≡ limit → Walking P limit found (One b ∷ [])
   begun found b none start branch limited = of_top found b [] (record {
     tree = query P;
     others = [];
@@ -150,15 +125,15 @@ module _ {N : Type 0} (P : NamedProgram) (limit : ℕ) where
   })
 
   -- A walk is over where the stack is empty.
-  has_walked : (found : Found) (w : Walking {N = N} P limit found []) → Walks P.program limit (query P) (listed found) w.forks w.failed w.is_cut
+  has_walked : (found : Found) (w : Walking P limit found []) → Walks P.program limit (query P) (listed found) w.forks w.failed w.is_cut
   has_walked found w =
       owed_none P.program limit (query P) (listed found) w.forks w.failed w.is_cut
       (subst (λ ts. Owes P.program limit (query P) ts (listed found) w.forks w.failed w.is_cut) w.has w.owes)
 
-  pub over : (found : Found) → Walking {N = N} P limit found [] → IsFound P.program limit found
+  pub over : (found : Found) → Walking P limit found [] → IsFound P.program limit found
   over found w = walked_found P.program limit found w.forks w.failed w.is_cut (has_walked found w) w.end
 
-  pub over_walk : (found : Found) → Walking {N = N} P limit found [] → IsWalk P.program limit found
+  pub over_walk : (found : Found) → Walking P limit found [] → IsWalk P.program limit found
   over_walk found w = record {
     forks = w.forks;
     failed = w.failed;
@@ -168,7 +143,7 @@ module _ {N : Type 0} (P : NamedProgram) (limit : ℕ) where
   }
 
   -- The branch on top is replaced by one whose tree it comes to by Steps.
-  pub stepped : (found : Found) (b d : Held) (stack : List (Task N)) → Walking P limit found (One b ∷ stack) → SameKey b d
+  pub stepped : (found : Found) (b d : Held) (stack : List Task) → Walking P limit found (One b ∷ stack) → SameKey b d
       → ((t : QueryTree P.program) → IsBranchOf P b t → (u : QueryTree P.program) × IsBranchOf P d u × Steps t u)
       → Walking P limit found (One d ∷ stack) × (turns limit (One d ∷ stack) ≤ turns limit (One b ∷ stack))
   stepped found b d stack w same steps =
@@ -191,7 +166,7 @@ module _ {N : Type 0} (P : NamedProgram) (limit : ℕ) where
       )
 
   -- The branch on top is taken off: it failed;
-  pub failed_off : (old new : Found) (b : Held) (stack : List (Task N)) → Walking P limit old (One b ∷ stack)
+  pub failed_off : (old new : Found) (b : Held) (stack : List Task) → Walking P limit old (One b ∷ stack)
       → ((t : QueryTree P.program) → IsBranchOf P b t → Dead t) → new.failed ≡ total old.failed 1 → new.forks ≡ old.forks
       → (new.cut ≡ old.cut) × (listed new ≡ listed old) → GoesOn P limit (One b ∷ stack) new stack
   failed_off old new b stack w dead failed forks rest =
@@ -212,7 +187,7 @@ module _ {N : Type 0} (P : NamedProgram) (limit : ℕ) where
       }
 
   -- it has ended, and was told;
-  pub told_off : (old new : Found) (b : Held) (stack : List (Task N)) (e : Listing.Entry) → Walking P limit old (One b ∷ stack)
+  pub told_off : (old new : Found) (b : Held) (stack : List Task) (e : Listing.Entry) → Walking P limit old (One b ∷ stack)
       → ((t : QueryTree P.program) → IsBranchOf P b t → (code t ≡ e.code) × Ends t e.outcome)
       → listed new ≡ listed old ++ e ∷ [] → SameEnd old new → GoesOn P limit (One b ∷ stack) new stack
   told_off old new b stack e w ends added same =
@@ -239,7 +214,7 @@ module _ {N : Type 0} (P : NamedProgram) (limit : ℕ) where
       }
 
   -- The branch on top is over the limit: it is taken off, and the cut is kept if none is.
-  pub cut_off : (old new : Found) (b : Held) (stack : List (Task N)) (cut : goal.Cut.Cut) → Walking P limit old (One b ∷ stack)
+  pub cut_off : (old new : Found) (b : Held) (stack : List Task) (cut : goal.Cut.Cut) → Walking P limit old (One b ∷ stack)
       → ((t : QueryTree P.program) → IsBranchOf P b t → IsState P b t (told.OverLimit cut))
       → listed new ≡ listed old → new.cut ≡ option_or old.cut (Some cut) → GoesOn P limit (One b ∷ stack) new stack
   cut_off old new b stack cut w state same kept = go (top_of old b stack w)
@@ -268,7 +243,7 @@ module _ {N : Type 0} (P : NamedProgram) (limit : ℕ) where
           off : IsState P b x.tree (told.OverLimit cut) → GoesOn P limit (One b ∷ stack) new stack
           off (o, c, is, inl one) =
               let s = state_within P limit b x.tree (over_one o c) x.limited one in
-              let (next, step, heavy) = one_over P limit x.tree o c s in
+              let (next, step, heavy) = one_over P.program limit x.tree o c s in
               off_with x.forks true (owed_over P.program limit (query P) x.tree next x.others (listed old)
               x.forks x.failed x.is_cut x.owes step heavy)
               (at_goal x.tree o c, is, over_one_cut P.program limit b.key x.tree reached o c s)

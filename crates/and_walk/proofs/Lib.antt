@@ -1,6 +1,6 @@
 pub mod Turns
-pub mod Splitting
-pub mod Ending
 pub mod Going
 pub mod Forking
 pub mod Turning
+pub mod Existing
+pub mod Beginning

@@ -1,13 +1,11 @@
 -- Each turn of a walk lowers the bound on the turns that are left.
-use Rattle.std.proofs.Common.{ℕ, zero, suc, ◌+◌, ◌-◌, ◌*◌, ◌^◌, ◌≡◌, ◌<◌, ◌≤◌, List, ◌∷◌, sym, ap, ◌∙◌, subst, arith}
+use Rattle.std.proofs.Common.{ℕ, zero, suc, ◌+◌, ◌-◌, ◌*◌, ◌^◌, ◌≡◌, ◌<◌, ◌≤◌, List, ◌∷◌, length, sym, ap, ◌∙◌, subst, arith}
 use Rattle.std.proofs.Common.{inl, inr}
 use Rattle.std.proofs.lemmas.Bool.{cases_lt}
 use Rattle.std.proofs.Math.Nat.{suc-mul, mul-le-mul_right}
 use Rattle.and_branch.specs.Branches.{Held}
 use Rattle.and_branch.specs.Children.{Fork}
-use Rattle.and_walk.specs.Walking.{branch_turns, turns}
-use Rattle.and_walk.specs.declared.stack.Task.{Task}
-use Rattle.and_walk.specs.declared.stack.Task.TheVariants.{One, Children}
+use Rattle.and_walk.specs.Walking.{Task, One, Children, branch_turns, turns}
 
 some_turn : (most room : ℕ) → 1 ≤ branch_turns most room
 some_turn most zero = omega arith
@@ -38,34 +36,36 @@ forked_below most room count few =
     let below : count * x ≤ most * x = mul-le-mul_right x few in
     omega (arith, below)
 
-module _ {N : Type 0} (limit : ℕ) where
+module _ (limit : ℕ) where
   -- What is on top is taken off.
-  pub fewer_gone : (x : Task N) (xs : List (Task N)) → turns limit xs < turns limit (x ∷ xs)
+  pub fewer_gone : (x : Task) (xs : List Task) → turns limit xs < turns limit (x ∷ xs)
   fewer_gone (One b) xs = let some = some_turn (2 ^ 64) (limit - b.used) in omega (arith, some)
-  fewer_gone (Children f count) xs = omega arith
+  fewer_gone (Children f) xs = omega arith
 
   -- The branch on top grows.
-  pub grown_turns : (b d : Held) (xs : List (Task N)) → b.used ≤ d.used → turns limit (One d ∷ xs) ≤ turns limit (One b ∷ xs)
+  pub grown_turns : (b d : Held) (xs : List Task) → b.used ≤ d.used → turns limit (One d ∷ xs) ≤ turns limit (One b ∷ xs)
   grown_turns b d xs h =
       let less = more_room (2 ^ 64) (limit - d.used) (limit - b.used) (omega arith) (omega arith) in
       omega (arith, less)
 
   -- The branch on top is forked.
-  pub fewer_forked : (b : Held) (f : Fork) (count : ℕ) (xs : List (Task N)) → f.parent.used ≡ b.used → b.used < limit → count ≤ 2 ^ 64
-      → turns limit (Children f count ∷ xs) < turns limit (One b ∷ xs)
-  fewer_forked b f count xs parent room few =
+  pub fewer_forked : (b : Held) (f : Fork) (xs : List Task) → f.parent.used ≡ b.used → b.used < limit → length f.clauses ≤ 2 ^ 64
+      → turns limit (Children f ∷ xs) < turns limit (One b ∷ xs)
+  fewer_forked b f xs parent room few =
       let left : ℕ = limit - suc f.parent.used in
       let one : limit - b.used ≡ suc left = omega arith in
       let same = ap (λ n. branch_turns (2 ^ 64) n) one in
-      let below = forked_below (2 ^ 64) left count few in
+      let below = forked_below (2 ^ 64) left (length f.clauses) few in
       omega (arith, same, below)
 
   -- A child is taken, and others are left;
-  pub fewer_next : (f g : Fork) (count others : ℕ) (b : Held) (xs : List (Task N)) → count ≡ suc others → g.parent.used ≡ f.parent.used
-      → f.parent.used < b.used → turns limit (One b ∷ Children g others ∷ xs) < turns limit (Children f count ∷ xs)
-  fewer_next f g count others b xs one parent grows =
+  pub fewer_next : (f g : Fork) (b : Held) (xs : List Task) → length f.clauses ≡ suc (length g.clauses) → g.parent.used ≡ f.parent.used
+      → f.parent.used < b.used → turns limit (One b ∷ Children g ∷ xs) < turns limit (Children f ∷ xs)
+  fewer_next f g b xs one parent grows =
       let left : ℕ = limit - suc f.parent.used in
       let x : ℕ = 1 + branch_turns (2 ^ 64) left in
+      let count : ℕ = length f.clauses in
+      let others : ℕ = length g.clauses in
       let child = more_room (2 ^ 64) (limit - b.used) left (omega arith) (omega arith) in
       let same : others * (1 + branch_turns (2 ^ 64) (limit - suc g.parent.used)) ≡ others * x =
       ap (λ n. others * (1 + branch_turns (2 ^ 64) (limit - suc n))) parent in
@@ -73,11 +73,12 @@ module _ {N : Type 0} (limit : ℕ) where
       omega (arith, child, same, all)
 
   -- or none is.
-  pub fewer_last : (f : Fork) (count others : ℕ) (b : Held) (xs : List (Task N)) → count ≡ suc others → f.parent.used < b.used
-      → turns limit (One b ∷ xs) < turns limit (Children f count ∷ xs)
-  fewer_last f count others b xs one grows =
+  pub fewer_last : (f : Fork) (others : ℕ) (b : Held) (xs : List Task) → length f.clauses ≡ suc others → f.parent.used < b.used
+      → turns limit (One b ∷ xs) < turns limit (Children f ∷ xs)
+  fewer_last f others b xs one grows =
       let left : ℕ = limit - suc f.parent.used in
       let x : ℕ = 1 + branch_turns (2 ^ 64) left in
+      let count : ℕ = length f.clauses in
       let child = more_room (2 ^ 64) (limit - b.used) left (omega arith) (omega arith) in
       let all : count * x ≡ others * x + x = ap (λ n. n * x) one ∙ suc-mul others x in
       omega (arith, child, all)

@@ -5,15 +5,16 @@ ghost use Rattle.std.specs.Prelude.{◌≤◌, IfOk};
 ghost use Rattle.and_model.specs.declared.limits.TheConstants.{MAX_LIMIT};
 ghost use Rattle.and_program.specs.Loaded.{program_of};
 ghost use Rattle.and_cells.specs.Parts.{named};
-ghost use Rattle.and_determinacy.specs.Tables.{IsTableOf};
-ghost use Rattle.and_walk.specs.Found.{IsFound, WasWalked};
+ghost use Rattle.and_clause_index.specs.Tables.{IsTableOf};
+ghost use Rattle.and_search_laws.specs.Found.{IsFound, FindsFirst};
+ghost use Rattle.and_walk.specs.Walked.{WasWalked};
 
 mod stack;
 mod walker;
 
 use crate::walker::walk_named;
 use and_answers::Found;
-use and_determinacy::Determinacy;
+use and_clause_index::Determinacy;
 use and_gate::{Gate, Quiet};
 use and_program::Loaded;
 use std::alloc::{AllocError, Global};
@@ -36,7 +37,7 @@ pub fn walk(
 }
 
 /// All answers of a program within a limit, in the order of their codes, and how the search ended. A gate is told
-/// of each reduction before it is made. An error is want of memory.
+/// of each reduction before it is made, and of each answer. An error is want of memory.
 pub fn walk_watched<G: Gate>(
     alloc: Global,
     loaded: &Loaded,
@@ -49,5 +50,23 @@ pub fn walk_watched<G: Gate>(
     ensures found { IfOk result (IsFound (program_of loaded.now) limit) }
     ensures walked { IfOk result (WasWalked (program_of loaded.now) limit) }
 {
-    walk_named::<Brand, G>(alloc, loaded, table, limit, gate)
+    walk_named::<Brand, G>(alloc, loaded, table, limit, None, gate)
+}
+
+/// The first answers of a program within a limit, in the order of their codes: as many as are asked for, or all where
+/// there are fewer, and how the search ended then. It goes on until it has so many. A gate is told of each reduction
+/// before it is made, and of each answer. An error is want of memory.
+pub fn walk_first<G: Gate>(
+    alloc: Global,
+    loaded: &Loaded,
+    table: &Determinacy,
+    limit: u32,
+    count: usize,
+    gate: &G,
+) -> Result<Found, AllocError>
+    requires table { IsTableOf (named loaded.now) table.now }
+    requires limit { limit ≤ MAX_LIMIT }
+    ensures { IfOk result (FindsFirst (program_of loaded.now) limit count) }
+{
+    walk_named::<Brand, G>(alloc, loaded, table, limit, Some(count), gate)
 }

@@ -1,23 +1,25 @@
 //! A walk, as far as it has come.
 
-ghost use Rattle.std.specs.Prelude.{◌≡◌, ◌≤◌, ◌∷◌, ◌++◌, [], reverse, OnOk, IfOk};
+ghost use Rattle.std.specs.Prelude.{◌≡◌, ◌≤◌, ◌∷◌, ◌++◌, [], reverse, true, Ok, None, Some, OnOk, IfOk};
 ghost use Rattle.std.specs.Option.{option_or};
 ghost use Rattle.and_model.specs.Trees.{QueryTree};
 ghost use Rattle.and_model.specs.declared.limits.TheConstants.{MAX_LIMIT};
 ghost use Rattle.and_cells.specs.Parts.{named};
-ghost use Rattle.and_determinacy.specs.Tables.{IsTableOf};
-ghost use Rattle.and_branch.specs.Branches.{IsBranchOf};
+ghost use Rattle.and_clause_index.specs.Tables.{IsTableOf};
+ghost use Rattle.and_branch.specs.Branches.{Held, IsBranchOf};
 ghost use Rattle.and_branch.specs.Ended.{HasEnded};
+ghost use Rattle.and_branch.specs.Origins.{GoBackFrom};
 ghost use Rattle.and_branch.specs.States.{IsState, IsAtRest};
 ghost use Rattle.and_answers.specs.Kept.{SameEnd, listed, entry_of};
-ghost use Rattle.and_walk.specs.Found.{IsFound, IsWalk, WasWalked};
-ghost use Rattle.and_walk.specs.Walking.{Walking, GoesOn, EndsSo, IsAdvanced, SameButCut};
+ghost use Rattle.and_walk.specs.Walked.{EndsWith, IsEnough};
+ghost use Rattle.and_search_laws.specs.Ended.{EndsSo, SameButCut};
+ghost use Rattle.and_walk.specs.Walking.{Walking, GoesOn, IsAdvanced, One, Children, tasks_of, parents_of};
 
-use crate::stack::{Task, put, take_top};
+use crate::stack::{put, take_top};
 use and_answers::{Entry, Found};
-use and_branch::{Branch, BranchList, BranchState, Rooted, Workspace};
+use and_branch::{Branch, BranchState, Choicepoint, Forked, Rooted, Workspace};
 use and_cells::Naming;
-use and_determinacy::Determinacy;
+use and_clause_index::Determinacy;
 use and_gate::Gate;
 use and_model::{ClauseList, Cut, Goal};
 use and_program::Loaded;
@@ -29,36 +31,36 @@ struct Walker<N: Naming> {
     /// The limit of every branch.
     limit: u32,
     found: Found,
-    /// What is still to be walked, the next last.
-    stack: Vec<Task<N>>,
+    /// The forks some of whose children are still to come, the innermost last. Their row is that of the branch at hand.
+    stack: Vec<Choicepoint<N>>,
     workspace: Workspace,
 }
 
-/// All answers of a program within a limit, and how the search ended, before a gate. An error is want of memory.
+/// The first answers of a program within a limit, as many as are asked for, or all where no number is, and how the
+/// search ended, before a gate. An error is want of memory.
 pub fn walk_named<N: Naming, G: Gate>(
     alloc: Global,
     loaded: &Loaded,
     table: &Determinacy,
     limit: u32,
+    most: Option<usize>,
     gate: &G,
 ) -> Result<Found, AllocError>
     requires program { N.program ≡ named loaded.now }
     requires table { IsTableOf N.program table.now }
     requires limit { limit ≤ MAX_LIMIT }
-    ensures found { IfOk result (IsFound N.program.program limit) }
-    ensures walked { IfOk result (WasWalked N.program.program limit) }
+    ensures { IfOk result (EndsWith N.program.program limit most) }
 {
     let mut workspace = Workspace::new(alloc);
     match Branch::<N>::root(alloc, loaded, limit, &mut workspace) {
         Rooted::Ready(branch) => {
-            let mut walker = Walker {
+            let walker = Walker {
                 limit,
                 found: Found::new(alloc),
                 stack: Vec::new(alloc),
                 workspace,
             };
-            walker.explore(alloc, loaded, table, gate, branch)?;
-            walker.finish(alloc, loaded, table, gate)
+            walker.finish(alloc, loaded, table, most, gate, branch)
         }
         Rooted::TooHeavy(cut) => {
             let mut found = Found::new(alloc);
@@ -91,99 +93,100 @@ fn keep_cut(found: &mut Found, cut: Option<Cut>)
 }
 
 impl<N: Naming> Walker<N> {
-    /// Walks what is on the stack. An error is want of memory.
+    /// Walks a branch, and then what is on the stack, until as many entries are found as are asked for, if any
+    /// number is. An error is want of memory.
     fn finish<G: Gate>(
         mut self,
         alloc: Global,
         loaded: &Loaded,
         table: &Determinacy,
+        most: Option<usize>,
         gate: &G,
+        branch: Branch<N>,
     ) -> Result<Found, AllocError>
         requires program { N.program ≡ named loaded.now }
         requires table { IsTableOf N.program table.now }
-        requires walking { Walking N.program self.limit self.found (reverse self.stack.items) }
-        ensures found { IfOk result (IsFound N.program.program self.limit) }
-        ensures walked { IfOk result (IsWalk N.program.program self.limit) }
+        requires walking { Walking N.program self.limit self.found (One branch ∷ tasks_of (reverse self.stack.items)) }
+        requires back { GoBackFrom branch (parents_of (reverse self.stack.items)) }
+        ensures { IfOk result (EndsWith N.program.program self.limit most) }
     {
+        let mut next = branch;
         'walking: loop {
-            match take_top(&mut self.stack) {
-                Some(task) => self.turn(alloc, loaded, table, gate, task)?,
+            if self.has_enough(most) {
+                return Ok(self.found);
+            }
+            let left = self.explore(alloc, loaded, table, gate, next)?;
+            let after = self.next_child(loaded, left)?;
+            match after {
+                Some(child) => next = child,
                 None => return Ok(self.found),
             }
         }
     }
 
-    /// Goes on with what was on top of the stack.
-    fn turn<G: Gate>(
-        &mut self,
-        alloc: Global,
-        loaded: &Loaded,
-        table: &Determinacy,
-        gate: &G,
-        task: Task<N>,
-    ) -> Result<(), AllocError>
-        requires program { N.program ≡ named loaded.now }
-        requires table { IsTableOf N.program table.now }
-        requires walking { Walking N.program self.old.limit self.old.found (task ∷ reverse self.old.stack.items) }
-        ensures goes { OnOk result (GoesOn N.program self.old.limit (task ∷ reverse self.old.stack.items)
-            self.new.found (reverse self.new.stack.items)) }
-        ensures limit { self.new.limit ≡ self.old.limit }
+    /// Whether as many entries are found as are asked for.
+    fn has_enough(&self, most: Option<usize>) -> bool
+        ensures { result ≡ true → IsEnough most self.now.found }
     {
-        match task {
-            Task::One(branch) => self.explore(alloc, loaded, table, gate, branch),
-            Task::Children(list, count) => self.next_child(alloc, loaded, list, count),
+        match most {
+            Some(count) => self.found.entries().len() >= count,
+            None => false,
         }
     }
 
-    /// Goes on with the next child of a fork, if there is one.
+    /// The next child of the innermost fork, if there is one, made of what is left of a branch.
     fn next_child(
         &mut self,
-        alloc: Global,
         loaded: &Loaded,
-        mut list: BranchList<N>,
-        count: usize,
-    ) -> Result<(), AllocError>
+        left: Branch<N>,
+    ) -> Result<Option<Branch<N>>, AllocError>
         requires program { N.program ≡ named loaded.now }
-        requires walking { Walking N.program self.old.limit self.old.found (Task.Children list count ∷ reverse self.old.stack.items) }
-        ensures goes { OnOk result (GoesOn N.program self.old.limit (Task.Children list count ∷ reverse self.old.stack.items)
-            self.new.found (reverse self.new.stack.items)) }
-        ensures limit { self.new.limit ≡ self.old.limit }
+        requires walking { Walking N.program self.old.limit self.old.found
+            (tasks_of (reverse self.old.stack.items)) }
+        requires back { GoBackFrom left (parents_of (reverse self.old.stack.items)) }
+        ensures none { result ≡ Ok None → reverse self.old.stack.items ≡ [] }
+        ensures goes { (b : Held) → result ≡ Ok (Some b)
+            → GoesOn N.program self.old.limit (tasks_of (reverse self.old.stack.items))
+            self.old.found (One b ∷ tasks_of (reverse self.new.stack.items)) }
+        ensures back { (b : Held) → result ≡ Ok (Some b) → GoBackFrom b (parents_of (reverse self.new.stack.items)) }
+        ensures same { (self.new.limit ≡ self.old.limit) × (self.new.found ≡ self.old.found) }
     {
-        if count <= 1 {
-            return self.last_child(loaded, list, count);
-        }
-        let next = list.next(alloc, loaded, &mut self.workspace)?;
-        match next {
-            Some(child) => {
-                put(&mut self.stack, Task::Children(list, count - 1))?;
-                put(&mut self.stack, Task::One(child))
+        match take_top(&mut self.stack) {
+            Some(point) => {
+                let child = self.child_of(loaded, point, left)?;
+                Ok(Some(child))
             }
-            None => Ok(()),
+            None => Ok(None),
         }
     }
 
-    /// Goes on with the last child of a fork, which takes the place of the branch that was forked.
-    fn last_child(
+    /// The next child of the fork that was on top.
+    fn child_of(
         &mut self,
         loaded: &Loaded,
-        list: BranchList<N>,
-        count: usize,
-    ) -> Result<(), AllocError>
+        point: Choicepoint<N>,
+        left: Branch<N>,
+    ) -> Result<Branch<N>, AllocError>
         requires program { N.program ≡ named loaded.now }
-        requires last { count ≤ 1 }
-        requires walking { Walking N.program self.old.limit self.old.found (Task.Children list count ∷ reverse self.old.stack.items) }
-        ensures goes { OnOk result (GoesOn N.program self.old.limit (Task.Children list count ∷ reverse self.old.stack.items)
-            self.new.found (reverse self.new.stack.items)) }
-        ensures limit { self.new.limit ≡ self.old.limit }
+        requires walking { Walking N.program self.old.limit self.old.found
+            (Children point ∷ tasks_of (reverse self.old.stack.items)) }
+        requires back { GoBackFrom left (parents_of (point ∷ reverse self.old.stack.items)) }
+        ensures goes { IfOk result (λ b. GoesOn N.program self.old.limit
+            (Children point ∷ tasks_of (reverse self.old.stack.items))
+            self.old.found (One b ∷ tasks_of (reverse self.new.stack.items))) }
+        ensures back { IfOk result (λ b. GoBackFrom b (parents_of (reverse self.new.stack.items))) }
+        ensures same { (self.new.limit ≡ self.old.limit) × (self.new.found ≡ self.old.found) }
     {
-        let next = list.into_next(loaded, &mut self.workspace)?;
-        match next {
-            Some(child) => put(&mut self.stack, Task::One(child)),
-            None => Ok(()),
+        if point.left() <= 1 {
+            return point.into_last(loaded, left, &mut self.workspace);
         }
+        let mut point = point;
+        let child = point.next(loaded, left, &mut self.workspace)?;
+        put(&mut self.stack, point)?;
+        Ok(child)
     }
 
-    /// Goes on with a branch: reduces its determinate goals, and then by its state.
+    /// Goes on with a branch: reduces its determinate goals, and then by its state. Answers what is left of it.
     fn explore<G: Gate>(
         &mut self,
         alloc: Global,
@@ -191,53 +194,69 @@ impl<N: Naming> Walker<N> {
         table: &Determinacy,
         gate: &G,
         mut branch: Branch<N>,
-    ) -> Result<(), AllocError>
+    ) -> Result<Branch<N>, AllocError>
         requires program { N.program ≡ named loaded.now }
         requires table { IsTableOf N.program table.now }
-        requires walking { Walking N.program self.old.limit self.old.found (Task.One branch ∷ reverse self.old.stack.items) }
-        ensures goes { OnOk result (GoesOn N.program self.old.limit (Task.One branch ∷ reverse self.old.stack.items)
-            self.new.found (reverse self.new.stack.items)) }
+        requires walking { Walking N.program self.old.limit self.old.found
+            (One branch ∷ tasks_of (reverse self.old.stack.items)) }
+        requires back { GoBackFrom branch (parents_of (reverse self.old.stack.items)) }
+        ensures goes { OnOk result (GoesOn N.program self.old.limit
+            (One branch ∷ tasks_of (reverse self.old.stack.items))
+            self.new.found (tasks_of (reverse self.new.stack.items))) }
+        ensures left { IfOk result (λ left. GoBackFrom left (parents_of (reverse self.new.stack.items))) }
         ensures limit { self.new.limit ≡ self.old.limit }
     {
         let state = branch.advance_to_state(loaded, table, gate, &mut self.workspace)?;
-        self.go_by(alloc, loaded, branch, state)
+        self.go_by(alloc, loaded, gate, branch, state)
     }
 
-    /// Goes on with a branch by its state.
-    fn go_by(
+    /// Goes on with a branch by its state. Answers what is left of it.
+    fn go_by<G: Gate>(
         &mut self,
         alloc: Global,
         loaded: &Loaded,
+        gate: &G,
         branch: Branch<N>,
         state: BranchState,
-    ) -> Result<(), AllocError>
+    ) -> Result<Branch<N>, AllocError>
         requires program { N.program ≡ named loaded.now }
-        requires walking { Walking N.program self.old.limit self.old.found (Task.One branch ∷ reverse self.old.stack.items) }
-        requires state { (t : QueryTree N.program.program) → IsBranchOf N.program branch t → IsState N.program branch t state }
+        requires walking { Walking N.program self.old.limit self.old.found
+            (One branch ∷ tasks_of (reverse self.old.stack.items)) }
+        requires back { GoBackFrom branch (parents_of (reverse self.old.stack.items)) }
+        requires state { (t : QueryTree N.program.program) → IsBranchOf N.program branch t
+            → IsState N.program branch t state }
         requires at_rest { IsAtRest N.program branch state }
         requires advanced { IsAdvanced N.program branch }
-        ensures goes { OnOk result (GoesOn N.program self.old.limit (Task.One branch ∷ reverse self.old.stack.items)
-            self.new.found (reverse self.new.stack.items)) }
+        ensures goes { OnOk result (GoesOn N.program self.old.limit
+            (One branch ∷ tasks_of (reverse self.old.stack.items))
+            self.new.found (tasks_of (reverse self.new.stack.items))) }
+        ensures left { IfOk result (λ left. GoBackFrom left (parents_of (reverse self.new.stack.items))) }
         ensures limit { self.new.limit ≡ self.old.limit }
     {
         match state {
             BranchState::Fork { goal, clauses, cut } => {
                 self.fork(alloc, loaded, branch, goal, clauses, cut)
             }
-            BranchState::Answer => self.tell(alloc, loaded, &branch, false),
-            BranchState::Floundered => self.tell(alloc, loaded, &branch, true),
+            BranchState::Answer => {
+                self.tell(alloc, loaded, gate, &branch, false)?;
+                Ok(branch)
+            }
+            BranchState::Floundered => {
+                self.tell(alloc, loaded, gate, &branch, true)?;
+                Ok(branch)
+            }
             BranchState::Failed => {
                 self.found.count_failed();
-                Ok(())
+                Ok(branch)
             }
             BranchState::OverLimit(cut) => {
                 keep_cut(&mut self.found, Some(cut));
-                Ok(())
+                Ok(branch)
             }
         }
     }
 
-    /// Puts the children of a branch on the stack, whose state is a fork so.
+    /// Forks a branch, whose state is a fork so: its children are on top then. Answers what is left of it.
     fn fork(
         &mut self,
         alloc: Global,
@@ -246,45 +265,52 @@ impl<N: Naming> Walker<N> {
         goal: Goal,
         clauses: ClauseList,
         cut: Option<Cut>,
-    ) -> Result<(), AllocError>
+    ) -> Result<Branch<N>, AllocError>
         requires program { N.program ≡ named loaded.now }
-        requires walking { Walking N.program self.old.limit self.old.found (Task.One branch ∷ reverse self.old.stack.items) }
+        requires walking { Walking N.program self.old.limit self.old.found
+            (One branch ∷ tasks_of (reverse self.old.stack.items)) }
+        requires back { GoBackFrom branch (parents_of (reverse self.old.stack.items)) }
         requires state { (t : QueryTree N.program.program) → IsBranchOf N.program branch t
             → IsState N.program branch t (BranchState.Fork goal clauses cut) }
-        ensures goes { OnOk result (GoesOn N.program self.old.limit (Task.One branch ∷ reverse self.old.stack.items)
-            self.new.found (reverse self.new.stack.items)) }
+        ensures goes { OnOk result (GoesOn N.program self.old.limit
+            (One branch ∷ tasks_of (reverse self.old.stack.items))
+            self.new.found (tasks_of (reverse self.new.stack.items))) }
+        ensures left { IfOk result (λ left. GoBackFrom left (parents_of (reverse self.new.stack.items))) }
         ensures limit { self.new.limit ≡ self.old.limit }
     {
-        let count = clauses.len();
-        match branch.split(alloc, loaded, goal, clauses) {
-            Ok(split) => {
+        // (So many fit a word. This says so to what follows.)
+        let _all = clauses.len();
+        match branch.fork(alloc, loaded, goal, clauses) {
+            Ok(forked) => {
+                let Forked { choicepoint, left } = forked;
                 self.found.count_fork();
                 keep_cut(&mut self.found, cut);
-                put(
-                    &mut self.stack,
-                    Task::Children(split.into_children(), count),
-                )
+                put(&mut self.stack, choicepoint)?;
+                Ok(left)
             }
             Err(_) => Err(AllocError),
         }
     }
 
-    /// Adds what a branch ended with.
-    fn tell(
+    /// Adds what a branch ended with, and tells the gate of it.
+    fn tell<G: Gate>(
         &mut self,
         alloc: Global,
         loaded: &Loaded,
+        gate: &G,
         branch: &Branch<N>,
         floundered: bool,
     ) -> Result<(), AllocError>
         requires program { N.program ≡ named loaded.now }
-        requires walking { Walking N.program self.old.limit self.old.found (Task.One branch.now ∷ reverse self.old.stack.items) }
+        requires walking { Walking N.program self.old.limit self.old.found
+            (One branch.now ∷ tasks_of (reverse self.old.stack.items)) }
         requires ended { HasEnded N.program branch.now }
         requires state { (t : QueryTree N.program.program) → IsBranchOf N.program branch.now t
             → EndsSo N.program branch.now t floundered }
-        ensures goes { OnOk result (GoesOn N.program self.old.limit (Task.One branch.now ∷ reverse self.old.stack.items)
-            self.new.found (reverse self.new.stack.items)) }
-        ensures limit { self.new.limit ≡ self.old.limit }
+        ensures goes { OnOk result (GoesOn N.program self.old.limit
+            (One branch.now ∷ tasks_of (reverse self.old.stack.items))
+            self.new.found (tasks_of (reverse self.old.stack.items))) }
+        ensures same { (self.new.limit ≡ self.old.limit) × (self.new.stack.items ≡ self.old.stack.items) }
     {
         let code = branch.code(alloc, loaded)?;
         let line = branch.line(alloc, loaded)?;
@@ -293,6 +319,8 @@ impl<N: Naming> Walker<N> {
             line,
             floundered,
         };
-        add(&mut self.found, entry)
+        add(&mut self.found, entry)?;
+        gate.found(0);
+        Ok(())
     }
 }

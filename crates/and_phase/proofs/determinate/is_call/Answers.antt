@@ -23,4 +23,4 @@ returns c = λ says.
     let loaded = is_loaded (named c.args.loaded.now) c.args.loaded.now refl s.skeleton s.own_variables s.few in
     is_called c.args.loaded.now c.args.goal c.items.result.now c.items.ensures.body
     (within (named c.args.loaded.now) loaded c.requires.0 c.args.goal c.requires.1 c.items.result.now c.items.ensures.items) _
-    (sym c.is_call_item.ensures ∙ says)
+    (sym c.is_call.ensures ∙ says)

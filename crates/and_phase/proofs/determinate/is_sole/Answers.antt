@@ -5,11 +5,11 @@ use Rattle.and_phase.proofs.determinate.is_sole.Goals as goal
 
 pub is_call-requires : goal.is_call-requires
 is_call-requires g c = (
-  length c.args.cells.now,
-  subst (λ (P : NamedProgram). IsGoalInRange P (length c.args.cells.now) c.args.goal) c.requires.program c.requires.seen.in_range,
+  length c.args.branch.now.row,
+  subst (λ (P : NamedProgram). IsGoalInRange P (length c.args.branch.now.row) c.args.goal) c.requires.program c.requires.seen.in_range,
 )
 
-pub narrow-requires-clause-goal : goal.narrow-requires-clause-goal
-narrow-requires-clause-goal g c =
-    can_be_judged g.N.Naming.program c.args.loaded.now c.requires.program c.args.cells.now c.args.goal c.requires.seen
+pub narrow_goal-requires-clause-goal : goal.narrow_goal-requires-clause-goal
+narrow_goal-requires-clause-goal g c =
+    can_be_judged g.N.Naming.program c.args.loaded.now c.requires.program c.args.branch.now.row c.args.goal c.requires.seen
     (c.is_call.ensures c.if-not-is_call.false)

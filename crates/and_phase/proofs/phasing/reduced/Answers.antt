@@ -1,14 +1,15 @@
 use Rattle.std.proofs.Common.{List, sym, subst}
 use Rattle.and_cells.specs.Parts.{named}
 use Rattle.and_cells.specs.Ranges.{NamedProgram}
-use Rattle.and_workers.specs.declared.told.Told.{Told}
+use Rattle.and_handed.specs.declared.told.Told.{Told}
+use Rattle.and_branch.specs.Parts.{held_of}
 use Rattle.and_closing_laws.specs.Phases.{HasPhased}
 use Rattle.and_phase.proofs.JoinedBranches.{joined}
 use Rattle.and_phase.proofs.Later.{used_fits}
 use Rattle.and_phase.proofs.phasing.reduced.Goals as goal
 
 pub words_of-words-requires : goal.words_of-words-requires
-words_of-words-requires g c = (used_fits g.N.Naming.program c.args.parts.now c.requires.branch c.requires.live).0
+words_of-words-requires g c = (used_fits g.N.Naming.program (held_of c.args.parts.now) c.requires.branch c.requires.live).0
 
 pub join-requires-clause-phased : goal.join-requires-clause-phased
 join-requires-clause-phased g c =

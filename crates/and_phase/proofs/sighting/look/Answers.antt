@@ -1,12 +1,20 @@
-use Rattle.and_branch.specs.Parts.{held_of}
-use Rattle.and_phase.proofs.Later.{later_equal, later_moved, look_then}
+use Rattle.std.proofs.Common.{◌≡◌, Ok, true, false, rules, sym, subst}
+use Rattle.and_branch.specs.Branches.{Held}
+use Rattle.and_phase.specs.Sighting.{IsSighted}
+use Rattle.and_phase.proofs.Later.{later_equal}
 use Rattle.and_phase.proofs.sighting.look.Goals as goal
 
-pub returns-in-Ok-clause-sighted : goal.returns-in-Ok-clause-sighted
-returns-in-Ok-clause-sighted g c =
-    let P = g.N.Naming.program in
-    look_then P c.args.branch (held_of c.in-Ok.parts) (later_moved P c.args.branch (held_of c.in-Ok.parts) c.in-Ok.ensures.parts)
-    c.look_at_parts.result c.look_at_parts.ensures.sighted
+pub taken_apart-requires : goal.taken_apart-requires
+taken_apart-requires g c =
+    let is : c.has_two.result ≡ Ok true = search rules in
+    subst (λ (b : Held). b.is_failed ≡ false) (sym c.has_two.ensures.unchanged) (c.has_two.ensures.live is)
 
-pub returns-in-Err-clause-sighted : goal.returns-in-Err-clause-sighted
-returns-in-Err-clause-sighted g c = later_equal g.N.Naming.program c.args.branch c.in-Err.branch c.in-Err.ensures.given_back
+pub returns-in-Ok-true : goal.returns-in-Ok-true
+returns-in-Ok-true g c =
+    subst (λ (b : Held). IsSighted g.N.Naming.program b c.taken_apart.result) c.has_two.ensures.unchanged c.taken_apart.ensures
+
+pub returns-in-Ok-false : goal.returns-in-Ok-false
+returns-in-Ok-false g c = later_equal g.N.Naming.program c.args.branch _ c.has_two.ensures.unchanged
+
+pub returns-in-Err : goal.returns-in-Err
+returns-in-Err g c = later_equal g.N.Naming.program c.args.branch _ c.has_two.ensures.unchanged

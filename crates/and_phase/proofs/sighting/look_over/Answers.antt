@@ -10,26 +10,26 @@ looks-init g c = record { later = later_same g.N.Naming.program c.args.branch; b
 pub returns-in-Two-clause-sighted : goal.returns-in-Two-clause-sighted
 returns-in-Two-clause-sighted g c =
     let P = g.N.Naming.program in
-    let two = subst (λ (s : Sighted g.row.N.Denot). IsSighted P c.looks.branch s) c.in-Two.is c.in_ok-parts.ensures.sighted in
+    let two = subst (λ (s : Sighted g.row.N.Denot). IsSighted P c.looks.branch s) c.in-Two.is c.look.ensures in
     (later_then P c.args.branch c.looks.branch _ c.looks.invariant.later two.0, two.1)
 
 pub lead-requires-clause-branch : goal.lead-requires-clause-branch
 lead-requires-clause-branch g c κs within =
     let P = g.N.Naming.program in
-    let left = subst (λ (s : Sighted g.row.N.Denot). IsSighted P c.looks.branch s) c.in-NotTwo.is c.in_ok-parts.ensures.sighted in
+    let left = subst (λ (s : Sighted g.row.N.Denot). IsSighted P c.looks.branch s) c.in-NotTwo.is c.look.ensures in
     later_branch P c.looks.branch c.in-NotTwo.left left c.looks.invariant.branch
 
 pub returns-then-not-has_changed-clause-sighted : goal.returns-then-not-has_changed-clause-sighted
 returns-then-not-has_changed-clause-sighted g c =
     let P = g.N.Naming.program in
-    let left = subst (λ (s : Sighted g.row.N.Denot). IsSighted P c.looks.branch s) c.in-NotTwo.is c.in_ok-parts.ensures.sighted in
+    let left = subst (λ (s : Sighted g.row.N.Denot). IsSighted P c.looks.branch s) c.in-NotTwo.is c.look.ensures in
     later_then P c.args.branch c.in-NotTwo.left _ (later_then P c.args.branch c.looks.branch c.in-NotTwo.left c.looks.invariant.later left)
     c.in_ok-led-in-NotTwo.ensures.later
 
 pub looks-preserved : goal.looks-preserved
 looks-preserved g c =
     let P = g.N.Naming.program in
-    let left = subst (λ (s : Sighted g.row.N.Denot). IsSighted P c.looks.branch s) c.in-NotTwo.is c.in_ok-parts.ensures.sighted in
+    let left = subst (λ (s : Sighted g.row.N.Denot). IsSighted P c.looks.branch s) c.in-NotTwo.is c.look.ensures in
     let later = later_then P c.args.branch c.in-NotTwo.left c.in_ok-led-in-NotTwo.led.branch
     (later_then P c.args.branch c.looks.branch c.in-NotTwo.left c.looks.invariant.later left) c.in_ok-led-in-NotTwo.ensures.later in
     record {
@@ -40,4 +40,4 @@ looks-preserved g c =
 
 pub returns-clause-sighted : goal.returns-clause-sighted
 returns-clause-sighted g c =
-    sighted_then g.N.Naming.program c.args.branch c.looks.branch c.looks.invariant.later c.in_ok-sighted.sighted c.in_ok-sighted.ensures.sighted
+    sighted_then g.N.Naming.program c.args.branch c.looks.branch c.looks.invariant.later c.look-sighted.result c.look-sighted.ensures

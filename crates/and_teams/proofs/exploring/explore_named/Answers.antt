@@ -1,7 +1,7 @@
 use Rattle.std.proofs.Common.{refl, arith}
 use Rattle.and_model.specs.Trees.{query_agenda}
 use Rattle.and_laws.proofs.Order.{blank_weighs}
-use Rattle.and_walk.proofs.Going.{alone}
+use Rattle.and_search_laws.proofs.Ending.{alone}
 use Rattle.and_teams.proofs.exploring.explore_named.Goals as goal
 
 pub explore_root-requires-clause-root : goal.explore_root-requires-clause-root

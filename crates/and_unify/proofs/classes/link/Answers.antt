@@ -9,4 +9,5 @@ returns-clause-ok c = c.in_ok-linked.ensures.entries ∙ root_inserted c.args.pa
 pub returns-clause-climbs : goal.returns-clause-climbs
 returns-clause-climbs c =
     let links = c.args.parents.now.entries in
-    subst Climbs (sym (c.in_ok-linked.ensures.entries ∙ root_inserted links c.args.child c.args.nearer c.requires.roots.0)) (climbs_on links c.args.child c.args.nearer c.requires.climbs c.requires.roots.1 c.requires.differ)
+    subst Climbs (sym (c.in_ok-linked.ensures.entries ∙ root_inserted links c.args.child c.args.nearer c.requires.roots.0))
+    (climbs_on links c.args.child c.args.nearer c.requires.climbs c.requires.roots.1 c.requires.differ)

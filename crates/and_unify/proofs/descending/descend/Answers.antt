@@ -17,8 +17,11 @@ meet_all-requires-clause-falls g c =
 pub push_arguments-requires : goal.push_arguments-requires
 push_arguments-requires g c =
     let comes = c.in-Onward.ensures.comes in
-    let shape = comes.0 in
-    ((g.C.Cells.seen c.meet_all.new.cells).words, subst (λ (p : NamedProgram). AreOfOneShape p (g.C.Cells.seen c.meet_all.new.cells).words c.in-Onward.both.left c.in-Onward.both.right) c.requires.program shape)
+    let shape = comes.0 in (
+      (g.C.Cells.seen c.meet_all.new.cells).words,
+      subst (λ (p : NamedProgram). AreOfOneShape p (g.C.Cells.seen c.meet_all.new.cells).words c.in-Onward.both.left c.in-Onward.both.right)
+          c.requires.program shape,
+    )
 
 pub returns-in-Done-clause-ended : goal.returns-in-Done-clause-ended
 returns-in-Done-clause-ended g c =
@@ -80,8 +83,10 @@ returns-in-Ok-clause-keeps g c =
     let began = c.args.bound.now.items in
     let last = c.meet_all.new.bound.items in
     let fall = named_falls P (named c.args.loaded.now) c.requires.program c.skeleton_is_of_the_program.ensures.skeleton.0 in
-    let before = held_asked P old asked began new (arguments_of_both P c.in-Onward.both ++ c.meet_all.new.pairs) last fall c.requires.in_range c.requires.written c.in-Onward.ensures.comes.1 in
-    let held = held_put P old asked began new last c.meet_all.new.pairs c.push_arguments.new.list c.in-Onward.both (named c.args.loaded.now) c.requires.program c.in-Ok.ensures.ok before in
+    let before = held_asked P old asked began new (arguments_of_both P c.in-Onward.both ++ c.meet_all.new.pairs) last fall c.requires.in_range
+    c.requires.written c.in-Onward.ensures.comes.1 in
+    let held = held_put P old asked began new last c.meet_all.new.pairs c.push_arguments.new.list c.in-Onward.both (named c.args.loaded.now) c.requires.program
+    c.in-Ok.ensures.ok before in
     held.kept.keeps
 
 pub returns-in-Ok-clause-left : goal.returns-in-Ok-clause-left
@@ -94,8 +99,10 @@ returns-in-Ok-clause-left g c =
     let began = c.args.bound.now.items in
     let last = c.meet_all.new.bound.items in
     let fall = named_falls P (named c.args.loaded.now) c.requires.program c.skeleton_is_of_the_program.ensures.skeleton.0 in
-    let before = held_asked P old asked began new (arguments_of_both P c.in-Onward.both ++ c.meet_all.new.pairs) last fall c.requires.in_range c.requires.written c.in-Onward.ensures.comes.1 in
-    let held = held_put P old asked began new last c.meet_all.new.pairs c.push_arguments.new.list c.in-Onward.both (named c.args.loaded.now) c.requires.program c.in-Ok.ensures.ok before in
+    let before = held_asked P old asked began new (arguments_of_both P c.in-Onward.both ++ c.meet_all.new.pairs) last fall c.requires.in_range
+    c.requires.written c.in-Onward.ensures.comes.1 in
+    let held = held_put P old asked began new last c.meet_all.new.pairs c.push_arguments.new.list c.in-Onward.both (named c.args.loaded.now) c.requires.program
+    c.in-Ok.ensures.ok before in
     descends_end P old new asked began last c.push_arguments.new.list fall held
 
 pub returns-in-Ok-clause-sets : goal.returns-in-Ok-clause-sets
@@ -107,8 +114,10 @@ returns-in-Ok-clause-sets g c =
     let began = c.args.bound.now.items in
     let last = c.meet_all.new.bound.items in
     let fall = named_falls P (named c.args.loaded.now) c.requires.program c.skeleton_is_of_the_program.ensures.skeleton.0 in
-    let before = held_asked P old asked began new (arguments_of_both P c.in-Onward.both ++ c.meet_all.new.pairs) last fall c.requires.in_range c.requires.written c.in-Onward.ensures.comes.1 in
-    let held = held_put P old asked began new last c.meet_all.new.pairs c.push_arguments.new.list c.in-Onward.both (named c.args.loaded.now) c.requires.program c.in-Ok.ensures.ok before in
+    let before = held_asked P old asked began new (arguments_of_both P c.in-Onward.both ++ c.meet_all.new.pairs) last fall c.requires.in_range
+    c.requires.written c.in-Onward.ensures.comes.1 in
+    let held = held_put P old asked began new last c.meet_all.new.pairs c.push_arguments.new.list c.in-Onward.both (named c.args.loaded.now) c.requires.program
+    c.in-Ok.ensures.ok before in
     sets_end P old asked began new held.links (Contains c.push_arguments.new.list) last held.kept
 
 pub returns-in-Ok-clause-bound : goal.returns-in-Ok-clause-bound
@@ -120,8 +129,10 @@ returns-in-Ok-clause-bound g c =
     let began = c.args.bound.now.items in
     let last = c.meet_all.new.bound.items in
     let fall = named_falls P (named c.args.loaded.now) c.requires.program c.skeleton_is_of_the_program.ensures.skeleton.0 in
-    let before = held_asked P old asked began new (arguments_of_both P c.in-Onward.both ++ c.meet_all.new.pairs) last fall c.requires.in_range c.requires.written c.in-Onward.ensures.comes.1 in
-    let held = held_put P old asked began new last c.meet_all.new.pairs c.push_arguments.new.list c.in-Onward.both (named c.args.loaded.now) c.requires.program c.in-Ok.ensures.ok before in
+    let before = held_asked P old asked began new (arguments_of_both P c.in-Onward.both ++ c.meet_all.new.pairs) last fall c.requires.in_range
+    c.requires.written c.in-Onward.ensures.comes.1 in
+    let held = held_put P old asked began new last c.meet_all.new.pairs c.push_arguments.new.list c.in-Onward.both (named c.args.loaded.now) c.requires.program
+    c.in-Ok.ensures.ok before in
     held.kept.lists
 
 pub returns-in-Err-clause-ended : goal.returns-in-Err-clause-ended
@@ -134,7 +145,8 @@ returns-in-Err-clause-ended g c =
     let began = c.args.bound.now.items in
     let last = c.meet_all.new.bound.items in
     let fall = named_falls P (named c.args.loaded.now) c.requires.program c.skeleton_is_of_the_program.ensures.skeleton.0 in
-    let held = held_asked P old asked began new (arguments_of_both P c.in-Onward.both ++ c.meet_all.new.pairs) last fall c.requires.in_range c.requires.written c.in-Onward.ensures.comes.1 in
+    let held = held_asked P old asked began new (arguments_of_both P c.in-Onward.both ++ c.meet_all.new.pairs) last fall c.requires.in_range c.requires.written
+    c.in-Onward.ensures.comes.1 in
     over_is P old new asked c.push_arguments.new.list unified.Memory u (λ e. absurd (cc)) is
     (memory_end P old new asked began last c.push_arguments.new.list (Contains (arguments_of_both P c.in-Onward.both ++ c.meet_all.new.pairs)) held)
 
@@ -147,7 +159,8 @@ returns-in-Err-clause-keeps g c =
     let began = c.args.bound.now.items in
     let last = c.meet_all.new.bound.items in
     let fall = named_falls P (named c.args.loaded.now) c.requires.program c.skeleton_is_of_the_program.ensures.skeleton.0 in
-    let held = held_asked P old asked began new (arguments_of_both P c.in-Onward.both ++ c.meet_all.new.pairs) last fall c.requires.in_range c.requires.written c.in-Onward.ensures.comes.1 in
+    let held = held_asked P old asked began new (arguments_of_both P c.in-Onward.both ++ c.meet_all.new.pairs) last fall c.requires.in_range c.requires.written
+    c.in-Onward.ensures.comes.1 in
     held.kept.keeps
 
 pub returns-in-Err-clause-sets : goal.returns-in-Err-clause-sets
@@ -159,7 +172,8 @@ returns-in-Err-clause-sets g c =
     let began = c.args.bound.now.items in
     let last = c.meet_all.new.bound.items in
     let fall = named_falls P (named c.args.loaded.now) c.requires.program c.skeleton_is_of_the_program.ensures.skeleton.0 in
-    let held = held_asked P old asked began new (arguments_of_both P c.in-Onward.both ++ c.meet_all.new.pairs) last fall c.requires.in_range c.requires.written c.in-Onward.ensures.comes.1 in
+    let held = held_asked P old asked began new (arguments_of_both P c.in-Onward.both ++ c.meet_all.new.pairs) last fall c.requires.in_range c.requires.written
+    c.in-Onward.ensures.comes.1 in
     sets_end P old asked began new held.links (Contains (arguments_of_both P c.in-Onward.both ++ c.meet_all.new.pairs)) last held.kept
 
 pub returns-in-Err-clause-bound : goal.returns-in-Err-clause-bound
@@ -171,7 +185,8 @@ returns-in-Err-clause-bound g c =
     let began = c.args.bound.now.items in
     let last = c.meet_all.new.bound.items in
     let fall = named_falls P (named c.args.loaded.now) c.requires.program c.skeleton_is_of_the_program.ensures.skeleton.0 in
-    let held = held_asked P old asked began new (arguments_of_both P c.in-Onward.both ++ c.meet_all.new.pairs) last fall c.requires.in_range c.requires.written c.in-Onward.ensures.comes.1 in
+    let held = held_asked P old asked began new (arguments_of_both P c.in-Onward.both ++ c.meet_all.new.pairs) last fall c.requires.in_range c.requires.written
+    c.in-Onward.ensures.comes.1 in
     held.kept.lists
 
 pub returns-in-Apart-clause-ended : goal.returns-in-Apart-clause-ended
@@ -189,7 +204,8 @@ returns-in-Apart-clause-ended g c =
     let rest = breaks.rest in
     let mid = breaks.mid in
     let meets = breaks.meets in
-    let out = held_first P old asked began mid last p rest (held_asked P old asked began mid (p ∷ rest) last fall c.requires.in_range c.requires.written breaks.runs) in
+    let out = held_first P old asked began mid last p rest
+    (held_asked P old asked began mid (p ∷ rest) last fall c.requires.in_range c.requires.written breaks.runs) in
     let held = held_stopped P old asked began mid new last last (IsOutOr p rest) (meets.lead.reads, refl) out in
     over_is P old new asked c.meet_all.new.pairs (unified.Apart c.in-Apart.left c.in-Apart.right) u (λ e. absurd (cc)) is
     (apart_met P old mid new asked began last rest c.meet_all.new.pairs p c.in-Apart.left c.in-Apart.right meets out)
@@ -208,7 +224,8 @@ returns-in-Apart-clause-keeps g c =
     let rest = breaks.rest in
     let mid = breaks.mid in
     let meets = breaks.meets in
-    let out = held_first P old asked began mid last p rest (held_asked P old asked began mid (p ∷ rest) last fall c.requires.in_range c.requires.written breaks.runs) in
+    let out = held_first P old asked began mid last p rest
+    (held_asked P old asked began mid (p ∷ rest) last fall c.requires.in_range c.requires.written breaks.runs) in
     let held = held_stopped P old asked began mid new last last (IsOutOr p rest) (meets.lead.reads, refl) out in
     held.kept.keeps
 
@@ -226,7 +243,8 @@ returns-in-Apart-clause-sets g c =
     let rest = breaks.rest in
     let mid = breaks.mid in
     let meets = breaks.meets in
-    let out = held_first P old asked began mid last p rest (held_asked P old asked began mid (p ∷ rest) last fall c.requires.in_range c.requires.written breaks.runs) in
+    let out = held_first P old asked began mid last p rest
+    (held_asked P old asked began mid (p ∷ rest) last fall c.requires.in_range c.requires.written breaks.runs) in
     let held = held_stopped P old asked began mid new last last (IsOutOr p rest) (meets.lead.reads, refl) out in
     sets_end P old asked began new held.links (IsOutOr p rest) last held.kept
 
@@ -244,7 +262,8 @@ returns-in-Apart-clause-bound g c =
     let rest = breaks.rest in
     let mid = breaks.mid in
     let meets = breaks.meets in
-    let out = held_first P old asked began mid last p rest (held_asked P old asked began mid (p ∷ rest) last fall c.requires.in_range c.requires.written breaks.runs) in
+    let out = held_first P old asked began mid last p rest
+    (held_asked P old asked began mid (p ∷ rest) last fall c.requires.in_range c.requires.written breaks.runs) in
     let held = held_stopped P old asked began mid new last last (IsOutOr p rest) (meets.lead.reads, refl) out in
     held.kept.lists
 

@@ -8,7 +8,8 @@ returns-in-Over-clause-unifies g c = (c.descend.ensures.ended c.in-Over.unified 
 
 pub returns-in-Over-clause-spends : goal.returns-in-Over-clause-spends
 returns-in-Over-clause-spends g c =
-    spends_nothing g.C.Cells.program (g.C.Cells.seen c.descend.new.cells) c.args.pairs.now c.descend.new.pairs c.args.fuel.now c.in-Over.unified (c.descend.ensures.ended c.in-Over.unified c.in-Over.is).1
+    spends_nothing g.C.Cells.program (g.C.Cells.seen c.descend.new.cells) c.args.pairs.now c.descend.new.pairs c.args.fuel.now c.in-Over.unified
+    (c.descend.ensures.ended c.in-Over.unified c.in-Over.is).1
 
 pub solve-requires-clause-in_range : goal.solve-requires-clause-in_range
 solve-requires-clause-in_range g c = (c.descend.ensures.left c.in-Left.is).in_range.0
@@ -24,24 +25,29 @@ returns-in-Left-clause-grew g c = g.met.C.Cells.grew_on c.args.cells.now c.desce
 
 pub returns-in-Left-clause-keeps : goal.returns-in-Left-clause-keeps
 returns-in-Left-clause-keeps g c =
-    keeps_more (g.C.Cells.seen c.args.cells.now) (g.C.Cells.seen c.descend.new.cells) (g.C.Cells.seen c.solve.new.cells) c.descend.ensures.keeps c.solve.ensures.keeps
+    keeps_more (g.C.Cells.seen c.args.cells.now) (g.C.Cells.seen c.descend.new.cells) (g.C.Cells.seen c.solve.new.cells) c.descend.ensures.keeps
+    c.solve.ensures.keeps
 
 pub returns-in-Left-clause-unifies : goal.returns-in-Left-clause-unifies
 returns-in-Left-clause-unifies g c =
-    unifies_then g.C.Cells.program (g.C.Cells.seen c.args.cells.now) (g.C.Cells.seen c.descend.new.cells) (g.C.Cells.seen c.solve.new.cells) c.args.pairs.now c.descend.new.pairs c.solve.new.pairs c.solve.result
+    unifies_then g.C.Cells.program (g.C.Cells.seen c.args.cells.now) (g.C.Cells.seen c.descend.new.cells) (g.C.Cells.seen c.solve.new.cells) c.args.pairs.now
+    c.descend.new.pairs c.solve.new.pairs c.solve.result
     c.requires.in_range c.solve.ensures.keeps (c.descend.ensures.left c.in-Left.is) c.solve.ensures.unifies c.solve.ensures.suffice
 
 pub returns-in-Left-clause-spends : goal.returns-in-Left-clause-spends
 returns-in-Left-clause-spends g c =
-    spends_then g.C.Cells.program (g.C.Cells.seen c.args.cells.now) (g.C.Cells.seen c.descend.new.cells) (g.C.Cells.seen c.solve.new.cells) c.args.pairs.now c.descend.new.pairs c.solve.new.pairs
+    spends_then g.C.Cells.program (g.C.Cells.seen c.args.cells.now) (g.C.Cells.seen c.descend.new.cells) (g.C.Cells.seen c.solve.new.cells) c.args.pairs.now
+    c.descend.new.pairs c.solve.new.pairs
     c.args.fuel.now c.solve.new.fuel c.solve.result c.solve.ensures.keeps (c.descend.ensures.left c.in-Left.is) c.solve.ensures.spends
 
 pub returns-in-Left-clause-sets : goal.returns-in-Left-clause-sets
 returns-in-Left-clause-sets g c =
-    sets_then g.C.Cells.program (g.C.Cells.seen c.args.cells.now) (g.C.Cells.seen c.descend.new.cells) (g.C.Cells.seen c.solve.new.cells) c.args.pairs.now c.descend.new.pairs c.descend.new.bound.items
+    sets_then g.C.Cells.program (g.C.Cells.seen c.args.cells.now) (g.C.Cells.seen c.descend.new.cells) (g.C.Cells.seen c.solve.new.cells) c.args.pairs.now
+    c.descend.new.pairs c.descend.new.bound.items
     c.solve.new.bound.items (c.descend.ensures.left c.in-Left.is) c.solve.ensures.bound c.descend.ensures.sets c.solve.ensures.sets
 
 pub returns-in-Left-clause-bound : goal.returns-in-Left-clause-bound
 returns-in-Left-clause-bound g c =
-    lists_then (g.C.Cells.seen c.args.cells.now) (g.C.Cells.seen c.descend.new.cells) (g.C.Cells.seen c.solve.new.cells) c.args.bound.now.items c.descend.new.bound.items c.solve.new.bound.items
+    lists_then (g.C.Cells.seen c.args.cells.now) (g.C.Cells.seen c.descend.new.cells) (g.C.Cells.seen c.solve.new.cells) c.args.bound.now.items
+    c.descend.new.bound.items c.solve.new.bound.items
     c.descend.ensures.keeps c.solve.ensures.keeps c.descend.ensures.bound c.solve.ensures.bound

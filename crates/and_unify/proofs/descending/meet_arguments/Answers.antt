@@ -5,7 +5,8 @@ use Rattle.and_unify.specs.declared.descending.Plainly.TheVariants as plainly
 use Rattle.and_unify.specs.Meeting.{AreOfOneShape}
 use Rattle.and_unify.specs.Running.{Runs, start, stepped, arguments_of_both}
 use Rattle.and_unify.proofs.TurnArguments.{argument_of_part, arguments_counted}
-use Rattle.and_unify.proofs.DescentRuns.{HasShape, waits, runs_words, argument_fits, first_argument, last_argument, put_by_runs, put_by_shape, comes_of_first, comes_onward}
+use Rattle.and_unify.proofs.DescentRuns.{HasShape, waits, runs_words, argument_fits, first_argument, last_argument, put_by_runs, put_by_shape, comes_of_first}
+use Rattle.and_unify.proofs.DescentRuns.{comes_onward}
 use Rattle.and_unify.proofs.descending.meet_arguments.Goals.{in-Done, in-Onward+in-Ok}
 use Rattle.and_unify.proofs.descending.meet_arguments.Goals as goal
 
@@ -17,10 +18,14 @@ argument_pair-pair-requires-clause-right_place g c =
     let Q = named c.args.loaded.now in
     let shape = c.requires.shape in
     let both = c.args.both in
-    let left : IsStructure Q both.left shape.name shape.count = subst (λ (p : NamedProgram). IsStructure p both.left shape.name shape.count) c.requires.program shape.left_is in
-    let right : IsStructure Q both.right shape.name shape.count = subst (λ (p : NamedProgram). IsStructure p both.right shape.name shape.count) c.requires.program shape.right_is in
-    let one = arguments_counted Q both.left c.as_structure-left.result.node c.as_structure-left.result.base shape.name shape.count c.as_structure-left.ensures left in
-    let other = arguments_counted Q both.right c.as_structure-right.result.node c.as_structure-right.result.base shape.name shape.count c.as_structure-right.ensures right in
+    let left : IsStructure Q both.left shape.name shape.count =
+    subst (λ (p : NamedProgram). IsStructure p both.left shape.name shape.count) c.requires.program shape.left_is in
+    let right : IsStructure Q both.right shape.name shape.count =
+    subst (λ (p : NamedProgram). IsStructure p both.right shape.name shape.count) c.requires.program shape.right_is in
+    let one = arguments_counted Q both.left c.as_structure-left.result.node c.as_structure-left.result.base shape.name shape.count
+    c.as_structure-left.ensures left in
+    let other = arguments_counted Q both.right c.as_structure-right.result.node c.as_structure-right.result.base shape.name shape.count
+    c.as_structure-right.ensures right in
     let end = c.argument_count-place-end.ensures in
     let below = c.loop-place-test.true in
     omega arith
@@ -34,11 +39,17 @@ meet_argument-requires-clause-in_range g c =
     let both = c.args.both in
     let todo = arguments_of_both P both ++ c.args.list.now in
     let pair = c.argument_pair-pair.result in
-    let left : slice_get (parts_of P both.left) c.loop-place.place ≡ Some pair.left = subst (λ (p : NamedProgram). slice_get (parts_of p both.left) c.loop-place.place ≡ Some pair.left) (sym c.requires.program)
-    (argument_of_part Q both.left pair.left c.as_structure-left.result.node c.as_structure-left.result.base c.loop-place.place c.as_structure-left.ensures c.argument_pair-pair.ensures.left) in
-    let right : slice_get (parts_of P both.right) c.loop-place.place ≡ Some pair.right = subst (λ (p : NamedProgram). slice_get (parts_of p both.right) c.loop-place.place ≡ Some pair.right) (sym c.requires.program)
-    (argument_of_part Q both.right pair.right c.as_structure-right.result.node c.as_structure-right.result.base c.loop-place.place c.as_structure-right.ensures c.argument_pair-pair.ensures.right) in
-    let words = runs_words P old todo c.args.bound.now.items s (drop c.loop-place.place (arguments_of_both P both) ++ (waits P c.loop-place.next ++ c.loop-place.list)) c.loop-place.bound.items c.loop-place.invariant.runs in
+    let left : slice_get (parts_of P both.left) c.loop-place.place ≡ Some pair.left =
+    subst (λ (p : NamedProgram). slice_get (parts_of p both.left) c.loop-place.place ≡ Some pair.left) (sym c.requires.program)
+    (argument_of_part Q both.left pair.left c.as_structure-left.result.node c.as_structure-left.result.base c.loop-place.place c.as_structure-left.ensures
+    c.argument_pair-pair.ensures.left) in
+    let right : slice_get (parts_of P both.right) c.loop-place.place ≡ Some pair.right =
+    subst (λ (p : NamedProgram). slice_get (parts_of p both.right) c.loop-place.place ≡ Some pair.right) (sym c.requires.program)
+    (argument_of_part Q both.right pair.right c.as_structure-right.result.node c.as_structure-right.result.base c.loop-place.place c.as_structure-right.ensures
+    c.argument_pair-pair.ensures.right) in
+    let words = runs_words P old todo c.args.bound.now.items s
+    (drop c.loop-place.place (arguments_of_both P both) ++ (waits P c.loop-place.next ++ c.loop-place.list)) c.loop-place.bound.items
+    c.loop-place.invariant.runs in
     let shape = subst (λ n. AreOfOneShape P n both.left both.right) (sym words) c.requires.shape in
     let fit = argument_fits P s both pair c.loop-place.place c.requires.falls shape left right in
     (fit.left_in_range, fit.right_in_range)
@@ -52,11 +63,17 @@ meet_argument-requires-clause-written g c =
     let both = c.args.both in
     let todo = arguments_of_both P both ++ c.args.list.now in
     let pair = c.argument_pair-pair.result in
-    let left : slice_get (parts_of P both.left) c.loop-place.place ≡ Some pair.left = subst (λ (p : NamedProgram). slice_get (parts_of p both.left) c.loop-place.place ≡ Some pair.left) (sym c.requires.program)
-    (argument_of_part Q both.left pair.left c.as_structure-left.result.node c.as_structure-left.result.base c.loop-place.place c.as_structure-left.ensures c.argument_pair-pair.ensures.left) in
-    let right : slice_get (parts_of P both.right) c.loop-place.place ≡ Some pair.right = subst (λ (p : NamedProgram). slice_get (parts_of p both.right) c.loop-place.place ≡ Some pair.right) (sym c.requires.program)
-    (argument_of_part Q both.right pair.right c.as_structure-right.result.node c.as_structure-right.result.base c.loop-place.place c.as_structure-right.ensures c.argument_pair-pair.ensures.right) in
-    let words = runs_words P old todo c.args.bound.now.items s (drop c.loop-place.place (arguments_of_both P both) ++ (waits P c.loop-place.next ++ c.loop-place.list)) c.loop-place.bound.items c.loop-place.invariant.runs in
+    let left : slice_get (parts_of P both.left) c.loop-place.place ≡ Some pair.left =
+    subst (λ (p : NamedProgram). slice_get (parts_of p both.left) c.loop-place.place ≡ Some pair.left) (sym c.requires.program)
+    (argument_of_part Q both.left pair.left c.as_structure-left.result.node c.as_structure-left.result.base c.loop-place.place c.as_structure-left.ensures
+    c.argument_pair-pair.ensures.left) in
+    let right : slice_get (parts_of P both.right) c.loop-place.place ≡ Some pair.right =
+    subst (λ (p : NamedProgram). slice_get (parts_of p both.right) c.loop-place.place ≡ Some pair.right) (sym c.requires.program)
+    (argument_of_part Q both.right pair.right c.as_structure-right.result.node c.as_structure-right.result.base c.loop-place.place c.as_structure-right.ensures
+    c.argument_pair-pair.ensures.right) in
+    let words = runs_words P old todo c.args.bound.now.items s
+    (drop c.loop-place.place (arguments_of_both P both) ++ (waits P c.loop-place.next ++ c.loop-place.list)) c.loop-place.bound.items
+    c.loop-place.invariant.runs in
     let shape = subst (λ n. AreOfOneShape P n both.left both.right) (sym words) c.requires.shape in
     let fit = argument_fits P s both pair c.loop-place.place c.requires.falls shape left right in
     (fit.left_written, fit.right_written)
@@ -82,13 +99,19 @@ returns-in-Err-clause-comes g c =
     let both = c.args.both in
     let todo = arguments_of_both P both ++ c.args.list.now in
     let pair = c.argument_pair-pair.result in
-    let left : slice_get (parts_of P both.left) c.loop-place.place ≡ Some pair.left = subst (λ (p : NamedProgram). slice_get (parts_of p both.left) c.loop-place.place ≡ Some pair.left) (sym c.requires.program)
-    (argument_of_part Q both.left pair.left c.as_structure-left.result.node c.as_structure-left.result.base c.loop-place.place c.as_structure-left.ensures c.argument_pair-pair.ensures.left) in
-    let right : slice_get (parts_of P both.right) c.loop-place.place ≡ Some pair.right = subst (λ (p : NamedProgram). slice_get (parts_of p both.right) c.loop-place.place ≡ Some pair.right) (sym c.requires.program)
-    (argument_of_part Q both.right pair.right c.as_structure-right.result.node c.as_structure-right.result.base c.loop-place.place c.as_structure-right.ensures c.argument_pair-pair.ensures.right) in
+    let left : slice_get (parts_of P both.left) c.loop-place.place ≡ Some pair.left =
+    subst (λ (p : NamedProgram). slice_get (parts_of p both.left) c.loop-place.place ≡ Some pair.left) (sym c.requires.program)
+    (argument_of_part Q both.left pair.left c.as_structure-left.result.node c.as_structure-left.result.base c.loop-place.place c.as_structure-left.ensures
+    c.argument_pair-pair.ensures.left) in
+    let right : slice_get (parts_of P both.right) c.loop-place.place ≡ Some pair.right =
+    subst (λ (p : NamedProgram). slice_get (parts_of p both.right) c.loop-place.place ≡ Some pair.right) (sym c.requires.program)
+    (argument_of_part Q both.right pair.right c.as_structure-right.result.node c.as_structure-right.result.base c.loop-place.place c.as_structure-right.ensures
+    c.argument_pair-pair.ensures.right) in
     let rest = drop (c.loop-place.place + 1) (arguments_of_both P both) ++ (waits P c.loop-place.next ++ c.loop-place.list) in
-    let runs = first_argument P old s todo c.loop-place.list c.args.bound.now.items c.loop-place.bound.items both pair c.loop-place.next c.loop-place.place left right c.loop-place.invariant.runs in
-    comes_of_first P old s (g.C.Cells.seen c.meet_argument.new.cells) todo rest c.args.bound.now.items c.loop-place.bound.items c.meet_argument.new.bound.items pair plainly.Memory runs
+    let runs = first_argument P old s todo c.loop-place.list c.args.bound.now.items c.loop-place.bound.items both pair c.loop-place.next c.loop-place.place
+    left right c.loop-place.invariant.runs in
+    comes_of_first P old s (g.C.Cells.seen c.meet_argument.new.cells) todo rest c.args.bound.now.items c.loop-place.bound.items c.meet_argument.new.bound.items
+    pair plainly.Memory runs
     (c.in-Onward.ensures.meets.0.lead.reads, c.in-Onward.ensures.meets.1)
 
 pub returns-in-Apart-clause-comes : goal.returns-in-Apart-clause-comes
@@ -100,13 +123,19 @@ returns-in-Apart-clause-comes g c =
     let both = c.args.both in
     let todo = arguments_of_both P both ++ c.args.list.now in
     let pair = c.argument_pair-pair.result in
-    let left : slice_get (parts_of P both.left) c.loop-place.place ≡ Some pair.left = subst (λ (p : NamedProgram). slice_get (parts_of p both.left) c.loop-place.place ≡ Some pair.left) (sym c.requires.program)
-    (argument_of_part Q both.left pair.left c.as_structure-left.result.node c.as_structure-left.result.base c.loop-place.place c.as_structure-left.ensures c.argument_pair-pair.ensures.left) in
-    let right : slice_get (parts_of P both.right) c.loop-place.place ≡ Some pair.right = subst (λ (p : NamedProgram). slice_get (parts_of p both.right) c.loop-place.place ≡ Some pair.right) (sym c.requires.program)
-    (argument_of_part Q both.right pair.right c.as_structure-right.result.node c.as_structure-right.result.base c.loop-place.place c.as_structure-right.ensures c.argument_pair-pair.ensures.right) in
+    let left : slice_get (parts_of P both.left) c.loop-place.place ≡ Some pair.left =
+    subst (λ (p : NamedProgram). slice_get (parts_of p both.left) c.loop-place.place ≡ Some pair.left) (sym c.requires.program)
+    (argument_of_part Q both.left pair.left c.as_structure-left.result.node c.as_structure-left.result.base c.loop-place.place c.as_structure-left.ensures
+    c.argument_pair-pair.ensures.left) in
+    let right : slice_get (parts_of P both.right) c.loop-place.place ≡ Some pair.right =
+    subst (λ (p : NamedProgram). slice_get (parts_of p both.right) c.loop-place.place ≡ Some pair.right) (sym c.requires.program)
+    (argument_of_part Q both.right pair.right c.as_structure-right.result.node c.as_structure-right.result.base c.loop-place.place c.as_structure-right.ensures
+    c.argument_pair-pair.ensures.right) in
     let rest = drop (c.loop-place.place + 1) (arguments_of_both P both) ++ (waits P c.loop-place.next ++ c.loop-place.list) in
-    let runs = first_argument P old s todo c.loop-place.list c.args.bound.now.items c.loop-place.bound.items both pair c.loop-place.next c.loop-place.place left right c.loop-place.invariant.runs in
-    comes_of_first P old s (g.C.Cells.seen c.meet_argument.new.cells) todo rest c.args.bound.now.items c.loop-place.bound.items c.meet_argument.new.bound.items pair (plainly.Apart c.in-Apart.left c.in-Apart.right) runs
+    let runs = first_argument P old s todo c.loop-place.list c.args.bound.now.items c.loop-place.bound.items both pair c.loop-place.next c.loop-place.place
+    left right c.loop-place.invariant.runs in
+    comes_of_first P old s (g.C.Cells.seen c.meet_argument.new.cells) todo rest c.args.bound.now.items c.loop-place.bound.items c.meet_argument.new.bound.items
+    pair (plainly.Apart c.in-Apart.left c.in-Apart.right) runs
     c.in-Apart.ensures.meets
 
 pub returns-in-Memory-clause-comes : goal.returns-in-Memory-clause-comes
@@ -118,13 +147,19 @@ returns-in-Memory-clause-comes g c =
     let both = c.args.both in
     let todo = arguments_of_both P both ++ c.args.list.now in
     let pair = c.argument_pair-pair.result in
-    let left : slice_get (parts_of P both.left) c.loop-place.place ≡ Some pair.left = subst (λ (p : NamedProgram). slice_get (parts_of p both.left) c.loop-place.place ≡ Some pair.left) (sym c.requires.program)
-    (argument_of_part Q both.left pair.left c.as_structure-left.result.node c.as_structure-left.result.base c.loop-place.place c.as_structure-left.ensures c.argument_pair-pair.ensures.left) in
-    let right : slice_get (parts_of P both.right) c.loop-place.place ≡ Some pair.right = subst (λ (p : NamedProgram). slice_get (parts_of p both.right) c.loop-place.place ≡ Some pair.right) (sym c.requires.program)
-    (argument_of_part Q both.right pair.right c.as_structure-right.result.node c.as_structure-right.result.base c.loop-place.place c.as_structure-right.ensures c.argument_pair-pair.ensures.right) in
+    let left : slice_get (parts_of P both.left) c.loop-place.place ≡ Some pair.left =
+    subst (λ (p : NamedProgram). slice_get (parts_of p both.left) c.loop-place.place ≡ Some pair.left) (sym c.requires.program)
+    (argument_of_part Q both.left pair.left c.as_structure-left.result.node c.as_structure-left.result.base c.loop-place.place c.as_structure-left.ensures
+    c.argument_pair-pair.ensures.left) in
+    let right : slice_get (parts_of P both.right) c.loop-place.place ≡ Some pair.right =
+    subst (λ (p : NamedProgram). slice_get (parts_of p both.right) c.loop-place.place ≡ Some pair.right) (sym c.requires.program)
+    (argument_of_part Q both.right pair.right c.as_structure-right.result.node c.as_structure-right.result.base c.loop-place.place c.as_structure-right.ensures
+    c.argument_pair-pair.ensures.right) in
     let rest = drop (c.loop-place.place + 1) (arguments_of_both P both) ++ (waits P c.loop-place.next ++ c.loop-place.list) in
-    let runs = first_argument P old s todo c.loop-place.list c.args.bound.now.items c.loop-place.bound.items both pair c.loop-place.next c.loop-place.place left right c.loop-place.invariant.runs in
-    comes_of_first P old s (g.C.Cells.seen c.meet_argument.new.cells) todo rest c.args.bound.now.items c.loop-place.bound.items c.meet_argument.new.bound.items pair plainly.Memory runs
+    let runs = first_argument P old s todo c.loop-place.list c.args.bound.now.items c.loop-place.bound.items both pair c.loop-place.next c.loop-place.place
+    left right c.loop-place.invariant.runs in
+    comes_of_first P old s (g.C.Cells.seen c.meet_argument.new.cells) todo rest c.args.bound.now.items c.loop-place.bound.items c.meet_argument.new.bound.items
+    pair plainly.Memory runs
     c.in-Memory.ensures.meets
 
 pub loop-place-preserved : goal.loop-place-preserved
@@ -136,17 +171,23 @@ loop-place-preserved g c =
     let both = c.args.both in
     let todo = arguments_of_both P both ++ c.args.list.now in
     let pair = c.argument_pair-pair.result in
-    let left : slice_get (parts_of P both.left) c.loop-place.place ≡ Some pair.left = subst (λ (p : NamedProgram). slice_get (parts_of p both.left) c.loop-place.place ≡ Some pair.left) (sym c.requires.program)
-    (argument_of_part Q both.left pair.left c.as_structure-left.result.node c.as_structure-left.result.base c.loop-place.place c.as_structure-left.ensures c.argument_pair-pair.ensures.left) in
-    let right : slice_get (parts_of P both.right) c.loop-place.place ≡ Some pair.right = subst (λ (p : NamedProgram). slice_get (parts_of p both.right) c.loop-place.place ≡ Some pair.right) (sym c.requires.program)
-    (argument_of_part Q both.right pair.right c.as_structure-right.result.node c.as_structure-right.result.base c.loop-place.place c.as_structure-right.ensures c.argument_pair-pair.ensures.right) in
+    let left : slice_get (parts_of P both.left) c.loop-place.place ≡ Some pair.left =
+    subst (λ (p : NamedProgram). slice_get (parts_of p both.left) c.loop-place.place ≡ Some pair.left) (sym c.requires.program)
+    (argument_of_part Q both.left pair.left c.as_structure-left.result.node c.as_structure-left.result.base c.loop-place.place c.as_structure-left.ensures
+    c.argument_pair-pair.ensures.left) in
+    let right : slice_get (parts_of P both.right) c.loop-place.place ≡ Some pair.right =
+    subst (λ (p : NamedProgram). slice_get (parts_of p both.right) c.loop-place.place ≡ Some pair.right) (sym c.requires.program)
+    (argument_of_part Q both.right pair.right c.as_structure-right.result.node c.as_structure-right.result.base c.loop-place.place c.as_structure-right.ensures
+    c.argument_pair-pair.ensures.right) in
     let rest = drop (c.loop-place.place + 1) (arguments_of_both P both) ++ (waits P c.loop-place.next ++ c.loop-place.list) in
-    let runs = first_argument P old s todo c.loop-place.list c.args.bound.now.items c.loop-place.bound.items both pair c.loop-place.next c.loop-place.place left right c.loop-place.invariant.runs in
+    let runs = first_argument P old s todo c.loop-place.list c.args.bound.now.items c.loop-place.bound.items both pair c.loop-place.next c.loop-place.place
+    left right c.loop-place.invariant.runs in
     let new = g.C.Cells.seen c.meet_argument.new.cells in
     let last = c.meet_argument.new.bound.items in
     let ds = drop (c.loop-place.place + 1) (arguments_of_both P both) in
     let words = runs_words P old todo c.args.bound.now.items s (pair ∷ rest) c.loop-place.bound.items runs in
-    let kept : HasShape P old.words c.match-meet_argument.next × Runs P old todo c.args.bound.now.items new (ds ++ (waits P c.match-meet_argument.next ++ c.match-meet_argument.list)) last =
+    let kept : HasShape P old.words c.match-meet_argument.next
+    × Runs P old todo c.args.bound.now.items new (ds ++ (waits P c.match-meet_argument.next ++ c.match-meet_argument.list)) last =
     elim c.match-meet_argument.branch [
       | in-Done w ↦ (
         subst (HasShape P old.words) (sym w.next-is) c.loop-place.invariant.shape,
@@ -162,7 +203,8 @@ loop-place-preserved g c =
                 (subst (λ n. AreOfOneShape P n inner.left inner.right) words meets.0.shape) w.in-Ok.ensures),
             subst (λ l. Runs P old todo c.args.bound.now.items new (ds ++ (waits P c.match-meet_argument.next ++ l)) last) (sym w.list-is)
                 (subst (λ n. Runs P old todo c.args.bound.now.items new (ds ++ (waits P n ++ w.put_by.new.list)) last) (sym w.next-is)
-                (put_by_runs P old s new todo ds c.loop-place.list w.put_by.new.list c.args.bound.now.items c.loop-place.bound.items last pair inner first c.loop-place.next runs meets w.in-Ok.ensures)),
+                (put_by_runs P old s new todo ds c.loop-place.list w.put_by.new.list c.args.bound.now.items c.loop-place.bound.items last pair inner first
+                c.loop-place.next runs meets w.in-Ok.ensures)),
           )
     ] in
     record {
@@ -181,10 +223,13 @@ returns-clause-comes g c =
     let both = c.args.both in
     let todo = arguments_of_both P both ++ c.args.list.now in
     let shape = c.requires.shape in
-    let is : IsStructure Q both.left shape.name shape.count = subst (λ (p : NamedProgram). IsStructure p both.left shape.name shape.count) c.requires.program shape.left_is in
-    let one = arguments_counted Q both.left c.as_structure-left.result.node c.as_structure-left.result.base shape.name shape.count c.as_structure-left.ensures is in
+    let is : IsStructure Q both.left shape.name shape.count =
+    subst (λ (p : NamedProgram). IsStructure p both.left shape.name shape.count) c.requires.program shape.left_is in
+    let one = arguments_counted Q both.left c.as_structure-left.result.node c.as_structure-left.result.base shape.name shape.count
+    c.as_structure-left.ensures is in
     let past : shape.count ≤ c.loop-place.place = let end = c.argument_count-place-end.ensures in let at = c.loop-place-test.false in omega arith in
-    let runs = last_argument P old s todo c.loop-place.list c.args.bound.now.items c.loop-place.bound.items both c.loop-place.next shape.name shape.count c.loop-place.place shape.left_is past c.loop-place.invariant.runs in
+    let runs = last_argument P old s todo c.loop-place.list c.args.bound.now.items c.loop-place.bound.items both c.loop-place.next shape.name shape.count
+    c.loop-place.place shape.left_is past c.loop-place.invariant.runs in
     let words = runs_words P old todo c.args.bound.now.items s (waits P c.loop-place.next ++ c.loop-place.list) c.loop-place.bound.items runs in
     comes_onward P old s todo c.loop-place.list c.args.bound.now.items c.loop-place.bound.items c.loop-place.next c.onward.result
     (subst (λ n. HasShape P n c.loop-place.next) (sym words) c.loop-place.invariant.shape) runs c.onward.ensures.some c.onward.ensures.none

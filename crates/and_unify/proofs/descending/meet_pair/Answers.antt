@@ -8,7 +8,8 @@ returns-in-Same-clause-meets g c = λ list links. (links, alike (c.meet.ensures.
 pub returns-in-Bound-clause-meets : goal.returns-in-Bound-clause-meets
 returns-in-Bound-clause-meets g c = λ list links. (
   links,
-  sets c.in-Bound.cell (c.meet.ensures.bound c.in-Bound.cell c.in-Bound.is) refl refl (c.note.ensures ∙ ap (λ xs. xs ++ c.in-Bound.cell ∷ []) c.make_room.ensures.items),
+  sets c.in-Bound.cell (c.meet.ensures.bound c.in-Bound.cell c.in-Bound.is) refl refl (c.note.ensures
+      ∙ ap (λ xs. xs ++ c.in-Bound.cell ∷ []) c.make_room.ensures.items),
 )
 
 pub returns-in-Structures-clause-meets : goal.returns-in-Structures-clause-meets

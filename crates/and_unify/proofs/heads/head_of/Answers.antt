@@ -15,5 +15,6 @@ returns-in-Node-clause-head g c =
 pub returns-in-Number-clause-head : goal.returns-in-Number-clause-head
 returns-in-Number-clause-head g c =
     let fits : FitsSigned w64 c.number.result = search (rules, ints) in
-    number_head g.C.Cells.program c.in-Number.pair c.args.reference _ c.number.result (g.C.Cells.seen c.args.cells.now) (g.C.Cells.seen c.number.new.self) c.in-Number.is
+    number_head g.C.Cells.program c.in-Number.pair c.args.reference _ c.number.result (g.C.Cells.seen c.args.cells.now)
+    (g.C.Cells.seen c.number.new.self) c.in-Number.is
     (to_z-of_z w64 c.number.result fits) c.number.ensures.read

@@ -6,13 +6,15 @@ use Rattle.and_unify.proofs.meeting.compare.Goals as goal
 
 pub returns-then-eq-clause-same : goal.returns-then-eq-clause-same
 returns-then-eq-clause-same g c = λ is.
-    alike_end g.C.Cells.program c.args.one c.args.other (g.C.Cells.seen c.args.cells.now) (same_is c.args.one c.args.other (sym c.if-eq.ensures)) c.requires.ends.0
+    alike_end g.C.Cells.program c.args.one c.args.other (g.C.Cells.seen c.args.cells.now)
+    (same_is c.args.one c.args.other (sym c.if-eq.ensures)) c.requires.ends.0
 
 pub returns-then-ne-clause-apart : goal.returns-then-ne-clause-apart
 returns-then-ne-clause-apart g c = λ p q is.
     let left = c.head_of-left_head.result in
     let right = c.head_of-right_head.result in
-    apart_compared g.C.Cells.program c.args.one c.args.other p q left right (g.C.Cells.seen c.args.cells.now) (g.C.Cells.seen c.head_of-left_head.new.cells) (g.C.Cells.seen c.head_of-right_head.new.cells)
+    apart_compared g.C.Cells.program c.args.one c.args.other p q left right (g.C.Cells.seen c.args.cells.now) (g.C.Cells.seen c.head_of-left_head.new.cells)
+    (g.C.Cells.seen c.head_of-right_head.new.cells)
     (record {
       first_reads = c.head_of-left_head.ensures.reads;
       first = c.head_of-left_head.ensures.head;
@@ -25,7 +27,8 @@ pub returns-in-Number-clause-same : goal.returns-in-Number-clause-same
 returns-in-Number-clause-same g c = λ is.
     let left = c.head_of-left_head.result in
     let right = c.head_of-right_head.result in
-    alike_compared g.C.Cells.program c.args.one c.args.other left right c.in-Number.field-0 (g.C.Cells.seen c.args.cells.now) (g.C.Cells.seen c.head_of-left_head.new.cells) (g.C.Cells.seen c.head_of-right_head.new.cells)
+    alike_compared g.C.Cells.program c.args.one c.args.other left right c.in-Number.field-0 (g.C.Cells.seen c.args.cells.now)
+    (g.C.Cells.seen c.head_of-left_head.new.cells) (g.C.Cells.seen c.head_of-right_head.new.cells)
     (record {
       first_reads = c.head_of-left_head.ensures.reads;
       first = c.head_of-left_head.ensures.head;
@@ -38,7 +41,8 @@ pub returns-in-Name-clause-structures : goal.returns-in-Name-clause-structures
 returns-in-Name-clause-structures g c = λ p q is.
     let left = c.head_of-left_head.result in
     let right = c.head_of-right_head.result in
-    structures_compared g.C.Cells.program c.args.one c.args.other p q left right c.in-Name.name c.in-Name.count (g.C.Cells.seen c.args.cells.now) (g.C.Cells.seen c.head_of-left_head.new.cells) (g.C.Cells.seen c.head_of-right_head.new.cells)
+    structures_compared g.C.Cells.program c.args.one c.args.other p q left right c.in-Name.name c.in-Name.count (g.C.Cells.seen c.args.cells.now)
+    (g.C.Cells.seen c.head_of-left_head.new.cells) (g.C.Cells.seen c.head_of-right_head.new.cells)
     (record {
       first_reads = c.head_of-left_head.ensures.reads;
       first = c.head_of-left_head.ensures.head;

@@ -12,8 +12,18 @@ loop-met-init g c =
       over = c.end_beside-other.ensures.over ∙ c.deref-one.ensures.over;
       grew = g.met.C.Cells.grew_on c.args.cells.now c.deref-one.new.cells c.end_beside-other.new.cells c.deref-one.ensures.grew c.end_beside-other.ensures.grew;
       standing = both_followed g.C.Cells.program c.args.left c.args.right c.deref-one.result c.end_beside-other.result old mid new
-          (record { reads = c.deref-one.ensures.reads; leads = c.deref-one.ensures.leads; in_range = c.deref-one.ensures.in_range; written = c.deref-one.ensures.written })
-          (record { reads = c.end_beside-other.ensures.reads; leads = c.end_beside-other.ensures.leads; in_range = c.end_beside-other.ensures.in_range; written = c.end_beside-other.ensures.written });
+          (record {
+            reads = c.deref-one.ensures.reads;
+            leads = c.deref-one.ensures.leads;
+            in_range = c.deref-one.ensures.in_range;
+            written = c.deref-one.ensures.written;
+          })
+          (record {
+            reads = c.end_beside-other.ensures.reads;
+            leads = c.end_beside-other.ensures.leads;
+            in_range = c.end_beside-other.ensures.in_range;
+            written = c.end_beside-other.ensures.written;
+          });
     }
 
 pub returns-in-Done-clause-same : goal.returns-in-Done-clause-same
@@ -43,7 +53,8 @@ returns-in-Done-clause-apart g c = λ one other is.
 pub loop-met-smaller-in-LeftIs : goal.loop-met-smaller-in-LeftIs
 loop-met-smaller-in-LeftIs g c =
     let falls : cells_behind c.in-LeftIs.set < cells_behind c.loop-met.one =
-    behind_falls g.C.Cells.program c.loop-met.one c.in-LeftIs.set (g.C.Cells.seen c.loop-met.cells) (g.C.Cells.seen c.try_both.new.cells) (c.try_both.ensures.left_is c.in-LeftIs.set c.in-LeftIs.is) in
+    behind_falls g.C.Cells.program c.loop-met.one c.in-LeftIs.set (g.C.Cells.seen c.loop-met.cells) (g.C.Cells.seen c.try_both.new.cells)
+    (c.try_both.ensures.left_is c.in-LeftIs.set c.in-LeftIs.is) in
     let less : cells_behind c.in-LeftIs.set + cells_behind c.loop-met.other < cells_behind c.loop-met.one + cells_behind c.loop-met.other = omega arith in
     less
 
@@ -51,14 +62,16 @@ pub loop-met-preserved-in-LeftIs : goal.loop-met-preserved-in-LeftIs
 loop-met-preserved-in-LeftIs g c = record {
   over = c.try_both.ensures.over ∙ c.loop-met.invariant.over;
   grew = g.met.C.Cells.grew_on c.args.cells.now c.loop-met.cells c.try_both.new.cells c.loop-met.invariant.grew c.try_both.ensures.grew;
-  standing = standing_left g.C.Cells.program c.args.left c.args.right (g.C.Cells.seen c.args.cells.now) (g.C.Cells.seen c.loop-met.cells) (g.C.Cells.seen c.try_both.new.cells)
+  standing = standing_left g.C.Cells.program c.args.left c.args.right (g.C.Cells.seen c.args.cells.now) (g.C.Cells.seen c.loop-met.cells)
+      (g.C.Cells.seen c.try_both.new.cells)
       c.loop-met.one c.loop-met.other c.in-LeftIs.set c.loop-met.invariant.standing (c.try_both.ensures.left_is c.in-LeftIs.set c.in-LeftIs.is);
 }
 
 pub loop-met-smaller : goal.loop-met-smaller
 loop-met-smaller g c =
     let falls : cells_behind c.in-RightIs.set < cells_behind c.loop-met.other =
-    behind_falls g.C.Cells.program c.loop-met.other c.in-RightIs.set (g.C.Cells.seen c.loop-met.cells) (g.C.Cells.seen c.try_both.new.cells) (c.try_both.ensures.right_is c.in-RightIs.set c.in-RightIs.is) in
+    behind_falls g.C.Cells.program c.loop-met.other c.in-RightIs.set (g.C.Cells.seen c.loop-met.cells) (g.C.Cells.seen c.try_both.new.cells)
+    (c.try_both.ensures.right_is c.in-RightIs.set c.in-RightIs.is) in
     let less : cells_behind c.loop-met.one + cells_behind c.in-RightIs.set < cells_behind c.loop-met.one + cells_behind c.loop-met.other = omega arith in
     less
 
@@ -66,7 +79,8 @@ pub loop-met-preserved : goal.loop-met-preserved
 loop-met-preserved g c = record {
   over = c.try_both.ensures.over ∙ c.loop-met.invariant.over;
   grew = g.met.C.Cells.grew_on c.args.cells.now c.loop-met.cells c.try_both.new.cells c.loop-met.invariant.grew c.try_both.ensures.grew;
-  standing = standing_right g.C.Cells.program c.args.left c.args.right (g.C.Cells.seen c.args.cells.now) (g.C.Cells.seen c.loop-met.cells) (g.C.Cells.seen c.try_both.new.cells)
+  standing = standing_right g.C.Cells.program c.args.left c.args.right (g.C.Cells.seen c.args.cells.now) (g.C.Cells.seen c.loop-met.cells)
+      (g.C.Cells.seen c.try_both.new.cells)
       c.loop-met.one c.loop-met.other c.in-RightIs.set c.loop-met.invariant.standing (c.try_both.ensures.right_is c.in-RightIs.set c.in-RightIs.is);
 }
 

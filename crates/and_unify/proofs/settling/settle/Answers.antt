@@ -17,7 +17,8 @@ settle_further-requires-clause-no_half g c =
 
 pub settle_further-requires-clause-new : goal.settle_further-requires-clause-new
 settle_further-requires-clause-new g c =
-    none_is_new g.N.Naming.program c.args.cells.now c.args.pairs.now c.len-floor.result c.laws_of_rows.ensures.sound c.requires.in_range c.len-floor.ensures.value
+    none_is_new g.N.Naming.program c.args.cells.now c.args.pairs.now c.len-floor.result c.laws_of_rows.ensures.sound c.requires.in_range
+    c.len-floor.ensures.value
 
 pub returns-in-Ok-true : goal.returns-in-Ok-true
 returns-in-Ok-true g c = c.settle_further.ensures.settles

@@ -10,7 +10,8 @@ use Rattle.and_unify.proofs.settling.settle_into.Goals as goal
 pub judge-requires-clause-in_row : goal.judge-requires-clause-in_row
 judge-requires-clause-in_row g c =
     subst (λ (xs : List ℕ). All (λ (cell : ℕ). cell < length c.equate.new.cells) xs) (sym c.deref.ensures.value)
-    (listed_in_row c.args.cells.now c.equate.new.cells c.args.bound.now.items c.equate.new.bound.items c.requires.empty c.equate.ensures.keeps c.equate.ensures.bound)
+    (listed_in_row c.args.cells.now c.equate.new.cells c.args.bound.now.items c.equate.new.bound.items c.requires.empty c.equate.ensures.keeps
+    c.equate.ensures.bound)
 
 pub returns-in-Same-clause-settles : goal.returns-in-Same-clause-settles
 returns-in-Same-clause-settles g c =
@@ -28,7 +29,8 @@ returns-in-Same-clause-settles g c =
     judged P old new pairs floor items bindings keeps given.written c.equate.ensures.unifies.follows c.judge.result
     (λ w has none t known. c.in-Same.ensures.unifies.equal (inl refl) w has none t known
     (subst (λ (left : List Pair). Solves t (equations_of_pairs P w left)) (sym (c.in-Same.ensures.unifies.same refl)) tt))
-    (λ is. subst (BoundEnd P new floor) c.deref.ensures.value (record { sound = c.judge.ensures.sound; below = c.judge.ensures.below is; above = c.judge.ensures.above is }))
+    (λ is. subst (BoundEnd P new floor) c.deref.ensures.value
+    (record { sound = c.judge.ensures.sound; below = c.judge.ensures.below is; above = c.judge.ensures.above is }))
     c.judge.ensures.no_solution
 
 pub returns-in-Apart-clause-settles : goal.returns-in-Apart-clause-settles
@@ -78,11 +80,25 @@ returns-in-Memory-clause-settles g c =
     broken_off P old new pairs floor items bindings keeps
 
 pub returns-in-Same-clause-bound : goal.returns-in-Same-clause-bound
-returns-in-Same-clause-bound g c = λ _.
-    have_been_set g.N.Naming.program c.args.cells.now c.equate.new.cells c.args.pairs.now c.args.bound.now.items c.equate.new.bound.items c.requires.empty c.equate.ensures.keeps
+returns-in-Same-clause-bound g c =
+    have_been_set g.N.Naming.program c.args.cells.now c.equate.new.cells c.args.pairs.now c.args.bound.now.items c.equate.new.bound.items c.requires.empty
+    c.equate.ensures.keeps
     c.equate.ensures.sets c.equate.ensures.bound
 
 pub returns-in-Apart-clause-bound : goal.returns-in-Apart-clause-bound
-returns-in-Apart-clause-bound g c = λ _.
-    have_been_set g.N.Naming.program c.args.cells.now c.equate.new.cells c.args.pairs.now c.args.bound.now.items c.equate.new.bound.items c.requires.empty c.equate.ensures.keeps
+returns-in-Apart-clause-bound g c =
+    have_been_set g.N.Naming.program c.args.cells.now c.equate.new.cells c.args.pairs.now c.args.bound.now.items c.equate.new.bound.items c.requires.empty
+    c.equate.ensures.keeps
+    c.equate.ensures.sets c.equate.ensures.bound
+
+pub returns-in-PutOff-clause-bound : goal.returns-in-PutOff-clause-bound
+returns-in-PutOff-clause-bound g c =
+    have_been_set g.N.Naming.program c.args.cells.now c.equate.new.cells c.args.pairs.now c.args.bound.now.items c.equate.new.bound.items c.requires.empty
+    c.equate.ensures.keeps
+    c.equate.ensures.sets c.equate.ensures.bound
+
+pub returns-in-Memory-clause-bound : goal.returns-in-Memory-clause-bound
+returns-in-Memory-clause-bound g c =
+    have_been_set g.N.Naming.program c.args.cells.now c.equate.new.cells c.args.pairs.now c.args.bound.now.items c.equate.new.bound.items c.requires.empty
+    c.equate.ensures.keeps
     c.equate.ensures.sets c.equate.ensures.bound

@@ -16,7 +16,8 @@ returns-then-not-branch-clause-no_solution g c = λ is.
 pub ends-requires-in-loop-place-clause-in_range : goal.ends-requires-in-loop-place-clause-in_range
 ends-requires-in-loop-place-clause-in_range g c =
     let at = contains_place c.args.pairs.now c.loop-place.place c.at-pair.result.now c.at-pair.ensures in
-    let both = All-contains (λ (p : Pair). IsInRange g.N.Naming.program (length c.args.cells.now) p.left × IsInRange g.N.Naming.program (length c.args.cells.now) p.right)
+    let both = All-contains (λ (p : Pair). IsInRange g.N.Naming.program (length c.args.cells.now) p.left
+    × IsInRange g.N.Naming.program (length c.args.cells.now) p.right)
     c.args.pairs.now c.at-pair.result.now c.requires.in_range at in
     both.1
 
@@ -41,6 +42,7 @@ loop-place-preserved g c =
       finished = other.finished second;
       floor = other.settings.0 ∙ same_floor;
       no_halves = other.settings.1 ∙ one.settings.1 ∙ c.loop-place.invariant.no_halves;
-      ends = one_more (λ (p : Pair). Ends P row floor false p.left × Ends P row floor false p.right) c.args.pairs.now c.loop-place.place c.at-pair.result.now c.at-pair.ensures
+      ends = one_more (λ (p : Pair). Ends P row floor false p.left × Ends P row floor false p.right) c.args.pairs.now c.loop-place.place
+          c.at-pair.result.now c.at-pair.ensures
           c.loop-place.invariant.ends (left, right);
     }

@@ -24,13 +24,15 @@ returns-in_default-pop-clause-nothing g c = λ is.
 pub deref-place-requires-clause-in_range : goal.deref-place-requires-clause-in_range
 deref-place-requires-clause-in_range g c =
     let s = g.C.Cells.seen c.args.cells.now in
-    let fit = last_fits g.C.Cells.program s c.args.pairs.now c.pop-2.new.self c.in-Some-pop.pair (c.pop-2.ensures.some c.in-Some-pop.pair c.in-Some-pop.is) c.requires.pairs in
+    let fit = last_fits g.C.Cells.program s c.args.pairs.now c.pop-2.new.self c.in-Some-pop.pair
+    (c.pop-2.ensures.some c.in-Some-pop.pair c.in-Some-pop.is) c.requires.pairs in
     fit.left_in_range
 
 pub deref-place-requires-clause-written : goal.deref-place-requires-clause-written
 deref-place-requires-clause-written g c =
     let s = g.C.Cells.seen c.args.cells.now in
-    let fit = last_fits g.C.Cells.program s c.args.pairs.now c.pop-2.new.self c.in-Some-pop.pair (c.pop-2.ensures.some c.in-Some-pop.pair c.in-Some-pop.is) c.requires.pairs in
+    let fit = last_fits g.C.Cells.program s c.args.pairs.now c.pop-2.new.self c.in-Some-pop.pair
+    (c.pop-2.ensures.some c.in-Some-pop.pair c.in-Some-pop.is) c.requires.pairs in
     fit.left_written
 
 pub returns-then-fuel-eq0-clause-old_pair : goal.returns-then-fuel-eq0-clause-old_pair

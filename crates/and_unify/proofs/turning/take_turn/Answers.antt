@@ -31,7 +31,8 @@ returns-in-Old-clause-again g c = λ is.
 
 pub returns-in-Old-clause-lighter : goal.returns-in-Old-clause-lighter
 returns-in-Old-clause-lighter g c = λ is.
-    lighter_after_old c.in-Old.pair _ _ c.step.new.classes c.step.new.list (c.pick_next.ensures.old_pair c.in-Old.pair c.in-Old.is) (c.step.ensures.lighter (c.after.ensures.again is))
+    lighter_after_old c.in-Old.pair _ _ c.step.new.classes c.step.new.list (c.pick_next.ensures.old_pair c.in-Old.pair c.in-Old.is)
+    (c.step.ensures.lighter (c.after.ensures.again is))
 
 pub returns-in-Old-clause-stopped : goal.returns-in-Old-clause-stopped
 returns-in-Old-clause-stopped g c = λ is.
@@ -51,11 +52,13 @@ returns-in-Old-clause-apart g c = λ one other is.
 pub returns-in-New-clause-again : goal.returns-in-New-clause-again
 returns-in-New-clause-again g c = λ is.
     let mid = stand (g.C.Cells.seen c.pick_next.new.cells) c.pick_next.new.pairs c.pick_next.new.work c.pick_next.new.fuel in
-    on_new c.in-New.pair mid (c.pick_next.ensures.new_pair c.in-New.pair c.in-New.is) (c.step-in-New.ensures.done (c.after-in-New.ensures.again is)) refl refl refl
+    on_new c.in-New.pair mid (c.pick_next.ensures.new_pair c.in-New.pair c.in-New.is)
+    (c.step-in-New.ensures.done (c.after-in-New.ensures.again is)) refl refl refl
 
 pub returns-in-New-clause-lighter : goal.returns-in-New-clause-lighter
 returns-in-New-clause-lighter g c = λ is.
-    lighter_after_new c.in-New.pair _ _ c.step-in-New.new.classes c.step-in-New.new.list (c.pick_next.ensures.new_pair c.in-New.pair c.in-New.is) (c.step-in-New.ensures.lighter (c.after-in-New.ensures.again is))
+    lighter_after_new c.in-New.pair _ _ c.step-in-New.new.classes c.step-in-New.new.list (c.pick_next.ensures.new_pair c.in-New.pair c.in-New.is)
+    (c.step-in-New.ensures.lighter (c.after-in-New.ensures.again is))
 
 pub returns-in-New-clause-stopped : goal.returns-in-New-clause-stopped
 returns-in-New-clause-stopped g c = λ is.

@@ -9,7 +9,8 @@ use Rattle.and_unify.specs.declared.unifying.Unified.{Unified}
 use Rattle.and_unify.specs.declared.unifying.Unified.TheVariants as unified
 use Rattle.and_unify.specs.Unifying.{HasSpent}
 use Rattle.and_unify.proofs.TurnStands.{stands_begun, stands_turns}
-use Rattle.and_unify.proofs.TurnAnswers.{kept_end, among_end, todo_end, follows_end, left_end, suffice_end, equal_end, range_end, sets_end, apart_end, apart_at_end, spent_done, spent_broken, put_off_end}
+use Rattle.and_unify.proofs.TurnAnswers.{kept_end, among_end, todo_end, follows_end, left_end, suffice_end, equal_end, range_end, sets_end, apart_end}
+use Rattle.and_unify.proofs.TurnAnswers.{apart_at_end, spent_done, spent_broken, put_off_end}
 use Rattle.and_unify.proofs.unifying.solve.Goals as goal
 
 falls : (P Q : NamedProgram) → P ≡ Q → AllFall 0 Q.skeleton.nodes → AllFall 0 P.skeleton.nodes
@@ -22,7 +23,8 @@ is_over : (r : Turn) (u v : Unified) → r ≡ Over u → u ≡ v → r ≡ Over
 is_over r u v is same = is ∙ ap Over same
 
 -- a turn that finishes or puts off
-ends_with : (r : Turn) (u : Unified) (A B : Type 0) → r ≡ Over u → (r ≡ Over unified.Same → A) → (r ≡ Over unified.PutOff → B) → (u ≡ unified.Same) ⊎ (u ≡ unified.PutOff) → A ⊎ B
+ends_with : (r : Turn) (u : Unified) (A B : Type 0) → r ≡ Over u → (r ≡ Over unified.Same → A) → (r ≡ Over unified.PutOff → B)
+    → (u ≡ unified.Same) ⊎ (u ≡ unified.PutOff) → A ⊎ B
 ends_with r u A B is same off (inl e) = inl (same (is_over r u unified.Same is e))
 ends_with r u A B is same off (inr e) = inr (off (is_over r u unified.PutOff is e))
 
@@ -38,7 +40,8 @@ pub loop-unified-init : goal.loop-unified-init
 loop-unified-init g c = record {
   over = refl;
   grew = g.met.C.Cells.grew_nothing c.args.cells.now;
-  stands = stands_begun g.C.Cells.program (g.C.Cells.seen c.args.cells.now) c.args.pairs.now c.args.fuel.now c.args.bound.now.items c.new-work.result.rights c.new-work.result.taken.keys c.new-work.result.classes
+  stands = stands_begun g.C.Cells.program (g.C.Cells.seen c.args.cells.now) c.args.pairs.now c.args.fuel.now c.args.bound.now.items c.new-work.result.rights
+      c.new-work.result.taken.keys c.new-work.result.classes
       c.new-work.ensures c.requires.in_range c.requires.written;
 }
 
@@ -46,7 +49,8 @@ pub take_turn-requires-clause-pairs : goal.take_turn-requires-clause-pairs
 take_turn-requires-clause-pairs g c = range_end g.C.Cells.program _ _ _ _ _ _ _ c.loop-unified.pairs c.loop-unified.invariant.stands.kept (λ p at. inl at)
 
 pub take_turn-requires-clause-rights : goal.take_turn-requires-clause-rights
-take_turn-requires-clause-rights g c = range_end g.C.Cells.program _ _ _ _ _ _ _ c.loop-unified.work.rights c.loop-unified.invariant.stands.kept (λ p at. inr at)
+take_turn-requires-clause-rights g c =
+    range_end g.C.Cells.program _ _ _ _ _ _ _ c.loop-unified.work.rights c.loop-unified.invariant.stands.kept (λ p at. inr at)
 
 pub loop-unified-preserved : goal.loop-unified-preserved
 loop-unified-preserved g c =
@@ -116,4 +120,5 @@ returns-in-Over-clause-suffice g c = λ ended.
     let stopped = says.stopped (not_again c.take_turn.result c.in-Over.unified c.in-Over.is) in
     let kept = kept_end P _ _ _ _ _ _ _ _ stopped c.loop-unified.invariant.stands in
     let fall = falls P (named c.args.loaded.now) c.requires.program c.skeleton_is_of_the_program.ensures.skeleton.0 in
-    suffice_end P _ _ _ _ _ _ _ c.take_turn.new.pairs fall kept (among_end _ _ (ends_with c.take_turn.result c.in-Over.unified _ _ c.in-Over.is says.same says.put_off ended))
+    suffice_end P _ _ _ _ _ _ _ c.take_turn.new.pairs fall kept
+    (among_end _ _ (ends_with c.take_turn.result c.in-Over.unified _ _ c.in-Over.is says.same says.put_off ended))

@@ -1,20 +1,29 @@
-use Rattle.std.proofs.Common.{ℕ, [], Some, refl, ap, length, ◌∙◌}
-use Rattle.and_code.specs.Written.{all_written}
+use Rattle.std.proofs.Common.{ap, sym, length, subst, ◌∙◌}
+use Rattle.std.proofs.lemmas.List.{length-map}
+use Rattle.and_cells.specs.Rows.{IsSound}
+use Rattle.and_code.specs.Written.{written}
 use Rattle.and_branch.specs.Branches.{Held}
-use Rattle.and_branch.proofs.KeptOrigins.{row_again, row_sound, reductions_back, gone_back}
+use Rattle.and_branch.specs.Making.{noted_from}
+use Rattle.and_branch.specs.Origins.{GoesBack}
 use Rattle.and_branch.proofs.branch.Branch.go_back.Goals as goal
 
-pub take_back-requires : goal.take_back-requires
-take_back-requires g c =
-    row_sound _ c.args.self.now _ c.args.first.now c.self.view_is c.first.view_is c.requires g.N.Naming.program _ _ c.cells.ensures
-    c.len-words.ensures.value c.len-words.ensures.sound
+pub go_back_by-requires-clause-sound : goal.go_back_by-requires-clause-sound
+go_back_by-requires-clause-sound g c =
+    subst (λ (h : Held). IsSound g.N.Naming.program h.row) (c.first.view_is ∙ sym c.of.ensures) c.len-words.ensures.sound
+
+pub go_back_by-requires-clause-words : goal.go_back_by-requires-clause-words
+go_back_by-requires-clause-words g c =
+    ap (λ (h : Held). length h.row) (c.of.ensures ∙ sym c.first.view_is) ∙ sym c.len-words.ensures.value
+
+pub go_back_by-requires-clause-count : goal.go_back_by-requires-clause-count
+go_back_by-requires-clause-count g c =
+    ap (λ (h : Held). length h.reductions) (c.of.ensures ∙ sym c.first.view_is) ∙ length-map c.first.inside.reductions written
+    ∙ sym c.len-count.ensures
+
+pub go_back_by-requires-clause-back : goal.go_back_by-requires-clause-back
+go_back_by-requires-clause-back g c = subst (λ (h : Held). GoesBack h c.args.self.now) (sym c.of.ensures) c.requires
 
 pub returns : goal.returns
 returns g c =
-    let row = c.take_back.ensures ∙ row_again _ c.args.self.now _ c.args.first.now c.self.view_is c.first.view_is c.requires _ _ c.cells.ensures
-    c.len-words.ensures.value ∙ ap (λ (h : Held). h.row) c.first.view_is in
-    let reductions = ap all_written c.cut_off.ensures ∙ reductions_back _ c.args.self.now _ c.args.first.now c.self.view_is c.first.view_is
-    c.requires c.self.inside.reductions c.first.inside.reductions c.len.result refl refl c.len.ensures in
-    let words = c.len-words.ensures.value ∙ ap (λ (h : Held). length h.row) c.first.view_is in
-    let trail = c.begin_again.ensures ∙ ap (λ (n : ℕ). record { mark = Some n; cells = [] }) words in
-    gone_back _ c.args.self.now c.args.first.now c.self.view_is _ _ _ row reductions trail
+    c.go_back_by.ensures
+    ∙ ap (λ (h : Held). record c.args.self.now { row = h.row; reductions = h.reductions; trail = noted_from h.row }) c.of.ensures

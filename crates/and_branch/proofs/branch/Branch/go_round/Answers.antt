@@ -171,7 +171,8 @@ goals-preserved-in-Passed g c =
     let looked = subst (λ (l : Looked). LookIs P
     (nat_lt 0 c.at-share.result.left) c.come_to_next.new.self c.look.new.self l) c.in-Passed.is c.in_ok-look.ensures.came_to in
     let more = with_passed c.goals.heavy c.in-Passed.goal c.in-Passed.seen in
-    let passed = round_passed P c.clear_out.new.self c.come_to_next.new.self c.look.new.self c.goals.changed (nat_lt 0 c.at-share.result.left) c.at-share.result.left
+    let passed = round_passed P c.clear_out.new.self c.come_to_next.new.self c.look.new.self c.goals.changed (nat_lt 0 c.at-share.result.left)
+    c.at-share.result.left
     c.goals.heavy more c.in-Passed.goal c.in-Passed.seen refl
     (λ some. grind (arith, nat_tests)) come.stands c.look.ensures.same c.in_ok-look.ensures.steps looked in
     has_noted P c.clear_out.new.self c.look.new.self c.note_passed.new.self c.goals.way c.goals.changed c.at-share.result c.goals.heavy more
@@ -198,7 +199,8 @@ goals-preserved-in-Ran g c =
     let looked = subst (λ (l : Looked). LookIs P
     (nat_lt 0 c.at-share.result.left) c.come_to_next.new.self c.look.new.self l) c.in-Ran.is c.in_ok-look.ensures.came_to in
     record {
-      stands = round_changed P c.clear_out.new.self c.come_to_next.new.self c.look.new.self c.goals.changed c.at-share.result.left c.at-share.result.left c.goals.heavy
+      stands = round_changed P c.clear_out.new.self c.come_to_next.new.self c.look.new.self c.goals.changed c.at-share.result.left
+          c.at-share.result.left c.goals.heavy
           come.stands c.look.ensures.same c.in_ok-look.ensures.steps looked.0;
       back = λ _. refl;
       some = come.some;
@@ -228,7 +230,8 @@ goals-preserved g c =
     let looked = subst (λ (l : Looked). LookIs P
     (nat_lt 0 c.at-share.result.left) c.come_to_next.new.self c.look.new.self l) c.in-Reduced.is c.in_ok-look.ensures.came_to in
     record {
-      stands = round_changed P c.clear_out.new.self c.come_to_next.new.self c.look.new.self c.goals.changed c.at-share.result.left (c.at-share.result.left - 1) c.goals.heavy
+      stands = round_changed P c.clear_out.new.self c.come_to_next.new.self c.look.new.self c.goals.changed c.at-share.result.left
+          (c.at-share.result.left - 1) c.goals.heavy
           come.stands c.look.ensures.same c.in_ok-look.ensures.steps looked.0;
       back = λ _. refl;
       some = come.some;

@@ -1,7 +1,7 @@
 use Rattle.and_cells.specs.Ranges.{NamedProgram}
 use Rattle.and_branch.specs.declared.state.BranchState.TheVariants as told
 use Rattle.and_tree.specs.Replies.{is_last}
-use Rattle.and_walk.proofs.Turning.{state_told, has_floundered, has_answered}
+use Rattle.and_search_laws.proofs.Telling.{state_told, has_floundered, has_answered}
 use Rattle.and_teams.proofs.Having.{key_there}
 use Rattle.and_teams.proofs.Turns.{failed_works, cut_works}
 use Rattle.and_teams.proofs.team.Team.go_by.Goals as goal

@@ -23,7 +23,7 @@ pub returns-in-Ok-Some-clause-back : goal.returns-in-Ok-Some-clause-back
 returns-in-Ok-Some-clause-back g c =
     let is : c.next.result ≡ Ok (Some c.in-Ok-Some.child) = search rules in
     child_goes_back {N = g.row.N.Denot} g.N.Naming.program c.args.list c.next.new.self c.in-Ok-Some.child
-    (c.next.ensures.some c.in-Ok-Some.child is)
+    (c.next.ensures.some c.in-Ok-Some.child is) (c.next.ensures.back c.in-Ok-Some.child is)
 
 pub returns-in-Ok-None-clause-given_up : goal.returns-in-Ok-None-clause-given_up
 returns-in-Ok-None-clause-given_up g c =

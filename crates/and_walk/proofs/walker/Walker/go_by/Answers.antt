@@ -1,8 +1,9 @@
 use Rattle.std.proofs.Common.{reverse}
 use Rattle.and_cells.specs.Ranges.{NamedProgram}
 use Rattle.and_branch.specs.declared.state.BranchState.TheVariants as told
+use Rattle.and_walk.specs.Walking.{tasks_of}
 use Rattle.and_walk.proofs.Going.{failed_off, cut_off}
-use Rattle.and_walk.proofs.Turning.{state_told, has_floundered, has_answered}
+use Rattle.and_search_laws.proofs.Telling.{state_told, has_floundered, has_answered}
 use Rattle.and_walk.proofs.walker.Walker.go_by.Goals as goal
 
 pub returns-in-Failed-clause-goes : goal.returns-in-Failed-clause-goes
@@ -10,23 +11,23 @@ returns-in-Failed-clause-goes g c =
     let P : NamedProgram = g.N.Naming.program in
     let s = c.args.self.now in
     let n = c.count_failed.ensures in
-    failed_off P s.limit s.found c.count_failed.new.self c.args.branch (reverse s.stack.items) c.requires.walking
+    failed_off P s.limit s.found c.count_failed.new.self c.args.branch (tasks_of (reverse s.stack.items)) c.requires.walking
     (state_told P c.args.branch c.args.state told.Failed c.in-Failed.is c.requires.state) n.failed n.forks n.rest
 
 pub returns-in-OverLimit-clause-goes : goal.returns-in-OverLimit-clause-goes
 returns-in-OverLimit-clause-goes g c =
     let P : NamedProgram = g.N.Naming.program in
     let s = c.args.self.now in
-    cut_off P s.limit s.found c.keep_cut.new.found c.args.branch (reverse s.stack.items) c.in-OverLimit.cut c.requires.walking
+    cut_off P s.limit s.found c.keep_cut.new.found c.args.branch (tasks_of (reverse s.stack.items)) c.in-OverLimit.cut c.requires.walking
     (state_told P c.args.branch c.args.state (told.OverLimit c.in-OverLimit.cut) c.in-OverLimit.is c.requires.state)
     c.keep_cut.ensures.same.entries c.keep_cut.ensures.cut
 
 pub tell-requires-in-Floundered-clause-state : goal.tell-requires-in-Floundered-clause-state
-tell-requires-in-Floundered-clause-state g c =
+tell-requires-in-Floundered-clause-state g c κs within =
     state_told g.N.Naming.program c.args.branch c.args.state told.Floundered c.in-Floundered.is c.requires.state
 
 pub tell-requires-in-Floundered-clause-ended : goal.tell-requires-in-Floundered-clause-ended
-tell-requires-in-Floundered-clause-ended g c =
+tell-requires-in-Floundered-clause-ended g c κs within =
     let P : NamedProgram = g.N.Naming.program in
     let stands = c.requires.advanced in
     let state = state_told P c.args.branch c.args.state told.Floundered c.in-Floundered.is c.requires.state in
@@ -38,11 +39,11 @@ fork-requires-clause-state g c =
     c.requires.state
 
 pub tell-requires-clause-state : goal.tell-requires-clause-state
-tell-requires-clause-state g c =
+tell-requires-clause-state g c κs within =
     state_told g.N.Naming.program c.args.branch c.args.state told.Answer c.in-Answer.is c.requires.state
 
 pub tell-requires-clause-ended : goal.tell-requires-clause-ended
-tell-requires-clause-ended g c =
+tell-requires-clause-ended g c κs within =
     let P : NamedProgram = g.N.Naming.program in
     let stands = c.requires.advanced in
     let state = state_told P c.args.branch c.args.state told.Answer c.in-Answer.is c.requires.state in

@@ -1,23 +1,12 @@
-use Rattle.std.proofs.Common.{reverse, ap, Ok}
-use Rattle.std.proofs.lemmas.Result.{on_ok_weaker}
-use Rattle.and_cells.specs.Ranges.{NamedProgram}
-use Rattle.and_walk.proofs.Forking.{child_taken, child_none}
+use Rattle.std.proofs.Common.{List, ◌∷◌, reverse, ap, sym, subst, Ok, Some}
+use Rattle.and_branch.specs.Branches.{Held}
+use Rattle.and_branch.specs.Children.{Fork}
+use Rattle.and_branch.specs.Origins.{GoBackFrom}
+use Rattle.and_branch.proofs.ForkReduced.{same_value}
+use Rattle.and_walk.specs.Walking.{Walking, GoesOn, One, tasks_of, parents_of}
 use Rattle.and_walk.proofs.walker.Walker.next_child.Goals as goal
 
-pub returns-in_ok-put-in-Some-clause-goes : goal.returns-in_ok-put-in-Some-clause-goes
-returns-in_ok-put-in-Some-clause-goes g c =
-    let P : NamedProgram = g.N.Naming.program in
+pub child_of-requires-clause-walking : goal.child_of-requires-clause-walking
+child_of-requires-clause-walking g c =
     let s = c.args.self.now in
-    on_ok_weaker c.put-in-Some.result
-    (child_taken P s.limit s.found c.args.list c.next.new.self c.args.count c.in-Some.child (reverse s.stack.items)
-    (reverse c.put.new.stack.items)
-    (reverse c.put-in-Some.new.stack.items) c.requires.walking (c.in_ok-next.ensures.some c.in-Some.child (ap (λ o. Ok o) c.in-Some.is))
-    c.in_ok-put-in-Some.ensures)
-    c.put-in-Some.ensures
-
-pub returns-in-None-clause-goes : goal.returns-in-None-clause-goes
-returns-in-None-clause-goes g c =
-    let P : NamedProgram = g.N.Naming.program in
-    let s = c.args.self.now in
-    child_none P s.limit s.found c.args.list c.args.count (reverse s.stack.items) c.requires.walking
-    (c.in_ok-next.ensures.none (ap (λ o. Ok o) c.in-None.is))
+    subst (λ (fs : List Fork). Walking g.N.Naming.program s.limit s.found (tasks_of fs)) c.in-Some.ensures.some c.requires.walking

@@ -1,10 +1,10 @@
 use Rattle.std.proofs.Common.{reverse}
-use Rattle.std.proofs.lemmas.Result.{on_ok_weaker}
 use Rattle.and_model.specs.Listing
 use Rattle.and_cells.specs.Ranges.{NamedProgram}
 use Rattle.and_answers.specs.Kept.{outcome_with}
+use Rattle.and_walk.specs.Walking.{tasks_of}
 use Rattle.and_walk.proofs.Going.{told_off}
-use Rattle.and_walk.proofs.Turning.{told_ends}
+use Rattle.and_search_laws.proofs.Telling.{told_ends}
 use Rattle.and_walk.proofs.walker.Walker.tell.Goals as goal
 
 pub returns-clause-goes : goal.returns-clause-goes
@@ -13,8 +13,6 @@ returns-clause-goes g c =
     let s = c.args.self.now in
     let b = c.args.branch.now in
     let e : Listing.Entry = record { code = c.in_ok-code.code; outcome = outcome_with c.args.floundered c.in_ok-line.line } in
-    on_ok_weaker c.add.result
-    (λ added. told_off P s.limit s.found c.add.new.found b (reverse s.stack.items) e c.requires.walking
+    told_off P s.limit s.found c.add.new.found b (tasks_of (reverse s.stack.items)) e c.requires.walking
     (told_ends P b c.args.floundered c.in_ok-code.code c.in_ok-line.line c.in_ok-code.ensures c.in_ok-line.ensures c.requires.state)
-    added c.add.ensures.end)
-    c.add.ensures.entries
+    c.in_ok-add.ensures.entries c.add.ensures.end

@@ -1,23 +1,26 @@
--- How a walk ended so far: counts, and cuts that are kept.
-use Rattle.std.proofs.Common.{ℕ, ◌+◌, ◌-◌, ◌^◌, ◌≡◌, Bool, false, refl, sym, ap, ◌∙◌, subst, arith, min}
+-- How a search ended so far: counts, and cuts that are kept.
+use Rattle.std.proofs.Common.{ℕ, ◌+◌, ◌-◌, ◌^◌, ◌≡◌, ◌<◌, Bool, [], false, refl, sym, ap, ◌∙◌, subst, arith, min}
 use Rattle.std.proofs.Common.{inl, inr}
 use Rattle.std.specs.Prelude.{Option, Some, None}
 use Rattle.std.specs.Option.{option_or}
 use Rattle.std.proofs.lemmas.Bool.{cases_lt}
 use Rattle.std.proofs.Math.Nat.{min-eq_left, min-eq_right}
-use Rattle.and_model.specs.Limits.{Cut, OverLimit}
-use Rattle.and_model.specs.Programs.{Program}
-use Rattle.and_model.specs.Trees.{blank, query_agenda}
+use Rattle.and_model.specs.Limits.{Cut, OverLimit, query_alone}
+use Rattle.and_model.specs.Listing.{Listing}
+use Rattle.and_model.specs.Programs.{Program, clause_weight}
+use Rattle.and_model.specs.Trees.{blank, query_agenda, weight}
 use Rattle.and_model.specs.declared.goal
+use Rattle.and_laws.proofs.Order.{blank_weighs}
+use Rattle.and_cells.specs.Ranges.{NamedProgram}
 use Rattle.and_branch_laws.specs.States.{IsCut}
 use Rattle.and_code.specs.Written.{all_written}
 use Rattle.and_answers.specs.Kept.{listed, total}
 use Rattle.and_answers.specs.declared.found.Found.{Found}
 use Rattle.and_walk_laws.specs.Walks.{Walks}
-use Rattle.and_walk_laws.proofs.Numbering.{numbered, whole_exhausts}
+use Rattle.and_walk_laws.proofs.Numbering.{numbered, whole_exhausts, alone_over}
 use Rattle.and_walk_laws.proofs.Rising.{walked_listing}
-use Rattle.and_walk.specs.Found.{kept_count, IsEnd, IsFound}
-use Rattle.and_walk.specs.Walking.{IsEndSoFar}
+use Rattle.and_search_laws.specs.Found.{kept_count, IsEnd, IsFound}
+use Rattle.and_search_laws.specs.Ended.{IsEndSoFar}
 
 -- a count that is kept, with one more
 pub one_counted : (kept count : ℕ) → kept ≡ kept_count count → total kept 1 ≡ kept_count (count + 1)
@@ -60,7 +63,7 @@ module _ (P : Program) (limit : ℕ) where
       go None e = meets
       go (Some first) e = e
 
-  -- Where the walk is over, the search has ended so.
+  -- Where a walk is over, the search has ended so.
   pub walked_found : (found : Found) (f m : ℕ) (b : Bool) → Walks P limit (blank (query_agenda P)) (listed found) f m b
       → IsEndSoFar P limit found f m b found.cut → IsFound P limit found
   walked_found found f m b w h = record { listing = walked_listing P limit (listed found) f m b w; end = go found.cut h }
@@ -78,3 +81,16 @@ module _ (P : Program) (limit : ℕ) where
             failed_kept = e.2;
           }
       go (Some cut) e = e
+
+-- The query by itself was too heavy.
+pub alone : (P : NamedProgram) (limit : ℕ) (found : Found) (cut : goal.Cut.Cut) → listed found ≡ [] → found.cut ≡ Some cut
+    → limit < clause_weight P.program.query
+    → IsCut {P = P.program} (all_written cut.partial) cut.goal cut.clause.0 query_alone → IsFound P.program limit found
+alone P limit found cut none is_cut heavy is =
+    let weighs : weight (blank {P = P.program} (query_agenda P.program)) ≡ clause_weight P.program.query =
+    omega (arith, blank_weighs P.program (query_agenda P.program)) in
+    let both = alone_over P.program limit (omega (arith, weighs, heavy)) in
+    record {
+      listing = subst (λ es. Listing P.program limit es) (sym none) both.0;
+      end = subst (λ c. IsEnd P.program limit found c) (sym is_cut) (query_alone, is, both.1);
+    }

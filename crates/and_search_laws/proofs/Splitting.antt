@@ -4,13 +4,13 @@ use Rattle.std.proofs.lemmas.Bool.{cases_lt}
 use Rattle.and_model.specs.Solutions.{Equation}
 use Rattle.and_model.specs.Programs.{Program, Arithmetic, clause_at, clause_weight}
 use Rattle.and_model.specs.Trees.{QueryTree, Open, path, call_of, reduce, weight}
-use Rattle.and_model.specs.Reached.{CandidateOf, Split}
+use Rattle.and_model.specs.Reached.{CandidateOf, Split, Step}
 use Rattle.and_laws.proofs.Listings.{closed_alike}
 use Rattle.and_laws.proofs.Order.{reduce_weight, clause_weighs}
 use Rattle.and_laws.proofs.Ordered.{contains_first, contains_more}
 use Rattle.and_laws.proofs.Picking.{candidate_falls}
 use Rattle.and_laws.proofs.Splitting.{leftmost_same}
-use Rattle.and_branch_laws.specs.States.{Fits, ShutAt}
+use Rattle.and_branch_laws.specs.States.{Fits, ShutAt, StateOf, over_one}
 use Rattle.and_walk_laws.specs.Walks.{SplitsBy}
 
 -- what does not fit is above the limit
@@ -76,3 +76,11 @@ first_split t c cs ds trees (SplitsBy.one_more t' next d rest ts s others) e =
 pub no_splits : {P : Program} (t : QueryTree P) (cs : List ℕ) (trees : List (QueryTree P)) → SplitsBy t cs trees → cs ≡ [] → trees ≡ []
 no_splits t cs trees (SplitsBy.no_more t') e = refl
 no_splits t cs trees (SplitsBy.one_more t' next d rest ts s others) e = absurd (cc)
+
+-- The goal's one candidate is too heavy: a Step that is over the limit.
+pub one_over : (P : Program) (limit : ℕ) (t : QueryTree P) (o : Open t) (c : ℕ) → StateOf P limit t (over_one o c)
+    → (next : QueryTree P) × Step t next × (limit < weight next)
+one_over P limit t o c x =
+    let k : CandidateOf t x.0 o c = x.4.0 in
+    let heavy = too_heavy limit t c (λ fits. x.3 o c x.4 fits) in
+    (reduce t o c k.0, (x.0, x.1, x.2.0, o, c, k.0, refl, x.4.1), omega (arith, heavy, reduce_weight t o c k.0))

@@ -1,16 +1,15 @@
--- What a whole walk of a program's query has found (this project's own).
-use Rattle.std.specs.Prelude.{ℕ, ◌≡◌, ◌-◌, ◌^◌, ◌<◌, ◌⊎◌, min, Bool, false, Option, Some, None}
+-- What a search of a program's query has found (this project's own).
+use Rattle.std.specs.Prelude.{ℕ, ◌≡◌, ◌-◌, ◌^◌, ◌≤◌, ◌⊎◌, min, List, ◌++◌, length, Option, Some, None}
 use Rattle.and_model.specs.Limits.{Cut, OverLimit}
-use Rattle.and_model.specs.Listing.{Listing, Exhausted}
+use Rattle.and_model.specs.Listing.{Entry, Listing, Exhausted}
 use Rattle.and_model.specs.Programs.{Program}
 use Rattle.and_model.specs.Reached.{Numbers}
-use Rattle.and_model.specs.Trees.{blank, query_agenda, weight}
+use Rattle.and_model.specs.Trees.{blank, query_agenda}
 use Rattle.and_model.specs.declared.goal
 use Rattle.and_branch_laws.specs.States.{IsCut}
 use Rattle.and_code.specs.Written.{all_written}
 use Rattle.and_answers.specs.Kept.{listed}
 use Rattle.and_answers.specs.declared.found.Found.{Found}
-use Rattle.and_walk_laws.specs.Walks.{Walks}
 
 -- a count as it is kept: it stays at the largest number of 64 bits
 abbrev pub kept_count : ℕ → ℕ
@@ -28,22 +27,20 @@ pub record IsComplete (P : Program) (limit : ℕ) (found : Found) : Type 0 where
 -- The search was not cut off, and is complete; or where it was cut off, the limit was met.
 abbrev pub IsEnd : (P : Program) → ℕ → Found → Option goal.Cut.Cut → Type 0
 IsEnd P limit found None = IsComplete P limit found
-IsEnd P limit found (Some cut) = (over : Cut P) × IsCut (all_written cut.partial) cut.goal cut.clause.0 over × OverLimit P limit over
+IsEnd P limit found (Some cut) = (over : Cut P) × IsCut (all_written cut.partial) cut.goal cut.clause.0 over
+    × OverLimit P limit over
 
 -- What was found is the listing within the limit, and the search ended so.
 pub record IsFound (P : Program) (limit : ℕ) (found : Found) : Type 0 where
   pub listing : Listing P limit (listed found)
   pub end : IsEnd P limit found found.cut
 
--- A walk of the query finds this. Each of its forks is of the leftmost goal of a Shut tree, by all the candidates of that goal in the order
--- of the text, and those that fit are walked. Where nothing was cut off, its forks and failures are counted.
-pub record IsWalk (P : Program) (limit : ℕ) (found : Found) : Type 0 where
-  pub forks : ℕ
-  pub failed : ℕ
-  pub is_cut : Bool
-  pub walks : Walks P limit (blank (query_agenda P)) (listed found) forks failed is_cut
-  pub counted : found.cut ≡ None → (is_cut ≡ false) × (found.forks ≡ kept_count forks) × (found.failed ≡ kept_count failed)
+-- What was found begins the listing within the limit, and there are so many entries at least.
+pub record IsBeginning (P : Program) (limit count : ℕ) (found : Found) : Type 0 where
+  pub rest : List Entry
+  pub listing : Listing P limit (listed found ++ rest)
+  pub enough : count ≤ length (listed found)
 
--- The query was walked, unless it is too heavy by itself.
-abbrev pub WasWalked : Program → ℕ → Found → Type 0
-WasWalked P limit found = (limit < weight (blank {P = P} (query_agenda P))) ⊎ IsWalk P limit found
+-- All was found, or so many of the first entries at least.
+abbrev pub FindsFirst : Program → (limit count : ℕ) → Found → Type 0
+FindsFirst P limit count found = IsFound P limit found ⊎ IsBeginning P limit count found

@@ -1,16 +1,15 @@
 use Rattle.std.specs.Prelude.{IfSome}
 use Rattle.and_program.specs.Loaded.{program_of}
 use Rattle.and_code.specs.Places.{AreLinks}
-use Rattle.and_code.specs.Visiting.{AreAtCalls, waiting, turns_left}
+use Rattle.and_code.specs.Telling.{IsTold}
+use Rattle.and_code.specs.Visiting.{waiting, turns_left}
 use Rattle.and_code.specs.Written.{all_written}
-use Rattle.and_code.proofs.Turns.{HasGone}
-use Rattle.and_code.proofs.decided_by.Given as goal
+use Rattle.and_code.proofs.telling.tell.Given as goal
 
 abbrev pub invariant-loop-next : goal.invariant-loop-next
 invariant-loop-next l = record {
   links : IfSome l.links (AreLinks l.reductions);
-  calls : AreAtCalls (program_of l.loaded) (waiting l.visits.items l.next);
-  found : HasGone (program_of l.loaded) (all_written l.reductions) (waiting l.visits.items l.next) l.code;
+  told : IsTold (program_of l.loaded) (all_written l.reductions) (waiting l.visits.items l.next) l.code;
 }
 
 abbrev pub decreases-loop-next : goal.decreases-loop-next

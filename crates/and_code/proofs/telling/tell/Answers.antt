@@ -9,51 +9,43 @@ use Rattle.and_code.specs.declared.visiting.Visit.{Visit}
 use Rattle.and_code.proofs.Linking.{place_found, place_within}
 use Rattle.and_code.proofs.Trees.{clauses_named, places_behind}
 use Rattle.and_code.proofs.Turns.{HasGone, begun, begun_at_calls, nothing_left, call_open, call_taken, turn_fewer}
-use Rattle.and_code.proofs.decided_by.Goals as goal
+use Rattle.and_code.proofs.telling.tell.Goals as goal
 
 pub loop-next-init : goal.loop-next-init
-loop-next-init c =
-    let P = program_of c.args.loaded.now in
-    let visits = c.new-visits.result.items in
-    let next = c.at_call-next.result in
-    let empty = c.new-visits.ensures.items in
-    record {
-      links = tt;
-      calls = begun_at_calls P visits next empty c.at_call-next.ensures.calls;
-      found = begun P (all_written c.args.reductions.now) visits next c.new-code.result empty c.new-code.ensures c.at_call-next.ensures.leads;
-    }
+loop-next-init c = record { links = tt; told = c.requires.told }
 
-pub returns-in-None : goal.returns-in-None
-returns-in-None c =
+pub returns-in-None-clause-decides : goal.returns-in-None-clause-decides
+returns-in-None-clause-decides c =
     let P = program_of c.args.loaded.now in
     let rs = all_written c.args.reductions.now in
     let code = c.loop-next.code in
     nothing_left P rs code
-    (subst (λ (next : Option Visit). HasGone P rs (waiting c.loop-next.visits.items next) code) c.in-None.is c.loop-next.invariant.found)
+    (subst (λ (next : Option Visit). HasGone P rs (waiting c.loop-next.visits.items next) code) c.in-None.is c.loop-next.invariant.told.goes_on)
 
-pub returns-in-None-taken : goal.returns-in-None-taken
-returns-in-None-taken c =
+pub returns-in-None-taken-clause-decides : goal.returns-in-None-taken-clause-decides
+returns-in-None-taken-clause-decides c =
     let P = program_of c.args.loaded.now in
     let rs = c.args.reductions.now in
     let v = c.in-Some.visit in
     let old = c.loop-next.visits.items in
     let code = c.loop-next.code in
-    let calls = subst (λ (next : Option Visit). AreAtCalls P (waiting old next)) c.in-Some.is c.loop-next.invariant.calls in
-    let so_far = subst (λ (next : Option Visit). HasGone P (all_written rs) (waiting old next) code) c.in-Some.is c.loop-next.invariant.found in
-    call_open P rs v (visits_of old) code so_far (All-head (IsAtCall P) (visit_of v) (visits_of old) calls) (c.in_ok-taken-in-Some.ensures.none c.in-None-taken.is)
+    let calls = subst (λ (next : Option Visit). AreAtCalls P (waiting old next)) c.in-Some.is c.loop-next.invariant.told.calls in
+    let so_far = subst (λ (next : Option Visit). HasGone P (all_written rs) (waiting old next) code) c.in-Some.is c.loop-next.invariant.told.goes_on in
+    call_open P rs v (visits_of old) code so_far (All-head (IsAtCall P) (visit_of v) (visits_of old) calls)
+    (c.in_ok-taken-in-Some.ensures.none c.in-None-taken.is)
 
 pub go_on-requires-clause-here : goal.go_on-requires-clause-here
 go_on-requires-clause-here c =
     let P = program_of c.args.loaded.now in
     let old = c.loop-next.visits.items in
-    let calls = subst (λ (next : Option Visit). AreAtCalls P (waiting old next)) c.in-Some.is c.loop-next.invariant.calls in
+    let calls = subst (λ (next : Option Visit). AreAtCalls P (waiting old next)) c.in-Some.is c.loop-next.invariant.told.calls in
     All-head (IsAtCall P) (visit_of c.in-Some.visit) (visits_of old) calls
 
 pub go_on-requires-clause-calls : goal.go_on-requires-clause-calls
 go_on-requires-clause-calls c =
     let P = program_of c.args.loaded.now in
     let old = c.loop-next.visits.items in
-    let calls = subst (λ (next : Option Visit). AreAtCalls P (waiting old next)) c.in-Some.is c.loop-next.invariant.calls in
+    let calls = subst (λ (next : Option Visit). AreAtCalls P (waiting old next)) c.in-Some.is c.loop-next.invariant.told.calls in
     All-tail (IsAtCall P) (visit_of c.in-Some.visit) (visits_of old) calls
 
 pub find-requires : goal.find-requires
@@ -84,8 +76,8 @@ loop-next-smaller c =
     let old = c.loop-next.visits.items in
     let code = c.loop-next.code in
     let new = waiting c.go_on.new.visits.items c.in_ok-next-in-Some-taken.next in
-    let calls = subst (λ (next : Option Visit). AreAtCalls P (waiting old next)) c.in-Some.is c.loop-next.invariant.calls in
-    let so_far = subst (λ (next : Option Visit). HasGone P (all_written rs) (waiting old next) code) c.in-Some.is c.loop-next.invariant.found in
+    let calls = subst (λ (next : Option Visit). AreAtCalls P (waiting old next)) c.in-Some.is c.loop-next.invariant.told.calls in
+    let so_far = subst (λ (next : Option Visit). HasGone P (all_written rs) (waiting old next) code) c.in-Some.is c.loop-next.invariant.told.goes_on in
     let less = turn_fewer P rs v (visits_of old) code so_far (All-head (IsAtCall P) (visit_of v) (visits_of old) calls) new r
     (places_behind P (all_written rs) c.requires.made.0 c.requires.made.1) found
     c.in_ok-next-in-Some-taken.ensures.leads in
@@ -102,11 +94,13 @@ loop-next-preserved c =
     let old = c.loop-next.visits.items in
     let code = c.loop-next.code in
     let new = waiting c.go_on.new.visits.items c.in_ok-next-in-Some-taken.next in
-    let calls = subst (λ (next : Option Visit). AreAtCalls P (waiting old next)) c.in-Some.is c.loop-next.invariant.calls in
-    let so_far = subst (λ (next : Option Visit). HasGone P (all_written rs) (waiting old next) code) c.in-Some.is c.loop-next.invariant.found in
+    let calls = subst (λ (next : Option Visit). AreAtCalls P (waiting old next)) c.in-Some.is c.loop-next.invariant.told.calls in
+    let so_far = subst (λ (next : Option Visit). HasGone P (all_written rs) (waiting old next) code) c.in-Some.is c.loop-next.invariant.told.goes_on in
     record {
       links = c.in_ok-taken-in-Some.ensures.links;
-      calls = c.in_ok-next-in-Some-taken.ensures.calls;
-      found = call_taken P rs v (visits_of old) code so_far (All-head (IsAtCall P) (visit_of v) (visits_of old) calls) new r c.push.new.self
-          found c.in_ok-push-in-Some-taken.ensures.ok c.in_ok-next-in-Some-taken.ensures.leads;
+      told = record {
+        calls = c.in_ok-next-in-Some-taken.ensures.calls;
+        goes_on = call_taken P rs v (visits_of old) code so_far (All-head (IsAtCall P) (visit_of v) (visits_of old) calls) new r c.push.new.self
+            found c.in_ok-push-in-Some-taken.ensures.ok c.in_ok-next-in-Some-taken.ensures.leads;
+      };
     }

@@ -1,0 +1,66 @@
+use Rattle.std.proofs.Common.{ℕ, List, [], ◌∷◌, ◌++◌, ◌+◌, ◌≢◌, drop, refl, ap, sym, subst, ◌∙◌}
+use Rattle.and_model.specs.Trees.{QueryTree}
+use Rattle.and_cells.specs.Rows.{IsSound}
+use Rattle.and_branch.specs.Branches.{Held}
+use Rattle.and_branch.specs.Children.{Fork, AreChildren, IsChild}
+use Rattle.and_branch.specs.Making.{noted_from}
+use Rattle.and_branch.specs.Origins.{GoesBack}
+use Rattle.and_branch.specs.States.{numbers}
+use Rattle.and_branch.proofs.ForkReduced.{begun_is, can_be_made, child_is, next_clause, parent_sound, some_left}
+use Rattle.and_branch.proofs.KeptOrigins.{goes_nowhere}
+use Rattle.and_branch.proofs.choicepoint.Choicepoint.next.Goals as goal
+
+pub at-clause-requires : goal.at-clause-requires
+at-clause-requires g c =
+    some_left c.self.inside.clauses c.self.inside.made (subst (λ (h : Fork). h.clauses ≢ []) (sym c.self.view_is) c.requires.some)
+
+pub again_by-requires-clause-sound : goal.again_by-requires-clause-sound
+again_by-requires-clause-sound g c =
+    let P = g.N.Naming.program in
+    let (t, k) = c.requires.children in
+    subst (λ (h : Fork). IsSound P h.parent.row) (sym c.self.view_is) (parent_sound P c.args.self.now t k)
+
+pub again_by-requires-clause-back : goal.again_by-requires-clause-back
+again_by-requires-clause-back g c = subst (λ (h : Fork). GoesBack h.parent c.args.left) (sym c.self.view_is) c.requires.back
+
+pub taking-requires-clause-begun : goal.taking-requires-clause-begun
+taking-requires-clause-begun g c =
+    let P = g.N.Naming.program in
+    let inside = c.self.inside in
+    let f : Fork = record {
+      parent = inside.parent.value;
+      goal = inside.goal;
+      longer = inside.longer;
+      clauses = numbers inside.clauses;
+    } in
+    let next = next_clause inside.clauses f.clauses inside.made c.at-clause.result.now refl c.at-clause.ensures in
+    let can = can_be_made P f inside.made c.at-clause.result.now.0 next
+    (subst (λ (h : Fork). (t : QueryTree P.program) × AreChildren P h t) (sym c.self.view_is) c.requires.children) in
+    let key = c.in_ok-push.ensures.ok ∙ ap (λ (l : List ℕ). l ++ c.at-clause.result.now.0 ∷ []) c.in_ok-key.ensures in
+    (f, begun_is P f c.at-clause.result.now.0 f.goal _ (noted_from f.parent.row) _ can refl key c.in_ok-begun.ensures)
+
+pub returns-clause-child : goal.returns-clause-child
+returns-clause-child g c =
+    let P = g.N.Naming.program in
+    let inside = c.self.inside in
+    let f : Fork = record {
+      parent = inside.parent.value;
+      goal = inside.goal;
+      longer = inside.longer;
+      clauses = numbers inside.clauses;
+    } in
+    let next = next_clause inside.clauses f.clauses inside.made c.at-clause.result.now refl c.at-clause.ensures in
+    let can = can_be_made P f inside.made c.at-clause.result.now.0 next
+    (subst (λ (h : Fork). (t : QueryTree P.program) × AreChildren P h t) (sym c.self.view_is) c.requires.children) in
+    let key = c.in_ok-push.ensures.ok ∙ ap (λ (l : List ℕ). l ++ c.at-clause.result.now.0 ∷ []) c.in_ok-key.ensures in
+    let begun = begun_is P f c.at-clause.result.now.0 f.goal _ (noted_from f.parent.row) _ can refl key c.in_ok-begun.ensures in
+    let new : Fork = record f { clauses = drop (inside.made + 1) f.clauses } in
+    subst (λ (h : Fork). IsChild P h new c.in_ok-child.child) c.self.view_is
+    (child_is P f inside.made c.at-clause.result.now.0 next c.in_ok-child.child (c.in_ok-child.ensures.made f begun))
+
+pub returns-clause-back : goal.returns-clause-back
+returns-clause-back g c =
+    let parent = c.self.inside.parent.value in
+    let nowhere = goes_nowhere parent c.in_ok-begun.begun (ap (λ (h : Held). h.row) c.in_ok-begun.ensures)
+    (ap (λ (h : Held). h.reductions) c.in_ok-begun.ensures) (ap (λ (h : Held). h.trail) c.in_ok-begun.ensures) in
+    subst (λ (h : Fork). GoesBack h.parent c.in_ok-child.child) c.self.view_is (c.in_ok-child.ensures.back.again parent nowhere)
