@@ -1,0 +1,61 @@
+-- A number that was written and is settled with a node: what unification is asked.
+use Rattle.std.proofs.Common.{ℕ, ℤ, ◌≡◌, List, [], ◌∷◌, ◌++◌, length, refl, sym, subst}
+use Rattle.and_model.specs.Terms.{number}
+use Rattle.and_model.specs.Solutions.{Equation}
+use Rattle.and_model.specs.declared.reference.Ref.{Ref}
+use Rattle.and_model.specs.declared.reference.Ref.TheVariants.{Number}
+use Rattle.and_program.specs.Skeletons.{node_term}
+use Rattle.and_cells.specs.Ranges.{NamedProgram, IsPairInRange}
+use Rattle.and_cells.specs.Rows.{IsSound}
+use Rattle.and_cells.specs.Parts.{part_at}
+use Rattle.and_branch_laws.specs.OwnVariables.{IsLoaded}
+use Rattle.and_branch_laws.specs.Settling.{IsWritten}
+use Rattle.and_branch_laws.specs.Variables.{placed}
+use Rattle.and_unify.specs.declared.pairs.Pair.{Pair}
+use Rattle.and_unify.specs.declared.settling.Settled.TheVariants.{Solved, NoSolution}
+use Rattle.and_unify.specs.Settling.{Settles}
+use Rattle.and_proof.specs.Sides.{CanBeRead}
+use Rattle.and_proof.specs.Asking.{Ask}
+use Rattle.and_proof.specs.Assigning.{CanBeAssigned, IsAssigned, IsRefused}
+use Rattle.and_proof.proofs.AskedPairs.{found_ready}
+use Rattle.and_proof.proofs.Numbers.{still_reads, part_keeps}
+use Rattle.and_proof.proofs.ReadyPairs.{IsReady, only_one, number_ready}
+use Rattle.and_proof.proofs.SettledPairs.{settled_with, unsolved_with}
+
+module _ (P : NamedProgram) (loaded : IsLoaded P) (row mid : List Ref) (floor base node pair : ℕ) (z : ℤ)
+    (can : CanBeAssigned P row base node pair)
+    (written : IsWritten row mid pair z) (ends : floor ≡ length mid) (left : Ref) (found : left ≡ part_at P base node)
+    (cleared pairs : List Pair) (none_yet : cleared ≡ [])
+    (pushed : pairs ≡ cleared ++ record { left = left; right = Number pair } ∷ []) where
+  abbrev es : List Equation
+  es = (placed base (node_term P.skeleton.nodes node), number z) ∷ []
+
+  -- The node and the number can be handed to unification.
+  pub number_asked : Ask P mid floor pairs ((placed base (node_term P.skeleton.nodes node), number z) ∷ [])
+  number_asked =
+      let reads : CanBeRead P mid base node = still_reads P row mid pair z can.pair_is_free written base node can in
+      let there : IsPairInRange (length mid) pair = subst (λ (n : ℕ). IsPairInRange n pair) (sym written.long) can.pair_is_free.in_range in
+      let ready : IsReady P mid floor (record { left = part_at P base node; right = Number pair }) es =
+      number_ready P row mid floor base node pair z loaded.skeleton.0 written there reads
+      (part_keeps P mid floor base node loaded.skeleton.0 ends reads) in
+      only_one P mid floor cleared pairs (record { left = left; right = Number pair }) es none_yet pushed
+      (found_ready P mid floor left (Number pair) (part_at P base node) (Number pair) es found refl ready)
+
+  -- Where they were settled the number is assigned,
+  pub number_assigned : (new : List Ref) → IsSound P mid → IsSound P new → Settles P mid new pairs Solved
+      → IsAssigned P row new base node pair z
+  number_assigned new mid_sound sound s = record {
+    written = mid;
+    sound = mid_sound;
+    is_written = written;
+    settled = settled_with P mid new floor pairs es number_asked s sound;
+  }
+
+  -- and where they have no solution it is refused.
+  pub number_refused : (new : List Ref) → IsSound P mid → Settles P mid new pairs NoSolution → IsRefused P row base node pair z
+  number_refused new mid_sound s = record {
+    written = mid;
+    sound = mid_sound;
+    is_written = written;
+    unsolved = unsolved_with P mid new floor pairs es number_asked s;
+  }

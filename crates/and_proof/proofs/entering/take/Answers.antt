@@ -1,0 +1,18 @@
+use Rattle.std.proofs.Common.{ℕ, sym, subst}
+use Rattle.std.proofs.lemmas.Result.{on_ok_weaker}
+use Rattle.and_model.specs.Programs.{clause_at, clause_weight}
+use Rattle.and_proof.specs.Frames.{IsCallBelow}
+use Rattle.and_proof.proofs.RunGoals.{call_cells}
+use Rattle.and_branch_laws.proofs.Loading.{loaded_is}
+use Rattle.and_proof.proofs.NewFrames.{call_below}
+use Rattle.and_proof.proofs.entering.take.Goals as goal
+
+pub ask_call-requires-clause-call : goal.ask_call-requires-clause-call
+ask_call-requires-clause-call g c =
+    let P = g.N.Naming.program in
+    let row = c.args.cells.now in
+    let facts = loaded_is P c.args.loaded.now c.requires.program c.skeleton_is_of_the_program.ensures.skeleton
+    c.skeleton_is_of_the_program.ensures.own_variables c.skeleton_is_of_the_program.ensures.few in
+    subst (λ (n : ℕ). IsCallBelow P c.open_frame.new.cells n c.args.goal) (sym c.in_ok-floor.ensures.floor)
+    (call_below P row c.open_frame.new.cells (clause_weight (clause_at P.program c.args.clause.0)) c.args.goal c.in_ok-floor.ensures.widened
+    c.requires.goal (call_cells P facts row c.args.goal c.requires.goal))

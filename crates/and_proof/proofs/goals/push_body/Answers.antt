@@ -1,0 +1,16 @@
+use Rattle.std.proofs.Common.{◌≡◌, ◌-◌, ◌<◌, suc, length, arith}
+use Rattle.and_program.specs.Loaded.{skeleton_of}
+use Rattle.and_proof.proofs.Stacked.{stacked}
+use Rattle.and_proof.proofs.goals.push_body.Goals as goal
+
+pub loop-place-preserved : goal.loop-place-preserved
+loop-place-preserved c =
+    let place = c.loop-place.place in
+    let xs = c.items-items.result.now in
+    let below : place - 1 < length xs = omega arith in
+    let next : suc (place - 1) ≡ place = omega arith in record {
+      within = omega arith;
+      stacked = stacked (skeleton_of c.args.loaded.now).nodes xs c.args.depth c.args.clause.0 c.args.node (place - 1) _ below place next
+          c.args.ahead.now.items c.loop-place.ahead.items c.push_item.new.ahead.items c.loop-place.invariant.stacked c.in_ok-push_item.ensures.goal
+          c.in_ok-push_item.ensures.other;
+    }

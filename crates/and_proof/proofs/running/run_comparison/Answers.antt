@@ -1,0 +1,18 @@
+use Rattle.std.proofs.Common.{sym, subst}
+use Rattle.and_program.specs.Items.{relation}
+use Rattle.and_program.specs.Skeletons.{node_term}
+use Rattle.and_proof.specs.Sides.{IsSide}
+use Rattle.and_proof.specs.Sides.{IsComparison}
+use Rattle.and_proof.proofs.Outcomes.{sides_compare}
+use Rattle.and_proof.proofs.running.run_comparison.Goals as goal
+
+pub returns-clause-compared : goal.returns-clause-compared
+returns-clause-compared g c =
+    let P = g.N.Naming.program in
+    let row = c.args.cells.now in
+    let base = c.args.base in
+    let a = node_term P.skeleton.nodes c.args.left.0 in
+    let b = node_term P.skeleton.nodes c.args.right.0 in
+    let second = subst (λ r. IsSide P r base b c.in_ok-second.second) c.evaluate.ensures.unchanged c.in_ok-second.ensures.side in
+    subst (IsComparison P row base (relation c.args.by) a b) (sym c.compare_sides.ensures)
+    (sides_compare P row base (relation c.args.by) a b c.in_ok-first.first c.in_ok-second.second c.in_ok-first.ensures.side second)

@@ -1,0 +1,14 @@
+pub mod Documents
+pub mod Proofs
+pub mod Sides
+pub mod Calls
+pub mod Asking
+pub mod Assigning
+pub mod Frames
+pub mod Runs
+pub mod Unfolding
+pub mod Stacks
+pub mod Predicates
+pub mod Rounds
+pub mod Written
+pub mod Entries

@@ -1,0 +1,141 @@
+//! What unification is asked in a new frame.
+
+ghost use Rattle.std.specs.Prelude.{◌≡◌, ◌≤◌, ◌∷◌, ◌++◌, [], ℕ, true, false, Some, Ok, length, slice_get, OnOk};
+ghost use Rattle.std.specs.Prelude.{Contains};
+ghost use Rattle.and_model.specs.Programs.{clause_at, fail};
+ghost use Rattle.and_model.specs.Stands.{term_of};
+ghost use Rattle.and_program.specs.Items.{node_item};
+ghost use Rattle.and_program.specs.Loaded.{nodes_at, program_of, skeleton_of};
+ghost use Rattle.and_program.specs.Skeletons.{call, item_of};
+ghost use Rattle.and_cells.specs.Parts.{named};
+ghost use Rattle.and_cells.specs.Seen.{word_at};
+ghost use Rattle.and_unify.specs.Pairs.{equations_of_pairs};
+ghost use Rattle.and_branch_laws.specs.Reducing.{body_equations};
+ghost use Rattle.and_branch_laws.specs.Variables.{placed};
+ghost use Rattle.and_proof.specs.Asking.{AreReady, Ask, CanBeAsked};
+ghost use Rattle.and_proof.specs.Frames.{IsCallBelow, IsFrame};
+
+use and_cells::{Naming, PlainCells};
+use and_model::{ClauseNo, Goal, NodeNo};
+use and_program::{ItemNode, Loaded};
+use and_unify::PairList;
+use std::alloc::AllocError;
+
+/// The node of a call, by its place in the body of a clause. Takes no memory.
+pub(crate) fn call_at(loaded: &Loaded, clause: ClauseNo, item: u32) -> NodeNo
+    requires clause { clause.0 ≤ length (program_of loaded.now).clauses }
+    requires call { (node : ℕ)
+        × (slice_get (nodes_at (skeleton_of loaded.now) clause.0).items item ≡ Some (call node)) }
+    ensures { slice_get (nodes_at (skeleton_of loaded.now) clause.0).items item ≡ Some (call result.0) }
+{
+    match loaded.items(clause)[item as usize] {
+        ItemNode::Call { goal } => goal,
+        ItemNode::Equal { left: _, right: _ } => unreachable!(),
+        ItemNode::Is {
+            left: _,
+            right: _,
+            pair: _,
+        } => unreachable!(),
+        ItemNode::Compare {
+            relation: _,
+            left: _,
+            right: _,
+        } => unreachable!(),
+        ItemNode::Fail => unreachable!(),
+    }
+}
+
+/// Asks that the call be made one with the head of the clause in its frame, and nothing else. An error
+/// is want of memory.
+pub(crate) fn ask_call<N: Naming>(
+    loaded: &Loaded,
+    cells: &PlainCells<N>,
+    goal: Goal,
+    clause: ClauseNo,
+    floor: u32,
+    pairs: &mut PairList,
+) -> Result<(), AllocError>
+    requires program { N.program ≡ named loaded.now }
+    requires clause { clause.0 ≤ length N.program.program.clauses }
+    requires frame { IsFrame N.program cells.now clause.0 floor }
+    requires call { IsCallBelow N.program cells.now floor goal }
+    ensures { OnOk result (Ask N.program cells.now floor pairs.new
+        ((
+          placed goal.base (term_of N.program.program goal),
+          placed floor (clause_at N.program.program clause.0).head,
+        ) ∷ [])) }
+{
+    loaded.skeleton_is_of_the_program();
+    let call = loaded.resolve(call_at(loaded, goal.clause, goal.item), goal.base);
+    let head = loaded.resolve(loaded.head(clause), floor);
+    pairs.clear();
+    pairs.push(call, head)?;
+    Ok(())
+}
+
+/// Asks for what the `=` items of the clause's body say in its frame, and answers whether no item is
+/// `fail`. An error is want of memory.
+pub(crate) fn ask_items<N: Naming>(
+    loaded: &Loaded,
+    cells: &PlainCells<N>,
+    clause: ClauseNo,
+    floor: u32,
+    pairs: &mut PairList,
+) -> Result<bool, AllocError>
+    requires program { N.program ≡ named loaded.now }
+    requires clause { clause.0 ≤ length N.program.program.clauses }
+    requires frame { IsFrame N.program cells.now clause.0 floor }
+    requires ready { AreReady N.program cells.now floor pairs.old }
+    ensures asked { result ≡ Ok true → Ask N.program cells.now floor pairs.new
+        (equations_of_pairs N.program (word_at cells.now) pairs.old ++ body_equations (placed floor)
+        (clause_at N.program.program clause.0).body) }
+    ensures failing { result ≡ Ok false → Contains (clause_at N.program.program clause.0).body fail }
+{
+    loaded.skeleton_is_of_the_program();
+    for item in loaded.items(clause) {
+        if !ask_item(loaded, cells, floor, *item, pairs)? {
+            return Ok(false);
+        }
+    }
+    Ok(true)
+}
+
+/// Asks for what an item says, if it is `=`, and answers whether it is not `fail`. An error is want of
+/// memory.
+fn ask_item<N: Naming>(
+    loaded: &Loaded,
+    cells: &PlainCells<N>,
+    floor: u32,
+    item: ItemNode,
+    pairs: &mut PairList,
+) -> Result<bool, AllocError>
+    requires program { N.program ≡ named loaded.now }
+    requires item { CanBeAsked N.program cells.now floor (node_item item) }
+    requires ready { AreReady N.program cells.now floor pairs.old }
+    ensures asked { result ≡ Ok true
+        → Ask N.program cells.now floor pairs.new (equations_of_pairs N.program (word_at cells.now) pairs.old
+        ++ body_equations (placed floor) (item_of N.program.skeleton.nodes (node_item item) ∷ [])) }
+    ensures failing { result ≡ Ok false → item ≡ ItemNode.Fail }
+{
+    match item {
+        ItemNode::Equal { left, right } => {
+            loaded.skeleton_is_of_the_program();
+            let left = loaded.resolve(left, floor);
+            let right = loaded.resolve(right, floor);
+            pairs.push(left, right)?;
+            Ok(true)
+        }
+        ItemNode::Call { goal: _ } => Ok(true),
+        ItemNode::Is {
+            left: _,
+            right: _,
+            pair: _,
+        } => Ok(true),
+        ItemNode::Compare {
+            relation: _,
+            left: _,
+            right: _,
+        } => Ok(true),
+        ItemNode::Fail => Ok(false),
+    }
+}

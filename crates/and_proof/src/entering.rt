@@ -1,0 +1,164 @@
+//! Clauses that are entered: the query, and a clause that takes a call.
+
+ghost use Rattle.std.specs.Prelude.{◌≡◌, ◌≤◌, ◌+◌, ◌++◌, [], length, replicate, Ok, IfOk, OnOk};
+ghost use Rattle.and_model.specs.Programs.{clause_at, clause_weight};
+ghost use Rattle.and_model.specs.Solutions.{Solvable};
+ghost use Rattle.and_model.specs.declared.limits.TheConstants.{MAX_LIMIT};
+ghost use Rattle.and_model.specs.declared.reference.Ref.{Ref};
+ghost use Rattle.and_cells.specs.Meaning.{IsSettled, equations_of};
+ghost use Rattle.and_cells.specs.Parts.{named};
+ghost use Rattle.and_cells.specs.Rows.{IsSound};
+ghost use Rattle.and_cells.specs.Seen.{word_at};
+ghost use Rattle.and_unify.specs.Pairs.{equations_of_pairs};
+ghost use Rattle.and_branch_laws.specs.Reducing.{body_equations, reduction_in_cells};
+ghost use Rattle.and_branch_laws.specs.Settling.{Settled, widened};
+ghost use Rattle.and_branch_laws.specs.Variables.{placed};
+ghost use Rattle.and_proof.specs.Asking.{AreReady};
+ghost use Rattle.and_proof.specs.Calls.{CanBeTaken};
+ghost use Rattle.and_proof.specs.Frames.{IsFrame};
+
+use crate::asking::{ask_call, ask_items};
+use and_arith::WorkList;
+use and_cells::{Naming, PlainCells};
+use and_model::{ClauseNo, Goal};
+use and_program::Loaded;
+use and_unify::{PairList, Settled as Answer, Solver};
+use std::alloc::{AllocError, Global};
+
+/// What steps work with, kept by their caller and used again.
+#[derive(Drop)]
+pub(crate) struct Tools {
+    pub(crate) solver: Solver,
+    pub(crate) pairs: PairList,
+    pub(crate) values: WorkList,
+}
+
+impl Tools {
+    /// Nothing was done yet. Takes no memory.
+    pub(crate) fn new(alloc: Global) -> Tools {
+        Tools {
+            solver: Solver::new(alloc),
+            pairs: PairList::new(alloc),
+            values: WorkList::new(alloc),
+        }
+    }
+}
+
+/// What a clause that was entered comes to.
+#[derive(Clone, Copy, PartialEq, Eq, Debug)]
+pub(crate) enum Entered {
+    /// The cells are settled with what it asks.
+    Solved,
+    /// What it asks has no solution. The cells are spent.
+    NoSolution,
+}
+
+/// Makes the query's frame the row, and settles the `=` items of the query in it. An error is want of
+/// memory, and the cells are spent.
+pub(crate) fn begin<N: Naming>(
+    loaded: &Loaded,
+    cells: &mut PlainCells<N>,
+    tools: &mut Tools,
+) -> Result<Entered, AllocError>
+    requires program { N.program ≡ named loaded.now }
+    requires empty { cells.old ≡ [] }
+    requires fits { clause_weight N.program.program.query ≤ MAX_LIMIT }
+    ensures solved { result ≡ Ok Entered.Solved
+        → Settled N.program (replicate (clause_weight N.program.program.query) Ref.Free) cells.new
+        (body_equations (placed 0) N.program.program.query.body) }
+    ensures unsolved { result ≡ Ok Entered.NoSolution
+        → Solvable (equations_of N.program (replicate (clause_weight N.program.program.query) Ref.Free)
+        ++ body_equations (placed 0) N.program.program.query.body) → ⊥ }
+{
+    let query = ClauseNo(0);
+    let floor = open_frame(loaded, cells, query)?;
+    tools.pairs.clear();
+    settle_frame(loaded, cells, query, floor, tools)
+}
+
+/// Puts the clause's frame behind the row, and settles in it what a reduction of the call by this
+/// clause asks: that the call is its head, and the `=` items of its body. An error is want of memory,
+/// and the cells are spent.
+pub(crate) fn take<N: Naming>(
+    loaded: &Loaded,
+    cells: &mut PlainCells<N>,
+    goal: Goal,
+    clause: ClauseNo,
+    tools: &mut Tools,
+) -> Result<Entered, AllocError>
+    requires program { N.program ≡ named loaded.now }
+    requires settled { IsSettled N.program cells.old }
+    requires goal { CanBeTaken N.program cells.old goal }
+    requires clause { clause.0 ≤ length N.program.program.clauses }
+    requires fits { length cells.old + clause_weight (clause_at N.program.program clause.0) ≤ MAX_LIMIT }
+    ensures solved { result ≡ Ok Entered.Solved
+        → Settled N.program (widened cells.old (clause_weight (clause_at N.program.program clause.0))) cells.new
+        (reduction_in_cells N.program.program goal clause.0 (length cells.old)) }
+    ensures unsolved { result ≡ Ok Entered.NoSolution
+        → Solvable (equations_of N.program (widened cells.old (clause_weight (clause_at N.program.program clause.0)))
+        ++ reduction_in_cells N.program.program goal clause.0 (length cells.old)) → ⊥ }
+{
+    loaded.skeleton_is_of_the_program();
+    let floor = open_frame(loaded, cells, clause)?;
+    ask_call(loaded, cells, goal, clause, floor, &mut tools.pairs)?;
+    settle_frame(loaded, cells, clause, floor, tools)
+}
+
+/// Puts a frame of the clause behind the row, and answers where it begins. An error is want of memory,
+/// and leaves the row as it was.
+fn open_frame<N: Naming>(
+    loaded: &Loaded,
+    cells: &mut PlainCells<N>,
+    clause: ClauseNo,
+) -> Result<u32, AllocError>
+    requires program { N.program ≡ named loaded.now }
+    requires settled { IsSettled N.program cells.old }
+    requires clause { clause.0 ≤ length N.program.program.clauses }
+    requires fits { length cells.old + clause_weight (clause_at N.program.program clause.0) ≤ MAX_LIMIT }
+    ensures floor { IfOk result (λ floor. floor ≡ length cells.old) }
+    ensures widened { OnOk result (cells.new
+        ≡ widened cells.old (clause_weight (clause_at N.program.program clause.0))) }
+    ensures frame { IfOk result (IsFrame N.program cells.new clause.0) }
+    ensures sound { IsSound N.program cells.old }
+{
+    let floor = cells.len();
+    cells.extend(loaded.weight(clause))?;
+    let _words = cells.len();
+    Ok(floor)
+}
+
+/// Settles in a new frame of the clause what the pairs ask, and the `=` items of its body. An error is
+/// want of memory, and the cells are spent.
+fn settle_frame<N: Naming>(
+    loaded: &Loaded,
+    cells: &mut PlainCells<N>,
+    clause: ClauseNo,
+    floor: u32,
+    tools: &mut Tools,
+) -> Result<Entered, AllocError>
+    requires program { N.program ≡ named loaded.now }
+    requires clause { clause.0 ≤ length N.program.program.clauses }
+    requires frame { IsFrame N.program cells.old clause.0 floor }
+    requires ready { AreReady N.program cells.old floor tools.old.pairs }
+    ensures solved { result ≡ Ok Entered.Solved → Settled N.program cells.old cells.new
+        (equations_of_pairs N.program (word_at cells.old) tools.old.pairs ++ body_equations (placed floor)
+        (clause_at N.program.program clause.0).body) }
+    ensures unsolved { result ≡ Ok Entered.NoSolution → Solvable (equations_of N.program cells.old
+        ++ (equations_of_pairs N.program (word_at cells.old) tools.old.pairs ++ body_equations (placed floor)
+        (clause_at N.program.program clause.0).body)) → ⊥ }
+{
+    if !ask_items(loaded, cells, clause, floor, &mut tools.pairs)? {
+        return Ok(Entered::NoSolution);
+    }
+    match tools
+        .solver
+        .settle_further(loaded, cells, floor, &mut tools.pairs)
+    {
+        Answer::Solved => {
+            let _words = cells.len();
+            Ok(Entered::Solved)
+        }
+        Answer::NoSolution => Ok(Entered::NoSolution),
+        Answer::Memory => Err(AllocError),
+    }
+}
