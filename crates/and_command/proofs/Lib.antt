@@ -3,3 +3,4 @@ pub mod NumberLemmas
 pub mod ReadingLemmas
 pub mod CommandLemmas
 pub mod RangeLemmas
+pub mod CallerLemmas

@@ -1,5 +1,5 @@
 -- What a loop over words reads.
-use Rattle.std.proofs.Common.{◌≡◌, ℕ, suc, ◌+◌, ◌<◌, ◌≤◌, List, ◌∷◌, map, drop, length, Some, None, ap, sym, ◌∙◌, arith}
+use Rattle.std.proofs.Common.{◌≡◌, ℕ, suc, ◌+◌, ◌<◌, ◌≤◌, Bool, false, cond, List, ◌∷◌, map, drop, find, length, Some, None, ap, sym, ◌∙◌, arith}
 use Rattle.std.specs.Prelude.{get_or}
 use Rattle.std.proofs.Math.Seq.{drop-cons}
 use Rattle.std.proofs.lemmas.List.{drop_all}
@@ -7,6 +7,7 @@ use Rattle.std.specs.Option.{option_and_then}
 use Rattle.and_model.specs.Lines.{Bytes}
 use Rattle.and_command.specs.Given.{nothing}
 use Rattle.and_command.specs.Reading.{closed, next, read_from, at_end, read}
+use Rattle.and_command.specs.declared.forms.Form.{Form}
 use Rattle.and_command.specs.declared.reading.Reading.{Reading}
 
 rest_from : {W : Type 0} (words : List W) (i : ℕ) (w : W) → i < length words → w ≡ get_or words i w
@@ -16,29 +17,37 @@ rest_from words i w below is =
     drop-cons words i w below ∙ ap (λ x. x ∷ drop (suc i) words) (sym is) ∙ ap (λ j. w ∷ drop j words) more
 
 -- reading goes on with the next word
-goes_on : {W : Type 0} (text : W → Bytes) (words : List W) (i : ℕ) (w : W) (start now : Reading) → i < length words → w ≡ get_or words i w
-    → read_from start (map text words) ≡ read_from now (map text (drop i words))
-    → read_from start (map text words) ≡ option_and_then (λ s. read_from s (map text (drop (i + 1) words))) (next now (text w))
-goes_on text words i w start now below is before = before ∙ ap (λ ws. read_from now (map text ws)) (rest_from words i w below is)
+goes_on : {W : Type 0} (text : W → Bytes) (words : List W) (i : ℕ) (w : W) (form : Form) (start now : Reading) → i < length words → w ≡ get_or words i w
+    → read_from form start (map text words) ≡ read_from form now (map text (drop i words))
+    → read_from form start (map text words) ≡ option_and_then (λ s. read_from form s (map text (drop (i + 1) words))) (next form now (text w))
+goes_on text words i w form start now below is before = before ∙ ap (λ ws. read_from form now (map text ws)) (rest_from words i w below is)
 
-pub goes_to : {W : Type 0} (text : W → Bytes) (words : List W) (i : ℕ) (w : W) (start now then : Reading) → i < length words
+pub goes_to : {W : Type 0} (text : W → Bytes) (words : List W) (i : ℕ) (w : W) (form : Form) (start now then : Reading) → i < length words
     → w ≡ get_or words i w
-    → read_from start (map text words) ≡ read_from now (map text (drop i words)) → next now (text w) ≡ Some then
-    → read_from start (map text words) ≡ read_from then (map text (drop (i + 1) words))
-goes_to text words i w start now then below is before step =
-    goes_on text words i w start now below is before ∙ ap (option_and_then (λ s. read_from s (map text (drop (i + 1) words)))) step
+    → read_from form start (map text words) ≡ read_from form now (map text (drop i words)) → next form now (text w) ≡ Some then
+    → read_from form start (map text words) ≡ read_from form then (map text (drop (i + 1) words))
+goes_to text words i w form start now then below is before step =
+    goes_on text words i w form start now below is before ∙ ap (option_and_then (λ s. read_from form s (map text (drop (i + 1) words)))) step
 
-pub stops : {W : Type 0} (text : W → Bytes) (words : List W) (i : ℕ) (w : W) (start now : Reading) → i < length words
+pub stops : {W : Type 0} (text : W → Bytes) (words : List W) (i : ℕ) (w : W) (form : Form) (start now : Reading) → i < length words
     → w ≡ get_or words i w → start ≡ closed nothing
-    → read_from start (map text words) ≡ read_from now (map text (drop i words)) → next now (text w) ≡ None → read (map text words) ≡ None
-stops text words i w start now below is begins before step =
+    → read_from form start (map text words) ≡ read_from form now (map text (drop i words)) → next form now (text w) ≡ None → read form (map text words) ≡ None
+stops text words i w form start now below is begins before step =
     ap (option_and_then (λ r. at_end r.owed r.given))
-    (ap (λ s. read_from s (map text words)) (sym begins)
-    ∙ goes_on text words i w start now below is before
-    ∙ ap (option_and_then (λ s. read_from s (map text (drop (i + 1) words)))) step)
+    (ap (λ s. read_from form s (map text words)) (sym begins)
+    ∙ goes_on text words i w form start now below is before
+    ∙ ap (option_and_then (λ s. read_from form s (map text (drop (i + 1) words)))) step)
 
-pub reads_all : {W : Type 0} (text : W → Bytes) (words : List W) (i : ℕ) (start now : Reading) → length words ≤ i → start ≡ closed nothing
-    → read_from start (map text words) ≡ read_from now (map text (drop i words)) → read (map text words) ≡ at_end now.owed now.given
-reads_all text words i start now above begins before =
+pub reads_all : {W : Type 0} (text : W → Bytes) (words : List W) (i : ℕ) (form : Form) (start now : Reading) → length words ≤ i → start ≡ closed nothing
+    → read_from form start (map text words) ≡ read_from form now (map text (drop i words)) → read form (map text words) ≡ at_end now.owed now.given
+reads_all text words i form start now above begins before =
     ap (option_and_then (λ r. at_end r.owed r.given))
-    (ap (λ s. read_from s (map text words)) (sym begins) ∙ before ∙ ap (λ ws. read_from now (map text ws)) (drop_all i words above))
+    (ap (λ s. read_from form s (map text words)) (sym begins) ∙ before ∙ ap (λ ws. read_from form now (map text ws)) (drop_all i words above))
+
+-- what is not found at a place is looked for behind it
+pub find_skips : {X : Type 0} (p : X → Bool) (xs : List X) (i : ℕ) (d : X) → i < length xs → p (get_or xs i d) ≡ false
+    → find p (drop i xs) ≡ find p (drop (i + 1) xs)
+find_skips p xs i d below other =
+    let more : suc i ≡ i + 1 = omega arith in
+    ap (find p) (drop-cons xs i d below) ∙ ap (λ b. cond b (Some (get_or xs i d)) (find p (drop (suc i) xs))) other
+    ∙ ap (λ j. find p (drop j xs)) more

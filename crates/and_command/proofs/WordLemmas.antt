@@ -1,16 +1,19 @@
 -- What single words say.
 use Rattle.std.proofs.Common.{◌≡◌, ◌≢◌, ℕ, suc, ◌<◌, Bool, true, false, List, [], ◌∷◌, ◌++◌, length, Bor, MatchOption, codes, Option}
-use Rattle.std.proofs.Common.{Some, None, if◌then◌else◌, nat_eq, refl, ap, ◌∙◌, arith}
+use Rattle.std.proofs.Common.{Some, None, if◌then◌else◌, nat_eq, ◌&&◌, refl, ap, sym, ◌∙◌, arith}
 use Rattle.std.specs.Prelude.{get_or}
-use Rattle.std.specs.Option.{option_map}
+use Rattle.std.specs.Option.{option_map, option_and_then}
 use Rattle.std.specs.Str.{bytes_eq}
 use Rattle.std.proofs.lemmas.Slice.Eq.{bytes_eq-Decides}
 use Rattle.std.proofs.lemmas.Bool.Decides.{Decides-eqb}
 use Rattle.std.proofs.lemmas.Bool.{ne_eqb}
 use Rattle.and_model.specs.Lines.{Bytes}
-use Rattle.and_command.specs.Options.{name_text, name_of, is_stats, demo_of}
+use Rattle.and_command.specs.Options.{name_text, name_of, is_stats}
+use Rattle.and_command.specs.Forms.{takes, option_of, is_flag, number_of}
 use Rattle.and_command.specs.Reading.{cut, put_before}
 use Rattle.and_command.specs.declared.options.Name.{Name}
+use Rattle.and_command.specs.declared.forms.Form.{Form}
+use Rattle.and_command.specs.declared.forms.Number.{Number}
 use Rattle.and_command.specs.declared.options.Name.TheVariants.{Limit, Teams, Workers}
 
 abbrev nothing_before : Bytes → Bytes × Bytes
@@ -79,52 +82,81 @@ chosen false false true word name first second third is = let same : Workers ≡
 chosen false false false word name first second third is = absurd (cc)
 
 -- a word that names an option is its name
-pub is_name : (word : Bytes) (name : Name) → name_of word ≡ Some name → word ≡ name_text name
+is_name : (word : Bytes) (name : Name) → name_of word ≡ Some name → word ≡ name_text name
 is_name word name is =
     chosen (bytes_eq word (name_text Limit)) (bytes_eq word (name_text Teams)) (bytes_eq word (name_text Workers)) word name
     (bytes_eq-Decides word (name_text Limit)).0 (bytes_eq-Decides word (name_text Teams)).0
     (bytes_eq-Decides word (name_text Workers)).0 is
 
+kept : (t : Bool) (o n : Name) → (if t then Some o else None) ≡ Some n → (t ≡ true) × (o ≡ n)
+kept true o n is = (refl, cc)
+kept false o n is = absurd (cc)
+
+by_name : (form : Form) (word : Bytes) (name : Name) (o : Option Name) → name_of word ≡ o
+    → option_and_then (λ name. if takes form name then Some name else None) o ≡ Some name → (word ≡ name_text name) × (takes form name ≡ true)
+by_name form word name None named is = absurd (cc)
+by_name form word name (Some other) named is =
+    let how = kept (takes form other) other name is in
+    (is_name word other named ∙ ap name_text how.1, ap (takes form) (sym how.1) ∙ how.0)
+
+-- a word that names an option that may be there
+pub is_option : (form : Form) (word : Bytes) (name : Name) → option_of form word ≡ Some name
+    → (word ≡ name_text name) × (takes form name ≡ true)
+is_option form word name is = by_name form word name (name_of word) refl is
+
 -- a name names its option
-pub names : (name : Name) → name_of (name_text name) ≡ Some name
+names : (name : Name) → name_of (name_text name) ≡ Some name
 names Limit = refl
 names Teams = refl
 names Workers = refl
 
--- a name is no number of a demo, with and without a value
-pub no_number : (name : Name) → demo_of (name_text name) ≡ None
-no_number Limit = refl
-no_number Teams = refl
-no_number Workers = refl
+pub names_option : (form : Form) (name : Name) → takes form name ≡ true → option_of form (name_text name) ≡ Some name
+names_option form name takes_it =
+    ap (option_and_then (λ n. if takes form n then Some n else None)) (names name) ∙ ap (λ b. if b then Some name else None) takes_it
+
+-- a name is no number, with and without a value
+pub no_number : (o : Option Number) (name : Name) → number_of o (name_text name) ≡ None
+no_number None name = refl
+no_number (Some n) Limit = refl
+no_number (Some n) Teams = refl
+no_number (Some n) Workers = refl
 
 -- nor is it the flag
-pub no_flag : (name : Name) → is_stats (name_text name) ≡ false
-no_flag Limit = refl
-no_flag Teams = refl
-no_flag Workers = refl
+pub no_flag : (form : Form) (name : Name) → is_flag form (name_text name) ≡ false
+no_flag form Limit = refl
+no_flag form Teams = refl
+no_flag form Workers = refl
 
-pub no_joined_flag : (name : Name) (value : Bytes) → is_stats (name_text name ++ codes "=" ++ value) ≡ false
-no_joined_flag Limit value = refl
-no_joined_flag Teams value = refl
-no_joined_flag Workers value = refl
+pub no_joined_flag : (form : Form) (name : Name) (value : Bytes) → is_flag form (name_text name ++ codes "=" ++ value) ≡ false
+no_joined_flag form Limit value = refl
+no_joined_flag form Teams value = refl
+no_joined_flag form Workers value = refl
 
--- the flag is no number of a demo
-pub no_flag_number : demo_of (codes "--stats") ≡ None
-no_flag_number = refl
+-- the flag is no number
+pub no_flag_number : (o : Option Number) → number_of o (codes "--stats") ≡ None
+no_flag_number None = refl
+no_flag_number (Some n) = refl
 
-pub flag_is : (word : Bytes) → is_stats word ≡ true → word ≡ codes "--stats"
-flag_is word is = (bytes_eq-Decides word (codes "--stats")).0 is
+both : (a b : Bool) → (a && b) ≡ true → (a ≡ true) × (b ≡ true)
+both true b is = (refl, is)
+both false b is = absurd (cc)
 
-pub no_joined_number : (name : Name) (value : Bytes) → demo_of (name_text name ++ codes "=" ++ value) ≡ None
-no_joined_number Limit value = refl
-no_joined_number Teams value = refl
-no_joined_number Workers value = refl
+pub flag_is : (form : Form) (word : Bytes) → is_flag form word ≡ true → (word ≡ codes "--stats") × (form.stats ≡ true)
+flag_is form word is =
+    let how = both (is_stats word) form.stats is in
+    ((bytes_eq-Decides word (codes "--stats")).0 how.0, how.1)
+
+pub no_joined_number : (o : Option Number) (name : Name) (value : Bytes) → number_of o (name_text name ++ codes "=" ++ value) ≡ None
+no_joined_number None name value = refl
+no_joined_number (Some n) Limit value = refl
+no_joined_number (Some n) Teams value = refl
+no_joined_number (Some n) Workers value = refl
 
 -- a name with a value in one word names no option, and is cut behind the name
-pub no_joined_name : (name : Name) (value : Bytes) → name_of (name_text name ++ codes "=" ++ value) ≡ None
-no_joined_name Limit value = refl
-no_joined_name Teams value = refl
-no_joined_name Workers value = refl
+pub no_joined_name : (form : Form) (name : Name) (value : Bytes) → option_of form (name_text name ++ codes "=" ++ value) ≡ None
+no_joined_name form Limit value = refl
+no_joined_name form Teams value = refl
+no_joined_name form Workers value = refl
 
 pub cut_joined : (name : Name) (value : Bytes) → cut (name_text name ++ codes "=" ++ value) ≡ Some (name_text name, value)
 cut_joined Limit value = refl

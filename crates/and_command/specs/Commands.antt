@@ -1,36 +1,50 @@
 -- Which lists of words are commands, and with which values. All of it is this project's own.
-use Rattle.std.specs.Prelude.{ℕ, false, ◌≡◌, ◌≤◌, List, [], ◌∷◌, ◌++◌, Some, None, codes}
+use Rattle.std.specs.Prelude.{ℕ, true, ◌≡◌, ◌≤◌, List, [], ◌∷◌, ◌++◌, Option, Some, codes}
+use Rattle.std.specs.Option.{option_map}
 use Rattle.and_model.specs.Lines.{Bytes}
-use Rattle.and_command.specs.Options.{name_text, demo_of}
-use Rattle.and_command.specs.Given.{nothing, with_value, with_number, with_stats, settings_of}
+use Rattle.and_command.specs.Options.{name_text}
+use Rattle.and_command.specs.Forms.{kind_named, form_of, takes, number_of}
+use Rattle.and_command.specs.Given.{nothing, with_value, with_number, with_stats, limit_of, settings_of}
 use Rattle.and_command.specs.declared.options.Name.{Name}
+use Rattle.and_command.specs.declared.forms.Form.{Form}
+use Rattle.and_command.specs.declared.forms.Kind.{Kind}
+use Rattle.and_command.specs.declared.forms.Kind.TheVariants as kinds
 use Rattle.and_command.specs.declared.given.Given.{Given}
 use Rattle.and_command.specs.declared.given.Settings.{Settings}
 use Rattle.and_command.specs.declared.reading.Command.{Command}
-use Rattle.and_command.specs.declared.reading.Command.TheVariants.{Run, Check, Demo}
+use Rattle.and_command.specs.declared.reading.Command.TheVariants.{Run, Check, Demo, Explain, First}
 
--- From what was given, these words lead to what is given with them, from left to right: an option's
--- name and its value in two words, the two in one word with `=` between them, a demo's number, or the
--- flag `--stats`. Nothing is given twice
-pub data Gives : Given → List Bytes → Given → Type 0 where
-  ends : (g : Given) → Gives g [] g
+-- From what was given, these words of a command of this form lead to what is given with them, from left
+-- to right: the name of an option that it takes and its value in two words, the two in one word with `=`
+-- between them, its number, or the flag `--stats` where it takes that. Nothing is given twice
+pub data Gives (form : Form) : Given → List Bytes → Given → Type 0 where
+  ends : (g : Given) → Gives form g [] g
   apart : (g h end : Given) (name : Name) (word value : Bytes) (words : List Bytes)
-      → word ≡ name_text name → with_value name value g ≡ Some h → Gives h words end → Gives g (word ∷ value ∷ words) end
+      → takes form name ≡ true → word ≡ name_text name → with_value name value g ≡ Some h → Gives form h words end
+      → Gives form g (word ∷ value ∷ words) end
   joined : (g h end : Given) (name : Name) (word value : Bytes) (words : List Bytes)
-      → word ≡ name_text name ++ codes "=" ++ value → with_value name value g ≡ Some h → Gives h words end → Gives g (word ∷ words) end
+      → takes form name ≡ true → word ≡ name_text name ++ codes "=" ++ value → with_value name value g ≡ Some h
+      → Gives form h words end → Gives form g (word ∷ words) end
   alone : (g h end : Given) (n : ℕ) (word : Bytes) (words : List Bytes)
-      → demo_of word ≡ Some n → with_number n g ≡ Some h → Gives h words end → Gives g (word ∷ words) end
+      → number_of form.number word ≡ Some n → with_number n g ≡ Some h → Gives form h words end
+      → Gives form g (word ∷ words) end
   flagged : (g h end : Given) (word : Bytes) (words : List Bytes)
-      → word ≡ codes "--stats" → with_stats g ≡ Some h → Gives h words end → Gives g (word ∷ words) end
+      → form.stats ≡ true → word ≡ codes "--stats" → with_stats g ≡ Some h → Gives form h words end
+      → Gives form g (word ∷ words) end
 
--- `run` is followed by options and the flag, `check` by nothing, and `demo` by its number and options other than the limit
+-- the command of this kind with what was given, where its number is among that
+abbrev pub made : Kind → Given → Option Command
+made kinds.Run g = Some (Run (settings_of (form_of kinds.Run) g))
+made kinds.Check g = Some Check
+made kinds.Demo g = option_map (λ n. Demo n (settings_of (form_of kinds.Demo) g)) g.number
+made kinds.Explain g = option_map (λ n. Explain n (settings_of (form_of kinds.Explain) g)) g.number
+made kinds.First g = option_map (λ n. First n (settings_of (form_of kinds.First) g)) g.number
+
+-- the first word names a command, and those behind it give the rest
 abbrev pub IsCommand : List Bytes → Command → Type 0
-IsCommand words (Run settings) = (rest : List Bytes) × (g : Given)
-    × (words ≡ codes "run" ∷ rest) × Gives nothing rest g × (g.number ≡ None) × (settings ≡ settings_of g)
-IsCommand words Check = words ≡ codes "check" ∷ []
-IsCommand words (Demo n settings) = (rest : List Bytes) × (g : Given)
-    × (words ≡ codes "demo" ∷ rest) × Gives nothing rest g × (g.number ≡ Some n) × (g.limit ≡ None) × (g.stats ≡ false)
-    × (settings ≡ settings_of g)
+IsCommand words command = (word : Bytes) × (rest : List Bytes) × (kind : Kind) × (g : Given)
+    × (words ≡ word ∷ rest) × (kind_named word ≡ Some kind) × Gives (form_of kind) nothing rest g
+    × (made kind g ≡ Some command)
 
 -- the number is in the range
 abbrev pub IsWithin : ℕ → ℕ → ℕ → Type 0
@@ -44,3 +58,5 @@ abbrev pub IsInRange : Command → Type 0
 IsInRange (Run settings) = AreInRange settings
 IsInRange Check = Unit {0}
 IsInRange (Demo n settings) = (n ≤ 64) × AreInRange settings
+IsInRange (Explain n settings) = IsWithin 1 1000000 n × AreInRange settings
+IsInRange (First n settings) = IsWithin 1 1000000 n × AreInRange settings

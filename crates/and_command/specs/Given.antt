@@ -2,9 +2,11 @@
 use Rattle.std.specs.Prelude.{ℕ, true, false, if◌then◌else◌, Option, Some, None, unwrap_or}
 use Rattle.std.specs.Option.{option_and_then}
 use Rattle.and_model.specs.Lines.{Bytes}
+use Rattle.and_model.specs.declared.limits.TheConstants.{DEFAULT_LIMIT}
 use Rattle.and_command.specs.Options.{value_of}
 use Rattle.and_command.specs.declared.options.Name.{Name}
 use Rattle.and_command.specs.declared.options.Name.TheVariants.{Limit, Teams, Workers}
+use Rattle.and_command.specs.declared.forms.Form.{Form}
 use Rattle.and_command.specs.declared.given.Given.{Given}
 use Rattle.and_command.specs.declared.given.Settings.{Settings}
 
@@ -26,7 +28,7 @@ with Workers value g = option_and_then (λ v. Some (record g { workers = v })) (
 abbrev pub with_value : Name → Bytes → Given → Option Given
 with_value name word g = option_and_then (λ value. with name value g) (value_of name word)
 
--- the same, and the number of a demo, where there is none so far
+-- the same, and a number, where there is none so far
 abbrev pub with_number : ℕ → Given → Option Given
 with_number value g = option_and_then (λ v. Some (record g { number = v })) (first_given value g.number)
 
@@ -34,11 +36,19 @@ with_number value g = option_and_then (λ v. Some (record g { number = v })) (fi
 abbrev pub with_stats : Given → Option Given
 with_stats g = if g.stats then None else Some (record g { stats = true })
 
--- the settings: what was given, and else the defaults
-abbrev pub settings_of : Given → Settings
-settings_of g = record {
-  limit = unwrap_or g.limit 262144;
-  teams = unwrap_or g.teams 2;
-  workers = unwrap_or g.workers 2;
+-- the limit: what was given, and else the default
+abbrev pub limit_of : Given → ℕ
+limit_of g = unwrap_or g.limit DEFAULT_LIMIT
+
+-- how many teams, and workers in each, the form has where none are given
+abbrev pub hands_of : Form → ℕ
+hands_of form = unwrap_or form.hands 1
+
+-- the settings: what was given, and else the defaults of the form
+abbrev pub settings_of : Form → Given → Settings
+settings_of form g = record {
+  limit = limit_of g;
+  teams = unwrap_or g.teams (hands_of form);
+  workers = unwrap_or g.workers (hands_of form);
   stats = g.stats;
 }

@@ -1,4 +1,5 @@
 pub mod Commands
+pub mod Forms
 pub mod Given
 pub mod Options
 pub mod Reading

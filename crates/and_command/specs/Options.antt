@@ -48,7 +48,3 @@ number_in longest least most word =
 -- the value that a word gives an option: one to seven digits
 abbrev pub value_of : Name → Bytes → Option ℕ
 value_of name word = number_in 7 1 (most_of name) word
-
--- the number of a demo that a word writes: one or two digits
-abbrev pub demo_of : Bytes → Option ℕ
-demo_of word = number_in 2 0 64 word

@@ -3,7 +3,9 @@
 ghost use Rattle.std.specs.Prelude.{◌≡◌, None};
 ghost use Rattle.and_command.specs.Given as specs;
 
+use crate::forms::Form;
 use crate::options::{Name, value_of};
+use and_model::limits::DEFAULT_LIMIT;
 
 /// What bounds a run, and who works on it.
 #[derive(Clone, Copy, Debug, PartialEq, Eq)]
@@ -27,7 +29,7 @@ pub struct Given {
     pub teams: Option<u32>,
     /// The value of `--workers`.
     pub workers: Option<u32>,
-    /// The number of a demo.
+    /// The number of the command.
     pub number: Option<u32>,
     /// Whether `--stats` was given.
     pub stats: bool,
@@ -100,7 +102,7 @@ impl Given {
         self.with(name, value)
     }
 
-    /// These, and the number of a demo, where there is none so far.
+    /// These, and a number, where there is none so far.
     pub fn with_number(self, value: u32) -> Option<Given>
         ensures { result ≡ specs.with_number value self }
     {
@@ -146,14 +148,22 @@ impl Given {
         })
     }
 
-    /// The settings: what was given, and else the defaults.
-    pub fn settings(self) -> Settings
-        ensures { result ≡ specs.settings_of self }
+    /// The limit: what was given, and else the default.
+    pub fn limit(self) -> u32
+        ensures { result ≡ specs.limit_of self }
     {
+        self.limit.unwrap_or(DEFAULT_LIMIT)
+    }
+
+    /// The settings: what was given, and else the defaults of the form.
+    pub fn settings(self, form: Form) -> Settings
+        ensures { result ≡ specs.settings_of form self }
+    {
+        let hands = form.hands.unwrap_or(1);
         Settings {
-            limit: self.limit.unwrap_or(262_144),
-            teams: self.teams.unwrap_or(2),
-            workers: self.workers.unwrap_or(2),
+            limit: self.limit.unwrap_or(DEFAULT_LIMIT),
+            teams: self.teams.unwrap_or(hands),
+            workers: self.workers.unwrap_or(hands),
             stats: self.stats,
         }
     }

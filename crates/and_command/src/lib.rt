@@ -3,13 +3,11 @@
 //! Its user calls [`command_of`], and writes [`USAGE`] where the words are no command.
 #![tactic(auto)]
 
+pub mod forms;
 pub mod given;
 pub mod options;
 pub mod reading;
 
+pub use forms::USAGE;
 pub use given::Settings;
 pub use reading::{Command, command_of};
-
-/// What is written where the words are no command.
-pub const USAGE: &[u8] =
-    b"usage: andorra run [--limit N] [--teams T] [--workers W] [--stats] | andorra check | andorra demo N [--teams T] [--workers W]\n";

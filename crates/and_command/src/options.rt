@@ -59,7 +59,7 @@ fn are_digits(bytes: &[u8]) -> bool
 }
 
 /// The number that a word writes by digits alone, at most so many, where it is in the range.
-fn number_in(word: &str, longest: usize, least: u32, most: u32) -> Option<u32>
+pub fn number_in(word: &str, longest: usize, least: u32, most: u32) -> Option<u32>
     ensures { result ≡ specs.number_in longest least most word.now }
 {
     if longest < word.len() || !are_digits(word.as_bytes()) {
@@ -76,11 +76,4 @@ pub fn value_of(name: Name, word: &str) -> Option<u32>
     ensures { result ≡ specs.value_of name word.now }
 {
     number_in(word, 7, 1, name.most())
-}
-
-/// The number of a demo that a word writes.
-pub fn demo_of(word: &str) -> Option<u32>
-    ensures { result ≡ specs.demo_of word.now }
-{
-    number_in(word, 2, 0, 64)
 }

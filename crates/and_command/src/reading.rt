@@ -2,10 +2,11 @@
 
 ghost use Rattle.std.specs.Prelude.{◌≡◌, map, Some, None, IfSome, MatchOption, string_bytes};
 ghost use Rattle.and_command.specs.Reading as specs;
-ghost use Rattle.and_command.specs.Commands.{IsCommand, IsInRange};
+ghost use Rattle.and_command.specs.Commands.{IsCommand, IsInRange, made};
 
+use crate::forms::{Form, Kind, kind_named};
 use crate::given::{Given, Settings};
-use crate::options::{Name, demo_of, is_stats, name_of};
+use crate::options::Name;
 
 /// A command of the command line.
 #[derive(Clone, Copy, Debug, PartialEq, Eq)]
@@ -21,6 +22,20 @@ pub enum Command {
     Demo {
         /// The number.
         number: u32,
+        /// With these settings.
+        settings: Settings,
+    },
+    /// Read a text and tell why one of its answers is one.
+    Explain {
+        /// The place of the answer, from 1 on.
+        place: u32,
+        /// With these settings.
+        settings: Settings,
+    },
+    /// Read a text and tell its first answers.
+    First {
+        /// How many.
+        count: u32,
         /// With these settings.
         settings: Settings,
     },
@@ -44,45 +59,46 @@ fn closed(given: Given) -> Reading
 
 /// What stands before the first `=` of a word, and what stands behind it.
 fn cut(word: &str) -> Option<(&str, &str)>
-    ensures { MatchOption result (specs.cut word.now ≡ None) (λ parts. specs.cut word.now ≡ Some (parts.0.now, parts.1.now)) }
+    ensures { MatchOption result (specs.cut word.now ≡ None)
+        (λ parts. specs.cut word.now ≡ Some (parts.0.now, parts.1.now)) }
 {
     word.split_once('=')
 }
 
 /// Reads a word that is neither a value nor the name of an option: an option with its value.
-fn next_joined(given: Given, word: &str) -> Option<Reading>
-    ensures { result ≡ specs.next_joined given word.now }
+fn next_joined(form: Form, given: Given, word: &str) -> Option<Reading>
+    ensures { result ≡ specs.next_joined form given word.now }
 {
     let (name, value) = cut(word)?;
-    let name = name_of(name)?;
+    let name = form.option_of(name)?;
     let given = given.with_value(name, value)?;
     Some(closed(given))
 }
 
 /// Reads a word that is no value.
-fn next_fresh(given: Given, word: &str) -> Option<Reading>
-    ensures { result ≡ specs.next_fresh given word.now }
+fn next_fresh(form: Form, given: Given, word: &str) -> Option<Reading>
+    ensures { result ≡ specs.next_fresh form given word.now }
 {
-    if let Some(number) = demo_of(word) {
+    if let Some(number) = form.number_of(word) {
         let given = given.with_number(number)?;
         return Some(closed(given));
     }
-    if is_stats(word) {
+    if form.is_flag(word) {
         let given = given.with_stats()?;
         return Some(closed(given));
     }
-    if let Some(name) = name_of(word) {
+    if let Some(name) = form.option_of(word) {
         return Some(Reading {
             given,
             owed: Some(name),
         });
     }
-    next_joined(given, word)
+    next_joined(form, given, word)
 }
 
 /// Reads the next word.
-fn next(reading: Reading, word: &str) -> Option<Reading>
-    ensures { result ≡ specs.next reading word.now }
+fn next(form: Form, reading: Reading, word: &str) -> Option<Reading>
+    ensures { result ≡ specs.next form reading word.now }
 {
     let Reading { given, owed } = reading;
     match owed {
@@ -90,17 +106,17 @@ fn next(reading: Reading, word: &str) -> Option<Reading>
             let given = given.with_value(name, word)?;
             Some(closed(given))
         }
-        None => next_fresh(given, word),
+        None => next_fresh(form, given, word),
     }
 }
 
 /// Reads words to the end.
-fn read(words: &[String]) -> Option<Given>
-    ensures { result ≡ specs.read (map string_bytes words.now) }
+fn read(form: Form, words: &[String]) -> Option<Given>
+    ensures { result ≡ specs.read form (map string_bytes words.now) }
 {
     let mut reading = closed(Given::nothing());
     'reading: for word in words {
-        reading = next(reading, word)?;
+        reading = next(form, reading, word)?;
     }
     match reading.owed {
         None => Some(reading.given),
@@ -108,45 +124,40 @@ fn read(words: &[String]) -> Option<Given>
     }
 }
 
-/// The command with the words behind `run`.
-fn run_of(words: &[String]) -> Option<Command>
-    ensures { result ≡ specs.run_of (map string_bytes words.now) }
+/// The command of this kind with what was given.
+fn command_with(kind: Kind, given: Given) -> Option<Command>
+    ensures { result ≡ made kind given }
 {
-    let given = read(words)?;
-    match given.number {
-        None => Some(Command::Run {
-            settings: given.settings(),
-        }),
-        Some(_) => None,
+    let settings = given.settings(kind.form());
+    match kind {
+        Kind::Run => Some(Command::Run { settings }),
+        Kind::Check => Some(Command::Check),
+        Kind::Demo => {
+            let number = given.number?;
+            Some(Command::Demo { number, settings })
+        }
+        Kind::Explain => {
+            let place = given.number?;
+            Some(Command::Explain { place, settings })
+        }
+        Kind::First => {
+            let count = given.number?;
+            Some(Command::First { count, settings })
+        }
     }
 }
 
-/// The command with the words behind `demo`.
-fn demo_command_of(words: &[String]) -> Option<Command>
-    ensures { result ≡ specs.demo_of (map string_bytes words.now) }
+/// The command with these words.
+fn found(words: &[String]) -> Option<Command>
+    ensures { result ≡ specs.command_of (map string_bytes words.now) }
 {
-    let given = read(words)?;
-    if given.stats {
-        return None;
-    }
-    let number = given.number?;
-    match given.limit {
-        None => Some(Command::Demo {
-            number,
-            settings: given.settings(),
-        }),
-        Some(_) => None,
-    }
-}
-
-/// The command with the words behind `check`.
-fn check_of(words: &[String]) -> Option<Command>
-    ensures { result ≡ specs.check_of (map string_bytes words.now) }
-{
-    if words.is_empty() {
-        Some(Command::Check)
-    } else {
-        None
+    match words {
+        [first, rest @ ..] => {
+            let kind = kind_named(first)?;
+            let given = read(kind.form(), rest)?;
+            command_with(kind, given)
+        }
+        [] => None,
     }
 }
 
@@ -156,18 +167,5 @@ pub fn command_of(words: &[String]) -> Option<Command>
     ensures in_range { IfSome result IsInRange }
     ensures each { (command : Command) → IsCommand (map string_bytes words.now) command → result ≡ Some command }
 {
-    match words {
-        [first, rest @ ..] => {
-            if first.as_str() == "run" {
-                run_of(rest)
-            } else if first.as_str() == "check" {
-                check_of(rest)
-            } else if first.as_str() == "demo" {
-                demo_command_of(rest)
-            } else {
-                None
-            }
-        }
-        [] => None,
-    }
+    found(words)
 }

@@ -4,7 +4,9 @@ use crate::replies::typed;
 use and_gate::Gate;
 use and_io::{SureSink, SureSource};
 use and_model::Text;
+use and_reader::ReadRefusal;
 use and_rows::Untold;
+use and_top::Watcher;
 use and_top::top::andorra;
 use std::alloc::Global;
 use std::sync::{Condvar, CondvarTimeouts, Mutex, Wait};
@@ -83,6 +85,12 @@ impl<R: Wait + Clock + Sync> Gate for Holding<R> {
         let mut told = self.told.lock(&self.rt);
         told.published = true;
     }
+
+    fn found(&self, _team: u32) {}
+}
+
+impl<R> Watcher for Holding<R> {
+    fn refused(&self, _text: &[u8], _refusal: &ReadRefusal) {}
 }
 
 /// What is written for a text with these words, the status, and whether a second reduction came while the first was

@@ -2,7 +2,6 @@
 use Rattle.std.proofs.Common.{◌≡◌, ◌↔◌, refl, sym, subst, Result, Ok, Err, IfOk}
 use Rattle.and_model.specs.Lines.{Bytes}
 use Rattle.and_model.specs.Programs.{Program}
-use Rattle.and_language.specs.Refusals.{Reads}
 use Rattle.and_modes.specs.Modes.{Assignment, Wait, Greatest, IsSafe, WaitsFirst}
 use Rattle.and_modes.specs.Waiting.{told}
 use Rattle.and_modes.specs.declared.verdicts.Verdict.{Verdict}
@@ -27,17 +26,14 @@ has_clause P Safe is = tt
 has_clause P (Waits clause item variable) (m, greatest, first) = first.0.0
 
 -- what is told of a verdict is what its status says
-pub was_told : (P : Program) (v : Verdict) (status : Status) (bytes out : Bytes) → Reads bytes P → IsVerdict P v → out ≡ verdict_line P v
-    → status ≡ status_told v → WasChecked status bytes out
-was_told P Safe status bytes out reads (m, greatest, safe) is said =
-    subst (λ s. WasChecked s bytes out) (sym said)
-    (record { program = P; modes = m; reads = reads; greatest = greatest; safe = safe; written = is })
-was_told P (Waits clause item variable) status bytes out reads (m, greatest, first) is said =
-    subst (λ s. WasChecked s bytes out) (sym said) (record {
-      program = P;
+pub was_told : (P : Program) (v : Verdict) (status : Status) (out : Bytes) → IsVerdict P v → out ≡ verdict_line P v → status ≡ status_told v
+    → WasChecked P status out
+was_told P Safe status out (m, greatest, safe) is said =
+    subst (λ s. WasChecked P s out) (sym said) (record { modes = m; greatest = greatest; safe = safe; written = is })
+was_told P (Waits clause item variable) status out (m, greatest, first) is said =
+    subst (λ s. WasChecked P s out) (sym said) (record {
       modes = m;
       wait = wait_of clause.0 item variable;
-      reads = reads;
       greatest = greatest;
       first = first;
       written = is;

@@ -1,3 +1,5 @@
 pub mod CheckingLemmas
+pub mod ExplainLemmas
+pub mod ObeyLemmas
 pub mod ShowingLemmas
 pub mod TopLemmas

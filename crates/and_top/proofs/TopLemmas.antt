@@ -1,8 +1,10 @@
 -- From what the search found to what the top call says of it.
 use Rattle.std.proofs.Common.{ℕ, zero, suc, take, ◌≡◌, ◌≢◌, ◌<◌, ◌≤◌, ◌-◌, ◌^◌, min, Bool, true, false, if◌then◌else◌, List, [], ◌∷◌, ◌++◌}
 use Rattle.std.proofs.Common.{length, length-append, map, ◌||◌, refl, sym, ap, ◌∙◌, subst, arith, Option, Some, None, is_none, is_some}
-use Rattle.std.proofs.Common.{IfSome, unwrap_or, ◌+◌, ◌⊎◌, inl, inr, true≢false}
+use Rattle.std.proofs.Common.{IfSome, IfOk, Result, Ok, Err, ◌+◌, ◌⊎◌, inl, inr, true≢false}
+use Rattle.std.specs.Prelude.{nat_eq}
 use Rattle.std.specs.Fmt.{decimal}
+use Rattle.std.proofs.lemmas.Bool.Decides.{nat_tests}
 use Rattle.std.specs.List.{list_any}
 use Rattle.and_io.specs.Flow.{AreAll}
 use Rattle.and_io.specs.ReadAll.{ReadsUpTo, TookUpTo, TookAtMost}
@@ -10,33 +12,40 @@ use Rattle.and_io.specs.declared.reading.ReadAll.{ReadAll}
 use Rattle.and_io.specs.declared.reading.ReadAll.TheVariants as reads
 use Rattle.and_model.specs.Lines.{Bytes}
 use Rattle.and_model.specs.Programs.{Program}
-use Rattle.and_model.specs.Listing.{Entry}
+use Rattle.and_model.specs.Listing as listings
+use Rattle.and_model.specs.Listing.{Entry, Outcome}
 use Rattle.and_model.specs.Output.{Finish, limit_met, counted}
 use Rattle.and_model.specs.declared.goal
 use Rattle.and_answers.specs.Kept.{listed, entry_of, outcome_with, finish_with}
 use Rattle.and_answers.specs.declared.found.Entry as answers
 use Rattle.and_answers.specs.declared.found.Found.{Found}
-use Rattle.and_walk.specs.Found.{IsFound, IsEnd, kept_count}
-use Rattle.and_walk.specs.Found as walks
+use Rattle.and_search_laws.specs.Found.{IsFound, IsEnd, kept_count}
+use Rattle.and_search_laws.specs.Found as walks
 use Rattle.and_language.specs.Tokens.{newlines}
 use Rattle.and_language.specs.Refusals.{Reads, IsRefused, Refusal, at, too_big}
 use Rattle.and_syntax.specs.Tables.{source}
-use Rattle.and_command.specs.declared.given.Settings.{Settings}
 use Rattle.and_command.specs.declared.reading.Command.{Command}
-use Rattle.and_command.specs.declared.reading.Command.TheVariants as commands
+use Rattle.and_first.specs.First.{IsFirstOf}
+use Rattle.and_first.specs.First as firsts
+use Rattle.and_first.specs.declared.first.First as first_answers
+use Rattle.and_first.specs.declared.first.End.{End}
+use Rattle.and_first.specs.declared.first.End.TheVariants as ends
 use Rattle.and_top.specs.declared.status.Status.{Status}
 use Rattle.and_top.specs.declared.status.Status.TheVariants.{Answers, NoAnswer, Usage, Refused, ReadFault, WriteFault, Limit, Memory, Floundered}
 use Rattle.and_reader.specs.RefusalLine.{refusal_line}
 use Rattle.and_reader.proofs.Judgement.{read_not_refused}
+use Rattle.and_top.specs.Finding.{Finds}
 use Rattle.and_top.specs.Shown.{shown, completed, finish}
+use Rattle.and_top.specs.declared.answering.Reply.{Reply}
 use Rattle.and_top.specs.declared.question.Question.{Question}
-use Rattle.and_top.specs.declared.question.Question.TheVariants.{Run, Check}
+use Rattle.and_top.specs.declared.question.Question.TheVariants.{Run, Check, First, Explain}
 use Rattle.and_top.specs.declared.showing.Show.{Show}
 use Rattle.and_top.specs.declared.showing.Show.TheVariants.{Whole, Summary}
-use Rattle.and_top.specs.Top.{FindsAll, FindsSome, IsDemo, IsRefusedBy, WasRun, WasChecked, WasAnswered, IsBounded, Answered}
+use Rattle.and_top.specs.Top.{FindsAll, TellsFirst, first_status, status_seen, told_status, IsRefusedBy, WasRun, IsReply, WasReplied, WasAnswered, IsBounded}
+use Rattle.and_top.specs.Top.{Answered}
 use Rattle.and_top.specs.Top.{GivesAnswer, FailsWriting, GivesPrefix, Told, Took, IsRead}
 use Rattle.and_top.specs.Top.{AreAnswers, IsComplete, bytes_read, exhausted, is_floundered, has_floundered, status_for}
-use Rattle.and_model.specs.declared.limits.TheConstants.{DEFAULT_LIMIT, MAX_BYTES, MAX_LIMIT}
+use Rattle.and_model.specs.declared.limits.TheConstants.{MAX_BYTES, MAX_LIMIT}
 
 -- A count is written as the number that it was kept of.
 count_is : (n m : ℕ) → n ≡ kept_count m → counted n ≡ counted m
@@ -86,39 +95,37 @@ status_is None (e ∷ es) ls b none some is said =
     ap (λ (b : Bool). if b then Floundered else Answers) (said ∙ floundered_kept (e ∷ es)) ∙ ap exhausted is
 
 -- an exhausted search is answered by its listing
-exhausted_is : (show : Show) (limit : ℕ) (bytes out : Bytes) (ls : List Entry) (status : Status) → status ≡ exhausted ls
-    → ((lines : List Entry → Type 0) → lines ls → FindsAll show limit lines bytes out) → WasRun show limit status bytes out
-exhausted_is show limit bytes out [] status said finds =
-    subst (λ s. WasRun show limit s bytes out) (sym said) (finds (λ ls. ls ≡ []) refl)
-exhausted_is show limit bytes out (e ∷ es) status said finds = by (has_floundered (e ∷ es)) refl
+exhausted_is : (show : Show) (limit : ℕ) (P : Program) (out : Bytes) (ls : List Entry) (status : Status) → status ≡ exhausted ls
+    → ((lines : List Entry → Type 0) → lines ls → FindsAll show limit lines P out) → WasRun show limit P status out
+exhausted_is show limit P out [] status said finds =
+    subst (λ s. WasRun show limit P s out) (sym said) (finds (λ ls. ls ≡ []) refl)
+exhausted_is show limit P out (e ∷ es) status said finds = by (has_floundered (e ∷ es)) refl
   where
     Says : Status → Type 0
-    Says s = WasRun show limit s bytes out
+    Says s = WasRun show limit P s out
 
     by : (b : Bool) → has_floundered (e ∷ es) ≡ b → Says status
     by true is = subst Says (sym (said ∙ ap (λ b. if b then Floundered else Answers) is)) (finds (λ ls. has_floundered ls ≡ true) is)
     by false is = subst Says (sym (said ∙ ap (λ b. if b then Floundered else Answers) is)) (finds AreAnswers ((λ q. cc), is))
 
 -- what was found is answered by what is written of it, and the status goes with that
-pub replied : (show : Show) (limit : ℕ) (P : Program) (f : Found) (status : Status) (bytes out : Bytes) → Reads bytes P → IsFound P limit f
-    → out ≡ shown show (listed f) (finish show f) → status ≡ status_for f.cut (listed f) → WasRun show limit status bytes out
-replied show limit P f status bytes out reads found is said = by f.cut refl
+pub was_run : (show : Show) (limit : ℕ) (P : Program) (f : Found) (status : Status) (out : Bytes) → IsFound P limit f
+    → out ≡ shown show (listed f) (finish show f) → status ≡ status_for f.cut (listed f) → WasRun show limit P status out
+was_run show limit P f status out found is said = by f.cut refl
   where
     ls : List Entry
     ls = listed f
 
-    by : (o : Option goal.Cut.Cut) → f.cut ≡ o → WasRun show limit status bytes out
+    by : (o : Option goal.Cut.Cut) → f.cut ≡ o → WasRun show limit P status out
     by None at =
         let end : walks.IsComplete P limit f = subst (IsEnd P limit f) at found.end in
         let ends : finish show f ≡ completed show f.forks f.failed =
         finish_is show f ∙ ap (λ o. finish_at show o f.forks f.failed) at ∙ finish_none show f.forks f.failed in
-        exhausted_is show limit bytes out ls status (said ∙ ap (λ o. status_for o ls) at)
+        exhausted_is show limit P out ls status (said ∙ ap (λ o. status_for o ls) at)
         (λ lines has. record {
-          program = P;
           listing = ls;
           forks = end.forks;
           failed = end.failed;
-          reads = reads;
           lists = found.listing;
           exhausted = end.exhausted;
           numbers = end.numbers;
@@ -129,32 +136,128 @@ replied show limit P f status bytes out reads found is said = by f.cut refl
         let end : IsEnd P limit f (Some cut) = subst (IsEnd P limit f) at found.end in
         let ends : finish show f ≡ limit_met =
         finish_is show f ∙ ap (λ o. finish_at show o f.forks f.failed) at ∙ finish_cut show cut f.forks f.failed in
-        subst (λ s. WasRun show limit s bytes out) (sym (said ∙ ap (λ o. status_for o ls) at)) (record {
-          program = P;
+        subst (λ s. WasRun show limit P s out) (sym (said ∙ ap (λ o. status_for o ls) at)) (record {
           listing = ls;
           cut = end.0;
-          reads = reads;
           lists = found.listing;
           over = end.2;
           written = is ∙ ap (shown show ls) ends;
         })
 
--- under these statuses no text is answered with anything
-no_usage : (question : Question) (bytes out : Bytes) → WasAnswered question Usage bytes out → ⊥
-no_usage (Run show limit) bytes out w = w
-no_usage Check bytes out w = w
+-- whoever finds all finds what is wanted
+pub found_wanted : {E : Type 0} (P : Program) (limit : ℕ) (wanted : Option ℕ) (r : Result Found E) → IfOk r (IsFound P limit)
+    → IfOk r (Finds P limit wanted)
+found_wanted P limit None (Ok found) is = is
+found_wanted P limit (Some count) (Ok found) is = inl is
+found_wanted P limit wanted (Err e) is = tt
 
-no_read_fault : (question : Question) (bytes out : Bytes) → WasAnswered question ReadFault bytes out → ⊥
-no_read_fault (Run show limit) bytes out w = w
-no_read_fault Check bytes out w = w
+-- entries are floundered where the first answers say so
+same_floundered : (o : Outcome) → firsts.is_floundered o ≡ is_floundered o
+same_floundered (listings.answer text) = refl
+same_floundered (listings.floundered text) = refl
 
-no_write_fault : (question : Question) (bytes out : Bytes) → WasAnswered question WriteFault bytes out → ⊥
-no_write_fault (Run show limit) bytes out w = w
-no_write_fault Check bytes out w = w
+first_floundered : (es : List Entry) → list_any (λ (e : Entry). firsts.is_floundered e.outcome) es ≡ has_floundered es
+first_floundered [] = refl
+first_floundered (e ∷ es) =
+    ap (λ (b : Bool). b || list_any (λ (e : Entry). firsts.is_floundered e.outcome) es) (same_floundered e.outcome)
+    ∙ ap (λ (b : Bool). is_floundered e.outcome || b) (first_floundered es)
 
-no_memory : (question : Question) (bytes out : Bytes) → WasAnswered question Memory bytes out → ⊥
-no_memory (Run show limit) bytes out w = w
-no_memory Check bytes out w = w
+-- the status of first answers, as it is found by a look at them
+some_lines : (n : ℕ) → nat_eq (suc n) 0 ≡ false
+some_lines n = grind (arith, nat_tests)
+
+seen_is : (end : End) (es : List Entry) → status_seen end (length es) (has_floundered es) ≡ first_status end es
+seen_is (ends.Within step) es = refl
+seen_is ends.Complete [] = refl
+seen_is ends.Complete (e ∷ es) =
+    ap (λ (b : Bool). if b then NoAnswer else told_status (has_floundered (e ∷ es))) (some_lines (length es))
+seen_is ends.LimitMet es = refl
+
+-- the first answers are told, and the status goes with them
+pub tells_first : (count limit : ℕ) (P : Program) (first : first_answers.First) (status : Status) → IsFirstOf P limit count first
+    → status ≡ status_seen first.end first.lines first.floundered → TellsFirst count limit P status first.text
+tells_first count limit P first status is said = record {
+  told = is.told;
+  ending = first.end;
+  is_told = is.is_told;
+  written = is.text;
+  status_is = said
+      ∙ ap (λ n. status_seen first.end n first.floundered) is.lines
+      ∙ ap (status_seen first.end (length is.told)) (is.floundered ∙ first_floundered is.told)
+      ∙ seen_is first.end is.told;
+}
+
+-- A status under which no program is answered.
+is_bad : Status → Bool
+is_bad Usage = true
+is_bad Refused = true
+is_bad ReadFault = true
+is_bad WriteFault = true
+is_bad Memory = true
+is_bad other = false
+
+told_not_bad : (b : Bool) → is_bad (if b then Floundered else Answers) ≡ false
+unfolding is_bad
+told_not_bad true = refl
+told_not_bad false = refl
+
+never_bad : (end : End) (es : List Entry) → is_bad (first_status end es) ≡ false
+unfolding is_bad
+never_bad (ends.Within step) es = told_not_bad (has_floundered es)
+never_bad ends.Complete [] = refl
+never_bad ends.Complete (e ∷ es) = told_not_bad (has_floundered (e ∷ es))
+never_bad ends.LimitMet es = refl
+
+not_bad : (question : Question) (bytes : Bytes) (P : Program) (status : Status) (out : Bytes) → is_bad status ≡ true → IsReply question bytes P status out → ⊥
+unfolding is_bad
+not_bad (Run show limit) bytes P Usage out bad w = w
+not_bad (Run show limit) bytes P Refused out bad w = w
+not_bad (Run show limit) bytes P ReadFault out bad w = w
+not_bad (Run show limit) bytes P WriteFault out bad w = w
+not_bad (Run show limit) bytes P Memory out bad w = w
+not_bad (Run show limit) bytes P Answers out bad w = true≢false (sym bad)
+not_bad (Run show limit) bytes P NoAnswer out bad w = true≢false (sym bad)
+not_bad (Run show limit) bytes P Floundered out bad w = true≢false (sym bad)
+not_bad (Run show limit) bytes P Limit out bad w = true≢false (sym bad)
+not_bad Check bytes P Usage out bad w = w
+not_bad Check bytes P Refused out bad w = w
+not_bad Check bytes P ReadFault out bad w = w
+not_bad Check bytes P WriteFault out bad w = w
+not_bad Check bytes P Memory out bad w = w
+not_bad Check bytes P Answers out bad w = true≢false (sym bad)
+not_bad Check bytes P NoAnswer out bad w = true≢false (sym bad)
+not_bad Check bytes P Floundered out bad w = true≢false (sym bad)
+not_bad Check bytes P Limit out bad w = true≢false (sym bad)
+not_bad (Explain place limit) bytes P Usage out bad w = w
+not_bad (Explain place limit) bytes P Refused out bad w = w
+not_bad (Explain place limit) bytes P ReadFault out bad w = w
+not_bad (Explain place limit) bytes P WriteFault out bad w = w
+not_bad (Explain place limit) bytes P Memory out bad w = w
+not_bad (Explain place limit) bytes P Answers out bad w = true≢false (sym bad)
+not_bad (Explain place limit) bytes P NoAnswer out bad w = true≢false (sym bad)
+not_bad (Explain place limit) bytes P Floundered out bad w = true≢false (sym bad)
+not_bad (Explain place limit) bytes P Limit out bad w = true≢false (sym bad)
+not_bad (First count limit) bytes P status out bad w =
+    true≢false (sym bad ∙ ap is_bad w.status_is ∙ never_bad w.ending w.told)
+
+-- what a program is answered with is what its text is
+replied : (question : Question) (P : Program) (status : Status) (bytes out : Bytes) → Reads bytes P → IsReply question bytes P status out
+    → WasAnswered question status bytes out
+unfolding is_bad
+replied question P Answers bytes out reads w = (P, reads, w)
+replied question P NoAnswer bytes out reads w = (P, reads, w)
+replied question P Floundered bytes out reads w = (P, reads, w)
+replied question P Limit bytes out reads w = (P, reads, w)
+replied question P Usage bytes out reads w = absurd (not_bad question bytes P Usage out refl w)
+replied question P Refused bytes out reads w = absurd (not_bad question bytes P Refused out refl w)
+replied question P ReadFault bytes out reads w = absurd (not_bad question bytes P ReadFault out refl w)
+replied question P WriteFault bytes out reads w = absurd (not_bad question bytes P WriteFault out refl w)
+replied question P Memory bytes out reads w = absurd (not_bad question bytes P Memory out refl w)
+
+pub answered_by : {E : Type 0} (question : Question) (P : Program) (r : Result Reply E) (bytes : Bytes) → Reads bytes P
+    → IfOk r (λ reply. IsReply question bytes P reply.status reply.text) → IfOk r (λ reply. WasAnswered question reply.status bytes reply.text)
+answered_by question P (Ok reply) bytes reads w = replied question P reply.status bytes reply.text reads w
+answered_by question P (Err e) bytes reads w = tt
 
 module _ (question : Question) (old new bytes out : Bytes) where
   -- where an answer was written, so it is
@@ -162,12 +265,12 @@ module _ (question : Question) (old new bytes out : Bytes) where
       → Answered question old new status bytes × (status ≢ ReadFault)
   was_written Answers w g = ((out, w, g), λ e. cc)
   was_written NoAnswer w g = ((out, w, g), λ e. cc)
-  was_written Usage w g = absurd (no_usage question bytes out w)
+  was_written Usage w g = absurd w
   was_written Refused w g = ((out, w, g), λ e. cc)
-  was_written ReadFault w g = absurd (no_read_fault question bytes out w)
-  was_written WriteFault w g = absurd (no_write_fault question bytes out w)
+  was_written ReadFault w g = absurd w
+  was_written WriteFault w g = absurd w
   was_written Limit w g = ((out, w, g), λ e. cc)
-  was_written Memory w g = absurd (no_memory question bytes out w)
+  was_written Memory w g = absurd w
   was_written Floundered w g = ((out, w, g), λ e. cc)
 
   -- the reply was written, or a prefix of it
@@ -197,42 +300,12 @@ module _ (question : Question) (old new bytes out : Bytes) where
 pub bounded : (question : Question) (show : Show) (limit : ℕ) → question ≡ Run show limit → limit ≤ MAX_LIMIT → IsBounded question
 bounded question show limit is small = subst IsBounded (sym is) small
 
--- a demo has the default limit
-pub default_limit : (words : List Bytes) (n : ℕ) (settings : Settings) → IsDemo words n settings → settings.limit ≡ DEFAULT_LIMIT
-default_limit words n settings (rest, g, said, gives, number, limit, plain, is) =
-    ap (λ (s : Settings). s.limit) is ∙ ap (λ (l : Option ℕ). unwrap_or l 262144) limit
-
 -- words are those of one command
-module _ (o : Option Command) (r : Command) where
-  pub same_run : (a b : Settings) → o ≡ Some r → r ≡ commands.Run a → o ≡ Some (commands.Run b) → a ≡ b
-  same_run a b e f h = cc
+pub same_command : (o : Option Command) (r command : Command) → o ≡ Some r → o ≡ Some command → r ≡ command
+same_command o r command e f = cc
 
-  pub same_settings : (n m : ℕ) (a b : Settings) → o ≡ Some r → r ≡ commands.Demo n a → o ≡ Some (commands.Demo m b) → a ≡ b
-  same_settings n m a b e f h = cc
-
-  pub same_number : (n m : ℕ) (a b : Settings) → o ≡ Some r → r ≡ commands.Demo n a → o ≡ Some (commands.Demo m b) → n ≡ m
-  same_number n m a b e f h = cc
-
-  pub run_is_no_demo : (m : ℕ) (a b : Settings) → o ≡ Some r → r ≡ commands.Run a → o ≡ Some (commands.Demo m b) → ⊥
-  run_is_no_demo m a b e f h = cc
-
-  pub run_is_no_check : (a : Settings) → o ≡ Some r → r ≡ commands.Run a → o ≡ Some commands.Check → ⊥
-  run_is_no_check a e f h = cc
-
-  pub check_is_no_run : (b : Settings) → o ≡ Some r → r ≡ commands.Check → o ≡ Some (commands.Run b) → ⊥
-  check_is_no_run b e f h = cc
-
-  pub check_is_no_demo : (m : ℕ) (b : Settings) → o ≡ Some r → r ≡ commands.Check → o ≡ Some (commands.Demo m b) → ⊥
-  check_is_no_demo m b e f h = cc
-
-  pub demo_is_no_check : (n : ℕ) (a : Settings) → o ≡ Some r → r ≡ commands.Demo n a → o ≡ Some commands.Check → ⊥
-  demo_is_no_check n a e f h = cc
-
-  pub demo_is_no_run : (n : ℕ) (a b : Settings) → o ≡ Some r → r ≡ commands.Demo n a → o ≡ Some (commands.Run b) → ⊥
-  demo_is_no_run n a b e f h = cc
-
-  pub no_command : o ≡ None → o ≡ Some r → ⊥
-  no_command e f = cc
+pub no_command : (o : Option Command) (command : Command) → o ≡ None → o ≡ Some command → ⊥
+no_command o command e f = cc
 
 -- How to use the program was written, or a part of it.
 pub usage_told : (A B : Type 0) (result : Status) → (result ≢ WriteFault → (result ≡ Usage) × A) → (result ≡ WriteFault → B)
@@ -266,14 +339,10 @@ never_refused show limit old new P bytes status reads answered e =
     read_not_refused bytes P refusal.1.0 reads refusal.1.1
 
 -- The line of a refusal that is not for want of memory.
-pub refused_by : (o : Option Refusal) (bytes out : Bytes) → IfSome o (IsRefused bytes) → IfSome o (λ r. out ≡ refusal_line r) → is_none o ≡ false → IsRefusedBy bytes out
+pub refused_by : (o : Option Refusal) (bytes out : Bytes) → IfSome o (IsRefused bytes) → IfSome o (λ r. out ≡ refusal_line r) → is_none o ≡ false
+    → IsRefusedBy bytes out
 refused_by None bytes out a b e = absurd cc
 refused_by (Some r) bytes out a b e = (r, a, b)
-
--- the line of a refusal is written whatever a text is asked for
-pub refused_for : (question : Question) (bytes out : Bytes) → IsRefusedBy bytes out → WasAnswered question Refused bytes out
-refused_for (Run show limit) bytes out is = is
-refused_for Check bytes out is = is
 
 -- Of a text that is larger than the largest, the first bytes beyond that tell as much as the whole.
 module _ (bytes text rest : Bytes) (joined : bytes ≡ text ++ rest) (large : MAX_BYTES < length text) where
@@ -283,7 +352,8 @@ module _ (bytes text rest : Bytes) (joined : bytes ≡ text ++ rest) (large : MA
   taken (suc n) (x ∷ xs) ys h = ap (λ zs. x ∷ zs) (taken n xs ys (omega arith))
 
   same_refusal : (r : Refusal) → IsRefused text r → r ≡ at bytes MAX_BYTES (too_big source)
-  same_refusal r (IsRefused.too_long h) = ap (λ zs. record { cause = too_big source; line = suc (newlines zs) }) (sym (taken MAX_BYTES text rest large) ∙ ap (take MAX_BYTES) (sym joined))
+  same_refusal r (IsRefused.too_long h) =
+      ap (λ zs. record { cause = too_big source; line = suc (newlines zs) }) (sym (taken MAX_BYTES text rest large) ∙ ap (take MAX_BYTES) (sym joined))
   same_refusal r (IsRefused.at_word ws p a c h x y z) = absurd (omega (arith, h))
   same_refusal r (IsRefused.at_clause ws us a T s f h x y z u) = absurd (omega (arith, h))
   same_refusal r (IsRefused.at_token ws f h x y) = absurd (omega (arith, h))
@@ -300,42 +370,28 @@ module _ (bytes text rest : Bytes) (joined : bytes ≡ text ++ rest) (large : MA
   no_program : (P : Program) → Reads text P → ⊥
   no_program P r = let s = r.size in omega (arith, large, s)
 
-  run_same : (show : Show) (limit : ℕ) (status : Status) (out : Bytes) → WasRun show limit status text out
-      → WasRun show limit status bytes out
-  run_same show limit Answers out w = absurd (no_program w.program w.reads)
-  run_same show limit NoAnswer out w = absurd (no_program w.program w.reads)
-  run_same show limit Usage out w = w
-  run_same show limit Refused out w = same_line out w
-  run_same show limit ReadFault out w = w
-  run_same show limit WriteFault out w = w
-  run_same show limit Limit out w = absurd (no_program w.program w.reads)
-  run_same show limit Memory out w = w
-  run_same show limit Floundered out w = absurd (no_program w.program w.reads)
+  same_reply : (question : Question) (status : Status) (out : Bytes) → WasReplied question status text out → WasReplied question status bytes out
+  same_reply question status out (P, reads, w) = absurd (no_program P reads)
 
-  check_same : (status : Status) (out : Bytes) → WasChecked status text out → WasChecked status bytes out
-  check_same Answers out w = absurd (no_program w.program w.reads)
-  check_same NoAnswer out w = absurd (no_program w.program w.reads)
-  check_same Usage out w = w
-  check_same Refused out w = same_line out w
-  check_same ReadFault out w = w
-  check_same WriteFault out w = w
-  check_same Limit out w = w
-  check_same Memory out w = w
-  check_same Floundered out w = w
-
-  same_reply : (question : Question) (status : Status) (out : Bytes) → WasAnswered question status text out
-      → WasAnswered question status bytes out
-  same_reply (Run show limit) status out w = run_same show limit status out w
-  same_reply Check status out w = check_same status out w
+  same_due : (question : Question) (status : Status) (out : Bytes) → WasAnswered question status text out → WasAnswered question status bytes out
+  same_due question Answers out w = same_reply question Answers out w
+  same_due question NoAnswer out w = same_reply question NoAnswer out w
+  same_due question Usage out w = w
+  same_due question Refused out w = same_line out w
+  same_due question ReadFault out w = w
+  same_due question WriteFault out w = w
+  same_due question Limit out w = same_reply question Limit out w
+  same_due question Memory out w = w
+  same_due question Floundered out w = same_reply question Floundered out w
 
   pub same_answer : (question : Question) (old new : Bytes) (status : Status) → Answered question old new status text
       → Answered question old new status bytes
   same_answer question old new Answers (out, w, g) = (out, same_reply question Answers out w, g)
   same_answer question old new NoAnswer (out, w, g) = (out, same_reply question NoAnswer out w, g)
   same_answer question old new Usage a = a
-  same_answer question old new Refused (out, w, g) = (out, same_reply question Refused out w, g)
+  same_answer question old new Refused (out, w, g) = (out, same_line out w, g)
   same_answer question old new ReadFault a = a
-  same_answer question old new WriteFault (status, due, w, g) = (status, due, same_reply question status due w, g)
+  same_answer question old new WriteFault (status, due, w, g) = (status, due, same_due question status due w, g)
   same_answer question old new Limit (out, w, g) = (out, same_reply question Limit out w, g)
   same_answer question old new Memory a = a
   same_answer question old new Floundered (out, w, g) = (out, same_reply question Floundered out w, g)
@@ -381,40 +437,18 @@ complete_is status c = elim c [
 ]
 
 -- With such a status a text is answered that reads as a program.
-was_read : (question : Question) (status : Status) (bytes out : Bytes) → is_complete status ≡ true → WasAnswered question status bytes out
-    → (P : Program) × Reads bytes P
-unfolding is_complete
-was_read (Run show limit) Answers bytes out c w = (w.program, w.reads)
-was_read (Run show limit) NoAnswer bytes out c w = (w.program, w.reads)
-was_read (Run show limit) Usage bytes out c w = absurd w
-was_read (Run show limit) Refused bytes out c w = absurd (true≢false (sym c))
-was_read (Run show limit) ReadFault bytes out c w = absurd w
-was_read (Run show limit) WriteFault bytes out c w = absurd w
-was_read (Run show limit) Limit bytes out c w = (w.program, w.reads)
-was_read (Run show limit) Memory bytes out c w = absurd w
-was_read (Run show limit) Floundered bytes out c w = (w.program, w.reads)
-was_read Check Answers bytes out c w = (w.program, w.reads)
-was_read Check NoAnswer bytes out c w = (w.program, w.reads)
-was_read Check Usage bytes out c w = absurd w
-was_read Check Refused bytes out c w = absurd (true≢false (sym c))
-was_read Check ReadFault bytes out c w = absurd w
-was_read Check WriteFault bytes out c w = absurd w
-was_read Check Limit bytes out c w = absurd w
-was_read Check Memory bytes out c w = absurd w
-was_read Check Floundered bytes out c w = absurd w
-
 answered_reads : (question : Question) (old new bytes : Bytes) (status : Status) → is_complete status ≡ true → Answered question old new status bytes
     → (P : Program) × Reads bytes P
 unfolding is_complete
-answered_reads question old new bytes Answers c (out, w, g) = was_read question Answers bytes out c w
-answered_reads question old new bytes NoAnswer c (out, w, g) = was_read question NoAnswer bytes out c w
+answered_reads question old new bytes Answers c (out, (P, reads, w), g) = (P, reads)
+answered_reads question old new bytes NoAnswer c (out, (P, reads, w), g) = (P, reads)
 answered_reads question old new bytes Usage c a = absurd a
 answered_reads question old new bytes Refused c a = absurd (true≢false (sym c))
 answered_reads question old new bytes ReadFault c a = absurd (true≢false (sym c))
 answered_reads question old new bytes WriteFault c a = absurd (true≢false (sym c))
-answered_reads question old new bytes Limit c (out, w, g) = was_read question Limit bytes out c w
+answered_reads question old new bytes Limit c (out, (P, reads, w), g) = (P, reads)
 answered_reads question old new bytes Memory c a = absurd (true≢false (sym c))
-answered_reads question old new bytes Floundered c (out, w, g) = was_read question Floundered bytes out c w
+answered_reads question old new bytes Floundered c (out, (P, reads, w), g) = (P, reads)
 
 -- A complete answer is to all that the source had.
 pub to_the_end : (question : Question) (old new : Bytes) (left rest : Option Bytes) (before after : Bytes) (ended : Type 0) (read : ReadAll) (status : Status)

@@ -6,7 +6,6 @@ use Rattle.and_model.specs.Programs.{Program, clause_at}
 use Rattle.and_modes.specs.Modes.{Assignment, Wait, Greatest, IsSafe, WaitsFirst}
 use Rattle.and_modes.specs.declared.verdicts.Verdict.{Verdict}
 use Rattle.and_modes.specs.declared.verdicts.Verdict.TheVariants.{Safe, Waits}
-use Rattle.and_language.specs.Refusals.{Reads}
 
 -- the line that says that nothing waits
 abbrev pub safe_line : Bytes
@@ -18,21 +17,17 @@ waits_line P w =
     let k = clause_at P w.clause in
     codes "waits: line " ++ decimal k.line ++ codes ": " ++ get_or k.written w.variable [] ++ 10 ∷ []
 
--- The bytes are a program's text, no variable of it waits under the greatest modes, and this is written.
-pub record IsToldSafe (bytes out : Bytes) : Type 0 where
-  pub program : Program
+-- No variable of the program waits under the greatest modes, and this is written.
+pub record IsToldSafe (program : Program) (out : Bytes) : Type 0 where
   pub modes : Assignment
-  pub reads : Reads bytes program
   pub greatest : Greatest program modes
   pub safe : IsSafe program modes
   pub written : out ≡ safe_line
 
--- The bytes are a program's text, this is the first variable of it that waits under the greatest modes, and it is named.
-pub record IsToldWaiting (bytes out : Bytes) : Type 0 where
-  pub program : Program
+-- This is the first variable of the program that waits under the greatest modes, and it is named.
+pub record IsToldWaiting (program : Program) (out : Bytes) : Type 0 where
   pub modes : Assignment
   pub wait : Wait
-  pub reads : Reads bytes program
   pub greatest : Greatest program modes
   pub first : WaitsFirst program modes wait
   pub written : out ≡ waits_line program wait

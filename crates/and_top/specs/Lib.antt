@@ -1,3 +1,5 @@
+pub mod Explained
+pub mod Finding
 pub mod Shown
 pub mod Checked
 pub mod Top

@@ -4,27 +4,35 @@ use Rattle.and_io.specs.Flow.{Rose, AreAll}
 use Rattle.and_io.specs.declared.outside.Sink as sinks
 use Rattle.and_io.specs.declared.outside.Source as sources
 use Rattle.and_model.specs.Lines.{Bytes}
-use Rattle.and_command.specs.declared.given.Settings.{Settings}
+use Rattle.and_command.specs.Forms.{usage}
+use Rattle.and_command.specs.Commands.{IsCommand}
+use Rattle.and_command.specs.declared.reading.Command.{Command}
+use Rattle.and_command.specs.declared.reading.Command.TheVariants as commands
 use Rattle.and_gen.specs.Layered.{layered}
 use Rattle.and_model.specs.declared.limits.TheConstants.{DEFAULT_LIMIT}
-use Rattle.and_top.specs.Top.{IsRun, IsCheck, IsDemo, IsUsage, Answered, GivesPrefix, IsComplete, Took, Told, usage}
+use Rattle.and_top.specs.Top.{IsUsage, Answered, GivesPrefix, IsComplete, Took, Told}
 use Rattle.and_top.specs.declared.question.Question.{Question}
-use Rattle.and_top.specs.declared.question.Question.TheVariants.{Run, Check}
+use Rattle.and_top.specs.declared.question.Question.TheVariants.{Run, Check, First, Explain}
 use Rattle.and_top.specs.declared.showing.Show.TheVariants.{Whole, Summary}
 use Rattle.and_top.specs.declared.status.Status.{Status}
 use Rattle.and_top.specs.declared.status.Status.TheVariants.{Usage, Refused, ReadFault, WriteFault, Memory}
 
--- A call on a source, from this state to that, and on a sink, from this state to that; and the status with which it returns.
-module _ {S K : Type 0} (from : sources.Ghosts S) (to : sinks.Ghosts K) (status : Status) (source rest : S) (sink more : K) where
-  -- The text that the source gave is answered, and so is all that was left, where it told that. A complete answer is to all of it.
+-- A call on a source, from this state to that, and on a sink, from this state to that; and the status with which it
+-- returns.
+module _ {S K : Type 0} (from : sources.Ghosts S) (to : sinks.Ghosts K) (status : Status) (source rest : S)
+    (sink more : K) where
+  -- The text that the source gave is answered, and so is all that was left, where it told that. A complete answer is
+  -- to all of it.
   pub record AnswersText (question : Question) : Type 0 where
-    pub answered : Took (from.taken source) (from.taken rest) (from.ended rest) status (Answered question (to.given sink) (to.given more) status)
+    pub answered : Took (from.taken source) (from.taken rest) (from.ended rest) status
+        (Answered question (to.given sink) (to.given more) status)
     pub told : Told (from.left source) (Answered question (to.given sink) (to.given more) status)
     pub read_whole : IsComplete status → from.ended rest × AreAll (from.left rest) []
 
   -- nothing was read
   abbrev pub IsUnread : Type 0
-  IsUnread = (from.taken rest ≡ from.taken source) × (from.left rest ≡ from.left source) × (from.faults rest ≡ from.faults source)
+  IsUnread = (from.taken rest ≡ from.taken source) × (from.left rest ≡ from.left source)
+      × (from.faults rest ≡ from.faults source)
 
   -- The generated text of a number is answered by a summary, and nothing is read.
   pub record AnswersDemo (number : ℕ) : Type 0 where
@@ -34,17 +42,25 @@ module _ {S K : Type 0} (from : sources.Ghosts S) (to : sinks.Ghosts K) (status 
 
   -- Which of the two is to blame for a fault.
   pub record Blames : Type 0 where
-    pub read_fault : status ≡ ReadFault → Rose from.last (from.faults source) (from.faults rest) × (to.given more ≡ to.given sink)
+    pub read_fault : status ≡ ReadFault → Rose from.last (from.faults source) (from.faults rest)
+        × (to.given more ≡ to.given sink)
     pub write_fault : status ≡ WriteFault → Rose to.last (to.faults sink) (to.faults more)
     pub memory : status ≡ Memory → to.given more ≡ to.given sink
     pub source_count : from.faults source ≤ from.faults rest
     pub sink_count : to.faults sink ≤ to.faults more
 
+  -- What is done for a command.
+  abbrev pub Does : Command → Type 0
+  Does (commands.Run settings) = AnswersText (Run (Whole settings.stats) settings.limit)
+  Does commands.Check = AnswersText Check
+  Does (commands.Demo number settings) = AnswersDemo number
+  Does (commands.Explain place settings) = AnswersText (Explain place settings.limit)
+  Does (commands.First count settings) = AnswersText (First count settings.limit)
+
   -- What is done with these words.
   pub record Obeys (words : List Bytes) : Type 0 where
-    pub run : (settings : Settings) → IsRun words settings → AnswersText (Run (Whole settings.stats) settings.limit)
-    pub check : IsCheck words → AnswersText Check
-    pub demo : (number : ℕ) (settings : Settings) → IsDemo words number settings → AnswersDemo number
+    pub obeyed : (command : Command) → IsCommand words command → Does command
     pub usage_only : status ≡ Usage → IsUsage words × (to.given more ≡ to.given sink ++ usage)
-    pub used : IsUsage words → ((status ≡ Usage) ⊎ ((status ≡ WriteFault) × GivesPrefix (to.given sink) (to.given more) usage)) × IsUnread
+    pub used : IsUsage words
+        → ((status ≡ Usage) ⊎ ((status ≡ WriteFault) × GivesPrefix (to.given sink) (to.given more) usage)) × IsUnread
     pub blame : Blames

@@ -27,12 +27,14 @@ first_and_last (line ∷ lines) = codes "first " ++ line ++ codes "\nlast " ++ l
 abbrev pub counted_lines : List Bytes → Bytes
 counted_lines lines = codes "lines " ++ decimal (length lines) ++ codes "\n" ++ first_and_last lines
 
--- What is written of a listing, and of how the run ended: all lines or the summary of them, and then the last line or two.
+-- What is written of a listing, and of how the run ended: all lines or the summary of them, and then the last line or
+-- two.
 abbrev pub shown : Show → List Entry → Finish → Bytes
 shown (Whole stats) ls finish = lines_of ls ++ last_lines finish
 shown Summary ls finish = counted_lines (entry_lines ls) ++ last_lines finish
 
--- how a run ends that is complete, with these numbers of forks and of failed branches: they are told where that is asked for
+-- how a run ends that is complete, with these numbers of forks and of failed branches: they are told where that is
+-- asked for
 abbrev pub completed : Show → ℕ → ℕ → Finish
 completed (Whole stats) forks failed = if stats then complete_with forks failed else complete
 completed Summary forks failed = complete

@@ -1,12 +1,13 @@
 -- What the statuses of the top call say of the bytes that were read and written (this project's own).
-use Rattle.std.specs.Prelude.{ℕ, ◌≡◌, ◌≢◌, ◌<◌, ◌≤◌, ◌⊎◌, ◌+◌, Bool, true, false, if◌then◌else◌, List, [], ◌∷◌, ◌++◌, length, take, Option, Some}
-use Rattle.std.specs.Prelude.{None, codes}
+use Rattle.std.specs.Prelude.{ℕ, nat_eq, ◌≡◌, ◌≢◌, ◌<◌, ◌≤◌, ◌⊎◌, ◌+◌, Bool, true, false, if◌then◌else◌, List, []}
+use Rattle.std.specs.Prelude.{◌∷◌, ◌++◌}
+use Rattle.std.specs.Prelude.{length, take, Option, Some, None}
 use Rattle.std.specs.List.{list_any}
 use Rattle.and_model.specs.Limits.{Cut, OverLimit}
 use Rattle.and_model.specs.Lines.{Bytes}
 use Rattle.and_model.specs.Listing as listings
 use Rattle.and_model.specs.Listing.{Entry, Outcome, Listing, Exhausted}
-use Rattle.and_model.specs.Output.{limit_met}
+use Rattle.and_model.specs.Output.{lines_of, limit_met}
 use Rattle.and_model.specs.Programs.{Program}
 use Rattle.and_model.specs.Reached.{Numbers}
 use Rattle.and_model.specs.Trees.{blank, query_agenda}
@@ -19,37 +20,24 @@ use Rattle.and_reader.specs.RefusalLine.{refusal_line}
 use Rattle.and_io.specs.declared.reading.ReadAll.{ReadAll}
 use Rattle.and_io.specs.declared.reading.ReadAll.TheVariants as reads
 use Rattle.and_command.specs.Commands.{IsCommand}
-use Rattle.and_command.specs.declared.given.Settings.{Settings}
 use Rattle.and_command.specs.declared.reading.Command.{Command}
-use Rattle.and_command.specs.declared.reading.Command.TheVariants as commands
+use Rattle.and_first.specs.First.{IsTold, last_line}
+use Rattle.and_first.specs.declared.first.End.{End}
+use Rattle.and_first.specs.declared.first.End.TheVariants as ends
+use Rattle.and_proof.specs.Proofs.{ProofText}
+use Rattle.and_top.specs.Explained.{Explains, LacksAll, LacksSome, whole_lines}
 use Rattle.and_top.specs.Checked.{IsToldSafe, IsToldWaiting}
 use Rattle.and_top.specs.Shown.{shown, completed}
 use Rattle.and_top.specs.declared.question.Question.{Question}
-use Rattle.and_top.specs.declared.question.Question.TheVariants.{Run, Check}
+use Rattle.and_top.specs.declared.question.Question.TheVariants.{Run, Check, First, Explain}
 use Rattle.and_top.specs.declared.showing.Show.{Show}
 use Rattle.and_top.specs.declared.status.Status.{Status}
-use Rattle.and_top.specs.declared.status.Status.TheVariants.{Answers, NoAnswer, Usage, Refused, ReadFault, WriteFault, Limit, Memory, Floundered}
-
--- `run`, with these settings
-abbrev pub IsRun : List Bytes → Settings → Type 0
-IsRun words settings = IsCommand words (commands.Run settings)
-
--- `check`
-abbrev pub IsCheck : List Bytes → Type 0
-IsCheck words = IsCommand words commands.Check
-
--- `demo`, with this number and these settings
-abbrev pub IsDemo : List Bytes → ℕ → Settings → Type 0
-IsDemo words n settings = IsCommand words (commands.Demo n settings)
+use Rattle.and_top.specs.declared.status.Status.TheVariants.{Answers, NoAnswer, Usage, Refused, ReadFault, WriteFault}
+use Rattle.and_top.specs.declared.status.Status.TheVariants.{Limit, Memory, Floundered}
 
 -- no command has these words
 abbrev pub IsUsage : List Bytes → Type 0
 IsUsage words = (c : Command) → IsCommand words c → ⊥
-
--- the line that says how to use the program
-abbrev pub usage : Bytes
-usage =
-    codes "usage: andorra run [--limit N] [--teams T] [--workers W] [--stats] | andorra check | andorra demo N [--teams T] [--workers W]" ++ 10 ∷ []
 
 -- the line is no answer, since some arithmetic waits forever
 abbrev pub is_floundered : Outcome → Bool
@@ -63,67 +51,120 @@ has_floundered ls = list_any (λ (e : Entry). is_floundered e.outcome) ls
 abbrev pub AreAnswers : List Entry → Type 0
 AreAnswers ls = (ls ≢ []) × (has_floundered ls ≡ false)
 
--- The bytes are a program's text, this is what is shown of its listing, every larger limit has the same one, and the numbers of forks
--- and of failed branches, where they are told, are those of the search from the query on.
-pub record FindsAll (show : Show) (limit : ℕ) (lines : List Entry → Type 0) (bytes out : Bytes) : Type 0 where
-  pub program : Program
+-- This is what is shown of the program's listing, every larger limit has the same one, and the numbers of forks and of
+-- failed branches, where they are told, are those of the search from the query on.
+pub record FindsAll (show : Show) (limit : ℕ) (lines : List Entry → Type 0) (program : Program) (out : Bytes)
+    : Type 0 where
   pub listing : List Entry
   pub forks : ℕ
   pub failed : ℕ
-  pub reads : Reads bytes program
   pub lists : Listing program limit listing
   pub exhausted : Exhausted program limit
   pub numbers : Numbers (blank {P = program} (query_agenda program)) forks failed
   pub written : out ≡ shown show listing (completed show forks failed)
   pub has : lines listing
 
--- The bytes are a program's text, this is what is shown of its listing within the limit, and the limit kept the search from going on.
-pub record FindsSome (show : Show) (limit : ℕ) (bytes out : Bytes) : Type 0 where
-  pub program : Program
+-- This is what is shown of the program's listing within the limit, and the limit kept the search from going on.
+pub record FindsSome (show : Show) (limit : ℕ) (program : Program) (out : Bytes) : Type 0 where
   pub listing : List Entry
   pub cut : Cut program
-  pub reads : Reads bytes program
   pub lists : Listing program limit listing
   pub over : OverLimit program limit cut
   pub written : out ≡ shown show listing limit_met
+
+-- the status of a search that was exhausted, by its listing
+abbrev pub exhausted : List Entry → Status
+exhausted [] = NoAnswer
+exhausted (e ∷ es) = if has_floundered (e ∷ es) then Floundered else Answers
+
+-- the status of a search for the first answers, by how it ended and what is told
+abbrev pub first_status : End → List Entry → Status
+first_status (ends.Within step) told = if has_floundered told then Floundered else Answers
+first_status ends.Complete told = exhausted told
+first_status ends.LimitMet told = Limit
+
+-- the status of lines that are told
+abbrev pub told_status : (floundered : Bool) → Status
+told_status floundered = if floundered then Floundered else Answers
+
+-- the same, by how many lines are told and whether one of them is floundered
+abbrev pub status_seen : End → (lines : ℕ) → (floundered : Bool) → Status
+status_seen (ends.Within step) lines floundered = told_status floundered
+status_seen ends.Complete lines floundered = if nat_eq lines 0 then NoAnswer else told_status floundered
+status_seen ends.LimitMet lines floundered = Limit
+
+-- The program's first answers are told so, and the status goes with them.
+pub record TellsFirst (count limit : ℕ) (program : Program) (status : Status) (out : Bytes) : Type 0 where
+  pub told : List Entry
+  pub ending : End
+  pub is_told : IsTold program limit count ending told
+  pub written : out ≡ lines_of told ++ last_line count ending
+  pub status_is : status ≡ first_status ending told
+
+-- What a program is answered with under each status, where it is run.
+abbrev pub WasRun : Show → ℕ → Program → Status → Bytes → Type 0
+WasRun show limit program Answers out = FindsAll show limit AreAnswers program out
+WasRun show limit program NoAnswer out = FindsAll show limit (λ ls. ls ≡ []) program out
+WasRun show limit program Floundered out = FindsAll show limit (λ ls. has_floundered ls ≡ true) program out
+WasRun show limit program Limit out = FindsSome show limit program out
+WasRun show limit program other out = ⊥
+
+-- What it is answered with under each status, where it is checked.
+abbrev pub WasChecked : Program → Status → Bytes → Type 0
+WasChecked program Answers out = IsToldSafe program out
+WasChecked program NoAnswer out = IsToldWaiting program out
+WasChecked program other out = ⊥
+
+-- What it is answered with under each status, where one of its answers is explained.
+abbrev pub WasExplained : (place limit : ℕ) → Bytes → Program → Status → Bytes → Type 0
+WasExplained place limit bytes program Answers out = Explains place limit bytes program out
+WasExplained place limit bytes program NoAnswer out = LacksAll place limit program out
+WasExplained place limit bytes program Limit out = LacksSome place limit program out
+WasExplained place limit bytes program other out = ⊥
+
+-- the text of a program, whole lines of it, and behind it that of the code's proof
+abbrev pub Documents : Program → Bytes → (code : List ℕ) → Bytes → Type 0
+Documents program bytes code out = (proof : Bytes) × ProofText program code proof × (out ≡ whole_lines bytes ++ proof)
+
+-- the status where there is no such answer, by where the search was cut off
+abbrev pub lacking_status : Option goal.Cut.Cut → Status
+lacking_status None = NoAnswer
+lacking_status (Some cut) = Limit
+
+-- What a program that the bytes read as is answered with under each status, by what it is asked for.
+abbrev pub IsReply : Question → Bytes → Program → Status → Bytes → Type 0
+IsReply (Run show limit) bytes program status out = WasRun show limit program status out
+IsReply Check bytes program status out = WasChecked program status out
+IsReply (First count limit) bytes program status out = TellsFirst count limit program status out
+IsReply (Explain place limit) bytes program status out = WasExplained place limit bytes program status out
+
+-- The bytes are a program's text, and this is what the program is answered with.
+abbrev pub WasReplied : Question → Status → Bytes → Bytes → Type 0
+WasReplied question status bytes out = (program : Program) × Reads bytes program
+    × IsReply question bytes program status out
 
 -- the text is refused, and the line says why
 abbrev pub IsRefusedBy : Bytes → Bytes → Type 0
 IsRefusedBy bytes line = (r : Refusal) × IsRefused bytes r × (line ≡ refusal_line r)
 
--- What a text is answered with under each status, where it is run.
-abbrev pub WasRun : Show → ℕ → Status → Bytes → Bytes → Type 0
-WasRun show limit Answers bytes out = FindsAll show limit AreAnswers bytes out
-WasRun show limit NoAnswer bytes out = FindsAll show limit (λ ls. ls ≡ []) bytes out
-WasRun show limit Floundered bytes out = FindsAll show limit (λ ls. has_floundered ls ≡ true) bytes out
-WasRun show limit Limit bytes out = FindsSome show limit bytes out
-WasRun show limit Refused bytes out = IsRefusedBy bytes out
-WasRun show limit Usage bytes out = ⊥
-WasRun show limit ReadFault bytes out = ⊥
-WasRun show limit WriteFault bytes out = ⊥
-WasRun show limit Memory bytes out = ⊥
-
--- What it is answered with under each status, where it is checked.
-abbrev pub WasChecked : Status → Bytes → Bytes → Type 0
-WasChecked Answers bytes out = IsToldSafe bytes out
-WasChecked NoAnswer bytes out = IsToldWaiting bytes out
-WasChecked Floundered bytes out = ⊥
-WasChecked Limit bytes out = ⊥
-WasChecked Refused bytes out = IsRefusedBy bytes out
-WasChecked Usage bytes out = ⊥
-WasChecked ReadFault bytes out = ⊥
-WasChecked WriteFault bytes out = ⊥
-WasChecked Memory bytes out = ⊥
-
--- What it is answered with under each status, by what it is asked for.
+-- What a text is answered with under each status, by what it is asked for.
 abbrev pub WasAnswered : Question → Status → Bytes → Bytes → Type 0
-WasAnswered (Run show limit) status bytes out = WasRun show limit status bytes out
-WasAnswered Check status bytes out = WasChecked status bytes out
+WasAnswered question Answers bytes out = WasReplied question Answers bytes out
+WasAnswered question NoAnswer bytes out = WasReplied question NoAnswer bytes out
+WasAnswered question Floundered bytes out = WasReplied question Floundered bytes out
+WasAnswered question Limit bytes out = WasReplied question Limit bytes out
+WasAnswered question Refused bytes out = IsRefusedBy bytes out
+WasAnswered question Usage bytes out = ⊥
+WasAnswered question ReadFault bytes out = ⊥
+WasAnswered question WriteFault bytes out = ⊥
+WasAnswered question Memory bytes out = ⊥
 
 -- the limit is at most the largest
 abbrev pub IsBounded : Question → Type 0
 IsBounded (Run show limit) = limit ≤ MAX_LIMIT
 IsBounded Check = Unit {0}
+IsBounded (First count limit) = limit ≤ MAX_LIMIT
+IsBounded (Explain place limit) = (1 ≤ place) × (limit ≤ MAX_LIMIT)
 
 -- a part of what was due was given, from its beginning on, and not all
 abbrev pub GivesPrefix : Bytes → Bytes → Bytes → Type 0
@@ -154,7 +195,8 @@ Answered question old new Memory bytes = new ≡ old
 abbrev pub IsRead : (ended : Type 0) → Status → Bytes → Type 0
 IsRead ended status text = status ≢ ReadFault → status ≢ Memory → ended ⊎ (MAX_BYTES < length text)
 
--- The bytes that the source gave in this call are such a text, and this holds of it. It takes one byte more than the largest text has at most.
+-- The bytes that the source gave in this call are such a text, and this holds of it. It takes one byte more than the
+-- largest text has at most.
 abbrev pub Took : (old new : Bytes) (ended : Type 0) → Status → (Bytes → Type 0) → Type 0
 Took old new ended status fact =
     (text : Bytes) × (new ≡ old ++ text) × (length text ≤ MAX_BYTES + 1) × IsRead ended status text × fact text
@@ -172,11 +214,6 @@ IsComplete status = (status ≡ Answers) ⊎ (status ≡ NoAnswer) ⊎ (status �
 abbrev pub bytes_read : ReadAll → Bytes
 bytes_read (reads.Whole text) = text
 bytes_read (reads.Over text) = text
-
--- the status of a search that was exhausted, by its listing
-abbrev pub exhausted : List Entry → Status
-exhausted [] = NoAnswer
-exhausted (e ∷ es) = if has_floundered (e ∷ es) then Floundered else Answers
 
 -- the status of a search that was cut off there, if anywhere
 abbrev pub status_for : Option goal.Cut.Cut → List Entry → Status

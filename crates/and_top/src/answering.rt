@@ -3,23 +3,26 @@
 ghost use Rattle.std.specs.Prelude.{◌≡◌, ◌≤◌, ℕ, IfOk};
 ghost use Rattle.std.specs.List.{list_any};
 ghost use Rattle.and_answers.specs.Kept.{listed};
-ghost use Rattle.and_language.specs.Refusals.{Reads};
-ghost use Rattle.and_model.specs.Lines.{Bytes};
 ghost use Rattle.and_program.specs.Loaded.{program_of};
 ghost use Rattle.and_model.specs.declared.limits.TheConstants.{MAX_LIMIT};
-ghost use Rattle.and_walk.specs.Found.{IsFound};
-ghost use Rattle.and_top.specs.Top.{IsBounded, WasAnswered, WasChecked, WasRun, status_for, status_told};
+ghost use Rattle.and_search_laws.specs.Found.{FindsFirst};
+ghost use Rattle.and_top.specs.Finding.{Finds};
+ghost use Rattle.and_top.specs.Top.{IsBounded, IsReply, TellsFirst, WasAnswered, WasChecked, WasExplained, WasRun};
+ghost use Rattle.and_top.specs.Top.{status_for, status_seen, status_told, told_status};
 
 use crate::checking::{judged, verdict_line};
+use crate::explaining::explained;
 use crate::question::Question;
 use crate::showing::{Show, written};
 use crate::status::Status;
 use and_answers::{Entry, Found};
+use and_first::{End, First, first_by};
 use and_model::Text;
 use and_modes::verdicts::Verdict;
 use and_program::Loaded;
-use and_reader::{read_program, refusal_text};
+use and_reader::{ReadRefusal, read_program, refusal_text};
 use std::alloc::{AllocError, Global};
+use std::snapshot::Snapshot;
 
 /// What a text is answered with, and the status of that.
 #[derive(Drop)]
@@ -28,6 +31,8 @@ pub struct Reply {
     pub text: Text,
     /// The status, where all of it is written.
     pub status: Status,
+    /// Why the text is refused, where it is.
+    pub refusal: Option<ReadRefusal>,
 }
 
 /// Whether some entry is no answer, since some of its arithmetic waits forever.
@@ -70,17 +75,20 @@ fn status_of_verdict(verdict: Verdict) -> Status
 
 /// What a check tells of a program.
 fn told_of(alloc: Global, loaded: &Loaded) -> Result<Reply, AllocError>
-    ensures { (bytes : Bytes) → Reads bytes (program_of loaded.now) →
-        IfOk result (λ reply. WasChecked reply.status bytes reply.text) }
+    ensures { IfOk result (λ reply. WasChecked (program_of loaded.now) reply.status reply.text) }
 {
     let verdict = judged(alloc, loaded)?;
     let text = verdict_line(alloc, loaded, verdict)?;
     let status = status_of_verdict(verdict);
-    Ok(Reply { text, status })
+    Ok(Reply {
+        text,
+        status,
+        refusal: None,
+    })
 }
 
 /// What a run finds in a program.
-fn found_in<F: Fn(&Loaded, u32) -> Result<Found, AllocError>>(
+fn found_in<F: Fn(&Loaded, u32, Option<u32>) -> Result<Found, AllocError>>(
     search: &F,
     alloc: Global,
     show: Show,
@@ -88,50 +96,146 @@ fn found_in<F: Fn(&Loaded, u32) -> Result<Found, AllocError>>(
     loaded: &Loaded,
 ) -> Result<Reply, AllocError>
     requires limited { limit ≤ MAX_LIMIT }
-    requires callable { (l : _) (n : ℕ) → n ≤ MAX_LIMIT → F.pre search.now l n }
-    requires finds { (l : _) (n : ℕ) (found : _) → n ≤ MAX_LIMIT → F.post search.now l n found → IfOk found (IsFound (program_of l.now) n) }
-    ensures { (bytes : Bytes) → Reads bytes (program_of loaded.now) →
-        IfOk result (λ reply. WasRun show limit reply.status bytes reply.text) }
+    requires callable { (l : _) (n : ℕ) (o : _) → n ≤ MAX_LIMIT → F.pre search.now l n o }
+    requires finds { (l : _) (n : ℕ) (o : _) (found : _) → n ≤ MAX_LIMIT → F.post search.now l n o found
+        → IfOk found (Finds (program_of l.now) n o) }
+    ensures { IfOk result (λ reply. WasRun show limit (program_of loaded.now) reply.status reply.text) }
 {
-    let found = search(loaded, limit)?;
+    let found = search(loaded, limit, None)?;
     let text = written(alloc, show, &found)?;
     let status = status_of(&found);
-    Ok(Reply { text, status })
+    Ok(Reply {
+        text,
+        status,
+        refusal: None,
+    })
+}
+
+/// The status of lines that are told.
+fn status_of_lines(floundered: bool) -> Status
+    ensures { result ≡ told_status floundered }
+{
+    if floundered {
+        Status::Floundered
+    } else {
+        Status::Answers
+    }
+}
+
+/// The status of the first answers.
+fn status_of_first(first: &First) -> Status
+    ensures { result ≡ status_seen first.now.end first.now.lines first.now.floundered }
+{
+    match first.end {
+        End::Within(_) => status_of_lines(first.floundered),
+        End::Complete => {
+            if first.lines == 0 {
+                Status::NoAnswer
+            } else {
+                status_of_lines(first.floundered)
+            }
+        }
+        End::LimitMet => Status::Limit,
+    }
+}
+
+/// The first answers of a program.
+fn first_in<F: Fn(&Loaded, u32, Option<u32>) -> Result<Found, AllocError>>(
+    search: &F,
+    alloc: Global,
+    count: u32,
+    limit: u32,
+    loaded: &Loaded,
+) -> Result<Reply, AllocError>
+    requires limited { limit ≤ MAX_LIMIT }
+    requires callable { (l : _) (n : ℕ) (o : _) → n ≤ MAX_LIMIT → F.pre search.now l n o }
+    requires finds { (l : _) (n : ℕ) (o : _) (found : _) → n ≤ MAX_LIMIT → F.post search.now l n o found
+        → IfOk found (Finds (program_of l.now) n o) }
+    ensures { IfOk result (λ reply. TellsFirst count limit (program_of loaded.now) reply.status reply.text) }
+{
+    let search_step = |step: u32|
+        requires limited { step ≤ MAX_LIMIT }
+        requires callable { (l : _) (n : ℕ) (o : _) → n ≤ MAX_LIMIT → F.pre search.now l n o }
+        requires finds { (l : _) (n : ℕ) (o : _) (found : _) → n ≤ MAX_LIMIT → F.post search.now l n o found
+            → IfOk found (Finds (program_of l.now) n o) }
+        ensures { IfOk result (FindsFirst (program_of loaded.entry.now) step count) }
+    { search(loaded, step, Some(count)) };
+    let first = first_by(
+        &search_step,
+        alloc,
+        Snapshot::of(loaded),
+        limit,
+        count as usize,
+    )?;
+    let status = status_of_first(&first);
+    let text = first.text;
+    Ok(Reply {
+        text,
+        status,
+        refusal: None,
+    })
+}
+
+/// Why an answer of a program is one.
+fn explained_in<F: Fn(&Loaded, u32, Option<u32>) -> Result<Found, AllocError>>(
+    search: &F,
+    alloc: Global,
+    place: u32,
+    limit: u32,
+    bytes: &[u8],
+    loaded: &Loaded,
+) -> Result<Reply, AllocError>
+    requires place { 1 ≤ place }
+    requires limited { limit ≤ MAX_LIMIT }
+    requires callable { (l : _) (n : ℕ) (o : _) → n ≤ MAX_LIMIT → F.pre search.now l n o }
+    requires finds { (l : _) (n : ℕ) (o : _) (found : _) → n ≤ MAX_LIMIT → F.post search.now l n o found
+        → IfOk found (Finds (program_of l.now) n o) }
+    ensures { IfOk result
+        (λ reply. WasExplained place limit bytes.now (program_of loaded.now) reply.status reply.text) }
+{
+    let found = search(loaded, limit, None)?;
+    explained(alloc, place, bytes, loaded, &found)
 }
 
 /// What a program is answered with.
-fn reply_to<F: Fn(&Loaded, u32) -> Result<Found, AllocError>>(
+fn reply_to<F: Fn(&Loaded, u32, Option<u32>) -> Result<Found, AllocError>>(
     search: &F,
     alloc: Global,
     question: Question,
+    bytes: &[u8],
     loaded: &Loaded,
 ) -> Result<Reply, AllocError>
     requires bounded { IsBounded question }
-    requires callable { (l : _) (n : ℕ) → n ≤ MAX_LIMIT → F.pre search.now l n }
-    requires finds { (l : _) (n : ℕ) (found : _) → n ≤ MAX_LIMIT → F.post search.now l n found → IfOk found (IsFound (program_of l.now) n) }
-    ensures { (bytes : Bytes) → Reads bytes (program_of loaded.now) →
-        IfOk result (λ reply. WasAnswered question reply.status bytes reply.text) }
+    requires callable { (l : _) (n : ℕ) (o : _) → n ≤ MAX_LIMIT → F.pre search.now l n o }
+    requires finds { (l : _) (n : ℕ) (o : _) (found : _) → n ≤ MAX_LIMIT → F.post search.now l n o found
+        → IfOk found (Finds (program_of l.now) n o) }
+    ensures { IfOk result (λ reply. IsReply question bytes.now (program_of loaded.now) reply.status reply.text) }
 {
     match question {
         Question::Run { show, limit } => found_in(search, alloc, show, limit, loaded),
         Question::Check => told_of(alloc, loaded),
+        Question::Explain { place, limit } => {
+            explained_in(search, alloc, place, limit, bytes, loaded)
+        }
+        Question::First { count, limit } => first_in(search, alloc, count, limit, loaded),
     }
 }
 
 /// The answer to a text. An error is want of memory.
-pub fn answer_to<F: Fn(&Loaded, u32) -> Result<Found, AllocError>>(
+pub fn answer_to<F: Fn(&Loaded, u32, Option<u32>) -> Result<Found, AllocError>>(
     search: &F,
     alloc: Global,
     question: Question,
     text: &[u8],
 ) -> Result<Reply, AllocError>
     requires bounded { IsBounded question }
-    requires callable { (l : _) (n : ℕ) → n ≤ MAX_LIMIT → F.pre search.now l n }
-    requires finds { (l : _) (n : ℕ) (found : _) → n ≤ MAX_LIMIT → F.post search.now l n found → IfOk found (IsFound (program_of l.now) n) }
+    requires callable { (l : _) (n : ℕ) (o : _) → n ≤ MAX_LIMIT → F.pre search.now l n o }
+    requires finds { (l : _) (n : ℕ) (o : _) (found : _) → n ≤ MAX_LIMIT → F.post search.now l n o found
+        → IfOk found (Finds (program_of l.now) n o) }
     ensures { IfOk result (λ reply. WasAnswered question reply.status text.now reply.text) }
 {
     match read_program(alloc, text) {
-        Ok(loaded) => reply_to(search, alloc, question, &loaded),
+        Ok(loaded) => reply_to(search, alloc, question, text, &loaded),
         Err(refusal) => {
             if refusal.is_memory() {
                 return Err(AllocError);
@@ -139,6 +243,7 @@ pub fn answer_to<F: Fn(&Loaded, u32) -> Result<Found, AllocError>>(
             Ok(Reply {
                 text: refusal_text(alloc, &refusal)?,
                 status: Status::Refused,
+                refusal: Some(refusal),
             })
         }
     }

@@ -5,13 +5,14 @@ ghost use Rattle.and_io.specs.Flow.{Rose, AreAll};
 ghost use Rattle.and_gen.specs.Layered as generated;
 ghost use Rattle.and_model.specs.declared.limits.TheConstants.{MAX_LIMIT};
 ghost use Rattle.and_program.specs.Loaded.{program_of};
-ghost use Rattle.and_walk.specs.Found.{IsFound};
+ghost use Rattle.and_top.specs.Finding.{Finds};
 ghost use Rattle.and_top.specs.Top.{Answered, GivesPrefix, IsBounded, IsComplete, Told, Took, bytes_read};
 
-use crate::answering::answer_to;
+use crate::answering::{Reply, answer_to};
 use crate::question::Question;
 use crate::showing::Show;
 use crate::status::Status;
+use crate::watching::Watcher;
 use and_answers::Found;
 use and_command::Settings;
 use and_gen::layered;
@@ -24,9 +25,11 @@ use std::alloc::{AllocError, Global};
 /// Writes what is due, and says what became of it.
 pub fn finish<K: Sink>(sink: &mut K, due: &[u8], status: Status) -> Status
     requires { status ≢ Status.WriteFault }
-    ensures written { result ≢ Status.WriteFault → (result ≡ status) × (K.given sink.new ≡ K.given sink.old ++ due.now) }
+    ensures written { result ≢ Status.WriteFault
+        → (result ≡ status) × (K.given sink.new ≡ K.given sink.old ++ due.now) }
     ensures fault { result ≡ Status.WriteFault →
-        Rose K.last (K.faults sink.old) (K.faults sink.new) × GivesPrefix (K.given sink.old) (K.given sink.new) due.now }
+        Rose K.last (K.faults sink.old) (K.faults sink.new)
+        × GivesPrefix (K.given sink.old) (K.given sink.new) due.now }
     ensures count { K.faults sink.old ≤ K.faults sink.new }
 {
     match write_all_counted(sink, due) {
@@ -35,24 +38,37 @@ pub fn finish<K: Sink>(sink: &mut K, due: &[u8], status: Status) -> Status
     }
 }
 
+/// Tells of a reply that is a refusal.
+fn tell<W: Watcher>(watcher: &W, text: &[u8], reply: &Reply) {
+    if let Some(refusal) = &reply.refusal {
+        watcher.refused(text, refusal);
+    }
+}
+
 /// Answers a text.
-fn respond<F: Fn(&Loaded, u32) -> Result<Found, AllocError>, K: Sink>(
+fn respond<F: Fn(&Loaded, u32, Option<u32>) -> Result<Found, AllocError>, W: Watcher, K: Sink>(
     search: &F,
+    watcher: &W,
     alloc: Global,
     question: Question,
     sink: &mut K,
     text: &[u8],
 ) -> Status
     requires bounded { IsBounded question }
-    requires callable { (l : _) (n : ℕ) → n ≤ MAX_LIMIT → F.pre search.now l n }
-    requires finds { (l : _) (n : ℕ) (found : _) → n ≤ MAX_LIMIT → F.post search.now l n found → IfOk found (IsFound (program_of l.now) n) }
+    requires callable { (l : _) (n : ℕ) (o : _) → n ≤ MAX_LIMIT → F.pre search.now l n o }
+    requires finds { (l : _) (n : ℕ) (o : _) (found : _) → n ≤ MAX_LIMIT → F.post search.now l n o found
+        → IfOk found (Finds (program_of l.now) n o) }
     ensures answered { Answered question (K.given sink.old) (K.given sink.new) result text.now }
     ensures no_read_fault { result ≢ Status.ReadFault }
     ensures fault { result ≡ Status.WriteFault → Rose K.last (K.faults sink.old) (K.faults sink.new) }
     ensures count { K.faults sink.old ≤ K.faults sink.new }
 {
     match answer_to(search, alloc, question, text) {
-        Ok(reply) => finish(sink, reply.text.bytes(), reply.status),
+        Ok(reply) => {
+            let status = finish(sink, reply.text.bytes(), reply.status);
+            tell(watcher, text, &reply);
+            status
+        }
         Err(AllocError) => Status::Memory,
     }
 }
@@ -68,16 +84,23 @@ fn text_of(read: &ReadAll) -> &Text
 }
 
 /// Reads a text from the source and answers it.
-pub fn ask<F: Fn(&Loaded, u32) -> Result<Found, AllocError>, S: Source, K: Sink>(
+pub fn ask<
+    F: Fn(&Loaded, u32, Option<u32>) -> Result<Found, AllocError>,
+    W: Watcher,
+    S: Source,
+    K: Sink,
+>(
     search: &F,
+    watcher: &W,
     alloc: Global,
     question: Question,
     source: &mut S,
     sink: &mut K,
 ) -> Status
     requires bounded { IsBounded question }
-    requires callable { (l : _) (n : ℕ) → n ≤ MAX_LIMIT → F.pre search.now l n }
-    requires finds { (l : _) (n : ℕ) (found : _) → n ≤ MAX_LIMIT → F.post search.now l n found → IfOk found (IsFound (program_of l.now) n) }
+    requires callable { (l : _) (n : ℕ) (o : _) → n ≤ MAX_LIMIT → F.pre search.now l n o }
+    requires finds { (l : _) (n : ℕ) (o : _) (found : _) → n ≤ MAX_LIMIT → F.post search.now l n o found
+        → IfOk found (Finds (program_of l.now) n o) }
     // What was written, and for which text.
     ensures answered { Took (S.taken source.old) (S.taken source.new) (S.ended source.new) result
         (Answered question (K.given sink.old) (K.given sink.new) result) }
@@ -86,22 +109,27 @@ pub fn ask<F: Fn(&Loaded, u32) -> Result<Found, AllocError>, S: Source, K: Sink>
     ensures no_usage { result ≢ Status.Usage }
 
     // Who is to blame.
-    ensures read_fault { result ≡ Status.ReadFault → Rose S.last (S.faults source.old) (S.faults source.new) × (K.given sink.new ≡ K.given sink.old) }
+    ensures read_fault { result ≡ Status.ReadFault
+        → Rose S.last (S.faults source.old) (S.faults source.new) × (K.given sink.new ≡ K.given sink.old) }
     ensures write_fault { result ≡ Status.WriteFault → Rose K.last (K.faults sink.old) (K.faults sink.new) }
     ensures memory { result ≡ Status.Memory → K.given sink.new ≡ K.given sink.old }
     ensures source_count { S.faults source.old ≤ S.faults source.new }
     ensures sink_count { K.faults sink.old ≤ K.faults sink.new }
 {
     match read_all(alloc, source, MAX_BYTES) {
-        Ok(read) => respond(search, alloc, question, sink, text_of(&read).bytes()),
+        Ok(read) => {
+            let text = text_of(&read).bytes();
+            respond(search, watcher, alloc, question, sink, text)
+        }
         Err(ReadStop::Failed) => Status::ReadFault,
         Err(ReadStop::Memory) => Status::Memory,
     }
 }
 
 /// Answers the generated text of a number by a summary.
-pub fn demo<F: Fn(&Loaded, u32) -> Result<Found, AllocError>, K: Sink>(
+pub fn demo<F: Fn(&Loaded, u32, Option<u32>) -> Result<Found, AllocError>, W: Watcher, K: Sink>(
     search: &F,
+    watcher: &W,
     alloc: Global,
     number: u32,
     settings: Settings,
@@ -109,9 +137,11 @@ pub fn demo<F: Fn(&Loaded, u32) -> Result<Found, AllocError>, K: Sink>(
 ) -> Status
     requires few { number ≤ 64 }
     requires limited { settings.limit ≤ MAX_LIMIT }
-    requires callable { (l : _) (n : ℕ) → n ≤ MAX_LIMIT → F.pre search.now l n }
-    requires finds { (l : _) (n : ℕ) (found : _) → n ≤ MAX_LIMIT → F.post search.now l n found → IfOk found (IsFound (program_of l.now) n) }
-    ensures answered { Answered (Question.Run Show.Summary settings.limit) (K.given sink.old) (K.given sink.new) result (generated.layered number) }
+    requires callable { (l : _) (n : ℕ) (o : _) → n ≤ MAX_LIMIT → F.pre search.now l n o }
+    requires finds { (l : _) (n : ℕ) (o : _) (found : _) → n ≤ MAX_LIMIT → F.post search.now l n o found
+        → IfOk found (Finds (program_of l.now) n o) }
+    ensures answered { Answered (Question.Run Show.Summary settings.limit) (K.given sink.old) (K.given sink.new) result
+        (generated.layered number) }
     ensures not_refused { result ≢ Status.Refused }
     ensures no_read_fault { result ≢ Status.ReadFault }
     ensures fault { result ≡ Status.WriteFault → Rose K.last (K.faults sink.old) (K.faults sink.new) }
@@ -120,6 +150,7 @@ pub fn demo<F: Fn(&Loaded, u32) -> Result<Found, AllocError>, K: Sink>(
     match layered(alloc, number) {
         Ok(text) => respond(
             search,
+            watcher,
             alloc,
             Question::summary(settings),
             sink,

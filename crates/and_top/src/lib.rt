@@ -7,11 +7,14 @@
 pub mod answering;
 pub mod asking;
 pub mod checking;
+pub mod explaining;
 pub mod question;
 pub mod searching;
 pub mod showing;
 pub mod status;
 pub mod top;
+pub mod watching;
 
 pub use status::Status;
 pub use top::{andorra, andorra_alone};
+pub use watching::Watcher;

@@ -17,6 +17,20 @@ pub enum Question {
     },
     /// Whether some of its arithmetic may wait forever.
     Check,
+    /// Why one of its answers is one.
+    Explain {
+        /// The place of the answer, from 1 on.
+        place: u32,
+        /// The most that a proof may weigh.
+        limit: u32,
+    },
+    /// Its first answers.
+    First {
+        /// How many.
+        count: u32,
+        /// The most that a proof may weigh.
+        limit: u32,
+    },
 }
 
 impl Question {

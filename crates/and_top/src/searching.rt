@@ -3,14 +3,15 @@
 ghost use Rattle.std.specs.Prelude.{◌≤◌, ◌<◌, IfOk};
 ghost use Rattle.and_model.specs.declared.limits.TheConstants.{MAX_LIMIT};
 ghost use Rattle.and_program.specs.Loaded.{program_of};
-ghost use Rattle.and_walk.specs.Found.{IsFound};
+ghost use Rattle.and_search_laws.specs.Found.{IsFound};
+ghost use Rattle.and_top.specs.Finding.{Finds};
 
 use and_answers::Found;
-use and_determinacy::compile;
+use and_clause_index::compile;
 use and_gate::Gate;
 use and_program::Loaded;
 use and_teams::{Explored, Settings, explore};
-use and_walk::walk_watched;
+use and_walk::{walk_first, walk_watched};
 use std::alloc::{AllocError, Global};
 use std::sync::Wait;
 use std::thread::Threads;
@@ -26,7 +27,7 @@ pub struct Hands {
 
 /// All answers of a program within a limit, in the order of their codes, and how the search ended, by these
 /// workers. An error is want of memory.
-pub fn found_by<R: Threads + Wait + Sync, G: Gate>(
+fn explored_by<R: Threads + Wait + Sync, G: Gate>(
     rt: &R,
     alloc: Global,
     loaded: &Loaded,
@@ -48,16 +49,38 @@ pub fn found_by<R: Threads + Wait + Sync, G: Gate>(
     Ok(found)
 }
 
-/// The same on the thread of the caller, who waits for nobody.
+/// The answers of a program that are wanted, within a limit, by these workers, who find all. An error is want of
+/// memory.
+pub fn found_by<R: Threads + Wait + Sync, G: Gate>(
+    rt: &R,
+    alloc: Global,
+    loaded: &Loaded,
+    limit: u32,
+    wanted: Option<u32>,
+    hands: Hands,
+    gate: &G,
+) -> Result<Found, AllocError>
+    requires { limit ≤ MAX_LIMIT }
+    ensures { IfOk result (Finds (program_of loaded.now) limit wanted) }
+{
+    explored_by(rt, alloc, loaded, limit, hands, gate)
+}
+
+/// The answers of a program that are wanted, within a limit, on the thread of the caller, who waits for nobody. An
+/// error is want of memory.
 pub fn found_alone<G: Gate>(
     alloc: Global,
     loaded: &Loaded,
     limit: u32,
+    wanted: Option<u32>,
     gate: &G,
 ) -> Result<Found, AllocError>
     requires { limit ≤ MAX_LIMIT }
-    ensures { IfOk result (IsFound (program_of loaded.now) limit) }
+    ensures { IfOk result (Finds (program_of loaded.now) limit wanted) }
 {
     let table = compile(alloc, loaded)?;
-    walk_watched(alloc, loaded, &table, limit, gate)
+    match wanted {
+        None => walk_watched(alloc, loaded, &table, limit, gate),
+        Some(count) => walk_first(alloc, loaded, &table, limit, count as usize, gate),
+    }
 }

@@ -3,14 +3,15 @@
 ghost use Rattle.std.specs.Prelude.{◌≡◌, ◌≤◌, ◌↔◌, ℕ, IfOk, IsNone, map, string_bytes};
 ghost use Rattle.and_model.specs.declared.limits.TheConstants.{MAX_LIMIT};
 ghost use Rattle.and_program.specs.Loaded.{program_of};
-ghost use Rattle.and_walk.specs.Found.{IsFound};
 ghost use Rattle.and_command.specs.Commands.{AreInRange};
+ghost use Rattle.and_top.specs.Finding.{Finds};
 ghost use Rattle.and_top.specs.Obeyed.{Obeys};
 
 use crate::asking::{ask, demo, finish};
 use crate::question::Question;
 use crate::searching::{Hands, found_alone, found_by};
 use crate::status::Status;
+use crate::watching::Watcher;
 use and_answers::Found;
 use and_command::{Command, Settings, USAGE, command_of};
 use and_gate::Gate;
@@ -21,23 +22,36 @@ use std::sync::Wait;
 use std::thread::Threads;
 
 /// Does what the words of the command line say, by this search.
-fn obey<F: Fn(&Loaded, u32) -> Result<Found, AllocError>, S: Source, K: Sink>(
-    search: &F,
-    alloc: Global,
-    words: &[String],
-    source: &mut S,
-    sink: &mut K,
-) -> Status
-    requires callable { (l : _) (n : ℕ) → n ≤ MAX_LIMIT → F.pre search.now l n }
-    requires finds { (l : _) (n : ℕ) (found : _) → n ≤ MAX_LIMIT → F.post search.now l n found → IfOk found (IsFound (program_of l.now) n) }
+fn obey<
+    F: Fn(&Loaded, u32, Option<u32>) -> Result<Found, AllocError>,
+    W: Watcher,
+    S: Source,
+    K: Sink,
+>(search: &F, watcher: &W, alloc: Global, words: &[String], source: &mut S, sink: &mut K) -> Status
+    requires callable { (l : _) (n : ℕ) (o : _) → n ≤ MAX_LIMIT → F.pre search.now l n o }
+    requires finds { (l : _) (n : ℕ) (o : _) (found : _) → n ≤ MAX_LIMIT → F.post search.now l n o found
+        → IfOk found (Finds (program_of l.now) n o) }
     ensures { Obeys S.Source K.Sink result source.old source.new sink.old sink.new (map string_bytes words.now) }
 {
     match command_of(words) {
         Some(Command::Run { settings }) => {
-            ask(search, alloc, Question::answers(settings), source, sink)
+            let question = Question::answers(settings);
+            ask(search, watcher, alloc, question, source, sink)
         }
-        Some(Command::Check) => ask(search, alloc, Question::Check, source, sink),
-        Some(Command::Demo { number, settings }) => demo(search, alloc, number, settings, sink),
+        Some(Command::Check) => ask(search, watcher, alloc, Question::Check, source, sink),
+        Some(Command::Demo { number, settings }) => {
+            demo(search, watcher, alloc, number, settings, sink)
+        }
+        Some(Command::Explain { place, settings }) => {
+            let limit = settings.limit;
+            let question = Question::Explain { place, limit };
+            ask(search, watcher, alloc, question, source, sink)
+        }
+        Some(Command::First { count, settings }) => {
+            let limit = settings.limit;
+            let question = Question::First { count, limit };
+            ask(search, watcher, alloc, question, source, sink)
+        }
         None => finish(sink, USAGE, Status::Usage),
     }
 }
@@ -65,6 +79,8 @@ fn hands_of(words: &[String]) -> Option<Hands> {
                 settings,
             },
         ) => hands_for(settings),
+        Some(Command::Explain { place: _, settings }) => hands_for(settings),
+        Some(Command::First { count: _, settings }) => hands_for(settings),
         Some(Command::Check) => None,
         None => None,
     }
@@ -73,7 +89,8 @@ fn hands_of(words: &[String]) -> Option<Hands> {
 /// Does what the words of the command line say: answers or checks the text of the source, or answers
 /// the generated text of a number, and writes to the sink. It waits for nobody and starts no thread, whatever
 /// the words say of teams and workers: what is said of the answers is said for all of these, and every gate.
-pub fn andorra_alone<S: Source, K: Sink, G: Gate>(
+/// The gate is told of a refusal, too.
+pub fn andorra_alone<S: Source, K: Sink, G: Gate + Watcher>(
     alloc: Global,
     words: &[String],
     source: &mut S,
@@ -82,15 +99,15 @@ pub fn andorra_alone<S: Source, K: Sink, G: Gate>(
 ) -> Status
     ensures { Obeys S.Source K.Sink result source.old source.new sink.old sink.new (map string_bytes words.now) }
 {
-    let alone = |loaded: &Loaded, limit: u32|
+    let alone = |loaded: &Loaded, limit: u32, wanted: Option<u32>|
         requires { limit ≤ MAX_LIMIT }
-        ensures { IfOk result (IsFound (program_of loaded.now) limit) }
-    { found_alone(alloc, loaded, limit, gate) };
-    obey(&alone, alloc, words, source, sink)
+        ensures { IfOk result (Finds (program_of loaded.now) limit wanted) }
+    { found_alone(alloc, loaded, limit, wanted, gate) };
+    obey(&alone, gate, alloc, words, source, sink)
 }
 
 /// The same by several workers.
-fn andorra_by<R: Threads + Wait + Sync, S: Source, K: Sink, G: Gate>(
+fn andorra_by<R: Threads + Wait + Sync, S: Source, K: Sink, G: Gate + Watcher>(
     rt: &R,
     alloc: Global,
     hands: Hands,
@@ -101,18 +118,18 @@ fn andorra_by<R: Threads + Wait + Sync, S: Source, K: Sink, G: Gate>(
 ) -> Status
     ensures { Obeys S.Source K.Sink result source.old source.new sink.old sink.new (map string_bytes words.now) }
 {
-    let together = |loaded: &Loaded, limit: u32|
+    let together = |loaded: &Loaded, limit: u32, wanted: Option<u32>|
         requires { limit ≤ MAX_LIMIT }
-        ensures { IfOk result (IsFound (program_of loaded.now) limit) }
-    { found_by(rt, alloc, loaded, limit, hands, gate) };
-    obey(&together, alloc, words, source, sink)
+        ensures { IfOk result (Finds (program_of loaded.now) limit wanted) }
+    { found_by(rt, alloc, loaded, limit, wanted, hands, gate) };
+    obey(&together, gate, alloc, words, source, sink)
 }
 
 /// Does what the words of the command line say: answers or checks the text of the source, or answers
 /// the generated text of a number, and writes to the sink. What is said of the answers is said for all
 /// numbers of teams and workers, every schedule and every gate. Words that ask for no more than one worker
 /// are for [`andorra_alone`].
-pub fn andorra<R: Threads + Wait + Sync, S: Source, K: Sink, G: Gate>(
+pub fn andorra<R: Threads + Wait + Sync, S: Source, K: Sink, G: Gate + Watcher>(
     rt: &R,
     alloc: Global,
     words: &[String],

@@ -1,8 +1,13 @@
 //! Andorra-I for pure Prolog: `andorra run` reads a program from standard input and writes its answers;
-//! `andorra check` tells whether its arithmetic may wait forever; `andorra demo N` answers a generated
-//! program.
+//! `andorra first K` writes the first of them; `andorra explain K` tells why one is an answer; `andorra check` tells
+//! whether its arithmetic may wait forever; `andorra demo N` answers a generated program.
 #![tactic(auto)]
 
+mod advice;
+mod causes;
+mod hints;
+mod names;
+mod places;
 mod progress;
 mod words;
 
@@ -21,6 +26,6 @@ fn main(rt: HostRuntime) -> ExitCode {
     let mut source = StdSource::new(rt.stdin());
     let mut sink = StdSink::new(AfterLine::new(&watch, rt.stdout()));
     let status = andorra(&rt, alloc, &words, &mut source, &mut sink, &watch);
-    watch.clear();
+    watch.ended(&words, status);
     ExitCode::from(status as u8)
 }

@@ -1,6 +1,9 @@
 //! A line on standard error that tells how far a long run has come.
 
+use crate::advice::Advice;
 use and_gate::Gate;
+use and_reader::ReadRefusal;
+use and_top::{Status, Watcher};
 use std::fmt::{Display, Formatter};
 use std::io::Write;
 use std::sync::atomic::{AtomicBool, AtomicU64, Ordering};
@@ -22,8 +25,8 @@ pub struct Told {
     pub reductions: u64,
     /// How many branches teams handed on.
     pub published: u64,
-    /// How many branches teams took over, the first one included.
-    pub claimed: u64,
+    /// How many answers were found, floundered ones among them.
+    pub answers: u64,
 }
 
 impl Told {
@@ -42,10 +45,10 @@ impl Display for Told {
         let reductions = self.reductions;
         let rate = self.rate();
         let published = self.published;
-        let claimed = self.claimed;
+        let answers = self.answers;
         write!(
             f,
-            "{seconds:>5} s {reductions:>12} reductions {rate:>8}/s {published:>8} shared {claimed:>8} taken"
+            "{seconds:>5} s {reductions:>12} reductions {rate:>8}/s {answers:>9} answers {published:>7} shared"
         )
     }
 }
@@ -58,7 +61,7 @@ pub struct Progress<R> {
     start: Instant,
     reductions: AtomicU64,
     published: AtomicU64,
-    claimed: AtomicU64,
+    answers: AtomicU64,
     /// The second from which on a line is due.
     due: AtomicU64,
     /// Whether a line stands on the screen.
@@ -74,7 +77,7 @@ impl<R: Clock + Eprint + Drop> Progress<R> {
             start,
             reductions: AtomicU64::new(0),
             published: AtomicU64::new(0),
-            claimed: AtomicU64::new(0),
+            answers: AtomicU64::new(0),
             due: AtomicU64::new(FIRST),
             is_shown: AtomicBool::new(false),
         })
@@ -106,14 +109,14 @@ impl<R: Clock + Eprint + Drop> Progress<R> {
             time,
             reductions: self.reductions.load(Ordering::SeqCst),
             published: self.published.load(Ordering::SeqCst),
-            claimed: self.claimed.load(Ordering::SeqCst),
+            answers: self.answers.load(Ordering::SeqCst),
         }
     }
 
     /// Takes the line away, where one stands on the screen.
     pub fn clear(&self) {
         if self.is_shown.swap(false, Ordering::SeqCst) {
-            let _ = eprint!(self.rt; "\r{:73}\r", "");
+            let _ = eprint!(self.rt; "\r{:78}\r", "");
         }
     }
 }
@@ -126,20 +129,23 @@ impl<R: Clock + Eprint + Sync + Drop> Gate for Progress<R> {
         }
     }
 
-    fn claim(&self, _team: u32) {
-        self.claimed.fetch_add(1, Ordering::SeqCst);
-    }
+    fn claim(&self, _team: u32) {}
 
     fn publish(&self, _team: u32) {
         self.published.fetch_add(1, Ordering::SeqCst);
     }
+
+    fn found(&self, _team: u32) {
+        self.answers.fetch_add(1, Ordering::SeqCst);
+    }
 }
 
-/// A gate that tells how far a run has come, if this was asked for. It is one gate in both cases, so that the
-/// search stands in the program once, and is compiled as one.
+/// A gate that tells how far a run has come, if this was asked for, and gives hints. It is one gate in all cases, so
+/// that the search stands in the program once, and is compiled as one.
 #[derive(Drop)]
 pub struct Watch<R> {
     progress: Option<Progress<R>>,
+    advice: Advice<R>,
 }
 
 /// What tells how far a run has come, where the environment asks for it by `ANDORRA_PROGRESS=1` and there is a
@@ -156,6 +162,7 @@ impl<'a> Watch<&'a HostRuntime> {
     pub fn asked_for(rt: &'a HostRuntime) -> Watch<&'a HostRuntime> {
         Watch {
             progress: progress_asked_for(rt),
+            advice: Advice::asked_for(rt),
         }
     }
 }
@@ -166,6 +173,12 @@ impl<R: Clock + Eprint + Drop> Watch<R> {
         if let Some(progress) = &self.progress {
             progress.clear();
         }
+    }
+
+    /// Tells of how a run with these words ended.
+    pub fn ended(&self, words: &[String], status: Status) {
+        self.clear();
+        self.advice.ended(words, status);
     }
 }
 
@@ -186,6 +199,18 @@ impl<R: Clock + Eprint + Sync + Drop> Gate for Watch<R> {
         if let Some(progress) = &self.progress {
             progress.publish(team);
         }
+    }
+
+    fn found(&self, team: u32) {
+        if let Some(progress) = &self.progress {
+            progress.found(team);
+        }
+    }
+}
+
+impl<R: Eprint + Drop> Watcher for Watch<R> {
+    fn refused(&self, text: &[u8], refusal: &ReadRefusal) {
+        self.advice.refused(text, refusal);
     }
 }
 

@@ -1,13 +1,14 @@
 use Rattle.std.proofs.Common.{sym, ◌∙◌}
+use Rattle.and_program.specs.Loaded.{program_of}
 use Rattle.and_reader.specs.Causes.{refusal_of}
-use Rattle.and_top.proofs.TopLemmas.{refused_by, refused_for}
+use Rattle.and_top.proofs.TopLemmas.{refused_by, answered_by}
 use Rattle.and_top.proofs.answering.answer_to.Goals as goal
 
 pub returns-in_ok-refusal_text-in-Err : goal.returns-in_ok-refusal_text-in-Err
 returns-in_ok-refusal_text-in-Err g c =
-    refused_for c.args.question c.args.text.now c.in_ok-refusal_text-in-Err.field-0
-    (refused_by (refusal_of c.in-Err.refusal) c.args.text.now c.in_ok-refusal_text-in-Err.field-0 c.in-Err.ensures.refused
-    c.in_ok-refusal_text-in-Err.ensures (sym c.is_memory.ensures ∙ c.if-is_memory.false))
+    refused_by (refusal_of c.in-Err.refusal) c.args.text.now c.in_ok-refusal_text-in-Err.field-0 c.in-Err.ensures.refused
+    c.in_ok-refusal_text-in-Err.ensures (sym c.is_memory.ensures ∙ c.if-is_memory.false)
 
 pub returns-in-Ok : goal.returns-in-Ok
-returns-in-Ok g c = c.reply_to.ensures c.args.text.now c.in-Ok.ensures.program
+returns-in-Ok g c =
+    answered_by c.args.question (program_of c.in-Ok.loaded) c.reply_to.result c.args.text.now c.in-Ok.ensures.program c.reply_to.ensures

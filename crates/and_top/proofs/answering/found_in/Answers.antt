@@ -1,8 +1,8 @@
-use Rattle.std.proofs.Common.{Ok}
-use Rattle.and_top.proofs.TopLemmas.{replied}
+use Rattle.std.proofs.Common.{None, Ok}
+use Rattle.and_top.proofs.TopLemmas.{was_run}
 use Rattle.and_top.proofs.answering.found_in.Goals as goal
 
 pub returns : goal.returns
-returns g c = λ bytes reads.
-    let found = c.requires.finds c.args.loaded c.args.limit (Ok c.in_ok-found.found) c.requires.limited c.in_ok-found.ensures in
-    replied c.args.show c.args.limit _ c.in_ok-found.found _ bytes _ reads found c.in_ok-text.ensures c.status_of-status.ensures
+returns g c =
+    let found = c.requires.finds c.args.loaded c.args.limit None (Ok c.in_ok-found.found) c.requires.limited c.in_ok-found.ensures in
+    was_run c.args.show c.args.limit _ c.in_ok-found.found _ _ found c.in_ok-text.ensures c.status_of-status.ensures

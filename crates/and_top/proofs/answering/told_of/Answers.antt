@@ -1,4 +1,3 @@
-use Rattle.and_model.specs.Programs.{Program}
 use Rattle.and_program.specs.Loaded.{program_of}
 use Rattle.and_top.proofs.CheckingLemmas.{has_clause, was_told}
 use Rattle.and_top.proofs.answering.told_of.Goals as goal
@@ -7,6 +6,6 @@ pub verdict_line-requires : goal.verdict_line-requires
 verdict_line-requires c = has_clause (program_of c.args.loaded.now) c.in_ok-verdict.verdict c.in_ok-verdict.ensures
 
 pub returns : goal.returns
-returns c = λ bytes reads.
-    let P : Program = program_of c.args.loaded.now in
-    was_told P c.in_ok-verdict.verdict _ bytes _ reads c.in_ok-verdict.ensures c.in_ok-text.ensures c.status_of_verdict-status.ensures
+returns c =
+    was_told (program_of c.args.loaded.now) c.in_ok-verdict.verdict _ _ c.in_ok-verdict.ensures c.in_ok-text.ensures
+    c.status_of_verdict-status.ensures

@@ -7,22 +7,24 @@ pub returns-in-Ok-clause-answered : goal.returns-in-Ok-clause-answered
 returns-in-Ok-clause-answered g c =
     took _ _ _ c.in-Ok.read c.respond.result _ c.in-Ok.ensures.took
     (subst (Answered c.args.question (g.K.Sink.given c.args.sink.now) (g.K.Sink.given c.respond.new.sink) c.respond.result)
-    (c.bytes.ensures ∙ c.text_of.ensures) c.respond.ensures.answered)
+    (c.bytes-text.ensures ∙ c.text_of.ensures) c.respond.ensures.answered)
 
 pub returns-in-Ok-clause-told : goal.returns-in-Ok-clause-told
 returns-in-Ok-clause-told g c =
     told c.args.question _ _ _ _ c.in-Ok.read c.respond.result c.in-Ok.ensures.read
     (subst (Answered c.args.question (g.K.Sink.given c.args.sink.now) (g.K.Sink.given c.respond.new.sink) c.respond.result)
-    (c.bytes.ensures ∙ c.text_of.ensures) c.respond.ensures.answered)
+    (c.bytes-text.ensures ∙ c.text_of.ensures) c.respond.ensures.answered)
 
 pub returns-in-Ok-clause-read_whole : goal.returns-in-Ok-clause-read_whole
 returns-in-Ok-clause-read_whole g c =
     to_the_end c.args.question _ _ _ _ _ _ _ c.in-Ok.read c.respond.result c.in-Ok.ensures.read c.in-Ok.ensures.took
     (subst (Answered c.args.question (g.K.Sink.given c.args.sink.now) (g.K.Sink.given c.respond.new.sink) c.respond.result)
-    (c.bytes.ensures ∙ c.text_of.ensures) c.respond.ensures.answered)
+    (c.bytes-text.ensures ∙ c.text_of.ensures) c.respond.ensures.answered)
 
 pub returns-in-Err-Failed-clause-answered : goal.returns-in-Err-Failed-clause-answered
-returns-in-Err-Failed-clause-answered g c = took_some _ _ _ _ _ _ (c.read_all.ensures.took_at_failed (c.in-Err-Failed.is ∙ ap Err c.in-Err-Failed.field-0-is)) (omega arith) (inl refl) (λ text. refl)
+returns-in-Err-Failed-clause-answered g c =
+    took_some _ _ _ _ _ _ (c.read_all.ensures.took_at_failed (c.in-Err-Failed.is ∙ ap Err c.in-Err-Failed.field-0-is)) (omega arith) (inl refl) (λ text. refl)
 
 pub returns-in-Err-Memory-clause-answered : goal.returns-in-Err-Memory-clause-answered
-returns-in-Err-Memory-clause-answered g c = took_some _ _ _ _ _ _ (c.read_all.ensures.took_at_memory (c.in-Err-Memory.is ∙ ap Err c.in-Err-Memory.field-0-is)) (omega arith) (inr refl) (λ text. refl)
+returns-in-Err-Memory-clause-answered g c =
+    took_some _ _ _ _ _ _ (c.read_all.ensures.took_at_memory (c.in-Err-Memory.is ∙ ap Err c.in-Err-Memory.field-0-is)) (omega arith) (inr refl) (λ text. refl)
