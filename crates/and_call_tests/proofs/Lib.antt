@@ -1,0 +1,4 @@
+pub mod FreeCells
+pub mod QueryCalls
+pub mod Scripted
+pub mod Small

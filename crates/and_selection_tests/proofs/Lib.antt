@@ -1,2 +1,0 @@
-pub mod FreeCells
-pub mod QueryCalls
