@@ -1,5 +1,6 @@
 -- What a walk over an expression begins with, and what its answers show.
-use Rattle.std.proofs.Common.{ℕ, ℤ, ◌≡◌, ◌≢◌, ◌<◌, ◌≤◌, ◌+◌, ◌⊎◌, List, [], ◌∷◌, ◌++◌, map, Option, Some, None, Result, Ok, Err, false, refl, ap, sym, ◌∙◌, subst, arith, inl, inr}
+use Rattle.std.proofs.Common.{ℕ, ℤ, ◌≡◌, ◌≢◌, ◌<◌, ◌≤◌, ◌+◌, ◌⊎◌, List, [], ◌∷◌, ◌++◌, map, Option, Some, None, Result, Ok, Err, false, refl, ap, sym, ◌∙◌}
+use Rattle.std.proofs.Common.{subst, arith, inl, inr}
 use Rattle.std.specs.Prelude.{Contains, OnOk}
 use Rattle.std.specs.Result.{is_err}
 use Rattle.std.proofs.lemmas.List.Elements.{All-nil, All-contains}
@@ -25,14 +26,16 @@ use Rattle.and_arith.proofs.Members.{none_in, first_in, first_or_later, image_in
 use Rattle.and_arith.proofs.KnownTerms.{IsOnce, Extends, cell_cases}
 use Rattle.and_arith.proofs.Yielding.{Yields, leads_same}
 use Rattle.and_arith.proofs.Owing.{Ahead, begins}
-use Rattle.and_arith.proofs.Covering.{Passed, on_chain, on_pair, on_half, on_literal, on_taken, Covered, waiting, covered_cell, covered_pair, all_covered, reaches_on}
+use Rattle.and_arith.proofs.Covering.{Passed, on_chain, on_pair, on_half, on_literal, on_taken, Covered, waiting, covered_cell, covered_pair, all_covered}
+use Rattle.and_arith.proofs.Covering.{reaches_on}
 use Rattle.and_arith.proofs.Counting.{parts_left, size_of_some, literal_size}
 use Rattle.and_arith.proofs.Standing.{Stands, stands_later, entry_of_cell}
 use Rattle.and_arith.proofs.Turning.{Goes}
 
 -- No place is known twice where nothing is listed twice.
 once_listed : (known : List Known) → AreDistinct (map (λ (k : Known). k.setting.place) known) → (place : ℕ) (q r : Ref)
-    → Contains (map (λ (k : Known). k.setting) known) (record { place = place; value = q }) → Contains (map (λ (k : Known). k.setting) known) (record { place = place; value = r }) → q ≡ r
+    → Contains (map (λ (k : Known). k.setting) known) (record { place = place; value = q })
+    → Contains (map (λ (k : Known). k.setting) known) (record { place = place; value = r }) → q ≡ r
 once_listed [] distinct place q r a b = absurd (none_in (record { place = place; value = q }) a)
 once_listed (k ∷ known) distinct place q r a b =
     elim (first_or_later (map (λ (k : Known). k.setting) known) k.setting (record { place = place; value = q }) a) [
@@ -42,7 +45,8 @@ once_listed (k ∷ known) distinct place q r a b =
       ]
       | inr first ↦ elim (first_or_later (map (λ (k : Known). k.setting) known) k.setting (record { place = place; value = r }) b) [
         | inl f ↦ absurd (apart first (ap (λ (s : Setting). s.place) f))
-        | inr later ↦ once_listed known (all_pairs_rest (λ n m. n ≢ m) k.setting.place (map (λ (k : Known). k.setting.place) known) distinct) place q r first later
+        | inr later ↦ once_listed known (all_pairs_rest (λ n m. n ≢ m) k.setting.place (map (λ (k : Known). k.setting.place) known) distinct)
+            place q r first later
       ]
     ]
   where
@@ -50,7 +54,8 @@ once_listed (k ∷ known) distinct place q r a b =
     apart {x} c e =
         let w = from_image (λ (k : Known). k.setting) known (record { place = place; value = x }) c in
         let among : Contains (map (λ (k : Known). k.setting.place) known) w.0.setting.place = image_in (λ (k : Known). k.setting.place) known w.0 w.1 in
-        All-contains (λ m. k.setting.place ≢ m) (map (λ (k : Known). k.setting.place) known) w.0.setting.place (all_pairs_first (λ n m. n ≢ m) k.setting.place (map (λ (k : Known). k.setting.place) known) distinct) among
+        All-contains (λ m. k.setting.place ≢ m) (map (λ (k : Known). k.setting.place) known) w.0.setting.place
+        (all_pairs_first (λ n m. n ≢ m) k.setting.place (map (λ (k : Known). k.setting.place) known) distinct) among
         (e ∙ sym (ap (λ (s : Setting). s.place) w.2))
 
 pub coherent_once : (s : Seen) → IsCoherent s → IsOnce s
@@ -82,7 +87,10 @@ module _ (P : NamedProgram) (fall : AllFall 0 P.skeleton.nodes) (first : Seen) (
     counted = refl;
     led = λ r c. whole r (sym (own r c));
     cells = refl;
-    opened = record { distinct = all_pairs_none (λ n m. n ≢ m); reached = All-nil (λ (k : Setting). Reaches P first root (Cell k.place) × Knows first k.place k.value) };
+    opened = record {
+      distinct = all_pairs_none (λ n m. n ≢ m);
+      reached = All-nil (λ (k : Setting). Reaches P first root (Cell k.place) × Knows first k.place k.value);
+    };
     root_covered = waiting root (first_in [] (Enter root) (Enter root) refl);
     covered = λ k c. absurd (none_in k c);
     later = λ t more. begins P t more.once root;
@@ -95,7 +103,8 @@ module _ (P : NamedProgram) (fall : AllFall 0 P.skeleton.nodes) (first : Seen) (
   paid_first began = record { spent = 0; began_with = omega arith; balance = omega arith }
 
   -- The same of a work list with the expression alone.
-  pub begins_with : (began : ℕ) (tasks : List Task) (values : List (Option ℤ)) (taken : Listed) → IsOnce first → IsInRange P first.words root → IsWrittenIfNumber first root
+  pub begins_with : (began : ℕ) (tasks : List Task) (values : List (Option ℤ)) (taken : Listed) → IsOnce first → IsInRange P first.words root
+      → IsWrittenIfNumber first root
       → tasks ≡ Enter root ∷ [] → values ≡ [] → taken ≡ [] → Stands P first root [] first tasks values taken × Paid P root [] began tasks began
   begins_with began tasks values taken once fits written a b c = (
     subst (λ x. Stands P first root [] first x values taken) (sym a)
@@ -105,7 +114,8 @@ module _ (P : NamedProgram) (fall : AllFall 0 P.skeleton.nodes) (first : Seen) (
   )
 
   -- A turn is paid.
-  pub paid_on : (settings : List Setting) (began : ℕ) (old new : Stand) → (g : Goes P first root settings old new) → Paid P root settings began old.tasks old.fuel → Paid P root g.more began new.tasks new.fuel
+  pub paid_on : (settings : List Setting) (began : ℕ) (old new : Stand) → (g : Goes P first root settings old new)
+      → Paid P root settings began old.tasks old.fuel → Paid P root g.more began new.tasks new.fuel
   paid_on settings began old new g p = record {
     spent = p.spent + g.took;
     began_with = let f = g.fuel in let b = p.began_with in omega arith;
@@ -113,7 +123,8 @@ module _ (P : NamedProgram) (fall : AllFall 0 P.skeleton.nodes) (first : Seen) (
   }
 
   -- what stands can take its next turn
-  pub is_ready : (settings : List Setting) (now : Seen) (tasks : List Task) (values : List (Option ℤ)) (taken : Listed) (fuel : ℕ) → Stands P first root settings now tasks values taken
+  pub is_ready : (settings : List Setting) (now : Seen) (tasks : List Task) (values : List (Option ℤ)) (taken : Listed) (fuel : ℕ)
+      → Stands P first root settings now tasks values taken
       → IsReady P (record { seen = now; tasks = tasks; values = values; taken = taken; fuel = fuel })
   is_ready settings now tasks values taken fuel h = record {
     enters = h.in_range;
@@ -125,7 +136,8 @@ module _ (P : NamedProgram) (fall : AllFall 0 P.skeleton.nodes) (first : Seen) (
     same_seen : Extends now now
     same_seen = record { knows = λ p q k. k; once = h.once }
 
-    below : (cell : ℕ) (node : NodeNo) (base : ℕ) → Contains (cells_of taken) cell → Knows now cell (Node node base) → Covered P now [] (cells_of taken) (Node node base)
+    below : (cell : ℕ) (node : NodeNo) (base : ℕ) → Contains (cells_of taken) cell → Knows now cell (Node node base)
+        → Covered P now [] (cells_of taken) (Node node base)
     below cell node base among knows =
         let w = from_image (λ (k : Setting). k.place) settings cell (subst (λ xs. Contains xs cell) (sym h.cells) among) in
         let both = All-contains (λ (k : Setting). Reaches P now root (Cell k.place) × Knows now k.place k.value) settings w.0 h.opened.reached w.1 in
@@ -164,7 +176,8 @@ module _ (P : NamedProgram) (fall : AllFall 0 P.skeleton.nodes) (first : Seen) (
     pub lacks_value : (others : List (Option ℤ)) → values ≡ None ∷ others → LacksValue P now root
     lacks_value others e = (ground, λ t known. ((owed None others e).of_term t known).0)
 
-    opened_or_one : (cell : ℕ) (r : Ref) → Passed P now (cells_of taken) cell → Knows now cell r → Contains settings (record { place = cell; value = r }) ⊎ (size_of P r ≡ 1)
+    opened_or_one : (cell : ℕ) (r : Ref) → Passed P now (cells_of taken) cell → Knows now cell r
+        → Contains settings (record { place = cell; value = r }) ⊎ (size_of P r ≡ 1)
     opened_or_one cell r (on_chain c next k rest) knows = inr (ap (size_of P) (h.once c r (Cell next) knows k))
     opened_or_one cell r (on_pair c pair high low k a b) knows = inr (ap (size_of P) (h.once c r (Number pair) knows k))
     opened_or_one cell r (on_half c bits k) knows = inr (ap (size_of P) (h.once c r (Half bits) knows k))
@@ -173,7 +186,8 @@ module _ (P : NamedProgram) (fall : AllFall 0 P.skeleton.nodes) (first : Seen) (
         let w = from_image (λ (k : Setting). k.place) settings c (subst (λ xs. Contains xs c) (sym h.cells) among) in
         let both = All-contains (λ (k : Setting). Reaches P now root (Cell k.place) × Knows now k.place k.value) settings w.0 h.opened.reached w.1 in
         let same : w.0.value ≡ r = h.once c w.0.value r (subst (λ x. Knows now x w.0.value) w.2 both.1) knows in
-        let is : w.0 ≡ record { place = c; value = r } = ap (λ (x : ℕ). record { place = x; value = w.0.value }) w.2 ∙ ap (λ (x : Ref). record { place = c; value = x }) same in
+        let is : w.0 ≡ record { place = c; value = r } = ap (λ (x : ℕ). record { place = x; value = w.0.value }) w.2
+        ∙ ap (λ (x : Ref). record { place = c; value = x }) same in
         inl (subst (Contains settings) is w.1)
 
     -- And all parts were paid.
@@ -187,7 +201,8 @@ module _ (P : NamedProgram) (fall : AllFall 0 P.skeleton.nodes) (first : Seen) (
     )
 
   -- The cell that the next part leads to, and that was found free, is the first variable of the expression.
-  module _ (settings : List Setting) (began : ℕ) (old new : Stand) (shared cell : ℕ) (once : IsOnce new.seen) (s : Stops shared cell old new) (h : Stands P first root settings old.seen old.tasks old.values old.taken) where
+  module _ (settings : List Setting) (began : ℕ) (old new : Stand) (shared cell : ℕ) (once : IsOnce new.seen) (s : Stops shared cell old new)
+      (h : Stands P first root settings old.seen old.tasks old.values old.taken) where
     stood : Stands P first root settings new.seen (Enter s.part ∷ s.rest) old.values old.taken
     stood = stands_later P fall first root settings old.seen new.seen (Enter s.part ∷ s.rest) old.values old.taken s.reads once
         (subst (λ x. Stands P first root settings old.seen x old.values old.taken) s.next h)
@@ -210,7 +225,8 @@ module _ (P : NamedProgram) (fall : AllFall 0 P.skeleton.nodes) (first : Seen) (
         first_of : Ahead P new.seen once (Enter s.part ∷ s.rest) (variables_of t) → (others : List (Path × ℕ)) × (variables_of t ≡ ([], cell) ∷ others)
         first_of (u, ys, of_part, is, ahead) = (ys, is ∙ ap (λ xs. xs ++ ys) (own u of_part))
 
-    pub waits_paid : Paid P root settings began old.tasks old.fuel → (new.fuel < began) × ((ks : List Setting) × AreOpened P new.seen root ks × (began ≤ new.fuel + parts_with P root ks))
+    pub waits_paid : Paid P root settings began old.tasks old.fuel
+        → (new.fuel < began) × ((ks : List Setting) × AreOpened P new.seen root ks × (began ≤ new.fuel + parts_with P root ks))
     waits_paid p =
         let b = p.balance in
         let f = p.began_with in
@@ -220,7 +236,8 @@ module _ (P : NamedProgram) (fall : AllFall 0 P.skeleton.nodes) (first : Seen) (
         (omega arith, (settings, stood.opened, omega arith))
 
   -- Where the fuel is used up with a part left, there are more parts than there was fuel.
-  pub put_off_paid : (settings : List Setting) (began : ℕ) (old new : Stand) → PutsOff old new → Stands P first root settings old.seen old.tasks old.values old.taken → Paid P root settings began old.tasks old.fuel
+  pub put_off_paid : (settings : List Setting) (began : ℕ) (old new : Stand) → PutsOff old new
+      → Stands P first root settings old.seen old.tasks old.values old.taken → Paid P root settings began old.tasks old.fuel
       → (new.fuel ≡ 0) × ((ks : List Setting) × AreOpened P new.seen root ks × (began < parts_with P root ks))
   put_off_paid settings began old new off h p =
       let b = p.balance in
@@ -231,9 +248,11 @@ module _ (P : NamedProgram) (fall : AllFall 0 P.skeleton.nodes) (first : Seen) (
       (none.1, (settings, subst (λ x. AreOpened P x root settings) (sym off.seen) h.opened, omega arith))
 
   -- The same of a walk that finished.
-  module _ (settings : List Setting) (old new : Stand) (v : Option ℤ) (f : Finishes v old new) (h : Stands P first root settings old.seen old.tasks old.values old.taken) where
+  module _ (settings : List Setting) (old new : Stand) (v : Option ℤ) (f : Finishes v old new)
+      (h : Stands P first root settings old.seen old.tasks old.values old.taken) where
     done : Stands P first root settings new.seen [] old.values old.taken
-    done = subst (λ x. Stands P first root settings x [] old.values old.taken) (sym f.seen) (subst (λ x. Stands P first root settings old.seen x old.values old.taken) f.done h)
+    done = subst (λ x. Stands P first root settings x [] old.values old.taken) (sym f.seen)
+        (subst (λ x. Stands P first root settings old.seen x old.values old.taken) f.done h)
 
     pub finished_value : (z : ℤ) → v ≡ Some z → HasValue P new.seen root z
     finished_value z e = has_value settings new.seen old.values old.taken done z f.others (f.last ∙ ap (λ x. x ∷ f.others) e)
@@ -256,7 +275,8 @@ pub spends_by : (P : NamedProgram) (now : Seen) (root : Ref) (began rest : ℕ) 
     → Spends P now root began rest answer
 spends_by P now root began rest answer number none waits off = record { whole = whole_of answer refl; waits = waits; put_off = off }
   where
-    whole_of : (a : Valued) → answer ≡ a → IsSettledAnswer a → (ks : List Setting) × AreOpened P now root ks × AreAllOpened P now root ks × (began ≡ rest + parts_with P root ks)
+    whole_of : (a : Valued) → answer ≡ a → IsSettledAnswer a
+        → (ks : List Setting) × AreOpened P now root ks × AreAllOpened P now root ks × (began ≡ rest + parts_with P root ks)
     whole_of (valued.Number z) e is = number z e
     whole_of valued.NoValue e is = none e
     whole_of (valued.Waits cell) e is = absurd is

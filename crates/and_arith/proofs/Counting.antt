@@ -62,22 +62,26 @@ part_size : (P : NamedProgram) (base n : ℕ) → AllFall 0 P.skeleton.nodes →
 part_size P base n fall =
     resolved_size P (terms_behind [] P.skeleton.nodes) (shape_at P.skeleton n) (record { 0 = n }) base (node_term_shape P.skeleton.nodes n fall)
 
-arguments_sizes : (P : NamedProgram) (base : ℕ) (ns : List ℕ) → AllFall 0 P.skeleton.nodes → sizes (term_list (map (nth (terms_behind [] P.skeleton.nodes)) ns)) ≡ sizes_of P (map (part_at P base) ns)
+arguments_sizes : (P : NamedProgram) (base : ℕ) (ns : List ℕ) → AllFall 0 P.skeleton.nodes
+    → sizes (term_list (map (nth (terms_behind [] P.skeleton.nodes)) ns)) ≡ sizes_of P (map (part_at P base) ns)
 arguments_sizes P base [] fall = refl
 arguments_sizes P base (n ∷ ns) fall = omega (arith, part_size P base n fall, arguments_sizes P base ns fall)
 
 -- A structure has one part more than its arguments.
-pub opened_size : (P : NamedProgram) (node : NodeNo) (base : ℕ) (is : IsStructureAt P node) → AllFall 0 P.skeleton.nodes → size_of P (Node node base) ≡ 1 + sizes_of P (parts_of P (Node node base))
+pub opened_size : (P : NamedProgram) (node : NodeNo) (base : ℕ) (is : IsStructureAt P node) → AllFall 0 P.skeleton.nodes
+    → size_of P (Node node base) ≡ 1 + sizes_of P (parts_of P (Node node base))
 opened_size P node base is fall =
     ap size (node_term_shape P.skeleton.nodes node.0 fall ∙ ap (shape_term (terms_behind [] P.skeleton.nodes)) is.shape)
     ∙ ap (λ n. 1 + n) (arguments_sizes P base is.arguments fall ∙ ap (sizes_of P) (sym (parts_are P node base is)))
 
 -- A literal has one.
-pub literal_size : (P : NamedProgram) (node : NodeNo) (base : ℕ) (z : ℤ) → AllFall 0 P.skeleton.nodes → shape_at P.skeleton node.0 ≡ shapes.number z → size_of P (Node node base) ≡ 1
+pub literal_size : (P : NamedProgram) (node : NodeNo) (base : ℕ) (z : ℤ) → AllFall 0 P.skeleton.nodes → shape_at P.skeleton node.0 ≡ shapes.number z
+    → size_of P (Node node base) ≡ 1
 literal_size P node base z fall at = ap size (node_term_shape P.skeleton.nodes node.0 fall ∙ ap (shape_term (terms_behind [] P.skeleton.nodes)) at)
 
 -- one cell more is opened
-pub parts_push : (P : NamedProgram) (settings : List Setting) (k : Setting) → parts_behind P (settings ++ k ∷ []) ≡ parts_behind P settings + (size_of P k.value - 1)
+pub parts_push : (P : NamedProgram) (settings : List Setting) (k : Setting)
+    → parts_behind P (settings ++ k ∷ []) ≡ parts_behind P settings + (size_of P k.value - 1)
 parts_push P [] k = omega arith
 parts_push P (j ∷ settings) k = omega (arith, parts_push P settings k)
 
@@ -113,7 +117,8 @@ tasks_weight P (Enter r ∷ tasks) = 2 * size_of P r + tasks_weight P tasks
 tasks_weight P (Leave name count ∷ tasks) = suc (tasks_weight P tasks)
 tasks_weight P (Keep cell ∷ tasks) = suc (tasks_weight P tasks)
 
-pub tasks_weight_behind : (P : NamedProgram) (rs : List Ref) (tasks : List Task) → tasks_weight P (map Enter rs ++ tasks) ≡ 2 * sizes_of P rs + tasks_weight P tasks
+pub tasks_weight_behind : (P : NamedProgram) (rs : List Ref) (tasks : List Task)
+    → tasks_weight P (map Enter rs ++ tasks) ≡ 2 * sizes_of P rs + tasks_weight P tasks
 tasks_weight_behind P [] tasks = omega arith
 tasks_weight_behind P (r ∷ rs) tasks = omega (arith, tasks_weight_behind P rs tasks)
 

@@ -21,7 +21,8 @@ pub data Passed (P : NamedProgram) (s : Seen) (taken : List ℕ) : ℕ → Type 
   on_chain : (cell next : ℕ) → Knows s cell (Cell next) → Passed P s taken next → Passed P s taken cell
   on_pair : (cell pair : ℕ) (high low : Ref) → Knows s cell (Number pair) → Knows s pair high → Knows s (suc pair) low → Passed P s taken cell
   on_half : (cell bits : ℕ) → Knows s cell (Half bits) → Passed P s taken cell
-  on_literal : (cell : ℕ) (node : NodeNo) (base : ℕ) (z : ℤ) → Knows s cell (Node node base) → shape_at P.skeleton node.0 ≡ shapes.number z → Passed P s taken cell
+  on_literal : (cell : ℕ) (node : NodeNo) (base : ℕ) (z : ℤ) → Knows s cell (Node node base) → shape_at P.skeleton node.0 ≡ shapes.number z
+      → Passed P s taken cell
   on_taken : (cell : ℕ) (node : NodeNo) (base : ℕ) → Knows s cell (Node node base) → Contains taken cell → Passed P s taken cell
 
 -- What was passed, but for what lies below tasks.
@@ -30,20 +31,24 @@ pub data Covered (P : NamedProgram) (s : Seen) (tasks : List Task) (taken : List
   at_cell : (cell : ℕ) → Passed P s taken cell → Covered P s tasks taken (Cell cell)
   at_pair : (pair : ℕ) (high low : Ref) → Knows s pair high → Knows s (suc pair) low → Covered P s tasks taken (Number pair)
   at_half : (bits : ℕ) → Covered P s tasks taken (Half bits)
-  at_node : (node : NodeNo) (base : ℕ) → ((r : Ref) → Contains (parts_of P (Node node base)) r → Covered P s tasks taken r) → Covered P s tasks taken (Node node base)
+  at_node : (node : NodeNo) (base : ℕ) → ((r : Ref) → Contains (parts_of P (Node node base)) r → Covered P s tasks taken r)
+      → Covered P s tasks taken (Node node base)
 
 -- what is known goes on to be known
 abbrev pub Onward : Seen → Seen → Type 0
 Onward s t = (place : ℕ) (r : Ref) → Knows s place r → Knows t place r
 
 -- a node that is a number has no parts
-pub literal_no_parts : (P : NamedProgram) (node : NodeNo) (base : ℕ) (z : ℤ) (r : Ref) → shape_at P.skeleton node.0 ≡ shapes.number z → Contains (parts_of P (Node node base)) r → ⊥
+pub literal_no_parts : (P : NamedProgram) (node : NodeNo) (base : ℕ) (z : ℤ) (r : Ref) → shape_at P.skeleton node.0 ≡ shapes.number z
+    → Contains (parts_of P (Node node base)) r → ⊥
 literal_no_parts P node base z r at c = none_in r (subst (λ s. Contains (map (part_at P base) (arguments_in s)) r) at c)
 
 module _ (P : NamedProgram) where
-  pub passed_on : (s t : Seen) (taken more : List ℕ) → Onward s t → ((c : ℕ) → Contains taken c → Contains more c) → (cell : ℕ) → Passed P s taken cell → Passed P t more cell
+  pub passed_on : (s t : Seen) (taken more : List ℕ) → Onward s t → ((c : ℕ) → Contains taken c → Contains more c) → (cell : ℕ) → Passed P s taken cell
+      → Passed P t more cell
   passed_on s t taken more knows kept cell (on_chain c next k rest) = on_chain c next (knows c (Cell next) k) (passed_on s t taken more knows kept next rest)
-  passed_on s t taken more knows kept cell (on_pair c pair high low k a b) = on_pair c pair high low (knows c (Number pair) k) (knows pair high a) (knows (suc pair) low b)
+  passed_on s t taken more knows kept cell (on_pair c pair high low k a b) =
+      on_pair c pair high low (knows c (Number pair) k) (knows pair high a) (knows (suc pair) low b)
   passed_on s t taken more knows kept cell (on_half c bits k) = on_half c bits (knows c (Half bits) k)
   passed_on s t taken more knows kept cell (on_literal c node base z k at) = on_literal c node base z (knows c (Node node base) k) at
   passed_on s t taken more knows kept cell (on_taken c node base k among) = on_taken c node base (knows c (Node node base) k) (kept c among)
@@ -55,7 +60,8 @@ module _ (P : NamedProgram) where
   covered_on s t tasks left taken more knows kept done r (at_cell cell p) = at_cell cell (passed_on s t taken more knows kept cell p)
   covered_on s t tasks left taken more knows kept done r (at_pair pair high low a b) = at_pair pair high low (knows pair high a) (knows (suc pair) low b)
   covered_on s t tasks left taken more knows kept done r (at_half bits) = at_half bits
-  covered_on s t tasks left taken more knows kept done r (at_node node base parts) = at_node node base (λ q c. covered_on s t tasks left taken more knows kept done q (parts q c))
+  covered_on s t tasks left taken more knows kept done r (at_node node base parts) =
+      at_node node base (λ q c. covered_on s t tasks left taken more knows kept done q (parts q c))
 
   -- what leads to a cell is one
   pub leads_from_cell : (s : Seen) (p : Ref) (cell : ℕ) → LeadsTo s p (Cell cell) → (c : ℕ) × (p ≡ Cell c)
@@ -66,7 +72,8 @@ module _ (P : NamedProgram) where
       at a b (onward c r to knows rest) e = (c, refl)
 
   -- What leads to a cell that was passed is covered.
-  pub chain_passed : (s : Seen) (taken : List ℕ) (p : Ref) (cell : ℕ) → LeadsTo s p (Cell cell) → Passed P s taken cell → (c : ℕ) × (p ≡ Cell c) × Passed P s taken c
+  pub chain_passed : (s : Seen) (taken : List ℕ) (p : Ref) (cell : ℕ) → LeadsTo s p (Cell cell) → Passed P s taken cell
+      → (c : ℕ) × (p ≡ Cell c) × Passed P s taken c
   chain_passed s taken p cell leads passed = at p (Cell cell) leads refl
     where
       at : (a b : Ref) → LeadsTo s a b → b ≡ Cell cell → (c : ℕ) × (a ≡ Cell c) × Passed P s taken c
@@ -75,7 +82,8 @@ module _ (P : NamedProgram) where
           let w : (d : ℕ) × (r ≡ Cell d) × Passed P s taken d = at r to rest e in
           (c, refl, on_chain c w.0 (subst (λ q. Knows s c q) w.1 knows) w.2)
 
-  pub chain_covered : (s : Seen) (tasks : List Task) (taken : List ℕ) (p : Ref) (cell : ℕ) → LeadsTo s p (Cell cell) → Passed P s taken cell → Covered P s tasks taken p
+  pub chain_covered : (s : Seen) (tasks : List Task) (taken : List ℕ) (p : Ref) (cell : ℕ) → LeadsTo s p (Cell cell) → Passed P s taken cell
+      → Covered P s tasks taken p
   chain_covered s tasks taken p cell leads passed =
       let w = chain_passed s taken p cell leads passed in
       subst (λ q. Covered P s tasks taken q) (sym w.1) (at_cell w.0 w.2)
@@ -92,7 +100,8 @@ module _ (P : NamedProgram) where
   end_passed s taken place v cell knows (of_literal node base z fits at) = on_literal cell node base z knows at
 
   -- Where no task is left, all that is below what is covered is.
-  pub covered_parts : (s : Seen) (taken : List ℕ) (node : NodeNo) (base : ℕ) (r : Ref) → Covered P s [] taken (Node node base) → Contains (parts_of P (Node node base)) r → Covered P s [] taken r
+  pub covered_parts : (s : Seen) (taken : List ℕ) (node : NodeNo) (base : ℕ) (r : Ref) → Covered P s [] taken (Node node base)
+      → Contains (parts_of P (Node node base)) r → Covered P s [] taken r
   covered_parts s taken node base r covered c = at (Node node base) covered refl
     where
       at : (q : Ref) → Covered P s [] taken q → q ≡ Node node base → Covered P s [] taken r
@@ -112,7 +121,8 @@ module _ (P : NamedProgram) where
       at q (at_half bits) e = absurd (cc)
       at q (at_node n b parts) e = absurd (cc)
 
-  pub covered_pair : (s : Seen) (taken : List ℕ) (pair : ℕ) → Covered P s [] taken (Number pair) → ((high : Ref) × Knows s pair high) × ((low : Ref) × Knows s (suc pair) low)
+  pub covered_pair : (s : Seen) (taken : List ℕ) (pair : ℕ) → Covered P s [] taken (Number pair)
+      → ((high : Ref) × Knows s pair high) × ((low : Ref) × Knows s (suc pair) low)
   covered_pair s taken pair covered = at (Number pair) covered refl
     where
       at : (q : Ref) → Covered P s [] taken q → q ≡ Number pair → ((high : Ref) × Knows s pair high) × ((low : Ref) × Knows s (suc pair) low)
@@ -127,11 +137,13 @@ module _ (P : NamedProgram) where
       → ((cell : ℕ) (node : NodeNo) (base : ℕ) → Contains taken cell → Knows s cell (Node node base) → Covered P s [] taken (Node node base))
       → (cell : ℕ) (r : Ref) → Passed P s taken cell → Knows s cell r → Covered P s [] taken r
   set_covered s taken once below cell r (on_chain c next k rest) knows = subst (λ q. Covered P s [] taken q) (once c (Cell next) r k knows) (at_cell next rest)
-  set_covered s taken once below cell r (on_pair c pair high low k a b) knows = subst (λ q. Covered P s [] taken q) (once c (Number pair) r k knows) (at_pair pair high low a b)
+  set_covered s taken once below cell r (on_pair c pair high low k a b) knows =
+      subst (λ q. Covered P s [] taken q) (once c (Number pair) r k knows) (at_pair pair high low a b)
   set_covered s taken once below cell r (on_half c bits k) knows = subst (λ q. Covered P s [] taken q) (once c (Half bits) r k knows) (at_half bits)
   set_covered s taken once below cell r (on_literal c node base z k at) knows =
       subst (λ q. Covered P s [] taken q) (once c (Node node base) r k knows) (at_node node base (λ x i. absurd (literal_no_parts P node base z x at i)))
-  set_covered s taken once below cell r (on_taken c node base k among) knows = subst (λ q. Covered P s [] taken q) (once c (Node node base) r k knows) (below c node base among k)
+  set_covered s taken once below cell r (on_taken c node base k among) knows =
+      subst (λ q. Covered P s [] taken q) (once c (Node node base) r k knows) (below c node base among k)
 
   -- So all that is led to is covered.
   pub all_covered : (s : Seen) (taken : List ℕ) (root : Ref) → ((place : ℕ) (q r : Ref) → Knows s place q → Knows s place r → q ≡ r)
@@ -140,7 +152,8 @@ module _ (P : NamedProgram) where
   all_covered s taken root once below covered r (whole q e) = subst (λ x. Covered P s [] taken x) (sym e) covered
   all_covered s taken root once below covered r (set cell q at knows) =
       set_covered s taken once below cell q (covered_cell s taken cell (all_covered s taken root once below covered (Cell cell) at)) knows
-  all_covered s taken root once below covered r (part node base q at among) = covered_parts s taken node base q (all_covered s taken root once below covered (Node node base) at) among
+  all_covered s taken root once below covered r (part node base q at among) =
+      covered_parts s taken node base q (all_covered s taken root once below covered (Node node base) at) among
 
 -- what is led to stays so as more is known
 pub reaches_later : (P : NamedProgram) (s t : Seen) (root r : Ref) → Onward s t → Reaches P s root r → Reaches P t root r

@@ -22,7 +22,8 @@ enters_itself P part old new before after fuel reads fits comes = record {
 }
 
 -- a cell led to it
-pub enters_set : (P : NamedProgram) (part place : Ref) (from cell : ℕ) (old mid new : Seen) (before after : WorkList) (fuel : ℕ) → part ≡ Cell from → OnlyReads old mid → OnlyReads mid new
+pub enters_set : (P : NamedProgram) (part place : Ref) (from cell : ℕ) (old mid new : Seen) (before after : WorkList) (fuel : ℕ) → part ≡ Cell from
+    → OnlyReads old mid → OnlyReads mid new
     → LeadsTo mid (Cell from) (Cell cell) → Knows mid cell place → IsInRangeOrHalf P mid.words place
     → Comes P (Some cell) place new (undone before) (undone after) → Enters P part (stand old before (suc fuel)) (stand new after fuel)
 enters_set P part place from cell old mid new before after fuel is first later leads knows fits comes = record {

@@ -86,7 +86,13 @@ module _ (P : NamedProgram) (s : Seen) where
   pair_cases_at r t pair e (bound c q u knows rest) = absurd (cc)
   pair_cases_at r t pair e (integer p high low a b) =
       let same : p ≡ pair = cc in
-      record { high = high; low = low; knows_high = subst (λ (x : ℕ). Knows s x high) same a; knows_low = subst (λ (x : ℕ). Knows s (suc x) low) same b; is = refl }
+      record {
+        high = high;
+        low = low;
+        knows_high = subst (λ (x : ℕ). Knows s x high) same a;
+        knows_low = subst (λ (x : ℕ). Knows s (suc x) low) same b;
+        is = refl;
+      }
   pair_cases_at r t pair e (literal n b z at) = absurd (cc)
   pair_cases_at r t pair e (structure n b name arguments ts at parts) = absurd (cc)
 
@@ -105,10 +111,12 @@ module _ (P : NamedProgram) (s : Seen) where
   half_has_none bits t known = (no_term_at (Half bits) t known).1 bits refl
 
   -- the terms of a list that begins with this one
-  pub all_first : (r : Ref) (rs : List Ref) (us : Terms) → AllKnownAs P s (r ∷ rs) us → (t : Term) × (ts : Terms) × (us ≡ terms.more t ts) × KnownAs P s r t × AllKnownAs P s rs ts
+  pub all_first : (r : Ref) (rs : List Ref) (us : Terms) → AllKnownAs P s (r ∷ rs) us
+      → (t : Term) × (ts : Terms) × (us ≡ terms.more t ts) × KnownAs P s r t × AllKnownAs P s rs ts
   all_first r rs us known = at (r ∷ rs) us refl known
     where
-      at : (qs : List Ref) (us : Terms) → qs ≡ r ∷ rs → AllKnownAs P s qs us → (t : Term) × (ts : Terms) × (us ≡ terms.more t ts) × KnownAs P s r t × AllKnownAs P s rs ts
+      at : (qs : List Ref) (us : Terms) → qs ≡ r ∷ rs → AllKnownAs P s qs us
+          → (t : Term) × (ts : Terms) × (us ≡ terms.more t ts) × KnownAs P s r t × AllKnownAs P s rs ts
       at qs us e no_parts = absurd (cc)
       at qs us e (more_parts q t qs' ts first rest) =
           let same : q ≡ r = cc in
@@ -133,7 +141,8 @@ module _ (P : NamedProgram) (s : Seen) (once : IsOnce s) where
     ]
     one_known r t u (integer pair high low a b) other =
         let p = pair_cases P s pair u other in
-        ap (λ x. terms.number (number_of x low)) (once pair high p.high a p.knows_high) ∙ ap (λ x. terms.number (number_of p.high x)) (once (suc pair) low p.low b p.knows_low) ∙ sym p.is
+        ap (λ x. terms.number (number_of x low)) (once pair high p.high a p.knows_high)
+        ∙ ap (λ x. terms.number (number_of p.high x)) (once (suc pair) low p.low b p.knows_low) ∙ sym p.is
     one_known r t u (literal node base z at) other = elim (node_cases P s node base u other) [
       | inl number ↦ let same : z ≡ number.0 = cc in ap (λ x. terms.number x) same ∙ sym number.2
       | inr made ↦ let shape = sym at ∙ made.shape in absurd (cc)
@@ -144,8 +153,10 @@ module _ (P : NamedProgram) (s : Seen) (once : IsOnce s) where
           let shape = sym at ∙ made.shape in
           let same_name : name ≡ made.name = cc in
           let same_arguments : made.arguments ≡ arguments = cc in
-          let others : AllKnownAs P s (map (part_at P base) arguments) made.terms_of = subst (λ ns. AllKnownAs P s (map (part_at P base) ns) made.terms_of) same_arguments made.parts in
-          ap (λ n. terms.compound n ts) same_name ∙ ap (λ xs. terms.compound made.name xs) (all_one (map (part_at P base) arguments) ts made.terms_of parts others) ∙ sym made.is
+          let others : AllKnownAs P s (map (part_at P base) arguments) made.terms_of =
+          subst (λ ns. AllKnownAs P s (map (part_at P base) ns) made.terms_of) same_arguments made.parts in
+          ap (λ n. terms.compound n ts) same_name
+          ∙ ap (λ xs. terms.compound made.name xs) (all_one (map (part_at P base) arguments) ts made.terms_of parts others) ∙ sym made.is
     ]
 
     all_one : (rs : List Ref) (ts us : Terms) → AllKnownAs P s rs ts → AllKnownAs P s rs us → ts ≡ us

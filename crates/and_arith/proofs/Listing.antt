@@ -1,8 +1,10 @@
 -- Cells that were taken, as entries of a list.
-use Rattle.std.proofs.Common.{ℕ, zero, suc, ℤ, ◌≡◌, ◌≢◌, ◌<◌, ◌⊎◌, inl, inr, List, [], ◌∷◌, ◌++◌, map, length, get_or, set, Option, None, refl, ap, sym, ◌∙◌, subst, arith}
+use Rattle.std.proofs.Common.{ℕ, zero, suc, ℤ, ◌≡◌, ◌≢◌, ◌<◌, ◌⊎◌, inl, inr, List, [], ◌∷◌, ◌++◌, map, length, get_or, set, Option, None, refl, ap, sym, ◌∙◌}
+use Rattle.std.proofs.Common.{subst, arith}
 use Rattle.std.specs.Prelude.{Contains}
 use Rattle.std.proofs.lemmas.Bool.{cases_eq, cases_lt}
-use Rattle.std.proofs.lemmas.List.{length-map, get_or-map, map-set, set-get_or, get_or-set_other, get_or-set_same, length-set, length_push, get_or_push, get_or_append_left}
+use Rattle.std.proofs.lemmas.List.{length-map, get_or-map, map-set, set-get_or, get_or-set_other, get_or-set_same, length-set, length_push, get_or_push}
+use Rattle.std.proofs.lemmas.List.{get_or_append_left}
 use Rattle.std.proofs.lemmas.Grind.{get_or-set_at}
 use Rattle.and_arith.specs.Taken.{Listed, entry_of, cells_of, IsNew, Gives, AreSlotted, no_entry}
 use Rattle.and_arith.specs.declared.taken.Entry.{Entry}
@@ -29,7 +31,8 @@ new_if slots items cell slotted none v (i, below, is) =
     none (omega (arith, slot, low)) (ap (λ k. (get_or items k no_entry).cell) slot ∙ own)
 
 -- and that of an entry was
-pub taken_at : (items : List Entry) (i : ℕ) (cell : ℕ) (e : Entry) → i < length items → e ≡ get_or items i no_entry → e.cell ≡ cell → Contains (map entry_of items) (cell, e.value)
+pub taken_at : (items : List Entry) (i : ℕ) (cell : ℕ) (e : Entry) → i < length items → e ≡ get_or items i no_entry → e.cell ≡ cell
+    → Contains (map entry_of items) (cell, e.value)
 taken_at items i cell e below is at = (
   i,
   subst (λ n. i < n) (sym (length_listed items)) below,
@@ -43,15 +46,18 @@ cell_at items i d below =
     ∙ ap (λ (x : ℕ × Option ℤ). x.0) (listed_at items i (0, None) below)
 
 -- An entry that has its cell again leaves the slots right,
-pub slotted_again : (slots : List ℕ) (items : List Entry) (i : ℕ) (e : Entry) → i < length items → (get_or items i no_entry).cell ≡ e.cell → AreSlotted slots items → AreSlotted slots (set items i e)
+pub slotted_again : (slots : List ℕ) (items : List Entry) (i : ℕ) (e : Entry) → i < length items → (get_or items i no_entry).cell ≡ e.cell
+    → AreSlotted slots items → AreSlotted slots (set items i e)
 slotted_again slots items i e below at slotted j inside =
     let low : j < length items = subst (λ n. j < n) (length-set items i e) inside in
     elim (cases_eq j i) [
-      | inl same ↦ ap (λ (x : Entry). get_or slots x.cell 0) (get_or-set_at items i j e no_entry same below) ∙ ap (λ c. get_or slots c 0) (sym at) ∙ slotted i below ∙ sym same
+      | inl same ↦ ap (λ (x : Entry). get_or slots x.cell 0) (get_or-set_at items i j e no_entry same below) ∙ ap (λ c. get_or slots c 0) (sym at)
+          ∙ slotted i below ∙ sym same
       | inr apart ↦ ap (λ (x : Entry). get_or slots x.cell 0) (get_or-set_other items i j e no_entry apart) ∙ slotted j low
     ]
 
-module _ (slots : List ℕ) (items : List Entry) (i : ℕ) (e : Entry) (below : i < length items) (at : (get_or items i no_entry).cell ≡ e.cell) (slotted : AreSlotted slots items) where
+module _ (slots : List ℕ) (items : List Entry) (i : ℕ) (e : Entry) (below : i < length items) (at : (get_or items i no_entry).cell ≡ e.cell)
+    (slotted : AreSlotted slots items) where
   -- and the cells,
   cells_stay : cells_of (map entry_of (set items i e)) ≡ cells_of (map entry_of items)
   cells_stay =
@@ -68,7 +74,8 @@ module _ (slots : List ℕ) (items : List Entry) (i : ℕ) (e : Entry) (below : 
   pub gives : Gives e.cell e.value (map entry_of items) (map entry_of (set items i e))
   gives = record { cells = cells_stay; only = only_one }
     where
-      only_one : (c : ℕ) (v : Option ℤ) → Contains (map entry_of (set items i e)) (c, v) → ((c ≡ e.cell) × (v ≡ e.value)) ⊎ ((c ≢ e.cell) × Contains (map entry_of items) (c, v))
+      only_one : (c : ℕ) (v : Option ℤ) → Contains (map entry_of (set items i e)) (c, v)
+          → ((c ≡ e.cell) × (v ≡ e.value)) ⊎ ((c ≢ e.cell) × Contains (map entry_of items) (c, v))
       only_one c v (j, inside, is) =
           let long : length (map entry_of (set items i e)) ≡ length items = length_listed (set items i e) ∙ length-set items i e in
           let low : j < length items = subst (λ n. j < n) long inside in
@@ -90,7 +97,8 @@ slotted_push slots items e room new slotted j inside =
     elim (cases_lt j (length items)) [
       | inl low ↦
           let at : get_or (items ++ e ∷ []) j no_entry ≡ get_or items j no_entry = get_or_append_left items (e ∷ []) no_entry j low in
-          let apart : (get_or items j no_entry).cell ≢ e.cell = λ same. new (get_or items j no_entry).value (taken_at items j e.cell (get_or items j no_entry) low refl same) in
+          let apart : (get_or items j no_entry).cell ≢ e.cell =
+          λ same. new (get_or items j no_entry).value (taken_at items j e.cell (get_or items j no_entry) low refl same) in
           ap (λ (x : Entry). get_or (set slots e.cell (length items)) x.cell 0) at
           ∙ get_or-set_other slots e.cell (get_or items j no_entry).cell (length items) 0 apart ∙ slotted j low
       | inr past ↦
@@ -104,7 +112,8 @@ pub length_of : (items : List Entry) (taken : Listed) → map entry_of items ≡
 length_of items taken is = ap length (sym is) ∙ length_listed items
 
 -- the cell of an entry of the list
-pub cell_of : (items : List Entry) (taken : Listed) (i : ℕ) (d : ℕ × Option ℤ) → map entry_of items ≡ taken → i < length items → (get_or taken i d).0 ≡ (get_or items i no_entry).cell
+pub cell_of : (items : List Entry) (taken : Listed) (i : ℕ) (d : ℕ × Option ℤ) → map entry_of items ≡ taken → i < length items
+    → (get_or taken i d).0 ≡ (get_or items i no_entry).cell
 cell_of items taken i d is below = ap (λ (xs : Listed). (get_or xs i d).0) (sym is) ∙ ap (λ (x : ℕ × Option ℤ). x.0) (listed_at items i d below)
 
 -- slots that are the same serve as well

@@ -16,7 +16,8 @@ pub record IsLookedAt (P : NamedProgram) (shared : ℕ) (first now : Seen) (from
   pub falls : (other : ℕ) → word ≡ Cell other → other < cell
 
 -- what a look leaves
-pub looked : (P : NamedProgram) (shared : ℕ) (first mid new : Seen) (from cell : ℕ) (word : Ref) → OnlyReads first mid → LeadsTo mid (Cell from) (Cell cell) → cell < mid.words → OnlyReads mid new
+pub looked : (P : NamedProgram) (shared : ℕ) (first mid new : Seen) (from cell : ℕ) (word : Ref) → OnlyReads first mid → LeadsTo mid (Cell from) (Cell cell)
+    → cell < mid.words → OnlyReads mid new
     → (word ≢ Free → Finds P cell word mid new) → (word ≡ Free → Misses shared cell mid new) → IsLookedAt P shared first new from cell word
 looked P shared first mid new from cell word before leads inside reads found missed = record {
   inside = omega (arith, reads.words, inside);
@@ -36,7 +37,8 @@ looked P shared first mid new from cell word before leads inside reads found mis
 }
 
 -- where the chain goes on
-pub goes_on : (P : NamedProgram) (shared : ℕ) (first now : Seen) (from cell next : ℕ) (word : Ref) → IsLookedAt P shared first now from cell word → word ≡ Cell next
+pub goes_on : (P : NamedProgram) (shared : ℕ) (first now : Seen) (from cell next : ℕ) (word : Ref)
+    → IsLookedAt P shared first now from cell word → word ≡ Cell next
     → LeadsTo now (Cell from) (Cell next) × (next < now.words)
 goes_on P shared first now from cell next word l e =
     let (knows, fits, written) = l.set (λ f. let both : Cell next ≡ Free = sym e ∙ f in absurd (cc)) in (

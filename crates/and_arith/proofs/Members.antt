@@ -27,7 +27,10 @@ module _ {X Y : Type 0} (f : X → Y) where
   -- the image of a member is a member of the images
   pub image_in : (xs : List X) (x : X) → Contains xs x → Contains (map f xs) (f x)
   image_in [] x c = absurd (none_in x c)
-  image_in (y ∷ ys) x c = elim (first_or_later ys y x c) [ inl e ↦ first_in (map f ys) (f y) (f x) (ap f e) | inr later ↦ later_in (map f ys) (f y) (f x) (image_in ys x later) ]
+  image_in (y ∷ ys) x c = elim (first_or_later ys y x c) [
+    | inl e ↦ first_in (map f ys) (f y) (f x) (ap f e)
+    | inr later ↦ later_in (map f ys) (f y) (f x) (image_in ys x later)
+  ]
 
   -- and each of these is the image of one
   pub from_image : (xs : List X) (y : Y) → Contains (map f xs) y → (x : X) × Contains xs x × (f x ≡ y)

@@ -1,5 +1,6 @@
 -- Numbers of 64 bits, and remainders of quotients that are rounded down.
-use Rattle.std.proofs.Common.{◌≡◌, ℕ, zero, suc, ◌-◌, ◌%◌, ◌<◌, ◌^◌, ℤ, pos, negsuc, ◌+ℤ◌, ◌-ℤ◌, ◌*ℤ◌, FitsSigned, w64, true, false, Option, Some, None, SomeIff, refl, sym, ap, ◌∙◌, arith, nat_eq, int_lt, if◌then◌else◌, ◌⊎◌, inl, inr, to_z, of_z}
+use Rattle.std.proofs.Common.{◌≡◌, ℕ, zero, suc, ◌-◌, ◌%◌, ◌<◌, ◌^◌, ℤ, pos, negsuc, ◌+ℤ◌, ◌-ℤ◌, ◌*ℤ◌, FitsSigned, w64, true, false, Option, Some, None}
+use Rattle.std.proofs.Common.{SomeIff, refl, sym, ap, ◌∙◌, arith, nat_eq, int_lt, if◌then◌else◌, ◌⊎◌, inl, inr, to_z, of_z}
 use Rattle.std.specs.Int.{int_rem_euclid}
 use Rattle.std.proofs.lemmas.Bool.{le-leb, cases_lt}
 use Rattle.std.proofs.lemmas.Bool.Decides.{leb_tells, nat_tests}
@@ -29,7 +30,8 @@ checked_in_range None z h = sym (not_in_range z h)
 checked_in_range (Some y) z h = ap Some h.1 ∙ sym (in_range_fits z h.0)
 
 -- the same with the operands as the code reads them
-pub both_read : (o : Option ℤ) (f : ℤ → ℤ → ℤ) (a b : ℤ) → FitsSigned w64 a → FitsSigned w64 b → SomeIff o (FitsSigned w64 (f (to_z w64 (of_z w64 a)) (to_z w64 (of_z w64 b)))) (f (to_z w64 (of_z w64 a)) (to_z w64 (of_z w64 b))) → o ≡ in_range (f a b)
+pub both_read : (o : Option ℤ) (f : ℤ → ℤ → ℤ) (a b : ℤ) → FitsSigned w64 a → FitsSigned w64 b
+    → SomeIff o (FitsSigned w64 (f (to_z w64 (of_z w64 a)) (to_z w64 (of_z w64 b)))) (f (to_z w64 (of_z w64 a)) (to_z w64 (of_z w64 b))) → o ≡ in_range (f a b)
 both_read o f a b p q h =
     checked_in_range o _ h
     ∙ ap (λ x. in_range (f x (to_z w64 (of_z w64 b)))) (to_z-of_z w64 a p)
@@ -114,7 +116,8 @@ not_zero : (b : ℤ) → (of_z w64 b ≡ 0 → ⊥) → b ≡ pos 0 → ⊥
 not_zero b n e = n (ap (of_z w64) e)
 
 -- the three ways in which the code answers
-module _ (a b r : ℤ) (p : FitsSigned w64 a) (q : FitsSigned w64 b) (f : FitsSigned w64 r) (e : r ≡ int_rem_euclid (to_z w64 (of_z w64 a)) (to_z w64 (of_z w64 b))) where
+module _ (a b r : ℤ) (p : FitsSigned w64 a) (q : FitsSigned w64 b) (f : FitsSigned w64 r)
+    (e : r ≡ int_rem_euclid (to_z w64 (of_z w64 a)) (to_z w64 (of_z w64 b))) where
   same : r ≡ int_rem_euclid a b
   same = e ∙ as_read int_rem_euclid a b p q
 
@@ -124,5 +127,7 @@ module _ (a b r : ℤ) (p : FitsSigned w64 a) (q : FitsSigned w64 b) (f : FitsSi
   pub answers_none : (of_z w64 b ≡ 0 → ⊥) → int_lt (pos 0) (to_z w64 (of_z w64 b)) ≡ false → of_z w64 r ≡ 0 → Some (pos 0) ≡ floored_of a b
   answers_none n h z = none_is a b (not_zero b n) (ap (int_lt (pos 0)) (sym (to_z-of_z w64 b q)) ∙ h) (sym same ∙ sym (to_z-of_z w64 r f) ∙ ap (to_z w64) z)
 
-  pub answers_below : (of_z w64 b ≡ 0 → ⊥) → int_lt (pos 0) (to_z w64 (of_z w64 b)) ≡ false → (of_z w64 r ≡ 0 → ⊥) → Some (to_z w64 (of_z w64 r) +ℤ to_z w64 (of_z w64 b)) ≡ floored_of a b
-  answers_below n h z = ap Some (as_read (λ x y. x +ℤ y) r b f q) ∙ below_is a b r (not_zero b n) (ap (int_lt (pos 0)) (sym (to_z-of_z w64 b q)) ∙ h) (not_zero r z) same
+  pub answers_below : (of_z w64 b ≡ 0 → ⊥) → int_lt (pos 0) (to_z w64 (of_z w64 b)) ≡ false → (of_z w64 r ≡ 0 → ⊥)
+      → Some (to_z w64 (of_z w64 r) +ℤ to_z w64 (of_z w64 b)) ≡ floored_of a b
+  answers_below n h z = ap Some (as_read (λ x y. x +ℤ y) r b f q)
+      ∙ below_is a b r (not_zero b n) (ap (int_lt (pos 0)) (sym (to_z-of_z w64 b q)) ∙ h) (not_zero r z) same

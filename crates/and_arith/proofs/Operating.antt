@@ -1,5 +1,6 @@
 -- What operations give for values that may be none.
-use Rattle.std.proofs.Common.{ℕ, ℤ, ◌≡◌, ◌≢◌, ◌≤◌, ◌-◌, List, [], ◌∷◌, ◌++◌, length, reverse, drop, take, Option, Some, None, nat_eq, false, refl, ap, sym, ◌∙◌, arith}
+use Rattle.std.proofs.Common.{ℕ, ℤ, ◌≡◌, ◌≢◌, ◌≤◌, ◌-◌, List, [], ◌∷◌, ◌++◌, length, reverse, drop, take, Option, Some, None, nat_eq, false, refl, ap, sym}
+use Rattle.std.proofs.Common.{◌∙◌, arith}
 use Rattle.std.proofs.lemmas.Bool.Decides.{nat_tests}
 use Rattle.std.proofs.lemmas.List.{reverse-append, reverse-reverse, length-reverse, length-drop, take-append-drop}
 use Rattle.and_model.specs.Arithmetic.{of_one, of_two, operated}
@@ -52,7 +53,8 @@ pub record Ends (count : ℕ) (old new : List (Option ℤ)) (c : ℕ) : Type 0 w
   pub is : reverse old ≡ last ++ reverse new
   pub none : None ≡ operated c (reverse last)
 
-pub truncated : (old new : List (Option ℤ)) (n count c : ℕ) → new ≡ take n old → n ≡ length old - count → count ≤ length old → count ≢ 1 → count ≢ 2 → Ends count old new c
+pub truncated : (old new : List (Option ℤ)) (n count c : ℕ) → new ≡ take n old → n ≡ length old - count → count ≤ length old → count ≢ 1 → count ≢ 2
+    → Ends count old new c
 truncated old new n count c is at within not_one not_two =
     let l : length (drop n old) ≡ count = length-drop n old ∙ omega (arith) in
     record {

@@ -1,5 +1,6 @@
 -- What is owed while tasks are left: the value of the expression, and its first variable.
-use Rattle.std.proofs.Common.{ℕ, ℤ, suc, ◌≡◌, ◌≢◌, ◌<◌, ◌⊎◌, List, [], ◌∷◌, ◌++◌, map, length, reverse, Option, None, refl, ap, sym, ◌∙◌, subst, arith, inl, inr, append_assoc}
+use Rattle.std.proofs.Common.{ℕ, ℤ, suc, ◌≡◌, ◌≢◌, ◌<◌, ◌⊎◌, List, [], ◌∷◌, ◌++◌, map, length, reverse, Option, None, refl, ap, sym, ◌∙◌, subst, arith, inl}
+use Rattle.std.proofs.Common.{inr, append_assoc}
 use Rattle.std.specs.Prelude.{Contains}
 use Rattle.std.proofs.lemmas.List.{reverse-append, append-nil, length-reverse, reverse-reverse}
 use Rattle.std.proofs.lemmas.List.Elements.{Contains-push_cases}
@@ -19,7 +20,8 @@ use Rattle.and_arith.specs.declared.walk.Task.{Task}
 use Rattle.and_arith.specs.declared.walk.Task.TheVariants.{Enter, Leave, Keep}
 use Rattle.and_arith.proofs.Members.{none_in, first_in, later_in, first_or_later}
 use Rattle.and_arith.proofs.KnownTerms.{IsOnce, one_known}
-use Rattle.and_arith.proofs.Yielding.{Yields, AllYield, all_append, all_counted, structure_yields, AreSame, same_yields, nothing_yields, made_of_parts, smaller, parts_are}
+use Rattle.and_arith.proofs.Yielding.{Yields, AllYield, all_append, all_counted, structure_yields, AreSame, same_yields, nothing_yields, made_of_parts}
+use Rattle.and_arith.proofs.Yielding.{smaller, parts_are}
 
 abbrev pub Variables : Type 0
 Variables = List (Path × ℕ)
@@ -98,7 +100,8 @@ module _ (P : NamedProgram) (s : Seen) (once : IsOnce s) where
   }
 
   -- A part that leads to a cell which was taken yields the cell's value: where this is still to be kept, there is no term.
-  pub recalled : (root p : Ref) (cell : ℕ) (v : Option ℤ) (ts : List Task) (values : List (Option ℤ)) (taken : Listed) → AreSame P s p (Cell cell) → Contains taken (cell, v)
+  pub recalled : (root p : Ref) (cell : ℕ) (v : Option ℤ) (ts : List Task) (values : List (Option ℤ)) (taken : Listed) → AreSame P s p (Cell cell)
+      → Contains taken (cell, v)
       → Stays root (Enter p ∷ ts) values taken → Yields P s p v
   recalled root p cell v ts values taken same c h = elim (h.facts cell v c) [
     | inl waits ↦ subst (Yields P s p) (sym waits.0) (nothing_yields P s p (λ t known.
@@ -115,7 +118,8 @@ module _ (P : NamedProgram) (s : Seen) (once : IsOnce s) where
       → Owes root (map Enter rs ++ Leave (record { 0 = is.name }) (length is.arguments) ∷ ts) (reverse ws ++ others)
   owes_parts root node base is ts others rest [] done ws all e =
       let whole : AllYield P s (parts_of P (Node node base)) ws = subst (λ ps. AllYield P s ps ws) (sym (e ∙ append-nil done)) all in
-      let counted : length ws ≡ length is.arguments = all_counted P s (parts_of P (Node node base)) ws whole ∙ ap length (parts_are P node base is) ∙ parts_counted is.arguments in
+      let counted : length ws ≡ length is.arguments = all_counted P s (parts_of P (Node node base)) ws whole ∙ ap length (parts_are P node base is)
+      ∙ parts_counted is.arguments in
       (ws, others, refl, counted, rest (operated is.name ws) (structure_yields P s node base is ws whole))
     where
       parts_counted : (ns : List ℕ) → length (map (Rattle.and_cells.specs.Parts.part_at P base) ns) ≡ length ns
@@ -123,14 +127,17 @@ module _ (P : NamedProgram) (s : Seen) (once : IsOnce s) where
       parts_counted (n ∷ ns) = ap suc (parts_counted ns)
   owes_parts root node base is ts others rest (r ∷ rs) done ws all e = λ v y.
       subst (Owes root (map Enter rs ++ Leave (record { 0 = is.name }) (length is.arguments) ∷ ts)) (ap (λ zs. zs ++ others) (reverse-append ws (v ∷ [])))
-      (owes_parts root node base is ts others rest rs (done ++ r ∷ []) (ws ++ v ∷ []) (all_append P s done (r ∷ []) ws (v ∷ []) all (y, tt)) (e ∙ sym (append_assoc done (r ∷ []) rs)))
+      (owes_parts root node base is ts others rest rs (done ++ r ∷ []) (ws ++ v ∷ []) (all_append P s done (r ∷ []) ws (v ∷ []) all (y, tt)) (e
+      ∙ sym (append_assoc done (r ∷ []) rs)))
 
-  ahead_parts : (tail : List Task) (ys : Variables) → Ahead tail ys → (rs : List Ref) (us : Terms) → AllKnownAs P s rs us → Ahead (map Enter rs ++ tail) (variables_in us ++ ys)
+  ahead_parts : (tail : List Task) (ys : Variables) → Ahead tail ys → (rs : List Ref) (us : Terms) → AllKnownAs P s rs us
+      → Ahead (map Enter rs ++ tail) (variables_in us ++ ys)
   ahead_parts tail ys ahead rs us no_parts = ahead
   ahead_parts tail ys ahead rs us (more_parts r u rest others first more) =
       (u, variables_in others ++ ys, first, append_assoc (variables_of u) (variables_in others) ys, ahead_parts tail ys ahead rest others more)
 
-  nested_parts : (ts : List Task) → Nested ts → (rs : List Ref) → ((r : Ref) (cell : ℕ) → Contains rs r → Contains ts (Keep cell) → Inside (Cell cell) r) → Nested (map Enter rs ++ ts)
+  nested_parts : (ts : List Task) → Nested ts → (rs : List Ref) → ((r : Ref) (cell : ℕ) → Contains rs r → Contains ts (Keep cell) → Inside (Cell cell) r)
+      → Nested (map Enter rs ++ ts)
   nested_parts ts nested [] inside = nested
   nested_parts ts nested (r ∷ rs) inside = (
     (λ cell c. inside r cell (first_in rs r r refl) (keep_behind rs cell ts c)),
@@ -138,20 +145,23 @@ module _ (P : NamedProgram) (s : Seen) (once : IsOnce s) where
   )
 
   -- A part of a structure is inside what the structure is, and inside what that is inside.
-  part_inside : (q p : Ref) (node : NodeNo) (base : ℕ) (is : IsStructureAt P node) (r : Ref) → AreSame P s p (Node node base) → Contains (parts_of P (Node node base)) r → Inside q p → Inside q r
+  part_inside : (q p : Ref) (node : NodeNo) (base : ℕ) (is : IsStructureAt P node) (r : Ref) → AreSame P s p (Node node base)
+      → Contains (parts_of P (Node node base)) r → Inside q p → Inside q r
   part_inside q p node base is r same among outer = λ t known.
       let o = outer t known in
       let made = made_of_parts P s node base o.0 is (same.onward o.0 o.1) in
       let w = smaller P s (parts_of P (Node node base)) made.0 r made.1 among in
       (w.0, w.1, omega (arith, o.2, w.2, ap size made.2))
 
-  own_inside : (q : Ref) (node : NodeNo) (base : ℕ) (is : IsStructureAt P node) (r : Ref) → AreSame P s q (Node node base) → Contains (parts_of P (Node node base)) r → Inside q r
+  own_inside : (q : Ref) (node : NodeNo) (base : ℕ) (is : IsStructureAt P node) (r : Ref) → AreSame P s q (Node node base)
+      → Contains (parts_of P (Node node base)) r → Inside q r
   own_inside q node base is r same among = λ t known.
       let made = made_of_parts P s node base t is (same.onward t known) in
       let w = smaller P s (parts_of P (Node node base)) made.0 r made.1 among in
       (w.0, w.1, omega (arith, w.2, ap size made.2))
 
-  ahead_opens : (p : Ref) (node : NodeNo) (base : ℕ) (is : IsStructureAt P node) (tail ts : List Task) → AreSame P s p (Node node base) → ((xs : Variables) → Ahead ts xs → Ahead tail xs)
+  ahead_opens : (p : Ref) (node : NodeNo) (base : ℕ) (is : IsStructureAt P node) (tail ts : List Task) → AreSame P s p (Node node base)
+      → ((xs : Variables) → Ahead ts xs → Ahead tail xs)
       → (xs : Variables) → Ahead (Enter p ∷ ts) xs → Ahead (map Enter (parts_of P (Node node base)) ++ tail) xs
   ahead_opens p node base is tail ts same on xs (u, ys, known, e, ahead) =
       let made = made_of_parts P s node base u is (same.onward u known) in
@@ -159,7 +169,8 @@ module _ (P : NamedProgram) (s : Seen) (once : IsOnce s) where
       (ahead_parts tail ys (on ys ahead) (parts_of P (Node node base)) made.0 made.1)
 
   -- A structure that no cell leads to is opened.
-  pub opened : (root p : Ref) (node : NodeNo) (base : ℕ) (is : IsStructureAt P node) (ts : List Task) (values : List (Option ℤ)) (taken : Listed) → AreSame P s p (Node node base)
+  pub opened : (root p : Ref) (node : NodeNo) (base : ℕ) (is : IsStructureAt P node) (ts : List Task) (values : List (Option ℤ)) (taken : Listed)
+      → AreSame P s p (Node node base)
       → Stays root (Enter p ∷ ts) values taken → Stays root (tasks_of P node base is.name (length is.arguments) ts) values taken
   opened root p node base is ts values taken same h = record {
     facts = λ cell w c. elim (h.facts cell w c) [
@@ -181,16 +192,22 @@ module _ (P : NamedProgram) (s : Seen) (once : IsOnce s) where
   -- A structure is opened, and the cell that is set to it taken.
   pub taken_open : (root p : Ref) (cell : ℕ) (node : NodeNo) (base : ℕ) (is : IsStructureAt P node) (ts : List Task) (values : List (Option ℤ)) (taken : Listed)
       → AreSame P s p (Cell cell) → AreSame P s (Cell cell) (Node node base)
-      → Stays root (Enter p ∷ ts) values taken → Stays root (tasks_of P node base is.name (length is.arguments) (Keep cell ∷ ts)) values (taken ++ (cell, None) ∷ [])
+      → Stays root (Enter p ∷ ts) values taken
+      → Stays root (tasks_of P node base is.name (length is.arguments) (Keep cell ∷ ts)) values (taken ++ (cell, None) ∷ [])
   taken_open root p cell node base is ts values taken to_cell to_node h = record {
     facts = λ c w k. elim (Contains-push_cases taken (cell, None) (c, w) k) [
       | inl was ↦ elim (h.facts c w was) [
-        | inl waits ↦ inl (waits.0, keep_kept parts c (leave ∷ Keep cell ∷ ts) (later_in (Keep cell ∷ ts) leave (Keep c) (later_in ts (Keep cell) (Keep c) (keep_later (Enter p) c ts (λ e. cc) waits.1))))
+        | inl waits ↦ inl (
+          waits.0,
+          keep_kept parts c (leave ∷ Keep cell ∷ ts)
+              (later_in (Keep cell ∷ ts) leave (Keep c) (later_in ts (Keep cell) (Keep c) (keep_later (Enter p) c ts (λ e. cc) waits.1))),
+        )
         | inr yields ↦ inr yields
       ]
       | inr e ↦ inl (
         sym (ap (λ (x : ℕ × Option ℤ). x.1) e),
-        keep_kept parts c (leave ∷ Keep cell ∷ ts) (later_in (Keep cell ∷ ts) leave (Keep c) (first_in ts (Keep cell) (Keep c) (ap (λ (x : ℕ × Option ℤ). Keep x.0) e))),
+        keep_kept parts c (leave ∷ Keep cell ∷ ts)
+            (later_in (Keep cell ∷ ts) leave (Keep c) (first_in ts (Keep cell) (Keep c) (ap (λ (x : ℕ × Option ℤ). Keep x.0) e))),
       )
     ];
     nested = nested_parts (leave ∷ Keep cell ∷ ts) h.nested.1 parts (λ r c among k.
@@ -199,7 +216,8 @@ module _ (P : NamedProgram) (s : Seen) (once : IsOnce s) where
           | inr later ↦ part_inside (Cell c) p node base is r same among (h.nested.0 c later)
         ]);
     owes = owes_parts root node base is (Keep cell ∷ ts) values
-        (λ v y. (v, values, refl, same_yields P s (Cell cell) (Node node base) v to_node y, h.owes v (same_yields P s p (Node node base) v same y))) parts [] [] tt refl;
+        (λ v y. (v, values, refl, same_yields P s (Cell cell) (Node node base) v to_node y, h.owes v (same_yields P s p (Node node base) v same y)))
+        parts [] [] tt refl;
     ahead = λ t known. ahead_opens p node base is (leave ∷ Keep cell ∷ ts) ts same (λ xs a. a) (variables_of t) (h.ahead t known);
   }
     where
@@ -213,10 +231,14 @@ module _ (P : NamedProgram) (s : Seen) (once : IsOnce s) where
       same = Rattle.and_arith.proofs.Yielding.same_on P s p (Cell cell) (Node node base) to_cell to_node
 
   -- A structure whose parts have their values is left.
-  pub left : (root : Ref) (name count : ℕ) (ts : List Task) (values last others : List (Option ℤ)) (taken : Listed) → values ≡ last ++ others → length last ≡ count
+  pub left : (root : Ref) (name count : ℕ) (ts : List Task) (values last others : List (Option ℤ)) (taken : Listed) → values ≡ last ++ others
+      → length last ≡ count
       → Stays root (Leave (record { 0 = name }) count ∷ ts) values taken → Stays root ts (operated name (reverse last) ∷ others) taken
   left root name count ts values last others taken given counted h = record {
-    facts = λ cell w c. elim (h.facts cell w c) [ inl waits ↦ inl (waits.0, keep_later (Leave (record { 0 = name }) count) cell ts (λ e. cc) waits.1) | inr yields ↦ inr yields ];
+    facts = λ cell w c. elim (h.facts cell w c) [
+      | inl waits ↦ inl (waits.0, keep_later (Leave (record { 0 = name }) count) cell ts (λ e. cc) waits.1)
+      | inr yields ↦ inr yields
+    ];
     nested = h.nested;
     owes = owed h.owes;
     ahead = h.ahead;
@@ -229,7 +251,8 @@ module _ (P : NamedProgram) (s : Seen) (once : IsOnce s) where
           subst (λ xs. Owes root ts (operated name xs ∷ others)) same (subst (λ zs. Owes root ts (operated name ws ∷ zs)) (sym both.1) rest)
 
   -- The value of a cell is kept.
-  pub kept : (root : Ref) (cell : ℕ) (ts : List Task) (values others : List (Option ℤ)) (v : Option ℤ) (taken more : Listed) → values ≡ v ∷ others → Gives cell v taken more
+  pub kept : (root : Ref) (cell : ℕ) (ts : List Task) (values others : List (Option ℤ)) (v : Option ℤ) (taken more : Listed) → values ≡ v ∷ others
+      → Gives cell v taken more
       → Stays root (Keep cell ∷ ts) values taken → Stays root ts values more
   kept root cell ts values others v taken more given gives h = keeping h.owes
     where

@@ -39,29 +39,37 @@ CellsKnown P row base u vs = (v : Path × ℕ) → Contains vs v → KnownAs P (
 module _ (P : NamedProgram) (fall : AllFall 0 P.skeleton.nodes) (row : List Ref) (base : ℕ) (u : Substitution) where
   -- a node is known, where it is found, as its term with the cells' terms
   abbrev Found : ℕ → Type 0
-  Found m = CellsKnown P row base u (variables_of (node_term P.skeleton.nodes m)) → KnownAs P (plain row) (part_at P base m) (apply u (node_term P.skeleton.nodes m))
+  Found m = CellsKnown P row base u (variables_of (node_term P.skeleton.nodes m))
+      → KnownAs P (plain row) (part_at P base m) (apply u (node_term P.skeleton.nodes m))
 
-  all_found : (ms : List ℕ) → ((m : ℕ) → Contains ms m → Found m) → CellsKnown P row base u (variables_in (term_list (map (nth (terms_behind [] P.skeleton.nodes)) ms)))
+  all_found : (ms : List ℕ) → ((m : ℕ) → Contains ms m → Found m)
+      → CellsKnown P row base u (variables_in (term_list (map (nth (terms_behind [] P.skeleton.nodes)) ms)))
       → AllKnownAs P (plain row) (map (part_at P base) ms) (apply_all u (term_list (map (nth (terms_behind [] P.skeleton.nodes)) ms)))
   all_found [] each cells = no_parts
   all_found (m ∷ ms) each cells =
       let first : List (Path × ℕ) = variables_of (node_term P.skeleton.nodes m) in
       let others : List (Path × ℕ) = variables_in (term_list (map (nth (terms_behind [] P.skeleton.nodes)) ms)) in
-      more_parts (part_at P base m) (apply u (node_term P.skeleton.nodes m)) (map (part_at P base) ms) (apply_all u (term_list (map (nth (terms_behind [] P.skeleton.nodes)) ms)))
+      more_parts (part_at P base m) (apply u (node_term P.skeleton.nodes m)) (map (part_at P base) ms)
+      (apply_all u (term_list (map (nth (terms_behind [] P.skeleton.nodes)) ms)))
       (each m (first_in ms m m refl) (λ v c. cells v (Contains-append_left first others v c)))
       (all_found ms (λ k c. each k (later_in ms m k c)) (λ v c. cells v (Contains-append_right first others v c)))
 
   found_by : (m : ℕ) (shape : Shape) → shape_at P.skeleton m ≡ shape → m < length P.skeleton.nodes → ((k : ℕ) → k < m → Found k)
-      → CellsKnown P row base u (variables_of (node_term P.skeleton.nodes m)) → KnownAs P (plain row) (resolved shape (record { 0 = m }) base) (apply u (node_term P.skeleton.nodes m))
+      → CellsKnown P row base u (variables_of (node_term P.skeleton.nodes m))
+      → KnownAs P (plain row) (resolved shape (record { 0 = m }) base) (apply u (node_term P.skeleton.nodes m))
   found_by m (shapes.variable k) at there below cells =
-      let own : node_term P.skeleton.nodes m ≡ terms.variable [] k = node_term_shape P.skeleton.nodes m fall ∙ ap (shape_term (terms_behind [] P.skeleton.nodes)) at in
-      subst (λ (t : Term). KnownAs P (plain row) (Cell (base + 1 + k)) (apply u t)) (sym own) (cells ([], k) (subst (λ (t : Term). Contains (variables_of t) ([], k)) (sym own) (first_in [] ([], k) ([], k) refl)))
+      let own : node_term P.skeleton.nodes m ≡ terms.variable [] k =
+      node_term_shape P.skeleton.nodes m fall ∙ ap (shape_term (terms_behind [] P.skeleton.nodes)) at in
+      subst (λ (t : Term). KnownAs P (plain row) (Cell (base + 1 + k)) (apply u t)) (sym own)
+      (cells ([], k) (subst (λ (t : Term). Contains (variables_of t) ([], k)) (sym own) (first_in [] ([], k) ([], k) refl)))
   found_by m (shapes.number z) at there below cells =
-      let own : node_term P.skeleton.nodes m ≡ terms.number z = node_term_shape P.skeleton.nodes m fall ∙ ap (shape_term (terms_behind [] P.skeleton.nodes)) at in
+      let own : node_term P.skeleton.nodes m ≡ terms.number z =
+      node_term_shape P.skeleton.nodes m fall ∙ ap (shape_term (terms_behind [] P.skeleton.nodes)) at in
       subst (λ (t : Term). KnownAs P (plain row) (Node (record { 0 = m }) base) (apply u t)) (sym own) (literal (record { 0 = m }) base z at)
   found_by m (shapes.compound name arguments) at there below cells =
       let ts : Terms = term_list (map (nth (terms_behind [] P.skeleton.nodes)) arguments) in
-      let own : node_term P.skeleton.nodes m ≡ terms.compound name ts = node_term_shape P.skeleton.nodes m fall ∙ ap (shape_term (terms_behind [] P.skeleton.nodes)) at in
+      let own : node_term P.skeleton.nodes m ≡ terms.compound name ts =
+      node_term_shape P.skeleton.nodes m fall ∙ ap (shape_term (terms_behind [] P.skeleton.nodes)) at in
       subst (λ (t : Term). KnownAs P (plain row) (Node (record { 0 = m }) base) (apply u t)) (sym own)
       (structure (record { 0 = m }) base name arguments (apply_all u ts) at
       (all_found arguments (λ k c. below k (argument_below P fall m k there (subst (λ (s : Shape). Contains (arguments_in s) k) (sym at) c)))
@@ -72,7 +80,8 @@ module _ (P : NamedProgram) (fall : AllFall 0 P.skeleton.nodes) (row : List Ref)
   found_below (suc n) m low there cells = found_by m (shape_at P.skeleton m) refl there (λ k less. found_below n k (omega arith) (omega arith)) cells
 
 -- what is known to be set has words
-pair_words : (P : NamedProgram) (row : List Ref) → IsSound P row → (pair : ℕ) → IsKnownWritten (plain row) pair → (word_at row pair ≢ Free) × (word_at row (suc pair) ≢ Free)
+pair_words : (P : NamedProgram) (row : List Ref) → IsSound P row → (pair : ℕ) → IsKnownWritten (plain row) pair
+    → (word_at row pair ≢ Free) × (word_at row (suc pair) ≢ Free)
 pair_words P row sound pair (inl both) = ((λ e. both.0.1.1 (sym both.0.1.0 ∙ e)), (λ e. both.1.1.1 (sym both.1.1.0 ∙ e)))
 pair_words P row sound pair (inr is) = sound.written is.0 pair is.1.0
 
@@ -118,8 +127,11 @@ module _ (P : NamedProgram) (fall : AllFall 0 P.skeleton.nodes) (row : List Ref)
   stands_known r t (meaning.bound cell q v is rest) fits written =
       bound cell q v is (stands_known q v rest (stands_fits P row (length row) q v rest (set_fits cell q is fits)) (set_written P row sound cell q is))
   stands_known r t (meaning.structure node base u cells) fits written =
-      let known = found_by P fall row base u node.0 (shape_at P.skeleton node.0) refl fits.0.there (λ k less. found_below P fall row base u (suc k) k (omega arith) (let there = fits.0.there in omega arith))
-      (λ v c. stands_known (Cell (base + 1 + v.1)) (u v.0 v.1) (cells v c) (All-contains (λ (x : Path × ℕ). base + 1 + x.1 < length row) (variables_of (node_term P.skeleton.nodes node.0)) v fits.0.cells c) (λ pair e. absurd (cc))) in
+      let known = found_by P fall row base u node.0 (shape_at P.skeleton node.0) refl fits.0.there
+      (λ k less. found_below P fall row base u (suc k) k (omega arith) (let there = fits.0.there in omega arith))
+      (λ v c. stands_known (Cell (base + 1 + v.1)) (u v.0 v.1) (cells v c)
+      (All-contains (λ (x : Path × ℕ). base + 1 + x.1 < length row) (variables_of (node_term P.skeleton.nodes node.0)) v fits.0.cells c)
+      (λ pair e. absurd (cc))) in
       let here : resolved (shape_at P.skeleton node.0) node base ≡ Node node base = resolved_node (shape_at P.skeleton node.0) node base
       (λ k e. fits.1 k (slice_get-get_or P.skeleton.nodes node.0 (shapes.number (pos 0)) fits.0.there ∙ ap (λ (x : Shape). Some x) e)) in
       subst (λ q. KnownAs P (plain row) q (apply u (node_term P.skeleton.nodes node.0))) here known
@@ -131,11 +143,14 @@ module _ (P : NamedProgram) (fall : AllFall 0 P.skeleton.nodes) (row : List Ref)
     -- and the other way round.
     pub known_stands : (r : Ref) (t : Term) → KnownAs P (plain row) r t → IsInRange P (length row) r → StandsFor P row r t
     known_stands r t (unbound cell none) fits = meaning.unbound cell fits (free_word row cell (word_at row cell) refl none)
-    known_stands r t (bound cell q v is rest) fits = meaning.bound cell q v is (known_stands q v rest (known_fits P row (length row) q v rest (set_fits cell q is fits)))
+    known_stands r t (bound cell q v is rest) fits =
+        meaning.bound cell q v is (known_stands q v rest (known_fits P row (length row) q v rest (set_fits cell q is fits)))
     known_stands r t (integer pair high low a b) fits =
-        subst (StandsFor P row (Number pair)) (ap (λ x. terms.number (number_of x (word_at row (suc pair)))) a.0 ∙ ap (λ x. terms.number (number_of high x)) b.0) (meaning.integer pair)
+        subst (StandsFor P row (Number pair)) (ap (λ x. terms.number (number_of x (word_at row (suc pair)))) a.0
+        ∙ ap (λ x. terms.number (number_of high x)) b.0) (meaning.integer pair)
     known_stands r t (literal node base z at) fits =
-        let own : node_term P.skeleton.nodes node.0 ≡ terms.number z = node_term_shape P.skeleton.nodes node.0 fall ∙ ap (shape_term (terms_behind [] P.skeleton.nodes)) at in
+        let own : node_term P.skeleton.nodes node.0 ≡ terms.number z =
+        node_term_shape P.skeleton.nodes node.0 fall ∙ ap (shape_term (terms_behind [] P.skeleton.nodes)) at in
         let free : Substitution = λ q k. terms.variable q k in
         subst (λ (x : Term). StandsFor P row (Node node base) (apply free x)) own
         (meaning.structure node base free (λ v c. absurd (none_in v (subst (λ (x : Term). Contains (variables_of x) v) own c))))
@@ -145,9 +160,12 @@ module _ (P : NamedProgram) (fall : AllFall 0 P.skeleton.nodes) (row : List Ref)
         (λ q c. part_in_range P fall (length row) node base q fits (subst (λ xs. Contains xs q) (sym parts_are_so) c)) in
         let term : HasTerm P row (Node node base) = structure_has_term P row node base fall fits (λ q c. has q (subst (λ xs. Contains xs q) parts_are_so c)) in
         let known = stands_known (Node node base) term.0 term.1 fits (λ pair e. absurd (cc)) in
-        subst (StandsFor P row (Node node base)) (one_known P (plain row) (plain_once row) (Node node base) term.0 (terms.compound name ts) known (structure node base name arguments ts at parts)) term.1
+        subst (StandsFor P row (Node node base))
+        (one_known P (plain row) (plain_once row) (Node node base) term.0 (terms.compound name ts) known (structure node base name arguments ts at parts))
+        term.1
 
-    all_have : (rs : List Ref) (ts : Terms) → AllKnownAs P (plain row) rs ts → ((q : Ref) → Contains rs q → IsInRange P (length row) q) → (q : Ref) → Contains rs q → HasTerm P row q
+    all_have : (rs : List Ref) (ts : Terms) → AllKnownAs P (plain row) rs ts → ((q : Ref) → Contains rs q → IsInRange P (length row) q) → (q : Ref)
+        → Contains rs q → HasTerm P row q
     all_have rs ts no_parts fits q c = absurd (none_in q c)
     all_have rs ts (more_parts r t rest others first more) fits q c = elim (first_or_later rest r q c) [
       | inl e ↦ subst (HasTerm P row) e (t, known_stands r t first (fits r (first_in rest r r refl)))

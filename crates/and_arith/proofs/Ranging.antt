@@ -29,23 +29,28 @@ argument_falls n m (shapes.number z) falls c = absurd (none_in m c)
 argument_falls n m (shapes.compound name ms) falls c = falls_below n ms m falls c
 
 -- a term of a list has its variables in the list
-among_arguments : (ts : List Term) (ms : List ℕ) (m : ℕ) (v : Path × ℕ) → Contains ms m → Contains (variables_of (nth ts m)) v → Contains (variables_in (term_list (map (nth ts) ms))) v
+among_arguments : (ts : List Term) (ms : List ℕ) (m : ℕ) (v : Path × ℕ) → Contains ms m → Contains (variables_of (nth ts m)) v
+    → Contains (variables_in (term_list (map (nth ts) ms))) v
 among_arguments ts [] m v c at = absurd (none_in m c)
 among_arguments ts (k ∷ ms) m v c at = elim (first_or_later ms k m c) [
-  | inl e ↦ Contains-append_left (variables_of (nth ts k)) (variables_in (term_list (map (nth ts) ms))) v (subst (λ (a : ℕ). Contains (variables_of (nth ts a)) v) (sym e) at)
+  | inl e ↦ Contains-append_left (variables_of (nth ts k)) (variables_in (term_list (map (nth ts) ms))) v
+      (subst (λ (a : ℕ). Contains (variables_of (nth ts a)) v) (sym e) at)
   | inr later ↦ Contains-append_right (variables_of (nth ts k)) (variables_in (term_list (map (nth ts) ms))) v (among_arguments ts ms m v later at)
 ]
 
-among_shape : (ts : List Term) (s : Shape) (m : ℕ) (v : Path × ℕ) → Contains (arguments_in s) m → Contains (variables_of (nth ts m)) v → Contains (variables_of (shape_term ts s)) v
+among_shape : (ts : List Term) (s : Shape) (m : ℕ) (v : Path × ℕ) → Contains (arguments_in s) m → Contains (variables_of (nth ts m)) v
+    → Contains (variables_of (shape_term ts s)) v
 among_shape ts (shapes.variable k) m v c at = absurd (none_in m c)
 among_shape ts (shapes.number z) m v c at = absurd (none_in m c)
 among_shape ts (shapes.compound name ms) m v c at = among_arguments ts ms m v c at
 
 module _ (P : NamedProgram) (fall : AllFall 0 P.skeleton.nodes) where
   -- the variables of an argument's node are among those of the node
-  pub among_node : (node m : ℕ) (v : Path × ℕ) → Contains (arguments_at P.skeleton node) m → Contains (variables_of (node_term P.skeleton.nodes m)) v → Contains (variables_of (node_term P.skeleton.nodes node)) v
+  pub among_node : (node m : ℕ) (v : Path × ℕ) → Contains (arguments_at P.skeleton node) m → Contains (variables_of (node_term P.skeleton.nodes m)) v
+      → Contains (variables_of (node_term P.skeleton.nodes node)) v
   among_node node m v c at =
-      subst (λ (u : Term). Contains (variables_of u) v) (sym (node_term_shape P.skeleton.nodes node fall)) (among_shape (terms_behind [] P.skeleton.nodes) (shape_at P.skeleton node) m v c at)
+      subst (λ (u : Term). Contains (variables_of u) v) (sym (node_term_shape P.skeleton.nodes node fall))
+      (among_shape (terms_behind [] P.skeleton.nodes) (shape_at P.skeleton node) m v c at)
 
   -- an argument's node is in range
   node_fits : (words base node m : ℕ) → IsNodeInRange P words node base → Contains (arguments_at P.skeleton node) m → m < node → IsNodeInRange P words m base
@@ -60,26 +65,33 @@ module _ (P : NamedProgram) (fall : AllFall 0 P.skeleton.nodes) where
       }
 
   -- where an argument of a node in range is found is in range
-  argument_in_range : (words base node m : ℕ) (s : Shape) → IsNodeInRange P words node base → Contains (arguments_at P.skeleton node) m → m < node → shape_at P.skeleton m ≡ s
+  argument_in_range : (words base node m : ℕ) (s : Shape) → IsNodeInRange P words node base → Contains (arguments_at P.skeleton node) m → m < node
+      → shape_at P.skeleton m ≡ s
       → IsInRange P words (resolved s (record { 0 = m }) base)
   argument_in_range words base node m (shapes.variable k) fits c below at =
-      let own : node_term P.skeleton.nodes m ≡ Rattle.and_model.specs.Terms.variable [] k = node_term_shape P.skeleton.nodes m fall ∙ ap (shape_term (terms_behind [] P.skeleton.nodes)) at in
+      let own : node_term P.skeleton.nodes m ≡ Rattle.and_model.specs.Terms.variable [] k =
+      node_term_shape P.skeleton.nodes m fall ∙ ap (shape_term (terms_behind [] P.skeleton.nodes)) at in
       let there = among_node node m ([], k) c (subst (λ (u : Term). Contains (variables_of u) ([], k)) (sym own) (first_in [] ([], k) ([], k) refl)) in
       All-contains (λ (u : Path × ℕ). base + 1 + u.1 < words) (variables_of (node_term P.skeleton.nodes node)) ([], k) fits.cells there
-  argument_in_range words base node m (shapes.number z) fits c below at = (node_fits words base node m fits c below, no_variable P m (λ k e. let both = sym at ∙ e in cc))
-  argument_in_range words base node m (shapes.compound name ns) fits c below at = (node_fits words base node m fits c below, no_variable P m (λ k e. let both = sym at ∙ e in cc))
+  argument_in_range words base node m (shapes.number z) fits c below at =
+      (node_fits words base node m fits c below, no_variable P m (λ k e. let both = sym at ∙ e in cc))
+  argument_in_range words base node m (shapes.compound name ns) fits c below at =
+      (node_fits words base node m fits c below, no_variable P m (λ k e. let both = sym at ∙ e in cc))
 
   -- an argument comes before its node
   pub argument_below : (node m : ℕ) → node < length P.skeleton.nodes → Contains (arguments_at P.skeleton node) m → m < node
   argument_below node m there c =
       let e : 0 + node ≡ node = omega arith in
-      argument_falls node m (shape_at P.skeleton node) (subst (λ n. IsFalling n (shape_at P.skeleton node)) e (AllFall-at 0 P.skeleton.nodes node (shapes.number (pos 0)) fall there)) c
+      argument_falls node m (shape_at P.skeleton node)
+      (subst (λ n. IsFalling n (shape_at P.skeleton node)) e (AllFall-at 0 P.skeleton.nodes node (shapes.number (pos 0)) fall there)) c
 
   -- The parts of what is in range are in range.
-  pub part_in_range : (words : ℕ) (node : NodeNo) (base : ℕ) (q : Ref) → IsInRange P words (Node node base) → Contains (parts_of P (Node node base)) q → IsInRange P words q
+  pub part_in_range : (words : ℕ) (node : NodeNo) (base : ℕ) (q : Ref) → IsInRange P words (Node node base) → Contains (parts_of P (Node node base)) q
+      → IsInRange P words q
   part_in_range words node base q fits c =
       let w = from_image (part_at P base) (arguments_at P.skeleton node.0) q c in
-      subst (IsInRange P words) w.2 (argument_in_range words base node.0 w.0 (shape_at P.skeleton w.0) fits.0 w.1 (argument_below node.0 w.0 fits.0.there w.1) refl)
+      subst (IsInRange P words) w.2
+      (argument_in_range words base node.0 w.0 (shape_at P.skeleton w.0) fits.0 w.1 (argument_below node.0 w.0 fits.0.there w.1) refl)
 
 -- where a part is found is no number in a pair
 resolved_written : (s : Seen) (shape : Shape) (node : NodeNo) (base : ℕ) → IsWrittenIfNumber s (resolved shape node base)

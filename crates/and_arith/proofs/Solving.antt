@@ -65,15 +65,18 @@ known_no_half P s r t (integer pair high low a b) = refl
 known_no_half P s r t (literal node base z at) = refl
 known_no_half P s r t (structure node base name arguments ts at parts) = refl
 
-module _ (P : NamedProgram) (fall : AllFall 0 P.skeleton.nodes) (s : Seen) (w : Words) (u : Substitution) (has : HasKnown s w) (solves : SolvesKnown P w s u) where
+module _ (P : NamedProgram) (fall : AllFall 0 P.skeleton.nodes) (s : Seen) (w : Words) (u : Substitution) (has : HasKnown s w)
+    (solves : SolvesKnown P w s u) where
   literal_value : (node : NodeNo) (base : ℕ) (z : ℤ) → shape_at P.skeleton node.0 ≡ shapes.number z → value P w u (Node node base) ≡ Some (terms.number z)
   literal_value node base z at =
       value_of_node P w u node base
-      ∙ ap (λ (t : Term). Some (apply (in_frame u base) t)) (node_term_shape P.skeleton.nodes node.0 fall ∙ ap (shape_term (terms_behind [] P.skeleton.nodes)) at)
+      ∙ ap (λ (t : Term). Some (apply (in_frame u base) t)) (node_term_shape P.skeleton.nodes node.0 fall
+      ∙ ap (shape_term (terms_behind [] P.skeleton.nodes)) at)
 
   pair_value : (pair : ℕ) (high low : Ref) → Knows s pair high → Knows s (suc pair) low → value P w u (Number pair) ≡ Some (terms.number (number_of high low))
   pair_value pair high low a b =
-      ap (λ (x : Ref). Some (terms.number (number_of x (w (suc pair))))) (has pair high a) ∙ ap (λ (x : Ref). Some (terms.number (number_of high x))) (has (suc pair) low b)
+      ap (λ (x : Ref). Some (terms.number (number_of x (w (suc pair))))) (has pair high a)
+      ∙ ap (λ (x : Ref). Some (terms.number (number_of high x))) (has (suc pair) low b)
 
   mutual
     -- In each solution of what is known, a reference has the value that the solution makes of its term.
@@ -85,8 +88,10 @@ module _ (P : NamedProgram) (fall : AllFall 0 P.skeleton.nodes) (s : Seen) (w : 
     known_solves r t (literal node base z at) = literal_value node base z at
     known_solves r t (structure node base name arguments ts at parts) =
         let v = value_of_structure P w u (Node node base) name (length arguments) fall (structure_there P node base name arguments at) in
-        let have : HaveValues P w u (map (part_at P base) arguments) v.0 = subst (λ (x : Shape). HaveValues P w u (map (part_at P base) (arguments_in x)) v.0) at v.2 in
-        let same : v.0 ≡ apply_all u ts = one_list P w u (map (part_at P base) arguments) v.0 (apply_all u ts) have (all_solve (map (part_at P base) arguments) ts parts) in
+        let have : HaveValues P w u (map (part_at P base) arguments) v.0 =
+        subst (λ (x : Shape). HaveValues P w u (map (part_at P base) (arguments_in x)) v.0) at v.2 in
+        let same : v.0 ≡ apply_all u ts =
+        one_list P w u (map (part_at P base) arguments) v.0 (apply_all u ts) have (all_solve (map (part_at P base) arguments) ts parts) in
         v.1 ∙ ap (λ xs. Some (terms.compound name xs)) same
 
     all_solve : (rs : List Ref) (ts : Terms) → AllKnownAs P s rs ts → HaveValues P w u rs (apply_all u ts)
@@ -103,7 +108,8 @@ module _ (P : NamedProgram) (fall : AllFall 0 P.skeleton.nodes) (s : Seen) (w : 
   leads_value r end (onward cell x to knows leads) no_half =
       let own : is_half x ≡ false = ap is_half (sym (has cell x knows)) ∙ no_half cell (first_in [] cell cell refl) in
       let solved = solves cell x knows own in
-      let rest = leads_value x to leads (λ c among. names_no_half P w u (Cell cell) x solved c (Contains-append_right (cell ∷ []) (shallow_cells P x) c among)) in
+      let rest = leads_value x to leads
+      (λ c among. names_no_half P w u (Cell cell) x solved c (Contains-append_right (cell ∷ []) (shallow_cells P x) c among)) in
       (one_value P w u (Cell cell) x solved ∙ rest.0, rest.1)
 
   leads_known : (r end : Ref) (t : Term) → LeadsTo s r end → KnownAs P s end t → KnownAs P s r t
@@ -136,15 +142,19 @@ cells_of_resolved P ts (shapes.number z) node base e = refl
 cells_of_resolved P ts (shapes.compound c ns) node base e = refl
 
 -- The cells that a part names are among those of the structure.
-part_cells : (P : NamedProgram) → AllFall 0 P.skeleton.nodes → (node : NodeNo) (base : ℕ) (q : Ref) (cell : ℕ) → Contains (parts_of P (Node node base)) q → Contains (shallow_cells P q) cell
+part_cells : (P : NamedProgram) → AllFall 0 P.skeleton.nodes → (node : NodeNo) (base : ℕ) (q : Ref) (cell : ℕ) → Contains (parts_of P (Node node base)) q
+    → Contains (shallow_cells P q) cell
     → Contains (shallow_cells P (Node node base)) cell
 part_cells P fall node base q cell among at =
     let f : Path × ℕ → ℕ = λ v. base + 1 + v.1 in
     let m = from_image (part_at P base) (arguments_at P.skeleton node.0) q among in
-    let found = cells_of_resolved P (terms_behind [] P.skeleton.nodes) (shape_at P.skeleton m.0) (record { 0 = m.0 }) base (node_term_shape P.skeleton.nodes m.0 fall) in
-    let own : Contains (map f (variables_of (node_term P.skeleton.nodes m.0))) cell = subst (λ xs. Contains xs cell) found (subst (λ x. Contains (shallow_cells P x) cell) (sym m.2) at) in
+    let found = cells_of_resolved P (terms_behind [] P.skeleton.nodes) (shape_at P.skeleton m.0) (record { 0 = m.0 }) base
+    (node_term_shape P.skeleton.nodes m.0 fall) in
+    let own : Contains (map f (variables_of (node_term P.skeleton.nodes m.0))) cell =
+    subst (λ xs. Contains xs cell) found (subst (λ x. Contains (shallow_cells P x) cell) (sym m.2) at) in
     let v = from_image f (variables_of (node_term P.skeleton.nodes m.0)) cell own in
-    subst (Contains (shallow_cells P (Node node base))) v.2 (image_in f (variables_of (node_term P.skeleton.nodes node.0)) v.0 (among_node P fall node.0 m.0 v.0 m.1 v.1))
+    subst (Contains (shallow_cells P (Node node base))) v.2
+    (image_in f (variables_of (node_term P.skeleton.nodes node.0)) v.0 (among_node P fall node.0 m.0 v.0 m.1 v.1))
 
 module _ (P : NamedProgram) (fall : AllFall 0 P.skeleton.nodes) (s : Seen) (w : Words) (u : Substitution) (has : HasKnown s w) (solves : SolvesKnown P w s u)
     (holds : (place : ℕ) (r : Ref) → Knows s place r → CanHold P s.words place r) where
@@ -156,7 +166,8 @@ module _ (P : NamedProgram) (fall : AllFall 0 P.skeleton.nodes) (s : Seen) (w : 
 
   -- what is ground, and so large, is known as its value
   abbrev Claim : ℕ → Type 0
-  Claim n = (r : Ref) (t : Term) → size t ≤ n → value P w u r ≡ Some t → IsGround P s r → IsInRange P s.words r → NamesNoHalf P fall s w u has solves r → KnownAs P s r t
+  Claim n = (r : Ref) (t : Term) → size t ≤ n → value P w u r ≡ Some t → IsGround P s r → IsInRange P s.words r
+      → NamesNoHalf P fall s w u has solves r → KnownAs P s r t
 
   all_ground : (n : ℕ) → Claim n → (rs : List Ref) (us : Terms) → HaveValues P w u rs us → sizes us ≤ n
       → ((q : Ref) → Contains rs q → IsGround P s q × IsInRange P s.words q × NamesNoHalf P fall s w u has solves q) → AllKnownAs P s rs us
@@ -165,14 +176,18 @@ module _ (P : NamedProgram) (fall : AllFall 0 P.skeleton.nodes) (s : Seen) (w : 
   all_ground n below (r ∷ rs) terms.none have few each = absurd have
   all_ground n below (r ∷ rs) (terms.more t us) have few each =
       let own = each r (first_in rs r r refl) in
-      more_parts r t rs us (below r t (omega (arith, few)) have.0 own.0 own.1 own.2) (all_ground n below rs us have.1 (omega (arith, few)) (λ q c. each q (later_in rs r q c)))
+      more_parts r t rs us (below r t (omega (arith, few)) have.0 own.0 own.1 own.2)
+      (all_ground n below rs us have.1 (omega (arith, few)) (λ q c. each q (later_in rs r q c)))
 
-  node_known : (n : ℕ) → Claim n → (node : NodeNo) (base : ℕ) (t : Term) (shape : Shape) → shape_at P.skeleton node.0 ≡ shape → size t ≤ suc n → value P w u (Node node base) ≡ Some t
-      → IsGround P s (Node node base) → IsInRange P s.words (Node node base) → NamesNoHalf P fall s w u has solves (Node node base) → KnownAs P s (Node node base) t
+  node_known : (n : ℕ) → Claim n → (node : NodeNo) (base : ℕ) (t : Term) (shape : Shape) → shape_at P.skeleton node.0 ≡ shape → size t ≤ suc n
+      → value P w u (Node node base) ≡ Some t
+      → IsGround P s (Node node base) → IsInRange P s.words (Node node base) → NamesNoHalf P fall s w u has solves (Node node base)
+      → KnownAs P s (Node node base) t
   node_known n below node base t (shapes.variable k) at few is ground fits no_half =
       absurd (fits.1 k (slice_get-get_or P.skeleton.nodes node.0 (shapes.number (pos 0)) fits.0.there ∙ ap (λ (x : Shape). Some x) at))
   node_known n below node base t (shapes.number z) at few is ground fits no_half =
-      subst (KnownAs P s (Node node base)) (same_Some (terms.number z) t (sym (literal_value P fall s w u has solves node base z at) ∙ is)) (literal node base z at)
+      subst (KnownAs P s (Node node base)) (same_Some (terms.number z) t (sym (literal_value P fall s w u has solves node base z at) ∙ is))
+      (literal node base z at)
   node_known n below node base t (shapes.compound name arguments) at few is ground fits no_half =
       let v = value_of_structure P w u (Node node base) name (length arguments) fall (structure_there P node base name arguments at) in
       let same : terms.compound name v.0 ≡ t = same_Some (terms.compound name v.0) t (sym v.1 ∙ is) in
@@ -185,14 +200,17 @@ module _ (P : NamedProgram) (fall : AllFall 0 P.skeleton.nodes) (s : Seen) (w : 
       subst (KnownAs P s (Node node base)) same
       (structure node base name arguments v.0 at (subst (λ (x : Shape). AllKnownAs P s (map (part_at P base) (arguments_in x)) v.0) at known))
 
-  end_known : (n : ℕ) → Claim n → (r : Ref) (t : Term) → ((c : ℕ) → r ≢ Cell c) → size t ≤ suc n → value P w u r ≡ Some t → IsGround P s r → IsInRangeOrHalf P s.words r → NamesNoHalf P fall s w u has solves r
+  end_known : (n : ℕ) → Claim n → (r : Ref) (t : Term) → ((c : ℕ) → r ≢ Cell c) → size t ≤ suc n → value P w u r ≡ Some t → IsGround P s r
+      → IsInRangeOrHalf P s.words r → NamesNoHalf P fall s w u has solves r
       → KnownAs P s r t
   end_known n below Free t other few is ground fits no_half = absurd fits
   end_known n below (Cell cell) t other few is ground fits no_half = absurd (other cell refl)
-  end_known n below (Node node base) t other few is ground fits no_half = node_known n below node base t (shape_at P.skeleton node.0) refl few is ground fits no_half
+  end_known n below (Node node base) t other few is ground fits no_half =
+      node_known n below node base t (shape_at P.skeleton node.0) refl few is ground fits no_half
   end_known n below (Number pair) t other few is ground fits no_half =
       let both = ground.pairs pair (whole (Number pair) refl) in
-      subst (KnownAs P s (Number pair)) (same_Some (terms.number (number_of both.0.0 both.1.0)) t (sym (pair_value P fall s w u has solves pair both.0.0 both.1.0 both.0.1 both.1.1) ∙ is))
+      subst (KnownAs P s (Number pair))
+      (same_Some (terms.number (number_of both.0.0 both.1.0)) t (sym (pair_value P fall s w u has solves pair both.0.0 both.1.0 both.0.1 both.1.1) ∙ is))
       (integer pair both.0.0 both.1.0 both.0.1 both.1.1)
   end_known n below (Half bits) t other few is ground fits no_half = absurd (none-some t is)
 
@@ -203,7 +221,8 @@ module _ (P : NamedProgram) (fall : AllFall 0 P.skeleton.nodes) (s : Seen) (w : 
       let same = leads_value P fall s w u has solves (Cell cell) w'.0 w'.1 no_half in
       let not_free : w'.0 ≢ Free = λ e. none-some t (sym (ap (value P w u) e) ∙ sym same.0 ∙ is) in
       leads_known P fall s w u has solves (Cell cell) w'.0 t w'.1
-      (end_known n below w'.0 t w'.2 few (sym same.0 ∙ is) (ground_below P s (Cell cell) w'.0 (reaches_on P s (Cell cell) (Cell cell) w'.0 w'.1 (whole (Cell cell) refl)) ground)
+      (end_known n below w'.0 t w'.2 few (sym same.0 ∙ is)
+      (ground_below P s (Cell cell) w'.0 (reaches_on P s (Cell cell) (Cell cell) w'.0 w'.1 (whole (Cell cell) refl)) ground)
       (leads_fits (Cell cell) w'.0 w'.1 not_free fits) same.1)
   claim_on n below (Node node base) t few is ground fits no_half = node_known n below node base t (shape_at P.skeleton node.0) refl few is ground fits no_half
   claim_on n below (Number pair) t few is ground fits no_half = end_known n below (Number pair) t (λ c e. cc) few is ground fits no_half
@@ -214,5 +233,6 @@ module _ (P : NamedProgram) (fall : AllFall 0 P.skeleton.nodes) (s : Seen) (w : 
   claim (suc n) r t few is ground fits no_half = claim_on n (claim n) r t few is ground fits no_half
 
   -- What is ground is known as the value that each solution gives it.
-  pub ground_known : (r : Ref) (t : Term) → value P w u r ≡ Some t → IsGround P s r → IsInRange P s.words r → NamesNoHalf P fall s w u has solves r → KnownAs P s r t
+  pub ground_known : (r : Ref) (t : Term) → value P w u r ≡ Some t → IsGround P s r → IsInRange P s.words r
+      → NamesNoHalf P fall s w u has solves r → KnownAs P s r t
   ground_known r t is ground fits no_half = claim (size t) r t (omega arith) is ground fits no_half

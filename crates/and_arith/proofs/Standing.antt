@@ -1,5 +1,6 @@
 -- What holds while a walk takes turns.
-use Rattle.std.proofs.Common.{ℕ, ℤ, suc, ◌≡◌, ◌≢◌, ◌<◌, ◌+◌, ◌⊎◌, List, [], ◌∷◌, ◌++◌, map, length, get_or, reverse, Option, None, refl, ap, sym, ◌∙◌, subst, arith, inl, inr}
+use Rattle.std.proofs.Common.{ℕ, ℤ, suc, ◌≡◌, ◌≢◌, ◌<◌, ◌+◌, ◌⊎◌, List, [], ◌∷◌, ◌++◌, map, length, get_or, reverse, Option, None, refl, ap, sym, ◌∙◌, subst}
+use Rattle.std.proofs.Common.{arith, inl, inr}
 use Rattle.std.specs.Prelude.{Contains}
 use Rattle.std.proofs.lemmas.List.{length-map, length-append, map-append}
 use Rattle.std.proofs.lemmas.List.Elements.{Contains-append_left, Contains-append_right, Contains-push, Contains-push_cases, All-push, All-weaker}
@@ -33,7 +34,8 @@ abbrev pub places : List Setting → List ℕ
 places settings = map (λ (k : Setting). k.place) settings
 
 -- What holds of the tasks and cells: `root` is the expression, and `settings` are those of the cells that were taken.
-pub record Stands (P : NamedProgram) (first : Seen) (root : Ref) (settings : List Setting) (now : Seen) (tasks : List Task) (values : List (Option ℤ)) (taken : Listed) : Type 0 where
+pub record Stands (P : NamedProgram) (first : Seen) (root : Ref) (settings : List Setting) (now : Seen) (tasks : List Task) (values : List (Option ℤ))
+    (taken : Listed) : Type 0 where
   pub reads : OnlyReads first now
   pub once : IsOnce now
   pub in_range : (r : Ref) → Contains tasks (Enter r) → IsInRange P now.words r × IsWrittenIfNumber now r
@@ -94,7 +96,8 @@ module _ (P : NamedProgram) (fall : AllFall 0 P.skeleton.nodes) (first : Seen) (
     cells = h.cells;
     opened = record {
       distinct = h.opened.distinct;
-      reached = All-weaker (λ (k : Setting). Reaches P old root (Cell k.place) × Knows old k.place k.value) (λ (k : Setting). Reaches P now root (Cell k.place) × Knows now k.place k.value)
+      reached = All-weaker (λ (k : Setting). Reaches P old root (Cell k.place) × Knows old k.place k.value) (λ (k : Setting). Reaches P now root (Cell k.place)
+          × Knows now k.place k.value)
           (λ k both. (reaches_later P old now root (Cell k.place) reads.keeps both.0, reads.keeps k.place k.value both.1)) settings h.opened.reached;
     };
     root_covered = on root h.root_covered;
@@ -106,7 +109,8 @@ module _ (P : NamedProgram) (fall : AllFall 0 P.skeleton.nodes) (first : Seen) (
       on r c = covered_on P old now tasks tasks (cells_of taken) (cells_of taken) reads.keeps (λ x i. i) (λ q i. waiting q i) r c
 
   -- what is covered stays so where the part that was entered is covered
-  entered_covered : (now : Seen) (p : Ref) (rest tasks : List Task) (taken more : List ℕ) → Covered P now tasks more p → ((c : ℕ) → Contains taken c → Contains more c)
+  entered_covered : (now : Seen) (p : Ref) (rest tasks : List Task) (taken more : List ℕ) → Covered P now tasks more p
+      → ((c : ℕ) → Contains taken c → Contains more c)
       → ((t : Task) → Contains rest t → Contains tasks t) → (q : Ref) → Covered P now (Enter p ∷ rest) taken q → Covered P now tasks more q
   entered_covered now p rest tasks taken more covered kept later q c =
       covered_on P now now (Enter p ∷ rest) tasks taken more (λ x y k. k) kept
@@ -116,7 +120,8 @@ module _ (P : NamedProgram) (fall : AllFall 0 P.skeleton.nodes) (first : Seen) (
       ]) q c
 
   -- A part that yields a value at once is passed.
-  pub passed_stands : (settings : List Setting) (now : Seen) (p : Ref) (v : Option ℤ) (rest : List Task) (values : List (Option ℤ)) (taken : Listed) → Covered P now rest (cells_of taken) p
+  pub passed_stands : (settings : List Setting) (now : Seen) (p : Ref) (v : Option ℤ) (rest : List Task) (values : List (Option ℤ)) (taken : Listed)
+      → Covered P now rest (cells_of taken) p
       → ((t : Seen) (more : Extends now t) → Stays P t more.once root (Enter p ∷ rest) values taken → Stays P t more.once root rest (v ∷ values) taken)
       → Stands P first root settings now (Enter p ∷ rest) values taken → Stands P first root settings now rest (v ∷ values) taken
   passed_stands settings now p v rest values taken covered pass h = record {
@@ -137,7 +142,8 @@ module _ (P : NamedProgram) (fall : AllFall 0 P.skeleton.nodes) (first : Seen) (
       on = entered_covered now p rest rest (cells_of taken) (cells_of taken) covered (λ c i. i) (λ t i. i)
 
   -- A structure that no cell leads to is opened.
-  pub opened_stands : (settings : List Setting) (now : Seen) (node : NodeNo) (base : ℕ) (is : IsStructureAt P node) (rest : List Task) (values : List (Option ℤ)) (taken : Listed)
+  pub opened_stands : (settings : List Setting) (now : Seen) (node : NodeNo) (base : ℕ) (is : IsStructureAt P node) (rest : List Task)
+      (values : List (Option ℤ)) (taken : Listed)
       → Stands P first root settings now (Enter (Node node base) ∷ rest) values taken
       → Stands P first root settings now (tasks_of P node base is.name (length is.arguments) rest) values taken
   opened_stands settings now node base is rest values taken h = record {
@@ -157,7 +163,8 @@ module _ (P : NamedProgram) (fall : AllFall 0 P.skeleton.nodes) (first : Seen) (
     opened = h.opened;
     root_covered = on root h.root_covered;
     covered = λ k c. on k.value (h.covered k c);
-    later = λ t more. opened P t more.once root whole node base is rest values taken (record { onward = λ u known. known; back = λ u known. known }) (h.later t more);
+    later = λ t more. opened P t more.once root whole node base is rest values taken
+        (record { onward = λ u known. known; back = λ u known. known }) (h.later t more);
   }
     where
       whole : Ref
@@ -184,10 +191,12 @@ module _ (P : NamedProgram) (fall : AllFall 0 P.skeleton.nodes) (first : Seen) (
           (λ t i. enter_behind parts t (leave ∷ rest) (later_in rest leave t i))
 
   -- A structure is opened, and the cell that is set to it taken.
-  pub taken_stands : (settings : List Setting) (now : Seen) (p : Ref) (cell : ℕ) (node : NodeNo) (base : ℕ) (is : IsStructureAt P node) (rest : List Task) (values : List (Option ℤ)) (taken : Listed)
+  pub taken_stands : (settings : List Setting) (now : Seen) (p : Ref) (cell : ℕ) (node : NodeNo) (base : ℕ) (is : IsStructureAt P node) (rest : List Task)
+      (values : List (Option ℤ)) (taken : Listed)
       → LeadsTo now p (Cell cell) → Knows now cell (Node node base) → IsInRange P now.words (Node node base) → IsNew taken cell
       → Stands P first root settings now (Enter p ∷ rest) values taken
-      → Stands P first root (settings ++ record { place = cell; value = Node node base } ∷ []) now (tasks_of P node base is.name (length is.arguments) (Keep cell ∷ rest)) values (taken ++ (cell, None) ∷ [])
+      → Stands P first root (settings ++ record { place = cell; value = Node node base } ∷ []) now
+      (tasks_of P node base is.name (length is.arguments) (Keep cell ∷ rest)) values (taken ++ (cell, None) ∷ [])
   taken_stands settings now p cell node base is rest values taken leads knows fits new h = record {
     reads = h.reads;
     once = h.once;
@@ -195,8 +204,15 @@ module _ (P : NamedProgram) (fall : AllFall 0 P.skeleton.nodes) (first : Seen) (
       | inl i ↦ (part_in_range P fall now.words node base r fits i, part_written P now node base r i)
       | inr o ↦ h.in_range r (later_in rest (Enter p) (Enter r) (not_these r o))
     ];
-    kept = λ c k. elim (keep_cases c k) [ inl e ↦ subst (λ x. Contains (cells_of more) x) e new_there | inr o ↦ old_kept c (h.kept c (later_in rest (Enter p) (Keep c) o)) ];
-    counted = counted_parts parts (leave ∷ Keep cell ∷ rest) (length values) (length values, ap (λ n. n + length values) parts_long, (let some : 0 < suc (length values) = omega arith in some, h.counted));
+    kept = λ c k. elim (keep_cases c k) [
+      | inl e ↦ subst (λ x. Contains (cells_of more) x) e new_there
+      | inr o ↦ old_kept c (h.kept c (later_in rest (Enter p) (Keep c) o))
+    ];
+    counted = counted_parts parts (leave ∷ Keep cell ∷ rest) (length values) (
+      length values,
+      ap (λ n. n + length values) parts_long,
+      (let some : 0 < suc (length values) = omega arith in some, h.counted),
+    );
     led = λ r c. elim (enters_cases parts r (leave ∷ Keep cell ∷ rest) c) [
       | inl i ↦ part node base r (set cell (Node node base) cell_led knows) i
       | inr o ↦ h.led r (later_in rest (Enter p) (Enter r) (not_these r o))
@@ -242,10 +258,11 @@ module _ (P : NamedProgram) (fall : AllFall 0 P.skeleton.nodes) (first : Seen) (
       ]
 
       keep_cases : (c : ℕ) → Contains tasks (Keep c) → (cell ≡ c) ⊎ Contains rest (Keep c)
-      keep_cases c k = elim (first_or_later rest (Keep cell) (Keep c) (keep_later leave c (Keep cell ∷ rest) (λ e. cc) (keep_behind parts c (leave ∷ Keep cell ∷ rest) k))) [
-        | inl e ↦ inl (cc)
-        | inr o ↦ inr o
-      ]
+      keep_cases c k = elim (first_or_later rest (Keep cell) (Keep c)
+          (keep_later leave c (Keep cell ∷ rest) (λ e. cc) (keep_behind parts c (leave ∷ Keep cell ∷ rest) k))) [
+            | inl e ↦ inl (cc)
+            | inr o ↦ inr o
+          ]
 
       old_kept : (c : ℕ) → Contains (cells_of taken) c → Contains (cells_of more) c
       old_kept c i = subst (λ xs. Contains xs c) (sym (cells_push taken cell None)) (Contains-append_left (cells_of taken) (cell ∷ []) c i)
@@ -275,8 +292,10 @@ module _ (P : NamedProgram) (fall : AllFall 0 P.skeleton.nodes) (first : Seen) (
       (λ r i. elim (first_or_later rest t (Enter r) i) [ inl e ↦ absurd (other r e) | inr there ↦ waiting r there ]) q c
 
   -- A structure whose parts have their values is left.
-  pub left_stands : (settings : List Setting) (now : Seen) (name count : ℕ) (rest : List Task) (values last others : List (Option ℤ)) (taken : Listed) → values ≡ last ++ others → length last ≡ count
-      → Stands P first root settings now (Leave (record { 0 = name }) count ∷ rest) values taken → Stands P first root settings now rest (operated name (reverse last) ∷ others) taken
+  pub left_stands : (settings : List Setting) (now : Seen) (name count : ℕ) (rest : List Task) (values last others : List (Option ℤ)) (taken : Listed)
+      → values ≡ last ++ others → length last ≡ count
+      → Stands P first root settings now (Leave (record { 0 = name }) count ∷ rest) values taken
+      → Stands P first root settings now rest (operated name (reverse last) ∷ others) taken
   left_stands settings now name count rest values last others taken given counted h = record {
     reads = h.reads;
     once = h.once;
@@ -301,7 +320,8 @@ module _ (P : NamedProgram) (fall : AllFall 0 P.skeleton.nodes) (first : Seen) (
       on = other_covered now leave rest (cells_of taken) (cells_of taken) (λ r e. cc) (λ c i. i)
 
   -- The value of a cell is kept.
-  pub kept_stands : (settings : List Setting) (now : Seen) (cell : ℕ) (rest : List Task) (values others : List (Option ℤ)) (v : Option ℤ) (taken more : Listed) → values ≡ v ∷ others → Gives cell v taken more
+  pub kept_stands : (settings : List Setting) (now : Seen) (cell : ℕ) (rest : List Task) (values others : List (Option ℤ)) (v : Option ℤ) (taken more : Listed)
+      → values ≡ v ∷ others → Gives cell v taken more
       → Stands P first root settings now (Keep cell ∷ rest) values taken → Stands P first root settings now rest values more
   kept_stands settings now cell rest values others v taken more given gives h = record {
     reads = h.reads;

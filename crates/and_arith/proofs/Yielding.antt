@@ -105,7 +105,8 @@ module _ (P : NamedProgram) (s : Seen) where
       (terms.more first.0 others.0, more_parts r first.0 rs others.0 first.1 others.1)
 
   -- A structure yields what its name makes of the values of its parts.
-  pub structure_yields : (node : NodeNo) (base : ℕ) (is : IsStructureAt P node) (vs : List (Option ℤ)) → AllYield (parts_of P (Node node base)) vs → Yields (Node node base) (operated is.name vs)
+  pub structure_yields : (node : NodeNo) (base : ℕ) (is : IsStructureAt P node) (vs : List (Option ℤ)) → AllYield (parts_of P (Node node base)) vs
+      → Yields (Node node base) (operated is.name vs)
   structure_yields node base is vs yields = record {
     of_term = λ t known.
         let made = made_of_parts P s node base t is known in
@@ -113,8 +114,10 @@ module _ (P : NamedProgram) (s : Seen) where
         (ap value made.2 ∙ ap (operated is.name) both.0, ap variables_of made.2 ∙ both.1);
     has_term = λ z e.
         let some = operated_some is.name vs z e in
-        let all = all_known (parts_of P (Node node base)) vs yields some in
-        (terms.compound is.name all.0, structure node base is.name is.arguments all.0 is.shape (subst (λ rs. AllKnownAs P s rs all.0) (parts_are P node base is) all.1));
+        let all = all_known (parts_of P (Node node base)) vs yields some in (
+          terms.compound is.name all.0,
+          structure node base is.name is.arguments all.0 is.shape (subst (λ rs. AllKnownAs P s rs all.0) (parts_are P node base is) all.1),
+        );
   }
 
   -- Two references that are known as the same terms.
@@ -161,7 +164,8 @@ module _ (P : NamedProgram) (s : Seen) where
     end_yields place v (of_pair pair high low a b fits) = record {
       of_term = λ t known.
           let p = pair_cases P s pair t known in
-          let is = p.is ∙ ap (λ x. terms.number (number_of x p.low)) (once pair p.high high p.knows_high a) ∙ ap (λ x. terms.number (number_of high x)) (once (suc pair) p.low low p.knows_low b) in
+          let is = p.is ∙ ap (λ x. terms.number (number_of x p.low)) (once pair p.high high p.knows_high a)
+          ∙ ap (λ x. terms.number (number_of high x)) (once (suc pair) p.low low p.knows_low b) in
           (ap value is ∙ fits, ap variables_of is);
       has_term = λ z e. (terms.number (number_of high low), integer pair high low a b);
     }
@@ -179,12 +183,14 @@ module _ (P : NamedProgram) (s : Seen) where
     }
 
 -- a reference without parts stays one as more is known
-pub end_later : (P : NamedProgram) (s t : Seen) (place : Ref) (v : Option ℤ) → ((p : ℕ) (q : Ref) → Knows s p q → Knows t p q) → IsEnd P s place v → IsEnd P t place v
+pub end_later : (P : NamedProgram) (s t : Seen) (place : Ref) (v : Option ℤ) → ((p : ℕ) (q : Ref) → Knows s p q → Knows t p q)
+    → IsEnd P s place v → IsEnd P t place v
 end_later P s t place v knows (of_pair pair high low a b fits) = of_pair pair high low (knows pair high a) (knows (suc pair) low b) fits
 end_later P s t place v knows (of_half bits) = of_half bits
 end_later P s t place v knows (of_literal node base z fits at) = of_literal node base z fits at
 
 -- and a part comes to what it came to
-pub come_later : (s t : Seen) (part : Ref) (by : Option ℕ) (place : Ref) → ((p : ℕ) (q : Ref) → Knows s p q → Knows t p q) → IsComeTo s part by place → IsComeTo t part by place
+pub come_later : (s t : Seen) (part : Ref) (by : Option ℕ) (place : Ref) → ((p : ℕ) (q : Ref) → Knows s p q → Knows t p q) → IsComeTo s part by place
+    → IsComeTo t part by place
 come_later s t part None place knows come = come
 come_later s t part (Some cell) place knows come = (leads_later s t part (Cell cell) knows come.0, knows cell place come.1)

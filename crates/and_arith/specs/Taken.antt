@@ -19,7 +19,8 @@ IsNew taken cell = (v : Option ℤ) → Contains taken (cell, v) → ⊥
 -- The cell has this value now, and each other cell the one that it had.
 pub record Gives (cell : ℕ) (value : Option ℤ) (old new : Listed) : Type 0 where
   pub cells : cells_of new ≡ cells_of old
-  pub only : (c : ℕ) (v : Option ℤ) → Contains new (c, v) → ((c ≡ cell) × (v ≡ value)) ⊎ ((c ≢ cell) × Contains old (c, v))
+  pub only : (c : ℕ) (v : Option ℤ) → Contains new (c, v)
+      → ((c ≡ cell) × (v ≡ value)) ⊎ ((c ≢ cell) × Contains old (c, v))
 
 -- an entry that stands for none
 abbrev pub no_entry : Entry

@@ -1,5 +1,6 @@
 -- What one turn of a walk over an expression does to what is still to be done.
-use Rattle.std.specs.Prelude.{ℕ, suc, ℤ, ◌≡◌, ◌<◌, ◌≤◌, ◌+◌, ◌^◌, List, [], ◌∷◌, ◌++◌, map, length, reverse, Contains, Option, Some, None}
+use Rattle.std.specs.Prelude.{ℕ, suc, ℤ, ◌≡◌, ◌<◌, ◌≤◌, ◌+◌, ◌^◌, List, [], ◌∷◌, ◌++◌, map, length, reverse, Contains}
+use Rattle.std.specs.Prelude.{Option, Some, None}
 use Rattle.and_model.specs.Arithmetic.{in_range, operated}
 use Rattle.and_model.specs.declared.numbers.NodeNo.{NodeNo}
 use Rattle.and_model.specs.declared.reference.Ref.{Ref}
@@ -15,7 +16,8 @@ use Rattle.and_arith.specs.declared.values.WorkList.{WorkList}
 use Rattle.and_arith.specs.declared.walk.Task.{Task}
 use Rattle.and_arith.specs.declared.walk.Task.TheVariants.{Enter, Leave, Keep}
 
--- Where the walk stands: what is seen, what is to do and the values so far (the next and the last one first), the cells that were taken, and the fuel.
+-- Where the walk stands: what is seen, what is to do and the values so far (the next and the last one first), the
+-- cells that were taken, and the fuel.
 pub record Stand : Type 0 where
   pub seen : Seen
   pub tasks : List Task
@@ -25,7 +27,13 @@ pub record Stand : Type 0 where
 
 -- where the walk stands with this work
 abbrev pub stand : Seen → WorkList → (fuel : ℕ) → Stand
-stand seen work fuel = record { seen = seen; tasks = reverse work.tasks.items; values = reverse work.values.items; taken = work.taken; fuel = fuel }
+stand seen work fuel = record {
+  seen = seen;
+  tasks = reverse work.tasks.items;
+  values = reverse work.values.items;
+  taken = work.taken;
+  fuel = fuel;
+}
 
 -- what is to do, the values so far, and the cells that were taken
 pub record Undone : Type 0 where
@@ -41,10 +49,12 @@ undone_at s = record { tasks = s.tasks; values = s.values; taken = s.taken }
 
 -- A reference without parts, and its value.
 pub data IsEnd (P : NamedProgram) (s : Seen) : Ref → Option ℤ → Type 0 where
-  of_pair : (pair : ℕ) (high low : Ref) → Knows s pair high → Knows s (suc pair) low → in_range (number_of high low) ≡ Some (number_of high low)
+  of_pair : (pair : ℕ) (high low : Ref) → Knows s pair high → Knows s (suc pair) low
+      → in_range (number_of high low) ≡ Some (number_of high low)
       → IsEnd P s (reference.Number pair) (Some (number_of high low))
   of_half : (bits : ℕ) → IsEnd P s (reference.Half bits) None
-  of_literal : (node : NodeNo) (base : ℕ) (z : ℤ) → in_range z ≡ Some z → shape_at P.skeleton node.0 ≡ shapes.number z → IsEnd P s (reference.Node node base) (Some z)
+  of_literal : (node : NodeNo) (base : ℕ) (z : ℤ) → in_range z ≡ Some z → shape_at P.skeleton node.0 ≡ shapes.number z
+      → IsEnd P s (reference.Node node base) (Some z)
 
 -- The node is a name with these arguments, at most 255 of them.
 pub record IsStructureAt (P : NamedProgram) (node : NodeNo) : Type 0 where
@@ -60,21 +70,27 @@ IsComeTo s part (Some cell) place = LeadsTo s part (reference.Cell cell) × Know
 
 -- the tasks of a structure: its parts, from left to right, and then itself
 abbrev pub tasks_of : (P : NamedProgram) (node : NodeNo) (base name count : ℕ) → List Task → List Task
-tasks_of P node base name count rest = map Enter (parts_of P (reference.Node node base)) ++ Leave (record { 0 = name }) count ∷ rest
+tasks_of P node base name count rest =
+    map Enter (parts_of P (reference.Node node base)) ++ Leave (record { 0 = name }) count ∷ rest
 
 -- What becomes of a place, to which a part led by itself or by a cell that is set to it.
 pub data Comes (P : NamedProgram) (by : Option ℕ) (place : Ref) (s : Seen) (old new : Undone) : Type 0 where
   -- It has no parts.
-  ends : (v : Option ℤ) → IsEnd P s place v → new.tasks ≡ old.tasks → new.values ≡ v ∷ old.values → new.taken ≡ old.taken → Comes P by place s old new
+  ends : (v : Option ℤ) → IsEnd P s place v → new.tasks ≡ old.tasks → new.values ≡ v ∷ old.values
+      → new.taken ≡ old.taken → Comes P by place s old new
   -- The cell was taken.
-  again : (cell : ℕ) (v : Option ℤ) (node : NodeNo) (base : ℕ) → by ≡ Some cell → place ≡ reference.Node node base → Contains old.taken (cell, v) → new.tasks ≡ old.tasks
+  again : (cell : ℕ) (v : Option ℤ) (node : NodeNo) (base : ℕ) → by ≡ Some cell → place ≡ reference.Node node base
+      → Contains old.taken (cell, v) → new.tasks ≡ old.tasks
       → new.values ≡ v ∷ old.values → new.taken ≡ old.taken → Comes P by place s old new
   -- It is a structure that no cell leads to.
   opens : (node : NodeNo) (base : ℕ) (structure : IsStructureAt P node) → by ≡ None → place ≡ reference.Node node base
-      → new.tasks ≡ tasks_of P node base structure.name (length structure.arguments) old.tasks → new.values ≡ old.values → new.taken ≡ old.taken → Comes P by place s old new
+      → new.tasks ≡ tasks_of P node base structure.name (length structure.arguments) old.tasks
+      → new.values ≡ old.values → new.taken ≡ old.taken → Comes P by place s old new
   -- It is a structure, and the cell was not taken.
-  takes : (cell : ℕ) (node : NodeNo) (base : ℕ) (structure : IsStructureAt P node) → by ≡ Some cell → place ≡ reference.Node node base → IsNew old.taken cell
-      → new.tasks ≡ tasks_of P node base structure.name (length structure.arguments) (Keep cell ∷ old.tasks) → new.values ≡ old.values
+  takes : (cell : ℕ) (node : NodeNo) (base : ℕ) (structure : IsStructureAt P node) → by ≡ Some cell
+      → place ≡ reference.Node node base → IsNew old.taken cell
+      → new.tasks ≡ tasks_of P node base structure.name (length structure.arguments) (Keep cell ∷ old.tasks)
+      → new.values ≡ old.values
       → new.taken ≡ old.taken ++ (cell, None) ∷ [] → length new.taken < 2 ^ 63 → Comes P by place s old new
 
 -- The part was entered, for 1 of the fuel.
@@ -112,9 +128,12 @@ pub record Keeps (cell : ℕ) (old new : Stand) : Type 0 where
 
 -- One turn.
 pub data Turns (P : NamedProgram) (old new : Stand) : Type 0 where
-  enters : (part : Ref) (rest : List Task) → old.tasks ≡ Enter part ∷ rest → Enters P part (record old { tasks = rest }) new → Turns P old new
-  leaves : (name count : ℕ) (rest : List Task) → old.tasks ≡ Leave (record { 0 = name }) count ∷ rest → Leaves name count (record old { tasks = rest }) new → Turns P old new
-  keeps : (cell : ℕ) (rest : List Task) → old.tasks ≡ Keep cell ∷ rest → Keeps cell (record old { tasks = rest }) new → Turns P old new
+  enters : (part : Ref) (rest : List Task) → old.tasks ≡ Enter part ∷ rest
+      → Enters P part (record old { tasks = rest }) new → Turns P old new
+  leaves : (name count : ℕ) (rest : List Task) → old.tasks ≡ Leave (record { 0 = name }) count ∷ rest
+      → Leaves name count (record old { tasks = rest }) new → Turns P old new
+  keeps : (cell : ℕ) (rest : List Task) → old.tasks ≡ Keep cell ∷ rest
+      → Keeps cell (record old { tasks = rest }) new → Turns P old new
 
 -- A part comes next, and leads to a cell that was found free.
 pub record Stops (shared cell : ℕ) (old new : Stand) : Type 0 where
@@ -149,7 +168,8 @@ AreCounted (Enter part ∷ tasks) n = AreCounted tasks (suc n)
 AreCounted (Leave name count ∷ tasks) n = (others : ℕ) × (n ≡ count + others) × AreCounted tasks (suc others)
 AreCounted (Keep cell ∷ tasks) n = (0 < n) × AreCounted tasks n
 
--- The next turn can be taken: what is to be entered is in range, what is to be kept was taken, and there are values enough.
+-- The next turn can be taken: what is to be entered is in range, what is to be kept was taken, and there are values
+-- enough.
 pub record IsReady (P : NamedProgram) (s : Stand) : Type 0 where
   pub enters : (r : Ref) → Contains s.tasks (Enter r) → IsInRange P s.seen.words r × IsWrittenIfNumber s.seen r
   pub keeps : (cell : ℕ) → Contains s.tasks (Keep cell) → IsNew s.taken cell → ⊥

@@ -24,7 +24,8 @@ pub(crate) fn follow<C: Cells>(cells: &mut C, from: u32) -> Followed
     ensures grew { C.Grew cells.old cells.new }
     ensures reads { OnlyReads (C.seen cells.old) (C.seen cells.new) }
     ensures free { (cell : ℕ) → result ≡ Followed.Free cell
-        → LeadsTo (C.seen cells.new) (Ref.Cell from) (Ref.Cell cell) × FoundFree (C.shared (C.over cells.old)) cell (C.seen cells.old) (C.seen cells.new) }
+        → LeadsTo (C.seen cells.new) (Ref.Cell from) (Ref.Cell cell)
+        × FoundFree (C.shared (C.over cells.old)) cell (C.seen cells.old) (C.seen cells.new) }
     ensures set { (cell : ℕ) (to : Ref) → result ≡ Followed.Set cell to
         → LeadsTo (C.seen cells.new) (Ref.Cell from) (Ref.Cell cell) × Knows (C.seen cells.new) cell to
         × IsInRangeOrHalf C.program (C.seen cells.new).words to × IsWrittenIfNumber (C.seen cells.new) to

@@ -34,7 +34,8 @@ pub fn ground_references_have_known_terms()
 
 /// A known term has no variable where the reference is ground, and where the term has a value.
 pub fn known_terms_are_ground()
-    ensures ground { (P : NamedProgram) (s : Seen) (r : Ref) (t : Term) → IsGround P s r → KnownAs P s r t → is_ground t ≡ true }
+    ensures ground { (P : NamedProgram) (s : Seen) (r : Ref) (t : Term) → IsGround P s r → KnownAs P s r t
+        → is_ground t ≡ true }
     ensures value { (t : Term) (z : ℤ) → value_of_term t ≡ Some z → is_ground t ≡ true }
 {}
 

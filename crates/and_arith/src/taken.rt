@@ -1,6 +1,7 @@
 //! The cells of an expression whose terms were come to, with the values of these.
 
-ghost use Rattle.std.specs.Prelude.{◌≡◌, ◌<◌, ◌^◌, ◌++◌, ◌∷◌, [], ℕ, ℤ, Option, Some, None, length, get_or, Contains, OnOk};
+ghost use Rattle.std.specs.Prelude.{◌≡◌, ◌<◌, ◌^◌, ◌++◌, ◌∷◌, [], ℕ, ℤ, Option, Some, None, length, get_or, Contains};
+ghost use Rattle.std.specs.Prelude.{OnOk};
 ghost use Rattle.and_arith.specs.Taken.{IsNew, Gives, no_entry, entry_of};
 ghost use Rattle.and_arith.specs.declared.taken.Lookup.{Lookup};
 
@@ -100,7 +101,8 @@ impl Taken {
 
     /// Where the entry of a cell stands, if it was taken.
     fn position(&self, cell: u32) -> Option<usize>
-        ensures some { (i : ℕ) → result ≡ Some i → (i < length self.now) × ((get_or self.now i (entry_of no_entry)).0 ≡ cell) }
+        ensures some { (i : ℕ) → result ≡ Some i
+            → (i < length self.now) × ((get_or self.now i (entry_of no_entry)).0 ≡ cell) }
         ensures none { result ≡ None → IsNew self.now cell }
     {
         let place = slot(&self.slots, cell);

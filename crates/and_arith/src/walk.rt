@@ -1,6 +1,7 @@
 //! The walk over an expression, by a list of what is still to be done.
 
-ghost use Rattle.std.specs.Prelude.{◌≡◌, ◌≢◌, ◌<◌, ◌≤◌, ◌^◌, ◌++◌, ◌∷◌, [], ℕ, suc, ℤ, Option, Some, None, List, length, reverse, OnOk, OnErr};
+ghost use Rattle.std.specs.Prelude.{◌≡◌, ◌≢◌, ◌<◌, ◌≤◌, ◌^◌, ◌++◌, ◌∷◌, [], ℕ, suc, ℤ, Option, Some, None, List};
+ghost use Rattle.std.specs.Prelude.{length, reverse, OnOk, OnErr};
 ghost use Rattle.and_model.specs.Arithmetic.{operated};
 ghost use Rattle.and_model.specs.declared.reference.Ref.{Ref};
 ghost use Rattle.and_program.specs.Loaded.{skeleton_of, arguments_at};
@@ -8,7 +9,8 @@ ghost use Rattle.and_cells.specs.Ranges.{IsInRange, IsInRangeOrHalf};
 ghost use Rattle.and_cells.specs.Seen.{Seen, OnlyReads, LeadsTo, FoundFree, IsWrittenIfNumber};
 ghost use Rattle.and_cells.specs.Parts.{named};
 ghost use Rattle.and_arith.specs.Taken.{IsNew};
-ghost use Rattle.and_arith.specs.Turns.{stand, undone, tasks_of, Comes, Enters, Leaves, Keeps, Turns, Stops, PutsOff, Finishes, AreCounted, IsReady};
+ghost use Rattle.and_arith.specs.Turns.{stand, undone, tasks_of, Comes, Enters, Leaves, Keeps, Turns, Stops, PutsOff};
+ghost use Rattle.and_arith.specs.Turns.{Finishes, AreCounted, IsReady};
 ghost use Rattle.and_arith.specs.declared.values.Valued.{Valued};
 ghost use Rattle.and_arith.specs.declared.walk.Task.{Task};
 
@@ -59,7 +61,8 @@ pub(crate) fn take_turn<C: Cells>(
     ensures no_value { result ≡ Turn.Over Valued.NoValue
         → Finishes None (stand (C.seen cells.old) work.old fuel.old) (stand (C.seen cells.new) work.new fuel.new) }
     ensures waits { (cell : ℕ) → result ≡ Turn.Over (Valued.Waits cell)
-        → Stops (C.shared (C.over cells.old)) cell (stand (C.seen cells.old) work.old fuel.old) (stand (C.seen cells.new) work.new fuel.new) }
+        → Stops (C.shared (C.over cells.old)) cell (stand (C.seen cells.old) work.old fuel.old)
+        (stand (C.seen cells.new) work.new fuel.new) }
     ensures put_off { result ≡ Turn.Over Valued.PutOff
         → PutsOff (stand (C.seen cells.old) work.old fuel.old) (stand (C.seen cells.new) work.new fuel.new) }
 {
@@ -89,10 +92,13 @@ fn enter<C: Cells>(loaded: &Loaded, cells: &mut C, work: &mut WorkList, part: Re
     ensures grew { C.Grew cells.old cells.new }
     ensures reads { OnlyReads (C.seen cells.old) (C.seen cells.new) }
     ensures again { result ≡ Turn.Again → (fuel : ℕ)
-        → Enters C.program part (stand (C.seen cells.old) work.old (suc fuel)) (stand (C.seen cells.new) work.new fuel) }
+        → Enters C.program part (stand (C.seen cells.old) work.old (suc fuel))
+        (stand (C.seen cells.new) work.new fuel) }
     ensures waits { (cell : ℕ) → result ≡ Turn.Over (Valued.Waits cell)
-        → LeadsTo (C.seen cells.new) part (Ref.Cell cell) × FoundFree (C.shared (C.over cells.old)) cell (C.seen cells.old) (C.seen cells.new) }
-    ensures only { (result ≢ Turn.Over Valued.PutOff) × (result ≢ Turn.Over Valued.NoValue) × ((z : ℤ) → result ≢ Turn.Over (Valued.Number z)) }
+        → LeadsTo (C.seen cells.new) part (Ref.Cell cell)
+        × FoundFree (C.shared (C.over cells.old)) cell (C.seen cells.old) (C.seen cells.new) }
+    ensures only { (result ≢ Turn.Over Valued.PutOff) × (result ≢ Turn.Over Valued.NoValue)
+        × ((z : ℤ) → result ≢ Turn.Over (Valued.Number z)) }
 {
     match part {
         Ref::Cell(from) => match follow(cells, from) {
@@ -148,7 +154,8 @@ fn enter_term(
     base: u32,
 ) -> Result<(), AllocError>
     requires { (words : ℕ) × IsInRange (named loaded.now) words (Ref.Node node base) }
-    ensures { OnOk result ((s : Seen) → Comes (named loaded.now) (Some cell) (Ref.Node node base) s (undone work.old) (undone work.new)) }
+    ensures { OnOk result ((s : Seen)
+        → Comes (named loaded.now) (Some cell) (Ref.Node node base) s (undone work.old) (undone work.new)) }
 {
     match loaded.kind(node) {
         NodeKind::Number(number) => work.put(Some(number)),
@@ -171,7 +178,8 @@ fn enter_node(
     base: u32,
 ) -> Result<(), AllocError>
     requires { (words : ℕ) × IsInRange (named loaded.now) words (Ref.Node node base) }
-    ensures { OnOk result ((s : Seen) → Comes (named loaded.now) None (Ref.Node node base) s (undone work.old) (undone work.new)) }
+    ensures { OnOk result ((s : Seen)
+        → Comes (named loaded.now) None (Ref.Node node base) s (undone work.old) (undone work.new)) }
 {
     match loaded.kind(node) {
         NodeKind::Number(number) => work.put(Some(number)),
@@ -227,7 +235,8 @@ impl WorkList {
         requires there { node.0 < length (skeleton_of loaded.now).nodes }
         requires base { base < 2 ^ 23 }
         requires count { count ≡ length (arguments_at (skeleton_of loaded.now) node.0) }
-        ensures tasks { OnOk result (reverse self.new.tasks.items ≡ tasks_of (named loaded.now) node base name.0 count (reverse self.old.tasks.items)) }
+        ensures tasks { OnOk result (reverse self.new.tasks.items
+            ≡ tasks_of (named loaded.now) node base name.0 count (reverse self.old.tasks.items)) }
         ensures values { self.new.values ≡ self.old.values }
         ensures taken { self.new.taken ≡ self.old.taken }
     {
@@ -244,7 +253,8 @@ impl WorkList {
     /// Puts what an operation gives in the place of so many values. An error is want of memory.
     fn leave(&mut self, name: NameNo, count: u8) -> Result<(), AllocError>
         requires { count ≤ length (reverse self.old.values.items) }
-        ensures { OnOk result ((s : Seen) (fuel : ℕ) → Leaves name.0 count (stand s self.old fuel) (stand s self.new fuel)) }
+        ensures { OnOk result ((s : Seen) (fuel : ℕ)
+            → Leaves name.0 count (stand s self.old fuel) (stand s self.new fuel)) }
     {
         let value = operated(&mut self.values, name, count);
         self.put(value)
@@ -265,8 +275,10 @@ impl WorkList {
     /// What the expression came to, whose value is the last one.
     fn outcome(&mut self) -> Valued
         requires { 0 < length (reverse self.old.values.items) }
-        ensures number { (z : ℤ) → result ≡ Valued.Number z → (others : List (Option ℤ)) × (reverse self.old.values.items ≡ Some z ∷ others) }
-        ensures no_value { result ≡ Valued.NoValue → (others : List (Option ℤ)) × (reverse self.old.values.items ≡ None ∷ others) }
+        ensures number { (z : ℤ) → result ≡ Valued.Number z
+            → (others : List (Option ℤ)) × (reverse self.old.values.items ≡ Some z ∷ others) }
+        ensures no_value { result ≡ Valued.NoValue
+            → (others : List (Option ℤ)) × (reverse self.old.values.items ≡ None ∷ others) }
         ensures only { ((cell : ℕ) → result ≢ Valued.Waits cell) × (result ≢ Valued.PutOff) }
     {
         match self.values.pop() {
@@ -281,7 +293,8 @@ impl WorkList {
 /// name gives for them.
 fn operated(values: &mut Vec<Option<i64>>, name: NameNo, count: u8) -> Option<i64>
     requires { count ≤ length (reverse values.old.items) }
-    ensures { (last : List (Option ℤ)) × (length last ≡ count) × (reverse values.old.items ≡ last ++ reverse values.new.items)
+    ensures { (last : List (Option ℤ)) × (length last ≡ count)
+        × (reverse values.old.items ≡ last ++ reverse values.new.items)
         × (result ≡ operated name.0 (reverse last)) }
 {
     match count {

@@ -17,8 +17,8 @@ use Rattle.and_branch_laws.specs.Kept.{item_at, IsCall}
 abbrev pub outside : Path
 outside = 0 ∷ []
 
--- The clause is a candidate of the goal in the cells: under the equations of the row, the call in its frame's cells, and the clause in a
--- frame of its own.
+-- The clause is a candidate of the goal in the cells: under the equations of the row, the call in its frame's cells,
+-- and the clause in a frame of its own.
 abbrev pub CandidateInCells : NamedProgram → List Ref → Goal → ℕ → Type 0
 CandidateInCells P row g c = Candidate P.program (equations_of P row) outside (placed g.base (term_of P.program g)) c
 

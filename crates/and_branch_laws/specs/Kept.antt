@@ -1,5 +1,6 @@
 -- What a branch that is not failed keeps between its steps.
-use Rattle.std.specs.Prelude.{ℕ, suc, ◌+◌, ◌≡◌, ◌≢◌, Bool, true, false, not, List, [], ◌∷◌, ◌++◌, map, filter, length, get_or, All}
+use Rattle.std.specs.Prelude.{ℕ, suc, ◌+◌, ◌≡◌, ◌≢◌, Bool, true, false, not, List, [], ◌∷◌, ◌++◌, map, filter, length}
+use Rattle.std.specs.Prelude.{get_or, All}
 use Rattle.std.specs.Prelude.{AllPairs}
 use Rattle.and_model.specs.Terms.{Path, Substitution}
 use Rattle.and_model.specs.Solutions.{Equation, Entails}
@@ -68,14 +69,17 @@ abbrev pub HasFreePair : NamedProgram → List Ref → Goal → NodeItem → Typ
 HasFreePair P row g (Skeletons.call n) = Unit {0}
 HasFreePair P row g (Skeletons.equal n m) = Unit {0}
 HasFreePair P row g (Skeletons.is n m number) =
-    (word_at row (pair_of P g.clause.0 g.base number) ≡ Free) × (word_at row (suc (pair_of P g.clause.0 g.base number)) ≡ Free)
+    (word_at row (pair_of P g.clause.0 g.base number) ≡ Free)
+    × (word_at row (suc (pair_of P g.clause.0 g.base number)) ≡ Free)
 HasFreePair P row g (Skeletons.compare r n m) = Unit {0}
 HasFreePair P row g Skeletons.fail = Unit {0}
 
--- Holds P rs row kept tree: what holds of the reductions, of the row, and of the goals that are left, calls and arithmetic among each
--- other in preorder.
-pub record Holds (P : NamedProgram) (rs : List Reduction) (row : List Ref) (kept : List Framed) (tree : QueryTree P.program) : Type 0 where
-  -- The reductions make the tree, and the row has a frame for each of its clauses: it begins at the number of the clause's place.
+-- Holds P rs row kept tree: what holds of the reductions, of the row, and of the goals that are left, calls and
+-- arithmetic among each other in preorder.
+pub record Holds (P : NamedProgram) (rs : List Reduction) (row : List Ref) (kept : List Framed)
+    (tree : QueryTree P.program) : Type 0 where
+  -- The reductions make the tree, and the row has a frame for each of its clauses: it begins at the number of the
+  -- clause's place.
   pub made : Makes P.program rs tree
   pub long : length row ≡ weight tree
   pub sound : IsSound P row
@@ -94,16 +98,18 @@ pub record Holds (P : NamedProgram) (rs : List Reduction) (row : List Ref) (kept
   pub whole : (v : Path × ℕ) (i : IsVariable P rs v) → is_half (word_at row (i.node + 1 + v.1)) ≡ false
   pub free : All (λ (f : Framed). HasFreePair P row f.goal (node_item_at P f.goal)) kept
 
--- Kept P rs row kept tree: this holds, and the row is settled. With the tree's variables named, it states the tree's equations with those
--- of the arithmetic that was run, and nothing else.
-pub record Kept (P : NamedProgram) (rs : List Reduction) (row : List Ref) (kept : List Framed) (tree : QueryTree P.program) : Type 0 where
+-- Kept P rs row kept tree: this holds, and the row is settled. With the tree's variables named, it states the tree's
+-- equations with those of the arithmetic that was run, and nothing else.
+pub record Kept (P : NamedProgram) (rs : List Reduction) (row : List Ref) (kept : List Framed)
+    (tree : QueryTree P.program) : Type 0 where
   pub has : Holds P rs row kept tree
   pub open has use *
   pub settled : IsSettled P row
   pub states : Entails (equations_of P row) (under names solved)
   pub stated : Entails (under names solved) (equations_of P row)
 
--- Unsettled P rs row es kept tree: the same of a row that is still to be settled with further equations, which speak of its cells.
+-- Unsettled P rs row es kept tree: the same of a row that is still to be settled with further equations, which speak
+-- of its cells.
 pub record Unsettled (P : NamedProgram) (rs : List Reduction) (row : List Ref) (es : List Equation) (kept : List Framed)
     (tree : QueryTree P.program) : Type 0 where
   pub has : Holds P rs row kept tree

@@ -11,8 +11,9 @@ use Rattle.and_cells.specs.Ranges.{NamedProgram}
 use Rattle.and_cells.specs.Meaning.{StandsFor}
 use Rattle.and_branch_laws.specs.Kept.{goal_of}
 
--- Terms for the query's variables, whose frame is at base 0, and for those of the goals that wait, in the frames of their paths: those
--- that the cells of the frames stand for. (So printing takes them: from these it writes `line` of the terms and the goals.)
+-- Terms for the query's variables, whose frame is at base 0, and for those of the goals that wait, in the frames of
+-- their paths: those that the cells of the frames stand for. (So printing takes them: from these it writes `line` of
+-- the terms and the goals.)
 pub record LineIsRead (P : NamedProgram) (row : List Ref) (waiting : List Goal) : Type 0 where
   pub terms : Substitution
   pub framed : List Framed

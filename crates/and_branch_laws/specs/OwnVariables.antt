@@ -34,8 +34,8 @@ HasOwnVariables k = All (AreOwn k.variables) (terms_of_clause k)
 abbrev pub OwnVariables : NamedProgram → Type 0
 OwnVariables P = (c : ℕ) → HasOwnVariables (clause_at P.program c)
 
--- What holds of every program that is loaded: the nodes are those of its clauses, these name their own variables alone, the query's
--- variables have their written names, and words can name the nodes.
+-- What holds of every program that is loaded: the nodes are those of its clauses, these name their own variables
+-- alone, the query's variables have their written names, and words can name the nodes.
 pub record IsLoaded (P : NamedProgram) : Type 0 where
   pub skeleton : IsSkeleton P.skeleton P.program
   pub own : OwnVariables P

@@ -29,7 +29,8 @@ reduction_in_cells P g c base =
 abbrev pub reduction_by : Goal → (clause node : ℕ) → Reduction
 reduction_by g c n = record { parent = g.node; item = g.item; clause = c; node = n }
 
--- an item of the clause at a place as a goal, with the path of the place: in the frame that begins at the place's number
+-- an item of the clause at a place as a goal, with the path of the place: in the frame that begins at the place's
+-- number
 abbrev pub goal_at : (clause node : ℕ) → Path → (item : ℕ) → Framed
 goal_at c n q i = record { goal = record { node = n; item = i; clause = record { 0 = c }; base = n }; frame = q }
 

@@ -15,8 +15,8 @@ use Rattle.and_cells.specs.Solved.{IsMostGeneral}
 abbrev pub widened : List Ref → (by : ℕ) → List Ref
 widened row by = row ++ replicate by Free
 
--- Settled P old new es: from the old row and the equations the new row was settled, as unification promises it where it finds a solution.
--- What was set stays, and no further cell is a word of a pair.
+-- Settled P old new es: from the old row and the equations the new row was settled, as unification promises it where
+-- it finds a solution. What was set stays, and no further cell is a word of a pair.
 pub record Settled (P : NamedProgram) (old new : List Ref) (es : List Equation) : Type 0 where
   pub solved : IsMostGeneral P new (equations_of P old ++ es)
   pub sound : IsSound P new

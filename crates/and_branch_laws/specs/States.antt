@@ -1,11 +1,13 @@
--- The state of a branch: what its tree allows next (the basic Andorra model: Santos Costa, Warren and Yang, 1991; the limit is this
--- project's own).
-use Rattle.std.specs.Prelude.{ℕ, ◌+◌, ◌<◌, ◌≤◌, ◌≡◌, ◌≢◌, ◌↔◌, List, [], ◌∷◌, ◌++◌, Option, Some, None, AllPairs, Contains}
+-- The state of a branch: what its tree allows next (the basic Andorra model: Santos Costa, Warren and Yang, 1991; the
+-- limit is this project's own).
+use Rattle.std.specs.Prelude.{ℕ, ◌+◌, ◌<◌, ◌≤◌, ◌≡◌, ◌≢◌, ◌↔◌, List, [], ◌∷◌, ◌++◌, Option, Some, None, AllPairs}
+use Rattle.std.specs.Prelude.{Contains}
 use Rattle.std.proofs.Common.{inl, inr}
 use Rattle.and_model.specs.Terms.{Path}
 use Rattle.and_model.specs.Solutions.{Equation, Solvable}
 use Rattle.and_model.specs.Programs.{Program, Arithmetic, clause_at, clause_weight}
-use Rattle.and_model.specs.Trees.{Agenda, Tree, QueryTree, done, left, by, equate, reckon, Open, IsLeftmost, IsWhole, Closed, path, weight}
+use Rattle.and_model.specs.Trees.{Agenda, Tree, QueryTree, done, left, by, equate, reckon, Open, IsLeftmost, IsWhole}
+use Rattle.and_model.specs.Trees.{Closed, path, weight}
 use Rattle.and_model.specs.Reached.{CandidateOf, Shut, Dead}
 use Rattle.and_model.specs.Reductions.{Reduction, PlaceHas, Makes}
 use Rattle.and_model.specs.Limits.{Cut, query_alone, at_goal}
@@ -67,12 +69,14 @@ StateOf P limit t (determinate o c) =
     × ((p : Open t) (d : ℕ) → IsBefore t p o → IsSole t es p d → Fits limit t d → ⊥)
 -- Else some open goal has one candidate alone: the leftmost such goal.
 StateOf P limit t (over_one o c) =
-    (es : List Equation) × (gs : List Arithmetic) × Lives t es gs × ((p : Open t) (d : ℕ) → IsSole t es p d → Fits limit t d → ⊥)
+    (es : List Equation) × (gs : List Arithmetic) × Lives t es gs
+    × ((p : Open t) (d : ℕ) → IsSole t es p d → Fits limit t d → ⊥)
     × IsSole t es o c
     × ((p : Open t) (d : ℕ) → IsBefore t p o → IsSole t es p d → ⊥)
 -- Else there is an open goal, and no candidate of the leftmost one fits.
 StateOf P limit t (over_all o c) =
-    (es : List Equation) × (gs : List Arithmetic) × ShutAt t o es gs × ((d : ℕ) → CandidateOf t es o d → Fits limit t d → ⊥)
+    (es : List Equation) × (gs : List Arithmetic) × ShutAt t o es gs
+    × ((d : ℕ) → CandidateOf t es o d → Fits limit t d → ⊥)
     × IsFirst (λ d. CandidateOf t es o d) (Some c)
 -- Else there is an open goal.
 StateOf P limit t (fork o cs cut) =
@@ -80,13 +84,18 @@ StateOf P limit t (fork o cs cut) =
     × ((c : ℕ) → Contains cs c ↔ (CandidateOf t es o c × Fits limit t c))
     × IsFirst (λ d. CandidateOf t es o d × (Fits limit t d → ⊥)) cut
 -- Else arithmetic is still waiting,
-StateOf P limit t floundered = (es : List Equation) × (gs : List Arithmetic) × Closed t es gs × Solvable es × IsWhole t × (gs ≢ [])
+StateOf P limit t floundered = (es : List Equation) × (gs : List Arithmetic) × Closed t es gs × Solvable es
+    × IsWhole t × (gs ≢ [])
 -- or not.
-StateOf P limit t answer = (es : List Equation) × (gs : List Arithmetic) × Closed t es gs × Solvable es × IsWhole t × (gs ≡ [])
+StateOf P limit t answer = (es : List Equation) × (gs : List Arithmetic) × Closed t es gs × Solvable es
+    × IsWhole t × (gs ≡ [])
 
--- What was cut off, as the run-time has it: a tree by its reductions, an open goal of it, and a clause. For a query that is too heavy by
--- itself there is no tree: no reductions, the query's number for the clause, and each number of the goal 0.
+-- What was cut off, as the run-time has it: a tree by its reductions, an open goal of it, and a clause. For a query
+-- that is too heavy by itself there is no tree: no reductions, the query's number for the clause, and each number of
+-- the goal 0.
 abbrev pub IsCut : {P : Program} → List Reduction → Goal → (clause : ℕ) → Cut P → Type 0
-IsCut rs g c query_alone = (rs ≡ []) × (c ≡ 0) × (g ≡ record { node = 0; item = 0; clause = record { 0 = 0 }; base = 0 })
-IsCut {P} rs g c (at_goal t o d) = Makes P rs t × (d ≡ c) × (q : Path) × PlaceHas rs g.node q × ClauseHas rs g.node g.clause.0
+IsCut rs g c query_alone = (rs ≡ []) × (c ≡ 0)
+    × (g ≡ record { node = 0; item = 0; clause = record { 0 = 0 }; base = 0 })
+IsCut {P} rs g c (at_goal t o d) = Makes P rs t × (d ≡ c) × (q : Path) × PlaceHas rs g.node q
+    × ClauseHas rs g.node g.clause.0
     × (path t o ≡ q ++ g.item ∷ [])

@@ -48,5 +48,6 @@ pub data Drops : List Task → Arithmetic → List Task → Type 0 where
 -- makes the equations ds of es. The other tasks, us, are left in their order.
 pub data RanAmong : List Equation → List Task → List Equation → List Task → Type 0 where
   none_yet : (es : List Equation) (ts : List Task) → RanAmong es ts es ts
-  one : (es : List Equation) (ts : List Task) (a : Arithmetic) (us : List Task) (values : Terms) (ds : List Equation) (vs : List Task)
+  one : (es : List Equation) (ts : List Task) (a : Arithmetic) (us : List Task) (values : Terms)
+      (ds : List Equation) (vs : List Task)
       → Drops ts a us → Known es a values → RanAmong (added a values ++ es) us ds vs → RanAmong es ts ds vs

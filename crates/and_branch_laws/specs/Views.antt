@@ -24,9 +24,10 @@ pub record View : Type 0 where
   pub limit : ℕ
   pub is_failed : Bool
 
--- The terms that are read for the query's variables, whose frame is at base 0, and for those of each goal, in the frame at its base, are
--- those of their cells.
-pub record IsReadIn (P : NamedProgram) (row : List Ref) (reading : (base number : ℕ) → Term) (gs : List Goal) : Type 0 where
+-- The terms that are read for the query's variables, whose frame is at base 0, and for those of each goal, in the
+-- frame at its base, are those of their cells.
+pub record IsReadIn (P : NamedProgram) (row : List Ref) (reading : (base number : ℕ)
+    → Term) (gs : List Goal) : Type 0 where
   pub query : (k : ℕ) → k < P.program.query.variables → StandsFor P row (Cell (0 + 1 + k)) (reading 0 k)
   pub goals : All (λ (g : Goal). (v : Path × ℕ) → Contains (variables_of (term_of P.program g)) v
       → StandsFor P row (Cell (g.base + 1 + v.1)) (reading g.base v.1)) gs
@@ -44,7 +45,8 @@ branch_of v reading = record {
   is_failed = v.is_failed;
 }
 
--- StandsIn v key P limit: what the branch stands for, as it is read in its cells. (In those of a failed branch nothing need be read.)
+-- StandsIn v key P limit: what the branch stands for, as it is read in its cells. (In those of a failed branch
+-- nothing need be read.)
 pub record StandsIn (v : View) (key : List ℕ) (P : NamedProgram) (limit : ℕ) : Type 0 where
   pub reading : (base number : ℕ) → Term
   pub stands : Stands (branch_of v reading) key P.program limit

@@ -30,8 +30,8 @@ at_query = record { node = 0; clause = 0; item = 0 }
 abbrev pub TakesItem : Reduction → Visit → Type 0
 TakesItem r v = (r.parent ≡ v.node) × (r.item ≡ v.item)
 
--- Decides P rs visits cs: where these bodies are gone through, one after another, and that of each reduced call before what comes behind
--- the call, the clauses up to the first call that no reduction takes are these.
+-- Decides P rs visits cs: where these bodies are gone through, one after another, and that of each reduced call
+-- before what comes behind the call, the clauses up to the first call that no reduction takes are these.
 pub data Decides (P : Program) (rs : List Reduction) : List Visit → List ℕ → Type 0 where
   ended : Decides P rs [] []
   past : (v : Visit) (vs : List Visit) (cs : List ℕ) → length (clause_at P v.clause).body ≤ v.item → Decides P rs vs cs
@@ -39,7 +39,9 @@ pub data Decides (P : Program) (rs : List Reduction) : List Visit → List ℕ �
   other : (v : Visit) (vs : List Visit) (cs : List ℕ) → v.item < length (clause_at P v.clause).body
       → ((g : Term) → item_visited P v ≢ call g)
       → Decides P rs (onward v ∷ vs) cs → Decides P rs (v ∷ vs) cs
-  taken : (v : Visit) (vs : List Visit) (cs : List ℕ) (g : Term) (r : Reduction) → item_visited P v ≡ call g → Contains rs r → TakesItem r v
+  taken : (v : Visit) (vs : List Visit) (cs : List ℕ) (g : Term) (r : Reduction) → item_visited P v ≡ call g
+      → Contains rs r → TakesItem r v
       → Decides P rs (into r ∷ onward v ∷ vs) cs → Decides P rs (v ∷ vs) (r.clause ∷ cs)
-  not_taken : (v : Visit) (vs : List Visit) (g : Term) → item_visited P v ≡ call g → ((r : Reduction) → Contains rs r → TakesItem r v → ⊥)
+  not_taken : (v : Visit) (vs : List Visit) (g : Term) → item_visited P v ≡ call g
+      → ((r : Reduction) → Contains rs r → TakesItem r v → ⊥)
       → Decides P rs (v ∷ vs) []

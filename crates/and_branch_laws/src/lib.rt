@@ -6,15 +6,18 @@
 //! which steps of a branch rest on it: its root, its state, reducing a goal, splitting, its line.
 #![tactic(auto)]
 
-ghost use Rattle.std.specs.Prelude.{ℕ, ℤ, suc, ◌+◌, ◌≡◌, ◌≢◌, ◌<◌, ◌≤◌, ◌↔◌, true, false, List, [], ◌∷◌, ◌++◌, map, length, replicate};
+ghost use Rattle.std.specs.Prelude.{ℕ, ℤ, suc, ◌+◌, ◌≡◌, ◌≢◌, ◌<◌, ◌≤◌, ◌↔◌, true, false, List, [], ◌∷◌, ◌++◌, map};
+ghost use Rattle.std.specs.Prelude.{length, replicate};
 ghost use Rattle.std.specs.Prelude.{Option, Some, None, AllPairs, Contains};
-ghost use Rattle.and_model.specs.Terms.{Path, Term, Terms, number, none, more, is_ground, are_ground, Substitution, variables_of};
+ghost use Rattle.and_model.specs.Terms.{Path, Term, Terms, number, none, more, is_ground, are_ground, Substitution};
+ghost use Rattle.and_model.specs.Terms.{variables_of};
 ghost use Rattle.and_model.specs.Solutions.{Equation, Solvable, Entails};
 ghost use Rattle.and_model.specs.Arithmetic.{Relation, value, holds};
 ghost use Rattle.and_model.specs.Programs.{fail, arithmetic, Arithmetic, is, compare, clause_at, clause_weight, Of};
 ghost use Rattle.and_model.specs.Closure.{needs, Ran};
 ghost use Rattle.and_model.specs.Candidates.{In, Candidate};
-ghost use Rattle.and_model.specs.Trees.{QueryTree, query_agenda, blank, equations, arithmetics, Open, IsWhole, path, call_of, reduce, code};
+ghost use Rattle.and_model.specs.Trees.{QueryTree, query_agenda, blank, equations, arithmetics, Open, IsWhole, path};
+ghost use Rattle.and_model.specs.Trees.{call_of, reduce, code};
 ghost use Rattle.and_model.specs.Trees.{decided, weight, Closed};
 ghost use Rattle.and_model.specs.Reached.{CandidateOf, Step, Shut, Dead, Split, ReachedBy};
 ghost use Rattle.and_model.specs.Reductions.{Reduction, Makes};
@@ -33,15 +36,19 @@ ghost use Rattle.and_cells.specs.Meaning.{Words, equations_of, equations_between
 ghost use Rattle.and_cells.specs.Parts.{part_at};
 ghost use Rattle.and_laws.specs.Naming.{under};
 ghost use Rattle.and_branch_laws.specs.OwnVariables.{OwnVariables, IsLoaded};
-ghost use Rattle.and_branch_laws.specs.Variables.{SpeaksOf, EquationsSpeakOf, ArithmeticSpeaksOf, IsVariable, AreNames, placed};
+ghost use Rattle.and_branch_laws.specs.Variables.{SpeaksOf, EquationsSpeakOf, ArithmeticSpeaksOf, IsVariable};
+ghost use Rattle.and_branch_laws.specs.Variables.{AreNames, placed};
 ghost use Rattle.and_branch_laws.specs.Tasks.{arithmetic_among};
 ghost use Rattle.and_branch_laws.specs.Reducing.{body_equations, reduction_in_cells, reduction_by, body_goals};
 ghost use Rattle.and_branch_laws.specs.Settling.{widened, Settled, IsWritten};
 ghost use Rattle.and_branch_laws.specs.Running.{IsRead, AreRead};
-ghost use Rattle.and_branch_laws.specs.Judging.{CandidateInCells, SoleInCells, FitsBehind, NoneIsGround, EachHasOne, EachHasTwo, NoCall};
-ghost use Rattle.and_branch_laws.specs.States.{Fits, IsFirst, State, determinate, over_one, over_all, fork, floundered, answer, StateOf};
+ghost use Rattle.and_branch_laws.specs.Judging.{CandidateInCells, SoleInCells, FitsBehind, NoneIsGround, EachHasOne};
+ghost use Rattle.and_branch_laws.specs.Judging.{EachHasTwo, NoCall};
+ghost use Rattle.and_branch_laws.specs.States.{Fits, IsFirst, State, determinate, over_one, over_all, fork};
+ghost use Rattle.and_branch_laws.specs.States.{floundered, answer, StateOf};
 ghost use Rattle.and_branch_laws.specs.Views.{View, StandsIn};
-ghost use Rattle.and_branch_laws.specs.Kept.{item_at, node_item_at, task_of, IsCall, goal_of, calls_kept, arithmetic_kept, Kept, Unsettled};
+ghost use Rattle.and_branch_laws.specs.Kept.{item_at, node_item_at, task_of, IsCall, goal_of, calls_kept};
+ghost use Rattle.and_branch_laws.specs.Kept.{arithmetic_kept, Kept, Unsettled};
 ghost use Rattle.and_branch_laws.specs.Kept.{KeptIn};
 ghost use Rattle.and_branch_laws.specs.Lines.{LineIsRead};
 ghost use Rattle.and_branch_laws.specs.Visits.{at_query, Decides};
@@ -142,7 +149,8 @@ pub fn settling_keeps()
 /// query has `fail`, its tree is dead. (Root.)
 pub fn roots_keep()
     ensures kept { (P : NamedProgram) (new : List Ref) → IsLoaded P
-        → Settled P (replicate (clause_weight P.program.query) Ref.Free) new (body_equations (placed 0) P.program.query.body)
+        → Settled P (replicate (clause_weight P.program.query) Ref.Free) new
+        (body_equations (placed 0) P.program.query.body)
         → Kept P [] new (body_goals 0 0 [] 0 P.program.query.body) (blank (query_agenda P.program)) }
     ensures unsolved { (P : NamedProgram) → IsLoaded P
         → (Solvable (equations_of P (replicate (clause_weight P.program.query) Ref.Free) ++ body_equations
@@ -160,7 +168,8 @@ pub fn reductions_keep()
         (f : Framed) (back : List Framed) (t : QueryTree P.program) (o : Open t) (c : ℕ)
         (of_it : Of P.program (call_of t o) c) → IsLoaded P → Kept P rs row (front ++ f ∷ back) t
         → IsCall P.program f → path t o ≡ f.frame ++ f.goal.item ∷ []
-        → Settled P (widened row (clause_weight (clause_at P.program c))) new (reduction_in_cells P.program f.goal c (length row))
+        → Settled P (widened row (clause_weight (clause_at P.program c))) new
+        (reduction_in_cells P.program f.goal c (length row))
         → Kept P (rs ++ reduction_by f.goal c (length row) ∷ []) new
         (front ++ (body_goals c (length row) (f.frame ++ f.goal.item ∷ []) 0 (clause_at P.program c).body ++ back))
         (reduce t o c of_it) }
@@ -232,7 +241,8 @@ pub fn dead_branches()
         (f : Framed) (back : List Framed) (t : QueryTree P.program) (o : Open t) (c : ℕ)
         (of_it : Of P.program (call_of t o) c) → IsLoaded P → Kept P rs row (front ++ f ∷ back) t
         → IsCall P.program f → path t o ≡ f.frame ++ f.goal.item ∷ []
-        → (Solvable (equations_of P (widened row (clause_weight (clause_at P.program c))) ++ reduction_in_cells P.program f.goal c
+        → (Solvable (equations_of P (widened row (clause_weight (clause_at P.program c)))
+        ++ reduction_in_cells P.program f.goal c
         (length row)) → ⊥)
         → Dead (reduce t o c of_it) }
     ensures failing { (P : NamedProgram) (rs : List Reduction) (row : List Ref) (front : List Framed)
@@ -278,7 +288,8 @@ pub fn states_of_cells()
         → IsLoaded P → Kept P rs row (front ++ f ∷ back) t → NoneIsGround P row (front ++ f ∷ back)
         → IsCall P.program f → path t o ≡ f.frame ++ f.goal.item ∷ [] → EachHasOne P row (front ++ f ∷ back)
         → SoleInCells P row f.goal c → FitsBehind P limit row c
-        → ((h : Framed) (d : ℕ) → Contains front h → IsCall P.program h → SoleInCells P row h.goal d → FitsBehind P limit row d → ⊥)
+        → ((h : Framed) (d : ℕ) → Contains front h → IsCall P.program h → SoleInCells P row h.goal d
+        → FitsBehind P limit row d → ⊥)
         → StateOf P.program limit t (determinate o c) }
     ensures over_one { (P : NamedProgram) (rs : List Reduction) (row : List Ref) (front : List Framed)
         (f : Framed) (back : List Framed) (t : QueryTree P.program) (limit : ℕ) (o : Open t) (c : ℕ)
@@ -372,13 +383,16 @@ pub fn cells_are_whole()
 /// these tie the pairs that are handed to unification to the equations of these laws.)
 pub fn pairs_ask()
     ensures nodes { (P : NamedProgram) (w : Words) (b n d m : ℕ) → AllFall 0 P.skeleton.nodes
-        → ((v : Path × ℕ) → Contains (variables_of (node_term P.skeleton.nodes n)) v → is_half (w (b + 1 + v.1)) ≡ false)
-        → ((v : Path × ℕ) → Contains (variables_of (node_term P.skeleton.nodes m)) v → is_half (w (d + 1 + v.1)) ≡ false)
+        → ((v : Path × ℕ) → Contains (variables_of (node_term P.skeleton.nodes n)) v
+        → is_half (w (b + 1 + v.1)) ≡ false)
+        → ((v : Path × ℕ) → Contains (variables_of (node_term P.skeleton.nodes m)) v
+        → is_half (w (d + 1 + v.1)) ≡ false)
         → equations_between P w (part_at P b n) (part_at P d m)
         ≡ (placed b (node_term P.skeleton.nodes n), placed d (node_term P.skeleton.nodes m)) ∷ [] }
     ensures number { (P : NamedProgram) (row written : List Ref) (b n pair : ℕ) (z : ℤ)
         → AllFall 0 P.skeleton.nodes → IsWritten row written pair z
-        → ((v : Path × ℕ) → Contains (variables_of (node_term P.skeleton.nodes n)) v → is_half (word_at written (b + 1 + v.1)) ≡ false)
+        → ((v : Path × ℕ) → Contains (variables_of (node_term P.skeleton.nodes n)) v
+        → is_half (word_at written (b + 1 + v.1)) ≡ false)
         → equations_between P (word_at written) (part_at P b n) (Ref.Number pair)
         ≡ (placed b (node_term P.skeleton.nodes n), number z) ∷ [] }
     ensures alike { (P : NamedProgram) (old new : List Ref) (es ds : List Equation)

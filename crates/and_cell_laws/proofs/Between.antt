@@ -30,7 +30,8 @@ same_terms_agree t (Some u) None s = absurd (no_falsehood t s)
 same_terms_agree t (Some u) (Some v) s = ap (λ (x : Term). Some x) s.0
 
 -- and where these become the same, it is solved.
-same_terms_solved : (t : Substitution) (a b : Option Term) (u : Term) → option_map (apply t) a ≡ Some u → option_map (apply t) b ≡ Some u → Solves t (same_terms a b)
+same_terms_solved : (t : Substitution) (a b : Option Term) (u : Term) → option_map (apply t) a ≡ Some u → option_map (apply t) b ≡ Some u
+    → Solves t (same_terms a b)
 same_terms_solved t None b u one other = absurd (none-some u one)
 same_terms_solved t (Some x) None u one other = absurd (none-some u other)
 same_terms_solved t (Some x) (Some y) u one other = (same_Some (apply t x) (apply t y) (one ∙ sym other), tt)
@@ -40,7 +41,8 @@ abbrev falsehoods : (ℕ → Bool) → List ℕ → List Equation
 falsehoods test cells = map (λ (cell : ℕ). falsehood) (filter test cells)
 
 -- a cell for which no falsehood stands does not pass the test
-falsehoods_more : (t : Substitution) (test : ℕ → Bool) (x : ℕ) (cells : List ℕ) (b : Bool) → test x ≡ b → Solves t (falsehoods test (x ∷ cells)) → (b ≡ false) × Solves t (falsehoods test cells)
+falsehoods_more : (t : Substitution) (test : ℕ → Bool) (x : ℕ) (cells : List ℕ) (b : Bool) → test x ≡ b → Solves t (falsehoods test (x ∷ cells))
+    → (b ≡ false) × Solves t (falsehoods test cells)
 falsehoods_more t test x cells true e s =
     let Claim : Bool → Type 0 = λ (y : Bool). Solves t (map (λ (cell : ℕ). falsehood) (cond y (x ∷ filter test cells) (filter test cells))) in
     let broken : Claim true = subst Claim e s in
@@ -57,7 +59,8 @@ no_falsehoods t test (x ∷ cells) s cell h =
     elim (contains_cases x cell cells h) [ inl e ↦ ap test e ∙ parts.0 | inr i ↦ no_falsehoods t test cells parts.1 cell i ]
 
 -- and where none passes, there is no falsehood to solve.
-falsehoods_solved : (t : Substitution) (test : ℕ → Bool) (cells : List ℕ) → ((cell : ℕ) → Contains cells cell → test cell ≡ false) → Solves t (falsehoods test cells)
+falsehoods_solved : (t : Substitution) (test : ℕ → Bool) (cells : List ℕ) → ((cell : ℕ) → Contains cells cell → test cell ≡ false)
+    → Solves t (falsehoods test cells)
 falsehoods_solved t test [] whole = tt
 falsehoods_solved t test (x ∷ cells) whole =
     let Claim : Bool → Type 0 = λ (y : Bool). Solves t (map (λ (cell : ℕ). falsehood) (cond y (x ∷ filter test cells) (filter test cells))) in
@@ -69,7 +72,8 @@ falsehoods_solved t test (x ∷ cells) whole =
 pub one_value : (P : NamedProgram) (w : Words) (t : Substitution) (l r : Ref) → Solves t (equations_between P w l r) → value P w t l ≡ value P w t r
 one_value P w t l r s =
     let same : List Equation = same_terms (shallow_term P w l) (shallow_term P w r) in
-    same_terms_agree t (shallow_term P w l) (shallow_term P w r) (solves_front t same (falsehoods (λ (cell : ℕ). is_half (w cell)) (shallow_cells P l ++ shallow_cells P r)) s)
+    same_terms_agree t (shallow_term P w l) (shallow_term P w r)
+    (solves_front t same (falsehoods (λ (cell : ℕ). is_half (w cell)) (shallow_cells P l ++ shallow_cells P r)) s)
 
 -- and none of the cells that they name is a half.
 pub names_no_half : (P : NamedProgram) (w : Words) (t : Substitution) (l r : Ref) → Solves t (equations_between P w l r)
@@ -86,17 +90,20 @@ between_solved P w t l r u left right whole =
     let same : List Equation = same_terms (shallow_term P w l) (shallow_term P w r) in
     let test : ℕ → Bool = λ (cell : ℕ). is_half (w cell) in
     let cells : List ℕ = shallow_cells P l ++ shallow_cells P r in
-    solves_join t same (falsehoods test cells) (same_terms_solved t (shallow_term P w l) (shallow_term P w r) u left right) (falsehoods_solved t test cells whole)
+    solves_join t same (falsehoods test cells) (same_terms_solved t (shallow_term P w l) (shallow_term P w r) u left right)
+    (falsehoods_solved t test cells whole)
 
 -- So in a solution of a row's equations a set cell has the value of what it is set to, unless that is a half,
-pub set_agrees : (P : NamedProgram) (row : List Ref) (t : Substitution) (cell : ℕ) (r : Ref) → Solves t (equations_of P row) → IsSetTo row cell r → is_half r ≡ false
+pub set_agrees : (P : NamedProgram) (row : List Ref) (t : Substitution) (cell : ℕ) (r : Ref) → Solves t (equations_of P row)
+    → IsSetTo row cell r → is_half r ≡ false
     → Some (t [] cell) ≡ value P (word_at row) t r
 set_agrees P row t cell r s set whole =
     let told = told_rows_are_known P row t in
     one_value P (word_at row) t (Cell cell) r (told.1 s cell r set whole)
 
 -- which names no half.
-pub set_names_no_half : (P : NamedProgram) (row : List Ref) (t : Substitution) (place : ℕ) (r : Ref) → Solves t (equations_of P row) → IsSetTo row place r → is_half r ≡ false
+pub set_names_no_half : (P : NamedProgram) (row : List Ref) (t : Substitution) (place : ℕ) (r : Ref) → Solves t (equations_of P row)
+    → IsSetTo row place r → is_half r ≡ false
     → (cell : ℕ) → Contains (shallow_cells P r) cell → is_half (word_at row cell) ≡ false
 set_names_no_half P row t place r s set whole cell h =
     let told = told_rows_are_known P row t in

@@ -1,5 +1,6 @@
 -- What no solution can have: a term that properly contains itself, and a word of a pair in a term.
-use Rattle.std.proofs.Common.{ℕ, ◌+◌, ◌≡◌, ◌<◌, ◌≤◌, ◌⊎◌, true, false, pos, List, [], length, map, get_or, take, Some, refl, sym, ap, ◌∙◌, subst, inl, inr, arith}
+use Rattle.std.proofs.Common.{ℕ, ◌+◌, ◌≡◌, ◌<◌, ◌≤◌, ◌⊎◌, true, false, pos, List, [], length, map, get_or, take, Some, refl, sym, ap, ◌∙◌, subst, inl, inr}
+use Rattle.std.proofs.Common.{arith}
 use Rattle.std.specs.Prelude.{Contains}
 use Rattle.std.proofs.lemmas.Bool.{true≢false}
 use Rattle.std.proofs.lemmas.Option.{slice_get-get_or}
@@ -40,19 +41,23 @@ held_is_no_larger P row t r cell s (Meaning.onward start q c set rest) =
     omega (arith, held_is_no_larger P row t q c s rest)
 held_is_no_larger P row t r cell s (Meaning.inside node base v c at rest) =
     let body : Term = node_term P.skeleton.nodes node.0 in
-    let whole : size_of (value P (word_at row) t (Node node base)) ≡ size (apply (in_frame t base) body) = ap size_of (value_of_node P (word_at row) t node base) in
+    let whole : size_of (value P (word_at row) t (Node node base)) ≡ size (apply (in_frame t base) body) =
+    ap size_of (value_of_node P (word_at row) t node base) in
     omega (arith, held_is_no_larger P row t (Cell (base + 1 + v.1)) c s rest, image_no_larger (in_frame t base) body v at)
 
 -- what is put for a variable of a node is smaller than what becomes of the node, unless the node is that variable
-image_is_smaller : (s : Substitution) (ts : List Term) (shape : Shape) (v : Path × ℕ) → ((k : ℕ) → shape ≡ Skeletons.variable k → ⊥) → Contains (variables_of (shape_term ts shape)) v
+image_is_smaller : (s : Substitution) (ts : List Term) (shape : Shape) (v : Path × ℕ) → ((k : ℕ) → shape ≡ Skeletons.variable k → ⊥)
+    → Contains (variables_of (shape_term ts shape)) v
     → size (s v.0 v.1) < size (apply s (shape_term ts shape))
 image_is_smaller s ts (Skeletons.variable k) v no_variable h = absurd (no_variable k refl)
 image_is_smaller s ts (Skeletons.number z) v no_variable h = absurd (contains_none v h)
 image_is_smaller s ts (Skeletons.compound c ns) v no_variable h = omega (arith, images_no_larger s (term_list (map (nth ts) ns)) v h)
 
 -- a node that is no variable has a term that is none
-pub shape_is_no_variable : (P : NamedProgram) (node : ℕ) → IsNoVariable P node → node < length P.skeleton.nodes → (k : ℕ) → get_or P.skeleton.nodes node (Skeletons.number (pos 0)) ≡ Skeletons.variable k → ⊥
-shape_is_no_variable P node no_variable there k e = no_variable k (slice_get-get_or P.skeleton.nodes node (Skeletons.number (pos 0)) there ∙ ap (λ (x : Shape). Some x) e)
+pub shape_is_no_variable : (P : NamedProgram) (node : ℕ) → IsNoVariable P node → node < length P.skeleton.nodes → (k : ℕ)
+    → get_or P.skeleton.nodes node (Skeletons.number (pos 0)) ≡ Skeletons.variable k → ⊥
+shape_is_no_variable P node no_variable there k e =
+    no_variable k (slice_get-get_or P.skeleton.nodes node (Skeletons.number (pos 0)) there ∙ ap (λ (x : Shape). Some x) e)
 
 -- and smaller, where the holder is a structure.
 held_is_smaller : (P : NamedProgram) (row : List Ref) (t : Substitution) (r : Ref) (cell : ℕ) (node : NodeNo) (base : ℕ) → Solves t (equations_of P row)
@@ -81,7 +86,8 @@ leads_whole row r q (here x) whole = whole
 leads_whole row r q (onward cell x y knows rest) whole = refl
 
 -- and has its value.
-pub leads_agree : (P : NamedProgram) (row : List Ref) (t : Substitution) (r q : Ref) → Solves t (equations_of P row) → LeadsTo (plain row) r q → is_half q ≡ false
+pub leads_agree : (P : NamedProgram) (row : List Ref) (t : Substitution) (r q : Ref) → Solves t (equations_of P row)
+    → LeadsTo (plain row) r q → is_half q ≡ false
     → value P (word_at row) t r ≡ value P (word_at row) t q
 leads_agree P row t r q s (here x) whole = refl
 leads_agree P row t r q s (onward cell x y knows rest) whole =
@@ -96,11 +102,14 @@ leads_to_word row r q (onward cell x y knows rest) = elim (leads_to_word row x y
 ]
 
 -- A structure that a word is set to is in range.
-pub structure_in_range : (P : NamedProgram) (row : List Ref) (place : ℕ) (node : NodeNo) (base : ℕ) → IsSound P row → IsSetTo row place (Node node base) → IsInRange P (length row) (Node node base)
-structure_in_range P row place node base sound set = let fits : CanHold P (length row) place (word_at row place) = sound.fits place in subst (λ (r : Ref). CanHold P (length row) place r) set.0 fits
+pub structure_in_range : (P : NamedProgram) (row : List Ref) (place : ℕ) (node : NodeNo) (base : ℕ) → IsSound P row → IsSetTo row place (Node node base)
+    → IsInRange P (length row) (Node node base)
+structure_in_range P row place node base sound set = let fits : CanHold P (length row) place (word_at row place) =
+    sound.fits place in subst (λ (r : Ref). CanHold P (length row) place r) set.0 fits
 
 -- A cell has the value of the structure that it leads to, which is larger than all that it holds: so it does not hold the cell.
-pub circles_have_no_solution : (P : NamedProgram) (row : List Ref) (cell : ℕ) (t : Substitution) → IsSound P row → IsCircle P row cell → Solves t (equations_of P row) → ⊥
+pub circles_have_no_solution : (P : NamedProgram) (row : List Ref) (cell : ℕ) (t : Substitution) → IsSound P row → IsCircle P row cell
+    → Solves t (equations_of P row) → ⊥
 circles_have_no_solution P row cell t sound circle s =
     let r : Ref = Node circle.node circle.base in
     let fits : IsInRange P (length row) r = elim (leads_to_word row (Cell cell) r circle.leads) [
@@ -126,7 +135,8 @@ holds_no_half P row t r cell s names (Meaning.inside node base v c at rest) =
     ]) rest
 
 -- So no word that is set, but to no half, holds a half.
-pub halves_have_no_term : (P : NamedProgram) (row : List Ref) (place cell : ℕ) (r : Ref) (t : Substitution) → IsSound P row → IsSetTo row place r → is_half r ≡ false → Holds P row r cell
+pub halves_have_no_term : (P : NamedProgram) (row : List Ref) (place cell : ℕ) (r : Ref) (t : Substitution) → IsSound P row → IsSetTo row place r
+    → is_half r ≡ false → Holds P row r cell
     → is_half (word_at row cell) ≡ true → Solves t (equations_of P row) → ⊥
 halves_have_no_term P row place cell r t sound set whole holds half s =
     let no_half : is_half (word_at row cell) ≡ false = holds_no_half P row t r cell s (set_names_no_half P row t place r s set whole) holds in

@@ -77,7 +77,8 @@ joined_agree P w t Link n fall links below r p (then r' q p' j k) (inr b) =
     joined_agree P w t Link n fall links below r q j (inr (omega arith)) ∙ second
 
 -- It holds below each size.
-all_below : (P : NamedProgram) (w : Words) (t : Substitution) (Link : Ref → Ref → Type 0) (n : ℕ) → AllFall 0 P.skeleton.nodes → LinksAgree P w t Link → HoldsBelow P w t Link n
+all_below : (P : NamedProgram) (w : Words) (t : Substitution) (Link : Ref → Ref → Type 0) (n : ℕ) → AllFall 0 P.skeleton.nodes → LinksAgree P w t Link
+    → HoldsBelow P w t Link n
 all_below P w t Link zero fall links r q j s = absurd (elim s [ inl a ↦ omega arith | inr b ↦ omega arith ])
 all_below P w t Link (suc n) fall links r q j s = joined_agree P w t Link n fall links (all_below P w t Link n fall links) r q j s
 

@@ -52,7 +52,8 @@ without n (y ∷ xs) h = elim (contains_cases y n xs h) [
 holds_then : (P : NamedProgram) (row : List Ref) (r : Ref) (cell to : ℕ) → Holds P row r cell → Holds P row (Cell cell) to → Holds P row r to
 holds_then P row r cell to (Meaning.here c) more = more
 holds_then P row r cell to (Meaning.onward start q c set rest) more = Meaning.onward start q to set (holds_then P row q c to rest more)
-holds_then P row r cell to (Meaning.inside node base v c at rest) more = Meaning.inside node base v to at (holds_then P row (Cell (base + 1 + v.1)) c to rest more)
+holds_then P row r cell to (Meaning.inside node base v c at rest) more =
+    Meaning.inside node base v to at (holds_then P row (Cell (base + 1 + v.1)) c to rest more)
 
 -- A chain to a cell goes on to what that is known to be set to.
 leads_on : (s : Seen) (r p q : Ref) (cell : ℕ) → p ≡ Cell cell → Knows s cell q → LeadsTo s r p → LeadsTo s r q
@@ -66,7 +67,8 @@ falls P row place cell r sound set e =
     subst (λ (q : Ref). CanHold P (length row) place q) (set.0 ∙ e) fits
 
 -- A chain from a cell goes down; so where its end holds the cell, a structure stands between.
-chain_is_circle : (P : NamedProgram) (row : List Ref) (cell : ℕ) (r : Ref) → IsSound P row → LeadsTo (plain row) (Cell cell) r → ((x : ℕ) → r ≡ Cell x → x < cell) → Holds P row r cell → IsCircle P row cell
+chain_is_circle : (P : NamedProgram) (row : List Ref) (cell : ℕ) (r : Ref) → IsSound P row → LeadsTo (plain row) (Cell cell) r
+    → ((x : ℕ) → r ≡ Cell x → x < cell) → Holds P row r cell → IsCircle P row cell
 chain_is_circle P row cell r sound leads down (Meaning.here c) = let lower : c < c = down c refl in absurd (omega arith)
 chain_is_circle P row cell r sound leads down (Meaning.onward start q c set rest) =
     let lower : start < c = down start refl in
@@ -131,7 +133,8 @@ find_term P row (suc fuel) left cell sound settled few all below whole = elim (a
 -- At the start each cell is left.
 settled_have_terms : (P : NamedProgram) (row : List Ref) → IsSound P row → IsSettled P row → AllHaveTerms P row
 settled_have_terms P row sound settled cell below whole =
-    find_term P row (length (numbers (length row))) (numbers (length row)) cell sound settled (omega arith) (λ x lt. inl (numbers_contain (length row) x lt)) below whole
+    find_term P row (length (numbers (length row))) (numbers (length row)) cell sound settled (omega arith)
+    (λ x lt. inl (numbers_contain (length row) x lt)) below whole
 
 -- A row whose cells have terms has a solution, and so neither circles nor halves in terms.
 terms_settle : (P : NamedProgram) (row : List Ref) → IsSound P row → AllHaveTerms P row → IsSettled P row

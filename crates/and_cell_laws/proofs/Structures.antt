@@ -41,7 +41,8 @@ pub value_of_node : (P : NamedProgram) (w : Words) (t : Substitution) (node : No
 value_of_node P w t node base = ap (λ (u : Term). Some u) (apply_then (λ q k. cell_variable (base + 1 + k)) t (node_term P.skeleton.nodes node.0))
 
 -- the value of a node where it is found by its shape
-value_of_resolved : (P : NamedProgram) (w : Words) (t : Substitution) (ts : List Term) (s : Shape) (node : NodeNo) (base : ℕ) → node_term P.skeleton.nodes node.0 ≡ shape_term ts s
+value_of_resolved : (P : NamedProgram) (w : Words) (t : Substitution) (ts : List Term) (s : Shape) (node : NodeNo) (base : ℕ)
+    → node_term P.skeleton.nodes node.0 ≡ shape_term ts s
     → value P w t (resolved s node base) ≡ Some (apply (in_frame t base) (node_term P.skeleton.nodes node.0))
 value_of_resolved P w t ts (Skeletons.variable k) node base e = ap (λ (u : Term). Some (apply (in_frame t base) u)) (sym e)
 value_of_resolved P w t ts (Skeletons.number z) node base e = value_of_node P w t node base
@@ -67,7 +68,8 @@ parts_have_values P w t base [] fall = tt
 parts_have_values P w t base (n ∷ ns) fall = (value_of_part P w t base n fall, parts_have_values P w t base ns fall)
 
 -- the shape of a structure's node
-pub shape_of_structure : (P : NamedProgram) (r : Ref) (name count : ℕ) (s : IsStructure P r name count) → shape_at P.skeleton s.node.0 ≡ Skeletons.compound name s.arguments
+pub shape_of_structure : (P : NamedProgram) (r : Ref) (name count : ℕ) (s : IsStructure P r name count)
+    → shape_at P.skeleton s.node.0 ≡ Skeletons.compound name s.arguments
 shape_of_structure P r name count s = get_or_from_slice_get P.skeleton.nodes s.node.0 (Skeletons.compound name s.arguments) (Skeletons.number (pos 0)) s.shape
 
 -- the value of a structure is its name over the values of its parts

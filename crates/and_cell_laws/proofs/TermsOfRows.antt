@@ -32,7 +32,8 @@ stands_whole P row r u (structure node base s all) = refl
 stands_whole P row r u (integer pair) = refl
 
 -- nor is the word of such a cell, which is one of the row's.
-cell_of_term : (P : NamedProgram) (row : List Ref) (cell : ℕ) (r : Ref) (u : Term) → r ≡ Cell cell → StandsFor P row r u → (cell < length row) × (is_half (word_at row cell) ≡ false)
+cell_of_term : (P : NamedProgram) (row : List Ref) (cell : ℕ) (r : Ref) (u : Term) → r ≡ Cell cell → StandsFor P row r u
+    → (cell < length row) × (is_half (word_at row cell) ≡ false)
 cell_of_term P row cell r u e (unbound other below free) =
     let same : other ≡ cell = cc in
     subst (λ (x : ℕ). (x < length row) × (is_half (word_at row x) ≡ false)) same (below, ap is_half free)
@@ -51,7 +52,8 @@ pub cell_is_whole : (P : NamedProgram) (row : List Ref) (cell : ℕ) (u : Term) 
 cell_is_whole P row cell u stands = let both = cell_of_term P row cell (Cell cell) u refl stands in both.1
 
 -- What a cell is set to stands for the cell's term.
-term_of_word : (P : NamedProgram) (row : List Ref) (cell : ℕ) (r q : Ref) (u : Term) → q ≡ Cell cell → IsSetTo row cell r → StandsFor P row q u → StandsFor P row r u
+term_of_word : (P : NamedProgram) (row : List Ref) (cell : ℕ) (r q : Ref) (u : Term) → q ≡ Cell cell → IsSetTo row cell r → StandsFor P row q u
+    → StandsFor P row r u
 term_of_word P row cell r q u e set (unbound other below free) =
     let same : other ≡ cell = cc in
     absurd (set.1 (sym set.0 ∙ ap (word_at row) (sym same) ∙ free))
@@ -67,7 +69,8 @@ pub term_of_set : (P : NamedProgram) (row : List Ref) (cell : ℕ) (r : Ref) (u 
 term_of_set P row cell r u set stands = term_of_word P row cell r (Cell cell) u refl set stands
 
 -- None of the cells that it names is a half.
-terms_name_no_half : (P : NamedProgram) (row : List Ref) (r : Ref) (u : Term) → StandsFor P row r u → (cell : ℕ) → Contains (shallow_cells P r) cell → is_half (word_at row cell) ≡ false
+terms_name_no_half : (P : NamedProgram) (row : List Ref) (r : Ref) (u : Term) → StandsFor P row r u → (cell : ℕ) → Contains (shallow_cells P r) cell
+    → is_half (word_at row cell) ≡ false
 terms_name_no_half P row r u (unbound cell below free) c h =
     elim (contains_cases cell c [] h) [ inl e ↦ ap (λ (x : ℕ). is_half (word_at row x)) e ∙ ap is_half free | inr i ↦ absurd (contains_none c i) ]
 terms_name_no_half P row r u (bound cell q t set rest) c h =
@@ -88,7 +91,8 @@ value_of_term P row t r u s (bound cell q u' set rest) = set_agrees P row t cell
 value_of_term P row t r u s (structure node base z all) =
     let body : Term = node_term P.skeleton.nodes node.0 in
     let agree : apply (in_frame t base) body ≡ apply (then z t) body =
-    apply_agree (in_frame t base) (then z t) body (λ v c. same_Some (t [] (base + 1 + v.1)) (apply t (z v.0 v.1)) (value_of_term P row t (Cell (base + 1 + v.1)) (z v.0 v.1) s (all v c))) in
+    apply_agree (in_frame t base) (then z t) body
+    (λ v c. same_Some (t [] (base + 1 + v.1)) (apply t (z v.0 v.1)) (value_of_term P row t (Cell (base + 1 + v.1)) (z v.0 v.1) s (all v c))) in
     value_of_node P (word_at row) t node base ∙ ap (λ (x : Term). Some x) (agree ∙ sym (apply_then z t body))
 value_of_term P row t r u s (integer pair) = refl
 
@@ -106,22 +110,27 @@ solution P row all (n ∷ q) k = variable (n ∷ q) k
 
 -- where there is a term, the cell stands for it
 pick_stands : (P : NamedProgram) (row : List Ref) (all : AllHaveTerms P row) (cell : ℕ) (d : (cell < length row) ⊎ (length row ≤ cell))
-    (h : (is_half (word_at row cell) ≡ true) ⊎ (is_half (word_at row cell) ≡ false)) → cell < length row → is_half (word_at row cell) ≡ false → StandsFor P row (Cell cell) (pick P row all cell d h)
+    (h : (is_half (word_at row cell) ≡ true) ⊎ (is_half (word_at row cell) ≡ false)) → cell < length row → is_half (word_at row cell) ≡ false
+    → StandsFor P row (Cell cell) (pick P row all cell d h)
 pick_stands P row all cell (inl below) (inl half) lt whole = absurd (true≢false (sym half ∙ whole))
 pick_stands P row all cell (inl below) (inr no_half) lt whole = let found = all cell below no_half in found.1
 pick_stands P row all cell (inr past) h lt whole = absurd (omega arith)
 
 -- A cell that stands for a term has that term in the solution.
-solution_is : (P : NamedProgram) (row : List Ref) (all : AllHaveTerms P row) (cell : ℕ) (u : Term) → StandsFor P row (Cell cell) u → solution P row all [] cell ≡ u
+solution_is : (P : NamedProgram) (row : List Ref) (all : AllHaveTerms P row) (cell : ℕ) (u : Term) → StandsFor P row (Cell cell) u
+    → solution P row all [] cell ≡ u
 solution_is P row all cell u stands =
     let below : cell < length row = cell_is_below P row cell u stands in
     let whole : is_half (word_at row cell) ≡ false = cell_is_whole P row cell u stands in
-    let picked : StandsFor P row (Cell cell) (solution P row all [] cell) = pick_stands P row all cell (cases_lt cell (length row)) (cases_Bool (is_half (word_at row cell))) below whole in
+    let picked : StandsFor P row (Cell cell) (solution P row all [] cell) =
+    pick_stands P row all cell (cases_lt cell (length row)) (cases_Bool (is_half (word_at row cell))) below whole in
     one_term P row (Cell cell) (solution P row all [] cell) u picked stands
 
 -- So each reference that stands for a term has it for its value.
-value_in_solution : (P : NamedProgram) (row : List Ref) (all : AllHaveTerms P row) (r : Ref) (u : Term) → StandsFor P row r u → value P (word_at row) (solution P row all) r ≡ Some u
-value_in_solution P row all r u (unbound cell below free) = ap (λ (x : Term). Some x) (solution_is P row all cell (cell_variable cell) (unbound cell below free))
+value_in_solution : (P : NamedProgram) (row : List Ref) (all : AllHaveTerms P row) (r : Ref) (u : Term) → StandsFor P row r u
+    → value P (word_at row) (solution P row all) r ≡ Some u
+value_in_solution P row all r u (unbound cell below free) =
+    ap (λ (x : Term). Some x) (solution_is P row all cell (cell_variable cell) (unbound cell below free))
 value_in_solution P row all r u (bound cell q t set rest) = ap (λ (x : Term). Some x) (solution_is P row all cell t (bound cell q t set rest))
 value_in_solution P row all r u (structure node base z all') =
     let body : Term = node_term P.skeleton.nodes node.0 in
@@ -138,7 +147,8 @@ solution_solves P row all place r set whole =
     let no_half : is_half (word_at row place) ≡ false = ap is_half set.0 ∙ whole in
     let (u, stands) = all place (set_is_below row place r set) no_half in
     let of_word : StandsFor P row r u = term_of_set P row place r u set stands in
-    between_solved P (word_at row) (solution P row all) (Cell place) r u (value_in_solution P row all (Cell place) u stands) (value_in_solution P row all r u of_word)
+    between_solved P (word_at row) (solution P row all) (Cell place) r u (value_in_solution P row all (Cell place) u stands)
+    (value_in_solution P row all r u of_word)
     (λ c h. elim (contains_cases place c (shallow_cells P r) h) [
       | inl e ↦ ap (λ (x : ℕ). is_half (word_at row x)) e ∙ no_half
       | inr i ↦ terms_name_no_half P row r u of_word c i
@@ -155,7 +165,8 @@ pick_goes_through P row all t s cell (inl below) (inr whole) =
 pick_goes_through P row all t s cell (inr past) h = refl
 
 -- the same for each variable
-goes_through : (P : NamedProgram) (row : List Ref) (all : AllHaveTerms P row) (t : Substitution) → Solves t (equations_of P row) → (q : Path) (k : ℕ) → t q k ≡ apply t (solution P row all q k)
+goes_through : (P : NamedProgram) (row : List Ref) (all : AllHaveTerms P row) (t : Substitution) → Solves t (equations_of P row) → (q : Path) (k : ℕ)
+    → t q k ≡ apply t (solution P row all q k)
 goes_through P row all t s [] k = pick_goes_through P row all t s k (cases_lt k (length row)) (cases_Bool (is_half (word_at row k)))
 goes_through P row all t s (n ∷ q) k = refl
 

@@ -46,7 +46,8 @@ chosen P row base vs has k (inl found) = let term = has found.0 found.1 in term.
 chosen P row base vs has k (inr none) = cell_variable k
 
 -- it is what the cell of the variable stands for
-chosen_stands : (P : NamedProgram) (row : List Ref) (base : ℕ) (vs : List (Path × ℕ)) (has : CellsHaveTerms P row base vs) (v : Path × ℕ) (d : IsNumbered vs v.1) → Contains vs v
+chosen_stands : (P : NamedProgram) (row : List Ref) (base : ℕ) (vs : List (Path × ℕ)) (has : CellsHaveTerms P row base vs) (v : Path × ℕ)
+    (d : IsNumbered vs v.1) → Contains vs v
     → StandsFor P row (Cell (base + 1 + v.1)) (chosen P row base vs has v.1 d)
 chosen_stands P row base vs has v (inl found) h =
     let term : HasTerm P row (Cell (base + 1 + found.0.1)) = has found.0 found.1 in
@@ -69,12 +70,14 @@ cells_of_node P row node base r u e (bound cell q t set rest) v c = absurd (cc)
 cells_of_node P row node base r u e (structure node' base' s all) v c =
     let same_node : node' ≡ node = cc in
     let same_base : base' ≡ base = cc in
-    let at : Contains (variables_of (node_term P.skeleton.nodes node'.0)) v = subst (λ (n : NodeNo). Contains (variables_of (node_term P.skeleton.nodes n.0)) v) (sym same_node) c in
+    let at : Contains (variables_of (node_term P.skeleton.nodes node'.0)) v =
+    subst (λ (n : NodeNo). Contains (variables_of (node_term P.skeleton.nodes n.0)) v) (sym same_node) c in
     subst (λ (b : ℕ). HasTerm P row (Cell (b + 1 + v.1))) same_base (s v.0 v.1, all v at)
 cells_of_node P row node base r u e (integer pair) v c = absurd (cc)
 
 -- where the node is found by its shape
-cells_of_resolved : (P : NamedProgram) (row : List Ref) (ts : List Term) (s : Shape) (node : NodeNo) (base : ℕ) → node_term P.skeleton.nodes node.0 ≡ shape_term ts s
+cells_of_resolved : (P : NamedProgram) (row : List Ref) (ts : List Term) (s : Shape) (node : NodeNo) (base : ℕ)
+    → node_term P.skeleton.nodes node.0 ≡ shape_term ts s
     → HasTerm P row (resolved s node base) → CellsHaveTerms P row base (variables_of (node_term P.skeleton.nodes node.0))
 cells_of_resolved P row ts (Skeletons.variable k) node base e has v c =
     let at : Contains (([], k) ∷ []) v = subst (λ (x : Term). Contains (variables_of x) v) e c in
@@ -86,12 +89,14 @@ cells_of_resolved P row ts (Skeletons.number z) node base e has v c = cells_of_n
 cells_of_resolved P row ts (Skeletons.compound n ns) node base e has v c = cells_of_node P row node base (Node node base) has.0 refl has.1 v c
 
 -- So it is of a part, which may be a variable.
-cells_of_part : (P : NamedProgram) (row : List Ref) (base n : ℕ) → AllFall 0 P.skeleton.nodes → HasTerm P row (part_at P base n) → CellsHaveTerms P row base (variables_of (node_term P.skeleton.nodes n))
+cells_of_part : (P : NamedProgram) (row : List Ref) (base n : ℕ) → AllFall 0 P.skeleton.nodes → HasTerm P row (part_at P base n)
+    → CellsHaveTerms P row base (variables_of (node_term P.skeleton.nodes n))
 cells_of_part P row base n fall has =
     cells_of_resolved P row (terms_behind [] P.skeleton.nodes) (shape_at P.skeleton n) (record { 0 = n }) base (node_term_shape P.skeleton.nodes n fall) has
 
 -- A variable of a list of terms is one of one of them.
-variable_of_argument : (ts : List Term) (ns : List ℕ) (v : Path × ℕ) → Contains (variables_in (Skeletons.term_list (map (nth ts) ns))) v → (n : ℕ) × Contains ns n × Contains (variables_of (nth ts n)) v
+variable_of_argument : (ts : List Term) (ns : List ℕ) (v : Path × ℕ) → Contains (variables_in (Skeletons.term_list (map (nth ts) ns))) v
+    → (n : ℕ) × Contains ns n × Contains (variables_of (nth ts n)) v
 variable_of_argument ts [] v h = absurd (contains_none v h)
 variable_of_argument ts (n ∷ ns) v h = elim (Contains-append_cases (variables_of (nth ts n)) (variables_in (Skeletons.term_list (map (nth ts) ns))) v h) [
   | inl i ↦ (n, contains_first n ns, i)
@@ -100,11 +105,13 @@ variable_of_argument ts (n ∷ ns) v h = elim (Contains-append_cases (variables_
 
 -- The cells of a shape's variables have terms where its arguments have.
 cells_of_parts : (P : NamedProgram) (row : List Ref) (base : ℕ) (s : Shape) → AllFall 0 P.skeleton.nodes → ((k : ℕ) → s ≡ Skeletons.variable k → ⊥)
-    → ((q : Ref) → Contains (map (part_at P base) (arguments_in s)) q → HasTerm P row q) → CellsHaveTerms P row base (variables_of (shape_term (terms_behind [] P.skeleton.nodes) s))
+    → ((q : Ref) → Contains (map (part_at P base) (arguments_in s)) q → HasTerm P row q)
+    → CellsHaveTerms P row base (variables_of (shape_term (terms_behind [] P.skeleton.nodes) s))
 cells_of_parts P row base (Skeletons.variable k) fall no_variable has v c = absurd (no_variable k refl)
 cells_of_parts P row base (Skeletons.number z) fall no_variable has v c = absurd (contains_none v c)
 cells_of_parts P row base (Skeletons.compound name ns) fall no_variable has v c =
-    let found : (n : ℕ) × Contains ns n × Contains (variables_of (node_term P.skeleton.nodes n)) v = variable_of_argument (terms_behind [] P.skeleton.nodes) ns v c in
+    let found : (n : ℕ) × Contains ns n × Contains (variables_of (node_term P.skeleton.nodes n)) v =
+    variable_of_argument (terms_behind [] P.skeleton.nodes) ns v c in
     cells_of_part P row base found.0 fall (has (part_at P base found.0) (contains_image (part_at P base) ns found.0 found.1)) v found.2
 
 -- A structure has a term where its parts have.

@@ -27,7 +27,8 @@ abbrev SolvesEach : (Setting → List Equation) → Substitution → ℕ → Lis
 SolvesEach f t base row = (place k : ℕ) (r : Ref) → place ≡ base + k → get_or row k Free ≡ r → r ≢ Free → is_half r ≡ false → Solves t (f (setting place r))
 
 -- what solves the equations of a row solves those of its rest,
-solves_rest : (f : Setting → List Equation) (t : Substitution) (base : ℕ) (row : List Ref) (r : Ref) → Solves t (equations_from f base (r ∷ row)) → Solves t (equations_from f (suc base) row)
+solves_rest : (f : Setting → List Equation) (t : Substitution) (base : ℕ) (row : List Ref) (r : Ref) → Solves t (equations_from f base (r ∷ row))
+    → Solves t (equations_from f (suc base) row)
 solves_rest f t base row Free s = s
 solves_rest f t base row (Cell cell) s = solves_back t (f (setting base (Cell cell))) (equations_from f (suc base) row) s
 solves_rest f t base row (Node node at) s = solves_back t (f (setting base (Node node at))) (equations_from f (suc base) row) s
@@ -35,7 +36,8 @@ solves_rest f t base row (Number pair) s = solves_back t (f (setting base (Numbe
 solves_rest f t base row (Half bits) s = s
 
 -- and those of its first word, if that is set and no half;
-solves_first : (f : Setting → List Equation) (t : Substitution) (base : ℕ) (row : List Ref) (r : Ref) → r ≢ Free → is_half r ≡ false → Solves t (equations_from f base (r ∷ row)) → Solves t (f (setting base r))
+solves_first : (f : Setting → List Equation) (t : Substitution) (base : ℕ) (row : List Ref) (r : Ref) → r ≢ Free → is_half r ≡ false
+    → Solves t (equations_from f base (r ∷ row)) → Solves t (f (setting base r))
 solves_first f t base row Free set whole s = absurd (set refl)
 solves_first f t base row (Cell cell) set whole s = solves_front t (f (setting base (Cell cell))) (equations_from f (suc base) row) s
 solves_first f t base row (Node node at) set whole s = solves_front t (f (setting base (Node node at))) (equations_from f (suc base) row) s
@@ -49,15 +51,20 @@ each_solved f t base (q ∷ row) s place zero r at is set whole =
     let here : base ≡ place = omega arith in
     let first : Solves t (f (setting base r)) = solves_first f t base row r set whole (subst (λ (x : Ref). Solves t (equations_from f base (x ∷ row))) is s) in
     subst (λ (p : ℕ). Solves t (f (setting p r))) here first
-each_solved f t base (q ∷ row) s place (suc k) r at is set whole = each_solved f t (suc base) row (solves_rest f t base row q s) place k r (omega arith) is set whole
+each_solved f t base (q ∷ row) s place (suc k) r at is set whole =
+    each_solved f t (suc base) row (solves_rest f t base row q s) place k r (omega arith) is set whole
 
 -- What solves the equations of a first word and those of the rest solves those of the row,
-solves_more : (f : Setting → List Equation) (t : Substitution) (base : ℕ) (row : List Ref) (r : Ref) → (r ≢ Free → is_half r ≡ false → Solves t (f (setting base r)))
+solves_more : (f : Setting → List Equation) (t : Substitution) (base : ℕ) (row : List Ref) (r : Ref)
+    → (r ≢ Free → is_half r ≡ false → Solves t (f (setting base r)))
     → Solves t (equations_from f (suc base) row) → Solves t (equations_from f base (r ∷ row))
 solves_more f t base row Free first rest = rest
-solves_more f t base row (Cell cell) first rest = solves_join t (f (setting base (Cell cell))) (equations_from f (suc base) row) (first (λ e. absurd (cc)) refl) rest
-solves_more f t base row (Node node at) first rest = solves_join t (f (setting base (Node node at))) (equations_from f (suc base) row) (first (λ e. absurd (cc)) refl) rest
-solves_more f t base row (Number pair) first rest = solves_join t (f (setting base (Number pair))) (equations_from f (suc base) row) (first (λ e. absurd (cc)) refl) rest
+solves_more f t base row (Cell cell) first rest =
+    solves_join t (f (setting base (Cell cell))) (equations_from f (suc base) row) (first (λ e. absurd (cc)) refl) rest
+solves_more f t base row (Node node at) first rest =
+    solves_join t (f (setting base (Node node at))) (equations_from f (suc base) row) (first (λ e. absurd (cc)) refl) rest
+solves_more f t base row (Number pair) first rest =
+    solves_join t (f (setting base (Number pair))) (equations_from f (suc base) row) (first (λ e. absurd (cc)) refl) rest
 solves_more f t base row (Half bits) first rest = rest
 
 -- so where those of each word are solved, all are.

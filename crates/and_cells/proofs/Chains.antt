@@ -1,5 +1,6 @@
 -- What steps on words change for cells in general, and chains of cells.
-use Rattle.std.proofs.Common.{ℕ, ℤ, suc, ◌≡◌, ◌≢◌, ◌+◌, ◌<◌, List, [], ◌∷◌, ◌++◌, false, refl, sym, ap, subst, ◌∙◌, inl, inr, arith, append_assoc, ◌*◌, ◌/◌, ◌%◌, ◌^◌, FitsSigned, w64}
+use Rattle.std.proofs.Common.{ℕ, ℤ, suc, ◌≡◌, ◌≢◌, ◌+◌, ◌<◌, List, [], ◌∷◌, ◌++◌, false, refl, sym, ap, subst, ◌∙◌, inl, inr, arith, append_assoc, ◌*◌, ◌/◌}
+use Rattle.std.proofs.Common.{◌%◌, ◌^◌, FitsSigned, w64}
 use Rattle.std.specs.Int.{cast_signed, cast_unsigned}
 use Rattle.std.proofs.lemmas.Int.{to_z-of_z}
 use Rattle.std.specs.Prelude.{All}
@@ -10,7 +11,8 @@ use Rattle.and_model.specs.declared.reference.Ref.{Ref}
 use Rattle.and_model.specs.declared.reference.Ref.TheVariants.{Free, Cell, Node, Number, Half}
 use Rattle.and_cells.specs.Ranges.{NamedProgram, CanHold, IsInRange, IsInRangeOrHalf}
 use Rattle.and_cells.specs.Numbers.{number_of, high_half, low_half}
-use Rattle.and_cells.specs.Seen.{Seen, WritesNumber, ReadsNumber, IsAmong, Knows, IsKnownWritten, IsWrittenIfNumber, Gains, Adds, Finds, JoinsAtMost, Misses, Sets, Fills, OnlyReads, Keeps, LeadsTo, here, onward}
+use Rattle.and_cells.specs.Seen.{Seen, WritesNumber, ReadsNumber, IsAmong, Knows, IsKnownWritten, IsWrittenIfNumber, Gains, Adds, Finds, JoinsAtMost, Misses}
+use Rattle.and_cells.specs.Seen.{Sets, Fills, OnlyReads, Keeps, LeadsTo, here, onward}
 
 and_nothing : {X : Type 0} (xs : List X) → xs ≡ xs ++ []
 and_nothing [] = refl
@@ -149,7 +151,10 @@ writes_number P pair value result high low old between new first second holds fi
           | inl before ↦ elim ((one p q).0 before) [ inl known ↦ inl known | inr is ↦ inr (inl is) ]
           | inr is ↦ inr (inr is)
         ]),
-        elim [ inl known ↦ (two p q).1 (inl ((one p q).1 (inl known))) | inr these ↦ elim these [ inl is ↦ (two p q).1 (inl ((one p q).1 (inr is))) | inr is ↦ (two p q).1 (inr is) ] ],
+        elim [
+          | inl known ↦ (two p q).1 (inl ((one p q).1 (inl known)))
+          | inr these ↦ elim these [ inl is ↦ (two p q).1 (inl ((one p q).1 (inr is))) | inr is ↦ (two p q).1 (inr is) ]
+        ],
       );
     }
 
@@ -163,7 +168,8 @@ writes_number_by P pair next value result one two high low old between new is_ne
     (subst (λ h. Fills P (suc pair) h low between new) is_low (subst (λ p. Fills P p two low between new) is_next second))
     holds fits
 
-keeps_by : (old new : Seen) → ((p : ℕ) (q : Ref) → Knows old p q → Knows new p q) → (k : Known) → Gains old.known new.known k → new.words ≡ old.words → IsPrefix old.missed new.missed → Keeps old new
+keeps_by : (old new : Seen) → ((p : ℕ) (q : Ref) → Knows old p q → Knows new p q) → (k : Known) → Gains old.known new.known k → new.words ≡ old.words
+    → IsPrefix old.missed new.missed → Keeps old new
 keeps_by old new knows k gains words missed = record {
   knows = knows;
   known = elim gains [ inl same ↦ ([], same ∙ and_nothing old.known) | inr more ↦ (k ∷ [], more) ];
@@ -194,7 +200,8 @@ fills_keeps P place half r old new (inr finds) = finds_keeps P place r old new f
 
 pub writes_keeps : (P : NamedProgram) (pair : ℕ) (value result : ℤ) (old new : Seen) → WritesNumber P pair value result old new → Keeps old new
 writes_keeps P pair value result old new w =
-    keeps_more old w.between new (fills_keeps P pair (high_half value) w.high old w.between w.first) (fills_keeps P (suc pair) (low_half value) w.low w.between new w.second)
+    keeps_more old w.between new (fills_keeps P pair (high_half value) w.high old w.between w.first)
+    (fills_keeps P (suc pair) (low_half value) w.low w.between new w.second)
 
 -- a pair that was written is known to be
 pub writes_known : (P : NamedProgram) (pair : ℕ) (value result : ℤ) (old new : Seen) → WritesNumber P pair value result old new → IsKnownWritten new pair

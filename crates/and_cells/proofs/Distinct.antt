@@ -1,5 +1,6 @@
 -- Lists of numbers of which no two are the same.
-use Rattle.std.proofs.Common.{ℕ, zero, suc, ◌≡◌, ◌≢◌, ◌+◌, ◌-◌, ◌<◌, ◌≤◌, List, [], ◌∷◌, ◌++◌, length, get_or, refl, sym, ap, ◌∙◌, ◌⊎◌, inl, inr, arith, subst, eqb, eqb-true, ne_eqb}
+use Rattle.std.proofs.Common.{ℕ, zero, suc, ◌≡◌, ◌≢◌, ◌+◌, ◌-◌, ◌<◌, ◌≤◌, List, [], ◌∷◌, ◌++◌, length, get_or, refl, sym, ap, ◌∙◌, ◌⊎◌, inl, inr, arith}
+use Rattle.std.proofs.Common.{subst, eqb, eqb-true, ne_eqb}
 use Rattle.std.specs.Prelude.{All}
 use Rattle.std.proofs.lemmas.Bool.{cases_eq}
 use Rattle.std.proofs.lemmas.List.{get_or_append_left, get_or-append_right, length-append}
@@ -28,7 +29,8 @@ distinct_push ns n all new i j d before below e = by_end (cases_eq j (length ns)
         let low : i < length ns = omega arith in
         let gap : length ns - length ns ≡ 0 = omega arith in
         let at : get_or (ns ++ n ∷ []) j d ≡ n =
-        ap (λ k. get_or (ns ++ n ∷ []) k d) last ∙ get_or-append_right ns (n ∷ []) (length ns) (length ns) d refl (omega arith) ∙ ap (λ k. get_or (n ∷ []) k d) gap in
+        ap (λ k. get_or (ns ++ n ∷ []) k d) last ∙ get_or-append_right ns (n ∷ []) (length ns) (length ns) d refl (omega arith)
+        ∙ ap (λ k. get_or (n ∷ []) k d) gap in
         new i low (sym (default ns i low) ∙ sym (left i low) ∙ e ∙ at)
     by_end (inr inner) =
         let low : j < length ns = omega (arith, long) in

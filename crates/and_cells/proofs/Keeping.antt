@@ -1,5 +1,6 @@
 -- A row stays sound when a free word of it is set, and when free words are put behind it.
-use Rattle.std.proofs.Common.{ℕ, zero, suc, ◌≡◌, ◌≢◌, ◌+◌, ◌^◌, ◌<◌, ◌≤◌, List, [], ◌∷◌, ◌++◌, length, get_or, set, replicate, refl, sym, ap, subst, ◌∙◌, ◌⊎◌, inl, inr, arith}
+use Rattle.std.proofs.Common.{ℕ, zero, suc, ◌≡◌, ◌≢◌, ◌+◌, ◌^◌, ◌<◌, ◌≤◌, List, [], ◌∷◌, ◌++◌, length, get_or, set, replicate, refl, sym, ap, subst, ◌∙◌, ◌⊎◌}
+use Rattle.std.proofs.Common.{inl, inr, arith}
 use Rattle.std.proofs.lemmas.Bool.{cases_eq, cases_lt}
 use Rattle.std.proofs.lemmas.List.{get_or_append_left, get_or-append_right, get_or-set_same, get_or-set_other, length-append, length-replicate}
 use Rattle.std.proofs.Math.ListN.{length-set}
@@ -29,7 +30,8 @@ can_hold_more P n m place (Node node base) more fits = (
     there = fits.0.there;
     nameable = fits.0.nameable;
     base_below = fits.0.base_below;
-    cells = All-weaker (λ v. base + 1 + v.1 < n) (λ v. base + 1 + v.1 < m) (λ v below. omega arith) (variables_of (node_term P.skeleton.nodes node.0)) fits.0.cells;
+    cells = All-weaker (λ v. base + 1 + v.1 < n) (λ v. base + 1 + v.1 < m) (λ v below. omega arith)
+        (variables_of (node_term P.skeleton.nodes node.0)) fits.0.cells;
   },
   fits.1,
 )
@@ -51,15 +53,20 @@ set_stays row place p r free is_set e = by_place (cases_eq p place)
     by_place (inr other) = is_set (sym (word_set_other row place p r other) ∙ e)
 
 pub sound_set : (P : NamedProgram) (row : List Ref) (place : ℕ) (r : Ref) → IsSound P row → place < length row → word_at row place ≡ Free
-    → CanHold P (length row) place r → ((pair : ℕ) → r ≡ Number pair → (word_at row pair ≢ Free) × (word_at row (suc pair) ≢ Free)) → IsSound P (set row place r)
+    → CanHold P (length row) place r → ((pair : ℕ) → r ≡ Number pair → (word_at row pair ≢ Free) × (word_at row (suc pair) ≢ Free))
+    → IsSound P (set row place r)
 sound_set P row place r sound below free fits written = record {
   fits = λ p. subst (λ n. CanHold P n p (word_at (set row place r) p)) (sym (length-set row place r)) (fits_at p (cases_eq p place));
-  written = λ p pair is. (set_stays row place pair r free (was p pair is (cases_eq p place)).0, set_stays row place (suc pair) r free (was p pair is (cases_eq p place)).1);
+  written = λ p pair is. (
+    set_stays row place pair r free (was p pair is (cases_eq p place)).0,
+    set_stays row place (suc pair) r free (was p pair is (cases_eq p place)).1,
+  );
   short = subst (λ n. n ≤ MAX_WORDS) (sym (length-set row place r)) sound.short;
 }
   where
     fits_at : (p : ℕ) → (p ≡ place) ⊎ (p ≢ place) → CanHold P (length row) p (word_at (set row place r) p)
-    fits_at p (inl same) = subst (λ w. CanHold P (length row) p w) (sym (word_set_here row place p r below same)) (subst (λ q. CanHold P (length row) q r) (sym same) fits)
+    fits_at p (inl same) = subst (λ w. CanHold P (length row) p w) (sym (word_set_here row place p r below same))
+        (subst (λ q. CanHold P (length row) q r) (sym same) fits)
     fits_at p (inr other) = subst (λ w. CanHold P (length row) p w) (sym (word_set_other row place p r other)) (sound.fits p)
 
     was : (p pair : ℕ) → word_at (set row place r) p ≡ Number pair → (p ≡ place) ⊎ (p ≢ place) → (word_at row pair ≢ Free) × (word_at row (suc pair) ≢ Free)
@@ -87,10 +94,13 @@ word_in_front row by p = by_place (cases_lt p (length row))
 
 pub sound_extend : (P : NamedProgram) (row : List Ref) (by : ℕ) → IsSound P row → length row + by ≤ 2 ^ 22 + 256 → IsSound P (row ++ replicate by Free)
 sound_extend P row by sound short =
-    let long : length (row ++ replicate by Free) ≡ length row + by = length-append row (replicate by Free) ∙ ap (λ n. length row + n) (length-replicate by Free) in
+    let long : length (row ++ replicate by Free) ≡ length row + by =
+    length-append row (replicate by Free) ∙ ap (λ n. length row + n) (length-replicate by Free) in
     let same : (p : ℕ) → word_at (row ++ replicate by Free) p ≡ word_at row p = word_in_front row by in record {
-      fits = λ p. subst (λ w. CanHold P (length (row ++ replicate by Free)) p w) (sym (same p)) (can_hold_more P (length row) (length (row ++ replicate by Free)) p (word_at row p) (omega arith) (sound.fits p));
-      written = λ p pair is. let was = sound.written p pair (sym (same p) ∙ is) in ((λ e. was.0 (sym (same pair) ∙ e)), (λ e. was.1 (sym (same (suc pair)) ∙ e)));
+      fits = λ p. subst (λ w. CanHold P (length (row ++ replicate by Free)) p w) (sym (same p))
+          (can_hold_more P (length row) (length (row ++ replicate by Free)) p (word_at row p) (omega arith) (sound.fits p));
+      written = λ p pair is. let was =
+          sound.written p pair (sym (same p) ∙ is) in ((λ e. was.0 (sym (same pair) ∙ e)), (λ e. was.1 (sym (same (suc pair)) ∙ e)));
       short = omega arith;
     }
 

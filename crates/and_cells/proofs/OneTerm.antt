@@ -18,7 +18,8 @@ mutual
   apply_agree s z (compound c ts) agree = ap (compound c) (apply_all_agree s z ts agree)
 
   -- the same of a list of terms
-  pub apply_all_agree : (s z : Substitution) (ts : Terms) → ((v : Path × ℕ) → Contains (variables_in ts) v → s v.0 v.1 ≡ z v.0 v.1) → apply_all s ts ≡ apply_all z ts
+  pub apply_all_agree : (s z : Substitution) (ts : Terms) → ((v : Path × ℕ) → Contains (variables_in ts) v → s v.0 v.1 ≡ z v.0 v.1)
+      → apply_all s ts ≡ apply_all z ts
   apply_all_agree s z none agree = refl
   apply_all_agree s z (more t ts) agree =
       let head : apply s t ≡ apply z t = apply_agree s z t (λ v c. agree v (Contains-append_left (variables_of t) (variables_in ts) v c)) in
@@ -38,7 +39,8 @@ same_term P row r t q u (unbound cell below free) e (bound other w u' set rest) 
 same_term P row r t q u (unbound cell below free) e (structure node base s all) = absurd (cc)
 same_term P row r t q u (unbound cell below free) e (integer pair) = absurd (cc)
 same_term P row r t q u (bound cell v t' set rest) e (unbound other low is_free) = absurd (set.1 (sym set.0 ∙ ap (word_at row) (ap cell_of e) ∙ is_free))
-same_term P row r t q u (bound cell v t' set rest) e (bound other w u' set' rest') = same_term P row v t' w u' rest (sym set.0 ∙ ap (word_at row) (ap cell_of e) ∙ set'.0) rest'
+same_term P row r t q u (bound cell v t' set rest) e (bound other w u' set' rest') =
+    same_term P row v t' w u' rest (sym set.0 ∙ ap (word_at row) (ap cell_of e) ∙ set'.0) rest'
 same_term P row r t q u (bound cell v t' set rest) e (structure node base s all) = absurd (cc)
 same_term P row r t q u (bound cell v t' set rest) e (integer pair) = absurd (cc)
 same_term P row r t q u (structure node base s all) e (unbound other low is_free) = absurd (cc)

@@ -18,7 +18,10 @@ use Rattle.and_cells.specs.Joined as joined
 
 -- the clause f(X, 3): node 0 is its variable 0, node 1 the number 3, and node 2 is f of both
 P : NamedProgram
-P = record { program = no_program.program; skeleton = record { nodes = skeletons.variable 0 ∷ skeletons.number (pos 3) ∷ compound 30 (0 ∷ 1 ∷ []) ∷ []; clauses = [] } }
+P = record {
+  program = no_program.program;
+  skeleton = record { nodes = skeletons.variable 0 ∷ skeletons.number (pos 3) ∷ compound 30 (0 ∷ 1 ∷ []) ∷ []; clauses = [] };
+}
 
 three : NodeNo
 three = record { 0 = 1 }
@@ -48,7 +51,8 @@ paths_end =
   where
     within : (r : Ref) → Contains (Cell 2 ∷ Node three 1 ∷ []) r → Ends P row 0 false r
     within r (zero, below, is) = subst (λ (x : Ref). Ends P row 0 false x) is (ends.set 2 (Cell 0) (refl, λ e. cc) (ends.free 0 refl))
-    within r (suc zero, below, is) = subst (λ (x : Ref). Ends P row 0 false x) is (ends.parts three 1 (λ q none. let below : none.0 < 0 = none.1 in absurd (omega arith)))
+    within r (suc zero, below, is) =
+        subst (λ (x : Ref). Ends P row 0 false x) is (ends.parts three 1 (λ q none. let below : none.0 < 0 = none.1 in absurd (omega arith)))
     within r (suc (suc k), below, is) = absurd (omega arith)
 
 -- what lies below a floor is a cell or a frame, and never a number

@@ -1,5 +1,6 @@
 -- Rows as they are kept in words of 64 bits, and the steps on a row that is told.
-use Rattle.std.proofs.Common.{ℕ, ℤ, zero, suc, ◌≡◌, ◌≢◌, ◌+◌, ◌*◌, ◌/◌, ◌%◌, ◌^◌, ◌<◌, ◌≤◌, List, [], ◌∷◌, ◌++◌, length, set, replicate, refl, sym, ap, subst, ◌∙◌, ◌⊎◌, inl, inr, arith, false}
+use Rattle.std.proofs.Common.{ℕ, ℤ, zero, suc, ◌≡◌, ◌≢◌, ◌+◌, ◌*◌, ◌/◌, ◌%◌, ◌^◌, ◌<◌, ◌≤◌, List, [], ◌∷◌, ◌++◌, length, set, replicate, refl, sym, ap, subst}
+use Rattle.std.proofs.Common.{◌∙◌, ◌⊎◌, inl, inr, arith, false}
 use Rattle.std.proofs.lemmas.Bool.{cases_eq}
 use Rattle.std.proofs.lemmas.List.{map-append, map-set}
 use Rattle.std.proofs.lemmas.List.Elements.{All-set, All-append, All-replicate, All-nil}
@@ -73,7 +74,8 @@ can_hold P words place (Half bits) fits falls = tt
 pub in_range_is_set : (P : NamedProgram) (words : ℕ) (r : Ref) → IsInRange P words r → r ≢ Free
 in_range_is_set P words r fits e = subst (IsInRange P words) e fits
 
-pub plain_finds : (P : NamedProgram) (row : List Ref) (place : ℕ) (r : Ref) → r ≡ word_at row place → r ≢ Free → CanHold P (length row) place r → Finds P place r (plain row) (plain row)
+pub plain_finds : (P : NamedProgram) (row : List Ref) (place : ℕ) (r : Ref) → r ≡ word_at row place → r ≢ Free → CanHold P (length row) place r
+    → Finds P place r (plain row) (plain row)
 plain_finds P row place r is is_set fits = record {
   is_set = is_set;
   fits = fits;
@@ -89,7 +91,8 @@ plain_finds P row place r is is_set fits = record {
     back p q (inl known) = known
     back p q (inr new) = (ap (word_at row) new.0 ∙ sym is ∙ sym new.1, λ e. is_set (sym new.1 ∙ e))
 
-pub plain_sets : (row : List Ref) (place : ℕ) (r : Ref) → place < length row → word_at row place ≡ Free → r ≢ Free → Sets place r (plain row) (plain (set row place r))
+pub plain_sets : (row : List Ref) (place : ℕ) (r : Ref) → place < length row → word_at row place ≡ Free → r ≢ Free
+    → Sets place r (plain row) (plain (set row place r))
 plain_sets row place r below free is_set = record {
   not_known = λ q knows. knows.1 (sym knows.0 ∙ free);
   free = free;
@@ -110,13 +113,20 @@ plain_sets row place r below free is_set = record {
     back p q same (inr new) = (word_set_here row place p r below new.0 ∙ sym new.1, λ e. is_set (sym new.1 ∙ e))
 
 pub plain_fills : (P : NamedProgram) (row after : List Ref) (place : ℕ) (half r : Ref) → place < length row → half ≢ Free
-    → (word_at row place ≡ Free → (after ≡ set row place half) × (r ≡ half)) → (word_at row place ≢ Free → (after ≡ row) × (r ≡ word_at row place)) → CanHold P (length row) place r
+    → (word_at row place ≡ Free → (after ≡ set row place half) × (r ≡ half)) → (word_at row place ≢ Free → (after ≡ row) × (r ≡ word_at row place))
+    → CanHold P (length row) place r
     → Fills P place half r (plain row) (plain after)
 plain_fills P row after place half r below is_set free found fits = by_word (free_or_set (word_at row place))
   where
     by_word : (word_at row place ≡ Free) ⊎ (word_at row place ≢ Free) → Fills P place half r (plain row) (plain after)
-    by_word (inl e) = inl (subst (λ a. Sets place r (plain row) (plain a)) (sym (free e).0) (subst (λ h. Sets place r (plain row) (plain (set row place h))) (free e).1 (plain_sets row place r below e (λ none. is_set (sym (free e).1 ∙ none)))), (free e).1)
-    by_word (inr e) = inr (subst (λ a. Finds P place r (plain row) (plain a)) (sym (found e).0) (plain_finds P row place r (found e).1 (λ none. e (sym (found e).1 ∙ none)) fits))
+    by_word (inl e) = inl (
+      subst (λ a. Sets place r (plain row) (plain a)) (sym (free e).0)
+          (subst (λ h. Sets place r (plain row) (plain (set row place h))) (free e).1
+          (plain_sets row place r below e (λ none. is_set (sym (free e).1 ∙ none)))),
+      (free e).1,
+    )
+    by_word (inr e) = inr (subst (λ a. Finds P place r (plain row) (plain a)) (sym (found e).0)
+        (plain_finds P row place r (found e).1 (λ none. e (sym (found e).1 ∙ none)) fits))
 
 pub plain_reads : (row : List Ref) → OnlyReads (plain row) (plain row)
 plain_reads row = record {
@@ -137,19 +147,22 @@ pub kept_extend : (P : NamedProgram) (ws : List ℕ) (by : ℕ) → AreWords ws 
     → AreWords (ws ++ replicate by 0) × IsSound P (row_of (ws ++ replicate by 0))
 kept_extend P ws by kept short = (words_extend ws by kept.0, subst (IsSound P) (sym (row_extend ws by)) (sound_extend P (row_of ws) by kept.1 short))
 
-pub kept_set : (P : NamedProgram) (ws : List ℕ) (place : ℕ) (r : Ref) → AreWords ws × IsSound P (row_of ws) → place < length (row_of ws) → HasWord r → word_at (row_of ws) place ≡ Free
+pub kept_set : (P : NamedProgram) (ws : List ℕ) (place : ℕ) (r : Ref) → AreWords ws × IsSound P (row_of ws) → place < length (row_of ws) → HasWord r
+    → word_at (row_of ws) place ≡ Free
     → CanHold P (length (row_of ws)) place r → ((pair : ℕ) → r ≡ Number pair → (word_at (row_of ws) pair ≢ Free) × (word_at (row_of ws) (suc pair) ≢ Free))
     → AreWords (set ws place (word_of r)) × IsSound P (row_of (set ws place (word_of r)))
 kept_set P ws place r kept below has free fits written =
     (words_set ws place r has kept.0, subst (IsSound P) (sym (row_set ws place r has)) (sound_set P (row_of ws) place r kept.1 below free fits written))
 
 -- in a sound row, a pair that is known to be written has both its words set
-pub written_in_row : (P : NamedProgram) (row : List Ref) (pair : ℕ) → IsSound P row → IsKnownWritten (plain row) pair → (word_at row pair ≢ Free) × (word_at row (suc pair) ≢ Free)
+pub written_in_row : (P : NamedProgram) (row : List Ref) (pair : ℕ) → IsSound P row → IsKnownWritten (plain row) pair
+    → (word_at row pair ≢ Free) × (word_at row (suc pair) ≢ Free)
 written_in_row P row pair sound (inl both) = ((λ e. both.0.1.1 (sym both.0.1.0 ∙ e)), (λ e. both.1.1.1 (sym both.1.1.0 ∙ e)))
 written_in_row P row pair sound (inr cell) = sound.written cell.0 pair cell.1.0
 
 -- reading a number in a row that is told
-pub plain_reads_number : (P : NamedProgram) (row : List Ref) (pair next : ℕ) (high low : Ref) (result : ℤ) → IsSound P row → next ≡ suc pair → IsKnownWritten (plain row) pair
+pub plain_reads_number : (P : NamedProgram) (row : List Ref) (pair next : ℕ) (high low : Ref) (result : ℤ) → IsSound P row → next ≡ suc pair
+    → IsKnownWritten (plain row) pair
     → high ≡ word_at row pair → low ≡ word_at row next → result ≡ number_of high low → ReadsNumber P pair result (plain row) (plain row)
 plain_reads_number P row pair next high low result sound is_next known is_high is_low holds =
     let both = written_in_row P row pair sound known in
@@ -158,7 +171,10 @@ plain_reads_number P row pair next high low result sound is_next known is_high i
       low = low;
       high_known = (sym is_high, λ e. both.0 (sym is_high ∙ e));
       low_known = (sym low_is, λ e. both.1 (sym low_is ∙ e));
-      fits = (subst (CanHold P (length row) pair) (sym is_high) (sound.fits pair), subst (CanHold P (length row) (suc pair)) (sym low_is) (sound.fits (suc pair)));
+      fits = (
+        subst (CanHold P (length row) pair) (sym is_high) (sound.fits pair),
+        subst (CanHold P (length row) (suc pair)) (sym low_is) (sound.fits (suc pair)),
+      );
       holds = holds;
       only = λ p q knows. inl knows;
     }

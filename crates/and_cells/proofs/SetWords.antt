@@ -1,5 +1,6 @@
 -- The set words of a row as a list of settings.
-use Rattle.std.proofs.Common.{ℕ, zero, suc, ◌≡◌, ◌≢◌, ◌+◌, ◌^◌, ◌<◌, ◌≤◌, ◌⊎◌, inl, inr, true, false, cond, List, [], ◌∷◌, map, length, take, refl, sym, ap, subst, ◌∙◌, arith}
+use Rattle.std.proofs.Common.{ℕ, zero, suc, ◌≡◌, ◌≢◌, ◌+◌, ◌^◌, ◌<◌, ◌≤◌, ◌⊎◌, inl, inr, true, false, cond, List, [], ◌∷◌, map, length, take, refl, sym, ap}
+use Rattle.std.proofs.Common.{subst, ◌∙◌, arith}
 use Rattle.std.specs.Prelude.{Contains}
 use Rattle.std.proofs.lemmas.Bool.{cases_lt}
 use Rattle.std.proofs.lemmas.List.{get_or-take, get_or_past, length-take-le}
@@ -29,10 +30,12 @@ set_from_is n (r ∷ row) s has = elim (is_or r) [
   | inl free ↦
       let t = set_from_is (suc n) row s (subst (λ b. Contains (cond b (set_from (suc n) row) (setting n r ∷ set_from (suc n) row)) s) free.0 has) in
       let at = t.1 in (suc t.0, omega arith, t.2)
-  | inr set ↦ elim (among_cases (setting n r) s (set_from (suc n) row) (subst (λ b. Contains (cond b (set_from (suc n) row) (setting n r ∷ set_from (suc n) row)) s) set.0 has)) [
-    | inl first ↦ (let at = ap (λ (s : Setting). s.place) first in let is = ap (λ (s : Setting). s.value) first in (0, omega arith, (sym is, λ e. set.1 (sym is ∙ e))))
-    | inr rest ↦ (let t = set_from_is (suc n) row s rest in let at = t.1 in (suc t.0, omega arith, t.2))
-  ]
+  | inr set ↦ elim (among_cases (setting n r) s (set_from (suc n) row)
+      (subst (λ b. Contains (cond b (set_from (suc n) row) (setting n r ∷ set_from (suc n) row)) s) set.0 has)) [
+        | inl first ↦ (let at = ap (λ (s : Setting). s.place) first in
+            let is = ap (λ (s : Setting). s.value) first in (0, omega arith, (sym is, λ e. set.1 (sym is ∙ e))))
+        | inr rest ↦ (let t = set_from_is (suc n) row s rest in let at = t.1 in (suc t.0, omega arith, t.2))
+      ]
 ]
 
 set_from_has : (n i : ℕ) (row : List Ref) (r : Ref) → IsSetTo row i r → Contains (set_from n row) (setting (n + i) r)
@@ -42,11 +45,13 @@ set_from_has n zero (q ∷ row) r is =
     elim (is_or q) [
       | inl free ↦ absurd (is.1 (sym is.0 ∙ free.1))
       | inr set ↦ subst (λ b. Contains (cond b (set_from (suc n) row) (setting n q ∷ set_from (suc n) row)) (setting (n + 0) r)) (sym set.0)
-          (subst (Contains (setting n q ∷ set_from (suc n) row)) (ap (λ p. setting p q) (sym here) ∙ ap (setting (n + 0)) is.0) (among_first (setting n q) (set_from (suc n) row)))
+          (subst (Contains (setting n q ∷ set_from (suc n) row)) (ap (λ p. setting p q) (sym here) ∙ ap (setting (n + 0)) is.0)
+          (among_first (setting n q) (set_from (suc n) row)))
     ]
 set_from_has n (suc i) (q ∷ row) r is =
     let there : suc n + i ≡ n + suc i = omega arith in
-    let rest : Contains (set_from (suc n) row) (setting (n + suc i) r) = subst (λ p. Contains (set_from (suc n) row) (setting p r)) there (set_from_has (suc n) i row r is) in
+    let rest : Contains (set_from (suc n) row) (setting (n + suc i) r) =
+    subst (λ p. Contains (set_from (suc n) row) (setting p r)) there (set_from_has (suc n) i row r is) in
     elim (is_or q) [
       | inl free ↦ subst (λ b. Contains (cond b (set_from (suc n) row) (setting n q ∷ set_from (suc n) row)) (setting (n + suc i) r)) (sym free.0) rest
       | inr set ↦ subst (λ b. Contains (cond b (set_from (suc n) row) (setting n q ∷ set_from (suc n) row)) (setting (n + suc i) r)) (sym set.0)

@@ -60,7 +60,8 @@ took_back before after cells only = same_lists _ _ long (λ k d low. at k d (sub
         ⊎ ((word_at (taken_back after cells (length before)) k ≡ word_at (take (length before) after) k) × (Contains cells k → ⊥))
         → word_at (taken_back after cells (length before)) k ≡ word_at before k
     is_before k low (inl free) = free.0 ∙ sym (only.free k free.1 low)
-    is_before k low (inr old) = old.0 ∙ get_or-take (length before) after k Free low ∙ elim (only.others k low) [ inl same ↦ same | inr among ↦ absurd (old.1 among) ]
+    is_before k low (inr old) = old.0 ∙ get_or-take (length before) after k Free low
+        ∙ elim (only.others k low) [ inl same ↦ same | inr among ↦ absurd (old.1 among) ]
 
     at : (k : ℕ) (d : Ref) → k < length before → get_or (taken_back after cells (length before)) k d ≡ get_or before k d
     at k d low =
@@ -93,7 +94,8 @@ only_set_by cells before after longer stays was free = record {
 }
 
 -- More cells were set after some had been.
-pub set_more : (cells more : List ℕ) (before between after : List Ref) → OnlySet cells before between → OnlySet more between after → OnlySet (cells ++ more) before after
+pub set_more : (cells more : List ℕ) (before between after : List Ref) → OnlySet cells before between → OnlySet more between after
+    → OnlySet (cells ++ more) before after
 set_more cells more before between after one two = record {
   longer = let a = one.longer in let b = two.longer in omega arith;
   free = λ cell has below. elim (Contains-append_cases cells more cell has) [
@@ -116,6 +118,9 @@ words_taken_back P ws after cut cells words row is are is_cut is_after sound =
     ap row_of is_after ∙ row_all_set cells cut ∙ ap (λ ws. all_set Free cells (row_of ws)) is_cut
     ∙ ap (all_set Free cells) (sym (take-map ref_of words ws) ∙ ap (take words) is) in
     let IsWord : ℕ → Type 0 = λ w. HasWord (ref_of w) × (word_of (ref_of w) ≡ w) in (
-      (subst AreWords (sym is_after) (words_all_set cells cut (subst AreWords (sym is_cut) (All-take IsWord words ws are))), subst (IsSound P) (sym same) sound),
+      (
+        subst AreWords (sym is_after) (words_all_set cells cut (subst AreWords (sym is_cut) (All-take IsWord words ws are))),
+        subst (IsSound P) (sym same) sound,
+      ),
       same,
     )

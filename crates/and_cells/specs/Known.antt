@@ -15,8 +15,10 @@ HasKnown s w = (place : ℕ) (r : Ref) → Knows s place r → w place ≡ r
 
 -- each cell that is known to be set, but to no half, is what it is set to
 abbrev pub SolvesKnown : NamedProgram → Words → Seen → Substitution → Type 0
-SolvesKnown P w s t = (place : ℕ) (r : Ref) → Knows s place r → is_half r ≡ false → Solves t (equations_between P w (Cell place) r)
+SolvesKnown P w s t = (place : ℕ) (r : Ref) → Knows s place r → is_half r ≡ false
+    → Solves t (equations_between P w (Cell place) r)
 
 -- the same for the settings of a list
 abbrev pub SolvesSettings : NamedProgram → Words → List Known → Substitution → Type 0
-SolvesSettings P w known t = (k : Known) → Contains known k → is_half k.setting.value ≡ false → Solves t (equations_between P w (Cell k.setting.place) k.setting.value)
+SolvesSettings P w known t = (k : Known) → Contains known k → is_half k.setting.value ≡ false
+    → Solves t (equations_between P w (Cell k.setting.place) k.setting.value)

@@ -1,4 +1,5 @@
--- The program of what was loaded, under which rows are kept, and where the parts of a structure are found (structure sharing: Boyer and Moore, 1972).
+-- The program of what was loaded, under which rows are kept, and where the parts of a structure are found (structure
+-- sharing: Boyer and Moore, 1972).
 use Rattle.std.specs.Prelude.{ℕ, ◌≡◌, List, [], map, length, slice_get, Some}
 use Rattle.and_program.specs.Skeletons.{compound}
 use Rattle.and_model.specs.declared.numbers.NodeNo.{NodeNo}

@@ -1,5 +1,6 @@
 -- Rows of words that are told (this project's own).
-use Rattle.std.specs.Prelude.{ℕ, suc, ◌<◌, ◌/◌, ◌%◌, ◌^◌, ◌≤◌, ◌≡◌, ◌≢◌, ◌⊎◌, cond, List, [], ◌∷◌, map, length, take, slice_set, Some, nat_eq, All, Contains}
+use Rattle.std.specs.Prelude.{ℕ, suc, ◌<◌, ◌/◌, ◌%◌, ◌^◌, ◌≤◌, ◌≡◌, ◌≢◌, ◌⊎◌, cond, List, [], ◌∷◌, map, length, take}
+use Rattle.std.specs.Prelude.{slice_set, Some, nat_eq, All, Contains}
 use Rattle.and_model.specs.declared.limits.TheConstants.{MAX_WORDS}
 use Rattle.and_model.specs.Words.{HasWord, word_of}
 use Rattle.and_model.specs.declared.reference.Ref.{Ref}
@@ -15,7 +16,8 @@ plain row = record { words = length row; told = Some row; known = []; missed = [
 -- a number is set only where both words of its pair are, and there are not too many words.
 pub record IsSound (P : NamedProgram) (row : List Ref) : Type 0 where
   pub fits : (place : ℕ) → CanHold P (length row) place (word_at row place)
-  pub written : (place pair : ℕ) → word_at row place ≡ Number pair → (word_at row pair ≢ Free) × (word_at row (suc pair) ≢ Free)
+  pub written : (place pair : ℕ) → word_at row place ≡ Number pair
+      → (word_at row pair ≢ Free) × (word_at row (suc pair) ≢ Free)
   pub short : length row ≤ MAX_WORDS
 
 -- the reference that has this word, and `Free` where none has it
@@ -43,7 +45,8 @@ all_set x (place ∷ places) xs = all_set x places (slice_set xs place x)
 abbrev pub taken_back : List Ref → (cells : List ℕ) → (words : ℕ) → List Ref
 taken_back row cells words = all_set Free cells (take words row)
 
--- After the row `before`, nothing was done but that some of these cells, all of them free, were set, and that words were put behind.
+-- After the row `before`, nothing was done but that some of these cells, all of them free, were set, and that words
+-- were put behind.
 pub record OnlySet (cells : List ℕ) (before after : List Ref) : Type 0 where
   pub longer : length before ≤ length after
   pub free : (cell : ℕ) → Contains cells cell → cell < length before → word_at before cell ≡ Free

@@ -1,6 +1,8 @@
 -- What contracts see in cells, and what one step on a word changes in it (this project's own).
--- Cells may be a view of a row that others set words of at the same time: so they say what is known, and not what there is.
-use Rattle.std.specs.Prelude.{ℕ, suc, ◌<◌, ◌≤◌, ◌≡◌, ◌≢◌, ◌↔◌, ◌⊎◌, true, false, List, [], ◌∷◌, ◌++◌, map, length, Option, Some, None, slice_index_or, slice_set, All, Contains, IfSome, ℤ}
+-- Cells may be a view of a row that others set words of at the same time: so they say what is known, and not what
+-- there is.
+use Rattle.std.specs.Prelude.{ℕ, suc, ◌<◌, ◌≤◌, ◌≡◌, ◌≢◌, ◌↔◌, ◌⊎◌, true, false, List, [], ◌∷◌, ◌++◌, map, length}
+use Rattle.std.specs.Prelude.{Option, Some, None, slice_index_or, slice_set, All, Contains, IfSome, ℤ}
 use Rattle.std.specs.Option.{option_map}
 use Rattle.and_model.specs.Prefixes.{IsPrefix}
 use Rattle.and_model.specs.Store.{Known, Missed, word, AreDistinct}
@@ -40,13 +42,16 @@ abbrev pub IsAmong : Option (List Ref) → List Known → (place : ℕ) → Ref 
 IsAmong None known place r = Contains (map (λ (k : Known). k.setting) known) (record { place = place; value = r })
 IsAmong (Some row) known place r = IsSetTo row place r
 
--- The word at this place is known to be set to r: the row that is told has it so, or where none is told, it was made or learnt.
+-- The word at this place is known to be set to r: the row that is told has it so, or where none is told, it was made
+-- or learnt.
 abbrev pub Knows : Seen → (place : ℕ) → Ref → Type 0
 Knows s place r = IsAmong s.told s.known place r
 
--- A pair is known to be written where both its words are known to be set, or some cell is known to be set to this number.
+-- A pair is known to be written where both its words are known to be set, or some cell is known to be set to this
+-- number.
 abbrev pub IsKnownWritten : Seen → (pair : ℕ) → Type 0
-IsKnownWritten s pair = (((high : Ref) × Knows s pair high) × ((low : Ref) × Knows s (suc pair) low)) ⊎ ((cell : ℕ) × Knows s cell (Number pair))
+IsKnownWritten s pair = (((high : Ref) × Knows s pair high) × ((low : Ref) × Knows s (suc pair) low))
+    ⊎ ((cell : ℕ) × Knows s cell (Number pair))
 
 -- the number that the reference is, if it is one, is known to be written
 abbrev pub IsWrittenIfNumber : Seen → Ref → Type 0
@@ -100,8 +105,9 @@ pub record Sets (place : ℕ) (r : Ref) (old new : Seen) : Type 0 where
 abbrev pub Fills : NamedProgram → (place : ℕ) (half r : Ref) → (old new : Seen) → Type 0
 Fills P place half r old new = (Sets place r old new × (r ≡ half)) ⊎ Finds P place r old new
 
--- Each word of the pair was set to its half of the value, or found set. The result is the number that the pair holds now,
--- and is the value where the two words are its halves, as they are where no word of the pair was set but by these steps.
+-- Each word of the pair was set to its half of the value, or found set. The result is the number that the pair holds
+-- now, and is the value where the two words are its halves, as they are where no word of the pair was set but by
+-- these steps.
 pub record WritesNumber (P : NamedProgram) (pair : ℕ) (value result : ℤ) (old new : Seen) : Type 0 where
   pub high : Ref
   pub low : Ref
@@ -112,7 +118,8 @@ pub record WritesNumber (P : NamedProgram) (pair : ℕ) (value result : ℤ) (ol
   pub as_given : high ≡ high_half value → low ≡ low_half value → result ≡ value
   -- So what is known stays known, and nothing else than these two words becomes known.
   pub words : new.words ≡ old.words
-  pub knows : (place : ℕ) (r : Ref) → Knows new place r ↔ (Knows old place r ⊎ ((place ≡ pair) × (r ≡ high)) ⊎ ((place ≡ suc pair) × (r ≡ low)))
+  pub knows : (place : ℕ) (r : Ref) → Knows new place r
+      ↔ (Knows old place r ⊎ ((place ≡ pair) × (r ≡ high)) ⊎ ((place ≡ suc pair) × (r ≡ low)))
 
 -- Both words of the pair were found set, and the result is the number that they hold. No other word became known.
 pub record ReadsNumber (P : NamedProgram) (pair : ℕ) (result : ℤ) (old new : Seen) : Type 0 where
@@ -160,7 +167,8 @@ EndsAt shared (Node node base) old new = Unit {0}
 EndsAt shared (Number pair) old new = Unit {0}
 EndsAt shared (Half bits) old new = Unit {0}
 
--- What holds of whatever is seen in cells: nothing is known twice, and a row that is told is whole and has what is known.
+-- What holds of whatever is seen in cells: nothing is known twice, and a row that is told is whole and has what is
+-- known.
 pub record IsCoherent (s : Seen) : Type 0 where
   pub once : AreDistinct (map (λ (k : Known). k.setting.place) s.known)
   pub whole : IfSome s.told (λ row. length row ≡ s.words)

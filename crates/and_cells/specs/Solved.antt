@@ -21,4 +21,5 @@ AllHaveTerms P row = (cell : ℕ) → cell < length row → is_half (word_at row
 pub record IsMostGeneral (P : NamedProgram) (row : List Ref) (es : List Equation) : Type 0 where
   pub solution : Substitution
   pub most_general : MostGeneral solution es
-  pub of_cells : (cell : ℕ) → cell < length row → is_half (word_at row cell) ≡ false → StandsFor P row (Cell cell) (solution [] cell)
+  pub of_cells : (cell : ℕ) → cell < length row → is_half (word_at row cell) ≡ false
+      → StandsFor P row (Cell cell) (solution [] cell)

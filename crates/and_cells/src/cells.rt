@@ -3,7 +3,8 @@
 ghost use Rattle.std.specs.Prelude.{◌≡◌, ◌≢◌, ◌<◌, ◌+◌, ℕ};
 ghost use Rattle.and_model.specs.declared.reference.Ref.{Ref};
 ghost use Rattle.and_cells.specs.Ranges.{NamedProgram, IsInRange, IsPairInRange};
-ghost use Rattle.and_cells.specs.Seen.{Seen, IsCoherent, IsKnownWritten, IsWrittenIfNumber, Finds, Misses, Sets, WritesNumber, ReadsNumber, OnlyReads, Keeps};
+ghost use Rattle.and_cells.specs.Seen.{Seen, IsCoherent, IsKnownWritten, IsWrittenIfNumber, Finds, Misses, Sets};
+ghost use Rattle.and_cells.specs.Seen.{WritesNumber, ReadsNumber, OnlyReads, Keeps};
 
 use and_model::Ref;
 

@@ -32,7 +32,8 @@ same_cell : (c d : ℕ) → Cell c ≡ Cell d → c ≡ d
 same_cell c d e = cc
 
 -- what is read after a mark was set is that mark, or is read elsewhere
-read : (ms : Listed) (c d : ℕ) (m : Mark) → c < length ms → ((c ≡ d) × (mark_at (set ms c (Some m)) d ≡ Some m)) ⊎ ((d ≢ c) × (mark_at (set ms c (Some m)) d ≡ mark_at ms d))
+read : (ms : Listed) (c d : ℕ) (m : Mark) → c < length ms
+    → ((c ≡ d) × (mark_at (set ms c (Some m)) d ≡ Some m)) ⊎ ((d ≢ c) × (mark_at (set ms c (Some m)) d ≡ mark_at ms d))
 read ms c d m below = elim (cases_eq d c) [
   | inl same ↦ inl (sym same, ap (λ k. mark_at (set ms c (Some m)) k) same ∙ get_or-set_same ms c (Some m) None below)
   | inr apart ↦ inr (apart, get_or-set_other ms c d (Some m) None apart)
@@ -51,7 +52,10 @@ pub cell_left : (ms : Listed) (c : ℕ) → c < length ms → Left (Cell c) ms (
 cell_left ms c below = record {
   long = length-set ms c (Some Done);
   done = λ d e. elim (read ms c d Done below) [ inl same ↦ inl (ap (λ k. Cell k) same.0) | inr other ↦ inr (sym other.1 ∙ e) ];
-  opened = λ d e. elim (read ms c d Done below) [ inl same ↦ absurd (open_is_not_done (sym e ∙ same.1)) | inr other ↦ ((λ is. other.0 (sym (same_cell c d is))), sym other.1 ∙ e) ];
+  opened = λ d e. elim (read ms c d Done below) [
+    | inl same ↦ absurd (open_is_not_done (sym e ∙ same.1))
+    | inr other ↦ ((λ is. other.0 (sym (same_cell c d is))), sym other.1 ∙ e)
+  ];
 }
 
 -- what is no cell has no mark
@@ -83,21 +87,27 @@ module _ (E : Ref → Type 0) where
   done_listed n [] c all is = absurd (cc)
   done_listed n (None ∷ ms) zero all is = absurd (cc)
   done_listed n (Some Open ∷ ms) zero all is = absurd (open_is_not_done is)
-  done_listed n (Some Done ∷ ms) zero all is = let e : n ≡ n + 0 = omega arith in subst (λ (k : ℕ). E (Cell k)) e (All-head E (Cell n) (done_from (suc n) ms) all)
+  done_listed n (Some Done ∷ ms) zero all is = let e : n ≡ n + 0 =
+      omega arith in subst (λ (k : ℕ). E (Cell k)) e (All-head E (Cell n) (done_from (suc n) ms) all)
   done_listed n (None ∷ ms) (suc c) all is = let e : suc n + c ≡ n + suc c = omega arith in subst (λ (k : ℕ). E (Cell k)) e (done_listed (suc n) ms c all is)
-  done_listed n (Some Open ∷ ms) (suc c) all is = let e : suc n + c ≡ n + suc c = omega arith in subst (λ (k : ℕ). E (Cell k)) e (done_listed (suc n) ms c all is)
+  done_listed n (Some Open ∷ ms) (suc c) all is = let e : suc n + c ≡ n + suc c =
+      omega arith in subst (λ (k : ℕ). E (Cell k)) e (done_listed (suc n) ms c all is)
   done_listed n (Some Done ∷ ms) (suc c) all is =
-      let e : suc n + c ≡ n + suc c = omega arith in subst (λ (k : ℕ). E (Cell k)) e (done_listed (suc n) ms c (All-tail E (Cell n) (done_from (suc n) ms) all) is)
+      let e : suc n + c ≡ n + suc c =
+      omega arith in subst (λ (k : ℕ). E (Cell k)) e (done_listed (suc n) ms c (All-tail E (Cell n) (done_from (suc n) ms) all) is)
 
   -- where what is done ends, all that is listed does
   pub all_done : (n : ℕ) (ms : Listed) → ((c : ℕ) → mark_at ms c ≡ Some Done → E (Cell (n + c))) → All E (done_from n ms)
   all_done n [] ended = All-nil E
-  all_done n (m ∷ ms) ended = by_mark m (λ e. ended 0 e) (all_done (suc n) ms (λ c e. let same : n + suc c ≡ suc n + c = omega arith in subst (λ (k : ℕ). E (Cell k)) same (ended (suc c) e)))
+  all_done n (m ∷ ms) ended =
+      by_mark m (λ e. ended 0 e)
+      (all_done (suc n) ms (λ c e. let same : n + suc c ≡ suc n + c = omega arith in subst (λ (k : ℕ). E (Cell k)) same (ended (suc c) e)))
     where
       by_mark : (m : Option Mark) → (m ≡ Some Done → E (Cell (n + 0))) → All E (done_from (suc n) ms) → All E (done_from n (m ∷ ms))
       by_mark None first rest = rest
       by_mark (Some Open) first rest = rest
-      by_mark (Some Done) first rest = let e : n + 0 ≡ n = omega arith in All-cons E (Cell n) (done_from (suc n) ms) (subst (λ (k : ℕ). E (Cell k)) e (first refl)) rest
+      by_mark (Some Done) first rest = let e : n + 0 ≡ n =
+          omega arith in All-cons E (Cell n) (done_from (suc n) ms) (subst (λ (k : ℕ). E (Cell k)) e (first refl)) rest
 
 -- without marks nothing is done
 pub none_done : (n : ℕ) (ms : Listed) → AreUnmarked ms → done_from n ms ≡ []

@@ -16,7 +16,8 @@ use Rattle.and_circles.specs.declared.walk.Visit.TheVariants.{Enter, Leave}
 use Rattle.and_circles.specs.declared.walk.Walk.{Walk}
 
 -- one part more of those of a structure
-taken : (P : NamedProgram) (node : NodeNo) (base i : ℕ) (part : Ref) → i < length (arguments_at P.skeleton node.0) → part ≡ part_at P base (get_or (arguments_at P.skeleton node.0) i 0)
+taken : (P : NamedProgram) (node : NodeNo) (base i : ℕ) (part : Ref) → i < length (arguments_at P.skeleton node.0)
+    → part ≡ part_at P base (get_or (arguments_at P.skeleton node.0) i 0)
     → take (i + 1) (parts_of P (Node node base)) ≡ take i (parts_of P (Node node base)) ++ part ∷ []
 taken P node base i part there is =
     let arguments : List ℕ = arguments_at P.skeleton node.0 in
@@ -25,20 +26,24 @@ taken P node base i part there is =
     ∙ ap (λ (r : Ref). take i (map (part_at P base) arguments) ++ r ∷ []) (get_or-map (part_at P base) arguments i 0 part there ∙ sym is)
 
 -- the visits with one part more
-pushed_part : (old mid new : List Visit) (at part : Ref) (some more : List Ref) → more ≡ some ++ part ∷ [] → mid ≡ old ++ Leave at ∷ map Enter some → new ≡ mid ++ Enter part ∷ [] → new ≡ old ++ Leave at ∷ map Enter more
+pushed_part : (old mid new : List Visit) (at part : Ref) (some more : List Ref) → more ≡ some ++ part ∷ [] → mid ≡ old ++ Leave at ∷ map Enter some
+    → new ≡ mid ++ Enter part ∷ [] → new ≡ old ++ Leave at ∷ map Enter more
 pushed_part old mid new at part some more taken before pushed =
     pushed ∙ ap (λ vs. vs ++ Enter part ∷ []) before ∙ append_assoc old (Leave at ∷ map Enter some) (Enter part ∷ [])
     ∙ ap (λ vs. old ++ Leave at ∷ vs) (sym (ap (map Enter) taken ∙ map-append Enter some (part ∷ [])))
 
 -- one more part is to be entered
 pub opens_more : (P : NamedProgram) (node : NodeNo) (base i : ℕ) (part : Ref) (old mid : Walk) (visits : Vec Visit Global)
-    → Opens (Node node base) (take i (parts_of P (Node node base))) old mid → i < length (arguments_at P.skeleton node.0) → i < 255 → part ≡ part_at P base (get_or (arguments_at P.skeleton node.0) i 0)
-    → visits.items ≡ mid.visits.items ++ Enter part ∷ [] → Opens (Node node base) (take (i + 1) (parts_of P (Node node base))) old (record mid { visits = visits })
+    → Opens (Node node base) (take i (parts_of P (Node node base))) old mid → i < length (arguments_at P.skeleton node.0) → i < 255
+    → part ≡ part_at P base (get_or (arguments_at P.skeleton node.0) i 0)
+    → visits.items ≡ mid.visits.items ++ Enter part ∷ []
+    → Opens (Node node base) (take (i + 1) (parts_of P (Node node base))) old (record mid { visits = visits })
 opens_more P node base i part old mid visits opens there short is pushed =
     let parts : List Ref = parts_of P (Node node base) in
     let t : take (i + 1) (parts_of P (Node node base)) ≡ take i (parts_of P (Node node base)) ++ part ∷ [] = taken P node base i part there is in
     record {
-      visits = pushed_part old.visits.items mid.visits.items visits.items (Node node base) part (take i (parts_of P (Node node base))) (take (i + 1) (parts_of P (Node node base))) t opens.visits pushed;
+      visits = pushed_part old.visits.items mid.visits.items visits.items (Node node base) part (take i (parts_of P (Node node base)))
+          (take (i + 1) (parts_of P (Node node base))) t opens.visits pushed;
       short = omega (arith, length-take-le (i + 1) (parts_of P (Node node base)) (omega (arith, length-map (arguments_at P.skeleton node.0) (part_at P base))));
       stays = opens.stays;
     }

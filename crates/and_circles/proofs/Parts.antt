@@ -1,5 +1,6 @@
 -- The parts of structures: their variables, where they are, and that they fall.
-use Rattle.std.proofs.Common.{ℕ, suc, ◌≡◌, ◌≢◌, ◌<◌, ◌+◌, pos, ◌⊎◌, inl, inr, List, [], ◌∷◌, map, length, get_or, Some, None, refl, ap, sym, subst, ◌∙◌, arith, false}
+use Rattle.std.proofs.Common.{ℕ, suc, ◌≡◌, ◌≢◌, ◌<◌, ◌+◌, pos, ◌⊎◌, inl, inr, List, [], ◌∷◌, map, length, get_or, Some, None, refl, ap, sym, subst, ◌∙◌}
+use Rattle.std.proofs.Common.{arith, false}
 use Rattle.std.specs.Prelude.{Contains, Option}
 use Rattle.std.proofs.lemmas.Option.{slice_get-get_or}
 use Rattle.std.proofs.lemmas.List.Elements.{All-contains, All-from_get_or, Contains-get_or, Contains-append_left, Contains-append_right, Contains-append_cases}
@@ -33,15 +34,18 @@ falls_below n [] m falls c = absurd (none_in m c)
 falls_below n (k ∷ ms) m falls c = elim (first_or_later ms k m c) [ inl e ↦ subst (λ (a : ℕ). a < n) e falls.0 | inr later ↦ falls_below n ms m falls.1 later ]
 
 -- a term of a list has its variables in the list
-arguments_has : (f : ℕ → Term) (ms : List ℕ) (m : ℕ) (v : Variable) → Contains ms m → Contains (variables_of (f m)) v → Contains (variables_in (term_list (map f ms))) v
+arguments_has : (f : ℕ → Term) (ms : List ℕ) (m : ℕ) (v : Variable) → Contains ms m → Contains (variables_of (f m)) v
+    → Contains (variables_in (term_list (map f ms))) v
 arguments_has f [] m v c in_part = absurd (none_in m c)
 arguments_has f (k ∷ ms) m v c in_part = elim (first_or_later ms k m c) [
-  | inl e ↦ Contains-append_left (variables_of (f k)) (variables_in (term_list (map f ms))) v (subst (λ (a : ℕ). Contains (variables_of (f a)) v) (sym e) in_part)
+  | inl e ↦ Contains-append_left (variables_of (f k)) (variables_in (term_list (map f ms))) v
+      (subst (λ (a : ℕ). Contains (variables_of (f a)) v) (sym e) in_part)
   | inr later ↦ Contains-append_right (variables_of (f k)) (variables_in (term_list (map f ms))) v (arguments_has f ms m v later in_part)
 ]
 
 -- and each variable of a list of terms is in one of them
-arguments_gives : (f : ℕ → Term) (ms : List ℕ) (v : Variable) → Contains (variables_in (term_list (map f ms))) v → (m : ℕ) × Contains ms m × Contains (variables_of (f m)) v
+arguments_gives : (f : ℕ → Term) (ms : List ℕ) (v : Variable) → Contains (variables_in (term_list (map f ms))) v
+    → (m : ℕ) × Contains ms m × Contains (variables_of (f m)) v
 arguments_gives f [] v c = absurd (none_in v c)
 arguments_gives f (k ∷ ms) v c = elim (Contains-append_cases (variables_of (f k)) (variables_in (term_list (map f ms))) v c) [
   | inl first ↦ (k, first_in ms k k refl, first)
@@ -55,7 +59,8 @@ module _ (ss : List Shape) (fall : AllFall 0 ss) where
 
   -- the arguments of a node fall
   falls_at : (n : ℕ) → n < length ss → IsFalling n (get_or ss n (Skeletons.number (pos 0)))
-  falls_at n there = let e : 0 + n ≡ n = omega arith in subst (λ (m : ℕ). IsFalling m (get_or ss n (Skeletons.number (pos 0)))) e (AllFall-at 0 ss n (Skeletons.number (pos 0)) fall there)
+  falls_at n there = let e : 0 + n ≡ n =
+      omega arith in subst (λ (m : ℕ). IsFalling m (get_or ss n (Skeletons.number (pos 0)))) e (AllFall-at 0 ss n (Skeletons.number (pos 0)) fall there)
 
   -- an argument comes before its node
   argument_falls : (n m : ℕ) (s : Shape) → IsFalling n s → Contains (arguments_in s) m → m < n
@@ -68,25 +73,31 @@ module _ (ss : List Shape) (fall : AllFall 0 ss) where
   falls n m there c = argument_falls n m (get_or ss n (Skeletons.number (pos 0))) (falls_at n there) c
 
   -- what an argument's variables are, those of the shape are
-  shape_has : (s : Shape) (m : ℕ) (v : Variable) → Contains (arguments_in s) m → Contains (variables_at ss m) v → Contains (variables_of (shape_term (terms_behind [] ss) s)) v
+  shape_has : (s : Shape) (m : ℕ) (v : Variable) → Contains (arguments_in s) m → Contains (variables_at ss m) v
+      → Contains (variables_of (shape_term (terms_behind [] ss) s)) v
   shape_has (Skeletons.variable k) m v c in_part = absurd (none_in m c)
   shape_has (Skeletons.number z) m v c in_part = absurd (none_in m c)
   shape_has (Skeletons.compound name ms) m v c in_part = arguments_has (nth (terms_behind [] ss)) ms m v c in_part
 
   -- what an argument's variables are, the node's are
-  pub has_variables : (n m : ℕ) (v : Variable) → n < length ss → Contains (arguments_in (get_or ss n (Skeletons.number (pos 0)))) m → Contains (variables_at ss m) v → Contains (variables_at ss n) v
-  has_variables n m v there c in_part = subst (λ (t : Term). Contains (variables_of t) v) (sym (term_at n there)) (shape_has (get_or ss n (Skeletons.number (pos 0))) m v c in_part)
+  pub has_variables : (n m : ℕ) (v : Variable) → n < length ss → Contains (arguments_in (get_or ss n (Skeletons.number (pos 0)))) m
+      → Contains (variables_at ss m) v → Contains (variables_at ss n) v
+  has_variables n m v there c in_part =
+      subst (λ (t : Term). Contains (variables_of t) v) (sym (term_at n there)) (shape_has (get_or ss n (Skeletons.number (pos 0))) m v c in_part)
 
   -- each variable of a shape that is none is an argument's
-  shape_gives : (s : Shape) (v : Variable) → ((k : ℕ) → s ≢ Skeletons.variable k) → Contains (variables_of (shape_term (terms_behind [] ss) s)) v → (m : ℕ) × Contains (arguments_in s) m × Contains (variables_at ss m) v
+  shape_gives : (s : Shape) (v : Variable) → ((k : ℕ) → s ≢ Skeletons.variable k) → Contains (variables_of (shape_term (terms_behind [] ss) s)) v
+      → (m : ℕ) × Contains (arguments_in s) m × Contains (variables_at ss m) v
   shape_gives (Skeletons.variable k) v apart c = absurd (apart k refl)
   shape_gives (Skeletons.number z) v apart c = absurd (none_in v c)
   shape_gives (Skeletons.compound name ms) v apart c = arguments_gives (nth (terms_behind [] ss)) ms v c
 
   -- and each variable of a node that is none is an argument's
-  pub gives_variables : (n : ℕ) (v : Variable) → n < length ss → ((k : ℕ) → get_or ss n (Skeletons.number (pos 0)) ≢ Skeletons.variable k) → Contains (variables_at ss n) v
+  pub gives_variables : (n : ℕ) (v : Variable) → n < length ss → ((k : ℕ) → get_or ss n (Skeletons.number (pos 0)) ≢ Skeletons.variable k)
+      → Contains (variables_at ss n) v
       → (m : ℕ) × Contains (arguments_in (get_or ss n (Skeletons.number (pos 0)))) m × Contains (variables_at ss m) v
-  gives_variables n v there apart c = shape_gives (get_or ss n (Skeletons.number (pos 0))) v apart (subst (λ (t : Term). Contains (variables_of t) v) (term_at n there) c)
+  gives_variables n v there apart c =
+      shape_gives (get_or ss n (Skeletons.number (pos 0))) v apart (subst (λ (t : Term). Contains (variables_of t) v) (term_at n there) c)
 
   -- the variable of a node that is one
   pub own_variable : (n k : ℕ) → n < length ss → get_or ss n (Skeletons.number (pos 0)) ≡ Skeletons.variable k → variables_at ss n ≡ ([], k) ∷ []
@@ -100,7 +111,8 @@ shape_cases (Skeletons.compound name ms) = inr (λ k e. cc)
 
 -- a part is the cell of a variable, or a structure in the same frame
 pub resolved_cases : (s : Shape) (node : NodeNo) (base : ℕ)
-    → ((k : ℕ) × (s ≡ Skeletons.variable k) × (resolved s node base ≡ Cell (base + 1 + k))) ⊎ (((k : ℕ) → s ≢ Skeletons.variable k) × (resolved s node base ≡ Node node base))
+    → ((k : ℕ) × (s ≡ Skeletons.variable k) × (resolved s node base ≡ Cell (base + 1 + k)))
+    ⊎ (((k : ℕ) → s ≢ Skeletons.variable k) × (resolved s node base ≡ Node node base))
 resolved_cases (Skeletons.variable k) node base = inl (k, refl, refl)
 resolved_cases (Skeletons.number z) node base = inr ((λ k e. cc), refl)
 resolved_cases (Skeletons.compound name ms) node base = inr ((λ k e. cc), refl)
@@ -114,28 +126,34 @@ module _ (P : NamedProgram) (fall : AllFall 0 P.skeleton.nodes) where
 
   -- a shape that is no variable, as rows in range say it
   pub no_variable : (m : ℕ) → m < length P.skeleton.nodes → ((k : ℕ) → shape_at P.skeleton m ≢ Skeletons.variable k) → IsNoVariable P m
-  no_variable m there apart k e = apart k (ap (λ (o : Option Shape). elim o [ None ↦ shape_at P.skeleton m | Some s ↦ s ]) (sym (slice_get-get_or P.skeleton.nodes m (Skeletons.number (pos 0)) there) ∙ e))
+  no_variable m there apart k e =
+      apart k (ap (λ (o : Option Shape). elim o [ None ↦ shape_at P.skeleton m | Some s ↦ s ])
+      (sym (slice_get-get_or P.skeleton.nodes m (Skeletons.number (pos 0)) there) ∙ e))
 
   -- what a part of a structure is
   pub part_is : (node : NodeNo) (base : ℕ) (to : Ref) → node.0 < length P.skeleton.nodes → Contains (parts_of P (Node node base)) to → IsPart node.0 base to
   part_is node base to there c = by_argument (from_image (part_at P base) (arguments_at P.skeleton node.0) to c)
     where
       by_shape : (m : ℕ) → Contains (arguments_at P.skeleton node.0) m → m < node.0 → part_at P base m ≡ to
-          → ((k : ℕ) × (shape_at P.skeleton m ≡ Skeletons.variable k) × (part_at P base m ≡ Cell (base + 1 + k))) ⊎ (((k : ℕ) → shape_at P.skeleton m ≢ Skeletons.variable k) × (part_at P base m ≡ Node (record { 0 = m }) base))
+          → ((k : ℕ) × (shape_at P.skeleton m ≡ Skeletons.variable k) × (part_at P base m ≡ Cell (base + 1 + k)))
+          ⊎ (((k : ℕ) → shape_at P.skeleton m ≢ Skeletons.variable k) × (part_at P base m ≡ Node (record { 0 = m }) base))
           → IsPart node.0 base to
       by_shape m argument below is (inl variable) =
           at_variable variable.0 (sym is ∙ variable.2)
           (has_variables P.skeleton.nodes fall node.0 m ([], variable.0) there argument
-          (subst (λ (vs : List Variable). Contains vs ([], variable.0)) (sym (own_variable P.skeleton.nodes fall m variable.0 (omega arith) variable.1)) (first_in [] ([], variable.0) ([], variable.0) refl)))
+          (subst (λ (vs : List Variable). Contains vs ([], variable.0)) (sym (own_variable P.skeleton.nodes fall m variable.0 (omega arith) variable.1))
+          (first_in [] ([], variable.0) ([], variable.0) refl)))
       by_shape m argument below is (inr other) =
           at_node (record { 0 = m }) (sym is ∙ other.1) below (no_variable m (omega arith) other.0)
           (λ v in_part. has_variables P.skeleton.nodes fall node.0 m v there argument in_part)
 
       by_argument : (m : ℕ) × Contains (arguments_at P.skeleton node.0) m × (part_at P base m ≡ to) → IsPart node.0 base to
-      by_argument w = by_shape w.0 w.1 (falls P.skeleton.nodes fall node.0 w.0 there w.1) w.2 (resolved_cases (shape_at P.skeleton w.0) (record { 0 = w.0 }) base)
+      by_argument w = by_shape w.0 w.1 (falls P.skeleton.nodes fall node.0 w.0 there w.1) w.2
+          (resolved_cases (shape_at P.skeleton w.0) (record { 0 = w.0 }) base)
 
   -- where the part of a structure in range is in range, and comes before it
-  pub part_in_range : (words : ℕ) (node : NodeNo) (base : ℕ) (to : Ref) → IsInRange P words (Node node base) → Contains (parts_of P (Node node base)) to → IsInRange P words to
+  pub part_in_range : (words : ℕ) (node : NodeNo) (base : ℕ) (to : Ref) → IsInRange P words (Node node base) → Contains (parts_of P (Node node base)) to
+      → IsInRange P words to
   part_in_range words node base to fits c = by_kind (part_is node base to fits.0.there c)
     where
       holds_at : (v : Variable) → Contains (variables_at P.skeleton.nodes node.0) v → base + 1 + v.1 < words
@@ -149,7 +167,8 @@ module _ (P : NamedProgram) (fall : AllFall 0 P.skeleton.nodes) where
           nameable = omega (arith, fits.0.nameable);
           base_below = fits.0.base_below;
           cells = All-from_get_or (λ (u : Variable). base + 1 + u.1 < words) (variables_at P.skeleton.nodes m.0) ([], 0)
-              (λ i below_length. holds_at (get_or (variables_at P.skeleton.nodes m.0) i ([], 0)) (has (get_or (variables_at P.skeleton.nodes m.0) i ([], 0)) (Contains-get_or (variables_at P.skeleton.nodes m.0) i ([], 0) below_length)));
+              (λ i below_length. holds_at (get_or (variables_at P.skeleton.nodes m.0) i ([], 0))
+              (has (get_or (variables_at P.skeleton.nodes m.0) i ([], 0)) (Contains-get_or (variables_at P.skeleton.nodes m.0) i ([], 0) below_length)));
         },
         none,
       )
@@ -161,12 +180,16 @@ holds_inside P row r c (here cell) node base e = absurd (cc)
 holds_inside P row r c (onward start w cell is_set rest) node base e = absurd (cc)
 holds_inside P row r c (inside other frame v cell in_term rest) node base e =
     let same_node : other ≡ node = cc in
-    let same_base : frame ≡ base = cc in
-    (v, subst (λ (n : NodeNo). Contains (variables_at P.skeleton.nodes n.0) v) same_node in_term, subst (λ (b : ℕ). Holds P row (Cell (b + 1 + v.1)) cell) same_base rest)
+    let same_base : frame ≡ base = cc in (
+      v,
+      subst (λ (n : NodeNo). Contains (variables_at P.skeleton.nodes n.0) v) same_node in_term,
+      subst (λ (b : ℕ). Holds P row (Cell (b + 1 + v.1)) cell) same_base rest,
+    )
 
 module _ (P : NamedProgram) (fall : AllFall 0 P.skeleton.nodes) (row : List Ref) where
   -- a step from a structure leads down
-  pub part_is_lower : (node : NodeNo) (base : ℕ) (to : Ref) → node.0 < length P.skeleton.nodes → Contains (parts_of P (Node node base)) to → height to < suc node.0
+  pub part_is_lower : (node : NodeNo) (base : ℕ) (to : Ref) → node.0 < length P.skeleton.nodes → Contains (parts_of P (Node node base)) to
+      → height to < suc node.0
   part_is_lower node base to there c = by_kind (part_is P fall node base to there c)
     where
       by_kind : IsPart P fall node.0 base to → height to < suc node.0
@@ -177,7 +200,8 @@ module _ (P : NamedProgram) (fall : AllFall 0 P.skeleton.nodes) (row : List Ref)
   part_holds : (node : NodeNo) (base : ℕ) (to : Ref) (c : ℕ) → IsPart P fall node.0 base to → Holds P row to c → Holds P row (Node node base) c
   part_holds node base to c (at_variable k is in_term) holds = inside node base ([], k) c in_term (subst (λ (r : Ref). Holds P row r c) is holds)
   part_holds node base to c (at_node m is below none has) holds =
-      let w : (v : Variable) × Contains (variables_at P.skeleton.nodes m.0) v × Holds P row (Cell (base + 1 + v.1)) c = holds_inside P row to c holds m base is in
+      let w : (v : Variable) × Contains (variables_at P.skeleton.nodes m.0) v × Holds P row (Cell (base + 1 + v.1)) c =
+      holds_inside P row to c holds m base is in
       inside node base w.0 c (has w.0 w.1) w.2
 
   -- what a step leads to holds, is held

@@ -1,5 +1,6 @@
 -- Paths through cells and parts: what they hold, where they close, and that none closes where all ends.
-use Rattle.std.proofs.Common.{ℕ, zero, suc, ◌≡◌, ◌≢◌, ◌<◌, ◌≤◌, ◌+◌, pos, ◌⊎◌, inl, inr, Bool, List, [], ◌∷◌, length, Some, refl, ap, sym, subst, ◌∙◌, arith, true, false}
+use Rattle.std.proofs.Common.{ℕ, zero, suc, ◌≡◌, ◌≢◌, ◌<◌, ◌≤◌, ◌+◌, pos, ◌⊎◌, inl, inr, Bool, List, [], ◌∷◌, length, Some, refl, ap, sym, subst, ◌∙◌, arith}
+use Rattle.std.proofs.Common.{true, false}
 use Rattle.std.specs.Prelude.{Contains}
 use Rattle.std.proofs.lemmas.Bool.{cases_lt}
 use Rattle.std.proofs.lemmas.Option.{slice_get-get_or}
@@ -83,7 +84,8 @@ module _ (P : NamedProgram) (row : List Ref) where
       let whole : false ≡ true = half_stays next (Cell cell) (ap is_half (sym step.0) ∙ is) path in absurd (cc)
   on_no_ring halves r (Ends.set cell to is_set ends) next step path =
       let same : next ≡ to = sym step.0 ∙ is_set.0 in
-      let w : (after : Ref) × IsStep P row to after × Path P row after to = turned (Cell cell) to is_set (subst (λ (q : Ref). Path P row q (Cell cell)) same path) in
+      let w : (after : Ref) × IsStep P row to after × Path P row after to =
+      turned (Cell cell) to is_set (subst (λ (q : Ref). Path P row q (Cell cell)) same path) in
       on_no_ring halves to ends w.0 w.1 w.2
   on_no_ring halves r (Ends.parts node base all) next step path =
       let w : (after : Ref) × IsStep P row next after × Path P row after next = turned (Node node base) next step path in
@@ -107,7 +109,8 @@ module _ (P : NamedProgram) (fall : AllFall 0 P.skeleton.nodes) (row : List Ref)
   path_in_range r to (arrived a) fits whole = fits
   path_in_range r to (goes a next b step rest) fits whole = by_kind (path_in_range next b rest) (half_or_whole next)
     where
-      by_kind : (IsInRange P (length row) next → is_half to ≡ false → IsInRange P (length row) to) → (is_half next ≡ true) ⊎ (is_half next ≡ false) → IsInRange P (length row) to
+      by_kind : (IsInRange P (length row) next → is_half to ≡ false → IsInRange P (length row) to) → (is_half next ≡ true) ⊎ (is_half next ≡ false)
+          → IsInRange P (length row) to
       by_kind again (inl half) = let both : true ≡ false = sym (half_stays P row next to half rest) ∙ whole in absurd (cc)
       by_kind again (inr next_whole) = again (step_in_range P fall row sound a next fits step next_whole) whole
 
@@ -127,11 +130,13 @@ module _ (P : NamedProgram) (fall : AllFall 0 P.skeleton.nodes) (row : List Ref)
   -- so it is one step before
   after_step : (r next : Ref) (c : ℕ) → IsInRange P (length row) r → IsStep P row r next → Holds P row next c → Climbs next c → Climbs r c
   after_step Free next c fits step holds climbs = absurd step
-  after_step (Cell cell) next c fits step holds (inl through) = inl (through.0, through.1, onward cell next (Node through.0 through.1) step through.2, through.3)
+  after_step (Cell cell) next c fits step holds (inl through) =
+      inl (through.0, through.1, onward cell next (Node through.0 through.1) step through.2, through.3)
   after_step (Cell cell) next c fits step holds (inr down) =
       let lower : down.0 < cell = subst (CanHold P (length row) cell) (step.0 ∙ down.1) (sound.fits cell) in
       inr (cell, refl, omega (arith, down.2))
-  after_step (Node node base) next c fits step holds climbs = inl (node, base, here (Node node base), step_holds P fall row (Node node base) next c fits step holds)
+  after_step (Node node base) next c fits step holds climbs =
+      inl (node, base, here (Node node base), step_holds P fall row (Node node base) next c fits step holds)
   after_step (Number pair) next c fits step holds climbs = absurd step
   after_step (Half bits) next c fits step holds climbs = absurd step
 
@@ -174,19 +179,26 @@ module _ (P : NamedProgram) (fall : AllFall 0 P.skeleton.nodes) (row : List Ref)
       by_argument (gives_variables P.skeleton.nodes fall node.0 v there (shape_apart node.0 there none) in_term)
     where
       by_shape : (m : ℕ) → m < node.0 → Contains (parts_of P (Node node base)) (part_at P base m) → Contains (variables_at P.skeleton.nodes m) v
-          → ((k : ℕ) × (shape_at P.skeleton m ≡ Skeletons.variable k) × (part_at P base m ≡ Cell (base + 1 + k))) ⊎ (((k : ℕ) → shape_at P.skeleton m ≢ Skeletons.variable k) × (part_at P base m ≡ Node (record { 0 = m }) base))
+          → ((k : ℕ) × (shape_at P.skeleton m ≡ Skeletons.variable k) × (part_at P base m ≡ Cell (base + 1 + k)))
+          ⊎ (((k : ℕ) → shape_at P.skeleton m ≢ Skeletons.variable k) × (part_at P base m ≡ Node (record { 0 = m }) base))
           → Path P row (Node node base) (Cell (base + 1 + v.1))
       by_shape m lower step of_part (inl variable) =
-          let only : Contains (([], variable.0) ∷ []) v = subst (λ (vs : List Variable). Contains vs v) (own_variable P.skeleton.nodes fall m variable.0 (omega arith) variable.1) of_part in
-          let same : variable.0 ≡ v.1 = elim (first_or_later [] ([], variable.0) v only) [ inl e ↦ ap (λ (u : Variable). u.1) e | inr later ↦ absurd (none_in v later) ] in
+          let only : Contains (([], variable.0) ∷ []) v =
+          subst (λ (vs : List Variable). Contains vs v) (own_variable P.skeleton.nodes fall m variable.0 (omega arith) variable.1) of_part in
+          let same : variable.0 ≡ v.1 =
+          elim (first_or_later [] ([], variable.0) v only) [ inl e ↦ ap (λ (u : Variable). u.1) e | inr later ↦ absurd (none_in v later) ] in
           goes (Node node base) (part_at P base m) (Cell (base + 1 + v.1)) step
-          (subst (λ (r : Ref). Path P row r (Cell (base + 1 + v.1))) (sym (variable.2 ∙ ap (λ (k : ℕ). Cell (base + 1 + k)) same)) (arrived (Cell (base + 1 + v.1))))
+          (subst (λ (r : Ref). Path P row r (Cell (base + 1 + v.1))) (sym (variable.2 ∙ ap (λ (k : ℕ). Cell (base + 1 + k)) same))
+          (arrived (Cell (base + 1 + v.1))))
       by_shape m lower step of_part (inr other) =
           goes (Node node base) (part_at P base m) (Cell (base + 1 + v.1)) step
-          (subst (λ (r : Ref). Path P row r (Cell (base + 1 + v.1))) (sym other.1) (again (record { 0 = m }) base v (omega arith) (omega arith) (no_variable P fall m (omega arith) other.0) of_part))
+          (subst (λ (r : Ref). Path P row r (Cell (base + 1 + v.1))) (sym other.1)
+          (again (record { 0 = m }) base v (omega arith) (omega arith) (no_variable P fall m (omega arith) other.0) of_part))
 
-      by_argument : (m : ℕ) × Contains (arguments_at P.skeleton node.0) m × Contains (variables_at P.skeleton.nodes m) v → Path P row (Node node base) (Cell (base + 1 + v.1))
-      by_argument w = by_shape w.0 (falls P.skeleton.nodes fall node.0 w.0 there w.1) (image_in (part_at P base) (arguments_at P.skeleton node.0) w.0 w.1) w.2 (resolved_cases (shape_at P.skeleton w.0) (record { 0 = w.0 }) base)
+      by_argument : (m : ℕ) × Contains (arguments_at P.skeleton node.0) m × Contains (variables_at P.skeleton.nodes m) v
+          → Path P row (Node node base) (Cell (base + 1 + v.1))
+      by_argument w = by_shape w.0 (falls P.skeleton.nodes fall node.0 w.0 there w.1) (image_in (part_at P base) (arguments_at P.skeleton node.0) w.0 w.1) w.2
+          (resolved_cases (shape_at P.skeleton w.0) (record { 0 = w.0 }) base)
 
   -- and for all
   reach : (bound : ℕ) → Reach bound
@@ -197,9 +209,11 @@ module _ (P : NamedProgram) (fall : AllFall 0 P.skeleton.nodes) (row : List Ref)
   pub holds_path : (r : Ref) (c : ℕ) → Holds P row r c → IsInRange P (length row) r → Path P row r (Cell c)
   holds_path r c (Meaning.here cell) fits = arrived (Cell cell)
   holds_path r c (Meaning.onward start next cell is_set rest) fits =
-      goes (Cell start) next (Cell cell) is_set (holds_path next cell rest (step_in_range P fall row sound (Cell start) next fits is_set (holds_whole P row next cell rest)))
+      goes (Cell start) next (Cell cell) is_set
+      (holds_path next cell rest (step_in_range P fall row sound (Cell start) next fits is_set (holds_whole P row next cell rest)))
   holds_path r c (Meaning.inside node base v cell in_term rest) fits =
-      let variable_fits : base + 1 + v.1 < length row = All-contains (λ (u : Variable). base + 1 + u.1 < length row) (variables_at P.skeleton.nodes node.0) v fits.0.cells in_term in
+      let variable_fits : base + 1 + v.1 < length row =
+      All-contains (λ (u : Variable). base + 1 + u.1 < length row) (variables_at P.skeleton.nodes node.0) v fits.0.cells in_term in
       joined P row (Node node base) (Cell (base + 1 + v.1)) (Cell cell)
       (reach (suc node.0) node base v (omega arith) fits.0.there fits.1 in_term)
       (holds_path (Cell (base + 1 + v.1)) cell rest variable_fits)

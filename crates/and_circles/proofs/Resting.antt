@@ -36,7 +36,8 @@ module _ (P : NamedProgram) (row : List Ref) (w : Walk) where
   structure_ends all at c = All-contains E w.structures at (kept_end all) c
 
   -- other marks, by which no more is done than ends and no more is open, and other structures that end
-  rests_so : (marks : Listed) (structures : List Ref) → IsSound P row → IsAtRest w → length row ≤ length marks → ((c : ℕ) → mark_at marks c ≡ Some Done → E (Cell c))
+  rests_so : (marks : Listed) (structures : List Ref) → IsSound P row → IsAtRest w → length row ≤ length marks
+      → ((c : ℕ) → mark_at marks c ≡ Some Done → E (Cell c))
       → ((c : ℕ) → mark_at marks c ≡ Some Open → mark_at w.marks c ≡ Some Open) → All E structures
       → IsRested P row (record w { marks = marks; structures = structures })
   rests_so marks structures sound rest room done opened kept = record {

@@ -1,5 +1,6 @@
 -- Stamps: the marks that they stand for in their round, and in the next one.
-use Rattle.std.proofs.Common.{ℕ, zero, suc, ◌≡◌, ◌<◌, ◌≤◌, ◌+◌, Bool, true, false, cond, nat_eq, List, [], ◌∷◌, ◌++◌, length, map, replicate, set, take, Some, None, refl, ap, ◌∙◌, arith}
+use Rattle.std.proofs.Common.{ℕ, zero, suc, ◌≡◌, ◌<◌, ◌≤◌, ◌+◌, Bool, true, false, cond, nat_eq, List, [], ◌∷◌, ◌++◌, length, map, replicate, set, take, Some}
+use Rattle.std.proofs.Common.{None, refl, ap, ◌∙◌, arith}
 use Rattle.std.specs.Prelude.{Option, All}
 use Rattle.std.proofs.lemmas.List.{map-set, take_all}
 use Rattle.std.proofs.lemmas.List.Elements.{All-head, All-tail}
@@ -24,7 +25,8 @@ pub earlier_round : (s : Stamp) (round : ℕ) → s.round < round → mark_in ro
 earlier_round s round before = ap (λ b. cond b (Some s.mark) None) (nat_eq_apart s.round round before)
 
 -- so one is set
-pub stamped : (ss : List Stamp) (round c : ℕ) (m : Mark) → map (mark_in round) (set ss c (record { round = round; mark = m })) ≡ set (map (mark_in round) ss) c (Some m)
+pub stamped : (ss : List Stamp) (round c : ℕ) (m : Mark)
+    → map (mark_in round) (set ss c (record { round = round; mark = m })) ≡ set (map (mark_in round) ss) c (Some m)
 stamped ss round c m =
     map-set (mark_in round) ss c (record { round = round; mark = m })
     ∙ ap (λ (o : Option Mark). set (map (mark_in round) ss) c o) (this_round (record { round = round; mark = m }) round refl)
@@ -32,7 +34,8 @@ stamped ss round c m =
 -- and in the next round none has a mark
 pub next_round : (ss : List Stamp) (round : ℕ) → All (λ (s : Stamp). s.round ≤ round) ss → AreUnmarked (map (mark_in (round + 1)) ss)
 next_round [] round all c = refl
-next_round (s ∷ ss) round all zero = let past : s.round ≤ round = All-head (λ (s : Stamp). s.round ≤ round) s ss all in earlier_round s (round + 1) (omega arith)
+next_round (s ∷ ss) round all zero = let past : s.round ≤ round =
+    All-head (λ (s : Stamp). s.round ≤ round) s ss all in earlier_round s (round + 1) (omega arith)
 next_round (s ∷ ss) round all (suc c) = next_round ss round (All-tail (λ (s : Stamp). s.round ≤ round) s ss all) c
 
 -- blank stamps behind the others
@@ -42,7 +45,8 @@ blanks (suc n) round b before zero = earlier_round b round before
 blanks (suc n) round b before (suc c) = blanks n round b before c
 
 -- change no mark
-pub with_blanks : (ss : List Stamp) (n round : ℕ) (b : Stamp) → b.round < round → (c : ℕ) → mark_at (map (mark_in round) (ss ++ replicate n b)) c ≡ mark_at (map (mark_in round) ss) c
+pub with_blanks : (ss : List Stamp) (n round : ℕ) (b : Stamp) → b.round < round → (c : ℕ)
+    → mark_at (map (mark_in round) (ss ++ replicate n b)) c ≡ mark_at (map (mark_in round) ss) c
 with_blanks [] n round b before c = blanks n round b before c
 with_blanks (s ∷ ss) n round b before zero = refl
 with_blanks (s ∷ ss) n round b before (suc c) = with_blanks ss n round b before c

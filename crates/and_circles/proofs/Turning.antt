@@ -1,5 +1,6 @@
 -- One visit of a walk, and what it answers.
-use Rattle.std.proofs.Common.{ℕ, suc, ◌≡◌, ◌≢◌, ◌<◌, ◌≤◌, ◌*◌, ◌^◌, None, Some, set, inl, inr, Bool, List, [], ◌∷◌, length, reverse, refl, ap, sym, subst, ◌∙◌, arith, true, false}
+use Rattle.std.proofs.Common.{ℕ, suc, ◌≡◌, ◌≢◌, ◌<◌, ◌≤◌, ◌*◌, ◌^◌, None, Some, set, inl, inr, Bool, List, [], ◌∷◌, length, reverse, refl, ap, sym, subst}
+use Rattle.std.proofs.Common.{◌∙◌, arith, true, false}
 use Rattle.std.specs.Prelude.{Contains, All, Result, Ok, Err, IfOk}
 use Rattle.std.specs.declared.alloc.AllocError.{AllocError}
 use Rattle.std.proofs.Math.Nat.{mul-le-mul_left}
@@ -42,7 +43,8 @@ module _ (P : NamedProgram) (row : List Ref) where
   }
 
   -- what ends is passed
-  pub goes_past : (at : Ref) (w : Walk) → ((root : Ref) → IsTaking P row root (Enter at) w → Ends P row w.floor w.halves at) → Goes P row (Enter at) w w (Ok explored.Ends)
+  pub goes_past : (at : Ref) (w : Walk) → ((root : Ref) → IsTaking P row root (Enter at) w → Ends P row w.floor w.halves at)
+      → Goes P row (Enter at) w w (Ok explored.Ends)
   goes_past at w ends = record {
     stays = (refl, refl);
     ends = λ is root taking. (passed P row w.floor w.halves root w.marks at (reverse w.visits.items) taking (ends root taking), fewer);
@@ -69,7 +71,8 @@ module _ (P : NamedProgram) (row : List Ref) where
       circle = λ cell is. absurd (cc);
       half = λ cell is.
           let same : c ≡ cell = cc in (
-            subst (λ (k : ℕ). Holds P row root k) same (root_holds P row w.floor w.halves root taking.falls (reverse w.visits.items) (Cell c) c taking.path.2 taking.path.0 (here c)),
+            subst (λ (k : ℕ). Holds P row root k) same
+                (root_holds P row w.floor w.halves root taking.falls (reverse w.visits.items) (Cell c) c taking.path.2 taking.path.0 (here c)),
             subst (λ (k : ℕ). is_half (word_at row k) ≡ true) same is_half_word,
             whole,
           );
@@ -81,10 +84,14 @@ module _ (P : NamedProgram) (row : List Ref) where
       → ((root : Ref) → IsTaking P row root (Enter at) old → (r : Ref) → Contains parts r → IsStep P row at r × IsInRange P (length row) r)
       → ((root : Ref) → IsTaking P row root (Enter at) old
       → visits_left P new.marks (entered parts (Leave at ∷ reverse old.visits.items)) < visits_left P old.marks (Enter at ∷ reverse old.visits.items))
-      → (((r : Ref) → Contains parts r → Ends P row old.floor old.halves r) → Ends P row old.floor old.halves at) → Goes P row (Enter at) old new (Ok explored.Ends)
+      → (((r : Ref) → Contains parts r → Ends P row old.floor old.halves r) → Ends P row old.floor old.halves at)
+      → Goes P row (Enter at) old new (Ok explored.Ends)
   goes_below at parts old new opened marked steps fewer ends = record {
     stays = opened.stays;
-    ends = λ is root taking. (walking root taking, subst (λ (vs : List Visit). visits_left P new.marks vs < visits_left P old.marks (Enter at ∷ reverse old.visits.items)) (sym listed) (fewer root taking));
+    ends = λ is root taking. (
+      walking root taking,
+      subst (λ (vs : List Visit). visits_left P new.marks vs < visits_left P old.marks (Enter at ∷ reverse old.visits.items)) (sym listed) (fewer root taking),
+    );
     answers = λ root taking. answers_end old.halves root;
   }
     where
@@ -100,13 +107,15 @@ module _ (P : NamedProgram) (row : List Ref) where
           (subst (Walks P row old.floor old.halves root new.marks) (sym listed) w))
 
   -- a cell is opened that is set to what is no half
-  pub goes_to : (c : ℕ) (word : Ref) (old new : Walk) → Opens (Cell c) (word ∷ []) old new → new.marks ≡ set old.marks c (Some Open) → mark_at old.marks c ≡ None → c < length old.marks
+  pub goes_to : (c : ℕ) (word : Ref) (old new : Walk) → Opens (Cell c) (word ∷ []) old new → new.marks ≡ set old.marks c (Some Open)
+      → mark_at old.marks c ≡ None → c < length old.marks
       → word_at row c ≡ word → word ≢ Free → is_half word ≡ false → Goes P row (Enter (Cell c)) old new (Ok explored.Ends)
   goes_to c word old new opened marked none there is is_set whole =
       goes_below (Cell c) (word ∷ []) old new opened (subst (Opened (Cell c) old.marks) (sym marked) (cell_opened old.marks c there)) steps fewer
       (λ all. Ends.set c word (is, is_set) (all word (first_in [] word word refl)))
     where
-      steps : (root : Ref) → IsTaking P row root (Enter (Cell c)) old → (r : Ref) → Contains (word ∷ []) r → IsStep P row (Cell c) r × IsInRange P (length row) r
+      steps : (root : Ref) → IsTaking P row root (Enter (Cell c)) old → (r : Ref) → Contains (word ∷ []) r
+          → IsStep P row (Cell c) r × IsInRange P (length row) r
       steps root taking r only =
           elim (first_or_later [] word r only) [
             | inl e ↦ let step : IsStep P row (Cell c) r = (is ∙ e, λ free. is_set (e ∙ free)) in
@@ -115,15 +124,18 @@ module _ (P : NamedProgram) (row : List Ref) where
           ]
 
       fewer : (root : Ref) → IsTaking P row root (Enter (Cell c)) old
-          → visits_left P new.marks (Enter word ∷ Leave (Cell c) ∷ reverse old.visits.items) < visits_left P old.marks (Enter (Cell c) ∷ reverse old.visits.items)
+          → visits_left P new.marks (Enter word ∷ Leave (Cell c) ∷ reverse old.visits.items)
+          < visits_left P old.marks (Enter (Cell c) ∷ reverse old.visits.items)
       fewer root taking =
           let step : IsStep P row (Cell c) word = (is, is_set) in
           let fits : IsInRange P (length row) word = step_in_range P taking.falls row taking.sound (Cell c) word taking.path.1 step whole in
           let one : suc (unmarked new.marks) ≡ unmarked old.marks = ap (λ (ms : Listed). suc (unmarked ms)) marked ∙ one_fewer old.marks c Open there none in
-          lighter_word P (length P.skeleton.nodes) word (Cell c) (unmarked new.marks) (unmarked old.marks) (reverse old.visits.items) one (height_in_range P (length row) word fits)
+          lighter_word P (length P.skeleton.nodes) word (Cell c) (unmarked new.marks) (unmarked old.marks) (reverse old.visits.items) one
+          (height_in_range P (length row) word fits)
 
   -- what a call that opens a cell answers
-  pub goes_on : (c : ℕ) (word : Ref) (old new : Walk) (answer : Result Explored AllocError) → Stays old new → IfOk answer (λ found. (found ≡ explored.Ends) × Opens (Cell c) (word ∷ []) old new)
+  pub goes_on : (c : ℕ) (word : Ref) (old new : Walk) (answer : Result Explored AllocError) → Stays old new
+      → IfOk answer (λ found. (found ≡ explored.Ends) × Opens (Cell c) (word ∷ []) old new)
       → new.marks ≡ set old.marks c (Some Open) → mark_at old.marks c ≡ None → c < length old.marks
       → word_at row c ≡ word → word ≢ Free → is_half word ≡ false → Goes P row (Enter (Cell c)) old new answer
   goes_on c word old new (Ok found) stays opened marked none there is is_set whole =
@@ -131,28 +143,38 @@ module _ (P : NamedProgram) (row : List Ref) where
   goes_on c word old new (Err e) stays opened marked none there is is_set whole = goes_without (Enter (Cell c)) old new e stays
 
   -- a structure
-  pub goes_inside : (node : NodeNo) (base : ℕ) (old new : Walk) → Opens (Node node base) (parts_of P (Node node base)) old new → new.marks ≡ old.marks → Goes P row (Enter (Node node base)) old new (Ok explored.Ends)
+  pub goes_inside : (node : NodeNo) (base : ℕ) (old new : Walk) → Opens (Node node base) (parts_of P (Node node base)) old new → new.marks ≡ old.marks
+      → Goes P row (Enter (Node node base)) old new (Ok explored.Ends)
   goes_inside node base old new opened same =
-      goes_below (Node node base) (parts_of P (Node node base)) old new opened (subst (Opened (Node node base) old.marks) (sym same) (none_opened (Node node base) old.marks))
+      goes_below (Node node base) (parts_of P (Node node base)) old new opened
+      (subst (Opened (Node node base) old.marks) (sym same) (none_opened (Node node base) old.marks))
       (λ root taking r c. (c, part_in_range P taking.falls (length row) node base r taking.path.1 c))
-      (λ root taking. subst (λ (ms : Listed). visits_left P ms (entered (parts_of P (Node node base)) (Leave (Node node base) ∷ reverse old.visits.items)) < visits_left P old.marks (Enter (Node node base) ∷ reverse old.visits.items)) (sym same)
-      (let less : weights (entered (parts_of P (Node node base)) (Leave (Node node base) ∷ reverse old.visits.items)) < weights (Enter (Node node base) ∷ reverse old.visits.items) =
-      lighter_parts node base (parts_of P (Node node base)) (reverse old.visits.items) opened.short (λ r c. part_is_lower P taking.falls row node base r taking.path.1.0.there c) in
+      (λ root taking. subst (λ (ms : Listed). visits_left P ms (entered (parts_of P (Node node base)) (Leave (Node node base) ∷ reverse old.visits.items))
+      < visits_left P old.marks (Enter (Node node base) ∷ reverse old.visits.items)) (sym same)
+      (let less : weights (entered (parts_of P (Node node base)) (Leave (Node node base) ∷ reverse old.visits.items))
+      < weights (Enter (Node node base) ∷ reverse old.visits.items) =
+      lighter_parts node base (parts_of P (Node node base)) (reverse old.visits.items) opened.short
+      (λ r c. part_is_lower P taking.falls row node base r taking.path.1.0.there c) in
       omega arith))
       (λ all. Ends.parts node base all)
 
   -- a place is left
-  goes_back : (at : Ref) (old new : Walk) → ((root : Ref) → IsTaking P row root (Leave at) old → Left at old.marks new.marks) → unmarked new.marks ≤ unmarked old.marks
+  goes_back : (at : Ref) (old new : Walk) → ((root : Ref) → IsTaking P row root (Leave at) old → Left at old.marks new.marks)
+      → unmarked new.marks ≤ unmarked old.marks
       → new.visits.items ≡ old.visits.items → Stays old new → Goes P row (Leave at) old new (Ok explored.Ends)
   goes_back at old new marked no_more_left same stays = record {
     stays = stays;
-    ends = λ is root taking. (walking root taking, subst (λ (vs : List Visit). visits_left P new.marks (reverse vs) < visits_left P old.marks (Leave at ∷ reverse old.visits.items)) (sym same) fewer);
+    ends = λ is root taking. (
+      walking root taking,
+      subst (λ (vs : List Visit). visits_left P new.marks (reverse vs) < visits_left P old.marks (Leave at ∷ reverse old.visits.items)) (sym same) fewer,
+    );
     answers = λ root taking. answers_end old.halves root;
   }
     where
       fewer : visits_left P new.marks (reverse old.visits.items) < visits_left P old.marks (Leave at ∷ reverse old.visits.items)
       fewer =
-          let less : 512 ^ suc (length P.skeleton.nodes) * unmarked new.marks ≤ 512 ^ suc (length P.skeleton.nodes) * unmarked old.marks = mul-le-mul_left (512 ^ suc (length P.skeleton.nodes)) no_more_left in
+          let less : 512 ^ suc (length P.skeleton.nodes) * unmarked new.marks ≤ 512 ^ suc (length P.skeleton.nodes) * unmarked old.marks =
+          mul-le-mul_left (512 ^ suc (length P.skeleton.nodes)) no_more_left in
           omega arith
 
       walking : (root : Ref) → IsTaking P row root (Leave at) old → IsWalking P row root new
@@ -163,9 +185,11 @@ module _ (P : NamedProgram) (row : List Ref) where
           (leaves P row old.floor old.halves root old.marks new.marks at (reverse old.visits.items) taking (marked root taking))))
 
   -- a cell is left
-  pub cell_back : (c : ℕ) (old new : Walk) → new.marks ≡ set old.marks c (Some Done) → new.visits.items ≡ old.visits.items → Stays old new → Goes P row (Leave (Cell c)) old new (Ok explored.Ends)
+  pub cell_back : (c : ℕ) (old new : Walk) → new.marks ≡ set old.marks c (Some Done) → new.visits.items ≡ old.visits.items → Stays old new
+      → Goes P row (Leave (Cell c)) old new (Ok explored.Ends)
   cell_back c old new marked same stays =
-      goes_back (Cell c) old new (λ root taking. subst (Left (Cell c) old.marks) (sym marked) (cell_left old.marks c (omega (arith, taking.path.1, taking.room))))
+      goes_back (Cell c) old new
+      (λ root taking. subst (Left (Cell c) old.marks) (sym marked) (cell_left old.marks c (omega (arith, taking.path.1, taking.room))))
       (subst (λ (ms : Listed). unmarked ms ≤ unmarked old.marks) (sym marked) (no_more old.marks c Done)) same stays
 
   -- and what is none
@@ -183,11 +207,14 @@ module _ (P : NamedProgram) (row : List Ref) where
 
   -- when nothing is left to be visited, all that was opened is done, and the root ends
   pub at_end : (root : Ref) (old w : Walk) → IsWalking P row root w → AreEnded P row w → Stays old w → w.visits.items ≡ []
-      → AreFinished P row (finished w.marks w.structures old.floor old.halves) × ((c : ℕ) → mark_at w.marks c ≡ Some Open → ⊥) × Ends P row old.floor old.halves root
+      → AreFinished P row (finished w.marks w.structures old.floor old.halves) × ((c : ℕ) → mark_at w.marks c ≡ Some Open → ⊥)
+      × Ends P row old.floor old.halves root
   at_end root old w walking ended stays none =
-      let empty : Walks P row w.floor w.halves root w.marks [] = subst (λ (visits : List Visit). Walks P row w.floor w.halves root w.marks (reverse visits)) none walking in
+      let empty : Walks P row w.floor w.halves root w.marks [] =
+      subst (λ (visits : List Visit). Walks P row w.floor w.halves root w.marks (reverse visits)) none walking in
       let ends : Walks P row old.floor old.halves root w.marks [] =
-      subst (λ (floor : ℕ). Walks P row floor old.halves root w.marks []) stays.0 (subst (λ (halves : Bool). Walks P row w.floor halves root w.marks []) stays.1 empty) in
+      subst (λ (floor : ℕ). Walks P row floor old.halves root w.marks []) stays.0
+      (subst (λ (halves : Bool). Walks P row w.floor halves root w.marks []) stays.1 empty) in
       let kept : All (Ends P row old.floor old.halves) w.structures =
       subst (λ (floor : ℕ). All (Ends P row floor old.halves) w.structures) stays.0
       (subst (λ (halves : Bool). All (Ends P row w.floor halves) w.structures) stays.1 ended) in

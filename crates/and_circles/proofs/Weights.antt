@@ -48,17 +48,20 @@ lighter_word P n word at new old visits one low =
     let below : 512 ^ height word ≤ 512 ^ n = power_grows (height word) n low in
     let positive : 1 ≤ 512 ^ n = power_positive n in
     let here : 1 ≤ 512 ^ height at = power_positive (height at) in
-    bounds (512 ^ suc n * new) (512 ^ suc n * old) (512 ^ suc n) (512 ^ n) (512 ^ height word) (512 ^ height at) (weights visits) product grown below positive here
+    bounds (512 ^ suc n * new) (512 ^ suc n * old) (512 ^ suc n) (512 ^ n) (512 ^ height word) (512 ^ height at) (weights visits) product
+    grown below positive here
   where
     bounds : (a b c d e f w : ℕ) → b ≡ a + c → c ≡ d * 512 → e ≤ d → 1 ≤ d → 1 ≤ f → a + (e + (1 + w)) < b + (f + w)
     bounds a b c d e f w p q r s t = omega arith
 
 -- so many parts of at most this height
-weights_entered : (n h : ℕ) (rs : List Ref) (visits : List Visit) → length rs ≤ n → ((r : Ref) → Contains rs r → height r ≤ h) → weights (entered rs visits) ≤ n * 512 ^ h + weights visits
+weights_entered : (n h : ℕ) (rs : List Ref) (visits : List Visit) → length rs ≤ n → ((r : Ref) → Contains rs r → height r ≤ h)
+    → weights (entered rs visits) ≤ n * 512 ^ h + weights visits
 weights_entered n h [] visits few low = omega arith
 weights_entered zero h (r ∷ rs) visits few low = absurd (omega arith)
 weights_entered (suc n) h (r ∷ rs) visits few low =
-    let again : weights (entered rs (Enter r ∷ visits)) ≤ n * 512 ^ h + (512 ^ height r + weights visits) = weights_entered n h rs (Enter r ∷ visits) (omega arith) (λ q c. low q (later_in rs r q c)) in
+    let again : weights (entered rs (Enter r ∷ visits)) ≤ n * 512 ^ h + (512 ^ height r + weights visits) =
+    weights_entered n h rs (Enter r ∷ visits) (omega arith) (λ q c. low q (later_in rs r q c)) in
     let first : 512 ^ height r ≤ 512 ^ h = power_grows (height r) h (low r (first_in rs r r refl)) in
     let product : suc n * 512 ^ h ≡ n * 512 ^ h + 512 ^ h = suc-mul n (512 ^ h) in
     bounds (weights (entered rs (Enter r ∷ visits))) (n * 512 ^ h) (suc n * 512 ^ h) (512 ^ height r) (512 ^ h) (weights visits) again first product
@@ -67,12 +70,14 @@ weights_entered (suc n) h (r ∷ rs) visits few low =
     bounds a b c d e w p q r = omega arith
 
 -- the parts of a structure weigh less than it does
-pub lighter_parts : (node : NodeNo) (base : ℕ) (parts : List Ref) (visits : List Visit) → length parts ≤ 255 → ((r : Ref) → Contains parts r → height r < suc node.0)
+pub lighter_parts : (node : NodeNo) (base : ℕ) (parts : List Ref) (visits : List Visit) → length parts ≤ 255
+    → ((r : Ref) → Contains parts r → height r < suc node.0)
     → weights (entered parts (Leave (Node node base) ∷ visits)) < weights (Enter (Node node base) ∷ visits)
 lighter_parts node base parts visits few low =
     let all : weights (entered parts (Leave (Node node base) ∷ visits)) ≤ 255 * 512 ^ node.0 + (1 + weights visits) =
     weights_entered 255 node.0 parts (Leave (Node node base) ∷ visits) few (λ r c. omega (arith, low r c)) in
-    bounds (weights (entered parts (Leave (Node node base) ∷ visits))) (512 ^ node.0) (512 ^ suc node.0) (weights visits) all (power_more node.0) (power_positive node.0)
+    bounds (weights (entered parts (Leave (Node node base) ∷ visits))) (512 ^ node.0) (512 ^ suc node.0) (weights visits) all (power_more node.0)
+    (power_positive node.0)
   where
     bounds : (a d c w : ℕ) → a ≤ 255 * d + (1 + w) → c ≡ d * 512 → 1 ≤ d → a < c + w
     bounds a d c w p q r = omega arith

@@ -22,7 +22,8 @@ done_from cell (Some Done ∷ marks) = Cell cell ∷ done_from (suc cell) marks
 
 -- and these structures
 abbrev pub finished : Listed → (structures : List Ref) → ℕ → Bool → Finished
-finished marks structures floor halves = record { places = done_from 0 marks ++ structures; floor = floor; halves = halves }
+finished marks structures floor halves =
+    record { places = done_from 0 marks ++ structures; floor = floor; halves = halves }
 
 -- Each path from these places ends.
 abbrev pub AreFinished : NamedProgram → List Ref → Finished → Type 0

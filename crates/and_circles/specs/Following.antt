@@ -34,5 +34,6 @@ Puts P row floor goal old new = (more : List Ref) × (new ≡ old ++ more) × Su
 -- What one place of a path leads to: at the reference that it goes on to, the path ends as it does here.
 abbrev pub LeadsOn : NamedProgram → List Ref → (floor : ℕ) → (at : Ref) → (old new : List Ref) → Step → Type 0
 LeadsOn P row floor at old new Ended = Puts P row floor (Ends P row floor false at) old new
-LeadsOn P row floor at old new (Onward next) = IsInRange P (length row) next × Puts P row floor (Ends P row floor false next → Ends P row floor false at) old new
+LeadsOn P row floor at old new (Onward next) =
+    IsInRange P (length row) next × Puts P row floor (Ends P row floor false next → Ends P row floor false at) old new
 LeadsOn P row floor at old new Half = Unit {0}

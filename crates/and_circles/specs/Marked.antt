@@ -1,5 +1,6 @@
 -- Marks of cells, as they are kept and read.
-use Rattle.std.specs.Prelude.{ℕ, suc, ◌≡◌, ◌⊎◌, cond, nat_eq, List, [], ◌∷◌, Contains, Option, None, Some, slice_index_or}
+use Rattle.std.specs.Prelude.{ℕ, suc, ◌≡◌, ◌⊎◌, cond, nat_eq, List, [], ◌∷◌, Contains, Option, None, Some}
+use Rattle.std.specs.Prelude.{slice_index_or}
 use Rattle.and_model.specs.declared.reference.Ref.{Ref}
 use Rattle.and_circles.specs.declared.marks.Mark.{Mark}
 use Rattle.and_circles.specs.declared.marks.Stamp.{Stamp}

@@ -1,5 +1,6 @@
 -- A walk below a reference, depth first, by a list of visits (the next one first).
-use Rattle.std.specs.Prelude.{ℕ, suc, ◌+◌, ◌*◌, ◌^◌, ◌≤◌, ◌<◌, ◌≡◌, Bool, true, false, List, [], ◌∷◌, ◌++◌, map, length, reverse, Contains, All, Option, Some, None, Result, Ok}
+use Rattle.std.specs.Prelude.{ℕ, suc, ◌+◌, ◌*◌, ◌^◌, ◌≤◌, ◌<◌, ◌≡◌, Bool, true, false, List, [], ◌∷◌, ◌++◌, map}
+use Rattle.std.specs.Prelude.{length, reverse, Contains, All, Option, Some, None, Result, Ok}
 use Rattle.std.specs.declared.alloc.AllocError.{AllocError}
 use Rattle.and_model.specs.Store.{is_half}
 use Rattle.and_model.specs.declared.reference.Ref.{Ref}
@@ -37,8 +38,10 @@ Follows P row root (Leave at ∷ visits) r = IsStep P row at r
 -- So each visit follows those behind it, and is of what is in range.
 abbrev pub AreOnPath : NamedProgram → List Ref → (root : Ref) → List Visit → Type 0
 AreOnPath P row root [] = Unit {0}
-AreOnPath P row root (Enter at ∷ visits) = Follows P row root visits at × IsInRange P (length row) at × AreOnPath P row root visits
-AreOnPath P row root (Leave at ∷ visits) = Follows P row root visits at × IsInRange P (length row) at × AreOnPath P row root visits
+AreOnPath P row root (Enter at ∷ visits) =
+    Follows P row root visits at × IsInRange P (length row) at × AreOnPath P row root visits
+AreOnPath P row root (Leave at ∷ visits) =
+    Follows P row root visits at × IsInRange P (length row) at × AreOnPath P row root visits
 
 -- the places that are still to be left
 abbrev pub left_in : List Visit → List Ref
@@ -63,7 +66,8 @@ nearest_cell (Leave (Number pair) ∷ visits) = nearest_cell visits
 nearest_cell (Leave (Half bits) ∷ visits) = nearest_cell visits
 
 -- What holds between two visits.
-pub record Walks (P : NamedProgram) (row : List Ref) (floor : ℕ) (halves : Bool) (root : Ref) (marks : Listed) (visits : List Visit) : Type 0 where
+pub record Walks (P : NamedProgram) (row : List Ref) (floor : ℕ) (halves : Bool) (root : Ref) (marks : Listed)
+    (visits : List Visit) : Type 0 where
   pub falls : AllFall 0 P.skeleton.nodes
   pub sound : IsSound P row
   -- Each cell of the row has its place among the marks.
@@ -86,7 +90,8 @@ IsTaking P row root visit w = Walks P row w.floor w.halves root w.marks (visit �
 abbrev pub IsAtRest : Walk → Type 0
 IsAtRest w = ((cell : ℕ) → mark_at w.marks cell ≡ Some Open → ⊥) × (w.visits.items ≡ [])
 
--- What holds between walks of a sound row: what was walked ends, nothing is still to be visited, and each cell has its place among the marks.
+-- What holds between walks of a sound row: what was walked ends, nothing is still to be visited, and each cell has
+-- its place among the marks.
 pub record IsRested (P : NamedProgram) (row : List Ref) (w : Walk) : Type 0 where
   pub sound : IsSound P row
   pub room : length row ≤ length w.marks
@@ -95,7 +100,8 @@ pub record IsRested (P : NamedProgram) (row : List Ref) (w : Walk) : Type 0 wher
 
 -- The walk came to its end: what is known to end does, nothing is to be visited, and each path from the root ends.
 abbrev pub HasWalked : NamedProgram → List Ref → (root : Ref) → (old new : Walk) → Type 0
-HasWalked P row root old new = AreFinished P row (finished new.marks new.structures old.floor old.halves) × IsAtRest new × Ends P row old.floor old.halves root
+HasWalked P row root old new = AreFinished P row (finished new.marks new.structures old.floor old.halves)
+    × IsAtRest new × Ends P row old.floor old.halves root
 
 -- each path from the structures that are kept ends
 abbrev pub AreEnded : NamedProgram → List Ref → Walk → Type 0
@@ -133,13 +139,17 @@ abbrev pub visits_left : NamedProgram → Listed → List Visit → ℕ
 visits_left P marks visits = 512 ^ suc (length P.skeleton.nodes) * unmarked marks + weights visits
 
 -- a circle that is answered is one, and a half is below the root
-pub record Answers (P : NamedProgram) (row : List Ref) (halves : Bool) (root : Ref) (answer : Result Explored AllocError) : Type 0 where
+pub record Answers (P : NamedProgram) (row : List Ref) (halves : Bool) (root : Ref)
+    (answer : Result Explored AllocError) : Type 0 where
   pub circle : (cell : ℕ) → answer ≡ Ok (explored.Circle cell) → IsCircle P row cell
-  pub half : (cell : ℕ) → answer ≡ Ok (explored.Half cell) → Holds P row root cell × (is_half (word_at row cell) ≡ true) × (halves ≡ false)
+  pub half : (cell : ℕ) → answer ≡ Ok (explored.Half cell)
+      → Holds P row root cell × (is_half (word_at row cell) ≡ true) × (halves ≡ false)
 
 -- The visit was made, and what it answers holds.
-pub record Goes (P : NamedProgram) (row : List Ref) (visit : Visit) (old new : Walk) (answer : Result Explored AllocError) : Type 0 where
+pub record Goes (P : NamedProgram) (row : List Ref) (visit : Visit) (old new : Walk)
+    (answer : Result Explored AllocError) : Type 0 where
   pub stays : Stays old new
   pub ends : answer ≡ Ok explored.Ends → (root : Ref) → IsTaking P row root visit old → IsWalking P row root new
-      × (visits_left P new.marks (reverse new.visits.items) < visits_left P old.marks (visit ∷ reverse old.visits.items))
+      × (visits_left P new.marks (reverse new.visits.items)
+      < visits_left P old.marks (visit ∷ reverse old.visits.items))
   pub answers : (root : Ref) → IsTaking P row root visit old → Answers P row old.halves root answer

@@ -85,7 +85,8 @@ impl Explorer {
             × Ends N.program cells.now self.old.floor self.old.halves root }
         ensures circle { (cell : ℕ) → result ≡ Ok (Explored.Circle cell) → IsCircle N.program cells.now cell }
         ensures half { (cell : ℕ) → result ≡ Ok (Explored.Half cell)
-            → Holds N.program cells.now root cell × (is_half (word_at cells.now cell) ≡ true) × (self.old.halves ≡ false) }
+            → Holds N.program cells.now root cell × (is_half (word_at cells.now cell) ≡ true)
+            × (self.old.halves ≡ false) }
         ensures forgotten { (result ≢ Ok Explored.Ends) → self.new.places ≡ [] }
     {
         let found = self.walk.run(loaded, cells, root);

@@ -148,7 +148,8 @@ fn put_part<N: Naming>(
     requires in_range { IsInRange N.program (length cells.now) (Ref.Node node base) }
     requires place { place < length (arguments_at N.program.skeleton node.0) }
     ensures { OnOk result (Puts N.program cells.now floor
-        (Ends N.program cells.now floor false (argument_part N.program node base place)) visits.old.items visits.new.items) }
+        (Ends N.program cells.now floor false (argument_part N.program node base place))
+        visits.old.items visits.new.items) }
 {
     let part = loaded.resolve(loaded.argument(node, place), base);
     if !ends_at_once(loaded, cells, floor, part) {

@@ -14,7 +14,8 @@ use and_cells::{Naming, PlainCells};
 use and_model::Ref;
 
 impl Walk {
-    /// Whether each path from a reference is seen to end, at a look at the word of a cell. That cell is done then. `false` says nothing.
+    /// Whether each path from a reference is seen to end, at a look at the word of a cell. That cell is done then.
+    /// `false` says nothing.
     pub(crate) fn passes<N: Naming>(&mut self, cells: &PlainCells<N>, root: Ref) -> bool
         requires rested { IsRested N.program cells.now self.old }
         requires in_range { IsInRange N.program (length cells.now) root }

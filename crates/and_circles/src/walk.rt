@@ -1,6 +1,7 @@
 //! The walk below a reference, over an explicit list of visits.
 
-ghost use Rattle.std.specs.Prelude.{◌≡◌, ◌<◌, ◌^◌, ◌↔◌, ℕ, List, [], ◌∷◌, Some, None, length, reverse, IsTrue, OnOk, IfOk, Ok, slice_set};
+ghost use Rattle.std.specs.Prelude.{◌≡◌, ◌<◌, ◌^◌, ◌↔◌, ℕ, List, [], ◌∷◌, Some, None, length, reverse, IsTrue, OnOk};
+ghost use Rattle.std.specs.Prelude.{IfOk, Ok, slice_set};
 ghost use Rattle.and_model.specs.declared.reference.Ref.{Ref};
 ghost use Rattle.and_cells.specs.Ranges.{IsInRange};
 ghost use Rattle.and_cells.specs.Meaning.{IsCircle};
@@ -9,7 +10,8 @@ ghost use Rattle.and_cells.specs.Parts.{named, parts_of};
 ghost use Rattle.and_cells.specs.Ends.{IsBelow};
 ghost use Rattle.and_circles.specs.Marked.{mark_at, AreUnmarked};
 ghost use Rattle.and_circles.specs.Explored.{AreFinished, finished};
-ghost use Rattle.and_circles.specs.Walks.{nearest_cell, Opens, IsTaking, IsAtRest, IsRested, HasWalked, AreEnded, Goes, Stays, Answers};
+ghost use Rattle.and_circles.specs.Walks.{nearest_cell, Opens, IsTaking, IsAtRest, IsRested, HasWalked, AreEnded};
+ghost use Rattle.and_circles.specs.Walks.{Goes, Stays, Answers};
 ghost use Rattle.and_circles.specs.declared.walk.Visit.{Visit};
 ghost use Rattle.and_circles.specs.declared.explorer.Explored.{Explored};
 ghost use Rattle.and_circles.specs.declared.marks.Mark.{Mark};
@@ -37,7 +39,8 @@ pub(crate) enum Visit {
 impl Visit {
     /// The cell that is left, if one is.
     fn left_cell(self) -> Option<u32>
-        ensures some { (cell : ℕ) → result ≡ Some cell → (visits : List Visit) → nearest_cell (self ∷ visits) ≡ Some cell }
+        ensures some { (cell : ℕ) → result ≡ Some cell → (visits : List Visit)
+            → nearest_cell (self ∷ visits) ≡ Some cell }
         ensures none { result ≡ None → (visits : List Visit) → nearest_cell (self ∷ visits) ≡ nearest_cell visits }
     {
         match self {
@@ -87,7 +90,8 @@ impl Walk {
         root: Ref,
     ) -> Result<Explored, AllocError>
         requires program { N.program ≡ named loaded.now }
-        requires finished { AreFinished N.program cells.now (finished self.old.marks self.old.structures self.old.floor self.old.halves) }
+        requires finished { AreFinished N.program cells.now
+            (finished self.old.marks self.old.structures self.old.floor self.old.halves) }
         requires at_rest { IsAtRest self.old }
         requires in_range { IsInRange N.program (length cells.now) root }
         ensures stays { Stays self.old self.new }
@@ -292,7 +296,8 @@ impl Walk {
     /// Opens a cell, and goes on to its word.
     fn follow(&mut self, cell: u32, word: Ref) -> Result<Explored, AllocError>
         requires room { cell < length self.old.marks }
-        ensures opens { IfOk result (λ found. (found ≡ Explored.Ends) × Opens (Ref.Cell cell) (word ∷ []) self.old self.new) }
+        ensures opens { IfOk result (λ found. (found ≡ Explored.Ends)
+            × Opens (Ref.Cell cell) (word ∷ []) self.old self.new) }
         ensures marks { self.new.marks ≡ slice_set self.old.marks cell (Some Mark.Open) }
         ensures structures { self.new.structures ≡ self.old.structures }
         ensures stays { Stays self.old self.new }
@@ -307,7 +312,8 @@ impl Walk {
     fn open_node(&mut self, loaded: &Loaded, node: NodeNo, base: u32) -> Result<(), AllocError>
         requires there { node.0 < length (skeleton_of loaded.now).nodes }
         requires base { base < 2 ^ 23 }
-        ensures opens { OnOk result (Opens (Ref.Node node base) (parts_of (named loaded.now) (Ref.Node node base)) self.old self.new) }
+        ensures opens { OnOk result
+            (Opens (Ref.Node node base) (parts_of (named loaded.now) (Ref.Node node base)) self.old self.new) }
         ensures marks { self.new.marks ≡ self.old.marks }
         ensures structures { self.new.structures ≡ self.old.structures }
         ensures stays { Stays self.old self.new }

@@ -36,7 +36,8 @@ pub second : UnfoldsTo append_text (2 ∷ 1 ∷ [])
 unfolding clause_weight
 second = (second_tree, refl, refl, refl)
 
-pub left_open : (t : QueryTree append_text) × (unfold_code append_text (2 ∷ []) ≡ Some t) × (o : Open t) × (call_of t o ≡ app (at (0 ∷ []) 1) (at (0 ∷ []) 2) (at (0 ∷ []) 3))
+pub left_open : (t : QueryTree append_text) × (unfold_code append_text (2 ∷ []) ≡ Some t) × (o : Open t)
+    × (call_of t o ≡ app (at (0 ∷ []) 1) (at (0 ∷ []) 2) (at (0 ∷ []) 3))
 left_open = (open_tree, refl, inl tt, refl)
 
 pub no_tree : (unfold_code append_text (1 ∷ 1 ∷ []) ≡ None) × (unfold_code append_text (3 ∷ []) ≡ None)

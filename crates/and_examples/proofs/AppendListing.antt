@@ -48,7 +48,8 @@ codes_of (by (suc (suc zero)) h (by {g = g} (suc (suc (suc c))) k t)) out = let 
 codes_of (by {g = g} (suc (suc (suc c))) h t) out = let b = (of_bounds append_text g (suc (suc (suc c))) h).1 in absurd (omega arith)
 
 -- an entry with the code of a proof has its outcome
-same_entry : {P : Program} (t u : QueryTree P) (o : Outcome) (e : Entry) → Ends t o → code u ≡ code t → code u ≡ e.code → Ends u e.outcome → e ≡ entry (code t) o
+same_entry : {P : Program} (t u : QueryTree P) (o : Outcome) (e : Entry) → Ends t o → code u ≡ code t → code u ≡ e.code → Ends u e.outcome
+    → e ≡ entry (code t) o
 same_entry t u o e ends same is others =
     let one : u ≡ t = code_tree u t others.0 ends.0 same in
     let outcome : e.outcome ≡ o = one_outcome t e.outcome o (subst (λ v. Ends v e.outcome) one others) ends in
@@ -72,13 +73,18 @@ has_both limit above e has =
     let second : IsWithin append_text limit two = (second_tree, refl, second_end, omega arith) in
     elim (contains_cases one e (two ∷ []) has) [
       | inl is ↦ subst (λ e. IsWithin append_text limit e) (sym is) first
-      | inr more ↦ elim (contains_cases two e [] more) [ inl is ↦ subst (λ e. IsWithin append_text limit e) (sym is) second | inr no_more ↦ absurd (contains_none e no_more) ]
+      | inr more ↦ elim (contains_cases two e [] more) [
+        | inl is ↦ subst (λ e. IsWithin append_text limit e) (sym is) second
+        | inr no_more ↦ absurd (contains_none e no_more)
+      ]
     ]
 
 only_both : (limit : ℕ) (e : Entry) → IsWithin append_text limit e → Contains (one ∷ two ∷ []) e
 only_both limit e (u, is, ends, fits) = elim (codes_of u (ends_outcome u e.outcome ends)) [
-  | inl same ↦ subst (λ e. Contains (one ∷ two ∷ []) e) (sym (same_entry first_tree u (answer (codes "X = nil, Y = c(1,nil)")) e first_end same is ends)) (contains_first one (two ∷ []))
-  | inr same ↦ subst (λ e. Contains (one ∷ two ∷ []) e) (sym (same_entry second_tree u (answer (codes "X = c(1,nil), Y = nil")) e second_end same is ends)) (contains_more one two (two ∷ []) (contains_first two []))
+  | inl same ↦ subst (λ e. Contains (one ∷ two ∷ []) e) (sym (same_entry first_tree u (answer (codes "X = nil, Y = c(1,nil)")) e first_end same is ends))
+      (contains_first one (two ∷ []))
+  | inr same ↦ subst (λ e. Contains (one ∷ two ∷ []) e) (sym (same_entry second_tree u (answer (codes "X = c(1,nil), Y = nil")) e second_end same is ends))
+      (contains_more one two (two ∷ []) (contains_first two []))
 ]
 
 pub listing : (limit : ℕ) → 10 ≤ limit → Listing append_text limit (one ∷ two ∷ [])

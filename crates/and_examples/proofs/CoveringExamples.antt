@@ -30,7 +30,13 @@ second_has_outcome : HasOutcomeWithin P 10 (2 ∷ [])
 unfolding clause_weight
 second_has_outcome = (
   second,
-  ((p (variable [] 0), p (number (pos 2))) ∷ [], [], tt, Closes.waiting ((p (variable [] 0), p (number (pos 2))) ∷ []) [] tt, ((λ q k. number (pos 2)), (refl, tt))),
+  (
+    (p (variable [] 0), p (number (pos 2))) ∷ [],
+    [],
+    tt,
+    Closes.waiting ((p (variable [] 0), p (number (pos 2))) ∷ []) [] tt,
+    ((λ q k. number (pos 2)), (refl, tt)),
+  ),
   (omega arith),
   refl,
 )

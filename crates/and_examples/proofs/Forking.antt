@@ -48,12 +48,16 @@ only c next (k, es, gs, z, inr o, m, h, i, e) = elim m [ ]
 has : (c : ℕ) → Contains (1 ∷ 2 ∷ []) c → (next : QueryTree equal_text) × Split start c next
 has c i = elim (contains_cases 1 c (2 ∷ []) i) [
   | inl h ↦ (taken 1 refl, subst (λ n. Split start n (taken 1 refl)) (sym h) split_first)
-  | inr h ↦ elim (contains_cases 2 c [] h) [ inl k ↦ (taken 2 refl, subst (λ n. Split start n (taken 2 refl)) (sym k) split_second) | inr k ↦ absurd (contains_none c k) ]
+  | inr h ↦ elim (contains_cases 2 c [] h) [
+    | inl k ↦ (taken 2 refl, subst (λ n. Split start n (taken 2 refl)) (sym k) split_second)
+    | inr k ↦ absurd (contains_none c k)
+  ]
 ]
 
 clauses : SplitClauses start (1 ∷ 2 ∷ [])
 clauses = (
-  AllPairs-cons (λ m n. m < n) 1 (2 ∷ []) (All-cons (λ n. 1 < n) 2 [] (omega arith) (all_none (λ n. 1 < n))) (AllPairs-cons (λ m n. m < n) 2 [] (all_none (λ n. 2 < n)) (all_pairs_none (λ m n. m < n))),
+  AllPairs-cons (λ m n. m < n) 1 (2 ∷ []) (All-cons (λ n. 1 < n) 2 [] (omega arith) (all_none (λ n. 1 < n)))
+      (AllPairs-cons (λ m n. m < n) 2 [] (all_none (λ n. 2 < n)) (all_pairs_none (λ m n. m < n))),
   λ c. (
     has c,
     λ s. elim (only c s.0 s.1) [
@@ -75,4 +79,5 @@ one_fork =
     let first : Forks (taken 1 refl) (1 ∷ []) [] = Forks.ended (taken 1 refl) (taken 1 refl) (1 ∷ []) (Steps.none (taken 1 refl)) (inr (first_whole, tt)) in
     let second : Forks (taken 2 refl) (2 ∷ []) [] = Forks.ended (taken 2 refl) (taken 2 refl) (2 ∷ []) (Steps.none (taken 2 refl)) (inr (second_whole, tt)) in
     Forks.forked start start [] (1 ∷ 2 ∷ []) [] (Steps.none start) shut (inl tt) clauses
-    (ForksOfSplits.more start (taken 1 refl) 1 (2 ∷ []) [] [] split_first first (ForksOfSplits.more start (taken 2 refl) 2 [] [] [] split_second second (ForksOfSplits.none start)))
+    (ForksOfSplits.more start (taken 1 refl) 1 (2 ∷ []) [] [] split_first first
+    (ForksOfSplits.more start (taken 2 refl) 2 [] [] [] split_second second (ForksOfSplits.none start)))

@@ -13,7 +13,8 @@ use Rattle.and_laws.proofs.Deciding.{of_bounds}
 use Rattle.and_examples.specs.Ending.{CodeEnds, SearchForks}
 use Rattle.and_examples.specs.Texts.{own, whole, p}
 use Rattle.and_examples.proofs.Waiting.{only_waits}
-use Rattle.and_examples.specs.GuardExamples.{inner, greatest, greatest_text, greatest_start, greatest_answer, taken, at_least_second, below_3, ending_text, ending_start, all_kinds, atom, atom_text, atom_start}
+use Rattle.and_examples.specs.GuardExamples.{inner, greatest, greatest_text, greatest_start, greatest_answer, taken, at_least_second, below_3, ending_text}
+use Rattle.and_examples.specs.GuardExamples.{ending_start, all_kinds, atom, atom_text, atom_start}
 
 -- ---- max(X,Y,X) :- X >= Y. max(X,Y,Y) :- X < Y. ?- max(3,5,M).
 -- 3 >= 5 does not hold.

@@ -46,7 +46,11 @@ row_holds = record {
   set_once = distinct (0 ∷ []) refl;
   passes_fit = of_two (Fits first 1 journal) hanger (binder (taken ∷ [])) hanger_fits binder_fits;
   closed = of_two HasClosed hanger (binder (taken ∷ [])) refl refl;
-  by_a_pass = of_two (λ (e : JournalEntry). Contains (0 ∷ 1 ∷ []) e.pass) (record { pass = 0; made = hangs hung }) (record { pass = 1; made = sets bound }) (0, omega arith, refl) (1, omega arith, refl);
+  by_a_pass = of_two (λ (e : JournalEntry). Contains (0 ∷ 1 ∷ []) e.pass) (record { pass = 0; made = hangs hung }) (record { pass = 1; made = sets bound }) (
+    0,
+    omega arith,
+    refl,
+  ) (1, omega arith, refl);
   numbered = distinct (0 ∷ 1 ∷ []) refl;
   falls = λ s c cell value. absurd (not_a_cell s (only bound s c) cell value);
   written_first = λ s c pair value. absurd (none_in s c);

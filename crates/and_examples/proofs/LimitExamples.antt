@@ -54,10 +54,22 @@ pub shut_0 : Shut at_least_0
 shut_0 = ([], [], Closes.waiting [] [] tt, (down_from 0, tt), elim [ inl u ↦ (1, 2, (λ e. cc), zero_0, more_0) | inr o ↦ elim o [ ] ])
 
 shut_1 : Shut at_least_1
-shut_1 = (equations at_least_1, [], Closes.waiting (equations at_least_1) [] tt, (down_from 1, (refl, tt)), elim [ inl u ↦ (1, 2, (λ e. cc), zero_1, more_1) | inr o ↦ elim o [ ] ])
+shut_1 = (
+  equations at_least_1,
+  [],
+  Closes.waiting (equations at_least_1) [] tt,
+  (down_from 1, (refl, tt)),
+  elim [ inl u ↦ (1, 2, (λ e. cc), zero_1, more_1) | inr o ↦ elim o [ ] ],
+)
 
 shut_2 : Shut at_least_2
-shut_2 = (equations at_least_2, [], Closes.waiting (equations at_least_2) [] tt, (down_from 2, (refl, (refl, tt))), elim [ inl u ↦ (1, 2, (λ e. cc), zero_2, more_2) | inr o ↦ elim o [ ] ])
+shut_2 = (
+  equations at_least_2,
+  [],
+  Closes.waiting (equations at_least_2) [] tt,
+  (down_from 2, (refl, (refl, tt))),
+  elim [ inl u ↦ (1, 2, (λ e. cc), zero_2, more_2) | inr o ↦ elim o [ ] ],
+)
 
 -- and the last is reached by two Splits.
 split_0 : Split at_least_0 2 at_least_1

@@ -170,12 +170,25 @@ down_from_2 r k = numeral (2 - length r)
 pub over : OverLeft naturals 6 (2 ∷ 2 ∷ []) 1
 unfolding clause_weight
 over =
-    inr (at_least_2, refl, (omega arith), equations at_least_2, [], Closes.waiting (equations at_least_2) [] tt, (down_from_2, (refl, (refl, tt))), inl tt, tt, refl, omega arith)
+    inr (
+      at_least_2,
+      refl,
+      (omega arith),
+      equations at_least_2,
+      [],
+      Closes.waiting (equations at_least_2) [] tt,
+      (down_from_2, (refl, (refl, tt))),
+      inl tt,
+      tt,
+      refl,
+      omega arith,
+    )
 
 -- Were 6 enough, the listings would be one.
 pub not_exhausted : Exhausted naturals 6 → ⊥
 not_exhausted e =
-    let same = one_listing naturals 6 (entry_0 ∷ entry_1 ∷ entry_2 ∷ []) (entry_0 ∷ entry_1 ∷ []) ((e 7 (omega arith) (entry_0 ∷ entry_1 ∷ entry_2 ∷ [])).0 third) listing in
+    let same = one_listing naturals 6 (entry_0 ∷ entry_1 ∷ entry_2 ∷ []) (entry_0 ∷ entry_1 ∷ [])
+    ((e 7 (omega arith) (entry_0 ∷ entry_1 ∷ entry_2 ∷ [])).0 third) listing in
     cc
 
 -- Within the limit 7 the code [2, 2] takes the first clause.

@@ -82,9 +82,11 @@ pub fails_ended : Shut fails_answer
 fails_ended = (equations fails_answer, [], Closes.waiting (equations fails_answer) [] tt, (all_are 2, (refl, (refl, tt))), λ o. elim o [ ])
 
 -- a tree that is split by two clauses and no others
-pub two_clauses : {P : Program} (t : QueryTree P) (c d : ℕ) (u v : QueryTree P) → c < d → Split t c u → Split t d v → ((e : ℕ) (next : QueryTree P) → Split t e next → (e ≡ c) ⊎ (e ≡ d)) → SplitClauses t (c ∷ d ∷ [])
+pub two_clauses : {P : Program} (t : QueryTree P) (c d : ℕ) (u v : QueryTree P) → c < d → Split t c u → Split t d v
+    → ((e : ℕ) (next : QueryTree P) → Split t e next → (e ≡ c) ⊎ (e ≡ d)) → SplitClauses t (c ∷ d ∷ [])
 two_clauses {P} t c d u v less a b only = (
-  AllPairs-cons (λ m n. m < n) c (d ∷ []) (All-cons (λ n. c < n) d [] less (all_none (λ n. c < n))) (AllPairs-cons (λ m n. m < n) d [] (all_none (λ n. d < n)) (all_pairs_none (λ m n. m < n))),
+  AllPairs-cons (λ m n. m < n) c (d ∷ []) (All-cons (λ n. c < n) d [] less (all_none (λ n. c < n)))
+      (AllPairs-cons (λ m n. m < n) d [] (all_none (λ n. d < n)) (all_pairs_none (λ m n. m < n))),
   λ e. (
     has e,
     λ s. elim (only e s.0 s.1) [
@@ -103,10 +105,13 @@ two_clauses {P} t c d u v less a b only = (
 pub fails_numbers : Numbers fails_start 1 1
 fails_numbers =
     let nothing : NumbersOfSplits fails_start [] 0 0 = NumbersOfSplits.none fails_start in
-    let ends : Numbers fails_other 0 0 = Numbers.whole fails_other fails_answer (Steps.more fails_other fails_other fails_answer (Steps.none fails_other) fails_step) fails_ended tt in
+    let ends : Numbers fails_other 0 0 =
+    Numbers.whole fails_other fails_answer (Steps.more fails_other fails_other fails_answer (Steps.none fails_other) fails_step) fails_ended tt in
     let failed : Numbers fails_one 0 1 = Numbers.dead fails_one fails_one (Steps.none fails_one) fails_dead in
-    Numbers.forked fails_start fails_start (1 ∷ 2 ∷ []) 0 1 (Steps.none fails_start) fails_shut (inl tt) (two_clauses fails_start 1 2 fails_one fails_other (omega arith) fails_first fails_second fails_clauses)
-    (NumbersOfSplits.more fails_start fails_one 1 (2 ∷ []) 0 1 0 0 fails_first failed (NumbersOfSplits.more fails_start fails_other 2 [] 0 0 0 0 fails_second ends nothing))
+    Numbers.forked fails_start fails_start (1 ∷ 2 ∷ []) 0 1 (Steps.none fails_start) fails_shut (inl tt)
+    (two_clauses fails_start 1 2 fails_one fails_other (omega arith) fails_first fails_second fails_clauses)
+    (NumbersOfSplits.more fails_start fails_one 1 (2 ∷ []) 0 1 0 0 fails_first failed
+    (NumbersOfSplits.more fails_start fails_other 2 [] 0 0 0 0 fails_second ends nothing))
 
 -- An exploration finds the one answer, X = 2.
 fails_general : MostGeneral x_is_two (equations fails_answer)
@@ -125,9 +130,11 @@ pub fails_explored : Explores fails 4 fails_start (record { code = 2 ∷ 3 ∷ [
 unfolding clause_weight
 fails_explored =
     let entry : Entry = record { code = 2 ∷ 3 ∷ []; outcome = answer (codes "X = 2") } in
-    let found : Explores fails 4 fails_other (entry ∷ []) = stepped fails_other fails_answer (entry ∷ []) fails_step (ended fails_answer (answer (codes "X = 2")) (omega arith) fails_ends) in
+    let found : Explores fails 4 fails_other (entry ∷ []) =
+    stepped fails_other fails_answer (entry ∷ []) fails_step (ended fails_answer (answer (codes "X = 2")) (omega arith) fails_ends) in
     forked fails_start (1 ∷ 2 ∷ []) (entry ∷ []) fails_shut (inl tt)
-    (AllPairs-cons (λ m n. m ≢ n) 1 (2 ∷ []) (All-cons (λ n. 1 ≢ n) 2 [] (λ e. cc) (all_none (λ n. 1 ≢ n))) (AllPairs-cons (λ m n. m ≢ n) 2 [] (all_none (λ n. 2 ≢ n)) (all_pairs_none (λ m n. m ≢ n))))
+    (AllPairs-cons (λ m n. m ≢ n) 1 (2 ∷ []) (All-cons (λ n. 1 ≢ n) 2 [] (λ e. cc) (all_none (λ n. 1 ≢ n)))
+    (AllPairs-cons (λ m n. m ≢ n) 2 [] (all_none (λ n. 2 ≢ n)) (all_pairs_none (λ m n. m ≢ n))))
     (two_clauses fails_start 1 2 fails_one fails_other (omega arith) fails_first fails_second fails_clauses).1
     (ExploresSplits.more fails_start fails_one 1 (2 ∷ []) [] (entry ∷ []) fails_first (dead fails_one fails_dead)
     (ExploresSplits.more fails_start fails_other 2 [] (entry ∷ []) [] fails_second found (ExploresSplits.none fails_start)))
@@ -184,7 +191,13 @@ splits_1_second : CandidateOf splits_1 (equations splits_1) (inl tt) 2
 splits_1_second = (refl, (third_answer, (refl, (refl, tt))), λ a i. elim i [ ])
 
 splits_1_shut : Shut splits_1
-splits_1_shut = (equations splits_1, [], Closes.waiting (equations splits_1) [] tt, (third_answer, (refl, tt)), elim [ inl u ↦ (1, 2, (λ e. cc), splits_1_first, splits_1_second) | inr o ↦ elim o [ ] ])
+splits_1_shut = (
+  equations splits_1,
+  [],
+  Closes.waiting (equations splits_1) [] tt,
+  (third_answer, (refl, tt)),
+  elim [ inl u ↦ (1, 2, (λ e. cc), splits_1_first, splits_1_second) | inr o ↦ elim o [ ] ],
+)
 
 abbrev ended_1 : QueryTree splits
 ended_1 = reduce splits_1 (inl tt) 1 refl
@@ -197,7 +210,10 @@ splits_2_not_second : CandidateOf splits_2 (equations splits_2) (inl tt) 2 → �
 splits_2_not_second k = let a = k.1.1.0 in let b = k.1.1.1.0 in let c = k.1.1.1.1.0 in cc
 
 splits_2_only : (d : ℕ) → CandidateOf splits_2 (equations splits_2) (inl tt) d → d ≡ 1
-splits_2_only d k = elim (splits_named (call_of splits_2 (inl tt)) d k.0) [ inl e ↦ e | inr e ↦ absurd (splits_2_not_second (subst (λ c. CandidateOf splits_2 (equations splits_2) (inl tt) c) e k)) ]
+splits_2_only d k = elim (splits_named (call_of splits_2 (inl tt)) d k.0) [
+  | inl e ↦ e
+  | inr e ↦ absurd (splits_2_not_second (subst (λ c. CandidateOf splits_2 (equations splits_2) (inl tt) c) e k))
+]
 
 abbrev ended_2 : QueryTree splits
 ended_2 = reduce splits_2 (inl tt) 1 refl
@@ -231,10 +247,16 @@ pub splits_numbers : Numbers splits_0 2 0
 splits_numbers =
     let ends_0 : Numbers ended_0 0 0 = Numbers.whole ended_0 ended_0 (Steps.none ended_0) ended_0_shut tt in
     let ends_1 : Numbers ended_1 0 0 = Numbers.whole ended_1 ended_1 (Steps.none ended_1) ended_1_shut tt in
-    let ends_2 : Numbers splits_2 0 0 = Numbers.whole splits_2 ended_2 (Steps.more splits_2 splits_2 ended_2 (Steps.none splits_2) splits_2_step) ended_2_shut tt in
-    let by_two : (t : QueryTree splits) → (c : ℕ) (next : QueryTree splits) → Split t c next → (c ≡ 1) ⊎ (c ≡ 2) = λ t c next sp. splits_named (call_of t sp.4) c sp.6 in
+    let ends_2 : Numbers splits_2 0 0 =
+    Numbers.whole splits_2 ended_2 (Steps.more splits_2 splits_2 ended_2 (Steps.none splits_2) splits_2_step) ended_2_shut tt in
+    let by_two : (t : QueryTree splits) → (c : ℕ) (next : QueryTree splits) → Split t c next → (c ≡ 1) ⊎ (c ≡ 2) =
+    λ t c next sp. splits_named (call_of t sp.4) c sp.6 in
     let later : Numbers splits_1 1 0 =
-    Numbers.forked splits_1 splits_1 (1 ∷ 2 ∷ []) 0 0 (Steps.none splits_1) splits_1_shut (inl tt) (two_clauses splits_1 1 2 ended_1 splits_2 (omega arith) splits_1_by_first splits_1_by_second (by_two splits_1))
-    (NumbersOfSplits.more splits_1 ended_1 1 (2 ∷ []) 0 0 0 0 splits_1_by_first ends_1 (NumbersOfSplits.more splits_1 splits_2 2 [] 0 0 0 0 splits_1_by_second ends_2 (NumbersOfSplits.none splits_1))) in
-    Numbers.forked splits_0 splits_0 (1 ∷ 2 ∷ []) 1 0 (Steps.none splits_0) splits_0_shut (inl tt) (two_clauses splits_0 1 2 ended_0 splits_1 (omega arith) splits_0_by_first splits_0_by_second (by_two splits_0))
-    (NumbersOfSplits.more splits_0 ended_0 1 (2 ∷ []) 0 0 1 0 splits_0_by_first ends_0 (NumbersOfSplits.more splits_0 splits_1 2 [] 1 0 0 0 splits_0_by_second later (NumbersOfSplits.none splits_0)))
+    Numbers.forked splits_1 splits_1 (1 ∷ 2 ∷ []) 0 0 (Steps.none splits_1) splits_1_shut (inl tt)
+    (two_clauses splits_1 1 2 ended_1 splits_2 (omega arith) splits_1_by_first splits_1_by_second (by_two splits_1))
+    (NumbersOfSplits.more splits_1 ended_1 1 (2 ∷ []) 0 0 0 0 splits_1_by_first ends_1
+    (NumbersOfSplits.more splits_1 splits_2 2 [] 0 0 0 0 splits_1_by_second ends_2 (NumbersOfSplits.none splits_1))) in
+    Numbers.forked splits_0 splits_0 (1 ∷ 2 ∷ []) 1 0 (Steps.none splits_0) splits_0_shut (inl tt)
+    (two_clauses splits_0 1 2 ended_0 splits_1 (omega arith) splits_0_by_first splits_0_by_second (by_two splits_0))
+    (NumbersOfSplits.more splits_0 ended_0 1 (2 ∷ []) 0 0 1 0 splits_0_by_first ends_0
+    (NumbersOfSplits.more splits_0 splits_1 2 [] 1 0 0 0 splits_0_by_second later (NumbersOfSplits.none splits_0)))

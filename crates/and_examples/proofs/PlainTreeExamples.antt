@@ -1,7 +1,8 @@
 -- The plain choicepoint tree, tried on direct calls with a tree of two teams. (The tree has no call by which teams meet, and no event stands for one.)
 use Rattle.std.proofs.Common.{◌≡◌, ◌≢◌, true, [], ◌∷◌, refl, ap, arith}
 use Rattle.and_histories.specs.PlainTree
-use Rattle.and_histories.specs.PlainTree.{Cell, State, opened, taking, Reply, Does, retired, seen_open, taken, done, spent, cell_of, last_serial, seen, cleared, last, number, opening, with_cell, joined, with_keys, keys_left, children}
+use Rattle.and_histories.specs.PlainTree.{Cell, State, opened, taking, Reply, Does, retired, seen_open, taken, done, spent, cell_of, last_serial, seen}
+use Rattle.and_histories.specs.PlainTree.{cleared, last, number, opening, with_cell, joined, with_keys, keys_left, children}
 use Rattle.and_histories.specs.Histories.{Legal, calls}
 use Rattle.and_examples.specs.PlainTreeExamples.{root, entry, history, opened_tree, in_hand, claimed_twice, two_keys, forking, opened_often}
 

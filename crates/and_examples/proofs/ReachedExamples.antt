@@ -74,7 +74,8 @@ early_ends = (tt, equations early_answer, [], Closes.waiting (equations early_an
 pub early_made : Makes early (by_three ∷ by_two ∷ []) early_answer × Makes early (by_two ∷ by_three ∷ []) early_answer
 unfolding clause_weight
 early_made =
-    let first : Makes early (by_three ∷ []) early_filtered = one_more [] [] (by_three ∷ []) early_start by_three (inr (inl tt)) refl Makes.none ([], PlaceHas.query, refl) refl refl in (
+    let first : Makes early (by_three ∷ []) early_filtered =
+    one_more [] [] (by_three ∷ []) early_start by_three (inr (inl tt)) refl Makes.none ([], PlaceHas.query, refl) refl refl in (
       one_more (by_three ∷ []) [] (by_three ∷ by_two ∷ []) early_filtered by_two (inl tt) refl first ([], PlaceHas.query, refl) refl refl,
       one_more [] (by_three ∷ []) (by_two ∷ by_three ∷ []) early_filtered by_two (inl tt) refl first ([], PlaceHas.query, refl) refl refl,
     )
@@ -145,5 +146,7 @@ forks_second = (forks_shut, [], [], Closes.waiting [] [] tt, inl tt, tt, refl, (
 pub forks_keys : ReachedBy forks 4 (1 ∷ []) (reduce forks_start (inl tt) 1 refl) × ReachedBy forks 4 (2 ∷ []) (reduce forks_start (inl tt) 2 refl)
 unfolding clause_weight
 forks_keys =
-    let begun : ReachedBy forks 4 [] forks_start = ReachedBy.start (omega arith) in
-    (ReachedBy.divided [] forks_start 1 (reduce forks_start (inl tt) 1 refl) begun forks_first (omega arith), ReachedBy.divided [] forks_start 2 (reduce forks_start (inl tt) 2 refl) begun forks_second (omega arith))
+    let begun : ReachedBy forks 4 [] forks_start = ReachedBy.start (omega arith) in (
+      ReachedBy.divided [] forks_start 1 (reduce forks_start (inl tt) 1 refl) begun forks_first (omega arith),
+      ReachedBy.divided [] forks_start 2 (reduce forks_start (inl tt) 2 refl) begun forks_second (omega arith),
+    )

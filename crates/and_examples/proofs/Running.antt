@@ -75,8 +75,14 @@ quotients_general = ((refl, (refl, tt)), through)
 quotients_close : Closes [] (x_is_quotient ∷ y_is_modulus ∷ []) both_added []
 unfolding of_two
 quotients_close =
-    Closes.run [] (x_is_quotient ∷ y_is_modulus ∷ []) x_is_quotient (y_is_modulus ∷ []) quotient_terms both_added [] (nothing_given, tt) (First.first x_is_quotient (y_is_modulus ∷ [])) (refl, λ s h. refl)
-    (Closes.run x_added (y_is_modulus ∷ []) y_is_modulus [] modulus_terms both_added [] (both_given, (refl, tt)) (First.first y_is_modulus []) (refl, λ s h. refl)
+    Closes.run [] (x_is_quotient ∷ y_is_modulus ∷ []) x_is_quotient (y_is_modulus ∷ []) quotient_terms both_added [] (
+      nothing_given,
+      tt,
+    ) (First.first x_is_quotient (y_is_modulus ∷ [])) (refl, λ s h. refl)
+    (Closes.run x_added (y_is_modulus ∷ []) y_is_modulus [] modulus_terms both_added [] (
+      both_given,
+      (refl, tt),
+    ) (First.first y_is_modulus []) (refl, λ s h. refl)
     (Closes.waiting both_added [] tt))
 
 abbrev quotients_tree : QueryTree quotients

@@ -15,10 +15,18 @@ abbrev words : List Setting
 words = setting 1 (Cell 0) ∷ setting 2 (Cell 1) ∷ setting 4 (Half 0) ∷ setting 5 (Half 5) ∷ []
 
 there : All (Contains made) words
-there = of_four (Contains made) (setting 1 (Cell 0)) (setting 2 (Cell 1)) (setting 4 (Half 0)) (setting 5 (Half 5)) (1, omega arith, refl) (0, omega arith, refl) (2, omega arith, refl) (3, omega arith, refl)
+there = of_four (Contains made) (setting 1 (Cell 0)) (setting 2 (Cell 1)) (setting 4 (Half 0)) (setting 5 (Half 5)) (1, omega arith, refl) (
+  0,
+  omega arith,
+  refl,
+) (2, omega arith, refl) (3, omega arith, refl)
 
 back : All (Contains words) made
-back = of_four (Contains words) (setting 2 (Cell 1)) (setting 1 (Cell 0)) (setting 4 (Half 0)) (setting 5 (Half 5)) (1, omega arith, refl) (0, omega arith, refl) (2, omega arith, refl) (3, omega arith, refl)
+back = of_four (Contains words) (setting 2 (Cell 1)) (setting 1 (Cell 0)) (setting 4 (Half 0)) (setting 5 (Half 5)) (1, omega arith, refl) (
+  0,
+  omega arith,
+  refl,
+) (2, omega arith, refl) (3, omega arith, refl)
 
 -- an entry that sets a cell to a number
 abbrev pub sets_number : Made → Bool
@@ -28,10 +36,12 @@ sets_number fails = false
 sets_number (hangs g) = false
 
 pub no_numbers : (entries : List JournalEntry) → list_all (λ (e : JournalEntry). not (sets_number e.made)) entries ≡ true
-    → (before after : List JournalEntry) (e : JournalEntry) → entries ≡ before ++ e ∷ after → (s : Setting) → e.made ≡ sets s → (pair : ℕ) → s.value ≡ Number pair → ⊥
+    → (before after : List JournalEntry) (e : JournalEntry) → entries ≡ before ++ e ∷ after → (s : Setting) → e.made ≡ sets s → (pair : ℕ)
+    → s.value ≡ Number pair → ⊥
 no_numbers entries none before after e is s set pair value =
     let there : Contains entries e = rw is (in_middle before after e) in
-    let not_here = All-contains (λ (e : JournalEntry). not (sets_number e.made) ≡ true) entries e (tested (λ (e : JournalEntry). not (sets_number e.made) ≡ true) (λ (e : JournalEntry). not (sets_number e.made)) (λ e is. is) entries none) there in
+    let not_here = All-contains (λ (e : JournalEntry). not (sets_number e.made) ≡ true) entries e
+    (tested (λ (e : JournalEntry). not (sets_number e.made) ≡ true) (λ (e : JournalEntry). not (sets_number e.made)) (λ e is. is) entries none) there in
     let here : sets_number e.made ≡ true = ap sets_number set ∙ ap (λ v. sets_number (sets (record { place = s.place; value = v }))) value in
     true≢false (sym not_here ∙ ap not here)
 
@@ -49,7 +59,11 @@ winner_fits = record {
   frames = refl;
   fails = refl;
   hung = refl;
-  known = of_four (λ (k : Known). Contains made k.setting) (own 2 (Cell 1)) (own 1 (Cell 0)) (own 4 (Half 0)) (own 5 (Half 5)) (0, omega arith, refl) (1, omega arith, refl) (2, omega arith, refl) (3, omega arith, refl);
+  known = of_four (λ (k : Known). Contains made k.setting) (own 2 (Cell 1)) (own 1 (Cell 0)) (own 4 (Half 0)) (own 5 (Half 5)) (0, omega arith, refl) (
+    1,
+    omega arith,
+    refl,
+  ) (2, omega arith, refl) (3, omega arith, refl);
   own = refl;
   known_once = distinct (2 ∷ 1 ∷ 4 ∷ 5 ∷ []) refl;
   asked = of_two (λ (a : Asked). a.mark + a.weight ≤ 10) (record { mark = 3; weight = 4 }) (record { mark = 9; weight = 1 }) (omega arith) (omega arith);
@@ -77,7 +91,8 @@ row_holds = record {
   set_once = distinct (2 ∷ 1 ∷ 4 ∷ 5 ∷ []) refl;
   passes_fit = of_two (Fits first 10 journal) winner learner winner_fits learner_fits;
   closed = of_two HasClosed winner learner refl refl;
-  by_a_pass = tested (λ (e : JournalEntry). Contains (0 ∷ 1 ∷ []) e.pass) (λ (e : JournalEntry). nat_eq e.pass 0) (λ e is. (0, omega arith, sym ((Decides-eqb e.pass 0).0 is))) journal refl;
+  by_a_pass = tested (λ (e : JournalEntry). Contains (0 ∷ 1 ∷ []) e.pass) (λ (e : JournalEntry). nat_eq e.pass 0)
+      (λ e is. (0, omega arith, sym ((Decides-eqb e.pass 0).0 is))) journal refl;
   numbered = distinct (0 ∷ 1 ∷ []) refl;
   falls = λ s c. All-contains IsFalling words s falling c;
   written_first = λ s c pair value. absurd (none_in s c);
@@ -90,5 +105,6 @@ row_holds = record {
 }
 
 -- A cell is not written over: no row has a journal in which the second pass sets 2 as well.
-pub overwritten : (passes : List Pass) (row : List Ref) → Row first passes (entry 0 (sets (setting 2 (Cell 1))) ∷ entry 1 (sets (setting 2 (Cell 0))) ∷ []) row → ⊥
+pub overwritten : (passes : List Pass) (row : List Ref)
+    → Row first passes (entry 0 (sets (setting 2 (Cell 1))) ∷ entry 1 (sets (setting 2 (Cell 0))) ∷ []) row → ⊥
 overwritten passes row holds = holds.set_once 0 1 0 (omega arith) (omega arith) refl

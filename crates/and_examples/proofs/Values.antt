@@ -6,12 +6,14 @@ use Rattle.and_model.specs.declared.builtins.TheConstants.{DIVIDE, GREATEST, LEA
 use Rattle.and_examples.specs.Texts.{own, whole, unary, binary}
 
 -- The largest number is 2^63 - 1, and the least -2^63. (negsuc n is -(n + 1).)
-pub numbers : (value (whole (2 ^ 63 - 1)) ≡ Some (pos (2 ^ 63 - 1))) × (value (number (negsuc (2 ^ 63 - 1))) ≡ Some (negsuc (2 ^ 63 - 1))) × (value (whole (2 ^ 63)) ≡ None) × (value (number (negsuc (2 ^ 63))) ≡ None)
+pub numbers : (value (whole (2 ^ 63 - 1)) ≡ Some (pos (2 ^ 63 - 1))) × (value (number (negsuc (2 ^ 63 - 1))) ≡ Some (negsuc (2 ^ 63 - 1)))
+    × (value (whole (2 ^ 63)) ≡ None) × (value (number (negsuc (2 ^ 63))) ≡ None)
 unfolding of_two of_one
 numbers = (refl, refl, refl, refl)
 
 -- 2 + 3 = 5, 2 - 3 = -1, 2 * -3 = -6
-pub sums : (value (binary PLUS (whole 2) (whole 3)) ≡ Some (pos 5)) × (value (binary MINUS (whole 2) (whole 3)) ≡ Some (negsuc 0)) × (value (binary TIMES (whole 2) (number (negsuc 2))) ≡ Some (negsuc 5))
+pub sums : (value (binary PLUS (whole 2) (whole 3)) ≡ Some (pos 5)) × (value (binary MINUS (whole 2) (whole 3)) ≡ Some (negsuc 0))
+    × (value (binary TIMES (whole 2) (number (negsuc 2))) ≡ Some (negsuc 5))
 unfolding of_two of_one
 sums = (refl, refl, refl)
 
@@ -21,22 +23,28 @@ unfolding of_two of_one
 precedence = refl
 
 -- -7 // 2 = -3, 7 // -2 = -3, -7 // -2 = 3
-pub quotients : (value (binary DIVIDE (number (negsuc 6)) (whole 2)) ≡ Some (negsuc 2)) × (value (binary DIVIDE (whole 7) (number (negsuc 1))) ≡ Some (negsuc 2)) × (value (binary DIVIDE (number (negsuc 6)) (number (negsuc 1))) ≡ Some (pos 3))
+pub quotients : (value (binary DIVIDE (number (negsuc 6)) (whole 2)) ≡ Some (negsuc 2))
+    × (value (binary DIVIDE (whole 7) (number (negsuc 1))) ≡ Some (negsuc 2)) × (value (binary DIVIDE (number (negsuc 6)) (number (negsuc 1))) ≡ Some (pos 3))
 unfolding of_two of_one
 quotients = (refl, refl, refl)
 
 -- -7 = -4 * 2 + 1, 7 = -4 * -2 - 1, -7 = 3 * -2 - 1
-pub moduli : (value (binary MODULO (number (negsuc 6)) (whole 2)) ≡ Some (pos 1)) × (value (binary MODULO (whole 7) (number (negsuc 1))) ≡ Some (negsuc 0)) × (value (binary MODULO (number (negsuc 6)) (number (negsuc 1))) ≡ Some (negsuc 0))
+pub moduli : (value (binary MODULO (number (negsuc 6)) (whole 2)) ≡ Some (pos 1)) × (value (binary MODULO (whole 7) (number (negsuc 1))) ≡ Some (negsuc 0))
+    × (value (binary MODULO (number (negsuc 6)) (number (negsuc 1))) ≡ Some (negsuc 0))
 unfolding of_two of_one
 moduli = (refl, refl, refl)
 
 -- -7 = -3 * 2 - 1, 7 = -3 * -2 + 1, -7 = 3 * -2 - 1
-pub remainders : (value (binary REMAINDER (number (negsuc 6)) (whole 2)) ≡ Some (negsuc 0)) × (value (binary REMAINDER (whole 7) (number (negsuc 1))) ≡ Some (pos 1)) × (value (binary REMAINDER (number (negsuc 6)) (number (negsuc 1))) ≡ Some (negsuc 0))
+pub remainders : (value (binary REMAINDER (number (negsuc 6)) (whole 2)) ≡ Some (negsuc 0))
+    × (value (binary REMAINDER (whole 7) (number (negsuc 1))) ≡ Some (pos 1))
+    × (value (binary REMAINDER (number (negsuc 6)) (number (negsuc 1))) ≡ Some (negsuc 0))
 unfolding of_two of_one
 remainders = (refl, refl, refl)
 
 -- -2^63 divided by -1 is 2^63, which does not fit, and nothing is left over. Nor does its negation fit.
-pub least_integer : (value (binary DIVIDE (number (negsuc (2 ^ 63 - 1))) (number (negsuc 0))) ≡ None) × (value (binary MODULO (number (negsuc (2 ^ 63 - 1))) (number (negsuc 0))) ≡ Some (pos 0)) × (value (binary REMAINDER (number (negsuc (2 ^ 63 - 1))) (number (negsuc 0))) ≡ Some (pos 0)) × (value (unary MINUS (number (negsuc (2 ^ 63 - 1)))) ≡ None)
+pub least_integer : (value (binary DIVIDE (number (negsuc (2 ^ 63 - 1))) (number (negsuc 0))) ≡ None)
+    × (value (binary MODULO (number (negsuc (2 ^ 63 - 1))) (number (negsuc 0))) ≡ Some (pos 0))
+    × (value (binary REMAINDER (number (negsuc (2 ^ 63 - 1))) (number (negsuc 0))) ≡ Some (pos 0)) × (value (unary MINUS (number (negsuc (2 ^ 63 - 1)))) ≡ None)
 unfolding of_two of_one
 least_integer = (refl, refl, refl, refl)
 
@@ -51,16 +59,19 @@ unfolding of_two of_one
 extremes = (refl, refl)
 
 -- nothing is divided by 0
-pub by_zero : (value (binary DIVIDE (whole 1) (whole 0)) ≡ None) × (value (binary MODULO (whole 1) (whole 0)) ≡ None) × (value (binary REMAINDER (whole 1) (whole 0)) ≡ None)
+pub by_zero : (value (binary DIVIDE (whole 1) (whole 0)) ≡ None) × (value (binary MODULO (whole 1) (whole 0)) ≡ None)
+    × (value (binary REMAINDER (whole 1) (whole 0)) ≡ None)
 unfolding of_two of_one
 by_zero = (refl, refl, refl)
 
 -- A part that does not fit has no value, though the whole would.
-pub too_wide : (value (binary PLUS (whole (2 ^ 63 - 1)) (whole 1)) ≡ None) × (value (binary MINUS (binary PLUS (whole (2 ^ 63 - 1)) (whole 1)) (whole 1)) ≡ None)
+pub too_wide : (value (binary PLUS (whole (2 ^ 63 - 1)) (whole 1)) ≡ None)
+    × (value (binary MINUS (binary PLUS (whole (2 ^ 63 - 1)) (whole 1)) (whole 1)) ≡ None)
 unfolding of_two of_one
 too_wide = (refl, refl)
 
 -- a variable, an atom, sums with these, a name with no place in the table, and a sum of one
-pub no_value : (value (own 0) ≡ None) × (value (compound 27 none) ≡ None) × (value (binary PLUS (whole 1) (own 0)) ≡ None) × (value (binary PLUS (whole 1) (compound 27 none)) ≡ None) × (value (binary 27 (whole 1) (whole 2)) ≡ None) × (value (unary PLUS (whole 1)) ≡ None)
+pub no_value : (value (own 0) ≡ None) × (value (compound 27 none) ≡ None) × (value (binary PLUS (whole 1) (own 0)) ≡ None)
+    × (value (binary PLUS (whole 1) (compound 27 none)) ≡ None) × (value (binary 27 (whole 1) (whole 2)) ≡ None) × (value (unary PLUS (whole 1)) ≡ None)
 unfolding of_two of_one
 no_value = (refl, refl, refl, refl, refl, refl)

@@ -34,7 +34,13 @@ pub skeleton_is : IsSkeleton fails_skeleton fails
 skeleton_is = (
   (
     tt,
-    ((omega arith, tt), (tt, ((omega arith, tt), (tt, ((omega arith, tt), (tt, ((omega arith, tt), (tt, (tt, ((omega arith, tt), (tt, ((omega arith, tt), tt)))))))))))),
+    (
+      (omega arith, tt),
+      (
+        tt,
+        ((omega arith, tt), (tt, ((omega arith, tt), (tt, ((omega arith, tt), (tt, (tt, ((omega arith, tt), (tt, ((omega arith, tt), tt)))))))))),
+      ),
+    ),
   ),
   (
     record { head = refl; head_there = omega arith; body = refl; body_there = (omega arith, (omega arith, tt)) },

@@ -19,7 +19,8 @@ none_first : (es : List Equation) (gs : List Arithmetic) (g : Arithmetic) (bs : 
 none_first es _ g _ n (First.first _ gs) r = n.0 r
 none_first es _ g _ n (First.after a gs _ bs _ f) r = none_first es gs g bs n.1 f r
 
-pub only_waits : (es : List Equation) (gs : List Arithmetic) (ds : List Equation) (ws : List Arithmetic) → NoneReady es gs → Closes es gs ds ws → (ds ≡ es) × (ws ≡ gs)
+pub only_waits : (es : List Equation) (gs : List Arithmetic) (ds : List Equation) (ws : List Arithmetic) → NoneReady es gs → Closes es gs ds ws
+    → (ds ≡ es) × (ws ≡ gs)
 only_waits es gs _ _ n (Closes.unsolved _ _ _) = (refl, refl)
 only_waits es gs _ _ n (Closes.waiting _ _ _) = (refl, refl)
 only_waits es gs ds ws n (Closes.run _ _ g bs ts _ _ _ f k _) = absurd (none_first es gs g bs n f (ts, k))
@@ -52,7 +53,8 @@ pub floundered_ends : CodeEnds floundered_text [] (floundered (codes "X = _0 wit
 floundered_ends = (floundered_tree, refl, floundered_end)
 
 floundered_alone : (t : QueryTree floundered_text) (text : Bytes) → Ends t (answer text) → ⊥
-floundered_alone (reckon done) text e = let same = one_outcome floundered_tree (answer text) (floundered (codes "X = _0 with is(_0,+(_0,0))")) e floundered_end in cc
+floundered_alone (reckon done) text e = let same =
+    one_outcome floundered_tree (answer text) (floundered (codes "X = _0 with is(_0,+(_0,0))")) e floundered_end in cc
 
 pub floundered_no_answer : (text : Bytes) → CodeEnds floundered_text [] (answer text) → ⊥
 floundered_no_answer text e = floundered_alone e.0 text e.2
@@ -85,7 +87,10 @@ x_below_3_known = (refl, λ s h. let e = h.0 in cc)
 pub late_closes : Closes x_is_2 (x_below_3 ∷ []) x_is_2 []
 unfolding holds
 late_closes =
-    Closes.run x_is_2 (x_below_3 ∷ []) x_below_3 [] (more (whole 2) (more (whole 3) none)) x_is_2 [] (all_are 2, (refl, tt)) (First.first x_below_3 []) x_below_3_known
+    Closes.run x_is_2 (x_below_3 ∷ []) x_below_3 [] (more (whole 2) (more (whole 3) none)) x_is_2 [] (
+      all_are 2,
+      (refl, tt),
+    ) (First.first x_below_3 []) x_below_3_known
     (Closes.waiting x_is_2 [] tt)
 
 -- the query's X alone has a value
@@ -126,7 +131,10 @@ x_below_3_reached = (refl, λ s h. let e = h.0 in cc)
 pub refuted_closes : Closes x_is_3 (x_below_3 ∷ []) (falsehood ∷ x_is_3) []
 unfolding holds
 refuted_closes =
-    Closes.run x_is_3 (x_below_3 ∷ []) x_below_3 [] (more (whole 3) (more (whole 3) none)) (falsehood ∷ x_is_3) [] (all_are 3, (refl, tt)) (First.first x_below_3 []) x_below_3_reached
+    Closes.run x_is_3 (x_below_3 ∷ []) x_below_3 [] (more (whole 3) (more (whole 3) none)) (falsehood ∷ x_is_3) [] (
+      all_are 3,
+      (refl, tt),
+    ) (First.first x_below_3 []) x_below_3_reached
     (Closes.waiting (falsehood ∷ x_is_3) [] tt)
 
 abbrev not_below_tree : QueryTree not_below

@@ -28,7 +28,13 @@ fact head = record { head = head; body = []; variables = 0; written = []; line =
 
 abbrev pub P : Program
 P = record {
-  clauses = record { head = p (v 0); body = call (q (v 0)) ∷ arithmetic (compare less (v 0) three) ∷ []; variables = 1; written = []; line = 1 }
+  clauses = record {
+    head = p (v 0);
+    body = call (q (v 0)) ∷ arithmetic (compare less (v 0) three) ∷ [];
+    variables = 1;
+    written = [];
+    line = 1;
+  }
       ∷ fact (q (number (pos 1))) ∷ fact (q (number (pos 2))) ∷ [];
   query = record { head = compound TRUE none; body = call (p (v 0)) ∷ []; variables = 1; written = []; line = 1 };
   names = [];

@@ -13,7 +13,13 @@ fact n = record { head = p (number (pos n)); body = []; variables = 0; written =
 abbrev pub P : Program
 P = record {
   clauses = fact 1 ∷ fact 2 ∷ [];
-  query = record { head = compound TRUE none; body = call (p (variable [] 0)) ∷ []; variables = 1; written = []; line = 1 };
+  query = record {
+    head = compound TRUE none;
+    body = call (p (variable [] 0)) ∷ [];
+    variables = 1;
+    written = [];
+    line = 1;
+  };
   names = [];
 }
 
@@ -21,6 +27,12 @@ P = record {
 abbrev pub one_asked : Program
 one_asked = record {
   clauses = fact 1 ∷ fact 2 ∷ [];
-  query = record { head = compound TRUE none; body = call (p (number (pos 1))) ∷ []; variables = 0; written = []; line = 1 };
+  query = record {
+    head = compound TRUE none;
+    body = call (p (number (pos 1))) ∷ [];
+    variables = 0;
+    written = [];
+    line = 1;
+  };
   names = [];
 }

@@ -4,7 +4,8 @@ use Rattle.std.specs.Prelude.{ℕ, ◌++◌, List, [], ◌∷◌, refl, length, 
 use Rattle.and_model.specs.Terms.{Term, variable, compound, none, more}
 use Rattle.and_model.specs.Solutions.{Equation}
 use Rattle.and_model.specs.Arithmetic.{less, greater, at_least, differs}
-use Rattle.and_model.specs.Programs.{Program, Clause, Item, Arithmetic, call, equal, arithmetic, is, compare, builtin_names, head_in}
+use Rattle.and_model.specs.Programs.{Program, Clause, Item, Arithmetic, call, equal, arithmetic, is, compare}
+use Rattle.and_model.specs.Programs.{builtin_names, head_in}
 use Rattle.and_model.specs.Trees.{QueryTree, query_agenda, blank, reduce}
 use Rattle.and_examples.specs.Texts.{own, whole, p, asks}
 
@@ -22,8 +23,10 @@ greatest a b c = compound 27 (more a (more b (more c none)))
 
 abbrev pub greatest_text : Program
 greatest_text = record {
-  clauses = rule (greatest (own 0) (own 1) (own 0)) (arithmetic (compare at_least (own 0) (own 1)) ∷ []) (codes "X" ∷ codes "Y" ∷ [])
-      ∷ rule (greatest (own 0) (own 1) (own 1)) (arithmetic (compare less (own 0) (own 1)) ∷ []) (codes "X" ∷ codes "Y" ∷ [])
+  clauses = rule (greatest (own 0) (own 1) (own 0)) (arithmetic (compare at_least (own 0) (own 1)) ∷ [])
+      (codes "X" ∷ codes "Y" ∷ [])
+      ∷ rule (greatest (own 0) (own 1) (own 1)) (arithmetic (compare less (own 0) (own 1)) ∷ [])
+      (codes "X" ∷ codes "Y" ∷ [])
       ∷ [];
   query = asks (call (greatest (whole 3) (whole 5) (own 0)) ∷ []) (codes "M" ∷ []);
   names = builtin_names ++ codes "max" ∷ [];

@@ -4,7 +4,8 @@ use Rattle.and_model.specs.declared.reference.Ref.{Ref}
 use Rattle.and_model.specs.declared.reference.Ref.TheVariants.{Free, Node}
 use Rattle.and_model.specs.Store.{Setting, JournalEntry, sets, hangs, HungGoal, Took, occupied, closed, Pass}
 
--- One free cell. The first pass hangs a goal on it. The second finds a waiter there, sets the cell to a node and takes the waiter out, and then finds the place closed.
+-- One free cell. The first pass hangs a goal on it. The second finds a waiter there, sets the cell to a node and
+-- takes the waiter out, and then finds the place closed.
 abbrev pub first : List Ref
 first = Free ∷ []
 

@@ -25,19 +25,22 @@ by_nodes head items = record { head = head; items = items }
 abbrev pub of_query : ℕ → Framed
 of_query item = record { goal = item_of_query item; frame = [] }
 
--- ---- p(X) :- q(X), X < 3. q(1). q(2). ?- p(Y). The nodes of each clause come one after another, those of an argument first.
+-- ---- p(X) :- q(X), X < 3. q(1). q(2). ?- p(Y). The nodes of each clause come one after another, those of an
+-- argument first.
 abbrev pub skeleton : Skeleton
 skeleton = record {
   nodes = variable 0 ∷ compound 27 (0 ∷ []) ∷ variable 0 ∷ compound 28 (2 ∷ []) ∷ variable 0 ∷ number (pos 3)
       ∷ number (pos 1) ∷ compound 28 (6 ∷ []) ∷ number (pos 2) ∷ compound 28 (8 ∷ [])
       ∷ compound TRUE [] ∷ variable 0 ∷ compound 27 (11 ∷ []) ∷ [];
-  clauses = by_nodes 10 (call 12 ∷ []) ∷ by_nodes 1 (call 3 ∷ compare less 4 5 ∷ []) ∷ by_nodes 7 [] ∷ by_nodes 9 [] ∷ [];
+  clauses = by_nodes 10 (call 12 ∷ []) ∷ by_nodes 1 (call 3 ∷ compare less 4 5 ∷ []) ∷ by_nodes 7 []
+      ∷ by_nodes 9 [] ∷ [];
 }
 
 abbrev pub text : NamedProgram
 text = record { program = P; skeleton = skeleton }
 
--- The query's call was taken by clause 1, whose frame begins at its place, 2. Its variable, cell 3, is bound to the query's, which is cell 1.
+-- The query's call was taken by clause 1, whose frame begins at its place, 2. Its variable, cell 3, is bound to the
+-- query's, which is cell 1.
 abbrev pub row : List Ref
 row = Free ∷ Free ∷ Free ∷ Cell 1 ∷ []
 
@@ -76,7 +79,8 @@ view = record {
 abbrev pub sum_skeleton : Skeleton
 sum_skeleton = record {
   nodes = number (pos 1) ∷ compound 27 (0 ∷ []) ∷ number (pos 2) ∷ compound 27 (2 ∷ [])
-      ∷ compound TRUE [] ∷ variable 0 ∷ number (pos 1) ∷ number (pos 2) ∷ compound PLUS (6 ∷ 7 ∷ []) ∷ variable 1 ∷ compound 27 (9 ∷ []) ∷ [];
+      ∷ compound TRUE [] ∷ variable 0 ∷ number (pos 1) ∷ number (pos 2) ∷ compound PLUS (6 ∷ 7 ∷ []) ∷ variable 1
+      ∷ compound 27 (9 ∷ []) ∷ [];
   clauses = by_nodes 4 (is 5 8 0 ∷ call 10 ∷ []) ∷ by_nodes 1 [] ∷ by_nodes 3 [] ∷ [];
 }
 

@@ -6,7 +6,8 @@ use Rattle.and_model.specs.Programs.{Program, call, builtin_names}
 use Rattle.and_model.specs.Trees.{QueryTree, query_agenda, blank, reduce}
 use Rattle.and_examples.specs.ReachedExamples.{x, fact, asks}
 
--- ---- nat-cut: nat(z). nat(s(N)) :- nat(N). ?- nat(X). With the limit 6, the tree of s(s(X)) weighs 6, and a clause more is too much.
+-- ---- nat-cut: nat(z). nat(s(N)) :- nat(N). ?- nat(X). With the limit 6, the tree of s(s(X)) weighs 6, and a clause
+-- more is too much.
 abbrev pub nat : Term → Term
 nat t = compound 27 (more t none)
 
@@ -18,7 +19,13 @@ s t = compound 29 (more t none)
 
 abbrev pub naturals : Program
 naturals = record {
-  clauses = fact (nat z) ∷ record { head = nat (s x); body = call (nat x) ∷ []; variables = 1; written = codes "N" ∷ []; line = 1 } ∷ [];
+  clauses = fact (nat z) ∷ record {
+    head = nat (s x);
+    body = call (nat x) ∷ [];
+    variables = 1;
+    written = codes "N" ∷ [];
+    line = 1;
+  } ∷ [];
   query = asks (call (nat x) ∷ []) (codes "X" ∷ []);
   names = builtin_names ++ codes "nat" ∷ codes "z" ∷ codes "s" ∷ [];
 }

@@ -5,7 +5,8 @@ use Rattle.and_model.specs.Programs.{Program, builtin_names}
 use Rattle.and_model.specs.Lines.{Bytes}
 use Rattle.and_model.specs.declared.builtins.TheConstants.{NIL, POINT, TRUE}
 
--- A query with variables of these names and a table that goes on with the names `f`, `a`, `it's`, and values for the variables.
+-- A query with variables of these names and a table that goes on with the names `f`, `a`, `it's`, and values for the
+-- variables.
 abbrev pub asking : List Bytes → Program
 asking written = record {
   clauses = [];

@@ -24,14 +24,24 @@ next a = compound PLUS (more a (more one none))
 
 -- inc(X,Y) :- Y is X+1.
 abbrev pub increment : Clause
-increment = record { head = inc (v 0) (v 1); body = arithmetic (is (v 1) (next (v 0))) ∷ []; variables = 2; written = []; line = 1 }
+increment = record {
+  head = inc (v 0) (v 1);
+  body = arithmetic (is (v 1) (next (v 0))) ∷ [];
+  variables = 2;
+  written = [];
+  line = 1;
+}
 
 abbrev pub asked : List Item → Clause
 asked items = record { head = compound TRUE none; body = items; variables = 2; written = []; line = 1 }
 
 -- ?- inc(1,Z), W is Z+1.
 abbrev pub safe : Program
-safe = record { clauses = increment ∷ []; query = asked (call (inc one (v 0)) ∷ arithmetic (is (v 1) (next (v 0))) ∷ []); names = [] }
+safe = record {
+  clauses = increment ∷ [];
+  query = asked (call (inc one (v 0)) ∷ arithmetic (is (v 1) (next (v 0))) ∷ []);
+  names = [];
+}
 
 -- The first argument is an integer, always. The second is one when the call has succeeded.
 abbrev pub given_first : Assignment
@@ -56,7 +66,13 @@ x_in_body = record { clause = 1; item = 0; variable = 0 }
 -- On one line the query's waits are last: of `?- Y is X, p(W). p(Z) :- Z < 1.` that of Z is the earlier.
 abbrev pub one_line : Program
 one_line = record {
-  clauses = record { head = compound 27 (more (v 0) none); body = arithmetic (compare less (v 0) one) ∷ []; variables = 1; written = []; line = 1 } ∷ [];
+  clauses = record {
+    head = compound 27 (more (v 0) none);
+    body = arithmetic (compare less (v 0) one) ∷ [];
+    variables = 1;
+    written = [];
+    line = 1;
+  } ∷ [];
   query = asked (arithmetic (is (v 0) (v 1)) ∷ call (compound 27 (more (v 2) none)) ∷ []);
   names = [];
 }

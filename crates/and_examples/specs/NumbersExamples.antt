@@ -33,7 +33,14 @@ own k = variable [] k
 abbrev pub splits : Program
 splits = record {
   clauses = record { head = app nil (own 0) (own 0); body = []; variables = 1; written = codes "L" ∷ []; line = 1 }
-      ∷ record { head = app (cell (own 0) (own 1)) (own 2) (cell (own 0) (own 3)); body = call (app (own 1) (own 2) (own 3)) ∷ []; variables = 4; written = codes "H" ∷ codes "T" ∷ codes "L" ∷ codes "R" ∷ []; line = 1 } ∷ [];
+      ∷ record {
+        head = app (cell (own 0) (own 1)) (own 2) (cell (own 0) (own 3));
+        body = call (app (own 1) (own 2) (own 3)) ∷ [];
+        variables = 4;
+        written =
+            codes "H" ∷ codes "T" ∷ codes "L" ∷ codes "R" ∷ [];
+        line = 1;
+      } ∷ [];
   query = asks (call (app x y (cell one (cell two nil))) ∷ []) (codes "X" ∷ codes "Y" ∷ []);
   names = builtin_names ++ codes "app" ∷ [];
 }

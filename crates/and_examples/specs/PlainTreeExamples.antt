@@ -1,7 +1,10 @@
--- The plain choicepoint tree, tried on direct calls with a tree of two teams. (The tree has no call by which teams meet, and no event stands for one.)
+-- The plain choicepoint tree, tried on direct calls with a tree of two teams. (The tree has no call by which teams
+-- meet, and no event stands for one.)
 use Rattle.std.specs.Prelude.{ℕ, true, List, [], ◌∷◌}
 use Rattle.and_histories.specs.PlainTree
-use Rattle.and_histories.specs.PlainTree.{State, opened, taking, Reply, retired, forked, not_free, seen_free, seen_open, seen_taking, taken, moved, done, seen, cleared, last, number, opening, with_cell, joined}
+use Rattle.and_histories.specs.PlainTree.{State, opened, taking, Reply, retired, forked, not_free, seen_free}
+use Rattle.and_histories.specs.PlainTree.{seen_open, seen_taking, taken, moved, done, seen, cleared, last, number}
+use Rattle.and_histories.specs.PlainTree.{opening, with_cell, joined}
 use Rattle.and_histories.specs.Histories.{HistoryEntry}
 
 -- the one key
@@ -61,4 +64,7 @@ forking =
 
 -- a team with the key [1], whose one cell is free and was opened so often
 abbrev pub opened_often : ℕ → State
-opened_often times = record { hands = ((1 ∷ []) ∷ []) ∷ []; cells = record { serial = times; content = PlainTree.free } ∷ [] }
+opened_often times = record {
+  hands = ((1 ∷ []) ∷ []) ∷ [];
+  cells = record { serial = times; content = PlainTree.free } ∷ [];
+}

@@ -30,7 +30,13 @@ abbrev pub fact : Term → Clause
 fact t = record { head = t; body = []; variables = 0; written = []; line = 1 }
 
 abbrev pub asks : List Item → List (List ℕ) → Clause
-asks items names = record { head = compound TRUE none; body = items; variables = length names; written = names; line = 1 }
+asks items names = record {
+  head = compound TRUE none;
+  body = items;
+  variables = length names;
+  written = names;
+  line = 1;
+}
 
 -- ---- early-filter: p(1). p(2). q(2). ?- p(X), q(X).
 abbrev pub early : Program
@@ -49,7 +55,8 @@ early_filtered = reduce early_start (inr (inl tt)) 3 refl
 abbrev pub early_answer : QueryTree early
 early_answer = reduce early_filtered (inl tt) 2 refl
 
--- The two reductions of the proof, in either order, make its tree. The places are 0, 2 and 3: the query weighs 2, and clause 3 weighs 1.
+-- The two reductions of the proof, in either order, make its tree. The places are 0, 2 and 3: the query weighs 2, and
+-- clause 3 weighs 1.
 abbrev pub by_three : Reduction
 by_three = record { parent = 0; item = 1; clause = 3; node = 2 }
 

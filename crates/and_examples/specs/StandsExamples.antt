@@ -21,7 +21,13 @@ v k = variable [] k
 abbrev pub P : Program
 P = record {
   clauses = record { head = p a b; body = []; variables = 0; written = []; line = 1 } ∷ [];
-  query = record { head = compound TRUE none; body = equal (v 0) a ∷ call (p (v 0) (v 1)) ∷ []; variables = 2; written = []; line = 1 };
+  query = record {
+    head = compound TRUE none;
+    body = equal (v 0) a ∷ call (p (v 0) (v 1)) ∷ [];
+    variables = 2;
+    written = [];
+    line = 1;
+  };
   names = [];
 }
 

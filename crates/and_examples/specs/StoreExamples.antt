@@ -19,7 +19,8 @@ learnt place value = record { setting = setting place value; is_own = false }
 abbrev pub nobody_waits : ℕ → Took
 nobody_waits cell = record { cell = cell; waiter = None }
 
--- Three free cells. The first pass sets 2 to cell 1 and 1 to cell 0, is given a frame of 4, writes the number 5 into the pair 4, and fails.
+-- Three free cells. The first pass sets 2 to cell 1 and 1 to cell 0, is given a frame of 4, writes the number 5 into
+-- the pair 4, and fails.
 abbrev pub first : List Ref
 first = Free ∷ Free ∷ Free ∷ []
 

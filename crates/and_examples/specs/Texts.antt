@@ -2,7 +2,8 @@
 use Rattle.std.specs.Prelude.{ℕ, ◌-◌, ◌^◌, pos, negsuc, List, [], ◌∷◌, ◌++◌, length, codes}
 use Rattle.and_model.specs.Terms.{Path, Term, variable, number, compound, none, more}
 use Rattle.and_model.specs.Arithmetic.{less}
-use Rattle.and_model.specs.Programs.{Program, Clause, Item, call, equal, arithmetic, Arithmetic, is, compare, builtin_names}
+use Rattle.and_model.specs.Programs.{Program, Clause, Item, call, equal, arithmetic, Arithmetic, is, compare}
+use Rattle.and_model.specs.Programs.{builtin_names}
 use Rattle.and_model.specs.declared.builtins.TheConstants.{DIVIDE, MODULO, PLUS, TRUE}
 
 -- the variable of a clause, or of the query, that has this number
@@ -27,7 +28,13 @@ fact t = record { head = t; body = []; variables = 0; written = []; line = 1 }
 
 -- a query with these items, whose variables have these names
 abbrev pub asks : List Item → List (List ℕ) → Clause
-asks items names = record { head = compound TRUE none; body = items; variables = length names; written = names; line = 1 }
+asks items names = record {
+  head = compound TRUE none;
+  body = items;
+  variables = length names;
+  written = names;
+  line = 1;
+}
 
 -- a query alone
 abbrev pub query_of : List Item → List (List ℕ) → Program
@@ -134,7 +141,13 @@ successor t = unary 29 t
 
 abbrev pub naturals : Program
 naturals = record {
-  clauses = fact (nat zed) ∷ record { head = nat (successor (own 0)); body = call (nat (own 0)) ∷ []; variables = 1; written = codes "N" ∷ []; line = 1 } ∷ [];
+  clauses = fact (nat zed) ∷ record {
+    head = nat (successor (own 0));
+    body = call (nat (own 0)) ∷ [];
+    variables = 1;
+    written = codes "N" ∷ [];
+    line = 1;
+  } ∷ [];
   query = asks (call (nat (own 0)) ∷ []) (codes "X" ∷ []);
   names = builtin_names ++ codes "nat" ∷ codes "z" ∷ codes "s" ∷ [];
 }
@@ -145,7 +158,13 @@ loop t = unary 27 t
 
 abbrev pub endless_text : Program
 endless_text = record {
-  clauses = record { head = loop (own 0); body = call (loop (own 0)) ∷ []; variables = 1; written = codes "X" ∷ []; line = 1 } ∷ [];
+  clauses = record {
+    head = loop (own 0);
+    body = call (loop (own 0)) ∷ [];
+    variables = 1;
+    written = codes "X" ∷ [];
+    line = 1;
+  } ∷ [];
   query = asks (call (loop (compound 28 none)) ∷ []) [];
   names = builtin_names ++ codes "loop" ∷ codes "a" ∷ [];
 }

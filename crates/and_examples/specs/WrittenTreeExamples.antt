@@ -5,7 +5,8 @@ use Rattle.and_model.specs.declared.goal.Goal.{Goal}
 
 -- ---- nat(z). nat(s(N)) :- nat(N). ?- nat(X). Clause 2 was used twice, at the places 2 and 4.
 abbrev pub twice : List Reduction
-twice = record { parent = 0; item = 0; clause = 2; node = 2 } ∷ record { parent = 2; item = 0; clause = 2; node = 4 } ∷ []
+twice = record { parent = 0; item = 0; clause = 2; node = 2 }
+    ∷ record { parent = 2; item = 0; clause = 2; node = 4 } ∷ []
 
 -- the call of the second use
 abbrev pub innermost : Goal

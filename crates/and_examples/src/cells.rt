@@ -18,8 +18,10 @@ ghost use Rattle.and_examples.specs.ReachedExamples.{early, by_three, by_two};
 ghost use Rattle.and_examples.specs.LimitExamples.{naturals, at_least_2};
 ghost use Rattle.and_examples.specs.WrittenTreeExamples.{twice, innermost, no_goal};
 ghost use Rattle.and_examples.specs.ViewExamples.{fails_skeleton, failing, split_view, bound_row, free_row, sum_view};
-ghost use Rattle.and_examples.specs.KeptExamples.{skeleton, text, row, goals, turned, more_bound, less_bound, view, item_of_first};
-ghost use Rattle.and_examples.specs.KeptExamples.{of_query, sum_skeleton, summing, summed, not_summed, written, sum_start};
+ghost use Rattle.and_examples.specs.KeptExamples.{skeleton, text, row, goals, turned, more_bound, less_bound, view};
+ghost use Rattle.and_examples.specs.KeptExamples.{item_of_first};
+ghost use Rattle.and_examples.specs.KeptExamples.{of_query, sum_skeleton, summing, summed, not_summed, written};
+ghost use Rattle.and_examples.specs.KeptExamples.{sum_start};
 
 /// `p(X) :- q(X), X < 3. q(1). q(2). ?- p(Y).` After the first reduction the frame of clause 1 begins at its
 /// place, and its X is bound to the query's Y. A row in which Y is bound too says more than the tree, and
@@ -44,9 +46,9 @@ pub fn cells_with_a_sum()
     ensures written_early { Kept summing [] written (of_query 0 ∷ of_query 1 ∷ []) sum_start → ⊥ }
 {}
 
-/// The branches of `p(1). p(2). q(2). q(3). ?- p(X), q(X).`, read in their cells, each under its key: that by clause 1 has
-/// failed, and nothing is read in it; in that by clause 2, X is read as the 2 of the clause's head, and
-/// must not be read as a free cell. Of `p(1). p(2). ?- Y is 1 + 2, p(X).` the root stands once the sum has run.
+/// The branches of `p(1). p(2). q(2). q(3). ?- p(X), q(X).`, read in their cells, each under its key: that by clause
+/// 1 has failed, and nothing is read in it; in that by clause 2, X is read as the 2 of the clause's head, and must
+/// not be read as a free cell. Of `p(1). p(2). ?- Y is 1 + 2, p(X).` the root stands once the sum has run.
 pub fn branches_in_cells()
     ensures skeleton_is { IsSkeleton fails_skeleton fails }
     ensures failed { StandsIn (split_view 1 [] [] true) (1 ∷ []) failing 10 }

@@ -9,7 +9,9 @@ ghost use Rattle.and_model.specs.Reached.{CandidateOf, Step, Shut, Dead};
 ghost use Rattle.and_model.specs.Listing.{answer};
 ghost use Rattle.and_examples.specs.Ending.{CodeEnds, SearchForks};
 ghost use Rattle.and_examples.specs.Texts.{whole};
-ghost use Rattle.and_examples.specs.GuardExamples.{at_least_second, taken, greatest_text, greatest_start, greatest_answer, ending_text, ending_start, below_3, all_kinds, atom, atom_text, atom_start};
+ghost use Rattle.and_examples.specs.GuardExamples.{at_least_second, taken, greatest_text, greatest_start};
+ghost use Rattle.and_examples.specs.GuardExamples.{greatest_answer, ending_text, ending_start, below_3, all_kinds};
+ghost use Rattle.and_examples.specs.GuardExamples.{atom, atom_text, atom_start};
 
 /// `max(X,Y,X) :- X >= Y. max(X,Y,Y) :- X < Y. ?- max(3,5,M).` The head of each clause fits, and the
 /// comparison of the first does not hold of 3 and 5. So the second is the one candidate: the search

@@ -2,9 +2,11 @@
 
 ghost use Rattle.std.specs.Prelude.{◌≡◌, true, [], ◌∷◌, ℕ};
 ghost use Rattle.and_histories.specs.PlainTree;
-ghost use Rattle.and_histories.specs.PlainTree.{State, Does, retired, seen_open, taken, done, seen, cleared, last, last_serial, spent, number, with_keys, keys_left, children, fork};
+ghost use Rattle.and_histories.specs.PlainTree.{State, Does, retired, seen_open, taken, done, seen, cleared, last};
+ghost use Rattle.and_histories.specs.PlainTree.{last_serial, spent, number, with_keys, keys_left, children, fork};
 ghost use Rattle.and_histories.specs.Histories.{Legal, calls};
-ghost use Rattle.and_examples.specs.PlainTreeExamples.{root, entry, history, in_hand, claimed_twice, two_keys, forking, opened_often};
+ghost use Rattle.and_examples.specs.PlainTreeExamples.{root, entry, history, in_hand, claimed_twice, two_keys};
+ghost use Rattle.and_examples.specs.PlainTreeExamples.{forking, opened_often};
 ghost use Rattle.and_histories.specs.Covering.{IsCovering};
 ghost use Rattle.and_examples.specs.CoveringExamples.{P, one_asked};
 
@@ -29,8 +31,10 @@ pub fn history_of_two_teams()
 /// is still being taken out, and later because a key lies there. A cell at its last serial is spent.
 pub fn history_with_a_fork()
     ensures forking_is_legal { Legal 1 forking }
-    ensures spent_at_last { Does (opened_often last_serial) (PlainTree.publish 0 0 (1 ∷ [])) spent (opened_often last_serial) }
-    ensures not_opened_then { (after : State) → Does (opened_often last_serial) (PlainTree.publish 0 0 (1 ∷ [])) done after → ⊥ }
+    ensures spent_at_last { Does (opened_often last_serial) (PlainTree.publish 0 0 (1 ∷ [])) spent
+        (opened_often last_serial) }
+    ensures not_opened_then { (after : State)
+        → Does (opened_often last_serial) (PlainTree.publish 0 0 (1 ∷ [])) done after → ⊥ }
 {}
 
 /// `p(1). p(2). ?- p(X).` The fork of the query by both clauses is covering. One by the first alone is not,

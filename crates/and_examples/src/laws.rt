@@ -22,7 +22,8 @@ ghost use Rattle.and_examples.specs.ReachedExamples.{early, early_answer};
 ghost use Rattle.and_examples.specs.LimitExamples.{naturals};
 ghost use Rattle.and_examples.specs.WordExamples.{by_one, by_two};
 ghost use Rattle.and_examples.specs.Texts.{own, p, floundered_text, x_is_x, x_below_3};
-ghost use Rattle.and_examples.specs.LawExamples.{sum_first, added, below_five, filtered, beginning, to_seven, filtered_in_seven, named, moved, below};
+ghost use Rattle.and_examples.specs.LawExamples.{sum_first, added, below_five, filtered, beginning, to_seven};
+ghost use Rattle.and_examples.specs.LawExamples.{filtered_in_seven, named, moved, below};
 
 /// `p(X) :- X < 5. ?- Y is 1 + 2, p(Y).` The sum has run, and adds Y = 3. Once the call was taken it has still run
 /// and adds the same, while the clause's comparison waits.
@@ -35,7 +36,8 @@ pub fn sum_that_stays_run()
 /// in the frame `[5]`, of which nothing speaks; and where X is a variable of the frame `[7]`.
 pub fn candidate_under_other_names()
     ensures in_its_frame { Candidate early filtered (0 ∷ []) (p (own 0)) 2 }
-    ensures nothing_in_five { EquationsOver (others (beginning 5)) filtered × IsOver (others (beginning 5)) (p (own 0)) }
+    ensures nothing_in_five { EquationsOver (others (beginning 5)) filtered
+        × IsOver (others (beginning 5)) (p (own 0)) }
     ensures in_frame_five { Candidate early filtered (5 ∷ []) (p (own 0)) 2 }
     ensures renamed { Candidate early filtered_in_seven (0 ∷ []) (p (to_seven [] 0)) 2 }
 {}

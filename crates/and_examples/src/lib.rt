@@ -24,7 +24,8 @@ pub mod states;
 pub mod stores;
 pub mod terms;
 
-ghost use Rattle.std.specs.Prelude.{ℕ, ℤ, pos, negsuc, ◌≡◌, ◌<◌, ◌≤◌, ◌-◌, ◌^◌, List, [], ◌∷◌, ◌++◌, length, Some, None, codes};
+ghost use Rattle.std.specs.Prelude.{ℕ, ℤ, pos, negsuc, ◌≡◌, ◌<◌, ◌≤◌, ◌-◌, ◌^◌, List, [], ◌∷◌, ◌++◌, length, Some};
+ghost use Rattle.std.specs.Prelude.{None, codes};
 ghost use Rattle.and_model.specs.Terms.{Path, Term, variable, number, compound, none};
 ghost use Rattle.and_model.specs.Solutions.{Equation, Solvable, falsehood};
 ghost use Rattle.and_model.specs.Arithmetic.{value};
@@ -35,10 +36,14 @@ ghost use Rattle.and_model.specs.Trees.{QueryTree, Open, call_of, unfold_code, w
 ghost use Rattle.and_model.specs.Lines.{Bytes};
 ghost use Rattle.and_model.specs.Listing.{Outcome, answer, floundered, Listing, Exhausted};
 ghost use Rattle.and_model.specs.Output.{limit_met, complete, complete_with, counted, last_lines, Output, OverLeft};
-ghost use Rattle.and_model.specs.declared.builtins.TheConstants.{DIVIDE, GREATEST, LEAST, MINUS, MODULO, PLUS, REMAINDER, TIMES};
+ghost use Rattle.and_model.specs.declared.builtins.TheConstants.{DIVIDE, GREATEST, LEAST, MINUS, MODULO, PLUS};
+ghost use Rattle.and_model.specs.declared.builtins.TheConstants.{REMAINDER, TIMES};
 ghost use Rattle.and_model.specs.declared.limits.TheConstants.{DEFAULT_LIMIT};
 ghost use Rattle.and_examples.specs.Ending.{UnfoldsTo, CodeEnds, SearchForks, entry};
-ghost use Rattle.and_examples.specs.Texts.{own, at, whole, unary, binary, app, nil, cell, append_text, forks_text, x_is_x, floundered_text, x_below_3, late_text, not_below, circle, equal_text, x_is_too_much, too_much, quotients, naturals, endless_text, lightest, next_lightest};
+ghost use Rattle.and_examples.specs.Texts.{own, at, whole, unary, binary, app, nil, cell, append_text, forks_text};
+ghost use Rattle.and_examples.specs.Texts.{x_is_x, floundered_text, x_below_3, late_text, not_below, circle};
+ghost use Rattle.and_examples.specs.Texts.{equal_text, x_is_too_much, too_much, quotients, naturals, endless_text};
+ghost use Rattle.and_examples.specs.Texts.{lightest, next_lightest};
 
 pub use branches::{
     branch_of_the_query, branches_of_a_split, branches_with_a_sum, one_renaming_of_all,

@@ -20,16 +20,19 @@ pub fn answers_on_one_line()
         (giving (cell_of (number (pos 1)) (cell_of (number (pos 2)) (variable [] 1)) ∷ variable [] 1 ∷ [])) []
         ≡ codes "X = [1,2|_0], T = _0" }
     ensures lists_within { line (asking (codes "X" ∷ codes "Y" ∷ []))
-        (giving (cell_of nil (cell_of (cell_of (compound 28 none) nil) nil) ∷ compound POINT (more nil (more nil (more nil none))) ∷ [])) []
+        (giving (cell_of nil (cell_of (cell_of (compound 28 none) nil) nil)
+        ∷ compound POINT (more nil (more nil (more nil none))) ∷ [])) []
         ≡ codes "X = [[],[a]], Y = '.'([],[],[])" }
     ensures other_tails { line (asking (codes "X" ∷ codes "Y" ∷ []))
-        (giving (cell_of (number (pos 1)) (number (negsuc 2)) ∷ cell_of (compound 28 none) (compound 29 (more nil none)) ∷ [])) []
+        (giving (cell_of (number (pos 1)) (number (negsuc 2))
+        ∷ cell_of (compound 28 none) (compound 29 (more nil none)) ∷ [])) []
         ≡ codes "X = [1|-3], Y = [a|'it\\'s'([])]" }
     ensures minuses { line (asking (codes "X" ∷ codes "Y" ∷ codes "Z" ∷ []))
         (giving (compound MINUS (more (number (pos 1)) none) ∷ number (negsuc 0)
         ∷ compound MINUS (more (number (pos 1)) (more (number (negsuc 0)) none)) ∷ [])) []
         ≡ codes "X = -(1), Y = -1, Z = -(1,-1)" }
-    ensures hidden { line (asking (codes "_" ∷ codes "X" ∷ codes "_Y" ∷ codes "Z" ∷ [])) (giving []) [] ≡ codes "X = _0, Z = _1" }
+    ensures hidden { line (asking (codes "_" ∷ codes "X" ∷ codes "_Y" ∷ codes "Z" ∷ [])) (giving []) []
+        ≡ codes "X = _0, Z = _1" }
     ensures no_variable { line (asking []) (giving []) [] ≡ codes "true" }
     ensures none_shown { line (asking (codes "_X" ∷ [])) (giving []) [] ≡ codes "true" }
     ensures floundered { line (asking (codes "X" ∷ [])) (giving [])

@@ -2,7 +2,8 @@
 
 ghost use Rattle.std.specs.Prelude.{◌≡◌};
 ghost use Rattle.and_modes.specs.Modes.{after_item, WellModed, Greatest, IsSafe, IsEarlier, WaitsFirst};
-ghost use Rattle.and_examples.specs.ModesExamples.{safe, given_first, lowest, waiting, ground_first, x_in_body, one_line, first_has, inc, next, one, pair, v};
+ghost use Rattle.and_examples.specs.ModesExamples.{safe, given_first, lowest, waiting, ground_first, x_in_body};
+ghost use Rattle.and_examples.specs.ModesExamples.{one_line, first_has, inc, next, one, pair, v};
 ghost use Rattle.and_model.specs.Arithmetic.{less};
 ghost use Rattle.and_model.specs.Programs.{Program, call, equal, arithmetic, is, compare};
 ghost use Rattle.and_modes.specs.declared.level.Level.TheVariants.{Any, Ground, Integer};

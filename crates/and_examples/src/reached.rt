@@ -5,7 +5,8 @@ ghost use Rattle.and_model.specs.Trees.{Open, code, decided, weight, reduce};
 ghost use Rattle.and_model.specs.Listing.{Ends, answer, Listing};
 ghost use Rattle.and_model.specs.Reductions.{Makes};
 ghost use Rattle.and_model.specs.Reached.{CandidateOf, Step, Shut, Split, ReachedBy, Dead, Numbers};
-ghost use Rattle.and_examples.specs.ReachedExamples.{early, early_start, early_filtered, early_answer, by_three, by_two, forks, forks_start};
+ghost use Rattle.and_examples.specs.ReachedExamples.{early, early_start, early_filtered, early_answer, by_three};
+ghost use Rattle.and_examples.specs.ReachedExamples.{by_two, forks, forks_start};
 ghost use Rattle.std.proofs.Common.{inl, inr};
 ghost use Rattle.and_model.specs.Limits.{at_goal, OverLimit};
 ghost use Rattle.and_examples.specs.LimitExamples.{naturals, at_least_2};
@@ -28,7 +29,8 @@ pub fn early_filter()
     ensures early_code { code early_answer ≡ 2 ∷ 3 ∷ [] }
     ensures early_weighs { weight early_answer ≡ 4 }
     ensures early_ends { Ends early_answer (answer (codes "X = 2")) }
-    ensures early_made { Makes early (by_three ∷ by_two ∷ []) early_answer × Makes early (by_two ∷ by_three ∷ []) early_answer }
+    ensures early_made { Makes early (by_three ∷ by_two ∷ []) early_answer
+        × Makes early (by_two ∷ by_three ∷ []) early_answer }
     ensures early_listing { Listing early 4 (record { code = 2 ∷ 3 ∷ []; outcome = answer (codes "X = 2") } ∷ []) }
 {}
 
@@ -55,7 +57,8 @@ pub fn clause_over_the_limit()
 /// answer is found.
 pub fn one_fork_one_failure()
     ensures fails_numbers { Numbers fails_start 1 1 }
-    ensures fails_explored { Explores fails 4 fails_start (record { code = 2 ∷ 3 ∷ []; outcome = answer (codes "X = 2") } ∷ []) }
+    ensures fails_explored { Explores fails 4 fails_start
+        (record { code = 2 ∷ 3 ∷ []; outcome = answer (codes "X = 2") } ∷ []) }
 {}
 
 /// `app([],L,L). app([H|T],L,[H|R]) :- app(T,L,R). ?- app(X,Y,[1,2]).` There are two forks, and nothing fails.
@@ -80,7 +83,8 @@ pub fn goal_without_a_candidate()
     ensures dead { Dead hopeless_start }
     ensures one_candidate { CandidateOf hopeless_start [] (inl tt) 1
         × ((c : ℕ) → CandidateOf hopeless_start [] (inl tt) c → c ≡ 1) }
-    ensures none_over { (limit c : ℕ) (o : Open hopeless_start) → OverLimit hopeless limit (at_goal hopeless_start o c) → ⊥ }
+    ensures none_over { (limit c : ℕ) (o : Open hopeless_start)
+        → OverLimit hopeless limit (at_goal hopeless_start o c) → ⊥ }
     ensures steps_on { Step hopeless_start (reduce hopeless_start (inr (inl tt)) 2 refl) }
 {}
 

@@ -3,7 +3,8 @@
 ghost use Rattle.std.specs.Prelude.{ℕ, [], ◌∷◌, Some, None};
 ghost use Rattle.and_model.specs.Limits.{at_goal, OverLimit};
 ghost use Rattle.std.proofs.Common.{inl, inr};
-ghost use Rattle.and_branch_laws.specs.States.{StateOf, failed, determinate, over_one, over_all, fork, floundered, answer};
+ghost use Rattle.and_branch_laws.specs.States.{StateOf, failed, determinate, over_one, over_all, fork, floundered};
+ghost use Rattle.and_branch_laws.specs.States.{answer};
 ghost use Rattle.and_examples.specs.Texts.{circle, floundered_text, late_text};
 ghost use Rattle.and_examples.specs.LimitExamples.{naturals, at_least_0};
 ghost use Rattle.and_examples.specs.DeadExamples.{hopeless, hopeless_start, circle_start};

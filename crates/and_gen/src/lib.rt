@@ -47,7 +47,8 @@ impl fmt::Display for Place {
 
 /// Puts the fact that an edge leads from one place to another at the end of the text.
 fn write_edge(alloc: Global, text: &mut Text, from: Place, to: Place) -> Result<(), AllocError>
-    ensures { OnOk result (text.new ≡ text.old ++ specs.edge (specs.place from.rail from.at) (specs.place to.rail to.at)) }
+    ensures { OnOk result (text.new ≡ text.old
+        ++ specs.edge (specs.place from.rail from.at) (specs.place to.rail to.at)) }
 {
     let line = format!(in alloc; "edge({from},{to}).\n")?;
     text.append(line.as_bytes())

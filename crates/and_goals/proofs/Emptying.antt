@@ -1,5 +1,6 @@
 -- A deque is emptied by who has all parts of the right to know it.
-use Rattle.std.proofs.Common.{◌≡◌, ℕ, ◌+◌, ◌-◌, ◌<◌, ◌≤◌, List, [], ◌∷◌, ◌++◌, length, sym, refl, ap, ◌∙◌, subst, arith, append_assoc, append-nil, length-append, inl, inr}
+use Rattle.std.proofs.Common.{◌≡◌, ℕ, ◌+◌, ◌-◌, ◌<◌, ◌≤◌, List, [], ◌∷◌, ◌++◌, length, sym, refl, ap, ◌∙◌, subst, arith, append_assoc, append-nil}
+use Rattle.std.proofs.Common.{length-append, inl, inr}
 use Rattle.std.proofs.lemmas.List.{nil_from_length}
 use Rattle.and_model.specs.declared.goal.Goal.{Goal}
 use Rattle.and_goals.specs.declared.account.Account.{Account}

@@ -15,13 +15,15 @@ total f (v ∷ vs) = f v + total f vs
 
 -- a pass with no part has put and taken nothing
 abbrev pub IdleIsEmpty : List Account → Type 0
-IdleIsEmpty views = (port : ℕ) (v : Account) → get_elem? views port ≡ some v → v.parts ≡ 0 → (v.put ≡ []) × (v.taken ≡ [])
+IdleIsEmpty views = (port : ℕ) (v : Account) → get_elem? views port ≡ some v → v.parts ≡ 0
+    → (v.put ≡ []) × (v.taken ≡ [])
 
 -- all passes together have eight parts, and what they put is what they took and what the deque holds
 abbrev pub Balanced : List Goal → List Account → Type 0
 Balanced goals views =
     (total (λ v. v.parts) views ≡ 8)
-    × ((weight : Goal → ℕ) → total (λ v. weigh weight v.put) views ≡ total (λ v. weigh weight v.taken) views + weigh weight goals)
+    × ((weight : Goal → ℕ) → total (λ v. weigh weight v.put) views
+    ≡ total (λ v. weigh weight v.taken) views + weigh weight goals)
     × IdleIsEmpty views
 
 -- at one moment the deque held nothing, and this pass knew then what it knows

@@ -1,5 +1,6 @@
 -- What contracts see in a hand (this project's own).
-use Rattle.std.specs.Prelude.{◌≡◌, ℕ, suc, ◌+◌, ◌-◌, ◌<◌, ◌≤◌, ◌⊎◌, List, [], ◌∷◌, ◌++◌, length, map, slice_index_or, All, Option, Some, None, option_to_list, ⊤}
+use Rattle.std.specs.Prelude.{◌≡◌, ℕ, suc, ◌+◌, ◌-◌, ◌<◌, ◌≤◌, ◌⊎◌, List, [], ◌∷◌, ◌++◌, length, map, slice_index_or}
+use Rattle.std.specs.Prelude.{All, Option, Some, None, option_to_list, ⊤}
 use Rattle.std.specs.declared.alloc.Global.{Global}
 use Rattle.atomic_blocks.specs.Lent.{RowsId}
 use Rattle.and_model.specs.declared.goal.Goal.{Goal}
@@ -26,7 +27,8 @@ pub record HandSeen : Type 0 where
   pub own : Account
   pub others : List OtherSeen
 
--- what no put and no take changes: the hand's deque, its parts in the right to know it, and the deques of which it takes besides
+-- what no put and no take changes: the hand's deque, its parts in the right to know it, and the deques of which it
+-- takes besides
 pub record Seat : Type 0 where
   pub deque : DequeId
   pub parts : ℕ
@@ -100,7 +102,8 @@ pub data Steals (goal : Goal) : List OtherSeen → List OtherSeen → Type 0 whe
   here : (o p : OtherSeen) (os : List OtherSeen) → GivesOne goal o p → Steals goal (o ∷ os) (p ∷ os)
   later : (o p : OtherSeen) (os ps : List OtherSeen) → GivesNone o p → Steals goal os ps → Steals goal (o ∷ os) (p ∷ ps)
 
--- a goal was taken of the hand's own deque, or this was empty at one moment, and the goal was taken of the first other deque that gave one
+-- a goal was taken of the hand's own deque, or this was empty at one moment, and the goal was taken of the first
+-- other deque that gave one
 abbrev pub TakesOne : Goal → HandSeen → HandSeen → Type 0
 TakesOne goal old new =
     (new ≡ record old { own = account old.own.parts old.own.put (old.own.taken ++ goal ∷ []) })

@@ -1,8 +1,10 @@
 //! A hand: a worker's own deque, and the way to those of the others.
 
-ghost use Rattle.std.specs.Prelude.{◌≡◌, ◌+◌, ◌-◌, ◌<◌, ◌++◌, ◌∷◌, ◌≢◌, List, [], length, IfSome, IfNone, IfOk, IfErr, OnOk, OnErr, slice_get, Some, ℕ, ◌≤◌, vec_capacity};
+ghost use Rattle.std.specs.Prelude.{◌≡◌, ◌+◌, ◌-◌, ◌<◌, ◌++◌, ◌∷◌, ◌≢◌, List, [], length, IfSome, IfNone, IfOk, IfErr};
+ghost use Rattle.std.specs.Prelude.{OnOk, OnErr, slice_get, Some, ℕ, ◌≤◌, vec_capacity};
 ghost use Rattle.and_goals.specs.Balance.{account, MovesRest};
-ghost use Rattle.and_goals.specs.Hands.{OtherSeen, HandSeen, GivesOne, GivesNone, TakesOne, TakesNone, Steals, AllGiveNone, IsCountOf, HasTaken, putting, seat_of};
+ghost use Rattle.and_goals.specs.Hands.{OtherSeen, HandSeen, GivesOne, GivesNone, TakesOne, TakesNone, Steals};
+ghost use Rattle.and_goals.specs.Hands.{AllGiveNone, IsCountOf, HasTaken, putting, seat_of};
 
 use crate::deque::{Cut, Guest, Owner, Puts, Takes, Thief, empty};
 use and_model::Goal;
@@ -95,7 +97,9 @@ impl Hand {
     /// A way to this hand's deque, for another hand. An error is want of memory.
     pub(crate) fn guest(&mut self) -> Result<Other, AllocError>
         requires { 1 < self.old.own.parts }
-        ensures hand { OnOk result (self.new ≡ record self.old { own = account (self.old.own.parts - 1) self.old.own.put self.old.own.taken }) }
+        ensures hand { OnOk result
+            (self.new ≡ record self.old
+            { own = account (self.old.own.parts - 1) self.old.own.put self.old.own.taken }) }
         ensures guest { IfOk result (λ other. (other.deque ≡ self.old.deque) × (other.known ≡ account 1 [] [])) }
     {
         Ok(Other {
@@ -127,13 +131,17 @@ impl Hand {
     /// Takes in what another knew of this hand's deque. Takes no memory.
     pub(crate) fn take_in(&mut self, other: Other)
         requires { other.deque ≡ self.old.deque }
-        ensures { self.new ≡ record self.old { own = account (self.old.own.parts + 1) self.old.own.put (self.old.own.taken ++ other.known.taken) } }
+        ensures { self.new ≡ record self.old {
+          own =
+              account (self.old.own.parts + 1) self.old.own.put (self.old.own.taken ++ other.known.taken);
+        } }
     {
         let Other { thief: _, pass } = other;
         self.own.absorb::<Cut>(pass);
     }
 
-    /// Puts a goal behind the others of this hand. The goal comes back where the deque refuses it, as for want of memory.
+    /// Puts a goal behind the others of this hand. The goal comes back where the deque refuses it, as for want of
+    /// memory.
     pub fn put(&mut self, goal: Goal) -> Result<(), Goal>
         ensures seat { seat_of self.new ≡ seat_of self.old }
         ensures ok { OnOk result (self.new ≡ putting goal self.old) }

@@ -53,7 +53,8 @@ fn gather(hands: &mut [Hand])
 fn empty_all(hands: &mut [Hand], goals: &mut Vec<Goal>)
     requires gathered { IsDealt 0 hands.old }
     requires room { length goals.old.items + length (all_put hands.old) ≤ vec_capacity goals.old }
-    ensures { (left : List Goal) × (goals.new.items ≡ goals.old.items ++ left) × SameBag (all_put hands.old) (all_taken hands.old ++ left) }
+    ensures { (left : List Goal) × (goals.new.items ≡ goals.old.items ++ left)
+        × SameBag (all_put hands.old) (all_taken hands.old ++ left) }
 {
     for place in 0..hands.len() {
         hands[place].empty_into(goals);

@@ -1,4 +1,5 @@
-//! Goals that are dealt between workers: each worker has a deque of its own, and takes goals of the others where its own has none.
+//! Goals that are dealt between workers: each worker has a deque of its own, and takes goals of the others where its
+//! own has none.
 #![tactic(auto)]
 
 mod account;

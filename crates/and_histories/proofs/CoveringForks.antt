@@ -1,5 +1,6 @@
 -- Where each fork is covering, no code is lost; and where no key is left, none comes again.
-use Rattle.std.proofs.Common.{ℕ, zero, suc, ◌+◌, ◌*◌, ◌≡◌, ◌<◌, Bool, true, false, cond, ◌&&◌, List, [], ◌∷◌, ◌++◌, length, set, replicate, refl, sym, ap, ◌∙◌, true≢false, arith}
+use Rattle.std.proofs.Common.{ℕ, zero, suc, ◌+◌, ◌*◌, ◌≡◌, ◌<◌, Bool, true, false, cond, ◌&&◌, List, [], ◌∷◌, ◌++◌, length, set, replicate, refl, sym, ap}
+use Rattle.std.proofs.Common.{◌∙◌, true≢false, arith}
 use Rattle.std.specs.Prelude.{flat_map, sum_by, nat_eq}
 use Rattle.std.proofs.lemmas.List.Sums.{sum_by-append, sum_by-cons}
 use Rattle.std.proofs.lemmas.List.Elements.{All-head, All-tail}
@@ -27,7 +28,8 @@ longer_not code [] rest is = absurd (true≢false is)
 longer_not [] (k ∷ key) rest is = refl
 longer_not (c ∷ code) (k ∷ key) rest is = by_test (nat_eq c k) is (longer_not code key rest)
   where
-    by_test : (b : Bool) → (b && begins code key) ≡ false → (begins code key ≡ false → begins code (key ++ rest) ≡ false) → (b && begins code (key ++ rest)) ≡ false
+    by_test : (b : Bool) → (b && begins code key) ≡ false → (begins code key ≡ false → begins code (key ++ rest) ≡ false)
+        → (b && begins code (key ++ rest)) ≡ false
     by_test true is goes_on = goes_on is
     by_test false is goes_on = refl
 
@@ -78,14 +80,16 @@ cells_none : (n : ℕ) → flat_map keys_in (replicate n (record { serial = 0; c
 cells_none zero = refl
 cells_none (suc n) = cells_none n
 
-cells_one : (n : ℕ) → 0 < n → flat_map keys_in (set (replicate n (record { serial = 0; content = free })) 0 (record { serial = 1; content = opened [] })) ≡ [] ∷ []
+cells_one : (n : ℕ) → 0 < n
+    → flat_map keys_in (set (replicate n (record { serial = 0; content = free })) 0 (record { serial = 1; content = opened [] })) ≡ [] ∷ []
 cells_one zero some = absurd (omega arith)
 cells_one (suc n) some = ap (λ keys. [] ∷ keys) (cells_none n)
 
 pub opening_keys : (teams : ℕ) → 0 < teams → keys_left (opening teams) ≡ [] ∷ []
 opening_keys teams some = rw (hands_none teams) (cells_one (8 * teams) (omega arith))
 
-pub covering_forks : (P : Program) (limit teams : ℕ) (history : List HistoryEntry) (s : State) → 0 < teams → Carries (opening teams) history s → AreCovering P limit history
+pub covering_forks : (P : Program) (limit teams : ℕ) (history : List HistoryEntry) (s : State) → 0 < teams → Carries (opening teams) history s
+    → AreCovering P limit history
     → (code : List ℕ) → HasOutcomeWithin P limit code → keys_begun code (keys_left s ++ keys_ended history) ≡ 1
 covering_forks P limit teams history s some carries covering code within =
     let both = sum_by-append (at_key code) (keys_left s) (keys_ended history) in

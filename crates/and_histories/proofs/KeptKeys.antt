@@ -1,10 +1,12 @@
 -- What the events do to the keys in hand and open: none is lost and none is invented.
-use Rattle.std.proofs.Common.{ℕ, zero, suc, ◌+◌, ◌≡◌, ◌<◌, Bool, true, false, cond, List, [], ◌∷◌, ◌++◌, length, get_or, set, refl, sym, subst, ap, ◌∙◌, true≢false, arith}
+use Rattle.std.proofs.Common.{ℕ, zero, suc, ◌+◌, ◌≡◌, ◌<◌, Bool, true, false, cond, List, [], ◌∷◌, ◌++◌, length, get_or, set, refl, sym, subst, ap, ◌∙◌}
+use Rattle.std.proofs.Common.{true≢false, arith}
 use Rattle.std.specs.Prelude.{flat_map, sum_by, Contains, nat_eq}
 use Rattle.std.specs.Cmp.Lexicographic.{pointwise, bytes_decides}
 use Rattle.std.proofs.lemmas.List.Sums.{sum_by-append, sum_by-set, sum_by-cons}
 use Rattle.std.proofs.lemmas.Map.Made.{Contains-tail}
-use Rattle.and_histories.specs.PlainTree.{Key, Content, free, opened, taking, Cell, State, Event, Reply, Does, hand_of, cell_of, Holds, in_place_of, children, with_keys, joined, with_cell, keys_in, keys_left}
+use Rattle.and_histories.specs.PlainTree.{Key, Content, free, opened, taking, Cell, State, Event, Reply, Does, hand_of, cell_of, Holds, in_place_of, children}
+use Rattle.and_histories.specs.PlainTree.{with_keys, joined, with_cell, keys_in, keys_left}
 use Rattle.and_histories.specs.Covering.{brought, replaced, ended}
 use Rattle.and_model.proofs.Tested.{none_in}
 
@@ -68,7 +70,8 @@ module _ (f : Key → ℕ) where
 
   -- a cell that is replaced
   total_cell : (s : State) (cell serial : ℕ) (content : Content) → cell < length s.cells
-      → sum_by f (keys_left (with_cell s cell serial content)) + sum_by f (keys_in (cell_of s cell)) ≡ sum_by f (keys_left s) + sum_by f (keys_in (record { serial = serial; content = content }))
+      → sum_by f (keys_left (with_cell s cell serial content)) + sum_by f (keys_in (cell_of s cell))
+      ≡ sum_by f (keys_left s) + sum_by f (keys_in (record { serial = serial; content = content }))
   total_cell s cell serial content below =
       let changed = sum_set f keys_in s.cells cell (record { serial = serial; content = content }) (record { serial = 0; content = free }) below in
       let one = total s in
@@ -91,7 +94,8 @@ module _ (f : Key → ℕ) where
       omega arith
   keys_are_kept s next event reply (Does.takes team cell serial key is_team is_open) =
       let middle : State = joined s team key in
-      let is_cell : cell < length s.cells = in_range s.cells cell (record { serial = 0; content = free }) (λ e. let f : free ≡ opened key = ap (λ (c : Cell). c.content) (sym e ∙ is_open) in cc) in
+      let is_cell : cell < length s.cells = in_range s.cells cell (record { serial = 0; content = free })
+      (λ e. let f : free ≡ opened key = ap (λ (c : Cell). c.content) (sym e ∙ is_open) in cc) in
       let one = total_hand s team (hand_of s team ++ key ∷ []) is_team in
       let more = sum_by-append f (hand_of s team) (key ∷ []) in
       let two = total_cell middle cell serial (taking team) is_cell in
@@ -99,7 +103,8 @@ module _ (f : Key → ℕ) where
       omega arith
   keys_are_kept s next event reply (Does.misses team cell serial is_team is_cell other) = omega arith
   keys_are_kept s next event reply (Does.clears team cell is_taking) =
-      let is_cell : cell < length s.cells = in_range s.cells cell (record { serial = 0; content = free }) (λ e. let f : free ≡ taking team = ap (λ (c : Cell). c.content) (sym e) ∙ is_taking in cc) in
+      let is_cell : cell < length s.cells = in_range s.cells cell (record { serial = 0; content = free })
+      (λ e. let f : free ≡ taking team = ap (λ (c : Cell). c.content) (sym e) ∙ is_taking in cc) in
       let one = total_cell s cell (cell_of s cell).serial free is_cell in
       let none : sum_by f (keys_in (cell_of s cell)) ≡ 0 = ap (λ c. sum_by f (keys_in (record { serial = 0; content = c }))) is_taking in
       omega arith

@@ -21,9 +21,11 @@ begins (c ∷ code) (k ∷ key) = nat_eq c k && begins code key
 abbrev pub keys_begun : (code : List ℕ) → List Key → ℕ
 keys_begun code keys = count_by (begins code) keys
 
--- A fork is covering where each such code that begins with its key begins with exactly one of the keys that take its place.
+-- A fork is covering where each such code that begins with its key begins with exactly one of the keys that take its
+-- place.
 abbrev pub IsCovering : Program → (limit : ℕ) → Event → Type 0
-IsCovering P limit (fork team key longer clauses) = (code : List ℕ) → HasOutcomeWithin P limit code → IsPrefix key code → keys_begun code (children longer clauses) ≡ 1
+IsCovering P limit (fork team key longer clauses) =
+    (code : List ℕ) → HasOutcomeWithin P limit code → IsPrefix key code → keys_begun code (children longer clauses) ≡ 1
 IsCovering P limit (publish team cell key) = Unit {0}
 IsCovering P limit (claim team cell serial) = Unit {0}
 IsCovering P limit (clear team cell) = Unit {0}

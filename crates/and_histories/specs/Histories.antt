@@ -1,6 +1,7 @@
 -- Histories of the choicepoint tree (this project's own).
 use Rattle.std.specs.Prelude.{ℕ, ◌≡◌, List, [], ◌∷◌, filter, nat_eq}
-use Rattle.and_histories.specs.PlainTree.{State, Event, fork, publish, claim, clear, end, look, left, Reply, opening, Does}
+use Rattle.and_histories.specs.PlainTree.{State, Event, fork, publish, claim, clear, end, look, left, Reply, opening}
+use Rattle.and_histories.specs.PlainTree.{Does}
 
 -- an event with its reply
 pub record HistoryEntry : Type 0 where
@@ -20,7 +21,8 @@ team_of (left team) = team
 abbrev pub calls : List HistoryEntry → ℕ → List HistoryEntry
 calls history team = filter (λ e. nat_eq (team_of e.event) team) history
 
--- The plain tree carries out the events, one after another, with these replies, and comes from the first state to the second.
+-- The plain tree carries out the events, one after another, with these replies, and comes from the first state to the
+-- second.
 abbrev pub Carries : State → List HistoryEntry → State → Type 0
 Carries s [] after = s ≡ after
 Carries s (e ∷ history) after = (next : State) × Does s e.event e.reply next × Carries next history after

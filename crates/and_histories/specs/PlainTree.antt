@@ -1,13 +1,16 @@
--- The choicepoint tree as one thread has it. Branches lie under keys: in the hand of a team, or open in a cell, where any team may take them (this project's own).
--- A key is a list of clause numbers, as a code is. Nothing here knows what a branch is.
-use Rattle.std.specs.Prelude.{ℕ, suc, ◌+◌, ◌-◌, ◌*◌, ◌^◌, ◌≡◌, ◌≢◌, ◌<◌, ◌≤◌, Bool, cond, List, [], ◌∷◌, ◌++◌, map, length, get_or, set, replicate, flat_map, nat_eq, Contains}
+-- The choicepoint tree as one thread has it. Branches lie under keys: in the hand of a team, or open in a cell, where
+-- any team may take them (this project's own). A key is a list of clause numbers, as a code is. Nothing here knows
+-- what a branch is.
+use Rattle.std.specs.Prelude.{ℕ, suc, ◌+◌, ◌-◌, ◌*◌, ◌^◌, ◌≡◌, ◌≢◌, ◌<◌, ◌≤◌, Bool, cond, List, [], ◌∷◌, ◌++◌, map}
+use Rattle.std.specs.Prelude.{length, get_or, set, replicate, flat_map, nat_eq, Contains}
 use Rattle.std.specs.Cmp.Lexicographic.{pointwise}
 use Rattle.and_model.specs.Prefixes.{IsPrefix}
 
 abbrev pub Key : Type 0
 Key = List ℕ
 
--- what a cell holds: nothing, a branch under a key, or nothing that is free yet, because a team is taking the branch out
+-- what a cell holds: nothing, a branch under a key, or nothing that is free yet, because a team is taking the branch
+-- out
 pub data Content : Type 0 where
   free : Content
   opened : Key → Content
@@ -62,7 +65,8 @@ pub data Reply : Type 0 where
 abbrev pub opening : (teams : ℕ) → State
 opening teams = record {
   hands = replicate teams [];
-  cells = set (replicate (8 * teams) (record { serial = 0; content = free })) 0 (record { serial = 1; content = opened [] });
+  cells = set (replicate (8 * teams) (record { serial = 0; content = free })) 0
+      (record { serial = 1; content = opened [] });
 }
 
 -- the keys that the team has in hand; none for what is no team
@@ -97,7 +101,11 @@ abbrev pub last_serial : ℕ
 last_serial = 2 ^ 48 - 1
 
 abbrev pub seen_in : Cell → Seen
-seen_in c = elim c.content [ free ↦ seen_free | opened key ↦ seen_open c.serial | taking team ↦ seen_taking team c.serial ]
+seen_in c = elim c.content [
+  | free ↦ seen_free
+  | opened key ↦ seen_open c.serial
+  | taking team ↦ seen_taking team c.serial
+]
 
 -- the keys with these in the place of the first that is the key
 abbrev pub in_place_of : Key → List Key → List Key → List Key
@@ -135,14 +143,20 @@ pub data Does (s : State) : Event → Reply → State → Type 0 where
   -- A fork puts the children of the longer key in the place of a key in hand.
   forks : (team : ℕ) (key longer : Key) (clauses : List ℕ) → Holds s team key → IsPrefix key longer
       → Does s (fork team key longer clauses) forked (with_keys s team key (children longer clauses))
-  -- A team publishes a key in hand in one of its own cells. The cell may be used up, or not free; else the key leaves the hand, and the cell is open with it.
-  finds_spent : (team cell : ℕ) (key : Key) → IsCell s cell → Owns team cell → Holds s team key → (cell_of s cell).serial ≡ last_serial
+  -- A team publishes a key in hand in one of its own cells. The cell may be used up, or not free; else the key leaves
+  -- the hand, and the cell is open with it.
+  finds_spent : (team cell : ℕ) (key : Key) → IsCell s cell → Owns team cell → Holds s team key
+      → (cell_of s cell).serial ≡ last_serial
       → Does s (publish team cell key) spent s
-  finds_not_free : (team cell : ℕ) (key : Key) → IsCell s cell → Owns team cell → Holds s team key → (cell_of s cell).serial ≢ last_serial → (cell_of s cell).content ≢ free
+  finds_not_free : (team cell : ℕ) (key : Key) → IsCell s cell → Owns team cell → Holds s team key
+      → (cell_of s cell).serial ≢ last_serial → (cell_of s cell).content ≢ free
       → Does s (publish team cell key) (not_free (seen_in (cell_of s cell))) s
-  publishes : (team cell : ℕ) (key : Key) → IsCell s cell → Owns team cell → Holds s team key → (cell_of s cell).serial ≢ last_serial → (cell_of s cell).content ≡ free
-      → Does s (publish team cell key) done (with_cell (with_keys s team key []) cell (suc (cell_of s cell).serial) (opened key))
-  -- A team claims what is open in a cell under that serial: the key joins its hand, and the cell is being taken by it. Else it is told what is there.
+  publishes : (team cell : ℕ) (key : Key) → IsCell s cell → Owns team cell → Holds s team key
+      → (cell_of s cell).serial ≢ last_serial → (cell_of s cell).content ≡ free
+      → Does s (publish team cell key) done
+      (with_cell (with_keys s team key []) cell (suc (cell_of s cell).serial) (opened key))
+  -- A team claims what is open in a cell under that serial: the key joins its hand, and the cell is being taken by
+  -- it. Else it is told what is there.
   takes : (team cell serial : ℕ) (key : Key) → IsTeam s team → IsOpen s cell serial key
       → Does s (claim team cell serial) (taken key) (with_cell (joined s team key) cell serial (taking team))
   misses : (team cell serial : ℕ) → IsTeam s team → IsCell s cell → ((key : Key) → IsOpen s cell serial key → ⊥)

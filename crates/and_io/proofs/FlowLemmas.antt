@@ -15,7 +15,8 @@ adds_more a b c xs ys zs joined first then =
     then ∙ ap (λ l. l ++ ys) first ∙ append_assoc a xs ys ∙ ap (λ l. a ++ l) joined
 
 -- a piece of what stands behind k goes on behind the first k
-pub next_piece : (k n : ℕ) (xs : List ℕ) → n ≤ length (take (length xs - k) (drop k xs)) → k ≤ length xs → take k xs ++ take n (take (length xs - k) (drop k xs)) ≡ take (k + n) xs
+pub next_piece : (k n : ℕ) (xs : List ℕ) → n ≤ length (take (length xs - k) (drop k xs)) → k ≤ length xs
+    → take k xs ++ take n (take (length xs - k) (drop k xs)) ≡ take (k + n) xs
 next_piece k n xs within below =
     let all : take (length xs - k) (drop k xs) ≡ drop k xs = grind (arith, common_steps) in
     ap (λ l. take k xs ++ take n l) all ∙ sym (take-add k n xs)

@@ -1,5 +1,5 @@
--- What a call on a source may do to the bytes that are left, and what a call on a source or a sink may do to the count of faults.
--- All of it is this project's own. Where a source does not tell what is left, that is `None`.
+-- What a call on a source may do to the bytes that are left, and what a call on a source or a sink may do to the
+-- count of faults. All of it is this project's own. Where a source does not tell what is left, that is `None`.
 use Rattle.std.specs.Prelude.{◌≡◌, ℕ, ◌<◌, ◌≤◌, ◌⊎◌, List, ◌++◌, length, Option, Some, None}
 
 -- The count of faults rose, or stands at its last value, where it has one

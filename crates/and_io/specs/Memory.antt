@@ -1,8 +1,8 @@
 -- What the source and the sink in memory keep. All of it is this project's own.
 use Rattle.std.specs.Prelude.{ℕ, ◌+◌, ◌-◌, ◌^◌, List, length, min}
 
--- The bytes that a source has given and those that it has left, how many it gives at a time, the numbers of the calls in which it
--- fails, and how many calls and faults there were
+-- The bytes that a source has given and those that it has left, how many it gives at a time, the numbers of the calls
+-- in which it fails, and how many calls and faults there were
 pub record Feed : Type 0 where
   pub taken : List ℕ
   pub bytes : List ℕ

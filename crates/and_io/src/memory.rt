@@ -1,6 +1,7 @@
 //! A source and a sink in memory: the source fails in the calls that it is told, the sink once it is
 //! full. Both count their calls.
-ghost use Rattle.std.specs.Prelude.{◌≡◌, ◌≢◌, ◌+◌, ◌<◌, ◌≤◌, ◌++◌, ◌↔◌, [], Ok, Some, None, length, take, min, All, Contains, IsTrue};
+ghost use Rattle.std.specs.Prelude.{◌≡◌, ◌≢◌, ◌+◌, ◌<◌, ◌≤◌, ◌++◌, ◌↔◌, [], Ok, Some, None, length, take, min, All};
+ghost use Rattle.std.specs.Prelude.{Contains, IsTrue};
 ghost use Rattle.std.specs.Prelude.{IfOk, IsErr, OnOk, OnErr};
 ghost use Rattle.and_io.specs.Flow.{Takes};
 ghost use Rattle.and_io.specs.Memory.{given_to, space_in, most, one_more};
@@ -37,7 +38,8 @@ impl Model for MemorySource {
       faults = s.faults;
     } };
 
-    ghost invariant = { λ s. (s.at ≤ length s.text) × (0 < s.piece) × (s.faults ≤ s.calls) × All (λ call. call ≢ most) s.fails };
+    ghost invariant = { λ s. (s.at ≤ length s.text) × (0 < s.piece) × (s.faults ≤ s.calls)
+        × All (λ call. call ≢ most) s.fails };
 }
 
 /// Whether the list has that number.

@@ -34,7 +34,8 @@ pub fn read_all<S: Source>(alloc: Global, source: &mut S, limit: usize) -> Resul
 
     // The bytes that the source gave.
     ensures took { IfOk result (TookUpTo limit (S.taken source.old) (S.taken source.new) (S.ended source.new)) }
-    ensures took_at_failed { IsErrOf result ReadStop.Failed → TookAtMost limit (S.taken source.old) (S.taken source.new) }
+    ensures took_at_failed { IsErrOf result ReadStop.Failed
+        → TookAtMost limit (S.taken source.old) (S.taken source.new) }
     ensures took_at_memory { IsErrOf result ReadStop.Memory →
         TookAtMost (limit + 1) (S.taken source.old) (S.taken source.new) }
 

@@ -1,5 +1,6 @@
 -- Steps of cells that keep a list of what they know.
-use Rattle.std.proofs.Common.{ℕ, suc, ◌≡◌, ◌≢◌, ◌<◌, true, false, List, [], ◌∷◌, ◌++◌, map, length, get_or, set, refl, sym, ap, subst, ◌∙◌, ◌⊎◌, inl, inr, arith}
+use Rattle.std.proofs.Common.{ℕ, suc, ◌≡◌, ◌≢◌, ◌<◌, true, false, List, [], ◌∷◌, ◌++◌, map, length, get_or, set, refl, sym, ap, subst, ◌∙◌, ◌⊎◌, inl, inr}
+use Rattle.std.proofs.Common.{arith}
 use Rattle.std.specs.Prelude.{All, Contains}
 use Rattle.std.proofs.lemmas.Bool.{cases_eq, cases_lt}
 use Rattle.std.proofs.lemmas.List.{map-append, get_or-map, length-append, length-map, get_or_past}
@@ -45,36 +46,45 @@ pub known_at : (known : List Learnt) (i : ℕ) (s : Setting) → i < length know
 known_at known i s below is = (i, subst (λ n. i < n) (sym (length_settings known)) below, setting_at known i s below ∙ is)
 
 -- what is known is so
-pub known_is_so : (row : List Ref) (known : List Learnt) (missed : List ℕ) (p : ℕ) (r : Ref) → AreSo row known → Knows (glimpse row known missed) p r → IsSetTo row p r
+pub known_is_so : (row : List Ref) (known : List Learnt) (missed : List ℕ) (p : ℕ) (r : Ref) → AreSo row known
+    → Knows (glimpse row known missed) p r → IsSetTo row p r
 known_is_so row known missed p r so knows =
     let at = place_of known (record { place = p; value = r }) knows in
     let here : IsSetTo row (get_or known at.0 nothing).0 (get_or known at.0 nothing).1 = so at.0 nothing at.1 in
     subst (λ (s : Setting). IsSetTo row s.place s.value) at.2 here
 
 settings_push : (known : List Learnt) (k : Learnt) → settings (known ++ k ∷ []) ≡ settings known ++ setting_of k ∷ []
-settings_push known k = ap (map (λ (k : Known). k.setting)) (map-append known_of known (k ∷ [])) ∙ map-append (λ (k : Known). k.setting) (map known_of known) (known_of k ∷ [])
+settings_push known k = ap (map (λ (k : Known). k.setting)) (map-append known_of known (k ∷ []))
+    ∙ map-append (λ (k : Known). k.setting) (map known_of known) (known_of k ∷ [])
 
 places_push : (known : List Learnt) (k : Learnt) → places (known ++ k ∷ []) ≡ places known ++ k.0 ∷ []
-places_push known k = ap (map (λ (k : Known). k.setting.place)) (map-append known_of known (k ∷ [])) ∙ map-append (λ (k : Known). k.setting.place) (map known_of known) (known_of k ∷ [])
+places_push known k = ap (map (λ (k : Known). k.setting.place)) (map-append known_of known (k ∷ []))
+    ∙ map-append (λ (k : Known). k.setting.place) (map known_of known) (known_of k ∷ [])
 
-forth : (known : List Learnt) (k : Learnt) (p : ℕ) (q : Ref) → Contains (settings (known ++ k ∷ [])) (record { place = p; value = q }) → Contains (settings known) (record { place = p; value = q }) ⊎ ((p ≡ k.0) × (q ≡ k.1))
+forth : (known : List Learnt) (k : Learnt) (p : ℕ) (q : Ref) → Contains (settings (known ++ k ∷ [])) (record { place = p; value = q })
+    → Contains (settings known) (record { place = p; value = q }) ⊎ ((p ≡ k.0) × (q ≡ k.1))
 forth known k p q c =
-    elim (Contains-push_cases (settings known) (setting_of k) (record { place = p; value = q }) (subst (λ xs. Contains xs (record { place = p; value = q })) (settings_push known k) c)) [
+    elim (Contains-push_cases (settings known) (setting_of k) (record { place = p; value = q })
+    (subst (λ xs. Contains xs (record { place = p; value = q })) (settings_push known k) c)) [
       | inl before ↦ inl before
       | inr is ↦ inr (sym (ap (λ (s : Setting). s.place) is), sym (ap (λ (s : Setting). s.value) is))
     ]
 
-back : (known : List Learnt) (k : Learnt) (p : ℕ) (q : Ref) → Contains (settings known) (record { place = p; value = q }) ⊎ ((p ≡ k.0) × (q ≡ k.1)) → Contains (settings (known ++ k ∷ [])) (record { place = p; value = q })
-back known k p q (inl before) = subst (λ xs. Contains xs (record { place = p; value = q })) (sym (settings_push known k)) (Contains-append_left (settings known) (setting_of k ∷ []) (record { place = p; value = q }) before)
+back : (known : List Learnt) (k : Learnt) (p : ℕ) (q : Ref) → Contains (settings known) (record { place = p; value = q }) ⊎ ((p ≡ k.0) × (q ≡ k.1))
+    → Contains (settings (known ++ k ∷ [])) (record { place = p; value = q })
+back known k p q (inl before) = subst (λ xs. Contains xs (record { place = p; value = q })) (sym (settings_push known k))
+    (Contains-append_left (settings known) (setting_of k ∷ []) (record { place = p; value = q }) before)
 back known k p q (inr is) =
     let same : setting_of k ≡ record { place = p; value = q } = cc in
-    subst (λ xs. Contains xs (record { place = p; value = q })) (sym (settings_push known k)) (subst (Contains (settings known ++ setting_of k ∷ [])) same (Contains-push (settings known) (setting_of k)))
+    subst (λ xs. Contains xs (record { place = p; value = q })) (sym (settings_push known k))
+    (subst (Contains (settings known ++ setting_of k ∷ [])) same (Contains-push (settings known) (setting_of k)))
 
 known_push : (known : List Learnt) (k : Learnt) → map known_of (known ++ k ∷ []) ≡ map known_of known ++ known_of k ∷ []
 known_push known k = map-append known_of known (k ∷ [])
 
 -- a set word that is known was found
-pub finds_known : (P : NamedProgram) (row : List Ref) (known : List Learnt) (missed : List ℕ) (place : ℕ) (r : Ref) → AreSo row known → ((q : Ref) → q ≡ word_at row place → CanHold P (length row) place q)
+pub finds_known : (P : NamedProgram) (row : List Ref) (known : List Learnt) (missed : List ℕ) (place : ℕ) (r : Ref) → AreSo row known
+    → ((q : Ref) → q ≡ word_at row place → CanHold P (length row) place q)
     → Knows (glimpse row known missed) place r → Finds P place r (glimpse row known missed) (glimpse row known missed)
 finds_known P row known missed place r so fits knows =
     let is = known_is_so row known missed place r so knows in record {
@@ -94,7 +104,8 @@ finds_known P row known missed place r so fits knows =
 
 -- one that is not known is learnt
 pub finds_learnt : (P : NamedProgram) (row : List Ref) (known : List Learnt) (missed : List ℕ) (place : ℕ) (r : Ref) → r ≢ Free → CanHold P (length row) place r
-    → ((q : Ref) → Knows (glimpse row known missed) place q → ⊥) → Finds P place r (glimpse row known missed) (glimpse row (known ++ (place, r, false) ∷ []) missed)
+    → ((q : Ref) → Knows (glimpse row known missed) place q → ⊥)
+    → Finds P place r (glimpse row known missed) (glimpse row (known ++ (place, r, false) ∷ []) missed)
 finds_learnt P row known missed place r is_set fits unknown = record {
   is_set = is_set;
   fits = fits;
@@ -107,7 +118,8 @@ finds_learnt P row known missed place r is_set fits unknown = record {
 }
 
 pub sets_learnt : (row : List Ref) (known : List Learnt) (missed : List ℕ) (place : ℕ) (r : Ref)
-    → ((q : Ref) → Knows (glimpse row known missed) place q → ⊥) → Sets place r (glimpse row known missed) (glimpse (set row place r) (known ++ (place, r, true) ∷ []) missed)
+    → ((q : Ref) → Knows (glimpse row known missed) place q → ⊥)
+    → Sets place r (glimpse row known missed) (glimpse (set row place r) (known ++ (place, r, true) ∷ []) missed)
 sets_learnt row known missed place r unknown = record {
   not_known = unknown;
   free = tt;
@@ -133,14 +145,16 @@ misses_place row known missed place unknown =
 
 -- what is known is so still where a free word was set
 pub so_set : (row : List Ref) (known : List Learnt) (place : ℕ) (r : Ref) → word_at row place ≡ Free → AreSo row known → AreSo (set row place r) known
-so_set row known place r free so = All-weaker (λ (k : Learnt). IsSetTo row k.0 k.1) (λ (k : Learnt). IsSetTo (set row place r) k.0 k.1) (λ k is. kept k is (cases_eq k.0 place)) known so
+so_set row known place r free so =
+    All-weaker (λ (k : Learnt). IsSetTo row k.0 k.1) (λ (k : Learnt). IsSetTo (set row place r) k.0 k.1) (λ k is. kept k is (cases_eq k.0 place)) known so
   where
     kept : (k : Learnt) → IsSetTo row k.0 k.1 → (k.0 ≡ place) ⊎ (k.0 ≢ place) → IsSetTo (set row place r) k.0 k.1
     kept k is (inl same) = absurd (is.1 (sym is.0 ∙ ap (word_at row) same ∙ free))
     kept k is (inr other) = (word_set_other row place k.0 r other ∙ is.0, is.1)
 
 -- a place that is not known is apart from those that are
-pub once_push : (known : List Learnt) (k : Learnt) → AreDistinct (places known) → ((r : Ref) → Contains (settings known) (record { place = k.0; value = r }) → ⊥) → AreDistinct (places (known ++ k ∷ []))
+pub once_push : (known : List Learnt) (k : Learnt) → AreDistinct (places known)
+    → ((r : Ref) → Contains (settings known) (record { place = k.0; value = r }) → ⊥) → AreDistinct (places (known ++ k ∷ []))
 once_push known k once unknown = subst AreDistinct (sym (places_push known k)) (distinct_push (places known) k.0 once apart)
   where
     many : length (places known) ≡ length known
@@ -150,12 +164,15 @@ once_push known k once unknown = subst AreDistinct (sym (places_push known k)) (
     apart i below e =
         let low : i < length known = subst (λ n. i < n) many below in
         let at : get_or (places known) i 0 ≡ (get_or known i nothing).0 =
-        get_or-map (λ (k : Known). k.setting.place) (map known_of known) i (known_of nothing) 0 (rw length-map low) ∙ ap (λ (k : Known). k.setting.place) (get_or-map known_of known i nothing (known_of nothing) low) in
+        get_or-map (λ (k : Known). k.setting.place) (map known_of known) i (known_of nothing) 0 (rw length-map low)
+        ∙ ap (λ (k : Known). k.setting.place) (get_or-map known_of known i nothing (known_of nothing) low) in
         let same : (get_or known i nothing).0 ≡ k.0 = sym at ∙ e in
-        unknown (get_or known i nothing).1 (known_at known i _ low (let is : setting_of (get_or known i nothing) ≡ record { place = k.0; value = (get_or known i nothing).1 } = cc in is))
+        unknown (get_or known i nothing).1
+        (known_at known i _ low (let is : setting_of (get_or known i nothing) ≡ record { place = k.0; value = (get_or known i nothing).1 } = cc in is))
 
 -- what stands at a place of the list is known
-pub known_here : (known items : List Learnt) (i p : ℕ) → items ≡ known → i < length items → (get_or items i nothing).0 ≡ p → Contains (settings known) (record { place = p; value = (get_or items i nothing).1 })
+pub known_here : (known items : List Learnt) (i p : ℕ) → items ≡ known → i < length items → (get_or items i nothing).0 ≡ p
+    → Contains (settings known) (record { place = p; value = (get_or items i nothing).1 })
 known_here known items i p same below is =
     subst (λ xs. Contains (settings xs) (record { place = p; value = (get_or items i nothing).1 })) same
     (known_at items i _ below (let eq : setting_of (get_or items i nothing) ≡ record { place = p; value = (get_or items i nothing).1 } = cc in eq))
@@ -164,9 +181,11 @@ pub so_push : (row : List Ref) (known : List Learnt) (k : Learnt) → AreSo row 
 so_push row known k so is = All-push (λ (k : Learnt). IsSetTo row k.0 k.1) known k so is
 
 -- with one more the list is kept as it should be
-pub push_kept : (row : List Ref) (known after : List Learnt) (k : Learnt) → after ≡ known ++ k ∷ [] → AreDistinct (places known) → AreSo row known → IsSetTo row k.0 k.1
+pub push_kept : (row : List Ref) (known after : List Learnt) (k : Learnt) → after ≡ known ++ k ∷ [] → AreDistinct (places known) → AreSo row known
+    → IsSetTo row k.0 k.1
     → ((r : Ref) → Contains (settings known) (record { place = k.0; value = r }) → ⊥) → AreDistinct (places after) × AreSo row after
-push_kept row known after k is once so set unknown = subst (λ xs. AreDistinct (places xs) × AreSo row xs) (sym is) (once_push known k once unknown, so_push row known k so set)
+push_kept row known after k is once so set unknown =
+    subst (λ xs. AreDistinct (places xs) × AreSo row xs) (sym is) (once_push known k once unknown, so_push row known k so set)
 
 -- the place of a set word is one of the row
 set_below : (row : List Ref) (p : ℕ) (r : Ref) → IsSetTo row p r → p < length row
@@ -182,11 +201,20 @@ few_known row known missed place once so below unknown =
     let one : Learnt = (place, Cell place, true) in
     let apart = once_push known one once (λ r knows. unknown r knows) in
     let IsLow : ℕ → Type 0 = λ p. p < length row in
-    let low : All (λ (k : Learnt). IsLow k.0) known = All-weaker (λ (k : Learnt). IsSetTo row k.0 k.1) (λ (k : Learnt). IsLow k.0) (λ k is. set_below row k.0 k.1 is) known so in
-    let lows : All IsLow (places known) = All-map IsLow (λ (k : Known). k.setting.place) (map known_of known) (All-map (λ (k : Known). IsLow k.setting.place) known_of known low) in
+    let low : All (λ (k : Learnt). IsLow k.0) known =
+    All-weaker (λ (k : Learnt). IsSetTo row k.0 k.1) (λ (k : Learnt). IsLow k.0) (λ k is. set_below row k.0 k.1 is) known so in
+    let lows : All IsLow (places known) =
+    All-map IsLow (λ (k : Known). k.setting.place) (map known_of known) (All-map (λ (k : Known). IsLow k.setting.place) known_of known low) in
     let all : All IsLow (places (known ++ one ∷ [])) = subst (All IsLow) (sym (places_push known one)) (All-push IsLow (places known) place lows below) in
     let few = few_distinct (places (known ++ one ∷ [])) (length row) apart all in
-    omega (arith, few, ap length (places_push known one), length-append (places known) (place ∷ []), length-map (map known_of known) (λ (k : Known). k.setting.place), length-map known known_of)
+    omega (
+      arith,
+      few,
+      ap length (places_push known one),
+      length-append (places known) (place ∷ []),
+      length-map (map known_of known) (λ (k : Known). k.setting.place),
+      length-map known known_of,
+    )
 
 pub finds_then : (P : NamedProgram) (row after : List Ref) (known later : List Learnt) (missed still : List ℕ) (place : ℕ) (r : Ref)
     → length after ≡ length row → later ≡ known ++ (place, r, false) ∷ [] → still ≡ missed → r ≢ Free → CanHold P (length row) place r
@@ -213,13 +241,16 @@ sets_then row after known later missed still place r same_row is_known same_miss
     let from = glimpse row known missed in
     subst (λ a. Sets place r from (glimpse a later still)) (sym same_row)
     (subst (λ k. Sets place r from (glimpse (set row place r) k still)) (sym is_known)
-    (subst (λ m. Sets place r from (glimpse (set row place r) (known ++ (place, r, true) ∷ []) m)) (sym same_missed) (sets_learnt row known missed place r unknown)))
+    (subst (λ m. Sets place r from (glimpse (set row place r) (known ++ (place, r, true) ∷ []) m)) (sym same_missed)
+    (sets_learnt row known missed place r unknown)))
 
 -- a free word is not known
-pub free_unknown : (row : List Ref) (known : List Learnt) (missed : List ℕ) (place : ℕ) (r : Ref) → AreSo row known → word_at row place ≡ Free → Knows (glimpse row known missed) place r → ⊥
+pub free_unknown : (row : List Ref) (known : List Learnt) (missed : List ℕ) (place : ℕ) (r : Ref) → AreSo row known → word_at row place ≡ Free
+    → Knows (glimpse row known missed) place r → ⊥
 free_unknown row known missed place r so free knows = let is = known_is_so row known missed place r so knows in is.1 (sym is.0 ∙ free)
 
-pub written_so : (P : NamedProgram) (row : List Ref) (known : List Learnt) (missed : List ℕ) (pair : ℕ) → IsSound P row → AreSo row known → IsKnownWritten (glimpse row known missed) pair
+pub written_so : (P : NamedProgram) (row : List Ref) (known : List Learnt) (missed : List ℕ) (pair : ℕ) → IsSound P row → AreSo row known
+    → IsKnownWritten (glimpse row known missed) pair
     → (word_at row pair ≢ Free) × (word_at row (suc pair) ≢ Free)
 written_so P row known missed pair sound so (inl both) =
     let high = known_is_so row known missed pair both.0.0 so both.0.1 in

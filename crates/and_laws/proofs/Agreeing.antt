@@ -25,11 +25,14 @@ step_shut {P} {ag} t next u b shut st =
     elim (picked_or b o) [
       | inl r ↦
           let e : r.0 ≡ c = only r.0 (picked_sound b (shut_consistent u shut) o r es gs x) in
-          let all : (k : Of P (call_of t o) c) → Below P ag (reduce t o c k) u = subst (λ d. (k : Of P (call_of t o) d) → Below P ag (reduce t o d k) u) e r.2 in
+          let all : (k : Of P (call_of t o) c) → Below P ag (reduce t o c k) u =
+          subst (λ d. (k : Of P (call_of t o) d) → Below P ag (reduce t o d k) u) e r.2 in
           subst (λ v. Below P ag v u) (sym is_next) (all h)
       | inr p ↦
           let two = shut.4 p.0 in
-          let one : (d : ℕ) → Candidate P shut.0 (path u p.0) (call_of u p.0) d → d ≡ c = λ d k. only d (candidate_falls P es shut.0 (path t o) (call_of t o) d grow (moved P shut.0 (path u p.0) (path t o) (call_of u p.0) (call_of t o) d p.1 p.2 k)) in
+          let one : (d : ℕ) → Candidate P shut.0 (path u p.0) (call_of u p.0) d
+          → d ≡ c = λ d k. only d (candidate_falls P es shut.0 (path t o) (call_of t o) d grow
+          (moved P shut.0 (path u p.0) (path t o) (call_of u p.0) (call_of t o) d p.1 p.2 k)) in
           absurd (two.2 (one two.0 two.3 ∙ sym (one two.1 two.4)))
     ]
 
@@ -47,7 +50,9 @@ dead_below_shut {P} {ag} t u b dead shut =
       | inl bad ↦ bad (shut.3.0, grow shut.3.0 shut.3.1)
       | inr w ↦ elim (picked_or b w.0) [
         | inl r ↦ w.1 r.0 (picked_sound b (shut_consistent u shut) w.0 r es gs x)
-        | inr p ↦ let two = shut.4 p.0 in w.1 two.0 (candidate_falls P es shut.0 (path t w.0) (call_of t w.0) two.0 grow (moved P shut.0 (path u p.0) (path t w.0) (call_of u p.0) (call_of t w.0) two.0 p.1 p.2 two.3))
+        | inr p ↦ let two = shut.4 p.0 in w.1 two.0
+            (candidate_falls P es shut.0 (path t w.0) (call_of t w.0) two.0 grow
+            (moved P shut.0 (path u p.0) (path t w.0) (call_of u p.0) (call_of t w.0) two.0 p.1 p.2 two.3))
       ]
     ]
 

@@ -3,7 +3,8 @@
 use Rattle.std.proofs.Common.{ℕ, ◌≡◌, ◌≤◌, List, [], ◌∷◌, ◌++◌, append-nil, refl, sym, ◌∙◌, subst, inl, inr, ◌⊎◌, arith, suc}
 use Rattle.and_model.specs.Terms.{Path, Term}
 use Rattle.and_model.specs.Programs.{Program, Item, call, equal, arithmetic, fail, clause_at, Of}
-use Rattle.and_model.specs.Trees.{Agenda, end, goal, equation, reckoning, agenda, query_agenda, Tree, done, left, by, equate, reckon, fresh, Below, both_done, both_left, both_by, grown, both_equate, both_reckon}
+use Rattle.and_model.specs.Trees.{Agenda, end, goal, equation, reckoning, agenda, query_agenda, Tree, done, left, by, equate, reckon, fresh, Below, both_done}
+use Rattle.and_model.specs.Trees.{both_left, both_by, grown, both_equate, both_reckon}
 use Rattle.and_model.specs.Prefixes.{IsPrefix}
 use Rattle.and_laws.specs.Paths.{At}
 use Rattle.and_laws.proofs.PrefixLemmas.{prefix_front, same_after}
@@ -24,16 +25,21 @@ Apart (equation a b rest) = Apart rest
 Apart (reckoning a rest) = Apart rest
 
 -- a path through a body's goals goes through the frame and one of the items, or through the rest
-under_body : (q : Path) (i : ℕ) (items : List Item) (rest : Agenda) (p : Path) → Under (agenda q i items rest) p → ((j : ℕ) × (i ≤ j) × IsPrefix (q ++ j ∷ []) p) ⊎ Under rest p
+under_body : (q : Path) (i : ℕ) (items : List Item) (rest : Agenda) (p : Path) → Under (agenda q i items rest) p
+    → ((j : ℕ) × (i ≤ j) × IsPrefix (q ++ j ∷ []) p) ⊎ Under rest p
 under_body q i [] rest p u = inr u
 under_body q i (call g ∷ items) rest p (inl b) = inl (i, omega arith, b)
-under_body q i (call g ∷ items) rest p (inr u) = elim (under_body q (suc i) items rest p u) [ inl f ↦ inl (f.0, (let k = f.1 in omega arith), f.2) | inr v ↦ inr v ]
-under_body q i (equal a b ∷ items) rest p u = elim (under_body q (suc i) items rest p u) [ inl f ↦ inl (f.0, (let k = f.1 in omega arith), f.2) | inr v ↦ inr v ]
-under_body q i (arithmetic a ∷ items) rest p u = elim (under_body q (suc i) items rest p u) [ inl f ↦ inl (f.0, (let k = f.1 in omega arith), f.2) | inr v ↦ inr v ]
+under_body q i (call g ∷ items) rest p (inr u) =
+    elim (under_body q (suc i) items rest p u) [ inl f ↦ inl (f.0, (let k = f.1 in omega arith), f.2) | inr v ↦ inr v ]
+under_body q i (equal a b ∷ items) rest p u =
+    elim (under_body q (suc i) items rest p u) [ inl f ↦ inl (f.0, (let k = f.1 in omega arith), f.2) | inr v ↦ inr v ]
+under_body q i (arithmetic a ∷ items) rest p u =
+    elim (under_body q (suc i) items rest p u) [ inl f ↦ inl (f.0, (let k = f.1 in omega arith), f.2) | inr v ↦ inr v ]
 under_body q i (fail ∷ items) rest p u = elim (under_body q (suc i) items rest p u) [ inl f ↦ inl (f.0, (let k = f.1 in omega arith), f.2) | inr v ↦ inr v ]
 
 -- the goals of a body are apart from each other
-pub apart_body : (q : Path) (i : ℕ) (items : List Item) (rest : Agenda) → ((p : Path) → IsPrefix q p → Under rest p → ⊥) → Apart rest → Apart (agenda q i items rest)
+pub apart_body : (q : Path) (i : ℕ) (items : List Item) (rest : Agenda) → ((p : Path) → IsPrefix q p → Under rest p → ⊥) → Apart rest
+    → Apart (agenda q i items rest)
 apart_body q i [] rest f a = a
 apart_body q i (call g ∷ items) rest f a = (
   λ p b u. elim (under_body q (suc i) items rest p u) [
@@ -87,7 +93,8 @@ own_path : {P : Program} (q : Path) (g : Term) (rest : Agenda) (t : Tree P rest)
 own_path q g rest t d a x = a.0 q ([], sym (append-nil q)) (at_under t q d x)
 
 -- and nothing of the body that took it
-pub own_body : {P : Program} (q : Path) (g : Term) (rest : Agenda) (items : List Item) (t : Tree P (agenda q 0 items rest)) (d : ℕ) → Apart (goal q g rest) → At t q d → ⊥
+pub own_body : {P : Program} (q : Path) (g : Term) (rest : Agenda) (items : List Item) (t : Tree P (agenda q 0 items rest)) (d : ℕ)
+    → Apart (goal q g rest) → At t q d → ⊥
 own_body q g rest items t d a x = elim (under_body q 0 items rest q (at_under t q d x)) [
   | inl y ↦ longer q y.0 y.2.0 y.2.1
   | inr v ↦ a.0 q ([], sym (append-nil q)) v
@@ -109,7 +116,8 @@ agrees_below {P} (by {q = q} {g = g} {rest = rest} c h u) (left t) a f =
     elim (f p d y) [ inl e ↦ absurd (own_path q g rest t d a (subst (λ z. At t z d) e.0 y)) | inr z ↦ z ]))
 agrees_below {P} (by {q = q} {g = g} {rest = rest} c h u) (by d k t) a f =
     let e : d ≡ c = elim (f q d (inl (refl, refl))) [ inl x ↦ x.1 | inr y ↦ absurd (own_body q g rest (clause_at P c).body u d a y) ] in
-    (subst (λ z. (k : Of P g z) (t : Tree P (agenda q 0 (clause_at P z).body rest)) → ((p : Path) (d : ℕ) → At (by {g = g} z k t) p d → At (by {g = g} c h u) p d) → Below P (goal q g rest) (by z k t) (by c h u)) (sym e)
+    (subst (λ z. (k : Of P g z) (t : Tree P (agenda q 0 (clause_at P z).body rest))
+    → ((p : Path) (d : ℕ) → At (by {g = g} z k t) p d → At (by {g = g} c h u) p d) → Below P (goal q g rest) (by z k t) (by c h u)) (sym e)
     (λ k' t' f'. both_by c k' h (agrees_below u t' (apart_body q 0 (clause_at P c).body rest a.0 a.1) (λ p x y.
     elim (f' p x (inr y)) [ inl z ↦ absurd (own_body q g rest (clause_at P c).body t' x a (subst (λ r. At t' r x) z.0 y)) | inr z ↦ z ])))) k t f
 agrees_below (equate u) (equate t) a f = both_equate (agrees_below u t a f)
@@ -120,5 +128,6 @@ pub query_apart : (P : Program) → Apart (query_agenda P)
 query_apart P = apart_body [] 0 P.query.body end (λ p b u. elim u [ ]) tt
 
 -- So trees with the same clauses at the same paths are one.
-pub same_paths : {P : Program} {ag : Agenda} (t u : Tree P ag) → Apart ag → ((p : Path) (d : ℕ) → At t p d → At u p d) → ((p : Path) (d : ℕ) → At u p d → At t p d) → t ≡ u
+pub same_paths : {P : Program} {ag : Agenda} (t u : Tree P ag) → Apart ag → ((p : Path) (d : ℕ) → At t p d → At u p d)
+    → ((p : Path) (d : ℕ) → At u p d → At t p d) → t ≡ u
 same_paths t u a f b = same_trees t u (agrees_below u t a f) (agrees_below t u a b)

@@ -4,10 +4,12 @@ use Rattle.and_model.specs.Terms.{Path, Substitution}
 use Rattle.and_model.specs.Solutions.{Solves}
 use Rattle.and_model.specs.Programs.{Program, Item, call, equal, arithmetic, fail, Arithmetic, is, compare, Of}
 use Rattle.and_model.specs.Candidates.{In, guard}
-use Rattle.and_model.specs.Trees.{Agenda, agenda, Tree, left, equate, reckon, equations, arithmetics, taken_weight, code, Open, path, call_of, fresh, reduce, blank}
+use Rattle.and_model.specs.Trees.{Agenda, agenda, Tree, left, equate, reckon, equations, arithmetics, taken_weight, code, Open, path, call_of, fresh, reduce}
+use Rattle.and_model.specs.Trees.{blank}
 
 -- The tree's equations are among those of the whole.
-pub fresh_equations : {P : Program} (q : Path) (i : ℕ) (items : List Item) {rest : Agenda} (t : Tree P rest) (s : Substitution) → Solves s (equations (fresh q i items t)) → Solves s (equations t)
+pub fresh_equations : {P : Program} (q : Path) (i : ℕ) (items : List Item) {rest : Agenda} (t : Tree P rest) (s : Substitution)
+    → Solves s (equations (fresh q i items t)) → Solves s (equations t)
 fresh_equations q i [] t s p = p
 fresh_equations q i (call g ∷ items) t s p = fresh_equations q (suc i) items t s p
 fresh_equations q i (equal a b ∷ items) t s p = fresh_equations q (suc i) items t s p.1
@@ -15,7 +17,8 @@ fresh_equations q i (arithmetic a ∷ items) t s p = fresh_equations q (suc i) i
 fresh_equations q i (fail ∷ items) t s p = fresh_equations q (suc i) items t s p.1
 
 -- So is its arithmetic,
-pub fresh_arithmetics : {P : Program} (q : Path) (i : ℕ) (items : List Item) {rest : Agenda} (t : Tree P rest) (a : Arithmetic) → In a (arithmetics t) → In a (arithmetics (fresh q i items t))
+pub fresh_arithmetics : {P : Program} (q : Path) (i : ℕ) (items : List Item) {rest : Agenda} (t : Tree P rest) (a : Arithmetic) → In a (arithmetics t)
+    → In a (arithmetics (fresh q i items t))
 fresh_arithmetics q i [] t a p = p
 fresh_arithmetics q i (call g ∷ items) t a p = fresh_arithmetics q (suc i) items t a p
 fresh_arithmetics q i (equal b c ∷ items) t a p = fresh_arithmetics q (suc i) items t a p
@@ -23,7 +26,8 @@ fresh_arithmetics q i (arithmetic b ∷ items) t a p = inr (fresh_arithmetics q 
 fresh_arithmetics q i (fail ∷ items) t a p = fresh_arithmetics q (suc i) items t a p
 
 -- and so are the comparisons with which the body begins.
-pub fresh_guard : {P : Program} (q : Path) (i : ℕ) (items : List Item) {rest : Agenda} (t : Tree P rest) (a : Arithmetic) → In a (guard q items) → In a (arithmetics (fresh q i items t))
+pub fresh_guard : {P : Program} (q : Path) (i : ℕ) (items : List Item) {rest : Agenda} (t : Tree P rest) (a : Arithmetic) → In a (guard q items)
+    → In a (arithmetics (fresh q i items t))
 fresh_guard q i [] t a p = elim p [ ]
 fresh_guard q i (call g ∷ items) t a p = elim p [ ]
 fresh_guard q i (equal b c ∷ items) t a p = elim p [ ]
@@ -65,7 +69,8 @@ lift q i (arithmetic a ∷ items) t o = lift q (suc i) items t o
 lift q i (fail ∷ items) t o = lift q (suc i) items t o
 
 -- with the same call,
-pub lift_call : {P : Program} (q : Path) (i : ℕ) (items : List Item) {rest : Agenda} (t : Tree P rest) (o : Open t) → call_of (fresh q i items t) (lift q i items t o) ≡ call_of t o
+pub lift_call : {P : Program} (q : Path) (i : ℕ) (items : List Item) {rest : Agenda} (t : Tree P rest) (o : Open t)
+    → call_of (fresh q i items t) (lift q i items t o) ≡ call_of t o
 lift_call q i [] t o = refl
 lift_call q i (call g ∷ items) t o = lift_call q (suc i) items t o
 lift_call q i (equal a b ∷ items) t o = lift_call q (suc i) items t o
@@ -73,7 +78,8 @@ lift_call q i (arithmetic a ∷ items) t o = lift_call q (suc i) items t o
 lift_call q i (fail ∷ items) t o = lift_call q (suc i) items t o
 
 -- and the same path,
-pub lift_path : {P : Program} (q : Path) (i : ℕ) (items : List Item) {rest : Agenda} (t : Tree P rest) (o : Open t) → path (fresh q i items t) (lift q i items t o) ≡ path t o
+pub lift_path : {P : Program} (q : Path) (i : ℕ) (items : List Item) {rest : Agenda} (t : Tree P rest) (o : Open t)
+    → path (fresh q i items t) (lift q i items t o) ≡ path t o
 lift_path q i [] t o = refl
 lift_path q i (call g ∷ items) t o = lift_path q (suc i) items t o
 lift_path q i (equal a b ∷ items) t o = lift_path q (suc i) items t o

@@ -42,10 +42,12 @@ none_ready_in es (g ∷ gs) a n (inl e) r = n.0 (rw e at r)
 none_ready_in es (g ∷ gs) a n (inr i) r = none_ready_in es gs a n.1 i r
 
 -- A goal that is known at the end was run: what it adds follows from the end.
-pub closing_ran : (es : List Equation) (gs : List Arithmetic) (ds : List Equation) (ws : List Arithmetic) → ClosesAnyhow es gs ds ws → (a : Arithmetic) (ts : Terms) → In a gs → Known ds a ts → Entails ds (added a ts)
+pub closing_ran : (es : List Equation) (gs : List Arithmetic) (ds : List Equation) (ws : List Arithmetic) → ClosesAnyhow es gs ds ws
+    → (a : Arithmetic) (ts : Terms) → In a gs → Known ds a ts → Entails ds (added a ts)
 closing_ran es gs ds ws (ClosesAnyhow.unsolved xs ys none) a ts i k s p = absurd (none (s, p))
 closing_ran es gs ds ws (ClosesAnyhow.waiting xs ys none) a ts i k s p = absurd (none_ready_in xs ys a none i (ts, k))
-closing_ran es gs ds ws (ClosesAnyhow.run xs ys g bs us zs vs w kg r) a ts i k s p = elim (in_or_first g a ys bs w i) [ inl e ↦ was e | inr j ↦ closing_ran (added g us ++ xs) bs zs vs r a ts j k s p ]
+closing_ran es gs ds ws (ClosesAnyhow.run xs ys g bs us zs vs w kg r) a ts i k s p =
+    elim (in_or_first g a ys bs w i) [ inl e ↦ was e | inr j ↦ closing_ran (added g us ++ xs) bs zs vs r a ts j k s p ]
   where
     after_all : Solves s (added g us ++ xs)
     after_all = closing_keeps (added g us ++ xs) bs zs vs r s p
@@ -84,7 +86,8 @@ without es gs g bs (after y ys x zs none f) = there y ys x zs (without es ys x z
 pub closes_anyhow : (es : List Equation) (gs : List Arithmetic) (ds : List Equation) (ws : List Arithmetic) → Closes es gs ds ws → ClosesAnyhow es gs ds ws
 closes_anyhow es gs ds ws (Closes.unsolved xs ys none) = ClosesAnyhow.unsolved xs ys none
 closes_anyhow es gs ds ws (Closes.waiting xs ys none) = ClosesAnyhow.waiting xs ys none
-closes_anyhow es gs ds ws (Closes.run xs ys g bs ts zs vs so f k c) = ClosesAnyhow.run xs ys g bs ts zs vs (without xs ys g bs f) k (closes_anyhow (added g ts ++ xs) bs zs vs c)
+closes_anyhow es gs ds ws (Closes.run xs ys g bs ts zs vs so f k c) =
+    ClosesAnyhow.run xs ys g bs ts zs vs (without xs ys g bs f) k (closes_anyhow (added g ts ++ xs) bs zs vs c)
 
 -- Waits es gs ws: the goals ws are those of gs, in their order, that are not known under es.
 pub data Waits (es : List Equation) : List Arithmetic → List Arithmetic → Type 0 where
@@ -93,7 +96,8 @@ pub data Waits (es : List Equation) : List Arithmetic → List Arithmetic → Ty
   gone : (g : Arithmetic) (gs ws : List Arithmetic) → Ready es g → Waits es gs ws → Waits es (g ∷ gs) ws
 
 -- a goal that is known may be taken out first
-left_after : (es : List Equation) (gs : List Arithmetic) (g : Arithmetic) (bs ws : List Arithmetic) → Without gs g bs → Ready es g → Waits es bs ws → Waits es gs ws
+left_after : (es : List Equation) (gs : List Arithmetic) (g : Arithmetic) (bs ws : List Arithmetic) → Without gs g bs → Ready es g
+    → Waits es bs ws → Waits es gs ws
 left_after es gs g bs ws (here x xs) r l = gone x xs ws r l
 left_after es gs g bs ws (there y ys x zs w) r (waits y' zs' vs none l) = waits y ys vs none (left_after es ys x zs vs w r l)
 left_after es gs g bs ws (there y ys x zs w) r (gone y' zs' vs ready l) = gone y ys vs ready (left_after es ys x zs vs w r l)
@@ -104,14 +108,17 @@ left_all es [] n = nothing
 left_all es (g ∷ gs) n = waits g gs gs n.0 (left_all es gs n.1)
 
 -- the goals that wait at the end are those that are not known there
-pub closing_left : (es : List Equation) (gs : List Arithmetic) (ds : List Equation) (ws : List Arithmetic) → ClosesAnyhow es gs ds ws → Solvable ds → Waits ds gs ws
+pub closing_left : (es : List Equation) (gs : List Arithmetic) (ds : List Equation) (ws : List Arithmetic) → ClosesAnyhow es gs ds ws
+    → Solvable ds → Waits ds gs ws
 closing_left es gs ds ws (ClosesAnyhow.unsolved xs ys none) so = absurd (none so)
 closing_left es gs ds ws (ClosesAnyhow.waiting xs ys none) so = left_all xs ys none
 closing_left es gs ds ws (ClosesAnyhow.run xs ys g bs us zs vs w kg r) so =
-    left_after zs ys g bs vs w (us, known_more xs zs g us (λ s p. solves_back s (added g us) xs (closing_keeps (added g us ++ xs) bs zs vs r s p)) kg) (closing_left (added g us ++ xs) bs zs vs r so)
+    left_after zs ys g bs vs w (us, known_more xs zs g us (λ s p. solves_back s (added g us) xs (closing_keeps (added g us ++ xs) bs zs vs r s p)) kg)
+    (closing_left (added g us ++ xs) bs zs vs r so)
 
 -- and these are determined by what is known
-left_same : (es ds : List Equation) → ((g : Arithmetic) → Ready es g → Ready ds g) → ((g : Arithmetic) → Ready ds g → Ready es g) → (gs vs ws : List Arithmetic) → Waits es gs vs → Waits ds gs ws → vs ≡ ws
+left_same : (es ds : List Equation) → ((g : Arithmetic) → Ready es g → Ready ds g) → ((g : Arithmetic) → Ready ds g → Ready es g)
+    → (gs vs ws : List Arithmetic) → Waits es gs vs → Waits ds gs ws → vs ≡ ws
 left_same es ds f b gs vs ws nothing nothing = refl
 left_same es ds f b gs vs ws (waits g hs xs none l) (waits g' hs' ys none2 m) = ap (λ k. g ∷ k) (left_same es ds f b hs xs ys l m)
 left_same es ds f b gs vs ws (waits g hs xs none l) (gone g' hs' ys ready m) = absurd (none (b g ready))
@@ -131,9 +138,11 @@ closure_order es gs ds ws cs vs r q =
     )
 
 -- Where some goals were run, and the rest is closed, the whole is closed.
-pub ran_then_closes : (es : List Equation) (gs : List Arithmetic) (ds : List Equation) (ws : List Arithmetic) (cs : List Equation) (vs : List Arithmetic) → Ran es gs ds ws → ClosesAnyhow ds ws cs vs → ClosesAnyhow es gs cs vs
+pub ran_then_closes : (es : List Equation) (gs : List Arithmetic) (ds : List Equation) (ws : List Arithmetic) (cs : List Equation) (vs : List Arithmetic)
+    → Ran es gs ds ws → ClosesAnyhow ds ws cs vs → ClosesAnyhow es gs cs vs
 ran_then_closes es gs ds ws cs vs (none_yet xs ys) q = q
-ran_then_closes es gs ds ws cs vs (Ran.one xs ys g bs ts zs us w k r) q = ClosesAnyhow.run xs ys g bs ts cs vs w k (ran_then_closes (added g ts ++ xs) bs zs us cs vs r q)
+ran_then_closes es gs ds ws cs vs (Ran.one xs ys g bs ts zs us w k r) q =
+    ClosesAnyhow.run xs ys g bs ts cs vs w k (ran_then_closes (added g ts ++ xs) bs zs us cs vs r q)
 
 -- what some of the goals have added is no more than what must be
 pub ran_least : (es : List Equation) (gs : List Arithmetic) (ds : List Equation) (ws : List Arithmetic) → Ran es gs ds ws
@@ -144,7 +153,8 @@ ran_least es gs ds ws (Ran.one xs ys g bs us zs vs w kg r) cs h all =
     ran_least (added g us ++ xs) bs zs vs r cs new (λ a ts i k. all a ts (in_without g a ys bs w i) k)
 
 -- What some of the goals have added follows from the closure.
-pub closed_entails_ran : (es : List Equation) (gs : List Arithmetic) (ds : List Equation) (ws : List Arithmetic) (cs : List Equation) (vs : List Arithmetic) → Ran es gs ds ws → Closes es gs cs vs → Entails cs ds
+pub closed_entails_ran : (es : List Equation) (gs : List Arithmetic) (ds : List Equation) (ws : List Arithmetic) (cs : List Equation) (vs : List Arithmetic)
+    → Ran es gs ds ws → Closes es gs cs vs → Entails cs ds
 closed_entails_ran es gs ds ws cs vs r c =
     let q : ClosesAnyhow es gs cs vs = closes_anyhow es gs cs vs c in
     ran_least es gs ds ws r cs (closing_keeps es gs cs vs q) (λ a ts i k. closing_ran es gs cs vs q a ts i k)

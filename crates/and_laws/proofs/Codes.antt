@@ -1,9 +1,11 @@
 -- Codes in order: no whole code is a proper prefix of another, and a listing goes by the lexicographic order of codes.
-use Rattle.std.proofs.Common.{ℕ, ◌≡◌, ◌<◌, ◌≤◌, List, [], ◌∷◌, ◌++◌, refl, ap, sym, ◌∙◌, subst, inr, arith, suc, length, length-append, get_or, append_assoc, append-nil, All, AllPairs}
+use Rattle.std.proofs.Common.{ℕ, ◌≡◌, ◌<◌, ◌≤◌, List, [], ◌∷◌, ◌++◌, refl, ap, sym, ◌∙◌, subst, inr, arith, suc, length, length-append, get_or, append_assoc}
+use Rattle.std.proofs.Common.{append-nil, All, AllPairs}
 use Rattle.std.proofs.lemmas.List.Elements.{All-append, All-cons}
 use Rattle.std.proofs.lemmas.List.Kept.{AllPairs-cons}
 use Rattle.and_model.specs.Programs.{Program, clause_at}
-use Rattle.and_model.specs.Trees.{Agenda, agenda, Tree, QueryTree, query_agenda, blank, done, left, by, equate, reckon, code, decided, IsWhole, Open, IsLeftmost, reduce}
+use Rattle.and_model.specs.Trees.{Agenda, agenda, Tree, QueryTree, query_agenda, blank, done, left, by, equate, reckon, code, decided, IsWhole, Open}
+use Rattle.and_model.specs.Trees.{IsLeftmost, reduce}
 use Rattle.and_model.specs.Codes.{IsProperPrefix}
 use Rattle.and_model.specs.Listing.{Entry, Lists, ListsFrom, Listing, answered, nothing, calls, no_more, other, heavy, light, of_query, too_heavy}
 use Rattle.and_model.specs.Prefixes.{IsPrefix}
@@ -21,7 +23,8 @@ whole_codes {P} (by {q = q} {rest = rest} c h t) (by d k u) xs ys w v e =
     let same : c ≡ d = cc in
     let tail : code t ++ xs ≡ code u ++ ys = cc in
     let after : code t ≡ code u =
-    (subst (λ n. (u : Tree P (agenda q 0 (clause_at P n).body rest)) → IsWhole u → code t ++ xs ≡ code u ++ ys → code t ≡ code u) same (λ u' v' e'. whole_codes t u' xs ys w v' e')) u v tail in
+    (subst (λ n. (u : Tree P (agenda q 0 (clause_at P n).body rest)) → IsWhole u → code t ++ xs ≡ code u ++ ys
+    → code t ≡ code u) same (λ u' v' e'. whole_codes t u' xs ys w v' e')) u v tail in
     cc
 whole_codes (equate t) (equate u) xs ys w v e = whole_codes t u xs ys w v e
 whole_codes (reckon t) (reckon u) xs ys w v e = whole_codes t u xs ys w v e
@@ -53,7 +56,8 @@ later : {P : Program} (t : QueryTree P) (c : ℕ) (ls : List Entry) → All (Beg
 later t c ls a k x h = let b : BeginsFrom t (suc c) (get_or ls k x) = a k x h in (b.0, (let l = b.1 in omega arith), b.2)
 
 -- all that is listed for a clause comes before what is listed for later ones
-before_later : {P : Program} (t : QueryTree P) (c : ℕ) (ks ls : List Entry) → All (Begins (decided t ++ c ∷ [])) ks → All (BeginsFrom t (suc c)) ls → All (λ x. All (Before x) ls) ks
+before_later : {P : Program} (t : QueryTree P) (c : ℕ) (ks ls : List Entry) → All (Begins (decided t ++ c ∷ [])) ks → All (BeginsFrom t (suc c)) ls
+    → All (λ x. All (Before x) ls) ks
 before_later t c ks ls a b k x h j y i =
     let p : IsPrefix (decided t ++ c ∷ []) (get_or ks k x).code = a k x h in
     let q : BeginsFrom t (suc c) (get_or ls j y) = b j y i in
@@ -73,7 +77,8 @@ module _ (P : Program) (limit : ℕ) where
         let r = lists_from_in_order t' o 1 ks m f in
         (λ k x h. (let b : BeginsFrom t' 1 (get_or ks k x) = r.0 k x h in prefix_front (decided t') (b.0 ∷ []) (get_or ks k x).code b.2), r.1)
 
-    lists_from_in_order : (t : QueryTree P) (o : Open t) (c : ℕ) (ls : List Entry) → IsLeftmost t o → ListsFrom P limit t o c ls → All (BeginsFrom t c) ls × AllPairs Before ls
+    lists_from_in_order : (t : QueryTree P) (o : Open t) (c : ℕ) (ls : List Entry) → IsLeftmost t o → ListsFrom P limit t o c ls
+        → All (BeginsFrom t c) ls × AllPairs Before ls
     lists_from_in_order t o c ls m (no_more t' o' c' e) = (all_none (BeginsFrom t' c'), all_pairs_none Before)
     lists_from_in_order t o c ls m (other t' o' c' ks e f r) = let i = lists_from_in_order t' o' (suc c') ks m r in (later t' c' ks i.0, i.1)
     lists_from_in_order t o c ls m (heavy t' o' c' ks f g r) = let i = lists_from_in_order t' o' (suc c') ks m r in (later t' c' ks i.0, i.1)

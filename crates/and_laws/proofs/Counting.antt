@@ -10,7 +10,8 @@ use Rattle.and_laws.proofs.Agreeing.{two_ends, one_shut}
 
 -- A tree is split by one list of clauses.
 pub split_clauses_same : {P : Program} {ag : Agenda} (t : Tree P ag) (cs ds : List ℕ) → SplitClauses t cs → SplitClauses t ds → cs ≡ ds
-split_clauses_same t cs ds a b = same_elements (λ c d. c < d) (λ c d h k. absurd (omega arith)) cs ds a.0 b.0 (λ c h. (b.1 c).1 ((a.1 c).0 h)) (λ c h. (a.1 c).1 ((b.1 c).0 h))
+split_clauses_same t cs ds a b =
+    same_elements (λ c d. c < d) (λ c d h k. absurd (omega arith)) cs ds a.0 b.0 (λ c h. (b.1 c).1 ((a.1 c).0 h)) (λ c h. (a.1 c).1 ((b.1 c).0 h))
 
 -- A whole Shut tree and one with open goals are not both reached by Steps.
 whole_or_open : {P : Program} {ag : Agenda} (t r s : Tree P ag) → Steps t r → Shut r → IsWhole r → Steps t s → Shut s → Open s → ⊥
@@ -34,7 +35,8 @@ mutual
       let i : (f' ≡ g') × (m' ≡ n') = split_numbers_same s cs f' m' g' n' q moved in
       (ap (λ (z : ℕ). 1 + z) i.0, i.1)
 
-  split_numbers_same : {P : Program} {ag : Agenda} (s : Tree P ag) (cs : List ℕ) (f m g n : ℕ) → NumbersOfSplits s cs f m → NumbersOfSplits s cs g n → (f ≡ g) × (m ≡ n)
+  split_numbers_same : {P : Program} {ag : Agenda} (s : Tree P ag) (cs : List ℕ) (f m g n : ℕ) → NumbersOfSplits s cs f m
+      → NumbersOfSplits s cs g n → (f ≡ g) × (m ≡ n)
   split_numbers_same s cs f m g n (NumbersOfSplits.none s') (NumbersOfSplits.none s2) = (refl, refl)
   split_numbers_same s cs f m g n (NumbersOfSplits.more s' u c ds f1 m1 f2 m2 sp a b) (NumbersOfSplits.more s2 v c2 ds2 g1 n1 g2 n2 sq x y) =
       let one : v ≡ u = split_same s' v u c sq sp in

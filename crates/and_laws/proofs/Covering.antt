@@ -20,7 +20,8 @@ pub dead_covers_none : {P : Program} (key : List ℕ) (t : QueryTree P) → Cove
 dead_covers_none key t all dead u out b = dead_has_none t u (all u out b) out dead
 
 -- A split of a tree that covers the beginning of what it has decided covers the split's key.
-pub split_covers : {P : Program} (key : List ℕ) (t : QueryTree P) (c : ℕ) (next : QueryTree P) → IsPrefix key (decided t) → Covers t key → Split t c next → Covers next (decided t ++ c ∷ [])
+pub split_covers : {P : Program} (key : List ℕ) (t : QueryTree P) (c : ℕ) (next : QueryTree P) → IsPrefix key (decided t) → Covers t key → Split t c next
+    → Covers next (decided t ++ c ∷ [])
 split_covers {P} key t c next begins all sp u out b =
     let above : Below P (query_agenda P) t u = all u out (prefix_then key (decided t ++ c ∷ []) (code u) (prefix_more key (decided t) (c ∷ []) begins) b) in
     let (d, other, sq, below) = split_divides t u above out sp.0 sp.4 in

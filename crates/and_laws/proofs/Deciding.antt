@@ -1,5 +1,6 @@
 -- What unification decides: whether goals are known, that each list of equations has a closure, and which clauses are candidates.
-use Rattle.std.proofs.Common.{ℕ, ◌≡◌, ◌≤◌, ◌<◌, List, [], ◌∷◌, ◌++◌, refl, ap, sym, ◌∙◌, subst, inl, inr, ◌⊎◌, true, true≢false, ◌&&◌, arith, zero, suc, length, ltb, leb}
+use Rattle.std.proofs.Common.{ℕ, ◌≡◌, ◌≤◌, ◌<◌, List, [], ◌∷◌, ◌++◌, refl, ap, sym, ◌∙◌, subst, inl, inr, ◌⊎◌, true, true≢false, ◌&&◌, arith, zero, suc}
+use Rattle.std.proofs.Common.{length, ltb, leb}
 use Rattle.std.proofs.lemmas.Bool.{ltb-true, leb-true}
 use Rattle.and_model.specs.Terms.{Path, Term, Terms, are_ground, Substitution, apply_all}
 use Rattle.and_model.specs.Solutions.{Equation, MostGeneral}
@@ -11,11 +12,13 @@ use Rattle.and_laws.proofs.Equality.{bool_cases, number_or}
 use Rattle.and_laws.proofs.Unifying.{unify}
 
 -- A goal is known where the terms that it waits for are ground under a most general solution,
-pub known_general : (s : Substitution) (es : List Equation) (g : Arithmetic) → MostGeneral s es → are_ground (apply_all s (needs g)) ≡ true → Known es g (apply_all s (needs g))
+pub known_general : (s : Substitution) (es : List Equation) (g : Arithmetic) → MostGeneral s es → are_ground (apply_all s (needs g)) ≡ true
+    → Known es g (apply_all s (needs g))
 known_general s es g m e = (e, λ t p. apply_all_through s t (m.1 t p) (needs g) ∙ apply_all_ground t (apply_all s (needs g)) e)
 
 -- and only there,
-pub known_under : (s : Substitution) (es : List Equation) (g : Arithmetic) (ts : Terms) → MostGeneral s es → Known es g ts → are_ground (apply_all s (needs g)) ≡ true
+pub known_under : (s : Substitution) (es : List Equation) (g : Arithmetic) (ts : Terms) → MostGeneral s es → Known es g ts
+    → are_ground (apply_all s (needs g)) ≡ true
 known_under s es g ts m k = ap are_ground (k.1 s m.0) ∙ k.0
 
 -- so it is decided whether it is known,
@@ -99,8 +102,10 @@ candidate_or P es q g c =
 -- A clause of a goal's predicate is one of the program's, and not the query.
 pub of_bounds : (P : Program) (g : Term) (c : ℕ) → Of P g c → (0 < c) × (c ≤ length P.clauses)
 of_bounds P g c h =
-    let in_range : ltb 0 c && leb c (length P.clauses) ≡ true = and_left (ltb 0 c && leb c (length P.clauses)) (same_predicate g (clause_at P c).head) h in
-    (ltb-true 0 c (and_left (ltb 0 c) (leb c (length P.clauses)) in_range), leb-true c (length P.clauses) (and_right (ltb 0 c) (leb c (length P.clauses)) in_range))
+    let in_range : ltb 0 c && leb c (length P.clauses) ≡ true = and_left (ltb 0 c && leb c (length P.clauses)) (same_predicate g (clause_at P c).head) h in (
+      ltb-true 0 c (and_left (ltb 0 c) (leb c (length P.clauses)) in_range),
+      leb-true c (length P.clauses) (and_right (ltb 0 c) (leb c (length P.clauses)) in_range),
+    )
 
 -- There is another candidate than c, or none up to n.
 pub other_or : (P : Program) (es : List Equation) (q : Path) (g : Term) (c n : ℕ)

@@ -38,7 +38,8 @@ module _ (P : Program) (limit : ℕ) where
           let s = split_divides t' u b (ends_outcome u o ends) shut any in
           found_split t' cs ks x s.0 s.1 s.2 ((each s.0).1 (s.1, s.2)) s.3
 
-      found_split : (t : QueryTree P) (cs : List ℕ) (es : List Entry) → ExploresSplits P limit t cs es → (c : ℕ) (v : QueryTree P) → Split t c v → Contains cs c → Below P (query_agenda P) v u → Contains es (entry u o)
+      found_split : (t : QueryTree P) (cs : List ℕ) (es : List Entry) → ExploresSplits P limit t cs es → (c : ℕ) (v : QueryTree P) → Split t c v
+          → Contains cs c → Below P (query_agenda P) v u → Contains es (entry u o)
       found_split t cs es (none t') c v sp h b = absurd (contains_none c h)
       found_split t cs es (more t' n d ds ks js sq x y) c v sp h b = elim (contains_cases d c ds h) [
         | inl e ↦
@@ -105,8 +106,10 @@ module _ (P : Program) (limit : ℕ) where
         (splits_differ t' n d ds ks js sp (all_pairs_first (λ c d. c ≢ d) d ds distinct) (only_found n ks x) (only_found_split t' ds js y))
 
 -- What is found from the query are the entries within the limit.
-pub explored_entries : (P : Program) (limit : ℕ) (es : List Entry) → Explores P limit (blank (query_agenda P)) es → (e : Entry) → Contains es e ↔ IsWithin P limit e
+pub explored_entries : (P : Program) (limit : ℕ) (es : List Entry) → Explores P limit (blank (query_agenda P)) es → (e : Entry)
+    → Contains es e ↔ IsWithin P limit e
 explored_entries P limit es x e = (
   λ i. let r = only_found P limit (blank (query_agenda P)) es x e i in (r.0, r.1, r.2, r.3),
-  λ r. subst (λ y. Contains es y) (ap (λ c. record { code = c; outcome = e.outcome }) r.1) (found P limit r.0 e.outcome r.2 r.3 (blank (query_agenda P)) es x (blank_below r.0)),
+  λ r. subst (λ y. Contains es y) (ap (λ c. record { code = c; outcome = e.outcome }) r.1)
+      (found P limit r.0 e.outcome r.2 r.3 (blank (query_agenda P)) es x (blank_below r.0)),
 )

@@ -51,7 +51,8 @@ mutual
   splits_rise t cs forks up (none t') = (λ c a. all_none (BeginsAbove (decided t') c), all_none (BeginsAfter (decided t')), all_pairs_none Rises)
   splits_rise t cs forks up (more t' next c cs' fs ms sp f rest) =
       let i = splits_rise t' cs' ms (all_pairs_rest (λ c d. c < d) c cs' up) rest in
-      let long : IsPrefix (decided t' ++ c ∷ []) (decided next) = subst (λ u. IsPrefix (decided t' ++ c ∷ []) (decided u)) (sym sp.8) (reduce_decided t' sp.4 c sp.6 sp.5) in
+      let long : IsPrefix (decided t' ++ c ∷ []) (decided next) =
+      subst (λ u. IsPrefix (decided t' ++ c ∷ []) (decided u)) (sym sp.8) (reduce_decided t' sp.4 c sp.6 sp.5) in
       let j = forks_rise next (decided t' ++ c ∷ []) fs long f in
       let above : All (BeginsAbove (decided t') c) ms = i.0 c (all_pairs_first (λ c d. c < d) c cs' up) in
       let first_smaller : All (λ x. All (Rises x) ms) fs =

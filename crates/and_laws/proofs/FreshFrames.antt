@@ -1,5 +1,6 @@
 -- A clause is tried in a frame that nothing speaks of; whichever that is, and whatever names the other variables have.
-use Rattle.std.proofs.Common.{ℕ, ◌≡◌, Bool, true, false, true≢false, not, ◌&&◌, ltb, leb, length, nat_eq, cond, List, [], ◌∷◌, map, refl, ap, sym, ◌∙◌, subst, inl, inr}
+use Rattle.std.proofs.Common.{ℕ, ◌≡◌, Bool, true, false, true≢false, not, ◌&&◌, ltb, leb, length, nat_eq, cond, List, [], ◌∷◌, map, refl, ap, sym, ◌∙◌, subst}
+use Rattle.std.proofs.Common.{inl, inr}
 use Rattle.and_model.specs.Terms.{Path, Term, Terms, variable, number, compound, none, more, Substitution, apply, apply_all, framed}
 use Rattle.and_model.specs.Solutions.{Equation, Solves, falsehood}
 use Rattle.and_model.specs.Arithmetic.{Relation}
@@ -162,7 +163,8 @@ candidate_fresh P es f q p g c all o og k =
     candidate_moved P es es q p g g c goes k.0 k
 
 -- terms that are renamed, and named back
-named_back : (f : Variables) (r back s u : Substitution) → Agree (others f) (then back s) u → (t : Term) → IsOver (others f) (apply r t) → apply back (apply r t) ≡ t
+named_back : (f : Variables) (r back s u : Substitution) → Agree (others f) (then back s) u → (t : Term) → IsOver (others f) (apply r t)
+    → apply back (apply r t) ≡ t
     → apply u (apply r t) ≡ apply s t
 named_back f r back s u h t o e = agree_term (others f) (then back s) u h (apply r t) o ∙ sym (apply_then back s (apply r t)) ∙ ap (apply s) e
 

@@ -1,7 +1,8 @@
 -- Keys: all trees that are reached by one key come by Steps from one tree.
 use Rattle.std.proofs.Common.{ℕ, ◌≡◌, List, [], ◌∷◌, ◌++◌, refl, sym, ◌∙◌, subst, inl, inr, ◌⊎◌}
 use Rattle.and_model.specs.Programs.{Program, clause_at, Of}
-use Rattle.and_model.specs.Trees.{Agenda, goal, Tree, QueryTree, query_agenda, blank, done, left, by, equate, reckon, decided, Open, call_of, fresh, reduce, IsLeftmost, Below, both_done, both_left, both_by, grown, both_equate, both_reckon}
+use Rattle.and_model.specs.Trees.{Agenda, goal, Tree, QueryTree, query_agenda, blank, done, left, by, equate, reckon, decided, Open, call_of, fresh, reduce}
+use Rattle.and_model.specs.Trees.{IsLeftmost, Below, both_done, both_left, both_by, grown, both_equate, both_reckon}
 use Rattle.and_model.specs.Reached.{Shut, Split, Steps, none, more, ReachedBy}
 use Rattle.and_model.specs.Prefixes.{IsPrefix}
 use Rattle.and_laws.proofs.PrefixLemmas.{prefix_cons, prefix_then, same_last, not_empty}
@@ -19,7 +20,8 @@ below_decided (both_equate b) = below_decided b
 below_decided (both_reckon b) = below_decided b
 
 -- Where the leftmost goal is reduced, what is decided goes on with the clause.
-pub reduce_decided : {P : Program} {ag : Agenda} (t : Tree P ag) (o : Open t) (c : ℕ) (h : Of P (call_of t o) c) → IsLeftmost t o → IsPrefix (decided t ++ c ∷ []) (decided (reduce t o c h))
+pub reduce_decided : {P : Program} {ag : Agenda} (t : Tree P ag) (o : Open t) (c : ℕ) (h : Of P (call_of t o) c) → IsLeftmost t o
+    → IsPrefix (decided t ++ c ∷ []) (decided (reduce t o c h))
 reduce_decided done o c h m = elim m [ ]
 reduce_decided (left t) (inr o) c h m = elim m [ ]
 reduce_decided {P} (left {q = q} t) (inl x) c h m = (decided (fresh q 0 (clause_at P c).body t), refl)
@@ -35,13 +37,15 @@ next_taken (both_left b) c x = let e = x.1 in absurd (cc)
 next_taken (both_by d k k' {t = t} b) c x = let r = next_taken b c (x.0, (let e = x.1 in cc)) in (r.0, r.1, r.2, both_by d k k' {t = reduce t r.0 c r.2} r.3)
 next_taken {P} (grown {q = q} {g = g} {rest = rest} d k t {u = u} b) c x =
     let e : d ≡ c = (let f = x.1 in cc) in
-    subst (λ z. (o : Open (left {q = q} {g = g} t)) × IsLeftmost (left {q = q} {g = g} t) o × (h : Of P (call_of (left {q = q} {g = g} t) o) z) × Below P (goal q g rest) (reduce (left t) o z h) (by d k u)) e
+    subst (λ z. (o : Open (left {q = q} {g = g} t)) × IsLeftmost (left {q = q} {g = g} t) o × (h : Of P (call_of (left {q = q} {g = g} t) o) z)
+    × Below P (goal q g rest) (reduce (left t) o z h) (by d k u)) e
     (inl tt, tt, k, both_by d k k b)
 next_taken (both_equate b) c x = let r = next_taken b c x in (r.0, r.1, r.2, both_equate r.3)
 next_taken (both_reckon b) c x = let r = next_taken b c x in (r.0, r.1, r.2, both_reckon r.3)
 
 -- So it is above the tree with c there.
-leftmost_taken : {P : Program} {ag : Agenda} {t u : Tree P ag} → Below P ag t u → (o : Open t) (c : ℕ) (h : Of P (call_of t o) c) → IsLeftmost t o → IsPrefix (decided t ++ c ∷ []) (decided u) → Below P ag (reduce t o c h) u
+leftmost_taken : {P : Program} {ag : Agenda} {t u : Tree P ag} → Below P ag t u → (o : Open t) (c : ℕ) (h : Of P (call_of t o) c) → IsLeftmost t o
+    → IsPrefix (decided t ++ c ∷ []) (decided u) → Below P ag (reduce t o c h) u
 leftmost_taken {P} {ag} {t} {u} b o c h m x =
     let (p, n, k, above) = next_taken b c x in
     below_then above (reduce_same t o p c h k m n)
@@ -49,13 +53,15 @@ leftmost_taken {P} {ag} {t} {u} b o c h m x =
 -- What a tree has decided begins with the key by which it is reached.
 pub reached_decided : (P : Program) (limit : ℕ) (key : List ℕ) (t : QueryTree P) → ReachedBy P limit key t → IsPrefix key (decided t)
 reached_decided P limit key t (ReachedBy.start h) = (decided (blank {P = P} (query_agenda P)), refl)
-reached_decided P limit key t (ReachedBy.stepped k u v r st h) = prefix_then k (decided u) (decided v) (reached_decided P limit k u r) (below_decided (step_above u v st))
+reached_decided P limit key t (ReachedBy.stepped k u v r st h) =
+    prefix_then k (decided u) (decided v) (reached_decided P limit k u r) (below_decided (step_above u v st))
 reached_decided P limit key t (ReachedBy.divided k u c v r sp h) =
     let b : IsPrefix (decided u ++ c ∷ []) (decided (reduce u sp.4 c sp.6)) = reduce_decided u sp.4 c sp.6 sp.5 in
     rw sp.8 b
 
 -- What is reached by a key is below each Shut tree whose decided clauses begin with it.
-reached_below : (P : Program) (limit : ℕ) (key : List ℕ) (t : QueryTree P) → ReachedBy P limit key t → (s : QueryTree P) → Shut s → IsPrefix key (decided s) → Below P (query_agenda P) t s
+reached_below : (P : Program) (limit : ℕ) (key : List ℕ) (t : QueryTree P) → ReachedBy P limit key t → (s : QueryTree P) → Shut s → IsPrefix key (decided s)
+    → Below P (query_agenda P) t s
 reached_below P limit key t (ReachedBy.start h) s shut b = blank_below s
 reached_below P limit key t (ReachedBy.stepped k u v r st h) s shut b = step_shut u v s (reached_below P limit k u r s shut b) shut st
 reached_below P limit key t (ReachedBy.divided k u c v r sp h) s shut b =
@@ -66,7 +72,8 @@ reached_below P limit key t (ReachedBy.divided k u c v r sp h) s shut b =
 
 -- where the last Split led, or the query
 abbrev pub Root : (P : Program) → ℕ → List ℕ → QueryTree P → Type 0
-Root P limit key r = ((key ≡ []) × (r ≡ blank (query_agenda P))) ⊎ ((k : List ℕ) × (s : QueryTree P) × (c : ℕ) × ReachedBy P limit k s × Split s c r × (key ≡ decided s ++ c ∷ []))
+Root P limit key r = ((key ≡ []) × (r ≡ blank (query_agenda P)))
+    ⊎ ((k : List ℕ) × (s : QueryTree P) × (c : ℕ) × ReachedBy P limit k s × Split s c r × (key ≡ decided s ++ c ∷ []))
 
 -- Each tree comes by Steps from a root of its key,
 pub from_root : (P : Program) (limit : ℕ) (key : List ℕ) (t : QueryTree P) → ReachedBy P limit key t → (r : QueryTree P) × Root P limit key r × Steps r t
@@ -91,7 +98,8 @@ one_root P limit key r s (inr a) (inr b) =
     split_same y r s b.2 (subst (λ c. Split y c r) e.1 z) b.4
 
 -- So one tree leads to all that are reached by the key.
-pub one_key : (P : Program) (limit : ℕ) (key : List ℕ) (t : QueryTree P) → ReachedBy P limit key t → (r : QueryTree P) × ((u : QueryTree P) → ReachedBy P limit key u → Steps r u)
+pub one_key : (P : Program) (limit : ℕ) (key : List ℕ) (t : QueryTree P) → ReachedBy P limit key t
+    → (r : QueryTree P) × ((u : QueryTree P) → ReachedBy P limit key u → Steps r u)
 one_key P limit key t x =
     let f = from_root P limit key t x in
     (f.0, λ u y. let g = from_root P limit key u y in subst (λ r. Steps r u) (one_root P limit key g.0 f.0 g.1 f.1) g.2)

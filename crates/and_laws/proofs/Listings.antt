@@ -5,7 +5,8 @@ use Rattle.and_model.specs.Solutions.{Equation, Solvable, Entails}
 use Rattle.and_model.specs.Programs.{Program, Arithmetic, clause_at, clause_weight, is_of, Of}
 use Rattle.and_model.specs.Trees.{QueryTree, query_agenda, blank, Open, IsWhole, HasOutcome, Closed, call_of, reduce, equations, arithmetics, weight, code}
 use Rattle.and_model.specs.Lines.{line}
-use Rattle.and_model.specs.Listing.{Outcome, outcome_of, Ends, Entry, Lists, ListsFrom, Listing, answered, nothing, calls, no_more, other, heavy, light, of_query, too_heavy, Exhausted}
+use Rattle.and_model.specs.Listing.{Outcome, outcome_of, Ends, Entry, Lists, ListsFrom, Listing, answered, nothing, calls, no_more, other, heavy, light}
+use Rattle.and_model.specs.Listing.{of_query, too_heavy, Exhausted}
 use Rattle.and_laws.specs.Fitting.{AllFit}
 use Rattle.and_laws.proofs.Closing.{closes_anyhow, closure_order}
 use Rattle.and_laws.proofs.Equality.{bool_cases}
@@ -17,9 +18,11 @@ use Rattle.and_laws.proofs.Printing.{one_line}
 use Rattle.and_laws.proofs.Reaching.{fitting_trees_bound}
 
 -- Two closures of a tree entail each other.
-pub closed_alike : {P : Program} (t : QueryTree P) (es ds : List Equation) (gs ws : List Arithmetic) → Closed t es gs → Closed t ds ws → Entails es ds × Entails ds es × (Solvable es → gs ≡ ws)
+pub closed_alike : {P : Program} (t : QueryTree P) (es ds : List Equation) (gs ws : List Arithmetic) → Closed t es gs → Closed t ds ws
+    → Entails es ds × Entails ds es × (Solvable es → gs ≡ ws)
 closed_alike t es ds gs ws x y =
-    closure_order (equations t) (arithmetics t) es gs ds ws (closes_anyhow (equations t) (arithmetics t) es gs x) (closes_anyhow (equations t) (arithmetics t) ds ws y)
+    closure_order (equations t) (arithmetics t) es gs ds ws (closes_anyhow (equations t) (arithmetics t) es gs x)
+    (closes_anyhow (equations t) (arithmetics t) ds ws y)
 
 -- A tree ends with one outcome,
 pub one_outcome : {P : Program} (t : QueryTree P) (o r : Outcome) → Ends t o → Ends t r → o ≡ r
@@ -89,7 +92,8 @@ module _ (P : Program) (limit : ℕ) where
         cc
 
   -- and there is one,
-  some_list_from : (t : QueryTree P) (o : Open t) → ((c : ℕ) (h : Of P (call_of t o) c) → weight t + clause_weight (clause_at P c) ≤ limit → (ks : List Entry) × Lists P limit (reduce t o c h) ks)
+  some_list_from : (t : QueryTree P) (o : Open t)
+      → ((c : ℕ) (h : Of P (call_of t o) c) → weight t + clause_weight (clause_at P c) ≤ limit → (ks : List Entry) × Lists P limit (reduce t o c h) ks)
       → (n : ℕ) (c : ℕ) → length P.clauses < n + c → (ls : List Entry) × ListsFrom P limit t o c ls
   some_list_from t o each zero c h = ([], no_more t o c (omega arith))
   some_list_from t o each (suc n) c h =
@@ -116,7 +120,9 @@ module _ (P : Program) (limit : ℕ) where
         ]
         | inl any ↦
             let o : Open t = (leftmost t any).0 in
-            let f = some_list_from t o (λ c k small. some_list n (reduce t o c k) (omega (arith, reduce_weight t o c k, clause_weighs (clause_at P c))) (omega (arith, reduce_weight t o c k)))
+            let f = some_list_from t o
+            (λ c k small. some_list n (reduce t o c k) (omega (arith, reduce_weight t o c k, clause_weighs (clause_at P c)))
+            (omega (arith, reduce_weight t o c k)))
             (suc (length P.clauses)) 1 (omega arith) in
             (f.0, calls t o f.0 (leftmost t any).1 f.1)
       ]
@@ -159,7 +165,8 @@ module _ (P : Program) (limit : ℕ) (all : (u : QueryTree P) → HasOutcome u �
     lists_within larger h t ls (nothing t' w n) = nothing t' w n
     lists_within larger h t ls (calls t' o ks m f) = calls t' o ks m (lists_within_from larger h t' o 1 ks f)
 
-    lists_within_from : (larger : ℕ) → limit ≤ larger → (t : QueryTree P) (o : Open t) (c : ℕ) (ls : List Entry) → ListsFrom P larger t o c ls → ListsFrom P limit t o c ls
+    lists_within_from : (larger : ℕ) → limit ≤ larger → (t : QueryTree P) (o : Open t) (c : ℕ) (ls : List Entry) → ListsFrom P larger t o c ls
+        → ListsFrom P limit t o c ls
     lists_within_from larger h t o c ls (no_more t' o' c' e) = no_more t' o' c' e
     lists_within_from larger h t o c ls (other t' o' c' ks e f r) = other t' o' c' ks e f (lists_within_from larger h t' o' (suc c') ks r)
     lists_within_from larger h t o c ls (heavy t' o' c' ks f g r) = heavy t' o' c' ks f (omega arith) (lists_within_from larger h t' o' (suc c') ks r)
@@ -179,7 +186,8 @@ fitting_trees_exhausted P limit fit larger h ls =
   where
     down : (ks : List Entry) → Listing P larger ks → Listing P limit ks
     down ks (of_query ks' small x) = elim (cases_lt limit (weight (blank {P = P} (query_agenda P)))) [
-      | inl big ↦ (let e : ks' ≡ [] = over P limit (fitting_trees_bound P limit fit) larger (blank (query_agenda P)) ks' x big in subst (λ l. Listing P limit l) (sym e) (too_heavy big))
+      | inl big ↦ (let e : ks' ≡ [] =
+          over P limit (fitting_trees_bound P limit fit) larger (blank (query_agenda P)) ks' x big in subst (λ l. Listing P limit l) (sym e) (too_heavy big))
       | inr fits ↦ of_query ks' fits (lists_within P limit (fitting_trees_bound P limit fit) larger h (blank (query_agenda P)) ks' x)
     ]
     down ks (too_heavy big) = too_heavy (omega arith)

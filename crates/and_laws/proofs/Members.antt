@@ -5,7 +5,8 @@ use Rattle.std.proofs.lemmas.Cmp.{nat_list_cmp_total}
 use Rattle.std.proofs.lemmas.List.Elements.{Contains-append_left, Contains-append_right, Contains-append_cases}
 use Rattle.and_model.specs.Programs.{Program, clause_at, clause_weight, Of}
 use Rattle.and_model.specs.Trees.{QueryTree, query_agenda, blank, Open, call_of, reduce, Below, code, weight}
-use Rattle.and_model.specs.Listing.{Outcome, Ends, Entry, Lists, ListsFrom, Listing, answered, nothing, calls, no_more, other, heavy, light, of_query, too_heavy}
+use Rattle.and_model.specs.Listing.{Outcome, Ends, Entry, Lists, ListsFrom, Listing, answered, nothing, calls, no_more, other, heavy, light, of_query}
+use Rattle.and_model.specs.Listing.{too_heavy}
 use Rattle.and_model.proofs.CodeOrder.{precedes_less}
 use Rattle.and_laws.specs.CodeOrder.{Before}
 use Rattle.and_laws.specs.Entries.{IsWithin}
@@ -39,7 +40,8 @@ module _ (P : Program) (limit : ℕ) where
           let h = of_bounds P (call_of t' p) r.0 r.1 in
           listed_from t' p 1 ks f r.0 r.1 (omega arith) (r.2 r.1)
 
-      listed_from : (t : QueryTree P) (p : Open t) (c : ℕ) (ls : List Entry) → ListsFrom P limit t p c ls → (d : ℕ) (h : Of P (call_of t p) d) → c ≤ d → Below P (query_agenda P) (reduce t p d h) u → Contains ls (entry u o)
+      listed_from : (t : QueryTree P) (p : Open t) (c : ℕ) (ls : List Entry) → ListsFrom P limit t p c ls → (d : ℕ) (h : Of P (call_of t p) d) → c ≤ d
+          → Below P (query_agenda P) (reduce t p d h) u → Contains ls (entry u o)
       listed_from t p c ls (no_more t' p' c' e) d h n b = let k = of_bounds P (call_of t' p') d h in absurd (omega arith)
       listed_from t p c ls (other t' p' c' ks e f r) d h n b = elim (same_or_above c' d n) [
         | inl s ↦ absurd (true≢false (sym (subst (λ x. Of P (call_of t' p') x) (sym s) h) ∙ f))
@@ -85,7 +87,8 @@ module _ (P : Program) (limit : ℕ) where
 pub listing_entries : (P : Program) (limit : ℕ) (ls : List Entry) → Listing P limit ls → (e : Entry) → Contains ls e ↔ IsWithin P limit e
 listing_entries P limit ls (of_query ks h x) e = (
   λ i. let r = only_listed P limit (blank (query_agenda P)) ks x h e i in (r.0, r.1, r.2, r.3),
-  λ r. subst (λ y. Contains ks y) (ap (λ c. record { code = c; outcome = e.outcome }) r.1) (listed P limit r.0 e.outcome r.2 r.3 (blank (query_agenda P)) ks x (blank_below r.0)),
+  λ r. subst (λ y. Contains ks y) (ap (λ c. record { code = c; outcome = e.outcome }) r.1)
+      (listed P limit r.0 e.outcome r.2 r.3 (blank (query_agenda P)) ks x (blank_below r.0)),
 )
 listing_entries P limit ls (too_heavy h) e = (
   λ i. absurd (contains_none e i),

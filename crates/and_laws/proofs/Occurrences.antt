@@ -60,7 +60,12 @@ pub data Lacks (f : Path) (n : ℕ) : Variables → Variables → Type 0 where
 -- a variable that is in a list can be taken out
 pub take_out : (f : Path) (n : ℕ) (vs : Variables) → Has f n vs → (ws : Variables) × Lacks f n vs ws × (suc (length ws) ≡ length vs)
 take_out f n [] h = elim h [ ]
-take_out f n (v ∷ vs) (inl e) = (vs, subst (λ w. Lacks f n (w ∷ vs) vs) (let a : (f, n) ≡ (v.0, n) = ap (λ (x : Path). (x, n)) e.0 in let b : (v.0, n) ≡ (v.0, v.1) = ap (λ (y : ℕ). (v.0, y)) e.1 in a ∙ b) (here vs), refl)
+take_out f n (v ∷ vs) (inl e) = (
+  vs,
+  subst (λ w. Lacks f n (w ∷ vs) vs) (let a : (f, n) ≡ (v.0, n) = ap (λ (x : Path). (x, n)) e.0 in
+      let b : (v.0, n) ≡ (v.0, v.1) = ap (λ (y : ℕ). (v.0, y)) e.1 in a ∙ b) (here vs),
+  refl,
+)
 take_out f n (v ∷ vs) (inr h) = let r = take_out f n vs h in (v ∷ r.0, there v vs r.0 r.1, ap suc r.2)
 
 -- what is in the list, and is another variable, is still there then

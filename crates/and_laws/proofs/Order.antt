@@ -4,7 +4,8 @@ use Rattle.and_model.specs.Terms.{Path}
 use Rattle.and_model.specs.Solutions.{Entails}
 use Rattle.and_model.specs.Programs.{Program, Item, call, equal, arithmetic, fail, Arithmetic, Clause, clause_at, clause_weight, Of, head_in}
 use Rattle.and_model.specs.Candidates.{In}
-use Rattle.and_model.specs.Trees.{Agenda, end, goal, equation, reckoning, agenda, Tree, done, left, by, equate, reckon, equations, arithmetics, taken_weight, code, IsWhole, Open, call_of, fresh, reduce, blank, Below, both_done, both_left, both_by, grown, both_equate, both_reckon}
+use Rattle.and_model.specs.Trees.{Agenda, end, goal, equation, reckoning, agenda, Tree, done, left, by, equate, reckon, equations, arithmetics, taken_weight}
+use Rattle.and_model.specs.Trees.{code, IsWhole, Open, call_of, fresh, reduce, blank, Below, both_done, both_left, both_by, grown, both_equate, both_reckon}
 use Rattle.and_laws.proofs.Bodies.{fresh_equations, fresh_arithmetics, fresh_weight, fresh_code, fresh_blank}
 use mathlib.Core.Bool.{Bool-set}
 
@@ -17,7 +18,8 @@ below_self (equate t) = both_equate (below_self t)
 below_self (reckon t) = both_reckon (below_self t)
 
 -- A body before two trees keeps their order.
-pub below_fresh : {P : Program} (q : Path) (i : ℕ) (items : List Item) {rest : Agenda} {t u : Tree P rest} → Below P rest t u → Below P (agenda q i items rest) (fresh q i items t) (fresh q i items u)
+pub below_fresh : {P : Program} (q : Path) (i : ℕ) (items : List Item) {rest : Agenda} {t u : Tree P rest} → Below P rest t u
+    → Below P (agenda q i items rest) (fresh q i items t) (fresh q i items u)
 below_fresh q i [] b = b
 below_fresh q i (call g ∷ items) b = both_left (below_fresh q (suc i) items b)
 below_fresh q i (equal a c ∷ items) b = both_equate (below_fresh q (suc i) items b)
@@ -47,7 +49,8 @@ reduce_above (reckon t) o c h = both_reckon (reduce_above t o c h)
 pub blank_below : {P : Program} {ag : Agenda} (u : Tree P ag) → Below P ag (blank ag) u
 blank_below done = both_done
 blank_below (left u) = both_left (blank_below u)
-blank_below {P} (by {q = q} {rest = rest} c h u) = grown c h (blank rest) (subst (λ v. Below P (agenda q 0 (clause_at P c).body rest) v u) (sym (fresh_blank q 0 (clause_at P c).body rest)) (blank_below u))
+blank_below {P} (by {q = q} {rest = rest} c h u) =
+    grown c h (blank rest) (subst (λ v. Below P (agenda q 0 (clause_at P c).body rest) v u) (sym (fresh_blank q 0 (clause_at P c).body rest)) (blank_below u))
 blank_below (equate u) = both_equate (blank_below u)
 blank_below (reckon u) = both_reckon (blank_below u)
 
@@ -128,10 +131,12 @@ pub none_whole : {P : Program} {ag : Agenda} (t : Tree P ag) → (Open t → ⊥
 none_whole t none = elim (open_or_whole t) [ inl o ↦ absurd (none o) | inr w ↦ w ]
 
 -- What a whole tree is below has the same clauses, equations, arithmetic and weight,
-pub whole_below : {P : Program} {ag : Agenda} {t u : Tree P ag} → Below P ag t u → IsWhole t → (code t ≡ code u) × (equations t ≡ equations u) × (arithmetics t ≡ arithmetics u) × (taken_weight t ≡ taken_weight u)
+pub whole_below : {P : Program} {ag : Agenda} {t u : Tree P ag} → Below P ag t u → IsWhole t
+    → (code t ≡ code u) × (equations t ≡ equations u) × (arithmetics t ≡ arithmetics u) × (taken_weight t ≡ taken_weight u)
 whole_below both_done w = (refl, refl, refl, refl)
 whole_below (both_left b) w = elim w [ ]
-whole_below {P} (both_by {q = q} {g = g} c h k b) w = let r = whole_below b w in (ap (λ l. c ∷ l) r.0, ap (λ l. (g, head_in P q c) ∷ l) r.1, r.2, ap (λ n. clause_weight (clause_at P c) + n) r.3)
+whole_below {P} (both_by {q = q} {g = g} c h k b) w = let r =
+    whole_below b w in (ap (λ l. c ∷ l) r.0, ap (λ l. (g, head_in P q c) ∷ l) r.1, r.2, ap (λ n. clause_weight (clause_at P c) + n) r.3)
 whole_below (grown c h t b) w = elim w [ ]
 whole_below (both_equate {a = a} {b = b'} b) w = let r = whole_below b w in (r.0, ap (λ l. (a, b') ∷ l) r.1, r.2, r.3)
 whole_below (both_reckon {a = a} b) w = let r = whole_below b w in (r.0, r.1, ap (λ l. a ∷ l) r.2, r.3)
@@ -148,7 +153,8 @@ code_below (by c h t) (left u) w v e = elim v [ ]
 code_below {P} (by {q = q} {g = g} {rest = rest} c h t) (by d k u) w v e =
     let same : c ≡ d = cc in
     let tail : code t ≡ code u = cc in
-    (subst (λ n. (k : Of P g n) (u : Tree P (agenda q 0 (clause_at P n).body rest)) → IsWhole u → code t ≡ code u → Below P (goal q g rest) (by c h t) (by n k u)) same
+    (subst (λ n. (k : Of P g n) (u : Tree P (agenda q 0 (clause_at P n).body rest)) → IsWhole u → code t ≡ code u
+    → Below P (goal q g rest) (by c h t) (by n k u)) same
     (λ k' u' v' e'. both_by c h k' (code_below t u' w v' e'))) k u v tail
 code_below (equate t) (equate u) w v e = both_equate (code_below t u w v e)
 code_below (reckon t) (reckon u) w v e = both_reckon (code_below t u w v e)
@@ -163,7 +169,8 @@ unfolding clause_weight
 clause_weighs k = omega arith
 
 -- Reducing a goal adds its clause's weight,
-pub reduce_weight : {P : Program} {ag : Agenda} (t : Tree P ag) (o : Open t) (c : ℕ) (h : Of P (call_of t o) c) → taken_weight (reduce t o c h) ≡ taken_weight t + clause_weight (clause_at P c)
+pub reduce_weight : {P : Program} {ag : Agenda} (t : Tree P ag) (o : Open t) (c : ℕ) (h : Of P (call_of t o) c)
+    → taken_weight (reduce t o c h) ≡ taken_weight t + clause_weight (clause_at P c)
 reduce_weight done o c h = elim o [ ]
 reduce_weight {P} (left {q = q} t) (inl u) c h = omega (arith, fresh_weight q 0 (clause_at P c).body t)
 reduce_weight (left t) (inr o) c h = reduce_weight t o c h
@@ -172,7 +179,8 @@ reduce_weight (equate t) o c h = reduce_weight t o c h
 reduce_weight (reckon t) o c h = reduce_weight t o c h
 
 -- and one clause.
-pub reduce_size : {P : Program} {ag : Agenda} (t : Tree P ag) (o : Open t) (c : ℕ) (h : Of P (call_of t o) c) → length (code (reduce t o c h)) ≡ suc (length (code t))
+pub reduce_size : {P : Program} {ag : Agenda} (t : Tree P ag) (o : Open t) (c : ℕ) (h : Of P (call_of t o) c)
+    → length (code (reduce t o c h)) ≡ suc (length (code t))
 reduce_size done o c h = elim o [ ]
 reduce_size {P} (left {q = q} t) (inl u) c h = ap (λ l. suc (length l)) (fresh_code q 0 (clause_at P c).body t)
 reduce_size (left t) (inr o) c h = reduce_size t o c h

@@ -25,7 +25,8 @@ module _ {X : Type 0} (R : X → X → Type 0) (strict : (x y : X) → R x y →
   first_before : (x : X) (xs : List X) → AllPairs R (x ∷ xs) → (y : X) → Contains xs y → R x y
   first_before x xs r y h = All-contains (R x) xs y (all_pairs_first R x xs r) h
 
-  pub same_elements : (xs ys : List X) → AllPairs R xs → AllPairs R ys → ((z : X) → Contains xs z → Contains ys z) → ((z : X) → Contains ys z → Contains xs z) → xs ≡ ys
+  pub same_elements : (xs ys : List X) → AllPairs R xs → AllPairs R ys → ((z : X) → Contains xs z → Contains ys z)
+      → ((z : X) → Contains ys z → Contains xs z) → xs ≡ ys
   same_elements [] [] r s f b = refl
   same_elements [] (y ∷ ys) r s f b = absurd (contains_none y (b y (contains_first y ys)))
   same_elements (x ∷ xs) [] r s f b = absurd (contains_none x (f x (contains_first x xs)))

@@ -6,16 +6,19 @@ use Rattle.and_model.specs.Arithmetic.{holds}
 use Rattle.and_model.specs.Programs.{Program, Item, Arithmetic, is, compare, clause_at, Of, head_in}
 use Rattle.and_model.specs.Closure.{added, refutes, Known, ClosesAnyhow}
 use Rattle.and_model.specs.Candidates.{In, guard, Refuted, Candidate}
-use Rattle.and_model.specs.Trees.{Agenda, agenda, Tree, equations, arithmetics, IsWhole, Open, path, call_of, fresh, reduce, Below, both_done, both_left, both_by, grown, both_equate, both_reckon, Closed, HasOutcome}
+use Rattle.and_model.specs.Trees.{Agenda, agenda, Tree, equations, arithmetics, IsWhole, Open, path, call_of, fresh, reduce, Below, both_done, both_left}
+use Rattle.and_model.specs.Trees.{both_by, grown, both_equate, both_reckon, Closed, HasOutcome}
 use Rattle.and_model.specs.Reached.{CandidateOf}
 use Rattle.and_laws.proofs.Closing.{closing_keeps, closing_ran, closing_monotone, closes_anyhow, known_more}
 use Rattle.and_laws.proofs.Bodies.{fresh_guard, lift, lift_call, lift_path, lift_reduce}
 use Rattle.and_laws.proofs.Order.{below_equations, below_arithmetics, whole_has_none}
 
 -- The closed equations of a larger tree entail those of a smaller one.
-pub closed_grows : {P : Program} {ag : Agenda} {t u : Tree P ag} (es ds : List Equation) (gs ws : List Arithmetic) → Below P ag t u → Closed t es gs → Closed u ds ws → Entails ds es
+pub closed_grows : {P : Program} {ag : Agenda} {t u : Tree P ag} (es ds : List Equation) (gs ws : List Arithmetic) → Below P ag t u → Closed t es gs
+    → Closed u ds ws → Entails ds es
 closed_grows {P} {ag} {t} {u} es ds gs ws b x y =
-    closing_monotone (equations t) (arithmetics t) es gs (closes_anyhow (equations t) (arithmetics t) es gs x) (equations u) (arithmetics u) ds ws (closes_anyhow (equations u) (arithmetics u) ds ws y) (below_equations b) (below_arithmetics b)
+    closing_monotone (equations t) (arithmetics t) es gs (closes_anyhow (equations t) (arithmetics t) es gs x) (equations u) (arithmetics u) ds ws
+    (closes_anyhow (equations u) (arithmetics u) ds ws y) (below_equations b) (below_arithmetics b)
 
 -- What is refuted stays refuted,
 refuted_more : (es ds : List Equation) (a : Arithmetic) → Entails ds es → Refuted es a → Refuted ds a
@@ -28,7 +31,8 @@ candidate_falls P es ds q g c h k =
     (k.0, (k.1.0, more_of k.1.0 k.1.1), λ a i r. k.2 a i (refuted_more ((g, head_in P q c) ∷ es) ((g, head_in P q c) ∷ ds) a more_of r))
 
 -- and a larger tree has no candidate for a call that a smaller one has not.
-pub candidates_fall : {P : Program} {ag : Agenda} {t u : Tree P ag} (es ds : List Equation) (gs ws : List Arithmetic) → Below P ag t u → Closed t es gs → Closed u ds ws
+pub candidates_fall : {P : Program} {ag : Agenda} {t u : Tree P ag} (es ds : List Equation) (gs ws : List Arithmetic) → Below P ag t u
+    → Closed t es gs → Closed u ds ws
     → (q : Path) (g : Term) (c : ℕ) → Candidate P ds q g c → Candidate P es q g c
 candidates_fall {P} es ds gs ws b x y q g c k = candidate_falls P es ds q g c (closed_grows es ds gs ws b x y) k
 
@@ -48,7 +52,8 @@ picked_or both_done o = elim o [ ]
 picked_or (both_left b) (inl x) = inr (inl x, refl, refl)
 picked_or (both_left b) (inr o) = elim (picked_or b o) [ inl r ↦ inl (r.0, r.1, λ m. both_left (r.2 m), r.3, r.4) | inr p ↦ inr (inr p.0, p.1, p.2) ]
 picked_or (both_by c h k b) o = elim (picked_or b o) [ inl r ↦ inl (r.0, r.1, λ m. both_by c h k (r.2 m), λ s p. r.3 s p.1, r.4) | inr p ↦ inr p ]
-picked_or {P} (grown {q = q} c h t b) (inl x) = inl (c, h, λ k. both_by c k h b, λ s p. p.0, λ a i. below_arithmetics b a (fresh_guard q 0 (clause_at P c).body t a i))
+picked_or {P} (grown {q = q} c h t b) (inl x) =
+    inl (c, h, λ k. both_by c k h b, λ s p. p.0, λ a i. below_arithmetics b a (fresh_guard q 0 (clause_at P c).body t a i))
 picked_or {P} (grown {q = q} {rest = rest} c h t {u = u} b) (inr o) =
     let items : List Item = (clause_at P c).body in
     let e : call_of (fresh q 0 items t) (lift q 0 items t o) ≡ call_of t o = lift_call q 0 items t o in
@@ -75,7 +80,8 @@ refuted_added : (a : Arithmetic) (ts : Terms) → refutes a ts ≡ true → adde
 refuted_added (is l r) ts e = absurd (cc)
 refuted_added (compare r a b) none e = absurd (cc)
 refuted_added (compare r a b) (more x none) e = absurd (cc)
-refuted_added (compare r a b) (more x (more y ts)) e = (elim (holds r x y) as (λ z. not z ≡ true → cond z [] (falsehood ∷ []) ≡ falsehood ∷ []) [ true ↦ λ n. absurd (cc) | false ↦ λ n. refl ]) e
+refuted_added (compare r a b) (more x (more y ts)) e =
+    (elim (holds r x y) as (λ z. not z ≡ true → cond z [] (falsehood ∷ []) ≡ falsehood ∷ []) [ true ↦ λ n. absurd (cc) | false ↦ λ n. refl ]) e
 
 -- which nothing solves.
 no_falsehood : (s : Substitution) → Solves s (falsehood ∷ []) → ⊥
@@ -86,7 +92,8 @@ abbrev pub IsConsistent : {P : Program} {ag : Agenda} → Tree P ag → Type 0
 IsConsistent u = (ds : List Equation) × (ws : List Arithmetic) × Closed u ds ws × Solvable ds
 
 -- Where the larger tree's closed equations have a solution, the clause that it has at an open goal of the smaller is a candidate there,
-pub picked_sound : {P : Program} {ag : Agenda} {t u : Tree P ag} (b : Below P ag t u) → IsConsistent u → (o : Open t) (r : Picked t u o) (es : List Equation) (gs : List Arithmetic) → Closed t es gs → CandidateOf t es o r.0
+pub picked_sound : {P : Program} {ag : Agenda} {t u : Tree P ag} (b : Below P ag t u) → IsConsistent u
+    → (o : Open t) (r : Picked t u o) (es : List Equation) (gs : List Arithmetic) → Closed t es gs → CandidateOf t es o r.0
 picked_sound {P} {ag} {t} {u} b consistent o r es gs x =
     let (ds, ws, y, so) = consistent in
     let runs : ClosesAnyhow (equations u) (arithmetics u) ds ws = closes_anyhow (equations u) (arithmetics u) ds ws y in
@@ -104,5 +111,6 @@ picked_sound {P} {ag} {t} {u} b consistent o r es gs x =
     )
 
 -- and so where the larger tree has an outcome.
-pub picked_candidate : {P : Program} {ag : Agenda} {t u : Tree P ag} (b : Below P ag t u) (out : HasOutcome u) (o : Open t) (r : Picked t u o) (es : List Equation) (gs : List Arithmetic) → Closed t es gs → CandidateOf t es o r.0
+pub picked_candidate : {P : Program} {ag : Agenda} {t u : Tree P ag} (b : Below P ag t u) (out : HasOutcome u) (o : Open t) (r : Picked t u o)
+    (es : List Equation) (gs : List Arithmetic) → Closed t es gs → CandidateOf t es o r.0
 picked_candidate b out o r es gs x = picked_sound b (out.0, out.1, out.3, out.4) o r es gs x

@@ -3,7 +3,8 @@ use Rattle.std.proofs.Common.{ℕ, ◌≡◌, ◌+◌, ◌≤◌, ◌<◌, ◌�
 use Rattle.std.proofs.lemmas.List.Elements.{Contains-append_left, Contains-append_right, Contains-append_cases}
 use Rattle.and_model.specs.Terms.{Path}
 use Rattle.and_model.specs.Programs.{Program, clause_at, clause_weight, Of}
-use Rattle.and_model.specs.Trees.{Agenda, end, goal, equation, reckoning, Tree, QueryTree, query_agenda, blank, done, left, by, equate, reckon, Open, path, call_of, reduce, weight}
+use Rattle.and_model.specs.Trees.{Agenda, end, goal, equation, reckoning, Tree, QueryTree, query_agenda, blank, done, left, by, equate, reckon, Open, path}
+use Rattle.and_model.specs.Trees.{call_of, reduce, weight}
 use Rattle.and_model.specs.Reductions.{Reduction, PlaceHas, query, reduced, CallHas, Makes, none, one_more}
 use Rattle.and_laws.specs.Paths.{At}
 use Rattle.and_laws.proofs.Order.{reduce_above, reduce_weight, clause_weighs}
@@ -30,17 +31,22 @@ middle_has front back x = Contains-append_right front (x ∷ back) x (contains_f
 -- ---- Numbers of places
 
 -- a place's number is at least the query's weight, and below the tree's
-pub node_bounds : (P : Program) (rs : List Reduction) (t : QueryTree P) → Makes P rs t → (x : Reduction) → Contains rs x → (clause_weight P.query ≤ x.node) × (x.node < weight t)
+pub node_bounds : (P : Program) (rs : List Reduction) (t : QueryTree P) → Makes P rs t → (x : Reduction) → Contains rs x
+    → (clause_weight P.query ≤ x.node) × (x.node < weight t)
 node_bounds P rs t none x h = absurd (contains_none x h)
 node_bounds P rs t (one_more front back all u r o k m call number is_all) x h =
     let grows : weight (reduce u o r.clause k) ≡ weight u + clause_weight (clause_at P r.clause) = omega (arith, reduce_weight u o r.clause k) in
     elim (middle_cases front back r x (subst (λ l. Contains l x) is_all h)) [
-      | inl e ↦ (let same : x.node ≡ r.node = ap (λ (y : Reduction). y.node) e in (omega (arith, same, number), omega (arith, same, number, grows, clause_weighs (clause_at P r.clause))))
+      | inl e ↦ (let same : x.node ≡ r.node = ap (λ (y : Reduction). y.node) e in (
+        omega (arith, same, number),
+        omega (arith, same, number, grows, clause_weighs (clause_at P r.clause)),
+      ))
       | inr i ↦ (let b = node_bounds P (front ++ back) u m x i in (b.0, omega (arith, b.1, grows)))
     ]
 
 -- two reductions of a list with one number are one
-pub node_once : (P : Program) (rs : List Reduction) (t : QueryTree P) → Makes P rs t → (x y : Reduction) → Contains rs x → Contains rs y → x.node ≡ y.node → x ≡ y
+pub node_once : (P : Program) (rs : List Reduction) (t : QueryTree P) → Makes P rs t → (x y : Reduction) → Contains rs x → Contains rs y
+    → x.node ≡ y.node → x ≡ y
 node_once P rs t none x y h k e = absurd (contains_none x h)
 node_once P rs t (one_more front back all u r o c m call number is_all) x y h k e =
     elim (middle_cases front back r x (subst (λ l. Contains l x) is_all h)) [
@@ -66,7 +72,8 @@ parent_below P rs t (one_more front back all u r o k m call number is_all) x h =
     elim (middle_cases front back r x (subst (λ l. Contains l x) is_all h)) [
       | inr i ↦ parent_below P (front ++ back) u m x i
       | inl e ↦
-          let low : r.parent < weight u = place_below (front ++ back) (weight u) (omega (arith, clause_weighs P.query)) (λ y j. (node_bounds P (front ++ back) u m y j).1) r.parent call.0 call.1 in
+          let low : r.parent < weight u = place_below (front ++ back) (weight u) (omega (arith, clause_weighs P.query))
+          (λ y j. (node_bounds P (front ++ back) u m y j).1) r.parent call.0 call.1 in
           omega (arith, low, number, ap (λ (y : Reduction). y.node) e, ap (λ (y : Reduction). y.parent) e)
     ]
 
@@ -78,7 +85,8 @@ place_more rs qs f n q query = query
 place_more rs qs f n q (reduced r p h place) = reduced r p (f r h) (place_more rs qs f r.parent p place)
 
 -- and a reduction with a larger number is not needed for the path
-place_fewer : (P : Program) (front back : List Reduction) (t : QueryTree P) (r : Reduction) → Makes P (front ++ back) t → weight t ≤ r.node → (n : ℕ) (q : Path) → PlaceHas (front ++ r ∷ back) n q → n < r.node → PlaceHas (front ++ back) n q
+place_fewer : (P : Program) (front back : List Reduction) (t : QueryTree P) (r : Reduction) → Makes P (front ++ back) t → weight t ≤ r.node
+    → (n : ℕ) (q : Path) → PlaceHas (front ++ r ∷ back) n q → n < r.node → PlaceHas (front ++ back) n q
 place_fewer P front back t r m w n q query l = query
 place_fewer P front back t r m w n q (reduced x p h place) l =
     elim (middle_cases front back r x h) [
@@ -89,7 +97,8 @@ place_fewer P front back t r m w n q (reduced x p h place) l =
     ]
 
 -- a place has one path
-pub place_once : (P : Program) (rs : List Reduction) (t : QueryTree P) → Makes P rs t → (n k : ℕ) → n ≡ k → (q p : Path) → PlaceHas rs n q → PlaceHas rs k p → q ≡ p
+pub place_once : (P : Program) (rs : List Reduction) (t : QueryTree P) → Makes P rs t → (n k : ℕ) → n ≡ k → (q p : Path) → PlaceHas rs n q
+    → PlaceHas rs k p → q ≡ p
 place_once P rs t m n k e q p query query = refl
 place_once P rs t m n k e q p query (reduced x s h place) = absurd (omega (arith, (node_bounds P rs t m x h).0, clause_weighs P.query, e))
 place_once P rs t m n k e q p (reduced x s h place) query = absurd (omega (arith, (node_bounds P rs t m x h).0, clause_weighs P.query, e))
@@ -107,7 +116,8 @@ at_blank P (equation x y rest) p d a = at_blank P rest p d a
 at_blank P (reckoning x rest) p d a = at_blank P rest p d a
 
 -- where a goal was reduced, the tree has the clause there, and its other clauses as before
-at_reduced : {P : Program} {ag : Agenda} (t : Tree P ag) (o : Open t) (c : ℕ) (h : Of P (call_of t o) c) (p : Path) (d : ℕ) → At (reduce t o c h) p d → ((p ≡ path t o) × (d ≡ c)) ⊎ At t p d
+at_reduced : {P : Program} {ag : Agenda} (t : Tree P ag) (o : Open t) (c : ℕ) (h : Of P (call_of t o) c) (p : Path) (d : ℕ) → At (reduce t o c h) p d
+    → ((p ≡ path t o) × (d ≡ c)) ⊎ At t p d
 at_reduced done o c h p d a = elim o [ ]
 at_reduced {P} (left {q = q} t) (inl u) c h p d a = elim a [ inl e ↦ inl e | inr b ↦ inr (at_fresh q 0 (clause_at P c).body t p d b) ]
 at_reduced (left t) (inr o) c h p d a = at_reduced t o c h p d a
@@ -136,7 +146,12 @@ made_writes P rs t none p d a = absurd (at_blank P (query_agenda P) p d a)
 made_writes P rs t (one_more front back all u r o k m call number is_all) p d a =
     let up : (x : Reduction) → Contains (front ++ back) x → Contains all x = λ x i. subst (λ l. Contains l x) (sym is_all) (middle_more front back r x i) in
     elim (at_reduced u o r.clause k p d a) [
-      | inl e ↦ (r, subst (λ l. Contains l r) (sym is_all) (middle_has front back r), e.1, (call.0, place_more (front ++ back) all up r.parent call.0 call.1, e.0 ∙ call.2))
+      | inl e ↦ (
+        r,
+        subst (λ l. Contains l r) (sym is_all) (middle_has front back r),
+        e.1,
+        (call.0, place_more (front ++ back) all up r.parent call.0 call.1, e.0 ∙ call.2),
+      )
       | inr b ↦ writes_more (front ++ back) all up p d (made_writes P (front ++ back) u m p d b)
     ]
 
@@ -148,12 +163,15 @@ writes_made P rs t (one_more front back all u r o k m call number is_all) p d (x
     elim (middle_cases front back r x (subst (λ l. Contains l x) is_all h)) [
       | inl same ↦
           let parents : x.parent ≡ r.parent = ap (λ (y : Reduction). y.parent) same in
-          let low : r.parent < weight u = place_below (front ++ back) (weight u) (omega (arith, clause_weighs P.query)) (λ y j. (node_bounds P (front ++ back) u m y j).1) r.parent call.0 call.1 in
-          let fewer : PlaceHas (front ++ back) x.parent q = place_fewer P front back u r m (omega (arith, number)) x.parent q in_front (omega (arith, parents, low, number)) in
+          let low : r.parent < weight u = place_below (front ++ back) (weight u) (omega (arith, clause_weighs P.query))
+          (λ y j. (node_bounds P (front ++ back) u m y j).1) r.parent call.0 call.1 in
+          let fewer : PlaceHas (front ++ back) x.parent q =
+          place_fewer P front back u r m (omega (arith, number)) x.parent q in_front (omega (arith, parents, low, number)) in
           let paths : q ≡ call.0 = place_once P (front ++ back) u m x.parent r.parent parents q call.0 fewer call.1 in
           let here : p ≡ path u o = is_path ∙ ap (λ (l : Path). l ++ x.item ∷ []) paths ∙ ap (λ (y : Reduction). call.0 ++ y.item ∷ []) same ∙ sym call.2 in
           let clauses : d ≡ r.clause = e ∙ ap (λ (y : Reduction). y.clause) same in
-          subst (λ z. At (reduce u o r.clause k) z d) (sym here) (subst (λ z. At (reduce u o r.clause k) (path u o) z) (sym clauses) (reduced_at u o r.clause k))
+          subst (λ z. At (reduce u o r.clause k) z d) (sym here)
+          (subst (λ z. At (reduce u o r.clause k) (path u o) z) (sym clauses) (reduced_at u o r.clause k))
       | inr i ↦
           let low : x.parent < r.node = omega (arith, parent_below P (front ++ back) u m x i, (node_bounds P (front ++ back) u m x i).1, number) in
           let fewer : PlaceHas (front ++ back) x.parent q = place_fewer P front back u r m (omega (arith, number)) x.parent q in_front low in
@@ -161,7 +179,8 @@ writes_made P rs t (one_more front back all u r o k m call number is_all) p d (x
     ]
 
 -- So lists of the same reductions make one tree.
-pub makes_same : (P : Program) (rs qs : List Reduction) (t u : QueryTree P) → Makes P rs t → Makes P qs u → ((x : Reduction) → Contains rs x ↔ Contains qs x) → t ≡ u
+pub makes_same : (P : Program) (rs qs : List Reduction) (t u : QueryTree P) → Makes P rs t → Makes P qs u
+    → ((x : Reduction) → Contains rs x ↔ Contains qs x) → t ≡ u
 makes_same P rs qs t u m n same =
     same_paths t u (query_apart P)
     (λ p d a. writes_made P qs u n p d (writes_more rs qs (λ x. (same x).0) p d (made_writes P rs t m p d a)))

@@ -1,9 +1,12 @@
 -- One line: two most general solutions of the same equations differ by a renaming of variables, and a line names its variables by their order.
-use Rattle.std.proofs.Common.{ℕ, zero, suc, ◌≡◌, ◌+◌, ◌<◌, ◌≤◌, length, arith, ⊎_elim, List, [], ◌∷◌, ◌++◌, refl, ap, sym, ◌∙◌, subst, inl, inr, true, false, true≢false, cond, nat_eq, map, codes, eqb-true, eq-eqb, decimal}
+use Rattle.std.proofs.Common.{ℕ, zero, suc, ◌≡◌, ◌+◌, ◌<◌, ◌≤◌, length, arith, ⊎_elim, List, [], ◌∷◌, ◌++◌, refl, ap, sym, ◌∙◌, subst, inl, inr, true, false}
+use Rattle.std.proofs.Common.{true≢false, cond, nat_eq, map, codes, eqb-true, eq-eqb, decimal}
 use Rattle.and_model.specs.Terms.{Path, Term, Terms, variable, number, compound, none, more, variables_of, variables_in, Substitution, apply, apply_all}
 use Rattle.and_model.specs.Solutions.{Equation, Entails, MostGeneral}
 use Rattle.and_model.specs.Programs.{Program, Arithmetic}
-use Rattle.and_model.specs.Lines.{Bytes, same_path, same_variable, has, first_seen, place_of, is_cell, is_nil, shown, shown_arguments, shown_rest, shown_elements, shown_tail, goal_term, shown_variables, variables_along, joined, shown_value, with_waiting, begins_underscore, line_of, line}
+use Rattle.and_model.specs.Lines.{Bytes, same_path, same_variable, has, first_seen, place_of, is_cell, is_nil, shown, shown_arguments, shown_rest}
+use Rattle.and_model.specs.Lines.{shown_elements, shown_tail, goal_term, shown_variables, variables_along, joined, shown_value, with_waiting}
+use Rattle.and_model.specs.Lines.{begins_underscore, line_of, line}
 use Rattle.and_model.specs.Stands.{numbers_below, AreVariants}
 use Rattle.std.proofs.lemmas.Bool.{cases_lt}
 use Rattle.std.proofs.lemmas.List.{length-map, map-append}
@@ -105,7 +108,10 @@ module _ (s t : Substitution) where
   first_seen_pairs seen told (v ∷ vs) (w ∷ ws) p q =
       let next : Pairs (cond (has v seen) seen (seen ++ v ∷ [])) (cond (has w told) told (told ++ w ∷ [])) =
       subst (λ b. Pairs (cond (has v seen) seen (seen ++ v ∷ [])) (cond b told (told ++ w ∷ []))) (has_same v w seen told q.0 p)
-      (elim (has v seen) as (λ b. Pairs (cond b seen (seen ++ v ∷ [])) (cond b told (told ++ w ∷ []))) [ true ↦ p | false ↦ pairs_join seen told (v ∷ []) (w ∷ []) p (q.0, tt) ]) in
+      (elim (has v seen) as (λ b. Pairs (cond b seen (seen ++ v ∷ [])) (cond b told (told ++ w ∷ []))) [
+        | true ↦ p
+        | false ↦ pairs_join seen told (v ∷ []) (w ∷ []) p (q.0, tt)
+      ]) in
       first_seen_pairs (cond (has v seen) seen (seen ++ v ∷ [])) (cond (has w told) told (told ++ w ∷ [])) vs ws next q.1
 
   -- a variable that s gives back is given a variable
@@ -123,7 +129,8 @@ module _ (s t : Substitution) where
 
     terms_pairs : (xs : Terms) → apply_all s (apply_all t xs) ≡ xs → Pairs (variables_in xs) (variables_in (apply_all t xs))
     terms_pairs none e = tt
-    terms_pairs (more x xs) e = pairs_join (variables_of x) (variables_of (apply t x)) (variables_in xs) (variables_in (apply_all t xs)) (term_pairs x (cc)) (terms_pairs xs (cc))
+    terms_pairs (more x xs) e =
+        pairs_join (variables_of x) (variables_of (apply t x)) (variables_in xs) (variables_in (apply_all t xs)) (term_pairs x (cc)) (terms_pairs xs (cc))
 
   -- what t makes of a list is a list
   is_cell_same : (c : ℕ) (ts : Terms) → is_cell c (apply_all t ts) ≡ is_cell c ts
@@ -147,7 +154,8 @@ module _ (s t : Substitution) where
     variable_tail : (q : Path) (k : ℕ) → apply s (t q k) ≡ variable q k → shown_tail names vs (variable q k) ≡ shown_tail names ws (t q k)
     variable_tail q k e =
         let p = variable_pair q k (t q k) refl e in
-        let same : shown_tail names vs (variable q k) ≡ shown_tail names ws (variable p.0.0 p.0.1) = ap (λ n. 124 ∷ 95 ∷ decimal n) (place_same (q, k) p.0 vs ws p.2 known) in
+        let same : shown_tail names vs (variable q k) ≡ shown_tail names ws (variable p.0.0 p.0.1) =
+        ap (λ n. 124 ∷ 95 ∷ decimal n) (place_same (q, k) p.0 vs ws p.2 known) in
         same ∙ ap (shown_tail names ws) (sym p.1)
 
     mutual
@@ -229,7 +237,8 @@ module _ (s t : Substitution) where
     numbered_twins zero p k lt = absurd (omega arith)
     numbered_twins (suc n) p k lt =
         let ns : List ℕ = numbers_below n in
-        let ends : Twins (map (f []) ns ++ f [] n ∷ []) (map (g []) ns ++ g [] n ∷ []) = rw (← map-append (f []) ns (n ∷ []), ← map-append (g []) ns (n ∷ [])) p in
+        let ends : Twins (map (f []) ns ++ f [] n ∷ []) (map (g []) ns ++ g [] n ∷ []) =
+        rw (← map-append (f []) ns (n ∷ []), ← map-append (g []) ns (n ∷ [])) p in
         let r = twins_apart (map (f []) ns) (map (g []) ns) (f [] n ∷ []) (g [] n ∷ []) (length-map ns (f []) ∙ sym (length-map ns (g []))) ends in
         ⊎_elim
         (λ (low : k < n). numbered_twins n r.0 k low)
@@ -252,13 +261,15 @@ module _ (s t : Substitution) where
         rw (one, values_same names vs ws known ones p.2) refl
 
   -- and so are goals that are twins.
-  goals_same : (names : List Bytes) (vs ws : List Variable) → Pairs vs ws → (gs hs : List Term) → Twins gs hs → map (shown names vs) gs ≡ map (shown names ws) hs
+  goals_same : (names : List Bytes) (vs ws : List Variable) → Pairs vs ws → (gs hs : List Term) → Twins gs hs
+      → map (shown names vs) gs ≡ map (shown names ws) hs
   goals_same names vs ws known [] [] p = refl
   goals_same names vs ws known [] (h ∷ hs) p = elim p [ ]
   goals_same names vs ws known (g ∷ gs) [] p = elim p [ ]
   goals_same names vs ws known (g ∷ gs) (h ∷ hs) p = rw (shown_twin names vs ws known g h p.0 p.1, goals_same names vs ws known gs hs p.2) refl
 
-  waiting_same : (names : List Bytes) (vs ws : List Variable) → Pairs vs ws → (gs hs : List Term) → Twins gs hs → with_waiting names vs gs ≡ with_waiting names ws hs
+  waiting_same : (names : List Bytes) (vs ws : List Variable) → Pairs vs ws → (gs hs : List Term) → Twins gs hs
+      → with_waiting names vs gs ≡ with_waiting names ws hs
   waiting_same names vs ws known [] [] p = refl
   waiting_same names vs ws known [] (h ∷ hs) p = elim p [ ]
   waiting_same names vs ws known (g ∷ gs) [] p = elim p [ ]
@@ -284,7 +295,10 @@ shown_below k n [] few = tt
 shown_below k n (w ∷ written) few =
     let rest : AllBelow n (shown_variables (suc k) written) = shown_below (suc k) n written (omega arith) in
     let here : k < n = omega arith in
-    elim (begins_underscore w) as (λ b. AllBelow n (cond b (shown_variables (suc k) written) ((w, k) ∷ shown_variables (suc k) written))) [ true ↦ rest | false ↦ (here, rest) ]
+    elim (begins_underscore w) as (λ b. AllBelow n (cond b (shown_variables (suc k) written) ((w, k) ∷ shown_variables (suc k) written))) [
+      | true ↦ rest
+      | false ↦ (here, rest)
+    ]
 
 -- Values of the query's variables with goals that wait, and variants of them, give one line.
 pub variants_line : (P : Program) (n : ℕ) (f g : Substitution) (gs hs : List Term) → length P.query.written ≤ n → length gs ≡ length hs
@@ -297,8 +311,10 @@ variants_line P n f g gs hs few long variants =
     let forth : map (apply t) xs ≡ ys = variants.0.1 in
     let back : map (apply s) (map (apply t) xs) ≡ xs = ap (map (apply s)) forth ∙ variants.1.1 in
     let twins : Twins s t xs ys = subst (λ zs. Twins s t xs zs) forth (twins_of s t xs back) in
-    let apart = twins_apart s t (map (f []) (numbers_below n)) (map (g []) (numbers_below n)) gs hs (length-map (numbers_below n) (f []) ∙ sym (length-map (numbers_below n) (g []))) twins in
-    twins_line s t P f g gs hs (value_twins s t f g n (numbered_twins s t f g n apart.0) (shown_variables 0 P.query.written) (shown_below 0 n P.query.written (omega arith))) apart.1
+    let apart = twins_apart s t (map (f []) (numbers_below n)) (map (g []) (numbers_below n)) gs hs (length-map (numbers_below n) (f [])
+    ∙ sym (length-map (numbers_below n) (g []))) twins in
+    twins_line s t P f g gs hs
+    (value_twins s t f g n (numbered_twins s t f g n apart.0) (shown_variables 0 P.query.written) (shown_below 0 n P.query.written (omega arith))) apart.1
 
 maps_through : (s t : Substitution) → Through s t → (xs : List Term) → map (apply t) (map (apply s) xs) ≡ map (apply t) xs
 maps_through s t h [] = refl
@@ -316,11 +332,14 @@ values_and_goals s [] (g ∷ gs) = ap (λ (l : List Term). apply s (goal_term g)
 values_and_goals s (k ∷ ns) gs = ap (λ (l : List Term). s [] k ∷ l) (values_and_goals s ns gs)
 
 -- So they give one line.
-pub one_line : (P : Program) (es ds : List Equation) (s t : Substitution) (gs : List Arithmetic) → MostGeneral s es → MostGeneral t ds → Entails es ds → Entails ds es → line P s gs ≡ line P t gs
+pub one_line : (P : Program) (es ds : List Equation) (s t : Substitution) (gs : List Arithmetic) → MostGeneral s es → MostGeneral t ds → Entails es ds
+    → Entails ds es → line P s gs ≡ line P t gs
 one_line P es ds s t gs m n f b =
     let size : ℕ = length P.query.written in
     let xs : List Term = map (λ k. variable [] k) (numbers_below size) ++ map goal_term gs in
-    let variants : AreVariants (map (s []) (numbers_below size) ++ map (λ g. apply s (goal_term g)) gs) (map (t []) (numbers_below size) ++ map (λ g. apply t (goal_term g)) gs) =
+    let variants : AreVariants (map (s []) (numbers_below size) ++ map (λ g. apply s (goal_term g)) gs)
+    (map (t []) (numbers_below size) ++ map (λ g. apply t (goal_term g)) gs) =
     subst (λ ys. AreVariants ys (map (t []) (numbers_below size) ++ map (λ g. apply t (goal_term g)) gs)) (values_and_goals s (numbers_below size) gs)
     (subst (λ ys. AreVariants (map (apply s) xs) ys) (values_and_goals t (numbers_below size) gs) (general_variants es ds s t xs m n f b)) in
-    variants_line P size s t (map (λ g. apply s (goal_term g)) gs) (map (λ g. apply t (goal_term g)) gs) (omega arith) (length-map gs (λ g. apply s (goal_term g)) ∙ sym (length-map gs (λ g. apply t (goal_term g)))) variants
+    variants_line P size s t (map (λ g. apply s (goal_term g)) gs) (map (λ g. apply t (goal_term g)) gs) (omega arith)
+    (length-map gs (λ g. apply s (goal_term g)) ∙ sym (length-map gs (λ g. apply t (goal_term g)))) variants

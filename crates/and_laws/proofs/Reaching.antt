@@ -2,7 +2,8 @@
 use Rattle.std.proofs.Common.{ℕ, ◌≡◌, ◌≢◌, ◌+◌, ◌≤◌, List, refl, subst, inl, inr, ◌⊎◌, arith, zero, suc, length}
 use Rattle.and_model.specs.Solutions.{Equation, Entails}
 use Rattle.and_model.specs.Programs.{Program, Arithmetic, clause_weight, Of}
-use Rattle.and_model.specs.Trees.{Agenda, Tree, QueryTree, query_agenda, blank, done, left, by, equate, reckon, equations, arithmetics, taken_weight, weight, IsWhole, code, Open, path, call_of, reduce, Below, Closed, HasOutcome}
+use Rattle.and_model.specs.Trees.{Agenda, Tree, QueryTree, query_agenda, blank, done, left, by, equate, reckon, equations, arithmetics, taken_weight, weight}
+use Rattle.and_model.specs.Trees.{IsWhole, code, Open, path, call_of, reduce, Below, Closed, HasOutcome}
 use Rattle.and_model.specs.Reached.{CandidateOf, Step, Shut, Split, ReachedBy, Reached}
 use Rattle.and_model.specs.Limits.{Cut, query_alone, at_goal, OverLimit}
 use Rattle.and_laws.specs.Fitting.{AllFit}
@@ -17,7 +18,10 @@ every_or done A B f = inr (λ o. elim o [ ])
 every_or (left t) A B f =
     elim (f (inl tt)) [
       | inl a ↦ inl (inl tt, a)
-      | inr b ↦ elim (every_or t (λ o. A (inr o)) (λ o. B (inr o)) (λ o. f (inr o))) [ inl a ↦ inl (inr a.0, a.1) | inr bs ↦ inr (elim [ inl x ↦ b | inr o ↦ bs o ]) ]
+      | inr b ↦ elim (every_or t (λ o. A (inr o)) (λ o. B (inr o)) (λ o. f (inr o))) [
+        | inl a ↦ inl (inr a.0, a.1)
+        | inr bs ↦ inr (elim [ inl x ↦ b | inr o ↦ bs o ])
+      ]
     ]
 every_or (by c h t) A B f = every_or t A B f
 every_or (equate t) A B f = every_or t A B f
@@ -84,7 +88,8 @@ reached_split P limit t c u r s h = (_, ReachedBy.divided r.0 t c u r.1 s h)
 reached_start : (P : Program) (limit : ℕ) → clause_weight P.query ≤ limit → Reached P limit (blank (query_agenda P))
 reached_start P limit h = (_, ReachedBy.start (omega (arith, h, blank_weighs P (query_agenda P))))
 
--- From a reached tree below one with an outcome, a whole reached tree is come to below it, where all on the way fits. (By induction on how many clauses are missing.)
+-- From a reached tree below one with an outcome, a whole reached tree is come to below it, where all on the way fits.
+-- (By induction on how many clauses are missing.)
 pub climbs : (P : Program) (limit : ℕ) (u : QueryTree P) → HasOutcome u
     → ((t : QueryTree P) (o : Open t) (c : ℕ) (h : Of P (call_of t o) c) → Reached P limit t → Below P (query_agenda P) (reduce t o c h) u
     → (es : List Equation) (gs : List Arithmetic) → Closed t es gs → CandidateOf t es o c → weight (reduce t o c h) ≤ limit)
@@ -103,7 +108,8 @@ climbs P limit u out fits (suc n) t near reached b = elim (open_or_whole t) [
       let next : QueryTree P = reduce t on.goal on.clause on.fits in
       let nearer : length (code u) ≤ n + length (code next) = omega (arith, reduce_size t on.goal on.clause on.fits) in
       let light : weight next ≤ limit = fits t on.goal on.clause on.fits reached on.below on.closed_equations on.waiting on.closed on.candidate in
-      let there : Reached P limit next = elim on.step_or_split [ inl st ↦ reached_step P limit t next reached st light | inr sp ↦ reached_split P limit t on.clause next reached sp light ] in
+      let there : Reached P limit next =
+      elim on.step_or_split [ inl st ↦ reached_step P limit t next reached st light | inr sp ↦ reached_split P limit t on.clause next reached sp light ] in
       climbs P limit u out fits n next nearer there on.below
 ]
 

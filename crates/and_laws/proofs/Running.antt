@@ -59,7 +59,8 @@ all_old [] = none
 all_old (g ∷ gs) = old g gs [] gs (all_old gs)
 
 -- A body's goals come among those of the tree that it is put before,
-fresh_woven : {P : Program} (q : Path) (i : ℕ) (items : List Item) {rest : Agenda} (t : Tree P rest) → Woven (arithmetics t) (body_arithmetic q items) (arithmetics (fresh q i items t))
+fresh_woven : {P : Program} (q : Path) (i : ℕ) (items : List Item) {rest : Agenda} (t : Tree P rest)
+    → Woven (arithmetics t) (body_arithmetic q items) (arithmetics (fresh q i items t))
 fresh_woven q i [] t = all_old (arithmetics t)
 fresh_woven q i (call g ∷ items) t = fresh_woven q (suc i) items t
 fresh_woven q i (equal a b ∷ items) t = fresh_woven q (suc i) items t
@@ -79,7 +80,8 @@ reduce_woven {P} (reckon {a = a} t) o c h =
     old a (arithmetics t) (body_arithmetic (path t o) (clause_at P c).body) (arithmetics (reduce t o c h)) (reduce_woven t o c h)
 
 -- The tree's equations are among those of the larger one.
-pub reduce_entails : {P : Program} {ag : Agenda} (t : Tree P ag) (o : Open t) (c : ℕ) (h : Of P (call_of t o) c) → Entails (equations (reduce t o c h)) (equations t)
+pub reduce_entails : {P : Program} {ag : Agenda} (t : Tree P ag) (o : Open t) (c : ℕ) (h : Of P (call_of t o) c)
+    → Entails (equations (reduce t o c h)) (equations t)
 reduce_entails done o c h s p = elim o [ ]
 reduce_entails {P} (left {q = q} t) (inl u) c h s p = fresh_equations q 0 (clause_at P c).body t s p.1
 reduce_entails (left t) (inr o) c h s p = reduce_entails t o c h s p

@@ -34,7 +34,8 @@ under_solvable s es a b m so =
     (then s t, (sym (apply_then s t a) ∙ p.0 ∙ apply_then s t b, solves_then s t es m.0))
 
 -- and a most general solution of these, after that of the list, is one of the longer list
-pub general_then : (s r : Substitution) (es : List Equation) (a b : Term) → MostGeneral s es → MostGeneral r ((apply s a, apply s b) ∷ []) → MostGeneral (then s r) ((a, b) ∷ es)
+pub general_then : (s r : Substitution) (es : List Equation) (a b : Term) → MostGeneral s es → MostGeneral r ((apply s a, apply s b) ∷ [])
+    → MostGeneral (then s r) ((a, b) ∷ es)
 general_then s r es a b m n = (
   (sym (apply_then s r a) ∙ n.0.0 ∙ apply_then s r b, solves_then s r es m.0),
   λ t p q k.

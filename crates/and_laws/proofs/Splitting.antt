@@ -1,7 +1,8 @@
 -- Splits divide outcomes.
 use Rattle.std.proofs.Common.{ℕ, ◌≡◌, [], ◌∷◌, ◌++◌, refl, sym, ◌∙◌, subst, inl, inr}
 use Rattle.and_model.specs.Programs.{Program, clause_at, Of}
-use Rattle.and_model.specs.Trees.{Agenda, Tree, done, left, by, equate, reckon, code, decided, Open, call_of, fresh, reduce, IsLeftmost, Below, both_by, both_equate, both_reckon, HasOutcome}
+use Rattle.and_model.specs.Trees.{Agenda, Tree, done, left, by, equate, reckon, code, decided, Open, call_of, fresh, reduce, IsLeftmost, Below, both_by}
+use Rattle.and_model.specs.Trees.{both_equate, both_reckon, HasOutcome}
 use Rattle.and_model.specs.Reached.{Shut, Split}
 use Rattle.and_model.specs.Prefixes.{IsPrefix}
 use Rattle.and_laws.proofs.PrefixLemmas.{prefix_cons, same_after}
@@ -9,7 +10,8 @@ use Rattle.and_laws.proofs.Order.{below_self, same_trees}
 use Rattle.and_laws.proofs.Picking.{Picked, picked, picked_candidate}
 
 -- A tree above one whose leftmost goal was taken begins with what was decided, and then that clause.
-pub leftmost_code : {P : Program} {ag : Agenda} (t u : Tree P ag) (o : Open t) (c : ℕ) (h : Of P (call_of t o) c) → IsLeftmost t o → Below P ag (reduce t o c h) u → IsPrefix (decided t ++ c ∷ []) (code u)
+pub leftmost_code : {P : Program} {ag : Agenda} (t u : Tree P ag) (o : Open t) (c : ℕ) (h : Of P (call_of t o) c) → IsLeftmost t o
+    → Below P ag (reduce t o c h) u → IsPrefix (decided t ++ c ∷ []) (code u)
 leftmost_code done u o c h m b = elim m [ ]
 leftmost_code (left t) u (inr o) c h m b = elim m [ ]
 leftmost_code (left t) (left u) (inl x) c h m b = elim b [ ]
@@ -53,7 +55,8 @@ split_code {P} {ag} t u next c sp b =
     leftmost_code t u o c sp.6 sp.5 (subst (λ v. Below P ag v u) sp.8 b)
 
 -- Reducing the leftmost goal by one clause gives one tree,
-pub reduce_same : {P : Program} {ag : Agenda} (t : Tree P ag) (o p : Open t) (c : ℕ) (h : Of P (call_of t o) c) (k : Of P (call_of t p) c) → IsLeftmost t o → IsLeftmost t p → Below P ag (reduce t o c h) (reduce t p c k)
+pub reduce_same : {P : Program} {ag : Agenda} (t : Tree P ag) (o p : Open t) (c : ℕ) (h : Of P (call_of t o) c) (k : Of P (call_of t p) c) → IsLeftmost t o
+    → IsLeftmost t p → Below P ag (reduce t o c h) (reduce t p c k)
 reduce_same done o p c h k m n = elim m [ ]
 reduce_same {P} (left {q = q} t) (inl x) (inl y) c h k m n = both_by c h k (below_self (fresh q 0 (clause_at P c).body t))
 reduce_same (left t) (inr o) p c h k m n = elim m [ ]
@@ -68,7 +71,8 @@ split_same t u v c a b =
     a.8 ∙ same_trees (reduce t a.4 c a.6) (reduce t b.4 c b.6) (reduce_same t a.4 b.4 c a.6 b.6 a.5 b.5) (reduce_same t b.4 a.4 c b.6 a.6 b.5 a.5) ∙ sym b.8
 
 -- So a tree is above one split alone.
-pub split_one : {P : Program} {ag : Agenda} (t u next other : Tree P ag) (c d : ℕ) → Split t c next → Below P ag next u → Split t d other → Below P ag other u → (c ≡ d) × (next ≡ other)
+pub split_one : {P : Program} {ag : Agenda} (t u next other : Tree P ag) (c d : ℕ) → Split t c next → Below P ag next u → Split t d other → Below P ag other u
+    → (c ≡ d) × (next ≡ other)
 split_one t u next other c d p b q k =
     let x = split_code t u next c p b in
     let y = split_code t u other d q k in

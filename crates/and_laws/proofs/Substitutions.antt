@@ -36,7 +36,8 @@ mutual
 
   pub apply_all_through : (s t : Substitution) → Through s t → (xs : Terms) → apply_all t xs ≡ apply_all t (apply_all s xs)
   apply_all_through s t h none = refl
-  apply_all_through s t h (more x xs) = ap (λ y. more y (apply_all t xs)) (apply_through s t h x) ∙ ap (λ ys. more (apply t (apply s x)) ys) (apply_all_through s t h xs)
+  apply_all_through s t h (more x xs) = ap (λ y. more y (apply_all t xs)) (apply_through s t h x)
+      ∙ ap (λ ys. more (apply t (apply s x)) ys) (apply_all_through s t h xs)
 
 -- first r, and then s
 abbrev pub then : Substitution → Substitution → Substitution
@@ -50,7 +51,8 @@ mutual
 
   pub apply_all_then : (r s : Substitution) (us : Terms) → apply_all s (apply_all r us) ≡ apply_all (then r s) us
   apply_all_then r s none = refl
-  apply_all_then r s (more u us) = ap (λ y. more y (apply_all s (apply_all r us))) (apply_then r s u) ∙ ap (λ ys. more (apply (then r s) u) ys) (apply_all_then r s us)
+  apply_all_then r s (more u us) = ap (λ y. more y (apply_all s (apply_all r us))) (apply_then r s u)
+      ∙ ap (λ ys. more (apply (then r s) u) ys) (apply_all_then r s us)
 
 -- the substitution that leaves each variable
 abbrev pub same : Substitution

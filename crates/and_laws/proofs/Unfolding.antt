@@ -1,8 +1,10 @@
 -- The unfolding of a code: the tree whose calls are taken by these clauses from left to right.
-use Rattle.std.proofs.Common.{ℕ, ◌≡◌, List, [], ◌∷◌, ◌++◌, append_assoc, append-nil, refl, ap, sym, ◌∙◌, inl, inr, Bool, true, false, true≢false, Option, Some, None, arith, length}
+use Rattle.std.proofs.Common.{ℕ, ◌≡◌, List, [], ◌∷◌, ◌++◌, append_assoc, append-nil, refl, ap, sym, ◌∙◌, inl, inr, Bool, true, false, true≢false, Option}
+use Rattle.std.proofs.Common.{Some, None, arith, length}
 use Rattle.and_model.specs.Terms.{Term}
 use Rattle.and_model.specs.Programs.{Program, clause_at, is_of, Of}
-use Rattle.and_model.specs.Trees.{Agenda, end, goal, equation, reckoning, Tree, QueryTree, query_agenda, blank, done, left, by, equate, reckon, code, decided, IsWhole, Open, IsLeftmost, call_of, fresh, reduce, Below, taking, mapped, then, extend, extend_all, unfold_code}
+use Rattle.and_model.specs.Trees.{Agenda, end, goal, equation, reckoning, Tree, QueryTree, query_agenda, blank, done, left, by, equate, reckon, code, decided}
+use Rattle.and_model.specs.Trees.{IsWhole, Open, IsLeftmost, call_of, fresh, reduce, Below, taking, mapped, then, extend, extend_all, unfold_code}
 use Rattle.and_laws.proofs.Bodies.{fresh_code}
 use Rattle.and_laws.proofs.Order.{blank_below, same_proof, same_size}
 use Rattle.and_laws.proofs.Keys.{next_taken}
@@ -21,7 +23,8 @@ mapped_some f None y e = absurd (cc)
 mapped_some f (Some x) y e = (x, refl, cc)
 
 -- Extending a tree reduces its leftmost open goal.
-pub extend_leftmost : {P : Program} {ag : Agenda} (t : Tree P ag) (o : Open t) (c : ℕ) (h : Of P (call_of t o) c) → IsLeftmost t o → extend t c ≡ Some (reduce t o c h)
+pub extend_leftmost : {P : Program} {ag : Agenda} (t : Tree P ag) (o : Open t) (c : ℕ) (h : Of P (call_of t o) c) → IsLeftmost t o
+    → extend t c ≡ Some (reduce t o c h)
 extend_leftmost done o c h m = elim m [ ]
 extend_leftmost {P} (left {q = q} {g = g} t) (inl x) c h m = ap (mapped (λ k. by c k (fresh q 0 (clause_at P c).body t))) (taking_is P g c h)
 extend_leftmost (left t) (inr o) c h m = elim m [ ]
@@ -63,7 +66,8 @@ then_some : {A B : Type 0} (o : Option A) (f : A → Option B) (y : B) → then 
 then_some None f y e = absurd (cc)
 then_some (Some x) f y e = (x, refl, e)
 
-all_extended : {P : Program} {ag : Agenda} (t u : Tree P ag) (cs : List ℕ) → extend_all t cs ≡ Some u → decided t ≡ code t → (decided u ≡ code u) × (code u ≡ code t ++ cs)
+all_extended : {P : Program} {ag : Agenda} (t u : Tree P ag) (cs : List ℕ) → extend_all t cs ≡ Some u → decided t ≡ code t
+    → (decided u ≡ code u) × (code u ≡ code t ++ cs)
 all_extended t u [] e d =
     let same : t ≡ u = cc in
     (ap decided (sym same) ∙ d ∙ ap code same, ap code (sym same) ∙ sym (append-nil (code t)))
@@ -88,7 +92,8 @@ unfolding_code P cs t e =
     (codes, r.0 ∙ codes)
 
 -- A tree whose taken calls come before its open ones is come to by extending any smaller such tree,
-extends_to : {P : Program} {ag : Agenda} (cs : List ℕ) (t u : Tree P ag) → Below P ag t u → decided t ≡ code t → decided u ≡ code u → code u ≡ code t ++ cs → extend_all t cs ≡ Some u
+extends_to : {P : Program} {ag : Agenda} (cs : List ℕ) (t u : Tree P ag) → Below P ag t u → decided t ≡ code t → decided u ≡ code u → code u ≡ code t ++ cs
+    → extend_all t cs ≡ Some u
 extends_to [] t u b d f e = ap Some (same_size b (let n = ap length (e ∙ append-nil (code t)) in omega arith))
 extends_to {P} (c ∷ cs) t u b d f e =
     let begins : decided u ≡ (decided t ++ c ∷ []) ++ cs = f ∙ e ∙ ap (λ l. l ++ c ∷ cs) (sym d) ∙ sym (append_assoc (decided t) (c ∷ []) cs) in

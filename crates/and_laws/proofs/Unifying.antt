@@ -6,7 +6,8 @@ use Rattle.and_model.specs.Solutions.{Equation, Solves, Solvable, Entails, MostG
 use Rattle.and_laws.proofs.Substitutions.{apply_through, then, apply_then}
 use Rattle.and_laws.proofs.Solving.{solves_join, solves_front, solves_back}
 use Rattle.and_laws.proofs.Equality.{number_or, variable_or, integer_or}
-use Rattle.and_laws.proofs.Occurrences.{Variables, Has, Within, AllWithin, Absent, AllAbsent, all_absent_or, Lacks, take_out, has_still, within_absent, within_more, has_left, has_right, variables_within}
+use Rattle.and_laws.proofs.Occurrences.{Variables, Has, Within, AllWithin, Absent, AllAbsent, all_absent_or, Lacks, take_out, has_still, within_absent}
+use Rattle.and_laws.proofs.Occurrences.{within_more, has_left, has_right, variables_within}
 use Rattle.and_laws.specs.Sizes.{size, sizes}
 
 -- (In this file f and g are the paths of frames, and n and m the numbers of variables.)
@@ -33,12 +34,14 @@ single_same f n t = elim (variable_or f n f n) as (λ d. elim d [ inl e ↦ t | 
 -- and that of another
 pub single_other : (f : Path) (n : ℕ) (t : Term) (g : Path) (m : ℕ) → (f ≡ g → n ≡ m → ⊥) → single f n t g m ≡ variable g m
 unfolding single
-single_other f n t g m h = elim (variable_or f n g m) as (λ d. elim d [ inl e ↦ t | inr k ↦ variable g m ] ≡ variable g m) [ inl e ↦ absurd (h e.0 e.1) | inr k ↦ refl ]
+single_other f n t g m h =
+    elim (variable_or f n g m) as (λ d. elim d [ inl e ↦ t | inr k ↦ variable g m ] ≡ variable g m) [ inl e ↦ absurd (h e.0 e.1) | inr k ↦ refl ]
 
 -- a substitution that gives the variable what it gives the term goes through it
 pub single_under : (s : Substitution) (f : Path) (n : ℕ) (t : Term) → s f n ≡ apply s t → (g : Path) (m : ℕ) → s g m ≡ apply s (single f n t g m)
 unfolding single
-single_under s f n t h g m = elim (variable_or f n g m) as (λ d. s g m ≡ apply s (elim d [ inl e ↦ t | inr k ↦ variable g m ])) [ inl e ↦ (let same : s g m ≡ s f n = cc in same ∙ h) | inr k ↦ refl ]
+single_under s f n t h g m = elim (variable_or f n g m) as (λ d. s g m ≡ apply s (elim d [ inl e ↦ t | inr k ↦ variable g m ]))
+    [ inl e ↦ (let same : s g m ≡ s f n = cc in same ∙ h) | inr k ↦ refl ]
 
 -- a term without the variable stays as it is
 mutual
@@ -49,20 +52,24 @@ mutual
 
   pub all_absent_stay : (f : Path) (n : ℕ) (t : Term) (us : Terms) → AllAbsent f n us → apply_all (single f n t) us ≡ us
   all_absent_stay f n t none a = refl
-  all_absent_stay f n t (more u us) a = ap (λ y. more y (apply_all (single f n t) us)) (absent_stays f n t u a.0) ∙ ap (λ ys. more u ys) (all_absent_stay f n t us a.1)
+  all_absent_stay f n t (more u us) a = ap (λ y. more y (apply_all (single f n t) us)) (absent_stays f n t u a.0)
+      ∙ ap (λ ys. more u ys) (all_absent_stay f n t us a.1)
 
 -- a term within a list is afterwards within the list without the variable
 mutual
-  pub within_single : (f : Path) (n : ℕ) (t : Term) (vs ws : Variables) → Lacks f n vs ws → Within ws t → (u : Term) → Within vs u → Within ws (apply (single f n t) u)
+  pub within_single : (f : Path) (n : ℕ) (t : Term) (vs ws : Variables) → Lacks f n vs ws → Within ws t → (u : Term) → Within vs u
+      → Within ws (apply (single f n t) u)
   within_single f n t vs ws l w (variable g m) h =
       elim (variable_or f n g m) [
-        | inl e ↦ (let same : single f n t g m ≡ t = ap (λ x. single f n t x m) (sym e.0) ∙ ap (λ x. single f n t f x) (sym e.1) ∙ single_same f n t in subst (λ x. Within ws x) (sym same) w)
+        | inl e ↦ (let same : single f n t g m ≡ t = ap (λ x. single f n t x m) (sym e.0) ∙ ap (λ x. single f n t f x) (sym e.1)
+            ∙ single_same f n t in subst (λ x. Within ws x) (sym same) w)
         | inr k ↦ subst (λ x. Within ws x) (sym (single_other f n t g m k)) (has_still f n vs ws g m l k h)
       ]
   within_single f n t vs ws l w (number z) h = tt
   within_single f n t vs ws l w (compound c ts) h = all_within_single f n t vs ws l w ts h
 
-  pub all_within_single : (f : Path) (n : ℕ) (t : Term) (vs ws : Variables) → Lacks f n vs ws → Within ws t → (us : Terms) → AllWithin vs us → AllWithin ws (apply_all (single f n t) us)
+  pub all_within_single : (f : Path) (n : ℕ) (t : Term) (vs ws : Variables) → Lacks f n vs ws → Within ws t → (us : Terms) → AllWithin vs us
+      → AllWithin ws (apply_all (single f n t) us)
   all_within_single f n t vs ws l w none h = tt
   all_within_single f n t vs ws l w (more u us) h = (within_single f n t vs ws l w u h.0, all_within_single f n t vs ws l w us h.1)
 
@@ -82,9 +89,11 @@ replaced f n t [] = []
 replaced f n t (e ∷ es) = (apply (single f n t) e.0, apply (single f n t) e.1) ∷ replaced f n t es
 
 -- they are within the list without the variable,
-pub replaced_within : (f : Path) (n : ℕ) (t : Term) (vs ws : Variables) → Lacks f n vs ws → Within ws t → (es : List Equation) → EquationsWithin vs es → EquationsWithin ws (replaced f n t es)
+pub replaced_within : (f : Path) (n : ℕ) (t : Term) (vs ws : Variables) → Lacks f n vs ws → Within ws t → (es : List Equation) → EquationsWithin vs es
+    → EquationsWithin ws (replaced f n t es)
 replaced_within f n t vs ws l w [] h = tt
-replaced_within f n t vs ws l w (e ∷ es) h = (within_single f n t vs ws l w e.0 h.0, within_single f n t vs ws l w e.1 h.1, replaced_within f n t vs ws l w es h.2)
+replaced_within f n t vs ws l w (e ∷ es) h =
+    (within_single f n t vs ws l w e.0 h.0, within_single f n t vs ws l w e.1 h.1, replaced_within f n t vs ws l w es h.2)
 
 -- what gives the variable what it gives the term solves them where it solves the equations,
 pub replaced_solved : (s : Substitution) (f : Path) (n : ℕ) (t : Term) → s f n ≡ apply s t → (es : List Equation) → Solves s es → Solves s (replaced f n t es)
@@ -119,15 +128,24 @@ pub flipped : (l r : Term) (es : List Equation) → Decision ((l, r) ∷ es) →
 flipped l r es = same_decision ((l, r) ∷ es) ((r, l) ∷ es) (λ s p. (sym p.0, p.1)) (λ s p. (sym p.0, p.1))
 
 -- Arguments are equal where each is; lists of two lengths never are.
-pub zip_or : (ts us : Terms) → ((ds : List Equation) × ((s : Substitution) → apply_all s ts ≡ apply_all s us → Solves s ds) × ((s : Substitution) → Solves s ds → apply_all s ts ≡ apply_all s us)
-    × (equations_size ds ≡ sizes ts + sizes us) × ((vs : Variables) → AllWithin vs ts → AllWithin vs us → EquationsWithin vs ds)) ⊎ ((s : Substitution) → apply_all s ts ≡ apply_all s us → ⊥)
+pub zip_or : (ts us : Terms)
+    → ((ds : List Equation) × ((s : Substitution) → apply_all s ts ≡ apply_all s us → Solves s ds)
+    × ((s : Substitution) → Solves s ds → apply_all s ts ≡ apply_all s us)
+    × (equations_size ds ≡ sizes ts + sizes us) × ((vs : Variables) → AllWithin vs ts → AllWithin vs us → EquationsWithin vs ds))
+    ⊎ ((s : Substitution) → apply_all s ts ≡ apply_all s us → ⊥)
 zip_or none none = inl ([], λ s e. tt, λ s p. refl, omega arith, λ vs a b. tt)
 zip_or none (more u us) = inr (λ s e. cc)
 zip_or (more t ts) none = inr (λ s e. cc)
 zip_or (more t ts) (more u us) =
     elim (zip_or ts us) [
       | inr n ↦ inr (λ s e. n s (cc))
-      | inl z ↦ inl ((t, u) ∷ z.0, λ s e. (cc, z.1 s (cc)), λ s p. (let a = p.0 in let b = z.2 s p.1 in cc), omega (arith, z.3), λ vs a b. (a.0, b.0, z.4 vs a.1 b.1))
+      | inl z ↦ inl (
+        (t, u) ∷ z.0,
+        λ s e. (cc, z.1 s (cc)),
+        λ s p. (let a = p.0 in let b = z.2 s p.1 in cc),
+        omega (arith, z.3),
+        λ vs a b. (a.0, b.0, z.4 vs a.1 b.1),
+      )
     ]
 
 -- a term has a size of at least 1
@@ -139,13 +157,15 @@ size_positive (compound c ts) = omega arith
 -- Below, the variables of the equations are in vs, and equations with fewer variables are decided.
 module _ (vs : Variables) (smaller : (ws : Variables) (ds : List Equation) → suc (length ws) ≤ length vs → EquationsWithin ws ds → Decision ds) where
   -- a variable against a term without it
-  variable_absent : (f : Path) (n : ℕ) (t : Term) (es : List Equation) → Has f n vs → Within vs t → EquationsWithin vs es → Absent f n t → Decision ((variable f n, t) ∷ es)
+  variable_absent : (f : Path) (n : ℕ) (t : Term) (es : List Equation) → Has f n vs → Within vs t → EquationsWithin vs es → Absent f n t
+      → Decision ((variable f n, t) ∷ es)
   variable_absent f n t es h w ws a =
       let o = take_out f n vs h in
       eliminated f n t es a (smaller o.0 (replaced f n t es) (omega (arith, o.2)) (replaced_within f n t vs o.0 o.1 (within_absent f n vs o.0 o.1 t a w) es ws))
 
   -- a variable against any term: with the variable inside, the two sides never have one size
-  variable_step : (f : Path) (n : ℕ) (t : Term) (es : List Equation) → Has f n vs → Within vs t → EquationsWithin vs es → Decision es → Decision ((variable f n, t) ∷ es)
+  variable_step : (f : Path) (n : ℕ) (t : Term) (es : List Equation) → Has f n vs → Within vs t → EquationsWithin vs es → Decision es
+      → Decision ((variable f n, t) ∷ es)
   unfolding Decision
   variable_step f n (variable g m) es h w ws rest =
       elim (variable_or f n g m) [
@@ -164,8 +184,10 @@ module _ (vs : Variables) (smaller : (ws : Variables) (ds : List Equation) → s
       → ((ds : List Equation) → equations_size ds ≤ m → EquationsWithin vs ds → Decision ds) → Decision ((l, r) ∷ es)
   unfolding Decision
   pair_step (variable f n) r es m a b ws h all = variable_step f n r es a b ws (all es (omega (arith, size_positive r)) ws)
-  pair_step (number z) (variable f n) es m a b ws h all = flipped (variable f n) (number z) es (variable_step f n (number z) es b a ws (all es (omega arith) ws))
-  pair_step (compound c ts) (variable f n) es m a b ws h all = flipped (variable f n) (compound c ts) es (variable_step f n (compound c ts) es b a ws (all es (omega arith) ws))
+  pair_step (number z) (variable f n) es m a b ws h all =
+      flipped (variable f n) (number z) es (variable_step f n (number z) es b a ws (all es (omega arith) ws))
+  pair_step (compound c ts) (variable f n) es m a b ws h all =
+      flipped (variable f n) (compound c ts) es (variable_step f n (compound c ts) es b a ws (all es (omega arith) ws))
   pair_step (number y) (number z) es m a b ws h all =
       elim (integer_or y z) [
         | inl e ↦ same_decision es ((number y, number z) ∷ es) (λ s p. (ap number e, p)) (λ s p. p.1) (all es (omega arith) ws)
@@ -211,7 +233,8 @@ equation_variables [] = []
 equation_variables (e ∷ es) = variables_of e.0 ++ (variables_of e.1 ++ equation_variables es)
 
 -- equations within a list are within a larger one,
-pub equations_within_more : (vs ws : Variables) → ((f : Path) (n : ℕ) → Has f n vs → Has f n ws) → (es : List Equation) → EquationsWithin vs es → EquationsWithin ws es
+pub equations_within_more : (vs ws : Variables) → ((f : Path) (n : ℕ) → Has f n vs → Has f n ws) → (es : List Equation) → EquationsWithin vs es
+    → EquationsWithin ws es
 equations_within_more vs ws k [] h = tt
 equations_within_more vs ws k (e ∷ es) h = (within_more vs ws k e.0 h.0, within_more vs ws k e.1 h.1, equations_within_more vs ws k es h.2)
 

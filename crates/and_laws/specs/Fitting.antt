@@ -5,7 +5,8 @@ use Rattle.and_model.specs.Programs.{Program, Arithmetic, clause_at, clause_weig
 use Rattle.and_model.specs.Trees.{QueryTree, Open, Closed, weight}
 use Rattle.and_model.specs.Reached.{CandidateOf, Reached}
 
--- The query weighs at most the limit, and so does every reached tree together with any candidate of any of its open goals.
+-- The query weighs at most the limit, and so does every reached tree together with any candidate of any of its open
+-- goals.
 abbrev pub AllFit : Program → ℕ → Type 0
 AllFit P limit =
     (clause_weight P.query ≤ limit)

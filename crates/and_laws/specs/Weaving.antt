@@ -20,9 +20,10 @@ body_arithmetic q (equal a b ∷ items) = body_arithmetic q items
 body_arithmetic q (arithmetic a ∷ items) = arithmetic_in q a ∷ body_arithmetic q items
 body_arithmetic q (fail ∷ items) = body_arithmetic q items
 
--- The second tree is larger, with these arithmetic goals more. What was run of the first, adding to its equations, is run of the second and adds the
--- same; the new goals wait among those that waited.
-abbrev pub RanAlike : {P : Program} {ag : Agenda} → Tree P ag → Tree P ag → List Arithmetic → List Equation → List Arithmetic → Type 0
+-- The second tree is larger, with these arithmetic goals more. What was run of the first, adding to its equations, is
+-- run of the second and adds the same; the new goals wait among those that waited.
+abbrev pub RanAlike : {P : Program} {ag : Agenda} → Tree P ag → Tree P ag → List Arithmetic → List Equation
+    → List Arithmetic → Type 0
 RanAlike t next news solved waits =
     (gained : List Equation) × (wait : List Arithmetic) × (solved ≡ gained ++ equations t) × Woven waits news wait
     × Ran (equations next) (arithmetics next) (gained ++ equations next) wait

@@ -5,13 +5,16 @@
 //! alone, proved for all programs, trees and limits. The proofs' own lemmas stand in `proofs/`.
 #![tactic(auto)]
 
-ghost use Rattle.std.specs.Prelude.{ℕ, ◌≡◌, ◌+◌, ◌<◌, ◌≤◌, ◌≢◌, ◌⊎◌, ◌↔◌, List, [], ◌∷◌, ◌++◌, AllPairs, Contains, Some, map, length, true};
+ghost use Rattle.std.specs.Prelude.{ℕ, ◌≡◌, ◌+◌, ◌<◌, ◌≤◌, ◌≢◌, ◌⊎◌, ◌↔◌, List, [], ◌∷◌, ◌++◌, AllPairs, Contains};
+ghost use Rattle.std.specs.Prelude.{Some, map, length, true};
 ghost use Rattle.and_model.specs.Terms.{Path, Term, Substitution, apply};
 ghost use Rattle.and_model.specs.Solutions.{Equation, Solvable, Entails, MostGeneral};
 ghost use Rattle.and_model.specs.Programs.{Program, Arithmetic, clause_at, Of};
 ghost use Rattle.and_model.specs.Closure.{Closes, ClosesAnyhow, Ran};
 ghost use Rattle.and_model.specs.Candidates.{Candidate};
-ghost use Rattle.and_model.specs.Trees.{Agenda, Tree, QueryTree, query_agenda, equations, arithmetics, path, call_of, reduce, blank, IsWhole, Open, Below, Closed, HasOutcome, code, decided, weight, unfold_code};
+ghost use Rattle.and_model.specs.Trees.{Agenda, Tree, QueryTree, query_agenda, equations, arithmetics, path, call_of};
+ghost use Rattle.and_model.specs.Trees.{reduce, blank, IsWhole, Open, Below, Closed, HasOutcome, code, decided};
+ghost use Rattle.and_model.specs.Trees.{weight, unfold_code};
 ghost use Rattle.and_model.specs.Reached.{Step, Shut, Dead, Split, Steps, Reached, ReachedBy, Numbers, Fork, Forks};
 ghost use Rattle.and_model.specs.Limits.{Cut, OverLimit};
 ghost use Rattle.and_model.specs.Reductions.{Reduction, Makes};

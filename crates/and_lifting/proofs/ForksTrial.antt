@@ -6,7 +6,8 @@ use Rattle.and_model.specs.Solutions.{Equation, Solves, MostGeneral}
 use Rattle.and_model.specs.Closure.{Closes}
 use Rattle.and_model.specs.Listing.{answer, Entry}
 use Rattle.and_source.specs.Source.{source_weight, alternative_weight}
-use Rattle.and_source.specs.SourceListing.{SourceEnds, SourceLists, SourceListing, source_answered, source_calls, source_no_more, source_other, source_light, source_query}
+use Rattle.and_source.specs.SourceListing.{SourceEnds, SourceLists, SourceListing, source_answered, source_calls, source_no_more, source_other, source_light}
+use Rattle.and_source.specs.SourceListing.{source_query}
 use Rattle.and_lifting.specs.Trials.{own, whole, entry, forks_text}
 use Rattle.and_lifting.proofs.TrialSteps.{at}
 

@@ -2,7 +2,8 @@
 use Rattle.std.proofs.Common.{ℕ, ◌≡◌, List, [], ◌∷◌, ◌++◌, refl, ap, sym, ◌∙◌, inl, inr, subst}
 use Rattle.and_model.specs.Solutions.{Equation}
 use Rattle.and_model.specs.Programs.{Program, Arithmetic, clause_at, Of, head_in}
-use Rattle.and_model.specs.Trees.{Agenda, end, goal, equation, reckoning, agenda, Tree, done, left, by, equate, reckon, equations, arithmetics, IsWhole, Open, path, call_of, IsLeftmost, fresh, reduce, blank}
+use Rattle.and_model.specs.Trees.{Agenda, end, goal, equation, reckoning, agenda, Tree, done, left, by, equate, reckon, equations, arithmetics, IsWhole, Open}
+use Rattle.and_model.specs.Trees.{path, call_of, IsLeftmost, fresh, reduce, blank}
 use Rattle.and_laws.proofs.Bodies.{fresh_blank}
 
 -- the equations and the arithmetic before the first call of an agenda, and the agenda from there on

@@ -9,7 +9,8 @@ use Rattle.and_model.specs.Closure.{Closes, first}
 use Rattle.and_model.specs.Listing.{answer, Entry}
 use Rattle.and_laws.proofs.Closing.{closes_anyhow, closure_order}
 use Rattle.and_source.specs.Source.{source_weight, alternative_weight}
-use Rattle.and_source.specs.SourceListing.{SourceEnds, HasSourceOutcome, SourceLists, SourceListing, source_answered, source_nothing, source_calls, source_no_more, source_other, source_light, source_query}
+use Rattle.and_source.specs.SourceListing.{SourceEnds, HasSourceOutcome, SourceLists, SourceListing, source_answered, source_nothing, source_calls}
+use Rattle.and_source.specs.SourceListing.{source_no_more, source_other, source_light, source_query}
 use Rattle.and_lifting.specs.Trials.{own, whole, entry, largest, guards_text, SourceCodeEnds}
 use Rattle.and_lifting.proofs.TrialSteps.{at}
 

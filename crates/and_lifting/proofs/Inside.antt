@@ -5,7 +5,9 @@ use Rattle.std.proofs.lemmas.List.Elements.{Contains-append_left, Contains-appen
 use Rattle.and_model.specs.Terms.{Term}
 use Rattle.and_model.specs.Programs.{call, equal, arithmetic, fail}
 use Rattle.and_laws.proofs.Ordered.{contains_first, contains_more}
-use Rattle.and_source.specs.Source.{SourceItems, no_items, plain, either, Alternatives, no_alternatives, alternative, SourceClause, SourceProgram, source_clauses, disjunctions_in_items, disjunctions_in_alternatives, disjunctions_in_clauses, disjunctions_in, calls_in_items, calls_in_alternatives, heads_and_calls_in, heads_and_calls, has_name, IsNumbered}
+use Rattle.and_source.specs.Source.{SourceItems, no_items, plain, either, Alternatives, no_alternatives, alternative, SourceClause, SourceProgram}
+use Rattle.and_source.specs.Source.{source_clauses, disjunctions_in_items, disjunctions_in_alternatives, disjunctions_in_clauses, disjunctions_in}
+use Rattle.and_source.specs.Source.{calls_in_items, calls_in_alternatives, heads_and_calls_in, heads_and_calls, has_name, IsNumbered}
 
 -- the term has the name of no disjunction
 abbrev pub IsUnlifted : SourceProgram → Term → Type 0

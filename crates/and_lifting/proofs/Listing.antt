@@ -10,7 +10,8 @@ use Rattle.and_laws.proofs.Unfolding.{extend_leftmost}
 use Rattle.and_model.specs.Output.{Finish, Output}
 use Rattle.and_source.specs.Source.{SourceProgram, source_weight, IsNumbered}
 use Rattle.and_source.specs.Unfolding.{Unfolding, taken, source_extend, source_extend_all, source_start, source_unfold}
-use Rattle.and_source.specs.SourceListing.{SourceLists, SourceListsFrom, SourceListing, source_answered, source_nothing, source_calls, source_no_more, source_other, source_heavy, source_light, source_query, source_too_heavy, SourceExhausted, SourceOutput}
+use Rattle.and_source.specs.SourceListing.{SourceLists, SourceListsFrom, SourceListing, source_answered, source_nothing, source_calls, source_no_more}
+use Rattle.and_source.specs.SourceListing.{source_other, source_heavy, source_light, source_query, source_too_heavy, SourceExhausted, SourceOutput}
 use Rattle.and_source.specs.Lifted.{lift}
 use Rattle.and_lifting.specs.Alike.{AreAlike, neither, both}
 use Rattle.and_lifting.proofs.Numbered.{as_many}

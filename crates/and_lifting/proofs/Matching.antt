@@ -9,13 +9,16 @@ use Rattle.and_model.specs.Lines.{goal_term}
 use Rattle.and_model.specs.Trees.{Agenda, end, goal, equation, reckoning, agenda}
 use Rattle.and_laws.proofs.Solving.{solves_join, solves_front, solves_back}
 use Rattle.and_laws.proofs.Ordered.{contains_none}
-use Rattle.and_source.specs.Source.{SourceItems, no_items, plain, either, Alternatives, SourceProgram, disjunctions_in, distinct_variables, variables_of_items, variables_of_alternatives}
+use Rattle.and_source.specs.Source.{SourceItems, no_items, plain, either, Alternatives, SourceProgram, disjunctions_in, distinct_variables}
+use Rattle.and_source.specs.Source.{variables_of_items, variables_of_alternatives}
 use Rattle.and_source.specs.Unfolding.{SourceAgenda, source_end, source_goal, source_equation, source_reckoning, choice, source_agenda, advanced}
 use Rattle.and_source.specs.Lifted.{Numbering, renumbered, renumbered_goal, as_terms, lifted_items}
 use Rattle.and_lifting.proofs.Fronts.{front_equations, front_arithmetics, from_call}
-use Rattle.and_lifting.proofs.Renaming.{Stand, stand_left, stand_right, renamed_term, renamed_terms, renamed_goal, applied, predicate_kept, name_kept, seen_occurs, variables_back}
+use Rattle.and_lifting.proofs.Renaming.{Stand, stand_left, stand_right, renamed_term, renamed_terms, renamed_goal, applied, predicate_kept, name_kept}
+use Rattle.and_lifting.proofs.Renaming.{seen_occurs, variables_back}
 use Rattle.and_lifting.proofs.Closures.{Extends, extends_more, GoalsStand}
-use Rattle.and_lifting.proofs.Avoiding.{Frames, AgreeOutside, Avoids, AllAvoid, GoalAvoids, GoalsAvoid, EquationsAvoid, Narrower, agree_wider, framed_avoids, framed_all_avoid, goal_avoids, goals_avoid_more, equations_avoid_more}
+use Rattle.and_lifting.proofs.Avoiding.{Frames, AgreeOutside, Avoids, AllAvoid, GoalAvoids, GoalsAvoid, EquationsAvoid, Narrower, agree_wider, framed_avoids}
+use Rattle.and_lifting.proofs.Avoiding.{framed_all_avoid, goal_avoids, goals_avoid_more, equations_avoid_more}
 use Rattle.and_lifting.proofs.Inside.{IsUnlifted, Inside, AllInside}
 
 -- The second agenda is the lifted one. Its terms stand for those of the first, and have no variable of the frames U.

@@ -1,5 +1,6 @@
 -- The lifted program's clauses with their numbers.
-use Rattle.std.proofs.Common.{ℕ, zero, suc, ◌≡◌, ◌+◌, ◌≤◌, ◌<◌, Bool, true, ◌&&◌, ltb, leb, length, get_or, map, List, [], ◌∷◌, ◌++◌, refl, ap, sym, ◌∙◌, subst, inl, inr, ◌⊎◌, arith}
+use Rattle.std.proofs.Common.{ℕ, zero, suc, ◌≡◌, ◌+◌, ◌≤◌, ◌<◌, Bool, true, ◌&&◌, ltb, leb, length, get_or, map, List, [], ◌∷◌, ◌++◌, refl, ap, sym, ◌∙◌}
+use Rattle.std.proofs.Common.{subst, inl, inr, ◌⊎◌, arith}
 use Rattle.std.specs.Prelude.{Contains}
 use Rattle.std.proofs.lemmas.Bool.{ltb-true, leb-true, lt-ltb, le-leb, cases_lt}
 use Rattle.std.proofs.lemmas.List.{map-append, length-map}
@@ -7,7 +8,9 @@ use Rattle.std.proofs.lemmas.List.Elements.{Contains-append_left, Contains-appen
 use Rattle.and_model.specs.Programs.{Clause, clause_at}
 use Rattle.and_laws.proofs.Substitutions.{and_left, and_right}
 use Rattle.and_laws.proofs.Ordered.{contains_first, contains_more, contains_cases, contains_none}
-use Rattle.and_source.specs.Source.{SourceItems, no_items, plain, either, Alternatives, no_alternatives, alternative, SourceClause, SourceProgram, source_clauses, numbers_in_items, numbers_in_alternatives, numbers_in_clauses, numbers_in, numbers_from, disjunctions_in_items, disjunctions_in_alternatives, disjunctions_in_clauses, disjunctions_in, IsNumbered}
+use Rattle.and_source.specs.Source.{SourceItems, no_items, plain, either, Alternatives, no_alternatives, alternative, SourceClause, SourceProgram}
+use Rattle.and_source.specs.Source.{source_clauses, numbers_in_items, numbers_in_alternatives, numbers_in_clauses, numbers_in, numbers_from}
+use Rattle.and_source.specs.Source.{disjunctions_in_items, disjunctions_in_alternatives, disjunctions_in_clauses, disjunctions_in, IsNumbered}
 use Rattle.and_source.specs.Lifted.{lifted_clause, lifted_alternative, clauses_of_items, clauses_of_alternatives, clauses_of, lift}
 
 abbrev pub Numbered : Type 0

@@ -3,7 +3,8 @@ use Rattle.std.proofs.Common.{ℕ, ◌≡◌, Bool, true, false, true≢false, L
 use Rattle.and_model.specs.Terms.{Path, Term, variable, Substitution}
 use Rattle.and_model.specs.Solutions.{Equation}
 use Rattle.and_model.specs.Programs.{Program, Arithmetic, clause_at, is_of, Of, head_in}
-use Rattle.and_model.specs.Trees.{Agenda, end, goal, equation, reckoning, agenda, Tree, QueryTree, query_agenda, done, left, by, equate, reckon, code, weight, IsWhole, Open, path, call_of, IsLeftmost, fresh, reduce, blank, mapped, extend}
+use Rattle.and_model.specs.Trees.{Agenda, end, goal, equation, reckoning, agenda, Tree, QueryTree, query_agenda, done, left, by, equate, reckon, code, weight}
+use Rattle.and_model.specs.Trees.{IsWhole, Open, path, call_of, IsLeftmost, fresh, reduce, blank, mapped, extend}
 use Rattle.and_laws.proofs.Agreement.{Under, Apart, query_apart}
 use Rattle.and_laws.proofs.Bodies.{fresh_code}
 use Rattle.and_laws.proofs.Order.{blank_weighs, reduce_weight, none_whole}
@@ -11,7 +12,8 @@ use Rattle.and_laws.proofs.Splitting.{leftmost}
 use Rattle.and_source.specs.Source.{SourceProgram, source_weight, IsNumbered}
 use Rattle.and_source.specs.Unfolding.{SourceAgenda, source_end, source_agenda, Unfolding, source_extend, source_start, IsSourceWhole}
 use Rattle.and_source.specs.Lifted.{lift}
-use Rattle.and_lifting.proofs.Fronts.{front_equations, front_arithmetics, from_call, read_equations, read_arithmetics, read_rest, IsOpenBehind, behind, read_blank, read_onward, read_whole, read_call}
+use Rattle.and_lifting.proofs.Fronts.{front_equations, front_arithmetics, from_call, read_equations, read_arithmetics, read_rest, IsOpenBehind, behind}
+use Rattle.and_lifting.proofs.Fronts.{read_blank, read_onward, read_whole, read_call}
 use Rattle.and_lifting.proofs.Avoiding.{Frames}
 use Rattle.and_lifting.proofs.Inside.{program_inside}
 use Rattle.and_lifting.proofs.Matching.{Matches, match_end, match_goal, match_choice, matches_moved, body_matches, Base, Front, front}

@@ -1,18 +1,23 @@
 -- What a number does to an unfolding and to the lifted agenda: it takes the first call or choice of both, or of neither.
-use Rattle.std.proofs.Common.{ℕ, suc, ◌≡◌, ◌+◌, ◌≢◌, Bool, true, false, true≢false, cond, ◌&&◌, nat_eq, eqb-true, eq-eqb, List, [], ◌∷◌, ◌++◌, append_assoc, Option, Some, None, refl, ap, sym, ◌∙◌, subst, inl, inr, ◌⊎◌, arith}
+use Rattle.std.proofs.Common.{ℕ, suc, ◌≡◌, ◌+◌, ◌≢◌, Bool, true, false, true≢false, cond, ◌&&◌, nat_eq, eqb-true, eq-eqb, List, [], ◌∷◌, ◌++◌, append_assoc}
+use Rattle.std.proofs.Common.{Option, Some, None, refl, ap, sym, ◌∙◌, subst, inl, inr, ◌⊎◌, arith}
 use Rattle.std.specs.Prelude.{Contains, AllPairs}
 use Rattle.std.proofs.lemmas.List.Elements.{Contains-append_left, Contains-append_right, All-contains}
 use Rattle.and_model.specs.Terms.{Path, Term, Terms, variable, number, compound, none, more, framed, Substitution, apply, apply_all}
 use Rattle.and_model.specs.Solutions.{Equation}
-use Rattle.and_model.specs.Programs.{call, equal, arithmetic, fail, Arithmetic, is, compare, Clause, clause_at, clause_weight, is_goals, is_of, Of, same_count, same_predicate}
+use Rattle.and_model.specs.Programs.{call, equal, arithmetic, fail, Arithmetic, is, compare, Clause, clause_at, clause_weight, is_goals, is_of, Of}
+use Rattle.and_model.specs.Programs.{same_count, same_predicate}
 use Rattle.and_model.specs.Trees.{Agenda, goal, agenda, mapped}
 use Rattle.and_laws.proofs.Equality.{bool_cases}
 use Rattle.and_laws.proofs.Substitutions.{and_left, and_right}
 use Rattle.and_laws.proofs.Ordered.{contains_first, contains_more, contains_cases, contains_none}
 use Rattle.and_laws.proofs.Pairwise.{all_pairs_first, all_pairs_rest}
 use Rattle.and_laws.proofs.Agreement.{Under, Apart, apart_body}
-use Rattle.and_source.specs.Source.{SourceItems, no_items, plain, either, Alternatives, no_alternatives, alternative, SourceClause, SourceProgram, source_clauses, direct_is_goals, source_weight, alternative_weight, distinct_variables, variables_of_items, variables_of_alternatives, disjunctions_in, has_name, IsNumbered}
-use Rattle.and_source.specs.Unfolding.{SourceAgenda, source_end, source_goal, source_equation, source_reckoning, choice, source_agenda, Unfolding, advanced, taker, chosen, taken}
+use Rattle.and_source.specs.Source.{SourceItems, no_items, plain, either, Alternatives, no_alternatives, alternative, SourceClause, SourceProgram}
+use Rattle.and_source.specs.Source.{source_clauses, direct_is_goals, source_weight, alternative_weight, distinct_variables, variables_of_items}
+use Rattle.and_source.specs.Source.{variables_of_alternatives, disjunctions_in, has_name, IsNumbered}
+use Rattle.and_source.specs.Unfolding.{SourceAgenda, source_end, source_goal, source_equation, source_reckoning, choice, source_agenda, Unfolding, advanced}
+use Rattle.and_source.specs.Unfolding.{taker, chosen, taken}
 use Rattle.and_source.specs.Lifted.{Numbering, as_terms, numbered_variables, lifted_items, lifted_clause, numbering_of, lifted_alternative, lift}
 use Rattle.and_lifting.proofs.Fronts.{front_equations, front_arithmetics, from_call}
 use Rattle.and_lifting.proofs.Renaming.{Stand}

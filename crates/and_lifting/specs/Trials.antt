@@ -5,7 +5,8 @@ use Rattle.and_model.specs.Arithmetic.{less, at_least}
 use Rattle.and_model.specs.Programs.{Item, call, equal, arithmetic, compare, Clause, builtin_names}
 use Rattle.and_model.specs.Listing.{Outcome, Entry}
 use Rattle.and_model.specs.declared.builtins.TheConstants.{TRUE}
-use Rattle.and_source.specs.Source.{SourceItems, no_items, plain, either, Alternatives, no_alternatives, alternative, SourceClause, SourceProgram}
+use Rattle.and_source.specs.Source.{SourceItems, no_items, plain, either, Alternatives, no_alternatives, alternative}
+use Rattle.and_source.specs.Source.{SourceClause, SourceProgram}
 use Rattle.and_source.specs.Unfolding.{Unfolding, source_unfold}
 use Rattle.and_source.specs.SourceListing.{SourceEnds}
 

@@ -8,7 +8,8 @@ ghost use Rattle.and_source.specs.Source.{IsNumbered, source_weight, numbers_in}
 ghost use Rattle.and_source.specs.Unfolding.{source_unfold};
 ghost use Rattle.and_source.specs.SourceListing.{SourceListing};
 ghost use Rattle.and_source.specs.Lifted.{lift};
-ghost use Rattle.and_lifting.specs.Trials.{own, whole, atom, entry, SourceCodeEnds, answers_text, guards_text, forks_text, nested_text, lifted_rule};
+ghost use Rattle.and_lifting.specs.Trials.{own, whole, atom, entry, SourceCodeEnds, answers_text, guards_text};
+ghost use Rattle.and_lifting.specs.Trials.{forks_text, nested_text, lifted_rule};
 
 /// `?- X = 1 ; X = 2.` The query and each alternative weigh 2. Within 3 nothing fits.
 pub fn either_answers()

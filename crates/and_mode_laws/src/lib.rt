@@ -38,7 +38,8 @@ pub fn modes_are_sound()
 /// that `infer` gave for it.
 pub fn loaded_modes_are_sound(loaded: &Loaded, modes: &Modes)
     ensures levels { WellModed (program_of loaded.now) (assignment_of modes.now)
-        → (t : QueryTree (program_of loaded.now)) (es : List Equation) (gs : List Arithmetic) → IsWhole t → Closed t es gs
+        → (t : QueryTree (program_of loaded.now)) (es : List Equation) (gs : List Arithmetic)
+        → IsWhole t → Closed t es gs
         → (s : Substitution) → Solves s es
         → (goal : Term) (side : Side) → IsTaken t goal → HasItsLevels (assignment_of modes.now) side s goal }
     ensures never_flounders { WellModed (program_of loaded.now) (assignment_of modes.now)

@@ -13,7 +13,8 @@ prefix_less [] clause rest = refl
 prefix_less (x ∷ xs) clause rest = rw (tied_itself nat_cmp_total x) (prefix_less xs clause rest)
 
 -- so is what has the smaller number at the first difference
-smaller_less : (common : List ℕ) (small large : ℕ) (rest others : List ℕ) → small < large → slice_cmp nat_cmp (common ++ small ∷ rest) (common ++ large ∷ others) ≡ Less
+smaller_less : (common : List ℕ) (small large : ℕ) (rest others : List ℕ) → small < large
+    → slice_cmp nat_cmp (common ++ small ∷ rest) (common ++ large ∷ others) ≡ Less
 smaller_less [] small large rest others below = rw (sym (nat_cmp_is small large Less below)) refl
 smaller_less (x ∷ xs) small large rest others below = rw (tied_itself nat_cmp_total x) (smaller_less xs small large rest others below)
 
@@ -63,7 +64,8 @@ answers_greater one other o is =
     (λ greater. less_precedes other one (greater_less one other (sym is ∙ greater)), λ after. is ∙ less_greater one other (precedes_less other one after))
 
 -- things that are compared by their numbers
-pub slice_cmp-map : {A : Type 0} (number : A → ℕ) (R : A → A → Ordering) → ((x y : A) → R x y ≡ nat_cmp (number x) (number y)) → (xs ys : List A) → slice_cmp R xs ys ≡ slice_cmp nat_cmp (map number xs) (map number ys)
+pub slice_cmp-map : {A : Type 0} (number : A → ℕ) (R : A → A → Ordering) → ((x y : A) → R x y ≡ nat_cmp (number x) (number y)) → (xs ys : List A)
+    → slice_cmp R xs ys ≡ slice_cmp nat_cmp (map number xs) (map number ys)
 slice_cmp-map number R same [] [] = refl
 slice_cmp-map number R same [] (y ∷ ys) = refl
 slice_cmp-map number R same (x ∷ xs) [] = refl

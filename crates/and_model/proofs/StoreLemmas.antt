@@ -1,5 +1,6 @@
 -- What follows from the row of a store: what a pass knows is so in the row, and no word is set by two passes.
-use Rattle.std.proofs.Common.{ℕ, zero, suc, ◌≡◌, ◌≢◌, ◌+◌, Bool, true, false, cond, List, [], ◌∷◌, ◌++◌, map, length, get_or, refl, sym, ap, subst, ◌∙◌, ◌⊎◌, inl, inr, arith}
+use Rattle.std.proofs.Common.{ℕ, zero, suc, ◌≡◌, ◌≢◌, ◌+◌, Bool, true, false, cond, List, [], ◌∷◌, ◌++◌, map, length, get_or, refl, sym, ap, subst, ◌∙◌, ◌⊎◌}
+use Rattle.std.proofs.Common.{inl, inr, arith}
 use Rattle.std.specs.Prelude.{AllPairs, Contains, nat_eq}
 use Rattle.std.proofs.lemmas.Bool.Decides.{Decides-eqb}
 use Rattle.std.proofs.lemmas.List.{map-append, get_or_append_left, get_or-append-add, length-append, length-map, get_or-map, get_or_default}
@@ -13,7 +14,8 @@ pub known_in_row : (first : List Ref) (passes : List Pass) (journal : List Journ
     → (p : Pass) → Contains passes p → (k : Known) → Contains p.known k → Contains (set_in row) k.setting
 known_in_row first passes journal row holds p there k knows =
     let fits : Fits first (mark first passes) journal p = All-contains (Fits first (mark first passes) journal) passes p holds.passes_fit there in
-    let seen : Contains (set_in first ++ settings_of p.seen) k.setting = All-contains (λ (k : Known). Contains (set_in first ++ settings_of p.seen) k.setting) p.known k fits.known knows in
+    let seen : Contains (set_in first ++ settings_of p.seen) k.setting =
+    All-contains (λ (k : Known). Contains (set_in first ++ settings_of p.seen) k.setting) p.known k fits.known knows in
     let rest : List JournalEntry = fits.seen.0 in
     let all : settings_of journal ≡ settings_of p.seen ++ settings_of rest = ap settings_of fits.seen.1 ∙ flat_map-append _ p.seen rest in
     (holds.set_words k.setting).1 (rw all (in_either (set_in first) (settings_of p.seen) (settings_of rest) k.setting seen))
@@ -52,7 +54,8 @@ of_journal : (p : Pass) (journal : List JournalEntry) (s : Setting) → Contains
 of_journal p [] s c = c
 of_journal p (e ∷ journal) s c = by_pass (nat_eq e.pass p.number) c (of_journal p journal s)
   where
-    by_pass : (b : Bool) → Contains (settings_of (cond b (e ∷ entries_by p journal) (entries_by p journal))) s → (Contains (settings_of (entries_by p journal)) s → Contains (settings_of journal) s)
+    by_pass : (b : Bool) → Contains (settings_of (cond b (e ∷ entries_by p journal) (entries_by p journal))) s
+        → (Contains (settings_of (entries_by p journal)) s → Contains (settings_of journal) s)
         → Contains (made_in e ++ settings_of journal) s
     by_pass true c rest = by_side (Contains-append_cases (made_in e) (settings_of (entries_by p journal)) s c)
       where
@@ -66,16 +69,19 @@ apart_passes : (p q : Pass) → p.number ≢ q.number → (journal : List Journa
     → Contains (settings_of (entries_by p journal)) s → Contains (settings_of (entries_by q journal)) t → s.place ≢ t.place
 apart_passes p q other [] distinct s t one two = absurd (none_in s one)
 apart_passes p q other (e ∷ journal) distinct s t one two =
-    by_both (nat_eq e.pass p.number) (nat_eq e.pass q.number) refl refl one two (apart_passes p q other journal (apart_back (map place (made_in e)) (map place (settings_of journal)) split) s t)
+    by_both (nat_eq e.pass p.number) (nat_eq e.pass q.number) refl refl one two
+    (apart_passes p q other journal (apart_back (map place (made_in e)) (map place (settings_of journal)) split) s t)
   where
     split : AreDistinct (map place (made_in e) ++ map place (settings_of journal))
     split = subst AreDistinct (map-append place (made_in e) (settings_of journal)) distinct
 
     apart : (s t : Setting) → Contains (made_in e) s → Contains (settings_of journal) t → s.place ≢ t.place
-    apart s t one two = apart_parts (map place (made_in e)) (map place (settings_of journal)) s.place t.place split (in_map place (made_in e) s one) (in_map place (settings_of journal) t two)
+    apart s t one two = apart_parts (map place (made_in e)) (map place (settings_of journal)) s.place t.place split (in_map place (made_in e) s one)
+        (in_map place (settings_of journal) t two)
 
     by_both : (b c : Bool) → nat_eq e.pass p.number ≡ b → nat_eq e.pass q.number ≡ c
-        → Contains (settings_of (cond b (e ∷ entries_by p journal) (entries_by p journal))) s → Contains (settings_of (cond c (e ∷ entries_by q journal) (entries_by q journal))) t
+        → Contains (settings_of (cond b (e ∷ entries_by p journal) (entries_by p journal))) s
+        → Contains (settings_of (cond c (e ∷ entries_by q journal) (entries_by q journal))) t
         → (Contains (settings_of (entries_by p journal)) s → Contains (settings_of (entries_by q journal)) t → s.place ≢ t.place)
         → s.place ≢ t.place
     by_both true true of_p of_q one two rest = absurd (other (sym ((Decides-eqb e.pass p.number).0 of_p) ∙ (Decides-eqb e.pass q.number).0 of_q))
@@ -100,16 +106,23 @@ two_numbers : (first : List Ref) (passes : List Pass) (journal : List JournalEnt
 two_numbers first passes journal row holds p q there here other s t one two =
     let fits = All-contains (Fits first (mark first passes) journal) passes p holds.passes_fit there in
     let also_fits = All-contains (Fits first (mark first passes) journal) passes q holds.passes_fit here in
-    let distinct = apart_back (map place (set_in first)) (map place (settings_of journal)) (subst AreDistinct (map-append place (set_in first) (settings_of journal)) holds.set_once) in
+    let distinct = apart_back (map place (set_in first)) (map place (settings_of journal))
+    (subst AreDistinct (map-append place (set_in first) (settings_of journal)) holds.set_once) in
     apart_passes p q other journal distinct s t (subst (λ xs. Contains xs s) fits.settings one) (subst (λ xs. Contains xs t) also_fits.settings two)
 
 number_of : Pass → ℕ
 number_of p = p.number
 
-pub one_winner : (first : List Ref) (passes : List Pass) (journal : List JournalEntry) (row : List Ref) → Row first passes journal row → AllPairs SetApart passes
+pub one_winner : (first : List Ref) (passes : List Pass) (journal : List JournalEntry) (row : List Ref) → Row first passes journal row
+    → AllPairs SetApart passes
 unfolding number_of
 one_winner first passes journal row holds i j d before below =
     let p : Pass = get_or passes i d in
     let q : Pass = get_or passes j d in
-    let other : p.number ≢ q.number = rw (← get_or-map number_of passes i d 0 (omega arith), ← get_or-map number_of passes j d 0 below) (holds.numbered i j 0 before (rw length-map below)) in
-    two_numbers first passes journal row holds p q (i, (omega arith), get_or_default passes i p d (omega arith)) (j, below, get_or_default passes j q d below) other
+    let other : p.number ≢ q.number =
+    rw (← get_or-map number_of passes i d 0 (omega arith), ← get_or-map number_of passes j d 0 below) (holds.numbered i j 0 before (rw length-map below)) in
+    two_numbers first passes journal row holds p q (i, (omega arith), get_or_default passes i p d (omega arith)) (
+      j,
+      below,
+      get_or_default passes j q d below,
+    ) other

@@ -1,7 +1,10 @@
--- The values of ground terms, in 64 bits (ISO 13211-1, section 9, without its exceptions: where there is no number, there is no value).
-use Rattle.std.specs.Prelude.{ℕ, ◌-◌, ◌/◌, ◌^◌, suc, ℤ, pos, negsuc, ◌+ℤ◌, ◌-ℤ◌, ◌*ℤ◌, neg_ℤ, int_div, int_le, int_lt, Bool, false, not, ◌&&◌, List, [], ◌∷◌, Option, Some, None, nat_eq, if◌then◌else◌}
+-- The values of ground terms, in 64 bits (ISO 13211-1, section 9, without its exceptions: where there is no number,
+-- there is no value).
+use Rattle.std.specs.Prelude.{ℕ, ◌-◌, ◌/◌, ◌^◌, suc, ℤ, pos, negsuc, ◌+ℤ◌, ◌-ℤ◌, ◌*ℤ◌, neg_ℤ, int_div, int_le, int_lt}
+use Rattle.std.specs.Prelude.{Bool, false, not, ◌&&◌, List, [], ◌∷◌, Option, Some, None, nat_eq, if◌then◌else◌}
 use Rattle.and_model.specs.Terms.{Term, Terms, variable, number, compound, none, more}
-use Rattle.and_model.specs.declared.builtins.TheConstants.{PLUS, MINUS, TIMES, DIVIDE, MODULO, REMAINDER, LEAST, GREATEST}
+use Rattle.and_model.specs.declared.builtins.TheConstants.{PLUS, MINUS, TIMES, DIVIDE, MODULO, REMAINDER, LEAST}
+use Rattle.and_model.specs.declared.builtins.TheConstants.{GREATEST}
 
 -- a number of 64 bits with a sign, else none
 abbrev pub in_range : ℤ → Option ℤ

@@ -1,4 +1,5 @@
--- Codes of proof trees and their lexicographic order. A code is a list of clause numbers (this project's own; the order is the dictionary's).
+-- Codes of proof trees and their lexicographic order. A code is a list of clause numbers (this project's own; the
+-- order is the dictionary's).
 use Rattle.std.specs.Prelude.{◌≡◌, ◌<◌, ◌⊎◌, ℕ, List, ◌∷◌, ◌++◌, map}
 use Rattle.and_model.specs.declared.numbers.ClauseNo.{ClauseNo}
 

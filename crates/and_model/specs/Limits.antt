@@ -13,13 +13,16 @@ pub data Cut (P : Program) : Type 0 where
 -- No open goal has one candidate alone with which the tree weighs at most the limit, under these closed equations.
 abbrev pub NoneAloneFits : (P : Program) → ℕ → QueryTree P → List Equation → Type 0
 NoneAloneFits P limit t es =
-    (o : Open t) (c : ℕ) → CandidateOf t es o c → ((d : ℕ) → CandidateOf t es o d → d ≡ c) → limit < weight t + clause_weight (clause_at P c)
+    (o : Open t) (c : ℕ) → CandidateOf t es o c → ((d : ℕ) → CandidateOf t es o d → d ≡ c)
+    → limit < weight t + clause_weight (clause_at P c)
 
--- The query weighs more than the limit. Or the tree is reached and not Dead, no goal has one candidate alone that fits, the clause is the one
--- candidate of the goal, or a candidate of the leftmost goal of a Shut tree, and the tree and the clause together weigh more than the limit.
+-- The query weighs more than the limit. Or the tree is reached and not Dead, no goal has one candidate alone that
+-- fits, the clause is the one candidate of the goal, or a candidate of the leftmost goal of a Shut tree, and the tree
+-- and the clause together weigh more than the limit.
 abbrev pub OverLimit : (P : Program) → ℕ → Cut P → Type 0
 OverLimit P limit query_alone = limit < clause_weight P.query
 OverLimit P limit (at_goal t o c) =
     Reached P limit t × (Dead t → ⊥) × (es : List Equation) × (gs : List Arithmetic) × Closed t es gs
-    × CandidateOf t es o c × (((d : ℕ) → CandidateOf t es o d → d ≡ c) ⊎ (Shut t × IsLeftmost t o)) × (limit < weight t + clause_weight (clause_at P c))
+    × CandidateOf t es o c × (((d : ℕ) → CandidateOf t es o d → d ≡ c) ⊎ (Shut t × IsLeftmost t o))
+    × (limit < weight t + clause_weight (clause_at P c))
     × NoneAloneFits P limit t es

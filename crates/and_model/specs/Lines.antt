@@ -1,10 +1,14 @@
--- How an answer is written (the canonical form of ISO 13211-1, section 7.10.5, with lists in brackets; the line is this project's own).
-use Rattle.std.specs.Prelude.{ℕ, suc, Bool, true, false, not, cond, ◌&&◌, ◌||◌, List, [], ◌∷◌, ◌++◌, get_or, nat_eq, leb, codes, map}
+-- How an answer is written (the canonical form of ISO 13211-1, section 7.10.5, with lists in brackets; the line is
+-- this project's own).
+use Rattle.std.specs.Prelude.{ℕ, suc, Bool, true, false, not, cond, ◌&&◌, ◌||◌, List, [], ◌∷◌, ◌++◌, get_or, nat_eq}
+use Rattle.std.specs.Prelude.{leb, codes, map}
 use Rattle.std.specs.Fmt.{decimal, signed_decimal}
-use Rattle.and_model.specs.Terms.{Path, Term, Terms, variable, number, compound, none, more, variables_of, Substitution, apply}
+use Rattle.and_model.specs.Terms.{Path, Term, Terms, variable, number, compound, none, more, variables_of}
+use Rattle.and_model.specs.Terms.{Substitution, apply}
 use Rattle.and_model.specs.Arithmetic.{Relation, less, greater, at_most, at_least, same, differs}
 use Rattle.and_model.specs.Programs.{Program, Arithmetic, is, compare}
-use Rattle.and_model.specs.declared.builtins.TheConstants.{IS, LESS, GREATER, AT_MOST, AT_LEAST, SAME, DIFFERS, POINT, NIL}
+use Rattle.and_model.specs.declared.builtins.TheConstants.{IS, LESS, GREATER, AT_MOST, AT_LEAST, SAME, DIFFERS, POINT}
+use Rattle.and_model.specs.declared.builtins.TheConstants.{NIL}
 
 -- A text is a list of bytes.
 abbrev pub Bytes : Type 0
@@ -54,7 +58,8 @@ is_symbol_name (b ∷ bs) = holds_of_all is_symbol (b ∷ bs) && not (is_point (
 
 -- a byte between quotes
 abbrev pub escaped : ℕ → Bytes
-escaped b = cond (nat_eq b 92) (92 ∷ 92 ∷ []) (cond (nat_eq b 39) (92 ∷ 39 ∷ []) (cond (nat_eq b 10) (92 ∷ 110 ∷ []) (b ∷ [])))
+escaped b = cond (nat_eq b 92) (92 ∷ 92 ∷ [])
+    (cond (nat_eq b 39) (92 ∷ 39 ∷ []) (cond (nat_eq b 10) (92 ∷ 110 ∷ []) (b ∷ [])))
 
 abbrev pub all_escaped : Bytes → Bytes
 all_escaped [] = []
@@ -116,7 +121,8 @@ module _ (names : List Bytes) (vs : List (Path × ℕ)) where
     pub shown : Term → Bytes
     shown (variable q k) = 95 ∷ decimal (place_of (q, k) vs)
     shown (number z) = signed_decimal z
-    shown (compound c ts) = cond (is_cell c ts) (91 ∷ shown_elements ts ++ 93 ∷ []) (shown_name (get_or names c []) ++ shown_arguments ts)
+    shown (compound c ts) = cond (is_cell c ts) (91 ∷ shown_elements ts ++ 93 ∷ [])
+        (shown_name (get_or names c []) ++ shown_arguments ts)
 
     -- the arguments in round brackets
     pub shown_arguments : Terms → Bytes
@@ -138,7 +144,8 @@ module _ (names : List Bytes) (vs : List (Path × ℕ)) where
     shown_tail (variable q k) = 124 ∷ 95 ∷ decimal (place_of (q, k) vs)
     shown_tail (number z) = 124 ∷ signed_decimal z
     shown_tail (compound c ts) =
-        cond (is_cell c ts) (44 ∷ shown_elements ts) (cond (is_nil c ts) [] (124 ∷ shown_name (get_or names c []) ++ shown_arguments ts))
+        cond (is_cell c ts) (44 ∷ shown_elements ts)
+        (cond (is_nil c ts) [] (124 ∷ shown_name (get_or names c []) ++ shown_arguments ts))
 
 -- the names of the comparisons in the table
 abbrev pub relation_name : Relation → ℕ
@@ -161,7 +168,8 @@ begins_underscore (b ∷ bs) = nat_eq b 95
 -- The query's variables that are shown: their written names, and their numbers from k on.
 abbrev pub shown_variables : ℕ → List Bytes → List (Bytes × ℕ)
 shown_variables k [] = []
-shown_variables k (n ∷ ns) = cond (begins_underscore n) (shown_variables (suc k) ns) ((n, k) ∷ shown_variables (suc k) ns)
+shown_variables k (n ∷ ns) =
+    cond (begins_underscore n) (shown_variables (suc k) ns) ((n, k) ∷ shown_variables (suc k) ns)
 
 -- the variables of a list of terms, from left to right
 abbrev pub variables_along : List Term → List (Path × ℕ)
@@ -185,7 +193,8 @@ abbrev pub values_or_true : List Bytes → Bytes
 values_or_true [] = codes "true"
 values_or_true (t ∷ ts) = joined (t ∷ ts)
 
--- The line of the query's variables under a substitution and of goals that wait (as terms), variables without a value named along the line.
+-- The line of the query's variables under a substitution and of goals that wait (as terms), variables without a value
+-- named along the line.
 abbrev pub line_of : Program → Substitution → List Term → Bytes
 line_of P s goals =
     let shown_ones = shown_variables 0 P.query.written in

@@ -1,8 +1,12 @@
 -- Programs of pure clauses, and what they weigh (Lloyd, section 2; the weights are this project's own).
-use Rattle.std.specs.Prelude.{ℕ, suc, ◌+◌, ◌≡◌, Bool, true, false, List, [], ◌∷◌, get_or, length, nat_eq, leb, ltb, ◌&&◌, codes, map}
+use Rattle.std.specs.Prelude.{ℕ, suc, ◌+◌, ◌≡◌, Bool, true, false, List, [], ◌∷◌, get_or, length, nat_eq, leb, ltb}
+use Rattle.std.specs.Prelude.{◌&&◌, codes, map}
 use Rattle.and_model.specs.Terms.{Path, Term, Terms, variable, number, compound, none, more, framed}
 use Rattle.and_model.specs.Arithmetic.{Relation}
-use Rattle.and_model.specs.declared.builtins.TheConstants.{TRUE, FAIL, CONJUNCTION, EQUAL, IS, LESS, GREATER, AT_MOST, AT_LEAST, SAME, DIFFERS, PLUS, MINUS, TIMES, DIVIDE, MODULO, REMAINDER, LEAST, GREATEST, POINT, NIL, DISJUNCTION, IF_THEN, NOT_PROVABLE, CUT, NECK, QUERY}
+use Rattle.and_model.specs.declared.builtins.TheConstants.{TRUE, FAIL, CONJUNCTION, EQUAL, IS, LESS, GREATER, AT_MOST}
+use Rattle.and_model.specs.declared.builtins.TheConstants.{AT_LEAST, SAME, DIFFERS, PLUS, MINUS, TIMES, DIVIDE}
+use Rattle.and_model.specs.declared.builtins.TheConstants.{MODULO, REMAINDER, LEAST, GREATEST, POINT, NIL}
+use Rattle.and_model.specs.declared.builtins.TheConstants.{DISJUNCTION, IF_THEN, NOT_PROVABLE, CUT, NECK, QUERY}
 
 -- The names that every table of names begins with, each with its number, which is its place there.
 abbrev pub numbered_names : List (ℕ × List ℕ)
@@ -51,7 +55,8 @@ pub data Item : Type 0 where
   arithmetic : Arithmetic → Item
   fail : Item
 
--- A clause. Its variables are numbered from 0 by first occurrence; `written` has their names as they were written, and `line` is the line of its first token.
+-- A clause. Its variables are numbered from 0 by first occurrence; `written` has their names as they were written,
+-- and `line` is the line of its first token.
 pub record Clause : Type 0 where
   pub head : Term
   pub body : List Item
@@ -59,13 +64,15 @@ pub record Clause : Type 0 where
   pub written : List (List ℕ)
   pub line : ℕ
 
--- A program: its clauses in textual order, its one query (whose head is the atom `true`), and its names by their numbers.
+-- A program: its clauses in textual order, its one query (whose head is the atom `true`), and its names by their
+-- numbers.
 pub record Program : Type 0 where
   pub clauses : List Clause
   pub query : Clause
   pub names : List (List ℕ)
 
--- Clause 0 is the query, and the clauses follow from 1 on. (A number that names none stands for the query, and is nobody's candidate.)
+-- Clause 0 is the query, and the clauses follow from 1 on. (A number that names none stands for the query, and is
+-- nobody's candidate.)
 abbrev pub clause_at : Program → ℕ → Clause
 clause_at P c = get_or (P.query ∷ P.clauses) c P.query
 

@@ -1,11 +1,13 @@
 -- What a branch of the engine stands for (this project's own).
-use Rattle.std.specs.Prelude.{ℕ, zero, suc, ◌≡◌, ◌⊎◌, Bool, true, false, List, [], ◌∷◌, ◌++◌, map, get_or, All, Contains}
+use Rattle.std.specs.Prelude.{ℕ, zero, suc, ◌≡◌, ◌⊎◌, Bool, true, false, List, [], ◌∷◌, ◌++◌, map, get_or, All}
+use Rattle.std.specs.Prelude.{Contains}
 use Rattle.and_model.specs.Prefixes.{IsPrefix}
 use Rattle.and_model.specs.Terms.{Path, Term, compound, none, more, framed, Substitution, apply}
 use Rattle.and_model.specs.Solutions.{Equation, MostGeneral}
 use Rattle.and_model.specs.Programs.{Program, Item, call, equal, arithmetic, fail, Arithmetic, clause_at}
 use Rattle.and_model.specs.Closure.{Ran}
-use Rattle.and_model.specs.Trees.{Agenda, Tree, QueryTree, query_agenda, done, left, by, equate, reckon, equations, arithmetics, decided, code, weight, HasOutcome, Below}
+use Rattle.and_model.specs.Trees.{Agenda, Tree, QueryTree, query_agenda, done, left, by, equate, reckon, equations}
+use Rattle.and_model.specs.Trees.{arithmetics, decided, code, weight, HasOutcome, Below}
 use Rattle.and_model.specs.Reached.{Dead, ReachedBy}
 use Rattle.and_model.specs.Reductions.{Reduction, PlaceHas, Makes}
 use Rattle.and_model.specs.Lines.{goal_term}
@@ -17,7 +19,8 @@ pub record Branch : Type 0 where
   pub key : List ℕ
   -- its tree, written down
   pub reductions : List Reduction
-  -- what a variable of a frame stands for, read through the cells: by the frame's base and the variable's number, a term whose variables are free cells
+  -- what a variable of a frame stands for, read through the cells: by the frame's base and the variable's number, a
+  -- term whose variables are free cells
   pub reading : (base number : ℕ) → Term
   -- its open goals, and its arithmetic that waits, both from left to right
   pub goals : List Goal
@@ -37,7 +40,8 @@ calls_left (reckon t) = calls_left t
 
 -- the place has this clause
 abbrev pub ClauseHas : List Reduction → (node clause : ℕ) → Type 0
-ClauseHas rs node clause = ((node ≡ 0) × (clause ≡ 0)) ⊎ ((r : Reduction) × Contains rs r × (r.node ≡ node) × (r.clause ≡ clause))
+ClauseHas rs node clause = ((node ≡ 0) × (clause ≡ 0))
+    ⊎ ((r : Reduction) × Contains rs r × (r.node ≡ node) × (r.clause ≡ clause))
 
 -- a goal of a branch, with the path of its frame
 pub record Framed : Type 0 where
@@ -93,13 +97,15 @@ pub record IsLive (P : Program) (b : Branch) (tree : QueryTree P) : Type 0 where
   pub waits : List Arithmetic
   pub ran : Ran (equations tree) (arithmetics tree) solved waits
   pub not_run : map (in_tree P) waiting ≡ map goal_term waits
-  -- A most general solution of the tree's equations, with those of the arithmetic that was run, makes of the query's variables and of these goals
-  -- what is read in the cells, but for a renaming of variables. (The query's frame is at base 0.)
+  -- A most general solution of the tree's equations, with those of the arithmetic that was run, makes of the query's
+  -- variables and of these goals what is read in the cells, but for a renaming of variables. (The query's frame is at
+  -- base 0.)
   pub solution : Substitution
   pub general : MostGeneral solution solved
   pub read : AreVariants
       (map (b.reading 0) (numbers_below P.query.variables) ++ map (in_cells P b) (goals ++ waiting))
-      (map (solution []) (numbers_below P.query.variables) ++ map (λ f. apply solution (in_tree P f)) (goals ++ waiting))
+      (map (solution []) (numbers_below P.query.variables)
+      ++ map (λ f. apply solution (in_tree P f)) (goals ++ waiting))
 
 -- Stands b key P limit: what the branch stands for.
 pub record Stands (b : Branch) (key : List ℕ) (P : Program) (limit : ℕ) : Type 0 where

@@ -1,6 +1,9 @@
 -- What the passes of a store do and learn, and the row of words that they leave (this project's own).
--- A row is a list of words, each free or set. Each word is set at most once, by one of several passes that work at the same time.
-use Rattle.std.specs.Prelude.{ℕ, suc, ◌+◌, ◌≡◌, ◌≢◌, ◌<◌, ◌≤◌, ◌↔◌, Bool, true, false, not, cond, List, [], ◌∷◌, ◌++◌, map, filter, flat_map, length, sum_by, Option, Some, option_to_list, nat_eq, All, AllPairs, Contains}
+-- A row is a list of words, each free or set. Each word is set at most once, by one of several passes that work at
+-- the same time.
+use Rattle.std.specs.Prelude.{ℕ, suc, ◌+◌, ◌≡◌, ◌≢◌, ◌<◌, ◌≤◌, ◌↔◌, Bool, true, false, not, cond, List, [], ◌∷◌, ◌++◌}
+use Rattle.std.specs.Prelude.{map, filter, flat_map, length, sum_by, Option, Some, option_to_list, nat_eq, All}
+use Rattle.std.specs.Prelude.{AllPairs, Contains}
 use Rattle.and_model.specs.Prefixes.{IsPrefix}
 use Rattle.and_model.specs.declared.goal.Goal.{Goal}
 use Rattle.and_model.specs.declared.reference.Ref.{Ref}
@@ -90,16 +93,20 @@ pub record Pass : Type 0 where
   pub found : List Found
 
 abbrev pub settings_of : List JournalEntry → List Setting
-settings_of journal = flat_map (λ (e : JournalEntry). elim e.made [ sets s ↦ s ∷ [] | gives f ↦ [] | fails ↦ [] | hangs g ↦ [] ]) journal
+settings_of journal = flat_map
+    (λ (e : JournalEntry). elim e.made [ sets s ↦ s ∷ [] | gives f ↦ [] | fails ↦ [] | hangs g ↦ [] ]) journal
 
 abbrev pub frames_of : List JournalEntry → List Frame
-frames_of journal = flat_map (λ (e : JournalEntry). elim e.made [ sets s ↦ [] | gives f ↦ f ∷ [] | fails ↦ [] | hangs g ↦ [] ]) journal
+frames_of journal = flat_map
+    (λ (e : JournalEntry). elim e.made [ sets s ↦ [] | gives f ↦ f ∷ [] | fails ↦ [] | hangs g ↦ [] ]) journal
 
 abbrev pub fails_of : List JournalEntry → List (Unit {0})
-fails_of journal = flat_map (λ (e : JournalEntry). elim e.made [ sets s ↦ [] | gives f ↦ [] | fails ↦ tt ∷ [] | hangs g ↦ [] ]) journal
+fails_of journal = flat_map
+    (λ (e : JournalEntry). elim e.made [ sets s ↦ [] | gives f ↦ [] | fails ↦ tt ∷ [] | hangs g ↦ [] ]) journal
 
 abbrev pub hung_of : List JournalEntry → List HungGoal
-hung_of journal = flat_map (λ (e : JournalEntry). elim e.made [ sets s ↦ [] | gives f ↦ [] | fails ↦ [] | hangs g ↦ g ∷ [] ]) journal
+hung_of journal = flat_map
+    (λ (e : JournalEntry). elim e.made [ sets s ↦ [] | gives f ↦ [] | fails ↦ [] | hangs g ↦ g ∷ [] ]) journal
 
 -- the entries of one pass
 abbrev pub entries_by : Pass → List JournalEntry → List JournalEntry
@@ -121,7 +128,8 @@ is_half (Half bits) = true
 
 abbrev pub set_from : (place : ℕ) → List Ref → List Setting
 set_from place [] = []
-set_from place (r ∷ row) = cond (is_free r) (set_from (suc place) row) (record { place = place; value = r } ∷ set_from (suc place) row)
+set_from place (r ∷ row) =
+    cond (is_free r) (set_from (suc place) row) (record { place = place; value = r } ∷ set_from (suc place) row)
 
 -- the set words of a row
 abbrev pub set_in : List Ref → List Setting
@@ -133,7 +141,8 @@ own_of known = map (λ (k : Known). k.setting) (filter (λ (k : Known). k.is_own
 
 -- both words of the pair are among the settings
 abbrev pub IsWritten : List Setting → (pair : ℕ) → Type 0
-IsWritten settings pair = Contains (map (λ (s : Setting). s.place) settings) pair × Contains (map (λ (s : Setting). s.place) settings) (suc pair)
+IsWritten settings pair = Contains (map (λ (s : Setting). s.place) settings) pair
+    × Contains (map (λ (s : Setting). s.place) settings) (suc pair)
 
 -- the first frame begins at the base, and each other one where the one before it ends
 abbrev pub SideBySide : (base : ℕ) → List Frame → Type 0
@@ -163,7 +172,8 @@ pub record Fits (first : List Ref) (mark : ℕ) (journal : List JournalEntry) (p
   pub frames : p.frames ≡ frames_of (entries_by p journal)
   pub fails : p.fails ≡ fails_of (entries_by p journal)
   pub hung : p.hung ≡ hung_of (entries_by p journal)
-  -- Every setting that it knows is in the first row or in what it has seen. The own ones are those that it made. None is known twice.
+  -- Every setting that it knows is in the first row or in what it has seen. The own ones are those that it made. None
+  -- is known twice.
   pub known : All (λ (k : Known). Contains (set_in first ++ settings_of p.seen) k.setting) p.known
   pub own : p.mine ≡ own_of p.known
   pub known_once : AreDistinct (map (λ (k : Known). k.setting.place) p.known)
@@ -171,9 +181,11 @@ pub record Fits (first : List Ref) (mark : ℕ) (journal : List JournalEntry) (p
   pub asked : All (λ (a : Asked). a.mark + a.weight ≤ mark) p.asked
 
 -- The cells whose places a pass closed are those that it set to something that is no half of a number, in order.
--- (While it sets a cell, between the step that sets the word and the one that closes the place, the last one is missing.)
+-- (While it sets a cell, between the step that sets the word and the one that closes the place, the last one is
+-- missing.)
 abbrev pub HasClosed : Pass → Type 0
-HasClosed p = map (λ (t : Took). t.cell) p.took ≡ map (λ (s : Setting). s.place) (filter (λ (s : Setting). not (is_half s.value)) p.mine)
+HasClosed p = map (λ (t : Took). t.cell) p.took
+    ≡ map (λ (s : Setting). s.place) (filter (λ (s : Setting). not (is_half s.value)) p.mine)
 
 -- Row first passes journal row: what holds between the opening's row, all passes, the journal and the row at the end.
 pub record Row (first : List Ref) (passes : List Pass) (journal : List JournalEntry) (row : List Ref) : Type 0 where
@@ -191,9 +203,11 @@ pub record Row (first : List Ref) (passes : List Pass) (journal : List JournalEn
   -- A cell that is set to a cell is set to one with a smaller number.
   pub falls : (s : Setting) → Contains (set_in row) s → (cell : ℕ) → s.value ≡ Cell cell → cell < s.place
   -- Where a cell is set to a number, both words of the pair are set in the opening's row or in earlier entries.
-  pub written_first : (s : Setting) → Contains (set_in first) s → (pair : ℕ) → s.value ≡ Number pair → IsWritten (set_in first) pair
+  pub written_first : (s : Setting) → Contains (set_in first) s → (pair : ℕ) → s.value ≡ Number pair
+      → IsWritten (set_in first) pair
   pub written : (before after : List JournalEntry) (e : JournalEntry) → journal ≡ before ++ e ∷ after
-      → (s : Setting) → e.made ≡ sets s → (pair : ℕ) → s.value ≡ Number pair → IsWritten (set_in first ++ settings_of before) pair
+      → (s : Setting) → e.made ≡ sets s → (pair : ℕ) → s.value ≡ Number pair
+      → IsWritten (set_in first ++ settings_of before) pair
   -- The frames lie side by side from the end of the opening's row, in the order of the journal.
   pub frames : SideBySide (length first) (frames_of journal)
   -- No waiter was hung twice, and none was taken twice.
@@ -203,4 +217,5 @@ pub record Row (first : List Ref) (passes : List Pass) (journal : List JournalEn
   pub taken_was_hung : (t : Took) → Contains (all_took passes) t → (waiter : ℕ) → t.waiter ≡ Some waiter
       → (g : HungGoal) × Contains (all_hung passes) g × (g.waiter ≡ waiter) × (g.cell ≡ t.cell)
   -- Where the cell of a goal that was hung was closed, the goal's waiter was taken with it.
-  pub hung_is_taken : (g : HungGoal) (t : Took) → Contains (all_hung passes) g → Contains (all_took passes) t → t.cell ≡ g.cell → t.waiter ≡ Some g.waiter
+  pub hung_is_taken : (g : HungGoal) (t : Took) → Contains (all_hung passes) g → Contains (all_took passes) t
+      → t.cell ≡ g.cell → t.waiter ≡ Some g.waiter

@@ -1,8 +1,9 @@
 -- Terms and substitutions (Lloyd, Foundations of Logic Programming, section 4).
 use Rattle.std.specs.Prelude.{ℕ, suc, ℤ, ◌&&◌, Bool, true, false, List, [], ◌∷◌, ◌++◌}
 
--- Each clause that is used in a proof has variables of its own. They live in a frame, which is named by the path of the clause
--- in the proof: the query has the empty path, and the clause that takes call number i of a body has that body's path and then i.
+-- Each clause that is used in a proof has variables of its own. They live in a frame, which is named by the path of
+-- the clause in the proof: the query has the empty path, and the clause that takes call number i of a body has that
+-- body's path and then i.
 abbrev pub Path : Type 0
 Path = List ℕ
 

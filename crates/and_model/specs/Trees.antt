@@ -1,9 +1,11 @@
--- Unfoldings of a query, in which some calls may be left open (SLD derivations, Lloyd, section 7; partial trees of the basic Andorra model).
+-- Unfoldings of a query, in which some calls may be left open (SLD derivations, Lloyd, section 7; partial trees of
+-- the basic Andorra model).
 use Rattle.std.proofs.Common.{inl, inr}
 use Rattle.std.specs.Prelude.{ℕ, suc, ◌+◌, ◌≡◌, true, false, List, [], ◌∷◌, ◌++◌, ◌⊎◌, Option, Some, None, refl}
 use Rattle.and_model.specs.Terms.{Path, Term, framed}
 use Rattle.and_model.specs.Solutions.{Equation, Solvable, falsehood}
-use Rattle.and_model.specs.Programs.{Program, Item, call, equal, arithmetic, fail, Arithmetic, clause_at, clause_weight, is_of, Of, head_in, arithmetic_in}
+use Rattle.and_model.specs.Programs.{Program, Item, call, equal, arithmetic, fail, Arithmetic, clause_at}
+use Rattle.and_model.specs.Programs.{clause_weight, is_of, Of, head_in, arithmetic_in}
 use Rattle.and_model.specs.Closure.{Closes}
 
 -- What is to be done, from left to right. A call carries the path of the clause that will take it.
@@ -21,11 +23,13 @@ agenda q i (equal a b ∷ items) rest = equation (framed q a) (framed q b) (agen
 agenda q i (arithmetic a ∷ items) rest = reckoning (arithmetic_in q a) (agenda q (suc i) items rest)
 agenda q i (fail ∷ items) rest = equation falsehood.0 falsehood.1 (agenda q (suc i) items rest)
 
--- A partial tree goes through what is to be done from left to right. A call is left open, or taken by a clause of its predicate, whose body then comes first.
+-- A partial tree goes through what is to be done from left to right. A call is left open, or taken by a clause of its
+-- predicate, whose body then comes first.
 pub data Tree (P : Program) : Agenda → Type 0 where
   done : Tree P end
   left : {q : Path} {g : Term} {rest : Agenda} → Tree P rest → Tree P (goal q g rest)
-  by : {q : Path} {g : Term} {rest : Agenda} → (c : ℕ) → Of P g c → Tree P (agenda q 0 (clause_at P c).body rest) → Tree P (goal q g rest)
+  by : {q : Path} {g : Term} {rest : Agenda} → (c : ℕ) → Of P g c → Tree P (agenda q 0 (clause_at P c).body rest)
+      → Tree P (goal q g rest)
   equate : {a b : Term} {rest : Agenda} → Tree P rest → Tree P (equation a b rest)
   reckon : {a : Arithmetic} {rest : Agenda} → Tree P rest → Tree P (reckoning a rest)
 
@@ -113,7 +117,8 @@ IsLeftmost (equate t) o = IsLeftmost t o
 IsLeftmost (reckon t) o = IsLeftmost t o
 
 -- a body with all its calls left, before a tree
-abbrev pub fresh : {P : Program} (q : Path) (i : ℕ) (items : List Item) {rest : Agenda} → Tree P rest → Tree P (agenda q i items rest)
+abbrev pub fresh : {P : Program} (q : Path) (i : ℕ) (items : List Item) {rest : Agenda} → Tree P rest
+    → Tree P (agenda q i items rest)
 fresh q i [] t = t
 fresh q i (call g ∷ items) t = left (fresh q (suc i) items t)
 fresh q i (equal a b ∷ items) t = equate (fresh q (suc i) items t)
@@ -129,14 +134,23 @@ reduce (by d k t) o c h = by d k (reduce t o c h)
 reduce (equate t) o c h = equate (reduce t o c h)
 reduce (reckon t) o c h = reckon (reduce t o c h)
 
--- The second tree is the first, with clauses for some of its open calls. (A code agrees with a tree where its tree is so above it.)
+-- The second tree is the first, with clauses for some of its open calls. (A code agrees with a tree where its tree is
+-- so above it.)
 pub data Below (P : Program) : (ag : Agenda) → Tree P ag → Tree P ag → Type 0 where
   both_done : Below P end done done
-  both_left : {q : Path} {g : Term} {rest : Agenda} {t u : Tree P rest} → Below P rest t u → Below P (goal q g rest) (left t) (left u)
-  both_by : {q : Path} {g : Term} {rest : Agenda} (c : ℕ) (h k : Of P g c) {t u : Tree P (agenda q 0 (clause_at P c).body rest)} → Below P (agenda q 0 (clause_at P c).body rest) t u → Below P (goal q g rest) (by c h t) (by c k u)
-  grown : {q : Path} {g : Term} {rest : Agenda} (c : ℕ) (h : Of P g c) (t : Tree P rest) {u : Tree P (agenda q 0 (clause_at P c).body rest)} → Below P (agenda q 0 (clause_at P c).body rest) (fresh q 0 (clause_at P c).body t) u → Below P (goal q g rest) (left t) (by c h u)
-  both_equate : {a b : Term} {rest : Agenda} {t u : Tree P rest} → Below P rest t u → Below P (equation a b rest) (equate t) (equate u)
-  both_reckon : {a : Arithmetic} {rest : Agenda} {t u : Tree P rest} → Below P rest t u → Below P (reckoning a rest) (reckon t) (reckon u)
+  both_left : {q : Path} {g : Term} {rest : Agenda} {t u : Tree P rest} → Below P rest t u
+      → Below P (goal q g rest) (left t) (left u)
+  both_by : {q : Path} {g : Term} {rest : Agenda} (c : ℕ) (h k : Of P g c)
+      {t u : Tree P (agenda q 0 (clause_at P c).body rest)} → Below P (agenda q 0 (clause_at P c).body rest) t u
+      → Below P (goal q g rest) (by c h t) (by c k u)
+  grown : {q : Path} {g : Term} {rest : Agenda} (c : ℕ) (h : Of P g c) (t : Tree P rest)
+      {u : Tree P (agenda q 0 (clause_at P c).body rest)}
+      → Below P (agenda q 0 (clause_at P c).body rest) (fresh q 0 (clause_at P c).body t) u
+      → Below P (goal q g rest) (left t) (by c h u)
+  both_equate : {a b : Term} {rest : Agenda} {t u : Tree P rest} → Below P rest t u
+      → Below P (equation a b rest) (equate t) (equate u)
+  both_reckon : {a : Arithmetic} {rest : Agenda} {t u : Tree P rest} → Below P rest t u
+      → Below P (reckoning a rest) (reckon t) (reckon u)
 
 -- what closing the tree's equations and arithmetic ends with
 abbrev pub Closed : {P : Program} {ag : Agenda} → Tree P ag → List Equation → List Arithmetic → Type 0
@@ -177,7 +191,8 @@ abbrev pub then : {A B : Type 0} → Option A → (A → Option B) → Option B
 then None f = None
 then (Some x) f = f x
 
--- The leftmost open goal is taken by that clause: none where no call is left, or where the clause is not of the call's predicate.
+-- The leftmost open goal is taken by that clause: none where no call is left, or where the clause is not of the
+-- call's predicate.
 abbrev pub extend : {P : Program} {ag : Agenda} → Tree P ag → ℕ → Option (Tree P ag)
 extend done c = None
 extend {P} (left {q = q} {g = g} t) c = mapped (λ h. by c h (fresh q 0 (clause_at P c).body t)) (taking P g c)

@@ -3,7 +3,8 @@ use Rattle.std.specs.Prelude.{ℕ, ◌+◌, ◌*◌, ◌^◌, ◌<◌}
 use Rattle.and_model.specs.declared.reference.Ref.{Ref}
 use Rattle.and_model.specs.declared.reference.Ref.TheVariants.{Free, Cell, Node, Number, Half}
 
--- A reference has a word where its cell, its base or the first word of its pair is below 2 ^ 23 and its node below 2 ^ 20; a half is any number of 32 bits.
+-- A reference has a word where its cell, its base or the first word of its pair is below 2 ^ 23 and its node below 2
+-- ^ 20; a half is any number of 32 bits.
 abbrev pub HasWord : Ref → Type 0
 HasWord Free = Unit {0}
 HasWord (Cell cell) = cell < 2 ^ 23

@@ -1,6 +1,7 @@
 //! A list that grows and shrinks at its end, stated once for every type of item.
 
-ghost use Rattle.std.specs.Prelude.{◌≡◌, ◌<◌, ◌↔◌, List, [], ◌∷◌, ◌++◌, length, slice_get, Some, OnOk, OnErr, IfOk, IfErr, IsNone, IfNone, IfSome};
+ghost use Rattle.std.specs.Prelude.{◌≡◌, ◌<◌, ◌↔◌, List, [], ◌∷◌, ◌++◌, length, slice_get, Some, OnOk, OnErr, IfOk};
+ghost use Rattle.std.specs.Prelude.{IfErr, IsNone, IfNone, IfSome};
 
 use std::alloc::{AllocError, Global};
 use std::marker::Model;

@@ -1,6 +1,7 @@
 //! Bytes in a list.
 
-ghost use Rattle.std.specs.Prelude.{◌≡◌, ◌<◌, ℕ, List, IfOk, OnErr, length, slice_index, slice_get, Some, [], ◌∷◌, ◌++◌, ◌^◌};
+ghost use Rattle.std.specs.Prelude.{◌≡◌, ◌<◌, ℕ, List, IfOk, OnErr, length, slice_index, slice_get, Some, [], ◌∷◌};
+ghost use Rattle.std.specs.Prelude.{◌++◌, ◌^◌};
 
 use std::alloc::{AllocError, Global};
 use std::marker::Model;

@@ -2,7 +2,8 @@
 use Rattle.std.proofs.Common.{ℕ, suc, List, [], ◌∷◌, ◌++◌, arith}
 use Rattle.and_model.specs.Terms.{Term, Terms, none, more}
 use Rattle.and_model.specs.Programs.{Clause, Item, call, equal, arithmetic, fail}
-use Rattle.and_modes.specs.Modes.{Assignment, Environment, HaveLevels, CallsHaveLevels, IsWellModed, levels_of, name_of, arguments_of, count_of, at_entry, after_item, after_items}
+use Rattle.and_modes.specs.Modes.{Assignment, Environment, HaveLevels, CallsHaveLevels, IsWellModed, levels_of, name_of, arguments_of, count_of, at_entry}
+use Rattle.and_modes.specs.Modes.{after_item, after_items}
 use Rattle.and_modes.specs.Asked.{asked_by, asked_of, asked_along, asked_in, AllMet, IsAtOrAbove}
 use Rattle.and_modes.specs.declared.demands.Demand.{Demand}
 use Rattle.and_modes.specs.declared.level.Side.{Side}
@@ -30,7 +31,8 @@ have_met o e f goal side i (more t ts) over have =
     let low = have.0 in
     (omega arith, have_met o e f goal side (suc i) ts over have.1)
 
-calls_met : (m o : Assignment) (e f : Environment) (items : List Item) → IsAtOrAbove m o → IsOver e f → CallsHaveLevels o f items → AllMet o (asked_along m e items)
+calls_met : (m o : Assignment) (e f : Environment) (items : List Item) → IsAtOrAbove m o → IsOver e f → CallsHaveLevels o f items
+    → AllMet o (asked_along m e items)
 calls_met m o e f [] above over have = tt
 calls_met m o e f (call g ∷ items) above over have =
     met-append o (asked_of e Called g) (asked_along m (after_item m e (call g)) items)
@@ -59,8 +61,10 @@ met_have m e goal side i (more t ts) met = (met.0, met_have m e goal side (suc i
 met_calls : (m : Assignment) (e : Environment) (items : List Item) → AllMet m (asked_along m e items) → CallsHaveLevels m e items
 met_calls m e [] met = tt
 met_calls m e (call g ∷ items) met =
-    let rest : List Demand = asked_along m (after_item m e (call g)) items in
-    (met_have m e g Called 0 (arguments_of g) (met_front m (asked_of e Called g) rest met), met_calls m (after_item m e (call g)) items (met_back m (asked_of e Called g) rest met))
+    let rest : List Demand = asked_along m (after_item m e (call g)) items in (
+      met_have m e g Called 0 (arguments_of g) (met_front m (asked_of e Called g) rest met),
+      met_calls m (after_item m e (call g)) items (met_back m (asked_of e Called g) rest met),
+    )
 met_calls m e (equal a b ∷ items) met = met_calls m (after_item m e (equal a b)) items met
 met_calls m e (arithmetic a ∷ items) met = met_calls m (after_item m e (arithmetic a)) items met
 met_calls m e (fail ∷ items) met = met_calls m (after_item m e fail) items met
@@ -69,5 +73,7 @@ met_calls m e (fail ∷ items) met = met_calls m (after_item m e fail) items met
 pub met_is_well_moded : (m : Assignment) (k : Clause) → AllMet m (asked_in m k) → IsWellModed m k
 met_is_well_moded m k met =
     let calls : List Demand = asked_along m (at_entry m k) k.body in
-    let head : List Demand = asked_of (after_items m (at_entry m k) k.body) Succeeded k.head in
-    (met_calls m (at_entry m k) k.body (met_front m calls head met), met_have m (after_items m (at_entry m k) k.body) k.head Succeeded 0 (arguments_of k.head) (met_back m calls head met))
+    let head : List Demand = asked_of (after_items m (at_entry m k) k.body) Succeeded k.head in (
+      met_calls m (at_entry m k) k.body (met_front m calls head met),
+      met_have m (after_items m (at_entry m k) k.body) k.head Succeeded 0 (arguments_of k.head) (met_back m calls head met),
+    )

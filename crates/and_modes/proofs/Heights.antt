@@ -58,7 +58,8 @@ same_side_self Called = refl
 same_side_self Succeeded = refl
 
 -- a demand speaks of the place that it names
-pub asked_there : (d : Demand) (name count place : ℕ) (side : Side) (m : Assignment) → is_asked d name count place side ≡ true → m name count place side ≡ level_asked m d
+pub asked_there : (d : Demand) (name count place : ℕ) (side : Side) (m : Assignment) → is_asked d name count place side ≡ true
+    → m name count place side ≡ level_asked m d
 asked_there d name count place side m e =
     let p = and_parts (nat_eq d.place.name.0 name && (nat_eq d.place.arity count && nat_eq d.place.number place)) (same_side d.side side) e in
     let q = and_parts (nat_eq d.place.name.0 name) (nat_eq d.place.arity count && nat_eq d.place.number place) p.0 in

@@ -1,5 +1,6 @@
 -- What is known of a clause's variables, by the nodes of its terms.
-use Rattle.std.proofs.Common.{ℕ, ℤ, zero, suc, ◌+◌, ◌≡◌, ◌<◌, ◌≤◌, List, [], ◌∷◌, ◌++◌, length, map, get_or, drop, replicate, refl, sym, ap, ◌∙◌, arith, append_assoc, Bool, cond}
+use Rattle.std.proofs.Common.{ℕ, ℤ, zero, suc, ◌+◌, ◌≡◌, ◌<◌, ◌≤◌, List, [], ◌∷◌, ◌++◌, length, map, get_or, drop, replicate, refl, sym, ap, ◌∙◌, arith}
+use Rattle.std.proofs.Common.{append_assoc, Bool, cond}
 use Rattle.std.proofs.lemmas.List.{drop_more, drop_all, append-nil}
 use Rattle.and_model.specs.Terms
 use Rattle.and_model.specs.Terms.{Path, Term, Terms, variables_of, width}
@@ -21,13 +22,16 @@ use Rattle.and_modes.specs.declared.level.Side.{Side}
 use Rattle.and_modes.proofs.Raising.{ground_by_variables, raised_by_variables, within_variable}
 use Rattle.and_modes.proofs.Walking.{at_node, term_of_variable, term_of_number, term_of_compound, from_place, from_next, from_end, argument_there}
 
-pub level_of_variable : (ss : List Shape) (n k : ℕ) (e : Environment) → AllFall 0 ss → n < length ss → Variable k ≡ shown (at_node ss n) → e k ≡ level_in e (node_term ss n)
+pub level_of_variable : (ss : List Shape) (n k : ℕ) (e : Environment) → AllFall 0 ss → n < length ss → Variable k ≡ shown (at_node ss n)
+    → e k ≡ level_in e (node_term ss n)
 level_of_variable ss n k e fall lt is = ap (level_in e) (sym (term_of_variable ss n k fall lt is))
 
-pub level_of_number : (ss : List Shape) (n : ℕ) (z : ℤ) (e : Environment) → AllFall 0 ss → n < length ss → Number z ≡ shown (at_node ss n) → Integer ≡ level_in e (node_term ss n)
+pub level_of_number : (ss : List Shape) (n : ℕ) (z : ℤ) (e : Environment) → AllFall 0 ss → n < length ss → Number z ≡ shown (at_node ss n)
+    → Integer ≡ level_in e (node_term ss n)
 level_of_number ss n z e fall lt is = ap (level_in e) (sym (term_of_number ss n z fall lt is))
 
-pub level_of_compound : (ss : List Shape) (n : ℕ) (c : NameNo) (count : ℕ) (e : Environment) (ks : List ℕ) → AllFall 0 ss → n < length ss → Compound c count ≡ shown (at_node ss n)
+pub level_of_compound : (ss : List Shape) (n : ℕ) (c : NameNo) (count : ℕ) (e : Environment) (ks : List ℕ) → AllFall 0 ss → n < length ss
+    → Compound c count ≡ shown (at_node ss n)
     → map unframed ks ≡ variables_of (node_term ss n) → cond (are_ground_at e ks) Ground Any ≡ level_in e (node_term ss n)
 level_of_compound ss n c count e ks fall lt is found =
     let there = term_of_compound ss n c count fall lt is in
@@ -56,11 +60,14 @@ raised_variable ss n k e f l fall lt is new =
     ∙ raised_by_variables e (Terms.variable [] k) (k ∷ []) l l refl (within_variable k l)
     ∙ ap (λ (t : Term). raised e t l) (sym term)
 
-pub raised_number : (ss : List Shape) (n : ℕ) (z : ℤ) (e : Environment) (l : Level) → AllFall 0 ss → n < length ss → Number z ≡ shown (at_node ss n) → e ≡ raised e (node_term ss n) l
+pub raised_number : (ss : List Shape) (n : ℕ) (z : ℤ) (e : Environment) (l : Level) → AllFall 0 ss → n < length ss → Number z ≡ shown (at_node ss n)
+    → e ≡ raised e (node_term ss n) l
 raised_number ss n z e l fall lt is =
-    raised_by_variables e (Terms.number z) [] l (level_within (Terms.number z) l) refl refl ∙ ap (λ (t : Term). raised e t l) (sym (term_of_number ss n z fall lt is))
+    raised_by_variables e (Terms.number z) [] l (level_within (Terms.number z) l) refl refl
+    ∙ ap (λ (t : Term). raised e t l) (sym (term_of_number ss n z fall lt is))
 
-pub raised_compound : (ss : List Shape) (n : ℕ) (c : NameNo) (count : ℕ) (e f : Environment) (ks : List ℕ) (l k : Level) → AllFall 0 ss → n < length ss → Compound c count ≡ shown (at_node ss n)
+pub raised_compound : (ss : List Shape) (n : ℕ) (c : NameNo) (count : ℕ) (e f : Environment) (ks : List ℕ) (l k : Level) → AllFall 0 ss → n < length ss
+    → Compound c count ≡ shown (at_node ss n)
     → map unframed ks ≡ variables_of (node_term ss n) → ((name : ℕ) (ts : Terms) → k ≡ level_within (Terms.compound name ts) l)
     → f ≡ all_raised_at e ks k → f ≡ raised e (node_term ss n) l
 raised_compound ss n c count e f ks l k fall lt is found within new =
@@ -79,20 +86,24 @@ raised_next t arg place levels level first e f lt before is_arg is_level new =
     let rest : Terms = from_place (place + 1) (arguments_of t) in
     let next : suc place ≡ place + 1 = omega arith in
     let now : raised e (term_at (arguments_of t) place) (levels place) ≡ f =
-    sym (new ∙ ap (λ (u : Term). raised e u level) (is_arg ∙ argument_there t place) ∙ ap (λ (l : Level). raised e (term_at (arguments_of t) place) l) is_level) in
+    sym (new ∙ ap (λ (u : Term). raised e u level) (is_arg ∙ argument_there t place)
+    ∙ ap (λ (l : Level). raised e (term_at (arguments_of t) place) l) is_level) in
     before
     ∙ ap (λ (ts : Terms). all_raised e levels place ts) (from_next place (arguments_of t) lt)
     ∙ ap (λ (g : Environment). all_raised g levels (suc place) rest) now
     ∙ ap (λ (i : ℕ). all_raised f levels i rest) next
 
 pub raised_end : (t : Term) (place : ℕ) (levels : ℕ → Level) (first e : Environment) → count_of (arguments_of t) ≤ place
-    → all_raised first levels 0 (arguments_of t) ≡ all_raised e levels place (from_place place (arguments_of t)) → e ≡ all_raised first levels 0 (arguments_of t)
+    → all_raised first levels 0 (arguments_of t) ≡ all_raised e levels place (from_place place (arguments_of t))
+    → e ≡ all_raised first levels 0 (arguments_of t)
 raised_end t place levels first e le before = sym (before ∙ ap (λ (ts : Terms). all_raised e levels place ts) (from_end place (arguments_of t) le))
 
 -- one more argument is asked for
-pub asked_next : (t arg : Term) (place name count : ℕ) (side : Side) (e : Environment) (all ds new : List Demand) (d : Demand) → place < count_of (arguments_of t)
+pub asked_next : (t arg : Term) (place name count : ℕ) (side : Side) (e : Environment) (all ds new : List Demand) (d : Demand)
+    → place < count_of (arguments_of t)
     → all ≡ ds ++ asked_by e name count side place (from_place place (arguments_of t))
-    → arg ≡ argument_of t place → d ≡ record { place = record { name = record { 0 = name }; arity = count; number = place }; side = side; level = level_in e arg }
+    → arg ≡ argument_of t place
+    → d ≡ record { place = record { name = record { 0 = name }; arity = count; number = place }; side = side; level = level_in e arg }
     → new ≡ ds ++ d ∷ []
     → all ≡ new ++ asked_by e name count side (place + 1) (from_place (place + 1) (arguments_of t))
 asked_next t arg place name count side e all ds new d lt before is_arg is_demand more =

@@ -1,5 +1,6 @@
 -- What looking at a clause, and then at others, does to an assignment.
-use Rattle.std.proofs.Common.{ℕ, zero, suc, ◌+◌, ◌^◌, ◌≡◌, ◌<◌, ◌≤◌, List, [], ◌∷◌, length, get_or, take, refl, sym, ap, ◌∙◌, arith, subst, Bool, true, false, ⊎_elim}
+use Rattle.std.proofs.Common.{ℕ, zero, suc, ◌+◌, ◌^◌, ◌≡◌, ◌<◌, ◌≤◌, List, [], ◌∷◌, length, get_or, take, refl, sym, ap, ◌∙◌, arith, subst, Bool, true, false}
+use Rattle.std.proofs.Common.{⊎_elim}
 use Rattle.std.proofs.lemmas.Bool.{cases_Bool, cases_eq, cond-true, cond-false}
 use Rattle.std.proofs.lemmas.List.{take_more, take_all}
 use Rattle.and_model.specs.Programs.{Program, clause_at}
@@ -21,7 +22,8 @@ pub record Lowered (ds : List Demand) (old new : Assignment) (fell : Bool) (i : 
 pub lowered_none : (ds : List Demand) (m : Assignment) → Lowered ds m m false 0
 lowered_none ds m = record { above = λ other met above. above; fell_or = (refl, tt) }
 
-met_at : (m : Assignment) (ds : List Demand) (i : ℕ) (d : Demand) → AllMet m ds → i < length ds → IsAtLeast (get_or ds i d).level (level_asked m (get_or ds i d))
+met_at : (m : Assignment) (ds : List Demand) (i : ℕ) (d : Demand) → AllMet m ds → i < length ds
+    → IsAtLeast (get_or ds i d).level (level_asked m (get_or ds i d))
 met_at m [] i d met lt = absurd (omega arith)
 met_at m (e ∷ ds) zero d met lt = met.0
 met_at m (e ∷ ds) (suc i) d met lt = met_at m ds i d met.1 (omega arith)
@@ -59,20 +61,26 @@ lowered_more ds old now new fell i d l lt is low is_name is_count is_place = rec
       let there = asked_there d name count place side other e in
       rw (at, there) asked)
       (λ (e : is_asked d name count place side ≡ false).
-      let at : new name count place side ≡ now name count place side = new_is ∙ cond-false (is_asked d name count place side) d.level (now name count place side) e in
+      let at : new name count place side ≡ now name count place side =
+      new_is ∙ cond-false (is_asked d name count place side) d.level (now name count place side) e in
       rw at before)
       (cases_Bool (is_asked d name count place side));
-  fell_or = fell_further fell old now new (AllMet now (take i ds)) (AllMet new (take (i + 1) ds)) l.fell_or (lowers_height d now new low is_name is_count is_place);
+  fell_or = fell_further fell old now new (AllMet now (take i ds)) (AllMet new (take (i + 1) ds)) l.fell_or
+      (lowers_height d now new low is_name is_count is_place);
 }
 
-pub lowered_all : (ds : List Demand) (old new : Assignment) (fell : Bool) (i : ℕ) → Lowered ds old new fell i → length ds ≤ i → FellOr fell old new (AllMet new ds)
+pub lowered_all : (ds : List Demand) (old new : Assignment) (fell : Bool) (i : ℕ) → Lowered ds old new fell i → length ds ≤ i
+    → FellOr fell old new (AllMet new ds)
 lowered_all ds old new fell i l le = stays fell old new new (AllMet new (take i ds)) (AllMet new ds) l.fell_or refl (λ met. rw (← take_all i ds le) met)
 
 looked_or : (P : Program) (c : ℕ) (ds : List Demand) (old new : Assignment) (fell : Bool) → ds ≡ asked_in old (clause_at P c)
     → FellOr fell old new (AllMet new ds) → FellOr fell old new (IsWellModed new (clause_at P c))
 looked_or P c ds old new true is f = f
-looked_or P c ds old new false is f =
-    (f.0, met_is_well_moded new (clause_at P c) (subst (λ (m : Assignment). AllMet new (asked_in m (clause_at P c))) (sym f.0) (subst (λ (es : List Demand). AllMet new es) is f.1)))
+looked_or P c ds old new false is f = (
+  f.0,
+  met_is_well_moded new (clause_at P c)
+      (subst (λ (m : Assignment). AllMet new (asked_in m (clause_at P c))) (sym f.0) (subst (λ (es : List Demand). AllMet new es) is f.1)),
+)
 
 -- A clause was looked at.
 pub looked : (P : Program) (c : ℕ) (ds : List Demand) (old new : Assignment) (fell : Bool) → c ≤ length P.clauses → ds ≡ asked_in old (clause_at P c)
@@ -127,8 +135,12 @@ pub is_greatest : (P : Program) (m : Assignment) → ((other : Assignment) → W
 is_greatest P m above well = (well, λ other is name count place side there. above other is name count place side)
 
 -- one more clause was looked at again
-pub again_fell : (P : Program) (old now new : Assignment) (fell : Bool) (A B : Type 0) → StaysAbove P old now × FellOr fell old now B → StaysAbove P now new × FellOr true now new A → StaysAbove P old new × FellOr true old new B
-again_fell P old now new fell A B before here = (λ other well above. here.0 other well (before.0 other well above), fell_further fell old now new B B before.1 here.1)
+pub again_fell : (P : Program) (old now new : Assignment) (fell : Bool) (A B : Type 0) → StaysAbove P old now × FellOr fell old now B
+    → StaysAbove P now new × FellOr true now new A → StaysAbove P old new × FellOr true old new B
+again_fell P old now new fell A B before here =
+    (λ other well above. here.0 other well (before.0 other well above), fell_further fell old now new B B before.1 here.1)
 
-pub again_same : (P : Program) (old now new : Assignment) (fell : Bool) (A : Type 0) → StaysAbove P old now × FellOr fell old now (Unit {0}) → StaysAbove P now new × FellOr false now new A → StaysAbove P old new × FellOr fell old new (Unit {0})
-again_same P old now new fell A before here = (λ other well above. here.0 other well (before.0 other well above), stays fell old now new (Unit {0}) (Unit {0}) before.1 here.1.0 (λ u. u))
+pub again_same : (P : Program) (old now new : Assignment) (fell : Bool) (A : Type 0) → StaysAbove P old now × FellOr fell old now (Unit {0})
+    → StaysAbove P now new × FellOr false now new A → StaysAbove P old new × FellOr fell old new (Unit {0})
+again_same P old now new fell A before here =
+    (λ other well above. here.0 other well (before.0 other well above), stays fell old now new (Unit {0}) (Unit {0}) before.1 here.1.0 (λ u. u))

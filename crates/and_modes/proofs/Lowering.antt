@@ -25,21 +25,26 @@ place_at name count place = record { name = record { 0 = name }; arity = count; 
 
 pub lowers_called : (old new : Modes) (d : Demand) → d.side ≡ Called → new.succeeded ≡ old.succeeded
     → ((q : Place) → get same_place new.called q ≡ cond (same_place d.place q) (Some d.level) (get same_place old.called q))
-    → (name count place : ℕ) (side : Side) → assignment_of new name count place side ≡ cond (is_asked d name count place side) d.level (assignment_of old name count place side)
+    → (name count place : ℕ) (side : Side) → assignment_of new name count place side
+    ≡ cond (is_asked d name count place side) d.level (assignment_of old name count place side)
 lowers_called old new d is same updates name count place Called =
     let q : Place = place_at name count place in
-    ap noted (updates q) ∙ fell_at (same_place d.place q) (same_side d.side Called) (get same_place old.called q) d.level (ap (λ (s : Side). same_side s Called) is)
+    ap noted (updates q) ∙ fell_at (same_place d.place q) (same_side d.side Called) (get same_place old.called q) d.level
+    (ap (λ (s : Side). same_side s Called) is)
 lowers_called old new d is same updates name count place Succeeded =
     let q : Place = place_at name count place in
     ap (λ h. noted (get same_place h q)) same
-    ∙ stays_at (same_place d.place q) (same_side d.side Succeeded) d.level (noted (get same_place old.succeeded q)) (ap (λ (s : Side). same_side s Succeeded) is)
+    ∙ stays_at (same_place d.place q) (same_side d.side Succeeded) d.level (noted (get same_place old.succeeded q))
+    (ap (λ (s : Side). same_side s Succeeded) is)
 
 pub lowers_succeeded : (old new : Modes) (d : Demand) → d.side ≡ Succeeded → new.called ≡ old.called
     → ((q : Place) → get same_place new.succeeded q ≡ cond (same_place d.place q) (Some d.level) (get same_place old.succeeded q))
-    → (name count place : ℕ) (side : Side) → assignment_of new name count place side ≡ cond (is_asked d name count place side) d.level (assignment_of old name count place side)
+    → (name count place : ℕ) (side : Side) → assignment_of new name count place side
+    ≡ cond (is_asked d name count place side) d.level (assignment_of old name count place side)
 lowers_succeeded old new d is same updates name count place Succeeded =
     let q : Place = place_at name count place in
-    ap noted (updates q) ∙ fell_at (same_place d.place q) (same_side d.side Succeeded) (get same_place old.succeeded q) d.level (ap (λ (s : Side). same_side s Succeeded) is)
+    ap noted (updates q) ∙ fell_at (same_place d.place q) (same_side d.side Succeeded) (get same_place old.succeeded q) d.level
+    (ap (λ (s : Side). same_side s Succeeded) is)
 lowers_succeeded old new d is same updates name count place Called =
     let q : Place = place_at name count place in
     ap (λ h. noted (get same_place h q)) same

@@ -25,7 +25,8 @@ and_true false = refl
 ground_along-append : (e : Environment) (vs ws : List (Path × ℕ)) → ground_along e (vs ++ ws) ≡ (ground_along e vs && ground_along e ws)
 unfolding ground_along
 ground_along-append e [] ws = refl
-ground_along-append e (v ∷ vs) ws = ap (λ (b : Bool). leb 1 (rank (e v.1)) && b) (ground_along-append e vs ws) ∙ sym (and_assoc (leb 1 (rank (e v.1))) (ground_along e vs) (ground_along e ws))
+ground_along-append e (v ∷ vs) ws = ap (λ (b : Bool). leb 1 (rank (e v.1)) && b) (ground_along-append e vs ws)
+    ∙ sym (and_assoc (leb 1 (rank (e v.1))) (ground_along e vs) (ground_along e ws))
 
 mutual
   unfolding ground_along
@@ -77,7 +78,8 @@ raised_along [] e l j = refl
 raised_along (k ∷ ks) e l j = raised_along ks (raised_at e k l) l j ∙ step (nat_eq j k) (has ([], j) (map unframed ks)) (e j) l
 
 -- a term is raised where each of its variables is
-pub raised_by_variables : (e : Environment) (t : Term) (ks : List ℕ) (l k : Level) → map unframed ks ≡ variables_of t → k ≡ level_within t l → all_raised_at e ks k ≡ raised e t l
+pub raised_by_variables : (e : Environment) (t : Term) (ks : List ℕ) (l k : Level) → map unframed ks ≡ variables_of t → k ≡ level_within t l
+    → all_raised_at e ks k ≡ raised e t l
 raised_by_variables e t ks l k is within = λ i j.
     (raised_along ks e k j
     ∙ ap (λ (vs : List (Path × ℕ)). cond (has ([], j) vs) (higher (e j) k) (e j)) is

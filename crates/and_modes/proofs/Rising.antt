@@ -4,7 +4,8 @@ use Rattle.std.proofs.lemmas.Bool.{leb-true, le-leb, and_parts, and_from}
 use Rattle.and_model.specs.Terms.{Term, Terms, variable, number, compound, none, more, variables_of}
 use Rattle.and_model.specs.Lines.{has}
 use Rattle.and_model.specs.Programs.{Clause, Item, call, equal, arithmetic, fail, is, compare}
-use Rattle.and_modes.specs.Modes.{rank, higher, Assignment, Environment, is_ground_in, are_ground_in, level_in, level_within, raised, all_raised, levels_of, name_of, arguments_of, count_of, at_entry, after_item, after_items}
+use Rattle.and_modes.specs.Modes.{rank, higher, Assignment, Environment, is_ground_in, are_ground_in, level_in, level_within, raised, all_raised, levels_of}
+use Rattle.and_modes.specs.Modes.{name_of, arguments_of, count_of, at_entry, after_item, after_items}
 use Rattle.and_modes.specs.Asked.{IsAtOrAbove}
 use Rattle.and_modes.specs.declared.level.Level.{Level}
 use Rattle.and_modes.specs.declared.level.Level.TheVariants.{Any, Ground, Integer}
@@ -90,9 +91,11 @@ raised_more e f t l over = λ j.
     let more = cond_more (has ([], j) (variables_of t)) (e j) (level_within t l) in
     omega arith
 
-pub all_raised_over : (e f : Environment) (high low : ℕ → Level) (i : ℕ) (ts : Terms) → IsOver e f → ((p : ℕ) → rank (low p) ≤ rank (high p)) → IsOver (all_raised e high i ts) (all_raised f low i ts)
+pub all_raised_over : (e f : Environment) (high low : ℕ → Level) (i : ℕ) (ts : Terms) → IsOver e f → ((p : ℕ) → rank (low p) ≤ rank (high p))
+    → IsOver (all_raised e high i ts) (all_raised f low i ts)
 all_raised_over e f high low i none over le = over
-all_raised_over e f high low i (more t ts) over le = all_raised_over (raised e t (high i)) (raised f t (low i)) high low (suc i) ts (raised_over e f t (low i) (high i) over (le i)) le
+all_raised_over e f high low i (more t ts) over le =
+    all_raised_over (raised e t (high i)) (raised f t (low i)) high low (suc i) ts (raised_over e f t (low i) (high i) over (le i)) le
 
 mutual
   pub ground_over : (e f : Environment) (t : Term) → IsOver e f → is_ground_in f t ≡ true → is_ground_in e t ≡ true
@@ -120,7 +123,8 @@ level_over e f (variable q k) over = over k
 level_over e f (number z) over = omega arith
 level_over e f (compound c ts) over = ground_level_over (are_ground_in e ts) (are_ground_in f ts) (all_ground_over e f ts over)
 
-is_over : (b c : Bool) (e f : Environment) (l : Term) → (c ≡ true → b ≡ true) → IsOver e f → IsOver (cond b (raised e l Integer) e) (cond c (raised f l Integer) f)
+is_over : (b c : Bool) (e f : Environment) (l : Term) → (c ≡ true → b ≡ true) → IsOver e f
+    → IsOver (cond b (raised e l Integer) e) (cond c (raised f l Integer) f)
 is_over true true e f l h over = raised_over e f l Integer Integer over (omega arith)
 is_over true false e f l h over = raised_more e f l Integer over
 is_over false true e f l h over = let e : false ≡ true = h refl in absurd (cc)
@@ -128,7 +132,8 @@ is_over false false e f l h over = over
 
 pub after_item_over : (m o : Assignment) (e f : Environment) (item : Item) → IsAtOrAbove m o → IsOver e f → IsOver (after_item m e item) (after_item o f item)
 after_item_over m o e f (call g) above over =
-    all_raised_over e f (levels_of m g Succeeded) (levels_of o g Succeeded) 0 (arguments_of g) over (λ p. above (name_of g) (count_of (arguments_of g)) p Succeeded)
+    all_raised_over e f (levels_of m g Succeeded) (levels_of o g Succeeded) 0 (arguments_of g) over
+    (λ p. above (name_of g) (count_of (arguments_of g)) p Succeeded)
 after_item_over m o e f (equal a b) above over =
     raised_over (raised e a (level_in e b)) (raised f a (level_in f b)) b (level_in f a) (level_in e a)
     (raised_over e f a (level_in f b) (level_in e b) over (level_over e f b over)) (level_over e f a over)
@@ -136,7 +141,8 @@ after_item_over m o e f (arithmetic (is l r)) above over = is_over (is_ground_in
 after_item_over m o e f (arithmetic (compare r a b)) above over = over
 after_item_over m o e f fail above over = over
 
-pub after_items_over : (m o : Assignment) (e f : Environment) (items : List Item) → IsAtOrAbove m o → IsOver e f → IsOver (after_items m e items) (after_items o f items)
+pub after_items_over : (m o : Assignment) (e f : Environment) (items : List Item) → IsAtOrAbove m o → IsOver e f
+    → IsOver (after_items m e items) (after_items o f items)
 after_items_over m o e f [] above over = over
 after_items_over m o e f (item ∷ items) above over =
     after_items_over m o (after_item m e item) (after_item o f item) items above (after_item_over m o e f item above over)

@@ -1,12 +1,14 @@
 -- A walk over nodes finds the variables of their terms.
-use Rattle.std.proofs.Common.{ℕ, ℤ, zero, suc, ◌+◌, ◌≡◌, ◌<◌, ◌≤◌, pos, List, [], ◌∷◌, ◌++◌, length, map, get_or, drop, refl, sym, ap, ◌∙◌, arith, subst, append_assoc}
+use Rattle.std.proofs.Common.{ℕ, ℤ, zero, suc, ◌+◌, ◌≡◌, ◌<◌, ◌≤◌, pos, List, [], ◌∷◌, ◌++◌, length, map, get_or, drop, refl, sym, ap, ◌∙◌, arith, subst}
+use Rattle.std.proofs.Common.{append_assoc}
 use Rattle.std.specs.Prelude.{reverse}
 use Rattle.std.proofs.lemmas.List.{drop_more, map-append, reverse-append, reverse-reverse, append-nil}
 use Rattle.and_model.specs.Terms
 use Rattle.and_model.specs.Terms.{Path, Term, Terms, variables_of, variables_in}
 use Rattle.and_model.specs.declared.numbers.NodeNo.{NodeNo}
 use Rattle.and_model.specs.declared.numbers.NameNo.{NameNo}
-use Rattle.and_program.specs.Skeletons.{Shape, variable, number, compound, term_list, nth, shape_term, terms_behind, node_term, Falls, IsFalling, AllFall, IsThere, AllThere, after}
+use Rattle.and_program.specs.Skeletons.{Shape, variable, number, compound, term_list, nth, shape_term, terms_behind, node_term, Falls, IsFalling, AllFall}
+use Rattle.and_program.specs.Skeletons.{IsThere, AllThere, after}
 use Rattle.and_program.specs.Shown.{arguments_in, shown, argument_of, term_at}
 use Rattle.and_program.specs.Items.{node_item}
 use Rattle.and_program.specs.declared.item.ItemNode.{ItemNode}
@@ -29,7 +31,8 @@ sizes_in_term_list : (ss : List Shape) (ns : List ℕ) → sizes (term_list (map
 sizes_in_term_list ss [] = refl
 sizes_in_term_list ss (n ∷ ns) = ap (λ (k : ℕ). size (node_term ss n) + k) (sizes_in_term_list ss ns)
 
-variables_of_shape : (ss : List Shape) (s : Shape) → variables_of (shape_term (terms_behind [] ss) s) ≡ map unframed (leaves_in s) ++ variables_at ss (arguments_in s)
+variables_of_shape : (ss : List Shape) (s : Shape) → variables_of (shape_term (terms_behind [] ss) s)
+    ≡ map unframed (leaves_in s) ++ variables_at ss (arguments_in s)
 variables_of_shape ss (variable k) = refl
 variables_of_shape ss (number z) = refl
 variables_of_shape ss (compound c ns) = variables_in_term_list ss ns
@@ -54,7 +57,8 @@ below_append m (x ∷ xs) ys a b = (a.0, below_append m xs ys a.1 b)
 
 variables_at-append : (ss : List Shape) (xs ys : List ℕ) → variables_at ss (xs ++ ys) ≡ variables_at ss xs ++ variables_at ss ys
 variables_at-append ss [] ys = refl
-variables_at-append ss (x ∷ xs) ys = ap (λ (vs : List (Path × ℕ)). variables_of (node_term ss x) ++ vs) (variables_at-append ss xs ys) ∙ sym (append_assoc (variables_of (node_term ss x)) (variables_at ss xs) (variables_at ss ys))
+variables_at-append ss (x ∷ xs) ys = ap (λ (vs : List (Path × ℕ)). variables_of (node_term ss x) ++ vs) (variables_at-append ss xs ys)
+    ∙ sym (append_assoc (variables_of (node_term ss x)) (variables_at ss xs) (variables_at ss ys))
 
 parts_at-append : (ss : List Shape) (xs ys : List ℕ) → parts_at ss (xs ++ ys) ≡ parts_at ss xs + parts_at ss ys
 parts_at-append ss [] ys = omega arith
@@ -71,7 +75,8 @@ reverse_of_popped old new n e =
     ∙ ap (λ (ns : List ℕ). reverse ns) (map-append (λ (m : NodeNo). m.0) new (n ∷ []))
     ∙ reverse-append (numbers_of new) (n.0 ∷ [])
 
-reverse_of_pushed : (old new : List NodeNo) (ns : List ℕ) → numbers_of new ≡ numbers_of old ++ reverse ns → reverse (numbers_of new) ≡ ns ++ reverse (numbers_of old)
+reverse_of_pushed : (old new : List NodeNo) (ns : List ℕ) → numbers_of new ≡ numbers_of old ++ reverse ns
+    → reverse (numbers_of new) ≡ ns ++ reverse (numbers_of old)
 reverse_of_pushed old new ns e =
     ap (λ (ms : List ℕ). reverse ms) e
     ∙ reverse-append (numbers_of old) (reverse ns)
@@ -81,7 +86,8 @@ reverse_of_pushed old new ns e =
 abbrev pub at_node : List Shape → ℕ → Shape
 at_node ss n = get_or ss n (number (pos 0))
 
-pub variables_of_node : (ss : List Shape) (n : ℕ) → AllFall 0 ss → n < length ss → variables_of (node_term ss n) ≡ map unframed (leaves_in (at_node ss n)) ++ variables_at ss (arguments_in (at_node ss n))
+pub variables_of_node : (ss : List Shape) (n : ℕ) → AllFall 0 ss → n < length ss
+    → variables_of (node_term ss n) ≡ map unframed (leaves_in (at_node ss n)) ++ variables_at ss (arguments_in (at_node ss n))
 variables_of_node ss n fall lt = ap variables_of (node_term_whole ss n (number (pos 0)) fall lt) ∙ variables_of_shape ss (at_node ss n)
 
 size_of_node : (ss : List Shape) (n : ℕ) → AllFall 0 ss → n < length ss → size (node_term ss n) ≡ suc (parts_at ss (arguments_in (at_node ss n)))
@@ -91,7 +97,8 @@ pub starts : (ss : List Shape) (n : NodeNo) (stack : List NodeNo) → stack ≡ 
 starts ss n stack e lt = rw e (record { variables = append-nil (variables_of (node_term ss n.0)); below = (lt, tt) })
 
 pub ends : (ss : List Shape) (found : List ℕ) (stack : List NodeNo) (vs : List (Path × ℕ)) → Walks ss found stack vs → stack ≡ [] → map unframed found ≡ vs
-ends ss found stack vs w e = sym (append-nil (map unframed found)) ∙ ap (λ (ns : List NodeNo). map unframed found ++ variables_at ss (reverse (numbers_of ns))) (sym e) ∙ w.variables
+ends ss found stack vs w e = sym (append-nil (map unframed found))
+    ∙ ap (λ (ns : List NodeNo). map unframed found ++ variables_at ss (reverse (numbers_of ns))) (sym e) ∙ w.variables
 
 -- One node came off, and its arguments went on, or it was a variable that is found.
 pub record Goes (ss : List Shape) (found after : List ℕ) (stack left : List NodeNo) (n : NodeNo) (popped : List NodeNo) : Type 0 where
@@ -99,7 +106,8 @@ pub record Goes (ss : List Shape) (found after : List ℕ) (stack left : List No
   pub found_is : after ≡ found ++ leaves_in (at_node ss n.0)
   pub left_is : numbers_of left ≡ numbers_of popped ++ reverse (arguments_in (at_node ss n.0))
 
-pub below_top : (ss : List Shape) (found : List ℕ) (stack popped : List NodeNo) (vs : List (Path × ℕ)) (n : NodeNo) → Walks ss found stack vs → stack ≡ popped ++ n ∷ [] → n.0 < length ss
+pub below_top : (ss : List Shape) (found : List ℕ) (stack popped : List NodeNo) (vs : List (Path × ℕ)) (n : NodeNo) → Walks ss found stack vs
+    → stack ≡ popped ++ n ∷ [] → n.0 < length ss
 below_top ss found stack popped vs n w e = (subst (λ (ns : List ℕ). AllBelow (length ss) ns) (reverse_of_popped stack popped n e) w.below).0
 
 pub goes_on : (ss : List Shape) (found after : List ℕ) (stack left : List NodeNo) (n : NodeNo) (popped : List NodeNo) (vs : List (Path × ℕ))
@@ -118,7 +126,8 @@ goes_on ss found after stack left n popped vs fall w g =
           ∙ ap (λ (ks : List ℕ). map unframed ks ++ (variables_at ss (arguments_in s) ++ variables_at ss rest)) g.found_is
           ∙ ap (λ (us : List (Path × ℕ)). us ++ (variables_at ss (arguments_in s) ++ variables_at ss rest)) (map-append unframed found (leaves_in s))
           ∙ append_assoc (map unframed found) (map unframed (leaves_in s)) (variables_at ss (arguments_in s) ++ variables_at ss rest)
-          ∙ ap (λ (us : List (Path × ℕ)). map unframed found ++ us) (sym (append_assoc (map unframed (leaves_in s)) (variables_at ss (arguments_in s)) (variables_at ss rest)))
+          ∙ ap (λ (us : List (Path × ℕ)). map unframed found ++ us)
+          (sym (append_assoc (map unframed (leaves_in s)) (variables_at ss (arguments_in s)) (variables_at ss rest)))
           ∙ ap (λ (us : List (Path × ℕ)). map unframed found ++ (us ++ variables_at ss rest)) (sym (variables_of_node ss n.0 fall both.0))
           ∙ ap (λ (ns : List ℕ). map unframed found ++ variables_at ss ns) (sym top)
           ∙ w.variables;
@@ -127,14 +136,16 @@ goes_on ss found after stack left n popped vs fall w g =
     }
 
 pub fewer : (ss : List Shape) (found after : List ℕ) (stack left : List NodeNo) (n : NodeNo) (popped : List NodeNo) (vs : List (Path × ℕ))
-    → AllFall 0 ss → Walks ss found stack vs → Goes ss found after stack left n popped → parts_at ss (reverse (numbers_of left)) < parts_at ss (reverse (numbers_of stack))
+    → AllFall 0 ss → Walks ss found stack vs → Goes ss found after stack left n popped
+    → parts_at ss (reverse (numbers_of left)) < parts_at ss (reverse (numbers_of stack))
 fewer ss found after stack left n popped vs fall w g =
     let s : Shape = at_node ss n.0 in
     let rest : List ℕ = reverse (numbers_of popped) in
     let lt = below_top ss found stack popped vs n w g.popped_is in
     let new : parts_at ss (reverse (numbers_of left)) ≡ parts_at ss (arguments_in s) + parts_at ss rest =
     ap (λ (ns : List ℕ). parts_at ss ns) (reverse_of_pushed popped left (arguments_in s) g.left_is) ∙ parts_at-append ss (arguments_in s) rest in
-    let old : parts_at ss (reverse (numbers_of stack)) ≡ size (node_term ss n.0) + parts_at ss rest = ap (λ (ns : List ℕ). parts_at ss ns) (reverse_of_popped stack popped n g.popped_is) in
+    let old : parts_at ss (reverse (numbers_of stack)) ≡ size (node_term ss n.0) + parts_at ss rest =
+    ap (λ (ns : List ℕ). parts_at ss ns) (reverse_of_popped stack popped n g.popped_is) in
     let one : size (node_term ss n.0) ≡ suc (parts_at ss (arguments_in s)) = size_of_node ss n.0 fall lt in
     omega arith
 
@@ -223,7 +234,8 @@ term_of_variable ss n k fall lt is = node_term_whole ss n (number (pos 0)) fall 
 pub term_of_number : (ss : List Shape) (n : ℕ) (z : ℤ) → AllFall 0 ss → n < length ss → Number z ≡ shown (at_node ss n) → node_term ss n ≡ Terms.number z
 term_of_number ss n z fall lt is = node_term_whole ss n (number (pos 0)) fall lt ∙ number_term (terms_behind [] ss) (at_node ss n) z is
 
-pub term_of_compound : (ss : List Shape) (n : ℕ) (c : NameNo) (count : ℕ) → AllFall 0 ss → n < length ss → Compound c count ≡ shown (at_node ss n) → IsCompound (node_term ss n)
+pub term_of_compound : (ss : List Shape) (n : ℕ) (c : NameNo) (count : ℕ) → AllFall 0 ss → n < length ss → Compound c count ≡ shown (at_node ss n)
+    → IsCompound (node_term ss n)
 term_of_compound ss n c count fall lt is =
     let there = compound_term (terms_behind [] ss) (at_node ss n) c count is in
     (there.0, there.1, node_term_whole ss n (number (pos 0)) fall lt ∙ there.2)
@@ -251,7 +263,8 @@ argument_there (Terms.number z) n = refl
 argument_there (Terms.compound c ts) n = refl
 
 -- each item of a body is there
-pub item_there : (ss : List Shape) (k : ℕ) (items : List ItemNode) (i : ℕ) (d : ItemNode) → AllThere ss k (map node_item items) → i < length items → (j : ℕ) × IsThere ss j (node_item (get_or items i d))
+pub item_there : (ss : List Shape) (k : ℕ) (items : List ItemNode) (i : ℕ) (d : ItemNode) → AllThere ss k (map node_item items) → i < length items
+    → (j : ℕ) × IsThere ss j (node_item (get_or items i d))
 item_there ss k [] i d there lt = absurd (omega arith)
 item_there ss k (item ∷ items) zero d there lt = (k, there.0)
 item_there ss k (item ∷ items) (suc i) d there lt = item_there ss (after k (node_item item)) items i d there.1 (omega arith)

@@ -2,7 +2,8 @@
 use Rattle.std.specs.Prelude.{ℕ, suc, ◌<◌, ◌≡◌, Bool, true, false, ◌&&◌, cond, nat_eq, List, [], ◌∷◌, ◌++◌}
 use Rattle.and_model.specs.Terms.{Term, Terms, none, more}
 use Rattle.and_model.specs.Programs.{Clause, Item, call, equal, arithmetic, fail}
-use Rattle.and_modes.specs.Modes.{rank, Assignment, Environment, level_in, name_of, arguments_of, count_of, at_entry, after_item, after_items, IsAtLeast}
+use Rattle.and_modes.specs.Modes.{rank, Assignment, Environment, level_in, name_of, arguments_of, count_of, at_entry}
+use Rattle.and_modes.specs.Modes.{after_item, after_items, IsAtLeast}
 use Rattle.and_modes.specs.declared.level.Level.{Level}
 use Rattle.and_modes.specs.declared.level.Side.{Side}
 use Rattle.and_modes.specs.declared.level.Side.TheVariants.{Called, Succeeded}
@@ -12,7 +13,11 @@ use Rattle.and_modes.specs.declared.demands.Demand.{Demand}
 abbrev pub asked_by : Environment → (name count : ℕ) → Side → ℕ → Terms → List Demand
 asked_by e name count side i none = []
 asked_by e name count side i (more t ts) =
-    record { place = record { name = record { 0 = name }; arity = count; number = i }; side = side; level = level_in e t } ∷ asked_by e name count side (suc i) ts
+    record {
+      place = record { name = record { 0 = name }; arity = count; number = i };
+      side = side;
+      level = level_in e t;
+    } ∷ asked_by e name count side (suc i) ts
 
 -- of a goal or a head
 abbrev pub asked_of : Environment → Side → Term → List Demand
@@ -45,7 +50,8 @@ AllMet m (d ∷ ds) = IsAtLeast d.level (level_asked m d) × AllMet m ds
 
 -- the one assignment is at or above the other at every place
 abbrev pub IsAtOrAbove : (high low : Assignment) → Type 0
-IsAtOrAbove high low = (name count place : ℕ) (side : Side) → IsAtLeast (high name count place side) (low name count place side)
+IsAtOrAbove high low = (name count place : ℕ) (side : Side)
+    → IsAtLeast (high name count place side) (low name count place side)
 
 abbrev pub same_side : Side → Side → Bool
 same_side Called Called = true
@@ -55,10 +61,12 @@ same_side Succeeded Succeeded = true
 
 -- the place of which a demand speaks
 abbrev pub is_asked : Demand → (name count place : ℕ) → Side → Bool
-is_asked d name count place side = (nat_eq d.place.name.0 name && (nat_eq d.place.arity count && nat_eq d.place.number place)) && same_side d.side side
+is_asked d name count place side =
+    (nat_eq d.place.name.0 name && (nat_eq d.place.arity count && nat_eq d.place.number place)) && same_side d.side side
 
 -- The place falls to the level of the demand, and no other level changes.
 abbrev pub Lowers : Demand → (old new : Assignment) → Type 0
 Lowers d old new =
     (rank d.level < rank (level_asked old d))
-    × ((name count place : ℕ) (side : Side) → new name count place side ≡ cond (is_asked d name count place side) d.level (old name count place side))
+    × ((name count place : ℕ) (side : Side) → new name count place side
+    ≡ cond (is_asked d name count place side) d.level (old name count place side))

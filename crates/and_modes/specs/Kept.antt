@@ -23,7 +23,8 @@ noted (Some l) = l
 
 -- the level that a map has for a place
 abbrev pub level_at : {S : Type 0} → HashMap Place Level S → (name count place : ℕ) → Level
-level_at fallen name count place = noted (get same_place fallen (record { name = record { 0 = name }; arity = count; number = place }))
+level_at fallen name count place =
+    noted (get same_place fallen (record { name = record { 0 = name }; arity = count; number = place }))
 
 abbrev pub assignment_of : Modes → Assignment
 assignment_of modes name count place Called = level_at modes.called name count place

@@ -1,4 +1,5 @@
--- What is known of the arguments of a program's calls: whether they are ground, or integers (modes: Dembinski and Maluszynski, 1985; well-moded programs: Apt, 1997).
+-- What is known of the arguments of a program's calls: whether they are ground, or integers (modes: Dembinski and
+-- Maluszynski, 1985; well-moded programs: Apt, 1997).
 use Rattle.std.specs.Prelude.{ℕ, suc, ◌≡◌, ◌<◌, ◌≤◌, ◌⊎◌, Bool, true, ◌&&◌, cond, nat_eq, leb}
 use Rattle.std.specs.Prelude.{List, [], ◌∷◌, length, map, take, get_or, Contains}
 use Rattle.std.specs.List.{position_or_len}
@@ -23,7 +24,8 @@ IsAtLeast high low = rank low ≤ rank high
 abbrev pub higher : Level → Level → Level
 higher l k = cond (leb (rank l) (rank k)) k l
 
--- An assignment gives a level to each argument place of each predicate (by its name and number of arguments), when it is called and when the call has succeeded.
+-- An assignment gives a level to each argument place of each predicate (by its name and number of arguments), when it
+-- is called and when the call has succeeded.
 abbrev pub Assignment : Type 0
 Assignment = (name count place : ℕ) → Side → Level
 
@@ -48,7 +50,8 @@ level_in e (variable q k) = e k
 level_in e (number z) = Integer
 level_in e (compound c ts) = cond (are_ground_in e ts) Ground Any
 
--- The level to which a term's variables are raised, where the term is raised to a level: only a term that is a variable becomes an integer.
+-- The level to which a term's variables are raised, where the term is raised to a level: only a term that is a
+-- variable becomes an integer.
 abbrev pub level_within : Term → Level → Level
 level_within t Any = Any
 level_within t Ground = Ground
@@ -107,7 +110,8 @@ after_items m e (item ∷ items) = after_items m (after_item m e item) items
 -- Each argument of each call has, before its item, at least its level of a call.
 abbrev pub CallsHaveLevels : Assignment → Environment → List Item → Type 0
 CallsHaveLevels m e [] = Unit {0}
-CallsHaveLevels m e (call g ∷ items) = HaveLevels e (levels_of m g Called) 0 (arguments_of g) × CallsHaveLevels m (after_item m e (call g)) items
+CallsHaveLevels m e (call g ∷ items) = HaveLevels e (levels_of m g Called) 0 (arguments_of g)
+    × CallsHaveLevels m (after_item m e (call g)) items
 CallsHaveLevels m e (equal a b ∷ items) = CallsHaveLevels m (after_item m e (equal a b)) items
 CallsHaveLevels m e (arithmetic a ∷ items) = CallsHaveLevels m (after_item m e (arithmetic a)) items
 CallsHaveLevels m e (fail ∷ items) = CallsHaveLevels m (after_item m e fail) items
@@ -124,11 +128,13 @@ WellModed P m = (c : ℕ) → c ≤ length P.clauses → IsWellModed m (clause_a
 
 -- the predicate has a clause, and the argument place
 abbrev pub HasPlace : Program → (name count place : ℕ) → Type 0
-HasPlace P name count place = (k : Clause) × Contains P.clauses k × (name_of k.head ≡ name) × (count_of (arguments_of k.head) ≡ count) × (place < count)
+HasPlace P name count place = (k : Clause) × Contains P.clauses k × (name_of k.head ≡ name)
+    × (count_of (arguments_of k.head) ≡ count) × (place < count)
 
 -- the one assignment is above the other or equal to it, in each place of the program's predicates
 abbrev pub IsAbove : Program → (high low : Assignment) → Type 0
-IsAbove P high low = (name count place : ℕ) (side : Side) → HasPlace P name count place → IsAtLeast (high name count place side) (low name count place side)
+IsAbove P high low = (name count place : ℕ) (side : Side) → HasPlace P name count place
+    → IsAtLeast (high name count place side) (low name count place side)
 
 -- well-moded, and above all others that are
 abbrev pub Greatest : Program → Assignment → Type 0
@@ -157,7 +163,8 @@ before_item P m c i = after_items m (at_entry m (clause_at P c)) (take i (clause
 -- An arithmetic goal waits for the variable, whose level before the goal is the lowest.
 abbrev pub WaitsFor : Program → Assignment → Wait → Type 0
 WaitsFor P m w =
-    (w.clause ≤ length P.clauses) × Contains (waited_at P w.clause w.item) w.variable × (before_item P m w.clause w.item w.variable ≡ Any)
+    (w.clause ≤ length P.clauses) × Contains (waited_at P w.clause w.item) w.variable
+    × (before_item P m w.clause w.item w.variable ≡ Any)
 
 -- the number of a clause, and for the query one above all
 abbrev pub query_last : Program → ℕ → ℕ
@@ -167,7 +174,8 @@ query_last P c = cond (nat_eq c 0) (suc (length P.clauses)) c
 abbrev pub place_waited : Program → Wait → ℕ
 place_waited P w = position_or_len (nat_eq w.variable) (waited_at P w.clause w.item)
 
--- The one is earlier in the text than the other: by the clause's line, on one line by its number with the query last, then by the item, then from left to right.
+-- The one is earlier in the text than the other: by the clause's line, on one line by its number with the query last,
+-- then by the item, then from left to right.
 abbrev pub IsEarlier : Program → Wait → Wait → Type 0
 IsEarlier P w v =
     ((clause_at P w.clause).line < (clause_at P v.clause).line)

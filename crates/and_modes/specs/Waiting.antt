@@ -1,5 +1,6 @@
 -- What a verdict says of the clauses that were seen so far.
-use Rattle.std.specs.Prelude.{ℕ, ◌≤◌, ◌≡◌, ◌⊎◌, Bool, true, false, leb, cond, length, List, [], ◌∷◌, map, Option, Some, None}
+use Rattle.std.specs.Prelude.{ℕ, ◌≤◌, ◌≡◌, ◌⊎◌, Bool, true, false, leb, cond, length, List, [], ◌∷◌, map, Option}
+use Rattle.std.specs.Prelude.{Some, None}
 use Rattle.and_model.specs.Terms.{Path, Term, variables_of}
 use Rattle.and_model.specs.Programs.{Program, clause_at}
 use Rattle.and_modes.specs.Modes.{rank, Assignment, Environment, Wait, WaitsFor, IsEarlier}
@@ -24,7 +25,8 @@ abbrev pub IsVerdictAmong : Program → Assignment → (seen : ℕ → Bool) →
 IsVerdictAmong P m seen Safe = (v : Wait) → seen v.clause ≡ true → WaitsFor P m v → ⊥
 IsVerdictAmong P m seen (Waits clause item variable) =
     let w : Wait = record { clause = clause.0; item = item; variable = variable } in
-    (seen clause.0 ≡ true) × WaitsFor P m w × ((v : Wait) → seen v.clause ≡ true → WaitsFor P m v → (v ≡ w) ⊎ IsEarlier P w v)
+    (seen clause.0 ≡ true) × WaitsFor P m w
+    × ((v : Wait) → seen v.clause ≡ true → WaitsFor P m v → (v ≡ w) ⊎ IsEarlier P w v)
 
 -- the clause that is told is there
 abbrev pub IsTold : Program → Verdict → Type 0

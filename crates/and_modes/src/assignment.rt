@@ -59,7 +59,8 @@ impl Modes {
     /// Lowers a place to the level that a demand has for it, and tells whether it was above.
     pub(crate) fn lower(&mut self, demand: Demand) -> Result<bool, AllocError>
         ensures met { result ≡ Ok false
-            → (assignment_of self.new ≡ assignment_of self.old) × IsAtLeast demand.level (level_asked (assignment_of self.old) demand) }
+            → (assignment_of self.new ≡ assignment_of self.old)
+            × IsAtLeast demand.level (level_asked (assignment_of self.old) demand) }
         ensures fell { result ≡ Ok true → Lowers demand (assignment_of self.old) (assignment_of self.new) }
         ensures named { IsNamed demand.place }
     {

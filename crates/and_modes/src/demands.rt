@@ -33,7 +33,8 @@ pub(crate) fn demands_in(
     no: ClauseNo,
 ) -> Result<Vec<Demand>, AllocError>
     requires { no.0 ≤ length (program_of loaded.now).clauses }
-    ensures { IfOk result (λ demands. demands.items ≡ asked_in (assignment_of modes.now) (clause_at (program_of loaded.now) no.0)) }
+    ensures { IfOk result (λ demands. demands.items
+        ≡ asked_in (assignment_of modes.now) (clause_at (program_of loaded.now) no.0)) }
 {
     let head = loaded.head(no);
     let mut known = Known::nothing();
@@ -57,7 +58,8 @@ pub(crate) fn ask_by_item(
 ) -> Result<(), AllocError>
     requires { (k : ℕ) × IsThere (skeleton_of loaded.now).nodes k (node_item item) }
     ensures { OnOk result (demands.new.items
-        ≡ demands.old.items ++ asked_by_item (environment known.now.levels) (item_of (skeleton_of loaded.now).nodes (node_item item))) }
+        ≡ demands.old.items ++ asked_by_item (environment known.now.levels)
+        (item_of (skeleton_of loaded.now).nodes (node_item item))) }
 {
     match item {
         ItemNode::Call { goal } => ask(alloc, loaded, known, goal, Side::Called, demands),
@@ -87,7 +89,8 @@ pub(crate) fn ask(
 ) -> Result<(), AllocError>
     requires { goal.0 < length (skeleton_of loaded.now).nodes }
     ensures { OnOk result (demands.new.items
-        ≡ demands.old.items ++ asked_of (environment known.now.levels) side (node_term (skeleton_of loaded.now).nodes goal.0)) }
+        ≡ demands.old.items ++ asked_of (environment known.now.levels) side
+        (node_term (skeleton_of loaded.now).nodes goal.0)) }
 {
     let Functor { name, count } = functor_of(loaded, goal);
     for number in 0..count {

@@ -44,7 +44,8 @@ fn settle(
     modes: &mut Modes,
     work: &mut WorkList,
 ) -> Result<(), AllocError>
-    ensures above { result ≡ Ok tt → StaysAbove (program_of loaded.now) (assignment_of modes.old) (assignment_of modes.new) }
+    ensures above { result ≡ Ok tt
+        → StaysAbove (program_of loaded.now) (assignment_of modes.old) (assignment_of modes.new) }
     ensures lower { result ≡ Ok tt → height (assignment_of modes.new) ≤ height (assignment_of modes.old) }
 {
     while look_at_long(alloc, loaded, callers, modes, work)? {}
@@ -62,7 +63,8 @@ fn look_at_long(
 ) -> Result<bool, AllocError>
     ensures above { (fell : Bool) → result ≡ Ok fell
         → StaysAbove (program_of loaded.now) (assignment_of modes.old) (assignment_of modes.new) }
-    ensures at_most { (fell : Bool) → result ≡ Ok fell → height (assignment_of modes.new) ≤ height (assignment_of modes.old) }
+    ensures at_most { (fell : Bool) → result ≡ Ok fell
+        → height (assignment_of modes.new) ≤ height (assignment_of modes.old) }
     ensures lower { result ≡ Ok true → height (assignment_of modes.new) < height (assignment_of modes.old) }
 {
     settle_short(alloc, loaded, callers, modes, work)?;
@@ -140,7 +142,8 @@ fn look_at_item(
     requires { (k : ℕ) × IsThere (skeleton_of loaded.now).nodes k (node_item item) }
     ensures { (fell : Bool) → result ≡ Ok fell
         → ((other : Assignment) → WellModed (program_of loaded.now) other
-        → AllMet other (asked_by_item (environment known.now.levels) (item_of (skeleton_of loaded.now).nodes (node_item item)))
+        → AllMet other (asked_by_item (environment known.now.levels)
+        (item_of (skeleton_of loaded.now).nodes (node_item item)))
         → IsAtOrAbove (assignment_of modes.old) other → IsAtOrAbove (assignment_of modes.new) other)
         × FellOr fell (assignment_of modes.old) (assignment_of modes.new) (Unit {0}) }
 {
@@ -161,7 +164,8 @@ fn settle_short(
     modes: &mut Modes,
     work: &mut WorkList,
 ) -> Result<(), AllocError>
-    ensures above { result ≡ Ok tt → StaysAbove (program_of loaded.now) (assignment_of modes.old) (assignment_of modes.new) }
+    ensures above { result ≡ Ok tt
+        → StaysAbove (program_of loaded.now) (assignment_of modes.old) (assignment_of modes.new) }
     ensures lower { result ≡ Ok tt → height (assignment_of modes.new) ≤ height (assignment_of modes.old) }
 {
     while look_again(alloc, loaded, callers, modes, work)? {}
@@ -178,7 +182,8 @@ fn look_at_all(
 ) -> Result<bool, AllocError>
     ensures { (fell : Bool) → result ≡ Ok fell
         → StaysAbove (program_of loaded.now) (assignment_of modes.old) (assignment_of modes.new)
-        × FellOr fell (assignment_of modes.old) (assignment_of modes.new) (WellModed (program_of loaded.now) (assignment_of modes.new)) }
+        × FellOr fell (assignment_of modes.old) (assignment_of modes.new)
+        (WellModed (program_of loaded.now) (assignment_of modes.new)) }
 {
     let mut fell = false;
     for number in 0..loaded.clause_count() + 1 {
@@ -224,7 +229,8 @@ fn look(
     requires { no.0 ≤ length (program_of loaded.now).clauses }
     ensures { (fell : Bool) → result ≡ Ok fell
         → StaysAbove (program_of loaded.now) (assignment_of modes.old) (assignment_of modes.new)
-        × FellOr fell (assignment_of modes.old) (assignment_of modes.new) (IsWellModed (assignment_of modes.new) (clause_at (program_of loaded.now) no.0)) }
+        × FellOr fell (assignment_of modes.old) (assignment_of modes.new)
+        (IsWellModed (assignment_of modes.new) (clause_at (program_of loaded.now) no.0)) }
 {
     let demands = demands_in(alloc, loaded, modes, no)?;
     lower_all(loaded, callers, modes, work, &demands)
@@ -239,8 +245,10 @@ fn lower_all(
     demands: &[Demand],
 ) -> Result<bool, AllocError>
     ensures { (fell : Bool) → result ≡ Ok fell
-        → ((other : Assignment) → AllMet other demands.now → IsAtOrAbove (assignment_of modes.old) other → IsAtOrAbove (assignment_of modes.new) other)
-        × FellOr fell (assignment_of modes.old) (assignment_of modes.new) (AllMet (assignment_of modes.new) demands.now) }
+        → ((other : Assignment) → AllMet other demands.now → IsAtOrAbove (assignment_of modes.old) other
+        → IsAtOrAbove (assignment_of modes.new) other)
+        × FellOr fell (assignment_of modes.old) (assignment_of modes.new)
+        (AllMet (assignment_of modes.new) demands.now) }
 {
     let mut fell = false;
     for demand in demands {

@@ -5,7 +5,8 @@ ghost use Rattle.and_model.specs.Terms.{Terms, compound};
 ghost use Rattle.and_program.specs.Loaded.{skeleton_of, arguments_at};
 ghost use Rattle.and_program.specs.Skeletons.{node_term, item_of, IsThere};
 ghost use Rattle.and_program.specs.Items.{node_item};
-ghost use Rattle.and_modes.specs.Modes.{level_in, level_within, raised, all_raised, levels_of, name_of, arguments_of, count_of, after_item};
+ghost use Rattle.and_modes.specs.Modes.{level_in, level_within, raised, all_raised, levels_of, name_of, arguments_of};
+ghost use Rattle.and_modes.specs.Modes.{count_of, after_item};
 ghost use Rattle.and_modes.specs.Kept.{assignment_of};
 ghost use Rattle.and_modes.specs.Known.{environment, raised_at, all_raised_at, are_ground_at, after_equal, after_is};
 ghost use Rattle.and_modes.specs.declared.level.Level.TheVariants.{Any, Ground};
@@ -75,7 +76,8 @@ impl Known {
         node: NodeNo,
     ) -> Result<Level, AllocError>
         requires { node.0 < length (skeleton_of loaded.now).nodes }
-        ensures { IfOk result (λ l. l ≡ level_in (environment self.now.levels) (node_term (skeleton_of loaded.now).nodes node.0)) }
+        ensures { IfOk result (λ l. l ≡ level_in (environment self.now.levels)
+            (node_term (skeleton_of loaded.now).nodes node.0)) }
     {
         match loaded.kind(node) {
             NodeKind::Variable(number) => Ok(self.of_variable(number)),
@@ -154,7 +156,8 @@ impl Known {
     ) -> Result<(), AllocError>
         requires { goal.0 < length (skeleton_of loaded.now).nodes }
         ensures { OnOk result (let term = node_term (skeleton_of loaded.now).nodes goal.0 in
-            environment self.new.levels ≡ all_raised (environment self.old.levels) (levels_of (assignment_of modes.now) term side) 0 (arguments_of term)) }
+            environment self.new.levels ≡ all_raised (environment self.old.levels)
+            (levels_of (assignment_of modes.now) term side) 0 (arguments_of term)) }
     {
         let Functor { name, count } = functor_of(loaded, goal);
         for place in 0..count {
@@ -174,7 +177,8 @@ impl Known {
     ) -> Result<(), AllocError>
         requires { (k : ℕ) × IsThere (skeleton_of loaded.now).nodes k (node_item item) }
         ensures { OnOk result (environment self.new.levels
-            ≡ after_item (assignment_of modes.now) (environment self.old.levels) (item_of (skeleton_of loaded.now).nodes (node_item item))) }
+            ≡ after_item (assignment_of modes.now) (environment self.old.levels)
+            (item_of (skeleton_of loaded.now).nodes (node_item item))) }
     {
         match item {
             ItemNode::Call { goal } => {
@@ -206,7 +210,8 @@ impl Known {
         requires left { left.0 < length (skeleton_of loaded.now).nodes }
         requires right { right.0 < length (skeleton_of loaded.now).nodes }
         ensures { OnOk result (environment self.new.levels
-            ≡ after_equal (environment self.old.levels) (node_term (skeleton_of loaded.now).nodes left.0) (node_term (skeleton_of loaded.now).nodes right.0)) }
+            ≡ after_equal (environment self.old.levels) (node_term (skeleton_of loaded.now).nodes left.0)
+            (node_term (skeleton_of loaded.now).nodes right.0)) }
     {
         let on_left = self.level(alloc, loaded, left)?;
         let on_right = self.level(alloc, loaded, right)?;
@@ -225,7 +230,8 @@ impl Known {
         requires left { left.0 < length (skeleton_of loaded.now).nodes }
         requires right { right.0 < length (skeleton_of loaded.now).nodes }
         ensures { OnOk result (environment self.new.levels
-            ≡ after_is (environment self.old.levels) (node_term (skeleton_of loaded.now).nodes left.0) (node_term (skeleton_of loaded.now).nodes right.0)) }
+            ≡ after_is (environment self.old.levels) (node_term (skeleton_of loaded.now).nodes left.0)
+            (node_term (skeleton_of loaded.now).nodes right.0)) }
     {
         if is_at_least(self.level(alloc, loaded, right)?, Level::Ground) {
             self.raise(alloc, loaded, left, Level::Integer)?;

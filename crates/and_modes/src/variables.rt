@@ -13,7 +13,8 @@ use std::alloc::{AllocError, Global};
 /// The occurrences of variables in the term of a node, from left to right. An error is want of memory.
 pub(crate) fn variables(alloc: Global, loaded: &Loaded, node: NodeNo) -> Result<Vec<u8>, AllocError>
     requires { node.0 < length (skeleton_of loaded.now).nodes }
-    ensures { IfOk result (λ found. map unframed found.items ≡ variables_of (node_term (skeleton_of loaded.now).nodes node.0)) }
+    ensures { IfOk result (λ found. map unframed found.items
+        ≡ variables_of (node_term (skeleton_of loaded.now).nodes node.0)) }
 {
     let mut found = Vec::new(alloc);
     let mut left = Vec::new(alloc);
@@ -39,7 +40,8 @@ fn push_arguments(
 ) -> Result<(), AllocError>
     requires there { node.0 < length (skeleton_of loaded.now).nodes }
     requires count { count ≡ length (arguments_at (skeleton_of loaded.now) node.0) }
-    ensures { OnOk result (numbers_of stack.new.items ≡ numbers_of stack.old.items ++ reverse (arguments_at (skeleton_of loaded.now) node.0)) }
+    ensures { OnOk result (numbers_of stack.new.items
+        ≡ numbers_of stack.old.items ++ reverse (arguments_at (skeleton_of loaded.now) node.0)) }
 {
     let mut place = count;
     while place > 0 {

@@ -24,7 +24,8 @@ use std::alloc::{AllocError, Global};
 /// item, and then from left to right. An error is want of memory.
 pub fn verdict(alloc: Global, loaded: &Loaded, modes: &Modes) -> Result<Verdict, AllocError>
     ensures safe { IfOk result (λ v. v ≡ Safe ↔ IsSafe (program_of loaded.now) (assignment_of modes.now)) }
-    ensures waits { IfOk result (λ v. (w : Wait) → v ≡ told w ↔ WaitsFirst (program_of loaded.now) (assignment_of modes.now) w) }
+    ensures waits { IfOk result (λ v. (w : Wait)
+        → v ≡ told w ↔ WaitsFirst (program_of loaded.now) (assignment_of modes.now) w) }
 {
     let mut found = Verdict::Safe;
     for number in 1..loaded.clause_count() + 1 {
@@ -43,7 +44,8 @@ fn and_clause(
 ) -> Result<Verdict, AllocError>
     requires there { no.0 ≤ length (program_of loaded.now).clauses }
     requires told { IsTold (program_of loaded.now) found }
-    ensures { IfOk result (λ v. (seen : ℕ → Bool) → IsVerdictAmong (program_of loaded.now) (assignment_of modes.now) seen found
+    ensures { IfOk result (λ v. (seen : ℕ → Bool)
+        → IsVerdictAmong (program_of loaded.now) (assignment_of modes.now) seen found
         → ((c : ℕ) → seen c ≡ true → query_last (program_of loaded.now) c < query_last (program_of loaded.now) no.0)
         → IsVerdictAmong (program_of loaded.now) (assignment_of modes.now) (λ c. seen c || nat_eq c no.0) v) }
 {
@@ -85,7 +87,8 @@ fn in_clause(
     no: ClauseNo,
 ) -> Result<Verdict, AllocError>
     requires { no.0 ≤ length (program_of loaded.now).clauses }
-    ensures { IfOk result (λ v. IsVerdictAmong (program_of loaded.now) (assignment_of modes.now) (λ c. nat_eq c no.0) v) }
+    ensures { IfOk result (λ v. IsVerdictAmong (program_of loaded.now) (assignment_of modes.now)
+        (λ c. nat_eq c no.0) v) }
 {
     let mut known = Known::nothing();
     known.raise_arguments(alloc, loaded, modes, loaded.head(no), Side::Called)?;
@@ -150,7 +153,8 @@ fn first_in_two(
     requires left { left.0 < length (skeleton_of loaded.now).nodes }
     requires right { right.0 < length (skeleton_of loaded.now).nodes }
     ensures { IfOk result (λ v. v ≡ first_unknown (environment known.now.levels)
-        (numbers_in (node_term (skeleton_of loaded.now).nodes left.0) ++ numbers_in (node_term (skeleton_of loaded.now).nodes right.0))) }
+        (numbers_in (node_term (skeleton_of loaded.now).nodes left.0)
+        ++ numbers_in (node_term (skeleton_of loaded.now).nodes right.0))) }
 {
     match first_in(alloc, loaded, known, left)? {
         Some(variable) => Ok(Some(variable)),

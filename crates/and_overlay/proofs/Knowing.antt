@@ -1,5 +1,6 @@
 -- What an overlay knows, and that it is coherent.
-use Rattle.std.proofs.Common.{ℕ, ◌≡◌, ◌≢◌, ◌+◌, ◌<◌, ◌⊎◌, inl, inr, true, false, List, [], ◌∷◌, ◌++◌, map, length, replicate, refl, sym, ap, subst, ◌∙◌, Some, None}
+use Rattle.std.proofs.Common.{ℕ, ◌≡◌, ◌≢◌, ◌+◌, ◌<◌, ◌⊎◌, inl, inr, true, false, List, [], ◌∷◌, ◌++◌, map, length, replicate, refl, sym, ap, subst, ◌∙◌, Some}
+use Rattle.std.proofs.Common.{None}
 use Rattle.std.specs.Prelude.{All, Contains, Option, IfSome}
 use Rattle.std.specs.Option.{option_map}
 use Rattle.std.proofs.lemmas.List.{length-append, length-replicate}
@@ -13,7 +14,8 @@ use Rattle.and_cells.proofs.Among.{among_cases, among_none, among_map, map_among
 use Rattle.and_overlay.proofs.Sifting.{distinct_first, distinct_rest}
 use Rattle.and_cells.proofs.Keeping.{word_in_front}
 use Rattle.and_overlay.specs.Overlaid.{Own, is_own, known_over, row_over, seen_over, AreLate, IsOver}
-use Rattle.and_overlay.proofs.Owned.{own_setting, settings, Has, own_or_not, own_has, length_row_over, row_other, row_own, known_from, known_own, known_below, known_once}
+use Rattle.and_overlay.proofs.Owned.{own_setting, settings, Has, own_or_not, own_has, length_row_over, row_other, row_own, known_from, known_own, known_below}
+use Rattle.and_overlay.proofs.Owned.{known_once}
 
 -- a row that is told has all its words
 whole_row : (s : Seen) → IsCoherent s → (row : List Ref) → s.told ≡ Some row → length row ≡ s.words

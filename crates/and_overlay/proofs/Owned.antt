@@ -1,5 +1,6 @@
 -- What an overlay set, and what it knows of the cells below.
-use Rattle.std.proofs.Common.{ℕ, ◌≡◌, ◌≢◌, ◌<◌, ◌⊎◌, inl, inr, Bool, true, false, cond, not, List, [], ◌∷◌, ◌++◌, map, length, set, take, drop, refl, sym, ap, subst, ◌∙◌, eq-eqb, ne_eqb, true≢false}
+use Rattle.std.proofs.Common.{ℕ, ◌≡◌, ◌≢◌, ◌<◌, ◌⊎◌, inl, inr, Bool, true, false, cond, not, List, [], ◌∷◌, ◌++◌, map, length, set, take, drop, refl, sym, ap}
+use Rattle.std.proofs.Common.{subst, ◌∙◌, eq-eqb, ne_eqb, true≢false}
 use Rattle.std.specs.Prelude.{All, Contains, filter}
 use Rattle.std.proofs.lemmas.Bool.{cases_eq}
 use Rattle.std.proofs.lemmas.List.{map-append, take-append-drop}
@@ -9,7 +10,8 @@ use Rattle.and_model.specs.Store.{Setting, Known, AreDistinct}
 use Rattle.and_model.specs.declared.reference.Ref.{Ref}
 use Rattle.and_cells.specs.Seen.{word_at}
 use Rattle.and_cells.proofs.Among.{among_first, among_more, among_cases, among_none, among_map, map_among}
-use Rattle.and_overlay.proofs.Sifting.{filter_among, among_filter, distinct_first, distinct_rest, distinct_cons, distinct_append, distinct_front, distinct_back, distinct_parts}
+use Rattle.and_overlay.proofs.Sifting.{filter_among, among_filter, distinct_first, distinct_rest, distinct_cons, distinct_append, distinct_front}
+use Rattle.and_overlay.proofs.Sifting.{distinct_back, distinct_parts}
 use Rattle.and_cells.proofs.Keeping.{word_set_here, word_set_other}
 use Rattle.and_overlay.specs.Overlaid.{Own, is_own, stands_in, own_known, not_own, known_over, row_over, AreLate}
 

@@ -1,5 +1,6 @@
 -- A setting that is kept over other cells.
-use Rattle.std.proofs.Common.{ℕ, suc, ◌≡◌, ◌≢◌, ◌+◌, ◌<◌, ◌⊎◌, inl, inr, true, false, List, [], ◌∷◌, ◌++◌, map, length, replicate, refl, sym, ap, subst, ◌∙◌, arith, Some, None, true≢false, ◌↔◌}
+use Rattle.std.proofs.Common.{ℕ, suc, ◌≡◌, ◌≢◌, ◌+◌, ◌<◌, ◌⊎◌, inl, inr, true, false, List, [], ◌∷◌, ◌++◌, map, length, replicate, refl, sym, ap, subst, ◌∙◌}
+use Rattle.std.proofs.Common.{arith, Some, None, true≢false, ◌↔◌}
 use Rattle.std.specs.Prelude.{All, Contains, Option, IfSome, slice_set}
 use Rattle.std.specs.Option.{option_map}
 use Rattle.std.proofs.lemmas.Bool.{cases_eq}
@@ -19,7 +20,8 @@ use Rattle.and_overlay.proofs.Stepping.{known_new}
 use Rattle.and_cells.proofs.Keeping.{word_in_front}
 
 -- an overlay in which nothing is set
-pub over_begun : (P : NamedProgram) (s : Seen) (frame : ℕ) (looked : List ℕ) → IsCoherent s → IsKnownFit P s → All (λ (place : ℕ). place < s.words) looked → IsOver P s frame [] looked
+pub over_begun : (P : NamedProgram) (s : Seen) (frame : ℕ) (looked : List ℕ) → IsCoherent s → IsKnownFit P s → All (λ (place : ℕ). place < s.words) looked
+    → IsOver P s frame [] looked
 over_begun P s frame looked coherent fit low =
     let apart : AreDistinct (map (λ (o : Own). o.place) []) = λ i j d before within. absurd (omega arith) in
     let set = All-nil (λ (o : Own). o.value ≢ Free) in

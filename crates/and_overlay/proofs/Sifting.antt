@@ -52,7 +52,8 @@ distinct_append (n ∷ ns) ms one two apart =
 pub distinct_front : (ns ms : List ℕ) → AreDistinct (ns ++ ms) → AreDistinct ns
 distinct_front [] ms apart = λ i j d before within. absurd (omega arith)
 distinct_front (n ∷ ns) ms apart =
-    distinct_cons n ns (λ m has. distinct_first n (ns ++ ms) apart m (Contains-append_left ns ms m has)) (distinct_front ns ms (distinct_rest n (ns ++ ms) apart))
+    distinct_cons n ns (λ m has. distinct_first n (ns ++ ms) apart m (Contains-append_left ns ms m has))
+    (distinct_front ns ms (distinct_rest n (ns ++ ms) apart))
 
 pub distinct_back : (ns ms : List ℕ) → AreDistinct (ns ++ ms) → AreDistinct ms
 distinct_back [] ms apart = apart

@@ -1,5 +1,6 @@
 -- What contracts see in cells over other cells, which keep to themselves what is set (this project's own).
-use Rattle.std.specs.Prelude.{ℕ, suc, ◌+◌, ◌<◌, ◌≡◌, ◌≢◌, ◌⊎◌, Bool, true, false, not, cond, List, [], ◌∷◌, ◌++◌, map, filter, length, take, drop, replicate, slice_set, nat_eq, All, Contains, ◌≤◌}
+use Rattle.std.specs.Prelude.{ℕ, suc, ◌+◌, ◌<◌, ◌≡◌, ◌≢◌, ◌⊎◌, Bool, true, false, not, cond, List, [], ◌∷◌, ◌++◌, map}
+use Rattle.std.specs.Prelude.{filter, length, take, drop, replicate, slice_set, nat_eq, All, Contains, ◌≤◌}
 use Rattle.std.specs.Option.{option_map}
 use Rattle.and_model.specs.Store.{Known, word, AreDistinct}
 use Rattle.and_model.specs.declared.reference.Ref.{Ref}
@@ -36,7 +37,8 @@ abbrev pub row_over : List Own → List Ref → List Ref
 row_over [] row = row
 row_over (o ∷ own) row = slice_set (row_over own row) o.place o.value
 
--- the cells below with a frame of so many words behind them, the overlay's settings, and the places that it found free below
+-- the cells below with a frame of so many words behind them, the overlay's settings, and the places that it found
+-- free below
 abbrev pub seen_over : Seen → (frame : ℕ) → List Own → (looked : List ℕ) → Seen
 seen_over s frame own looked = record {
   words = s.words + frame;
@@ -60,10 +62,12 @@ AreLate (o ∷ own) known =
 abbrev pub IsKnownFit : NamedProgram → Seen → Type 0
 IsKnownFit P s = (place : ℕ) (r : Ref) → Knows s place r → (place < s.words) × CanHold P s.words place r
 
--- Where a cell is set to a number and a word of the pair is not known, some cell below is known to be set to this number.
+-- Where a cell is set to a number and a word of the pair is not known, some cell below is known to be set to this
+-- number.
 abbrev pub AreWrittenBelow : Seen → (over : Seen) → List Own → Type 0
 AreWrittenBelow s over own =
-    (o : Own) → Contains own o → (pair place : ℕ) → o.value ≡ Number pair → (place ≡ pair) ⊎ (place ≡ suc pair) → IsUnknown over place
+    (o : Own) → Contains own o → (pair place : ℕ) → o.value ≡ Number pair → (place ≡ pair) ⊎ (place ≡ suc pair)
+    → IsUnknown over place
     → ((cell : ℕ) → Knows s cell (Number pair) → ⊥) → ⊥
 
 -- the place is on the list
@@ -85,12 +89,15 @@ pub record IsOver (P : NamedProgram) (s : Seen) (frame : ℕ) (own : List Own) (
   pub noted : All (λ (o : Own). o.place < s.words → stands_in looked o.place ≡ true) own
   pub coherent : IsCoherent (seen_over s frame own looked)
 
--- Of what was seen of a row there is more in a later one: all that was known is set in it so, and these places are free still.
+-- Of what was seen of a row there is more in a later one: all that was known is set in it so, and these places are
+-- free still.
 pub record GoesOn (s : Seen) (looked : List ℕ) (later : List Ref) : Type 0 where
   pub longer : s.words ≤ length later
   pub set : (place : ℕ) (r : Ref) → Knows s place r → IsSetTo later place r
   pub free : (place : ℕ) → Contains looked place → word_at later place ≡ Free
 
--- What a look told of a word: what it is known to be, or that it is free, which is noted of the places below so many words.
+-- What a look told of a word: what it is known to be, or that it is free, which is noted of the places below so many
+-- words.
 abbrev pub WasTold : Seen → (behind place : ℕ) → Ref → Type 0
-WasTold s behind place r = Knows s place r ⊎ ((r ≡ Free) × IsUnknown s place × (place < behind → Contains s.missed (word place)))
+WasTold s behind place r = Knows s place r
+    ⊎ ((r ≡ Free) × IsUnknown s place × (place < behind → Contains s.missed (word place)))

@@ -22,5 +22,6 @@ late_prop : (own : List Own) (known : List Known) → IsProp (AreLate own known)
 late_prop [] known = hlevel props
 late_prop (o ∷ own) known = let rest = late_prop own o.before in hlevel (props, known_set, rest)
 
-pub over_prop : (P : NamedProgram) (s : Seen) (frame : ℕ) (own : List Own) (looked : List ℕ) → IsProp (IsOver P s frame own looked)
+pub over_prop : (P : NamedProgram) (s : Seen) (frame : ℕ) (own : List Own) (looked : List ℕ)
+    → IsProp (IsOver P s frame own looked)
 over_prop P s frame own looked = hlevel (props, can_hold_prop, late_prop)

@@ -20,10 +20,13 @@ pub fn a_trial_goes_the_same_way()
         → (place : ℕ) (r : Ref) → WasTold (seen_over s frame own looked) (length later) place r
         → word_at (row_over own (later ++ replicate room Ref.Free)) place ≡ r }
     ensures set { (P : NamedProgram) (s : Seen) (frame room : ℕ) (own : List Own) (looked : List ℕ) (later : List Ref)
-        → IsOver P s frame own looked → GoesOn s looked later → (o : Own) → Contains own o → (o.place < length later → o.place < s.words)
+        → IsOver P s frame own looked → GoesOn s looked later → (o : Own) → Contains own o
+        → (o.place < length later → o.place < s.words)
         → word_at (later ++ replicate room Ref.Free) o.place ≡ Ref.Free }
-    ensures looks { (P : NamedProgram) (old new : Seen) (shared behind place : ℕ) (r : Ref) → (place < behind → place < shared)
-        → (r ≢ Ref.Free → Finds P place r old new) → (r ≡ Ref.Free → Misses shared place old new) → WasTold new behind place r }
+    ensures looks { (P : NamedProgram) (old new : Seen) (shared behind place : ℕ) (r : Ref)
+        → (place < behind → place < shared)
+        → (r ≢ Ref.Free → Finds P place r old new) → (r ≡ Ref.Free → Misses shared place old new)
+        → WasTold new behind place r }
     ensures earlier { (s z : Seen) (looked more : List ℕ) (later : List Ref)
         → OnlyReads s z → IsPrefix (map word looked) (map word more) → GoesOn z more later → GoesOn s looked later }
 {}

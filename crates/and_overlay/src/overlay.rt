@@ -4,7 +4,8 @@ ghost use Rattle.std.specs.Prelude.{◌≡◌, ◌≢◌, ◌<◌, ◌≤◌, �
 ghost use Rattle.and_model.specs.declared.reference.Ref.{Ref};
 ghost use Rattle.and_model.specs.Store.{AreDistinct, word};
 ghost use Rattle.and_cells.specs.Ranges.{CanHold, IsPairInRange};
-ghost use Rattle.and_cells.specs.Seen.{Knows, Finds, Misses, Sets, Fills, OnlyReads, Keeps, IsKnownWritten, IsWrittenIfNumber, word_at};
+ghost use Rattle.and_cells.specs.Seen.{Knows, Finds, Misses, Sets, Fills, OnlyReads, Keeps, IsKnownWritten};
+ghost use Rattle.and_cells.specs.Seen.{IsWrittenIfNumber, word_at};
 ghost use Rattle.and_overlay.specs.Overlaid.{IsOver, IsKnownFit, IsUnknown, seen_over};
 ghost use Rattle.and_overlay.specs.Settings.{own_in};
 ghost use Rattle.and_overlay.specs.Props.{over_prop};
@@ -29,7 +30,9 @@ pub struct Overlay<'a, C: Cells> {
     ghost words: { below ≡ (C.seen cells.now).words },
     ghost few: { below + frame < 2 ^ 32 },
     ghost room: { (below + frame ≤ scratch.now.places.room) × (below ≤ scratch.now.looked.room) },
-    ghost kept: { IsOver C.program (C.seen cells.now) frame (own_in C.seen scratch.now.settings.items) scratch.now.looked.listed } by { over_prop C.program (C.seen cells.now) frame (own_in C.seen scratch.now.settings.items) scratch.now.looked.listed },
+    ghost kept: { IsOver C.program (C.seen cells.now) frame (own_in C.seen scratch.now.settings.items)
+        scratch.now.looked.listed } by { over_prop C.program (C.seen cells.now) frame (own_in C.seen scratch.now.settings.items)
+            scratch.now.looked.listed },
 }
 
 impl<'a, C: Cells> Overlay<'a, C> {
@@ -97,7 +100,8 @@ impl<'a, C: Cells> Overlay<'a, C> {
     /// memory.
     pub fn bound(&self) -> &[u32]
         ensures places { result.now ≡ map (λ s. s.place) self.now.scratch.now.settings.items }
-        ensures noted { (place : ℕ) → Contains result.now place → place < self.now.below → Contains self.now.scratch.now.looked.listed place }
+        ensures noted { (place : ℕ) → Contains result.now place → place < self.now.below
+            → Contains self.now.scratch.now.looked.listed place }
     {
         self.scratch.bound()
     }
@@ -107,13 +111,15 @@ impl<'a, C: Cells> Overlay<'a, C> {
         requires place { place < (⟦<Overlay<'a, C> as Cells>⟧.seen self.old).words }
         requires unknown { IsUnknown (⟦<Overlay<'a, C> as Cells>⟧.seen self.old) place }
         requires free { IfSome (⟦<Overlay<'a, C> as Cells>⟧.seen self.old).told (λ row. word_at row place ≡ Ref.Free) }
-        requires noted { place < self.old.below → Contains (⟦<Overlay<'a, C> as Cells>⟧.seen self.old).missed (word place) }
+        requires noted { place < self.old.below
+            → Contains (⟦<Overlay<'a, C> as Cells>⟧.seen self.old).missed (word place) }
         requires set { value ≢ Ref.Free }
         requires fits { CanHold C.program (⟦<Overlay<'a, C> as Cells>⟧.seen self.old).words place value }
         requires written { IsWrittenIfNumber (⟦<Overlay<'a, C> as Cells>⟧.seen self.old) value }
         ensures grew { ⟦<Overlay<'a, C> as Cells>⟧.Grew self.old self.new }
         ensures sets { Sets place value (⟦<Overlay<'a, C> as Cells>⟧.seen self.old) (⟦<Overlay<'a, C> as Cells>⟧.seen self.new) }
-        ensures missed { (⟦<Overlay<'a, C> as Cells>⟧.seen self.new).missed ≡ (⟦<Overlay<'a, C> as Cells>⟧.seen self.old).missed }
+        ensures missed { (⟦<Overlay<'a, C> as Cells>⟧.seen self.new).missed
+            ≡ (⟦<Overlay<'a, C> as Cells>⟧.seen self.old).missed }
     {
         let setting = OwnSetting {
             place,
@@ -206,7 +212,8 @@ impl<'a, C: Cells> Cells for Overlay<'a, C> {
 
     ghost program = { C.program };
 
-    ghost seen = { λ o. seen_over (C.seen o.cells.now) o.frame (own_in C.seen o.scratch.now.settings.items) o.scratch.now.looked.listed };
+    ghost seen = { λ o. seen_over (C.seen o.cells.now) o.frame (own_in C.seen o.scratch.now.settings.items)
+        o.scratch.now.looked.listed };
 
     ghost Grew = { λ a b. record {
       cells_name : b.cells.ghost_name ≡ a.cells.ghost_name;
@@ -216,7 +223,8 @@ impl<'a, C: Cells> Cells for Overlay<'a, C> {
       over : C.over b.cells.now ≡ C.over a.cells.now;
       grew : C.Grew a.cells.now b.cells.now;
       only_reads : OnlyReads (C.seen a.cells.now) (C.seen b.cells.now);
-      room : (b.scratch.now.places.room ≡ a.scratch.now.places.room) × (b.scratch.now.looked.room ≡ a.scratch.now.looked.room);
+      room : (b.scratch.now.places.room ≡ a.scratch.now.places.room)
+          × (b.scratch.now.looked.room ≡ a.scratch.now.looked.room);
     } };
 
     ghost coherent = { λ o. o.kept.coherent };

@@ -1,6 +1,7 @@
 //! Places of a row, each once, in the order in which they were put in.
 
-ghost use Rattle.std.specs.Prelude.{◌≡◌, ◌<◌, ◌≤◌, ◌⊎◌, ◌++◌, ◌∷◌, [], length, Some, Contains, IfSome, IsNone, OnOk, slice_get, vec_len, vec_capacity};
+ghost use Rattle.std.specs.Prelude.{◌≡◌, ◌<◌, ◌≤◌, ◌⊎◌, ◌++◌, ◌∷◌, [], length, Some, Contains, IfSome, IsNone, OnOk};
+ghost use Rattle.std.specs.Prelude.{slice_get, vec_len, vec_capacity};
 ghost use Rattle.and_model.specs.Store.{AreDistinct};
 ghost use Rattle.and_overlay.specs.Places.{Places};
 

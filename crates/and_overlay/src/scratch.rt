@@ -1,6 +1,7 @@
 //! The memory that overlays need, kept for the next one.
 
-ghost use Rattle.std.specs.Prelude.{◌≡◌, ◌≢◌, ◌<◌, ◌≤◌, ◌++◌, ◌∷◌, ◌⊎◌, [], length, map, Contains, Some, IfSome, IsNone, OnOk, vec_len, vec_capacity};
+ghost use Rattle.std.specs.Prelude.{◌≡◌, ◌≢◌, ◌<◌, ◌≤◌, ◌++◌, ◌∷◌, ◌⊎◌, [], length, map, Contains, Some, IfSome};
+ghost use Rattle.std.specs.Prelude.{IsNone, OnOk, vec_len, vec_capacity};
 ghost use Rattle.and_model.specs.Store.{AreDistinct};
 ghost use Rattle.and_model.specs.declared.reference.Ref.{Ref};
 
@@ -75,7 +76,8 @@ impl<C: Cells> Scratch<C> {
     /// What a place was set to, if it was. Takes no memory.
     pub(crate) fn value_at(&self, place: u32) -> Option<Ref>
         requires { place < self.now.places.room }
-        ensures some { IfSome result (λ value. (setting : _) × Contains self.now.settings.items setting × (setting.place ≡ place) × (setting.value ≡ value)) }
+        ensures some { IfSome result (λ value. (setting : _) × Contains self.now.settings.items setting
+            × (setting.place ≡ place) × (setting.value ≡ value)) }
         ensures none { IsNone result → Contains (map (λ s. s.place) self.now.settings.items) place → ⊥ }
     {
         match self.places.find(place) {
@@ -99,7 +101,8 @@ impl<C: Cells> Scratch<C> {
     /// Notes that a place of the row below was found free. Takes no memory.
     fn note(&mut self, place: u32)
         requires { place < self.old.looked.room }
-        ensures looked { (self.new.looked.listed ≡ self.old.looked.listed) ⊎ (self.new.looked.listed ≡ self.old.looked.listed ++ place ∷ []) }
+        ensures looked { (self.new.looked.listed ≡ self.old.looked.listed)
+            ⊎ (self.new.looked.listed ≡ self.old.looked.listed ++ place ∷ []) }
         ensures noted { Contains self.new.looked.listed place }
         ensures settings { self.new.settings.items ≡ self.old.settings.items }
         ensures room { (self.new.places.room ≡ self.old.places.room) × (self.new.looked.room ≡ self.old.looked.room) }
@@ -113,7 +116,9 @@ impl<C: Cells> Scratch<C> {
     pub(crate) fn note_if_free(&mut self, place: u32, word: Ref)
         requires { place < self.old.looked.room }
         ensures set { word ≢ Ref.Free → self.new.looked.listed ≡ self.old.looked.listed }
-        ensures free { word ≡ Ref.Free → ((self.new.looked.listed ≡ self.old.looked.listed) ⊎ (self.new.looked.listed ≡ self.old.looked.listed ++ place ∷ []))
+        ensures free { word ≡ Ref.Free
+            → ((self.new.looked.listed ≡ self.old.looked.listed)
+            ⊎ (self.new.looked.listed ≡ self.old.looked.listed ++ place ∷ []))
             × Contains self.new.looked.listed place }
         ensures settings { self.new.settings.items ≡ self.old.settings.items }
         ensures room { (self.new.places.room ≡ self.old.places.room) × (self.new.looked.room ≡ self.old.looked.room) }

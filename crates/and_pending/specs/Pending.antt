@@ -1,5 +1,6 @@
 -- Goals that are left, and watched (this project's own).
-use Rattle.std.specs.Prelude.{ℕ, ◌≡◌, ◌≤◌, Bool, true, false, List, [], ◌∷◌, ◌++◌, map, length, Option, None, Some, slice_range, All, IfSome}
+use Rattle.std.specs.Prelude.{ℕ, ◌≡◌, ◌≤◌, Bool, true, false, List, [], ◌∷◌, ◌++◌, map, length, Option, None, Some}
+use Rattle.std.specs.Prelude.{slice_range, All, IfSome}
 use Rattle.and_model.specs.declared.goal.Goal.{Goal}
 use Rattle.and_model.specs.declared.reference.Ref.{Ref}
 use Rattle.and_cells.specs.Seen.{AreFree}
@@ -35,7 +36,8 @@ pub record HasPassedSleepers (row : List Ref) (old new : Pending) : Type 0 where
   pub left : new.left ≡ old.left ++ passed
   pub asleep : All (Sleeps row) passed
 
--- Goals before the place of work were gone back over, all of which sleep in the row: those behind one, before which it is then, or all.
+-- Goals before the place of work were gone back over, all of which sleep in the row: those behind one, before which
+-- it is then, or all.
 pub record HasGoneBack (row : List Ref) (old new : Pending) (there : Bool) : Type 0 where
   pub passed : List Watched
   pub asleep : All (Sleeps row) passed

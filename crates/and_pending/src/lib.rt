@@ -1,5 +1,5 @@
-//! The goals of a branch that are left, in their order, with a place of work among them. A goal may be watched: nothing need be done for it
-//! as long as certain cells are free, and it is passed over at a look at these.
+//! The goals of a branch that are left, in their order, with a place of work among them. A goal may be watched:
+//! nothing need be done for it as long as certain cells are free, and it is passed over at a look at these.
 #![tactic(auto)]
 
 mod filling;

@@ -1,8 +1,10 @@
 //! Goals that are left.
 
-ghost use Rattle.std.specs.Prelude.{◌≡◌, ◌+◌, ◌<◌, ◌≤◌, ◌^◌, ◌++◌, ◌∷◌, [], Some, None, true, false, List, map, reverse, length, All};
+ghost use Rattle.std.specs.Prelude.{◌≡◌, ◌+◌, ◌<◌, ◌≤◌, ◌^◌, ◌++◌, ◌∷◌, [], Some, None, true, false, List, map};
+ghost use Rattle.std.specs.Prelude.{reverse, length, All};
 ghost use Rattle.std.specs.Prelude.{OnOk, IfOk, IfSome, IsNone};
-ghost use Rattle.and_pending.specs.Pending.{Pending, Watched, HasPassedSleepers, HasGoneBack, Sleeps, goals_of, unwatched, watched_in, IsWithin};
+ghost use Rattle.and_pending.specs.Pending.{Pending, Watched, HasPassedSleepers, HasGoneBack, Sleeps, goals_of};
+ghost use Rattle.and_pending.specs.Pending.{unwatched, watched_in, IsWithin};
 
 use crate::filling::{fill, list_goals, list_reversed, move_all, put_goals, stop_watching};
 use crate::watch::{Range, all_free};
@@ -61,7 +63,8 @@ impl PendingGoals {
         }
     }
 
-    /// These goals are left, none of which is watched, and the place of work is behind them. An error is want of memory.
+    /// These goals are left, none of which is watched, and the place of work is behind them. An error is want of
+    /// memory.
     pub fn of(alloc: Global, goals: &[Goal]) -> Result<PendingGoals, AllocError>
         ensures { IfOk result (λ made. made ≡ record { left = map unwatched goals.now; right = [] }) }
     {
@@ -99,7 +102,8 @@ impl PendingGoals {
     /// The goal at a place before the place of work, counted from 0. Takes no memory.
     pub fn at(&self, place: usize) -> Goal
         requires { place < length self.now.left }
-        ensures { (front : List Goal) × (back : List Goal) × (goals_of self.now.left ≡ front ++ result ∷ back) × (length front ≡ place) }
+        ensures { (front : List Goal) × (back : List Goal) × (goals_of self.now.left ≡ front ++ result ∷ back)
+            × (length front ≡ place) }
     {
         self.left[place].goal
     }
@@ -122,7 +126,8 @@ impl PendingGoals {
     /// The goal at the place of work. Takes no memory.
     pub fn next(&self) -> Option<Goal>
         ensures none { IsNone result → self.now.right ≡ [] }
-        ensures some { IfSome result (λ g. (w : Watched) × (rest : List Watched) × (self.now.right ≡ w ∷ rest) × (w.goal ≡ g)) }
+        ensures some { IfSome result (λ g. (w : Watched) × (rest : List Watched)
+            × (self.now.right ≡ w ∷ rest) × (w.goal ≡ g)) }
     {
         let count = self.right.len();
         if count == 0 {
@@ -152,8 +157,8 @@ impl PendingGoals {
         Ok(())
     }
 
-    /// Goes back before the last goal that was passed, if there is one, and answers whether there is. An error is want of memory, and
-    /// the goal is lost.
+    /// Goes back before the last goal that was passed, if there is one, and answers whether there is. An error is
+    /// want of memory, and the goal is lost.
     pub fn go_back(&mut self) -> Result<bool, AllocError>
         ensures none { result ≡ Ok false → (self.old.left ≡ []) × (self.new ≡ self.old) }
         ensures back { result ≡ Ok true → (front : List Watched) × (w : Watched) × (self.old.left ≡ front ++ w ∷ [])
@@ -166,7 +171,8 @@ impl PendingGoals {
         Ok(true)
     }
 
-    /// Goes past the goals that sleep in a row, up to the next one that does not. An error is want of memory, and a goal is lost.
+    /// Goes past the goals that sleep in a row, up to the next one that does not. An error is want of memory, and a
+    /// goal is lost.
     pub fn pass_sleepers<N: Naming>(&mut self, row: &PlainCells<N>) -> Result<(), AllocError>
         ensures { OnOk result (HasPassedSleepers row.now self.old self.new) }
     {
@@ -176,8 +182,8 @@ impl PendingGoals {
         Ok(())
     }
 
-    /// Goes back over the goals that sleep in a row, to before the last one that does not, and answers whether there is one. An error is want
-    /// of memory, and a goal is lost.
+    /// Goes back over the goals that sleep in a row, to before the last one that does not, and answers whether there
+    /// is one. An error is want of memory, and a goal is lost.
     pub fn go_back_over_sleepers<N: Naming>(
         &mut self,
         row: &PlainCells<N>,
@@ -196,7 +202,8 @@ impl PendingGoals {
 
     /// Whether there is a next goal, which sleeps in a row. Takes no memory.
     fn next_sleeps<N: Naming>(&self, row: &PlainCells<N>) -> bool
-        ensures { result ≡ true → (w : Watched) × (rest : List Watched) × (self.now.right ≡ w ∷ rest) × Sleeps row.now w }
+        ensures { result ≡ true → (w : Watched) × (rest : List Watched) × (self.now.right ≡ w ∷ rest)
+            × Sleeps row.now w }
     {
         let count = self.right.len();
         count > 0 && sleeps(&self.cells, row, self.right[count - 1])
@@ -212,7 +219,8 @@ impl PendingGoals {
     /// Takes out the goal at the place of work. Takes no memory.
     pub fn pop(&mut self) -> Option<Goal>
         ensures none { IsNone result → (self.old.right ≡ []) × (self.new ≡ self.old) }
-        ensures some { IfSome result (λ g. (w : Watched) × (rest : List Watched) × (self.old.right ≡ w ∷ rest) × (w.goal ≡ g)
+        ensures some { IfSome result (λ g. (w : Watched) × (rest : List Watched)
+            × (self.old.right ≡ w ∷ rest) × (w.goal ≡ g)
             × (self.new ≡ record { left = self.old.left; right = rest })) }
     {
         let pending = self.right.pop()?;
@@ -251,7 +259,10 @@ impl PendingGoals {
 
     /// Watches none of the goals any longer. Takes no memory.
     pub fn forget_watches(&mut self)
-        ensures { self.new ≡ record { left = map unwatched (goals_of self.old.left); right = map unwatched (goals_of self.old.right) } }
+        ensures { self.new ≡ record {
+          left = map unwatched (goals_of self.old.left);
+          right = map unwatched (goals_of self.old.right);
+        } }
     {
         stop_watching(&mut self.left);
         stop_watching(&mut self.right);

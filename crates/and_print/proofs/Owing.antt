@@ -22,7 +22,8 @@ module _ (names : List Bytes) (vs : List Variable) where
 
   pub text_later : (ps : List Piece) (soon later : Bytes) → text_ahead names vs ps (soon ++ later) ≡ text_ahead names vs ps soon ++ later
   text_later [] soon later = refl
-  text_later (p ∷ ps) soon later = ap (text_ahead names vs ps) (sym (append_assoc (piece_text names p vs) soon later)) ∙ text_later ps (piece_text names p vs ++ soon) later
+  text_later (p ∷ ps) soon later = ap (text_ahead names vs ps) (sym (append_assoc (piece_text names p vs) soon later))
+      ∙ text_later ps (piece_text names p vs ++ soon) later
 
   -- a piece on top of others, of which a text was written and other pieces are left
   pub text_top : (ps qs : List Piece) (p : Piece) (old new : Bytes) → new ++ text_ahead names vs qs [] ≡ old ++ piece_text names p vs
@@ -35,7 +36,8 @@ module _ (names : List Bytes) (vs : List Variable) where
       ∙ ap (λ (bs : Bytes). old ++ bs) (sym (text_behind ps (p ∷ []) []))
 
 -- One more task was done.
-module _ (names : List Bytes) (ps qs : List Piece) (p : Piece) (variables : List Variable) (text : Named) (seen middle now : List Variable) (old between new : Bytes) where
+module _ (names : List Bytes) (ps qs : List Piece) (p : Piece) (variables : List Variable) (text : Named) (seen middle now : List Variable)
+    (old between new : Bytes) where
   pub owes_on : Owes names (ps ++ p ∷ []) variables text seen middle old between → Owes names qs (variables_there p) (piece_text names p) middle now between new
       → Owes names (ps ++ qs) variables text seen now old new
   owes_on o d =
@@ -46,19 +48,22 @@ module _ (names : List Bytes) (ps qs : List Piece) (p : Piece) (variables : List
         written_then = λ later.
             let vs : List Variable = first_seen seen (variables ++ later) in
             let done : new ++ text_ahead names vs qs [] ≡ between ++ piece_text names p vs =
-            subst (λ (ws : List Variable). new ++ text_ahead names ws qs [] ≡ between ++ piece_text names p ws) (next later) (d.written_then (variables_ahead ps later)) in
+            subst (λ (ws : List Variable). new ++ text_ahead names ws qs [] ≡ between ++ piece_text names p ws) (next later)
+            (d.written_then (variables_ahead ps later)) in
             text_top names vs ps qs p between new done ∙ o.written_then later;
       }
 
 -- nothing is done yet
-pub owes_all : (names : List Bytes) (p : Piece) (seen : List Variable) (old : Bytes) → Owes names (p ∷ []) (variables_there p) (piece_text names p) seen seen old old
+pub owes_all : (names : List Bytes) (p : Piece) (seen : List Variable) (old : Bytes)
+    → Owes names (p ∷ []) (variables_there p) (piece_text names p) seen seen old old
 owes_all names p seen old = record {
   seen_then = λ later. refl;
   written_then = λ later. ap (λ (bs : Bytes). old ++ bs) (append-nil (piece_text names p (first_seen seen (variables_there p ++ later))));
 }
 
 -- all is done
-pub owes_none : (names : List Bytes) (variables : List Variable) (text : Named) (seen now : List Variable) (old new : Bytes) → Owes names [] variables text seen now old new
+pub owes_none : (names : List Bytes) (variables : List Variable) (text : Named) (seen now : List Variable) (old new : Bytes)
+    → Owes names [] variables text seen now old new
     → Writes variables text seen now old new
 owes_none names variables text seen now old new o =
     let same : now ≡ first_seen seen variables = o.seen_then [] ∙ ap (first_seen seen) (append-nil variables) in record {
@@ -68,15 +73,18 @@ owes_none names variables text seen now old new o =
           sym (append-nil new) ∙ o.written_then later ∙ ap (λ (ws : List Variable). old ++ text ws) vs;
     }
 
-pub owes_written : (names : List Bytes) (variables : List Variable) (text : Named) (seen now : List Variable) (old new : Bytes) → Writes variables text seen now old new
+pub owes_written : (names : List Bytes) (variables : List Variable) (text : Named) (seen now : List Variable) (old new : Bytes)
+    → Writes variables text seen now old new
     → Owes names [] variables text seen now old new
 owes_written names variables text seen now old new w = record {
   seen_then = λ later. ap (λ (ws : List Variable). first_seen ws later) w.seen_now ∙ sym (seen_in_turn seen variables later);
   written_then = λ later.
-      append-nil new ∙ w.written later ∙ ap (λ (ws : List Variable). old ++ text (first_seen ws later)) w.seen_now ∙ ap (λ (ws : List Variable). old ++ text ws) (sym (seen_in_turn seen variables later));
+      append-nil new ∙ w.written later ∙ ap (λ (ws : List Variable). old ++ text (first_seen ws later)) w.seen_now
+      ∙ ap (λ (ws : List Variable). old ++ text ws) (sym (seen_in_turn seen variables later));
 }
 
-pub all_mean_append : (P : NamedProgram) (row : List Ref) (ks js : List Task) (ps qs : List Piece) → AllMean P row ks ps → AllMean P row js qs → AllMean P row (ks ++ js) (ps ++ qs)
+pub all_mean_append : (P : NamedProgram) (row : List Ref) (ks js : List Task) (ps qs : List Piece) → AllMean P row ks ps → AllMean P row js qs
+    → AllMean P row (ks ++ js) (ps ++ qs)
 all_mean_append P row [] js [] qs a b = b
 all_mean_append P row [] js (p ∷ ps) qs a b = elim a [ ]
 all_mean_append P row (k ∷ ks) js [] qs a b = elim a [ ]

@@ -1,5 +1,6 @@
 -- What structures begin with, and their arguments one after another.
-use Rattle.std.proofs.Common.{ℕ, ℤ, zero, suc, pos, ◌≡◌, ◌+◌, ◌<◌, ◌≤◌, List, [], length, get_or, take, Some, refl, sym, ap, ◌∙◌, subst, arith, lit<, Bool, true, false, true≢false, not, nat_eq, Option}
+use Rattle.std.proofs.Common.{ℕ, ℤ, zero, suc, pos, ◌≡◌, ◌+◌, ◌<◌, ◌≤◌, List, [], length, get_or, take, Some, refl, sym, ap, ◌∙◌, subst, arith, lit<, Bool}
+use Rattle.std.proofs.Common.{true, false, true≢false, not, nat_eq, Option}
 use Rattle.std.specs.Prelude.{Contains, MatchOption, None, is_some}
 use Rattle.std.proofs.lemmas.Option.{get_or_from_slice_get}
 use Rattle.std.proofs.lemmas.List.Elements.{All-contains, Contains-append_left, Contains-append_right, Contains-get_or}
@@ -29,7 +30,8 @@ pub record StructureMeans (P : NamedProgram) (row : List Ref) (node base : ℕ) 
   pub means : NodeMeans P row node base values
   pub term : t ≡ apply values (node_term P.skeleton.nodes node)
 
-pub structure_means : (P : NamedProgram) (row : List Ref) (node : NodeNo) (base : ℕ) (t : Term) → IsNodeInRange P (length row) node.0 base → StandsFor P row (Node node base) t → StructureMeans P row node.0 base t
+pub structure_means : (P : NamedProgram) (row : List Ref) (node : NodeNo) (base : ℕ) (t : Term) → IsNodeInRange P (length row) node.0 base
+    → StandsFor P row (Node node base) t → StructureMeans P row node.0 base t
 structure_means P row node base t in_range (structure n b s all) = record { values = s; means = record { in_range = in_range; cells = all }; term = refl }
 
 number_shown : (u : Term) (z : ℤ) → glance.TheVariants.Number z ≡ shown_term u → u ≡ number z
@@ -42,12 +44,14 @@ name_shown (glance.TheVariants.Variable k) = 0
 name_shown (glance.TheVariants.Number z) = 0
 name_shown (glance.TheVariants.Compound c n) = c.0
 
-compound_shown : (u : Term) (name n : ℕ) → glance.TheVariants.Compound (record { 0 = name }) n ≡ shown_term u → (ts : Terms) × (u ≡ compound name ts) × (width ts ≡ n)
+compound_shown : (u : Term) (name n : ℕ) → glance.TheVariants.Compound (record { 0 = name }) n ≡ shown_term u
+    → (ts : Terms) × (u ≡ compound name ts) × (width ts ≡ n)
 compound_shown (Terms.variable q k) name n e = absurd (cc)
 compound_shown (number y) name n e = absurd (cc)
 compound_shown (compound c ts) name n e = (ts, sym (ap (λ (k : ℕ). compound k ts) (ap name_shown e)), sym (ap count_of e))
 
-pub number_root : (P : NamedProgram) (row : List Ref) (node : NodeNo) (base : ℕ) (z : ℤ) (t : Term) → Means P row (Node node base) t → glance.TheVariants.Number z ≡ shown_term (node_term P.skeleton.nodes node.0) → t ≡ number z
+pub number_root : (P : NamedProgram) (row : List Ref) (node : NodeNo) (base : ℕ) (z : ℤ) (t : Term) → Means P row (Node node base) t
+    → glance.TheVariants.Number z ≡ shown_term (node_term P.skeleton.nodes node.0) → t ≡ number z
 number_root P row node base z t m e =
     let s = structure_means P row node base t m.in_range.0 m.stands in s.term ∙ ap (apply s.values) (number_shown (node_term P.skeleton.nodes node.0) z e)
 
@@ -83,7 +87,8 @@ module _ (P : NamedProgram) (row : List Ref) (n : NodeNo) (base : ℕ) (values :
   shape_means (Skeletons.variable k) e =
       let is : node_term P.skeleton.nodes n.0 ≡ Terms.variable [] k =
       node_term_at P.skeleton.nodes n.0 (Skeletons.number (pos 0)) m.in_range.there ∙ ap (shape_term (terms_behind [] (take n.0 P.skeleton.nodes))) e in
-      let there : Contains (variables_of (node_term P.skeleton.nodes n.0)) ([], k) = subst (λ (u : Term). Contains (variables_of u) ([], k)) (sym is) (0, lit< tt, refl) in
+      let there : Contains (variables_of (node_term P.skeleton.nodes n.0)) ([], k) =
+      subst (λ (u : Term). Contains (variables_of u) ([], k)) (sym is) (0, lit< tt, refl) in
       record {
         in_range = All-contains (λ (v : Path × ℕ). base + 1 + v.1 < length row) (variables_of (node_term P.skeleton.nodes n.0)) ([], k) m.in_range.cells there;
         stands = subst (λ (u : Term). StandsFor P row (Cell (base + 1 + k)) (apply values u)) (sym is) (m.cells ([], k) there);
@@ -130,7 +135,8 @@ module _ (P : NamedProgram) (row : List Ref) (a : Arguments) (ts : Terms) (m : A
       λ v c. variable_at a.place m.all v (omega (arith, m.width_is)) (subst (λ (u : Term). Contains (variables_of u) v) argument_is c) in
       let back : (v : Path × ℕ) → Contains (variables_in m.all) v → Contains (variables_of (node_term P.skeleton.nodes a.node.0)) v =
       λ v c. subst (λ (u : Term). Contains (variables_of u) v) (sym m.node) c in
-      let within : (k : ℕ) (d : Path × ℕ) → k < length (variables_of (node_term P.skeleton.nodes n.0)) → a.base + 1 + (get_or (variables_of (node_term P.skeleton.nodes n.0)) k d).1 < length row =
+      let within : (k : ℕ) (d : Path × ℕ) → k < length (variables_of (node_term P.skeleton.nodes n.0))
+      → a.base + 1 + (get_or (variables_of (node_term P.skeleton.nodes n.0)) k d).1 < length row =
       λ k d h. let v : Path × ℕ = get_or (variables_of (node_term P.skeleton.nodes n.0)) k d in
       All-contains (λ (w : Path × ℕ). a.base + 1 + w.1 < length row) (variables_of (node_term P.skeleton.nodes a.node.0)) v m.in_range.cells
       (back v (there v (Contains-get_or (variables_of (node_term P.skeleton.nodes n.0)) k d h))) in
@@ -151,7 +157,8 @@ module _ (P : NamedProgram) (row : List Ref) (a : Arguments) (ts : Terms) (m : A
     terms = apply_all m.values (terms_from (suc a.place) m.all);
     both = m.terms ∙ ap (apply_all m.values) (terms_step a.place m.all (omega (arith, m.width_is)));
     first_means = subst (λ (r : Ref). Means P row r (apply m.values (term_at m.all a.place))) (sym is)
-        (subst (λ (u : Term). Means P row (resolved (shape_at P.skeleton n.0) n a.base) (apply m.values u)) argument_is (node_found P row n a.base m.values argument_means));
+        (subst (λ (u : Term). Means P row (resolved (shape_at P.skeleton n.0) n a.base) (apply m.values u)) argument_is
+        (node_found P row n a.base m.values argument_means));
     rest_means = record {
       in_range = m.in_range;
       counted = m.counted;
@@ -178,7 +185,13 @@ module _ (P : NamedProgram) (row : List Ref) (first second : Ref) (rest last : A
     both_are = s.both ∙ ap (more s.term) z.both
 
     pub two_alone : z.terms ≡ none → Pairs P row first second ts
-    two_alone e = record { one = s.term; other = z.term; both = both_are ∙ ap (λ (us : Terms). more s.term (more z.term us)) e; left_means = s.first_means; right_means = z.first_means }
+    two_alone e = record {
+      one = s.term;
+      other = z.term;
+      both = both_are ∙ ap (λ (us : Terms). more s.term (more z.term us)) e;
+      left_means = s.first_means;
+      right_means = z.first_means;
+    }
 
     pub three_or_more : (third : Ref) (others : Arguments) → Splits P row third others z.terms → is_cell point_name ts ≡ false
     three_or_more third others y = ap (is_cell point_name) (both_are ∙ ap (λ (us : Terms). more s.term (more z.term us)) y.both)

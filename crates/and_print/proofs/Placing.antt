@@ -1,5 +1,6 @@
 -- The places of variables on a line: what comes later changes none.
-use Rattle.std.proofs.Common.{ℕ, suc, ◌≡◌, ◌+◌, Bool, true, false, true≢false, ◌||◌, not, cond, List, [], ◌∷◌, ◌++◌, refl, sym, ap, ◌∙◌, arith, append_assoc, append-nil, map, nat_eq, eq-eqb}
+use Rattle.std.proofs.Common.{ℕ, suc, ◌≡◌, ◌+◌, Bool, true, false, true≢false, ◌||◌, not, cond, List, [], ◌∷◌, ◌++◌, refl, sym, ap, ◌∙◌, arith, append_assoc}
+use Rattle.std.proofs.Common.{append-nil, map, nat_eq, eq-eqb}
 use Rattle.std.specs.List.{list_any, position_or_len}
 use Rattle.std.specs.Fmt.{decimal}
 use Rattle.std.proofs.lemmas.List.{map-append}
@@ -39,10 +40,12 @@ has_pushed c [] = ap (λ b. b || false) (same_cell c)
 has_pushed c (w ∷ vs) = elim (same_variable ([], c) w) as (λ b. (b || has ([], c) (vs ++ ([], c) ∷ [])) ≡ true) [ true ↦ refl | false ↦ has_pushed c vs ]
 
 -- the cell's variable was named, if it had no name
-named_now : (c : ℕ) (vs : List Variable) → (has ([], c) (first_seen vs (([], c) ∷ [])) ≡ true) × (place_of ([], c) (first_seen vs (([], c) ∷ [])) ≡ place_of ([], c) vs)
+named_now : (c : ℕ) (vs : List Variable) → (has ([], c) (first_seen vs (([], c) ∷ [])) ≡ true)
+    × (place_of ([], c) (first_seen vs (([], c) ∷ [])) ≡ place_of ([], c) vs)
 named_now c vs = at (has ([], c) vs) refl
   where
-    at : (b : Bool) → has ([], c) vs ≡ b → (has ([], c) (first_seen vs (([], c) ∷ [])) ≡ true) × (place_of ([], c) (first_seen vs (([], c) ∷ [])) ≡ place_of ([], c) vs)
+    at : (b : Bool) → has ([], c) vs ≡ b → (has ([], c) (first_seen vs (([], c) ∷ [])) ≡ true)
+        × (place_of ([], c) (first_seen vs (([], c) ∷ [])) ≡ place_of ([], c) vs)
     at true e =
         let same : first_seen vs (([], c) ∷ []) ≡ vs = ap (λ b. cond b vs (vs ++ ([], c) ∷ [])) e in
         (ap (has ([], c)) same ∙ e, ap (place_of ([], c)) same)
@@ -56,19 +59,22 @@ has_cell c (k ∷ keys) = ap (λ b. nat_eq c k || b) (has_cell c keys)
 
 place_in : (c : ℕ) (keys : List ℕ) → position_or_len (nat_eq c) keys ≡ place_of ([], c) (map cell_variable keys)
 place_in c [] = refl
-place_in c (k ∷ keys) = elim (nat_eq c k) as (λ b. cond (not b) (1 + position_or_len (nat_eq c) keys) 0 ≡ cond b 0 (suc (place_of ([], c) (map cell_variable keys)))) [
-  | true ↦ refl
-  | false ↦ omega (arith, place_in c keys)
-]
+place_in c (k ∷ keys) = elim (nat_eq c k) as (λ b. cond (not b) (1 + position_or_len (nat_eq c) keys) 0
+    ≡ cond b 0 (suc (place_of ([], c) (map cell_variable keys)))) [
+      | true ↦ refl
+      | false ↦ omega (arith, place_in c keys)
+    ]
 
 keys_now : (c : ℕ) (keys : List ℕ) → map cell_variable (insert_key nat_eq keys c) ≡ first_seen (map cell_variable keys) (([], c) ∷ [])
 keys_now c keys =
     rw has_cell
-    (elim (list_any (nat_eq c) keys) as (λ b. map cell_variable (cond b keys (keys ++ c ∷ [])) ≡ cond b (map cell_variable keys) (map cell_variable keys ++ ([], c) ∷ []))
+    (elim (list_any (nat_eq c) keys) as (λ b. map cell_variable (cond b keys (keys ++ c ∷ []))
+    ≡ cond b (map cell_variable keys) (map cell_variable keys ++ ([], c) ∷ []))
     [ true ↦ refl | false ↦ map-append cell_variable keys (c ∷ []) ])
 
 -- a cell was put into the set of those that have names, and its place written
-pub cell_written : (c place : ℕ) (old new : List ℕ) (before after : Bytes) → new ≡ insert_key nat_eq old c → place ≡ position_or_len (nat_eq c) old → after ≡ before ++ 95 ∷ decimal place
+pub cell_written : (c place : ℕ) (old new : List ℕ) (before after : Bytes) → new ≡ insert_key nat_eq old c → place ≡ position_or_len (nat_eq c) old
+    → after ≡ before ++ 95 ∷ decimal place
     → Writes (([], c) ∷ []) (shown_cell c) (map cell_variable old) (map cell_variable new) before after
 cell_written c place old new before after e f g =
     let now : map cell_variable new ≡ first_seen (map cell_variable old) (([], c) ∷ []) = ap (map cell_variable) e ∙ keys_now c old in
@@ -78,6 +84,7 @@ cell_written c place old new before after e f g =
       written = λ later.
           let vs : List Variable = first_seen (map cell_variable old) (([], c) ∷ []) in
           let (ws, more) = grows vs later in
-          let stays : place_of ([], c) (first_seen vs later) ≡ place = ap (place_of ([], c)) more ∙ place_stays ([], c) vs ws there.0 ∙ there.1 ∙ sym (place_in c old) ∙ sym f in
+          let stays : place_of ([], c) (first_seen vs later) ≡ place =
+          ap (place_of ([], c)) more ∙ place_stays ([], c) vs ws there.0 ∙ there.1 ∙ sym (place_in c old) ∙ sym f in
           g ∙ ap (λ n. before ++ 95 ∷ decimal n) (sym stays) ∙ ap (λ (us : List Variable). before ++ shown_cell c (first_seen us later)) (sym now);
     }

@@ -1,5 +1,6 @@
 -- The nodes of a goal, and its term.
-use Rattle.std.proofs.Common.{ℕ, zero, suc, ◌≡◌, ◌+◌, ◌<◌, ◌≤◌, false, List, [], ◌∷◌, ◌++◌, length, map, get_or, drop, Some, refl, sym, ap, ◌∙◌, subst, arith, nat_eq}
+use Rattle.std.proofs.Common.{ℕ, zero, suc, ◌≡◌, ◌+◌, ◌<◌, ◌≤◌, false, List, [], ◌∷◌, ◌++◌, length, map, get_or, drop, Some, refl, sym, ap, ◌∙◌, subst, arith}
+use Rattle.std.proofs.Common.{nat_eq}
 use Rattle.std.specs.Prelude.{slice_get, Contains}
 use Rattle.std.proofs.lemmas.List.{get_or-map, length-map, drop_all}
 use Rattle.std.proofs.lemmas.Option.{get_or_from_slice_get, slice_get_within}
@@ -34,7 +35,8 @@ no_point Arithmetic.differs c e = ap (λ (n : ℕ). nat_eq n point_name) e
 
 module _ (P : NamedProgram) (row : List Ref) (base : ℕ) (values : Substitution) where
   sides_mean : (l r : ℕ) → IsNodeInRange P (length row) l base → IsNodeInRange P (length row) r base
-      → ((v : Path × ℕ) → Contains (variables_of (node_term P.skeleton.nodes l) ++ (variables_of (node_term P.skeleton.nodes r) ++ [])) v → StandsFor P row (Cell (base + 1 + v.1)) (values v.0 v.1))
+      → ((v : Path × ℕ) → Contains (variables_of (node_term P.skeleton.nodes l) ++ (variables_of (node_term P.skeleton.nodes r) ++ [])) v
+      → StandsFor P row (Cell (base + 1 + v.1)) (values v.0 v.1))
       → NodeMeans P row l base values × NodeMeans P row r base values
   sides_mean l r one other cells =
       let left : List (Path × ℕ) = variables_of (node_term P.skeleton.nodes l) in
@@ -45,7 +47,8 @@ module _ (P : NamedProgram) (row : List Ref) (base : ℕ) (values : Substitution
 
   -- an item in range, by the variables of its term
   pub item_means : (clause : ℕ) (i : NodeItem) → IsItemInRange P (length row) clause base i
-      → ((v : Path × ℕ) → Contains (variables_of (item_term (item_of P.skeleton.nodes i))) v → StandsFor P row (Cell (base + 1 + v.1)) (values v.0 v.1)) → ItemMeans P row i base values
+      → ((v : Path × ℕ) → Contains (variables_of (item_term (item_of P.skeleton.nodes i))) v → StandsFor P row (Cell (base + 1 + v.1)) (values v.0 v.1))
+      → ItemMeans P row i base values
   item_means clause (call n) fits cells = record { in_range = fits; cells = cells }
   item_means clause (equal l r) fits cells = sides_mean l r fits.0 fits.1 cells
   item_means clause (is l r pair) fits cells = sides_mean l r fits.0 fits.1 cells
@@ -53,7 +56,8 @@ module _ (P : NamedProgram) (row : List Ref) (base : ℕ) (values : Substitution
   item_means clause fail fits cells = tt
 
 -- the item that a goal names, where the items of its clause were read
-module _ (ss : List Shape) (clauses : List NodeClause) (c n : ℕ) (k : NodeClause) (i : NodeItem) (d : NodeClause) (items : List ItemNode) (read : map node_item items ≡ (get_or clauses c d).items)
+module _ (ss : List Shape) (clauses : List NodeClause) (c n : ℕ) (k : NodeClause) (i : NodeItem) (d : NodeClause) (items : List ItemNode)
+    (read : map node_item items ≡ (get_or clauses c d).items)
     (clause_is : slice_get clauses c ≡ Some k) (item_is : slice_get k.items n ≡ Some i) where
   same_items : map node_item items ≡ k.items
   same_items = read ∙ ap (λ (x : NodeClause). x.items) (get_or_from_slice_get clauses c k d clause_is)
@@ -73,14 +77,17 @@ module _ (ss : List Shape) (clauses : List NodeClause) (c n : ℕ) (k : NodeClau
       ∙ ap (item_of ss) (get_or_from_slice_get (map node_item items) n i i there)
 
 -- The item that was read for a goal has the goal's term.
-pub goal_read : (P : NamedProgram) (row : List Ref) (g : Goal) (t : Term) (m : GoalMeans P row g t) (items : List ItemNode) (x : ItemNode) → map node_item items ≡ (nodes_at P.skeleton g.clause.0).items
+pub goal_read : (P : NamedProgram) (row : List Ref) (g : Goal) (t : Term) (m : GoalMeans P row g t) (items : List ItemNode) (x : ItemNode)
+    → map node_item items ≡ (nodes_at P.skeleton g.clause.0).items
     → map (item_of P.skeleton.nodes) (map node_item items) ≡ (clause_at P.program g.clause.0).body
-    → ItemMeans P row (node_item (get_or items g.item x)) g.base m.values × (t ≡ apply m.values (item_term (item_of P.skeleton.nodes (node_item (get_or items g.item x)))))
+    → ItemMeans P row (node_item (get_or items g.item x)) g.base m.values
+    × (t ≡ apply m.values (item_term (item_of P.skeleton.nodes (node_item (get_or items g.item x)))))
 goal_read P row g t m items x read body =
     let r = m.in_range in
     let ss = P.skeleton.nodes in
     let none : NodeClause = record { head = 0; items = [] } in
-    let is : node_item (get_or items g.item x) ≡ r.item = item_at ss P.skeleton.clauses g.clause.0 g.item r.clause r.item none items read r.clause_is r.item_is x in
+    let is : node_item (get_or items g.item x) ≡ r.item =
+    item_at ss P.skeleton.clauses g.clause.0 g.item r.clause r.item none items read r.clause_is r.item_is x in
     let item : get_or (clause_at P.program g.clause.0).body g.item Programs.fail ≡ item_of ss r.item =
     body_item ss P.skeleton.clauses g.clause.0 g.item r.clause r.item none items read r.clause_is r.item_is (clause_at P.program g.clause.0).body body in
     let cells : (v : Path × ℕ) → Contains (variables_of (item_term (item_of ss r.item))) v → StandsFor P row (Cell (g.base + 1 + v.1)) (m.values v.0 v.1) =
@@ -95,11 +102,13 @@ pub record GoalAt (P : NamedProgram) (row : List Ref) (g : Goal) (n : ℕ) (ts :
   pub left : drop n ts ≡ term ∷ drop (n + 1) ts
   pub means : GoalMeans P row g term
 
-pub goal_at : (P : NamedProgram) (row : List Ref) (gs : List Goal) (ts : List Term) (n : ℕ) (g : Goal) → slice_get gs n ≡ Some g → GoalsMean P row gs ts → GoalAt P row g n ts
+pub goal_at : (P : NamedProgram) (row : List Ref) (gs : List Goal) (ts : List Term) (n : ℕ) (g : Goal) → slice_get gs n ≡ Some g → GoalsMean P row gs ts
+    → GoalAt P row g n ts
 goal_at P row [] [] n g e m = absurd (cc)
 goal_at P row [] (t ∷ ts) n g e m = elim m [ ]
 goal_at P row (h ∷ gs) [] n g e m = elim m [ ]
-goal_at P row (h ∷ gs) (t ∷ ts) zero g e m = record { term = t; left = refl; means = (let same : h ≡ g = cc in subst (λ (k : Goal). GoalMeans P row k t) same m.0) }
+goal_at P row (h ∷ gs) (t ∷ ts) zero g e m =
+    record { term = t; left = refl; means = (let same : h ≡ g = cc in subst (λ (k : Goal). GoalMeans P row k t) same m.0) }
 goal_at P row (h ∷ gs) (t ∷ ts) (suc n) g e m =
     let r = goal_at P row gs ts n g e m.1 in
     let one : suc n + 1 ≡ suc (n + 1) = omega arith in

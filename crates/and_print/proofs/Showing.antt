@@ -1,5 +1,6 @@
 -- The query's variables that a line shows, one after another.
-use Rattle.std.proofs.Common.{ℕ, suc, ◌≡◌, ◌+◌, ◌<◌, ◌≤◌, Bool, true, false, cond, List, [], ◌∷◌, ◌++◌, length, drop, map, get_or, refl, sym, ap, ◌∙◌, codes, append-nil, add-one}
+use Rattle.std.proofs.Common.{ℕ, suc, ◌≡◌, ◌+◌, ◌<◌, ◌≤◌, Bool, true, false, cond, List, [], ◌∷◌, ◌++◌, length, drop, map, get_or, refl, sym, ap, ◌∙◌, codes}
+use Rattle.std.proofs.Common.{append-nil, add-one}
 use Rattle.std.proofs.lemmas.List.{drop_more, drop_all}
 use Rattle.and_model.specs.Terms.{Term, Substitution}
 use Rattle.and_model.specs.Lines.{Bytes, begins_underscore, shown_variables, shown_value, variables_along, values_or_true, first_seen}
@@ -56,7 +57,8 @@ module _ (P : List Bytes) (s : Substitution) where
   value_text v vs = shown_value P vs s v
 
   -- a line that shows some variables
-  pub some_written : (all : List Shown) (sep : Bytes) (seen now : List Variable) (old new : Bytes) → IsStill false all [] → Left value_of value_text [] all [] sep seen now old new
+  pub some_written : (all : List Shown) (sep : Bytes) (seen now : List Variable) (old new : Bytes) → IsStill false all []
+      → Left value_of value_text [] all [] sep seen now old new
       → Writes (variables_along (map value_of all)) (λ vs. values_or_true (map (shown_value P vs s) all)) seen now old new
   some_written all sep seen now old new (v, vs, e) l =
       let w = left_none value_of value_text [] all sep seen now old new l in
@@ -65,12 +67,14 @@ module _ (P : List Bytes) (s : Substitution) where
         written = λ later.
             let ws : List Variable = first_seen now later in
             let same : values_or_true (map (shown_value P ws s) all) ≡ each_after [] (map (λ x. value_text x ws) all) =
-            ap (λ (xs : List Shown). values_or_true (map (shown_value P ws s) xs)) e ∙ values_each (shown_value P ws s v) (map (shown_value P ws s) vs) ∙ sym (ap (λ (xs : List Shown). each_after [] (map (λ x. value_text x ws) xs)) e) in
+            ap (λ (xs : List Shown). values_or_true (map (shown_value P ws s) xs)) e ∙ values_each (shown_value P ws s v) (map (shown_value P ws s) vs)
+            ∙ sym (ap (λ (xs : List Shown). each_after [] (map (λ x. value_text x ws) xs)) e) in
             w.written later ∙ ap (λ (bs : Bytes). old ++ bs) (sym same);
       }
 
   -- and one that shows none
-  pub none_written : (all : List Shown) (sep : Bytes) (seen now : List Variable) (old middle new : Bytes) → IsStill true all [] → Left value_of value_text [] all [] sep seen now old middle → new ≡ middle ++ codes "true"
+  pub none_written : (all : List Shown) (sep : Bytes) (seen now : List Variable) (old middle new : Bytes) → IsStill true all []
+      → Left value_of value_text [] all [] sep seen now old middle → new ≡ middle ++ codes "true"
       → Writes (variables_along (map value_of all)) (λ vs. values_or_true (map (shown_value P vs s) all)) seen now old new
   none_written all sep seen now old middle new still l e =
       let w = left_none value_of value_text [] all sep seen now old middle l in
@@ -78,6 +82,7 @@ module _ (P : List Bytes) (s : Substitution) where
         seen_now = w.seen_now;
         written = λ later.
             let ws : List Variable = first_seen now later in
-            let none : middle ≡ old = w.written later ∙ ap (λ (xs : List Shown). old ++ each_after [] (map (λ x. value_text x ws) xs)) (sym still) ∙ append-nil old in
+            let none : middle ≡ old = w.written later ∙ ap (λ (xs : List Shown). old ++ each_after [] (map (λ x. value_text x ws) xs)) (sym still)
+            ∙ append-nil old in
             e ∙ ap (λ (bs : Bytes). bs ++ codes "true") none ∙ ap (λ (xs : List Shown). old ++ values_or_true (map (shown_value P ws s) xs)) still;
       }

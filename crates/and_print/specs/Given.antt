@@ -17,9 +17,11 @@ GivesQuery P row s = (k : ℕ) → k < P.program.query.variables → StandsFor P
 -- It gives the variables of a goal, in the frame of its path, the terms that the cells of the goal's frame stand for.
 abbrev pub GivesGoal : NamedProgram → List Ref → Substitution → Framed → Type 0
 GivesGoal P row s f =
-    (v : Path × ℕ) → Contains (variables_of (term_of P.program f.goal)) v → StandsFor P row (Cell (f.goal.base + 1 + v.1)) (s f.frame v.1)
+    (v : Path × ℕ) → Contains (variables_of (term_of P.program f.goal)) v
+    → StandsFor P row (Cell (f.goal.base + 1 + v.1)) (s f.frame v.1)
 
--- What a line is written of: terms for the query's variables, and goals of arithmetic that wait, each with the path of its frame.
+-- What a line is written of: terms for the query's variables, and goals of arithmetic that wait, each with the path
+-- of its frame.
 pub record Given (P : NamedProgram) (row : List Ref) (waiting : List Goal) : Type 0 where
   pub terms : Substitution
   pub framed : List Framed

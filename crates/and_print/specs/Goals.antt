@@ -12,7 +12,8 @@ use Rattle.and_cells.specs.Meaning.{StandsFor}
 -- A node in a frame: each variable of its term has the term of its cell.
 pub record NodeMeans (P : NamedProgram) (row : List Ref) (node base : ℕ) (values : Substitution) : Type 0 where
   pub in_range : IsNodeInRange P (length row) node base
-  pub cells : (v : Path × ℕ) → Contains (variables_of (node_term P.skeleton.nodes node)) v → StandsFor P row (Cell (base + 1 + v.1)) (values v.0 v.1)
+  pub cells : (v : Path × ℕ) → Contains (variables_of (node_term P.skeleton.nodes node)) v
+      → StandsFor P row (Cell (base + 1 + v.1)) (values v.0 v.1)
 
 -- so it is for the nodes of an item
 abbrev pub ItemMeans : NamedProgram → List Ref → NodeItem → (base : ℕ) → Substitution → Type 0
@@ -26,7 +27,8 @@ ItemMeans P row fail base values = Unit {0}
 pub record GoalMeans (P : NamedProgram) (row : List Ref) (g : Goal) (t : Term) : Type 0 where
   pub in_range : IsGoalInRange P (length row) g
   pub values : Substitution
-  pub cells : (v : Path × ℕ) → Contains (variables_of (term_of P.program g)) v → StandsFor P row (Cell (g.base + 1 + v.1)) (values v.0 v.1)
+  pub cells : (v : Path × ℕ) → Contains (variables_of (term_of P.program g)) v
+      → StandsFor P row (Cell (g.base + 1 + v.1)) (values v.0 v.1)
   pub term : t ≡ apply values (term_of P.program g)
 
 -- the goals stand for the terms, one after another

@@ -1,6 +1,7 @@
 -- What a term begins with, as it is found in a row of words.
 use Rattle.std.specs.Prelude.{ℕ, zero, suc, ◌+◌, ◌≡◌, Bool, false, List, length, Contains}
-use Rattle.and_model.specs.Terms.{Path, Term, Terms, variable, number, compound, none, more, variables_in, Substitution, apply_all}
+use Rattle.and_model.specs.Terms.{Path, Term, Terms, variable, number, compound, none, more, variables_in}
+use Rattle.and_model.specs.Terms.{Substitution, apply_all}
 use Rattle.and_model.specs.Lines.{is_cell, is_nil, point_name}
 use Rattle.and_model.specs.Terms.{width}
 use Rattle.and_program.specs.Skeletons.{node_term}
@@ -38,7 +39,8 @@ pub record ArgumentsMean (P : NamedProgram) (row : List Ref) (a : Arguments) (ts
   pub node : node_term P.skeleton.nodes a.node.0 ≡ compound name all
   pub width_is : width all ≡ a.count
   pub values : Substitution
-  pub cells : (v : Path × ℕ) → Contains (variables_in all) v → StandsFor P row (Cell (a.base + 1 + v.1)) (values v.0 v.1)
+  pub cells : (v : Path × ℕ) → Contains (variables_in all) v
+      → StandsFor P row (Cell (a.base + 1 + v.1)) (values v.0 v.1)
   pub terms : ts ≡ apply_all values (terms_from a.place all)
 
 -- the term begins so

@@ -9,7 +9,8 @@ use Rattle.and_print.specs.Roots.{Means, ArgumentsMean}
 use Rattle.and_print.specs.declared.tasks.Task.{Task}
 use Rattle.and_print.specs.declared.tasks.Task.TheVariants.{Whole, Tail, Rest, Close}
 
--- What a task writes: a term, the tail of a list after an element, the arguments after others with the bracket behind them, or the bracket of a list.
+-- What a task writes: a term, the tail of a list after an element, the arguments after others with the bracket behind
+-- them, or the bracket of a list.
 pub data Piece : Type 0 where
   whole : Term → Piece
   tail : Term → Piece
@@ -51,13 +52,19 @@ abbrev pub text_ahead : List Bytes → List Variable → List Piece → Bytes �
 text_ahead names vs [] later = later
 text_ahead names vs (p ∷ ps) later = text_ahead names vs ps (piece_text names p vs ++ later)
 
--- With these pieces still ahead, the variables come to have names and the text to be put at the end of the old one, whatever comes later.
-pub record Owes (names : List Bytes) (pieces : List Piece) (variables : List Variable) (text : Named) (seen now : List Variable) (old new : Bytes) : Type 0 where
-  pub seen_then : (later : List Variable) → first_seen now (variables_ahead pieces later) ≡ first_seen seen (variables ++ later)
-  pub written_then : (later : List Variable) → new ++ text_ahead names (first_seen seen (variables ++ later)) pieces [] ≡ old ++ text (first_seen seen (variables ++ later))
+-- With these pieces still ahead, the variables come to have names and the text to be put at the end of the old one,
+-- whatever comes later.
+pub record Owes (names : List Bytes) (pieces : List Piece) (variables : List Variable) (text : Named)
+    (seen now : List Variable) (old new : Bytes) : Type 0 where
+  pub seen_then : (later : List Variable) → first_seen now (variables_ahead pieces later)
+      ≡ first_seen seen (variables ++ later)
+  pub written_then : (later : List Variable)
+      → new ++ text_ahead names (first_seen seen (variables ++ later)) pieces []
+      ≡ old ++ text (first_seen seen (variables ++ later))
 
 -- A text was begun, and the rest of it put on the stack, for which bytes were written.
-pub record Does (P : NamedProgram) (row : List Ref) (variables : List Variable) (text : Named) (seen now : List Variable) (old new : Bytes) (before after : List Task) : Type 0 where
+pub record Does (P : NamedProgram) (row : List Ref) (variables : List Variable) (text : Named)
+    (seen now : List Variable) (old new : Bytes) (before after : List Task) : Type 0 where
   pub tasks : List Task
   pub pieces : List Piece
   pub pushed : after ≡ before ++ tasks

@@ -1,4 +1,5 @@
--- What is written with names for variables, whichever variables of the line come later. (These words are this project's own.)
+-- What is written with names for variables, whichever variables of the line come later. (These words are this
+-- project's own.)
 use Rattle.std.specs.Prelude.{ℕ, ◌≡◌, List, [], ◌∷◌, ◌++◌}
 use Rattle.std.specs.Fmt.{decimal}
 use Rattle.and_model.specs.Terms.{Path}
@@ -15,7 +16,8 @@ Named = List Variable → Bytes
 abbrev pub shown_cell : ℕ → Named
 shown_cell cell vs = 95 ∷ decimal (place_of ([], cell) vs)
 
--- These variables have names now, and the text was put at the end of the old one, as it is under the names of the whole line.
+-- These variables have names now, and the text was put at the end of the old one, as it is under the names of the
+-- whole line.
 pub record Writes (variables : List Variable) (text : Named) (seen now : List Variable) (old new : Bytes) : Type 0 where
   pub seen_now : now ≡ first_seen seen variables
   pub written : (later : List Variable) → new ≡ old ++ text (first_seen now later)

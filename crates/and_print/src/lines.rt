@@ -41,7 +41,8 @@ pub fn show_line<N: Naming>(
     requires program { N.program ≡ named loaded.now }
     requires in_range { All (IsGoalInRange N.program (length cells.now)) waiting.now }
     requires given { Given N.program cells.now waiting.now }
-    ensures { (g : Given N.program cells.now waiting.now) → IfOk result (λ t. t ≡ line N.program.program g.terms g.waits) }
+    ensures { (g : Given N.program cells.now waiting.now)
+        → IfOk result (λ t. t ≡ line N.program.program g.terms g.waits) }
 {
     let printer = Printer { loaded, cells };
     let mut names = VariableNames::new(alloc);

@@ -1,8 +1,10 @@
 //! Writing what stands in a row of words: terms, goals that wait, and the parts of a line.
 
 ghost use Rattle.std.specs.Prelude.{◌≡◌, ◌++◌, List, [], false, codes, map, nat_eq, OnOk, MatchOption};
-ghost use Rattle.and_model.specs.Terms.{Term, Terms, Substitution, compound, more, none, variables_of, variables_in, apply};
-ghost use Rattle.and_model.specs.Lines.{is_cell, point_name, shown, shown_tail, shown_arguments, shown_rest, shown_value, shown_variables};
+ghost use Rattle.and_model.specs.Terms.{Term, Terms, Substitution, compound, more, none, variables_of, variables_in};
+ghost use Rattle.and_model.specs.Terms.{apply};
+ghost use Rattle.and_model.specs.Lines.{is_cell, point_name, shown, shown_tail, shown_arguments, shown_rest};
+ghost use Rattle.and_model.specs.Lines.{shown_value, shown_variables};
 ghost use Rattle.and_model.specs.Lines.{values_or_true, variables_along, with_waiting};
 ghost use Rattle.and_model.specs.Stands.{item_term};
 ghost use Rattle.and_model.specs.declared.reference.Ref.{Ref};
@@ -11,7 +13,8 @@ ghost use Rattle.and_program.specs.Items.{node_item};
 ghost use Rattle.and_cells.specs.Parts.{named};
 ghost use Rattle.and_print.specs.Given.{GivesQuery};
 ghost use Rattle.and_print.specs.Goals.{ItemMeans, GoalMeans, GoalsMean};
-ghost use Rattle.and_print.specs.Roots.{Means, ArgumentsMean, RootMeans, Splits, Pairs, IsListCell, is_list_cell, is_empty_list};
+ghost use Rattle.and_print.specs.Roots.{Means, ArgumentsMean, RootMeans, Splits, Pairs, IsListCell, is_list_cell};
+ghost use Rattle.and_print.specs.Roots.{is_empty_list};
 ghost use Rattle.and_print.specs.Tasks.{Piece, TaskMeans, variables_there, piece_text, Does};
 ghost use Rattle.and_print.specs.Writing.{Variable, Writes};
 
@@ -38,7 +41,8 @@ impl<N: Naming> Printer<'_, N> {
     /// What the term of a structure begins with. Takes no memory.
     fn structure(&self, node: NodeNo, base: u32) -> Root
         requires { (t : Term) × Means (named self.now.loaded.now) self.now.cells.now (Ref.Node node base) t }
-        ensures { (t : Term) → Means (named self.now.loaded.now) self.now.cells.now (Ref.Node node base) t → RootMeans (named self.now.loaded.now) self.now.cells.now result t }
+        ensures { (t : Term) → Means (named self.now.loaded.now) self.now.cells.now (Ref.Node node base) t
+            → RootMeans (named self.now.loaded.now) self.now.cells.now result t }
     {
         match self.loaded.kind(node) {
             NodeKind::Variable(_) => unreachable!(),
@@ -59,7 +63,8 @@ impl<N: Naming> Printer<'_, N> {
     fn root(&self, term: Ref) -> Root
         requires program { N.program ≡ named self.now.loaded.now }
         requires means { (t : Term) × Means (named self.now.loaded.now) self.now.cells.now term t }
-        ensures { (t : Term) → Means (named self.now.loaded.now) self.now.cells.now term t → RootMeans (named self.now.loaded.now) self.now.cells.now result t }
+        ensures { (t : Term) → Means (named self.now.loaded.now) self.now.cells.now term t
+            → RootMeans (named self.now.loaded.now) self.now.cells.now result t }
     {
         match end_of(self.cells, term) {
             Ref::Free => unreachable!(),
@@ -92,7 +97,8 @@ impl<N: Naming> Printer<'_, N> {
     fn pair(&self, arguments: Arguments) -> Option<(Ref, Ref)>
         requires { (ts : Terms) × ArgumentsMean (named self.now.loaded.now) self.now.cells.now arguments ts }
         ensures { (ts : Terms) → ArgumentsMean (named self.now.loaded.now) self.now.cells.now arguments ts
-            → MatchOption result (is_cell point_name ts ≡ false) (λ p. Pairs (named self.now.loaded.now) self.now.cells.now p.0 p.1 ts) }
+            → MatchOption result (is_cell point_name ts ≡ false)
+            (λ p. Pairs (named self.now.loaded.now) self.now.cells.now p.0 p.1 ts) }
     {
         let Some((first, rest)) = self.split_first(arguments) else {
             return None;
@@ -110,7 +116,8 @@ impl<N: Naming> Printer<'_, N> {
     fn list_cell(&self, root: Root) -> Option<(Ref, Ref)>
         requires { (t : Term) × RootMeans (named self.now.loaded.now) self.now.cells.now root t }
         ensures { (t : Term) → RootMeans (named self.now.loaded.now) self.now.cells.now root t
-            → MatchOption result (is_list_cell t ≡ false) (λ c. IsListCell (named self.now.loaded.now) self.now.cells.now c.0 c.1 t) }
+            → MatchOption result (is_list_cell t ≡ false)
+            (λ c. IsListCell (named self.now.loaded.now) self.now.cells.now c.0 c.1 t) }
     {
         match root {
             Root::Variable(_) => None,
@@ -127,7 +134,8 @@ impl<N: Naming> Printer<'_, N> {
     /// Whether the term is the empty list. Takes no memory.
     fn is_nil(&self, root: Root) -> bool
         requires { (t : Term) × RootMeans (named self.now.loaded.now) self.now.cells.now root t }
-        ensures { (t : Term) → RootMeans (named self.now.loaded.now) self.now.cells.now root t → result ≡ is_empty_list t }
+        ensures { (t : Term) → RootMeans (named self.now.loaded.now) self.now.cells.now root t
+            → result ≡ is_empty_list t }
     {
         match root {
             Root::Variable(_) => false,
@@ -148,7 +156,9 @@ impl<N: Naming> Printer<'_, N> {
     ) -> Result<(), AllocError>
         requires { (ts : Terms) × ArgumentsMean (named self.now.loaded.now) self.now.cells.now arguments ts }
         ensures { (ts : Terms) → ArgumentsMean (named self.now.loaded.now) self.now.cells.now arguments ts → OnOk result
-            ((seen : List Variable) → Does (named self.now.loaded.now) self.now.cells.now (variables_in ts) (λ vs. shown_arguments (named self.now.loaded.now).program.names vs ts) seen seen out.old out.new work.old.items work.new.items) }
+            ((seen : List Variable) → Does (named self.now.loaded.now) self.now.cells.now (variables_in ts)
+            (λ vs. shown_arguments (named self.now.loaded.now).program.names vs ts) seen seen out.old out.new
+            work.old.items work.new.items) }
     {
         if let Some((first, rest)) = self.split_first(arguments) {
             out.append(b"(")?;
@@ -166,7 +176,9 @@ impl<N: Naming> Printer<'_, N> {
     ) -> Result<(), AllocError>
         requires { (ts : Terms) × ArgumentsMean (named self.now.loaded.now) self.now.cells.now arguments ts }
         ensures { (ts : Terms) → ArgumentsMean (named self.now.loaded.now) self.now.cells.now arguments ts → OnOk result
-            ((seen : List Variable) → Does (named self.now.loaded.now) self.now.cells.now (variables_in ts) (λ vs. shown_rest (named self.now.loaded.now).program.names vs ts) seen seen out.old out.new work.old.items work.new.items) }
+            ((seen : List Variable) → Does (named self.now.loaded.now) self.now.cells.now (variables_in ts)
+            (λ vs. shown_rest (named self.now.loaded.now).program.names vs ts) seen seen out.old out.new
+            work.old.items work.new.items) }
     {
         match self.split_first(arguments) {
             None => out.append(b")")?,
@@ -188,7 +200,9 @@ impl<N: Naming> Printer<'_, N> {
     ) -> Result<(), AllocError>
         requires { (t : Term) × RootMeans (named self.now.loaded.now) self.now.cells.now root t }
         ensures { (t : Term) → RootMeans (named self.now.loaded.now) self.now.cells.now root t → OnOk result
-            (Does (named self.now.loaded.now) self.now.cells.now (variables_of t) (λ vs. shown (named self.now.loaded.now).program.names vs t) names.old names.new out.old out.new work.old.items work.new.items) }
+            (Does (named self.now.loaded.now) self.now.cells.now (variables_of t)
+            (λ vs. shown (named self.now.loaded.now).program.names vs t) names.old names.new out.old out.new
+            work.old.items work.new.items) }
     {
         if let Some((head, tail)) = self.list_cell(root) {
             out.append(b"[")?;
@@ -215,7 +229,9 @@ impl<N: Naming> Printer<'_, N> {
     ) -> Result<(), AllocError>
         requires { (t : Term) × RootMeans (named self.now.loaded.now) self.now.cells.now root t }
         ensures { (t : Term) → RootMeans (named self.now.loaded.now) self.now.cells.now root t → OnOk result
-            (Does (named self.now.loaded.now) self.now.cells.now (variables_of t) (λ vs. shown_tail (named self.now.loaded.now).program.names vs t) names.old names.new out.old out.new work.old.items work.new.items) }
+            (Does (named self.now.loaded.now) self.now.cells.now (variables_of t)
+            (λ vs. shown_tail (named self.now.loaded.now).program.names vs t) names.old names.new out.old out.new
+            work.old.items work.new.items) }
     {
         if let Some((head, tail)) = self.list_cell(root) {
             out.append(b",")?;
@@ -239,7 +255,9 @@ impl<N: Naming> Printer<'_, N> {
         requires program { N.program ≡ named self.now.loaded.now }
         requires means { (p : Piece) × TaskMeans (named self.now.loaded.now) self.now.cells.now task p }
         ensures { (p : Piece) → TaskMeans (named self.now.loaded.now) self.now.cells.now task p → OnOk result
-            (Does (named self.now.loaded.now) self.now.cells.now (variables_there p) (piece_text (named self.now.loaded.now).program.names p) names.old names.new out.old out.new work.old.items work.new.items) }
+            (Does (named self.now.loaded.now) self.now.cells.now (variables_there p)
+            (piece_text (named self.now.loaded.now).program.names p) names.old names.new out.old out.new
+            work.old.items work.new.items) }
     {
         match task {
             Task::Whole(term) => self.write_root(names, out, work, self.root(term)),
@@ -261,7 +279,8 @@ impl<N: Naming> Printer<'_, N> {
         requires program { N.program ≡ named self.now.loaded.now }
         requires means { (t : Term) × Means (named self.now.loaded.now) self.now.cells.now term t }
         ensures { (t : Term) → Means (named self.now.loaded.now) self.now.cells.now term t → OnOk result
-            (Writes (variables_of t) (λ vs. shown (named self.now.loaded.now).program.names vs t) names.old names.new out.old out.new) }
+            (Writes (variables_of t) (λ vs. shown (named self.now.loaded.now).program.names vs t) names.old
+            names.new out.old out.new) }
     {
         let mut work = Vec::new(alloc);
         work.push(Task::Whole(term))?;
@@ -288,8 +307,11 @@ impl<N: Naming> Printer<'_, N> {
         requires other { nat_eq name.0 point_name ≡ false }
         requires left { (a : Term) × Means (named self.now.loaded.now) self.now.cells.now left a }
         requires right { (b : Term) × Means (named self.now.loaded.now) self.now.cells.now right b }
-        ensures { (a b : Term) → Means (named self.now.loaded.now) self.now.cells.now left a → Means (named self.now.loaded.now) self.now.cells.now right b → OnOk result
-            (Writes (variables_of (compound name.0 (more a (more b none)))) (λ vs. shown (named self.now.loaded.now).program.names vs (compound name.0 (more a (more b none)))) names.old names.new out.old out.new) }
+        ensures { (a b : Term) → Means (named self.now.loaded.now) self.now.cells.now left a
+            → Means (named self.now.loaded.now) self.now.cells.now right b → OnOk result
+            (Writes (variables_of (compound name.0 (more a (more b none))))
+            (λ vs. shown (named self.now.loaded.now).program.names vs (compound name.0 (more a (more b none))))
+            names.old names.new out.old out.new) }
     {
         write_name(out, self.loaded.name(name))?;
         out.append(b"(")?;
@@ -311,10 +333,12 @@ impl<N: Naming> Printer<'_, N> {
         base: u32,
     ) -> Result<(), AllocError>
         requires program { N.program ≡ named self.now.loaded.now }
-        requires means { (s : Substitution) × ItemMeans (named self.now.loaded.now) self.now.cells.now (node_item item) base s }
+        requires means { (s : Substitution)
+            × ItemMeans (named self.now.loaded.now) self.now.cells.now (node_item item) base s }
         ensures { (s : Substitution) → ItemMeans (named self.now.loaded.now) self.now.cells.now (node_item item) base s
             → (t : Term) → t ≡ apply s (item_term (item_of (named self.now.loaded.now).skeleton.nodes (node_item item)))
-            → OnOk result (Writes (variables_of t) (λ vs. shown (named self.now.loaded.now).program.names vs t) names.old names.new out.old out.new) }
+            → OnOk result (Writes (variables_of t) (λ vs. shown (named self.now.loaded.now).program.names vs t)
+            names.old names.new out.old out.new) }
     {
         let loaded = self.loaded;
         match item {
@@ -359,7 +383,8 @@ impl<N: Naming> Printer<'_, N> {
         requires program { N.program ≡ named self.now.loaded.now }
         requires means { (t : Term) × GoalMeans (named self.now.loaded.now) self.now.cells.now goal t }
         ensures { (t : Term) → GoalMeans (named self.now.loaded.now) self.now.cells.now goal t
-            → OnOk result (Writes (variables_of t) (λ vs. shown (named self.now.loaded.now).program.names vs t) names.old names.new out.old out.new) }
+            → OnOk result (Writes (variables_of t) (λ vs. shown (named self.now.loaded.now).program.names vs t)
+            names.old names.new out.old out.new) }
     {
         let item = self.loaded.items(goal.clause)[goal.item as usize];
         self.write_item(alloc, names, out, item, goal.base)
@@ -378,7 +403,8 @@ impl<N: Naming> Printer<'_, N> {
         requires program { N.program ≡ named self.now.loaded.now }
         requires means { (t : Term) × Means (named self.now.loaded.now) self.now.cells.now (Ref.Cell cell) t }
         ensures { (t : Term) → Means (named self.now.loaded.now) self.now.cells.now (Ref.Cell cell) t → OnOk result
-            (Writes (variables_of t) (λ vs. name.now ++ codes " = " ++ shown (named self.now.loaded.now).program.names vs t) names.old names.new out.old out.new) }
+            (Writes (variables_of t) (λ vs. name.now ++ codes " = "
+            ++ shown (named self.now.loaded.now).program.names vs t) names.old names.new out.old out.new) }
     {
         out.append(name)?;
         out.append(b" = ")?;
@@ -398,7 +424,9 @@ impl<N: Naming> Printer<'_, N> {
         ensures { (s : Substitution) → GivesQuery (named self.now.loaded.now) self.now.cells.now s → OnOk result
             (let P = (named self.now.loaded.now).program in
             let shown_ones = shown_variables 0 P.query.written in
-            Writes (variables_along (map (λ v. s [] v.1) shown_ones)) (λ vs. values_or_true (map (shown_value P.names vs s) shown_ones)) names.old names.new out.old out.new) }
+            Writes (variables_along (map (λ v. s [] v.1) shown_ones))
+            (λ vs. values_or_true (map (shown_value P.names vs s) shown_ones)) names.old
+            names.new out.old out.new) }
     {
         let mut is_first = true;
         for number in 0..self.loaded.variables(QUERY) {
@@ -426,8 +454,10 @@ impl<N: Naming> Printer<'_, N> {
     ) -> Result<(), AllocError>
         requires program { N.program ≡ named self.now.loaded.now }
         requires means { (ts : List Term) × GoalsMean (named self.now.loaded.now) self.now.cells.now waiting.now ts }
-        ensures { (ts : List Term) → GoalsMean (named self.now.loaded.now) self.now.cells.now waiting.now ts → OnOk result
-            (Writes (variables_along ts) (λ vs. with_waiting (named self.now.loaded.now).program.names vs ts) names.old names.new out.old out.new) }
+        ensures { (ts : List Term) → GoalsMean (named self.now.loaded.now) self.now.cells.now waiting.now ts
+            → OnOk result
+            (Writes (variables_along ts) (λ vs. with_waiting (named self.now.loaded.now).program.names vs ts) names.old
+            names.new out.old out.new) }
     {
         for place in 0..waiting.len() {
             out.append(separator(place == 0, b" with "))?;

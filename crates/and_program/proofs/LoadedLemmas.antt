@@ -1,5 +1,6 @@
 -- What a loaded program's nodes and entries say of its program.
-use Rattle.std.proofs.Common.{ℕ, zero, suc, ◌+◌, ◌≡◌, ◌<◌, ◌≤◌, Bool, true, cond, pos, List, [], ◌∷◌, length, map, get_or, take, Vec, refl, sym, ap, ◌∙◌, subst, arith}
+use Rattle.std.proofs.Common.{ℕ, zero, suc, ◌+◌, ◌≡◌, ◌<◌, ◌≤◌, Bool, true, cond, pos, List, [], ◌∷◌, length, map, get_or, take, Vec, refl, sym, ap, ◌∙◌}
+use Rattle.std.proofs.Common.{subst, arith}
 use Rattle.std.proofs.lemmas.List.{length-map, get_or-map}
 use Rattle.std.proofs.lemmas.Bool.{eqb-true, false≢true}
 use Rattle.std.specs.declared.alloc.Global.{Global}
@@ -13,7 +14,8 @@ use Rattle.and_model.specs.declared.numbers.ClauseNo.{ClauseNo}
 use Rattle.and_model.specs.declared.numbers.NameNo.{NameNo}
 use Rattle.and_model.specs.declared.numbers.NodeNo.{NodeNo}
 use Rattle.and_program.specs.Skeletons
-use Rattle.and_program.specs.Skeletons.{Shape, NodeItem, NodeClause, term_list, nth, shape_term, terms_behind, node_term, item_of, Falls, AllFall, IsFalling, AllThere, IsClause, AllClauses}
+use Rattle.and_program.specs.Skeletons.{Shape, NodeItem, NodeClause, term_list, nth, shape_term, terms_behind, node_term, item_of, Falls, AllFall, IsFalling}
+use Rattle.and_program.specs.Skeletons.{AllThere, IsClause, AllClauses}
 use Rattle.and_program.specs.declared.entry.ClauseEntry.{ClauseEntry}
 use Rattle.and_program.specs.declared.node.Node.{Node}
 use Rattle.and_program.specs.declared.node.Node.TheVariants.{Variable, Compound}
@@ -44,7 +46,8 @@ IsEntry-at ss (e ∷ es) zero d all here = all.0
 IsEntry-at ss (e ∷ es) (suc n) d all here = IsEntry-at ss es n d all.1 here
 
 -- the nodes of the clause or query of that number are there
-pub entry_there : (ss : List Shape) (query : ClauseEntry) (es : List ClauseEntry) (names : List Bytes) (n : ℕ) (e : ClauseEntry) → IsProgram ss query es names → e ≡ get_or (query ∷ es) n query → IsEntry ss e
+pub entry_there : (ss : List Shape) (query : ClauseEntry) (es : List ClauseEntry) (names : List Bytes) (n : ℕ) (e : ClauseEntry) → IsProgram ss query es names
+    → e ≡ get_or (query ∷ es) n query → IsEntry ss e
 entry_there ss query es names n e kept is =
     let P : ClauseEntry → Type 0 = λ x. IsEntry ss x in subst P (sym is) (IsEntry-at ss (query ∷ es) n query (kept.query_there, kept.entries) kept.query_there)
 
@@ -86,7 +89,8 @@ AllClauses-entries ss [] there = tt
 AllClauses-entries ss (e ∷ es) there = (IsClause-entry ss e there.0, AllClauses-entries ss es there.1)
 
 -- a node that was read stands within what is kept
-pub IsWithin-read : (m : ℕ) (nodes : List Node) (n : ℕ) (node : Node) → AllWithin m (shapes_of nodes) → n < length (shapes_of nodes) → node ≡ get_or nodes n node → IsWithin m (shape_of node)
+pub IsWithin-read : (m : ℕ) (nodes : List Node) (n : ℕ) (node : Node) → AllWithin m (shapes_of nodes) → n < length (shapes_of nodes)
+    → node ≡ get_or nodes n node → IsWithin m (shape_of node)
 IsWithin-read m nodes n node all lt read =
     let P : Shape → Type 0 = λ s. IsWithin m s in
     let at : get_or (shapes_of nodes) n (shape_of node) ≡ shape_of node = get_or-map_default shape_of nodes n node ∙ ap shape_of (sym read) in
@@ -107,7 +111,8 @@ shown-shape_term ts (Skeletons.number z) = refl
 shown-shape_term ts (Skeletons.compound c ns) =
     ap (λ (n : ℕ). glance.TheVariants.Compound (record { 0 = c }) n) (sym (width-term_list (map (nth ts) ns) ∙ length-map ns (nth ts)))
 
-pub shown_node : (nodes : List Node) (n : ℕ) (node : Node) → n < length (shapes_of nodes) → node ≡ get_or nodes n node → shown (shape_of node) ≡ shown_term (node_term (shapes_of nodes) n)
+pub shown_node : (nodes : List Node) (n : ℕ) (node : Node) → n < length (shapes_of nodes) → node ≡ get_or nodes n node
+    → shown (shape_of node) ≡ shown_term (node_term (shapes_of nodes) n)
 shown_node nodes n node lt read =
     let ss : List Shape = shapes_of nodes in
     let s : Shape = get_or ss n (shape_of node) in
@@ -131,7 +136,8 @@ shape_argument ss n (Skeletons.number z) p f lt = absurd (omega arith)
 shape_argument ss n (Skeletons.compound c ms) p f lt = (term_at-term_list (nth (terms_behind [] ss)) ms p 0 lt, Falls-at n ms p 0 f lt)
 
 -- an argument's node and term
-pub node_argument : (ss : List Shape) (n p r : ℕ) → AllFall 0 ss → n < length ss → p < length (arguments_in (get_or ss n (Skeletons.number (pos 0)))) → r ≡ get_or (arguments_in (get_or ss n (Skeletons.number (pos 0)))) p 0
+pub node_argument : (ss : List Shape) (n p r : ℕ) → AllFall 0 ss → n < length ss → p < length (arguments_in (get_or ss n (Skeletons.number (pos 0))))
+    → r ≡ get_or (arguments_in (get_or ss n (Skeletons.number (pos 0)))) p 0
     → (node_term ss r ≡ argument_of (node_term ss n) p) × (r < n)
 node_argument ss n p r fall lt there is =
     let none : Shape = Skeletons.number (pos 0) in
@@ -139,11 +145,13 @@ node_argument ss n p r fall lt there is =
     let same : 0 + n ≡ n = omega arith in
     let falls : IsFalling n s = subst (λ (m : ℕ). IsFalling m s) same (AllFall-at 0 ss n none fall lt) in
     let P : ℕ → Type 0 = λ m. (node_term ss m ≡ argument_of (node_term ss n) p) × (m < n) in
-    let at : (node_term ss (get_or (arguments_in s) p 0) ≡ argument_of (shape_term (terms_behind [] ss) s) p) × (get_or (arguments_in s) p 0 < n) = shape_argument ss n s p falls there in
+    let at : (node_term ss (get_or (arguments_in s) p 0) ≡ argument_of (shape_term (terms_behind [] ss) s) p) × (get_or (arguments_in s) p 0 < n) =
+    shape_argument ss n s p falls there in
     subst P (sym is) (at.0 ∙ ap (λ (t : Term). argument_of t p) (sym (node_term_whole ss n none fall lt)), at.1)
 
 -- the node of an argument that was read
-pub argument_read : (nodes : List Node) (n p : ℕ) (node : Node) (c : NameNo) (ns : Vec NodeNo Global) (r : NodeNo) → n < length (shapes_of nodes) → node ≡ get_or nodes n node → node ≡ Compound c ns
+pub argument_read : (nodes : List Node) (n p : ℕ) (node : Node) (c : NameNo) (ns : Vec NodeNo Global) (r : NodeNo) → n < length (shapes_of nodes)
+    → node ≡ get_or nodes n node → node ≡ Compound c ns
     → p < length (arguments_in (get_or (shapes_of nodes) n (Skeletons.number (pos 0)))) → r ≡ get_or ns.items p r
     → r.0 ≡ get_or (arguments_in (get_or (shapes_of nodes) n (Skeletons.number (pos 0)))) p 0
 argument_read nodes n p node c ns r lt read is there argument =
@@ -180,7 +188,9 @@ count_of-shown (Skeletons.variable k) = refl
 count_of-shown (Skeletons.number z) = refl
 count_of-shown (Skeletons.compound c ns) = refl
 
-pub count_shown : (nodes : List Node) (n : ℕ) (node : Node) → n < length (shapes_of nodes) → node ≡ get_or nodes n node → count_of (shown (shape_of node)) ≡ length (arguments_in (get_or (shapes_of nodes) n (Skeletons.number (pos 0))))
+pub count_shown : (nodes : List Node) (n : ℕ) (node : Node) → n < length (shapes_of nodes) → node ≡ get_or nodes n node
+    → count_of (shown (shape_of node)) ≡ length (arguments_in (get_or (shapes_of nodes) n (Skeletons.number (pos 0))))
 count_shown nodes n node lt read =
     count_of-shown (shape_of node)
-    ∙ ap (λ (s : Shape). length (arguments_in s)) (sym (get_or-map shape_of nodes n node (Skeletons.number (pos 0)) (omega (arith, length-map nodes shape_of)) ∙ ap shape_of (sym read)))
+    ∙ ap (λ (s : Shape). length (arguments_in s))
+    (sym (get_or-map shape_of nodes n node (Skeletons.number (pos 0)) (omega (arith, length-map nodes shape_of)) ∙ ap shape_of (sym read)))

@@ -40,13 +40,15 @@ node_term_at ss n d lt =
     ∙ get_or_at front t [] (Terms.number (pos 0)) n few
 
 -- arguments that are there have the same terms under more nodes
-terms_of_arguments : (ss us : List Shape) (ms : List ℕ) → Falls (length ss) ms → term_list (map (nth (terms_behind [] (ss ++ us))) ms) ≡ term_list (map (nth (terms_behind [] ss)) ms)
+terms_of_arguments : (ss us : List Shape) (ms : List ℕ) → Falls (length ss) ms
+    → term_list (map (nth (terms_behind [] (ss ++ us))) ms) ≡ term_list (map (nth (terms_behind [] ss)) ms)
 terms_of_arguments ss us [] f = refl
 terms_of_arguments ss us (m ∷ ms) f =
     ap (λ (t : Term). Terms.more t (term_list (map (nth (terms_behind [] (ss ++ us))) ms))) (node_term_front ss us m f.0)
     ∙ ap (λ (ts : Terms). Terms.more (nth (terms_behind [] ss) m) ts) (terms_of_arguments ss us ms f.1)
 
-pub shape_term_front : (ss us : List Shape) (s : Shape) → IsFalling (length ss) s → shape_term (terms_behind [] (ss ++ us)) s ≡ shape_term (terms_behind [] ss) s
+pub shape_term_front : (ss us : List Shape) (s : Shape) → IsFalling (length ss) s
+    → shape_term (terms_behind [] (ss ++ us)) s ≡ shape_term (terms_behind [] ss) s
 shape_term_front ss us (variable k) f = refl
 shape_term_front ss us (number z) f = refl
 shape_term_front ss us (compound c ms) f = ap (λ (ts : Terms). Terms.compound c ts) (terms_of_arguments ss us ms f)

@@ -1,5 +1,5 @@
 -- The items of bodies that values of the code stand for, and what a body weighs.
-use Rattle.std.specs.Prelude.{ℕ, suc, List, [], ◌∷◌}
+use Rattle.std.specs.Prelude.{Bool, true, false, ℕ, suc, List, [], ◌∷◌}
 use Rattle.and_model.specs.Arithmetic as arithmetic
 use Rattle.and_model.specs.declared.relation.Relation.{Relation}
 use Rattle.and_model.specs.declared.relation.Relation.TheVariants.{Less, Greater, AtMost, AtLeast, Same, Differs}
@@ -23,6 +23,14 @@ node_item (Equal l r) = equal l.0 r.0
 node_item (Is l r pair) = is l.0 r.0 pair
 node_item (Compare o l r) = compare (relation o) l.0 r.0
 node_item Fail = fail
+
+-- the item is a call
+abbrev pub is_call_node : NodeItem → Bool
+is_call_node (call n) = true
+is_call_node (equal n m) = false
+is_call_node (is n m pair) = false
+is_call_node (compare o n m) = false
+is_call_node fail = false
 
 -- how many `is` goals there are
 abbrev pub pairs : List NodeItem → ℕ

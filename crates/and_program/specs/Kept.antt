@@ -30,15 +30,16 @@ AllWithin m (s ∷ ss) = IsWithin m s × AllWithin m ss
 
 -- the nodes of an entry are there, its `is` goals are numbered, and its terms name its own variables alone
 abbrev pub IsEntry : List Shape → ClauseEntry → Type 0
-IsEntry ss e = (e.head.0 < length ss) × AllThere ss 0 (map node_item e.items.items) × HasOwnVariables (entry_clause ss e)
+IsEntry ss e = (e.head.0 < length ss) × AllThere ss 0 (map node_item e.items.items)
+    × HasOwnVariables (entry_clause ss e)
 
 -- so it is of each entry
 abbrev pub AllEntries : List Shape → List ClauseEntry → Type 0
 AllEntries ss [] = Unit {0}
 AllEntries ss (e ∷ es) = IsEntry ss e × AllEntries ss es
 
--- What holds of the nodes, the query and the clauses of a program: each names what is there, and its own variables alone.
--- The query's head is the atom `true`.
+-- What holds of the nodes, the query and the clauses of a program: each names what is there, and its own variables
+-- alone. The query's head is the atom `true`.
 pub record IsProgram (ss : List Shape) (query : ClauseEntry) (es : List ClauseEntry) (names : List Bytes) : Type 0 where
   pub begins : begins_with_true ss ≡ true
   pub falls : AllFall 0 ss

@@ -12,7 +12,8 @@ use Rattle.and_program.specs.declared.loaded.Loaded.{Loaded}
 
 -- the program of a query and clauses among nodes, with these names
 abbrev pub program_in : List Shape → ClauseEntry → List ClauseEntry → List Bytes → Program
-program_in ss query es names = record { clauses = map (entry_clause ss) es; query = entry_clause ss query; names = names }
+program_in ss query es names =
+    record { clauses = map (entry_clause ss) es; query = entry_clause ss query; names = names }
 
 abbrev pub program_of : Loaded → Program
 program_of l = program_in (shapes_of l.nodes.items) l.query l.clauses.items (names_of l.names.keys)

@@ -2,7 +2,8 @@
 use Rattle.std.specs.Prelude.{ℕ, suc, List, [], ◌∷◌, length, map}
 use Rattle.std.specs.Coded.{×_prop, Unit-prop}
 use Rattle.std.proofs.Props.{props}
-use Rattle.and_program.specs.Skeletons.{Shape, variable, number, compound, NodeItem, call, equal, is, compare, fail, Falls, IsFalling, AllFall, IsThere, AllThere, after}
+use Rattle.and_program.specs.Skeletons.{Shape, variable, number, compound, NodeItem, call, equal, is, compare, fail}
+use Rattle.and_program.specs.Skeletons.{Falls, IsFalling, AllFall, IsThere, AllThere, after}
 use Rattle.and_program.specs.Items.{node_item}
 use Rattle.and_program.specs.Kept.{IsWithin, AllWithin, IsEntry, AllEntries, IsProgram}
 use Rattle.and_model.specs.Lines.{Bytes}
@@ -48,5 +49,7 @@ pub AllEntries-prop : (ss : List Shape) (es : List ClauseEntry) → IsProp (AllE
 AllEntries-prop ss [] = Unit-prop
 AllEntries-prop ss (e ∷ es) = ×_prop (IsEntry-prop ss e) (AllEntries-prop ss es)
 
-pub IsProgram-prop : (ss : List Shape) (query : ClauseEntry) (es : List ClauseEntry) (names : List Bytes) → IsProp (IsProgram ss query es names)
-IsProgram-prop ss query es names = hlevel (AllFall-prop 0 ss, AllWithin-prop (length names) ss, AllEntries-prop ss es, IsEntry-prop ss query, props)
+pub IsProgram-prop : (ss : List Shape) (query : ClauseEntry) (es : List ClauseEntry) (names : List Bytes)
+    → IsProp (IsProgram ss query es names)
+IsProgram-prop ss query es names =
+    hlevel (AllFall-prop 0 ss, AllWithin-prop (length names) ss, AllEntries-prop ss es, IsEntry-prop ss query, props)

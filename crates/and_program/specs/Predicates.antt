@@ -1,5 +1,6 @@
 -- Predicates, and the clauses that they have, by their numbers.
-use Rattle.std.specs.Prelude.{ℕ, ◌≡◌, suc, Bool, false, ◌&&◌, cond, List, [], ◌∷◌, length, Option, Some, None, nat_eq, Vec}
+use Rattle.std.specs.Prelude.{ℕ, ◌≡◌, suc, Bool, false, ◌&&◌, cond, List, [], ◌∷◌, length, Option, Some, None, nat_eq}
+use Rattle.std.specs.Prelude.{Vec}
 use Rattle.std.specs.HashMap.{HashMap, get}
 use Rattle.and_model.specs.Terms.{Term, variable, number, compound}
 use Rattle.and_model.specs.Programs.{Clause}
@@ -33,7 +34,8 @@ is_key_of (Some q) p = same_key q p
 -- the numbers, from n on, of those clauses whose head is of that predicate
 abbrev pub numbers_from : Predicate → ℕ → List Clause → List ClauseNo
 numbers_from p n [] = []
-numbers_from p n (c ∷ cs) = cond (is_key_of (predicate_in c.head) p) (record { 0 = n } ∷ numbers_from p (suc n) cs) (numbers_from p (suc n) cs)
+numbers_from p n (c ∷ cs) =
+    cond (is_key_of (predicate_in c.head) p) (record { 0 = n } ∷ numbers_from p (suc n) cs) (numbers_from p (suc n) cs)
 
 -- a list that may be there
 abbrev pub items_in : {Z : Type 0} → Option (Vec ClauseNo Z) → List ClauseNo

@@ -63,7 +63,8 @@ has_functor c n (Terms.compound d ts) = nat_eq d c && nat_eq (width ts) n
 -- the numbers, from k on, of those clauses whose heads have that name and number of arguments
 abbrev pub clauses_with : ℕ → ℕ → ℕ → List Clause → List ClauseNo
 clauses_with c n k [] = []
-clauses_with c n k (clause ∷ clauses) = cond (has_functor c n clause.head) (record { 0 = k } ∷ clauses_with c n (suc k) clauses) (clauses_with c n (suc k) clauses)
+clauses_with c n k (clause ∷ clauses) = cond (has_functor c n clause.head)
+    (record { 0 = k } ∷ clauses_with c n (suc k) clauses) (clauses_with c n (suc k) clauses)
 
 -- where the term of a node is found in the frame at that base
 abbrev pub resolved : Shape → NodeNo → ℕ → Ref

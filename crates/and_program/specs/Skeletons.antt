@@ -1,4 +1,5 @@
--- Clauses as nodes that name each other, from which the run-time shares structure (Boyer and Moore, 1972; this project's own numbering).
+-- Clauses as nodes that name each other, from which the run-time shares structure (Boyer and Moore, 1972; this
+-- project's own numbering).
 use Rattle.std.specs.Prelude.{ℕ, ℤ, pos, suc, ◌<◌, ◌≡◌, List, [], ◌∷◌, ◌++◌, length, map, get_or}
 use Rattle.and_model.specs.Terms
 use Rattle.and_model.specs.Terms.{Term, Terms}

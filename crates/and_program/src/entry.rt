@@ -21,7 +21,8 @@ pub struct ClauseEntry {
     /// How many comparisons its body begins with.
     pub(crate) guard: u32,
     ghost few: { vec_len variables ≤ MAX_VARIABLES },
-    ghost weighed: { weight ≡ 1 + vec_len variables + (pairs (map node_item items.items) + pairs (map node_item items.items)) },
+    ghost weighed: { weight ≡ 1 + vec_len variables
+        + (pairs (map node_item items.items) + pairs (map node_item items.items)) },
     ghost guarded: { guard ≡ guard_length (map node_item items.items) },
 }
 

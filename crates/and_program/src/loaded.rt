@@ -41,7 +41,15 @@ impl Loaded {
     ghost use Rattle.and_model.specs.Terms.{width};
     ghost use Rattle.and_program.specs.Skeletons.{IsSkeleton, AllThere, node_term, item_of};
     ghost use Rattle.and_program.specs.Items.{node_item};
-    ghost use Rattle.and_program.specs.Loaded.{program_in, program_of, skeleton_of, entry_at, nodes_at, shape_at, arguments_at};
+    ghost use Rattle.and_program.specs.Loaded.{
+      program_in,
+      program_of,
+      skeleton_of,
+      entry_at,
+      nodes_at,
+      shape_at,
+      arguments_at,
+    };
 
     /// The program of these nodes and entries, which fit each other. `numbers` has the clauses of each
     /// predicate. Takes no memory.
@@ -97,7 +105,8 @@ impl Loaded {
     pub fn items(&self, no: ClauseNo) -> &[ItemNode]
         requires { no.0 ≤ length (program_of self.now).clauses }
         ensures items { map node_item result.now ≡ (nodes_at (skeleton_of self.now) no.0).items }
-        ensures body { map (item_of (skeleton_of self.now).nodes) (map node_item result.now) ≡ (clause_at (program_of self.now) no.0).body }
+        ensures body { map (item_of (skeleton_of self.now).nodes) (map node_item result.now)
+            ≡ (clause_at (program_of self.now) no.0).body }
         ensures there { AllThere (skeleton_of self.now).nodes 0 (map node_item result.now) }
     {
         &self.entry(no).items
@@ -142,7 +151,8 @@ impl Loaded {
         requires there { node.0 < length (skeleton_of self.now).nodes }
         requires place { place < length (arguments_at (skeleton_of self.now) node.0) }
         ensures node { result.0 ≡ get_or (arguments_at (skeleton_of self.now) node.0) place 0 }
-        ensures term { node_term (skeleton_of self.now).nodes result.0 ≡ argument_of (node_term (skeleton_of self.now).nodes node.0) place }
+        ensures term { node_term (skeleton_of self.now).nodes result.0
+            ≡ argument_of (node_term (skeleton_of self.now).nodes node.0) place }
         ensures below { result.0 < node.0 }
     {
         match &self.nodes[node.0 as usize] {
@@ -157,7 +167,8 @@ impl Loaded {
         ensures clauses { result.now ≡ clauses_with name.0 arity 1 (program_of self.now).clauses }
 
         // These are just the clauses that a goal of that name and number of arguments can be taken by.
-        ensures members { (ts : Terms) (k : ℕ) → width ts ≡ arity → list_any (λ m. nat_eq m.0 k) result.now ≡ is_of (program_of self.now) (compound name.0 ts) k }
+        ensures members { (ts : Terms) (k : ℕ) → width ts ≡ arity
+            → list_any (λ m. nat_eq m.0 k) result.now ≡ is_of (program_of self.now) (compound name.0 ts) k }
     {
         let predicate = Predicate {
             name,

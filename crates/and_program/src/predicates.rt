@@ -3,7 +3,8 @@
 ghost use Rattle.std.specs.Prelude.{◌≡◌, ◌≤◌, ◌++◌, ◌∷◌, [], map, length, IfOk, OnOk, if◌then◌else◌};
 ghost use Rattle.and_program.specs.Skeletons.{node_term};
 ghost use Rattle.and_program.specs.Nodes.{shape_of, shapes_of, entry_clause};
-ghost use Rattle.and_program.specs.Predicates.{predicate_in, predicate_in_shape, same_key, is_key_of, numbers_at, Finds};
+ghost use Rattle.and_program.specs.Predicates.{predicate_in, predicate_in_shape, same_key, is_key_of, numbers_at};
+ghost use Rattle.and_program.specs.Predicates.{Finds};
 ghost use Rattle.and_program.specs.declared.predicates.Predicate.{Predicate};
 ghost use Rattle.and_model.specs.declared.limits.TheConstants.{MAX_CLAUSES};
 
@@ -64,7 +65,8 @@ fn note(
     predicate: Predicate,
     number: ClauseNo,
 ) -> Result<(), AllocError>
-    ensures { OnOk result ((p : Predicate) → numbers_at found.new p ≡ (if same_key predicate p then numbers_at found.old p ++ number ∷ [] else numbers_at found.old p)) }
+    ensures { OnOk result ((p : Predicate) → numbers_at found.new p
+        ≡ (if same_key predicate p then numbers_at found.old p ++ number ∷ [] else numbers_at found.old p)) }
 {
     let mut numbers = found.remove(&predicate).unwrap_or(Vec::new(alloc));
     numbers.push(number)?;
@@ -79,7 +81,8 @@ fn note_clause(
     predicate: Option<Predicate>,
     number: ClauseNo,
 ) -> Result<(), AllocError>
-    ensures { OnOk result ((p : Predicate) → numbers_at found.new p ≡ (if is_key_of predicate p then numbers_at found.old p ++ number ∷ [] else numbers_at found.old p)) }
+    ensures { OnOk result ((p : Predicate) → numbers_at found.new p
+        ≡ (if is_key_of predicate p then numbers_at found.old p ++ number ∷ [] else numbers_at found.old p)) }
 {
     match predicate {
         Some(predicate) => note(alloc, found, predicate, number),

@@ -24,13 +24,15 @@ use Rattle.and_rebuild_laws.specs.Opening.{Cells, AreCells, all_but, put_apart, 
 use Rattle.and_rebuild_laws.proofs.Leaving.{WasRun, was_run}
 use Rattle.and_rebuild_laws.proofs.Opening.{cells_alike}
 
-pub branch_opens : (P : NamedProgram) → OwnVariables P → (rs : List Reduction) (row : List Ref) (kept : List Framed) (t : QueryTree P.program) (k : Kept P rs row kept t)
+pub branch_opens : (P : NamedProgram) → OwnVariables P
+    → (rs : List Reduction) (row : List Ref) (kept : List Framed) (t : QueryTree P.program) (k : Kept P rs row kept t)
     (apart : Path) (cells : Cells) → AreCells (IsVariable P rs) k.names apart cells
     → (gone : List Arithmetic) × (ran : Ran (equations t) (arithmetics t) k.solved (arithmetic_among (map (task_of P.program) kept)))
     × TakenOut gone (goals_run ran) [] × Leaves (tasks t) gone (map (task_of P.program) kept)
     × Alike (all_but apart) k.solved (under (put_apart apart) (equations_of P row) ++ cell_equations apart cells)
 branch_opens P own rs row kept t k apart cells are =
-    let w : WasRun (equations t) k.solved (tasks t) (map (task_of P.program) kept) = was_run (equations t) (tasks t) k.solved (map (task_of P.program) kept) k.ran in
+    let w : WasRun (equations t) k.solved (tasks t) (map (task_of P.program) kept) =
+    was_run (equations t) (tasks t) k.solved (map (task_of P.program) kept) k.ran in
     let ran : (r : Ran (equations t) (arithmetics t) k.solved (arithmetic_among (map (task_of P.program) kept))) × TakenOut w.gone (goals_run r) [] =
     subst (λ (gs : List Arithmetic). (r : Ran (equations t) gs k.solved (arithmetic_among (map (task_of P.program) kept))) × TakenOut w.gone (goals_run r) [])
     (tasks_arithmetic t) (w.ran, w.out) in

@@ -15,10 +15,12 @@ use Rattle.and_laws.proofs.Picking.{candidate_falls}
 use Rattle.and_branch_laws.specs.Variables.{SpeaksOf, EquationsSpeakOf, cells_from, placed}
 use Rattle.and_branch_laws.specs.OwnVariables.{IsOwn, AreOwn}
 use Rattle.and_branch_laws.proofs.Owning.{own_speaks}
-use Rattle.and_branch_laws.proofs.Speaking.{speaks_agree, speaks_solves, speaks_over, equations_speak_over, speaks_applied, speaks_variable, back_again, equations_back_again, under_then, then_under}
+use Rattle.and_branch_laws.proofs.Speaking.{speaks_agree, speaks_solves, speaks_over, equations_speak_over, speaks_applied, speaks_variable, back_again}
+use Rattle.and_branch_laws.proofs.Speaking.{equations_back_again, under_then, then_under}
 use Rattle.and_rebuild_laws.specs.Opening.{put_apart, IsCell}
 
-module _ (P : Program) (es cells : List Equation) (t : Term) (base count : ℕ) (p q fresh apart : Path) (c : ℕ) (speaks : EquationsSpeakOf IsCell cells) (own : AreOwn count t)
+module _ (P : Program) (es cells : List Equation) (t : Term) (base count : ℕ) (p q fresh apart : Path) (c : ℕ) (speaks : EquationsSpeakOf IsCell cells)
+    (own : AreOwn count t)
     (other : p ≢ apart) (longer : q ≢ []) (no_cell : fresh ≢ []) where
   -- the cells of the frame at the base as the variables of p, and the other cells apart
   read_by : (k : ℕ) → (k < base + 1) ⊎ (base + 1 ≤ k) → (k < base + 1 + count) ⊎ (base + 1 + count ≤ k) → Term
@@ -44,10 +46,12 @@ module _ (P : Program) (es cells : List Equation) (t : Term) (base count : ℕ) 
     | inr is ↦ ap (λ b. cond b (variable [] (base + 1 + k)) (variable [] k)) is
   ]
 
-  back_read_by : (k : ℕ) (low : (k < base + 1) ⊎ (base + 1 ≤ k)) (high : (k < base + 1 + count) ⊎ (base + 1 + count ≤ k)) → apply back (read_by k low high) ≡ variable [] k
+  back_read_by : (k : ℕ) (low : (k < base + 1) ⊎ (base + 1 ≤ k)) (high : (k < base + 1 + count) ⊎ (base + 1 + count ≤ k))
+      → apply back (read_by k low high) ≡ variable [] k
   unfolding read_by
   back_read_by k (inl low) high = back_apart k
-  back_read_by k (inr behind) (inl within) = let same : base + 1 + (k - (base + 1)) ≡ k = omega arith in back_own (k - (base + 1)) ∙ ap (λ m. variable [] m) same
+  back_read_by k (inr behind) (inl within) = let same : base + 1 + (k - (base + 1)) ≡ k =
+      omega arith in back_own (k - (base + 1)) ∙ ap (λ m. variable [] m) same
   back_read_by k (inr behind) (inr above) = back_apart k
 
   back_read : (v : Path × ℕ) → IsCell v → apply back (read v.0 v.1) ≡ variable v.0 v.1
@@ -55,7 +59,8 @@ module _ (P : Program) (es cells : List Equation) (t : Term) (base count : ℕ) 
   back_read v is = back_read_by v.1 (cases_lt v.1 (base + 1)) (cases_lt v.1 (base + 1 + count)) ∙ ap (λ (r : Path). variable r v.1) (sym is)
 
   -- The term in its cells, read so, is the term in its frame.
-  read_own_by : (k : ℕ) → k < count → (low : (base + 1 + k < base + 1) ⊎ (base + 1 ≤ base + 1 + k)) (high : (base + 1 + k < base + 1 + count) ⊎ (base + 1 + count ≤ base + 1 + k))
+  read_own_by : (k : ℕ) → k < count
+      → (low : (base + 1 + k < base + 1) ⊎ (base + 1 ≤ base + 1 + k)) (high : (base + 1 + k < base + 1 + count) ⊎ (base + 1 + count ≤ base + 1 + k))
       → read_by (base + 1 + k) low high ≡ variable p k
   unfolding read_by
   read_own_by k l (inl low) high = absurd (omega arith)
@@ -78,25 +83,29 @@ module _ (P : Program) (es cells : List Equation) (t : Term) (base count : ℕ) 
       let low : k - (base + 1) < count = omega arith in ap (λ m. s apart m) (sym is) ∙ sym (same (k - (base + 1)) low)
   read_gives s same k (inr behind) (inr above) = refl
 
-  pub candidate_in_cells : Entails es (under (put_apart apart) cells) → ((s : Substitution) → Solves s es → (k : ℕ) → k < count → s p k ≡ s apart (base + 1 + k))
+  pub candidate_in_cells : Entails es (under (put_apart apart) cells)
+      → ((s : Substitution) → Solves s es → (k : ℕ) → k < count → s p k ≡ s apart (base + 1 + k))
       → Candidate P es q (framed p t) c → Candidate P cells fresh (placed base t) c
   unfolding read
   candidate_in_cells states same candidate =
       let named : List Equation = under read cells in
       let follow : Entails es named = λ s h.
       then_under read s cells (speaks_solves IsCell (then (put_apart apart) s) (then read s) cells
-      (λ v is. read_gives s (same s h) v.1 (cases_lt v.1 (base + 1)) (cases_lt v.1 (base + 1 + count))) speaks (under_then (put_apart apart) s cells (states s h))) in
+      (λ v is. read_gives s (same s h) v.1 (cases_lt v.1 (base + 1)) (cases_lt v.1 (base + 1 + count))) speaks
+      (under_then (put_apart apart) s cells (states s h))) in
       let fallen : Candidate P named q (framed p t) c = candidate_falls P named es q (framed p t) c follow candidate in
       let again : under back named ≡ cells = equations_back_again IsCell read back cells back_read speaks in
       let call_speaks : SpeaksOf IsCell (placed base t) =
       speaks_applied (IsOwn count) IsCell (cells_from base) t (λ v o. speaks_variable IsCell [] (base + 1 + v.1) refl) (own_speaks count t own) in
-      let call_again : apply back (framed p t) ≡ placed base t = ap (apply back) (sym read_placed) ∙ back_again IsCell read back (placed base t) back_read call_speaks in
+      let call_again : apply back (framed p t) ≡ placed base t =
+      ap (apply back) (sym read_placed) ∙ back_again IsCell read back (placed base t) back_read call_speaks in
       let apart_from : (r : Path) → (r ≢ []) → (v : Path × ℕ) → IsCell v → not (same_path r v.0) ≡ true = λ r far v is. away r v.0 (λ e. far (e ∙ is)) in
       let in_frame : Path → Variables = λ r x k. same_path r x in
       let renamed : Candidate P (under back named) q (apply back (framed p t)) c =
       candidate_renamed P named back read (in_frame q) q (framed p t) c (λ k. same_path_self q)
       (subst (λ ds. EquationsOver (others (in_frame q)) ds) (sym again) (equations_speak_over IsCell (others (in_frame q)) (apart_from q longer) cells speaks))
-      (subst (λ u. IsOver (others (in_frame q)) u) (sym call_again) (speaks_over IsCell (others (in_frame q)) (apart_from q longer) (placed base t) call_speaks))
+      (subst (λ u. IsOver (others (in_frame q)) u) (sym call_again)
+      (speaks_over IsCell (others (in_frame q)) (apart_from q longer) (placed base t) call_speaks))
       (ap (λ ds. under read ds) again) (ap (apply read) call_again ∙ read_placed) fallen in
       let moved : Candidate P cells q (placed base t) c =
       subst (λ u. Candidate P cells q u c) call_again (subst (λ ds. Candidate P ds q (apply back (framed p t)) c) again renamed) in

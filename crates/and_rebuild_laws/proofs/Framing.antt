@@ -1,5 +1,6 @@
 -- The cells of the variables of a tree that is written down.
-use Rattle.std.proofs.Common.{ℕ, zero, suc, ◌+◌, ◌<◌, ◌≤◌, ◌≡◌, ◌≢◌, List, [], ◌∷◌, ◌++◌, length, replicate, refl, ap, sym, subst, ◌∙◌, inl, inr, arith, Contains}
+use Rattle.std.proofs.Common.{ℕ, zero, suc, ◌+◌, ◌<◌, ◌≤◌, ◌≡◌, ◌≢◌, List, [], ◌∷◌, ◌++◌, length, replicate, refl, ap, sym, subst, ◌∙◌, inl, inr, arith}
+use Rattle.std.proofs.Common.{Contains}
 use Rattle.std.proofs.lemmas.Bool.{cases_lt}
 use Rattle.std.proofs.lemmas.List.{length-append, length-replicate}
 use Rattle.std.proofs.lemmas.List.Elements.{Contains-append_cases, Contains-append_left, Contains-append_right}
@@ -101,7 +102,8 @@ module _ (P : NamedProgram) (rs : List Reduction) (t : QueryTree P.program) (mad
       let r = up_told place.0 n (clause_at P.program c).variables v j x in
       (record { node = n; clause = c; place = subst (λ q. PlaceHas rs n q) (sym r.0) place.1; clause_is = h; own = r.1 }, r.2)
 
-  cells_told : (xs : List Reduction) (sub : (x : Reduction) → Contains xs x → Contains rs x) (v : Path × ℕ) (j : ℕ) → Contains (cells_of xs sub) (v, j) → IsOwnCell v j
+  cells_told : (xs : List Reduction) (sub : (x : Reduction) → Contains xs x → Contains rs x) (v : Path × ℕ) (j : ℕ)
+      → Contains (cells_of xs sub) (v, j) → IsOwnCell v j
   unfolding cells_of
   cells_told [] sub v j c = frame_told 0 0 (inl (refl, refl)) v j c
   cells_told (x ∷ xs) sub v j c =
@@ -117,7 +119,8 @@ module _ (P : NamedProgram) (rs : List Reduction) (t : QueryTree P.program) (mad
   unfolding cells_of
   query_in [] sub e c = c
   query_in (x ∷ xs) sub e c =
-      Contains-append_right (in_frame x.node x.clause (inr (x, sub x (contains_first x xs), refl, refl))) (cells_of xs (λ y d. sub y (contains_more x y xs d))) e
+      Contains-append_right (in_frame x.node x.clause (inr (x, sub x (contains_first x xs), refl, refl)))
+      (cells_of xs (λ y d. sub y (contains_more x y xs d))) e
       (query_in xs (λ y d. sub y (contains_more x y xs d)) e c)
 
   frame_in : (xs : List Reduction) (sub : (x : Reduction) → Contains xs x → Contains rs x) (r : Reduction) → Contains xs r
@@ -127,7 +130,8 @@ module _ (P : NamedProgram) (rs : List Reduction) (t : QueryTree P.program) (mad
   frame_in (x ∷ xs) sub r c =
       let first : Cells = in_frame x.node x.clause (inr (x, sub x (contains_first x xs), refl, refl)) in
       let later : Cells = cells_of xs (λ y d. sub y (contains_more x y xs d)) in elim (contains_cases x r xs c) [
-        | inl is ↦ subst (λ (z : Reduction). (h : ClauseHas rs z.node z.clause) × ((e : (Path × ℕ) × ℕ) → Contains (in_frame z.node z.clause h) e → Contains (first ++ later) e)) (sym is)
+        | inl is ↦ subst (λ (z : Reduction). (h : ClauseHas rs z.node z.clause)
+            × ((e : (Path × ℕ) × ℕ) → Contains (in_frame z.node z.clause h) e → Contains (first ++ later) e)) (sym is)
             (inr (x, sub x (contains_first x xs), refl, refl), λ e d. Contains-append_left first later e d)
         | inr there ↦
             let found = frame_in xs (λ y d. sub y (contains_more x y xs d)) r there in
@@ -135,7 +139,8 @@ module _ (P : NamedProgram) (rs : List Reduction) (t : QueryTree P.program) (mad
       ]
 
   -- A variable of a frame that has its cells there has one.
-  has_cell : (n c : ℕ) (h : ClauseHas rs n c) (v : Path × ℕ) (i : IsVariable P rs v) → i.node ≡ n → i.clause ≡ c → Contains (in_frame n c h) (v, i.node + 1 + v.1)
+  has_cell : (n c : ℕ) (h : ClauseHas rs n c) (v : Path × ℕ) (i : IsVariable P rs v) → i.node ≡ n → i.clause ≡ c
+      → Contains (in_frame n c h) (v, i.node + 1 + v.1)
   unfolding in_frame
   has_cell n c h v i node clause =
       let place = clause_place P.program rs t made n c h in
@@ -195,10 +200,17 @@ module _ (P : NamedProgram) (rs : List Reduction) (t : QueryTree P.program) (mad
     elsewhere = λ v n c e. let (i, a) = cells_told rs (λ y f. f) v n c in place_apart i.node v.0 i.place e;
   } where
     more : (v : Path × ℕ) → IsVariable P old v → IsVariable P rs v
-    more v x = record { node = x.node; clause = x.clause; place = place_more old rs sub x.node v.0 x.place; clause_is = clause_more old rs sub x.node x.clause x.clause_is; own = x.own }
+    more v x = record {
+      node = x.node;
+      clause = x.clause;
+      place = place_more old rs sub x.node v.0 x.place;
+      clause_is = clause_more old rs sub x.node x.clause x.clause_is;
+      own = x.own;
+    }
 
   pub variables_have_cells : (apart : Path) × (cells : Cells)
-      × ((old : List Reduction) (names : Substitution) → ((x : Reduction) → Contains old x → Contains rs x) → AreNames old names → AreCells (IsVariable P old) names apart cells)
+      × ((old : List Reduction) (names : Substitution) → ((x : Reduction) → Contains old x → Contains rs x) → AreNames old names
+      → AreCells (IsVariable P old) names apart cells)
       × ((v : Path × ℕ) (n : ℕ) → Contains cells (v, n) → IsVariable P rs v)
       × ((node : ℕ) (q : Path) (i : ℕ) → PlaceHas rs node q → (q ≢ apart) × (q ++ i ∷ [] ≢ apart))
   unfolding IsOwnCell

@@ -22,7 +22,8 @@ value_at (c ∷ cells) s n = cond (nat_eq c.1 n) (s c.0.0 c.0.1) (value_at cells
 
 -- Of cells none of which stands for two variables, this is what it gives to a variable that has the cell.
 module _ (all : Cells) (one : (u v : Path × ℕ) (n : ℕ) → Contains all (u, n) → Contains all (v, n) → u ≡ v) (s : Substitution) where
-  value_found : (cells : Cells) → ((c : (Path × ℕ) × ℕ) → Contains cells c → Contains all c) → (v : Path × ℕ) (n : ℕ) → Contains cells (v, n) → value_at cells s n ≡ s v.0 v.1
+  value_found : (cells : Cells) → ((c : (Path × ℕ) × ℕ) → Contains cells c → Contains all c) → (v : Path × ℕ) (n : ℕ) → Contains cells (v, n)
+      → value_at cells s n ≡ s v.0 v.1
   unfolding value_at
   value_found [] of v n c = absurd (contains_none (v, n) c)
   value_found (x ∷ cells) of v n c = elim (eqb_tells x.1 n) [
@@ -65,7 +66,8 @@ cells_give apart r (x ∷ cells) p v n c = elim (contains_cases x (v, n) cells c
   | inr later ↦ cells_give apart r cells p.1 v n later
 ]
 
-module _ (V : Path × ℕ → Type 0) (names : Substitution) (apart : Path) (cells : Cells) (a : AreCells V names apart cells) (meant : Meant) (es solved : List Equation)
+module _ (V : Path × ℕ → Type 0) (names : Substitution) (apart : Path) (cells : Cells) (a : AreCells V names apart cells) (meant : Meant)
+    (es solved : List Equation)
     (speaks : EquationsSpeakOf V solved) where
   -- what the names make of a variable that has a cell
   named_as : (t : Substitution) (v : Path × ℕ) (n : ℕ) → Contains cells (v, n) → V v → then names t v.0 v.1 ≡ t [] n
@@ -114,7 +116,8 @@ module _ (V : Path × ℕ → Type 0) (names : Substitution) (apart : Path) (cel
         speaks_solves (IsNamedCell cells) t (then (put_apart apart) s) es (λ v x. ap (λ (q : Path). t q v.1) x.0 ∙ sym (cell v.1)) of_cells p in
         let given : Solves s (cell_equations apart cells) = cells_solved apart s cells
         (λ v n c. both_other apart (λ k. t [] k) (then names t) v.0 v.1 (a.elsewhere v n c) ∙ named_as t v n c (only v n c) ∙ sym (cell n)) in
-        let (r, q, agree) = alike.0 s (solves_join s (under (put_apart apart) es) (cell_equations apart cells) (then_under (put_apart apart) s es here) given) in
+        let (r, q, agree) = alike.0 s
+        (solves_join s (under (put_apart apart) es) (cell_equations apart cells) (then_under (put_apart apart) s es here) given) in
         then_under names t solved (speaks_solves V r (then names t) solved
         (λ v x. let (n, c) = a.all v x in agree v.0 v.1 (means v n c) ∙ both_other apart (λ k. t [] k) (then names t) v.0 v.1 (a.elsewhere v n c)) speaks q)
 
@@ -122,7 +125,9 @@ module _ (V : Path × ℕ → Type 0) (names : Substitution) (apart : Path) (cel
     stated t p =
         let (r, q, agree) = alike.1 (then names t) (under_then names t solved p) in
         let given = solves_back r (under (put_apart apart) es) (cell_equations apart cells) q in
-        let here : Solves (then (put_apart apart) r) es = under_then (put_apart apart) r es (solves_front r (under (put_apart apart) es) (cell_equations apart cells) q) in
+        let here : Solves (then (put_apart apart) r) es =
+        under_then (put_apart apart) r es (solves_front r (under (put_apart apart) es) (cell_equations apart cells) q) in
         speaks_solves (IsNamedCell cells) (then (put_apart apart) r) t es
-        (λ v x. let (u, c) = x.1 in sym (cells_give apart r cells given u v.1 c) ∙ agree u.0 u.1 (means u v.1 c) ∙ named_as t u v.1 c (only u v.1 c) ∙ ap (λ (z : Path). t z v.1) (sym x.0))
+        (λ v x. let (u, c) = x.1 in sym (cells_give apart r cells given u v.1 c) ∙ agree u.0 u.1 (means u v.1 c) ∙ named_as t u v.1 c (only u v.1 c)
+        ∙ ap (λ (z : Path). t z v.1) (sym x.0))
         of_cells here

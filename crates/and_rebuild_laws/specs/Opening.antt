@@ -22,7 +22,8 @@ all_but apart q k = not (same_path q apart)
 abbrev pub cell_equations : (apart : Path) → Cells → List Equation
 cell_equations apart cells = map (λ (c : (Path × ℕ) × ℕ). (variable c.0.0 c.0.1, variable apart c.1)) cells
 
--- All of these variables are among those that have cells, and are named by them. No cell stands for two, and none of the frame apart has one.
+-- All of these variables are among those that have cells, and are named by them. No cell stands for two, and none of
+-- the frame apart has one.
 pub record AreCells (V : Path × ℕ → Type 0) (names : Substitution) (apart : Path) (cells : Cells) : Type 0 where
   pub named : (v : Path × ℕ) (n : ℕ) → Contains cells (v, n) → V v → names v.0 v.1 ≡ cell_variable n
   pub all : (v : Path × ℕ) → V v → (n : ℕ) × Contains cells (v, n)

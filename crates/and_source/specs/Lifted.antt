@@ -4,7 +4,8 @@ use Rattle.std.specs.Prelude.{ℕ, suc, List, [], ◌∷◌, ◌++◌, length, g
 use Rattle.and_model.specs.Terms.{Path, Term, Terms, variable, compound, none, more, apply}
 use Rattle.and_model.specs.Programs.{Item, call, equal, arithmetic, fail, Arithmetic, is, compare, Clause, Program}
 use Rattle.and_model.specs.Lines.{place_of}
-use Rattle.and_source.specs.Source.{SourceItems, no_items, plain, either, Alternatives, no_alternatives, alternative, distinct_variables, SourceClause, SourceProgram}
+use Rattle.and_source.specs.Source.{SourceItems, no_items, plain, either, Alternatives, no_alternatives, alternative}
+use Rattle.and_source.specs.Source.{distinct_variables, SourceClause, SourceProgram}
 
 -- new numbers for the variables of a clause
 abbrev pub Numbering : Type 0

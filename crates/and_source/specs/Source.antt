@@ -1,6 +1,7 @@
 -- Programs whose bodies may hold disjunctions, and what their clauses and alternatives weigh (Lloyd, section 18; the
 -- numbers and the weights are this project's own).
-use Rattle.std.specs.Prelude.{ℕ, zero, suc, ◌+◌, ◌≡◌, ◌≢◌, Bool, false, List, [], ◌∷◌, ◌++◌, length, nat_eq, AllPairs, Contains}
+use Rattle.std.specs.Prelude.{ℕ, zero, suc, ◌+◌, ◌≡◌, ◌≢◌, Bool, false, List, [], ◌∷◌, ◌++◌, length, nat_eq, AllPairs}
+use Rattle.std.specs.Prelude.{Contains}
 use Rattle.and_model.specs.Terms.{Path, Term, variable, number, compound, variables_of}
 use Rattle.and_model.specs.Programs.{Item, call, equal, arithmetic, fail, is_goals}
 use Rattle.and_model.specs.Stands.{item_term}

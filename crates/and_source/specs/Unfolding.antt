@@ -5,7 +5,8 @@ use Rattle.and_model.specs.Terms.{Path, Term, framed}
 use Rattle.and_model.specs.Solutions.{Equation, falsehood}
 use Rattle.and_model.specs.Programs.{call, equal, arithmetic, fail, Arithmetic, arithmetic_in, same_predicate}
 use Rattle.and_model.specs.Trees.{mapped, then}
-use Rattle.and_source.specs.Source.{SourceItems, no_items, plain, either, Alternatives, no_alternatives, alternative, SourceClause, SourceProgram, source_clauses, source_weight, alternative_weight}
+use Rattle.and_source.specs.Source.{SourceItems, no_items, plain, either, Alternatives, no_alternatives, alternative}
+use Rattle.and_source.specs.Source.{SourceClause, SourceProgram, source_clauses, source_weight, alternative_weight}
 
 -- What is to be done, from left to right. A call carries the path of the clause that will take it, and a choice the
 -- frame of its clause and the path that its alternative will have.

@@ -1,15 +1,19 @@
 -- What holds at the close: `Row`, of the passes of one seat that has all shares.
-use Rattle.std.proofs.Common.{ℕ, ◌+◌, ◌≡◌, ◌≢◌, inl, inr, Bool, true, false, cond, not, List, [], ◌∷◌, ◌++◌, map, length, Option, None, Some, option_to_list, refl, sym, ap, subst, ◌∙◌, arith, append-nil, All, Contains}
+use Rattle.std.proofs.Common.{ℕ, ◌+◌, ◌≡◌, ◌≢◌, inl, inr, Bool, true, false, cond, not, List, [], ◌∷◌, ◌++◌, map, length, Option, None, Some, option_to_list}
+use Rattle.std.proofs.Common.{refl, sym, ap, subst, ◌∙◌, arith, append-nil, All, Contains}
 use Rattle.std.specs.Prelude.{flat_map, filter, sum_by, nat_eq}
 use Rattle.std.proofs.lemmas.List.Elements.{All-contains, All-map, All-filter, All-contains_itself, Contains-append_left, Contains-append_right}
 use Rattle.std.proofs.lemmas.List.Concat.{flat_map-append}
 use Rattle.std.proofs.lemmas.List.Kept.{AllPairs-cons}
 use Rattle.std.proofs.lemmas.List.Sums.{sum_by-append, sum_by-cons}
-use Rattle.and_model.specs.Store.{Setting, HungGoal, JournalEntry, occupied, closed, Took, Pass, Fits, HasClosed, AreDistinct, settings_of, hung_of, set_in, all_hung, all_took, mark, Asked, is_half}
+use Rattle.and_model.specs.Store.{Setting, HungGoal, JournalEntry, occupied, closed, Took, Pass, Fits, HasClosed, AreDistinct, settings_of, hung_of, set_in}
+use Rattle.and_model.specs.Store.{all_hung, all_took, mark, Asked, is_half}
 use Rattle.and_cells.specs.Ranges.{CanHold}
-use Rattle.and_store_laws.specs.AtWork.{Opening, Member, Seat, Held, Works, AtWork, AreSeated, Rule, IsPlaced, WasHung, IsAtRest, AtClose, number_of, pass_of, place_at, all_members, to_close}
+use Rattle.and_store_laws.specs.AtWork.{Opening, Member, Seat, Held, Works, AtWork, AreSeated, Rule, IsPlaced, WasHung, IsAtRest, AtClose, number_of, pass_of}
+use Rattle.and_store_laws.specs.AtWork.{place_at, all_members, to_close}
 use Rattle.and_store_laws.proofs.Pairwise.{all_none, all_pairs_none, all_first, all_rest, all_pairs_first, all_pairs_rest}
-use Rattle.and_store_laws.proofs.Lists.{contains_cases, contains_none, contains_others, all_of, map_append, contains_map, map_contains, contains_flat, flat_contains, distinct_flat, distinct_back, same_by}
+use Rattle.and_store_laws.proofs.Lists.{contains_cases, contains_none, contains_others, all_of, map_append, contains_map, map_contains, contains_flat}
+use Rattle.and_store_laws.proofs.Lists.{flat_contains, distinct_flat, distinct_back, same_by}
 use Rattle.and_store_laws.proofs.Journal.{made_settings, made_hung, made_in, made_by, one_maker, own_distinct}
 use Rattle.and_store_laws.proofs.Going.{took_later}
 use Rattle.and_store_laws.proofs.Hanging.{closing_apart}
@@ -46,7 +50,9 @@ distinct_filter f p (x ∷ xs) d =
     elim (p x) as (λ b. AreDistinct (map f (cond b (x ∷ filter p xs) (filter p xs)))) [
       | true ↦ AllPairs-cons (λ a b. a ≢ b) (f x) (map f (filter p xs))
           (all_of (λ b. f x ≢ b) (map f (filter p xs)) (λ k c. let r = map_contains f k (filter p xs) c in
-          subst (λ k. f x ≢ k) r.2 (All-contains (λ b. f x ≢ b) (map f xs) (f r.0) (all_pairs_first (λ a b. a ≢ b) (f x) (map f xs) d) (contains_map f r.0 xs (filtered p xs r.0 r.1))))) rest
+          subst (λ k. f x ≢ k) r.2
+          (All-contains (λ b. f x ≢ b) (map f xs) (f r.0) (all_pairs_first (λ a b. a ≢ b) (f x) (map f xs) d)
+          (contains_map f r.0 xs (filtered p xs r.0 r.1))))) rest
       | false ↦ rest
     ]
 
@@ -74,7 +80,8 @@ module _ (o : Opening) (members : List Member) (h : Held) (a : AtWork o members 
   took_is : (m : Member) → Contains members m → map (λ (t : Took). t.cell) m.pass.took ≡ to_close m.pass.mine
   took_is m c =
       let none = All-contains (λ (m : Member). m.pending ≡ None) members m rest c in
-      sym (append-nil (map (λ (t : Took). t.cell) m.pass.took)) ∙ ap (λ p. map (λ (t : Took). t.cell) m.pass.took ++ option_to_list p) (sym none) ∙ (works m c).has_closed
+      sym (append-nil (map (λ (t : Took). t.cell) m.pass.took)) ∙ ap (λ p. map (λ (t : Took). t.cell) m.pass.took ++ option_to_list p) (sym none)
+      ∙ (works m c).has_closed
 
   took_closes : (m : Member) (t : Took) → Contains members m → Contains m.pass.took t → Contains (to_close m.pass.mine) t.cell
   took_closes m t c i = subst (λ l. Contains l t.cell) (took_is m c) (contains_map (λ (t : Took). t.cell) t m.pass.took i)
@@ -85,7 +92,8 @@ module _ (o : Opening) (members : List Member) (h : Held) (a : AtWork o members 
 
   cells_once : (m : Member) → Contains members m → AreDistinct (map (λ (t : Took). t.cell) m.pass.took)
   cells_once m c = subst AreDistinct (sym (took_is m c)) (distinct_filter (λ (s : Setting). s.place) (λ (s : Setting). not (is_half s.value)) m.pass.mine
-      (subst (λ l. AreDistinct (map (λ (s : Setting). s.place) l)) (sym (works m c).fits.settings) (own_distinct made_settings (λ (s : Setting). s.place) m.pass.number h.journal settings_once)))
+      (subst (λ l. AreDistinct (map (λ (s : Setting). s.place) l)) (sym (works m c).fits.settings)
+      (own_distinct made_settings (λ (s : Setting). s.place) m.pass.number h.journal settings_once)))
 
   -- two passes that took the same cell are one
   same_taker : (m n : Member) (t s : Took) → Contains members m → Contains members n → Contains m.pass.took t → Contains n.pass.took s → t.cell ≡ s.cell → m ≡ n
@@ -95,13 +103,16 @@ module _ (o : Opening) (members : List Member) (h : Held) (a : AtWork o members 
 
   same_took : (m n : Member) (t s : Took) → Contains members m → Contains members n → Contains m.pass.took t → Contains n.pass.took s → t.cell ≡ s.cell → t ≡ s
   same_took m n t s c d i j e =
-      same_by (λ (t : Took). t.cell) m.pass.took t s (cells_once m c) i (subst (λ (n : Member). Contains n.pass.took s) (sym (same_taker m n t s c d i j e)) j) e
+      same_by (λ (t : Took). t.cell) m.pass.took t s (cells_once m c) i
+      (subst (λ (n : Member). Contains n.pass.took s) (sym (same_taker m n t s c d i j e)) j) e
 
   -- and so are two that took the same waiter
   took_was_hung : (m : Member) (t : Took) (waiter : ℕ) → Contains members m → Contains m.pass.took t → t.waiter ≡ Some waiter → WasHung h.journal waiter t.cell
-  took_was_hung m t waiter c i e = All-contains (λ (t : Took). (waiter : ℕ) → t.waiter ≡ Some waiter → WasHung h.journal waiter t.cell) m.pass.took t (took_later o h h [] (sym (append-nil h.journal)) m (works m c)) i waiter e
+  took_was_hung m t waiter c i e = All-contains (λ (t : Took). (waiter : ℕ) → t.waiter ≡ Some waiter
+      → WasHung h.journal waiter t.cell) m.pass.took t (took_later o h h [] (sym (append-nil h.journal)) m (works m c)) i waiter e
 
-  same_waiter : (m n : Member) (t s : Took) (waiter : ℕ) → Contains members m → Contains members n → Contains m.pass.took t → Contains n.pass.took s → t.waiter ≡ Some waiter → s.waiter ≡ Some waiter → t.cell ≡ s.cell
+  same_waiter : (m n : Member) (t s : Took) (waiter : ℕ) → Contains members m → Contains members n → Contains m.pass.took t → Contains n.pass.took s
+      → t.waiter ≡ Some waiter → s.waiter ≡ Some waiter → t.cell ≡ s.cell
   same_waiter m n t s waiter c d i j p q =
       let x = took_was_hung m t waiter c i p in
       let y = took_was_hung n s waiter d j q in
@@ -115,22 +126,27 @@ module _ (o : Opening) (members : List Member) (h : Held) (a : AtWork o members 
   all_took_is = flat_of_map (λ (p : Pass). p.took) pass_of members
 
   -- a pass's goal is in the journal
-  hung_by : (m : Member) (g : HungGoal) → Contains members m → Contains m.pass.hung g → (e : JournalEntry) × Contains h.journal e × (e.pass ≡ m.pass.number) × Contains (made_hung e) g
+  hung_by : (m : Member) (g : HungGoal) → Contains members m → Contains m.pass.hung g
+      → (e : JournalEntry) × Contains h.journal e × (e.pass ≡ m.pass.number) × Contains (made_hung e) g
   hung_by m g c i = made_in made_hung m.pass.number h.journal g (subst (λ l. Contains l g) (works m c).fits.hung i)
 
   -- and a goal of the journal is some pass's
   hung_in : (g : HungGoal) → Contains (hung_of h.journal) g → Contains (all_hung passes) g
   hung_in g c =
       let e = flat_contains made_hung g h.journal c in
-      let r = map_contains number_of e.0.pass members (All-contains (λ (e : JournalEntry). Contains (map number_of members) e.pass) h.journal e.0 a.by_a_pass e.1) in
-      let mine : Contains r.0.pass.hung g = subst (λ l. Contains l g) (ap (λ n. hung_of (filter (λ (d : JournalEntry). nat_eq d.pass n) h.journal)) (sym r.2) ∙ sym (works r.0 r.1).fits.hung) (made_by made_hung h.journal e.0 g e.1 e.2) in
+      let r = map_contains number_of e.0.pass members
+      (All-contains (λ (e : JournalEntry). Contains (map number_of members) e.pass) h.journal e.0 a.by_a_pass e.1) in
+      let mine : Contains r.0.pass.hung g = subst (λ l. Contains l g) (ap (λ n. hung_of (filter (λ (d : JournalEntry). nat_eq d.pass n) h.journal)) (sym r.2)
+      ∙ sym (works r.0 r.1).fits.hung) (made_by made_hung h.journal e.0 g e.1 e.2) in
       subst (λ l. Contains l g) (sym hung_is) (contains_flat (λ (m : Member). m.pass.hung) r.0 g members r.1 mine)
 
   hung_once : AreDistinct (map (λ (g : HungGoal). g.waiter) (all_hung passes))
-  hung_once = subst AreDistinct (sym (ap (map (λ (g : HungGoal). g.waiter)) hung_is ∙ map_of_flat (λ (g : HungGoal). g.waiter) (λ (m : Member). m.pass.hung) members))
+  hung_once = subst AreDistinct
+      (sym (ap (map (λ (g : HungGoal). g.waiter)) hung_is ∙ map_of_flat (λ (g : HungGoal). g.waiter) (λ (m : Member). m.pass.hung) members))
       (distinct_flat number_of (λ (m : Member). map (λ (g : HungGoal). g.waiter) m.pass.hung) members a.numbered
       (all_of (λ (m : Member). AreDistinct (map (λ (g : HungGoal). g.waiter) m.pass.hung)) members
-      (λ m c. subst (λ l. AreDistinct (map (λ (g : HungGoal). g.waiter) l)) (sym (works m c).fits.hung) (own_distinct made_hung (λ (g : HungGoal). g.waiter) m.pass.number h.journal a.holds.hung_once)))
+      (λ m c. subst (λ l. AreDistinct (map (λ (g : HungGoal). g.waiter) l)) (sym (works m c).fits.hung)
+      (own_distinct made_hung (λ (g : HungGoal). g.waiter) m.pass.number h.journal a.holds.hung_once)))
       (λ m n k c d i j.
       let x = map_contains (λ (g : HungGoal). g.waiter) k m.pass.hung i in
       let y = map_contains (λ (g : HungGoal). g.waiter) k n.pass.hung j in
@@ -140,7 +156,9 @@ module _ (o : Opening) (members : List Member) (h : Held) (a : AtWork o members 
       sym p.2 ∙ ap (λ (e : JournalEntry). e.pass) same ∙ q.2))
 
   taken_once : AreDistinct (flat_map (λ (t : Took). option_to_list t.waiter) (all_took passes))
-  taken_once = subst AreDistinct (sym (ap (flat_map (λ (t : Took). option_to_list t.waiter)) all_took_is ∙ flat_of_flat (λ (t : Took). option_to_list t.waiter) (λ (m : Member). m.pass.took) members))
+  taken_once = subst AreDistinct
+      (sym (ap (flat_map (λ (t : Took). option_to_list t.waiter)) all_took_is
+      ∙ flat_of_flat (λ (t : Took). option_to_list t.waiter) (λ (m : Member). m.pass.took) members))
       (distinct_flat number_of (λ (m : Member). flat_map (λ (t : Took). option_to_list t.waiter) m.pass.took) members a.numbered
       (all_of (λ (m : Member). AreDistinct (flat_map (λ (t : Took). option_to_list t.waiter) m.pass.took)) members
       (λ m c. distinct_flat (λ (t : Took). t.cell) (λ (t : Took). option_to_list t.waiter) m.pass.took (cells_once m c)
@@ -155,11 +173,13 @@ module _ (o : Opening) (members : List Member) (h : Held) (a : AtWork o members 
   pub closes : AtClose o members h
   closes =
       let numbers : map (λ (p : Pass). p.number) passes ≡ map number_of members = map_map (λ (p : Pass). p.number) pass_of members in
-      let is_mark : mark o.first passes ≡ h.mark = ap (λ n. length o.first + n) (sum_map (λ (p : Pass). sum_by (λ (a : Asked). a.weight) p.asked) pass_of members) ∙ sym a.mark in record {
+      let is_mark : mark o.first passes ≡ h.mark =
+      ap (λ n. length o.first + n) (sum_map (λ (p : Pass). sum_by (λ (a : Asked). a.weight) p.asked) pass_of members) ∙ sym a.mark in record {
         set_words = a.holds.set_words;
         set_once = a.holds.set_once;
         passes_fit = All-map (Fits o.first (mark o.first passes) h.journal) pass_of members
-            (all_of (λ (m : Member). Fits o.first (mark o.first passes) h.journal m.pass) members (λ m c. subst (λ n. Fits o.first n h.journal m.pass) (sym is_mark) (works m c).fits));
+            (all_of (λ (m : Member). Fits o.first (mark o.first passes) h.journal m.pass) members
+            (λ m c. subst (λ n. Fits o.first n h.journal m.pass) (sym is_mark) (works m c).fits));
         closed = All-map HasClosed pass_of members (all_of (λ (m : Member). HasClosed m.pass) members took_is);
         by_a_pass = subst (λ l. All (λ (e : JournalEntry). Contains l e.pass) h.journal) (sym numbers) a.by_a_pass;
         numbered = subst AreDistinct (sym numbers) a.numbered;
@@ -178,7 +198,8 @@ module _ (o : Opening) (members : List Member) (h : Held) (a : AtWork o members 
             let n = flat_contains (λ (m : Member). m.pass.took) t members (subst (λ l. Contains l t) all_took_is d) in
             let made = hung_by m.0 g m.1 m.2 in
             let there : Contains (hung_of h.journal) g = contains_flat made_hung made.0 g h.journal made.1 made.3 in
-            let is_closed : place_at h.places g.cell ≡ closed = ap (place_at h.places) (sym e) ∙ All-contains (λ (t : Took). place_at h.places t.cell ≡ closed) n.0.pass.took t (works n.0 n.1).took_closed n.2 in
+            let is_closed : place_at h.places g.cell ≡ closed = ap (place_at h.places) (sym e)
+            ∙ All-contains (λ (t : Took). place_at h.places t.cell ≡ closed) n.0.pass.took t (works n.0 n.1).took_closed n.2 in
             elim (All-contains (IsPlaced h.places members) (hung_of h.journal) g a.placed there) [
               | inl x ↦ (let clash : occupied g.waiter ≡ closed = sym x ∙ is_closed in absurd (cc))
               | inr x ↦ ap (λ (t : Took). t.waiter) (same_took n.0 x.1 t (record { cell = g.cell; waiter = Some g.waiter }) n.1 x.2 n.2 x.3 e)
@@ -195,16 +216,21 @@ alone (v ∷ seats) h z =
     ∙ alone seats (all_rest (λ (v : Seat). v.shares ≡ 0 → v.members ≡ []) v seats h) (omega arith)
 
 -- then its passes are all passes
-pub all_of_them : (o : Opening) (front back : List Seat) (v : Seat) → AreSeated o (front ++ v ∷ back) → v.shares ≡ o.shares → all_members (front ++ v ∷ back) ≡ v.members
+pub all_of_them : (o : Opening) (front back : List Seat) (v : Seat) → AreSeated o (front ++ v ∷ back) → v.shares ≡ o.shares
+    → all_members (front ++ v ∷ back) ≡ v.members
 all_of_them o front back v s all =
     let a = sum_by-append (λ (v : Seat). v.shares) front (v ∷ back) in
     let b = sum_by-cons (λ (v : Seat). v.shares) v back in
     let c = s.shares in
-    let ended : (part : List Seat) → ((u : Seat) → Contains part u → Contains (front ++ back) u) → sum_by (λ (v : Seat). v.shares) part ≡ 0 → all_members part ≡ [] = λ part within z.
-    alone part (all_of (λ (v : Seat). v.shares ≡ 0 → v.members ≡ []) part (λ u i. All-contains (λ (v : Seat). v.shares ≡ 0 → v.members ≡ []) (front ++ v ∷ back) u s.spent (contains_others front back v u (within u i)))) z in
+    let ended : (part : List Seat) → ((u : Seat) → Contains part u → Contains (front ++ back) u) → sum_by (λ (v : Seat). v.shares) part ≡ 0
+    → all_members part ≡ [] = λ part within z.
+    alone part (all_of (λ (v : Seat). v.shares ≡ 0 → v.members ≡ []) part
+    (λ u i. All-contains (λ (v : Seat). v.shares ≡ 0 → v.members ≡ []) (front ++ v ∷ back) u s.spent (contains_others front back v u (within u i)))) z in
     let before : all_members front ≡ [] = ended front (λ u i. Contains-append_left front back u i) (omega arith) in
     let after : all_members back ≡ [] = ended back (λ u i. Contains-append_right front back u i) (omega arith) in
-    flat_map-append (λ (v : Seat). v.members) front (v ∷ back) ∙ ap (λ l. l ++ (v.members ++ all_members back)) before ∙ ap (λ l. v.members ++ l) after ∙ append-nil v.members
+    flat_map-append (λ (v : Seat). v.members) front (v ∷ back) ∙ ap (λ l. l ++ (v.members ++ all_members back)) before ∙ ap (λ l. v.members ++ l) after
+    ∙ append-nil v.members
 
-pub close_keeps : (o : Opening) (front back : List Seat) (v : Seat) (h : Held) → Rule o (front ++ v ∷ back) h → v.shares ≡ o.shares → IsAtRest v.members → AtClose o v.members h
+pub close_keeps : (o : Opening) (front back : List Seat) (v : Seat) (h : Held) → Rule o (front ++ v ∷ back) h → v.shares ≡ o.shares → IsAtRest v.members
+    → AtClose o v.members h
 close_keeps o front back v h r all rest = closes o v.members h (subst (λ l. AtWork o l h) (all_of_them o front back v r.seated all) r.at_work) rest

@@ -1,7 +1,9 @@
 -- What the words hold after an entry that is no setting.
-use Rattle.std.proofs.Common.{ℕ, ◌<◌, ◌≡◌, ◌≢◌, ◌⊎◌, inl, inr, Bool, true, List, [], ◌∷◌, ◌++◌, map, length, set, Option, None, Some, IfSome, sym, ap, subst, ◌∙◌, append-nil, All, Contains}
+use Rattle.std.proofs.Common.{ℕ, ◌<◌, ◌≡◌, ◌≢◌, ◌⊎◌, inl, inr, Bool, true, List, [], ◌∷◌, ◌++◌, map, length, set, Option, None, Some, IfSome, sym, ap, subst}
+use Rattle.std.proofs.Common.{◌∙◌, append-nil, All, Contains}
 use Rattle.std.proofs.lemmas.List.{get_or-set_same, get_or-set_other}
-use Rattle.and_model.specs.Store.{Setting, HungGoal, sets, JournalEntry, Waiting, empty, occupied, closed, AreDistinct, SideBySide, settings_of, frames_of, fails_of, hung_of, set_in}
+use Rattle.and_model.specs.Store.{Setting, HungGoal, sets, JournalEntry, Waiting, empty, occupied, closed, AreDistinct, SideBySide, settings_of, frames_of}
+use Rattle.and_model.specs.Store.{fails_of, hung_of, set_in}
 use Rattle.and_cells.specs.Ranges.{IsGoalInRange}
 use Rattle.and_model.specs.declared.reference.Ref.TheVariants.{Free}
 use Rattle.and_store_laws.specs.AtWork.{Opening, Held, Holds, WasHung, IsOwnWaiter, place_at, word_at, frames_end}
@@ -28,12 +30,14 @@ module _ (o : Opening) (h : Held) (places : List Waiting) (mark : ℕ) (is_faile
       → (is_failed ≡ true → fails_of k.journal ≢ []) × (fails_of k.journal ≢ [] → is_failed ≡ true)
       → ((place : ℕ) → word_at h.row place ≡ Free → place_at places place ≢ closed)
       → ((cell waiter : ℕ) → place_at places cell ≡ occupied waiter → WasHung k.journal waiter cell)
-      → AreDistinct (map (λ (g : HungGoal). g.waiter) (hung_of k.journal)) → IsOwnWaiter o.waiters e → All (λ (g : HungGoal). IsGoalInRange o.program o.words g.goal) (hung_of k.journal) → Holds o k
+      → AreDistinct (map (λ (g : HungGoal). g.waiter) (hung_of k.journal)) → IsOwnWaiter o.waiters e
+      → All (λ (g : HungGoal). IsGoalInRange o.program o.words g.goal) (hung_of k.journal) → Holds o k
   holds_more holds no_setting none len side ends failing is_open hung once own goals =
       let same : settings_of k.journal ≡ settings_of h.journal = nothing_more made_settings h.journal (e ∷ []) (append-nil (made_settings e) ∙ none) in record {
         words = holds.words;
         places = len;
-        set_words = λ s. subst (λ l. (Contains (set_in h.row) s → Contains (set_in o.first ++ l) s) × (Contains (set_in o.first ++ l) s → Contains (set_in h.row) s)) (sym same) (holds.set_words s);
+        set_words = λ s. subst (λ l. (Contains (set_in h.row) s → Contains (set_in o.first ++ l) s)
+            × (Contains (set_in o.first ++ l) s → Contains (set_in h.row) s)) (sym same) (holds.set_words s);
         set_once = subst (λ l. AreDistinct (map (λ (s : Setting). s.place) (set_in o.first ++ l))) (sym same) holds.set_once;
         fits = holds.fits;
         written_first = holds.written_first;

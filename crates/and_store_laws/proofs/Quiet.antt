@@ -1,8 +1,10 @@
 -- Steps that make no entry: looks, an exchange that failed, and a raise of the mark that gave no frame.
-use Rattle.std.proofs.Common.{ℕ, ◌+◌, ◌≤◌, ◌≡◌, ◌≢◌, inl, inr, true, false, cond, List, [], ◌∷◌, ◌++◌, map, length, Some, refl, sym, ap, subst, ◌∙◌, arith, append-nil, All, Contains, true≢false}
+use Rattle.std.proofs.Common.{ℕ, ◌+◌, ◌≤◌, ◌≡◌, ◌≢◌, inl, inr, true, false, cond, List, [], ◌∷◌, ◌++◌, map, length, Some, refl, sym, ap, subst, ◌∙◌, arith}
+use Rattle.std.proofs.Common.{append-nil, All, Contains, true≢false}
 use Rattle.std.specs.Prelude.{sum_by}
 use Rattle.std.proofs.lemmas.List.Elements.{All-contains, All-weaker}
-use Rattle.and_model.specs.Store.{JournalEntry, closed, Took, Found, Pass, Fits, AreDistinct, settings_of, hung_of, entries_by, set_in, own_of, Known, Asked, is_free}
+use Rattle.and_model.specs.Store.{JournalEntry, closed, Took, Found, Pass, Fits, AreDistinct, settings_of, hung_of, entries_by, set_in, own_of, Known, Asked}
+use Rattle.and_model.specs.Store.{is_free}
 use Rattle.and_model.specs.declared.reference.Ref.{Ref}
 use Rattle.and_model.specs.declared.reference.Ref.TheVariants.{Free}
 use Rattle.and_store_laws.specs.AtWork.{IsOrdered, Opening, Member, Seat, Held, Works, AtWork, Rule, IsPlaced, WasHung, over, word_at}
@@ -18,11 +20,14 @@ pub works_there : (o : Opening) (front back : List Member) (m : Member) (h : Hel
 works_there o front back m h a = All-contains (Works o h) (front ++ m ∷ back) m a.each (contains_there front back m)
 
 -- what a pass knew is in the journal
-pub knew : (first : List Ref) (mark : ℕ) (journal : List JournalEntry) (p : Pass) → Fits first mark journal p → All (λ (k : Known). Contains (set_in first ++ settings_of journal) k.setting) p.known
-knew first mark journal p f = subst (λ j. All (λ (k : Known). Contains (set_in first ++ settings_of j) k.setting) p.known) (append-nil journal) (known_later first mark mark journal [] p f)
+pub knew : (first : List Ref) (mark : ℕ) (journal : List JournalEntry) (p : Pass) → Fits first mark journal p
+    → All (λ (k : Known). Contains (set_in first ++ settings_of journal) k.setting) p.known
+knew first mark journal p f = subst (λ j. All (λ (k : Known). Contains (set_in first ++ settings_of j) k.setting) p.known) (append-nil journal)
+    (known_later first mark mark journal [] p f)
 
 -- The pass p is q then, with the journal as it is.
-pub fits_quiet : (first : List Ref) (mark up : ℕ) (journal : List JournalEntry) (p q : Pass) → Fits first mark journal p → q.number ≡ p.number → q.seen ≡ journal
+pub fits_quiet : (first : List Ref) (mark up : ℕ) (journal : List JournalEntry) (p q : Pass) → Fits first mark journal p
+    → q.number ≡ p.number → q.seen ≡ journal
     → q.mine ≡ p.mine → q.frames ≡ p.frames → q.fails ≡ p.fails → q.hung ≡ p.hung
     → All (λ (k : Known). Contains (set_in first ++ settings_of journal) k.setting) q.known → own_of q.known ≡ own_of p.known
     → AreDistinct (map (λ (k : Known). k.setting.place) q.known) → All (λ (a : Asked). a.mark + a.weight ≤ up) q.asked → Fits first up journal q
@@ -46,28 +51,33 @@ module _ (o : Opening) (front back : List Member) (m n : Member) (h : Held) wher
       (λ g. placed_on front back m n h.places h.places g (λ e. inl e) (λ e. e) took) (hung_of h.journal) a.placed)
 
 -- what is learnt is not its own
-learnt_ordered : (first : List Ref) (number place : ℕ) (r : Ref) (known : List Known) (seen : List JournalEntry) → IsOrdered first number known seen → IsOrdered first number (learnt place r known) seen
+learnt_ordered : (first : List Ref) (number place : ℕ) (r : Ref) (known : List Known) (seen : List JournalEntry) → IsOrdered first number known seen
+    → IsOrdered first number (learnt place r known) seen
 learnt_ordered first number place r known seen f =
-    elim (is_free r) as (λ b. IsOrdered first number (cond b known (cond (knows_place place known) known (known ++ record { setting = setting place r; is_own = false } ∷ []))) seen) [
+    elim (is_free r) as (λ b.
+    IsOrdered first number (cond b known (cond (knows_place place known) known (known ++ record { setting = setting place r; is_own = false } ∷ []))) seen) [
       | true ↦ f
-      | false ↦ elim (knows_place place known) as (λ b. IsOrdered first number (cond b known (known ++ record { setting = setting place r; is_own = false } ∷ [])) seen) [
-        | true ↦ f
-        | false ↦ λ before after k is own. elim (split_end known (record { setting = setting place r; is_own = false }) k before after is) [
-          | inl x ↦ f before x.0 k x.1 own
-          | inr x ↦ absurd (true≢false (sym own ∙ ap (λ (k : Known). k.is_own) (sym x.1)))
-        ]
-      ]
+      | false ↦ elim (knows_place place known) as
+          (λ b. IsOrdered first number (cond b known (known ++ record { setting = setting place r; is_own = false } ∷ [])) seen) [
+            | true ↦ f
+            | false ↦ λ before after k is own. elim (split_end known (record { setting = setting place r; is_own = false }) k before after is) [
+              | inl x ↦ f before x.0 k x.1 own
+              | inr x ↦ absurd (true≢false (sym own ∙ ap (λ (k : Known). k.is_own) (sym x.1)))
+            ]
+          ]
     ]
 
 -- a look at a word
-pub looks_on : (o : Opening) (front back : List Member) (m : Member) (h : Held) (place : ℕ) → AtWork o (front ++ m ∷ back) h → AtWork o (front ++ looked place (word_at h.row place) h.journal m ∷ back) h
+pub looks_on : (o : Opening) (front back : List Member) (m : Member) (h : Held) (place : ℕ) → AtWork o (front ++ m ∷ back) h
+    → AtWork o (front ++ looked place (word_at h.row place) h.journal m ∷ back) h
 looks_on o front back m h place a =
     let w = works_there o front back m h a in
     let found = word_at h.row place in
     let n = looked place found h.journal m in
     quiet o front back m n h a refl refl refl (record {
       fits = fits_quiet o.first h.mark h.mark h.journal m.pass n.pass w.fits refl refl refl refl refl refl
-          (learnt_all (λ (k : Known). Contains (set_in o.first ++ settings_of h.journal) k.setting) place found m.pass.known (knew o.first h.mark h.journal m.pass w.fits)
+          (learnt_all (λ (k : Known). Contains (set_in o.first ++ settings_of h.journal) k.setting) place found m.pass.known
+          (knew o.first h.mark h.journal m.pass w.fits)
           (λ ne. (a.holds.set_words (setting place found)).0 (set_in_has h.row place found refl ne)))
           (learnt_own place found m.pass.known) (learnt_once place found m.pass.known w.fits.known_once) w.fits.asked;
       has_closed = w.has_closed;
@@ -82,14 +92,18 @@ looks_on o front back m h place a =
       over_once = w.over_once;
     }) (λ t c. c)
 
-pub looks_keep : (o : Opening) (place : ℕ) (before : List Seat) (h : Held) (after : List Seat) (k : Held) → Rule o before h → Looks place before h after k → Rule o after k
+pub looks_keep : (o : Opening) (place : ℕ) (before : List Seat) (h : Held) (after : List Seat) (k : Held) → Rule o before h
+    → Looks place before h after k → Rule o after k
 looks_keep o place before h after k r s =
-    subst (Rule o after) (sym s.held) (rule_on o before after s.m (looked place (word_at h.row place) h.journal s.m) s.moves refl h h r (λ front back a. looks_on o front back s.m h place a))
+    subst (Rule o after) (sym s.held)
+    (rule_on o before after s.m (looked place (word_at h.row place) h.journal s.m) s.moves refl h h r (λ front back a. looks_on o front back s.m h place a))
 
 -- a look at the fail word, or at a place that is not empty: only `seen`, and lists of which the rule says nothing, change
-pub only_sees : (o : Opening) (front back : List Member) (m n : Member) (h : Held) → AtWork o (front ++ m ∷ back) h → n.pass.number ≡ m.pass.number → n.pass.seen ≡ h.journal
+pub only_sees : (o : Opening) (front back : List Member) (m n : Member) (h : Held) → AtWork o (front ++ m ∷ back) h → n.pass.number ≡ m.pass.number
+    → n.pass.seen ≡ h.journal
     → n.pass.known ≡ m.pass.known → n.pass.mine ≡ m.pass.mine → n.pass.frames ≡ m.pass.frames → n.pass.asked ≡ m.pass.asked → n.pass.fails ≡ m.pass.fails
-    → n.pass.hung ≡ m.pass.hung → n.pass.took ≡ m.pass.took → n.pending ≡ m.pending → All (λ (f : Found). f.place ≡ closed → word_at h.row f.cell ≢ Free) n.pass.found → AtWork o (front ++ n ∷ back) h
+    → n.pass.hung ≡ m.pass.hung → n.pass.took ≡ m.pass.took → n.pending ≡ m.pending
+    → All (λ (f : Found). f.place ≡ closed → word_at h.row f.cell ≢ Free) n.pass.found → AtWork o (front ++ n ∷ back) h
 only_sees o front back m n h a number seen known mine frames asked failing hung took pending found =
     let w = works_there o front back m h a in
     quiet o front back m n h a number seen asked (record {
@@ -101,7 +115,8 @@ only_sees o front back m n h a number seen known mine frames asked failing hung 
       took_closed = rw took w.took_closed;
       pending_open = rw pending w.pending_open;
       took_hung = subst (All (λ (t : Took). (waiter : ℕ) → t.waiter ≡ Some waiter → WasHung n.pass.seen waiter t.cell)) (sym took)
-          (subst (λ j. All (λ (t : Took). (waiter : ℕ) → t.waiter ≡ Some waiter → WasHung j waiter t.cell) m.pass.took) (sym seen) (took_later o h h [] (sym (append-nil h.journal)) m w));
+          (subst (λ j. All (λ (t : Took). (waiter : ℕ) → t.waiter ≡ Some waiter → WasHung j waiter t.cell) m.pass.took) (sym seen)
+          (took_later o h h [] (sym (append-nil h.journal)) m w));
       own_seen = ap (entries_by n.pass) seen;
       ordered = subst (λ i. IsOrdered o.first i n.pass.known n.pass.seen) (sym number) (subst (λ l. IsOrdered o.first m.pass.number l n.pass.seen) (sym known)
           (subst (IsOrdered o.first m.pass.number m.pass.known) (sym seen) (ordered_later o h h [] (sym (append-nil h.journal)) m w)));
@@ -111,7 +126,9 @@ only_sees o front back m n h a number seen known mine frames asked failing hung 
       over_once = rw asked w.over_once;
     }) (λ t c. rw took c)
 
-pub looks_failed_keep : (o : Opening) (before : List Seat) (h : Held) (after : List Seat) (k : Held) → Rule o before h → LooksFailed before h after k → Rule o after k
+pub looks_failed_keep : (o : Opening) (before : List Seat) (h : Held) (after : List Seat) (k : Held) → Rule o before h
+    → LooksFailed before h after k → Rule o after k
 looks_failed_keep o before h after k r s =
     subst (Rule o after) (sym s.held) (rule_on o before after s.m (asks_failed h.is_failed h.journal s.m) s.moves refl h h r
-    (λ front back a. only_sees o front back s.m (asks_failed h.is_failed h.journal s.m) h a refl refl refl refl refl refl refl refl refl refl (works_there o front back s.m h a).found_closed))
+    (λ front back a. only_sees o front back s.m (asks_failed h.is_failed h.journal s.m) h a refl refl refl refl refl refl refl refl refl refl
+    (works_there o front back s.m h a).found_closed))

@@ -1,5 +1,6 @@
 -- The waiters that one pass took, while passes are at work.
-use Rattle.std.proofs.Common.{ℕ, ◌+◌, ◌*◌, ◌<◌, ◌≤◌, ◌≡◌, ◌≢◌, ◌||◌, inl, inr, not, true, false, true≢false, eqb, ne_eqb, List, [], ◌∷◌, map, length, Some, option_to_list, sym, ap, subst, ◌∙◌, arith, append-nil, All, Contains}
+use Rattle.std.proofs.Common.{ℕ, ◌+◌, ◌*◌, ◌<◌, ◌≤◌, ◌≡◌, ◌≢◌, ◌||◌, inl, inr, not, true, false, true≢false, eqb, ne_eqb, List, [], ◌∷◌, map, length, Some}
+use Rattle.std.proofs.Common.{option_to_list, sym, ap, subst, ◌∙◌, arith, append-nil, All, Contains}
 use Rattle.std.specs.Prelude.{flat_map}
 use Rattle.std.specs.List.{IsDistinct, AllByRecursion, list_any}
 use Rattle.std.proofs.lemmas.Bool.{cases_eq}
@@ -25,7 +26,8 @@ module _ (o : Opening) (members : List Member) (h : Held) (a : AtWork o members 
 
   closes_once : AreDistinct (to_close m.pass.mine)
   closes_once = distinct_filter (λ (s : Setting). s.place) (λ (s : Setting). not (is_half s.value)) m.pass.mine
-      (subst (λ l. AreDistinct (map (λ (s : Setting). s.place) l)) (sym works.fits.settings) (own_distinct made_settings (λ (s : Setting). s.place) m.pass.number h.journal settings_once))
+      (subst (λ l. AreDistinct (map (λ (s : Setting). s.place) l)) (sym works.fits.settings)
+      (own_distinct made_settings (λ (s : Setting). s.place) m.pass.number h.journal settings_once))
 
   cells_once : AreDistinct (map (λ (t : Took). t.cell) m.pass.took)
   cells_once = distinct_front (map (λ (t : Took). t.cell) m.pass.took) (option_to_list m.pending) (subst AreDistinct (sym works.has_closed) closes_once)
@@ -47,18 +49,21 @@ module _ (o : Opening) (members : List Member) (h : Held) (a : AtWork o members 
       sym x.3 ∙ ap (λ (g : HungGoal). g.cell) same ∙ y.3)
 
   -- and each was hung
-  pub taken_hung : (waiter : ℕ) → Contains (flat_map (λ (t : Took). option_to_list t.waiter) m.pass.took) waiter → (g : HungGoal) × Contains (hung_of h.journal) g × (g.waiter ≡ waiter)
+  pub taken_hung : (waiter : ℕ) → Contains (flat_map (λ (t : Took). option_to_list t.waiter) m.pass.took) waiter
+      → (g : HungGoal) × Contains (hung_of h.journal) g × (g.waiter ≡ waiter)
   taken_hung waiter i =
       let t = flat_contains (λ (t : Took). option_to_list t.waiter) waiter m.pass.took i in
       let x = was_hung t.0 waiter t.1 (in_option t.0.waiter waiter t.2) in
       (x.0, x.1, x.2)
 
 -- a waiter that was hung is one of the waiters of the seats
-pub hung_below : (o : Opening) (seats : List Seat) (h : Held) → Rule o seats h → (g : HungGoal) → Contains (hung_of h.journal) g → g.waiter < o.seats * o.waiters
+pub hung_below : (o : Opening) (seats : List Seat) (h : Held) → Rule o seats h → (g : HungGoal) → Contains (hung_of h.journal) g
+    → g.waiter < o.seats * o.waiters
 hung_below o seats h r g c =
     let e = flat_contains made_hung g h.journal c in
     let own = All-contains (IsOwnWaiter o.waiters) h.journal e.0 r.at_work.holds.own_waiters e.1 g (made_hang e.0.made e.0.pass g e.2) in
-    let who = map_contains number_of e.0.pass (all_members seats) (All-contains (λ (e : JournalEntry). Contains (map number_of (all_members seats)) e.pass) h.journal e.0 r.at_work.by_a_pass e.1) in
+    let who = map_contains number_of e.0.pass (all_members seats)
+    (All-contains (λ (e : JournalEntry). Contains (map number_of (all_members seats)) e.pass) h.journal e.0 r.at_work.by_a_pass e.1) in
     let below = All-contains (λ (m : Member). m.pass.number < length seats) (all_members seats) who.0 r.seated.numbers who.1 in
     let few = r.seated.few in
     let number : who.0.pass.number ≡ e.0.pass = who.2 in

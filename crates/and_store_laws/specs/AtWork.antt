@@ -1,14 +1,19 @@
 -- What holds of a store at every moment, while passes work at it (this project's own).
--- `Row` of and_model says what holds at the close; here a pass may be inside `bind`, with a word set whose waiting place it has not closed yet.
-use Rattle.std.specs.Prelude.{ℕ, ◌+◌, ◌-◌, ◌*◌, ◌≡◌, ◌≢◌, ◌<◌, ◌≤◌, ◌↔◌, ◌⊎◌, Bool, true, false, not, cond, List, [], ◌∷◌, ◌++◌, map, filter, flat_map, length, replicate, sum_by, Option, None, Some, option_to_list, nat_lt, slice_index_or, All, Contains, IfSome}
-use Rattle.and_model.specs.Store.{Setting, Frame, HungGoal, Known, sets, hangs, JournalEntry, Asked, Waiting, empty, occupied, closed, Took, Found, Pass, Fits, Row, SideBySide, AreDistinct, IsWritten, settings_of, frames_of, fails_of, hung_of, entries_by, set_in, is_half, is_free}
+-- `Row` of and_model says what holds at the close; here a pass may be inside `bind`, with a word set whose waiting
+-- place it has not closed yet.
+use Rattle.std.specs.Prelude.{ℕ, ◌+◌, ◌-◌, ◌*◌, ◌≡◌, ◌≢◌, ◌<◌, ◌≤◌, ◌↔◌, ◌⊎◌, Bool, true, false, not, cond, List, []}
+use Rattle.std.specs.Prelude.{◌∷◌, ◌++◌, map, filter, flat_map, length, replicate, sum_by, Option, None, Some}
+use Rattle.std.specs.Prelude.{option_to_list, nat_lt, slice_index_or, All, Contains, IfSome}
+use Rattle.and_model.specs.Store.{Setting, Frame, HungGoal, Known, sets, hangs, JournalEntry, Asked, Waiting, empty}
+use Rattle.and_model.specs.Store.{occupied, closed, Took, Found, Pass, Fits, Row, SideBySide, AreDistinct, IsWritten}
+use Rattle.and_model.specs.Store.{settings_of, frames_of, fails_of, hung_of, entries_by, set_in, is_half, is_free}
 use Rattle.and_cells.specs.Ranges.{NamedProgram, CanHold, IsGoalInRange}
 use Rattle.and_cells.specs.Rows.{IsSound}
 use Rattle.and_model.specs.declared.reference.Ref.{Ref}
 use Rattle.and_model.specs.declared.reference.Ref.TheVariants.{Free, Number}
 
--- how a store was opened: the program that it is for, its first row, how many words it has, how many waiters each pass has,
--- how many shares were dealt out, and how many seats there may be
+-- how a store was opened: the program that it is for, its first row, how many words it has, how many waiters each
+-- pass has, how many shares were dealt out, and how many seats there may be
 pub record Opening : Type 0 where
   pub program : NamedProgram
   pub first : List Ref
@@ -22,8 +27,9 @@ pub record Member : Type 0 where
   pub pass : Pass
   pub pending : Option ℕ
 
--- The view of a seat: its shares, how many passes the store has (with the seat that makes them; else 0), and its passes.
--- The first is the one that steps, the others were put to it. A seat that was joined to another has no shares and no passes.
+-- The view of a seat: its shares, how many passes the store has (with the seat that makes them; else 0), and its
+-- passes. The first is the one that steps, the others were put to it. A seat that was joined to another has no shares
+-- and no passes.
 pub record Seat : Type 0 where
   pub shares : ℕ
   pub made : ℕ
@@ -82,14 +88,16 @@ WasHung journal waiter cell = (g : HungGoal) × Contains (hung_of journal) g × 
 
 -- The waiters of pass n are the numbers from n * waiters on, as many as that.
 abbrev pub IsOwnWaiter : (waiters : ℕ) → JournalEntry → Type 0
-IsOwnWaiter waiters e = (g : HungGoal) → e.made ≡ hangs g → (e.pass * waiters ≤ g.waiter) × (g.waiter < e.pass * waiters + waiters)
+IsOwnWaiter waiters e = (g : HungGoal) → e.made ≡ hangs g
+    → (e.pass * waiters ≤ g.waiter) × (g.waiter < e.pass * waiters + waiters)
 
 -- Each own setting that is known was made after what was learnt or made before it: its entry lies in what was seen,
 -- and each setting that is known before it is in the first row or in an entry before that one.
 abbrev pub IsOrdered : List Ref → (number : ℕ) → List Known → (seen : List JournalEntry) → Type 0
 IsOrdered first number known seen =
     (before after : List Known) (k : Known) → known ≡ before ++ k ∷ after → k.is_own ≡ true
-    → (front : List JournalEntry) × (back : List JournalEntry) × (seen ≡ front ++ record { pass = number; made = sets k.setting } ∷ back)
+    → (front : List JournalEntry) × (back : List JournalEntry)
+    × (seen ≡ front ++ record { pass = number; made = sets k.setting } ∷ back)
     × All (λ (j : Known). Contains (set_in first ++ settings_of front) j.setting) before
 
 -- What holds of each pass.
@@ -100,7 +108,8 @@ pub record Works (o : Opening) (h : Held) (m : Member) : Type 0 where
   pub took_closed : All (λ (t : Took). place_at h.places t.cell ≡ closed) m.pass.took
   pub pending_open : IfSome m.pending (λ cell. place_at h.places cell ≢ closed)
   -- It has seen that a waiter that it took was hung, on the same cell,
-  pub took_hung : All (λ (t : Took). (waiter : ℕ) → t.waiter ≡ Some waiter → WasHung m.pass.seen waiter t.cell) m.pass.took
+  pub took_hung : All (λ (t : Took). (waiter : ℕ) → t.waiter ≡ Some waiter
+      → WasHung m.pass.seen waiter t.cell) m.pass.took
   -- and all that it made.
   pub own_seen : entries_by m.pass m.pass.seen ≡ entries_by m.pass h.journal
   pub ordered : IsOrdered o.first m.pass.number m.pass.known m.pass.seen
@@ -116,7 +125,8 @@ pub record Works (o : Opening) (h : Held) (m : Member) : Type 0 where
 abbrev pub IsPlaced : List Waiting → List Member → HungGoal → Type 0
 IsPlaced places members g =
     (place_at places g.cell ≡ occupied g.waiter)
-    ⊎ ((place_at places g.cell ≡ closed) × (m : Member) × Contains members m × Contains m.pass.took (record { cell = g.cell; waiter = Some g.waiter }))
+    ⊎ ((place_at places g.cell ≡ closed) × (m : Member) × Contains members m
+    × Contains m.pass.took (record { cell = g.cell; waiter = Some g.waiter }))
 
 -- some pass has seen all of the journal
 abbrev pub IsSeen : List Member → List JournalEntry → Type 0
@@ -130,9 +140,11 @@ pub record Holds (o : Opening) (h : Held) : Type 0 where
   pub set_once : AreDistinct (map (λ (s : Setting). s.place) (set_in o.first ++ settings_of h.journal))
   -- What is set may stand there: so a cell that is set to a cell is set to one with a smaller number.
   pub fits : (s : Setting) → Contains (set_in h.row) s → CanHold o.program o.words s.place s.value
-  pub written_first : (s : Setting) → Contains (set_in o.first) s → (pair : ℕ) → s.value ≡ Number pair → IsWritten (set_in o.first) pair
+  pub written_first : (s : Setting) → Contains (set_in o.first) s → (pair : ℕ) → s.value ≡ Number pair
+      → IsWritten (set_in o.first) pair
   pub written : (before after : List JournalEntry) (e : JournalEntry) → h.journal ≡ before ++ e ∷ after
-      → (s : Setting) → e.made ≡ sets s → (pair : ℕ) → s.value ≡ Number pair → IsWritten (set_in o.first ++ settings_of before) pair
+      → (s : Setting) → e.made ≡ sets s → (pair : ℕ) → s.value ≡ Number pair
+      → IsWritten (set_in o.first ++ settings_of before) pair
   -- The frames lie side by side, and end at the mark, unless the mark is above the words: then no raise fits any more.
   pub frames : SideBySide (length o.first) (frames_of h.journal)
   pub ends : (frames_end (length o.first) (frames_of h.journal) ≡ h.mark) ⊎ (o.words < h.mark)

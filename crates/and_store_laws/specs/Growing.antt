@@ -11,7 +11,19 @@ after : {X : Type 0} (xs ys zs : List X) → IsPrefix xs ys → IsPrefix ys zs �
 after xs ys zs p q = (p.0 ++ q.0, q.1 ∙ ap (λ l. l ++ q.0) p.1 ∙ append_assoc xs p.0 q.0)
 
 pub grew_nothing : (p : Pass) → Grew p p
-grew_nothing p = record { number = refl; seen = same p.seen; known = same p.known; mine = same p.mine; frames = refl; asked = refl; fails = refl; hung = refl; missed = same p.missed; took = same p.took; found = refl }
+grew_nothing p = record {
+  number = refl;
+  seen = same p.seen;
+  known = same p.known;
+  mine = same p.mine;
+  frames = refl;
+  asked = refl;
+  fails = refl;
+  hung = refl;
+  missed = same p.missed;
+  took = same p.took;
+  found = refl;
+}
 
 pub grew_on : (p q r : Pass) → Grew p q → Grew q r → Grew p r
 grew_on p q r a b = record {

@@ -1,6 +1,9 @@
 -- The nine kinds of step of a store, each as a relation between what was before and what is after (this project's own).
-use Rattle.std.specs.Prelude.{ℕ, ◌+◌, ◌*◌, ◌≡◌, ◌≢◌, ◌<◌, ◌≤◌, ◌⊎◌, Bool, true, false, cond, List, [], ◌∷◌, ◌++◌, map, length, Option, None, Some, nat_eq, slice_set, Contains}
-use Rattle.and_model.specs.Store.{Setting, Frame, HungGoal, Made, sets, gives, fails, hangs, JournalEntry, Known, Asked, Missed, word, fail_word, Waiting, empty, occupied, closed, IsWritten, is_half, is_free}
+use Rattle.std.specs.Prelude.{ℕ, ◌+◌, ◌*◌, ◌≡◌, ◌≢◌, ◌<◌, ◌≤◌, ◌⊎◌, Bool, true, false, cond, List, [], ◌∷◌, ◌++◌, map}
+use Rattle.std.specs.Prelude.{length, Option, None, Some, nat_eq, slice_set, Contains}
+use Rattle.and_model.specs.Store.{Setting, Frame, HungGoal, Made, sets, gives, fails, hangs, JournalEntry, Known}
+use Rattle.and_model.specs.Store.{Asked, Missed, word, fail_word, Waiting, empty, occupied, closed, IsWritten}
+use Rattle.and_model.specs.Store.{is_half, is_free}
 use Rattle.and_cells.specs.Ranges.{CanHold, IsGoalInRange}
 use Rattle.and_model.specs.declared.goal.Goal.{Goal}
 use Rattle.and_model.specs.declared.reference.Ref.{Ref}
@@ -34,7 +37,8 @@ knows_place place (k ∷ ks) = cond (nat_eq k.setting.place place) true (knows_p
 -- what is known after a word was found: a setting that is known is not added again
 abbrev pub learnt : (place : ℕ) → Ref → List Known → List Known
 learnt place r known =
-    cond (is_free r) known (cond (knows_place place known) known (known ++ record { setting = setting place r; is_own = false } ∷ []))
+    cond (is_free r) known (cond (knows_place place known) known
+    (known ++ record { setting = setting place r; is_own = false } ∷ []))
 
 abbrev pub missing : (place : ℕ) → Ref → List Missed
 missing place r = cond (is_free r) (word place ∷ []) []
@@ -43,7 +47,13 @@ missing place r = cond (is_free r) (word place ∷ []) []
 
 abbrev pub looked : (place : ℕ) → Ref → List JournalEntry → Member → Member
 looked place r journal m =
-    record m { pass = record m.pass { seen = journal; known = learnt place r m.pass.known; missed = m.pass.missed ++ missing place r } }
+    record m {
+      pass = record m.pass {
+        seen = journal;
+        known = learnt place r m.pass.known;
+        missed = m.pass.missed ++ missing place r;
+      };
+    }
 
 pub record Looks (place : ℕ) (before : List Seat) (h : Held) (after : List Seat) (k : Held) : Type 0 where
   pub m : Member
@@ -68,10 +78,12 @@ set_as place to journal m = record {
 -- a pass knows that both words of this pair are set: it knows both, or a cell that is set to the number
 abbrev pub KnowsWritten : List Known → (pair : ℕ) → Type 0
 KnowsWritten known pair =
-    IsWritten (map (λ (k : Known). k.setting) known) pair ⊎ ((cell : ℕ) × Contains (map (λ (k : Known). k.setting) known) (setting cell (Number pair)))
+    IsWritten (map (λ (k : Known). k.setting) known) pair
+    ⊎ ((cell : ℕ) × Contains (map (λ (k : Known). k.setting) known) (setting cell (Number pair)))
 
 -- The word is free, and the pass, which is not inside a call, sets it.
-pub record SetsWord (o : Opening) (place : ℕ) (to : Ref) (before : List Seat) (h : Held) (after : List Seat) (k : Held) : Type 0 where
+pub record SetsWord (o : Opening) (place : ℕ) (to : Ref) (before : List Seat) (h : Held) (after : List Seat)
+    (k : Held) : Type 0 where
   pub m : Member
   pub within : place < o.words
   pub is_set : to ≢ Free
@@ -100,22 +112,29 @@ given weight h m = record m {
 }
 
 abbrev pub refused : (weight : ℕ) → Held → Member → Member
-refused weight h m = record m { pass = record m.pass { seen = h.journal; asked = m.pass.asked ++ asked_for weight h ∷ [] } }
+refused weight h m = record m
+    { pass = record m.pass { seen = h.journal; asked = m.pass.asked ++ asked_for weight h ∷ [] } }
 
 -- The mark is raised. Where it fits in the words, the pass has the frame. (A pass that got none before makes no step.)
-pub record TakesFrame (o : Opening) (weight : ℕ) (before : List Seat) (h : Held) (after : List Seat) (k : Held) : Type 0 where
+pub record TakesFrame (o : Opening) (weight : ℕ) (before : List Seat) (h : Held) (after : List Seat)
+    (k : Held) : Type 0 where
   pub m : Member
   pub weight_below : weight ≤ most
   pub none_over : over o.words m.pass.asked ≡ []
   pub steps :
       ((h.mark + weight ≤ o.words) × Moves before after m (given weight h m)
-      × (k ≡ record h { mark = h.mark + weight; journal = h.journal ++ entry m.pass.number (gives (frame_at weight h)) ∷ [] }))
-      ⊎ ((o.words < h.mark + weight) × Moves before after m (refused weight h m) × (k ≡ record h { mark = h.mark + weight }))
+      × (k ≡ record h {
+        mark = h.mark + weight;
+        journal = h.journal ++ entry m.pass.number (gives (frame_at weight h)) ∷ [];
+      }))
+      ⊎ ((o.words < h.mark + weight) × Moves before after m (refused weight h m)
+      × (k ≡ record h { mark = h.mark + weight }))
 
 -- ---- the fail word is raised, and looked at
 
 abbrev pub failed_as : List JournalEntry → Member → Member
-failed_as journal m = record m { pass = record m.pass { seen = journal ++ entry m.pass.number fails ∷ []; fails = m.pass.fails ++ tt ∷ [] } }
+failed_as journal m = record m
+    { pass = record m.pass { seen = journal ++ entry m.pass.number fails ∷ []; fails = m.pass.fails ++ tt ∷ [] } }
 
 pub record Fails (before : List Seat) (h : Held) (after : List Seat) (k : Held) : Type 0 where
   pub m : Member
@@ -141,20 +160,29 @@ abbrev pub goal_of : Opening → (cell : ℕ) → Goal → Member → HungGoal
 goal_of o cell goal m = record { waiter = next_waiter o m; cell = cell; goal = goal }
 
 abbrev pub hung_as : HungGoal → List JournalEntry → Member → Member
-hung_as g journal m = record m { pass = record m.pass { seen = journal ++ entry m.pass.number (hangs g) ∷ []; hung = m.pass.hung ++ g ∷ [] } }
+hung_as g journal m = record m
+    { pass = record m.pass { seen = journal ++ entry m.pass.number (hangs g) ∷ []; hung = m.pass.hung ++ g ∷ [] } }
 
 abbrev pub not_hung : (cell : ℕ) → Waiting → List JournalEntry → Member → Member
-not_hung cell place journal m = record m { pass = record m.pass { seen = journal; found = m.pass.found ++ record { cell = cell; place = place } ∷ [] } }
+not_hung cell place journal m = record m {
+  pass =
+      record m.pass { seen = journal; found = m.pass.found ++ record { cell = cell; place = place } ∷ [] };
+}
 
-pub record Hangs (o : Opening) (cell : ℕ) (goal : Goal) (before : List Seat) (h : Held) (after : List Seat) (k : Held) : Type 0 where
+pub record Hangs (o : Opening) (cell : ℕ) (goal : Goal) (before : List Seat) (h : Held) (after : List Seat)
+    (k : Held) : Type 0 where
   pub m : Member
   pub within : cell < o.words
   pub in_range : IsGoalInRange o.program o.words goal
   pub waiter_left : length m.pass.hung < o.waiters
   pub steps :
       ((place_at h.places cell ≡ empty) × Moves before after m (hung_as (goal_of o cell goal m) h.journal m)
-      × (k ≡ record h { places = slice_set h.places cell (occupied (next_waiter o m)); journal = h.journal ++ entry m.pass.number (hangs (goal_of o cell goal m)) ∷ [] }))
-      ⊎ ((place_at h.places cell ≢ empty) × Moves before after m (not_hung cell (place_at h.places cell) h.journal m) × (k ≡ h))
+      × (k ≡ record h {
+        places = slice_set h.places cell (occupied (next_waiter o m));
+        journal = h.journal ++ entry m.pass.number (hangs (goal_of o cell goal m)) ∷ [];
+      }))
+      ⊎ ((place_at h.places cell ≢ empty) × Moves before after m (not_hung cell (place_at h.places cell) h.journal m)
+      × (k ≡ h))
 
 -- ---- a place is taken
 
@@ -180,7 +208,19 @@ pub record TakesPlace (before : List Seat) (h : Held) (after : List Seat) (k : H
 
 abbrev pub blank : (number : ℕ) → Member
 blank number = record {
-  pass = record { number = number; seen = []; known = []; mine = []; frames = []; asked = []; fails = []; missed = []; hung = []; took = []; found = [] };
+  pass = record {
+    number = number;
+    seen = [];
+    known = [];
+    mine = [];
+    frames = [];
+    asked = [];
+    fails = [];
+    missed = [];
+    hung = [];
+    took = [];
+    found = [];
+  };
   pending = None;
 }
 

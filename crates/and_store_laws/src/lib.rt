@@ -8,9 +8,11 @@ ghost use Rattle.std.specs.Prelude.{◌≡◌, ◌≢◌, ◌+◌, ◌^◌, ◌<
 ghost use Rattle.and_model.specs.Store.{JournalEntry, Known, Pass, Waiting, entries_by};
 ghost use Rattle.and_model.specs.declared.goal.Goal.{Goal};
 ghost use Rattle.and_model.specs.declared.reference.Ref.{Ref};
-ghost use Rattle.and_store_laws.specs.AtWork.{AtClose, AtWork, CanOpen, Held, IsAtRest, Member, Opening, Rule, Seat, Works, journal_of, opened, word_at};
+ghost use Rattle.and_store_laws.specs.AtWork.{AtClose, AtWork, CanOpen, Held, IsAtRest, Member, Opening, Rule, Seat};
+ghost use Rattle.and_store_laws.specs.AtWork.{Works, journal_of, opened, word_at};
 ghost use Rattle.and_store_laws.specs.Grown.{Grew};
-ghost use Rattle.and_store_laws.specs.Steps.{blank, looked, seat, set_as, taken, Fails, Hangs, Joins, Looks, LooksFailed, SetsWord, Splits, TakesFrame, TakesPlace};
+ghost use Rattle.and_store_laws.specs.Steps.{blank, looked, seat, set_as, taken, Fails, Hangs, Joins, Looks};
+ghost use Rattle.and_store_laws.specs.Steps.{LooksFailed, SetsWord, Splits, TakesFrame, TakesPlace};
 
 /// At the opening one seat has all shares, and its pass has done nothing.
 pub fn the_opening()
@@ -65,7 +67,10 @@ pub fn what_the_rule_tells()
 pub fn a_worker_grows()
     ensures nothing { (p : Pass) → Grew p p }
     ensures on { (p q r : Pass) → Grew p q → Grew q r → Grew p r }
-    ensures look { (o : Opening) (h : Held) (m : Member) → Works o h m → (place : ℕ) (r : Ref) → Grew m.pass (looked place r h.journal m).pass }
-    ensures set { (o : Opening) (h : Held) (m : Member) → Works o h m → (place : ℕ) (to : Ref) → Grew m.pass (set_as place to h.journal m).pass }
-    ensures take { (o : Opening) (h : Held) (m : Member) → Works o h m → (cell : ℕ) (place : Waiting) → Grew m.pass (taken cell place h.journal m).pass }
+    ensures look { (o : Opening) (h : Held) (m : Member) → Works o h m → (place : ℕ) (r : Ref)
+        → Grew m.pass (looked place r h.journal m).pass }
+    ensures set { (o : Opening) (h : Held) (m : Member) → Works o h m → (place : ℕ) (to : Ref)
+        → Grew m.pass (set_as place to h.journal m).pass }
+    ensures take { (o : Opening) (h : Held) (m : Member) → Works o h m → (cell : ℕ) (place : Waiting)
+        → Grew m.pass (taken cell place h.journal m).pass }
 {}

@@ -1,5 +1,6 @@
 -- Goals and cells side by side, as one list.
-use Rattle.std.proofs.Common.{ℕ, zero, suc, ◌≡◌, ◌+◌, ◌-◌, ◌<◌, ◌≤◌, List, [], ◌∷◌, ◌++◌, ◌∙◌, map, take, take_all, drop, slice_set, get_or, length, refl, sym, ap, subst, arith}
+use Rattle.std.proofs.Common.{ℕ, zero, suc, ◌≡◌, ◌+◌, ◌-◌, ◌<◌, ◌≤◌, List, [], ◌∷◌, ◌++◌, ◌∙◌, map, take, take_all, drop, slice_set, get_or, length, refl}
+use Rattle.std.proofs.Common.{sym, ap, subst, arith}
 use Rattle.std.specs.Prelude.{All, IsPermutation}
 use Rattle.std.specs.List.{swap_remove}
 use Rattle.std.proofs.lemmas.List.{drop_more, length-drop, take-append-drop}
@@ -23,7 +24,8 @@ goals_of [] cells same = refl
 goals_of (g ∷ gs) [] same = absurd (omega arith)
 goals_of (g ∷ gs) (c ∷ cs) same = ap (λ ws. g ∷ ws) (goals_of gs cs (omega arith))
 
-pub all_cells : (P : ℕ → Type 0) (goals : List Goal) (cells : List ℕ) → length goals ≡ length cells → All (λ (w : Waiting). P w.cell) (waiting goals cells) → All P cells
+pub all_cells : (P : ℕ → Type 0) (goals : List Goal) (cells : List ℕ) → length goals ≡ length cells
+    → All (λ (w : Waiting). P w.cell) (waiting goals cells) → All P cells
 all_cells P [] [] same all = All-nil P
 all_cells P [] (c ∷ cs) same all = absurd (omega arith)
 all_cells P (g ∷ gs) [] same all = All-nil P
@@ -34,15 +36,18 @@ all_cells P (g ∷ gs) (c ∷ cs) same all =
 pub all_waiting : (P : ℕ → Type 0) (goals : List Goal) (cells : List ℕ) → All P cells → All (λ (w : Waiting). P w.cell) (waiting goals cells)
 all_waiting P [] cells all = All-nil (λ (w : Waiting). P w.cell)
 all_waiting P (g ∷ gs) [] all = All-nil (λ (w : Waiting). P w.cell)
-all_waiting P (g ∷ gs) (c ∷ cs) all = All-cons (λ (w : Waiting). P w.cell) (waiting_for g c) (waiting gs cs) (All-head P c cs all) (all_waiting P gs cs (All-tail P c cs all))
+all_waiting P (g ∷ gs) (c ∷ cs) all =
+    All-cons (λ (w : Waiting). P w.cell) (waiting_for g c) (waiting gs cs) (All-head P c cs all) (all_waiting P gs cs (All-tail P c cs all))
 
 -- a look that found a cell free is followed by more looks
 free_later : (shared cell : ℕ) (old mid new : Seen) → OnlyReads mid new → LookedFree shared cell old mid → LookedFree shared cell old new
-free_later shared cell old mid new more f = record { before = f.before; after = f.after; reads = f.reads; misses = f.misses; reads_on = reads_more f.after mid new f.reads_on more }
+free_later shared cell old mid new more f =
+    record { before = f.before; after = f.after; reads = f.reads; misses = f.misses; reads_on = reads_more f.after mid new f.reads_on more }
 
 pub all_later : (shared : ℕ) (old mid new : Seen) → OnlyReads mid new → (cells : List ℕ)
     → All (λ c. LookedFree shared c old mid) cells → All (λ c. LookedFree shared c old new) cells
-all_later shared old mid new more cells = All-weaker (λ c. LookedFree shared c old mid) (λ c. LookedFree shared c old new) (λ c. free_later shared c old mid new more) cells
+all_later shared old mid new more cells =
+    All-weaker (λ c. LookedFree shared c old mid) (λ c. LookedFree shared c old new) (λ c. free_later shared c old mid new more) cells
 
 -- one cell more was found free, from the last one on
 pub one_more_free : (shared : ℕ) (old mid new : Seen) (cells : List ℕ) (place cell : ℕ) → 0 < place → place ≤ length cells → get_or cells (place - 1) 0 ≡ cell
@@ -53,7 +58,8 @@ one_more_free shared old mid new cells place cell some below is reads misses all
     let here : F cell = record { before = mid; after = new; reads = reads; misses = misses; reads_on = reads_nothing new } in
     let same : place ≡ place - 1 + 1 = omega arith in
     let behind = subst (λ k. All (λ c. LookedFree shared c old mid) (drop k cells)) same all in
-    subst (All F) (sym (drop_more cells (place - 1) 0 (omega arith))) (All-cons F (get_or cells (place - 1) 0) (drop (place - 1 + 1) cells) (subst F (sym is) here)
+    subst (All F) (sym (drop_more cells (place - 1) 0 (omega arith)))
+    (All-cons F (get_or cells (place - 1) 0) (drop (place - 1 + 1) cells) (subst F (sym is) here)
     (all_later shared old mid new (misses_reads shared cell mid new misses) (drop (place - 1 + 1) cells) behind))
 
 -- looks after others
@@ -115,7 +121,8 @@ waiting_removed goals cells i g c same =
     ∙ waiting_first (slice_set goals i last_goal) (slice_set cells i last_cell) n
     ∙ ap (take n) (waiting_set goals cells i last_goal last_cell same)
     ∙ ap (λ w. take n (slice_set (waiting goals cells) i w)) (sym (waiting_at goals cells n g c same))
-    ∙ ap (λ m. take (m - 1) (slice_set (waiting goals cells) i (get_or (waiting goals cells) (m - 1) (waiting_for g c)))) (sym (waiting_length goals cells same))
+    ∙ ap (λ m. take (m - 1) (slice_set (waiting goals cells) i (get_or (waiting goals cells) (m - 1) (waiting_for g c))))
+    (sym (waiting_length goals cells same))
 
 -- the goal at a place is taken out with its cell
 pub wakes_at : (P : NamedProgram) (old new : Seen) (goals : List Goal) (cells : List ℕ) (place cell : ℕ) (goal : Goal)
@@ -125,7 +132,8 @@ pub wakes_at : (P : NamedProgram) (old new : Seen) (goals : List Goal) (cells : 
 wakes_at P old new goals cells place cell goal same below is cell_is set = record {
   cell = cell;
   taken = subst (λ ws. IsPermutation (waiting goals cells) (waiting_for goal cell ∷ ws)) (sym (waiting_removed goals cells place goal cell same))
-      (IsPermutation-swap_remove (waiting goals cells) place (waiting_for goal cell) (subst (λ n. place < n) (sym (waiting_length goals cells same)) (omega arith))
+      (IsPermutation-swap_remove (waiting goals cells) place (waiting_for goal cell)
+      (subst (λ n. place < n) (sym (waiting_length goals cells same)) (omega arith))
       (sym (waiting_at goals cells place goal cell same ∙ ap (λ g. waiting_for g (get_or cells place cell)) (sym is) ∙ ap (waiting_for goal) (sym cell_is))));
   set = set;
 }

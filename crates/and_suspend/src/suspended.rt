@@ -1,6 +1,7 @@
 //! The list of goals that wait.
 
-ghost use Rattle.std.specs.Prelude.{◌≡◌, ◌<◌, ◌++◌, ◌∷◌, [], map, length, All, IfSome, IfNone, IfErr, OnOk, OnErr, slice_index_or};
+ghost use Rattle.std.specs.Prelude.{◌≡◌, ◌<◌, ◌++◌, ◌∷◌, [], map, length, All, IfSome, IfNone, IfErr, OnOk, OnErr};
+ghost use Rattle.std.specs.Prelude.{slice_index_or};
 ghost use Rattle.and_cells.specs.Seen.{OnlyReads};
 ghost use Rattle.and_suspend.specs.Waiting.{Waiting, waiting_for, LookedFree, LookedSet, Wakes};
 
@@ -35,8 +36,10 @@ fn last_set<C: Cells>(waited: &[u32], cells: &mut C) -> Option<usize>
     ensures over { C.over cells.new ≡ C.over cells.old }
     ensures grew { C.Grew cells.old cells.new }
     ensures reads { OnlyReads (C.seen cells.old) (C.seen cells.new) }
-    ensures none { IfNone result (All (λ cell. LookedFree (C.shared (C.over cells.old)) cell (C.seen cells.old) (C.seen cells.new)) waited.now) }
-    ensures set { IfSome result (λ place. (place < length waited.now) × LookedSet C.program (slice_index_or waited.now place 0) (C.seen cells.old) (C.seen cells.new)) }
+    ensures none { IfNone result
+        (All (λ cell. LookedFree (C.shared (C.over cells.old)) cell (C.seen cells.old) (C.seen cells.new)) waited.now) }
+    ensures set { IfSome result (λ place. (place < length waited.now)
+        × LookedSet C.program (slice_index_or waited.now place 0) (C.seen cells.old) (C.seen cells.new)) }
 {
     let mut place = waited.len();
     while place > 0 {
@@ -49,15 +52,17 @@ fn last_set<C: Cells>(waited: &[u32], cells: &mut C) -> Option<usize>
     None
 }
 
-/// The place of a cell that a look finds set; `None` where each is found free. Looks go from the place before `from` to the first one,
-/// and then from the last one to `from`. Takes no memory.
+/// The place of a cell that a look finds set; `None` where each is found free. Looks go from the place before `from`
+/// to the first one, and then from the last one to `from`. Takes no memory.
 fn next_set<C: Cells>(waited: &[u32], from: usize, cells: &mut C) -> Option<usize>
     requires { All (λ cell. cell < (C.seen cells.old).words) waited.now }
     ensures over { C.over cells.new ≡ C.over cells.old }
     ensures grew { C.Grew cells.old cells.new }
     ensures reads { OnlyReads (C.seen cells.old) (C.seen cells.new) }
-    ensures none { IfNone result (All (λ cell. LookedFree (C.shared (C.over cells.old)) cell (C.seen cells.old) (C.seen cells.new)) waited.now) }
-    ensures set { IfSome result (λ place. (place < length waited.now) × LookedSet C.program (slice_index_or waited.now place 0) (C.seen cells.old) (C.seen cells.new)) }
+    ensures none { IfNone result
+        (All (λ cell. LookedFree (C.shared (C.over cells.old)) cell (C.seen cells.old) (C.seen cells.new)) waited.now) }
+    ensures set { IfSome result (λ place. (place < length waited.now)
+        × LookedSet C.program (slice_index_or waited.now place 0) (C.seen cells.old) (C.seen cells.new)) }
 {
     if from > waited.len() {
         return last_set(waited, cells);
@@ -100,16 +105,20 @@ impl Suspended {
     /// Takes out a goal whose cell is found set; `None` where each cell is found free, each by a look of this
     /// call. Takes no memory.
     ///
-    /// Looks begin before the place of the goal that was taken out last, and go round. So those whose cells are free are passed
-    /// once a round; and who began to wait later comes earlier, as in a recursion the innermost call has its value first.
+    /// Looks begin before the place of the goal that was taken out last, and go round. So those whose cells are free
+    /// are passed once a round; and who began to wait later comes earlier, as in a recursion the innermost call has
+    /// its value first.
     pub fn woken<C: Cells>(&mut self, cells: &mut C) -> Option<Goal>
         requires { All (λ w. w.cell < (C.seen cells.old).words) self.old }
         ensures over { C.over cells.new ≡ C.over cells.old }
         ensures grew { C.Grew cells.old cells.new }
         ensures reads { OnlyReads (C.seen cells.old) (C.seen cells.new) }
-        ensures woken { IfSome result (λ goal. Wakes C.program goal self.old self.new (C.seen cells.old) (C.seen cells.new)) }
+        ensures woken { IfSome result
+            (λ goal. Wakes C.program goal self.old self.new (C.seen cells.old) (C.seen cells.new)) }
         ensures unchanged { IfNone result (self.new ≡ self.old) }
-        ensures free { IfNone result (All (λ w. LookedFree (C.shared (C.over cells.old)) w.cell (C.seen cells.old) (C.seen cells.new)) self.old) }
+        ensures free { IfNone result
+            (All (λ w. LookedFree (C.shared (C.over cells.old)) w.cell (C.seen cells.old) (C.seen cells.new))
+            self.old) }
     {
         let Some(place) = next_set(self.cells.as_slice(), self.from, cells) else {
             return None;

@@ -1,12 +1,14 @@
--- What the calls of teams on a choicepoint tree have done for the search of a program (this project's own; forks and failures are those of
--- the basic Andorra model: Santos Costa, Warren and Yang, 1991).
-use Rattle.std.specs.Prelude.{ℕ, suc, ◌+◌, ◌<◌, ◌≤◌, ◌≡◌, ◌↔◌, Bool, true, false, ◌||◌, List, [], ◌∷◌, ◌++◌, flat_map, AllPairs, Contains}
+-- What the calls of teams on a choicepoint tree have done for the search of a program (this project's own; forks and
+-- failures are those of the basic Andorra model: Santos Costa, Warren and Yang, 1991).
+use Rattle.std.specs.Prelude.{ℕ, suc, ◌+◌, ◌<◌, ◌≤◌, ◌≡◌, ◌↔◌, Bool, true, false, ◌||◌, List, [], ◌∷◌, ◌++◌, flat_map}
+use Rattle.std.specs.Prelude.{AllPairs, Contains}
 use Rattle.and_model.specs.Programs.{Program}
 use Rattle.and_model.specs.Trees.{QueryTree, Open, decided, weight}
 use Rattle.and_model.specs.Prefixes.{IsPrefix}
 use Rattle.and_model.specs.Reached.{Shut, Split, ReachedBy, Fork}
 use Rattle.and_model.specs.Listing.{Entry}
-use Rattle.and_histories.specs.PlainTree.{Key, Event, fork, publish, claim, clear, end, look, left, Ending, answered, retired, given_up}
+use Rattle.and_histories.specs.PlainTree.{Key, Event, fork, publish, claim, clear, end, look, left, Ending, answered}
+use Rattle.and_histories.specs.PlainTree.{retired, given_up}
 use Rattle.and_histories.specs.Histories.{HistoryEntry, calls}
 use Rattle.and_walk_laws.specs.Walks.{Walks}
 
@@ -21,7 +23,8 @@ IsPassing (look team cell) = Unit {0}
 IsPassing (left team) = Unit {0}
 
 module _ (P : Program) (limit : ℕ) where
-  -- The tree is Shut with open goals, and these are the clauses of its splits that fit. It is cut where some split does not fit.
+  -- The tree is Shut with open goals, and these are the clauses of its splits that fit. It is cut where some split
+  -- does not fit.
   pub record IsForkedBy (t : QueryTree P) (clauses : List ℕ) (is_cut : Bool) : Type 0 where
     pub shut : Shut t
     pub open_goal : Open t
@@ -29,8 +32,8 @@ module _ (P : Program) (limit : ℕ) where
     pub fitting : (c : ℕ) → Contains clauses c ↔ ((next : QueryTree P) × Split t c next × (weight next ≤ limit))
     pub heavy : (is_cut ≡ true) ↔ ((c : ℕ) × (next : QueryTree P) × Split t c next × (limit < weight next))
 
-  -- The fork is of the leftmost goal of a Shut tree that is reached by its key, by exactly those of the goal's candidates that
-  -- fit.
+  -- The fork is of the leftmost goal of a Shut tree that is reached by its key, by exactly those of the goal's
+  -- candidates that fit.
   pub record IsJustified (x : Fork) : Type 0 where
     pub tree : QueryTree P
     pub is_cut : Bool
@@ -38,22 +41,24 @@ module _ (P : Program) (limit : ℕ) where
     pub longer : x.decided ≡ decided tree
     pub splits : IsForkedBy tree x.candidates is_cut
 
-  -- Did event entries forks failed is_cut: what the event found and counted, and whether it cut off anything. A key ends for a tree that is
-  -- reached by it, and whose walk finds one entry and counts nothing, or finds nothing. (All clauses of a goal may be too heavy: the
-  -- walk counts a fork then, and is cut.) No key is given up.
+  -- Did event entries forks failed is_cut: what the event found and counted, and whether it cut off anything. A key
+  -- ends for a tree that is reached by it, and whose walk finds one entry and counts nothing, or finds nothing. (All
+  -- clauses of a goal may be too heavy: the walk counts a fork then, and is cut.) No key is given up.
   pub data Did : Event → List Entry → ℕ → ℕ → Bool → Type 0 where
     forked : (team : ℕ) (key : Key) (clauses : List ℕ) (t : QueryTree P) (is_cut : Bool) → ReachedBy P limit key t
         → IsForkedBy t clauses is_cut → Did (fork team key (decided t) clauses) [] 1 0 is_cut
     told : (team : ℕ) (key : Key) (t : QueryTree P) (entry : Entry) → ReachedBy P limit key t
         → Walks P limit t (entry ∷ []) 0 0 false → Did (end team key answered) (entry ∷ []) 0 0 false
     ended : (team : ℕ) (key : Key) (t : QueryTree P) (forks failed : ℕ) (is_cut : Bool) → ReachedBy P limit key t
-        → Walks P limit t [] forks failed is_cut → (is_cut ≡ false → forks ≡ 0) → Did (end team key retired) [] forks failed is_cut
+        → Walks P limit t [] forks failed is_cut → (is_cut ≡ false → forks ≡ 0)
+        → Did (end team key retired) [] forks failed is_cut
     passed : (event : Event) → IsPassing event → Did event [] 0 0 false
 
   -- what all events of a history did together
   pub data DidAll : List HistoryEntry → List Entry → ℕ → ℕ → Bool → Type 0 where
     none : DidAll [] [] 0 0 false
-    more : (e : HistoryEntry) (history : List HistoryEntry) (entries others : List Entry) (forks failed more_forks more_failed : ℕ)
+    more : (e : HistoryEntry) (history : List HistoryEntry) (entries others : List Entry)
+        (forks failed more_forks more_failed : ℕ)
         (is_cut is_more_cut : Bool) → Did e.event entries forks failed is_cut
         → DidAll history others more_forks more_failed is_more_cut
         → DidAll (e ∷ history) (entries ++ others) (forks + more_forks) (failed + more_failed) (is_cut || is_more_cut)

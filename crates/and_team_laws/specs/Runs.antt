@@ -1,5 +1,5 @@
--- Whole runs of teams on a choicepoint tree (this project's own; forks are those of the basic Andorra model: Santos Costa,
--- Warren and Yang, 1991).
+-- Whole runs of teams on a choicepoint tree (this project's own; forks are those of the basic Andorra model: Santos
+-- Costa, Warren and Yang, 1991).
 use Rattle.std.specs.Prelude.{ℕ, ◌≡◌, ◌<◌, ◌≤◌, Bool, List, [], AllPairs}
 use Rattle.and_model.specs.Programs.{Program}
 use Rattle.and_model.specs.Trees.{query_agenda, blank, weight}
@@ -11,8 +11,8 @@ use Rattle.and_laws.specs.CodeOrder.{Rises}
 use Rattle.and_team_laws.specs.Owed.{SameItems}
 use Rattle.and_team_laws.specs.Done.{DidAll, forks_of}
 
--- The query fits, the history of so many teams leads from the opening to where no key is left, and this is what its events
--- did together.
+-- The query fits, the history of so many teams leads from the opening to where no key is left, and this is what its
+-- events did together.
 pub record WholeRun (P : Program) (limit teams : ℕ) (history : List HistoryEntry) (entries : List Entry)
     (forks failed : ℕ) (is_cut : Bool) : Type 0 where
   pub some_team : 0 < teams

@@ -5,7 +5,8 @@
 //! `and_histories`, `and_walk_laws` and of `specs/`. The proofs' own lemmas stand in `proofs/`.
 #![tactic(auto)]
 
-ghost use Rattle.std.specs.Prelude.{ℕ, ◌≡◌, ◌≢◌, ◌+◌, ◌≤◌, ◌<◌, ◌↔◌, Bool, false, ◌||◌, List, [], ◌∷◌, ◌++◌, All, AllPairs, Contains, length};
+ghost use Rattle.std.specs.Prelude.{ℕ, ◌≡◌, ◌≢◌, ◌+◌, ◌≤◌, ◌<◌, ◌↔◌, Bool, false, ◌||◌, List, [], ◌∷◌, ◌++◌, All};
+ghost use Rattle.std.specs.Prelude.{AllPairs, Contains, length};
 ghost use Rattle.and_model.specs.Programs.{Program};
 ghost use Rattle.and_model.specs.Trees.{QueryTree, query_agenda, blank, decided, weight};
 ghost use Rattle.and_model.specs.Reached.{Steps, Split, ReachedBy, Fork};
@@ -16,13 +17,15 @@ ghost use Rattle.and_histories.specs.Covering.{AreCovering};
 ghost use Rattle.and_laws.specs.CodeOrder.{Before};
 ghost use Rattle.and_walk_laws.specs.Walks.{Walks, SplitsBy};
 ghost use Rattle.and_team_laws.specs.Owed.{SameItems, OwesAnyhow};
-ghost use Rattle.and_team_laws.specs.Done.{Did, DidAll, IsForkedBy, IsJustified, Part, DidParts, all_parts, forks_of, keys_answered, keys_given_up, AreAnswers};
+ghost use Rattle.and_team_laws.specs.Done.{Did, DidAll, IsForkedBy, IsJustified, Part, DidParts, all_parts, forks_of};
+ghost use Rattle.and_team_laws.specs.Done.{keys_answered, keys_given_up, AreAnswers};
 ghost use Rattle.and_team_laws.specs.Runs.{WholeRun, AreInOrder, AreForksOfQuery};
 
 /// One root: all trees that are reached by the empty key come by Steps from the query; and those that
 /// are reached by the key of a split come by Steps from this split.
 pub fn keys_have_roots()
-    ensures query { (P : Program) (limit : ℕ) (t : QueryTree P) → ReachedBy P limit [] t → Steps (blank (query_agenda P)) t }
+    ensures query { (P : Program) (limit : ℕ) (t : QueryTree P) → ReachedBy P limit [] t
+        → Steps (blank (query_agenda P)) t }
     ensures splits { (P : Program) (limit : ℕ) (key : List ℕ) (t : QueryTree P) (clauses : List ℕ) (is_cut : Bool)
         → ReachedBy P limit key t → IsForkedBy P limit t clauses is_cut
         → (c : ℕ) (u v : QueryTree P) → Split t c u
@@ -33,17 +36,21 @@ pub fn keys_have_roots()
 /// Steps, by nothing where its walk is known, and by its splits that fit where it is forked.
 pub fn owed_in_any_order()
     ensures root { (P : Program) (limit : ℕ) (t : QueryTree P) → OwesAnyhow P limit t (t ∷ []) [] 0 0 false }
-    ensures walked { (P : Program) (limit : ℕ) (t r u : QueryTree P) (before behind : List (QueryTree P)) (entries others : List Entry)
+    ensures walked { (P : Program) (limit : ℕ) (t r u : QueryTree P) (before behind : List (QueryTree P))
+        (entries others : List Entry)
         (forks failed more_forks more_failed : ℕ) (is_cut is_more_cut : Bool)
         → OwesAnyhow P limit t (before ++ r ∷ behind) entries forks failed is_cut
         → Steps r u → Walks P limit u others more_forks more_failed is_more_cut
-        → OwesAnyhow P limit t (before ++ behind) (entries ++ others) (forks + more_forks) (failed + more_failed) (is_cut || is_more_cut) }
-    ensures forked { (P : Program) (limit : ℕ) (t r u : QueryTree P) (before behind splits : List (QueryTree P)) (entries : List Entry)
+        → OwesAnyhow P limit t (before ++ behind) (entries ++ others) (forks + more_forks) (failed + more_failed)
+        (is_cut || is_more_cut) }
+    ensures forked { (P : Program) (limit : ℕ) (t r u : QueryTree P) (before behind splits : List (QueryTree P))
+        (entries : List Entry)
         (forks failed : ℕ) (is_cut is_now_cut : Bool) (clauses : List ℕ)
         → OwesAnyhow P limit t (before ++ r ∷ behind) entries forks failed is_cut
         → Steps r u → IsForkedBy P limit u clauses is_now_cut → SplitsBy u clauses splits
         → OwesAnyhow P limit t (before ++ splits ++ behind) entries (forks + 1) failed (is_cut || is_now_cut) }
-    ensures empty { (P : Program) (limit : ℕ) (t : QueryTree P) (entries : List Entry) (forks failed : ℕ) (is_cut : Bool)
+    ensures empty { (P : Program) (limit : ℕ) (t : QueryTree P) (entries : List Entry)
+        (forks failed : ℕ) (is_cut : Bool)
         → OwesAnyhow P limit t [] entries forks failed is_cut
         → (all : List Entry) × Walks P limit t all forks failed is_cut × SameItems all entries }
 {}
@@ -64,15 +71,19 @@ pub fn calls_of_teams()
 pub fn one_event_more()
     ensures { (P : Program) (limit : ℕ) (history : List HistoryEntry) (e : HistoryEntry) (entries others : List Entry)
         (forks failed more_forks more_failed : ℕ) (is_cut is_more_cut : Bool)
-        → DidAll P limit history entries forks failed is_cut → Did P limit e.event others more_forks more_failed is_more_cut
-        → DidAll P limit (history ++ e ∷ []) (entries ++ others) (forks + more_forks) (failed + more_failed) (is_cut || is_more_cut) }
+        → DidAll P limit history entries forks failed is_cut
+        → Did P limit e.event others more_forks more_failed is_more_cut
+        → DidAll P limit (history ++ e ∷ []) (entries ++ others) (forks + more_forks) (failed + more_failed)
+        (is_cut || is_more_cut) }
 {}
 
 /// Histories walk: where the query fits, and no key is left at the end of a history of so many teams,
 /// what its events did is a walk of the query, in some order.
 pub fn histories_walk()
-    ensures { (P : Program) (limit teams : ℕ) (history : List HistoryEntry) (s : State) (entries : List Entry) (forks failed : ℕ)
-        (is_cut : Bool) → 0 < teams → weight (blank {P = P} (query_agenda P)) ≤ limit → Carries (opening teams) history s → left_of s ≡ 0
+    ensures { (P : Program) (limit teams : ℕ) (history : List HistoryEntry) (s : State)
+        (entries : List Entry) (forks failed : ℕ)
+        (is_cut : Bool) → 0 < teams → weight (blank {P = P} (query_agenda P)) ≤ limit
+        → Carries (opening teams) history s → left_of s ≡ 0
         → DidAll P limit history entries forks failed is_cut
         → (all : List Entry) × Walks P limit (blank (query_agenda P)) all forks failed is_cut × SameItems all entries }
 {}
@@ -90,16 +101,19 @@ pub fn any_order_lists()
 
 /// Forks cover: each fork of a history that did something leaves no code out.
 pub fn forks_cover()
-    ensures { (P : Program) (limit : ℕ) (history : List HistoryEntry) (entries : List Entry) (forks failed : ℕ) (is_cut : Bool)
+    ensures { (P : Program) (limit : ℕ) (history : List HistoryEntry) (entries : List Entry)
+        (forks failed : ℕ) (is_cut : Bool)
         → DidAll P limit history entries forks failed is_cut → AreCovering P limit history }
 {}
 
 /// Answers told: the keys that were answered are as many as the entries that were found, and each is a
 /// prefix of the code of its entry; and no key was given up.
 pub fn answers_told()
-    ensures answered { (P : Program) (limit : ℕ) (history : List HistoryEntry) (entries : List Entry) (forks failed : ℕ) (is_cut : Bool)
+    ensures answered { (P : Program) (limit : ℕ) (history : List HistoryEntry) (entries : List Entry)
+        (forks failed : ℕ) (is_cut : Bool)
         → DidAll P limit history entries forks failed is_cut → AreAnswers (keys_answered history) entries }
-    ensures given_up { (P : Program) (limit : ℕ) (history : List HistoryEntry) (entries : List Entry) (forks failed : ℕ) (is_cut : Bool)
+    ensures given_up { (P : Program) (limit : ℕ) (history : List HistoryEntry) (entries : List Entry)
+        (forks failed : ℕ) (is_cut : Bool)
         → DidAll P limit history entries forks failed is_cut → keys_given_up history ≡ [] }
 {}
 

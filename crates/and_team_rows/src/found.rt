@@ -12,7 +12,8 @@ use std::alloc::{AllocError, Global};
 
 /// Puts an entry with a code of one clause behind the others.
 fn add(alloc: Global, found: &mut Found, clause: u16, line: &[u8]) -> Result<(), AllocError>
-    ensures { OnOk result (map (λ e. e.code) (listed found.new) ≡ map (λ e. e.code) (listed found.old) ++ (clause ∷ []) ∷ []) }
+    ensures { OnOk result (map (λ e. e.code) (listed found.new)
+        ≡ map (λ e. e.code) (listed found.old) ++ (clause ∷ []) ∷ []) }
 {
     let mut code = Code::new(alloc);
     code.push(ClauseNo(clause))?;

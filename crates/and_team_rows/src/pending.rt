@@ -20,7 +20,8 @@ fn goal(number: u32) -> Goal {
     }
 }
 
-/// Puts the numbers of all goals at the end of a line, whether those before the place of work sleep, and the number of the next one.
+/// Puts the numbers of all goals at the end of a line, whether those before the place of work sleep, and the number
+/// of the next one.
 fn tell(goals: &PendingGoals, row: &Row, line: &mut String) -> Result<(), AllocError> {
     for goal in &goals.all(goals.allocator())? {
         line.push((b'0' + (goal.node % 10) as u8) as char)?;

@@ -58,7 +58,8 @@ structure_keeps P m floor base node within (inl room) below =
 structure_keeps P m floor base node within (inr past) below = absurd (omega arith)
 
 -- The right side of an equation is a node that is there.
-pub right_is_there : (ss : List Shape) (k place : ℕ) (items : List ItemNode) (d : ItemNode) (left right : NodeNo) → AllThere ss k (map node_item items) → place < length items
+pub right_is_there : (ss : List Shape) (k place : ℕ) (items : List ItemNode) (d : ItemNode) (left right : NodeNo) → AllThere ss k (map node_item items)
+    → place < length items
     → get_or items place d ≡ Equal left right → right.0 < length ss
 right_is_there ss k place [] d left right there below is = absurd (omega arith)
 right_is_there ss k zero (Call g ∷ items) d left right there below is = absurd (cc)
@@ -68,7 +69,8 @@ right_is_there ss k zero (Equal l r ∷ items) d left right there below is =
 right_is_there ss k zero (Is l r pair ∷ items) d left right there below is = absurd (cc)
 right_is_there ss k zero (Compare o l r ∷ items) d left right there below is = absurd (cc)
 right_is_there ss k zero (Fail ∷ items) d left right there below is = absurd (cc)
-right_is_there ss k (suc place) (item ∷ items) d left right there below is = right_is_there ss (Skeletons.after k (node_item item)) place items d left right there.1 (omega arith) is
+right_is_there ss k (suc place) (item ∷ items) d left right there below is =
+    right_is_there ss (Skeletons.after k (node_item item)) place items d left right there.1 (omega arith) is
 
 -- What holds of a list and of one more holds of both.
 pub all_and_one : {X : Type 0} (P : X → Type 0) (xs : List X) (x : X) → All P xs → P x → All P (xs ++ x ∷ [])
@@ -99,11 +101,14 @@ free_is_settled P n = record {
 
 -- has no words of pairs,
 pub free_has_no_half : (P : NamedProgram) (n : ℕ) (pairs : List Pair) → NameNoHalf P (word_at (replicate n Free)) pairs
-free_has_no_half P n pairs = all_of (λ (p : Pair). All (λ (cell : ℕ). is_half (word_at (replicate n Free) cell) ≡ false) (shallow_cells P p.left ++ shallow_cells P p.right)) pairs
-    (λ p at. all_of (λ (cell : ℕ). is_half (word_at (replicate n Free) cell) ≡ false) (shallow_cells P p.left ++ shallow_cells P p.right) (λ cell named. ap is_half (free_word n cell)))
+free_has_no_half P n pairs =
+    all_of (λ (p : Pair). All (λ (cell : ℕ). is_half (word_at (replicate n Free) cell) ≡ false) (shallow_cells P p.left ++ shallow_cells P p.right)) pairs
+    (λ p at. all_of (λ (cell : ℕ). is_half (word_at (replicate n Free) cell) ≡ false) (shallow_cells P p.left ++ shallow_cells P p.right)
+    (λ cell named. ap is_half (free_word n cell)))
 
 -- and is new from each floor on.
-pub free_is_new : (P : NamedProgram) (n floor : ℕ) (pairs : List Pair) → floor ≤ n → All (λ (p : Pair). KeepsBelow P floor p.left × KeepsBelow P floor p.right) pairs
+pub free_is_new : (P : NamedProgram) (n floor : ℕ) (pairs : List Pair) → floor ≤ n
+    → All (λ (p : Pair). KeepsBelow P floor p.left × KeepsBelow P floor p.right) pairs
     → AreNewFrom P (replicate n Free) pairs floor
 free_is_new P n floor pairs within keeps = record {
   within = omega (arith, length-replicate n Free);

@@ -26,7 +26,8 @@ pub(crate) fn structure<N: Naming>(
     ensures node { IfOk result (λ r. r ≡ Ref.Node node base) }
     ensures in_range { IfOk result (λ r. IsInRange N.program (length cells.now) r) }
     ensures written { IfOk result (λ r. IsWrittenIfNumber (plain cells.now) r) }
-    ensures keeps { IfOk result (λ r. (floor : ℕ) → (base + 256 ≤ floor) ⊎ (floor ≤ base) → KeepsBelow N.program floor r) }
+    ensures keeps { IfOk result (λ r. (floor : ℕ) → (base + 256 ≤ floor) ⊎ (floor ≤ base)
+        → KeepsBelow N.program floor r) }
 {
     if base >= 1000 || cells.len() < base + 256 {
         return Err(Untold::Malformed);

@@ -1,8 +1,8 @@
 //! Switches, the index and the choice among them.
 
+use and_first_argument::{Addition, FirstArguments, Key, KeyIndex, Switch, SwitchFault};
 use and_model::{ClauseNo, NameNo};
 use and_rows::Untold;
-use and_switch::{Addition, FirstArguments, Key, KeyIndex, Switch, SwitchFault};
 use std::alloc::{AllocError, Global};
 
 /// What clauses are added to, and picked from.

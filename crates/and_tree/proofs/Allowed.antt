@@ -65,7 +65,8 @@ module _ {B : Type 0} (key_of : B → Key) (Stands : ℕ → B → Type 0) where
           → Kept key_of Stands a (stepped s i x id c quiet_view keeps)
       quiet_kept i x c are =
           keeping.goes_calling key_of Stands a s id v kept at alone event reply next at_rest does by modest tt (set s.words i x) s.homes are kept.slots
-          (keeping.slots_stay key_of Stands a s id v kept at alone quiet_view (keeping.then_member key_of Stands a s id v kept at alone event reply next at_rest)
+          (keeping.slots_stay key_of Stands a s id v kept at alone quiet_view
+          (keeping.then_member key_of Stands a s id v kept at alone event reply next at_rest)
           (keeping.then_held key_of Stands a s id v kept at alone event reply next at_rest) (set s.words i x) same rest)
 
       pub quiet_called : Called event reply v quiet_view h
@@ -77,7 +78,8 @@ module _ {B : Type 0} (key_of : B → Key) (Stands : ℕ → B → Type 0) where
       pub quiet : (i x found : ℕ) (c : List (ℕ × Option B)) → c ≡ []
           → set s.words i x ≡ words_of (keeping.then_held key_of Stands a s id v kept at alone event reply next at_rest)
           → Tells v.about.teams event found reply
-          → (w : Sight) × (b : Act (Option B)) × Valid s.homes c b × Kept key_of Stands a (stepped s i x id c w b) × (CallTold event v found w × (carried_after c b ≡ []))
+          → (w : Sight) × (b : Act (Option B)) × Valid s.homes c b × Kept key_of Stands a (stepped s i x id c w b)
+          × (CallTold event v found w × (carried_after c b ≡ []))
       quiet i x found c none are tells =
           (quiet_view, keeps, tt, quiet_kept i x c are, (record { held = h; reply = reply; tells = tells; called = quiet_called; rests = refl }, none))
 
@@ -89,7 +91,8 @@ module _ {B : Type 0} (key_of : B → Key) (Stands : ℕ → B → Type 0) where
   module _ (a : About) (slots id : ℕ) (v : Sight) (c : List (ℕ × Option B)) (alone : v.members ≡ mine_of v ∷ []) (none : c ≡ [])
       (rest : (mine_of v).work ≡ at_rest) where
     pub allows_fork : (key longer : Key) (clauses : List ℕ) → MayCall a.teams (mine_of v).hand (fork (mine_of v).team key longer clauses)
-        → Allows (Kept key_of Stands a) slots id (v, c) 0 (λ n. (n + added_by (length clauses)) % 2 ^ 64) (λ n me. CallTold (fork (mine_of v).team key longer clauses) v n me.0 × (me.1 ≡ []))
+        → Allows (Kept key_of Stands a) slots id (v, c) 0 (λ n. (n + added_by (length clauses)) % 2 ^ 64)
+        (λ n me. CallTold (fork (mine_of v).team key longer clauses) v n me.0 × (me.1 ≡ []))
     allows_fork key longer clauses may s kept homes at small =
         let team : ℕ = (mine_of v).team in
         let h : Held = kept.held in
@@ -105,12 +108,15 @@ module _ {B : Type 0} (key_of : B → Key) (Stands : ℕ → B → Type 0) where
         let fits = few_fit a.teams h.now (few_now a s id v kept at alone) in
         let fit = few_fit a.teams next (quiet_few a s id v kept at alone event forked next does refl modest refl rest) in
         let is : (get_or s.words 0 0 + added_by (length clauses)) % 2 ^ 64 ≡ left_of next =
-        ap (λ n. (n + added_by (length clauses)) % 2 ^ 64) now ∙ live_forked (left_of h.now) (left_of next) (length clauses) (omega (arith, counted, many)) fits fit in
-        quiet a s id v kept at alone event forked next does refl modest refl rest 0 ((get_or s.words 0 0 + added_by (length clauses)) % 2 ^ 64) (get_or s.words 0 0) c none
+        ap (λ n. (n + added_by (length clauses)) % 2 ^ 64) now
+        ∙ live_forked (left_of h.now) (left_of next) (length clauses) (omega (arith, counted, many)) fits fit in
+        quiet a s id v kept at alone event forked next does refl modest refl rest 0 ((get_or s.words 0 0 + added_by (length clauses)) % 2 ^ 64)
+        (get_or s.words 0 0) c none
         (live_now a s id v kept at alone event forked next does refl modest refl rest ((get_or s.words 0 0 + added_by (length clauses)) % 2 ^ 64) is) refl
 
     pub allows_end : (key : Key) (how : Ending) → MayCall a.teams (mine_of v).hand (end (mine_of v).team key how)
-        → Allows (Kept key_of Stands a) slots id (v, c) 0 (λ n. (n + (2 ^ 64 - 1)) % 2 ^ 64) (λ n me. CallTold (end (mine_of v).team key how) v n me.0 × (me.1 ≡ []))
+        → Allows (Kept key_of Stands a) slots id (v, c) 0 (λ n. (n + (2 ^ 64 - 1)) % 2 ^ 64)
+        (λ n me. CallTold (end (mine_of v).team key how) v n me.0 × (me.1 ≡ []))
     allows_end key how may s kept homes at small =
         let team : ℕ = (mine_of v).team in
         let h : Held = kept.held in
@@ -150,7 +156,8 @@ module _ {B : Type 0} (key_of : B → Key) (Stands : ℕ → B → Type 0) where
         let does : Does h.now (look team cell) (seen (seen_in x)) h.now =
         Does.looks team cell (keeping.is_team key_of Stands a s id v kept at alone) (within a s id v kept at alone cell below) in
         let teams = keeping.about_is key_of Stands a s id v kept at alone in
-        quiet a s id v kept at alone (look team cell) (seen (seen_in x)) h.now does refl tt refl rest (cell + 1) (get_or s.words (cell + 1) 0) (get_or s.words (cell + 1) 0) c none
+        quiet a s id v kept at alone (look team cell) (seen (seen_in x)) h.now does refl tt refl rest (cell + 1) (get_or s.words (cell + 1) 0)
+        (get_or s.words (cell + 1) 0) c none
         (same_words a s id v kept at alone (cell + 1))
         (x, subst (λ (b : About). IsCellOf b.teams x) (sym teams) (of_team a s id v kept at alone cell below), cell_is a s id v kept at alone cell, refl)
 
@@ -167,7 +174,8 @@ module _ {B : Type 0} (key_of : B → Key) (Stands : ℕ → B → Type 0) where
         let does : Does h.now (claim team cell serial) (moved (seen_in x)) h.now =
         Does.misses team cell serial (keeping.is_team key_of Stands a s id v kept at alone) (within a s id v kept at alone cell below) not_open in
         let teams = keeping.about_is key_of Stands a s id v kept at alone in
-        quiet a s id v kept at alone (claim team cell serial) (moved (seen_in x)) h.now does refl tt refl rest (cell + 1) (get_or s.words (cell + 1) 0) (get_or s.words (cell + 1) 0) c none
+        quiet a s id v kept at alone (claim team cell serial) (moved (seen_in x)) h.now does refl tt refl rest (cell + 1) (get_or s.words (cell + 1) 0)
+        (get_or s.words (cell + 1) 0) c none
         (same_words a s id v kept at alone (cell + 1))
         (x, subst (λ (b : About). IsCellOf b.teams x) (sym teams) (of_team a s id v kept at alone cell below), cell_is a s id v kept at alone cell, refl)
 
@@ -175,7 +183,8 @@ module _ {B : Type 0} (key_of : B → Key) (Stands : ℕ → B → Type 0) where
         → Allows (Kept key_of Stands a) slots id (v, c) (cell + 1) (λ n. n) (λ n me. CallTold (claim (mine_of v).team cell serial) v n me.0 × (me.1 ≡ []))
     allows_vain_claim cell serial below above s kept homes at small =
         let low = (of_team a s id v kept at alone cell below).serial in
-        misses_so s kept at cell serial below (λ key e. let same : (cell_of kept.held.now cell).serial ≡ serial = ap (λ (c : Cell). c.serial) e in absurd (too_high (cell_of kept.held.now cell).serial serial low same above))
+        misses_so s kept at cell serial below (λ key e. let same : (cell_of kept.held.now cell).serial ≡ serial =
+        ap (λ (c : Cell). c.serial) e in absurd (too_high (cell_of kept.held.now cell).serial serial low same above))
       where
         too_high : (n serial : ℕ) → n ≤ last_serial → n ≡ serial → last_serial < serial → ⊥
         too_high n serial low same above = absurd (omega (arith, low, same, above))
@@ -196,7 +205,8 @@ module _ {B : Type 0} (key_of : B → Key) (Stands : ℕ → B → Type 0) where
         w,
         keeps,
         tt,
-        keeping.goes key_of Stands a s id v kept at alone w n h (set s.words 0 (get_or s.words 0 0)) s.homes refl refl (same_words a s id v kept at alone 0) kept.slots after
+        keeping.goes key_of Stands a s id v kept at alone w n h (set s.words 0 (get_or s.words 0 0)) s.homes refl refl
+            (same_words a s id v kept at alone 0) kept.slots after
             (λ cell x is. keeping.slot_on key_of Stands a.limit (left ++ m ∷ right) (left ++ n ∷ right) s
             (record { words = set s.words 0 (get_or s.words 0 0); homes = s.homes; views = set s.views id w }) cell x.content refl
             (keeping.opening_on left right m n cell (λ serial opens. (serial, opens))) (keeping.slot_was key_of Stands a s id v kept at alone cell x is))

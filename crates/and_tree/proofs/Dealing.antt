@@ -80,7 +80,8 @@ dealt_members views id v at = by_members v.members refl
         let r = around views id v at in
         let front = all_members r.front in
         let back = all_members r.back in
-        let before : all_members views ≡ front ++ m ∷ (members ++ back) = ap all_members r.was ∙ members_around r.front r.back v ∙ ap (λ l. front ++ (l ++ back)) e in
+        let before : all_members views ≡ front ++ m ∷ (members ++ back) =
+        ap all_members r.was ∙ members_around r.front r.back v ∙ ap (λ l. front ++ (l ++ back)) e in
         let after : all_members (set views id (dealing_left v) ++ dealing_right v ∷ []) ≡ (front ++ (members ++ back)) ++ m ∷ [] =
         flat_map-append (λ (v : Sight). v.members) (set views id (dealing_left v)) (dealing_right v ∷ [])
         ∙ ap (λ l. all_members l ++ (only_first v.members ++ [])) (r.becomes (dealing_left v))
@@ -103,13 +104,16 @@ gathered_members views id other v w apart at at_other =
     ap all_members q.was ∙ members_around q.front q.back v ∙ sym (append_assoc (all_members q.front) v.members (all_members q.back)) in
     let four : all_members after ≡ (all_members q.front ++ v.members) ++ (w.members ++ all_members q.back) =
     ap all_members (q.becomes (taken_in v w)) ∙ members_around q.front q.back (taken_in v w)
-    ∙ ap (λ l. all_members q.front ++ l) (append_assoc v.members w.members (all_members q.back)) ∙ sym (append_assoc (all_members q.front) v.members (w.members ++ all_members q.back)) in
+    ∙ ap (λ l. all_members q.front ++ l) (append_assoc v.members w.members (all_members q.back))
+    ∙ sym (append_assoc (all_members q.front) v.members (w.members ++ all_members q.back)) in
     let first : IsPermutation (all_members views) (w.members ++ all_members middle) =
     subst (λ l. IsPermutation l (w.members ++ all_members middle)) (sym one)
-    (subst (λ l. IsPermutation (all_members r.front ++ (w.members ++ all_members r.back)) (w.members ++ l)) (sym two) (to_front (all_members r.front) w.members (all_members r.back))) in
+    (subst (λ l. IsPermutation (all_members r.front ++ (w.members ++ all_members r.back)) (w.members ++ l)) (sym two)
+    (to_front (all_members r.front) w.members (all_members r.back))) in
     let second : IsPermutation (all_members after) (w.members ++ all_members middle) =
     subst (λ l. IsPermutation l (w.members ++ all_members middle)) (sym four)
-    (subst (λ l. IsPermutation ((all_members q.front ++ v.members) ++ (w.members ++ all_members q.back)) (w.members ++ l)) (sym three) (to_front (all_members q.front ++ v.members) w.members (all_members q.back))) in
+    (subst (λ l. IsPermutation ((all_members q.front ++ v.members) ++ (w.members ++ all_members q.back)) (w.members ++ l)) (sym three)
+    (to_front (all_members q.front ++ v.members) w.members (all_members q.back))) in
     subst (λ l. IsPermutation (all_members views) (all_members l)) (set_comm views other id spent (taken_in v w) (λ e. apart (sym e)))
     (IsPermutation-trans (all_members views) (w.members ++ all_members middle) (all_members after) first
     (IsPermutation-sym (all_members after) (w.members ++ all_members middle) second))
@@ -125,8 +129,10 @@ module _ {B : Type 0} (key_of : B → Key) (Stands : ℕ → B → Type 0) (a : 
     words = kept.words;
     slots = kept.slots;
     at_work = at_work_still a (all_members s.views) (all_members views) kept.held p kept.at_work;
-    slot = λ cell c is. slot_on key_of Stands a.limit (all_members s.views) (all_members views) s (record { words = s.words; homes = s.homes; views = views }) cell c.content refl
-        (λ (o : IsOpening (all_members s.views) cell). (o.0, o.1, Contains-permutation (all_members s.views) (all_members views) o.0 p o.2, o.3)) (kept.slot cell c is);
+    slot = λ cell c is. slot_on key_of Stands a.limit (all_members s.views) (all_members views) s
+        (record { words = s.words; homes = s.homes; views = views }) cell c.content refl
+        (λ (o : IsOpening (all_members s.views) cell). (o.0, o.1, Contains-permutation (all_members s.views) (all_members views) o.0 p o.2, o.3))
+        (kept.slot cell c is);
     about = about;
     told = told;
   }
@@ -137,7 +143,8 @@ module _ {B : Type 0} (key_of : B → Key) (Stands : ℕ → B → Type 0) (a : 
       let told = all_at (λ (v : Sight). IsPrefix v.told kept.held.history) s.views id v kept.told at in
       seated s (set s.views id (dealing_left v) ++ dealing_right v ∷ []) kept (dealt_members s.views id v at)
       (All-push (λ (v : Sight). v.members ≢ [] → v.about ≡ a) (set s.views id (dealing_left v)) (dealing_right v)
-      (All-set (λ (v : Sight). v.members ≢ [] → v.about ≡ a) s.views id (dealing_left v) (λ some_member. about (λ none. some_member (ap without_first none))) kept.about)
+      (All-set (λ (v : Sight). v.members ≢ [] → v.about ≡ a) s.views id (dealing_left v)
+      (λ some_member. about (λ none. some_member (ap without_first none))) kept.about)
       (λ some_member. about (λ none. some_member (ap only_first none))))
       (All-push (λ (v : Sight). IsPrefix v.told kept.held.history) (set s.views id (dealing_left v)) (dealing_right v)
       (All-set (λ (v : Sight). IsPrefix v.told kept.held.history) s.views id (dealing_left v) told kept.told) told)
@@ -158,7 +165,8 @@ module _ {B : Type 0} (key_of : B → Key) (Stands : ℕ → B → Type 0) (a : 
   notes id v alone s kept at =
       let same : set s.views id v ≡ s.views = set_again s.views id v at in
       let members : all_members (set s.views id v ++ note_of v ∷ []) ≡ all_members s.views =
-      ap (λ l. all_members (l ++ note_of v ∷ [])) same ∙ flat_map-append (λ (v : Sight). v.members) s.views (note_of v ∷ []) ∙ append-nil (all_members s.views) in
+      ap (λ l. all_members (l ++ note_of v ∷ [])) same ∙ flat_map-append (λ (v : Sight). v.members) s.views (note_of v ∷ [])
+      ∙ append-nil (all_members s.views) in
       let seen = (works key_of Stands a s id v kept at alone).seen in
       seated s (set s.views id v ++ note_of v ∷ []) kept (subst (IsPermutation (all_members s.views)) (sym members) (IsPermutation-refl (all_members s.views)))
       (All-push (λ (v : Sight). v.members ≢ [] → v.about ≡ a) (set s.views id v) (note_of v)
@@ -173,7 +181,8 @@ module _ {B : Type 0} (key_of : B → Key) (Stands : ℕ → B → Type 0) (a : 
       let told = all_at (λ (v : Sight). IsPrefix v.told kept.held.history) s.views other w kept.told was in
       let members : all_members (set (set s.views id (hears v w)) other spent) ≡ all_members s.views =
       members_set (set s.views id (hears v w)) other w spent at_other (sym none) ∙ members_set s.views id v (hears v w) at refl in
-      seated s (set (set s.views id (hears v w)) other spent) kept (subst (IsPermutation (all_members s.views)) (sym members) (IsPermutation-refl (all_members s.views)))
+      seated s (set (set s.views id (hears v w)) other spent) kept
+      (subst (IsPermutation (all_members s.views)) (sym members) (IsPermutation-refl (all_members s.views)))
       (All-set (λ (v : Sight). v.members ≢ [] → v.about ≡ a) (set s.views id (hears v w)) other spent (λ some_member. absurd (some_member refl))
       (All-set (λ (v : Sight). v.members ≢ [] → v.about ≡ a) s.views id (hears v w) about kept.about))
       (All-set (λ (v : Sight). IsPrefix v.told kept.held.history) (set s.views id (hears v w)) other spent (kept.held.history, refl)

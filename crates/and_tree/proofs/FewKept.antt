@@ -132,7 +132,8 @@ few_takes teams s t cell serial key few below is open_so =
     let one : opens (cell_of s cell) ≡ 1 = ap opens open_so in
     let same : serial_of (cell_of s cell) ≡ serial = ap serial_of open_so in
     let more = one_more_above (length (hand_of s t ++ key ∷ [])) (length (hand_of s t)) most_in_hand (length-append (hand_of s t) (key ∷ [])) in
-    few_cell teams s t cell (hand_of s t ++ key ∷ []) (record { serial = serial; content = taking t }) few is is_cell (record { serial = low; taken = below }) (omega (arith, one, same, more))
+    few_cell teams s t cell (hand_of s t ++ key ∷ []) (record { serial = serial; content = taking t }) few is is_cell (record { serial = low; taken = below })
+    (omega (arith, one, same, more))
 
 pub few_clears : (teams : ℕ) (s : State) (t cell : ℕ) → IsFew teams s → (cell_of s cell).content ≡ taking t
     → IsFew teams (with_cell s cell (cell_of s cell).serial free)

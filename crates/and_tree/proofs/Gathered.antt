@@ -56,7 +56,8 @@ keeps_count table v team tally p is view =
 pub of_tree : (tree : TreeId) (all left rest ps : List PassSeen) (p : PassSeen) → All (λ (p : PassSeen). p.tree ≡ tree) all → all ≡ left ++ ps
     → left ≡ rest ++ p ∷ [] → p.tree ≡ tree
 of_tree tree all left rest ps p h e f =
-    All-contains (λ (p : PassSeen). p.tree ≡ tree) (rest ++ p ∷ ps) p (subst (All (λ (p : PassSeen). p.tree ≡ tree)) (e ∙ ap (λ l. l ++ ps) f ∙ append_assoc rest (p ∷ []) ps) h)
+    All-contains (λ (p : PassSeen). p.tree ≡ tree) (rest ++ p ∷ ps) p
+    (subst (All (λ (p : PassSeen). p.tree ≡ tree)) (e ∙ ap (λ l. l ++ ps) f ∙ append_assoc rest (p ∷ []) ps) h)
     (contains_middle rest p ps)
 
 -- ---- the longest history that was seen is all of it
@@ -139,7 +140,8 @@ module _ {B : Type 0} (key_of : B → Key) (Stands : ℕ → B → Type 0) (a : 
   at_work = subst (λ l. AtWork a l h) members_are kept.at_work
 
   teams_are : map team_at v.members ≡ map (λ (p : PassSeen). p.team) passes
-  teams_are = sym (map_map (λ (x : ℕ × List HistoryEntry). x.0) of_member v.members) ∙ ap (map (λ (x : ℕ × List HistoryEntry). x.0)) g.each ∙ map_map (λ (x : ℕ × List HistoryEntry). x.0) of_pass passes
+  teams_are = sym (map_map (λ (x : ℕ × List HistoryEntry). x.0) of_member v.members) ∙ ap (map (λ (x : ℕ × List HistoryEntry). x.0)) g.each
+      ∙ map_map (λ (x : ℕ × List HistoryEntry). x.0) of_pass passes
 
   own : All (λ (p : PassSeen). calls h.history p.team ≡ calls p.seen p.team) passes
   own =

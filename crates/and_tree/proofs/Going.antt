@@ -107,28 +107,38 @@ zero_one e = absurd (omega (arith, e))
 
 pub cell_of_others : (s next : State) (event : Event) (reply : Reply) (team : ℕ) (work : Work) → Does s event reply next → team ≢ team_of event
     → IsAtCell s team work → IsAtCell next team work
-cell_of_others s next event reply team work (forks t key longer clauses holds prefix) other at = same_cells s team ((with_keys s t key (children longer clauses)).hands) work at
+cell_of_others s next event reply team work (forks t key longer clauses holds prefix) other at =
+    same_cells s team ((with_keys s t key (children longer clauses)).hands) work at
 cell_of_others s next event reply team work (finds_spent t cell key is own holds serial) other at = at
 cell_of_others s next event reply team work (finds_not_free t cell key is own holds serial content) other at = at
 cell_of_others s next event reply team at_rest (publishes t cell key is own holds serial content) other at = tt
 cell_of_others s next event reply team (opening_cell i n) (publishes t cell key is own holds serial content) other at =
-    cell_untouched s team cell _ ((with_keys s t key []).hands) (opening_cell i n) (λ k m e f. let here = at.1.0 in let to = at.1.1 in let low = own.0 in let high = own.1 in let same = opening_is i n k m e in other (omega (arith, here, to, low, high, same, f))) (λ k m e. absurd (opening_is_not i n k m e)) at
+    cell_untouched s team cell _ ((with_keys s t key []).hands) (opening_cell i n) (λ k m e f. let here = at.1.0 in let to = at.1.1 in let low = own.0 in
+    let high = own.1 in let same = opening_is i n k m e in other (omega (arith, here, to, low, high, same, f)))
+    (λ k m e. absurd (opening_is_not i n k m e)) at
 cell_of_others s next event reply team (clearing_cell i n) (publishes t cell key is own holds serial content) other at =
     cell_untouched s team cell _ ((with_keys s t key []).hands) (clearing_cell i n) (λ k m e. absurd (clearing_is_not i n k m e))
-    (λ k m e. subst (λ j. j ≢ cell) (clearing_is i n k m e) (apart s i cell (2 + team) 0 (taker_of _ n (taking team) at.1) (ap taker content) (not_none team))) at
+    (λ k m e. subst (λ j. j ≢ cell) (clearing_is i n k m e) (apart s i cell (2 + team) 0 (taker_of _ n (taking team) at.1) (ap taker content) (not_none team)))
+    at
 cell_of_others s next event reply team at_rest (takes t cell serial key is open_so) other at = tt
 cell_of_others s next event reply team (opening_cell i n) (takes t cell serial key is open_so) other at =
-    cell_untouched s team cell _ ((joined s t key).hands) (opening_cell i n) (λ k m e. subst (λ j. j ≢ cell) (opening_is i n k m e) (apart s i cell 0 1 (taker_of _ n free at.2) (taker_of _ serial (opened key) open_so) zero_one)) (λ k m e. absurd (opening_is_not i n k m e)) at
+    cell_untouched s team cell _ ((joined s t key).hands) (opening_cell i n)
+    (λ k m e. subst (λ j. j ≢ cell) (opening_is i n k m e) (apart s i cell 0 1 (taker_of _ n free at.2) (taker_of _ serial (opened key) open_so) zero_one))
+    (λ k m e. absurd (opening_is_not i n k m e)) at
 cell_of_others s next event reply team (clearing_cell i n) (takes t cell serial key is open_so) other at =
     cell_untouched s team cell _ ((joined s t key).hands) (clearing_cell i n) (λ k m e. absurd (clearing_is_not i n k m e))
-    (λ k m e. subst (λ j. j ≢ cell) (clearing_is i n k m e) (apart s i cell (2 + team) 1 (taker_of _ n (taking team) at.1) (taker_of _ serial (opened key) open_so) (not_one team))) at
+    (λ k m e. subst (λ j. j ≢ cell) (clearing_is i n k m e)
+    (apart s i cell (2 + team) 1 (taker_of _ n (taking team) at.1) (taker_of _ serial (opened key) open_so) (not_one team))) at
 cell_of_others s next event reply team work (misses t cell serial is cell_is not_open) other at = at
 cell_of_others s next event reply team at_rest (clears t cell is) other at = tt
 cell_of_others s next event reply team (opening_cell i n) (clears t cell is) other at =
-    cell_untouched s team cell _ s.hands (opening_cell i n) (λ k m e. subst (λ j. j ≢ cell) (opening_is i n k m e) (apart s i cell 0 (2 + t) (taker_of _ n free at.2) (ap taker is) (none_is_not t))) (λ k m e. absurd (opening_is_not i n k m e)) at
+    cell_untouched s team cell _ s.hands (opening_cell i n)
+    (λ k m e. subst (λ j. j ≢ cell) (opening_is i n k m e) (apart s i cell 0 (2 + t) (taker_of _ n free at.2) (ap taker is) (none_is_not t)))
+    (λ k m e. absurd (opening_is_not i n k m e)) at
 cell_of_others s next event reply team (clearing_cell i n) (clears t cell is) other at =
     cell_untouched s team cell _ s.hands (clearing_cell i n) (λ k m e. absurd (clearing_is_not i n k m e))
-    (λ k m e. subst (λ j. j ≢ cell) (clearing_is i n k m e) (apart s i cell (2 + team) (2 + t) (taker_of _ n (taking team) at.1) (ap taker is) (same_team team t other))) at
+    (λ k m e. subst (λ j. j ≢ cell) (clearing_is i n k m e)
+    (apart s i cell (2 + team) (2 + t) (taker_of _ n (taking team) at.1) (ap taker is) (same_team team t other))) at
 cell_of_others s next event reply team work (ends t key how holds) other at = same_cells s team ((with_keys s t key []).hands) work at
 cell_of_others s next event reply team work (looks t cell is cell_is) other at = at
 cell_of_others s next event reply team work (counts t is) other at = at
@@ -139,7 +149,8 @@ pub few_kept : (teams : ℕ) (s next : State) (event : Event) (reply : Reply) �
 few_kept teams s next event reply few team modest (forks t key longer clauses holds prefix) = few_forks teams s t key longer clauses few holds modest
 few_kept teams s next event reply few team modest (finds_spent t cell key is own holds serial) = few
 few_kept teams s next event reply few team modest (finds_not_free t cell key is own holds serial content) = few
-few_kept teams s next event reply few team modest (publishes t cell key is own holds serial content) = few_publishes teams s t cell key few holds is serial content
+few_kept teams s next event reply few team modest (publishes t cell key is own holds serial content) =
+    few_publishes teams s t cell key few holds is serial content
 few_kept teams s next event reply few team modest (takes t cell serial key is open_so) = few_takes teams s t cell serial key few team is open_so
 few_kept teams s next event reply few team modest (misses t cell serial is cell_is is_not_open) = few
 few_kept teams s next event reply few team modest (clears t cell is) = few_clears teams s t cell few is
@@ -200,7 +211,8 @@ each_on a [] back m n h k work now distinct each =
     (λ i d within. work (get_or back i d) (λ e. later m back distinct i d within (sym e)) (All-tail (Works a h) m back each i d within))
 each_on a (y ∷ front) back m n h k work now distinct each =
     All-cons (Works a k) y (front ++ n ∷ back)
-    (work y (all_middle (λ (o : Member). y.team ≢ o.team) front m back (later y (front ++ m ∷ back) distinct)) (All-head (Works a h) y (front ++ m ∷ back) each))
+    (work y (all_middle (λ (o : Member). y.team ≢ o.team) front m back (later y (front ++ m ∷ back) distinct))
+    (All-head (Works a h) y (front ++ m ∷ back) each))
     (each_on a front back m n h k work now (distinct_rest y (front ++ m ∷ back) distinct) (All-tail (Works a h) y (front ++ m ∷ back) each))
 
 -- The pass that acts has all calls of its team, as before.
@@ -221,9 +233,11 @@ acts_on a front back m n e h k was acts =
     let wm = all_middle (Works a h) front m back was.each in
     let team : n.team ≡ m.team = ap (λ (x : Member). x.team) acts.becomes in
     let below : team_of e.event < a.teams = subst (λ t. t < a.teams) (sym acts.of_team) wm.team in record {
-      carried = subst (λ l. Carries (opening a.teams) l k.now) (sym acts.history) ((carried_in_parts (opening a.teams) k.now h.history (e ∷ [])).1 (h.now, was.carried, (k.now, acts.does, refl)));
+      carried = subst (λ l. Carries (opening a.teams) l k.now) (sym acts.history)
+          ((carried_in_parts (opening a.teams) k.now h.history (e ∷ [])).1 (h.now, was.carried, (k.now, acts.does, refl)));
       few = few_kept a.teams h.now k.now e.event e.reply was.few below acts.modest acts.does;
-      by_teams = subst (All (λ (f : HistoryEntry). team_of f.event < a.teams)) (sym acts.history) (All-push (λ (f : HistoryEntry). team_of f.event < a.teams) h.history e was.by_teams below);
+      by_teams = subst (All (λ (f : HistoryEntry). team_of f.event < a.teams)) (sym acts.history)
+          (All-push (λ (f : HistoryEntry). team_of f.event < a.teams) h.history e was.by_teams below);
       each = each_on a front back m n h k (λ o other w. works_on a h k m n o e acts other w) (acts_own a h k m n e acts wm) was.distinct was.each;
       distinct = subst AreDistinct (sym (same_teams front back m n team)) was.distinct;
       all_teams = same_length front back m n ∙ was.all_teams;
@@ -256,7 +270,8 @@ one_of_team [] back m o distinct (suc i, within, is) e =
     absurd (All-contains (λ (x : Member). m.team ≢ x.team) back o (later m back distinct) (i, omega (arith, within), is) (sym e))
 one_of_team (y ∷ front) back m o distinct (zero, within, is) e =
     absurd (all_middle (λ (x : Member). y.team ≢ x.team) front m back (later y (front ++ m ∷ back) distinct) (ap (λ (x : Member). x.team) is ∙ e))
-one_of_team (y ∷ front) back m o distinct (suc i, within, is) e = one_of_team front back m o (distinct_rest y (front ++ m ∷ back) distinct) (i, omega (arith, within), is) e
+one_of_team (y ∷ front) back m o distinct (suc i, within, is) e =
+    one_of_team front back m o (distinct_rest y (front ++ m ∷ back) distinct) (i, omega (arith, within), is) e
 
 rests_own : (a : About) (h k : Held) (m n : Member) → Rests h k m n → Works a h m → Works a h n
 rests_own a h k m n rests w =

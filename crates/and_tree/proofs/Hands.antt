@@ -16,22 +16,26 @@ after_clearing s next team cell other (Does.clears t c is) = refl
 
 after_forking : (s next : State) (team : ℕ) (key longer : Key) (clauses : List ℕ) → Does s (fork team key longer clauses) forked next
     → hand_of next team ≡ in_place_of key (children longer clauses) (hand_of s team)
-after_forking s next team key longer clauses (Does.forks t k l cs holds prefix) = get_or-set_same s.hands team (in_place_of key (children longer clauses) (hand_of s team)) [] (team_in_range s team key holds)
+after_forking s next team key longer clauses (Does.forks t k l cs holds prefix) =
+    get_or-set_same s.hands team (in_place_of key (children longer clauses) (hand_of s team)) [] (team_in_range s team key holds)
 
 after_publishing : (s next : State) (team cell : ℕ) (key : Key) → Does s (publish team cell key) done next
     → hand_of next team ≡ in_place_of key [] (hand_of s team)
-after_publishing s next team cell key (Does.publishes t c k is own holds serial content) = get_or-set_same s.hands team (in_place_of key [] (hand_of s team)) [] (team_in_range s team key holds)
+after_publishing s next team cell key (Does.publishes t c k is own holds serial content) =
+    get_or-set_same s.hands team (in_place_of key [] (hand_of s team)) [] (team_in_range s team key holds)
 
 after_ending : (s next : State) (team : ℕ) (key : Key) (how : Ending) (b : Bool) → Does s (end team key how) (last b) next
     → hand_of next team ≡ in_place_of key [] (hand_of s team)
-after_ending s next team key how b (Does.ends t k h holds) = get_or-set_same s.hands team (in_place_of key [] (hand_of s team)) [] (team_in_range s team key holds)
+after_ending s next team key how b (Does.ends t k h holds) =
+    get_or-set_same s.hands team (in_place_of key [] (hand_of s team)) [] (team_in_range s team key holds)
 
 pub taken_hand : (cell serial : ℕ) (key : Key) (p q : PassSeen) → Takes cell serial key p q
     → (q.hand ≡ p.hand ++ key ∷ []) × (q.tree ≡ p.tree) × (q.team ≡ p.team)
 taken_hand cell serial key p q t =
     let m : PassSeen = t.between in (
       sym t.clears.hand_after ∙ after_clearing t.clears.before t.clears.after p.team cell m.team t.clears.does ∙ t.clears.hand_before
-          ∙ sym t.claims.hand_after ∙ after_taking t.claims.before t.claims.after p.team cell serial key t.claims.does ∙ ap (λ l. l ++ key ∷ []) t.claims.hand_before,
+          ∙ sym t.claims.hand_after ∙ after_taking t.claims.before t.claims.after p.team cell serial key t.claims.does
+          ∙ ap (λ l. l ++ key ∷ []) t.claims.hand_before,
       t.clears.tree ∙ t.claims.tree,
       t.clears.team ∙ t.claims.team,
     )
@@ -49,4 +53,5 @@ ended_hand key how b p q m = sym m.hand_after ∙ after_ending m.before m.after 
 
 pub fresh_of : (tree : TreeId) (team count : ℕ) → All (λ (p : PassSeen). p.tree ≡ tree) (fresh_from tree team count)
 fresh_of tree team zero = λ i d within. absurd (omega (arith, within))
-fresh_of tree team (suc count) = All-cons (λ (p : PassSeen). p.tree ≡ tree) (fresh tree team) (fresh_from tree (suc team) count) refl (fresh_of tree (suc team) count)
+fresh_of tree team (suc count) =
+    All-cons (λ (p : PassSeen). p.tree ≡ tree) (fresh tree team) (fresh_from tree (suc team) count) refl (fresh_of tree (suc team) count)

@@ -39,7 +39,8 @@ pub record Around {X : Type 0} (xs : List X) (i : ℕ) (x : X) : Type 0 where
 pub around : {X : Type 0} (xs : List X) (i : ℕ) (x : X) → get_elem? xs i ≡ some x → Around xs i x
 around [] i x e = absurd (some-ne-none x (sym e))
 around (y ∷ xs) zero x e = record { front = []; back = xs; was = ap (λ z. z ∷ xs) (some-injective y x e); becomes = λ z. refl }
-around (y ∷ xs) (suc i) x e = let r = around xs i x e in record { front = y ∷ r.front; back = r.back; was = ap (λ l. y ∷ l) r.was; becomes = λ z. ap (λ l. y ∷ l) (r.becomes z) }
+around (y ∷ xs) (suc i) x e = let r =
+    around xs i x e in record { front = y ∷ r.front; back = r.back; was = ap (λ l. y ∷ l) r.was; becomes = λ z. ap (λ l. y ∷ l) (r.becomes z) }
 
 pub members_around : (front back : List Sight) (v : Sight) → all_members (front ++ v ∷ back) ≡ all_members front ++ (v.members ++ all_members back)
 members_around front back v = flat_map-append (λ (v : Sight). v.members) front (v ∷ back)
@@ -128,7 +129,8 @@ module _ {B : Type 0} (key_of : B → Key) (Stands : ℕ → B → Type 0) where
       words = are;
       slots = long;
       at_work = subst (λ l. AtWork a l k) (sym (members_are w n is)) after;
-      slot = λ cell c e. subst (λ l. IsSlotOf key_of Stands a.limit l (record { words = words; homes = homes; views = set s.views id w }) cell c.content) (sym (members_are w n is)) (slots cell c e);
+      slot = λ cell c e. subst (λ l. IsSlotOf key_of Stands a.limit l (record { words = words; homes = homes; views = set s.views id w }) cell c.content)
+          (sym (members_are w n is)) (slots cell c e);
       about = All-set (λ (u : Sight). u.members ≢ [] → u.about ≡ a) s.views id w (λ some_member. about ∙ about_is) kept.about;
       told = All-set (λ (u : Sight). IsPrefix u.told k.history) s.views id w told
           (All-weaker (λ (u : Sight). IsPrefix u.told h.history) (λ (u : Sight). IsPrefix u.told k.history)
@@ -171,7 +173,8 @@ module _ {B : Type 0} (key_of : B → Key) (Stands : ℕ → B → Type 0) where
         called = record {
           next = then_held;
           before = subst (λ b. Amid b m h) (sym about_is) (record { members = left ++ m ∷ right; at_work = at_work_was; there = contains_middle left m right });
-          after = subst (λ b. Amid b then_member then_held) (sym about_is) (record { members = left ++ then_member ∷ right; at_work = after_call; there = contains_middle left then_member right });
+          after = subst (λ b. Amid b then_member then_held) (sym about_is)
+              (record { members = left ++ then_member ∷ right; at_work = after_call; there = contains_middle left then_member right });
           acts = acts;
           view = refl;
         }
@@ -182,7 +185,8 @@ module _ {B : Type 0} (key_of : B → Key) (Stands : ℕ → B → Type 0) where
         pub goes_calling : (words : List ℕ) (homes : List (mathlib.Core.Option.Option (Option B))) → words ≡ words_of then_held
             → length homes ≡ 8 * a.teams
             → ((cell : ℕ) (c : Cell) → get_elem? next.cells cell ≡ some c
-            → IsSlotOf key_of Stands a.limit (left ++ then_member ∷ right) (record { words = words; homes = homes; views = set s.views id (with_mine v then_member) }) cell c.content)
+            → IsSlotOf key_of Stands a.limit (left ++ then_member ∷ right)
+            (record { words = words; homes = homes; views = set s.views id (with_mine v then_member) }) cell c.content)
             → Kept key_of Stands a (record { words = words; homes = homes; views = set s.views id (with_mine v then_member) })
         goes_calling words homes are long slots =
             goes (with_mine v then_member) then_member then_held words homes refl refl are long after_call slots (entry ∷ [], refl) told_on

@@ -47,7 +47,8 @@ opens teams some_team =
     let long = length-replicate n blank in
     let changed = sum_by-set (λ (c : Cell). length (keys_in c)) (replicate n blank) 0 first_cell blank (omega (arith, long, some_team)) in
     let none = sum_by-replicate (λ (c : Cell). length (keys_in c)) n blank in
-    let first : length (keys_in (get_or (replicate n blank) 0 blank)) ≡ 0 = ap (λ (c : Cell). length (keys_in c)) (get_or-replicate n 0 blank blank (omega (arith, some_team))) in
+    let first : length (keys_in (get_or (replicate n blank) 0 blank)) ≡ 0 =
+    ap (λ (c : Cell). length (keys_in c)) (get_or-replicate n 0 blank blank (omega (arith, some_team))) in
     let all = length-flat_map keys_in (opening teams).cells in
     omega (arith, changed, none, first, all)
 
@@ -101,12 +102,14 @@ newcomers_work a team (suc count) fits =
 later_teams : (low team count : ℕ) → low < team → All (λ t. low ≢ t) (map team_at (newcomers_from team count))
 later_teams low team zero less = λ i d within. absurd (omega (arith, within))
 later_teams low team (suc count) less =
-    All-cons (λ t. low ≢ t) team (map team_at (newcomers_from (suc team) count)) (λ e. absurd (omega (arith, less, e))) (later_teams low (suc team) count (omega (arith, less)))
+    All-cons (λ t. low ≢ t) team (map team_at (newcomers_from (suc team) count)) (λ e. absurd (omega (arith, less, e)))
+    (later_teams low (suc team) count (omega (arith, less)))
 
 newcomers_apart : (team count : ℕ) → AreDistinct (map team_at (newcomers_from team count))
 newcomers_apart team zero = λ i j d before within. absurd (omega (arith, within))
 newcomers_apart team (suc count) =
-    AllPairs-cons (λ n k. n ≢ k) team (map team_at (newcomers_from (suc team) count)) (later_teams team (suc team) count (omega arith)) (newcomers_apart (suc team) count)
+    AllPairs-cons (λ n k. n ≢ k) team (map team_at (newcomers_from (suc team) count)) (later_teams team (suc team) count (omega arith))
+    (newcomers_apart (suc team) count)
 
 some_newcomer : (count : ℕ) → 0 < count → (m : Member) × Contains (newcomers_from 0 count) m × (m.seen ≡ [])
 some_newcomer zero some_team = absurd (omega (arith, some_team))
@@ -140,7 +143,8 @@ map-replicate f zero x = refl
 map-replicate f (suc n) x = ap (λ l. f x ∷ l) (map-replicate f n x)
 
 pub first_words_are : (teams : ℕ) → 0 < teams → words_of (opened_so teams) ≡ 1 ∷ word_with 1 1 ∷ replicate (8 * teams - 1) 0
-first_words_are teams some_team = ap (λ n. n ∷ map cell_word (opening teams).cells) (one_left teams some_team) ∙ ap (λ l. 1 ∷ l) (cells_so (8 * teams) (omega (arith, some_team)))
+first_words_are teams some_team = ap (λ n. n ∷ map cell_word (opening teams).cells) (one_left teams some_team)
+    ∙ ap (λ l. 1 ∷ l) (cells_so (8 * teams) (omega (arith, some_team)))
   where
     cells_so : (n : ℕ) → 0 < n → map cell_word (set (replicate n blank) 0 first_cell) ≡ word_with 1 1 ∷ replicate (n - 1) 0
     cells_so zero some_cell = absurd (omega (arith, some_cell))
@@ -171,8 +175,13 @@ module _ {B : Type 0} (key_of : B → Key) (Stands : ℕ → B → Type 0) (a : 
       ⊎_elim
       (λ (same : (cell ≡ 0) × (first_cell ≡ c)).
       subst (λ j. IsSlotOf key_of Stands a.limit (all_members (opener a ∷ [])) (s words) j c.content) (sym same.0)
-      (subst (λ (d : Cell). IsSlotOf key_of Stands a.limit (all_members (opener a ∷ [])) (s words) 0 d.content) same.1
-      (root, at_map some slots 0 (Some root) (set_here (replicate (8 * a.teams) None) 0 (Some root) (let e = length-replicate {A = Option B} (8 * a.teams) None in omega (arith, e, some_team))), stands, key_is)))
+      (subst (λ (d : Cell). IsSlotOf key_of Stands a.limit (all_members (opener a ∷ [])) (s words) 0 d.content) same.1 (
+        root,
+        at_map some slots 0 (Some root)
+            (set_here (replicate (8 * a.teams) None) 0 (Some root) (let e = length-replicate {A = Option B} (8 * a.teams) None in omega (arith, e, some_team))),
+        stands,
+        key_is,
+      )))
       (λ (other : (cell ≢ 0) × (get_elem? (replicate (8 * a.teams) blank) cell ≡ some c)).
       let r = at_replicate (8 * a.teams) cell blank c other.1 in
       subst (λ (d : Cell). IsSlotOf key_of Stands a.limit (all_members (opener a ∷ [])) (s words) cell d.content) r.1

@@ -28,14 +28,16 @@ pub published : (cell found : ℕ) (c : Cell) (key : Key) (v middle w : Sight) (
     → pass_of table v ≡ p → other ≡ table → Makes (publish p.team cell key) done p (pass_of other w)
 published cell found c key v middle w table other p free_told told view tables =
     let same = same_pass cell c v middle free_told table ∙ view in
-    call_makes (publish (mine_of middle).team cell key) (publish p.team cell key) done middle w found table other p same (ap (λ (q : PassSeen). publish q.team cell key) same) tables told told.tells
+    call_makes (publish (mine_of middle).team cell key) (publish p.team cell key) done middle w found table other p same
+    (ap (λ (q : PassSeen). publish q.team cell key) same) tables told told.tells
 
 pub published_pass : (cell found team : ℕ) (c : Cell) (key : Key) (v middle w : Sight) (tally : Tally) → FreeTold cell c v middle
     → CallTold (publish (mine_of middle).team cell key) middle found w
     → IsPass v team tally → IsPass w team tally
 published_pass cell found team c key v middle w tally free_told told p =
     rested w team tally tally
-    (remembers (publish (mine_of middle).team cell key) told.reply middle w told.held told.called team tally (same_memory cell c v middle free_told team tally (remembered v team tally p))) told.rests refl
+    (remembers (publish (mine_of middle).team cell key) told.reply middle w told.held told.called team tally
+    (same_memory cell c v middle free_told team tally (remembered v team tally p))) told.rests refl
 
 -- ---- a claim that takes, and the clearing
 
@@ -48,7 +50,8 @@ takes_both cell serial found key v middle w table between other p taken_told tol
       between = pass_of between middle;
       claims = called_makes (claim (mine_of v).team cell serial) (claim p.team cell serial) (taken key) v middle taken_told.held table between p view
           (ap (λ (q : PassSeen). claim q.team cell serial) view) tables taken_told.called;
-      clears = call_makes (clear (mine_of middle).team cell) (clear p.team cell) cleared middle w found between other (pass_of between middle) refl (ap (λ t. clear t cell) team) more told told.tells;
+      clears = call_makes (clear (mine_of middle).team cell) (clear p.team cell) cleared middle w found between other (pass_of between middle) refl
+          (ap (λ t. clear t cell) team) more told told.tells;
     }
 
 pub taken_pass : (cell serial found team : ℕ) (key : Key) (v middle w : Sight) (tally : Tally) → TakenTold cell serial key v middle
@@ -57,7 +60,8 @@ pub taken_pass : (cell serial found team : ℕ) (key : Key) (v middle w : Sight)
 taken_pass cell serial found team key v middle w tally taken_told told p =
     rested w team tally tally
     (remembers (clear (mine_of middle).team cell) told.reply middle w told.held told.called team tally
-    (remembers (claim (mine_of v).team cell serial) (taken key) v middle taken_told.held taken_told.called team tally (remembered v team tally p))) told.rests refl
+    (remembers (claim (mine_of v).team cell serial) (taken key) v middle taken_told.held taken_told.called team tally (remembered v team tally p))) told.rests
+    refl
 
 -- the branch in the slot that was taken last
 abbrev branch_in : {B : Type 0} → B → List (ℕ × Option B) → B

@@ -47,9 +47,11 @@ module _ {B : Type 0} (key_of : B → Key) (Stands : ℕ → B → Type 0) where
 
     -- a cell, and what lies in its slot
     slot_at : (cell : ℕ) → cell < 8 * a.teams
-        → IsSlotOf key_of Stands a.limit (keeping.left key_of Stands a s id v kept at alone ++ m ∷ keeping.right key_of Stands a s id v kept at alone) s cell (cell_of h.now cell).content
+        → IsSlotOf key_of Stands a.limit (keeping.left key_of Stands a s id v kept at alone ++ m ∷ keeping.right key_of Stands a s id v kept at alone) s cell
+        (cell_of h.now cell).content
     slot_at cell below =
-        keeping.slot_was key_of Stands a s id v kept at alone cell (cell_of h.now cell) (keeping.stands_at h.now.cells cell blank (allowed.within key_of Stands a s id v kept at alone cell below))
+        keeping.slot_was key_of Stands a s id v kept at alone cell (cell_of h.now cell)
+        (keeping.stands_at h.now.cells cell blank (allowed.within key_of Stands a s id v kept at alone cell below))
 
     slot_within : (cell : ℕ) → cell < 8 * a.teams → cell < length s.homes
     slot_within cell below = let e = kept.slots in omega (arith, below, e)
@@ -70,8 +72,10 @@ module _ {B : Type 0} (key_of : B → Key) (Stands : ℕ → B → Type 0) where
         ⊎_elim
         (λ (same : (i ≡ cell) × (x ≡ c)). subst (λ j. IsSlotOf key_of Stands a.limit (left ++ n ∷ right) t j c.content) (sym same.0)
         (subst (λ (d : Cell). IsSlotOf key_of Stands a.limit (left ++ n ∷ right) t cell d.content) same.1 here))
-        (λ (other : (i ≢ cell) × (get_elem? h.now.cells i ≡ some c)). keeping.slot_on key_of Stands a.limit (left ++ m ∷ right) (left ++ n ∷ right) s t i c.content (set_else s.homes cell i home other.0)
-        (keeping.opening_on left right m n i (λ serial opens. absurd (none_else i serial other.0 opens))) (keeping.slot_was key_of Stands a s id v kept at alone i c other.1))
+        (λ (other : (i ≢ cell) × (get_elem? h.now.cells i ≡ some c)).
+        keeping.slot_on key_of Stands a.limit (left ++ m ∷ right) (left ++ n ∷ right) s t i c.content (set_else s.homes cell i home other.0)
+        (keeping.opening_on left right m n i (λ serial opens. absurd (none_else i serial other.0 opens)))
+        (keeping.slot_was key_of Stands a s id v kept at alone i c other.1))
         (at_set h.now.cells cell i x c (ap (λ l. get_elem? l i) (sym cells) ∙ is))
 
     -- The word of a cell that changes, where as many keys are left.
@@ -92,11 +96,14 @@ module _ {B : Type 0} (key_of : B → Key) (Stands : ℕ → B → Type 0) where
 
     module _ (cell serial : ℕ) (below : cell < 8 * a.teams) (rest : m.work ≡ at_rest) (found : get_or s.words (cell + 1) 0 ≡ word_with serial 1) where
       open_is : (key : Key) × IsOpen h.now cell serial key
-      open_is = open_so a.teams (cell_of h.now cell) serial (keeping.few_teams key_of Stands a s id v kept at alone) (allowed.of_team key_of Stands a s id v kept at alone cell below)
+      open_is = open_so a.teams (cell_of h.now cell) serial (keeping.few_teams key_of Stands a s id v kept at alone)
+          (allowed.of_team key_of Stands a s id v kept at alone cell below)
           (sym (allowed.cell_is key_of Stands a s id v kept at alone cell) ∙ found)
 
-      there : IsSlotOf key_of Stands a.limit (keeping.left key_of Stands a s id v kept at alone ++ m ∷ keeping.right key_of Stands a s id v kept at alone) s cell (opened open_is.0)
-      there = subst (λ (c : Cell). IsSlotOf key_of Stands a.limit (keeping.left key_of Stands a s id v kept at alone ++ m ∷ keeping.right key_of Stands a s id v kept at alone) s cell c.content)
+      there : IsSlotOf key_of Stands a.limit (keeping.left key_of Stands a s id v kept at alone ++ m ∷ keeping.right key_of Stands a s id v kept at alone) s
+          cell (opened open_is.0)
+      there = subst (λ (c : Cell). IsSlotOf key_of Stands a.limit
+          (keeping.left key_of Stands a s id v kept at alone ++ m ∷ keeping.right key_of Stands a s id v kept at alone) s cell c.content)
           open_is.1 (slot_at cell below)
 
       abbrev branch : B
@@ -126,14 +133,17 @@ module _ {B : Type 0} (key_of : B → Key) (Stands : ℕ → B → Type 0) where
       same_left : left_of next ≡ left_of h.now
       same_left = let e = left_is_counted h.now next event reply does in omega (arith, e)
 
-      takes_kept : Kept key_of Stands a (record { words = set s.words (cell + 1) (word_with serial (2 + m.team)); homes = set s.homes cell none; views = set s.views id w })
+      takes_kept : Kept key_of Stands a
+          (record { words = set s.words (cell + 1) (word_with serial (2 + m.team)); homes = set s.homes cell none; views = set s.views id w })
       takes_kept =
           let words = set s.words (cell + 1) (word_with serial (2 + m.team)) in
-          keeping.goes_calling key_of Stands a s id v kept at alone event reply next (clearing_cell cell serial) does refl tt (cell_there cell (record { serial = serial; content = taking m.team }) below)
+          keeping.goes_calling key_of Stands a s id v kept at alone event reply next (clearing_cell cell serial) does refl tt
+          (cell_there cell (record { serial = serial; content = taking m.team }) below)
           words (set s.homes cell none)
           (words_then event reply next cell (word_with serial (2 + m.team)) (record { serial = serial; content = taking m.team }) refl refl same_left)
           (length-set s.homes cell none ∙ kept.slots)
-          (slots_but n w (keeping.then_held key_of Stands a s id v kept at alone event reply next (clearing_cell cell serial)) cell (record { serial = serial; content = taking m.team }) words none refl
+          (slots_but n w (keeping.then_held key_of Stands a s id v kept at alone event reply next (clearing_cell cell serial)) cell
+          (record { serial = serial; content = taking m.team }) words none refl
           (λ i k other opens. keeping.rest_opens_none m.work i k rest opens) tt)
 
       pub takes_so : (c : List (ℕ × Option B)) → c ≡ []
@@ -149,7 +159,8 @@ module _ {B : Type 0} (key_of : B → Key) (Stands : ℕ → B → Type 0) where
           stands = subst (λ (b : About). Stands b.limit branch) (sym (keeping.about_is key_of Stands a s id v kept at alone)) there.2;
           told = record {
             held = h;
-            called = keeping.called key_of Stands a s id v kept at alone event reply next (clearing_cell cell serial) does refl tt (cell_there cell (record { serial = serial; content = taking m.team }) below);
+            called = keeping.called key_of Stands a s id v kept at alone event reply next (clearing_cell cell serial) does refl tt
+                (cell_there cell (record { serial = serial; content = taking m.team }) below);
             work = refl;
           };
           slot = ap (λ l. (cell, Some branch) ∷ l) empty;
@@ -183,7 +194,8 @@ module _ {B : Type 0} (key_of : B → Key) (Stands : ℕ → B → Type 0) where
           → PublishTold cell key v (get_or s.words (cell + 1) 0) w
       publish_told w one two three = record {
         content = content;
-        is_cell = subst (λ (b : About). IsCellOf b.teams content) (sym (keeping.about_is key_of Stands a s id v kept at alone)) (allowed.of_team key_of Stands a s id v kept at alone cell below);
+        is_cell = subst (λ (b : About). IsCellOf b.teams content) (sym (keeping.about_is key_of Stands a s id v kept at alone))
+            (allowed.of_team key_of Stands a s id v kept at alone cell below);
         found_is = allowed.cell_is key_of Stands a s id v kept at alone cell;
         if_spent = one;
         if_not_free = two;
@@ -199,7 +211,8 @@ module _ {B : Type 0} (key_of : B → Key) (Stands : ℕ → B → Type 0) where
       owner_after : content.content ≡ free
           → AtWork a (keeping.left key_of Stands a s id v kept at alone ++ owner ∷ keeping.right key_of Stands a s id v kept at alone) h
       owner_after is_free =
-          rests_on a (keeping.left key_of Stands a s id v kept at alone) (keeping.right key_of Stands a s id v kept at alone) m owner h h (keeping.at_work_was key_of Stands a s id v kept at alone)
+          rests_on a (keeping.left key_of Stands a s id v kept at alone) (keeping.right key_of Stands a s id v kept at alone) m owner h h
+          (keeping.at_work_was key_of Stands a s id v kept at alone)
           (record { same = refl; becomes = refl; at_cell = owner_at_cell is_free })
 
       -- No other pass has the slot of a cell of this team.
@@ -217,15 +230,26 @@ module _ {B : Type 0} (key_of : B → Key) (Stands : ℕ → B → Type 0) where
           keeping.rest_opens_none m.work cell o.1 rest (ap (λ (x : Member). x.work) (sym same) ∙ o.3)) slot
 
       owner_kept : content.content ≡ free
-          → Kept key_of Stands a (record { words = set s.words (cell + 1) (get_or s.words (cell + 1) 0); homes = set s.homes cell none; views = set s.views id (with_mine v owner) })
+          → Kept key_of Stands a (record {
+            words = set s.words (cell + 1) (get_or s.words (cell + 1) 0);
+            homes = set s.homes cell none;
+            views = set s.views id (with_mine v owner);
+          })
       owner_kept is_free =
           let words = set s.words (cell + 1) (get_or s.words (cell + 1) 0) in
           keeping.goes key_of Stands a s id v kept at alone (with_mine v owner) owner h words (set s.homes cell none) refl refl
           (allowed.same_words key_of Stands a s id v kept at alone (cell + 1)) (length-set s.homes cell none ∙ kept.slots) (owner_after is_free)
-          (slots_but owner (with_mine v owner) h cell content words none (sym (set-get_or h.now.cells cell blank)) (λ i k other opens. keeping.rest_opens_none m.work i k rest opens)
-          (subst (IsSlotOf key_of Stands a.limit (keeping.left key_of Stands a s id v kept at alone ++ owner ∷ keeping.right key_of Stands a s id v kept at alone)
+          (slots_but owner (with_mine v owner) h cell content words none (sym (set-get_or h.now.cells cell blank))
+          (λ i k other opens. keeping.rest_opens_none m.work i k rest opens)
+          (subst (IsSlotOf key_of Stands a.limit (keeping.left key_of Stands a s id v kept at alone
+          ++ owner ∷ keeping.right key_of Stands a s id v kept at alone)
           (record { words = words; homes = set s.homes cell none; views = set s.views id (with_mine v owner) }) cell) (sym is_free)
-          (inr (owner, content.serial, contains_middle (keeping.left key_of Stands a s id v kept at alone) owner (keeping.right key_of Stands a s id v kept at alone), refl))))
+          (inr (
+            owner,
+            content.serial,
+            contains_middle (keeping.left key_of Stands a s id v kept at alone) owner (keeping.right key_of Stands a s id v kept at alone),
+            refl,
+          ))))
           (keeping.no_more h) (keeping.told_was key_of Stands a s id v kept at alone)
 
       free_told : content.content ≡ free → FreeTold cell content v (with_mine v owner)
@@ -234,8 +258,14 @@ module _ {B : Type 0} (key_of : B → Key) (Stands : ℕ → B → Type 0) where
           let right = keeping.right key_of Stands a s id v kept at alone in
           let teams = keeping.about_is key_of Stands a s id v kept at alone in record {
             held = h;
-            before = subst (λ b. Amid b m h) (sym teams) (record { members = left ++ m ∷ right; at_work = keeping.at_work_was key_of Stands a s id v kept at alone; there = contains_middle left m right });
-            after = subst (λ b. Amid b owner h) (sym teams) (record { members = left ++ owner ∷ right; at_work = owner_after is_free; there = contains_middle left owner right });
+            before = subst (λ b. Amid b m h) (sym teams)
+                (record {
+                  members = left ++ m ∷ right;
+                  at_work = keeping.at_work_was key_of Stands a s id v kept at alone;
+                  there = contains_middle left m right;
+                });
+            after = subst (λ b. Amid b owner h) (sym teams)
+                (record { members = left ++ owner ∷ right; at_work = owner_after is_free; there = contains_middle left owner right });
             rests = record { same = refl; becomes = refl; at_cell = owner_at_cell is_free };
             view = refl;
             work = refl;
@@ -249,10 +279,18 @@ module _ {B : Type 0} (key_of : B → Key) (Stands : ℕ → B → Type 0) where
             allowed.quiet_view key_of Stands a s id v kept at alone publishing spent h.now (spends is) refl tt refl rest,
             keeps,
             tt,
-            allowed.quiet_kept key_of Stands a s id v kept at alone publishing spent h.now (spends is) refl tt refl rest (cell + 1) (get_or s.words (cell + 1) 0) c
+            allowed.quiet_kept key_of Stands a s id v kept at alone publishing spent h.now (spends is) refl tt refl rest (cell + 1)
+                (get_or s.words (cell + 1) 0) c
                 (allowed.same_words key_of Stands a s id v kept at alone (cell + 1)),
             publish_told _
-                (λ e. (record { held = h; called = allowed.quiet_called key_of Stands a s id v kept at alone publishing spent h.now (spends is) refl tt refl rest; rests = refl }, empty))
+                (λ e. (
+                  record {
+                    held = h;
+                    called = allowed.quiet_called key_of Stands a s id v kept at alone publishing spent h.now (spends is) refl tt refl rest;
+                    rests = refl;
+                  },
+                  empty,
+                ))
                 (λ ne taken_so. absurd (ne is)) (λ ne is_free. absurd (ne is)),
           ))
           (λ ne. ⊎_elim
@@ -261,16 +299,26 @@ module _ {B : Type 0} (key_of : B → Key) (Stands : ℕ → B → Type 0) where
             takes cell None,
             slot_is_there is_free,
             owner_kept is_free,
-            publish_told _ (λ is. absurd (ne is)) (λ other taken_so. absurd (taken_so is_free)) (λ other e. (free_told is_free, ap (λ l. (cell, None) ∷ l) empty)),
+            publish_told _ (λ is. absurd (ne is)) (λ other taken_so. absurd (taken_so is_free))
+                (λ other e. (free_told is_free, ap (λ l. (cell, None) ∷ l) empty)),
           ))
           (λ (taken_so : content.content ≢ free). (
             allowed.quiet_view key_of Stands a s id v kept at alone publishing (not_free (seen_in content)) h.now (refuses ne taken_so) refl tt refl rest,
             keeps,
             tt,
-            allowed.quiet_kept key_of Stands a s id v kept at alone publishing (not_free (seen_in content)) h.now (refuses ne taken_so) refl tt refl rest (cell + 1) (get_or s.words (cell + 1) 0) c
+            allowed.quiet_kept key_of Stands a s id v kept at alone publishing (not_free (seen_in content)) h.now (refuses ne taken_so) refl tt refl rest
+                (cell + 1) (get_or s.words (cell + 1) 0) c
                 (allowed.same_words key_of Stands a s id v kept at alone (cell + 1)),
             publish_told _ (λ is. absurd (ne is))
-                (λ other e. (record { held = h; called = allowed.quiet_called key_of Stands a s id v kept at alone publishing (not_free (seen_in content)) h.now (refuses ne taken_so) refl tt refl rest; rests = refl }, empty))
+                (λ other e. (
+                  record {
+                    held = h;
+                    called = allowed.quiet_called key_of Stands a s id v kept at alone publishing (not_free (seen_in content)) h.now (refuses ne taken_so) refl
+                        tt refl rest;
+                    rests = refl;
+                  },
+                  empty,
+                ))
                 (λ other is_free. absurd (taken_so is_free)),
           )) (free_or content.content))
 
@@ -295,7 +343,8 @@ module _ {B : Type 0} (key_of : B → Key) (Stands : ℕ → B → Type 0) where
       serial_is = ap (λ (c : Cell). c.serial) at_cell_now.2
 
       opens_does : Does h.now opens_event done opened_next
-      opens_does = Does.publishes m.team cell (key_of branch) at_cell_now.0 at_cell_now.1 (allowed.holds key_of Stands a s id v kept at alone (key_of branch) there)
+      opens_does = Does.publishes m.team cell (key_of branch) at_cell_now.0 at_cell_now.1
+          (allowed.holds key_of Stands a s id v kept at alone (key_of branch) there)
           (not_last (cell_of h.now cell).serial before serial_is low) (ap (λ (c : Cell). c.content) at_cell_now.2)
         where
           not_last : (n before : ℕ) → n ≡ before → before + 1 ≤ last_serial → n ≢ last_serial
@@ -313,13 +362,20 @@ module _ {B : Type 0} (key_of : B → Key) (Stands : ℕ → B → Type 0) where
       abbrev opener : Member
       opener = keeping.then_member key_of Stands a s id v kept at alone opens_event done opened_next at_rest
 
-      opens_kept : Kept key_of Stands a (record { words = set s.words (cell + 1) (word_with (before + 1) 1); homes = set s.homes cell (some (Some branch)); views = set s.views id (with_mine v opener) })
+      opens_kept : Kept key_of Stands a
+          (record {
+            words = set s.words (cell + 1) (word_with (before + 1) 1);
+            homes = set s.homes cell (some (Some branch));
+            views = set s.views id (with_mine v opener);
+          })
       opens_kept =
           let words = set s.words (cell + 1) (word_with (before + 1) 1) in
-          keeping.goes_calling key_of Stands a s id v kept at alone opens_event done opened_next at_rest opens_does refl tt tt words (set s.homes cell (some (Some branch)))
+          keeping.goes_calling key_of Stands a s id v kept at alone opens_event done opened_next at_rest opens_does refl tt tt words
+          (set s.homes cell (some (Some branch)))
           (words_then opens_event done opened_next cell (word_with (before + 1) 1) opened_cell opened_word refl opened_left)
           (length-set s.homes cell (some (Some branch)) ∙ kept.slots)
-          (slots_but opener (with_mine v opener) (keeping.then_held key_of Stands a s id v kept at alone opens_event done opened_next at_rest) cell opened_cell words (some (Some branch)) refl
+          (slots_but opener (with_mine v opener) (keeping.then_held key_of Stands a s id v kept at alone opens_event done opened_next at_rest) cell opened_cell
+          words (some (Some branch)) refl
           (λ i k other opens. absurd (other (sym (opening_is cell before i k (sym works ∙ opens)))))
           (branch, set_here s.homes cell (some (Some branch)) (slot_within cell below), stands, refl))
 
@@ -367,13 +423,17 @@ module _ {B : Type 0} (key_of : B → Key) (Stands : ℕ → B → Type 0) where
       abbrev clearer : Member
       clearer = keeping.then_member key_of Stands a s id v kept at alone clears_event cleared cleared_next at_rest
 
-      clears_kept : Kept key_of Stands a (record { words = set s.words (cell + 1) (word_with serial 0); homes = set s.homes cell (some None); views = set s.views id (with_mine v clearer) })
+      clears_kept : Kept key_of Stands a
+          (record { words = set s.words (cell + 1) (word_with serial 0); homes = set s.homes cell (some None); views = set s.views id (with_mine v clearer) })
       clears_kept =
           let words = set s.words (cell + 1) (word_with serial 0) in
-          keeping.goes_calling key_of Stands a s id v kept at alone clears_event cleared cleared_next at_rest clears_does refl tt tt words (set s.homes cell (some None))
-          (words_then clears_event cleared cleared_next cell (word_with serial 0) cleared_cell (ap (λ (c : Cell). word_with c.serial 0) (sym at_taken.1)) refl cleared_left)
+          keeping.goes_calling key_of Stands a s id v kept at alone clears_event cleared cleared_next at_rest clears_does refl tt tt words
+          (set s.homes cell (some None))
+          (words_then clears_event cleared cleared_next cell (word_with serial 0) cleared_cell
+          (ap (λ (c : Cell). word_with c.serial 0) (sym at_taken.1)) refl cleared_left)
           (length-set s.homes cell (some None) ∙ kept.slots)
-          (slots_but clearer (with_mine v clearer) (keeping.then_held key_of Stands a s id v kept at alone clears_event cleared cleared_next at_rest) cell cleared_cell words (some None) refl
+          (slots_but clearer (with_mine v clearer) (keeping.then_held key_of Stands a s id v kept at alone clears_event cleared cleared_next at_rest) cell
+          cleared_cell words (some None) refl
           (λ i k other opens. keeping.clearing_opens_none m.work i k cell serial works opens)
           (inl (set_here s.homes cell (some None) (slot_within cell below))))
 
@@ -406,7 +466,8 @@ module _ {B : Type 0} (key_of : B → Key) (Stands : ℕ → B → Type 0) where
   allows_claim a slots id cell serial v c alone empty rest below s kept homes at small =
       let n = get_or s.words (cell + 1) 0 in
       exchanged n (word_with serial 1) (word_with serial (2 + (mine_of v).team))
-      (λ x. (w : Sight) × (b : Act (Option B)) × Valid s.homes c b × Kept key_of Stands a (stepped s (cell + 1) x id c w b) × ClaimTold key_of Stands cell serial v n (w, carried_after c b))
+      (λ x. (w : Sight) × (b : Act (Option B)) × Valid s.homes c b × Kept key_of Stands a (stepped s (cell + 1) x id c w b)
+      × ClaimTold key_of Stands cell serial v n (w, carried_after c b))
       (λ found.
       let so = takes_so a s id v kept at alone cell serial below rest found c empty in
       (so.0, so.1, so.2, so.3, record { if_open = λ is. so.4; if_moved = λ ne. absurd (ne found) }))
@@ -419,14 +480,16 @@ module _ {B : Type 0} (key_of : B → Key) (Stands : ℕ → B → Type 0) where
       → (mine_of v).work ≡ at_rest
       → Owns (mine_of v).team cell → cell < 8 * a.teams → Contains (mine_of v).hand key
       → Allows (Kept key_of Stands a) slots id (v, c) (cell + 1) (λ n. n) (λ n me. PublishTold cell key v n me)
-  allows_publish a slots id cell key v c alone empty rest own below there s kept homes at small = publishes_so a s id v kept at alone cell key own below there rest c empty
+  allows_publish a slots id cell key v c alone empty rest own below there s kept homes at small =
+      publishes_so a s id v kept at alone cell key own below there rest c empty
 
   pub allows_open : (a : About) (slots id cell before : ℕ) (branch : B) (v : Sight) → v.members ≡ mine_of v ∷ [] → cell < 8 * a.teams
       → (mine_of v).work ≡ opening_cell cell before
       → before + 1 ≤ last_serial → Contains (mine_of v).hand (key_of branch) → Stands a.limit branch
       → Allows (Kept key_of Stands a) slots id (v, (cell, Some branch) ∷ []) (cell + 1) (λ _. word_with (before + 1) 1)
       (λ _ me. CallTold (publish (mine_of v).team cell (key_of branch)) v (word_with (before + 1) 1) me.0 × (me.1 ≡ []))
-  allows_open a slots id cell before branch v alone below works low there stands s kept homes at small = opens_so a s id v kept at alone cell before branch below works low there stands
+  allows_open a slots id cell before branch v alone below works low there stands s kept homes at small =
+      opens_so a s id v kept at alone cell before branch below works low there stands
 
   pub allows_clear : (a : About) (slots id cell serial : ℕ) (v : Sight) → v.members ≡ mine_of v ∷ [] → cell < 8 * a.teams
       → (mine_of v).work ≡ clearing_cell cell serial

@@ -95,21 +95,27 @@ grow_cap : (n : ℕ) → one_more (min n top) ≡ min (n + 1) top
 grow_cap n = capped_plus n 1 top
 
 quiet_step : (f a r g : ℕ) → tally_with f a r g ≡ tally_with (f + 0) (a + 0) (r + 0) (g + 0)
-quiet_step f a r g = four (min f top) (min (f + 0) top) (min a top) (min (a + 0) top) (min r top) (min (r + 0) top) (min g top) (min (g + 0) top) (same_cap f) (same_cap a) (same_cap r) (same_cap g)
+quiet_step f a r g = four (min f top) (min (f + 0) top) (min a top) (min (a + 0) top) (min r top) (min (r + 0) top) (min g top) (min (g + 0) top) (same_cap f)
+    (same_cap a) (same_cap r) (same_cap g)
 
 tally_step : (event : Event) (f a r g : ℕ)
-    → tallied event (tally_with f a r g) ≡ tally_with (f + forks_in event) (a + ends_in is_answer event) (r + ends_in is_retirement event) (g + ends_in is_loss event)
+    → tallied event (tally_with f a r g) ≡ tally_with (f + forks_in event) (a + ends_in is_answer event) (r + ends_in is_retirement event)
+    (g + ends_in is_loss event)
 tally_step (fork team key longer clauses) f a r g =
-    four (one_more (min f top)) (min (f + 1) top) (min a top) (min (a + 0) top) (min r top) (min (r + 0) top) (min g top) (min (g + 0) top) (grow_cap f) (same_cap a) (same_cap r) (same_cap g)
+    four (one_more (min f top)) (min (f + 1) top) (min a top) (min (a + 0) top) (min r top) (min (r + 0) top) (min g top) (min (g + 0) top) (grow_cap f)
+    (same_cap a) (same_cap r) (same_cap g)
 tally_step (publish team cell key) f a r g = quiet_step f a r g
 tally_step (claim team cell serial) f a r g = quiet_step f a r g
 tally_step (clear team cell) f a r g = quiet_step f a r g
 tally_step (end team key answered) f a r g =
-    four (min f top) (min (f + 0) top) (one_more (min a top)) (min (a + 1) top) (min r top) (min (r + 0) top) (min g top) (min (g + 0) top) (same_cap f) (grow_cap a) (same_cap r) (same_cap g)
+    four (min f top) (min (f + 0) top) (one_more (min a top)) (min (a + 1) top) (min r top) (min (r + 0) top) (min g top) (min (g + 0) top) (same_cap f)
+    (grow_cap a) (same_cap r) (same_cap g)
 tally_step (end team key retired) f a r g =
-    four (min f top) (min (f + 0) top) (min a top) (min (a + 0) top) (one_more (min r top)) (min (r + 1) top) (min g top) (min (g + 0) top) (same_cap f) (same_cap a) (grow_cap r) (same_cap g)
+    four (min f top) (min (f + 0) top) (min a top) (min (a + 0) top) (one_more (min r top)) (min (r + 1) top) (min g top) (min (g + 0) top) (same_cap f)
+    (same_cap a) (grow_cap r) (same_cap g)
 tally_step (end team key given_up) f a r g =
-    four (min f top) (min (f + 0) top) (min a top) (min (a + 0) top) (min r top) (min (r + 0) top) (one_more (min g top)) (min (g + 1) top) (same_cap f) (same_cap a) (same_cap r) (grow_cap g)
+    four (min f top) (min (f + 0) top) (min a top) (min (a + 0) top) (min r top) (min (r + 0) top) (one_more (min g top)) (min (g + 1) top) (same_cap f)
+    (same_cap a) (same_cap r) (grow_cap g)
 tally_step (look team cell) f a r g = quiet_step f a r g
 tally_step (left team) f a r g = quiet_step f a r g
 
@@ -118,10 +124,12 @@ abbrev many : (Event → ℕ) → List HistoryEntry → ℕ
 many f history = sum_by (λ (e : HistoryEntry). f e.event) history
 
 abbrev tally_sum : List HistoryEntry → Tally
-tally_sum history = tally_with (many forks_in history) (many (ends_in is_answer) history) (many (ends_in is_retirement) history) (many (ends_in is_loss) history)
+tally_sum history = tally_with (many forks_in history) (many (ends_in is_answer) history) (many (ends_in is_retirement) history)
+    (many (ends_in is_loss) history)
 
 tally_sums : (history : List HistoryEntry) (f a r g : ℕ) → tally_on (tally_with f a r g) history
-    ≡ tally_with (f + many forks_in history) (a + many (ends_in is_answer) history) (r + many (ends_in is_retirement) history) (g + many (ends_in is_loss) history)
+    ≡ tally_with (f + many forks_in history) (a + many (ends_in is_answer) history) (r + many (ends_in is_retirement) history)
+    (g + many (ends_in is_loss) history)
 tally_sums [] f a r g = quiet_step f a r g
 tally_sums (e ∷ history) f a r g =
     let on = tally_sums history (f + forks_in e.event) (a + ends_in is_answer e.event) (r + ends_in is_retirement e.event) (g + ends_in is_loss e.event) in
@@ -129,10 +137,12 @@ tally_sums (e ∷ history) f a r g =
     ∙ four _ _ _ _ _ _ _ _ (next forks_in f) (next (ends_in is_answer) a) (next (ends_in is_retirement) r) (next (ends_in is_loss) g)
   where
     next : (w : Event → ℕ) (n : ℕ) → min ((n + w e.event) + many w history) top ≡ min (n + many w (e ∷ history)) top
-    next w n = let one = sum_by-cons (λ (x : HistoryEntry). w x.event) e history in let e : (n + w e.event) + many w history ≡ n + many w (e ∷ history) = omega (arith, one) in ap (λ k. min k top) e
+    next w n = let one = sum_by-cons (λ (x : HistoryEntry). w x.event) e history in
+        let e : (n + w e.event) + many w history ≡ n + many w (e ∷ history) = omega (arith, one) in ap (λ k. min k top) e
 
 pub tally_is_sum : (history : List HistoryEntry) → tally_of history ≡ tally_sum history
-tally_is_sum history = tally_sums history 0 0 0 0 ∙ four _ _ _ _ _ _ _ _ (from_none forks_in) (from_none (ends_in is_answer)) (from_none (ends_in is_retirement)) (from_none (ends_in is_loss))
+tally_is_sum history = tally_sums history 0 0 0 0
+    ∙ four _ _ _ _ _ _ _ _ (from_none forks_in) (from_none (ends_in is_answer)) (from_none (ends_in is_retirement)) (from_none (ends_in is_loss))
   where
     from_none : (w : Event → ℕ) → min (0 + many w history) top ≡ min (many w history) top
     from_none w = let e : 0 + many w history ≡ many w history = omega arith in ap (λ k. min k top) e
@@ -144,7 +154,8 @@ abbrev many_of_all : (Event → ℕ) → List PassSeen → ℕ
 many_of_all w passes = sum_by (λ (p : PassSeen). many w (calls p.seen p.team)) passes
 
 all_sum : (passes : List PassSeen)
-    → tally_of_all passes ≡ tally_with (many_of_all forks_in passes) (many_of_all (ends_in is_answer) passes) (many_of_all (ends_in is_retirement) passes) (many_of_all (ends_in is_loss) passes)
+    → tally_of_all passes ≡ tally_with (many_of_all forks_in passes) (many_of_all (ends_in is_answer) passes) (many_of_all (ends_in is_retirement) passes)
+    (many_of_all (ends_in is_loss) passes)
 all_sum [] = refl
 all_sum (p ∷ passes) =
     ap (λ t. added t (tally_of_all passes)) (tally_is_sum (calls p.seen p.team)) ∙ ap (added (tally_sum (calls p.seen p.team))) (all_sum passes)
@@ -213,7 +224,8 @@ by_teams : (w : Event → ℕ) (ns : List ℕ) (history : List HistoryEntry) →
     → sum_by (λ n. many w (calls history n)) ns ≡ many w history
 by_teams w ns [] d h = no_calls w ns
 by_teams w ns (e ∷ history) d h =
-    let split = sum_plus (λ n. many w (calls (e ∷ history) n)) (λ n. cond (nat_eq (team_of e.event) n) (w e.event) 0) (λ n. many w (calls history n)) ns (calls_cons w e history) in
+    let split = sum_plus (λ n. many w (calls (e ∷ history) n)) (λ n. cond (nat_eq (team_of e.event) n) (w e.event) 0) (λ n. many w (calls history n)) ns
+    (calls_cons w e history) in
     let here = one_there (team_of e.event) (w e.event) ns d (All-head (λ (e : HistoryEntry). Contains ns (team_of e.event)) e history h) in
     let rest = by_teams w ns history d (All-tail (λ (e : HistoryEntry). Contains ns (team_of e.event)) e history h) in
     let one = sum_by-cons (λ (x : HistoryEntry). w x.event) e history in
@@ -259,7 +271,8 @@ many_by_teams w [] history h = refl
 many_by_teams w (p ∷ passes) history h =
     let one = sum_by-cons (λ (p : PassSeen). many w (calls p.seen p.team)) p passes in
     let two = sum_by-cons (λ n. many w (calls history n)) p.team (map (λ (p : PassSeen). p.team) passes) in
-    let here : many w (calls history p.team) ≡ many w (calls p.seen p.team) = ap (many w) (All-head (λ (p : PassSeen). calls history p.team ≡ calls p.seen p.team) p passes h) in
+    let here : many w (calls history p.team) ≡ many w (calls p.seen p.team) =
+    ap (many w) (All-head (λ (p : PassSeen). calls history p.team ≡ calls p.seen p.team) p passes h) in
     let rest = many_by_teams w passes history (All-tail (λ (p : PassSeen). calls history p.team ≡ calls p.seen p.team) p passes h) in
     omega (arith, one, two, here, rest)
 
@@ -267,7 +280,8 @@ pub tallies_agree : (passes : List PassSeen) (history : List HistoryEntry) → A
     → All (λ (e : HistoryEntry). Contains (map (λ (p : PassSeen). p.team) passes) (team_of e.event)) history
     → All (λ (p : PassSeen). calls history p.team ≡ calls p.seen p.team) passes → tally_of_all passes ≡ tally_of history
 tallies_agree passes history d h own =
-    all_sum passes ∙ four _ _ _ _ _ _ _ _ (same forks_in) (same (ends_in is_answer)) (same (ends_in is_retirement)) (same (ends_in is_loss)) ∙ sym (tally_is_sum history)
+    all_sum passes ∙ four _ _ _ _ _ _ _ _ (same forks_in) (same (ends_in is_answer)) (same (ends_in is_retirement)) (same (ends_in is_loss))
+    ∙ sym (tally_is_sum history)
   where
     same : (w : Event → ℕ) → min (many_of_all w passes) top ≡ min (many w history) top
     same w = ap (λ k. min k top) (many_by_teams w passes history own ∙ by_teams w (map (λ (p : PassSeen). p.team) passes) history d h)
@@ -281,7 +295,8 @@ added_turned t u = four _ _ _ _ _ _ _ _ (turned t.forks u.forks) (turned t.answe
 -- what one pass counts, as the sum of one
 pub tally_of_one : (p : PassSeen) → tally_of (calls p.seen p.team) ≡ tally_of_all (p ∷ [])
 tally_of_one p =
-    tally_is_sum (calls p.seen p.team) ∙ four _ _ _ _ _ _ _ _ (alone forks_in) (alone (ends_in is_answer)) (alone (ends_in is_retirement)) (alone (ends_in is_loss)) ∙ sym (all_sum (p ∷ []))
+    tally_is_sum (calls p.seen p.team)
+    ∙ four _ _ _ _ _ _ _ _ (alone forks_in) (alone (ends_in is_answer)) (alone (ends_in is_retirement)) (alone (ends_in is_loss)) ∙ sym (all_sum (p ∷ []))
   where
     alone : (w : Event → ℕ) → min (many w (calls p.seen p.team)) top ≡ min (many_of_all w (p ∷ [])) top
     alone w =

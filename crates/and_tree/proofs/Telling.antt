@@ -34,8 +34,12 @@ calls_own e team same = ap (λ b. cond {A = List HistoryEntry} b (e ∷ []) []) 
 -- What a pass has not seen yet, others did.
 others_since : (a : About) (m : Member) (h : Held) → Works a h m
     → (others : List HistoryEntry) × (h.history ≡ m.seen ++ others) × (calls others m.team ≡ [])
-others_since a m h w =
-    (w.seen.0, w.seen.1, no_tail (calls m.seen m.team) (calls w.seen.0 m.team) (sym (calls_append m.seen w.seen.0 m.team) ∙ ap (λ l. calls l m.team) (sym w.seen.1) ∙ sym w.own))
+others_since a m h w = (
+  w.seen.0,
+  w.seen.1,
+  no_tail (calls m.seen m.team) (calls w.seen.0 m.team) (sym (calls_append m.seen w.seen.0 m.team)
+      ∙ ap (λ l. calls l m.team) (sym w.seen.1) ∙ sym w.own),
+)
 
 tally_on_push : (t : Tally) (history : List HistoryEntry) (e : HistoryEntry) → tally_on t (history ++ e ∷ []) ≡ tallied e.event (tally_on t history)
 tally_on_push t [] e = refl
@@ -103,7 +107,8 @@ module _ (event : Event) (reply : Reply) (v w : Sight) (h : Held) (c : Called ev
   pub calls_grow : calls n.seen m.team ≡ calls m.seen m.team ++ entry ∷ []
   calls_grow =
       ap (λ l. calls l m.team) seen_is ∙ calls_append (m.seen ++ since.0) (entry ∷ []) m.team
-      ∙ ap (λ l. l ++ calls (entry ∷ []) m.team) (calls_append m.seen since.0 m.team ∙ ap (λ l. calls m.seen m.team ++ l) since.2 ∙ append-nil (calls m.seen m.team))
+      ∙ ap (λ l. l ++ calls (entry ∷ []) m.team) (calls_append m.seen since.0 m.team ∙ ap (λ l. calls m.seen m.team ++ l) since.2
+      ∙ append-nil (calls m.seen m.team))
       ∙ ap (λ l. calls m.seen m.team ++ l) (calls_own entry m.team c.acts.of_team)
 
   pub remembers : (team : ℕ) (old : Tally) → Remembers v team old → Remembers w team (tallied event old)
@@ -170,7 +175,8 @@ called_makes event named reply v w h table other p view same tables c =
 
 pub called_pass : (event : Event) (reply : Reply) (v w : Sight) (h : Held) (team : ℕ) (old new : Tally) → Called event reply v w h → IsPass v team old
     → (mine_of w).work ≡ at_rest → new ≡ tallied event old → IsPass w team new
-called_pass event reply v w h team old new c p rest is = rested w team (tallied event old) new (remembers event reply v w h c team old (remembered v team old p)) rest is
+called_pass event reply v w h team old new c p rest is =
+    rested w team (tallied event old) new (remembers event reply v w h c team old (remembered v team old p)) rest is
 
 pub call_makes : (event named : Event) (reply : Reply) (v w : Sight) (found : ℕ) (table other : TableId) (p : PassSeen) → pass_of table v ≡ p
     → event ≡ named → other ≡ table

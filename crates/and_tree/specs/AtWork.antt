@@ -2,7 +2,8 @@
 use Rattle.std.specs.Prelude.{ℕ, ◌≡◌, ◌<◌, ◌≤◌, ◌+◌, List, [], ◌∷◌, ◌++◌, map, flat_map, length, All, Contains}
 use Rattle.and_model.specs.Prefixes.{IsPrefix}
 use Rattle.and_model.specs.Store.{AreDistinct}
-use Rattle.and_histories.specs.PlainTree.{State, free, taking, Owns, opening, cell_of, hand_of, IsCell, Event, fork, publish, claim, clear, end, look, left, Does}
+use Rattle.and_histories.specs.PlainTree.{State, free, taking, Owns, opening, cell_of, hand_of, IsCell, Event, fork}
+use Rattle.and_histories.specs.PlainTree.{publish, claim, clear, end, look, left, Does}
 use Rattle.and_histories.specs.Histories.{HistoryEntry, Carries, calls, team_of}
 use Rattle.and_tree.specs.Few.{IsFew, most_in_hand}
 use Rattle.and_tree.specs.Sight.{About, Work, at_rest, opening_cell, clearing_cell, Member, Sight}
@@ -21,8 +22,10 @@ all_members views = flat_map (λ (v : Sight). v.members) views
 -- The cell is as the team's work says.
 abbrev pub IsAtCell : State → (team : ℕ) → Work → Type 0
 IsAtCell s team at_rest = Unit {0}
-IsAtCell s team (opening_cell cell serial) = IsCell s cell × Owns team cell × (cell_of s cell ≡ record { serial = serial; content = free })
-IsAtCell s team (clearing_cell cell serial) = IsCell s cell × (cell_of s cell ≡ record { serial = serial; content = taking team })
+IsAtCell s team (opening_cell cell serial) =
+    IsCell s cell × Owns team cell × (cell_of s cell ≡ record { serial = serial; content = free })
+IsAtCell s team (clearing_cell cell serial) =
+    IsCell s cell × (cell_of s cell ≡ record { serial = serial; content = taking team })
 
 -- What holds of one pass. All calls of its team are in what it has seen, so its hand is the team's.
 pub record Works (a : About) (h : Held) (m : Member) : Type 0 where

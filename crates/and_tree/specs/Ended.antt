@@ -33,7 +33,8 @@ abbrev pub history_in : List Sight → List HistoryEntry
 history_in [] = []
 history_in (v ∷ views) = history_of v.members
 
--- What a tree leaves: one legal history of all calls, as each pass has seen its beginning and its team's calls, and what it counts.
+-- What a tree leaves: one legal history of all calls, as each pass has seen its beginning and its team's calls, and
+-- what it counts.
 pub record Closes (a : About) (passes : List PassSeen) (history : List HistoryEntry) (tally : Tally) : Type 0 where
   pub legal : Legal a.teams history
   pub begins : All (λ (p : PassSeen). IsPrefix p.seen history) passes

@@ -1,5 +1,6 @@
 -- The table of a shared tree: its words and slots, and what holds of them and of the seats at every moment.
-use Rattle.std.specs.Prelude.{ℕ, ◌+◌, ◌*◌, ◌^◌, ◌≡◌, ◌≢◌, ◌⊎◌, List, [], ◌∷◌, map, length, Option, None, Some, All, Contains}
+use Rattle.std.specs.Prelude.{ℕ, ◌+◌, ◌*◌, ◌^◌, ◌≡◌, ◌≢◌, ◌⊎◌, List, [], ◌∷◌, map, length, Option, None, Some, All}
+use Rattle.std.specs.Prelude.{Contains}
 use mathlib.Core.Option.{some}
 use lib.ListN.{get_elem?}
 use Rattle.atomic_table.specs.Table.{State}
@@ -30,8 +31,8 @@ abbrev pub IsOpening : List Member → (cell : ℕ) → Type 0
 IsOpening members cell = (m : Member) × (serial : ℕ) × Contains members m × (m.work ≡ opening_cell cell serial)
 
 module _ {B : Type 0} (key_of : B → Key) (Stands : ℕ → B → Type 0) where
-  -- The slot of a cell is empty where the cell is free, unless its owner has the slot. It has a branch that stands for the key
-  -- where the cell is open. The taker has it else.
+  -- The slot of a cell is empty where the cell is free, unless its owner has the slot. It has a branch that stands
+  -- for the key where the cell is open. The taker has it else.
   abbrev pub IsSlotOf : (limit : ℕ) → List Member → State (Option B) Sight → (cell : ℕ) → Content → Type 0
   IsSlotOf limit members s cell free = (get_elem? s.homes cell ≡ some (some None)) ⊎ IsOpening members cell
   IsSlotOf limit members s cell (opened key) =
@@ -44,6 +45,7 @@ module _ {B : Type 0} (key_of : B → Key) (Stands : ℕ → B → Type 0) where
     pub words : s.words ≡ words_of held
     pub slots : length s.homes ≡ 8 * a.teams
     pub at_work : AtWork a (all_members s.views) held
-    pub slot : (cell : ℕ) (c : Cell) → get_elem? held.now.cells cell ≡ some c → IsSlotOf a.limit (all_members s.views) s cell c.content
+    pub slot : (cell : ℕ) (c : Cell) → get_elem? held.now.cells cell ≡ some c
+        → IsSlotOf a.limit (all_members s.views) s cell c.content
     pub about : All (λ (v : Sight). v.members ≢ [] → v.about ≡ a) s.views
     pub told : All (λ (v : Sight). IsPrefix v.told held.history) s.views

@@ -2,7 +2,8 @@
 use Rattle.std.specs.Prelude.{ℕ, zero, suc, ◌+◌, ◌*◌, ◌≡◌, ◌<◌, ◌≤◌, List, [], ◌∷◌, ◌++◌}
 use Rattle.atomic_table.specs.Seated.{TableId}
 use Rattle.and_model.specs.Prefixes.{IsPrefix}
-use Rattle.and_histories.specs.PlainTree.{Key, State, Event, claim, clear, Reply, taken, cleared, opening, hand_of, Does}
+use Rattle.and_histories.specs.PlainTree.{Key, State, Event, claim, clear, Reply, taken, cleared, opening, hand_of}
+use Rattle.and_histories.specs.PlainTree.{Does}
 use Rattle.and_histories.specs.Histories.{HistoryEntry, Carries, Legal, calls}
 use Rattle.and_tree.specs.Plain.{Tally, none_yet, tallied}
 use Rattle.and_tree.specs.Sight.{About, Sight, at_rest, mine_of, IsAlone}
@@ -19,8 +20,8 @@ pub record PassSeen : Type 0 where
   pub seen : List HistoryEntry
   pub hand : List Key
 
--- The call of the pass's team was answered so, and the pass p became q: it has seen all calls that others made up to then,
--- and its own call as the last one.
+-- The call of the pass's team was answered so, and the pass p became q: it has seen all calls that others made up to
+-- then, and its own call as the last one.
 pub record Makes (event : Event) (reply : Reply) (p q : PassSeen) : Type 0 where
   pub others : List HistoryEntry
   pub of_others : calls others p.team ≡ []

@@ -1,6 +1,7 @@
 -- What contracts see of a plain tree, and what its calls make of it (this project's own).
 use Rattle.std.specs.Prelude.{ℕ, ◌+◌, ◌-◌, ◌^◌, ◌≡◌, min, Option, None, Some}
-use Rattle.and_histories.specs.PlainTree.{Key, State, Content, free, opened, Event, Reply, fork, publish, claim, clear, end, look, left, Ending}
+use Rattle.and_histories.specs.PlainTree.{Key, State, Content, free, opened, Event, Reply, fork, publish, claim}
+use Rattle.and_histories.specs.PlainTree.{clear, end, look, left, Ending}
 use Rattle.and_histories.specs.PlainTree.{answered, retired, given_up, Does, opening}
 
 -- how many forks were made and keys ended in each way
@@ -44,7 +45,12 @@ total one other = min (one + other) (2 ^ 64 - 1)
 
 abbrev pub added : Tally → Tally → Tally
 added t u =
-    record { forks = total t.forks u.forks; answers = total t.answers u.answers; retired = total t.retired u.retired; given_up = total t.given_up u.given_up }
+    record {
+      forks = total t.forks u.forks;
+      answers = total t.answers u.answers;
+      retired = total t.retired u.retired;
+      given_up = total t.given_up u.given_up;
+    }
 
 -- a tree of so many teams whose root is open
 abbrev pub fresh_tree : (limit teams : ℕ) → Plain

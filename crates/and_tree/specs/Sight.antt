@@ -8,8 +8,8 @@ pub record About : Type 0 where
   pub teams : ℕ
   pub limit : ℕ
 
--- What a team is in the middle of: nothing, or it has the slot of a cell. Either it found its own cell free, under this serial,
--- and puts a branch there; or it claimed what was open under this serial, and takes it out.
+-- What a team is in the middle of: nothing, or it has the slot of a cell. Either it found its own cell free, under
+-- this serial, and puts a branch there; or it claimed what was open under this serial, and takes it out.
 pub data Work : Type 0 where
   at_rest : Work
   opening_cell : (cell serial : ℕ) → Work
@@ -22,7 +22,8 @@ pub record Member : Type 0 where
   pub hand : List Key
   pub work : Work
 
--- The view of a seat. The first of its members steps with it, the others were put to it. A seat without members passes on what was seen.
+-- The view of a seat. The first of its members steps with it, the others were put to it. A seat without members
+-- passes on what was seen.
 pub record Sight : Type 0 where
   pub about : About
   pub members : List Member

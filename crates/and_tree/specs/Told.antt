@@ -1,11 +1,15 @@
 -- What each step on a tree's table tells the pass that makes it.
-use Rattle.std.specs.Prelude.{ℕ, ◌+◌, ◌-◌, ◌*◌, ◌^◌, ◌%◌, ◌≡◌, ◌≢◌, ◌<◌, ◌≤◌, List, [], ◌∷◌, length, Option, None, Some, Contains, nat_eq}
+use Rattle.std.specs.Prelude.{ℕ, ◌+◌, ◌-◌, ◌*◌, ◌^◌, ◌%◌, ◌≡◌, ◌≢◌, ◌<◌, ◌≤◌, List, [], ◌∷◌, length, Option, None}
+use Rattle.std.specs.Prelude.{Some, Contains, nat_eq}
 use Rattle.and_model.specs.Prefixes.{IsPrefix}
-use Rattle.and_histories.specs.PlainTree.{Key, Cell, free, seen_in, last_serial, Owns, Event, fork, publish, claim, clear, end, look, left}
-use Rattle.and_histories.specs.PlainTree.{Reply, forked, done, not_free, spent, taken, moved, cleared, last, seen, number}
+use Rattle.and_histories.specs.PlainTree.{Key, Cell, free, seen_in, last_serial, Owns, Event, fork, publish, claim}
+use Rattle.and_histories.specs.PlainTree.{clear, end, look, left}
+use Rattle.and_histories.specs.PlainTree.{Reply, forked, done, not_free, spent, taken, moved, cleared, last, seen}
+use Rattle.and_histories.specs.PlainTree.{number}
 use Rattle.and_histories.specs.Histories.{team_of}
 use Rattle.and_tree.specs.Few.{IsCellOf, most_in_hand}
-use Rattle.and_tree.specs.Sight.{About, at_rest, opening_cell, clearing_cell, Member, Sight, mine_of, IsAlone, with_mine}
+use Rattle.and_tree.specs.Sight.{About, at_rest, opening_cell, clearing_cell, Member, Sight, mine_of, IsAlone}
+use Rattle.and_tree.specs.Sight.{with_mine}
 use Rattle.and_tree.specs.AtWork.{Held, AtWork, Acts, Rests}
 use Rattle.and_tree.specs.Kept.{cell_word, word_with}
 
@@ -27,10 +31,12 @@ pub record Called (event : Event) (reply : Reply) (v w : Sight) (h : Held) : Typ
 abbrev pub Tells : (teams : ℕ) → Event → (found : ℕ) → Reply → Type 0
 Tells teams (fork team key longer clauses) found reply = reply ≡ forked
 Tells teams (publish team cell key) found reply = reply ≡ done
-Tells teams (claim team cell serial) found reply = (c : Cell) × IsCellOf teams c × (found ≡ cell_word c) × (reply ≡ moved (seen_in c))
+Tells teams (claim team cell serial) found reply =
+    (c : Cell) × IsCellOf teams c × (found ≡ cell_word c) × (reply ≡ moved (seen_in c))
 Tells teams (clear team cell) found reply = reply ≡ cleared
 Tells teams (end team key how) found reply = reply ≡ last (nat_eq found 1)
-Tells teams (look team cell) found reply = (c : Cell) × IsCellOf teams c × (found ≡ cell_word c) × (reply ≡ seen (seen_in c))
+Tells teams (look team cell) found reply =
+    (c : Cell) × IsCellOf teams c × (found ≡ cell_word c) × (reply ≡ seen (seen_in c))
 Tells teams (left team) found reply = reply ≡ number found
 
 -- A step that is a call by itself; the pass has no slot then.
@@ -60,15 +66,19 @@ pub record FreeTold (cell : ℕ) (c : Cell) (v w : Sight) : Type 0 where
   pub view : w ≡ with_mine v (mine_of w)
   pub work : (mine_of w).work ≡ opening_cell cell c.serial
 
-pub record PublishTold {B : Type 0} (cell : ℕ) (key : Key) (v : Sight) (found : ℕ) (w : Sight × List (ℕ × Option B)) : Type 0 where
+pub record PublishTold {B : Type 0} (cell : ℕ) (key : Key) (v : Sight) (found : ℕ) (w : Sight
+    × List (ℕ × Option B)) : Type 0 where
   pub content : Cell
   pub is_cell : IsCellOf v.about.teams content
   pub found_is : found ≡ cell_word content
   pub if_spent : content.serial ≡ last_serial → SpentTold cell key v w.0 × (w.1 ≡ [])
-  pub if_not_free : content.serial ≢ last_serial → content.content ≢ free → NotFreeTold cell key content v w.0 × (w.1 ≡ [])
-  pub if_free : content.serial ≢ last_serial → content.content ≡ free → FreeTold cell content v w.0 × (w.1 ≡ (cell, None) ∷ [])
+  pub if_not_free : content.serial ≢ last_serial → content.content ≢ free
+      → NotFreeTold cell key content v w.0 × (w.1 ≡ [])
+  pub if_free : content.serial ≢ last_serial → content.content ≡ free
+      → FreeTold cell content v w.0 × (w.1 ≡ (cell, None) ∷ [])
 
--- a claim: the key is in hand now, and the pass has the cell's slot with the branch; or the cell was not open with this serial
+-- a claim: the key is in hand now, and the pass has the cell's slot with the branch; or the cell was not open with
+-- this serial
 pub record TakenTold (cell serial : ℕ) (key : Key) (v w : Sight) : Type 0 where
   pub held : Held
   pub called : Called (claim (mine_of v).team cell serial) (taken key) v w held
@@ -104,7 +114,8 @@ pub record HearTold (v w : Sight) : Type 0 where
 
 -- The call may be made with this hand.
 abbrev pub MayCall : (teams : ℕ) → (hand : List Key) → Event → Type 0
-MayCall teams hand (fork team key longer clauses) = Contains hand key × IsPrefix key longer × (length hand + length clauses ≤ most_in_hand)
+MayCall teams hand (fork team key longer clauses) =
+    Contains hand key × IsPrefix key longer × (length hand + length clauses ≤ most_in_hand)
 MayCall teams hand (publish team cell key) = Contains hand key × Owns team cell
 MayCall teams hand (claim team cell serial) = cell < 8 * teams
 MayCall teams hand (clear team cell) = cell < 8 * teams

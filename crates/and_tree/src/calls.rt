@@ -27,12 +27,16 @@ impl<B: Keyed + Drop> Tree<B> {
     /// Puts a branch into the slot of a cell of its own that was found free, and opens the cell.
     fn put_in(&self, seat: &mut Seat<Option<B>, View>, cell: u32, serial: u64, branch: B)
         requires same { seat.old.table_id ≡ self.now.table }
-        requires can { CanCall self.now.about seat.old.me.0 (Event.publish (mine_of seat.old.me.0).team cell (B.key_of branch)) }
-        requires works { (before : ℕ) × ((mine_of seat.old.me.0).work ≡ opening_cell cell before) × (serial ≡ before + 1) × (serial ≤ last_serial) }
+        requires can { CanCall self.now.about seat.old.me.0
+            (Event.publish (mine_of seat.old.me.0).team cell (B.key_of branch)) }
+        requires works { (before : ℕ) × ((mine_of seat.old.me.0).work ≡ opening_cell cell before)
+            × (serial ≡ before + 1) × (serial ≤ last_serial) }
         requires slot { seat.old.me.1 ≡ (cell, None) ∷ [] }
         requires stands { B.Stands self.now.about.limit branch }
         ensures same { seat.new.table_id ≡ seat.old.table_id }
-        ensures told { (found : ℕ) × CallTold (Event.publish (mine_of seat.old.me.0).team cell (B.key_of branch)) seat.old.me.0 found seat.new.me.0
+        ensures told { (found : ℕ)
+            × CallTold (Event.publish (mine_of seat.old.me.0).team cell (B.key_of branch))
+            seat.old.me.0 found seat.new.me.0
             × (seat.new.me.1 ≡ []) }
     {
         let _empty = self
@@ -50,7 +54,8 @@ impl<B: Keyed + Drop> Tree<B> {
         requires slot { (branch : B) × (seat.old.me.1 ≡ (cell, Some branch) ∷ []) }
         requires serial { serial ≤ last_serial }
         ensures same { seat.new.table_id ≡ seat.old.table_id }
-        ensures told { (found : ℕ) × CallTold (Event.clear (mine_of seat.old.me.0).team cell) seat.old.me.0 found seat.new.me.0
+        ensures told { (found : ℕ)
+            × CallTold (Event.clear (mine_of seat.old.me.0).team cell) seat.old.me.0 found seat.new.me.0
             × (seat.new.me.1 ≡ []) }
         ensures branch { seat.old.me.1 ≡ (cell, Some result) ∷ [] }
     {
@@ -72,7 +77,8 @@ impl<B: Keyed + Drop> Tree<B> {
     ) -> Last
         requires tree { pass.old.tree ≡ self.now }
         requires hand { Contains pass.old.hand (with_last longer.value last) }
-        ensures { Makes (Event.end pass.old.team (with_last longer.value last) (ending_of how)) (Reply.last (is_last result)) pass.old pass.new }
+        ensures { Makes (Event.end pass.old.team (with_last longer.value last) (ending_of how))
+            (Reply.last (is_last result)) pass.old pass.new }
     {
         let found = self.take_from_live::<Brand>(&mut pass.seat, longer, last, how);
         pass.counts.count_end(how);
@@ -98,7 +104,8 @@ impl<B: Keyed + Drop> Tree<B> {
         requires longer { IsPrefix (S.fork_of split.now).key (S.fork_of split.now).longer }
         requires is_fork { B.IsFork self.now.about.limit (S.fork_of split.now) }
         requires few { length pass.old.hand + length (S.fork_of split.now).clauses ≤ most_in_hand }
-        ensures { Makes (Event.fork pass.old.team (S.fork_of split.now).key (S.fork_of split.now).longer (S.fork_of split.now).clauses) Reply.forked
+        ensures { Makes (Event.fork pass.old.team (S.fork_of split.now).key (S.fork_of split.now).longer
+            (S.fork_of split.now).clauses) Reply.forked
             pass.old pass.new }
     {
         self.add_to_live::<Brand, S>(&mut pass.seat, split);
@@ -112,11 +119,14 @@ impl<B: Keyed + Drop> Tree<B> {
         requires stands { B.Stands self.now.about.limit branch }
         requires hand { Contains pass.old.hand (B.key_of branch) }
         requires own { Owns pass.old.team cell }
-        ensures done { result ≡ Published.Done → Makes (Event.publish pass.old.team cell (B.key_of branch)) Reply.done pass.old pass.new }
+        ensures done { result ≡ Published.Done
+            → Makes (Event.publish pass.old.team cell (B.key_of branch)) Reply.done pass.old pass.new }
         ensures not_free { (back : B) (seen : CellSeen) → result ≡ Published.NotFree back seen
-            → (back ≡ branch) × Makes (Event.publish pass.old.team cell (B.key_of branch)) (Reply.not_free (seen_of seen)) pass.old pass.new }
+            → (back ≡ branch) × Makes (Event.publish pass.old.team cell (B.key_of branch))
+            (Reply.not_free (seen_of seen)) pass.old pass.new }
         ensures spent { (back : B) → result ≡ Published.Spent back
-            → (back ≡ branch) × Makes (Event.publish pass.old.team cell (B.key_of branch)) Reply.spent pass.old pass.new }
+            → (back ≡ branch) × Makes (Event.publish pass.old.team cell (B.key_of branch))
+            Reply.spent pass.old pass.new }
     {
         let found = self.load_to_publish::<Brand>(&mut pass.seat, cell, &branch);
         if serial_in(found) == LAST_SERIAL {
@@ -165,7 +175,8 @@ impl<B: Keyed + Drop> Tree<B> {
     pub fn answer(&self, pass: &mut TreePass<B>, key: &Code) -> Last
         requires tree { pass.old.tree ≡ self.now }
         requires hand { Contains pass.old.hand key.now }
-        ensures { Makes (Event.end pass.old.team key.now Ending.answered) (Reply.last (is_last result)) pass.old pass.new }
+        ensures { Makes (Event.end pass.old.team key.now Ending.answered)
+            (Reply.last (is_last result)) pass.old pass.new }
     {
         self.end(pass, Snapshot::of(key), None, Ended::Answered)
     }
@@ -174,7 +185,8 @@ impl<B: Keyed + Drop> Tree<B> {
     pub fn retire(&self, pass: &mut TreePass<B>, key: &Code) -> Last
         requires tree { pass.old.tree ≡ self.now }
         requires hand { Contains pass.old.hand key.now }
-        ensures { Makes (Event.end pass.old.team key.now Ending.retired) (Reply.last (is_last result)) pass.old pass.new }
+        ensures { Makes (Event.end pass.old.team key.now Ending.retired)
+            (Reply.last (is_last result)) pass.old pass.new }
     {
         self.end(pass, Snapshot::of(key), None, Ended::Retired)
     }
@@ -183,7 +195,8 @@ impl<B: Keyed + Drop> Tree<B> {
     pub fn give_up(&self, pass: &mut TreePass<B>, key: &Code) -> Last
         requires tree { pass.old.tree ≡ self.now }
         requires hand { Contains pass.old.hand key.now }
-        ensures { Makes (Event.end pass.old.team key.now Ending.given_up) (Reply.last (is_last result)) pass.old pass.new }
+        ensures { Makes (Event.end pass.old.team key.now Ending.given_up)
+            (Reply.last (is_last result)) pass.old pass.new }
     {
         self.end(pass, Snapshot::of(key), None, Ended::GivenUp)
     }
@@ -198,7 +211,8 @@ impl<B: Keyed + Drop> Tree<B> {
     ) -> Last
         requires tree { pass.old.tree ≡ self.now }
         requires hand { Contains pass.old.hand (longer.value ++ clause.0 ∷ []) }
-        ensures { Makes (Event.end pass.old.team (longer.value ++ clause.0 ∷ []) Ending.given_up) (Reply.last (is_last result)) pass.old pass.new }
+        ensures { Makes (Event.end pass.old.team (longer.value ++ clause.0 ∷ []) Ending.given_up)
+            (Reply.last (is_last result)) pass.old pass.new }
     {
         self.end(pass, longer, Some(clause), Ended::GivenUp)
     }

@@ -1,6 +1,7 @@
 //! The keys that a team of a plain tree has in hand.
 
-ghost use Rattle.std.specs.Prelude.{◌≡◌, ◌<◌, ◌+◌, ◌++◌, ◌∷◌, ◌↔◌, true, [], List, length, take, drop, Contains, OnOk, OnErr, IfOk};
+ghost use Rattle.std.specs.Prelude.{◌≡◌, ◌<◌, ◌+◌, ◌++◌, ◌∷◌, ◌↔◌, true, [], List, length, take, drop, Contains, OnOk};
+ghost use Rattle.std.specs.Prelude.{OnErr, IfOk};
 ghost use Rattle.and_model.specs.Codes.{numbers_of};
 ghost use Rattle.and_histories.specs.PlainTree.{Key, in_place_of, children};
 
@@ -83,7 +84,8 @@ fn is_same(one: &Code, other: &Code) -> bool
 fn place_of(hand: &[Code], key: &Code) -> usize
     requires { Contains hand.now key.now }
     ensures within { result < length hand.now }
-    ensures first { (others : List Key) → in_place_of key.now others hand.now ≡ take result hand.now ++ others ++ drop (result + 1) hand.now }
+    ensures first { (others : List Key) → in_place_of key.now others hand.now
+        ≡ take result hand.now ++ others ++ drop (result + 1) hand.now }
 {
     for place in 0..hand.len() {
         if is_same(&hand[place], key) {

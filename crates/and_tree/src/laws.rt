@@ -9,11 +9,13 @@ ghost use Rattle.and_tree.specs.Passes.{TreeId, PassSeen, Makes, Takes, fresh_fr
 pub fn hands_after_calls()
     ensures taken { (cell serial : ℕ) (key : Key) (p q : PassSeen) → Takes cell serial key p q
         → (q.hand ≡ p.hand ++ key ∷ []) × (q.tree ≡ p.tree) × (q.team ≡ p.team) }
-    ensures forked { (key longer : Key) (clauses : List ℕ) (p q : PassSeen) → Makes (Event.fork p.team key longer clauses) Reply.forked p q
+    ensures forked { (key longer : Key) (clauses : List ℕ) (p q : PassSeen)
+        → Makes (Event.fork p.team key longer clauses) Reply.forked p q
         → q.hand ≡ in_place_of key (children longer clauses) p.hand }
     ensures published { (cell : ℕ) (key : Key) (p q : PassSeen) → Makes (Event.publish p.team cell key) Reply.done p q
         → q.hand ≡ in_place_of key [] p.hand }
-    ensures ended { (key : Key) (how : Ending) (last : Bool) (p q : PassSeen) → Makes (Event.end p.team key how) (Reply.last last) p q
+    ensures ended { (key : Key) (how : Ending) (last : Bool) (p q : PassSeen)
+        → Makes (Event.end p.team key how) (Reply.last last) p q
         → q.hand ≡ in_place_of key [] p.hand }
 {}
 

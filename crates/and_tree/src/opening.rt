@@ -1,6 +1,7 @@
 //! How a tree is opened.
 
-ghost use Rattle.std.specs.Prelude.{◌≡◌, ◌<◌, ◌≤◌, ◌+◌, ◌*◌, [], ◌∷◌, Some, None, replicate, IfOk, IfErr, List, Option, set, vec_capacity};
+ghost use Rattle.std.specs.Prelude.{◌≡◌, ◌<◌, ◌≤◌, ◌+◌, ◌*◌, [], ◌∷◌, Some, None, replicate, IfOk, IfErr, List};
+ghost use Rattle.std.specs.Prelude.{Option, set, vec_capacity};
 ghost use Rattle.and_tree.specs.Passes.{fresh, fresh_from};
 ghost use Rattle.and_tree.specs.Kept.{words_of};
 ghost use Rattle.and_tree.specs.Sight.{opener, newcomer};
@@ -33,7 +34,8 @@ fn first_words(alloc: Global, teams: u32) -> Result<Vec<u64>, AllocError>
 /// The slots of a tree that is opened: the root lies in the first one. There is room for them.
 fn first_slots<B>(slots: Vec<Option<B>>, teams: u32, root: B) -> Vec<Option<B>>
     requires { (0 < teams) × (teams ≤ 16) × (slots.items ≡ []) × (8 * teams ≤ vec_capacity slots) }
-    ensures { (rest : List (Option B)) × (result.items ≡ Some root ∷ rest) × (Some root ∷ rest ≡ set (replicate (8 * teams) None) 0 (Some root)) }
+    ensures { (rest : List (Option B)) × (result.items ≡ Some root ∷ rest)
+        × (Some root ∷ rest ≡ set (replicate (8 * teams) None) 0 (Some root)) }
 {
     let cells = teams as usize * CELLS_PER_TEAM as usize;
     let mut slots = slots;

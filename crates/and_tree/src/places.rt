@@ -1,7 +1,8 @@
 //! Where the keys of a plain tree are: in the hands of its teams, and in its cells.
 
 ghost use Rattle.std.specs.Prelude.{◌≡◌, ◌≢◌, ◌<◌, ◌≤◌, ◌*◌, [], suc, ℕ, OnOk, OnErr, IfOk, IfErr, None, replicate};
-ghost use Rattle.and_histories.specs.PlainTree.{Key, Holds, IsTeam, IsCell, Owns, cell_of, seen_in, opening, with_keys, with_cell, joined, free, opened, last_serial};
+ghost use Rattle.and_histories.specs.PlainTree.{Key, Holds, IsTeam, IsCell, Owns, cell_of, seen_in, opening};
+ghost use Rattle.and_histories.specs.PlainTree.{with_keys, with_cell, joined, free, opened, last_serial};
 ghost use Rattle.and_tree.specs.Replies.{seen_of};
 
 use crate::hand::Hand;
@@ -81,7 +82,8 @@ impl<B: Keyed + Drop> Places<B> {
         others: Vec<Code>,
     ) -> Result<(), AllocError>
         requires { Holds self.old.state team key.now }
-        ensures ok { OnOk result (self.new ≡ record self.old { state = with_keys self.old.state team key.now others.items }) }
+        ensures ok { OnOk result
+            (self.new ≡ record self.old { state = with_keys self.old.state team key.now others.items }) }
         ensures unchanged { OnErr result (self.new ≡ self.old) }
     {
         self.hands[team as usize].put_in_place(key, others)
@@ -147,7 +149,10 @@ impl<B: Keyed + Drop> Places<B> {
         requires cell { IsCell self.old.state cell }
         requires serial { (cell_of self.old.state cell).serial ≢ last_serial }
         requires stands { B.Stands self.old.limit branch }
-        ensures { self.new ≡ record self.old { state = with_cell self.old.state cell (suc (cell_of self.old.state cell).serial) (opened (B.key_of branch)) } }
+        ensures { self.new ≡ record self.old {
+          state =
+              with_cell self.old.state cell (suc (cell_of self.old.state cell).serial) (opened (B.key_of branch));
+        } }
     {
         let serial = self.cells[cell as usize].serial + 1;
         self.cells[cell as usize] = PlainCell {
@@ -160,8 +165,10 @@ impl<B: Keyed + Drop> Places<B> {
     pub(crate) fn clear(&mut self, cell: u32) -> B
         requires cell { IsCell self.old.state cell }
         requires is_open { (key : Key) × ((cell_of self.old.state cell).content ≡ opened key) }
-        ensures branch { B.Stands self.old.limit result × ((cell_of self.old.state cell).content ≡ opened (B.key_of result)) }
-        ensures cleared { self.new ≡ record self.old { state = with_cell self.old.state cell (cell_of self.old.state cell).serial free } }
+        ensures branch { B.Stands self.old.limit result
+            × ((cell_of self.old.state cell).content ≡ opened (B.key_of result)) }
+        ensures cleared { self.new ≡ record self.old
+            { state = with_cell self.old.state cell (cell_of self.old.state cell).serial free } }
     {
         match self.cells[cell as usize].branch.take() {
             Some(branch) => branch,

@@ -66,7 +66,9 @@ impl<B: Keyed + Drop> PlainTree<B> {
         requires longer { IsPrefix (S.fork_of split.now).key (S.fork_of split.now).longer }
         requires is_fork { B.IsFork self.old.limit (S.fork_of split.now) }
         requires few { length (hand_of self.old.state team) + length (S.fork_of split.now).clauses ≤ most_in_hand }
-        ensures ok { OnOk result (Turns (Event.fork team (S.fork_of split.now).key (S.fork_of split.now).longer (S.fork_of split.now).clauses) Reply.forked
+        ensures ok { OnOk result
+            (Turns (Event.fork team (S.fork_of split.now).key (S.fork_of split.now).longer
+            (S.fork_of split.now).clauses) Reply.forked
             self.old self.new) }
         ensures unchanged { OnErr result (self.new ≡ self.old) }
     {
@@ -88,9 +90,11 @@ impl<B: Keyed + Drop> PlainTree<B> {
         requires stands { B.Stands self.old.limit branch }
         requires hand { Holds self.old.state team (B.key_of branch) }
         requires own { Owns team cell }
-        ensures done { result ≡ Published.Done → Turns (Event.publish team cell (B.key_of branch)) Reply.done self.old self.new }
+        ensures done { result ≡ Published.Done
+            → Turns (Event.publish team cell (B.key_of branch)) Reply.done self.old self.new }
         ensures not_free { (back : B) (seen : CellSeen) → result ≡ Published.NotFree back seen
-            → (back ≡ branch) × Turns (Event.publish team cell (B.key_of branch)) (Reply.not_free (seen_of seen)) self.old self.new }
+            → (back ≡ branch) × Turns (Event.publish team cell (B.key_of branch))
+            (Reply.not_free (seen_of seen)) self.old self.new }
         ensures spent { (back : B) → result ≡ Published.Spent back
             → (back ≡ branch) × Turns (Event.publish team cell (B.key_of branch)) Reply.spent self.old self.new }
     {

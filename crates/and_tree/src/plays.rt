@@ -2,7 +2,8 @@
 
 ghost use Rattle.std.specs.Prelude.{◌≡◌, [], ℕ};
 ghost use Rattle.and_histories.specs.PlainTree.{Event, Key};
-ghost use Rattle.and_tree.specs.Sight.{mine_of, dealing_left, dealing_right, taken_in, unchanged, note_of, hears, spent};
+ghost use Rattle.and_tree.specs.Sight.{mine_of, dealing_left, dealing_right, taken_in, unchanged, note_of, hears};
+ghost use Rattle.and_tree.specs.Sight.{spent};
 ghost use Rattle.and_tree.specs.Told.{CallTold, PublishTold, ClaimTold, HearTold};
 
 use crate::keyed::Keyed;
@@ -36,7 +37,8 @@ pub struct LooksToPublish<C: Calling> {
 
 impl<B, C: Calling> Play<Option<B>, View> for LooksToPublish<C> {
     ghost then = { λ step v found w.
-        (cell : ℕ) (key : Key) → C.event ≡ Event.publish (mine_of v.0).team cell key → PublishTold cell key v.0 found w };
+        (cell : ℕ) (key : Key) → C.event ≡ Event.publish (mine_of v.0).team cell key
+        → PublishTold cell key v.0 found w };
 }
 
 /// An exchange of a cell, from an open one.
@@ -46,7 +48,8 @@ pub struct Claims<C: Calling> {
 
 impl<B: Keyed, C: Calling> Play<Option<B>, View> for Claims<C> {
     ghost then = { λ step v found w.
-        (cell serial : ℕ) → C.event ≡ Event.claim (mine_of v.0).team cell serial → ClaimTold B.key_of B.Stands cell serial v.0 found w };
+        (cell serial : ℕ) → C.event ≡ Event.claim (mine_of v.0).team cell serial
+        → ClaimTold B.key_of B.Stands cell serial v.0 found w };
 }
 
 /// A load by which a pass sees all that was done.

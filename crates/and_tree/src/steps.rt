@@ -37,7 +37,8 @@ impl<B: Keyed + Drop> Tree<B> {
         requires same { (seat.old.table_id ≡ self.now.table) × (seat.old.me.1 ≡ []) }
         requires can { CanCall self.now.about seat.old.me.0 C.event × ((mine_of seat.old.me.0).work ≡ at_rest) }
         requires forks { C.event
-            ≡ Event.fork (mine_of seat.old.me.0).team (S.fork_of split.now).key (S.fork_of split.now).longer (S.fork_of split.now).clauses }
+            ≡ Event.fork (mine_of seat.old.me.0).team (S.fork_of split.now).key (S.fork_of split.now).longer
+            (S.fork_of split.now).clauses }
         ensures same { seat.new.table_id ≡ seat.old.table_id }
         ensures told { (found : ℕ) × CallTold C.event seat.old.me.0 found seat.new.me.0 × (seat.new.me.1 ≡ []) }
     {
@@ -147,7 +148,8 @@ impl<B: Keyed + Drop> Tree<B> {
     )
         requires same { seat.old.table_id ≡ self.now.table }
         requires can { CanCall self.now.about seat.old.me.0 C.event }
-        requires works { (before : ℕ) × ((mine_of seat.old.me.0).work ≡ opening_cell cell before) × (serial ≡ before + 1) × (serial ≤ last_serial) }
+        requires works { (before : ℕ) × ((mine_of seat.old.me.0).work ≡ opening_cell cell before)
+            × (serial ≡ before + 1) × (serial ≤ last_serial) }
         requires branch { (key : Key) × (C.event ≡ Event.publish (mine_of seat.old.me.0).team cell key)
             × HasBranch B.key_of B.Stands self.now.about.limit cell key seat.old.me.1 }
         ensures same { seat.new.table_id ≡ seat.old.table_id }

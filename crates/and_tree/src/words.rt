@@ -42,7 +42,8 @@ pub(crate) fn serial_in(word: u64) -> u64
 
 /// What the cell with this word holds.
 pub(crate) fn content_in(word: u64) -> u64
-    ensures content { (c : Cell) (teams : ℕ) → teams ≤ 16 → IsCellOf teams c → word ≡ cell_word c → result ≡ content_word c.content }
+    ensures content { (c : Cell) (teams : ℕ) → teams ≤ 16 → IsCellOf teams c → word ≡ cell_word c
+        → result ≡ content_word c.content }
     ensures fits { result < 65536 }
 {
     word % 65_536

@@ -5,7 +5,8 @@
 //! `and_laws` and of `specs/`. The proofs' own lemmas stand in `proofs/`.
 #![tactic(auto)]
 
-ghost use Rattle.std.specs.Prelude.{ℕ, ◌≡◌, ◌≢◌, ◌+◌, ◌≤◌, ◌<◌, ◌↔◌, Bool, true, false, ◌||◌, List, [], ◌∷◌, ◌++◌, AllPairs, Contains};
+ghost use Rattle.std.specs.Prelude.{ℕ, ◌≡◌, ◌≢◌, ◌+◌, ◌≤◌, ◌<◌, ◌↔◌, Bool, true, false, ◌||◌, List, [], ◌∷◌, ◌++◌};
+ghost use Rattle.std.specs.Prelude.{AllPairs, Contains};
 ghost use Rattle.and_model.specs.Programs.{Program};
 ghost use Rattle.and_model.specs.Trees.{QueryTree, query_agenda, blank, Open, code, weight};
 ghost use Rattle.and_model.specs.Reached.{Step, Steps, Shut, Dead, Split, SplitClauses, Numbers};
@@ -42,7 +43,8 @@ pub fn walks_list()
     ensures ordered { (P : Program) (limit : ℕ) (entries ls : List Entry) (forks failed : ℕ) (is_cut : Bool)
         → Walks P limit (blank (query_agenda P)) entries forks failed is_cut
         → AllPairs Before ls → ((e : Entry) → Contains ls e ↔ Contains entries e) → Listing P limit ls }
-    ensures rising { (P : Program) (limit : ℕ) (t : QueryTree P) (entries : List Entry) (forks failed : ℕ) (is_cut : Bool)
+    ensures rising { (P : Program) (limit : ℕ) (t : QueryTree P) (entries : List Entry)
+        (forks failed : ℕ) (is_cut : Bool)
         → Walks P limit t entries forks failed is_cut → AllPairs Before entries }
     ensures once { (P : Program) (limit : ℕ) (t : QueryTree P) (entries : List Entry) (forks failed : ℕ) (is_cut : Bool)
         → Walks P limit t entries forks failed is_cut → AllPairs (λ (x y : Entry). x.code ≢ y.code) entries }
@@ -73,7 +75,8 @@ pub fn owed_steps()
         → Owes P limit t (u ∷ stack) entries forks failed is_cut
         → Shut u → Open u → SplitClauses u cs → SplitsThatFit P limit u cs splits is_now_cut
         → Owes P limit t (splits ++ stack) entries (forks + 1) failed (is_cut || is_now_cut) }
-    ensures empty { (P : Program) (limit : ℕ) (t : QueryTree P) (entries : List Entry) (forks failed : ℕ) (is_cut : Bool)
+    ensures empty { (P : Program) (limit : ℕ) (t : QueryTree P) (entries : List Entry)
+        (forks failed : ℕ) (is_cut : Bool)
         → Owes P limit t [] entries forks failed is_cut → Walks P limit t entries forks failed is_cut }
 {}
 

@@ -51,7 +51,8 @@ NamesVariables P frames r = All (IsVariableCell P.program frames) (shallow_cells
 
 -- A word that is set, and no half, stands in a variable's cell and names such cells alone.
 abbrev pub IsInPlace : NamedProgram → List Frame → (place : ℕ) → Ref → Type 0
-IsInPlace P frames place r = r ≢ Free → is_half r ≡ false → IsVariableCell P.program frames place × NamesVariables P frames r
+IsInPlace P frames place r = r ≢ Free → is_half r ≡ false
+    → IsVariableCell P.program frames place × NamesVariables P frames r
 
 -- The row is sound, the frames are whole, and each word is in its place.
 pub record IsWhole (P : NamedProgram) (frames : List Frame) (row : List Ref) : Type 0 where
@@ -67,4 +68,5 @@ pub record IsSideWhole (P : NamedProgram) (frames : List Frame) (row : List Ref)
 
 -- Both sides of each pair are.
 abbrev pub ArePairsWhole : NamedProgram → List Frame → List Ref → List Pair → Type 0
-ArePairsWhole P frames row pairs = All (λ (p : Pair). IsSideWhole P frames row p.left × IsSideWhole P frames row p.right) pairs
+ArePairsWhole P frames row pairs =
+    All (λ (p : Pair). IsSideWhole P frames row p.left × IsSideWhole P frames row p.right) pairs

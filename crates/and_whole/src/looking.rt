@@ -1,6 +1,7 @@
 //! What the words of a row that was closed name.
 
-ghost use Rattle.std.specs.Prelude.{◌≡◌, ◌≢◌, ◌<◌, ◌≤◌, ◌+◌, ◌++◌, ℕ, suc, true, false, length, Ok, All, Contains, IfOk, IfSome, OnOk, map};
+ghost use Rattle.std.specs.Prelude.{◌≡◌, ◌≢◌, ◌<◌, ◌≤◌, ◌+◌, ◌++◌, ℕ, suc, true, false, length, Ok, All, Contains};
+ghost use Rattle.std.specs.Prelude.{IfOk, IfSome, OnOk, map};
 ghost use Rattle.and_model.specs.declared.limits.TheConstants.{MAX_WORDS};
 ghost use Rattle.and_model.specs.declared.reference.Ref.{Ref};
 ghost use Rattle.and_program.specs.Loaded.{program_of, skeleton_of, arguments_at};
@@ -14,7 +15,8 @@ ghost use Rattle.and_cells.specs.Ranges.{CanHold, IsInRange};
 ghost use Rattle.and_cells.specs.Rows.{plain};
 ghost use Rattle.and_cells.specs.Seen.{word_at, IsWrittenIfNumber};
 ghost use Rattle.and_unify.specs.Pairs.{AreInRange};
-ghost use Rattle.and_whole.specs.Places.{AreBelow, ArePairsWhole, AreSpans, IsInPlace, IsVariableCell, IsVariableOf, IsWhole, IsWholeFrame, NamesVariables, all_frames, frame_of};
+ghost use Rattle.and_whole.specs.Places.{AreBelow, ArePairsWhole, AreSpans, IsInPlace, IsVariableCell, IsVariableOf};
+ghost use Rattle.and_whole.specs.Places.{IsWhole, IsWholeFrame, NamesVariables, all_frames, frame_of};
 
 use and_cells::LooseCells;
 use and_model::{ClauseNo, Frame, NodeNo, ReductionList, Ref};
@@ -74,7 +76,8 @@ impl Spans {
         requires spans { AreSpans (skeleton_of loaded.now).nodes self.now.spans.items }
         requires next { node.0 ≤ length self.now.spans.items }
         requires count { count ≡ length (arguments_at (skeleton_of loaded.now) node.0) }
-        ensures { (k : ℕ) → k < count → AreBelow result (argument_of (node_term (skeleton_of loaded.now).nodes node.0) k) }
+        ensures { (k : ℕ) → k < count
+            → AreBelow result (argument_of (node_term (skeleton_of loaded.now).nodes node.0) k) }
     {
         let mut most: u32 = 0;
         for place in 0..count {
@@ -97,7 +100,8 @@ fn larger(a: u32, b: u32) -> u32
 #[derive(Drop)]
 pub struct Frames {
     frames: Vec<Frame>,
-    /// For each cell how many frames the list has up to the one that the cell lies in; 0 where it lies in none. (Nothing rests on these.)
+    /// For each cell how many frames the list has up to the one that the cell lies in; 0 where it lies in none.
+    /// (Nothing rests on these.)
     homes: Vec<u32>,
 }
 
@@ -305,8 +309,8 @@ fn is_set(cells: &LooseCells, place: usize) -> bool
     }
 }
 
-/// Whether the word at a place, which may stand there in a longer row, may do so in this one: what it names is among the
-/// words, and a number is written. An error is want of memory.
+/// Whether the word at a place, which may stand there in a longer row, may do so in this one: what it names is among
+/// the words, and a number is written. An error is want of memory.
 fn may_stand(
     loaded: &Loaded,
     spans: &mut Spans,
@@ -333,8 +337,8 @@ fn may_stand(
     }
 }
 
-/// Whether a word may stand at a place: one that is set, and no half, has to stand in a variable's cell, and to name such
-/// cells alone. An error is want of memory.
+/// Whether a word may stand at a place: one that is set, and no half, has to stand in a variable's cell, and to name
+/// such cells alone. An error is want of memory.
 fn is_in_place(
     loaded: &Loaded,
     spans: &mut Spans,
@@ -361,8 +365,8 @@ fn is_in_place(
     }
 }
 
-/// Whether a row is sound, these frames are whole, and each word is in its place. Each word and each frame is looked at once, and
-/// each node of the program at most once. An error is want of memory.
+/// Whether a row is sound, these frames are whole, and each word is in its place. Each word and each frame is looked
+/// at once, and each node of the program at most once. An error is want of memory.
 pub fn is_whole(
     alloc: Global,
     loaded: &Loaded,
@@ -387,8 +391,8 @@ pub fn is_whole(
     Ok(true)
 }
 
-/// Whether a side of a pair, which is in range of a longer row, is so of this one, names cells of variables alone, and is
-/// written if it is a number. An error is want of memory.
+/// Whether a side of a pair, which is in range of a longer row, is so of this one, names cells of variables alone,
+/// and is written if it is a number. An error is want of memory.
 fn is_side_whole(
     loaded: &Loaded,
     spans: &mut Spans,

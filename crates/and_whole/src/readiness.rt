@@ -1,4 +1,5 @@
-//! Looks at the goals that workers leave: that they are in range of the row, and that the pairs of their arithmetic are free.
+//! Looks at the goals that workers leave: that they are in range of the row, and that the pairs of their arithmetic
+//! are free.
 
 ghost use Rattle.std.specs.Prelude.{◌≡◌, ◌≤◌, true, length, IfSome};
 ghost use Rattle.and_model.specs.declared.limits.TheConstants.{MAX_LIMIT};
@@ -80,7 +81,8 @@ fn has_free_pair(loaded: &Loaded, cells: &LooseCells, goal: Goal, item: ItemNode
 fn is_ready(loaded: &Loaded, cells: &LooseCells, goal: Goal) -> bool
     requires { length cells.now ≤ MAX_LIMIT }
     ensures in_range { result ≡ true → IsGoalInRange (named loaded.now) (length cells.now) goal }
-    ensures free { result ≡ true → HasFreePair (named loaded.now) cells.now goal (node_item_at (named loaded.now) goal) }
+    ensures free { result ≡ true
+        → HasFreePair (named loaded.now) cells.now goal (node_item_at (named loaded.now) goal) }
 {
     match item_within(loaded, cells.len() as u32, goal) {
         Some(item) => has_free_pair(loaded, cells, goal, item),

@@ -12,8 +12,8 @@ use Rattle.and_branch_laws.specs.Reducing.{reduction_in_cells, body_goals}
 use Rattle.and_branch_laws.specs.Kept.{goal_of, item_at}
 
 -- A thing done, by the number of the worker who did it.
--- Takes: the call was reduced. Sets: a cell was set, which states an equation of cells. (A word of a pair that was set, and a goal that was
--- hung on a cell, state what is true of all cells.) Fails: the worker called `fail`.
+-- Takes: the call was reduced. Sets: a cell was set, which states an equation of cells. (A word of a pair that was
+-- set, and a goal that was hung on a cell, state what is true of all cells.) Fails: the worker called `fail`.
 pub data Act : Type 0 where
   takes : (worker : ℕ) → Goal → Reduction → Act
   sets : (worker : ℕ) → Equation → Act
@@ -60,7 +60,8 @@ asked P (fails w ∷ before) = asked P before
 -- and those of one worker
 abbrev pub asked_by : Program → (worker : ℕ) → List Act → List Equation
 asked_by P n [] = []
-asked_by P n (takes w g r ∷ before) = cond (nat_eq w n) (reduction_in_cells P g r.clause r.node) [] ++ asked_by P n before
+asked_by P n (takes w g r ∷ before) =
+    cond (nat_eq w n) (reduction_in_cells P g r.clause r.node) [] ++ asked_by P n before
 asked_by P n (sets w e ∷ before) = asked_by P n before
 asked_by P n (fails w ∷ before) = asked_by P n before
 
@@ -92,8 +93,10 @@ abbrev pub IsThere : Program → (opening : List Goal) → List Act → Goal →
 IsThere P opening acts g = Contains opening g
     ⊎ ((w : ℕ) × (h : Goal) × (r : Reduction) × Contains acts (takes w h r) × Contains (goals_of_body P r) g)
 
--- The call was there, and no reduction before had taken it. The clause is of its predicate, and its frame begins behind those before it.
-pub record IsTaken (P : Program) (opening : List Goal) (used : ℕ) (before : List Act) (g : Goal) (r : Reduction) : Type 0 where
+-- The call was there, and no reduction before had taken it. The clause is of its predicate, and its frame begins
+-- behind those before it.
+pub record IsTaken (P : Program) (opening : List Goal) (used : ℕ) (before : List Act) (g : Goal)
+    (r : Reduction) : Type 0 where
   pub there : IsThere P opening before g
   pub term : Term
   pub is_call : item_at P g ≡ call term
@@ -101,7 +104,8 @@ pub record IsTaken (P : Program) (opening : List Goal) (used : ℕ) (before : Li
   pub item : r.item ≡ g.item
   pub of : Of P (term_of P g) r.clause
   pub node : r.node ≡ used + weight_taken P before
-  pub once : (w : ℕ) (h : Goal) (s : Reduction) → Contains before (takes w h s) → s.parent ≡ g.node → s.item ≡ g.item → ⊥
+  pub once : (w : ℕ) (h : Goal) (s : Reduction) → Contains before (takes w h s) → s.parent ≡ g.node
+      → s.item ≡ g.item → ⊥
 
 -- So it is with each reduction, where the opening weighed so much.
 abbrev pub AreTaken : Program → (opening : List Goal) → (used : ℕ) → List Act → Type 0

@@ -22,9 +22,11 @@ pub record IsCellOf (P : NamedProgram) (rs : List Reduction) (v : Path × ℕ) :
   pub is : IsVariable P rs variable
   pub at : v.1 ≡ is.node + 1 + variable.1
 
--- The row states what the opening's cells did and what was set; the pairs follow from what was asked, and all that was asked follows from them.
--- Both speak of cells alone that stand for variables of the tree, none of which is a word of a pair.
-pub record IsLeftIn (P : NamedProgram) (rs : List Reduction) (used : ℕ) (cells : List Equation) (acts : List Act) (runs : List RunInCells)
+-- The row states what the opening's cells did and what was set; the pairs follow from what was asked, and all that
+-- was asked follows from them. Both speak of cells alone that stand for variables of the tree, none of which is a
+-- word of a pair.
+pub record IsLeftIn (P : NamedProgram) (rs : List Reduction) (used : ℕ) (cells : List Equation) (acts : List Act)
+    (runs : List RunInCells)
     (row : List Ref) (pairs : List Equation) : Type 0 where
   pub long : length row ≡ used + weight_taken P.program acts
   pub sound : IsSound P row

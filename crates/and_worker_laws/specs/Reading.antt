@@ -9,10 +9,11 @@ use Rattle.and_phase_laws.specs.Journals.{Entry, frame, setting, failing, Journa
 use Rattle.and_phase_laws.specs.Weaving.{Run}
 use Rattle.and_worker_laws.specs.Acts.{Act, takes, sets, fails, RunInCells}
 
--- The entry is the act, where places have the paths that these reductions give them: a reduction's call stands in the frame of its place, and a
--- setting's equation speaks of the cells as variables of the frame apart.
+-- The entry is the act, where places have the paths that these reductions give them: a reduction's call stands in the
+-- frame of its place, and a setting's equation speaks of the cells as variables of the frame apart.
 abbrev pub IsReadAs : Program → List Reduction → (apart : Path) → Act → Entry → Type 0
-IsReadAs P rs apart (takes w g r) e = (p : Path) × PlaceHas rs g.node p × (e ≡ frame w (p ++ g.item ∷ []) (framed p (term_of P g)) r.clause)
+IsReadAs P rs apart (takes w g r) e = (p : Path) × PlaceHas rs g.node p
+    × (e ≡ frame w (p ++ g.item ∷ []) (framed p (term_of P g)) r.clause)
 IsReadAs P rs apart (sets w d) e = e ≡ setting w (apply (put_apart apart) d.0, apply (put_apart apart) d.1)
 IsReadAs P rs apart (fails w) e = e ≡ failing w
 

@@ -1,7 +1,8 @@
-//! The laws by which what the workers of a phase did, each knowing of its own acts alone, leads to one tree, and what they leave is a branch
-//! of it.
+//! The laws by which what the workers of a phase did, each knowing of its own acts alone, leads to one tree, and what
+//! they leave is a branch of it.
 //!
-//! Each function here does nothing. Its contract is a law over the definitions below and of `specs/`. The proofs' own lemmas stand in `proofs/`.
+//! Each function here does nothing. Its contract is a law over the definitions below and of `specs/`. The proofs' own
+//! lemmas stand in `proofs/`.
 #![tactic(auto)]
 
 ghost use Rattle.std.specs.Prelude.{◌+◌, ◌≡◌, List, ◌++◌, map};
@@ -21,14 +22,18 @@ ghost use Rattle.and_worker_laws.specs.Facts.{IsDone};
 ghost use Rattle.and_worker_laws.specs.Unfolding.{AreLeftOf};
 ghost use Rattle.and_worker_laws.specs.Leavings.{IsLeftIn, AreReady};
 
-/// Workers make Steps: what the workers of a phase did on a branch leads by Steps from its tree to another, which their reductions make with
-/// those of the branch. Where one of them called `fail`, that tree is dead. And what they leave is the tree's: the goals are its open calls and its
-/// arithmetic that was not run, in preorder, and the cells with the pairs state its equations and nothing else.
+/// Workers make Steps: what the workers of a phase did on a branch leads by Steps from its tree to another, which
+/// their reductions make with those of the branch. Where one of them called `fail`, that tree is dead. And what they
+/// leave is the tree's: the goals are its open calls and its arithmetic that was not run, in preorder, and the cells
+/// with the pairs state its equations and nothing else.
 pub fn workers_make_steps()
-    ensures { (P : NamedProgram) → OwnVariables P → (rs : List Reduction) (first : List Ref) (kept : List Framed) (t : QueryTree P.program)
+    ensures { (P : NamedProgram) → OwnVariables P
+        → (rs : List Reduction) (first : List Ref) (kept : List Framed) (t : QueryTree P.program)
         → Kept P rs first kept t
-        → (acts : List Act) (runs : List RunInCells) → IsDone P (map goal_of kept) (weight t) (equations_of P first) acts runs
-        → (u : QueryTree P.program) × Makes P.program (rs ++ reductions acts) u × Steps t u × (weight u ≡ weight t + weight_taken P.program acts)
+        → (acts : List Act) (runs : List RunInCells)
+        → IsDone P (map goal_of kept) (weight t) (equations_of P first) acts runs
+        → (u : QueryTree P.program) × Makes P.program (rs ++ reductions acts) u × Steps t u
+        × (weight u ≡ weight t + weight_taken P.program acts)
         × (HasFailed acts → Dead u)
         × ((row : List Ref) (pairs : List Equation) (left : List Goal)
         → IsLeftIn P (rs ++ reductions acts) (weight t) (equations_of P first) acts runs row pairs

@@ -18,7 +18,8 @@ returns-in-Times c = rw c.in-Times.is (both_read _ (λ x y. x *ℤ y) _ _ c.rang
 
 pub returns-in-Divide : goal.returns-in-Divide
 unfolding of_two
-returns-in-Divide c = rw c.in-Divide.is (c.quotient.ensures ∙ as_read (λ x y. if is_zero y then None else in_range (int_div x y)) _ _ c.ranges.left c.ranges.right)
+returns-in-Divide c = rw c.in-Divide.is (c.quotient.ensures
+    ∙ as_read (λ x y. if is_zero y then None else in_range (int_div x y)) _ _ c.ranges.left c.ranges.right)
 
 pub returns-in-Modulo : goal.returns-in-Modulo
 unfolding of_two
@@ -26,12 +27,17 @@ returns-in-Modulo c = rw c.in-Modulo.is (c.floored.ensures ∙ as_read floored_o
 
 pub returns-in-Remainder : goal.returns-in-Remainder
 unfolding of_two
-returns-in-Remainder c = rw c.in-Remainder.is (c.remainder.ensures ∙ as_read (λ x y. if is_zero y then None else Some (x -ℤ y *ℤ int_div x y)) _ _ c.ranges.left c.ranges.right)
+returns-in-Remainder c =
+    rw c.in-Remainder.is (c.remainder.ensures ∙ as_read (λ x y. if is_zero y then None else Some (x -ℤ y *ℤ int_div x y)) _ _ c.ranges.left c.ranges.right)
 
 pub returns-in-Least : goal.returns-in-Least
 unfolding of_two
-returns-in-Least c = rw c.in-Least.is (ap Some (to_z-of_z w64 _ (record { sfits = c.least.type_inv }) ∙ c.least.ensures ∙ as_read (λ x y. if int_le x y then x else y) _ _ c.ranges.left c.ranges.right))
+returns-in-Least c = rw c.in-Least.is
+    (ap Some (to_z-of_z w64 _ (record { sfits = c.least.type_inv }) ∙ c.least.ensures
+    ∙ as_read (λ x y. if int_le x y then x else y) _ _ c.ranges.left c.ranges.right))
 
 pub returns-in-Greatest : goal.returns-in-Greatest
 unfolding of_two
-returns-in-Greatest c = rw c.in-Greatest.is (ap Some (to_z-of_z w64 _ (record { sfits = c.greatest.type_inv }) ∙ c.greatest.ensures ∙ as_read (λ x y. if int_le x y then y else x) _ _ c.ranges.left c.ranges.right))
+returns-in-Greatest c = rw c.in-Greatest.is
+    (ap Some (to_z-of_z w64 _ (record { sfits = c.greatest.type_inv }) ∙ c.greatest.ensures
+    ∙ as_read (λ x y. if int_le x y then y else x) _ _ c.ranges.left c.ranges.right))

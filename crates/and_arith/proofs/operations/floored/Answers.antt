@@ -9,10 +9,12 @@ returns-then-b-gt0 c =
 
 pub returns-then-rest-eq0 : goal.returns-then-rest-eq0
 returns-then-rest-eq0 c =
-    answers_none _ _ _ c.ranges.a c.ranges.b (record { sfits = c.wrapping_rem_euclid-rest.type_inv }) c.wrapping_rem_euclid-rest.ensures c.if-b-eq0.false c.if-b-gt0.false c.if-rest-eq0.true
+    answers_none _ _ _ c.ranges.a c.ranges.b (record { sfits = c.wrapping_rem_euclid-rest.type_inv }) c.wrapping_rem_euclid-rest.ensures c.if-b-eq0.false
+    c.if-b-gt0.false c.if-rest-eq0.true
 
 pub returns : goal.returns
 returns c =
     let f : FitsSigned w64 (to_z w64 (of_z w64 c.wrapping_rem_euclid-rest.result) +ℤ to_z w64 (of_z w64 c.args.b)) = search rules in
     ap Some (to_z-of_z w64 _ f)
-    ∙ answers_below _ _ _ c.ranges.a c.ranges.b (record { sfits = c.wrapping_rem_euclid-rest.type_inv }) c.wrapping_rem_euclid-rest.ensures c.if-b-eq0.false c.if-b-gt0.false c.if-rest-eq0.false
+    ∙ answers_below _ _ _ c.ranges.a c.ranges.b (record { sfits = c.wrapping_rem_euclid-rest.type_inv }) c.wrapping_rem_euclid-rest.ensures c.if-b-eq0.false
+    c.if-b-gt0.false c.if-rest-eq0.false

@@ -10,7 +10,8 @@ invariant-loop-value g l = record {
   over : g.C.Cells.over l.cells ≡ g.C.Cells.over l.fn.cells;
   grew : g.C.Cells.Grew l.fn.cells l.cells;
   settings : List Setting;
-  stands : Stands g.C.Cells.program (g.C.Cells.seen l.fn.cells) l.fn.expression settings (g.C.Cells.seen l.cells) (reverse l.work.tasks.items) (reverse l.work.values.items) l.work.taken;
+  stands : Stands g.C.Cells.program (g.C.Cells.seen l.fn.cells) l.fn.expression settings (g.C.Cells.seen l.cells) (reverse l.work.tasks.items)
+      (reverse l.work.values.items) l.work.taken;
   paid : Paid g.C.Cells.program l.fn.expression settings l.fn.fuel (reverse l.work.tasks.items) l.fuel;
 }
 

@@ -28,7 +28,8 @@ loop-value-init g c =
     let row = c.args.cells.now in
     let fall = falls P (named c.args.loaded.now) c.requires.program c.skeleton_is_of_the_program.ensures.skeleton.0 in
     let tasks = begun c.begin.result _ (sym c.is_err.ensures.value ∙ c.if-is_err.false) c.begin.ensures.tasks in
-    let both = begins_with P fall (plain row) c.args.expression 0 _ _ _ (once row) c.requires.in_range c.requires.written tasks c.begin.ensures.values c.begin.ensures.taken in
+    let both = begins_with P fall (plain row) c.args.expression 0 _ _ _ (once row) c.requires.in_range c.requires.written tasks c.begin.ensures.values
+    c.begin.ensures.taken in
     record { settings = []; stands = both.0 }
 
 pub take_turn-requires-clause-ready : goal.take_turn-requires-clause-ready
@@ -43,7 +44,8 @@ loop-value-smaller g c =
     let i = c.loop-value.invariant in
     let P = g.N.Naming.program in
     let fall = falls P (named c.args.loaded.now) c.requires.program c.skeleton_is_of_the_program.ensures.skeleton.0 in
-    let goes = turn_goes P fall (plain c.args.cells.now) c.args.expression i.settings (stand (plain c.loop-value.cells) c.loop-value.work 1) (stand (plain c.take_turn.new.cells) c.take_turn.new.work c.take_turn.new.fuel)
+    let goes = turn_goes P fall (plain c.args.cells.now) c.args.expression i.settings (stand (plain c.loop-value.cells) c.loop-value.work 1)
+    (stand (plain c.take_turn.new.cells) c.take_turn.new.work c.take_turn.new.fuel)
     (once c.take_turn.new.cells) (c.in-Again.ensures.again refl) i.stands in
     goes.lighter
 
@@ -52,7 +54,8 @@ loop-value-preserved g c =
     let i = c.loop-value.invariant in
     let P = g.N.Naming.program in
     let fall = falls P (named c.args.loaded.now) c.requires.program c.skeleton_is_of_the_program.ensures.skeleton.0 in
-    let goes = turn_goes P fall (plain c.args.cells.now) c.args.expression i.settings (stand (plain c.loop-value.cells) c.loop-value.work 1) (stand (plain c.take_turn.new.cells) c.take_turn.new.work c.take_turn.new.fuel)
+    let goes = turn_goes P fall (plain c.args.cells.now) c.args.expression i.settings (stand (plain c.loop-value.cells) c.loop-value.work 1)
+    (stand (plain c.take_turn.new.cells) c.take_turn.new.work c.take_turn.new.fuel)
     (once c.take_turn.new.cells) (c.in-Again.ensures.again refl) i.stands in
     record { settings = goes.more; stands = goes.stands }
 
@@ -67,7 +70,8 @@ returns-in-Over-clause-number g c = λ z is.
     let fall = falls P (named c.args.loaded.now) c.requires.program c.skeleton_is_of_the_program.ensures.skeleton.0 in
     let row = unchanged c.args.cells.now c.loop-value.cells c.take_turn.new.cells i.stands.reads.told c.take_turn.ensures.reads.told in
     subst (λ x. HasValue P (plain x) c.args.expression z) row
-    (finished_value P fall (plain c.args.cells.now) c.args.expression i.settings (stand (plain c.loop-value.cells) c.loop-value.work 1) (stand (plain c.take_turn.new.cells) c.take_turn.new.work c.take_turn.new.fuel) _
+    (finished_value P fall (plain c.args.cells.now) c.args.expression i.settings (stand (plain c.loop-value.cells) c.loop-value.work 1)
+    (stand (plain c.take_turn.new.cells) c.take_turn.new.work c.take_turn.new.fuel) _
     (c.in-Over.ensures.number z (ap (λ v. Over v) is)) i.stands z refl)
 
 pub returns-in-Over-clause-no_value : goal.returns-in-Over-clause-no_value
@@ -77,11 +81,13 @@ returns-in-Over-clause-no_value g c = λ is.
     let fall = falls P (named c.args.loaded.now) c.requires.program c.skeleton_is_of_the_program.ensures.skeleton.0 in
     let row = unchanged c.args.cells.now c.loop-value.cells c.take_turn.new.cells i.stands.reads.told c.take_turn.ensures.reads.told in
     subst (λ x. LacksValue P (plain x) c.args.expression) row
-    (finished_lacks P fall (plain c.args.cells.now) c.args.expression i.settings (stand (plain c.loop-value.cells) c.loop-value.work 1) (stand (plain c.take_turn.new.cells) c.take_turn.new.work c.take_turn.new.fuel) _
+    (finished_lacks P fall (plain c.args.cells.now) c.args.expression i.settings (stand (plain c.loop-value.cells) c.loop-value.work 1)
+    (stand (plain c.take_turn.new.cells) c.take_turn.new.work c.take_turn.new.fuel) _
     (c.in-Over.ensures.no_value (ap (λ v. Over v) is)) i.stands refl)
 
 -- a word that a look found free is free
-free_at : (row : List Ref) (cell : ℕ) (before : Seen) → before.told ≡ (plain row).told → IfSome before.told (λ r. word_at r cell ≡ Free) → word_at row cell ≡ Free
+free_at : (row : List Ref) (cell : ℕ) (before : Seen) → before.told ≡ (plain row).told → IfSome before.told (λ r. word_at r cell ≡ Free)
+    → word_at row cell ≡ Free
 free_at row cell before told free = subst (λ t. IfSome t (λ r. word_at r cell ≡ Free)) told free
 
 pub returns-in-Over-clause-waits : goal.returns-in-Over-clause-waits
@@ -97,6 +103,8 @@ returns-in-Over-clause-waits g c = λ cell is.
     let stops = c.in-Over.ensures.waits cell (ap (λ v. Over v) is) in
     let free = waits_free P fall first c.args.expression i.settings 0 was now 0 cell one stops i.stands in (
       free_at c.args.cells.now cell free.before free.reads.told free.misses.free,
-      subst (λ x. Reaches P (plain x) c.args.expression (Cell cell)) row (waits_reached P fall first c.args.expression i.settings 0 was now 0 cell one stops i.stands),
-      subst (λ x. IsFirstFree P (plain x) c.args.expression cell) row (waits_first P fall first c.args.expression i.settings 0 was now 0 cell one stops i.stands),
+      subst (λ x. Reaches P (plain x) c.args.expression (Cell cell)) row
+          (waits_reached P fall first c.args.expression i.settings 0 was now 0 cell one stops i.stands),
+      subst (λ x. IsFirstFree P (plain x) c.args.expression cell) row
+          (waits_first P fall first c.args.expression i.settings 0 was now 0 cell one stops i.stands),
     )

@@ -8,7 +8,8 @@ use Rattle.and_arith.proofs.values.value_of.Given as goal
 abbrev pub invariant-loop-value : goal.invariant-loop-value
 invariant-loop-value g l = record {
   settings : List Setting;
-  stands : Stands g.N.Naming.program (plain l.fn.cells) l.fn.expression settings (plain l.cells) (reverse l.work.tasks.items) (reverse l.work.values.items) l.work.taken;
+  stands : Stands g.N.Naming.program (plain l.fn.cells) l.fn.expression settings (plain l.cells) (reverse l.work.tasks.items)
+      (reverse l.work.values.items) l.work.taken;
 }
 
 abbrev pub decreases-loop-value : goal.decreases-loop-value

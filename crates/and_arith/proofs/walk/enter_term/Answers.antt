@@ -12,27 +12,32 @@ returns-in-Number c =
     let z : ℤ = c.in-Number.number in
     let fits : FitsSigned w64 z = search (rules, ints) in
     on_both c.put.result _ _ _
-    (λ values other s. ends (Some (to_z w64 (of_z w64 z))) (literal_read P s c.args.node c.args.base z fits c.in-Number.ensures.shape) (ap (λ v. reverse v.items) c.put.ensures.tasks) values c.put.ensures.taken)
+    (λ values other s. ends (Some (to_z w64 (of_z w64 z))) (literal_read P s c.args.node c.args.base z fits c.in-Number.ensures.shape)
+    (ap (λ v. reverse v.items) c.put.ensures.tasks) values c.put.ensures.taken)
     c.put.ensures.values c.put.ensures.values
 
 pub take-requires : goal.take-requires
 take-requires c = c.in-New.ensures.new refl
 
 pub unreachable-requires : goal.unreachable-requires
-unreachable-requires c = no_variable_shown (named c.args.loaded.now) c.requires.0 c.args.node c.args.base c.in-Variable.field-0 c.requires.1 c.in-Variable.ensures.shape
+unreachable-requires c =
+    no_variable_shown (named c.args.loaded.now) c.requires.0 c.args.node c.args.base c.in-Variable.field-0 c.requires.1 c.in-Variable.ensures.shape
 
 pub returns-in-Taken : goal.returns-in-Taken
 returns-in-Taken c =
     on_both c.put-in-Taken.result _ _ _
-    (λ values other s. again c.args.cell c.in-Taken.value c.args.node c.args.base refl refl (c.in-Taken.ensures.taken c.in-Taken.value refl) (ap (λ v. reverse v.items) c.put-in-Taken.ensures.tasks) values c.put-in-Taken.ensures.taken)
+    (λ values other s. again c.args.cell c.in-Taken.value c.args.node c.args.base refl refl (c.in-Taken.ensures.taken c.in-Taken.value refl)
+    (ap (λ v. reverse v.items) c.put-in-Taken.ensures.tasks) values c.put-in-Taken.ensures.taken)
     c.put-in-Taken.ensures.values c.put-in-Taken.ensures.values
 
 pub returns-in_ok-take-in-New : goal.returns-in_ok-take-in-New
 returns-in_ok-take-in-New c =
     let P = named c.args.loaded.now in
     let fits : Fits w8 c.in-Compound.count = search rules in
-    taken_comes c.open.result P c.args.cell c.args.node c.args.base c.in-Compound.name c.in-Compound.count (undone c.args.work.now) (undone c.take.new.self) (undone c.open.new.self)
-    (structure_shown P c.args.node c.in-Compound.name c.in-Compound.count (shape_at P.skeleton c.args.node.0) refl (omega (arith, fits.fits)) c.in-Compound.ensures.shape)
+    taken_comes c.open.result P c.args.cell c.args.node c.args.base c.in-Compound.name c.in-Compound.count (undone c.args.work.now) (undone c.take.new.self)
+    (undone c.open.new.self)
+    (structure_shown P c.args.node c.in-Compound.name c.in-Compound.count (shape_at P.skeleton c.args.node.0) refl (omega (arith, fits.fits))
+    c.in-Compound.ensures.shape)
     (c.in-New.ensures.new refl)
     c.in_ok-take-in-New.ensures.tasks (ap (λ v. reverse v.items) c.take.ensures.values) c.in_ok-take-in-New.ensures.taken c.in_ok-take-in-New.ensures.few
     c.open.ensures.tasks (ap (λ v. reverse v.items) c.open.ensures.values) c.open.ensures.taken

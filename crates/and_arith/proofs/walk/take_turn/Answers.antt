@@ -26,7 +26,8 @@ returns-else-fuel-eq0-clause-again g c = λ is.
     let one : suc left ≡ c.args.fuel.now = omega (arith, c.if-fuel-eq0.false) in
     let old = stand (g.C.Cells.seen c.args.cells.now) c.args.work.now c.args.fuel.now in
     enters c.in-Some-Enter.part (reverse c.pop.new.self.items) next
-    (subst (λ n. Enters g.C.Cells.program c.in-Some-Enter.part (record old { tasks = reverse c.pop.new.self.items; fuel = n }) (stand (g.C.Cells.seen c.enter.new.cells) c.enter.new.work left)) one
+    (subst (λ n. Enters g.C.Cells.program c.in-Some-Enter.part (record old { tasks = reverse c.pop.new.self.items; fuel = n })
+    (stand (g.C.Cells.seen c.enter.new.cells) c.enter.new.work left)) one
     (c.enter.ensures.again is left))
 
 pub returns-in-Some-Leave-clause-again : goal.returns-in-Some-Leave-clause-again

@@ -28,8 +28,10 @@ loop-at-preserved g c =
       over = c.look.ensures.over ∙ i.over;
       grew = g.met.C.Cells.grew_on c.args.cells.now c.loop-at.cells c.look.new.self i.grew c.look.ensures.grew;
       reads = reads_more old mid new i.reads reads;
-      leads = leads_on new c.args.from c.in-Cell.cell c.look.result (leads_later mid new c.args.from (Cell c.in-Cell.cell) reads.keeps (subst (LeadsTo mid c.args.from) c.in-Cell.is i.leads)) knows;
-      in_range = held_in_range g.C.Cells.program old.words c.in-Cell.cell c.look.result below finds.is_set (subst (λ n. CanHold g.C.Cells.program n c.in-Cell.cell c.look.result) i.reads.words finds.fits);
+      leads = leads_on new c.args.from c.in-Cell.cell c.look.result
+          (leads_later mid new c.args.from (Cell c.in-Cell.cell) reads.keeps (subst (LeadsTo mid c.args.from) c.in-Cell.is i.leads)) knows;
+      in_range = held_in_range g.C.Cells.program old.words c.in-Cell.cell c.look.result below finds.is_set
+          (subst (λ n. CanHold g.C.Cells.program n c.in-Cell.cell c.look.result) i.reads.words finds.fits);
       written = written_since_known new c.in-Cell.cell c.look.result knows;
     }
 
@@ -37,8 +39,10 @@ pub returns-in-Free-clause-leads : goal.returns-in-Free-clause-leads
 returns-in-Free-clause-leads g c =
     let mid = g.C.Cells.seen c.loop-at.cells in
     let new = g.C.Cells.seen c.look.new.self in
-    leads_later mid new c.args.from (Cell c.in-Cell.cell) c.look.ensures.only_reads.keeps (subst (LeadsTo mid c.args.from) c.in-Cell.is c.loop-at.invariant.leads)
+    leads_later mid new c.args.from (Cell c.in-Cell.cell) c.look.ensures.only_reads.keeps
+    (subst (LeadsTo mid c.args.from) c.in-Cell.is c.loop-at.invariant.leads)
 
 pub returns-in-Free-clause-reads : goal.returns-in-Free-clause-reads
 returns-in-Free-clause-reads g c =
-    reads_more (g.C.Cells.seen c.args.cells.now) (g.C.Cells.seen c.loop-at.cells) (g.C.Cells.seen c.look.new.self) c.loop-at.invariant.reads c.look.ensures.only_reads
+    reads_more (g.C.Cells.seen c.args.cells.now) (g.C.Cells.seen c.loop-at.cells) (g.C.Cells.seen c.look.new.self) c.loop-at.invariant.reads
+    c.look.ensures.only_reads

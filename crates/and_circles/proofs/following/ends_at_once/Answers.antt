@@ -21,7 +21,8 @@ returns-in-Node g c = λ none.
     let zero : c.argument_count.result ≡ 0 = grind (arith, nat_tests, none) in
     let count : length (arguments_at P.skeleton c.in-Node.node.0) ≡ 0 =
     subst (λ (Q : NamedProgram). length (arguments_at Q.skeleton c.in-Node.node.0) ≡ 0) (sym c.requires.program) (sym c.argument_count.ensures ∙ zero) in
-    subst (Ends P c.args.cells.now c.args.floor false) (sym c.in-Node.is) (structure_ends P c.args.cells.now c.in-Node.node c.in-Node.base c.args.floor (λ place below. absurd (omega arith)))
+    subst (Ends P c.args.cells.now c.args.floor false) (sym c.in-Node.is)
+    (structure_ends P c.args.cells.now c.in-Node.node c.in-Node.base c.args.floor (λ place below. absurd (omega arith)))
 
 pub returns-in-Number : goal.returns-in-Number
 returns-in-Number g c = λ _.

@@ -10,9 +10,11 @@ loop-most-preserved-in-Some g c =
     let P = g.N.Naming.program in
     let row = c.args.cells.now in
     let floor = c.args.floor in
-    let led = subst (λ (s : Step). LeadsOn P row floor c.loop-most.at c.loop-most.visits.items c.follow.new.visits.items s) c.in-Ended.is c.in_ok-follow.ensures in
+    let led = subst (λ (s : Step). LeadsOn P row floor c.loop-most.at c.loop-most.visits.items c.follow.new.visits.items s) c.in-Ended.is
+    c.in_ok-follow.ensures in
     let taken = suffice_taken P row floor (Ends P row floor false c.args.root) c.follow.new.visits.items c.pop.new.self.items c.in-Some.next
-    (suffice_with P row floor (Ends P row floor false c.loop-most.at → Ends P row floor false c.args.root) (Ends P row floor false c.loop-most.at) (Ends P row floor false c.args.root)
+    (suffice_with P row floor (Ends P row floor false c.loop-most.at
+    → Ends P row floor false c.args.root) (Ends P row floor false c.loop-most.at) (Ends P row floor false c.args.root)
     c.loop-most.visits.items c.follow.new.visits.items c.loop-most.invariant.rest led (λ owes ends. owes ends)) c.in-Some.ensures.items in
     record { in_range = taken.0; rest = taken.1 }
 
@@ -21,9 +23,12 @@ loop-most-preserved g c =
     let P = g.N.Naming.program in
     let row = c.args.cells.now in
     let floor = c.args.floor in
-    let led = subst (λ (s : Step). LeadsOn P row floor c.loop-most.at c.loop-most.visits.items c.follow.new.visits.items s) c.in-Onward.is c.in_ok-follow.ensures in
+    let led = subst (λ (s : Step). LeadsOn P row floor c.loop-most.at c.loop-most.visits.items c.follow.new.visits.items s) c.in-Onward.is
+    c.in_ok-follow.ensures in
     record {
       in_range = led.0;
-      rest = suffice_with P row floor (Ends P row floor false c.loop-most.at → Ends P row floor false c.args.root) (Ends P row floor false c.in-Onward.next → Ends P row floor false c.loop-most.at)
-          (Ends P row floor false c.in-Onward.next → Ends P row floor false c.args.root) c.loop-most.visits.items c.follow.new.visits.items c.loop-most.invariant.rest led.1 (λ owes leads ends. owes (leads ends));
+      rest = suffice_with P row floor (Ends P row floor false c.loop-most.at → Ends P row floor false c.args.root) (Ends P row floor false c.in-Onward.next
+          → Ends P row floor false c.loop-most.at)
+          (Ends P row floor false c.in-Onward.next → Ends P row floor false c.args.root) c.loop-most.visits.items c.follow.new.visits.items
+          c.loop-most.invariant.rest led.1 (λ owes leads ends. owes (leads ends));
     }

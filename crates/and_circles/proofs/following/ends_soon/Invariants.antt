@@ -7,7 +7,8 @@ use Rattle.and_circles.proofs.following.ends_soon.Given as goal
 abbrev pub invariant-loop-most : goal.invariant-loop-most
 invariant-loop-most g l = record {
   in_range : IsInRange g.N.Naming.program (length l.cells) l.at;
-  rest : Suffice g.N.Naming.program l.cells l.floor l.visits.items (Ends g.N.Naming.program l.cells l.floor false l.at → Ends g.N.Naming.program l.cells l.floor false l.fn.root);
+  rest : Suffice g.N.Naming.program l.cells l.floor l.visits.items (Ends g.N.Naming.program l.cells l.floor false l.at
+      → Ends g.N.Naming.program l.cells l.floor false l.fn.root);
 }
 
 abbrev pub decreases-loop-most : goal.decreases-loop-most

@@ -20,7 +20,8 @@ returns-then-count-eq0 g c =
 
 pub loop-place-preserved : goal.loop-place-preserved
 loop-place-preserved g c =
-    covers_next g.N.Naming.program c.args.cells.now c.args.floor c.args.node c.args.base c.loop-place.place c.args.visits.now.items c.loop-place.visits.items c.put_part.new.visits.items
+    covers_next g.N.Naming.program c.args.cells.now c.args.floor c.args.node c.args.base c.loop-place.place c.args.visits.now.items c.loop-place.visits.items
+    c.put_part.new.visits.items
     c.loop-place.invariant c.in_ok-put_part.ensures
 
 pub returns : goal.returns
@@ -28,9 +29,14 @@ returns g c =
     let P = g.N.Naming.program in
     let row = c.args.cells.now in
     let count : length (arguments_at P.skeleton c.args.node.0) ≡ c.argument_count-count.result =
-    subst (λ (Q : NamedProgram). length (arguments_at Q.skeleton c.args.node.0) ≡ c.argument_count-count.result) (sym c.requires.program) (sym c.argument_count-count.ensures) in
-    let is = part_found P row c.args.node c.args.base c.args.loaded.now c.argument.result.0 0 c.resolve.result c.requires.program c.resolve.ensures c.argument.ensures.node in (
-      subst (IsInRange P (length row)) (sym is) (part_fits P row c.args.node c.args.base c.requires.falls c.requires.in_range 0 (omega (arith, c.if-count-eq0.false))),
-      subst (λ (r : Ref). Puts P row c.args.floor (Ends P row c.args.floor false r → Ends P row c.args.floor false (Node c.args.node c.args.base)) c.args.visits.now.items c.loop-place.visits.items) (sym is)
-          (covers_all P row c.args.floor c.args.node c.args.base c.loop-place.place c.args.visits.now.items c.loop-place.visits.items c.loop-place.invariant (omega (arith, c.loop-place-test.false))),
+    subst (λ (Q : NamedProgram). length (arguments_at Q.skeleton c.args.node.0) ≡ c.argument_count-count.result) (sym c.requires.program)
+    (sym c.argument_count-count.ensures) in
+    let is = part_found P row c.args.node c.args.base c.args.loaded.now c.argument.result.0 0 c.resolve.result c.requires.program c.resolve.ensures
+    c.argument.ensures.node in (
+      subst (IsInRange P (length row)) (sym is)
+          (part_fits P row c.args.node c.args.base c.requires.falls c.requires.in_range 0 (omega (arith, c.if-count-eq0.false))),
+      subst (λ (r : Ref). Puts P row c.args.floor (Ends P row c.args.floor false r
+          → Ends P row c.args.floor false (Node c.args.node c.args.base)) c.args.visits.now.items c.loop-place.visits.items) (sym is)
+          (covers_all P row c.args.floor c.args.node c.args.base c.loop-place.place c.args.visits.now.items c.loop-place.visits.items c.loop-place.invariant
+          (omega (arith, c.loop-place-test.false))),
     )

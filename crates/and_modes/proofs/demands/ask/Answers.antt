@@ -19,7 +19,8 @@ loop-number-preserved c =
     let counted = c.functor_of-count.ensures.count in
     let test = c.loop-number-test.true in
     let lt : place < count_of (arguments_of term) = omega arith in
-    let made : ℕ → ℕ → Level → Demand = λ n k l. record { place = record { name = record { 0 = n }; arity = k; number = place }; side = c.args.side; level = l } in
+    let made : ℕ → ℕ → Level → Demand =
+    λ n k l. record { place = record { name = record { 0 = n }; arity = k; number = place }; side = c.args.side; level = l } in
     asked_next term (node_term nodes c.argument.result.0) place (name_of term) (count_of (arguments_of term)) c.args.side e
     (c.args.demands.now.items ++ asked_of e c.args.side term) c.loop-number.demands.items c.push.new.self.items
     (made c.functor_of-count.result.name.0 c.functor_of-count.result.count c.in_ok-level.level) lt c.loop-number.invariant c.argument.ensures.term
@@ -36,4 +37,5 @@ returns c =
     let counted = c.functor_of-count.ensures.count in
     let test = c.loop-number-test.false in
     let le : count_of (arguments_of term) ≤ c.loop-number.number = omega arith in
-    asked_end term c.loop-number.number (name_of term) (count_of (arguments_of term)) c.args.side e (c.args.demands.now.items ++ asked_of e c.args.side term) c.loop-number.demands.items le c.loop-number.invariant
+    asked_end term c.loop-number.number (name_of term) (count_of (arguments_of term)) c.args.side e (c.args.demands.now.items ++ asked_of e c.args.side term)
+    c.loop-number.demands.items le c.loop-number.invariant

@@ -38,11 +38,13 @@ loop-item-init c =
 
 pub ask_by_item-requires : goal.ask_by_item-requires
 ask_by_item-requires c =
-    item_there (skeleton_of c.args.loaded.now).nodes 0 c.items-item-items.result.now c.loop-item.item-index (Call (record { 0 = 0 })) c.items-item-items.ensures.there c.loop-item-test.true
+    item_there (skeleton_of c.args.loaded.now).nodes 0 c.items-item-items.result.now c.loop-item.item-index (Call (record { 0 = 0 }))
+    c.items-item-items.ensures.there c.loop-item-test.true
 
 pub pass-requires : goal.pass-requires
 pass-requires c =
-    item_there (skeleton_of c.args.loaded.now).nodes 0 c.items-item-items.result.now c.loop-item.item-index (Call (record { 0 = 0 })) c.items-item-items.ensures.there c.loop-item-test.true
+    item_there (skeleton_of c.args.loaded.now).nodes 0 c.items-item-items.result.now c.loop-item.item-index (Call (record { 0 = 0 }))
+    c.items-item-items.ensures.there c.loop-item-test.true
 
 pub loop-item-preserved : goal.loop-item-preserved
 loop-item-preserved c =

@@ -24,4 +24,5 @@ loop-modes-preserved c = λ other well.
 pub returns : goal.returns
 returns c =
     let same = c.look_at_all.ensures false (c.in_ok-look_at_all.was ∙ ap (λ (b : Bool). Ok b) c.if-branch.false) in
-    is_greatest (program_of c.args.loaded.now) (assignment_of c.look_at_all.new.modes) (λ other well. same.0 other well (c.loop-modes.invariant other well)) same.1.1
+    is_greatest (program_of c.args.loaded.now) (assignment_of c.look_at_all.new.modes)
+    (λ other well. same.0 other well (c.loop-modes.invariant other well)) same.1.1

@@ -13,7 +13,9 @@ loop-number-preserved c =
     let new = assignment_of c.look.new.modes in
     elim c.if-branch.branch [
       | then-branch w ↦ rw w.fell-is
-          (looked_fell P c.loop-number.number old now new c.loop-number.fell c.loop-number.invariant (c.look.ensures true (c.in_ok-look.was ∙ ap (λ (b : Bool). Ok b) w.if-branch.true)))
+          (looked_fell P c.loop-number.number old now new c.loop-number.fell c.loop-number.invariant
+          (c.look.ensures true (c.in_ok-look.was ∙ ap (λ (b : Bool). Ok b) w.if-branch.true)))
       | else-branch w ↦ rw w.fell-is
-          (looked_same P c.loop-number.number old now new c.loop-number.fell c.loop-number.invariant (c.look.ensures false (c.in_ok-look.was ∙ ap (λ (b : Bool). Ok b) w.if-branch.false)))
+          (looked_same P c.loop-number.number old now new c.loop-number.fell c.loop-number.invariant
+          (c.look.ensures false (c.in_ok-look.was ∙ ap (λ (b : Bool). Ok b) w.if-branch.false)))
     ]

@@ -20,7 +20,8 @@ loop-next-smaller c =
     let n = c.in-Some.next in
     fewer nodes c.loop-next.found.items c.loop-next.found.items c.loop-next.left.items c.push_arguments.new.stack.items n c.pop.new.self.items
     (variables_of (node_term nodes c.args.node.0)) c.args.loaded.now.kept.falls c.loop-next.invariant
-    (compound_goes nodes c.loop-next.found.items c.loop-next.left.items c.push_arguments.new.stack.items c.pop.new.self.items n c.in-Compound.name c.in-Compound.count
+    (compound_goes nodes c.loop-next.found.items c.loop-next.left.items c.push_arguments.new.stack.items c.pop.new.self.items n
+    c.in-Compound.name c.in-Compound.count
     c.in-Some.ensures.items c.in-Compound.ensures.shape c.in_ok-push_arguments-in-Compound.ensures)
 
 pub loop-next-preserved : goal.loop-next-preserved
@@ -29,5 +30,6 @@ loop-next-preserved c =
     let n = c.in-Some.next in
     goes_on nodes c.loop-next.found.items c.loop-next.found.items c.loop-next.left.items c.push_arguments.new.stack.items n c.pop.new.self.items
     (variables_of (node_term nodes c.args.node.0)) c.args.loaded.now.kept.falls c.loop-next.invariant
-    (compound_goes nodes c.loop-next.found.items c.loop-next.left.items c.push_arguments.new.stack.items c.pop.new.self.items n c.in-Compound.name c.in-Compound.count
+    (compound_goes nodes c.loop-next.found.items c.loop-next.left.items c.push_arguments.new.stack.items c.pop.new.self.items n
+    c.in-Compound.name c.in-Compound.count
     c.in-Some.ensures.items c.in-Compound.ensures.shape c.in_ok-push_arguments-in-Compound.ensures)

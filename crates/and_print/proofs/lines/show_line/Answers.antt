@@ -23,7 +23,9 @@ pub returns : goal.returns
 returns g c =
     let P = named c.args.loaded.now in
     let fits = subst (λ (Q : NamedProgram). All (IsGoalInRange Q (length c.args.cells.now)) c.args.waiting.now) c.requires.program c.requires.in_range in
-    subst (λ (Q : NamedProgram). (given : Given Q c.args.cells.now c.args.waiting.now) → c.write_waiting.new.out ≡ line Q.program given.terms given.waits) (sym c.requires.program)
-    (λ given. line_written P.program given.terms given.waits c.new-names.result c.write_values.new.names c.write_waiting.new.names c.new-out.result c.write_values.new.out c.write_waiting.new.out c.new-names.ensures c.new-out.ensures
+    subst (λ (Q : NamedProgram). (given : Given Q c.args.cells.now c.args.waiting.now)
+    → c.write_waiting.new.out ≡ line Q.program given.terms given.waits) (sym c.requires.program)
+    (λ given. line_written P.program given.terms given.waits c.new-names.result c.write_values.new.names c.write_waiting.new.names c.new-out.result
+    c.write_values.new.out c.write_waiting.new.out c.new-names.ensures c.new-out.ensures
     (c.in_ok-write_values.ensures given.terms given.query)
     (c.in_ok-write_waiting.ensures (terms_waiting given.terms given.waits) (waiting_mean P c.args.cells.now c.args.waiting.now given fits)))

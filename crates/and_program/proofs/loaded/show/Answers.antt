@@ -7,4 +7,9 @@ overflow_cast-result c = omega (arith, variable_fits c.requires.0 c.args.node.no
 
 pub overflow_cast-result-in-Compound : goal.overflow_cast-result-in-Compound
 overflow_cast-result-in-Compound c =
-    omega (arith, count_fits c.requires.0 c.args.node.now c.in-Compound.name c.in-Compound.arguments c.requires.1 c.in-Compound.is, c.len.ensures, c.in-Compound.arguments.ok.0)
+    omega (
+      arith,
+      count_fits c.requires.0 c.args.node.now c.in-Compound.name c.in-Compound.arguments c.requires.1 c.in-Compound.is,
+      c.len.ensures,
+      c.in-Compound.arguments.ok.0,
+    )

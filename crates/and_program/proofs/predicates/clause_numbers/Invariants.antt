@@ -6,4 +6,5 @@ use Rattle.and_program.proofs.predicates.clause_numbers.Given as goal
 
 abbrev pub invariant-loop-place : goal.invariant-loop-place
 invariant-loop-place l =
-    (p : Predicate) → numbers_at l.found p ++ numbers_from p (l.place + 1) (map (entry_clause (map shape_of l.nodes)) (drop l.place l.clauses)) ≡ numbers_from p 1 (map (entry_clause (map shape_of l.nodes)) l.clauses)
+    (p : Predicate) → numbers_at l.found p ++ numbers_from p (l.place + 1) (map (entry_clause (map shape_of l.nodes)) (drop l.place l.clauses))
+    ≡ numbers_from p 1 (map (entry_clause (map shape_of l.nodes)) l.clauses)

@@ -17,7 +17,8 @@ loop-place-preserved g c =
       over = c.look.ensures.over ∙ i.over;
       grew = g.met.C.Cells.grew_on c.args.cells.now c.loop-place.cells c.look.new.self i.grew c.look.ensures.grew;
       reads = reads_more old mid new i.reads c.look.ensures.only_reads;
-      free = one_more_free (g.C.Cells.shared (g.C.Cells.over c.args.cells.now)) old mid new c.args.waited.now c.loop-place.place cell c.loop-place-test.true i.within refl i.reads
+      free = one_more_free (g.C.Cells.shared (g.C.Cells.over c.args.cells.now)) old mid new c.args.waited.now c.loop-place.place cell c.loop-place-test.true
+          i.within refl i.reads
           (subst (λ o. Misses (g.C.Cells.shared o) cell mid new) i.over misses) i.free;
     }
 

@@ -10,7 +10,8 @@ invariant-loop-place g l = record {
   over : g.C.Cells.over l.cells ≡ g.C.Cells.over l.initial.cells;
   grew : g.C.Cells.Grew l.initial.cells l.cells;
   reads : OnlyReads (g.C.Cells.seen l.initial.cells) (g.C.Cells.seen l.cells);
-  free : All (λ cell. LookedFree (g.C.Cells.shared (g.C.Cells.over l.initial.cells)) cell (g.C.Cells.seen l.initial.cells) (g.C.Cells.seen l.cells)) (drop l.place l.waited);
+  free : All (λ cell. LookedFree (g.C.Cells.shared (g.C.Cells.over l.initial.cells)) cell (g.C.Cells.seen l.initial.cells) (g.C.Cells.seen l.cells))
+      (drop l.place l.waited);
 }
 
 abbrev pub decreases-loop-place : goal.decreases-loop-place

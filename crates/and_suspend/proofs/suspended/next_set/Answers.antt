@@ -36,5 +36,6 @@ returns-in-None-clause-none g c =
     let F : ℕ → Type 0 = λ x. LookedFree (g.C.Cells.shared (g.C.Cells.over c.last_set-2.new.cells)) x mid new in
     let rest : All F (drop c.args.from c.args.waited.now) = subst (All F) (rest_is c.args.waited.now c.args.from) c.in-None.ensures.none in
     let back = subst (λ o. All (λ x. LookedFree (g.C.Cells.shared o) x mid new) (drop c.args.from c.args.waited.now)) c.last_set-2.ensures.over rest in
-    both_free (g.C.Cells.shared (g.C.Cells.over c.args.cells.now)) old mid new c.args.waited.now c.args.from c.last_set-2.ensures.reads c.last_set-3.ensures.reads
+    both_free (g.C.Cells.shared (g.C.Cells.over c.args.cells.now)) old mid new c.args.waited.now c.args.from c.last_set-2.ensures.reads
+    c.last_set-3.ensures.reads
     c.in_default.ensures.none back

@@ -14,7 +14,8 @@ returns-in-Compound-clause-in_range g c =
     let words = length c.args.cells.now in
     let law = c.skeleton_is_of_the_program.ensures in
     subst (λ (P : NamedProgram). IsInRange P words r) (sym c.requires.program)
-    (structure_fits (named loaded) (length (program_of loaded).names) words c.args.base c.args.node c.in-Compound.name c.in-Compound.count law.within law.few c.requires.node
+    (structure_fits (named loaded) (length (program_of loaded).names) words c.args.base c.args.node c.in-Compound.name c.in-Compound.count law.within
+    law.few c.requires.node
     (sym c.kind.ensures.shape ∙ c.in-Compound.is) (omega arith) c.len.ensures.sound.short)
 
 pub returns-in-Compound-clause-keeps : goal.returns-in-Compound-clause-keeps

@@ -10,5 +10,6 @@ pub returns-clause-written : goal.returns-clause-written
 returns-clause-written g c =
     let s = plain c.args.cells.now in
     on_ok c.push.result (λ is. subst (AreWritten s) (sym is)
-    (all_and_one (λ (p : Pair). IsWrittenIfNumber s p.left × IsWrittenIfNumber s p.right) c.args.pairs.now (record { left = c.args.left; right = c.args.right }) c.requires.written
+    (all_and_one (λ (p : Pair). IsWrittenIfNumber s p.left × IsWrittenIfNumber s p.right) c.args.pairs.now
+    (record { left = c.args.left; right = c.args.right }) c.requires.written
     (c.requires.left.1, c.requires.right.1))) c.push.ensures.ok

@@ -5,7 +5,8 @@ use Rattle.and_arith.proofs.Listing.{length_of, cell_of, any_default, slotted_ag
 use Rattle.and_arith.proofs.taken.Taken.give.Goals as goal
 
 -- the entry at the place that was found has this cell
-read : (items : List Entry) (taken : Listed) (i : ℕ) (cell : ℕ) (e : Entry) → map entry_of items ≡ taken → i < length taken → (get_or taken i (entry_of no_entry)).0 ≡ cell → e ≡ get_or items i e
+read : (items : List Entry) (taken : Listed) (i : ℕ) (cell : ℕ) (e : Entry) → map entry_of items ≡ taken → i < length taken
+    → (get_or taken i (entry_of no_entry)).0 ≡ cell → e ≡ get_or items i e
     → (i < length items) × ((get_or items i no_entry).cell ≡ e.cell) × (e.cell ≡ cell)
 read items taken i cell e view below at is =
     let low : i < length items = omega (arith, below, length_of items taken view) in

@@ -15,10 +15,12 @@ returns-in-Some-clause-taken c = λ v e.
     let found = c.position.ensures.some c.in-Some.place c.in-Some.is in
     let below : c.in-Some.place < length items = omega (arith, found.0, length_of items c.args.self.now c.self.view_is) in
     let is : c.index.result.now.value ≡ v = cc in
-    let read : c.index.result.now ≡ get_or items c.in-Some.place no_entry = c.index.ensures ∙ any_default items c.in-Some.place c.index.result.now no_entry below in
+    let read : c.index.result.now ≡ get_or items c.in-Some.place no_entry =
+    c.index.ensures ∙ any_default items c.in-Some.place c.index.result.now no_entry below in
     let at = ap (λ e. e.cell) read ∙ sym (cell_of items c.args.self.now c.in-Some.place (entry_of no_entry) c.self.view_is below) ∙ found.1 in
     subst (λ w. Contains c.args.self.now (c.args.cell, w)) is
-    (subst (λ (l : Listed). Contains l (c.args.cell, c.index.result.now.value)) c.self.view_is (taken_at items c.in-Some.place c.args.cell c.index.result.now below read at))
+    (subst (λ (l : Listed). Contains l (c.args.cell, c.index.result.now.value)) c.self.view_is
+    (taken_at items c.in-Some.place c.args.cell c.index.result.now below read at))
 
 pub returns-in-None-clause-new : goal.returns-in-None-clause-new
 returns-in-None-clause-new c = λ new. c.position.ensures.none c.in-None.is

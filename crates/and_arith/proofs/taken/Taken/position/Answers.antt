@@ -5,7 +5,8 @@ use Rattle.and_arith.proofs.taken.Taken.position.Goals as goal
 
 pub returns-then-place-len-clause-none : goal.returns-then-place-len-clause-none
 returns-then-place-len-clause-none c = λ none.
-    let slot : c.slot-place.result ≡ get_or c.self.inside.slots.items c.args.cell 0 = c.slot-place.ensures ∙ ap (λ xs. get_or xs c.args.cell 0) c.deref.ensures.value in
+    let slot : c.slot-place.result ≡ get_or c.self.inside.slots.items c.args.cell 0 =
+    c.slot-place.ensures ∙ ap (λ xs. get_or xs c.args.cell 0) c.deref.ensures.value in
     subst (λ (l : Listed). IsNew l c.args.cell) c.self.view_is
     (new_if c.self.inside.slots.items c.self.inside.entries.items c.args.cell c.self.invariant
     (λ below own. absurd (omega (arith, below, slot, c.self.inside.entries.ok.0))))
@@ -13,7 +14,8 @@ returns-then-place-len-clause-none c = λ none.
 pub returns-then-index-cell-clause-none : goal.returns-then-index-cell-clause-none
 returns-then-index-cell-clause-none c = λ none.
     let items = c.self.inside.entries.items in
-    let slot : c.slot-place.result ≡ get_or c.self.inside.slots.items c.args.cell 0 = c.slot-place.ensures ∙ ap (λ xs. get_or xs c.args.cell 0) c.deref.ensures.value in
+    let slot : c.slot-place.result ≡ get_or c.self.inside.slots.items c.args.cell 0 =
+    c.slot-place.ensures ∙ ap (λ xs. get_or xs c.args.cell 0) c.deref.ensures.value in
     subst (λ (l : Listed). IsNew l c.args.cell) c.self.view_is
     (new_if c.self.inside.slots.items items c.args.cell c.self.invariant
     (λ below own.

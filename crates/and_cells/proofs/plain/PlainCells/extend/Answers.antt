@@ -6,7 +6,8 @@ use Rattle.and_cells.proofs.PlainRows.{kept_extend, row_extend}
 use Rattle.and_cells.proofs.plain.PlainCells.extend.Goals as goal
 
 -- what the words are after they were filled up
-longer : (ws after : List ℕ) (len count by w : ℕ) → len ≡ count → count ≡ length ws → w ≡ 0 → after ≡ take (len + by) ws ++ replicate (len + by - count) w → after ≡ ws ++ replicate by 0
+longer : (ws after : List ℕ) (len count by w : ℕ) → len ≡ count → count ≡ length ws → w ≡ 0 → after ≡ take (len + by) ws ++ replicate (len + by - count) w
+    → after ≡ ws ++ replicate by 0
 longer ws after len count by w is_count is_len zero is =
     let front : take (len + by) ws ≡ ws = take_all (len + by) ws (omega arith) in
     let behind : len + by - count ≡ by = omega arith in
@@ -14,11 +15,14 @@ longer ws after len count by w is_count is_len zero is =
 
 pub invariant_of-self-2 : goal.invariant_of-self-2
 invariant_of-self-2 g c =
-    let items = longer c.self.inside.words.items c.resize.new.self.items c.len.result (vec_len c.self.inside.words) c.args.by c.to_word.result c.len.ensures c.self.inside.words.ok.0 c.to_word.ensures c.in_ok-resize.ensures.items in
+    let items = longer c.self.inside.words.items c.resize.new.self.items c.len.result (vec_len c.self.inside.words) c.args.by c.to_word.result c.len.ensures
+    c.self.inside.words.ok.0 c.to_word.ensures c.in_ok-resize.ensures.items in
     subst (λ ws. AreWords ws × IsSound g.N.Naming.program (row_of ws)) (sym items)
-    (kept_extend g.N.Naming.program c.self.inside.words.items c.args.by c.self.invariant (let few = c.requires in let view = ap length c.self.view_is in omega arith))
+    (kept_extend g.N.Naming.program c.self.inside.words.items c.args.by c.self.invariant (let few = c.requires in
+    let view = ap length c.self.view_is in omega arith))
 
 pub returns-clause-ok : goal.returns-clause-ok
 returns-clause-ok g c =
-    let items = longer c.self.inside.words.items c.resize.new.self.items c.len.result (vec_len c.self.inside.words) c.args.by c.to_word.result c.len.ensures c.self.inside.words.ok.0 c.to_word.ensures c.in_ok-resize.ensures.items in
+    let items = longer c.self.inside.words.items c.resize.new.self.items c.len.result (vec_len c.self.inside.words) c.args.by c.to_word.result c.len.ensures
+    c.self.inside.words.ok.0 c.to_word.ensures c.in_ok-resize.ensures.items in
     ap row_of items ∙ row_extend c.self.inside.words.items c.args.by ∙ ap (λ row. row ++ replicate c.args.by Free) c.self.view_is

@@ -9,11 +9,13 @@ use Rattle.and_cells.proofs.PlainRows.{kept_set, row_set}
 use Rattle.and_cells.proofs.plain.PlainCells.set.Goals as goal
 
 -- the same, where the row and the word have names of their own
-named : (P : NamedProgram) (ws : List ℕ) (row : List Ref) (place w : ℕ) (r : Ref) → row_of ws ≡ row → w ≡ word_of r → AreWords ws × IsSound P (row_of ws) → place < length row → HasWord r → word_at row place ≡ Free
+named : (P : NamedProgram) (ws : List ℕ) (row : List Ref) (place w : ℕ) (r : Ref) → row_of ws ≡ row → w ≡ word_of r → AreWords ws × IsSound P (row_of ws)
+    → place < length row → HasWord r → word_at row place ≡ Free
     → CanHold P (length row) place r → ((pair : ℕ) → r ≡ Number pair → (word_at row pair ≢ Free) × (word_at row (suc pair) ≢ Free))
     → (AreWords (set ws place w) × IsSound P (row_of (set ws place w))) × (row_of (set ws place w) ≡ set row place r)
 named P ws row place w r is word kept below has free fits written =
-    subst (λ v. (AreWords (set ws place v) × IsSound P (row_of (set ws place v))) × (row_of (set ws place v) ≡ set row place r)) (sym word) (all row is below free fits written)
+    subst (λ v. (AreWords (set ws place v) × IsSound P (row_of (set ws place v))) × (row_of (set ws place v) ≡ set row place r)) (sym word)
+    (all row is below free fits written)
   where
     all : (row : List Ref) → row_of ws ≡ row → place < length row → word_at row place ≡ Free → CanHold P (length row) place r
         → ((pair : ℕ) → r ≡ Number pair → (word_at row pair ≢ Free) × (word_at row (suc pair) ≢ Free))
@@ -25,10 +27,12 @@ named P ws row place w r is word kept below has free fits written =
 
 pub invariant_of-self : goal.invariant_of-self
 invariant_of-self g c =
-    (named g.N.Naming.program c.self.inside.words.items c.args.self.now c.args.place c.to_word.result c.args.to c.self.view_is c.to_word.ensures c.self.invariant
+    (named g.N.Naming.program c.self.inside.words.items c.args.self.now c.args.place c.to_word.result c.args.to c.self.view_is
+    c.to_word.ensures c.self.invariant
     c.requires.place c.requires.kept c.requires.free c.requires.fits c.requires.written).0
 
 pub returns : goal.returns
 returns g c =
-    (named g.N.Naming.program c.self.inside.words.items c.args.self.now c.args.place c.to_word.result c.args.to c.self.view_is c.to_word.ensures c.self.invariant
+    (named g.N.Naming.program c.self.inside.words.items c.args.self.now c.args.place c.to_word.result c.args.to c.self.view_is
+    c.to_word.ensures c.self.invariant
     c.requires.place c.requires.kept c.requires.free c.requires.fits c.requires.written).1

@@ -12,7 +12,8 @@ set-requires-clause-written g c = λ pair is. written_in_row g.N.Naming.program 
 is_set : (g : _) (c : After-set g) → Sets c.args.cell c.args.to (plain c.args.self.now) (plain c.set.new.self)
 is_set g c =
     subst (λ row. Sets c.args.cell c.args.to (plain c.args.self.now) (plain row)) (sym c.set.ensures)
-    (plain_sets c.args.self.now c.args.cell c.args.to c.requires.cell (sym c.word-word.ensures.value ∙ c.is_unset.ensures.0 c.if-is_unset.true) (in_range_is_set g.N.Naming.program _ c.args.to c.requires.to))
+    (plain_sets c.args.self.now c.args.cell c.args.to c.requires.cell (sym c.word-word.ensures.value ∙ c.is_unset.ensures.0 c.if-is_unset.true)
+    (in_range_is_set g.N.Naming.program _ c.args.to c.requires.to))
 
 pub returns-then-is_unset-clause-won : goal.returns-then-is_unset-clause-won
 returns-then-is_unset-clause-won g c = λ won. is_set g c

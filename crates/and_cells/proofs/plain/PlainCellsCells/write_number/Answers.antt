@@ -8,7 +8,8 @@ use Rattle.and_cells.proofs.Chains.{writes_number_by, writes_keeps, writes_known
 use Rattle.and_cells.proofs.plain.PlainCellsCells.write_number.Goals as goal
 use Rattle.and_cells.proofs.plain.PlainCellsCells.write_number.Goals.{After-joined}
 
-is_written : (g : _) (c : After-joined g) → WritesNumber g.N.Naming.program c.args.pair c.args.value (to_z w64 (of_z w64 c.joined.result)) (plain c.args.self.now) (plain c.fill-low.new.self)
+is_written : (g : _) (c : After-joined g)
+    → WritesNumber g.N.Naming.program c.args.pair c.args.value (to_z w64 (of_z w64 c.joined.result)) (plain c.args.self.now) (plain c.fill-low.new.self)
 is_written g c =
     let next : c.args.pair + 1 ≡ suc c.args.pair = omega arith in
     let same = to_z-of_z w64 c.args.value c.ranges.value in
@@ -18,8 +19,11 @@ is_written g c =
     c.halves-high.result.0 c.halves-high.result.1 c.fill-high.result c.fill-low.result
     (plain c.args.self.now) (plain c.fill-high.new.self) (plain c.fill-low.new.self)
     next high low
-    (plain_fills g.N.Naming.program c.args.self.now c.fill-high.new.self c.args.pair c.halves-high.result.0 c.fill-high.result (let pair = c.requires in omega arith) (λ e. let x = sym high ∙ e in cc) c.fill-high.ensures.free c.fill-high.ensures.found c.fill-high.ensures.fits)
-    (plain_fills g.N.Naming.program c.fill-high.new.self c.fill-low.new.self (c.args.pair + 1) c.halves-high.result.1 c.fill-low.result (let pair = c.requires in let len = c.fill-high.ensures.len in omega arith) (λ e. let x = sym low ∙ e in cc) c.fill-low.ensures.free c.fill-low.ensures.found c.fill-low.ensures.fits)
+    (plain_fills g.N.Naming.program c.args.self.now c.fill-high.new.self c.args.pair c.halves-high.result.0 c.fill-high.result
+    (let pair = c.requires in omega arith) (λ e. let x = sym high ∙ e in cc) c.fill-high.ensures.free c.fill-high.ensures.found c.fill-high.ensures.fits)
+    (plain_fills g.N.Naming.program c.fill-high.new.self c.fill-low.new.self (c.args.pair + 1) c.halves-high.result.1 c.fill-low.result
+    (let pair = c.requires in let len = c.fill-high.ensures.len in omega arith) (λ e. let x = sym low ∙ e in cc) c.fill-low.ensures.free
+    c.fill-low.ensures.found c.fill-low.ensures.fits)
     (to_z-of_z w64 c.joined.result (record { sfits = c.joined.type_inv }) ∙ c.joined.ensures) c.ranges.value
 
 pub returns-clause-written : goal.returns-clause-written

@@ -21,7 +21,8 @@ returns-in-Ok-Circle-clause-forgotten g c = λ _.
 
 pub returns-in-Ok-Half-clause-forgotten : goal.returns-in-Ok-Half-clause-forgotten
 returns-in-Ok-Half-clause-forgotten g c = λ _.
-    nothing_known c.forget-in-Ok-Half.new.self.marks c.forget-in-Ok-Half.new.self.structures c.forget-in-Ok-Half.ensures.marks c.forget-in-Ok-Half.ensures.structures
+    nothing_known c.forget-in-Ok-Half.new.self.marks c.forget-in-Ok-Half.new.self.structures c.forget-in-Ok-Half.ensures.marks
+    c.forget-in-Ok-Half.ensures.structures
 
 pub returns-in-Err-clause-forgotten : goal.returns-in-Err-clause-forgotten
 returns-in-Err-clause-forgotten g c = λ _.

@@ -20,7 +20,8 @@ loop-visit-init g c =
     let w = c.args.self.now in
     let falls = subst (λ (Q : NamedProgram). AllFall 0 Q.skeleton.nodes) (sym c.requires.program) c.skeleton_is_of_the_program.ensures.skeleton.0 in
     let rested = c.requires.rested in
-    let pushed : c.push.new.self.items ≡ Enter c.args.root ∷ [] = ◌∙◌ {b = w.visits.items ++ Enter c.args.root ∷ []} c.in_ok-push.ensures.items (ap (λ (vs : List Visit). vs ++ Enter c.args.root ∷ []) rested.rest.1) in
+    let pushed : c.push.new.self.items ≡ Enter c.args.root ∷ [] =
+    ◌∙◌ {b = w.visits.items ++ Enter c.args.root ∷ []} c.in_ok-push.ensures.items (ap (λ (vs : List Visit). vs ++ Enter c.args.root ∷ []) rested.rest.1) in
     let E : Ref → Type 0 = Ends P c.args.cells.now w.floor w.halves in
     let marked : List Ref = done_from 0 w.marks in
     let done_end = first_part E marked w.structures rested.finished in
@@ -35,5 +36,6 @@ loop-visit-init g c =
 pub returns-clause-ends : goal.returns-clause-ends
 returns-clause-ends g c = λ e.
     let i = c.loop-visit.invariant in
-    let all = at_end g.N.Naming.program c.args.cells.now c.args.root c.args.self.now c.loop-visit.self i.walking i.ended i.stays (emptied c.loop-visit.self.visits c.in_default.ensures.cases.0) in
+    let all = at_end g.N.Naming.program c.args.cells.now c.args.root c.args.self.now c.loop-visit.self i.walking i.ended i.stays
+    (emptied c.loop-visit.self.visits c.in_default.ensures.cases.0) in
     (all.0, (all.1, emptied c.pop.new.self c.in_default.ensures.cases.1), all.2)

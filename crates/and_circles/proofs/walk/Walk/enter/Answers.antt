@@ -13,13 +13,15 @@ use Rattle.and_circles.proofs.Turning.{goes_past, goes_inside}
 use Rattle.and_circles.proofs.walk.Walk.enter.Goals as goal
 
 pub returns-then-is_below-clause-goes : goal.returns-then-is_below-clause-goes
-returns-then-is_below-clause-goes g c = goes_past g.N.Naming.program c.args.cells.now c.args.at c.args.self.now (λ root taking. Ends.low c.args.at (c.is_below.ensures.0 c.if-is_below.true))
+returns-then-is_below-clause-goes g c =
+    goes_past g.N.Naming.program c.args.cells.now c.args.at c.args.self.now (λ root taking. Ends.low c.args.at (c.is_below.ensures.0 c.if-is_below.true))
 
 pub returns-in_ok-open_node-in-Node-clause-goes : goal.returns-in_ok-open_node-in-Node-clause-goes
 returns-in_ok-open_node-in-Node-clause-goes g c =
     let P = g.N.Naming.program in
     let at = Node c.in-Node.node c.in-Node.base in
-    let opened = subst (λ (Q : NamedProgram). Opens at (parts_of Q at) c.args.self.now c.open_node.new.self) (sym c.requires.program) c.in_ok-open_node-in-Node.ensures.opens in
+    let opened = subst (λ (Q : NamedProgram). Opens at (parts_of Q at) c.args.self.now c.open_node.new.self) (sym c.requires.program)
+    c.in_ok-open_node-in-Node.ensures.opens in
     subst (λ (r : Ref). Goes P c.args.cells.now (Enter r) c.args.self.now c.open_node.new.self (Ok explored.Ends)) (sym c.in-Node.is)
     (goes_inside P c.args.cells.now c.in-Node.node c.in-Node.base c.args.self.now c.open_node.new.self opened c.open_node.ensures.marks)
 

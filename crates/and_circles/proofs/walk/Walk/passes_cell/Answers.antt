@@ -21,4 +21,5 @@ pub note-requires-in-Node-clause-ends : goal.note-requires-in-Node-clause-ends
 note-requires-in-Node-clause-ends g c = λ is.
     let set : Node c.in-Node.node c.in-Node.base ≢ Free = λ e. cc in
     Ends.set c.args.cell (Node c.in-Node.node c.in-Node.base) (sym c.in-Node.ensures.value, set)
-    (structure_ends g.N.Naming.program c.args.cells.now c.args.self.now c.requires.rested.finished (Node c.in-Node.node c.in-Node.base) (c.has-structure_ends.ensures is))
+    (structure_ends g.N.Naming.program c.args.cells.now c.args.self.now c.requires.rested.finished (Node c.in-Node.node c.in-Node.base)
+    (c.has-structure_ends.ensures is))

@@ -21,7 +21,8 @@ returns-clause-taken c =
     let n = c.min-n.ensures in
     let copied = c.copy_from_slice.ensures.len ∙ length-take c.min-n.result c.args.into.now in
     let whole = c.bytes.ensures in
-    let was = ap (λ s. let s : Supply = s in s.taken ++ take c.min-n.result (c.copy_from_slice.new.self ++ drop c.min-n.result c.args.into.now)) c.self.view_is in
+    let was = ap (λ s. let s : Supply = s in s.taken ++ take c.min-n.result (c.copy_from_slice.new.self ++ drop c.min-n.result c.args.into.now))
+    c.self.view_is in
     given_more c.self.inside.at c.min-n.result c.self.inside.text c.copy_from_slice.new.self _
     (omega (arith, copied))
     (c.copy_from_slice.ensures.after

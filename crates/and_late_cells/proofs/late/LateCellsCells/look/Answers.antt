@@ -9,7 +9,8 @@ discover-requires-clause-unknown g c = λ r knows. c.in-None.ensures.none refl r
 
 pub found-requires-clause-set : goal.found-requires-clause-set
 found-requires-clause-set g c = λ e.
-    let is = known_is_so c.args.self.now.words c.args.self.now.known.items c.args.self.now.missed.items c.args.cell c.in-Some.field-0 c.args.self.now.so c.in-Some.ensures.some in
+    let is = known_is_so c.args.self.now.words c.args.self.now.known.items c.args.self.now.missed.items c.args.cell c.in-Some.field-0 c.args.self.now.so
+    c.in-Some.ensures.some in
     is.1 (sym is.0 ∙ e)
 
 pub returns-in-Some-clause-only_reads : goal.returns-in-Some-clause-only_reads

@@ -7,21 +7,25 @@ use Rattle.and_late_cells.proofs.late.LateCellsCells.number.Goals as goal
 
 pub found-high-requires-clause-set : goal.found-high-requires-clause-set
 found-high-requires-clause-set g c =
-    (written_so g.N.Naming.program c.args.self.now.words c.args.self.now.known.items c.args.self.now.missed.items c.args.pair c.len-count.ensures.sound c.args.self.now.so c.requires.written).0
+    (written_so g.N.Naming.program c.args.self.now.words c.args.self.now.known.items c.args.self.now.missed.items c.args.pair c.len-count.ensures.sound
+    c.args.self.now.so c.requires.written).0
 
 pub found-low-requires-clause-set : goal.found-low-requires-clause-set
 found-low-requires-clause-set g c = λ e.
     let next : c.args.pair + 1 ≡ suc c.args.pair = omega arith in
-    (written_so g.N.Naming.program c.args.self.now.words c.args.self.now.known.items c.args.self.now.missed.items c.args.pair c.len-count.ensures.sound c.args.self.now.so c.requires.written).1
+    (written_so g.N.Naming.program c.args.self.now.words c.args.self.now.known.items c.args.self.now.missed.items c.args.pair c.len-count.ensures.sound
+    c.args.self.now.so c.requires.written).1
     (ap (word_at c.args.self.now.words) (sym next) ∙ ap (λ row. word_at row (c.args.pair + 1)) (sym c.found-high.ensures.words) ∙ e)
 
 pub returns-clause-only_reads : goal.returns-clause-only_reads
 returns-clause-only_reads g c =
-    reads_more _ _ _ (finds_reads g.N.Naming.program c.args.pair c.found-high.result _ _ c.found-high.ensures.found) (finds_reads g.N.Naming.program (c.args.pair + 1) c.found-low.result _ _ c.found-low.ensures.found)
+    reads_more _ _ _ (finds_reads g.N.Naming.program c.args.pair c.found-high.result _ _ c.found-high.ensures.found)
+    (finds_reads g.N.Naming.program (c.args.pair + 1) c.found-low.result _ _ c.found-low.ensures.found)
 
 pub returns-clause-grew : goal.returns-clause-grew
 returns-clause-grew g c =
-    let r = reads_more _ _ _ (finds_reads g.N.Naming.program c.args.pair c.found-high.result _ _ c.found-high.ensures.found) (finds_reads g.N.Naming.program (c.args.pair + 1) c.found-low.result _ _ c.found-low.ensures.found) in
+    let r = reads_more _ _ _ (finds_reads g.N.Naming.program c.args.pair c.found-high.result _ _ c.found-high.ensures.found)
+    (finds_reads g.N.Naming.program (c.args.pair + 1) c.found-low.result _ _ c.found-low.ensures.found) in
     (r.learnt, r.gains)
 
 pub returns-clause-read : goal.returns-clause-read

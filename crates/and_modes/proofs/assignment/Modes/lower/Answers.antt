@@ -10,7 +10,8 @@ returns-in_ok-insert-in-Called-clause-fell c = λ ok.
     let d = c.args.demand in
     let above : leb (rank c.level.result) (rank d.level) ≡ false = sym c.is_at_least.ensures ∙ c.if-is_at_least.false in (
       subst (λ (l : Level). rank d.level < rank l) c.level.ensures (leb-false (rank c.level.result) (rank d.level) above),
-      lowers_called c.args.self.now (record { called = c.insert.new.self; succeeded = c.args.self.now.succeeded }) d c.in-Called.is refl c.in_ok-insert-in-Called.ensures.updates.0,
+      lowers_called c.args.self.now (record { called = c.insert.new.self; succeeded = c.args.self.now.succeeded }) d c.in-Called.is refl
+          c.in_ok-insert-in-Called.ensures.updates.0,
     )
 
 pub returns-in_ok-insert-in-Succeeded-clause-fell : goal.returns-in_ok-insert-in-Succeeded-clause-fell
@@ -18,5 +19,6 @@ returns-in_ok-insert-in-Succeeded-clause-fell c = λ ok.
     let d = c.args.demand in
     let above : leb (rank c.level.result) (rank d.level) ≡ false = sym c.is_at_least.ensures ∙ c.if-is_at_least.false in (
       subst (λ (l : Level). rank d.level < rank l) c.level.ensures (leb-false (rank c.level.result) (rank d.level) above),
-      lowers_succeeded c.args.self.now (record { called = c.args.self.now.called; succeeded = c.insert-in-Succeeded.new.self }) d c.in-Succeeded.is refl c.in_ok-insert-in-Succeeded.ensures.updates.0,
+      lowers_succeeded c.args.self.now (record { called = c.args.self.now.called; succeeded = c.insert-in-Succeeded.new.self }) d c.in-Succeeded.is refl
+          c.in_ok-insert-in-Succeeded.ensures.updates.0,
     )

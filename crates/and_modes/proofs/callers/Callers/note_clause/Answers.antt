@@ -10,5 +10,6 @@ use Rattle.and_modes.proofs.callers.Callers.note_clause.Goals as goal
 pub note_call-requires : goal.note_call-requires
 note_call-requires c =
     let nodes = (skeleton_of c.args.loaded.now).nodes in
-    let there = item_there nodes 0 c.items-item-items.result.now c.loop-item.item-index (Call (record { 0 = 0 })) c.items-item-items.ensures.there c.loop-item-test.true in
+    let there = item_there nodes 0 c.items-item-items.result.now c.loop-item.item-index (Call (record { 0 = 0 })) c.items-item-items.ensures.there
+    c.loop-item-test.true in
     subst (λ (item : ItemNode). IsThere nodes there.0 (node_item item)) c.in-Call.is there.1

@@ -20,7 +20,8 @@ returns-in-Number c =
 pub returns-in_ok-found-in-Compound : goal.returns-in_ok-found-in-Compound
 returns-in_ok-found-in-Compound c =
     c.level_of_all.ensures
-    ∙ level_of_compound (skeleton_of c.args.loaded.now).nodes c.args.node.0 c.in-Compound.name c.in-Compound.count (environment c.args.self.now.levels) c.deref.result.now
+    ∙ level_of_compound (skeleton_of c.args.loaded.now).nodes c.args.node.0 c.in-Compound.name c.in-Compound.count
+    (environment c.args.self.now.levels) c.deref.result.now
     c.args.loaded.now.kept.falls c.requires c.in-Compound.ensures.shape (ap (map unframed) c.deref.ensures.value ∙ c.in_ok-found-in-Compound.ensures)
 
 pub returns-then-count-eq0 : goal.returns-then-count-eq0

@@ -18,7 +18,8 @@ loop-place-preserved c =
     let test = c.loop-place-test.true in
     let lt : place < count_of (arguments_of term) = omega arith in
     raised_next term (node_term nodes c.argument.result.0) place (levels_of m term c.args.side) c.level-level.result
-    (environment c.args.self.now.levels) (environment c.loop-place.self.levels) (environment c.raise.new.self.levels) lt c.loop-place.invariant c.argument.ensures.term
+    (environment c.args.self.now.levels) (environment c.loop-place.self.levels) (environment c.raise.new.self.levels) lt c.loop-place.invariant
+    c.argument.ensures.term
     (c.level-level.ensures
     ∙ ap (λ (n : ℕ). m n c.functor_of-count.result.count place c.args.side) c.functor_of-count.ensures.name
     ∙ ap (λ (k : ℕ). m (name_of term) k place c.args.side) counted)
@@ -31,4 +32,5 @@ returns c =
     let counted = c.functor_of-count.ensures.count in
     let test = c.loop-place-test.false in
     let le : count_of (arguments_of term) ≤ c.loop-place.place = omega arith in
-    raised_end term c.loop-place.place (levels_of (assignment_of c.args.modes.now) term c.args.side) (environment c.args.self.now.levels) (environment c.loop-place.self.levels) le c.loop-place.invariant
+    raised_end term c.loop-place.place (levels_of (assignment_of c.args.modes.now) term c.args.side) (environment c.args.self.now.levels)
+    (environment c.loop-place.self.levels) le c.loop-place.invariant

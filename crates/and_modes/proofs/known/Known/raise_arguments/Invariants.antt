@@ -11,4 +11,5 @@ abbrev pub invariant-loop-place : goal.invariant-loop-place
 invariant-loop-place l =
     let term = node_term (skeleton_of l.loaded).nodes l.goal.0 in
     let levels = levels_of (assignment_of l.modes) term l.side in
-    all_raised (environment l.initial.self.levels) levels 0 (arguments_of term) ≡ all_raised (environment l.self.levels) levels l.place (from_place l.place (arguments_of term))
+    all_raised (environment l.initial.self.levels) levels 0 (arguments_of term)
+    ≡ all_raised (environment l.self.levels) levels l.place (from_place l.place (arguments_of term))

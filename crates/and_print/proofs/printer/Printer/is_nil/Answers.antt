@@ -10,4 +10,5 @@ returns-then-name-eq-NIL g c = λ t m.
     let P = named c.args.self.now.loaded.now in
     let row = c.args.self.now.cells.now in
     let (ts, is, means) = subst (λ (r : Root). RootMeans P row r t) c.in-Compound.is m in
-    empty_if_none P row c.split_first.result c.is_none.result c.in-Compound.name.0 ts c.if-name-eq-NIL.true c.is_none.ensures (c.split_first.ensures ts means) ∙ ap is_empty_list (sym is)
+    empty_if_none P row c.split_first.result c.is_none.result c.in-Compound.name.0 ts c.if-name-eq-NIL.true c.is_none.ensures (c.split_first.ensures ts means)
+    ∙ ap is_empty_list (sym is)

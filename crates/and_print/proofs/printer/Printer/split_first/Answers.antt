@@ -8,4 +8,5 @@ returns-then-arguments g c = λ ts m. arguments_end (named c.args.self.now.loade
 
 pub returns : goal.returns
 returns g c = λ ts m.
-    arguments_split (named c.args.self.now.loaded.now) c.args.self.now.cells.now c.args.arguments ts m c.argument-argument.result c.if-arguments.false c.argument-argument.ensures.term c.argument-argument.ensures.below _ _ c.resolve-first.ensures refl
+    arguments_split (named c.args.self.now.loaded.now) c.args.self.now.cells.now c.args.arguments ts m c.argument-argument.result c.if-arguments.false
+    c.argument-argument.ensures.term c.argument-argument.ensures.below _ _ c.resolve-first.ensures refl

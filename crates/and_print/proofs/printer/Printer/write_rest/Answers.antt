@@ -7,7 +7,8 @@ use Rattle.and_print.proofs.printer.Printer.write_rest.Goals as goal
 
 pub returns-in_ok-push_both-in-Some : goal.returns-in_ok-push_both-in-Some
 returns-in_ok-push_both-in-Some g c = λ ts m seen.
-    rest_begun (named c.args.self.now.loaded.now) c.args.self.now.cells.now c.in-Some.first c.in-Some.rest ts (c.in-Some.ensures ts m) seen _ _ _ _ c.in_ok-append-in-Some.ensures c.in_ok-push_both-in-Some.ensures
+    rest_begun (named c.args.self.now.loaded.now) c.args.self.now.cells.now c.in-Some.first c.in-Some.rest ts (c.in-Some.ensures ts m) seen _ _ _ _
+    c.in_ok-append-in-Some.ensures c.in_ok-push_both-in-Some.ensures
 
 pub returns-in_ok-append-in-None : goal.returns-in_ok-append-in-None
 returns-in_ok-append-in-None g c = λ ts m seen.

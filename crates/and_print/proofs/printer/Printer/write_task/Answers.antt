@@ -26,7 +26,9 @@ returns-in-Whole g c = λ p means.
     let P = named c.args.self.now.loaded.now in
     let row = c.args.self.now.cells.now in
     let (t, is, m) = subst (λ (k : Task). TaskMeans P row k p) c.in-Whole.is means in
-    subst (λ (q : Piece). OnOk c.write_root.result (Does P row (variables_there q) (piece_text P.program.names q) c.args.names.now c.write_root.new.names c.args.out.now c.write_root.new.out c.args.work.now.items c.write_root.new.work.items))
+    subst (λ (q : Piece). OnOk c.write_root.result
+    (Does P row (variables_there q) (piece_text P.program.names q) c.args.names.now c.write_root.new.names c.args.out.now c.write_root.new.out
+    c.args.work.now.items c.write_root.new.work.items))
     (sym is) (c.write_root.ensures t (c.root.ensures t m))
 
 pub returns-in-Tail : goal.returns-in-Tail
@@ -34,7 +36,9 @@ returns-in-Tail g c = λ p means.
     let P = named c.args.self.now.loaded.now in
     let row = c.args.self.now.cells.now in
     let (t, is, m) = subst (λ (k : Task). TaskMeans P row k p) c.in-Tail.is means in
-    subst (λ (q : Piece). OnOk c.write_tail.result (Does P row (variables_there q) (piece_text P.program.names q) c.args.names.now c.write_tail.new.names c.args.out.now c.write_tail.new.out c.args.work.now.items c.write_tail.new.work.items))
+    subst (λ (q : Piece). OnOk c.write_tail.result
+    (Does P row (variables_there q) (piece_text P.program.names q) c.args.names.now c.write_tail.new.names c.args.out.now c.write_tail.new.out
+    c.args.work.now.items c.write_tail.new.work.items))
     (sym is) (c.write_tail.ensures t (c.root-in-Tail.ensures t m))
 
 pub returns-in-Rest : goal.returns-in-Rest
@@ -42,8 +46,11 @@ returns-in-Rest g c = λ p means.
     let P = named c.args.self.now.loaded.now in
     let row = c.args.self.now.cells.now in
     let (ts, is, m) = subst (λ (k : Task). TaskMeans P row k p) c.in-Rest.is means in
-    subst (λ (q : Piece). OnOk c.write_rest.result (Does P row (variables_there q) (piece_text P.program.names q) c.args.names.now c.args.names.now c.args.out.now c.write_rest.new.out c.args.work.now.items c.write_rest.new.work.items))
-    (sym is) (on_ok_weaker {Q = Does P row (variables_in ts) (λ vs. shown_rest P.program.names vs ts) c.args.names.now c.args.names.now c.args.out.now c.write_rest.new.out c.args.work.now.items c.write_rest.new.work.items} c.write_rest.result (λ d. d c.args.names.now) (c.write_rest.ensures ts m))
+    subst (λ (q : Piece). OnOk c.write_rest.result
+    (Does P row (variables_there q) (piece_text P.program.names q) c.args.names.now c.args.names.now c.args.out.now c.write_rest.new.out
+    c.args.work.now.items c.write_rest.new.work.items))
+    (sym is) (on_ok_weaker {Q = Does P row (variables_in ts) (λ vs. shown_rest P.program.names vs ts) c.args.names.now c.args.names.now c.args.out.now
+    c.write_rest.new.out c.args.work.now.items c.write_rest.new.work.items} c.write_rest.result (λ d. d c.args.names.now) (c.write_rest.ensures ts m))
 
 pub returns-in-Close : goal.returns-in-Close
 returns-in-Close g c = λ p means.
@@ -51,6 +58,7 @@ returns-in-Close g c = λ p means.
     let row = c.args.self.now.cells.now in
     let is = subst (λ (k : Task). TaskMeans P row k p) c.in-Close.is means in
     on_ok_weaker c.append.result
-    (λ e. bytes_written P row (variables_there p) (piece_text P.program.names p) c.args.names.now c.args.out.now c.append.new.self (93 ∷ []) c.args.work.now.items e (ap variables_there is)
+    (λ e. bytes_written P row (variables_there p) (piece_text P.program.names p) c.args.names.now c.args.out.now c.append.new.self (93 ∷ [])
+    c.args.work.now.items e (ap variables_there is)
     (λ vs. ap (λ (q : Piece). piece_text P.program.names q vs) is))
     c.append.ensures

@@ -51,12 +51,14 @@ loop-task-preserved g c =
     let i = c.loop-task.invariant in
     let top = tops P row c.pop.new.self.items c.in-Some.task i.pieces (subst (λ (ks : List Task). AllMean P row ks i.pieces) c.in-Some.ensures.items i.mean) in
     let d = c.in_ok-write_task.ensures top.piece top.top_means in
-    let owed = subst (λ (ps : List Piece). Owes P.program.names ps (variables_of i.value) (λ vs. shown P.program.names vs i.value) c.args.names.now c.loop-task.names c.args.out.now c.loop-task.out) top.are i.owes in
+    let owed = subst (λ (ps : List Piece). Owes P.program.names ps (variables_of i.value) (λ vs. shown P.program.names vs i.value) c.args.names.now
+    c.loop-task.names c.args.out.now c.loop-task.out) top.are i.owes in
     record {
       value = i.value;
       means = i.means;
       pieces = top.others ++ d.pieces;
-      mean = subst (λ (ks : List Task). AllMean P row ks (top.others ++ d.pieces)) (sym d.pushed) (all_mean_append P row c.pop.new.self.items d.tasks top.others d.pieces top.below_mean d.mean);
+      mean = subst (λ (ks : List Task). AllMean P row ks (top.others ++ d.pieces)) (sym d.pushed)
+          (all_mean_append P row c.pop.new.self.items d.tasks top.others d.pieces top.below_mean d.mean);
       owes = owes_on P.program.names top.others d.pieces top.piece _ _ _ _ _ _ _ _ owed d.owes;
     }
 
@@ -66,8 +68,10 @@ returns g c = λ t m.
     let row = c.args.self.now.cells.now in
     let i = c.loop-task.invariant in
     let same : i.value ≡ t = one_term P row c.args.term i.value t i.means.stands m.stands in
-    let empty : c.loop-task.work.items ≡ [] = nil_from_length c.loop-task.work.items (let e = c.in_default.ensures.cases.0 in let f = c.loop-task.work.ok.0 in omega arith) in
+    let empty : c.loop-task.work.items ≡ [] =
+    nil_from_length c.loop-task.work.items (let e = c.in_default.ensures.cases.0 in let f = c.loop-task.work.ok.0 in omega arith) in
     let none = no_pieces P row i.pieces (subst (λ (ks : List Task). AllMean P row ks i.pieces) empty i.mean) in
-    let owed = subst (λ (ps : List Piece). Owes P.program.names ps (variables_of i.value) (λ vs. shown P.program.names vs i.value) c.args.names.now c.loop-task.names c.args.out.now c.loop-task.out) none i.owes in
+    let owed = subst (λ (ps : List Piece). Owes P.program.names ps (variables_of i.value) (λ vs. shown P.program.names vs i.value) c.args.names.now
+    c.loop-task.names c.args.out.now c.loop-task.out) none i.owes in
     subst (λ (u : Term). Writes (variables_of u) (λ vs. shown P.program.names vs u) c.args.names.now c.loop-task.names c.args.out.now c.loop-task.out) same
     (owes_none P.program.names _ _ _ _ _ _ owed)

@@ -12,7 +12,8 @@ invariant-loop-task g l = record {
   means : Means (named l.self.loaded.now) l.self.cells.now l.fn.term value;
   pieces : List Piece;
   mean : AllMean (named l.self.loaded.now) l.self.cells.now l.work.items pieces;
-  owes : Owes (named l.self.loaded.now).program.names pieces (variables_of value) (λ vs. shown (named l.self.loaded.now).program.names vs value) l.fn.names l.names l.fn.out l.out;
+  owes : Owes (named l.self.loaded.now).program.names pieces (variables_of value) (λ vs. shown (named l.self.loaded.now).program.names vs value) l.fn.names
+      l.names l.fn.out l.out;
 }
 
 -- (Tasks are only put on the stack beside bytes, of which a text has fewer than 2 ^ 64.)

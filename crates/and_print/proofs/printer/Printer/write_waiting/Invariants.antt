@@ -9,4 +9,5 @@ use Rattle.and_print.proofs.printer.Printer.write_waiting.Given as goal
 abbrev pub invariant-loop-place : goal.invariant-loop-place
 invariant-loop-place g l =
     (ts : List Term) → GoalsMean (named l.self.loaded.now) l.self.cells.now l.waiting ts
-    → Left (λ t. t) (λ t vs. shown (named l.self.loaded.now).program.names vs t) (codes " with ") ts (drop l.place ts) (cond (nat_eq l.place 0) (codes " with ") (codes ", ")) l.initial.names l.names l.initial.out l.out
+    → Left (λ t. t) (λ t vs. shown (named l.self.loaded.now).program.names vs t) (codes " with ") ts (drop l.place ts)
+    (cond (nat_eq l.place 0) (codes " with ") (codes ", ")) l.initial.names l.names l.initial.out l.out

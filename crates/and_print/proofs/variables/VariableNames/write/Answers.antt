@@ -8,5 +8,7 @@ returns c =
     let text = c.in_ok-append-2.ensures ∙ ap (λ bs. bs ++ c.as_bytes.result.now) c.in_ok-append.ensures
     ∙ append_assoc c.args.out.now (95 ∷ []) c.as_bytes.result.now
     ∙ ap (λ bs. c.args.out.now ++ 95 ∷ bs) (c.as_bytes.ensures.value ∙ c.format.ensures.text) in
-    subst (λ (seen : _). Writes (([], c.args.cell) ∷ []) (shown_cell c.args.cell) seen (map cell_variable c.insert_full.new.self.keys) c.args.out.now c.append-2.new.self) c.self.view_is
-    (cell_written c.args.cell c.in_ok-place.place c.self.inside.cells.keys c.insert_full.new.self.keys c.args.out.now c.append-2.new.self c.in_ok-place.ensures.keys c.in_ok-place.ensures.index text)
+    subst (λ (seen : _). Writes (([], c.args.cell) ∷ []) (shown_cell c.args.cell) seen (map cell_variable c.insert_full.new.self.keys) c.args.out.now
+    c.append-2.new.self) c.self.view_is
+    (cell_written c.args.cell c.in_ok-place.place c.self.inside.cells.keys c.insert_full.new.self.keys c.args.out.now c.append-2.new.self
+    c.in_ok-place.ensures.keys c.in_ok-place.ensures.index text)

@@ -15,4 +15,5 @@ returns-clause-query c = λ first.
     let l = c.args.self.now in
     let ss = shapes_of l.nodes.items in
     let at : ℕ → ClauseEntry = λ n. get_or (l.query ∷ l.clauses.items) n l.query in
-    ap (λ (e : ClauseEntry). node_term ss e.head.0) (c.entry.ensures ∙ ap at first) ∙ ap (λ (n : ℕ). node_term ss n) l.kept.query_true ∙ query_head ss l.kept.begins
+    ap (λ (e : ClauseEntry). node_term ss e.head.0) (c.entry.ensures ∙ ap at first) ∙ ap (λ (n : ℕ). node_term ss n) l.kept.query_true
+    ∙ query_head ss l.kept.begins

@@ -8,4 +8,5 @@ pub returns : goal.returns
 returns c =
     let l = c.args.self.now in
     let f = entry_clause (shapes_of l.nodes.items) in
-    weight_is (shapes_of l.nodes.items) c.entry.result.now ∙ ap clause_weight (ap f c.entry.ensures ∙ sym (get_or-map_default f (l.query ∷ l.clauses.items) c.args.no.0 l.query))
+    weight_is (shapes_of l.nodes.items) c.entry.result.now
+    ∙ ap clause_weight (ap f c.entry.ensures ∙ sym (get_or-map_default f (l.query ∷ l.clauses.items) c.args.no.0 l.query))

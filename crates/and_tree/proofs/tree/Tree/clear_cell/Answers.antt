@@ -9,8 +9,10 @@ pub store-requires : goal.store-requires
 store-requires g c =
     let v = c.args.seat.now.me.0 in
     let can = c.requires.can in
-    let below = subst (λ n. c.args.cell < 8 * n) (sym (ap (λ z. z.about.teams) c.self.view_is)) (subst (MayCall c.args.self.now.about.teams (mine_of v).hand) c.requires.clears can.may) in (
+    let below = subst (λ n. c.args.cell < 8 * n) (sym (ap (λ z. z.about.teams) c.self.view_is))
+    (subst (MayCall c.args.self.now.about.teams (mine_of v).hand) c.requires.clears can.may) in (
       c.requires.same ∙ sym (ap (λ z. z.table) c.self.view_is),
       cell_in _ _ _ c.self.invariant c.args.cell below,
-      rw (c.word_of-word.ensures, c.requires.clears, c.requires.slot) (allows_clear g.B.Keyed.key_of g.B.Keyed.Stands c.self.inside.table.shared.key _ _ c.args.cell c.args.serial v can.alone.0 below c.requires.works),
+      rw (c.word_of-word.ensures, c.requires.clears, c.requires.slot)
+          (allows_clear g.B.Keyed.key_of g.B.Keyed.Stands c.self.inside.table.shared.key _ _ c.args.cell c.args.serial v can.alone.0 below c.requires.works),
     )

@@ -38,7 +38,8 @@ loop-team-preserved g c =
       ap (λ m. m.0) e.2 ∙ ap dealing_left i.2
           ∙ dealt_rest a (c.loop-team.team - 1) (a.teams - (c.loop-team.team - 1)) (c.loop-team.team + 1 - 1) (a.teams - (c.loop-team.team + 1 - 1))
           (omega (arith, low, below, teams)) (omega (arith, low)) (omega (arith, low, below, teams)),
-      c.push_reserved.ensures.items ∙ ap (λ p. c.loop-team.passes.items ++ p ∷ []) c.new_pass.ensures ∙ ap (λ l. l ++ fresh c.args.self.now (c.loop-team.team - 1) ∷ []) i.3
+      c.push_reserved.ensures.items ∙ ap (λ p. c.loop-team.passes.items ++ p ∷ []) c.new_pass.ensures
+          ∙ ap (λ l. l ++ fresh c.args.self.now (c.loop-team.team - 1) ∷ []) i.3
           ∙ one_more_fresh c.args.self.now (c.loop-team.team - 1) (c.loop-team.team + 1 - 1) last,
       let room = i.4 in let same = c.push_reserved.ensures.capacity in omega (arith, room, same),
     )

@@ -10,8 +10,12 @@ pub add_to_live-requires-clause-can : goal.add_to_live-requires-clause-can
 add_to_live-requires-clause-can g c =
     let split : Fork = g.S.Forking.fork_of c.args.split.now in
     let hand = ap (λ z. z.hand) c.pass.view_is in (
-      can_call _ _ _ _ (fork (mine_of c.pass.inside.seat.me.0).team split.key split.longer split.clauses) c.pass.invariant.1 (ap (λ z. z.tree.about) c.pass.view_is ∙ ap (λ z. z.about) c.requires.tree) refl
-          (subst (λ l. Contains l split.key) (sym hand) c.requires.hand, c.requires.longer, subst (λ l. length l + length split.clauses ≤ most_in_hand) (sym hand) c.requires.few),
+      can_call _ _ _ _ (fork (mine_of c.pass.inside.seat.me.0).team split.key split.longer split.clauses) c.pass.invariant.1
+          (ap (λ z. z.tree.about) c.pass.view_is ∙ ap (λ z. z.about) c.requires.tree) refl (
+            subst (λ l. Contains l split.key) (sym hand) c.requires.hand,
+            c.requires.longer,
+            subst (λ l. length l + length split.clauses ≤ most_in_hand) (sym hand) c.requires.few,
+          ),
       c.pass.invariant.1.at_rest_now,
     )
 
@@ -21,8 +25,11 @@ add_to_live-requires-clause-forks g c = refl
 pub invariant_of-pass : goal.invariant_of-pass
 invariant_of-pass g c =
     let split : Fork = g.S.Forking.fork_of c.args.split.now in
-    let told = c.add_to_live.ensures.told in
-    (told.2, call_pass (fork (mine_of c.pass.inside.seat.me.0).team split.key split.longer split.clauses) _ _ told.0 _ _ _ told.1 c.pass.invariant.1 c.count_fork.ensures)
+    let told = c.add_to_live.ensures.told in (
+      told.2,
+      call_pass (fork (mine_of c.pass.inside.seat.me.0).team split.key split.longer split.clauses) _ _ told.0 _ _ _ told.1 c.pass.invariant.1
+          c.count_fork.ensures,
+    )
 
 pub returns : goal.returns
 returns g c =

@@ -7,5 +7,6 @@ pub load-requires : goal.load-requires
 load-requires g c = (
   c.requires.same.0 ∙ sym (ap (λ z. z.table) c.self.view_is),
   live_in _ _ _ c.self.invariant,
-  rw c.requires.counts (allows_left g.B.Keyed.key_of g.B.Keyed.Stands c.self.inside.table.shared.key _ _ c.args.seat.now.me.0 c.args.seat.now.me.1 c.requires.can.0.alone.0 c.requires.same.1 c.requires.can.1),
+  rw c.requires.counts (allows_left g.B.Keyed.key_of g.B.Keyed.Stands c.self.inside.table.shared.key _ _ c.args.seat.now.me.0 c.args.seat.now.me.1
+      c.requires.can.0.alone.0 c.requires.same.1 c.requires.can.1),
 )

@@ -18,6 +18,8 @@ load-requires g c =
       cell_in _ _ _ c.self.invariant c.args.cell below,
       tells_less _ _ _ _ _ (λ n. n) (λ n me. PublishTold c.args.cell key v n me)
           (λ n me. (cell : ℕ) (other : Key) → g.C.Calling.event ≡ publish (mine_of v).team cell other → PublishTold cell other v n me)
-          (λ n me told cell other e. publishes_so (λ cell other. PublishTold cell other v n me) g.C.Calling.event (mine_of v).team c.args.cell cell key other c.requires.publishes e told)
-          (allows_publish g.B.Keyed.key_of g.B.Keyed.Stands c.self.inside.table.shared.key _ _ c.args.cell key v c.args.seat.now.me.1 can.alone.0 c.requires.same.1 c.requires.can.1 may.1 below may.0),
+          (λ n me told cell other e. publishes_so (λ cell other. PublishTold cell other v n me) g.C.Calling.event (mine_of v).team c.args.cell cell key other
+          c.requires.publishes e told)
+          (allows_publish g.B.Keyed.key_of g.B.Keyed.Stands c.self.inside.table.shared.key _ _ c.args.cell key v c.args.seat.now.me.1 can.alone.0
+          c.requires.same.1 c.requires.can.1 may.1 below may.0),
     )

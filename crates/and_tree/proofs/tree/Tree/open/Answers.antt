@@ -12,4 +12,5 @@ new-requires g c =
     let a : About = record { teams = c.args.teams; limit = c.args.limit } in
     let slots = c.first_slots-slots.ensures in
     subst (λ (l : List (Option g.row.B.Denot)). Kept K S a (opening c.as_slice.result.now l (opener a))) (sym (slots.1 ∙ slots.2))
-    (opens_kept K S a c.requires.teams.0 c.requires.teams.1 c.args.root c.requires.root.0 c.requires.root.1 c.as_slice.result.now (c.as_slice.ensures.value ∙ c.in-Ok.ensures))
+    (opens_kept K S a c.requires.teams.0 c.requires.teams.1 c.args.root c.requires.root.0 c.requires.root.1 c.as_slice.result.now
+    (c.as_slice.ensures.value ∙ c.in-Ok.ensures))

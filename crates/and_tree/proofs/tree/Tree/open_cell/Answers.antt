@@ -22,8 +22,10 @@ store-requires g c =
     let there = subst (Contains (mine_of v).hand) (sym has.key_is) may.0 in
     let low = subst (λ n. n ≤ last_serial) c.requires.works.2 c.requires.works.3 in
     let word : c.word_of-word.result ≡ word_with (before + 1) 1 = c.word_of-word.ensures ∙ ap (λ n. word_with n 1) c.requires.works.2 in
-    let event : g.C.Calling.event ≡ publish (mine_of v).team c.args.cell (K has.branch) = c.requires.branch.1 ∙ ap (publish (mine_of v).team c.args.cell) (sym has.key_is) in (
+    let event : g.C.Calling.event ≡ publish (mine_of v).team c.args.cell (K has.branch) =
+    c.requires.branch.1 ∙ ap (publish (mine_of v).team c.args.cell) (sym has.key_is) in (
       c.requires.same ∙ sym (ap (λ z. z.table) c.self.view_is),
       cell_in _ _ _ c.self.invariant c.args.cell below,
-      rw (word, event, has.slots_are) (allows_open K S c.self.inside.table.shared.key _ _ c.args.cell before has.branch v can.alone.0 below c.requires.works.1 low there stands),
+      rw (word, event, has.slots_are)
+          (allows_open K S c.self.inside.table.shared.key _ _ c.args.cell before has.branch v can.alone.0 below c.requires.works.1 low there stands),
     )

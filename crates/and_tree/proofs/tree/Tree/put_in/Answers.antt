@@ -10,14 +10,17 @@ pub open_cell-requires-clause-can : goal.open_cell-requires-clause-can
 open_cell-requires-clause-can g c =
     let K = g.B.Keyed.key_of in
     let me = c.args.seat.now.me in
-    let is : c.exchange-empty.new.seat.me ≡ (me.0, (c.args.cell, Some c.args.branch) ∷ []) = c.exchange-empty.ensures.3 ∙ ap (λ l. (me.0, (c.args.cell, Some c.args.branch) ∷ rest l)) c.requires.slot in
-    subst (λ (m : Sight × List (ℕ × Option _)). CanCall c.args.self.now.about m.0 (publish (mine_of m.0).team c.args.cell (key_in_slot K m.1))) (sym is) c.requires.can
+    let is : c.exchange-empty.new.seat.me ≡ (me.0, (c.args.cell, Some c.args.branch) ∷ []) =
+    c.exchange-empty.ensures.3 ∙ ap (λ l. (me.0, (c.args.cell, Some c.args.branch) ∷ rest l)) c.requires.slot in
+    subst (λ (m : Sight × List (ℕ × Option _)). CanCall c.args.self.now.about m.0 (publish (mine_of m.0).team c.args.cell (key_in_slot K m.1)))
+    (sym is) c.requires.can
 
 pub open_cell-requires-clause-branch : goal.open_cell-requires-clause-branch
 open_cell-requires-clause-branch g c =
     let K = g.B.Keyed.key_of in
     let me = c.args.seat.now.me in
-    let is : c.exchange-empty.new.seat.me ≡ (me.0, (c.args.cell, Some c.args.branch) ∷ []) = c.exchange-empty.ensures.3 ∙ ap (λ l. (me.0, (c.args.cell, Some c.args.branch) ∷ rest l)) c.requires.slot in (
+    let is : c.exchange-empty.new.seat.me ≡ (me.0, (c.args.cell, Some c.args.branch) ∷ []) =
+    c.exchange-empty.ensures.3 ∙ ap (λ l. (me.0, (c.args.cell, Some c.args.branch) ∷ rest l)) c.requires.slot in (
       key_in_slot K c.exchange-empty.new.seat.me.1,
       refl,
       record { branch = c.args.branch; slots_are = ap (λ m. m.1) is; stands = c.requires.stands; key_is = sym (ap (λ m. key_in_slot K m.1) is) },
@@ -27,6 +30,11 @@ pub returns-clause-told : goal.returns-clause-told
 returns-clause-told g c =
     let K = g.B.Keyed.key_of in
     let me = c.args.seat.now.me in
-    let is : c.exchange-empty.new.seat.me ≡ (me.0, (c.args.cell, Some c.args.branch) ∷ []) = c.exchange-empty.ensures.3 ∙ ap (λ l. (me.0, (c.args.cell, Some c.args.branch) ∷ rest l)) c.requires.slot in
-    let told = c.open_cell.ensures.told in
-    (told.0, subst (λ (m : Sight × List (ℕ × Option _)). CallTold (publish (mine_of m.0).team c.args.cell (key_in_slot K m.1)) m.0 told.0 c.open_cell.new.seat.me.0) is told.1, told.2)
+    let is : c.exchange-empty.new.seat.me ≡ (me.0, (c.args.cell, Some c.args.branch) ∷ []) =
+    c.exchange-empty.ensures.3 ∙ ap (λ l. (me.0, (c.args.cell, Some c.args.branch) ∷ rest l)) c.requires.slot in
+    let told = c.open_cell.ensures.told in (
+      told.0,
+      subst (λ (m : Sight × List (ℕ × Option _)). CallTold (publish (mine_of m.0).team c.args.cell (key_in_slot K m.1)) m.0 told.0
+          c.open_cell.new.seat.me.0) is told.1,
+      told.2,
+    )

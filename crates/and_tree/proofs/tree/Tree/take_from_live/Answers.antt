@@ -13,5 +13,6 @@ fetch_sub-requires g c =
     let may = subst (MayCall c.args.self.now.about.teams (mine_of v).hand) c.requires.ends can.may in (
       c.requires.same.0 ∙ sym (ap (λ z. z.table) c.self.view_is),
       live_in _ _ _ c.self.invariant,
-      rw c.requires.ends (allows_end g.B.Keyed.key_of g.B.Keyed.Stands c.self.inside.table.shared.key _ _ v c.args.seat.now.me.1 can.alone.0 c.requires.same.1 c.requires.can.1 _ (ending_of c.args.how) may),
+      rw c.requires.ends (allows_end g.B.Keyed.key_of g.B.Keyed.Stands c.self.inside.table.shared.key _ _ v c.args.seat.now.me.1 can.alone.0 c.requires.same.1
+          c.requires.can.1 _ (ending_of c.args.how) may),
     )

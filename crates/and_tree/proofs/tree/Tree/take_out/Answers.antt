@@ -20,5 +20,9 @@ clear_cell-requires-clause-clears g c = refl
 
 pub returns-clause-told : goal.returns-clause-told
 returns-clause-told g c =
-    let told = c.clear_cell.ensures.told in
-    (told.0, subst (λ (v : Sight). CallTold (clear (mine_of v).team c.args.cell) v told.0 c.clear_cell.new.seat.me.0) (ap (λ m. m.0) c.exchange-taken.ensures.3) told.1, told.2)
+    let told = c.clear_cell.ensures.told in (
+      told.0,
+      subst (λ (v : Sight). CallTold (clear (mine_of v).team c.args.cell) v told.0 c.clear_cell.new.seat.me.0)
+          (ap (λ m. m.0) c.exchange-taken.ensures.3) told.1,
+      told.2,
+    )

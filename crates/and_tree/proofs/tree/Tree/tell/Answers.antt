@@ -22,7 +22,8 @@ join_seat-requires g c =
       note.3 ∙ ap (λ z. z.tree.table) c.other.view_is ∙ ap (λ z. z.table) c.requires.tree.1 ∙ table,
       ap (λ m. m.1) note.4,
       live_in _ _ _ c.self.invariant,
-      tells g.B.Keyed.key_of g.B.Keyed.Stands c.self.inside.table.shared.key c.pass.inside.seat.id c.split_seat-note.result.id c.pass.inside.seat.me.0 c.split_seat-note.result.me.0 c.pass.invariant.1.alone.0
+      tells g.B.Keyed.key_of g.B.Keyed.Stands c.self.inside.table.shared.key c.pass.inside.seat.id c.split_seat-note.result.id c.pass.inside.seat.me.0
+          c.split_seat-note.result.me.0 c.pass.invariant.1.alone.0
           (ap (λ (m : _). m.0.members) note.4),
     )
 
@@ -38,5 +39,6 @@ returns-clause-told g c =
           (subst (λ z. Hears (pass_of c.pass.inside.seat.table_id v) (pass_of z w)) (sym table)
           (subst (λ (u : Sight). Hears (pass_of c.pass.inside.seat.table_id u) (pass_of c.pass.inside.seat.table_id w)) middle all)),
       subst (λ (p : PassSeen). IsPrefix p.seen (mine_of w).seen) c.other.view_is
-          (subst (λ (u : Sight). IsPrefix u.told (mine_of w).seen) (middle ∙ ap (hears v) note) (heard_told c.join_seat.new.seat.me.0 w c.learn.ensures.told.0)),
+          (subst (λ (u : Sight). IsPrefix u.told (mine_of w).seen) (middle ∙ ap (hears v) note)
+          (heard_told c.join_seat.new.seat.me.0 w c.learn.ensures.told.0)),
     )
