@@ -12,6 +12,7 @@ import argparse
 import glob
 import os
 import random
+import re
 import subprocess
 import sys
 
@@ -65,8 +66,10 @@ ROWS = [
 def texts():
     """A name, words and a text for each."""
     for file in sorted(glob.glob(os.path.join(HERE, "..", "examples", "*.pl"))):
-        with open(file, encoding="utf-8") as text:
-            yield os.path.basename(file), [], text.read()
+        with open(file, encoding="utf-8") as source:
+            text = source.read()
+        words = re.search(r"^% run: (.*)$", text, re.M)
+        yield os.path.basename(file), words.group(1).split() if words else [], text
     yield from ROWS
 
 

@@ -1,0 +1,159 @@
+#!/usr/bin/env python3
+"""Measures how searches grow: each program at n, 2n and 4n, by one team and by two, beside SWI-Prolog with its occurs check.
+
+    yard/growth.py [--only WORD] [--runs N] [--program FILE] [--skip-swi]
+
+Writes for each size the processor time (the least of the runs, without that of a query that is true at once) and the peak of memory, the
+exponent with which time grows from n to 4n (1 is linear in n; what is written grows as the column says), and SWI-Prolog's time.
+docs/figures.md has what was measured.
+"""
+import argparse
+import math
+import os
+import shutil
+import subprocess
+import sys
+import tempfile
+
+import same_bytes
+from figures import EMPTY, listed
+
+HERE = os.path.dirname(os.path.abspath(__file__))
+
+MEMBER = "member(X, [X|_]).\nmember(X, [_|T]) :- member(X, T).\n"
+LIMIT = ["--limit", "4194304"]
+
+
+def member(n):
+    return MEMBER + f"?- member(X, {listed(range(n))})."
+
+
+def member_told(n):
+    """Every answer but the last fails, so that little is written."""
+    return MEMBER + f"?- member(X, {listed(range(n))}), X > {n - 2}."
+
+
+def splits(n):
+    return "app([], L, L).\napp([H|T], L, [H|R]) :- app(T, L, R).\n" + f"?- app(_X, [Y], {listed(range(n))})."
+
+
+def select(n):
+    return ("select(X, [X|T], T).\nselect(X, [H|T], [H|R]) :- select(X, T, R).\n"
+            f"?- select(X, {listed(range(n))}, _).")
+
+
+def between(n):
+    return ("between(L, H, L) :- L =< H.\nbetween(L, H, X) :- L < H, M is L+1, between(M, H, X).\n"
+            f"?- between(1, {n}, X).")
+
+
+def path(n):
+    edges = "".join(f"edge({k}, {k + 1}).\n" for k in range(n))
+    return edges + f"path(X, X).\npath(X, Z) :- edge(X, Y), path(Y, Z).\n?- path(0, {n})."
+
+
+def numbers(_):
+    return "nat(z).\nnat(s(N)) :- nat(N).\n?- nat(_X)."
+
+
+def backwards(_):
+    return "p(X) :- p(X).\np(1).\n?- p(X)."
+
+
+def states(n):
+    return ("steps(0, S, S).\nsteps(N, S, T) :- N > 0, M is N-1, s(S, R), steps(M, R, T).\ns(st(K,L), st(J,[K|L])) :- J is K+1.\n"
+            f"?- steps({n}, st(0,[]), st(K,_)).")
+
+
+def shared(n):
+    return f"d(0, 1).\nd(N, E-E) :- N > 0, M is N-1, d(M, E).\n?- d({n}, E), 0 =:= E, _X = E."
+
+
+def behind(n):
+    """Waiting goals of which each second one stands behind its recursion."""
+    return ("list(0, []).\nlist(N, [_|T]) :- N > 0, M is N-1, list(M, T).\nlen([], 0).\n"
+            "len([_], 1).\nlen([_,_|T], N) :- N is M+1, len(T, K), M is K+1.\n"
+            f"?- list({n}, _L), len(_L, N).")
+
+
+# name, text by size, sizes, words by size, and whether arithmetic waits in SWI-Prolog (None: it is not asked)
+PROGRAMS = [
+    ("member", member, (7_500, 15_000, 30_000), None, False),
+    ("member, one answer", member_told, (7_500, 15_000, 30_000), None, False),
+    ("splits", splits, (7_500, 15_000, 30_000), None, False),
+    ("select", select, (7_500, 15_000, 30_000), None, False),
+    ("between", between, (7_500, 15_000, 30_000), None, False),
+    ("path", path, (7_500, 15_000, 30_000), None, False),
+    ("nat to a limit", numbers, (20_000, 65_536, 262_144), lambda n: ["--limit", str(n)], None),
+    ("a loop before an answer", backwards, (20_000, 65_536, 262_144), lambda n: ["--limit", str(n)], None),
+    ("states in a list", states, (5_000, 10_000, 20_000), None, False),
+    ("a shared expression", shared, (12, 24, 48), None, None),
+    ("sums behind calls", behind, (4_000, 8_000, 16_000), None, True),
+]
+
+
+def measured(command, text):
+    """Seconds of a processor, megabytes, status."""
+    with tempfile.TemporaryFile() as source, open(os.devnull, "wb") as nowhere:
+        source.write(text.encode())
+        source.seek(0)
+        process = subprocess.Popen(command, stdin=source, stdout=nowhere, stderr=subprocess.DEVNULL)
+        _, status, used = os.wait4(process.pid, 0)
+        process.returncode = os.waitstatus_to_exitcode(status)
+    return used.ru_utime + used.ru_stime, used.ru_maxrss / 1024, process.returncode
+
+
+def least(command, text, runs):
+    found = [measured(command, text) for _ in range(runs)]
+    return min(found)
+
+
+def swi(text, waits, runs):
+    """Seconds of the search in SWI-Prolog; None where it is not here or did not end well."""
+    with tempfile.NamedTemporaryFile("w", suffix=".pl") as source:
+        source.write(text)
+        source.flush()
+        best = None
+        for _ in range(runs):
+            done = subprocess.run(["swipl", os.path.join(HERE, "swi.pl"), "wait" if waits else "plain", source.name],
+                                  capture_output=True, text=True, check=False)
+            try:
+                seconds = float(done.stderr.strip().splitlines()[-1]) / 1000
+            except (ValueError, IndexError):
+                return None
+            best = seconds if best is None else min(best, seconds)
+        return best
+
+
+def main():
+    options = argparse.ArgumentParser(description=__doc__, formatter_class=argparse.RawDescriptionHelpFormatter)
+    options.add_argument("--only", default="")
+    options.add_argument("--runs", type=int, default=1)
+    options.add_argument("--program", default=same_bytes.PROGRAM)
+    options.add_argument("--skip-swi", action="store_true")
+    given = options.parse_args()
+    with_swi = not given.skip_swi and shutil.which("swipl") is not None
+    print("| Program | Size | One team, s | MB | Two teams, s | MB | Growth | SWI-Prolog, s |\n|---|---:|---:|---:|---:|---:|---:|---:|")
+    for name, text_of, sizes, words_of, waits in PROGRAMS:
+        if given.only not in name:
+            continue
+        times = []
+        for size in sizes:
+            words = ["run", *(words_of(size) if words_of else LIMIT)]
+            cells = []
+            for teams in ("1", "2"):
+                command = [given.program, *words, "--teams", teams, "--workers", "1"]
+                idle = least(command, EMPTY, given.runs)[0]
+                seconds, memory, status = least(command, text_of(size), given.runs)
+                told = f"{max(0.0, seconds - idle):.2f}" if status in (0, 1, 6, 8) else f"status {status}"
+                cells += [told, f"{memory:.0f}"]
+                if teams == "1":
+                    times.append(max(0.001, seconds - idle))
+            other = swi(text_of(size), waits, given.runs) if with_swi and waits is not None else None
+            growth = f"{math.log(times[-1] / times[0], sizes[-1] / sizes[0]):.2f}" if size == sizes[-1] else ""
+            print(f"| {name} | {size:,} | {' | '.join(cells)} | {growth} | {'' if other is None else f'{other:.2f}'} |", flush=True)
+    return 0
+
+
+if __name__ == "__main__":
+    sys.exit(main())
