@@ -1,4 +1,0 @@
-pub mod FreeCells
-pub mod QueryCalls
-pub mod Scripted
-pub mod Small
