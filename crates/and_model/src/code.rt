@@ -1,6 +1,6 @@
 //! Codes of proof trees, and their order.
 
-ghost use Rattle.std.specs.Prelude.{◌≡◌, ◌<◌, ◌↔◌, ◌⊎◌, ℕ, List, [], ◌∷◌, ◌++◌, length, slice_get, Some, OnOk, OnErr};
+ghost use Rattle.std.specs.Prelude.{◌≡◌, ◌<◌, ◌↔◌, ◌⊎◌, ℕ, List, [], ◌∷◌, ◌++◌, length, take, slice_get, Some, OnOk, OnErr};
 ghost use Rattle.std.specs.Prelude.{IfOk};
 ghost use Rattle.std.specs.Ordering.{nat_cmp};
 ghost use Rattle.std.specs.Cmp.Lexicographic.{slice_cmp};
@@ -59,6 +59,13 @@ impl Code {
     {
         self.clauses.push(clause)?;
         Ok(())
+    }
+
+    /// Keeps the first `length` clauses; all, where there are no more. Takes no memory.
+    pub fn truncate(&mut self, length: usize)
+        ensures { self.new ≡ take length self.old }
+    {
+        self.clauses.truncate(length);
     }
 
     /// Another code of the same clauses, on the same allocator. An error is want of memory.
