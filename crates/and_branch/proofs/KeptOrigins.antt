@@ -5,6 +5,7 @@ use Rattle.std.specs.Prelude.{Result, OnOk}
 use Rattle.std.proofs.lemmas.List.{take-map}
 use Rattle.std.proofs.lemmas.Result.{on_ok_weaker}
 use Rattle.std.proofs.Math.Seq.{take-append_seam}
+use Rattle.and_model.specs.Prefixes.{IsPrefix}
 use Rattle.and_model.specs.Reductions.{Reduction}
 use Rattle.and_model.specs.declared.goal
 use Rattle.and_model.specs.declared.goal.Goal.{Goal}
@@ -24,7 +25,12 @@ use Rattle.and_branch.specs.declared.outline.Outline.{Outline}
 -- It is kept by two steps,
 pub kept_then : (one two three : Held) → KeepsBack one two → KeepsBack two three → KeepsBack one three
 kept_then one two three x y =
-    record { mark = y.mark ∙ x.mark; again = λ first h. y.again first (x.again first h) }
+    record {
+      mark = y.mark ∙ x.mark;
+      again = λ first h. y.again first (x.again first h);
+      made = x.made ++ y.made;
+      grows = y.grows ∙ ap (λ (l : List Reduction). l ++ y.made) x.grows ∙ append_assoc one.reductions x.made y.made;
+    }
 
 -- by one that noted what it set, and made reductions,
 pub kept_noted : (old new : Held) (made : List Reduction) → new.reductions ≡ old.reductions ++ made
@@ -36,6 +42,8 @@ kept_noted old new made e noted = record {
     made = x.made ++ made;
     reductions = e ∙ ap (λ (l : List Reduction). l ++ made) x.reductions ∙ append_assoc first.reductions x.made made;
   };
+  made = made;
+  grows = e;
 }
 
 pub noted_nothing : (n : Noted) (row : List Ref) → KeepsNoted n n row row
@@ -51,6 +59,8 @@ kept_same old new row reductions trail = record {
     made = x.made;
     reductions = reductions ∙ x.reductions;
   };
+  made = [];
+  grows = reductions ∙ sym (append-nil old.reductions);
 }
 
 pub kept_nowhere : (b : Held) → KeepsBack b b
@@ -83,16 +93,6 @@ goes_back_on first old new (inr k) (inr x) = inr (k.again first x)
 pub go_back_on : (old new : Held) (forked : List Held) → KeepsBack old new → GoBackFrom old forked → GoBackFrom new forked
 go_back_on old new [] k x = tt
 go_back_on old new (first ∷ others) k (x, rest) = (k.again first x, rest)
-
--- Where nothing is noted, all that could be had can be.
-pub kept_unnoted : (old new : Held) → old.trail ≡ nothing_noted → new.trail.mark ≡ None → KeepsBack old new
-kept_unnoted old new none lost = record {
-  mark = lost ∙ sym (ap (λ (n : Noted). n.mark) none);
-  again = λ first x. absurd (let e = x.row.mark in let n = ap (λ (n : Noted). n.mark) none in none_noted old first e n);
-}
-  where
-    none_noted : (b first : Held) → b.trail.mark ≡ Some (length first.row) → b.trail.mark ≡ None → ⊥
-    none_noted b first e n = cc
 
 -- Where something is noted, it goes back.
 pub goes_back : (first b : Held) → (b.trail.mark ≡ None) ⊎ GoesBack first b → b.trail.mark ≢ None → GoesBack first b
@@ -183,15 +183,44 @@ module _ (first : Held) (o : Outline) (x : IsOutlineOf first o) where
       }) (sym x.limit)
       ∙ ap (λ (f : Bool). record first { key = b.key; row = b.row; reductions = b.reductions; trail = b.trail; is_failed = f }) (sym x.is_failed)
 
-  module _ (b mid new : Held) (key : List ℕ)
-      (back : mid ≡ record b { row = first.row; reductions = first.reductions; trail = noted_from first.row }) where
-    pub outlined_again : new ≡ outlined mid o → record new { key = key } ≡ record first { key = key; trail = noted_from first.row }
+  module _ (b mid new : Held) (back : mid ≡ record b { row = first.row; reductions = first.reductions; trail = noted_from first.row }) where
+    pub outlined_again : new ≡ outlined mid o → new ≡ record first { key = b.key; trail = noted_from first.row }
     outlined_again filled =
-        ap (λ (h : Held). record h { key = key }) (filled ∙ outlined_is mid)
-        ∙ ap (λ (h : Held). record first { key = key; row = h.row; reductions = h.reductions; trail = h.trail }) back
+        filled ∙ outlined_is mid
+        ∙ ap (λ (h : Held). record first { key = h.key; row = h.row; reductions = h.reductions; trail = h.trail }) back
 
-    pub outlined_first : new ≡ record (outlined mid o) { trail = o.trail } → record new { key = key } ≡ record first { key = key }
+    pub outlined_first : new ≡ record (outlined mid o) { trail = o.trail } → new ≡ record first { key = b.key }
     outlined_first filled =
-        ap (λ (h : Held). record h { key = key }) (filled ∙ ap (λ (h : Held). record h { trail = o.trail }) (outlined_is mid))
-        ∙ ap (λ (h : Held). record first { key = key; row = h.row; reductions = h.reductions; trail = o.trail }) back
-        ∙ ap (λ (n : Noted). record first { key = key; trail = n }) (sym x.trail)
+        filled ∙ ap (λ (h : Held). record h { trail = o.trail }) (outlined_is mid)
+        ∙ ap (λ (h : Held). record first { key = h.key; row = h.row; reductions = h.reductions; trail = o.trail }) back
+        ∙ ap (λ (n : Noted). record first { key = b.key; trail = n }) (sym x.trail)
+
+-- ---- Whatever the key is
+
+module _ (b keyed : Held) (same : keyed ≡ record b { key = keyed.key }) where
+  -- a branch can be had again,
+  pub back_by_key : (left : Held) → GoesBack keyed left → GoesBack b left
+  back_by_key left x =
+      let y = subst (λ (h : Held). GoesBack h left) same x in
+      record { row = y.row; made = y.made; reductions = y.reductions }
+
+  -- and has its outline.
+  pub outline_by_key : (o : Outline) → IsOutlineOf keyed o → IsOutlineOf b o
+  outline_by_key o x =
+      let y = subst (λ (h : Held). IsOutlineOf h o) same x in
+      record {
+        left = y.left;
+        right = y.right;
+        watches = y.watches;
+        used = y.used;
+        limit = y.limit;
+        is_failed = y.is_failed;
+        trail = y.trail;
+        words = y.words;
+        count = y.count;
+      }
+
+-- What a key begins with is had again by cutting it off.
+pub key_again : (longer key : List ℕ) (n : ℕ) → IsPrefix longer key → length longer ≡ n → take n key ≡ longer
+key_again longer key n begins long =
+    ap (λ (k : ℕ). take k key) (sym long) ∙ ap (take (length longer)) begins.1 ∙ take-append_seam longer begins.0

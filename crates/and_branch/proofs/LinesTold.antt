@@ -9,10 +9,11 @@ use Rattle.and_model.specs.Listing
 use Rattle.and_model.specs.Listing.{outcome_of, Ends}
 use Rattle.and_model.specs.Programs.{Program, Arithmetic}
 use Rattle.and_model.specs.Reached.{Dead}
-use Rattle.and_model.specs.Reductions.{Makes}
+use Rattle.and_model.specs.Reductions.{Reduction, Makes, PlaceHas, reduced}
 use Rattle.and_model.specs.Stands.{Framed}
 use Rattle.and_model.specs.Trees as trees
-use Rattle.and_model.specs.Trees.{QueryTree, IsWhole}
+use Rattle.and_model.specs.Trees.{QueryTree, Open, IsWhole}
+use Rattle.and_model.specs.declared.goal
 use Rattle.and_model.specs.declared.goal.Goal.{Goal}
 use Rattle.and_laws.proofs.Order.{whole_has_none}
 use Rattle.and_laws.proofs.Ordered.{contains_first, contains_more}
@@ -29,8 +30,13 @@ use Rattle.and_branch_laws.proofs.Judging
 use Rattle.and_branch_laws.proofs.Keeping
 use Rattle.and_branch_laws.proofs.Lining
 use Rattle.and_branch_laws.proofs.OneState
+use Rattle.and_branch_laws.proofs.Places.{place_not_open}
 use Rattle.and_branch_laws.proofs.Visiting
-use Rattle.and_branch.specs.Branches.{Held, is_arithmetic, Lives, IsBranch, IsBranchOf}
+use Rattle.and_code.specs.Places.{IsMissing}
+use Rattle.and_code.specs.Telling.{IsTold}
+use Rattle.and_code.specs.Written.{written, all_written}
+use Rattle.and_code.specs.declared.telling.Told.{Told}
+use Rattle.and_branch.specs.Branches.{Held, is_arithmetic, Lives, IsBranch, IsBranchOf, IsOpenGoal}
 use Rattle.and_branch.specs.Ended.{HasEnded, IsLineOf}
 use Rattle.and_branch.specs.Finding.{IsSeen}
 use Rattle.and_branch.proofs.ArithmeticRuns.{lives, all_seen}
@@ -164,6 +170,29 @@ decided_is P Q same b t x cs d =
 pub code_is : (P Q : NamedProgram) → P ≡ Q → (b : Held) (t : QueryTree P.program) → IsBranchOf P b t → IsWhole t → (cs : List ℕ)
     → Decides Q.program b.reductions (at_query ∷ []) cs → cs ≡ trees.code t
 code_is P Q same b t x whole cs d = sym (decided_is P Q same b t x cs d) ∙ Visiting.whole_decided t whole
+
+-- What is told of a key, of the program by another name and of the branch as it is kept,
+pub told_there : (P Q : NamedProgram) → P ≡ Q → (b old : Held) → b ≡ old → (t : Told) → IsTold P.program old.reductions t old.key
+    → IsTold Q.program b.reductions t b.key
+told_there P Q same b old is t x =
+    subst (λ (R : NamedProgram). IsTold R.program b.reductions t b.key) same
+    (subst (λ (h : Held). IsTold P.program h.reductions t h.key) (sym is) x)
+
+-- and of any code, back.
+pub told_here : (P Q : NamedProgram) → P ≡ Q → (b old : Held) → b ≡ old → (t : Told) (code : List ℕ) → IsTold Q.program b.reductions t code
+    → IsTold P.program old.reductions t code
+told_here P Q same b old is t code x =
+    subst (λ (h : Held). IsTold P.program h.reductions t code) is
+    (subst (λ (R : NamedProgram). IsTold R.program b.reductions t code) (sym same) x)
+
+-- No reduction takes an open goal.
+pub goal_missing : (P : NamedProgram) (rs : List goal.Reduction.Reduction) (all : List Reduction) → all_written rs ≡ all
+    → (t : QueryTree P.program) → Makes P.program all t → (o : Open t) (g : Goal) → IsOpenGoal P all t o g → IsMissing rs g.node g.item
+goal_missing P rs all is t made o g x = λ r here at item.
+    let there : Contains all (written r) = subst (λ (l : List Reduction). Contains l (written r)) is (contains_image written rs r here) in
+    let placed : PlaceHas all r.parent x.frame = subst (λ (n : ℕ). PlaceHas all n x.frame) (sym at) x.place in
+    place_not_open P.program all t made o r.node (x.frame ++ r.item ∷ []) (reduced (written r) x.frame there placed)
+    (ap (λ (i : ℕ). x.frame ++ i ∷ []) item ∙ sym x.path_is)
 
 -- ---- What is answered
 

@@ -10,10 +10,12 @@ pub record GoesBack (first b : Held) : Type 0 where
   pub made : List Reduction
   pub reductions : b.reductions ≡ first.reductions ++ made
 
--- What could be had from the old branch can be had from the new one.
+-- What could be had from the old branch can be had from the new one, which has its reductions and perhaps more.
 pub record KeepsBack (old new : Held) : Type 0 where
   pub mark : new.trail.mark ≡ old.trail.mark
   pub again : (first : Held) → GoesBack first old → GoesBack first new
+  pub made : List Reduction
+  pub grows : new.reductions ≡ old.reductions ++ made
 
 -- So it is, or nothing is noted any longer.
 abbrev pub KeepsWhatIsNoted : (old new : Held) → Type 0

@@ -2,13 +2,18 @@
 //!
 //! A choicepoint holds no row. Whatever comes of its children leaves a branch of which the branch that was forked
 //! can be had again, and the next child is made of it. So nothing is copied, and each word that is set is taken back
-//! once.
+//! once. The key of the branch at work begins with what was decided in each of the branches that were forked, and is
+//! cut off where the next child of one is made.
 
-ghost use Rattle.std.specs.Prelude.{◌≡◌, ◌≢◌, [], drop, length, ℕ, Option, OnErr, IfOk, IfErr};
+ghost use Rattle.std.specs.Prelude.{◌≡◌, ◌≢◌, [], drop, take, length, ℕ, Option, OnOk, OnErr, IfOk};
+ghost use Rattle.and_model.specs.Prefixes.{IsPrefix};
 ghost use Rattle.and_model.specs.Trees.{QueryTree, Open};
+ghost use Rattle.and_model.specs.Trees as trees;
+ghost use Rattle.and_model.specs.Trees.{IsWhole, decided};
 ghost use Rattle.and_cells.specs.Parts.{named};
+ghost use Rattle.and_code.specs.Telling.{IsTold};
 ghost use Rattle.and_branch_laws.specs.States.{StateOf, fork};
-ghost use Rattle.and_branch.specs.Branches.{IsBranchOf, IsOpenGoal};
+ghost use Rattle.and_branch.specs.Branches.{IsBranch, IsBranchOf, IsOpenGoal};
 ghost use Rattle.and_branch.specs.States.{numbers};
 ghost use Rattle.and_branch.specs.Children.{Fork, AreChildren, IsChild, IsForkOf};
 ghost use Rattle.and_branch.specs.Origins.{GoesBack, KeepsBack};
@@ -17,7 +22,7 @@ use crate::branch::Branch;
 use crate::outline::Outline;
 use crate::workspace::Workspace;
 use and_cells::Naming;
-use and_code::decided_by;
+use and_code::Told;
 use and_model::{ClauseList, ClauseNo, Code, Goal};
 use and_program::Loaded;
 use std::alloc::{AllocError, Global};
@@ -32,14 +37,17 @@ pub struct Choicepoint<N: Naming> {
     parent: Snapshot<Branch<N>>,
     outline: Outline,
     goal: Goal,
-    longer: Code,
+    /// What was decided in it. (For contracts alone, too.)
+    longer: Snapshot<Code>,
+    /// How many clauses that is.
+    decided: usize,
     clauses: ClauseList,
     /// How many children were made.
     made: usize,
 }
 
 impl<N: Naming> Model for Choicepoint<N> {
-    ghost use Rattle.std.specs.Prelude.{drop};
+    ghost use Rattle.std.specs.Prelude.{◌≡◌, drop, length};
     ghost use Rattle.and_branch.specs.Children.{Fork};
     ghost use Rattle.and_branch.specs.States.{numbers};
     ghost use Rattle.and_branch.specs.Outlines.{IsOutlineOf};
@@ -49,11 +57,12 @@ impl<N: Naming> Model for Choicepoint<N> {
     ghost view = { λ point. record {
       parent = point.parent.value;
       goal = point.goal;
-      longer = point.longer;
+      longer = point.longer.value;
       clauses = drop point.made (numbers point.clauses);
     } };
 
-    ghost invariant = { λ point. IsOutlineOf point.parent.value point.outline };
+    ghost invariant = { λ point.
+        IsOutlineOf point.parent.value point.outline × (length point.longer.value ≡ point.decided) };
 }
 
 /// What a branch becomes that is forked.
@@ -65,16 +74,18 @@ pub struct Forked<N: Naming> {
 }
 
 impl<N: Naming> Branch<N> {
-    /// Forks the branch, whose state is a fork of this goal by these clauses. An error is want of memory, and hands
-    /// the branch back.
+    /// Forks the branch, whose state is a fork of this goal by these clauses. Its key is told on to that goal. An error
+    /// is want of memory.
     pub fn fork(
         self,
         alloc: Global,
         loaded: &Loaded,
         goal: Goal,
         clauses: ClauseList,
-    ) -> Result<Forked<N>, Branch<N>>
+        told: &mut Told,
+    ) -> Result<Forked<N>, AllocError>
         requires program { N.program ≡ named loaded.now }
+        requires told { IsTold N.program.program self.reductions told.old self.key }
         requires fork { (t : QueryTree N.program.program) × (o : Open t) × (cut : Option ℕ)
             × IsBranchOf N.program self t
             × IsOpenGoal N.program self.reductions t o goal
@@ -83,24 +94,67 @@ impl<N: Naming> Branch<N> {
         ensures children { IfOk result (λ forked. (t : QueryTree N.program.program) → IsBranchOf N.program self t
             → AreChildren N.program forked.choicepoint t) }
         ensures back { IfOk result (λ forked. GoesBack self forked.left) }
-        ensures given_back { IfErr result (λ branch. branch ≡ self) }
+        ensures key { IfOk result (λ forked. forked.left.key ≡ forked.choicepoint.longer) }
+        ensures begins { IfOk result (λ forked.
+            IsPrefix (take told.old.length self.key) forked.choicepoint.longer) }
+        ensures told { IfOk result (λ forked.
+            IsTold N.program.program self.reductions told.new forked.choicepoint.longer) }
+        ensures length { IfOk result (λ forked. told.new.length ≡ length forked.choicepoint.longer) }
     {
-        match decided_by(alloc, loaded, &self.reductions) {
-            Ok(longer) => {
-                let parent = Snapshot::of(&self);
-                let (outline, left) = self.into_outline(alloc);
-                let choicepoint = Choicepoint {
-                    parent,
-                    outline,
-                    goal,
-                    longer,
-                    clauses,
-                    made: 0,
-                };
-                Ok(Forked { choicepoint, left })
-            }
-            Err(_) => Err(self),
-        }
+        let parent = Snapshot::of(&self);
+        let mut branch = self;
+        branch.decide(alloc, loaded, goal, told)?;
+        let longer = Snapshot::of(branch.key());
+        let decided = branch.key().len();
+        let (outline, left) = branch.into_outline(alloc);
+        let choicepoint = Choicepoint {
+            parent,
+            outline,
+            goal,
+            longer,
+            decided,
+            clauses,
+            made: 0,
+        };
+        Ok(Forked { choicepoint, left })
+    }
+
+    /// Tells its key on to an open goal, so that it is what was decided. An error is want of memory.
+    fn decide(
+        &mut self,
+        alloc: Global,
+        loaded: &Loaded,
+        goal: Goal,
+        told: &mut Told,
+    ) -> Result<(), AllocError>
+        requires program { N.program ≡ named loaded.now }
+        requires told { IsTold N.program.program self.old.reductions told.old self.old.key }
+        requires goal { (t : QueryTree N.program.program) × (o : Open t) × IsBranchOf N.program self.old t
+            × IsOpenGoal N.program self.old.reductions t o goal }
+        ensures same { OnOk result (self.new ≡ record self.old { key = self.new.key }) }
+        ensures told { OnOk result (IsTold N.program.program self.old.reductions told.new self.new.key) }
+        ensures length { OnOk result (told.new.length ≡ length self.new.key) }
+        ensures begins { OnOk result (IsPrefix (take told.old.length self.old.key) self.new.key) }
+        ensures decided { OnOk result ((t : QueryTree N.program.program) → IsBranchOf N.program self.old t
+            → decided t ≡ self.new.key) }
+    {
+        told.tell_on(alloc, loaded, &self.reductions, Some(goal), &mut self.key)?;
+        Ok(())
+    }
+
+    /// The code of a branch whose state is an answer, or floundered. Its key was told so far. An error is want of
+    /// memory.
+    pub fn code_of(&self, alloc: Global, loaded: &Loaded, told: Told) -> Result<Code, AllocError>
+        requires program { N.program ≡ named loaded.now }
+        requires branch { IsBranch N.program self.now }
+        requires told { IsTold N.program.program self.now.reductions told self.now.key }
+        ensures { IfOk result (λ code. (t : QueryTree N.program.program) → IsBranchOf N.program self.now t → IsWhole t
+            → code ≡ trees.code t) }
+    {
+        let mut told = told;
+        let mut code = self.key.copy()?;
+        told.tell_on(alloc, loaded, &self.reductions, None, &mut code)?;
+        Ok(code)
     }
 }
 
@@ -122,6 +176,7 @@ impl<N: Naming> Choicepoint<N> {
     ) -> Result<Branch<N>, AllocError>
         requires program { N.program ≡ named loaded.now }
         requires children { (t : QueryTree N.program.program) × AreChildren N.program self.old t }
+        requires key { IsPrefix self.old.longer left.key }
         requires some { self.old.clauses ≢ [] }
         requires back { GoesBack self.old.parent left }
         ensures child { IfOk result (IsChild N.program self.old self.new) }
@@ -131,10 +186,9 @@ impl<N: Naming> Choicepoint<N> {
         let clause = *self.clauses.at(self.made);
         // (So many fit a word. This says so to what follows.)
         let _all = self.clauses.len();
-        let mut key = self.longer.copy()?;
-        key.push(clause)?;
-        let begun = left.again_by(&self.parent, &self.outline, key)?;
-        let child = begun.taking(loaded, self.goal, clause, workspace)?;
+        let begun = left.again_by(&self.parent, &self.outline)?;
+        let keyed = begun.keyed(self.decided, clause)?;
+        let child = keyed.taking(loaded, self.goal, clause, workspace)?;
         self.made += 1;
         Ok(child)
     }
@@ -148,6 +202,7 @@ impl<N: Naming> Choicepoint<N> {
     ) -> Result<Branch<N>, AllocError>
         requires program { N.program ≡ named loaded.now }
         requires children { (t : QueryTree N.program.program) × AreChildren N.program self t }
+        requires key { IsPrefix self.longer left.key }
         requires some { self.clauses ≢ [] }
         requires back { GoesBack self.parent left }
         ensures child { IfOk result (λ b. (rest : Fork) × IsChild N.program self rest b) }
@@ -157,14 +212,14 @@ impl<N: Naming> Choicepoint<N> {
             parent,
             outline,
             goal,
-            longer,
+            longer: _,
+            decided,
             clauses,
             made,
         } = self;
         let clause = *clauses.at(made);
-        let mut key = longer;
-        key.push(clause)?;
-        let begun = left.into_first(&parent, outline, key);
-        begun.taking(loaded, goal, clause, workspace)
+        let begun = left.into_first(&parent, outline);
+        let keyed = begun.keyed(decided, clause)?;
+        keyed.taking(loaded, goal, clause, workspace)
     }
 }

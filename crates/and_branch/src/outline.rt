@@ -1,6 +1,6 @@
 //! Outlines of branches, whose rows others have.
 
-ghost use Rattle.std.specs.Prelude.{◌≡◌, OnOk, IfOk};
+ghost use Rattle.std.specs.Prelude.{◌≡◌, ◌++◌, ◌∷◌, [], take, OnOk, IfOk};
 ghost use Rattle.and_cells.specs.Rows.{IsSound};
 ghost use Rattle.and_branch.specs.Making.{noted_from};
 ghost use Rattle.and_branch.specs.Origins.{GoesBack};
@@ -8,7 +8,7 @@ ghost use Rattle.and_branch.specs.Outlines.{IsOutlineOf, outlined};
 
 use crate::branch::Branch;
 use and_cells::Naming;
-use and_model::Code;
+use and_model::ClauseNo;
 use and_pending::PendingGoals;
 use and_reduction::Trail;
 use std::alloc::{AllocError, Global};
@@ -33,6 +33,7 @@ impl<N: Naming> Branch<N> {
     pub(crate) fn into_outline(self, alloc: Global) -> (Outline, Branch<N>)
         ensures outline { IsOutlineOf self result.0 }
         ensures back { GoesBack self result.1 }
+        ensures key { result.1.key ≡ self.key }
     {
         let Branch {
             key,
@@ -68,46 +69,49 @@ impl<N: Naming> Branch<N> {
         (outline, left)
     }
 
-    /// The first branch, but for the key, made of this one. What is set of its row from here on is noted. An
-    /// error is want of memory.
+    /// The first branch, but for the key, made of this one, which keeps its own. What is set of its row from here on is
+    /// noted. An error is want of memory.
     pub(crate) fn again_by(
         self,
         first: &Snapshot<Branch<N>>,
         outline: &Outline,
-        key: Code,
     ) -> Result<Branch<N>, AllocError>
         requires outline { IsOutlineOf first.now.value outline.now }
         requires sound { IsSound N.program first.now.value.row }
         requires back { GoesBack first.now.value self }
         ensures { IfOk result (λ b. b ≡ record first.now.value {
-          key = key;
+          key = self.key;
           trail = noted_from first.now.value.row;
         }) }
     {
         let mut branch = self;
         branch.go_back_by(first, outline.words, outline.count);
         branch.fill_by(outline)?;
-        branch.key = key;
         Ok(branch)
     }
 
-    /// The first branch, but for the key, made of this one. What was noted of its row still is. Takes no memory.
-    pub(crate) fn into_first(
-        self,
-        first: &Snapshot<Branch<N>>,
-        outline: Outline,
-        key: Code,
-    ) -> Branch<N>
+    /// The first branch, but for the key, made of this one, which keeps its own. What was noted of its row still is.
+    /// Takes no memory.
+    pub(crate) fn into_first(self, first: &Snapshot<Branch<N>>, outline: Outline) -> Branch<N>
         requires outline { IsOutlineOf first.now.value outline }
         requires sound { IsSound N.program first.now.value.row }
         requires back { GoesBack first.now.value self }
-        ensures { result ≡ record first.now.value { key = key } }
+        ensures { result ≡ record first.now.value { key = self.key } }
     {
         let mut branch = self;
         branch.go_back_by(first, outline.words, outline.count);
         branch.take_outline(outline);
-        branch.key = key;
         branch
+    }
+
+    /// The same branch with the first clauses of its key, and then this one, for its key. An error is want of memory.
+    pub(crate) fn keyed(self, length: usize, clause: ClauseNo) -> Result<Branch<N>, AllocError>
+        ensures { IfOk result (λ b. b ≡ record self { key = take length self.key ++ clause.0 ∷ [] }) }
+    {
+        let mut branch = self;
+        branch.key.truncate(length);
+        branch.key.push(clause)?;
+        Ok(branch)
     }
 
     /// Takes over what stands in the outline, but for the trail. An error is want of memory, and the branch is spent.

@@ -1,11 +1,14 @@
 -- What one turn through the bodies does.
 use Rattle.std.proofs.Common.{ℕ, suc, ◌+◌, ◌-◌, ◌≡◌, ◌≢◌, ◌<◌, ◌≤◌, true, false, true≢false, List, [], ◌∷◌, ◌++◌, append-nil}
 use Rattle.std.proofs.Common.{append_assoc, map, length, get_or, refl, sym, ap, ◌∙◌, subst, arith}
-use Rattle.std.specs.Prelude.{Option, Some, None, option_to_list, slice_index_or}
+use Rattle.std.specs.Prelude.{Option, Some, None, IfSome, take, option_to_list, slice_index_or}
 use Rattle.std.proofs.Math.ListN.{get_or-map}
+use Rattle.std.proofs.Math.Seq.{take-length}
 use Rattle.std.proofs.lemmas.List.{reverse-append, length-map}
 use Rattle.std.proofs.lemmas.List.Elements.{All-append, Contains-append_left}
 use Rattle.std.proofs.lemmas.List.Sums.{sum_by-cons}
+use Rattle.and_laws.proofs.PrefixLemmas.{prefix_more}
+use Rattle.and_model.specs.Prefixes.{IsPrefix}
 use Rattle.and_model.specs.Terms.{Term}
 use Rattle.and_model.specs.Programs
 use Rattle.and_model.specs.Programs.{Program, Item, clause_at}
@@ -21,7 +24,7 @@ use Rattle.and_branch_laws.specs.Visits
 use Rattle.and_branch_laws.specs.Visits.{Decides, ended, past, other, taken, not_taken, item_visited, onward, into, at_query}
 use Rattle.and_code.proofs.Measures.{later_below, taken_below}
 use Rattle.and_code.specs.Places.{IsFound, IsMissing}
-use Rattle.and_code.specs.Telling.{IsTold}
+use Rattle.and_code.specs.Telling.{IsToldTo}
 use Rattle.and_code.specs.Visiting.{visit_of, visits_of, visited, waiting, IsAtCall, AreAtCalls, LeadsTo, AreBehind, above_all}
 use Rattle.and_code.specs.Visiting.{turns_below, turns_of, turns_left}
 use Rattle.and_code.specs.Written.{written, all_written}
@@ -252,8 +255,8 @@ begun P rs visits next code empty none leads = λ more cs d.
     (first.found all cs (subst (λ (vs : List Visits.Visit). Decides P all vs cs) (none_waits visits next empty ∙ sym (append-nil (visited next))) d))
 
 -- What was told of reductions is told of these with more behind them.
-pub told_on : (P : Program) (rs more : List Reduction) (left : List Visits.Visit) (code : List ℕ) → IsTold P rs left code
-    → IsTold P (rs ++ more) left code
+pub told_on : (P : Program) (rs more : List Reduction) (left : List Visits.Visit) (code : List ℕ) → IsToldTo P rs left code
+    → IsToldTo P (rs ++ more) left code
 told_on P rs more left code t = record {
   calls = t.calls;
   goes_on = λ others cs d.
@@ -264,3 +267,25 @@ told_on P rs more left code t = record {
 pub begun_at_calls : (P : Program) (visits : List Visit) (next : Option Visit) → visits ≡ [] → AreAtCalls P (visited next)
     → AreAtCalls P (waiting visits next)
 begun_at_calls P visits next empty all = subst (AreAtCalls P) (sym (none_waits visits next empty)) all
+
+-- ---- What was told of a code
+
+-- All of it was.
+pub all_told : (P : Program) (rs : List Reduction) (left : List Visits.Visit) (code : List ℕ) (n : ℕ) → n ≡ length code
+    → IsToldTo P rs left code → IsToldTo P rs left (take n code)
+all_told P rs left code n long t =
+    subst (λ (cs : List ℕ). IsToldTo P rs left cs) (sym (ap (λ (k : ℕ). take k code) long ∙ take-length code)) t
+
+-- A code with one more clause begins as before.
+pub begins_still : (first code more : List ℕ) (c : ℕ) → IsPrefix first code → more ≡ code ++ c ∷ [] → IsPrefix first more
+begins_still first code more c begins is =
+    subst (λ (cs : List ℕ). IsPrefix first cs) (sym is) (prefix_more first code (c ∷ []) begins)
+
+-- The goal that none takes is visited.
+pub is_missing : (rs : List goal.Reduction.Reduction) (open_goal : Option goal.Goal.Goal) (v : Visit)
+    → IfSome open_goal (λ g. IsMissing rs g.node g.item)
+    → (g : goal.Goal.Goal) × (open_goal ≡ Some g) × (g.node ≡ v.node) × (g.item ≡ v.item) → IsMissing rs v.node v.item
+is_missing rs open_goal v none (g, is, node, item) =
+    subst (λ (i : ℕ). IsMissing rs v.node i) item
+    (subst (λ (n : ℕ). IsMissing rs n g.item) node
+    (subst (λ (o : Option goal.Goal.Goal). IfSome o (λ g. IsMissing rs g.node g.item)) is none))

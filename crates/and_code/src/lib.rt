@@ -15,7 +15,7 @@ ghost use Rattle.and_branch_laws.specs.Visits.{at_query, Decides};
 use and_model::{Code, ReductionList};
 use and_program::Loaded;
 use std::alloc::{AllocError, Global};
-pub use telling::Telling;
+pub use telling::Told;
 
 /// The clauses, in preorder, of the tree that the reductions make, up to its first open call: what the
 /// tree has decided, and of a whole tree its code. An error is want of memory.
@@ -29,7 +29,7 @@ pub fn decided_by(
     ensures { IfOk result (Decides (program_of loaded.now) (all_written reductions.now) (at_query ∷ [])) }
 {
     let mut code = Code::new(alloc);
-    let mut telling = Telling::begun(alloc, loaded);
-    telling.tell_on(alloc, loaded, reductions, &mut code)?;
+    let mut told = Told::begun(alloc, loaded);
+    told.tell_on(alloc, loaded, reductions, None, &mut code)?;
     Ok(code)
 }

@@ -1,5 +1,5 @@
 -- How a search ended so far: counts, and cuts that are kept.
-use Rattle.std.proofs.Common.{ℕ, ◌+◌, ◌-◌, ◌^◌, ◌≡◌, ◌<◌, Bool, [], false, refl, sym, ap, ◌∙◌, subst, arith, min}
+use Rattle.std.proofs.Common.{ℕ, ◌+◌, ◌-◌, ◌^◌, ◌≡◌, ◌<◌, Bool, [], true, false, refl, sym, ap, ◌∙◌, subst, arith, min}
 use Rattle.std.proofs.Common.{inl, inr}
 use Rattle.std.specs.Prelude.{Option, Some, None}
 use Rattle.std.specs.Option.{option_or}
@@ -45,23 +45,23 @@ module _ (P : Program) (limit : ℕ) where
   MeetsLimit cut = (over : Cut P) × IsCut (all_written cut.partial) cut.goal cut.clause.0 over × OverLimit P limit over
 
   -- The counts go on, and the cut stays.
-  pub end_counted : (old new : Found) (f m g n : ℕ) (b d : Bool) → new.cut ≡ old.cut → (b ≡ false → d ≡ false)
+  pub end_counted : (old new : Found) (f m g n : ℕ) (b d : Bool) → new.cut ≡ old.cut → d ≡ b
       → (old.forks ≡ kept_count f → new.forks ≡ kept_count g) → (old.failed ≡ kept_count m → new.failed ≡ kept_count n)
       → IsEndSoFar P limit old f m b old.cut → IsEndSoFar P limit new g n d new.cut
   end_counted old new f m g n b d same flag forks failed h = subst (λ c. IsEndSoFar P limit new g n d c) (sym same) (go old.cut h)
     where
       go : (c : Option goal.Cut.Cut) → IsEndSoFar P limit old f m b c → IsEndSoFar P limit new g n d c
-      go None e = (flag e.0, forks e.1, failed e.2)
-      go (Some cut) e = e
+      go None e = (flag ∙ e.0, forks e.1, failed e.2)
+      go (Some cut) e = (flag ∙ e.0, e.1, e.2, e.3)
 
   -- A cut is kept where there is none yet; from then on the counts are not told.
-  pub end_cut : (old new : Found) (f m g n : ℕ) (b d : Bool) (cut : goal.Cut.Cut) → new.cut ≡ option_or old.cut (Some cut) → MeetsLimit cut
+  pub end_cut : (old new : Found) (f m g n : ℕ) (b d : Bool) (cut : goal.Cut.Cut) → new.cut ≡ option_or old.cut (Some cut) → d ≡ true → MeetsLimit cut
       → IsEndSoFar P limit old f m b old.cut → IsEndSoFar P limit new g n d new.cut
-  end_cut old new f m g n b d cut kept meets h = subst (λ c. IsEndSoFar P limit new g n d c) (sym kept) (go old.cut h)
+  end_cut old new f m g n b d cut kept flag meets h = subst (λ c. IsEndSoFar P limit new g n d c) (sym kept) (go old.cut h)
     where
       go : (c : Option goal.Cut.Cut) → IsEndSoFar P limit old f m b c → IsEndSoFar P limit new g n d (option_or c (Some cut))
-      go None e = meets
-      go (Some first) e = e
+      go None e = (flag, meets.0, meets.1, meets.2)
+      go (Some first) e = (flag, e.1, e.2, e.3)
 
   -- Where a walk is over, the search has ended so.
   pub walked_found : (found : Found) (f m : ℕ) (b : Bool) → Walks P limit (blank (query_agenda P)) (listed found) f m b
@@ -80,7 +80,7 @@ module _ (P : Program) (limit : ℕ) where
             forks_kept = e.1;
             failed_kept = e.2;
           }
-      go (Some cut) e = e
+      go (Some cut) e = (e.1, e.2, e.3)
 
 -- The query by itself was too heavy.
 pub alone : (P : NamedProgram) (limit : ℕ) (found : Found) (cut : goal.Cut.Cut) → listed found ≡ [] → found.cut ≡ Some cut

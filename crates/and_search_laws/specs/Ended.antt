@@ -12,12 +12,13 @@ use Rattle.and_answers.specs.Kept.{listed}
 use Rattle.and_answers.specs.declared.found.Found.{Found}
 use Rattle.and_search_laws.specs.Found.{kept_count}
 
--- Nothing was cut off, and these are the counts; or the limit was met.
+-- Nothing was cut off, and these are the counts; or something was, since the limit was met.
 abbrev pub IsEndSoFar : (P : Program) → ℕ → Found → ℕ → ℕ → Bool → Option goal.Cut.Cut → Type 0
 IsEndSoFar P limit found forks failed is_cut None =
     (is_cut ≡ false) × (found.forks ≡ kept_count forks) × (found.failed ≡ kept_count failed)
 IsEndSoFar P limit found forks failed is_cut (Some cut) =
-    (over : Cut P) × IsCut (all_written cut.partial) cut.goal cut.clause.0 over × OverLimit P limit over
+    (is_cut ≡ true) × (over : Cut P) × IsCut (all_written cut.partial) cut.goal cut.clause.0 over
+    × OverLimit P limit over
 
 -- The branch is floundered, or an answer.
 abbrev pub EndsSo : (P : NamedProgram) (b : Held) → QueryTree P.program → (is_floundered : Bool) → Type 0

@@ -22,6 +22,7 @@ use Rattle.and_search_laws.specs.Found.{kept_count}
 use Rattle.and_search_laws.specs.Ended.{IsEndSoFar}
 use Rattle.and_team_laws.specs.Done.{DidAll, Part, DidParts, all_parts}
 use Rattle.and_team_laws.proofs.Bools.{or_assoc, or_false}
+use Rattle.std.proofs.Math.Bool.{or-true}
 use Rattle.and_cells.specs.declared.naming.Naming.{Ghosts}
 use Rattle.and_teams.specs.Working.{Tells, SeesNone}
 use Rattle.and_teams.specs.Ended.{IsWorked, AreDone, AllFound}
@@ -124,8 +125,8 @@ end_merged P limit one other both f m g n b d merged =
       merged.forks ∙ total_kept one.forks other.forks f g x.1 y.1,
       merged.failed ∙ total_kept one.failed other.failed m n x.2 y.2,
     )
-    go None (Some cut) x y = y
-    go (Some cut) e x y = x
+    go None (Some cut) x y = (ap (λ z. b || z) y.0 ∙ or-true b, y.1, y.2, y.3)
+    go (Some cut) e x y = (ap (λ z. z || d) x.0, x.1, x.2, x.3)
 
 -- ---- the passes of teams
 

@@ -3,7 +3,7 @@ use Rattle.std.proofs.Common.{ℕ, suc, ◌+◌, ◌≡◌, ◌<◌, ◌≤◌, 
 use Rattle.std.proofs.Common.{refl, sym, ap, ◌∙◌, subst, arith, inl, inr}
 use Rattle.std.specs.Prelude.{Option, Some, None}
 use Rattle.std.specs.Option.{option_or}
-use Rattle.std.proofs.Math.Bool.{or-false}
+use Rattle.std.proofs.Math.Bool.{or-false, or-true}
 use Rattle.std.proofs.lemmas.List.Elements.{All-contains}
 use Rattle.and_model.specs.Limits.{at_goal}
 use Rattle.and_model.specs.Lines.{Bytes}
@@ -212,7 +212,7 @@ module _ (P : NamedProgram) (limit : ℕ) where
       → IsEndSoFar P.program limit new (f + 1) m (b || is_there first) new.cut
   forked_end old new f m b t o key cs None None reached x is forks failed kept e =
       let same : new.cut ≡ old.cut = kept ∙ none_kept old.cut in
-      end_counted P.program limit old new f m (f + 1) m b (b || false) same (λ h. or-false b ∙ h) (λ h. forks ∙ one_counted old.forks f h)
+      end_counted P.program limit old new f m (f + 1) m b (b || false) same (or-false b) (λ h. forks ∙ one_counted old.forks f h)
       (λ h. failed ∙ h) e
     where
       none_kept : (c : Option goal.Cut.Cut) → option_or c None ≡ c
@@ -221,5 +221,5 @@ module _ (P : NamedProgram) (limit : ℕ) where
   forked_end old new f m b t o key cs None (Some cut) reached x is forks failed kept e = absurd is
   forked_end old new f m b t o key cs (Some c) None reached x is forks failed kept e = absurd is
   forked_end old new f m b t o key cs (Some c) (Some cut) reached x is forks failed kept e =
-      end_cut P.program limit old new f m (f + 1) m b (b || true) cut kept
+      end_cut P.program limit old new f m (f + 1) m b (b || true) cut kept (or-true b)
       (at_goal t o c, is, fork_cut P.program limit key t reached o cs c x) e

@@ -5,7 +5,7 @@ use Rattle.std.specs.declared.alloc.Global.{Global}
 use Rattle.std.specs.Prelude.{flat_map, Option, Some, Result, Ok, Err, OnOk, OnErr}
 use Rattle.std.specs.Result.{is_err}
 use Rattle.std.specs.Option.{option_or}
-use Rattle.std.proofs.Math.Bool.{or-false}
+use Rattle.std.proofs.Math.Bool.{or-false, or-true}
 use Rattle.std.proofs.lemmas.Result.{on_ok_weaker}
 use Rattle.std.proofs.lemmas.List.{length-map}
 use Rattle.std.proofs.lemmas.List.Sums.{sum_by-cons}
@@ -186,7 +186,7 @@ module _ {N : Type 0} (P : NamedProgram) (tree : TreeId) where
       let did = did_fail P limit p.team b stands.tree stands.branch stands.limited (dead stands.tree stands.branch) in
       ended_works retired is_last p q old new b key tasks [] 0 1 false w same makes did (rest.1 ∙ sym (append-nil (listed old))) forks
       (end_counted P.program limit old new t.forks t.failed (t.forks + 0) (t.failed + 1) t.is_cut (t.is_cut || false) rest.0
-      (λ e. or-false t.is_cut ∙ e)
+      (or-false t.is_cut)
       (λ e. forks ∙ subst (λ n. old.forks ≡ kept_count n) (omega arith) e)
       (λ e. failed ∙ one_counted old.failed t.failed e) t.end)
       (failed ∙ one_counted old.failed t.failed t.failed_are)
@@ -204,7 +204,8 @@ module _ {N : Type 0} (P : NamedProgram) (tree : TreeId) where
       was_over P limit p.team b stands.tree cut stands.branch stands.limited (state stands.tree stands.branch) in
       ended_works retired is_last p q old new b key tasks [] over.forks 0 true w same makes over.did
       (rest.entries ∙ sym (append-nil (listed old))) rest.forks
-      (end_cut P.program limit old new t.forks t.failed (t.forks + over.forks) (t.failed + 0) t.is_cut (t.is_cut || true) cut kept over.meets t.end)
+      (end_cut P.program limit old new t.forks t.failed (t.forks + over.forks) (t.failed + 0) t.is_cut (t.is_cut || true) cut kept
+      (or-true t.is_cut) over.meets t.end)
       (rest.failed ∙ subst (λ n. old.failed ≡ kept_count n) (omega arith) t.failed_are)
 
   -- It has ended with this outcome, and was told.
@@ -221,7 +222,7 @@ module _ {N : Type 0} (P : NamedProgram) (tree : TreeId) where
       ended_works answered is_last p q old new b key tasks (record { code = code stands.tree; outcome = o } ∷ []) 0 0 false w same makes did
       listed_is rest.forks
       (end_counted P.program limit old new t.forks t.failed (t.forks + 0) (t.failed + 0) t.is_cut (t.is_cut || false) rest.cut
-      (λ e. or-false t.is_cut ∙ e)
+      (or-false t.is_cut)
       (λ e. rest.forks ∙ subst (λ n. old.forks ≡ kept_count n) (omega arith) e)
       (λ e. rest.failed ∙ subst (λ n. old.failed ≡ kept_count n) (omega arith) e) t.end)
       (rest.failed ∙ subst (λ n. old.failed ≡ kept_count n) (omega arith) t.failed_are)

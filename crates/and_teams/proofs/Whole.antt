@@ -162,7 +162,7 @@ module _ (P : Program) (limit teams : ℕ) (found : Found) (history : List Histo
               forks_kept = e.1;
               failed_kept = e.2;
             }
-        go (Some cut) e = e
+        go (Some cut) e = (e.1, e.2, e.3)
 
     none_cut : (c : Option goal.Cut.Cut) → IsEndSoFar P limit ordered w.forks w.failed w.is_cut c → c ≡ None → w.is_cut ≡ false
     none_cut c e is = (subst (λ z. IsEndSoFar P limit ordered w.forks w.failed w.is_cut z) is e).0
@@ -187,6 +187,7 @@ module _ (P : Program) (limit teams : ℕ) (found : Found) (history : List Histo
           same = same_through w.entries (listed found) (listed ordered) w.told same_listed;
           failed_are = same_end.failed ∙ w.failed_are;
           whole = λ is. let e = subst (λ c. IsEndSoFar P limit ordered w.forks w.failed w.is_cut c) is ordered_end in (e.0, e.1);
+          cut_off = λ cut is. (subst (λ c. IsEndSoFar P limit ordered w.forks w.failed w.is_cut c) is ordered_end).0;
           justified = history_justified P limit history w.entries w.forks w.failed w.is_cut w.did;
           covering = history_covers P limit history w.entries w.forks w.failed w.is_cut w.did;
           ordered = fs;

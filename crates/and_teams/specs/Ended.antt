@@ -2,6 +2,7 @@
 use Rattle.std.specs.Prelude.{ℕ, suc, ◌≡◌, ◌<◌, Bool, true, false, List, [], ◌∷◌, ◌++◌, length, All, Option, None, Some}
 use Rattle.and_model.specs.Programs.{Program}
 use Rattle.and_model.specs.Trees.{blank, query_agenda, weight}
+use Rattle.and_model.specs.declared.goal
 use Rattle.and_model.specs.Reached.{Fork}
 use Rattle.and_model.specs.Listing.{Entry}
 use Rattle.and_histories.specs.Histories.{HistoryEntry}
@@ -67,11 +68,11 @@ pub record IsTallyOf (history : List HistoryEntry) (counts : Tally) : Type 0 whe
   pub given_up : counts.given_up ≡ kept_count (length (keys_given_up history))
 
 -- What the tree of a run leaves, whatever was cut off: a history of all teams, until no key was left, and what it did
--- is what was found. Each fork of it is of the leftmost goal of a Shut tree, by exactly those of its candidates that
--- fit, and leaves no code out; no key is forked twice, so the forks have an order. The keys that were answered are
--- prefixes of the codes of the entries, each of its own; none was given up. The tree counts what stands in the
--- history. Where nothing was cut off, its forks, in the order of their keys, are those of the exploration of the
--- query.
+-- is what was found; a cut is told exactly where something was cut off. Each fork of it is of the leftmost goal of a
+-- Shut tree, by exactly those of its candidates that fit, and leaves no code out; no key is forked twice, so the forks
+-- have an order. The keys that were answered are prefixes of the codes of the entries, each of its own; none was given
+-- up. The tree counts what stands in the history. Where nothing was cut off, its forks, in the order of their keys,
+-- are those of the exploration of the query.
 pub record IsRun (P : Program) (limit teams : ℕ) (found : Found) (history : List HistoryEntry)
     (counts : Tally) : Type 0 where
   pub entries : List Entry
@@ -82,6 +83,7 @@ pub record IsRun (P : Program) (limit teams : ℕ) (found : Found) (history : Li
   pub same : SameItems entries (listed found)
   pub failed_are : found.failed ≡ kept_count failed
   pub whole : found.cut ≡ None → (is_cut ≡ false) × (found.forks ≡ kept_count forks)
+  pub cut_off : (cut : goal.Cut.Cut) → found.cut ≡ Some cut → is_cut ≡ true
   pub justified : All (λ (x : Fork). IsJustified P limit x) (forks_of history)
   pub covering : AreCovering P limit history
   pub ordered : List Fork

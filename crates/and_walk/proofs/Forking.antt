@@ -1,35 +1,45 @@
 -- How a walk goes on where a branch is forked, and with the children of a fork.
 use Rattle.std.proofs.Common.{ℕ, suc, ◌+◌, ◌-◌, ◌^◌, ◌≡◌, ◌≢◌, ◌<◌, ◌≤◌, ◌↔◌, Bool, true, false, ◌||◌, true≢false, List, [], ◌∷◌, ◌++◌}
-use Rattle.std.proofs.Common.{length}
-use Rattle.std.proofs.Common.{refl, sym, ap, ◌∙◌, subst, arith, Contains, append_assoc}
+use Rattle.std.proofs.Common.{length, reverse, take, drop}
+use Rattle.std.proofs.Common.{refl, sym, ap, ◌∙◌, subst, arith, Contains, append_assoc, append-nil}
 use Rattle.std.specs.Prelude.{Option, Some, None}
 use Rattle.std.specs.Option.{option_or}
-use Rattle.std.proofs.Math.Bool.{or-false}
+use Rattle.std.proofs.Math.Bool.{or-false, or-true}
+use Rattle.std.proofs.Math.Seq.{take-length, take-append_seam}
+use Rattle.std.proofs.lemmas.List.{take-append-drop}
 use Rattle.and_model.specs.Limits.{at_goal}
 use Rattle.and_model.specs.Listing
+use Rattle.and_model.specs.Prefixes.{IsPrefix}
 use Rattle.and_model.specs.Programs.{clause_at}
 use Rattle.and_model.specs.Trees.{QueryTree, Open, weight}
+use Rattle.and_model.specs.Reductions.{Reduction}
 use Rattle.and_model.specs.Reached.{Split, CandidateOf, ReachedBy}
 use Rattle.and_model.specs.declared.goal
 use Rattle.and_model.specs.declared.goal.Goal.{Goal}
 use Rattle.and_model.specs.declared.numbers.ClauseNo.{ClauseNo}
 use Rattle.and_laws.proofs.Order.{clause_weighs}
 use Rattle.and_laws.proofs.Ordered.{contains_first}
+use Rattle.and_laws.proofs.PrefixLemmas.{prefix_then}
 use Rattle.and_cells.specs.Ranges.{NamedProgram}
+use Rattle.and_branch_laws.specs.Visits
 use Rattle.and_branch_laws.specs.States.{StateOf, Fits, fork, IsFirst}
 use Rattle.and_branch_laws.proofs.Going.{fork_cut}
-use Rattle.and_branch.specs.Branches.{Held, IsBranchOf, IsOpenGoal}
+use Rattle.and_branch.specs.Branches.{Held, IsBranchOf, IsOpenGoal, SameKey}
 use Rattle.and_branch.specs.States.{numbers, IsState, IsCutOf}
 use Rattle.and_branch.specs.declared.state.BranchState.TheVariants as told
 use Rattle.and_branch.specs.Children.{Fork, AreChildren, IsChild, IsForkOf}
 use Rattle.and_branch.specs.Origins.{GoesBack, GoBackFrom, KeepsBack}
 use Rattle.and_branch.proofs.KeptOrigins.{go_back_on}
+use Rattle.and_code.specs.Telling.{IsTold, IsToldTo, left_of}
+use Rattle.and_code.specs.declared.telling.Told.{Told}
+use Rattle.and_code.proofs.Turns.{told_on}
 use Rattle.and_answers.specs.Kept.{listed, total}
 use Rattle.and_answers.specs.declared.found.Found.{Found}
 use Rattle.and_walk_laws.specs.Walks.{Owes, SplitsBy}
 use Rattle.and_walk_laws.proofs.Forking.{owed_fitting}
 use Rattle.and_search_laws.specs.Ended.{IsEndSoFar, SameButCut}
-use Rattle.and_walk.specs.Walking.{StackHas, Walking, GoesOn, Task, One, Children, tasks_of, parents_of}
+use Rattle.and_walk.specs.Walking.{StackHas, Walking, GoesOn, Task, One, Children, IsToldOf, AreTold, tasks_of, parents_of}
+use Rattle.and_walk.specs.declared.stack.Level.{Level}
 use Rattle.and_walk.proofs.Turns.{fewer_forked, fewer_next, fewer_last}
 use Rattle.and_search_laws.proofs.Splitting.{too_heavy, split_weighs, split_grows, candidate_splits, split_candidate, some_splits, FirstSplit}
 use Rattle.and_search_laws.proofs.Splitting.{first_split, no_splits}
@@ -104,7 +114,7 @@ module _ (P : NamedProgram) (limit : ℕ) where
       → IsEndSoFar P.program limit new (f + 1) m (b || is_there first) new.cut
   forked_end old new f m b t o key cs None None reached x is forks failed kept e =
       let same : new.cut ≡ old.cut = kept ∙ none_kept old.cut in
-      end_counted P.program limit old new f m (f + 1) m b (b || false) same (λ h. or-false b ∙ h) (λ h. forks ∙ one_counted old.forks f h)
+      end_counted P.program limit old new f m (f + 1) m b (b || false) same (or-false b) (λ h. forks ∙ one_counted old.forks f h)
       (λ h. failed ∙ h) e
     where
       none_kept : (c : Option goal.Cut.Cut) → option_or c None ≡ c
@@ -113,7 +123,7 @@ module _ (P : NamedProgram) (limit : ℕ) where
   forked_end old new f m b t o key cs None (Some cut) reached x is forks failed kept e = absurd is
   forked_end old new f m b t o key cs (Some c) None reached x is forks failed kept e = absurd is
   forked_end old new f m b t o key cs (Some c) (Some cut) reached x is forks failed kept e =
-      end_cut P.program limit old new f m (f + 1) m b (b || true) cut kept
+      end_cut P.program limit old new f m (f + 1) m b (b || true) cut kept (or-true b)
       (at_goal t o c, is, fork_cut P.program limit key t reached o cs c x) e
 
   -- (the others are its children too)
@@ -190,16 +200,16 @@ module _ (P : NamedProgram) (limit : ℕ) where
           }
 
   -- (as the functions tell it)
-  pub forked_on : (old counted new : Found) (b : Held) (fs after : List Fork) (g : Goal) (clauses : List ClauseNo)
-      (cut : Option goal.Cut.Cut) (f : Fork) → Walking P limit old (One b ∷ tasks_of fs)
+  pub forked_on : {N : Type 0} (old counted new : Found) (b : Held) (ls after : List (Level N)) (g : Goal) (clauses : List ClauseNo)
+      (cut : Option goal.Cut.Cut) (l : Level N) → Walking P limit old (One b ∷ tasks_of ls)
       → ((t : QueryTree P.program) → IsBranchOf P b t → IsState P b t (told.Fork g clauses cut))
       → counted.forks ≡ total old.forks 1 → counted.failed ≡ old.failed → (counted.cut ≡ old.cut) × (listed counted ≡ listed old)
-      → SameButCut counted new → new.cut ≡ option_or counted.cut cut → IsForkOf b g (numbers clauses) f
-      → ((t : QueryTree P.program) → IsBranchOf P b t → AreChildren P f t) → length clauses ≤ 2 ^ 64
-      → after ≡ f ∷ fs → GoesOn P limit (One b ∷ tasks_of fs) new (tasks_of after)
-  forked_on old counted new b fs after g clauses cut f w state forks failed rest same kept is made few top =
-      subst (λ (l : List Fork). GoesOn P limit (One b ∷ tasks_of fs) new (tasks_of l)) (sym top)
-      (forked old new b (tasks_of fs) g clauses cut f w state (same.forks ∙ forks) (same.failed ∙ failed) (same.entries ∙ rest.1)
+      → SameButCut counted new → new.cut ≡ option_or counted.cut cut → IsForkOf b g (numbers clauses) l.point
+      → ((t : QueryTree P.program) → IsBranchOf P b t → AreChildren P l.point t) → length clauses ≤ 2 ^ 64
+      → after ≡ l ∷ ls → GoesOn P limit (One b ∷ tasks_of ls) new (tasks_of after)
+  forked_on {N} old counted new b ls after g clauses cut l w state forks failed rest same kept is made few top =
+      subst (λ (xs : List (Level N)). GoesOn P limit (One b ∷ tasks_of ls) new (tasks_of xs)) (sym top)
+      (forked old new b (tasks_of ls) g clauses cut l.point w state (same.forks ∙ forks) (same.failed ∙ failed) (same.entries ∙ rest.1)
       (kept ∙ ap (λ c. option_or c cut) rest.0) is.parent is.clauses_are made few)
 
   -- (what a fork of the branch is asked)
@@ -331,34 +341,123 @@ module _ (P : NamedProgram) (limit : ℕ) where
       no_length (c ∷ cs) e = absurd (omega arith)
 
   -- The next child was made, and those that are still to come were put back.
-  pub child_taken : (found : Found) (f g : Fork) (b : Held) (fs after : List Fork) → Walking P limit found (Children f ∷ tasks_of fs)
-      → IsChild P f g b → 1 < length f.clauses → after ≡ g ∷ fs
-      → GoesOn P limit (Children f ∷ tasks_of fs) found (One b ∷ tasks_of after)
-  child_taken found f g b fs after w is many top =
-      subst (λ (l : List Fork). GoesOn P limit (Children f ∷ tasks_of fs) found (One b ∷ tasks_of l)) (sym top)
-      (child_next found f g b (tasks_of fs) w is many)
+  pub child_taken : {N : Type 0} (found : Found) (f : Fork) (l : Level N) (b : Held) (ls after : List (Level N))
+      → Walking P limit found (Children f ∷ tasks_of ls)
+      → IsChild P f l.point b → 1 < length f.clauses → after ≡ l ∷ ls
+      → GoesOn P limit (Children f ∷ tasks_of ls) found (One b ∷ tasks_of after)
+  child_taken {N} found f l b ls after w is many top =
+      subst (λ (xs : List (Level N)). GoesOn P limit (Children f ∷ tasks_of ls) found (One b ∷ tasks_of xs)) (sym top)
+      (child_next found f l.point b (tasks_of ls) w is many)
 
 -- ---- What can be had again
 
 -- A branch that was forked can be had again from what is left of it, and those below from it.
-pub forked_back : (b left : Held) (g : Goal) (clauses : List ℕ) (f : Fork) (fs after : List Fork) → IsForkOf b g clauses f → GoesBack b left
-    → GoBackFrom b (parents_of fs) → after ≡ f ∷ fs → GoBackFrom left (parents_of after)
-forked_back b left g clauses f fs after is back below top =
-    subst (λ (l : List Fork). GoBackFrom left (parents_of l)) (sym top) (
+pub forked_back : {N : Type 0} (b left : Held) (g : Goal) (clauses : List ℕ) (l : Level N) (ls after : List (Level N))
+    → IsForkOf b g clauses l.point → GoesBack b left → GoBackFrom b (parents_of ls) → after ≡ l ∷ ls → GoBackFrom left (parents_of after)
+forked_back {N} b left g clauses l ls after is back below top =
+    subst (λ (xs : List (Level N)). GoBackFrom left (parents_of xs)) (sym top) (
       subst (λ (h : Held). GoesBack h left) (sym is.parent) back,
-      subst (λ (h : Held). GoBackFrom h (parents_of fs)) (sym is.parent) below,
+      subst (λ (h : Held). GoBackFrom h (parents_of ls)) (sym is.parent) below,
     )
 
 -- So it can from the next child,
-pub child_back : (P : NamedProgram) (left b : Held) (f g : Fork) (fs after : List Fork) → IsChild P f g b → GoesBack f.parent b
-    → GoBackFrom left (parents_of (f ∷ fs)) → after ≡ g ∷ fs → GoBackFrom b (parents_of after)
-child_back P left b f g fs after is back (has, below) top =
-    subst (λ (l : List Fork). GoBackFrom b (parents_of l)) (sym top) (
+pub child_back : {N : Type 0} (P : NamedProgram) (left b : Held) (f : Fork) (l : Level N) (ls after : List (Level N)) → IsChild P f l.point b
+    → GoesBack f.parent b → GoesBack f.parent left × GoBackFrom f.parent (parents_of ls) → after ≡ l ∷ ls → GoBackFrom b (parents_of after)
+child_back {N} P left b f l ls after is back (has, below) top =
+    subst (λ (xs : List (Level N)). GoBackFrom b (parents_of xs)) (sym top) (
       subst (λ (h : Held). GoesBack h b) (sym is.parent) back,
-      subst (λ (h : Held). GoBackFrom h (parents_of fs)) (sym is.parent) below,
+      subst (λ (h : Held). GoBackFrom h (parents_of ls)) (sym is.parent) below,
     )
 
 -- and those below from the last.
-pub last_back : (left b : Held) (f : Fork) (fs : List Fork) → KeepsBack f.parent b → GoBackFrom left (parents_of (f ∷ fs))
-    → GoBackFrom b (parents_of fs)
-last_back left b f fs keeps (has, below) = go_back_on f.parent b (parents_of fs) keeps below
+pub last_back : {N : Type 0} (left b : Held) (f : Fork) (ls : List (Level N)) → KeepsBack f.parent b
+    → GoesBack f.parent left × GoBackFrom f.parent (parents_of ls) → GoBackFrom b (parents_of ls)
+last_back left b f ls keeps (has, below) = go_back_on f.parent b (parents_of ls) keeps below
+
+-- ---- What is told
+
+-- What was told of a branch is told of one that has its reductions and more.
+pub told_further : (P : NamedProgram) (rs more all : List Reduction) (t : Told) (key : List ℕ) → all ≡ rs ++ more
+    → IsTold P.program rs t key → IsTold P.program all t key
+told_further P rs more all t key e x =
+    subst (λ (l : List Reduction). IsTold P.program l t key) (sym e) (told_on P.program rs more (left_of t) (take t.length key) x)
+
+-- The levels stay where the key goes on.
+pub levels_longer : {N : Type 0} (P : NamedProgram) (key longer : List ℕ) (ls : List (Level N)) → IsPrefix key longer → AreTold P key ls
+    → AreTold P longer ls
+levels_longer P key longer [] begins told = tt
+levels_longer P key longer (l ∷ ls) begins (here, first, below) = (here, prefix_then l.point.longer key longer first begins, below)
+
+-- (What was told of a key is its beginning.)
+pub levels_left : {N : Type 0} (P : NamedProgram) (n : ℕ) (key : List ℕ) (ls : List (Level N)) → AreTold P (take n key) ls → AreTold P key ls
+levels_left P n key ls told = levels_longer P (take n key) key ls (drop n key, sym (take-append-drop n key)) told
+
+pub levels_kept : {N : Type 0} (P : NamedProgram) (n : ℕ) (key : List ℕ) (old new : List (Level N)) → new ≡ old
+    → AreTold P (take n key) (reverse old) → AreTold P key (reverse new)
+levels_kept {N} P n key old new same told =
+    subst (λ (xs : List (Level N)). AreTold P key (reverse xs)) (sym same) (levels_left P n key (reverse old) told)
+
+-- A branch was advanced, which has the same key.
+pub told_advanced : (P : NamedProgram) (b d : Held) (t : Told) → SameKey b d → KeepsBack b d → IsTold P.program b.reductions t b.key
+    → IsTold P.program d.reductions t d.key
+told_advanced P b d t same keeps x =
+    subst (λ (key : List ℕ). IsTold P.program d.reductions t key) (sym same.key)
+    (told_further P b.reductions keeps.made d.reductions t b.key keeps.grows x)
+
+pub levels_advanced : {N : Type 0} (P : NamedProgram) (b d : Held) (n : ℕ) (ls : List (Level N)) → SameKey b d → AreTold P (take n b.key) ls
+    → AreTold P (take n d.key) ls
+levels_advanced {N} P b d n ls same told = subst (λ (key : List ℕ). AreTold P (take n key) ls) (sym same.key) told
+
+-- A branch that was forked is told of on its level.
+pub told_forked : {N : Type 0} (P : NamedProgram) (b left : Held) (told : List ℕ) (g : Goal) (clauses : List ℕ) (l : Level N)
+    (ls after : List (Level N)) → IsForkOf b g clauses l.point → IsTold P.program b.reductions l.told l.point.longer
+    → l.told.length ≡ length l.point.longer → left.key ≡ l.point.longer → IsPrefix told l.point.longer → AreTold P told ls
+    → after ≡ l ∷ ls → AreTold P left.key after
+told_forked {N} P b left told g clauses l ls after is x long key begins below top =
+    subst (λ (xs : List (Level N)). AreTold P left.key xs) (sym top) (
+      record { told = subst (λ (h : Held). IsTold P.program h.reductions l.told l.point.longer) (sym is.parent) x; long = long },
+      ([], key ∙ sym (append-nil l.point.longer)),
+      levels_longer P told l.point.longer ls begins below,
+    )
+
+-- Of a key with one more clause, as much is told as of the beginning.
+take_told : (n : ℕ) (longer key : List ℕ) (c : ℕ) → n ≡ length longer → key ≡ longer ++ c ∷ [] → take n key ≡ longer
+take_told n longer key c long is =
+    ap (λ k. take k key) long ∙ ap (take (length longer)) is ∙ take-append_seam longer (c ∷ [])
+
+module _ {N : Type 0} (P : NamedProgram) (l : Level N) (g : Fork) (b : Held) (t : Told) (here : IsToldOf P l) (is : IsChild P l.point g b)
+    (same : t.length ≡ l.told.length) (left : left_of t ≡ left_of l.told) where
+  key_told : take t.length b.key ≡ l.point.longer
+  key_told = take_told t.length l.point.longer b.key is.clause (same ∙ here.long) is.key
+
+  -- The next child is told of as far as the branch that was forked,
+  pub child_told : (made : List Reduction) → b.reductions ≡ l.point.parent.reductions ++ made → IsTold P.program b.reductions t b.key
+  child_told made grows =
+      let rs = l.point.parent.reductions in
+      let whole : take l.told.length l.point.longer ≡ l.point.longer =
+      ap (λ k. take k l.point.longer) here.long ∙ take-length l.point.longer in
+      let all : IsToldTo P.program b.reductions (left_of l.told) (take l.told.length l.point.longer) =
+      told_further P rs made b.reductions l.told l.point.longer grows here.told in
+      subst (λ (key : List ℕ). IsToldTo P.program b.reductions (left_of t) key) (whole ∙ sym key_told)
+      (subst (λ (vs : List Visits.Visit). IsToldTo P.program b.reductions vs (take l.told.length l.point.longer)) (sym left) all)
+
+  -- and so are the levels below it,
+  pub below_told : (ls : List (Level N)) → AreTold P l.point.longer ls → AreTold P (take t.length b.key) ls
+  below_told ls below = subst (λ (key : List ℕ). AreTold P key ls) (sym key_told) below
+
+  -- where its own is put back too.
+  pub levels_told : (m : Level N) (ls after : List (Level N)) → m.point ≡ g → m.told ≡ l.told → AreTold P l.point.longer ls → after ≡ m ∷ ls
+      → AreTold P (take t.length b.key) after
+  levels_told m ls after point told below top =
+      let longer : m.point.longer ≡ l.point.longer = ap (λ (f : Fork). f.longer) point ∙ is.longer in
+      let parent : m.point.parent ≡ l.point.parent = ap (λ (f : Fork). f.parent) point ∙ is.parent in
+      subst (λ (xs : List (Level N)). AreTold P (take t.length b.key) xs) (sym top) (
+        record {
+          told = subst (λ (u : Told). IsTold P.program m.point.parent.reductions u m.point.longer) (sym told)
+              (subst (λ (key : List ℕ). IsTold P.program m.point.parent.reductions l.told key) (sym longer)
+              (subst (λ (h : Held). IsTold P.program h.reductions l.told l.point.longer) (sym parent) here.told));
+          long = ap (λ (u : Told). u.length) told ∙ here.long ∙ ap (λ (cs : List ℕ). length cs) (sym longer);
+        },
+        ([], key_told ∙ sym longer ∙ sym (append-nil m.point.longer)),
+        subst (λ (key : List ℕ). AreTold P key ls) (sym longer) below,
+      )

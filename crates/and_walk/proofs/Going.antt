@@ -1,8 +1,10 @@
 -- How a walk goes on, by what the state of the branch on top is.
-use Rattle.std.proofs.Common.{ℕ, ◌+◌, ◌≡◌, ◌<◌, ◌≤◌, Bool, true, false, ◌||◌, List, [], ◌∷◌, ◌++◌}
+use Rattle.std.proofs.Common.{ℕ, ◌+◌, ◌≡◌, ◌<◌, ◌≤◌, Bool, true, false, ◌||◌, List, [], ◌∷◌, ◌++◌, length}
 use Rattle.std.proofs.Common.{refl, sym, ap, ◌∙◌, subst, arith, inl, inr}
+use Rattle.std.proofs.Math.Bool.{or-true}
 use Rattle.std.specs.Prelude.{Some, None}
 use Rattle.std.specs.Option.{option_or}
+use Rattle.std.proofs.lemmas.List.{length-append}
 use Rattle.and_model.specs.Limits.{at_goal}
 use Rattle.and_model.specs.Listing
 use Rattle.and_model.specs.Listing.{Ends}
@@ -27,7 +29,7 @@ use Rattle.and_walk_laws.specs.Walks.{Walks, Owes, SplitsBy}
 use Rattle.and_walk_laws.proofs.Owing.{owed_root, owed_steps, owed_dead, owed_end, owed_over, owed_none}
 use Rattle.and_walk_laws.proofs.Forking.{owed_fitting}
 use Rattle.and_search_laws.specs.Found.{IsFound}
-use Rattle.and_walk.specs.Walked.{IsWalk, WasWalked}
+use Rattle.and_walk.specs.Walked.{IsWalk, WasWalked, HasOneMore}
 use Rattle.and_search_laws.specs.Ended.{IsEndSoFar}
 use Rattle.and_walk.specs.Walking.{StackHas, Walking, GoesOn, turns, Task, One}
 use Rattle.and_walk.proofs.Turns.{fewer_gone, grown_turns}
@@ -140,6 +142,7 @@ module _ (P : NamedProgram) (limit : ℕ) where
     is_cut = w.is_cut;
     walks = has_walked found w;
     counted = λ none. subst (λ c. IsEndSoFar P.program limit found w.forks w.failed w.is_cut c) none w.end;
+    cut_off = λ cut is. (subst (λ c. IsEndSoFar P.program limit found w.forks w.failed w.is_cut c) is w.end).0;
   }
 
   -- The branch on top is replaced by one whose tree it comes to by Steps.
@@ -180,7 +183,7 @@ module _ (P : NamedProgram) (limit : ℕ) where
           is_cut = x.is_cut;
           owes = with_entries P limit x.others (listed old) (listed new) x.forks (x.failed + 1) x.is_cut rest.1
               (owed_dead P.program limit (query P) x.tree x.others (listed old) x.forks x.failed x.is_cut x.owes (dead x.tree x.branch));
-          end = end_counted P.program limit old new x.forks x.failed x.forks (x.failed + 1) x.is_cut x.is_cut rest.0 (λ e. e)
+          end = end_counted P.program limit old new x.forks x.failed x.forks (x.failed + 1) x.is_cut x.is_cut rest.0 refl
               (λ e. forks ∙ e) (λ e. failed ∙ one_counted old.failed x.failed e) x.end;
         };
         fewer = fewer_gone limit (One b) stack;
@@ -207,7 +210,7 @@ module _ (P : NamedProgram) (limit : ℕ) where
           owes = with_entries P limit x.others (listed old ++ record { code = code x.tree; outcome = e.outcome } ∷ []) (listed new)
               x.forks x.failed x.is_cut is
               (owed_end P.program limit (query P) x.tree x.others (listed old) x.forks x.failed x.is_cut e.outcome x.owes light has_ended);
-          end = end_counted P.program limit old new x.forks x.failed x.forks x.failed x.is_cut x.is_cut same.cut (λ h. h)
+          end = end_counted P.program limit old new x.forks x.failed x.forks x.failed x.is_cut x.is_cut same.cut refl
               (λ h. same.forks ∙ h) (λ h. same.failed ∙ h) x.end;
         };
         fewer = fewer_gone limit (One b) stack;
@@ -225,9 +228,9 @@ module _ (P : NamedProgram) (limit : ℕ) where
           reached : ReachedBy P.program limit b.key x.tree
           reached = subst (λ n. ReachedBy P.program n b.key x.tree) x.limited x.branch.reached
 
-          off_with : (f : ℕ) (d : Bool) → Owes P.program limit (query P) x.others (listed old) f x.failed d → MeetsLimit P.program limit cut
+          off_with : (f : ℕ) (d : Bool) → Owes P.program limit (query P) x.others (listed old) f x.failed d → d ≡ true → MeetsLimit P.program limit cut
               → GoesOn P limit (One b ∷ stack) new stack
-          off_with f d owes meets = record {
+          off_with f d owes flag meets = record {
             walking = record {
               trees = x.others;
               has = x.below;
@@ -235,7 +238,7 @@ module _ (P : NamedProgram) (limit : ℕ) where
               failed = x.failed;
               is_cut = d;
               owes = with_entries P limit x.others (listed old) (listed new) f x.failed d same owes;
-              end = end_cut P.program limit old new x.forks x.failed f x.failed x.is_cut d cut kept meets x.end;
+              end = end_cut P.program limit old new x.forks x.failed f x.failed x.is_cut d cut kept flag meets x.end;
             };
             fewer = fewer_gone limit (One b) stack;
           }
@@ -245,10 +248,20 @@ module _ (P : NamedProgram) (limit : ℕ) where
               let s = state_within P limit b x.tree (over_one o c) x.limited one in
               let (next, step, heavy) = one_over P.program limit x.tree o c s in
               off_with x.forks true (owed_over P.program limit (query P) x.tree next x.others (listed old)
-              x.forks x.failed x.is_cut x.owes step heavy)
+              x.forks x.failed x.is_cut x.owes step heavy) refl
               (at_goal x.tree o c, is, over_one_cut P.program limit b.key x.tree reached o c s)
           off (o, c, is, inr all) =
               let s = state_within P limit b x.tree (over_all o c) x.limited all in
               off_with (x.forks + 1) (x.is_cut || true)
-              (all_over P limit x.others (listed old) x.forks x.failed x.is_cut x.tree o c s x.owes)
+              (all_over P limit x.others (listed old) x.forks x.failed x.is_cut x.tree o c s x.owes) (or-true x.is_cut)
               (at_goal x.tree o c, is, over_all_cut P.program limit b.key x.tree reached o c s)
+
+-- ---- How many entries there are
+
+-- None came,
+pub none_more : (old new : Found) → listed new ≡ listed old → HasOneMore old new
+none_more old new same = let long = ap length same in omega arith
+
+-- or one did.
+pub one_more : (old new : Found) (e : Listing.Entry) → listed new ≡ listed old ++ e ∷ [] → HasOneMore old new
+one_more old new e is = let long = ap length is ∙ length-append (listed old) (e ∷ []) in omega arith

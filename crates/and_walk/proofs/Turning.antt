@@ -6,7 +6,6 @@ use Rattle.and_model.specs.Reached.{Steps}
 use Rattle.and_cells.specs.Ranges.{NamedProgram}
 use Rattle.and_branch_laws.specs.States.{StateOf, determinate}
 use Rattle.and_branch.specs.Branches.{Held, IsBranchOf, SameKey}
-use Rattle.and_branch.specs.declared.state.BranchState.TheVariants as told
 use Rattle.and_answers.specs.Kept.{listed}
 use Rattle.and_answers.specs.declared.found.Found.{Found}
 use Rattle.and_search_laws.specs.Found.{IsFound}

@@ -1,28 +1,42 @@
 -- What a walk has found so far, and what is still to be walked (this project's own).
 use Rattle.std.specs.Prelude.{ℕ, zero, suc, ◌+◌, ◌-◌, ◌*◌, ◌^◌, ◌<◌, ◌≡◌, ◌≢◌, Bool, List, [], ◌∷◌, ◌++◌}
 use Rattle.std.specs.Prelude.{length, map}
+use Rattle.and_model.specs.Prefixes.{IsPrefix}
 use Rattle.and_model.specs.Trees.{QueryTree, Open, blank, query_agenda}
 use Rattle.and_cells.specs.Ranges.{NamedProgram}
 use Rattle.and_branch_laws.specs.States.{StateOf, determinate}
 use Rattle.and_branch.specs.Branches.{Held, IsBranchOf}
 use Rattle.and_branch.specs.Children.{Fork, AreChildren}
+use Rattle.and_code.specs.Telling.{IsTold}
 use Rattle.and_answers.specs.Kept.{listed}
 use Rattle.and_answers.specs.declared.found.Found.{Found}
 use Rattle.and_walk_laws.specs.Walks.{Owes, SplitsBy}
 use Rattle.and_search_laws.specs.Ended.{IsEndSoFar}
+use Rattle.and_walk.specs.declared.stack.Level.{Level}
 
 -- What is still to be walked: a branch, or the children of a fork that are still to come.
 pub data Task : Type 0 where
   One : Held → Task
   Children : Fork → Task
 
--- the children of forks,
-abbrev pub tasks_of : List Fork → List Task
-tasks_of fs = map Children fs
+-- the children of the forks on a stack,
+abbrev pub tasks_of : {N : Type 0} → List (Level N) → List Task
+tasks_of ls = map (λ l. Children l.point) ls
 
 -- and the branches that were forked
-abbrev pub parents_of : List Fork → List Held
-parents_of fs = map (λ (f : Fork). f.parent) fs
+abbrev pub parents_of : {N : Type 0} → List (Level N) → List Held
+parents_of ls = map (λ l. l.point.parent) ls
+
+-- The key is told as far as it was decided in the branch that was forked.
+pub record IsToldOf {N : Type 0} (P : NamedProgram) (l : Level N) : Type 0 where
+  pub told : IsTold P.program l.point.parent.reductions l.told l.point.longer
+  pub long : l.told.length ≡ length l.point.longer
+
+-- So it is on each level of a stack. What was decided there is the beginning of the key, and what was on the level
+-- below the beginning of that.
+abbrev pub AreTold : {N : Type 0} → NamedProgram → (key : List ℕ) → List (Level N) → Type 0
+AreTold P key [] = Unit {0}
+AreTold P key (l ∷ ls) = IsToldOf P l × IsPrefix l.point.longer key × AreTold P l.point.longer ls
 
 -- The branch stands for the one tree.
 pub record IsOne (P : NamedProgram) (limit : ℕ) (b : Held) (trees : List (QueryTree P.program)) : Type 0 where

@@ -1,15 +1,16 @@
 //! The search on one thread: branches are walked depth first.
 #![tactic(auto)]
 
-ghost use Rattle.std.specs.Prelude.{◌≤◌, IfOk};
+ghost use Rattle.std.specs.Prelude.{◌≤◌, length, IfOk};
 ghost use Rattle.and_model.specs.declared.limits.TheConstants.{MAX_LIMIT};
 ghost use Rattle.and_program.specs.Loaded.{program_of};
 ghost use Rattle.and_cells.specs.Parts.{named};
 ghost use Rattle.and_clause_index.specs.Tables.{IsTableOf};
+ghost use Rattle.and_answers.specs.Kept.{listed};
 ghost use Rattle.and_search_laws.specs.Found.{IsFound, FindsFirst};
 ghost use Rattle.and_walk.specs.Walked.{WasWalked};
 
-mod stack;
+pub mod stack;
 mod walker;
 
 use crate::walker::walk_named;
@@ -54,7 +55,7 @@ pub fn walk_watched<G: Gate>(
 }
 
 /// The first answers of a program within a limit, in the order of their codes: as many as are asked for, or all where
-/// there are fewer, and how the search ended then. It goes on until it has so many. A gate is told of each reduction
+/// there are fewer, and how the search ended then. It stops where it has so many. A gate is told of each reduction
 /// before it is made, and of each answer. An error is want of memory.
 pub fn walk_first<G: Gate>(
     alloc: Global,
@@ -66,7 +67,8 @@ pub fn walk_first<G: Gate>(
 ) -> Result<Found, AllocError>
     requires table { IsTableOf (named loaded.now) table.now }
     requires limit { limit ≤ MAX_LIMIT }
-    ensures { IfOk result (FindsFirst (program_of loaded.now) limit count) }
+    ensures first { IfOk result (FindsFirst (program_of loaded.now) limit count) }
+    ensures few { IfOk result (λ found. length (listed found) ≤ count) }
 {
     walk_named::<Brand, G>(alloc, loaded, table, limit, Some(count), gate)
 }

@@ -1,4 +1,4 @@
-use Rattle.std.proofs.Common.{◌<◌, ◌≤◌, length, sym, subst}
+use Rattle.std.proofs.Common.{[], ◌<◌, ◌≤◌, length, append-nil, sym, subst}
 use Rattle.std.specs.Prelude.{Option}
 use Rattle.std.proofs.lemmas.List.Elements.{All-head, All-tail, All-contains}
 use Rattle.and_model.specs.declared.goal.Reduction.{Reduction}
@@ -8,11 +8,11 @@ use Rattle.and_code.specs.Written.{all_written}
 use Rattle.and_code.specs.declared.visiting.Visit.{Visit}
 use Rattle.and_code.proofs.Linking.{place_found, place_within}
 use Rattle.and_code.proofs.Trees.{clauses_named, places_behind}
-use Rattle.and_code.proofs.Turns.{HasGone, begun, begun_at_calls, nothing_left, call_open, call_taken, turn_fewer}
+use Rattle.and_code.proofs.Turns.{HasGone, begun, begun_at_calls, nothing_left, call_open, call_taken, turn_fewer, begins_still, is_missing}
 use Rattle.and_code.proofs.telling.tell.Goals as goal
 
 pub loop-next-init : goal.loop-next-init
-loop-next-init c = record { links = tt; told = c.requires.told }
+loop-next-init c = record { links = tt; told = c.requires.told; begins = ([], sym (append-nil c.args.code.now)) }
 
 pub returns-in-None-clause-decides : goal.returns-in-None-clause-decides
 returns-in-None-clause-decides c =
@@ -98,9 +98,22 @@ loop-next-preserved c =
     let so_far = subst (λ (next : Option Visit). HasGone P (all_written rs) (waiting old next) code) c.in-Some.is c.loop-next.invariant.told.goes_on in
     record {
       links = c.in_ok-taken-in-Some.ensures.links;
+      begins = begins_still c.args.code.now code c.push.new.self r.clause.0 c.loop-next.invariant.begins c.in_ok-push-in-Some-taken.ensures.ok;
       told = record {
         calls = c.in_ok-next-in-Some-taken.ensures.calls;
         goes_on = call_taken P rs v (visits_of old) code so_far (All-head (IsAtCall P) (visit_of v) (visits_of old) calls) new r c.push.new.self
             found c.in_ok-push-in-Some-taken.ensures.ok c.in_ok-next-in-Some-taken.ensures.leads;
       };
     }
+
+pub returns-then-is_at-clause-decides : goal.returns-then-is_at-clause-decides
+returns-then-is_at-clause-decides c =
+    let P = program_of c.args.loaded.now in
+    let rs = c.args.reductions.now in
+    let v = c.in-Some.visit in
+    let old = c.loop-next.visits.items in
+    let code = c.loop-next.code in
+    let calls = subst (λ (next : Option Visit). AreAtCalls P (waiting old next)) c.in-Some.is c.loop-next.invariant.told.calls in
+    let so_far = subst (λ (next : Option Visit). HasGone P (all_written rs) (waiting old next) code) c.in-Some.is c.loop-next.invariant.told.goes_on in
+    call_open P rs v (visits_of old) code so_far (All-head (IsAtCall P) (visit_of v) (visits_of old) calls)
+    (is_missing rs c.args.known v c.requires.known (c.is_at.ensures c.if-is_at.true))

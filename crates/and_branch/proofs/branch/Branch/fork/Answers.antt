@@ -1,30 +1,36 @@
-use Rattle.std.proofs.Common.{sym, subst}
-use Rattle.and_model.specs.Trees.{QueryTree}
-use Rattle.and_cells.specs.Parts.{named}
+use Rattle.std.proofs.Common.{List, ℕ, length, ap, sym, subst, ◌∙◌}
 use Rattle.and_branch.specs.Branches.{Held, IsBranchOf}
 use Rattle.and_branch.specs.Children.{AreChildren}
+use Rattle.and_branch.specs.Outlines.{IsOutlineOf}
 use Rattle.and_branch.specs.States.{numbers}
-use Rattle.and_branch.proofs.LinesTold.{made_there, decided_is}
 use Rattle.and_branch.proofs.ForkReduced.{are_children}
+use Rattle.and_branch.proofs.KeptOrigins.{back_by_key, outline_by_key}
 use Rattle.and_branch.proofs.branch.Branch.fork.Goals as goal
 
-pub decided_by-requires : goal.decided_by-requires
-decided_by-requires g c =
-    let P = g.N.Naming.program in
-    let (u, o, cut, y, is_open, state) = c.requires.fork in
-    let branch = subst (λ (b : Held). IsBranchOf P b u) (sym c.self.view_is) y in
-    record { made = made_there P (named c.args.loaded.now) c.requires.program _ (u, branch) }
+pub decide-requires-clause-goal : goal.decide-requires-clause-goal
+decide-requires-clause-goal g c = let (u, o, cut, y, is_open, state) = c.requires.fork in (u, o, y, is_open)
 
-pub returns-in-Ok-clause-children : goal.returns-in-Ok-clause-children
-returns-in-Ok-clause-children g c = λ t x.
+pub returns-clause-children : goal.returns-clause-children
+returns-clause-children g c = λ t x.
     let P = g.N.Naming.program in
-    let children = are_children P c.args.self c.args.goal c.in-Ok.longer (numbers c.args.clauses)
-    (λ u y. decided_is P (named c.args.loaded.now) c.requires.program _ u (subst (λ (b : Held). IsBranchOf P b u) (sym c.self.view_is) y)
-    c.in-Ok.longer
-    c.in-Ok.ensures) c.requires.fork t x in
-    subst (λ (b : Held). AreChildren P (record {
-      parent = b;
+    let code = c.decide.new.self.key in
+    let children = are_children P c.args.self c.args.goal code (numbers c.args.clauses) c.in_ok-decide.ensures.decided c.requires.fork t x in
+    subst (λ (longer : List ℕ). AreChildren P (record {
+      parent = c.of-parent.result.value;
       goal = c.args.goal;
-      longer = c.in-Ok.longer;
+      longer = longer;
       clauses = numbers c.args.clauses;
-    }) t) (sym c.of-parent.ensures) children
+    }) t) (sym (c.of-longer.ensures ∙ c.key.ensures))
+    (subst (λ (b : Held). AreChildren P (record { parent = b; goal = c.args.goal; longer = code; clauses = numbers c.args.clauses }) t)
+    (sym c.of-parent.ensures) children)
+
+pub returns-clause-back : goal.returns-clause-back
+returns-clause-back g c =
+    back_by_key c.args.self c.decide.new.self c.in_ok-decide.ensures.same _ c.into_outline-outline.ensures.back
+
+pub invariant_of-choicepoint : goal.invariant_of-choicepoint
+invariant_of-choicepoint g c = (
+  subst (λ (b : Held). IsOutlineOf b c.into_outline-outline.result.0) (sym c.of-parent.ensures)
+      (outline_by_key c.args.self c.decide.new.self c.in_ok-decide.ensures.same c.into_outline-outline.result.0 c.into_outline-outline.ensures.outline),
+  ap (λ (l : List ℕ). length l) (c.of-longer.ensures ∙ c.key.ensures ∙ sym c.key-2.ensures) ∙ sym c.len-decided.ensures,
+)

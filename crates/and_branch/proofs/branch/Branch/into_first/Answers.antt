@@ -1,10 +1,7 @@
-use Rattle.std.proofs.Common.{ap, ◌∙◌}
-use Rattle.and_branch.specs.Branches.{Held}
 use Rattle.and_branch.proofs.KeptOrigins.{outlined_first}
 use Rattle.and_branch.proofs.branch.Branch.into_first.Goals as goal
 
 pub returns : goal.returns
 returns g c =
-    ap (λ (h : Held). record h { key = c.args.key }) c.branch.view_is
-    ∙ outlined_first c.args.first.now.value c.args.outline c.requires.outline c.args.self c.go_back_by.new.self c.take_outline.new.self
-    c.args.key c.go_back_by.ensures c.take_outline.ensures
+    outlined_first c.args.first.now.value c.args.outline c.requires.outline c.args.self c.go_back_by.new.self c.take_outline.new.self
+    c.go_back_by.ensures c.take_outline.ensures

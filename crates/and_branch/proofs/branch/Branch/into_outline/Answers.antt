@@ -24,3 +24,6 @@ returns-clause-back g c =
     goes_nowhere c.args.self _ (ap (λ (h : Held). h.row) c.self.view_is) (ap (λ (h : Held). h.reductions) c.self.view_is)
     (c.begun.ensures ∙ ap (λ (n : ℕ). record { mark = Some n; cells = [] })
     (c.len-words.ensures.value ∙ ap (λ (h : Held). length h.row) c.self.view_is))
+
+pub returns-clause-key : goal.returns-clause-key
+returns-clause-key g c = ap (λ (h : Held). h.key) c.self.view_is

@@ -1,4 +1,5 @@
-use Rattle.std.proofs.Common.{ℕ, List, [], ◌∷◌, ◌++◌, ◌+◌, ◌≢◌, drop, refl, ap, sym, subst, ◌∙◌}
+use Rattle.std.proofs.Common.{ℕ, List, [], ◌∷◌, ◌++◌, ◌+◌, ◌≢◌, drop, take, refl, ap, sym, subst, ◌∙◌}
+use Rattle.and_model.specs.Prefixes.{IsPrefix}
 use Rattle.and_model.specs.Trees.{QueryTree}
 use Rattle.and_cells.specs.Rows.{IsSound}
 use Rattle.and_branch.specs.Branches.{Held}
@@ -7,7 +8,7 @@ use Rattle.and_branch.specs.Making.{noted_from}
 use Rattle.and_branch.specs.Origins.{GoesBack}
 use Rattle.and_branch.specs.States.{numbers}
 use Rattle.and_branch.proofs.ForkReduced.{begun_is, can_be_made, child_is, next_clause, parent_sound, some_left}
-use Rattle.and_branch.proofs.KeptOrigins.{goes_nowhere}
+use Rattle.and_branch.proofs.KeptOrigins.{goes_nowhere, key_again}
 use Rattle.and_branch.proofs.choicepoint.Choicepoint.next.Goals as goal
 
 pub at-clause-requires : goal.at-clause-requires
@@ -30,14 +31,17 @@ taking-requires-clause-begun g c =
     let f : Fork = record {
       parent = inside.parent.value;
       goal = inside.goal;
-      longer = inside.longer;
+      longer = inside.longer.value;
       clauses = numbers inside.clauses;
     } in
     let next = next_clause inside.clauses f.clauses inside.made c.at-clause.result.now refl c.at-clause.ensures in
     let can = can_be_made P f inside.made c.at-clause.result.now.0 next
     (subst (λ (h : Fork). (t : QueryTree P.program) × AreChildren P h t) (sym c.self.view_is) c.requires.children) in
-    let key = c.in_ok-push.ensures.ok ∙ ap (λ (l : List ℕ). l ++ c.at-clause.result.now.0 ∷ []) c.in_ok-key.ensures in
-    (f, begun_is P f c.at-clause.result.now.0 f.goal _ (noted_from f.parent.row) _ can refl key c.in_ok-begun.ensures)
+    let number = c.at-clause.result.now.0 in
+    let begins = subst (λ (h : Fork). IsPrefix h.longer c.args.left.key) (sym c.self.view_is) c.requires.key in
+    let key = ap (λ (l : List ℕ). l ++ number ∷ []) (key_again f.longer c.args.left.key c.self.inside.decided begins c.self.invariant.1) in
+    let is = c.in_ok-keyed.ensures ∙ ap (λ (h : Held). record h { key = take c.self.inside.decided h.key ++ number ∷ [] }) c.in_ok-begun.ensures in
+    (f, begun_is P f number f.goal _ (noted_from f.parent.row) _ can refl key is)
 
 pub returns-clause-child : goal.returns-clause-child
 returns-clause-child g c =
@@ -46,14 +50,17 @@ returns-clause-child g c =
     let f : Fork = record {
       parent = inside.parent.value;
       goal = inside.goal;
-      longer = inside.longer;
+      longer = inside.longer.value;
       clauses = numbers inside.clauses;
     } in
     let next = next_clause inside.clauses f.clauses inside.made c.at-clause.result.now refl c.at-clause.ensures in
     let can = can_be_made P f inside.made c.at-clause.result.now.0 next
     (subst (λ (h : Fork). (t : QueryTree P.program) × AreChildren P h t) (sym c.self.view_is) c.requires.children) in
-    let key = c.in_ok-push.ensures.ok ∙ ap (λ (l : List ℕ). l ++ c.at-clause.result.now.0 ∷ []) c.in_ok-key.ensures in
-    let begun = begun_is P f c.at-clause.result.now.0 f.goal _ (noted_from f.parent.row) _ can refl key c.in_ok-begun.ensures in
+    let number = c.at-clause.result.now.0 in
+    let begins = subst (λ (h : Fork). IsPrefix h.longer c.args.left.key) (sym c.self.view_is) c.requires.key in
+    let key = ap (λ (l : List ℕ). l ++ number ∷ []) (key_again f.longer c.args.left.key c.self.inside.decided begins c.self.invariant.1) in
+    let is = c.in_ok-keyed.ensures ∙ ap (λ (h : Held). record h { key = take c.self.inside.decided h.key ++ number ∷ [] }) c.in_ok-begun.ensures in
+    let begun = begun_is P f number f.goal _ (noted_from f.parent.row) _ can refl key is in
     let new : Fork = record f { clauses = drop (inside.made + 1) f.clauses } in
     subst (λ (h : Fork). IsChild P h new c.in_ok-child.child) c.self.view_is
     (child_is P f inside.made c.at-clause.result.now.0 next c.in_ok-child.child (c.in_ok-child.ensures.made f begun))
@@ -61,6 +68,8 @@ returns-clause-child g c =
 pub returns-clause-back : goal.returns-clause-back
 returns-clause-back g c =
     let parent = c.self.inside.parent.value in
-    let nowhere = goes_nowhere parent c.in_ok-begun.begun (ap (λ (h : Held). h.row) c.in_ok-begun.ensures)
-    (ap (λ (h : Held). h.reductions) c.in_ok-begun.ensures) (ap (λ (h : Held). h.trail) c.in_ok-begun.ensures) in
+    let is = c.in_ok-keyed.ensures
+    ∙ ap (λ (h : Held). record h { key = take c.self.inside.decided h.key ++ c.at-clause.result.now.0 ∷ [] }) c.in_ok-begun.ensures in
+    let nowhere = goes_nowhere parent c.in_ok-keyed.keyed (ap (λ (h : Held). h.row) is) (ap (λ (h : Held). h.reductions) is)
+    (ap (λ (h : Held). h.trail) is) in
     subst (λ (h : Fork). GoesBack h.parent c.in_ok-child.child) c.self.view_is (c.in_ok-child.ensures.back.again parent nowhere)
