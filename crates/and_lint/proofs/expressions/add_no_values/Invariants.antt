@@ -1,0 +1,20 @@
+use Rattle.std.proofs.Common.{drop, map}
+use Rattle.std.specs.List.{flat_map}
+use Rattle.and_model.specs.Programs.{clause_at}
+use Rattle.and_program.specs.Loaded.{program_of}
+use Rattle.and_lint.specs.Findings.{no_value_lines_of}
+use Rattle.and_lint.specs.Kept.{Comes}
+use Rattle.and_lint.specs.Subterms.{subterms, expressions_of}
+use Rattle.and_program.specs.Loaded.{skeleton_of}
+use Rattle.and_program.specs.Skeletons.{item_of}
+use Rattle.and_program.specs.Items.{node_item}
+use Rattle.and_lint.proofs.expressions.add_no_values.Given as goal
+
+abbrev pub invariant-loop-item : goal.invariant-loop-item
+invariant-loop-item l =
+    let P = program_of l.loaded in
+    let k = clause_at P l.no.0 in
+    let f = no_value_lines_of P k in
+    Comes l.initial.findings (flat_map f (flat_map subterms (flat_map expressions_of k.body)))
+    l.findings (flat_map f (flat_map subterms
+    (flat_map expressions_of (map (item_of (skeleton_of l.loaded).nodes) (map node_item (drop l.item-index l.item-items))))))

@@ -1,0 +1,55 @@
+use Rattle.std.proofs.Common.{◌≡◌, ◌∙◌, ◌||◌, Bool, true, false, List, [], ◌∷◌, length, ap, sym, subst}
+use Rattle.and_model.specs.Terms.{Term}
+use Rattle.and_model.specs.declared.numbers.NodeNo.{NodeNo}
+use Rattle.and_program.specs.Loaded.{skeleton_of}
+use Rattle.and_program.specs.Skeletons.{Shape, node_term}
+use Rattle.std.proofs.Common.{Option}
+use Rattle.and_lint.specs.Kept.{Walked, ahead}
+use Rattle.and_lint.proofs.Steps.{fewer_ahead, there_alone}
+use Rattle.std.specs.List.{list_any}
+use Rattle.std.proofs.lemmas.Bool.{or_left}
+use Rattle.and_lint.specs.Subterms.{is_leaf}
+use Rattle.and_lint.proofs.Steps.{ahead_alone}
+use Rattle.and_lint.proofs.operators.has_leaf.Goals as goal
+
+pub loop-left-init : goal.loop-left-init
+loop-left-init c =
+    let ss : List Shape = (skeleton_of c.args.loaded.now).nodes in
+    let alone : c.push.new.self.items ≡ c.args.node ∷ [] = rw c.new-left.ensures.items at c.in_ok-push.ensures.items in (
+      there_alone (length ss) c.push.new.self.items c.args.node alone c.requires,
+      ap (λ (ts : List Term). list_any is_leaf ts) (ahead_alone ss c.push.new.self.items c.args.node alone),
+    )
+
+pub loop-left-smaller : goal.loop-left-smaller
+loop-left-smaller c =
+    let ss : List Shape = (skeleton_of c.args.loaded.now).nodes in
+    let step = subst (λ (o : Option NodeNo). Walked ss c.loop-left.left.items c.next_subterm.new.left.items o) c.in-Some.is c.in_ok-next.ensures in
+    fewer_ahead (ahead ss c.loop-left.left.items) (ahead ss c.next_subterm.new.left.items) (node_term ss c.in-Some.next.0) step.2
+
+pub next_subterm-requires : goal.next_subterm-requires
+next_subterm-requires c = c.loop-left.invariant.0
+
+pub loop-left-preserved : goal.loop-left-preserved
+loop-left-preserved c =
+    let ss : List Shape = (skeleton_of c.args.loaded.now).nodes in
+    let step = subst (λ (o : Option NodeNo). Walked ss c.loop-left.left.items c.next_subterm.new.left.items o) c.in-Some.is c.in_ok-next.ensures in
+    let no : is_leaf (node_term ss c.in-Some.next.0) ≡ false = sym c.is_leaf.ensures ∙ c.if-is_leaf.false in (
+      step.1,
+      sym (ap (λ (b : Bool). b || list_any is_leaf (ahead ss c.next_subterm.new.left.items)) no)
+          ∙ sym (ap (λ (ts : List Term). list_any is_leaf ts) step.2) ∙ c.loop-left.invariant.1,
+    )
+
+pub returns-then-is_leaf : goal.returns-then-is_leaf
+returns-then-is_leaf c =
+    let ss : List Shape = (skeleton_of c.args.loaded.now).nodes in
+    let step = subst (λ (o : Option NodeNo). Walked ss c.loop-left.left.items c.next_subterm.new.left.items o) c.in-Some.is c.in_ok-next.ensures in
+    let yes : is_leaf (node_term ss c.in-Some.next.0) ≡ true = sym c.is_leaf.ensures ∙ c.if-is_leaf.true in
+    sym (or_left (is_leaf (node_term ss c.in-Some.next.0)) (list_any is_leaf (ahead ss c.next_subterm.new.left.items)) yes)
+    ∙ sym (ap (λ (ts : List Term). list_any is_leaf ts) step.2) ∙ c.loop-left.invariant.1
+
+pub returns-in-None : goal.returns-in-None
+returns-in-None c =
+    let ss : List Shape = (skeleton_of c.args.loaded.now).nodes in
+    sym (ap (λ (ts : List Term). list_any is_leaf ts)
+    (subst (λ (o : Option NodeNo). Walked ss c.loop-left.left.items c.next_subterm.new.left.items o) c.in-None.is c.in_ok-next.ensures))
+    ∙ c.loop-left.invariant.1
