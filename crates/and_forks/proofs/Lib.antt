@@ -1,0 +1,6 @@
+mod WrittenLines
+mod Counted
+mod Agreed
+mod Owing
+mod Splitting
+mod Going
