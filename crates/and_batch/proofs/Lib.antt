@@ -1,0 +1,6 @@
+mod Totals
+mod Moves
+mod BelowCount
+mod Called
+mod Taking
+mod Slots

@@ -1,0 +1,10 @@
+use Rattle.crossbeam_queue.specs.Passes.{view, IsPassOf}
+use Rattle.and_batch.specs.Working.{AreDue, TookThese}
+use Rattle.and_batch.proofs.working.work.Given as goal
+
+abbrev pub invariant-working : goal.invariant-working
+invariant-working g l = record {
+  pass : IsPassOf l.numbers l.pass;
+  took : TookThese (view l.fn.pass) (view l.pass) l.dones.items;
+  due : AreDue (g.J.Job.due l.job) l.dones.items;
+}

@@ -1,0 +1,90 @@
+//! Jobs, the tickets by which they are done, and what comes of them.
+
+ghost use Rattle.std.specs.Prelude.{◌≡◌, ℕ, List, IfOk};
+ghost use Rattle.and_batch.specs.Dones.{done};
+
+use and_model::Text;
+use std::alloc::AllocError;
+use std::marker::Model;
+
+/// The right to do a job once: it has the job's number, can't be copied, and is made by a batch alone. Contracts see
+/// it as the number.
+#[derive(Drop, Debug)]
+pub struct Ticket {
+    number: u32,
+}
+
+impl Model for Ticket {
+    ghost Value = { ℕ };
+
+    ghost view = { λ t. t.number };
+}
+
+impl Ticket {
+    /// The ticket of a number. Takes no memory.
+    pub(crate) fn new(number: u32) -> Ticket
+        ensures { result ≡ number }
+    {
+        Ticket { number }
+    }
+
+    /// The number of the job. Takes no memory.
+    pub fn number(&self) -> u32
+        ensures { result ≡ self.now }
+    {
+        self.number
+    }
+
+    /// What came of the job. Takes no memory.
+    pub fn done(self, text: Text) -> Done
+        ensures { result ≡ done self text }
+    {
+        Done {
+            number: self.number,
+            text,
+        }
+    }
+}
+
+/// What came of a job: its number and its text.
+#[derive(Drop, Debug)]
+pub struct Done {
+    number: u32,
+    text: Text,
+}
+
+impl Model for Done {
+    ghost use Rattle.and_batch.specs.Dones.{DoneSeen, done};
+
+    ghost Value = { DoneSeen };
+
+    ghost view = { λ d. done d.number d.text };
+}
+
+impl Done {
+    /// The number of the job. Takes no memory.
+    pub(crate) fn number(&self) -> u32
+        ensures { result ≡ self.now.number }
+    {
+        self.number
+    }
+
+    /// The text that came of the job. Takes no memory.
+    pub(crate) fn into_text(self) -> Text
+        ensures { result ≡ self.text }
+    {
+        self.text
+    }
+}
+
+/// Numbered jobs. What may come of each is a relation of its number and its text.
+pub trait Job: Sync {
+    /// The text may come of the job of that number.
+    ghost due: { Self → ℕ → List ℕ → Type 0 };
+
+    /// Does the job of the ticket's number. It may wait: a job that does keeps the runtime that it needs in a field of
+    /// its own. An error is want of memory.
+    fn run(&self, ticket: Ticket) -> Result<Done, AllocError>
+        ensures number { IfOk result (λ d. d.number ≡ ticket) }
+        ensures due { IfOk result (λ d. due self.now d.number d.text) };
+}
