@@ -8,20 +8,23 @@ use Rattle.and_command.specs.Forms.{form_of, takes}
 use Rattle.and_command.specs.Given.{nothing, first_given, with, with_value, with_number, with_stats, settings_of}
 use Rattle.and_command.specs.Commands.{Gives, ends, apart, joined, alone, flagged, IsCommand, made}
 use Rattle.and_command.specs.declared.options.Name.{Name}
-use Rattle.and_command.specs.declared.options.Name.TheVariants.{Limit, Teams, Workers}
+use Rattle.and_command.specs.declared.options.Name.TheVariants.{Limit, Jobs, Teams, Workers}
 use Rattle.and_command.specs.declared.forms.Form.{Form}
 use Rattle.and_command.specs.declared.forms.Kind.{Kind}
 use Rattle.and_command.specs.declared.forms.Kind.TheVariants as kinds
 use Rattle.and_command.specs.declared.given.Given.{Given}
 use Rattle.and_command.specs.declared.given.Settings.{Settings}
 use Rattle.and_command.specs.declared.reading.Command.TheVariants.{Demo, Explain, First}
-use Rattle.and_command.proofs.CommandLemmas.{after, the_same}
+use Rattle.and_command.proofs.WordLemmas.{after, the_same}
 use Rattle.and_command.proofs.RangeLemmas.{numbered}
 
 -- a form that takes no limit is given none
 with_limit : (form : Form) (name : Name) (value : ℕ) (g h : Given) → form.limit ≡ false → takes form name ≡ true → with name value g ≡ Some h
     → g.limit ≡ h.limit
 with_limit form Limit value g h none takes_it is = let bad : false ≡ true = sym none ∙ takes_it in absurd (cc)
+with_limit form Jobs value g h none takes_it is =
+    let made = after (λ v. Some (record g { jobs = v })) (first_given value g.jobs) h is in
+    ap (λ (g : Given). g.limit) (the_same (record g { jobs = made.0 }) h made.2)
 with_limit form Teams value g h none takes_it is =
     let made = after (λ v. Some (record g { teams = v })) (first_given value g.teams) h is in
     ap (λ (g : Given). g.limit) (the_same (record g { teams = made.0 }) h made.2)
@@ -71,8 +74,12 @@ demo_made kinds.Demo g words n settings gives is =
     ap (λ (s : Settings). s.limit) (sym same) ∙ ap (λ o. unwrap_or o DEFAULT_LIMIT) (sym (no_limit form nothing g words refl gives))
 demo_made kinds.Explain g words n settings gives is =
     let how = numbered (λ n. Explain n (settings_of (form_of kinds.Explain) g)) g.number (Demo n settings) is in absurd (cc)
+demo_made kinds.Verify g words n settings gives is = absurd (cc)
+demo_made kinds.Tree g words n settings gives is = absurd (cc)
+demo_made kinds.Batch g words n settings gives is = absurd (cc)
 demo_made kinds.First g words n settings gives is =
     let how = numbered (λ n. First n (settings_of (form_of kinds.First) g)) g.number (Demo n settings) is in absurd (cc)
+demo_made kinds.Lint g words n settings gives is = absurd (cc)
 
 pub demo_limit : (words : List Bytes) (n : ℕ) (settings : Settings) → IsCommand words (Demo n settings) → settings.limit ≡ DEFAULT_LIMIT
 demo_limit words n settings (word, rest, kind, g, is, named, gives, makes) = demo_made kind g rest n settings gives makes

@@ -1,6 +1,12 @@
 pub mod WordLemmas
 pub mod NumberLemmas
-pub mod ReadingLemmas
-pub mod CommandLemmas
+pub mod SeenLemmas
+pub mod CheckingLemmas
+pub mod CheckLemmas
 pub mod RangeLemmas
 pub mod CallerLemmas
+pub mod ReaderLemmas
+pub mod Texts
+pub mod Rows
+pub mod Walks
+pub mod MatchLemmas

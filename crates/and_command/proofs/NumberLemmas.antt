@@ -8,7 +8,10 @@ use Rattle.std.specs.Result.{OkIff}
 use Rattle.std.proofs.lemmas.Str.Parse.{tells_all_ascii_digits, numerals_by_value, parse_digits}
 use Rattle.std.specs.Str.{all_ascii_digits}
 use Rattle.and_model.specs.Lines.{Bytes}
-use Rattle.and_command.specs.Options.{is_numeral, is_within, number_in}
+use Rattle.and_command.specs.Options.{is_numeral, is_within, number_in, value_of}
+use Rattle.and_command.specs.Values.{Writes}
+use Rattle.and_command.specs.declared.options.Name.{Name}
+use Rattle.and_command.specs.declared.options.Name.TheVariants.{Limit, Jobs, Teams, Workers}
 
 both : (a b : Bool) → (a && b) ≡ true → (a ≡ true) × (b ≡ true)
 both true b is = (refl, is)
@@ -75,3 +78,22 @@ is_in_range longest least most word n is =
     let how = from_chosen (is_numeral longest word && is_within least most v) v n is in
     let told = says longest least most word how.0 in
     (omega (arith, told.2, how.1), omega (arith, told.3, how.1))
+
+-- and is written by digits alone
+pub number_writes : (longest least most : ℕ) (word : Bytes) (n : ℕ) → most < 2 ^ 32 → number_in longest least most word ≡ Some n → Writes word n
+number_writes longest least most word n small is =
+    let v = digits_value 10 word in
+    let how = from_chosen (is_numeral longest word && is_within least most v) v n is in
+    let told = says longest least most word how.0 in
+    record {
+      digits = told.4;
+      some = told.0;
+      number = how.1;
+      small = omega (arith, told.3, how.1, small);
+    }
+
+pub value_writes : (name : Name) (word : Bytes) (n : ℕ) → value_of name word ≡ Some n → Writes word n
+value_writes Limit word n is = number_writes 7 1 4194304 word n (omega arith) is
+value_writes Jobs word n is = number_writes 7 1 8 word n (omega arith) is
+value_writes Teams word n is = number_writes 7 1 16 word n (omega arith) is
+value_writes Workers word n is = number_writes 7 1 8 word n (omega arith) is

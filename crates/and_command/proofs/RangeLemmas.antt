@@ -5,19 +5,19 @@ use Rattle.std.specs.Option.{option_map}
 use Rattle.and_model.specs.Lines.{Bytes}
 use Rattle.and_command.specs.Options.{most_of, value_of}
 use Rattle.and_command.specs.Forms.{form_of, number_of}
-use Rattle.and_command.specs.Given.{nothing, first_given, with, with_value, with_number, with_stats, limit_of, hands_of, settings_of}
+use Rattle.and_command.specs.Given.{nothing, first_given, with, with_value, with_number, with_stats, limit_of, jobs_of, hands_of, settings_of}
 use Rattle.and_command.specs.Commands.{Gives, ends, apart, joined, alone, flagged, IsCommand, IsWithin, AreInRange, IsInRange, made}
 use Rattle.and_command.specs.declared.options.Name.{Name}
-use Rattle.and_command.specs.declared.options.Name.TheVariants.{Limit, Teams, Workers}
+use Rattle.and_command.specs.declared.options.Name.TheVariants.{Limit, Jobs, Teams, Workers}
 use Rattle.and_command.specs.declared.forms.Form.{Form}
 use Rattle.and_command.specs.declared.forms.Number.{Number}
 use Rattle.and_command.specs.declared.forms.Kind.{Kind}
 use Rattle.and_command.specs.declared.forms.Kind.TheVariants as kinds
 use Rattle.and_command.specs.declared.given.Given.{Given}
 use Rattle.and_command.specs.declared.reading.Command.{Command}
-use Rattle.and_command.specs.declared.reading.Command.TheVariants.{Run, Check, Demo, Explain, First}
+use Rattle.and_command.specs.declared.reading.Command.TheVariants.{Run, Check, Demo, Explain, Verify, Tree, Batch, First, Lint}
 use Rattle.and_command.proofs.NumberLemmas.{is_in_range}
-use Rattle.and_command.proofs.CommandLemmas.{after, the_same}
+use Rattle.and_command.proofs.WordLemmas.{after, the_same}
 
 -- a number is in the range, where there is one
 abbrev HasRange : ℕ → ℕ → Option ℕ → Type 0
@@ -35,7 +35,8 @@ HasNumber o (Some n) = IsNumber o n
 
 module _ (form : Form) where
   abbrev HaveRanges : Given → Type 0
-  HaveRanges g = HasRange 1 4194304 g.limit × HasRange 1 16 g.teams × HasRange 1 8 g.workers × HasNumber form.number g.number
+  HaveRanges g = HasRange 1 4194304 g.limit × HasRange 1 8 g.jobs × HasRange 1 16 g.teams × HasRange 1 8 g.workers
+      × HasNumber form.number g.number
 
   given_first : (least most value : ℕ) (o v : Option ℕ) → IsWithin least most value → first_given value o ≡ Some v → HasRange least most v
   given_first least most value None v within is = subst (HasRange least most) (the_same (Some value) v is) within
@@ -46,15 +47,19 @@ module _ (form : Form) where
   with_ranges Limit value g h within is old =
       let made = after (λ v. Some (record g { limit = v })) (first_given value g.limit) h is in
       subst HaveRanges (the_same (record g { limit = made.0 }) h made.2)
-      (given_first 1 4194304 value g.limit made.0 within made.1, old.1, old.2, old.3)
+      (given_first 1 4194304 value g.limit made.0 within made.1, old.1, old.2, old.3, old.4)
+  with_ranges Jobs value g h within is old =
+      let made = after (λ v. Some (record g { jobs = v })) (first_given value g.jobs) h is in
+      subst HaveRanges (the_same (record g { jobs = made.0 }) h made.2)
+      (old.0, given_first 1 8 value g.jobs made.0 within made.1, old.2, old.3, old.4)
   with_ranges Teams value g h within is old =
       let made = after (λ v. Some (record g { teams = v })) (first_given value g.teams) h is in
       subst HaveRanges (the_same (record g { teams = made.0 }) h made.2)
-      (old.0, given_first 1 16 value g.teams made.0 within made.1, old.2, old.3)
+      (old.0, old.1, given_first 1 16 value g.teams made.0 within made.1, old.3, old.4)
   with_ranges Workers value g h within is old =
       let made = after (λ v. Some (record g { workers = v })) (first_given value g.workers) h is in
       subst HaveRanges (the_same (record g { workers = made.0 }) h made.2)
-      (old.0, old.1, given_first 1 8 value g.workers made.0 within made.1, old.3)
+      (old.0, old.1, old.2, given_first 1 8 value g.workers made.0 within made.1, old.4)
 
   value_ranges : (name : Name) (word : Bytes) (g h : Given) → with_value name word g ≡ Some h → HaveRanges g → HaveRanges h
   value_ranges name word g h is old =
@@ -74,7 +79,7 @@ module _ (form : Form) where
   number_ranges word n g h number is old =
       let made = after (λ v. Some (record g { number = v })) (first_given n g.number) h is in
       subst HaveRanges (the_same (record g { number = made.0 }) h made.2)
-      (old.0, old.1, old.2, number_first form.number n g.number made.0 (number_range form.number word n number) made.1)
+      (old.0, old.1, old.2, old.3, number_first form.number n g.number made.0 (number_range form.number word n number) made.1)
 
   stats_ranges : (g h : Given) → with_stats g ≡ Some h → HaveRanges g → HaveRanges h
   stats_ranges g h is old = by g.stats is
@@ -103,13 +108,17 @@ default_hands kinds.Run = (omega arith, omega arith)
 default_hands kinds.Check = (omega arith, omega arith)
 default_hands kinds.Demo = (omega arith, omega arith)
 default_hands kinds.Explain = (omega arith, omega arith)
+default_hands kinds.Verify = (omega arith, omega arith)
+default_hands kinds.Tree = (omega arith, omega arith)
+default_hands kinds.Batch = (omega arith, omega arith)
 default_hands kinds.First = (omega arith, omega arith)
+default_hands kinds.Lint = (omega arith, omega arith)
 
 settings_ranges : (form : Form) (g : Given) → IsWithin 1 8 (hands_of form) → HaveRanges form g → AreInRange (settings_of form g)
 settings_ranges form g hands have = (
   or_else 1 4194304 262144 g.limit have.0 (omega arith, omega arith),
-  or_else 1 16 (hands_of form) g.teams have.1 (hands.0, omega (arith, hands.1)),
-  or_else 1 8 (hands_of form) g.workers have.2 hands,
+  or_else 1 16 (hands_of form) g.teams have.2 (hands.0, omega (arith, hands.1)),
+  or_else 1 8 (hands_of form) g.workers have.3 hands,
 )
 
 -- a command with a number
@@ -126,22 +135,30 @@ made_ranges kinds.Check g command have is = subst IsInRange (the_same Check comm
 made_ranges kinds.Demo g command have is =
     let form = form_of kinds.Demo in
     let how = numbered (λ n. Demo n (settings_of form g)) g.number command is in
-    let number : IsWithin 0 64 how.0 = subst (HasNumber form.number) how.1 have.3 in
+    let number : IsWithin 0 64 how.0 = subst (HasNumber form.number) how.1 have.4 in
     subst IsInRange how.2 (number.1, settings_ranges form g (default_hands kinds.Demo) have)
 made_ranges kinds.Explain g command have is =
     let form = form_of kinds.Explain in
     let how = numbered (λ n. Explain n (settings_of form g)) g.number command is in
-    let number : IsWithin 1 1000000 how.0 = subst (HasNumber form.number) how.1 have.3 in
+    let number : IsWithin 1 1000000 how.0 = subst (HasNumber form.number) how.1 have.4 in
     subst IsInRange how.2 (number, settings_ranges form g (default_hands kinds.Explain) have)
+made_ranges kinds.Verify g command have is = subst IsInRange (the_same Verify command is) tt
+made_ranges kinds.Tree g command have is =
+    subst IsInRange (the_same (Tree (limit_of g)) command is) (or_else 1 4194304 262144 g.limit have.0 (omega arith, omega arith))
+made_ranges kinds.Batch g command have is =
+    let form = form_of kinds.Batch in
+    subst IsInRange (the_same (Batch (jobs_of form g) (settings_of form g)) command is)
+    (or_else 1 8 2 g.jobs have.1 (omega arith, omega arith), settings_ranges form g (default_hands kinds.Batch) have)
 made_ranges kinds.First g command have is =
     let form = form_of kinds.First in
     let how = numbered (λ n. First n (settings_of form g)) g.number command is in
-    let number : IsWithin 1 1000000 how.0 = subst (HasNumber form.number) how.1 have.3 in
+    let number : IsWithin 1 1000000 how.0 = subst (HasNumber form.number) how.1 have.4 in
     subst IsInRange how.2 (number, settings_ranges form g (default_hands kinds.First) have)
+made_ranges kinds.Lint g command have is = subst IsInRange (the_same Lint command is) tt
 
 command_ranges : (words : List Bytes) (command : Command) → IsCommand words command → IsInRange command
 command_ranges words command (word, rest, kind, g, is, named, gives, makes) =
-    made_ranges kind g command (given_ranges (form_of kind) nothing g rest gives (tt, tt, tt, tt)) makes
+    made_ranges kind g command (given_ranges (form_of kind) nothing g rest gives (tt, tt, tt, tt, tt)) makes
 
 pub in_ranges : (r : Option Command) (words : List Bytes) → IfSome r (IsCommand words) → IfSome r IsInRange
 in_ranges None words is = tt

@@ -10,16 +10,22 @@ use Rattle.std.proofs.lemmas.Bool.{ne_eqb}
 use Rattle.and_model.specs.Lines.{Bytes}
 use Rattle.and_command.specs.Options.{name_text, name_of, is_stats}
 use Rattle.and_command.specs.Forms.{takes, option_of, is_flag, number_of}
-use Rattle.and_command.specs.Reading.{cut, put_before}
+use Rattle.and_command.specs.Checking.{cut, put_before}
 use Rattle.and_command.specs.declared.options.Name.{Name}
 use Rattle.and_command.specs.declared.forms.Form.{Form}
 use Rattle.and_command.specs.declared.forms.Number.{Number}
-use Rattle.and_command.specs.declared.options.Name.TheVariants.{Limit, Teams, Workers}
+use Rattle.and_command.specs.declared.options.Name.TheVariants.{Limit, Jobs, Teams, Workers}
 
 abbrev nothing_before : Bytes → Bytes × Bytes
 nothing_before word = ([], word)
 
-the_same : (x y : Bytes × Bytes) → Some x ≡ Some y → x ≡ y
+-- what stands behind an answer of two steps
+pub after : {A B : Type 0} (f : A → Option B) (o : Option A) (y : B) → option_and_then f o ≡ Some y
+    → (x : A) × (o ≡ Some x) × (f x ≡ Some y)
+after f None y is = absurd (cc)
+after f (Some x) y is = (x, refl, is)
+
+pub the_same : {A : Type 0} (x y : A) → Some x ≡ Some y → x ≡ y
 the_same x y is = cc
 
 differs : (b c : ℕ) → b ≢ c → nat_eq b c ≡ false
@@ -73,20 +79,22 @@ pub cut_by : (word : Bytes) (r : Option (Bor (List ℕ) × Bor (List ℕ)))
 cut_by word None none = cut_nowhere word none
 cut_by word (Some parts) is = ap cut is.0 ∙ cut_at parts.0.now parts.1.now is.1
 
-chosen : (a b c : Bool) (word : Bytes) (name : Name) → (a ≡ true → word ≡ name_text Limit) → (b ≡ true → word ≡ name_text Teams)
-    → (c ≡ true → word ≡ name_text Workers)
-    → (if a then Some Limit else if b then Some Teams else if c then Some Workers else None) ≡ Some name → word ≡ name_text name
-chosen true b c word name first second third is = let same : Limit ≡ name = cc in first refl ∙ ap name_text same
-chosen false true c word name first second third is = let same : Teams ≡ name = cc in second refl ∙ ap name_text same
-chosen false false true word name first second third is = let same : Workers ≡ name = cc in third refl ∙ ap name_text same
-chosen false false false word name first second third is = absurd (cc)
+chosen : (a b c d : Bool) (word : Bytes) (name : Name) → (a ≡ true → word ≡ name_text Limit) → (b ≡ true → word ≡ name_text Jobs)
+    → (c ≡ true → word ≡ name_text Teams) → (d ≡ true → word ≡ name_text Workers)
+    → (if a then Some Limit else if b then Some Jobs else if c then Some Teams else if d then Some Workers else None) ≡ Some name
+    → word ≡ name_text name
+chosen true b c d word name first second third fourth is = let same : Limit ≡ name = cc in first refl ∙ ap name_text same
+chosen false true c d word name first second third fourth is = let same : Jobs ≡ name = cc in second refl ∙ ap name_text same
+chosen false false true d word name first second third fourth is = let same : Teams ≡ name = cc in third refl ∙ ap name_text same
+chosen false false false true word name first second third fourth is = let same : Workers ≡ name = cc in fourth refl ∙ ap name_text same
+chosen false false false false word name first second third fourth is = absurd (cc)
 
 -- a word that names an option is its name
 is_name : (word : Bytes) (name : Name) → name_of word ≡ Some name → word ≡ name_text name
 is_name word name is =
-    chosen (bytes_eq word (name_text Limit)) (bytes_eq word (name_text Teams)) (bytes_eq word (name_text Workers)) word name
-    (bytes_eq-Decides word (name_text Limit)).0 (bytes_eq-Decides word (name_text Teams)).0
-    (bytes_eq-Decides word (name_text Workers)).0 is
+    chosen (bytes_eq word (name_text Limit)) (bytes_eq word (name_text Jobs)) (bytes_eq word (name_text Teams))
+    (bytes_eq word (name_text Workers)) word name (bytes_eq-Decides word (name_text Limit)).0 (bytes_eq-Decides word (name_text Jobs)).0
+    (bytes_eq-Decides word (name_text Teams)).0 (bytes_eq-Decides word (name_text Workers)).0 is
 
 kept : (t : Bool) (o n : Name) → (if t then Some o else None) ≡ Some n → (t ≡ true) × (o ≡ n)
 kept true o n is = (refl, cc)
@@ -107,6 +115,7 @@ is_option form word name is = by_name form word name (name_of word) refl is
 -- a name names its option
 names : (name : Name) → name_of (name_text name) ≡ Some name
 names Limit = refl
+names Jobs = refl
 names Teams = refl
 names Workers = refl
 
@@ -118,17 +127,20 @@ names_option form name takes_it =
 pub no_number : (o : Option Number) (name : Name) → number_of o (name_text name) ≡ None
 no_number None name = refl
 no_number (Some n) Limit = refl
+no_number (Some n) Jobs = refl
 no_number (Some n) Teams = refl
 no_number (Some n) Workers = refl
 
 -- nor is it the flag
 pub no_flag : (form : Form) (name : Name) → is_flag form (name_text name) ≡ false
 no_flag form Limit = refl
+no_flag form Jobs = refl
 no_flag form Teams = refl
 no_flag form Workers = refl
 
 pub no_joined_flag : (form : Form) (name : Name) (value : Bytes) → is_flag form (name_text name ++ codes "=" ++ value) ≡ false
 no_joined_flag form Limit value = refl
+no_joined_flag form Jobs value = refl
 no_joined_flag form Teams value = refl
 no_joined_flag form Workers value = refl
 
@@ -149,16 +161,19 @@ flag_is form word is =
 pub no_joined_number : (o : Option Number) (name : Name) (value : Bytes) → number_of o (name_text name ++ codes "=" ++ value) ≡ None
 no_joined_number None name value = refl
 no_joined_number (Some n) Limit value = refl
+no_joined_number (Some n) Jobs value = refl
 no_joined_number (Some n) Teams value = refl
 no_joined_number (Some n) Workers value = refl
 
 -- a name with a value in one word names no option, and is cut behind the name
 pub no_joined_name : (form : Form) (name : Name) (value : Bytes) → option_of form (name_text name ++ codes "=" ++ value) ≡ None
 no_joined_name form Limit value = refl
+no_joined_name form Jobs value = refl
 no_joined_name form Teams value = refl
 no_joined_name form Workers value = refl
 
 pub cut_joined : (name : Name) (value : Bytes) → cut (name_text name ++ codes "=" ++ value) ≡ Some (name_text name, value)
 cut_joined Limit value = refl
+cut_joined Jobs value = refl
 cut_joined Teams value = refl
 cut_joined Workers value = refl

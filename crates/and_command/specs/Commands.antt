@@ -4,7 +4,7 @@ use Rattle.std.specs.Option.{option_map}
 use Rattle.and_model.specs.Lines.{Bytes}
 use Rattle.and_command.specs.Options.{name_text}
 use Rattle.and_command.specs.Forms.{kind_named, form_of, takes, number_of}
-use Rattle.and_command.specs.Given.{nothing, with_value, with_number, with_stats, limit_of, settings_of}
+use Rattle.and_command.specs.Given.{nothing, with_value, with_number, with_stats, limit_of, jobs_of, settings_of}
 use Rattle.and_command.specs.declared.options.Name.{Name}
 use Rattle.and_command.specs.declared.forms.Form.{Form}
 use Rattle.and_command.specs.declared.forms.Kind.{Kind}
@@ -12,7 +12,8 @@ use Rattle.and_command.specs.declared.forms.Kind.TheVariants as kinds
 use Rattle.and_command.specs.declared.given.Given.{Given}
 use Rattle.and_command.specs.declared.given.Settings.{Settings}
 use Rattle.and_command.specs.declared.reading.Command.{Command}
-use Rattle.and_command.specs.declared.reading.Command.TheVariants.{Run, Check, Demo, Explain, First}
+use Rattle.and_command.specs.declared.reading.Command.TheVariants.{Run, Check, Demo, Explain, Verify, Tree, Batch}
+use Rattle.and_command.specs.declared.reading.Command.TheVariants.{First, Lint}
 
 -- From what was given, these words of a command of this form lead to what is given with them, from left
 -- to right: the name of an option that it takes and its value in two words, the two in one word with `=`
@@ -38,13 +39,21 @@ made kinds.Run g = Some (Run (settings_of (form_of kinds.Run) g))
 made kinds.Check g = Some Check
 made kinds.Demo g = option_map (λ n. Demo n (settings_of (form_of kinds.Demo) g)) g.number
 made kinds.Explain g = option_map (λ n. Explain n (settings_of (form_of kinds.Explain) g)) g.number
+made kinds.Verify g = Some Verify
+made kinds.Tree g = Some (Tree (limit_of g))
+made kinds.Batch g = Some (Batch (jobs_of (form_of kinds.Batch) g) (settings_of (form_of kinds.Batch) g))
 made kinds.First g = option_map (λ n. First n (settings_of (form_of kinds.First) g)) g.number
+made kinds.Lint g = Some Lint
 
 -- the first word names a command, and those behind it give the rest
 abbrev pub IsCommand : List Bytes → Command → Type 0
 IsCommand words command = (word : Bytes) × (rest : List Bytes) × (kind : Kind) × (g : Given)
     × (words ≡ word ∷ rest) × (kind_named word ≡ Some kind) × Gives (form_of kind) nothing rest g
     × (made kind g ≡ Some command)
+
+-- some command has these words
+abbrev pub HasCommand : List Bytes → Type 0
+HasCommand words = (command : Command) × IsCommand words command
 
 -- the number is in the range
 abbrev pub IsWithin : ℕ → ℕ → ℕ → Type 0
@@ -59,4 +68,8 @@ IsInRange (Run settings) = AreInRange settings
 IsInRange Check = Unit {0}
 IsInRange (Demo n settings) = (n ≤ 64) × AreInRange settings
 IsInRange (Explain n settings) = IsWithin 1 1000000 n × AreInRange settings
+IsInRange Verify = Unit {0}
+IsInRange (Tree limit) = IsWithin 1 4194304 limit
+IsInRange (Batch jobs settings) = IsWithin 1 8 jobs × AreInRange settings
 IsInRange (First n settings) = IsWithin 1 1000000 n × AreInRange settings
+IsInRange Lint = Unit {0}

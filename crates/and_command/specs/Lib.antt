@@ -1,5 +1,6 @@
+pub mod Checking
 pub mod Commands
 pub mod Forms
 pub mod Given
 pub mod Options
-pub mod Reading
+pub mod Values

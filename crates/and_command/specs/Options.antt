@@ -6,11 +6,12 @@ use Rattle.std.specs.Char.{is_ascii_digit}
 use Rattle.std.specs.Str.Parse.{digits_value}
 use Rattle.and_model.specs.Lines.{Bytes}
 use Rattle.and_command.specs.declared.options.Name.{Name}
-use Rattle.and_command.specs.declared.options.Name.TheVariants.{Limit, Teams, Workers}
+use Rattle.and_command.specs.declared.options.Name.TheVariants.{Limit, Jobs, Teams, Workers}
 
 -- the word that names an option
 abbrev pub name_text : Name → Bytes
 name_text Limit = codes "--limit"
+name_text Jobs = codes "--jobs"
 name_text Teams = codes "--teams"
 name_text Workers = codes "--workers"
 
@@ -18,6 +19,7 @@ name_text Workers = codes "--workers"
 abbrev pub name_of : Bytes → Option Name
 name_of word =
     if bytes_eq word (name_text Limit) then Some Limit
+    else if bytes_eq word (name_text Jobs) then Some Jobs
     else if bytes_eq word (name_text Teams) then Some Teams
     else if bytes_eq word (name_text Workers) then Some Workers
     else None
@@ -29,6 +31,7 @@ is_stats word = bytes_eq word (codes "--stats")
 -- the largest value of an option
 abbrev pub most_of : Name → ℕ
 most_of Limit = 4194304
+most_of Jobs = 8
 most_of Teams = 16
 most_of Workers = 8
 

@@ -17,8 +17,16 @@ pub enum Kind {
     Demo,
     /// It tells why an answer of a text is one.
     Explain,
+    /// It checks what was told of an answer.
+    Verify,
+    /// It tells the choices of a text.
+    Tree,
+    /// It answers each query of a text.
+    Batch,
     /// It answers a text as far as the first answers.
     First,
+    /// It tells what in a text is likely not meant.
+    Lint,
 }
 
 /// A number that a command has.
@@ -41,6 +49,8 @@ pub struct Form {
     pub number: Option<Number>,
     /// Whether `--limit` may be there.
     pub limit: bool,
+    /// How many jobs there are where none are given; `None` where none may be given.
+    pub jobs: Option<u32>,
     /// How many teams, and workers in each, there are where none are given; `None` where none may be given.
     pub hands: Option<u32>,
     /// Whether `--stats` may be there.
@@ -48,12 +58,15 @@ pub struct Form {
 }
 
 /// The commands that are there, in the order of the usage line.
-pub const KINDS: [Kind; 5] = [
+pub const KINDS: [Kind; 8] = [
     Kind::Run,
     Kind::Check,
     Kind::Demo,
     Kind::Explain,
+    Kind::Verify,
+    Kind::Tree,
     Kind::First,
+    Kind::Lint,
 ];
 
 /// What is written where the words are no command.
@@ -62,7 +75,10 @@ pub const USAGE: &[u8] = b"usage: \
     andorra check | \
     andorra demo N [--teams T] [--workers W] | \
     andorra explain K [--limit N] [--teams T] [--workers W] | \
-    andorra first K [--limit N] [--teams T] [--workers W]\n";
+    andorra verify | \
+    andorra tree [--limit N] | \
+    andorra first K [--limit N] [--teams T] [--workers W] | \
+    andorra lint\n";
 
 /// A law: the usage line tells all forms.
 pub fn usage_tells_all_forms()
@@ -103,7 +119,11 @@ impl Kind {
             Kind::Check => "check",
             Kind::Demo => "demo",
             Kind::Explain => "explain",
+            Kind::Verify => "verify",
+            Kind::Tree => "tree",
+            Kind::Batch => "batch",
             Kind::First => "first",
+            Kind::Lint => "lint",
         }
     }
 
@@ -119,10 +139,14 @@ impl Kind {
                 .with_number(answer_number())
                 .with_limit()
                 .with_hands(2),
+            Kind::Verify => Form::bare(),
+            Kind::Tree => Form::bare().with_limit(),
+            Kind::Batch => Form::bare().with_limit().with_jobs(2).with_hands(1),
             Kind::First => Form::bare()
                 .with_number(answer_number())
                 .with_limit()
                 .with_hands(1),
+            Kind::Lint => Form::bare(),
         }
     }
 }
@@ -135,6 +159,7 @@ impl Form {
         Form {
             number: None,
             limit: false,
+            jobs: None,
             hands: None,
             stats: false,
         }
@@ -156,6 +181,16 @@ impl Form {
     {
         Form {
             limit: true,
+            ..self
+        }
+    }
+
+    /// The same, and `--jobs` may be there, with so many where none are given.
+    fn with_jobs(self, jobs: u32) -> Form
+        ensures { result ≡ record self { jobs = Some jobs } }
+    {
+        Form {
+            jobs: Some(jobs),
             ..self
         }
     }
@@ -186,6 +221,7 @@ impl Form {
     {
         match name {
             Name::Limit => self.limit,
+            Name::Jobs => self.jobs.is_some(),
             Name::Teams => self.hands.is_some(),
             Name::Workers => self.hands.is_some(),
         }

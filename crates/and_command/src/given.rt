@@ -1,10 +1,9 @@
-//! What words have given so far.
+//! What words give.
 
 ghost use Rattle.std.specs.Prelude.{◌≡◌, None};
 ghost use Rattle.and_command.specs.Given as specs;
 
 use crate::forms::Form;
-use crate::options::{Name, value_of};
 use and_model::limits::DEFAULT_LIMIT;
 
 /// What bounds a run, and who works on it.
@@ -20,11 +19,13 @@ pub struct Settings {
     pub stats: bool,
 }
 
-/// What words have given so far, each at most once.
+/// What words give, each at most once.
 #[derive(Clone, Copy, Debug, PartialEq, Eq)]
 pub struct Given {
     /// The value of `--limit`.
     pub limit: Option<u32>,
+    /// The value of `--jobs`.
+    pub jobs: Option<u32>,
     /// The value of `--teams`.
     pub teams: Option<u32>,
     /// The value of `--workers`.
@@ -36,123 +37,18 @@ pub struct Given {
 }
 
 impl Given {
-    /// Nothing.
-    pub fn nothing() -> Given
-        ensures { result ≡ specs.nothing }
-    {
-        Given {
-            limit: None,
-            teams: None,
-            workers: None,
-            number: None,
-            stats: false,
-        }
-    }
-
-    /// These, and a value for an option that has none so far.
-    fn with(self, name: Name, value: u32) -> Option<Given>
-        ensures { result ≡ specs.with name value self }
-    {
-        let Given {
-            limit,
-            teams,
-            workers,
-            number,
-            stats,
-        } = self;
-        match name {
-            Name::Limit => match limit {
-                None => Some(Given {
-                    limit: Some(value),
-                    teams,
-                    workers,
-                    number,
-                    stats,
-                }),
-                Some(_) => None,
-            },
-            Name::Teams => match teams {
-                None => Some(Given {
-                    limit,
-                    teams: Some(value),
-                    workers,
-                    number,
-                    stats,
-                }),
-                Some(_) => None,
-            },
-            Name::Workers => match workers {
-                None => Some(Given {
-                    limit,
-                    teams,
-                    workers: Some(value),
-                    number,
-                    stats,
-                }),
-                Some(_) => None,
-            },
-        }
-    }
-
-    /// These, and the value that a word gives an option that has none so far.
-    pub fn with_value(self, name: Name, word: &str) -> Option<Given>
-        ensures { result ≡ specs.with_value name word.now self }
-    {
-        let value = value_of(name, word)?;
-        self.with(name, value)
-    }
-
-    /// These, and a number, where there is none so far.
-    pub fn with_number(self, value: u32) -> Option<Given>
-        ensures { result ≡ specs.with_number value self }
-    {
-        let Given {
-            limit,
-            teams,
-            workers,
-            number,
-            stats,
-        } = self;
-        match number {
-            None => Some(Given {
-                limit,
-                teams,
-                workers,
-                number: Some(value),
-                stats,
-            }),
-            Some(_) => None,
-        }
-    }
-
-    /// These, and `--stats`, where it was not given so far.
-    pub fn with_stats(self) -> Option<Given>
-        ensures { result ≡ specs.with_stats self }
-    {
-        let Given {
-            limit,
-            teams,
-            workers,
-            number,
-            stats,
-        } = self;
-        if stats {
-            return None;
-        }
-        Some(Given {
-            limit,
-            teams,
-            workers,
-            number,
-            stats: true,
-        })
-    }
-
     /// The limit: what was given, and else the default.
     pub fn limit(self) -> u32
         ensures { result ≡ specs.limit_of self }
     {
         self.limit.unwrap_or(DEFAULT_LIMIT)
+    }
+
+    /// How many jobs: what was given, and else what the form has.
+    pub fn jobs(self, form: Form) -> u32
+        ensures { result ≡ specs.jobs_of form self }
+    {
+        self.jobs.unwrap_or(form.jobs.unwrap_or(1))
     }
 
     /// The settings: what was given, and else the defaults of the form.

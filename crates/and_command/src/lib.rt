@@ -3,10 +3,12 @@
 //! Its user calls [`command_of`], and writes [`USAGE`] where the words are no command.
 #![tactic(auto)]
 
+pub mod checking;
 pub mod forms;
 pub mod given;
 pub mod options;
 pub mod reading;
+pub mod values;
 
 pub use forms::USAGE;
 pub use given::Settings;

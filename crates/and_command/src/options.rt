@@ -10,6 +10,8 @@ ghost use Rattle.and_command.specs.Options as specs;
 pub enum Name {
     /// The most that a proof may weigh.
     Limit,
+    /// How many queries are explored at once.
+    Jobs,
     /// How many teams explore.
     Teams,
     /// How many workers a team has.
@@ -23,6 +25,7 @@ impl Name {
     {
         match self {
             Name::Limit => 4_194_304,
+            Name::Jobs => 8,
             Name::Teams => 16,
             Name::Workers => 8,
         }
@@ -35,6 +38,8 @@ pub fn name_of(word: &str) -> Option<Name>
 {
     if word == "--limit" {
         Some(Name::Limit)
+    } else if word == "--jobs" {
+        Some(Name::Jobs)
     } else if word == "--teams" {
         Some(Name::Teams)
     } else if word == "--workers" {

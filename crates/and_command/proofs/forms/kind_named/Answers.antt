@@ -2,7 +2,7 @@ use Rattle.std.proofs.Common.{bytes_eq, sym, ap, ◌∙◌}
 use Rattle.and_command.specs.Forms as specs
 use Rattle.and_command.specs.declared.forms.Kind.{Kind}
 use Rattle.and_command.specs.declared.forms.TheConstants.{KINDS}
-use Rattle.and_command.proofs.ReadingLemmas.{find_skips}
+use Rattle.and_command.proofs.CheckingLemmas.{find_skips}
 use Rattle.and_command.proofs.forms.kind_named.Goals as goal
 
 pub kinds-preserved : goal.kinds-preserved
