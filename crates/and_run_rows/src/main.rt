@@ -4,6 +4,7 @@
 mod faults;
 mod fronts;
 mod holding;
+mod large;
 mod replies;
 
 use and_rows::{Block, Untold, blocks};
@@ -26,6 +27,7 @@ fn tell<R: Threads + Wait + Clock + Sync>(
         "fronts" => fronts::tell(rt, alloc, words, text),
         "faults" => faults::tell(rt, alloc, words, text),
         "held" => holding::tell(rt, alloc, words, text),
+        "large" => large::tell(rt, alloc, words, text),
         _ => Err(Untold::Malformed),
     }
 }

@@ -10,7 +10,7 @@ fn typed(alloc: Global, line: &str) -> Result<Option<Command>, AllocError> {
     for word in line.split_whitespace() {
         words.push(String::from_str(alloc, word)?)?;
     }
-    Ok(command_of(&words))
+    command_of(alloc, &words)
 }
 
 /// The commands of these lines.

@@ -12,8 +12,7 @@ use Rattle.and_io.specs.declared.reading.ReadAll.{ReadAll}
 use Rattle.and_io.specs.declared.reading.ReadAll.TheVariants as reads
 use Rattle.and_model.specs.Lines.{Bytes}
 use Rattle.and_model.specs.Programs.{Program}
-use Rattle.and_model.specs.Listing as listings
-use Rattle.and_model.specs.Listing.{Entry, Outcome}
+use Rattle.and_model.specs.Listing.{Entry}
 use Rattle.and_model.specs.Output.{Finish, limit_met, counted}
 use Rattle.and_model.specs.declared.goal
 use Rattle.and_answers.specs.Kept.{listed, entry_of, outcome_with, finish_with}
@@ -25,8 +24,7 @@ use Rattle.and_language.specs.Tokens.{newlines}
 use Rattle.and_language.specs.Refusals.{Reads, IsRefused, Refusal, at, too_big}
 use Rattle.and_syntax.specs.Tables.{source}
 use Rattle.and_command.specs.declared.reading.Command.{Command}
-use Rattle.and_first.specs.First.{IsFirstOf}
-use Rattle.and_first.specs.First as firsts
+use Rattle.and_first.specs.First.{IsFirstOf, is_floundered}
 use Rattle.and_first.specs.declared.first.First as first_answers
 use Rattle.and_first.specs.declared.first.End.{End}
 use Rattle.and_first.specs.declared.first.End.TheVariants as ends
@@ -38,13 +36,17 @@ use Rattle.and_top.specs.Finding.{Finds}
 use Rattle.and_top.specs.Shown.{shown, completed, finish}
 use Rattle.and_top.specs.declared.answering.Reply.{Reply}
 use Rattle.and_top.specs.declared.question.Question.{Question}
-use Rattle.and_top.specs.declared.question.Question.TheVariants.{Run, Check, First, Explain}
+use Rattle.and_top.specs.declared.question.Question.TheVariants.{Run, Check, First, Explain, Tree, Lint}
+use Rattle.and_top.specs.declared.question.Request.{Request}
+use Rattle.and_top.specs.declared.question.Request.TheVariants.{Text, Document}
+use Rattle.and_top.specs.declared.question.TheConstants.{MAX_DOCUMENT}
 use Rattle.and_top.specs.declared.showing.Show.{Show}
 use Rattle.and_top.specs.declared.showing.Show.TheVariants.{Whole, Summary}
 use Rattle.and_top.specs.Top.{FindsAll, TellsFirst, first_status, status_seen, told_status, IsRefusedBy, WasRun, IsReply, WasReplied, WasAnswered, IsBounded}
-use Rattle.and_top.specs.Top.{Answered}
+use Rattle.and_top.specs.Top.{Answered, IsAllowed, IsAnswer, IsLineOf, most_of}
+use Rattle.and_top.specs.Verified.{IsDocumentRefused, WasVerified, too_long as document_too_long, by_program}
 use Rattle.and_top.specs.Top.{GivesAnswer, FailsWriting, GivesPrefix, Told, Took, IsRead}
-use Rattle.and_top.specs.Top.{AreAnswers, IsComplete, bytes_read, exhausted, is_floundered, has_floundered, status_for}
+use Rattle.and_top.specs.Top.{AreAnswers, IsComplete, bytes_read, exhausted, has_floundered, status_for}
 use Rattle.and_model.specs.declared.limits.TheConstants.{MAX_BYTES, MAX_LIMIT}
 
 -- A count is written as the number that it was kept of.
@@ -151,17 +153,6 @@ found_wanted P limit None (Ok found) is = is
 found_wanted P limit (Some count) (Ok found) is = inl is
 found_wanted P limit wanted (Err e) is = tt
 
--- entries are floundered where the first answers say so
-same_floundered : (o : Outcome) → firsts.is_floundered o ≡ is_floundered o
-same_floundered (listings.answer text) = refl
-same_floundered (listings.floundered text) = refl
-
-first_floundered : (es : List Entry) → list_any (λ (e : Entry). firsts.is_floundered e.outcome) es ≡ has_floundered es
-first_floundered [] = refl
-first_floundered (e ∷ es) =
-    ap (λ (b : Bool). b || list_any (λ (e : Entry). firsts.is_floundered e.outcome) es) (same_floundered e.outcome)
-    ∙ ap (λ (b : Bool). is_floundered e.outcome || b) (first_floundered es)
-
 -- the status of first answers, as it is found by a look at them
 some_lines : (n : ℕ) → nat_eq (suc n) 0 ≡ false
 some_lines n = grind (arith, nat_tests)
@@ -183,7 +174,7 @@ tells_first count limit P first status is said = record {
   written = is.text;
   status_is = said
       ∙ ap (λ n. status_seen first.end n first.floundered) is.lines
-      ∙ ap (status_seen first.end (length is.told)) (is.floundered ∙ first_floundered is.told)
+      ∙ ap (status_seen first.end (length is.told)) is.floundered
       ∙ seen_is first.end is.told;
 }
 
@@ -237,6 +228,24 @@ not_bad (Explain place limit) bytes P Answers out bad w = true≢false (sym bad)
 not_bad (Explain place limit) bytes P NoAnswer out bad w = true≢false (sym bad)
 not_bad (Explain place limit) bytes P Floundered out bad w = true≢false (sym bad)
 not_bad (Explain place limit) bytes P Limit out bad w = true≢false (sym bad)
+not_bad (Tree limit) bytes P Usage out bad w = w
+not_bad (Tree limit) bytes P Refused out bad w = w
+not_bad (Tree limit) bytes P ReadFault out bad w = w
+not_bad (Tree limit) bytes P WriteFault out bad w = w
+not_bad (Tree limit) bytes P Memory out bad w = w
+not_bad (Tree limit) bytes P Answers out bad w = true≢false (sym bad)
+not_bad (Tree limit) bytes P NoAnswer out bad w = true≢false (sym bad)
+not_bad (Tree limit) bytes P Floundered out bad w = true≢false (sym bad)
+not_bad (Tree limit) bytes P Limit out bad w = true≢false (sym bad)
+not_bad Lint bytes P Usage out bad w = w
+not_bad Lint bytes P Refused out bad w = w
+not_bad Lint bytes P ReadFault out bad w = w
+not_bad Lint bytes P WriteFault out bad w = w
+not_bad Lint bytes P Memory out bad w = w
+not_bad Lint bytes P Answers out bad w = true≢false (sym bad)
+not_bad Lint bytes P NoAnswer out bad w = true≢false (sym bad)
+not_bad Lint bytes P Floundered out bad w = true≢false (sym bad)
+not_bad Lint bytes P Limit out bad w = true≢false (sym bad)
 not_bad (First count limit) bytes P status out bad w =
     true≢false (sym bad ∙ ap is_bad w.status_is ∙ never_bad w.ending w.told)
 
@@ -259,31 +268,42 @@ pub answered_by : {E : Type 0} (question : Question) (P : Program) (r : Result R
 answered_by question P (Ok reply) bytes reads w = replied question P reply.status bytes reply.text reads w
 answered_by question P (Err e) bytes reads w = tt
 
-module _ (question : Question) (old new bytes out : Bytes) where
+-- Without an answer to the bytes of a source there is no such status.
+pub record IsSilent (request : Request) (bytes out : Bytes) : Type 0 where
+  pub usage : IsAnswer request Usage bytes out → ⊥
+  pub read_fault : IsAnswer request ReadFault bytes out → ⊥
+  pub write_fault : IsAnswer request WriteFault bytes out → ⊥
+  pub memory : IsAnswer request Memory bytes out → ⊥
+
+silent : (request : Request) (bytes out : Bytes) → IsSilent request bytes out
+silent (Text question) bytes out = record { usage = λ w. w; read_fault = λ w. w; write_fault = λ w. w; memory = λ w. w }
+silent Document bytes out = record { usage = λ w. w; read_fault = λ w. w; write_fault = λ w. w; memory = λ w. w }
+
+module _ (request : Request) (old new bytes out : Bytes) where
   -- where an answer was written, so it is
-  pub was_written : (status : Status) → WasAnswered question status bytes out → (new ≡ old ++ out)
-      → Answered question old new status bytes × (status ≢ ReadFault)
+  pub was_written : (status : Status) → IsAnswer request status bytes out → (new ≡ old ++ out)
+      → Answered request old new status bytes × (status ≢ ReadFault)
   was_written Answers w g = ((out, w, g), λ e. cc)
   was_written NoAnswer w g = ((out, w, g), λ e. cc)
-  was_written Usage w g = absurd w
+  was_written Usage w g = absurd ((silent request bytes out).usage w)
   was_written Refused w g = ((out, w, g), λ e. cc)
-  was_written ReadFault w g = absurd w
-  was_written WriteFault w g = absurd w
+  was_written ReadFault w g = absurd ((silent request bytes out).read_fault w)
+  was_written WriteFault w g = absurd ((silent request bytes out).write_fault w)
   was_written Limit w g = ((out, w, g), λ e. cc)
-  was_written Memory w g = absurd w
+  was_written Memory w g = absurd ((silent request bytes out).memory w)
   was_written Floundered w g = ((out, w, g), λ e. cc)
 
   -- the reply was written, or a prefix of it
   abbrev Written : Status → Type 0
-  Written result = Answered question old new result bytes × (result ≢ ReadFault)
+  Written result = Answered request old new result bytes × (result ≢ ReadFault)
 
-  all_written : (status result : Status) → WasAnswered question status bytes out
+  all_written : (status result : Status) → IsAnswer request status bytes out
       → (result ≢ WriteFault → (result ≡ status) × (new ≡ old ++ out))
       → result ≢ WriteFault → Written result
   all_written status result w ok went =
-      let k = ok went in was_written result (subst (λ s. WasAnswered question s bytes out) (sym k.0) w) k.1
+      let k = ok went in was_written result (subst (λ s. IsAnswer request s bytes out) (sym k.0) w) k.1
 
-  pub responded : (status result : Status) → WasAnswered question status bytes out
+  pub responded : (status result : Status) → IsAnswer request status bytes out
       → (result ≢ WriteFault → (result ≡ status) × (new ≡ old ++ out))
       → (result ≡ WriteFault → GivesPrefix old new out) → Written result
   responded status WriteFault w ok bad = ((status, out, w, bad refl), λ e. cc)
@@ -299,6 +319,9 @@ module _ (question : Question) (old new bytes out : Bytes) where
 -- a question by its settings has their limit
 pub bounded : (question : Question) (show : Show) (limit : ℕ) → question ≡ Run show limit → limit ≤ MAX_LIMIT → IsBounded question
 bounded question show limit is small = subst IsBounded (sym is) small
+
+pub allowed : (request : Request) (show : Show) (limit : ℕ) → request ≡ Text (Run show limit) → limit ≤ MAX_LIMIT → IsAllowed request
+allowed request show limit is small = subst IsAllowed (sym is) small
 
 -- words are those of one command
 pub same_command : (o : Option Command) (r command : Command) → o ≡ Some r → o ≡ Some command → r ≡ command
@@ -328,32 +351,51 @@ usage_no_fault A result ok is = elim is [
 ]
 
 -- where memory was wanting nothing was given
-pub memory_gave_none : (question : Question) (old new bytes : Bytes) (status : Status) → Answered question old new status bytes → status ≡ Memory → new ≡ old
-memory_gave_none question old new bytes status a e = subst (λ s. Answered question old new s bytes) e a
+pub memory_gave_none : (request : Request) (old new bytes : Bytes) (status : Status) → Answered request old new status bytes → status ≡ Memory → new ≡ old
+memory_gave_none request old new bytes status a e = subst (λ s. Answered request old new s bytes) e a
 
 -- A text that reads as a program is not refused.
 pub never_refused : (show : Show) (limit : ℕ) (old new : Bytes) (P : Program) (bytes : Bytes) (status : Status) → Reads bytes P
-    → Answered (Run show limit) old new status bytes → status ≢ Refused
+    → Answered (Text (Run show limit)) old new status bytes → status ≢ Refused
 never_refused show limit old new P bytes status reads answered e =
-    let refusal : Answered (Run show limit) old new Refused bytes = subst (λ s. Answered (Run show limit) old new s bytes) e answered in
+    let asked : Request = Text (Run show limit) in
+    let refusal : Answered asked old new Refused bytes = subst (λ s. Answered asked old new s bytes) e answered in
     read_not_refused bytes P refusal.1.0 reads refusal.1.1
 
 -- The line of a refusal that is not for want of memory.
-pub refused_by : (o : Option Refusal) (bytes out : Bytes) → IfSome o (IsRefused bytes) → IfSome o (λ r. out ≡ refusal_line r) → is_none o ≡ false
-    → IsRefusedBy bytes out
-refused_by None bytes out a b e = absurd cc
-refused_by (Some r) bytes out a b e = (r, a, b)
+pub has_line : (o : Option Refusal) (out : Bytes) → IfSome o (λ r. out ≡ refusal_line r) → is_none o ≡ false → IsLineOf o out
+has_line None out said e = absurd cc
+has_line (Some r) out said e = said
 
--- Of a text that is larger than the largest, the first bytes beyond that tell as much as the whole.
-module _ (bytes text rest : Bytes) (joined : bytes ≡ text ++ rest) (large : MAX_BYTES < length text) where
+refused_line : (o : Option Refusal) (bytes out : Bytes) → IfSome o (IsRefused bytes) → IsLineOf o out → IsRefusedBy bytes out
+refused_line None bytes out is said = absurd said
+refused_line (Some r) bytes out is said = (r, is, said)
+
+pub refused_by : {E : Type 0} (question : Question) (r : Result Reply E) (o : Option Refusal) (bytes : Bytes) → IfSome o (IsRefused bytes)
+    → IfOk r (λ reply. reply.status ≡ Refused) → IfOk r (λ reply. IsLineOf o reply.text)
+    → IfOk r (λ reply. WasAnswered question reply.status bytes reply.text)
+refused_by question (Ok reply) o bytes is status line =
+    subst (λ s. WasAnswered question s bytes reply.text) (sym status) (refused_line o bytes reply.text is line)
+refused_by question (Err e) o bytes is status line = tt
+
+-- Of bytes that are more than there may be, the first ones beyond that tell as much as all.
+module _ (most : ℕ) (bytes text rest : Bytes) (joined : bytes ≡ text ++ rest) (large : most < length text) where
   taken : (n : ℕ) (xs ys : Bytes) → n < length xs → take n (xs ++ ys) ≡ take n xs
   taken zero xs ys h = refl
   taken (suc n) [] ys h = absurd (omega arith)
   taken (suc n) (x ∷ xs) ys h = ap (λ zs. x ∷ zs) (taken n xs ys (omega arith))
 
+  same_place : at text most (too_big source) ≡ at bytes most (too_big source)
+  same_place =
+      ap (λ zs. record { cause = too_big source; line = suc (newlines zs) }) (sym (taken most text rest large) ∙ ap (take most) (sym joined))
+
+  longer : most < length bytes
+  longer = omega (arith, large, ap length joined, length-append text rest)
+
+-- so it is with a text
+module _ (bytes text rest : Bytes) (joined : bytes ≡ text ++ rest) (large : MAX_BYTES < length text) where
   same_refusal : (r : Refusal) → IsRefused text r → r ≡ at bytes MAX_BYTES (too_big source)
-  same_refusal r (IsRefused.too_long h) =
-      ap (λ zs. record { cause = too_big source; line = suc (newlines zs) }) (sym (taken MAX_BYTES text rest large) ∙ ap (take MAX_BYTES) (sym joined))
+  same_refusal r (IsRefused.too_long h) = same_place MAX_BYTES bytes text rest joined large
   same_refusal r (IsRefused.at_word ws p a c h x y z) = absurd (omega (arith, h))
   same_refusal r (IsRefused.at_clause ws us a T s f h x y z u) = absurd (omega (arith, h))
   same_refusal r (IsRefused.at_token ws f h x y) = absurd (omega (arith, h))
@@ -361,11 +403,12 @@ module _ (bytes text rest : Bytes) (joined : bytes ≡ text ++ rest) (large : MA
   same_refusal r (IsRefused.without_query ws T h x y z) = absurd (omega (arith, h))
   same_refusal r (IsRefused.with_unknown ws T a u h x y z v) = absurd (omega (arith, h))
 
-  too_long : MAX_BYTES < length bytes
-  too_long = omega (arith, large, ap length joined, length-append text rest)
-
   same_line : (line : Bytes) → IsRefusedBy text line → IsRefusedBy bytes line
-  same_line line (r, is, said) = (at bytes MAX_BYTES (too_big source), IsRefused.too_long too_long, said ∙ ap refusal_line (same_refusal r is))
+  same_line line (r, is, said) = (
+    at bytes MAX_BYTES (too_big source),
+    IsRefused.too_long (longer MAX_BYTES bytes text rest joined large),
+    said ∙ ap refusal_line (same_refusal r is),
+  )
 
   no_program : (P : Program) → Reads text P → ⊥
   no_program P r = let s = r.size in omega (arith, large, s)
@@ -384,37 +427,75 @@ module _ (bytes text rest : Bytes) (joined : bytes ≡ text ++ rest) (large : MA
   same_due question Memory out w = w
   same_due question Floundered out w = same_reply question Floundered out w
 
-  pub same_answer : (question : Question) (old new : Bytes) (status : Status) → Answered question old new status text
-      → Answered question old new status bytes
-  same_answer question old new Answers (out, w, g) = (out, same_reply question Answers out w, g)
-  same_answer question old new NoAnswer (out, w, g) = (out, same_reply question NoAnswer out w, g)
-  same_answer question old new Usage a = a
-  same_answer question old new Refused (out, w, g) = (out, same_line out w, g)
-  same_answer question old new ReadFault a = a
-  same_answer question old new WriteFault (status, due, w, g) = (status, due, same_due question status due w, g)
-  same_answer question old new Limit (out, w, g) = (out, same_reply question Limit out w, g)
-  same_answer question old new Memory a = a
-  same_answer question old new Floundered (out, w, g) = (out, same_reply question Floundered out w, g)
+-- and with a document
+module _ (bytes text rest : Bytes) (joined : bytes ≡ text ++ rest) (large : MAX_DOCUMENT < length text) where
+  same_document_refusal : (r : Refusal) → IsDocumentRefused text r → r ≡ at bytes MAX_DOCUMENT (too_big source)
+  same_document_refusal r (document_too_long h) = same_place MAX_DOCUMENT bytes text rest joined large
+  same_document_refusal r (by_program place s h divided refused) = absurd (omega (arith, h))
 
-module _ (question : Question) (old new : Bytes) where
-  -- what was read is what was left, or more than the largest text
-  pub told : (left rest : Option Bytes) (read : ReadAll) (status : Status) → ReadsUpTo MAX_BYTES left rest read
-      → Answered question old new status (bytes_read read) → Told left (Answered question old new status)
-  told None rest read status r a = tt
-  told (Some bytes) rest (reads.Whole text) status r a =
-      let same : bytes ≡ text = r.1 in subst (λ b. Answered question old new status b) (sym same) a
-  told (Some bytes) rest (reads.Over text) status r a = same_answer bytes text r.0.0 r.0.2 (omega (arith, r.1)) question old new status a
+  same_verdict : (status : Status) (out : Bytes) → WasVerified status text out → WasVerified status bytes out
+  same_verdict Answers out (document, said) = let h = document.fits in absurd (omega (arith, h, large))
+  same_verdict NoAnswer out (document, said) = let h = document.fits in absurd (omega (arith, h, large))
+  same_verdict Usage out w = w
+  same_verdict Refused out (r, is, said) = (
+    at bytes MAX_DOCUMENT (too_big source),
+    document_too_long (longer MAX_DOCUMENT bytes text rest joined large),
+    said ∙ ap refusal_line (same_document_refusal r is),
+  )
+  same_verdict ReadFault out w = w
+  same_verdict WriteFault out w = w
+  same_verdict Limit out w = w
+  same_verdict Memory out w = w
+  same_verdict Floundered out w = w
 
--- What was read is a text that goes to the end, or a larger one than the largest.
-pub took : (old new : Bytes) (ended : Type 0) (read : ReadAll) (status : Status) (fact : Bytes → Type 0) → TookUpTo MAX_BYTES old new ended read
-    → fact (bytes_read read) → Took old new ended status fact
-took old new ended (reads.Whole text) status fact t f = (text, t.0, omega (arith, t.1), (λ a b. inl t.2), f)
-took old new ended (reads.Over text) status fact t f = (text, t.0, omega (arith, t.1), (λ a b. inr (omega (arith, t.1))), f)
+same_due_of : (request : Request) (bytes text rest : Bytes) → bytes ≡ text ++ rest → most_of request < length text → (status : Status) (out : Bytes)
+    → IsAnswer request status text out → IsAnswer request status bytes out
+same_due_of (Text question) bytes text rest joined large status out w = same_due bytes text rest joined large question status out w
+same_due_of Document bytes text rest joined large status out w = same_verdict bytes text rest joined large status out w
+
+module _ (request : Request) (bytes text rest : Bytes) (joined : bytes ≡ text ++ rest) (large : most_of request < length text) where
+  same : (status : Status) (out : Bytes) → IsAnswer request status text out → IsAnswer request status bytes out
+  same status out w = same_due_of request bytes text rest joined large status out w
+
+  pub same_answer : (old new : Bytes) (status : Status) → Answered request old new status text → Answered request old new status bytes
+  same_answer old new Answers (out, w, g) = (out, same Answers out w, g)
+  same_answer old new NoAnswer (out, w, g) = (out, same NoAnswer out w, g)
+  same_answer old new Usage a = a
+  same_answer old new Refused (out, w, g) = (out, same Refused out w, g)
+  same_answer old new ReadFault a = a
+  same_answer old new WriteFault (status, due, w, g) = (status, due, same status due w, g)
+  same_answer old new Limit (out, w, g) = (out, same Limit out w, g)
+  same_answer old new Memory a = a
+  same_answer old new Floundered (out, w, g) = (out, same Floundered out w, g)
+
+module _ (request : Request) (old new : Bytes) where
+  -- what was read is what was left, or more than there may be
+  told_all : (left rest : Option Bytes) (read : ReadAll) (status : Status) → ReadsUpTo (most_of request) left rest read
+      → Answered request old new status (bytes_read read) → Told left (Answered request old new status)
+  told_all None rest read status r a = tt
+  told_all (Some bytes) rest (reads.Whole text) status r a =
+      let same : bytes ≡ text = r.1 in subst (λ b. Answered request old new status b) (sym same) a
+  told_all (Some bytes) rest (reads.Over text) status r a = same_answer request bytes text r.0.0 r.0.2 (omega (arith, r.1)) old new status a
+
+  pub told : (n : ℕ) → n ≡ most_of request → (left rest : Option Bytes) (read : ReadAll) (status : Status) → ReadsUpTo n left rest read
+      → Answered request old new status (bytes_read read) → Told left (Answered request old new status)
+  told n is left rest read status r a = told_all left rest read status (subst (λ n. ReadsUpTo n left rest read) is r) a
+
+-- What was read goes to the end, or is more than there may be.
+took_all : (most : ℕ) (old new : Bytes) (ended : Type 0) (read : ReadAll) (status : Status) (fact : Bytes → Type 0) → TookUpTo most old new ended read
+    → fact (bytes_read read) → Took most old new ended status fact
+took_all most old new ended (reads.Whole text) status fact t f = (text, t.0, omega (arith, t.1), (λ a b. inl t.2), f)
+took_all most old new ended (reads.Over text) status fact t f = (text, t.0, omega (arith, t.1), (λ a b. inr (omega (arith, t.1))), f)
+
+pub took : (n most : ℕ) → n ≡ most → (old new : Bytes) (ended : Type 0) (read : ReadAll) (status : Status) (fact : Bytes → Type 0)
+    → TookUpTo n old new ended read → fact (bytes_read read) → Took most old new ended status fact
+took n most is old new ended read status fact t f =
+    subst (λ n. Took n old new ended status fact) is (took_all n old new ended read status fact t f)
 
 -- Where reading failed, or memory was wanting, some part was read.
-pub took_some : (old new : Bytes) (ended : Type 0) (most : ℕ) (status : Status) (fact : Bytes → Type 0) → TookAtMost most old new → most ≤ MAX_BYTES + 1
-    → (status ≡ ReadFault) ⊎ (status ≡ Memory) → ((text : Bytes) → fact text) → Took old new ended status fact
-took_some old new ended most status fact t few is f =
+pub took_some : (most : ℕ) (old new : Bytes) (ended : Type 0) (some : ℕ) (status : Status) (fact : Bytes → Type 0) → TookAtMost some old new
+    → some ≤ most + 1 → (status ≡ ReadFault) ⊎ (status ≡ Memory) → ((text : Bytes) → fact text) → Took most old new ended status fact
+took_some most old new ended some status fact t few is f =
     (t.0, t.1, omega (arith, t.2, few), (λ a b. absurd (elim is [ inl e ↦ a e | inr e ↦ b e ])), f t.0)
 
 -- the statuses of complete searches, and of verdicts
@@ -436,26 +517,56 @@ complete_is status c = elim c [
   | inr d ↦ elim d [ inl e ↦ ap is_complete e | inr d ↦ elim d [ inl e ↦ ap is_complete e | inr e ↦ ap is_complete e ] ]
 ]
 
--- With such a status a text is answered that reads as a program.
-answered_reads : (question : Question) (old new bytes : Bytes) (status : Status) → is_complete status ≡ true → Answered question old new status bytes
-    → (P : Program) × Reads bytes P
+pub memory_incomplete : IsComplete Memory → ⊥
 unfolding is_complete
-answered_reads question old new bytes Answers c (out, (P, reads, w), g) = (P, reads)
-answered_reads question old new bytes NoAnswer c (out, (P, reads, w), g) = (P, reads)
-answered_reads question old new bytes Usage c a = absurd a
-answered_reads question old new bytes Refused c a = absurd (true≢false (sym c))
-answered_reads question old new bytes ReadFault c a = absurd (true≢false (sym c))
-answered_reads question old new bytes WriteFault c a = absurd (true≢false (sym c))
-answered_reads question old new bytes Limit c (out, (P, reads, w), g) = (P, reads)
-answered_reads question old new bytes Memory c a = absurd (true≢false (sym c))
-answered_reads question old new bytes Floundered c (out, (P, reads, w), g) = (P, reads)
+memory_incomplete c = true≢false (sym (complete_is Memory c))
+
+-- With such a status the bytes are as many as there may be.
+text_fits : (question : Question) (status : Status) (bytes out : Bytes) → WasReplied question status bytes out → length bytes ≤ MAX_BYTES
+text_fits question status bytes out (P, reads, w) = reads.size
+
+answer_fits : (request : Request) (status : Status) (bytes out : Bytes) → is_complete status ≡ true → IsAnswer request status bytes out
+    → length bytes ≤ most_of request
+unfolding is_complete
+answer_fits (Text question) Answers bytes out c w = text_fits question Answers bytes out w
+answer_fits (Text question) NoAnswer bytes out c w = text_fits question NoAnswer bytes out w
+answer_fits (Text question) Limit bytes out c w = text_fits question Limit bytes out w
+answer_fits (Text question) Floundered bytes out c w = text_fits question Floundered bytes out w
+answer_fits Document Answers bytes out c (document, said) = document.fits
+answer_fits Document NoAnswer bytes out c (document, said) = document.fits
+answer_fits Document Limit bytes out c w = absurd w
+answer_fits Document Floundered bytes out c w = absurd w
+answer_fits request Usage bytes out c w = absurd (true≢false (sym c))
+answer_fits request Refused bytes out c w = absurd (true≢false (sym c))
+answer_fits request ReadFault bytes out c w = absurd (true≢false (sym c))
+answer_fits request WriteFault bytes out c w = absurd (true≢false (sym c))
+answer_fits request Memory bytes out c w = absurd (true≢false (sym c))
+
+answered_fits : (request : Request) (old new bytes : Bytes) (status : Status) → is_complete status ≡ true → Answered request old new status bytes
+    → length bytes ≤ most_of request
+unfolding is_complete
+answered_fits request old new bytes Answers c (out, w, g) = answer_fits request Answers bytes out c w
+answered_fits request old new bytes NoAnswer c (out, w, g) = answer_fits request NoAnswer bytes out c w
+answered_fits request old new bytes Usage c a = absurd a
+answered_fits request old new bytes Refused c a = absurd (true≢false (sym c))
+answered_fits request old new bytes ReadFault c a = absurd (true≢false (sym c))
+answered_fits request old new bytes WriteFault c a = absurd (true≢false (sym c))
+answered_fits request old new bytes Limit c (out, w, g) = answer_fits request Limit bytes out c w
+answered_fits request old new bytes Memory c a = absurd (true≢false (sym c))
+answered_fits request old new bytes Floundered c (out, w, g) = answer_fits request Floundered bytes out c w
 
 -- A complete answer is to all that the source had.
-pub to_the_end : (question : Question) (old new : Bytes) (left rest : Option Bytes) (before after : Bytes) (ended : Type 0) (read : ReadAll) (status : Status)
-    → ReadsUpTo MAX_BYTES left rest read → TookUpTo MAX_BYTES before after ended read → Answered question old new status (bytes_read read) → IsComplete status
-    → ended × AreAll rest []
-to_the_end question old new left rest before after ended (reads.Whole text) status r t a c = (t.2, r.2)
-to_the_end question old new left rest before after ended (reads.Over text) status r t a c =
-    let (P, program) = answered_reads question old new text status (complete_is status c) a in
-    let small = program.size in
+all_to_the_end : (request : Request) (old new : Bytes) (left rest : Option Bytes) (before after : Bytes) (ended : Type 0) (read : ReadAll) (status : Status)
+    → ReadsUpTo (most_of request) left rest read → TookUpTo (most_of request) before after ended read
+    → Answered request old new status (bytes_read read) → IsComplete status → ended × AreAll rest []
+all_to_the_end request old new left rest before after ended (reads.Whole text) status r t a c = (t.2, r.2)
+all_to_the_end request old new left rest before after ended (reads.Over text) status r t a c =
+    let small = answered_fits request old new text status (complete_is status c) a in
     absurd (omega (arith, t.1, small))
+
+pub to_the_end : (n : ℕ) (request : Request) → n ≡ most_of request → (old new : Bytes) (left rest : Option Bytes) (before after : Bytes) (ended : Type 0)
+    (read : ReadAll) (status : Status) → ReadsUpTo n left rest read → TookUpTo n before after ended read
+    → Answered request old new status (bytes_read read) → IsComplete status → ended × AreAll rest []
+to_the_end n request is old new left rest before after ended read status r t a c =
+    all_to_the_end request old new left rest before after ended read status (subst (λ n. ReadsUpTo n left rest read) is r)
+    (subst (λ n. TookUpTo n before after ended read) is t) a c

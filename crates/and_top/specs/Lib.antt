@@ -1,6 +1,9 @@
 pub mod Explained
 pub mod Finding
+pub mod Forked
+pub mod Linted
 pub mod Shown
 pub mod Checked
+pub mod Verified
 pub mod Top
 pub mod Obeyed

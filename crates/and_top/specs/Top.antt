@@ -5,8 +5,7 @@ use Rattle.std.specs.Prelude.{length, take, Option, Some, None}
 use Rattle.std.specs.List.{list_any}
 use Rattle.and_model.specs.Limits.{Cut, OverLimit}
 use Rattle.and_model.specs.Lines.{Bytes}
-use Rattle.and_model.specs.Listing as listings
-use Rattle.and_model.specs.Listing.{Entry, Outcome, Listing, Exhausted}
+use Rattle.and_model.specs.Listing.{Entry, Listing, Exhausted}
 use Rattle.and_model.specs.Output.{lines_of, limit_met}
 use Rattle.and_model.specs.Programs.{Program}
 use Rattle.and_model.specs.Reached.{Numbers}
@@ -21,15 +20,21 @@ use Rattle.and_io.specs.declared.reading.ReadAll.{ReadAll}
 use Rattle.and_io.specs.declared.reading.ReadAll.TheVariants as reads
 use Rattle.and_command.specs.Commands.{IsCommand}
 use Rattle.and_command.specs.declared.reading.Command.{Command}
-use Rattle.and_first.specs.First.{IsTold, last_line}
+use Rattle.and_first.specs.First.{IsTold, is_floundered, last_line}
 use Rattle.and_first.specs.declared.first.End.{End}
 use Rattle.and_first.specs.declared.first.End.TheVariants as ends
 use Rattle.and_proof.specs.Proofs.{ProofText}
 use Rattle.and_top.specs.Explained.{Explains, LacksAll, LacksSome, whole_lines}
 use Rattle.and_top.specs.Checked.{IsToldSafe, IsToldWaiting}
+use Rattle.and_top.specs.Forked.{WasForked}
+use Rattle.and_top.specs.Linted.{WasLinted}
 use Rattle.and_top.specs.Shown.{shown, completed}
+use Rattle.and_top.specs.Verified.{WasVerified}
 use Rattle.and_top.specs.declared.question.Question.{Question}
-use Rattle.and_top.specs.declared.question.Question.TheVariants.{Run, Check, First, Explain}
+use Rattle.and_top.specs.declared.question.Question.TheVariants.{Run, Check, First, Explain, Tree, Lint}
+use Rattle.and_top.specs.declared.question.Request.{Request}
+use Rattle.and_top.specs.declared.question.Request.TheVariants.{Text, Document}
+use Rattle.and_top.specs.declared.question.TheConstants.{MAX_DOCUMENT}
 use Rattle.and_top.specs.declared.showing.Show.{Show}
 use Rattle.and_top.specs.declared.status.Status.{Status}
 use Rattle.and_top.specs.declared.status.Status.TheVariants.{Answers, NoAnswer, Usage, Refused, ReadFault, WriteFault}
@@ -39,11 +44,7 @@ use Rattle.and_top.specs.declared.status.Status.TheVariants.{Limit, Memory, Flou
 abbrev pub IsUsage : List Bytes → Type 0
 IsUsage words = (c : Command) → IsCommand words c → ⊥
 
--- the line is no answer, since some arithmetic waits forever
-abbrev pub is_floundered : Outcome → Bool
-is_floundered (listings.answer text) = false
-is_floundered (listings.floundered text) = true
-
+-- some line is no answer, since some arithmetic waits forever
 abbrev pub has_floundered : List Entry → Bool
 has_floundered ls = list_any (λ (e : Entry). is_floundered e.outcome) ls
 
@@ -135,6 +136,8 @@ lacking_status (Some cut) = Limit
 abbrev pub IsReply : Question → Bytes → Program → Status → Bytes → Type 0
 IsReply (Run show limit) bytes program status out = WasRun show limit program status out
 IsReply Check bytes program status out = WasChecked program status out
+IsReply (Tree limit) bytes program status out = WasForked limit program status out
+IsReply Lint bytes program status out = WasLinted program status out
 IsReply (First count limit) bytes program status out = TellsFirst count limit program status out
 IsReply (Explain place limit) bytes program status out = WasExplained place limit bytes program status out
 
@@ -146,6 +149,11 @@ WasReplied question status bytes out = (program : Program) × Reads bytes progra
 -- the text is refused, and the line says why
 abbrev pub IsRefusedBy : Bytes → Bytes → Type 0
 IsRefusedBy bytes line = (r : Refusal) × IsRefused bytes r × (line ≡ refusal_line r)
+
+-- the line of a refusal that is not for want of memory
+abbrev pub IsLineOf : Option Refusal → Bytes → Type 0
+IsLineOf None line = ⊥
+IsLineOf (Some r) line = line ≡ refusal_line r
 
 -- What a text is answered with under each status, by what it is asked for.
 abbrev pub WasAnswered : Question → Status → Bytes → Bytes → Type 0
@@ -163,43 +171,59 @@ WasAnswered question Memory bytes out = ⊥
 abbrev pub IsBounded : Question → Type 0
 IsBounded (Run show limit) = limit ≤ MAX_LIMIT
 IsBounded Check = Unit {0}
+IsBounded (Tree limit) = limit ≤ MAX_LIMIT
+IsBounded Lint = Unit {0}
 IsBounded (First count limit) = limit ≤ MAX_LIMIT
 IsBounded (Explain place limit) = (1 ≤ place) × (limit ≤ MAX_LIMIT)
+
+-- how many bytes a source may have, by what they are
+abbrev pub most_of : Request → ℕ
+most_of (Text question) = MAX_BYTES
+most_of Document = MAX_DOCUMENT
+
+-- the limit, where there is one, is at most the largest
+abbrev pub IsAllowed : Request → Type 0
+IsAllowed (Text question) = IsBounded question
+IsAllowed Document = Unit {0}
+
+-- What the bytes of a source are answered with under each status, by what they are.
+abbrev pub IsAnswer : Request → Status → Bytes → Bytes → Type 0
+IsAnswer (Text question) status bytes out = WasAnswered question status bytes out
+IsAnswer Document status bytes out = WasVerified status bytes out
 
 -- a part of what was due was given, from its beginning on, and not all
 abbrev pub GivesPrefix : Bytes → Bytes → Bytes → Type 0
 GivesPrefix old new due = (n : ℕ) × (n < length due) × (new ≡ old ++ take n due)
 
--- the text is answered with something, which was given
-abbrev pub GivesAnswer : Question → Bytes → Bytes → Status → Bytes → Type 0
-GivesAnswer question old new status bytes = (out : Bytes) × WasAnswered question status bytes out × (new ≡ old ++ out)
+-- the bytes are answered with something, which was given
+abbrev pub GivesAnswer : Request → Bytes → Bytes → Status → Bytes → Type 0
+GivesAnswer request old new status bytes = (out : Bytes) × IsAnswer request status bytes out × (new ≡ old ++ out)
 
--- under some status the text is answered with something, of which a part was given
-abbrev pub FailsWriting : Question → Bytes → Bytes → Bytes → Type 0
-FailsWriting question old new bytes =
-    (status : Status) × (due : Bytes) × WasAnswered question status bytes due × GivesPrefix old new due
+-- under some status the bytes are answered with something, of which a part was given
+abbrev pub FailsWriting : Request → Bytes → Bytes → Bytes → Type 0
+FailsWriting request old new bytes =
+    (status : Status) × (due : Bytes) × IsAnswer request status bytes due × GivesPrefix old new due
 
--- What each status says of a text and of what the sink was given for it.
-abbrev pub Answered : Question → Bytes → Bytes → Status → Bytes → Type 0
-Answered question old new Answers bytes = GivesAnswer question old new Answers bytes
-Answered question old new NoAnswer bytes = GivesAnswer question old new NoAnswer bytes
-Answered question old new Floundered bytes = GivesAnswer question old new Floundered bytes
-Answered question old new Limit bytes = GivesAnswer question old new Limit bytes
-Answered question old new Refused bytes = GivesAnswer question old new Refused bytes
-Answered question old new Usage bytes = ⊥
-Answered question old new ReadFault bytes = new ≡ old
-Answered question old new WriteFault bytes = FailsWriting question old new bytes
-Answered question old new Memory bytes = new ≡ old
+-- What each status says of the bytes of a source and of what the sink was given for them.
+abbrev pub Answered : Request → Bytes → Bytes → Status → Bytes → Type 0
+Answered request old new Answers bytes = GivesAnswer request old new Answers bytes
+Answered request old new NoAnswer bytes = GivesAnswer request old new NoAnswer bytes
+Answered request old new Floundered bytes = GivesAnswer request old new Floundered bytes
+Answered request old new Limit bytes = GivesAnswer request old new Limit bytes
+Answered request old new Refused bytes = GivesAnswer request old new Refused bytes
+Answered request old new Usage bytes = ⊥
+Answered request old new ReadFault bytes = new ≡ old
+Answered request old new WriteFault bytes = FailsWriting request old new bytes
+Answered request old new Memory bytes = new ≡ old
 
--- Unless reading failed or memory was wanting, the text goes to the end of the source, or is larger than the largest.
-abbrev pub IsRead : (ended : Type 0) → Status → Bytes → Type 0
-IsRead ended status text = status ≢ ReadFault → status ≢ Memory → ended ⊎ (MAX_BYTES < length text)
+-- Unless reading failed or memory was wanting, the bytes go to the end of the source, or are more than there may be.
+abbrev pub IsRead : (most : ℕ) (ended : Type 0) → Status → Bytes → Type 0
+IsRead most ended status bytes = status ≢ ReadFault → status ≢ Memory → ended ⊎ (most < length bytes)
 
--- The bytes that the source gave in this call are such a text, and this holds of it. It takes one byte more than the
--- largest text has at most.
-abbrev pub Took : (old new : Bytes) (ended : Type 0) → Status → (Bytes → Type 0) → Type 0
-Took old new ended status fact =
-    (text : Bytes) × (new ≡ old ++ text) × (length text ≤ MAX_BYTES + 1) × IsRead ended status text × fact text
+-- The source gave such bytes in this call, and this holds of them. It takes one byte more than there may be at most.
+abbrev pub Took : (most : ℕ) (old new : Bytes) (ended : Type 0) → Status → (Bytes → Type 0) → Type 0
+Took most old new ended status fact =
+    (bytes : Bytes) × (new ≡ old ++ bytes) × (length bytes ≤ most + 1) × IsRead most ended status bytes × fact bytes
 
 -- what holds of the bytes that were left, where the source told them
 abbrev pub Told : Option Bytes → (Bytes → Type 0) → Type 0

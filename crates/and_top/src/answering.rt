@@ -5,18 +5,23 @@ ghost use Rattle.std.specs.List.{list_any};
 ghost use Rattle.and_answers.specs.Kept.{listed};
 ghost use Rattle.and_program.specs.Loaded.{program_of};
 ghost use Rattle.and_model.specs.declared.limits.TheConstants.{MAX_LIMIT};
+ghost use Rattle.and_reader.specs.Causes.{refusal_of};
 ghost use Rattle.and_search_laws.specs.Found.{FindsFirst};
 ghost use Rattle.and_top.specs.Finding.{Finds};
-ghost use Rattle.and_top.specs.Top.{IsBounded, IsReply, TellsFirst, WasAnswered, WasChecked, WasExplained, WasRun};
+ghost use Rattle.and_top.specs.Top.{IsBounded, IsLineOf, IsReply, TellsFirst, WasAnswered, WasChecked, WasExplained};
+ghost use Rattle.and_top.specs.Top.{WasRun};
 ghost use Rattle.and_top.specs.Top.{status_for, status_seen, status_told, told_status};
 
 use crate::checking::{judged, verdict_line};
 use crate::explaining::explained;
+use crate::forks::forked;
+use crate::linting::linted;
 use crate::question::Question;
 use crate::showing::{Show, written};
 use crate::status::Status;
 use and_answers::{Entry, Found};
 use and_first::{End, First, first_by};
+use and_gate::Gate;
 use and_model::Text;
 use and_modes::verdicts::Verdict;
 use and_program::Loaded;
@@ -198,8 +203,9 @@ fn explained_in<F: Fn(&Loaded, u32, Option<u32>) -> Result<Found, AllocError>>(
 }
 
 /// What a program is answered with.
-fn reply_to<F: Fn(&Loaded, u32, Option<u32>) -> Result<Found, AllocError>>(
+fn reply_to<F: Fn(&Loaded, u32, Option<u32>) -> Result<Found, AllocError>, G: Gate>(
     search: &F,
+    gate: &G,
     alloc: Global,
     question: Question,
     bytes: &[u8],
@@ -217,13 +223,31 @@ fn reply_to<F: Fn(&Loaded, u32, Option<u32>) -> Result<Found, AllocError>>(
         Question::Explain { place, limit } => {
             explained_in(search, alloc, place, limit, bytes, loaded)
         }
+        Question::Tree { limit } => forked(alloc, limit, loaded, gate),
+        Question::Lint => linted(alloc, loaded),
         Question::First { count, limit } => first_in(search, alloc, count, limit, loaded),
     }
 }
 
+/// The answer to bytes that are refused. An error is want of memory.
+pub fn refused(alloc: Global, refusal: ReadRefusal) -> Result<Reply, AllocError>
+    ensures status { IfOk result (λ reply. reply.status ≡ Status.Refused) }
+    ensures text { IfOk result (λ reply. IsLineOf (refusal_of refusal) reply.text) }
+{
+    if refusal.is_memory() {
+        return Err(AllocError);
+    }
+    Ok(Reply {
+        text: refusal_text(alloc, &refusal)?,
+        status: Status::Refused,
+        refusal: Some(refusal),
+    })
+}
+
 /// The answer to a text. An error is want of memory.
-pub fn answer_to<F: Fn(&Loaded, u32, Option<u32>) -> Result<Found, AllocError>>(
+pub fn answer_to<F: Fn(&Loaded, u32, Option<u32>) -> Result<Found, AllocError>, G: Gate>(
     search: &F,
+    gate: &G,
     alloc: Global,
     question: Question,
     text: &[u8],
@@ -235,16 +259,7 @@ pub fn answer_to<F: Fn(&Loaded, u32, Option<u32>) -> Result<Found, AllocError>>(
     ensures { IfOk result (λ reply. WasAnswered question reply.status text.now reply.text) }
 {
     match read_program(alloc, text) {
-        Ok(loaded) => reply_to(search, alloc, question, text, &loaded),
-        Err(refusal) => {
-            if refusal.is_memory() {
-                return Err(AllocError);
-            }
-            Ok(Reply {
-                text: refusal_text(alloc, &refusal)?,
-                status: Status::Refused,
-                refusal: Some(refusal),
-            })
-        }
+        Ok(loaded) => reply_to(search, gate, alloc, question, text, &loaded),
+        Err(refusal) => refused(alloc, refusal),
     }
 }

@@ -1,25 +1,21 @@
 //! From a text of a source, or one that is generated, to the bytes for a sink.
 
-ghost use Rattle.std.specs.Prelude.{◌≡◌, ◌≢◌, ◌≤◌, ◌++◌, ℕ, [], IfOk};
+ghost use Rattle.std.specs.Prelude.{◌≡◌, ◌≢◌, ◌≤◌, ◌++◌, [], IfOk};
 ghost use Rattle.and_io.specs.Flow.{Rose, AreAll};
 ghost use Rattle.and_gen.specs.Layered as generated;
 ghost use Rattle.and_model.specs.declared.limits.TheConstants.{MAX_LIMIT};
-ghost use Rattle.and_program.specs.Loaded.{program_of};
-ghost use Rattle.and_top.specs.Finding.{Finds};
-ghost use Rattle.and_top.specs.Top.{Answered, GivesPrefix, IsBounded, IsComplete, Told, Took, bytes_read};
+ghost use Rattle.and_top.specs.Top.{Answered, GivesPrefix, IsAllowed, IsAnswer, IsComplete, Told, Took, bytes_read};
+ghost use Rattle.and_top.specs.Top.{most_of};
 
-use crate::answering::{Reply, answer_to};
-use crate::question::Question;
+use crate::answering::Reply;
+use crate::question::{Question, Request};
 use crate::showing::Show;
 use crate::status::Status;
 use crate::watching::Watcher;
-use and_answers::Found;
 use and_command::Settings;
 use and_gen::layered;
 use and_io::{ReadAll, ReadStop, Sink, Source, read_all, write_all_counted};
 use and_model::Text;
-use and_model::limits::MAX_BYTES;
-use and_program::Loaded;
 use std::alloc::{AllocError, Global};
 
 /// Writes what is due, and says what became of it.
@@ -45,28 +41,27 @@ fn tell<W: Watcher>(watcher: &W, text: &[u8], reply: &Reply) {
     }
 }
 
-/// Answers a text.
-fn respond<F: Fn(&Loaded, u32, Option<u32>) -> Result<Found, AllocError>, W: Watcher, K: Sink>(
-    search: &F,
+/// Answers the bytes of a source.
+fn respond<A: Fn(Request, &[u8]) -> Result<Reply, AllocError>, W: Watcher, K: Sink>(
+    answer: &A,
     watcher: &W,
-    alloc: Global,
-    question: Question,
+    request: Request,
     sink: &mut K,
-    text: &[u8],
+    bytes: &[u8],
 ) -> Status
-    requires bounded { IsBounded question }
-    requires callable { (l : _) (n : ℕ) (o : _) → n ≤ MAX_LIMIT → F.pre search.now l n o }
-    requires finds { (l : _) (n : ℕ) (o : _) (found : _) → n ≤ MAX_LIMIT → F.post search.now l n o found
-        → IfOk found (Finds (program_of l.now) n o) }
-    ensures answered { Answered question (K.given sink.old) (K.given sink.new) result text.now }
+    requires allowed { IsAllowed request }
+    requires callable { (q : _) (b : _) → IsAllowed q → A.pre answer.now q b }
+    requires answers { (q : _) (b : _) (r : _) → IsAllowed q → A.post answer.now q b r
+        → IfOk r (λ reply. IsAnswer q reply.status b.now reply.text) }
+    ensures answered { Answered request (K.given sink.old) (K.given sink.new) result bytes.now }
     ensures no_read_fault { result ≢ Status.ReadFault }
     ensures fault { result ≡ Status.WriteFault → Rose K.last (K.faults sink.old) (K.faults sink.new) }
     ensures count { K.faults sink.old ≤ K.faults sink.new }
 {
-    match answer_to(search, alloc, question, text) {
+    match answer(request, bytes) {
         Ok(reply) => {
             let status = finish(sink, reply.text.bytes(), reply.status);
-            tell(watcher, text, &reply);
+            tell(watcher, bytes, &reply);
             status
         }
         Err(AllocError) => Status::Memory,
@@ -83,28 +78,23 @@ fn text_of(read: &ReadAll) -> &Text
     }
 }
 
-/// Reads a text from the source and answers it.
-pub fn ask<
-    F: Fn(&Loaded, u32, Option<u32>) -> Result<Found, AllocError>,
-    W: Watcher,
-    S: Source,
-    K: Sink,
->(
-    search: &F,
+/// Reads the bytes of the source and answers them.
+pub fn ask<A: Fn(Request, &[u8]) -> Result<Reply, AllocError>, W: Watcher, S: Source, K: Sink>(
+    answer: &A,
     watcher: &W,
     alloc: Global,
-    question: Question,
+    request: Request,
     source: &mut S,
     sink: &mut K,
 ) -> Status
-    requires bounded { IsBounded question }
-    requires callable { (l : _) (n : ℕ) (o : _) → n ≤ MAX_LIMIT → F.pre search.now l n o }
-    requires finds { (l : _) (n : ℕ) (o : _) (found : _) → n ≤ MAX_LIMIT → F.post search.now l n o found
-        → IfOk found (Finds (program_of l.now) n o) }
+    requires allowed { IsAllowed request }
+    requires callable { (q : _) (b : _) → IsAllowed q → A.pre answer.now q b }
+    requires answers { (q : _) (b : _) (r : _) → IsAllowed q → A.post answer.now q b r
+        → IfOk r (λ reply. IsAnswer q reply.status b.now reply.text) }
     // What was written, and for which text.
-    ensures answered { Took (S.taken source.old) (S.taken source.new) (S.ended source.new) result
-        (Answered question (K.given sink.old) (K.given sink.new) result) }
-    ensures told { Told (S.left source.old) (Answered question (K.given sink.old) (K.given sink.new) result) }
+    ensures answered { Took (most_of request) (S.taken source.old) (S.taken source.new) (S.ended source.new) result
+        (Answered request (K.given sink.old) (K.given sink.new) result) }
+    ensures told { Told (S.left source.old) (Answered request (K.given sink.old) (K.given sink.new) result) }
     ensures read_whole { IsComplete result → S.ended source.new × AreAll (S.left source.new) [] }
     ensures no_usage { result ≢ Status.Usage }
 
@@ -116,10 +106,10 @@ pub fn ask<
     ensures source_count { S.faults source.old ≤ S.faults source.new }
     ensures sink_count { K.faults sink.old ≤ K.faults sink.new }
 {
-    match read_all(alloc, source, MAX_BYTES) {
+    match read_all(alloc, source, request.most()) {
         Ok(read) => {
-            let text = text_of(&read).bytes();
-            respond(search, watcher, alloc, question, sink, text)
+            let bytes = text_of(&read).bytes();
+            respond(answer, watcher, request, sink, bytes)
         }
         Err(ReadStop::Failed) => Status::ReadFault,
         Err(ReadStop::Memory) => Status::Memory,
@@ -127,8 +117,8 @@ pub fn ask<
 }
 
 /// Answers the generated text of a number by a summary.
-pub fn demo<F: Fn(&Loaded, u32, Option<u32>) -> Result<Found, AllocError>, W: Watcher, K: Sink>(
-    search: &F,
+pub fn demo<A: Fn(Request, &[u8]) -> Result<Reply, AllocError>, W: Watcher, K: Sink>(
+    answer: &A,
     watcher: &W,
     alloc: Global,
     number: u32,
@@ -137,25 +127,21 @@ pub fn demo<F: Fn(&Loaded, u32, Option<u32>) -> Result<Found, AllocError>, W: Wa
 ) -> Status
     requires few { number ≤ 64 }
     requires limited { settings.limit ≤ MAX_LIMIT }
-    requires callable { (l : _) (n : ℕ) (o : _) → n ≤ MAX_LIMIT → F.pre search.now l n o }
-    requires finds { (l : _) (n : ℕ) (o : _) (found : _) → n ≤ MAX_LIMIT → F.post search.now l n o found
-        → IfOk found (Finds (program_of l.now) n o) }
-    ensures answered { Answered (Question.Run Show.Summary settings.limit) (K.given sink.old) (K.given sink.new) result
-        (generated.layered number) }
+    requires callable { (q : _) (b : _) → IsAllowed q → A.pre answer.now q b }
+    requires answers { (q : _) (b : _) (r : _) → IsAllowed q → A.post answer.now q b r
+        → IfOk r (λ reply. IsAnswer q reply.status b.now reply.text) }
+    ensures answered { Answered (Request.Text (Question.Run Show.Summary settings.limit)) (K.given sink.old)
+        (K.given sink.new) result (generated.layered number) }
     ensures not_refused { result ≢ Status.Refused }
     ensures no_read_fault { result ≢ Status.ReadFault }
     ensures fault { result ≡ Status.WriteFault → Rose K.last (K.faults sink.old) (K.faults sink.new) }
     ensures count { K.faults sink.old ≤ K.faults sink.new }
 {
     match layered(alloc, number) {
-        Ok(text) => respond(
-            search,
-            watcher,
-            alloc,
-            Question::summary(settings),
-            sink,
-            text.bytes(),
-        ),
+        Ok(text) => {
+            let request = Request::Text(Question::summary(settings));
+            respond(answer, watcher, request, sink, text.bytes())
+        }
         // The number is not too big, so that it is for want of memory.
         Err(_) => Status::Memory,
     }

@@ -8,12 +8,17 @@ pub mod answering;
 pub mod asking;
 pub mod checking;
 pub mod explaining;
+pub mod forks;
+pub mod linting;
 pub mod question;
+pub mod replying;
 pub mod searching;
 pub mod showing;
 pub mod status;
 pub mod top;
+pub mod verifying;
 pub mod watching;
+pub mod work;
 
 pub use status::Status;
 pub use top::{andorra, andorra_alone};

@@ -1,11 +1,16 @@
-//! What a text is asked for.
+//! What the bytes of a source are asked for.
 
 ghost use Rattle.std.specs.Prelude.{◌≡◌};
+ghost use Rattle.and_top.specs.Top.{most_of};
 
 use crate::showing::Show;
 use and_command::Settings;
+use and_model::limits::MAX_BYTES;
 
-/// What a text is asked for.
+/// The most bytes of a document: a program's text with the proof of an answer.
+pub const MAX_DOCUMENT: usize = 16_777_216;
+
+/// What the text of a program is asked for.
 #[derive(Clone, Copy, Debug, PartialEq, Eq)]
 pub enum Question {
     /// Its answers.
@@ -24,6 +29,13 @@ pub enum Question {
         /// The most that a proof may weigh.
         limit: u32,
     },
+    /// Its fork tree.
+    Tree {
+        /// The most that a proof may weigh.
+        limit: u32,
+    },
+    /// What in it is likely not meant.
+    Lint,
     /// Its first answers.
     First {
         /// How many.
@@ -53,6 +65,27 @@ impl Question {
         Question::Run {
             show: Show::Summary,
             limit: settings.limit,
+        }
+    }
+}
+
+/// What the bytes of a source are, and what they are asked for.
+#[derive(Clone, Copy, Debug, PartialEq, Eq)]
+pub enum Request {
+    /// They are the text of a program, of which this is asked.
+    Text(Question),
+    /// They are the text of a program with the proof of an answer, which is checked.
+    Document,
+}
+
+impl Request {
+    /// How many bytes there may be.
+    pub fn most(self) -> usize
+        ensures { result ≡ most_of self }
+    {
+        match self {
+            Request::Text(_) => MAX_BYTES,
+            Request::Document => MAX_DOCUMENT,
         }
     }
 }

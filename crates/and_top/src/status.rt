@@ -3,10 +3,11 @@
 /// How a run ended. Its number is the exit status.
 #[derive(Clone, Copy, Debug, PartialEq, Eq)]
 pub enum Status {
-    /// The search was complete; there are answers, and all are written. Of a check: no arithmetic waits.
+    /// The search was complete; there are answers, and all are written. Of a check: no arithmetic waits. Of a
+    /// document: it proves an answer.
     Answers = 0,
     /// The search was complete, and there is no answer. Of a check: some arithmetic may wait, and a
-    /// variable for which it does is told.
+    /// variable for which it does is told. Of a document: it proves none.
     NoAnswer = 1,
     /// The words are not those of a command; how to use the program is written.
     Usage = 2,

@@ -1,58 +1,66 @@
 //! The top call.
 
-ghost use Rattle.std.specs.Prelude.{◌≡◌, ◌≤◌, ◌↔◌, ℕ, IfOk, IsNone, map, string_bytes};
-ghost use Rattle.and_model.specs.declared.limits.TheConstants.{MAX_LIMIT};
-ghost use Rattle.and_program.specs.Loaded.{program_of};
-ghost use Rattle.and_command.specs.Commands.{AreInRange};
-ghost use Rattle.and_top.specs.Finding.{Finds};
-ghost use Rattle.and_top.specs.Obeyed.{Obeys};
+ghost use Rattle.std.specs.Prelude.{◌≡◌, ◌≢◌, ◌↔◌, IfOk, IsNone, map, string_bytes};
+ghost use Rattle.and_command.specs.Commands.{AreInRange, IsInRange};
+ghost use Rattle.and_top.specs.Obeyed.{Blames, Does, IsWork, Obeys};
+ghost use Rattle.and_top.specs.Top.{IsAllowed, IsAnswer};
 
+use crate::answering::Reply;
 use crate::asking::{ask, demo, finish};
-use crate::question::Question;
-use crate::searching::{Hands, found_alone, found_by};
+use crate::question::Request;
+use crate::replying::{answered_alone, answered_by};
+use crate::searching::Hands;
 use crate::status::Status;
 use crate::watching::Watcher;
-use and_answers::Found;
+use crate::work::{Work, work_of};
 use and_command::{Command, Settings, USAGE, command_of};
 use and_gate::Gate;
 use and_io::{Sink, Source};
-use and_program::Loaded;
 use std::alloc::{AllocError, Global};
 use std::sync::Wait;
 use std::thread::Threads;
 
-/// Does what the words of the command line say, by this search.
-fn obey<
-    F: Fn(&Loaded, u32, Option<u32>) -> Result<Found, AllocError>,
-    W: Watcher,
-    S: Source,
-    K: Sink,
->(search: &F, watcher: &W, alloc: Global, words: &[String], source: &mut S, sink: &mut K) -> Status
-    requires callable { (l : _) (n : ℕ) (o : _) → n ≤ MAX_LIMIT → F.pre search.now l n o }
-    requires finds { (l : _) (n : ℕ) (o : _) (found : _) → n ≤ MAX_LIMIT → F.post search.now l n o found
-        → IfOk found (Finds (program_of l.now) n o) }
+/// Does what is to be done, by this answer.
+fn perform<A: Fn(Request, &[u8]) -> Result<Reply, AllocError>, W: Watcher, S: Source, K: Sink>(
+    answer: &A,
+    watcher: &W,
+    alloc: Global,
+    work: Work,
+    source: &mut S,
+    sink: &mut K,
+) -> Status
+    requires work { IsWork work }
+    requires callable { (q : _) (b : _) → IsAllowed q → A.pre answer.now q b }
+    requires answers { (q : _) (b : _) (r : _) → IsAllowed q → A.post answer.now q b r
+        → IfOk r (λ reply. IsAnswer q reply.status b.now reply.text) }
+    ensures does { Does S.Source K.Sink result source.old source.new sink.old sink.new work }
+    ensures no_usage { result ≢ Status.Usage }
+    ensures blame { Blames S.Source K.Sink result source.old source.new sink.old sink.new }
+{
+    match work {
+        Work::Source(request) => ask(answer, watcher, alloc, request, source, sink),
+        Work::Demo { number, settings } => demo(answer, watcher, alloc, number, settings, sink),
+    }
+}
+
+/// Does what the words of the command line say, by this answer.
+fn obey<A: Fn(Request, &[u8]) -> Result<Reply, AllocError>, W: Watcher, S: Source, K: Sink>(
+    answer: &A,
+    watcher: &W,
+    alloc: Global,
+    words: &[String],
+    source: &mut S,
+    sink: &mut K,
+) -> Status
+    requires callable { (q : _) (b : _) → IsAllowed q → A.pre answer.now q b }
+    requires answers { (q : _) (b : _) (r : _) → IsAllowed q → A.post answer.now q b r
+        → IfOk r (λ reply. IsAnswer q reply.status b.now reply.text) }
     ensures { Obeys S.Source K.Sink result source.old source.new sink.old sink.new (map string_bytes words.now) }
 {
-    match command_of(words) {
-        Some(Command::Run { settings }) => {
-            let question = Question::answers(settings);
-            ask(search, watcher, alloc, question, source, sink)
-        }
-        Some(Command::Check) => ask(search, watcher, alloc, Question::Check, source, sink),
-        Some(Command::Demo { number, settings }) => {
-            demo(search, watcher, alloc, number, settings, sink)
-        }
-        Some(Command::Explain { place, settings }) => {
-            let limit = settings.limit;
-            let question = Question::Explain { place, limit };
-            ask(search, watcher, alloc, question, source, sink)
-        }
-        Some(Command::First { count, settings }) => {
-            let limit = settings.limit;
-            let question = Question::First { count, limit };
-            ask(search, watcher, alloc, question, source, sink)
-        }
-        None => finish(sink, USAGE, Status::Usage),
+    match command_of(alloc, words) {
+        Ok(Some(command)) => perform(answer, watcher, alloc, work_of(command), source, sink),
+        Ok(None) => finish(sink, USAGE, Status::Usage),
+        Err(AllocError) => Status::Memory,
     }
 }
 
@@ -69,20 +77,30 @@ fn hands_for(settings: Settings) -> Option<Hands>
     Some(Hands { teams, workers })
 }
 
+/// The workers that a command asks for; `None` where one is enough, or nothing is searched.
+fn hands_in(command: Command) -> Option<Hands>
+    requires { IsInRange command }
+{
+    match command {
+        Command::Run { settings } => hands_for(settings),
+        Command::Demo {
+            number: _,
+            settings,
+        } => hands_for(settings),
+        Command::Explain { place: _, settings } => hands_for(settings),
+        Command::First { count: _, settings } => hands_for(settings),
+        Command::Batch { jobs: _, settings } => hands_for(settings),
+        Command::Check | Command::Verify | Command::Tree { limit: _ } | Command::Lint => None,
+    }
+}
+
 /// The workers that these words ask for; `None` where one is enough, or nothing is searched.
-fn hands_of(words: &[String]) -> Option<Hands> {
-    match command_of(words) {
-        Some(Command::Run { settings }) => hands_for(settings),
-        Some(
-            Command::Demo {
-                number: _,
-                settings,
-            },
-        ) => hands_for(settings),
-        Some(Command::Explain { place: _, settings }) => hands_for(settings),
-        Some(Command::First { count: _, settings }) => hands_for(settings),
-        Some(Command::Check) => None,
-        None => None,
+fn hands_of(alloc: Global, words: &[String]) -> Option<Hands> {
+    match command_of(alloc, words) {
+        Ok(Some(command)) => hands_in(command),
+        Ok(None) => None,
+        // They are read once more, and it is told there.
+        Err(AllocError) => None,
     }
 }
 
@@ -99,10 +117,10 @@ pub fn andorra_alone<S: Source, K: Sink, G: Gate + Watcher>(
 ) -> Status
     ensures { Obeys S.Source K.Sink result source.old source.new sink.old sink.new (map string_bytes words.now) }
 {
-    let alone = |loaded: &Loaded, limit: u32, wanted: Option<u32>|
-        requires { limit ≤ MAX_LIMIT }
-        ensures { IfOk result (Finds (program_of loaded.now) limit wanted) }
-    { found_alone(alloc, loaded, limit, wanted, gate) };
+    let alone = |request: Request, bytes: &[u8]|
+        requires { IsAllowed request }
+        ensures { IfOk result (λ reply. IsAnswer request reply.status bytes.now reply.text) }
+    { answered_alone(alloc, request, bytes, gate) };
     obey(&alone, gate, alloc, words, source, sink)
 }
 
@@ -118,10 +136,10 @@ fn andorra_by<R: Threads + Wait + Sync, S: Source, K: Sink, G: Gate + Watcher>(
 ) -> Status
     ensures { Obeys S.Source K.Sink result source.old source.new sink.old sink.new (map string_bytes words.now) }
 {
-    let together = |loaded: &Loaded, limit: u32, wanted: Option<u32>|
-        requires { limit ≤ MAX_LIMIT }
-        ensures { IfOk result (Finds (program_of loaded.now) limit wanted) }
-    { found_by(rt, alloc, loaded, limit, wanted, hands, gate) };
+    let together = |request: Request, bytes: &[u8]|
+        requires { IsAllowed request }
+        ensures { IfOk result (λ reply. IsAnswer request reply.status bytes.now reply.text) }
+    { answered_by(rt, alloc, request, bytes, hands, gate) };
     obey(&together, gate, alloc, words, source, sink)
 }
 
@@ -139,7 +157,7 @@ pub fn andorra<R: Threads + Wait + Sync, S: Source, K: Sink, G: Gate + Watcher>(
 ) -> Status
     ensures { Obeys S.Source K.Sink result source.old source.new sink.old sink.new (map string_bytes words.now) }
 {
-    match hands_of(words) {
+    match hands_of(alloc, words) {
         None => andorra_alone(alloc, words, source, sink, gate),
         Some(hands) => andorra_by(rt, alloc, hands, words, source, sink, gate),
     }

@@ -136,14 +136,23 @@ pub fn about_refusal(
 }
 
 /// The limit of a command.
-fn limit_of(words: &[String]) -> u32 {
-    match command_of(words) {
-        Some(Command::Run { settings }) => settings.limit,
-        Some(Command::Demo { settings, .. }) => settings.limit,
-        Some(Command::Explain { settings, .. }) => settings.limit,
-        Some(Command::First { settings, .. }) => settings.limit,
-        Some(Command::Check) => DEFAULT_LIMIT,
-        None => DEFAULT_LIMIT,
+fn limit_of(command: Command) -> u32 {
+    match command {
+        Command::Run { settings } => settings.limit,
+        Command::Demo { settings, .. } => settings.limit,
+        Command::Explain { settings, .. } => settings.limit,
+        Command::Tree { limit } => limit,
+        Command::Batch { settings, .. } => settings.limit,
+        Command::First { settings, .. } => settings.limit,
+        Command::Check | Command::Verify | Command::Lint => DEFAULT_LIMIT,
+    }
+}
+
+/// The limit that these words name. An error is want of memory.
+fn limit_in(alloc: Global, words: &[String]) -> Result<u32, AllocError> {
+    match command_of(alloc, words)? {
+        Some(command) => Ok(limit_of(command)),
+        None => Ok(DEFAULT_LIMIT),
     }
 }
 
@@ -163,7 +172,7 @@ fn about_limit(alloc: Global, limit: u32) -> Result<String, AllocError> {
 /// What is said of how a run ended. An error is want of memory.
 pub fn about_end(alloc: Global, words: &[String], status: Status) -> Result<String, AllocError> {
     match status {
-        Status::Limit => about_limit(alloc, limit_of(words)),
+        Status::Limit => about_limit(alloc, limit_in(alloc, words)?),
         Status::Memory => String::from_str(
             alloc,
             "hint: memory was wanting: a smaller --limit, or fewer --teams and --workers, take less\n",

@@ -1,6 +1,7 @@
 //! Andorra-I for pure Prolog: `andorra run` reads a program from standard input and writes its answers;
-//! `andorra first K` writes the first of them; `andorra explain K` tells why one is an answer; `andorra check` tells
-//! whether its arithmetic may wait forever; `andorra demo N` answers a generated program.
+//! `andorra first K` writes the first of them; `andorra explain K` tells why one is an answer, and `andorra verify`
+//! checks what it told; `andorra check` tells whether its arithmetic may wait forever; `andorra demo N` answers a
+//! generated program.
 #![tactic(auto)]
 
 mod advice;

@@ -1,13 +1,12 @@
-use Rattle.std.proofs.Common.{sym, ◌∙◌}
 use Rattle.and_program.specs.Loaded.{program_of}
 use Rattle.and_reader.specs.Causes.{refusal_of}
 use Rattle.and_top.proofs.TopLemmas.{refused_by, answered_by}
 use Rattle.and_top.proofs.answering.answer_to.Goals as goal
 
-pub returns-in_ok-refusal_text-in-Err : goal.returns-in_ok-refusal_text-in-Err
-returns-in_ok-refusal_text-in-Err g c =
-    refused_by (refusal_of c.in-Err.refusal) c.args.text.now c.in_ok-refusal_text-in-Err.field-0 c.in-Err.ensures.refused
-    c.in_ok-refusal_text-in-Err.ensures (sym c.is_memory.ensures ∙ c.if-is_memory.false)
+pub returns-in-Err : goal.returns-in-Err
+returns-in-Err g c =
+    refused_by c.args.question c.refused.result (refusal_of c.in-Err.refusal) c.args.text.now c.in-Err.ensures.refused
+    c.refused.ensures.status c.refused.ensures.text
 
 pub returns-in-Ok : goal.returns-in-Ok
 returns-in-Ok g c =

@@ -22,3 +22,13 @@ pub returns-in-Explain : goal.returns-in-Explain
 returns-in-Explain g c =
     subst (λ q. IfOk c.explained_in.result (λ reply. IsReply q c.args.bytes.now (program_of c.args.loaded.now) reply.status reply.text)) (sym c.in-Explain.is)
     c.explained_in.ensures
+
+pub returns-in-Lint : goal.returns-in-Lint
+returns-in-Lint g c =
+    subst (λ q. IfOk c.linted.result (λ reply. IsReply q c.args.bytes.now (program_of c.args.loaded.now) reply.status reply.text)) (sym c.in-Lint.is)
+    c.linted.ensures
+
+pub returns-in-Tree : goal.returns-in-Tree
+returns-in-Tree g c =
+    subst (λ q. IfOk c.forked.result (λ reply. IsReply q c.args.bytes.now (program_of c.args.loaded.now) reply.status reply.text)) (sym c.in-Tree.is)
+    c.forked.ensures

@@ -1,17 +1,23 @@
-use Rattle.std.proofs.Common.{◌∙◌, subst}
+use Rattle.std.proofs.Common.{◌≡◌, ap, ◌∙◌, subst}
 use Rattle.and_gen_laws.proofs.Reading.{generated_is_read}
 use Rattle.and_top.specs.declared.question.Question.TheVariants.{Run}
+use Rattle.and_top.specs.declared.question.Request.{Request}
+use Rattle.and_top.specs.declared.question.Request.TheVariants.{Text}
 use Rattle.and_top.specs.declared.showing.Show.TheVariants.{Summary}
-use Rattle.and_top.specs.Top.{Answered}
-use Rattle.and_top.proofs.TopLemmas.{never_refused}
+use Rattle.and_top.specs.Top.{Answered, IsAllowed}
+use Rattle.and_top.proofs.TopLemmas.{allowed, never_refused}
 use Rattle.and_top.proofs.asking.demo.Goals as goal
+
+pub respond-requires-clause-allowed : goal.respond-requires-clause-allowed
+respond-requires-clause-allowed g c =
+    allowed (Text c.summary.result) Summary c.args.settings.limit (ap Text c.summary.ensures) c.requires.limited
 
 pub returns-in-Ok-clause-answered : goal.returns-in-Ok-clause-answered
 returns-in-Ok-clause-answered g c =
     let held = g.K.Sink.given in
-    let asked = subst (λ q. Answered q (held c.args.sink.now) (held c.respond.new.sink) c.respond.result c.bytes.result.now)
+    let asked = subst (λ q. Answered (Text q) (held c.args.sink.now) (held c.respond.new.sink) c.respond.result c.bytes.result.now)
     c.summary.ensures c.respond.ensures.answered in
-    subst (Answered (Run Summary c.args.settings.limit) (held c.args.sink.now) (held c.respond.new.sink) c.respond.result)
+    subst (Answered (Text (Run Summary c.args.settings.limit)) (held c.args.sink.now) (held c.respond.new.sink) c.respond.result)
     (c.bytes.ensures ∙ c.in-Ok.ensures.text) asked
 
 pub returns-in-Ok-clause-not_refused : goal.returns-in-Ok-clause-not_refused
