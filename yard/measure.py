@@ -1,5 +1,5 @@
 #!/usr/bin/env python3
-"""Builds and runs a program that measures: and_bench (unification and printing), and_store_bench (a store of several workers) or and_tree_bench
+"""Builds and runs a program that measures: and_bench (unification and printing), and_proof_bench (proofs), and_store_bench (a store of several workers) or and_tree_bench
 (a tree of several teams). Their sources lie in yard/measure, each file with `.txt` behind its name, so that no gate proves them.
 
     yard/measure.py [--copy FOLDER] [--unproved] NAME [-- words for the program]

@@ -2,11 +2,12 @@
 """Draws a proof or a fork tree as a graph for Graphviz.
 
     andorra explain 1 < text | yard/picture.py proof [--svg FILE]
-    andorra tree < text      | yard/picture.py tree [--text TEXT] [--most N] [--svg FILE]
+    andorra tree < text      | yard/picture.py tree [--text TEXT] [--most N] [--points] [--svg FILE]
 
 Writes dot on standard output, or an SVG by Graphviz's `dot` (Debian: apt install graphviz). A fork is a node
 with an edge for each clause; answers are green and tell their line, failed branches are grey. A subtree of
-more than N lines (40) is folded to its counts. With the text the edges say the clauses' heads.
+more than N lines (40) is folded to its counts. With the text the edges say the clauses' heads. With --points
+each node is a point of its colour, so that a large tree is seen whole.
 """
 import argparse
 import re
@@ -108,6 +109,24 @@ def heads_of(path):
     return {str(place): f'{place}: {head}' for place, head in enumerate(heads, 1)}
 
 
+COLOURS = {'fork': 'steelblue', 'failed': 'grey70', 'answer': 'green3', 'floundered': 'gold'}
+
+
+def points(source):
+    """The whole tree, a point a node."""
+    graph = Graph()
+    graph.lines += ['  graph [nodesep=0.03 ranksep=0.35]; edge [arrowhead=none color=grey80];', '  node [shape=point];']
+    stack = [(read_tree(source), None)]
+    while stack:
+        node, above = stack.pop()
+        size = '0.16' if node.kind == 'answer' else '0.07'
+        name = graph.node('', color=COLOURS[node.kind], fillcolor=COLOURS[node.kind], width=size, tooltip=f'{node.kind} {node.told}')
+        if above is not None:
+            graph.edge(above, name)
+        stack += [(below, name) for below in reversed(node.below)]
+    return graph.text()
+
+
 def tree(source, heads, most):
     graph = Graph()
     stack = [(read_tree(source), None, '')]
@@ -135,10 +154,14 @@ def main():
     words.add_argument('what', choices=['proof', 'tree'])
     words.add_argument('--text')
     words.add_argument('--most', type=int, default=40)
+    words.add_argument('--points', action='store_true')
     words.add_argument('--svg')
     arguments = words.parse_args()
     source = sys.stdin.read()
-    drawn = proof(source) if arguments.what == 'proof' else tree(source, heads_of(arguments.text), arguments.most)
+    if arguments.what == 'proof':
+        drawn = proof(source)
+    else:
+        drawn = points(source) if arguments.points else tree(source, heads_of(arguments.text), arguments.most)
     if arguments.svg is None:
         sys.stdout.write(drawn)
         return 0
