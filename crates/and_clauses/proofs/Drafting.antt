@@ -1,6 +1,8 @@
 -- What one more part makes of a draft.
-use Rattle.std.proofs.Common.{ℕ, zero, suc, ◌+◌, ◌-◌, ◌≡◌, ◌<◌, ◌≤◌, pos, List, [], ◌∷◌, ◌++◌, length, map, get_or, take, drop, refl, sym, ap, ◌∙◌, arith, subst, Result, Ok, Err, OnOk, OnErr}
-use Rattle.std.proofs.lemmas.List.{append_assoc, append-nil, length-append, get_or_append_left, get_or_at, take-append-drop, length-map, map_push, take-map, drop-map, length-take-le, length-drop}
+use Rattle.std.proofs.Common.{ℕ, zero, suc, ◌+◌, ◌-◌, ◌≡◌, ◌<◌, ◌≤◌, pos, List, [], ◌∷◌, ◌++◌, length, map, get_or, take, drop, refl, sym, ap, ◌∙◌, arith}
+use Rattle.std.proofs.Common.{subst, Result, Ok, Err, OnOk, OnErr}
+use Rattle.std.proofs.lemmas.List.{append_assoc, append-nil, length-append, get_or_append_left, get_or_at, take-append-drop, length-map, map_push, take-map}
+use Rattle.std.proofs.lemmas.List.{drop-map, length-take-le, length-drop}
 use Rattle.std.proofs.Math.Seq.{take-append_seam, drop-append_seam, take-length}
 use Rattle.and_model.specs.Lines.{Bytes}
 use Rattle.and_syntax.specs.Written
@@ -8,7 +10,8 @@ use Rattle.and_syntax.specs.Written.{Written, Many, nodes_of, nodes_in}
 use Rattle.and_program.specs.Skeletons.{Falls}
 use Rattle.and_clauses.specs.declared.draft.DraftPart.{DraftPart}
 use Rattle.and_clauses.specs.Drafts.{Draft}
-use Rattle.and_clauses.specs.Parts.{PartShape, compound, part_shape, part_shapes, IsNarrow, AllNarrow, many, nth_written, shape_written, written_behind, written_at, before_last, roots, postfix, postfix_all, IsFormed, PartsFall}
+use Rattle.and_clauses.specs.Parts.{PartShape, compound, part_shape, part_shapes, IsNarrow, AllNarrow, many, nth_written, shape_written, written_behind}
+use Rattle.and_clauses.specs.Parts.{written_at, before_last, roots, postfix, postfix_all, IsFormed, PartsFall}
 
 -- terms of parts depend on the parts before them alone
 pub written_behind-append : (ws : List Written) (ps qs : List PartShape) → written_behind ws (ps ++ qs) ≡ written_behind (written_behind ws ps) qs
@@ -27,7 +30,8 @@ nth-written_behind ws (p ∷ ps) n lt =
 
 pub written_at_front : (ps qs : List PartShape) (n : ℕ) → n < length ps → written_at (ps ++ qs) n ≡ written_at ps n
 written_at_front ps qs n lt =
-    ap (λ (ws : List Written). nth_written ws n) (written_behind-append [] ps qs) ∙ nth-written_behind (written_behind [] ps) qs n (omega (arith, length-written_behind [] ps))
+    ap (λ (ws : List Written). nth_written ws n) (written_behind-append [] ps qs)
+    ∙ nth-written_behind (written_behind [] ps) qs n (omega (arith, length-written_behind [] ps))
 
 pub written_at_end : (ps : List PartShape) (p : PartShape) → written_at (ps ++ p ∷ []) (length ps) ≡ shape_written (written_behind [] ps) p
 written_at_end ps p =
@@ -40,7 +44,8 @@ pub nodes_in-many : (xs ys : List Written) → nodes_in (many (xs ++ ys)) ≡ no
 nodes_in-many [] ys = omega arith
 nodes_in-many (x ∷ xs) ys = omega (arith, nodes_in-many xs ys)
 
-pub postfix_all-many : (n : ℕ) (xs ys : List Written) → postfix_all n (many (xs ++ ys)) ≡ postfix_all n (many xs) ++ postfix_all (n + nodes_in (many xs)) (many ys)
+pub postfix_all-many : (n : ℕ) (xs ys : List Written) → postfix_all n (many (xs ++ ys))
+    ≡ postfix_all n (many xs) ++ postfix_all (n + nodes_in (many xs)) (many ys)
 postfix_all-many n [] ys = let e : n ≡ n + 0 = omega arith in ap (λ (m : ℕ). postfix_all m (many ys)) e
 postfix_all-many n (x ∷ xs) ys =
     let e : n + nodes_of x + nodes_in (many xs) ≡ n + (nodes_of x + nodes_in (many xs)) = omega arith in
@@ -66,7 +71,8 @@ mutual
 
   pub length-postfix_all : (n : ℕ) (ts : Many) → length (postfix_all n ts) ≡ nodes_in ts
   length-postfix_all n Written.none = refl
-  length-postfix_all n (Written.more t ts) = omega (arith, length-append (postfix n t) (postfix_all (n + nodes_of t) ts), length-postfix n t, length-postfix_all (n + nodes_of t) ts)
+  length-postfix_all n (Written.more t ts) =
+      omega (arith, length-append (postfix n t) (postfix_all (n + nodes_of t) ts), length-postfix n t, length-postfix_all (n + nodes_of t) ts)
 
 pub before_last-below : (w : Written) → before_last w < nodes_of w
 before_last-below (Written.variable x) = omega arith
@@ -84,7 +90,8 @@ Falls-roots n m (Written.more t ts) le = (omega (arith, before_last-below t), Fa
 -- parts in postfix order name parts before them
 pub PartsFall-append : (n : ℕ) (ps qs : List PartShape) → PartsFall n ps → PartsFall (n + length ps) qs → PartsFall n (ps ++ qs)
 PartsFall-append n [] qs f g = let e : n + 0 ≡ n = omega arith in subst (λ (m : ℕ). PartsFall m qs) e g
-PartsFall-append n (p ∷ ps) qs f g = let e : n + suc (length ps) ≡ suc n + length ps = omega arith in (f.0, PartsFall-append (suc n) ps qs f.1 (subst (λ (m : ℕ). PartsFall m qs) e g))
+PartsFall-append n (p ∷ ps) qs f g = let e : n + suc (length ps) ≡ suc n + length ps =
+    omega arith in (f.0, PartsFall-append (suc n) ps qs f.1 (subst (λ (m : ℕ). PartsFall m qs) e g))
 
 mutual
   pub PartsFall-postfix : (n : ℕ) (w : Written) → PartsFall n (postfix n w)
@@ -124,7 +131,8 @@ pub written_more : (ps : List PartShape) (ns : List ℕ) (p : PartShape) (k : �
 written_more ps ns p k f =
     let new : ℕ → Written = written_at (ps ++ p ∷ []) in
     map_push new (take k ns) (length ps)
-    ∙ ap (λ (ws : List Written). ws ++ new (length ps) ∷ []) (written_front ps (p ∷ []) (take k ns) (Falls-take (length ps) k ns (Formed-below ps ns f)) ∙ sym (take-map (written_at ps) k ns))
+    ∙ ap (λ (ws : List Written). ws ++ new (length ps) ∷ []) (written_front ps (p ∷ []) (take k ns) (Falls-take (length ps) k ns (Formed-below ps ns f))
+    ∙ sym (take-map (written_at ps) k ns))
     ∙ ap (λ (w : Written). take k (map (written_at ps) ns) ++ w ∷ []) (written_at_end ps p)
 
 take-append-length : {X : Type 0} (xs ys : List X) (k : ℕ) → length xs ≡ k → take k (xs ++ ys) ≡ xs
@@ -140,7 +148,8 @@ drop-roots : (k : ℕ) (F G : List Written) → length F ≡ k → drop k (roots
 drop-roots k F G e = ap (drop k) (roots-many 0 F G) ∙ drop-append-length (roots 0 (many F)) (roots (0 + nodes_in (many F)) (many G)) k (length-roots 0 F ∙ e)
 
 -- the parts are formed again, where a term w takes the finished ones from k on
-formed_more : (ps : List PartShape) (ns : List ℕ) (p : PartShape) (w : Written) (F G : List Written) (k : ℕ) → IsFormed ps ns → map (written_at ps) ns ≡ F ++ G → length F ≡ k
+formed_more : (ps : List PartShape) (ns : List ℕ) (p : PartShape) (w : Written) (F G : List Written) (k : ℕ) → IsFormed ps ns
+    → map (written_at ps) ns ≡ F ++ G → length F ≡ k
     → shape_written (written_behind [] ps) p ≡ w
     → ((n : ℕ) → n ≡ 0 + nodes_in (many F) → postfix n w ≡ postfix_all n (many G) ++ p ∷ []) → before_last w ≡ nodes_in (many G)
     → IsFormed (ps ++ p ∷ []) (take k ns ++ length ps ∷ [])
@@ -149,21 +158,25 @@ formed_more ps ns p w F G k f split few is opened last =
     let now : map (written_at (ps ++ p ∷ [])) (take k ns ++ length ps ∷ []) ≡ F ++ w ∷ [] =
     written_more ps ns p k f ∙ ap (λ (ws : List Written). take k ws ++ shape_written (written_behind [] ps) p ∷ []) split
     ∙ ap (λ (ws : List Written). ws ++ shape_written (written_behind [] ps) p ∷ []) (take-append-length F G k few) ∙ ap (λ (t : Written). F ++ t ∷ []) is in
-    let old : ps ≡ postfix_all 0 (many F) ++ postfix_all n (many G) = f.0 ∙ ap (λ (ws : List Written). postfix_all 0 (many ws)) split ∙ postfix_all-many 0 F G in
+    let old : ps ≡ postfix_all 0 (many F) ++ postfix_all n (many G) =
+    f.0 ∙ ap (λ (ws : List Written). postfix_all 0 (many ws)) split ∙ postfix_all-many 0 F G in
     let new : postfix_all 0 (many (F ++ w ∷ [])) ≡ postfix_all 0 (many F) ++ (postfix_all n (many G) ++ p ∷ []) =
     postfix_all-many 0 F (w ∷ []) ∙ ap (λ (qs : List PartShape). postfix_all 0 (many F) ++ qs) (append-nil (postfix n w) ∙ opened n refl) in
     let rooted : take k ns ≡ roots 0 (many F) = ap (take k) (f.1 ∙ ap (λ (ws : List Written). roots 0 (many ws)) split) ∙ take-roots k F G few in
     let size : length ps ≡ n + before_last w =
     ap length old ∙ length-append (postfix_all 0 (many F)) (postfix_all n (many G))
     ∙ omega (arith, length-postfix_all 0 (many F), length-postfix_all n (many G), last) in (
-      ap (λ (qs : List PartShape). qs ++ p ∷ []) old ∙ append_assoc (postfix_all 0 (many F)) (postfix_all n (many G)) (p ∷ []) ∙ sym new ∙ ap (λ (ws : List Written). postfix_all 0 (many ws)) (sym now),
-      ap (λ (ms : List ℕ). ms ++ length ps ∷ []) rooted ∙ ap (λ (m : ℕ). roots 0 (many F) ++ m ∷ []) size ∙ sym (roots-many 0 F (w ∷ [])) ∙ ap (λ (ws : List Written). roots 0 (many ws)) (sym now),
+      ap (λ (qs : List PartShape). qs ++ p ∷ []) old ∙ append_assoc (postfix_all 0 (many F)) (postfix_all n (many G)) (p ∷ []) ∙ sym new
+          ∙ ap (λ (ws : List Written). postfix_all 0 (many ws)) (sym now),
+      ap (λ (ms : List ℕ). ms ++ length ps ∷ []) rooted ∙ ap (λ (m : ℕ). roots 0 (many F) ++ m ∷ []) size ∙ sym (roots-many 0 F (w ∷ []))
+          ∙ ap (λ (ws : List Written). roots 0 (many ws)) (sym now),
     )
 
 pub formed_leaf : (ps : List PartShape) (ns : List ℕ) (p : PartShape) (w : Written) → IsFormed ps ns → shape_written (written_behind [] ps) p ≡ w
     → ((n : ℕ) → postfix n w ≡ p ∷ []) → before_last w ≡ 0 → IsFormed (ps ++ p ∷ []) (take (length ns) ns ++ length ps ∷ [])
 formed_leaf ps ns p w f is opened last =
-    formed_more ps ns p w (map (written_at ps) ns) [] (length ns) f (sym (append-nil (map (written_at ps) ns))) (length-map ns (written_at ps)) is (λ n e. opened n) last
+    formed_more ps ns p w (map (written_at ps) ns) [] (length ns) f (sym (append-nil (map (written_at ps) ns))) (length-map ns (written_at ps)) is
+    (λ n e. opened n) last
 
 pub formed_compound : (ps : List PartShape) (ns : List ℕ) (c : Bytes) (k : ℕ) → IsFormed ps ns → k ≤ length ns
     → IsFormed (ps ++ compound c (drop k ns) ∷ []) (take k ns ++ length ps ∷ [])
@@ -173,7 +186,8 @@ formed_compound ps ns c k f le =
     let G : List Written = drop k ws in
     let few : length F ≡ k = length-take-le k ws (omega (arith, length-map ns (written_at ps))) in
     let split : ws ≡ F ++ G = sym (take-append-drop k ws) in
-    let args : drop k ns ≡ roots (0 + nodes_in (many F)) (many G) = ap (drop k) (f.1 ∙ ap (λ (us : List Written). roots 0 (many us)) split) ∙ drop-roots k F G few in
+    let args : drop k ns ≡ roots (0 + nodes_in (many F)) (many G) =
+    ap (drop k) (f.1 ∙ ap (λ (us : List Written). roots 0 (many us)) split) ∙ drop-roots k F G few in
     formed_more ps ns (compound c (drop k ns)) (Written.compound c (many G)) F G k f split few
     (ap (λ (us : List Written). Written.compound c (many us)) (sym (drop-map (written_at ps) k ns)))
     (λ n e. ap (λ (ms : List ℕ). postfix_all n (many G) ++ compound c ms ∷ []) (ap (λ (m : ℕ). roots m (many G)) e ∙ sym args)) refl
@@ -185,7 +199,8 @@ AllNarrow-push (q ∷ ps) p a n = (a.0, AllNarrow-push ps p a.1 n)
 -- the last arguments of what takes the terms from `start` on
 pub last_arguments : (ps : List PartShape) (ns ms : List ℕ) (c : Bytes) (start : ℕ) → ms ≡ drop start ns
     → shape_written (written_behind [] ps) (compound c ms) ≡ Written.compound c (many (drop start (map (written_at ps) ns)))
-last_arguments ps ns ms c start e = ap (λ (ks : List ℕ). Written.compound c (many (map (written_at ps) ks))) e ∙ ap (λ (ws : List Written). Written.compound c (many ws)) (sym (drop-map (written_at ps) start ns))
+last_arguments ps ns ms c start e = ap (λ (ks : List ℕ). Written.compound c (many (map (written_at ps) ks))) e
+    ∙ ap (λ (ws : List Written). Written.compound c (many ws)) (sym (drop-map (written_at ps) start ns))
 
 -- A draft after a step, whatever came of it.
 pub record Stepped {T E : Type 0} (r : Result T E) (old new : List DraftPart) (ms : List ℕ) (F : List Written) (w : Written) : Type 0 where
@@ -197,7 +212,8 @@ pub record Stepped {T E : Type 0} (r : Result T E) (old new : List DraftPart) (m
 pub stepped : {T E : Type 0} (r : Result T E) (old new : List DraftPart) (ns ms : List ℕ) (p : DraftPart) (F : List Written) (w : Written) (start : ℕ)
     → IsFormed (part_shapes old) ns → AllNarrow (part_shapes old) → length old < 4294967295
     → OnOk r (new ≡ old ++ p ∷ []) → OnOk r (ms ≡ take start ns ++ length old ∷ []) → OnErr r (new ≡ old) → OnErr r (ms ≡ ns)
-    → IsFormed (part_shapes old ++ part_shape p ∷ []) (take start ns ++ length (part_shapes old) ∷ []) → IsNarrow (part_shape p) → shape_written (written_behind [] (part_shapes old)) (part_shape p) ≡ w → take start (map (written_at (part_shapes old)) ns) ≡ F
+    → IsFormed (part_shapes old ++ part_shape p ∷ []) (take start ns ++ length (part_shapes old) ∷ []) → IsNarrow (part_shape p)
+    → shape_written (written_behind [] (part_shapes old)) (part_shape p) ≡ w → take start (map (written_at (part_shapes old)) ns) ≡ F
     → Stepped r old new ms F w
 stepped (Ok u) old new ns ms p F w start f n few parts finished parts_kept finished_kept after narrow is front =
     let e : part_shapes new ≡ part_shapes old ++ part_shape p ∷ [] = ap part_shapes parts ∙ map_push part_shape old p in
@@ -205,10 +221,12 @@ stepped (Ok u) old new ns ms p F w start f n few parts finished parts_kept finis
     let one : length new ≡ length old + 1 = ap length parts ∙ length-append old (p ∷ []) in
     record {
       few = omega (arith, one);
-      formed = subst (λ (ks : List ℕ). IsFormed (part_shapes new) ks) (sym d) (subst (λ (qs : List PartShape). IsFormed qs (take start ns ++ length (part_shapes old) ∷ [])) (sym e) after);
+      formed = subst (λ (ks : List ℕ). IsFormed (part_shapes new) ks) (sym d)
+          (subst (λ (qs : List PartShape). IsFormed qs (take start ns ++ length (part_shapes old) ∷ [])) (sym e) after);
       narrow = subst AllNarrow (sym e) (AllNarrow-push (part_shapes old) (part_shape p) n narrow);
       meaning = (
-        ap (λ (qs : List PartShape). map (written_at qs) ms) e ∙ ap (map (written_at (part_shapes old ++ part_shape p ∷ []))) d ∙ written_more (part_shapes old) ns (part_shape p) start f
+        ap (λ (qs : List PartShape). map (written_at qs) ms) e ∙ ap (map (written_at (part_shapes old ++ part_shape p ∷ []))) d
+            ∙ written_more (part_shapes old) ns (part_shape p) start f
             ∙ ap (λ (t : Written). take start (map (written_at (part_shapes old)) ns) ++ t ∷ []) is ∙ ap (λ (us : List Written). us ++ w ∷ []) front,
         one,
       );
@@ -216,7 +234,8 @@ stepped (Ok u) old new ns ms p F w start f n few parts finished parts_kept finis
 stepped (Err e) old new ns ms p F w start f n few parts finished parts_kept finished_kept after narrow is front =
     record {
       few = subst (λ (qs : List DraftPart). length qs ≤ 4294967295) (sym parts_kept) (omega arith);
-      formed = subst (λ (ks : List ℕ). IsFormed (part_shapes new) ks) (sym finished_kept) (subst (λ (qs : List DraftPart). IsFormed (part_shapes qs) ns) (sym parts_kept) f);
+      formed = subst (λ (ks : List ℕ). IsFormed (part_shapes new) ks) (sym finished_kept)
+          (subst (λ (qs : List DraftPart). IsFormed (part_shapes qs) ns) (sym parts_kept) f);
       narrow = subst (λ (qs : List DraftPart). AllNarrow (part_shapes qs)) (sym parts_kept) n;
       meaning = tt;
     }
@@ -224,12 +243,14 @@ stepped (Err e) old new ns ms p F w start f n few parts finished parts_kept fini
 pub stepped_leaf : {T E : Type 0} (r : Result T E) (old new : List DraftPart) (ns ms : List ℕ) (p : DraftPart) (w : Written) (start : ℕ)
     → IsFormed (part_shapes old) ns → AllNarrow (part_shapes old) → length old < 4294967295
     → OnOk r (new ≡ old ++ p ∷ []) → OnOk r (ms ≡ take start ns ++ length old ∷ []) → OnErr r (new ≡ old) → OnErr r (ms ≡ ns)
-    → start ≡ length ns → IsNarrow (part_shape p) → shape_written (written_behind [] (part_shapes old)) (part_shape p) ≡ w → ((n : ℕ) → postfix n w ≡ part_shape p ∷ []) → before_last w ≡ 0
+    → start ≡ length ns → IsNarrow (part_shape p) → shape_written (written_behind [] (part_shapes old)) (part_shape p) ≡ w
+    → ((n : ℕ) → postfix n w ≡ part_shape p ∷ []) → before_last w ≡ 0
     → Stepped r old new ms (map (written_at (part_shapes old)) ns) w
 stepped_leaf r old new ns ms p w start f n few parts finished parts_kept finished_kept whole narrow is opened last =
     let ws : List Written = map (written_at (part_shapes old)) ns in
     let after : IsFormed (part_shapes old ++ part_shape p ∷ []) (take start ns ++ length (part_shapes old) ∷ []) =
-    subst (λ (k : ℕ). IsFormed (part_shapes old ++ part_shape p ∷ []) (take k ns ++ length (part_shapes old) ∷ [])) (sym whole) (formed_leaf (part_shapes old) ns (part_shape p) w f is opened last) in
+    subst (λ (k : ℕ). IsFormed (part_shapes old ++ part_shape p ∷ []) (take k ns ++ length (part_shapes old) ∷ [])) (sym whole)
+    (formed_leaf (part_shapes old) ns (part_shape p) w f is opened last) in
     stepped r old new ns ms p ws w start f n few parts finished parts_kept finished_kept after narrow is
     (ap (λ (k : ℕ). take k ws) (whole ∙ sym (length-map ns (written_at (part_shapes old)))) ∙ take-length ws)
 
@@ -247,9 +268,11 @@ stepped_compound r old new ns ms p c args count start f n few parts finished par
     subst (λ (q : PartShape). IsFormed (part_shapes old ++ q ∷ []) (take start ns ++ length (part_shapes old) ∷ [])) (sym named)
     (formed_compound (part_shapes old) ns c start f (omega (arith, length-map ns (written_at (part_shapes old))))) in
     let short : length (drop start ns) ≤ 255 = omega (arith, length-drop start ns, length-map ns (written_at (part_shapes old))) in
-    stepped r old new ns ms p (take (length ws - count) ws) (Written.compound c (many (drop (length ws - count) ws))) start f n few parts finished parts_kept finished_kept after
+    stepped r old new ns ms p (take (length ws - count) ws) (Written.compound c (many (drop (length ws - count) ws))) start f n few parts finished
+    parts_kept finished_kept after
     (subst IsNarrow (sym named) short)
-    (ap (shape_written (written_behind [] (part_shapes old))) named ∙ last_arguments (part_shapes old) ns (drop start ns) c start refl ∙ ap (λ (k : ℕ). Written.compound c (many (drop k ws))) same)
+    (ap (shape_written (written_behind [] (part_shapes old))) named ∙ last_arguments (part_shapes old) ns (drop start ns) c start refl
+    ∙ ap (λ (k : ℕ). Written.compound c (many (drop k ws))) same)
     (ap (λ (k : ℕ). take k ws) same)
 
 abbrev draft : ℕ → List Written → ℕ → Draft
@@ -264,7 +287,8 @@ one_item [] n e at = absurd (omega arith)
 one_item (m ∷ []) n e at = ap (λ (k : ℕ). k ∷ []) (sym at)
 one_item (m ∷ k ∷ ns) n e at = absurd (omega arith)
 
-pub root_there : (ps : List DraftPart) (ns : List ℕ) (n : ℕ) → IsFormed (part_shapes ps) ns → length (map (written_at (part_shapes ps)) ns) ≡ 1 → n ≡ get_or ns 0 n → n < length ps
+pub root_there : (ps : List DraftPart) (ns : List ℕ) (n : ℕ) → IsFormed (part_shapes ps) ns → length (map (written_at (part_shapes ps)) ns) ≡ 1
+    → n ≡ get_or ns 0 n → n < length ps
 root_there ps ns n f one at =
     let e : ns ≡ n ∷ [] = one_item ns n (omega (arith, length-map ns (written_at (part_shapes ps)))) at in
     omega (arith, length-map ps part_shape, (subst (Falls (length (part_shapes ps))) e (Formed-below (part_shapes ps) ns f)).0)

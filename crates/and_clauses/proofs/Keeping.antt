@@ -1,220 +1,350 @@
--- What holds of a table holds of it with one more clause or with a query.
-use Rattle.std.proofs.Common.{ℕ, ◌+◌, ◌-◌, ◌≡◌, ◌<◌, ◌≤◌, Bool, true, false, not, leb, ltb, List, [], ◌∷◌, ◌++◌, length, map, take, refl, sym, ap, ◌∙◌, arith, subst, Option, Some, None, is_some, Vec, IsTrue, codes, drop}
-use Rattle.std.specs.declared.alloc.Global.{Global}
-use Rattle.std.proofs.lemmas.Bool.Decides.{nat_tests}
-use Rattle.std.proofs.lemmas.List.{length-append, length-map, map_push, take-map}
+-- Tables grow, and are sealed.
+use Rattle.std.proofs.Common.{ℕ, zero, suc, ◌+◌, ◌≡◌, ◌<◌, ◌≤◌, Bool, true, false, List, [], ◌∷◌, ◌++◌, length, map, take, get_or, Option, Some, None, refl}
+use Rattle.std.proofs.Common.{ap, sym, ◌∙◌, arith, subst}
+use Rattle.std.proofs.lemmas.List.{append_assoc, append-nil, length-append, map-append, map_push, take-append-drop}
 use Rattle.and_model.specs.Lines.{Bytes}
 use Rattle.and_model.specs.Terms.{Term}
 use Rattle.and_model.specs.Programs as programs
-use Rattle.and_model.specs.Programs.{Clause, Item}
-use Rattle.and_model.specs.OwnVariables.{HasOwnVariables}
-use Rattle.and_syntax.specs.Written.{Written, nodes_of, named}
-use Rattle.and_syntax.specs.Tables
-use Rattle.and_syntax.specs.Tables.{Table, with_clause, with_query, clause_of}
-use Rattle.and_program.specs.Skeletons
-use Rattle.and_program.specs.Skeletons.{Shape, node_term, item_of, NodeItem, call, equal, is, compare, fail, IsThere, AllThere, after}
+use Rattle.and_model.specs.Programs.{Clause, Item, Program}
+use Rattle.and_source.specs.Source.{SourceClause, calls_in_items}
+use Rattle.and_source.specs.Lifted.{lifted_clause, clauses_of, clauses_of_items, lift}
+use Rattle.and_syntax.specs.Tables.{Table, placed, program_of}
+use Rattle.and_program.specs.Skeletons.{Shape, variable, number, compound, AllFall, node_term, NodeItem, call, equal, is, compare, fail, item_of, IsThere}
+use Rattle.and_program.specs.Skeletons.{AllThere, after}
 use Rattle.and_program.specs.Items.{node_item}
-use Rattle.and_program.specs.Kept.{begins_with_true, IsEntry, AllEntries}
-use Rattle.and_clauses.specs.Kept.{IsAsked, IsKept}
-use Rattle.and_clauses.specs.Made.{IsTableOf, IsMade}
-use Rattle.and_program.specs.Nodes.{entry_clause, shapes_of, shape_of, names_of}
-use Rattle.and_clauses.specs.Numbered.{Extends}
-use Rattle.and_clauses.specs.Parts.{many}
-use Rattle.and_clauses.specs.Views.{asked_of, is_query, table_of}
+use Rattle.and_program.specs.Kept.{begins_with_true, AllWithin, IsEntry, AllEntries, IsProgram}
+use Rattle.and_program.specs.Nodes.{entry_clause}
+use Rattle.and_program.specs.Loaded.{program_in}
 use Rattle.and_program.specs.declared.entry.ClauseEntry.{ClauseEntry}
-use Rattle.and_clauses.specs.declared.data.Asked.{Asked}
-use Rattle.and_clauses.specs.declared.table.ClauseTable.{ClauseTable}
-use Rattle.and_program.specs.declared.node.Node.{Node}
 use Rattle.and_program.proofs.NodeTerms.{node_term_front}
+use Rattle.and_model.specs.OwnVariables.{HasOwnVariables}
+use Rattle.and_clauses.specs.declared.data.Called.{Called}
+use Rattle.and_clauses.specs.declared.judging.Used.{Used}
+use Rattle.and_clauses.specs.Same.{same_clause, same_clauses}
+use Rattle.and_clauses.specs.Kept.{asked_clauses, lifted_of, call_at, calls_of, asked_calls, called_of, IsAsked, IsKept}
+use Rattle.and_clauses.proofs.Sameness.{clause-is, clause-same, clauses-are, clauses-same}
 
-pub one_finished : (ws : List Written) → length ws ≡ 1 → (w : Written) × (ws ≡ w ∷ [])
-one_finished [] e = absurd (omega arith)
-one_finished (w ∷ []) e = (w, refl)
-one_finished (w ∷ v ∷ ws) e = absurd (omega arith)
+-- ---- Entries among more nodes.
+module _ (ss us : List Shape) where
+  abbrev all : List Shape
+  all = ss ++ us
 
-room_is : (n : ℕ) (cs : List Clause) → n ≡ length cs → leb 65535 (length cs) ≡ not (ltb n 65535)
-room_is n cs e = grind (arith, nat_tests)
+  more_length : length ss ≤ length all
+  more_length = omega (arith, length-append ss us)
 
--- a table is one of its names and nodes, with room where it has fewer clauses than it may have
-pub table_room : (t : ClauseTable) (n : ℕ) → n ≡ length t.clauses.items → IsTableOf (table_of t) (names_of t.names.keys) (length t.nodes.items) (ltb n 65535)
-table_room t n e =
-    let clause : ClauseEntry → Clause = entry_clause (shapes_of t.nodes.items) in
-    record { names_are = refl; nodes_are = refl; has_room = room_is n (map clause t.clauses.items) (e ∙ sym (length-map t.clauses.items clause)) }
+  item_front : (k : ℕ) (i : NodeItem) → IsThere ss k i → item_of all i ≡ item_of ss i
+  item_front k (call n) t = ap (λ x. programs.call x) (node_term_front ss us n t)
+  item_front k (equal n m) t =
+      ap (λ x. programs.equal x (node_term all m)) (node_term_front ss us n t.0)
+      ∙ ap (λ x. programs.equal (node_term ss n) x) (node_term_front ss us m t.1)
+  item_front k (is n m pair) t =
+      ap (λ x. programs.arithmetic (programs.is x (node_term all m))) (node_term_front ss us n t.0)
+      ∙ ap (λ x. programs.arithmetic (programs.is (node_term ss n) x)) (node_term_front ss us m t.1)
+  item_front k (compare r n m) t =
+      ap (λ x. programs.arithmetic (programs.compare r x (node_term all m))) (node_term_front ss us n t.0)
+      ∙ ap (λ x. programs.arithmetic (programs.compare r (node_term ss n) x)) (node_term_front ss us m t.1)
+  item_front k fail t = refl
 
-begins_more : (ss rest : List Shape) → begins_with_true ss ≡ true → begins_with_true (ss ++ rest) ≡ true
-begins_more [] rest e = cc
-begins_more (Skeletons.variable k ∷ ss) rest e = cc
-begins_more (Skeletons.number z ∷ ss) rest e = cc
-begins_more (Skeletons.compound c [] ∷ ss) rest e = e
-begins_more (Skeletons.compound c (n ∷ ns) ∷ ss) rest e = cc
+  pub items_front : (k : ℕ) (items : List NodeItem) → AllThere ss k items → map (item_of all) items ≡ map (item_of ss) items
+  items_front k [] t = refl
+  items_front k (i ∷ items) t =
+      ap (λ x. x ∷ map (item_of all) items) (item_front k i t.0) ∙ ap (λ xs. item_of ss i ∷ xs) (items_front (after k i) items t.1)
 
-there_more : (ss rest : List Shape) (k : ℕ) (i : NodeItem) → IsThere ss k i → IsThere (ss ++ rest) k i
-there_more ss rest k (call n) t = omega (arith, length-append ss rest)
-there_more ss rest k (equal n m) t = (omega (arith, length-append ss rest, t.0), omega (arith, length-append ss rest, t.1))
-there_more ss rest k (is n m pair) t = (omega (arith, length-append ss rest, t.0), omega (arith, length-append ss rest, t.1), t.2)
-there_more ss rest k (compare r n m) t = (omega (arith, length-append ss rest, t.0), omega (arith, length-append ss rest, t.1))
-there_more ss rest k fail t = tt
+  there_front : (k : ℕ) (i : NodeItem) → IsThere ss k i → IsThere all k i
+  there_front k (call n) t = omega (arith, more_length)
+  there_front k (equal n m) t = (omega (arith, more_length, t.0), omega (arith, more_length, t.1))
+  there_front k (is n m pair) t = (omega (arith, more_length, t.0), omega (arith, more_length, t.1), t.2)
+  there_front k (compare r n m) t = (omega (arith, more_length, t.0), omega (arith, more_length, t.1))
+  there_front k fail t = tt
 
-all_there_more : (ss rest : List Shape) (k : ℕ) (items : List NodeItem) → AllThere ss k items → AllThere (ss ++ rest) k items
-all_there_more ss rest k [] t = tt
-all_there_more ss rest k (i ∷ items) t = (there_more ss rest k i t.0, all_there_more ss rest (after k i) items t.1)
+  pub all_there_front : (k : ℕ) (items : List NodeItem) → AllThere ss k items → AllThere all k items
+  all_there_front k [] t = tt
+  all_there_front k (i ∷ items) t = (there_front k i t.0, all_there_front (after k i) items t.1)
 
--- nodes that stand behind change no clause
-abbrev item_with : NodeItem → Term → Term → Item
-item_with (call n) a b = programs.call a
-item_with (equal n m) a b = programs.equal a b
-item_with (is n m pair) a b = programs.arithmetic (programs.is a b)
-item_with (compare r n m) a b = programs.arithmetic (programs.compare r a b)
-item_with fail a b = programs.fail
+  pub entry_front : (e : ClauseEntry) → IsEntry ss e → entry_clause all e ≡ entry_clause ss e
+  entry_front e i =
+      let c : Term → List Item → Clause =
+      λ h b. record { head = h; body = b; variables = length e.variables.items; written = e.variables.items; line = e.line } in
+      ap (λ h. c h (map (item_of all) (map node_item e.items.items))) (node_term_front ss us e.head.0 i.0)
+      ∙ ap (c (node_term ss e.head.0)) (items_front 0 (map node_item e.items.items) i.1)
 
-item_same : (ss rest : List Shape) (k : ℕ) (i : NodeItem) → IsThere ss k i → item_of (ss ++ rest) i ≡ item_of ss i
-item_same ss rest k (call n) t = ap (λ u. item_with (call n) u u) (node_term_front ss rest n t)
-item_same ss rest k (equal n m) t = ap (λ u. item_with (equal n m) u (node_term (ss ++ rest) m)) (node_term_front ss rest n t.0) ∙ ap (λ u. item_with (equal n m) (node_term ss n) u) (node_term_front ss rest m t.1)
-item_same ss rest k (is n m pair) t = ap (λ u. item_with (is n m pair) u (node_term (ss ++ rest) m)) (node_term_front ss rest n t.0) ∙ ap (λ u. item_with (is n m pair) (node_term ss n) u) (node_term_front ss rest m t.1)
-item_same ss rest k (compare r n m) t = ap (λ u. item_with (compare r n m) u (node_term (ss ++ rest) m)) (node_term_front ss rest n t.0) ∙ ap (λ u. item_with (compare r n m) (node_term ss n) u) (node_term_front ss rest m t.1)
-item_same ss rest k fail t = refl
+  pub is_entry_front : (e : ClauseEntry) → IsEntry ss e → IsEntry all e
+  is_entry_front e i =
+      (omega (arith, more_length, i.0), all_there_front 0 (map node_item e.items.items) i.1, subst HasOwnVariables (sym (entry_front e i)) i.2)
 
-items_same : (ss rest : List Shape) (k : ℕ) (items : List NodeItem) → AllThere ss k items → map (item_of (ss ++ rest)) items ≡ map (item_of ss) items
-items_same ss rest k [] t = refl
-items_same ss rest k (i ∷ items) t =
-    ap (λ (x : Item). x ∷ map (item_of (ss ++ rest)) items) (item_same ss rest k i t.0) ∙ ap (λ (xs : List Item). item_of ss i ∷ xs) (items_same ss rest (after k i) items t.1)
+  pub entries_front : (es : List ClauseEntry) → AllEntries ss es → map (entry_clause all) es ≡ map (entry_clause ss) es
+  entries_front [] a = refl
+  entries_front (e ∷ es) a = ap (λ c. c ∷ map (entry_clause all) es) (entry_front e a.0) ∙ ap (λ cs. entry_clause ss e ∷ cs) (entries_front es a.1)
 
-abbrev clause_like : ClauseEntry → Term → List Item → Clause
-clause_like e h b = record { head = h; body = b; variables = length e.variables.items; written = e.variables.items; line = e.line }
+  pub are_entries_front : (es : List ClauseEntry) → AllEntries ss es → AllEntries all es
+  are_entries_front [] a = tt
+  are_entries_front (e ∷ es) a = (is_entry_front e a.0, are_entries_front es a.1)
 
-pub entry_same : (ss rest : List Shape) (e : ClauseEntry) → IsEntry ss e → entry_clause (ss ++ rest) e ≡ entry_clause ss e
-entry_same ss rest e t =
-    ap (λ h. clause_like e h (map (item_of (ss ++ rest)) (map node_item e.items.items))) (node_term_front ss rest e.head.0 t.0)
-    ∙ ap (clause_like e (node_term ss e.head.0)) (items_same ss rest 0 (map node_item e.items.items) t.1)
+pub entries_append : (ss : List Shape) (es fs : List ClauseEntry) → AllEntries ss es → AllEntries ss fs → AllEntries ss (es ++ fs)
+entries_append ss [] fs a b = b
+entries_append ss (e ∷ es) fs a b = (a.0, entries_append ss es fs a.1 b)
 
-pub entries_same : (ss rest : List Shape) (es : List ClauseEntry) → AllEntries ss es → map (entry_clause (ss ++ rest)) es ≡ map (entry_clause ss) es
-entries_same ss rest [] t = refl
-entries_same ss rest (e ∷ es) t =
-    ap (λ (k : Clause). k ∷ map (entry_clause (ss ++ rest)) es) (entry_same ss rest e t.0) ∙ ap (λ (ks : List Clause). entry_clause ss e ∷ ks) (entries_same ss rest es t.1)
+-- ---- One clause more.
+clauses_of-append : (ks js : List SourceClause) → clauses_of (ks ++ js) ≡ clauses_of ks ++ clauses_of js
+clauses_of-append [] js = refl
+clauses_of-append (k ∷ ks) js =
+    ap (λ cs. lifted_clause k ∷ clauses_of_items k k.body ++ cs) (clauses_of-append ks js)
+    ∙ sym (append_assoc (lifted_clause k ∷ clauses_of_items k k.body) (clauses_of ks) (clauses_of js))
 
-asked_same : (ss rest : List Shape) (n : ℕ) (q : Option Asked) → IsAsked ss n q → asked_of (ss ++ rest) q ≡ asked_of ss q
-asked_same ss rest n None t = refl
-asked_same ss rest n (Some a) t = ap (λ (k : Clause). Some (record { query = k; before = a.before })) (entry_same ss rest a.query t.0)
+calls_of-append : (ks js : List SourceClause) → calls_of (ks ++ js) ≡ calls_of ks ++ calls_of js
+calls_of-append [] js = refl
+calls_of-append (k ∷ ks) js =
+    ap (λ cs. map (call_at k.line) (calls_in_items k.body) ++ cs) (calls_of-append ks js)
+    ∙ sym (append_assoc (map (call_at k.line) (calls_in_items k.body)) (calls_of ks) (calls_of js))
 
--- what holds of an entry holds of it among more nodes
-entry_more : (ss rest : List Shape) (e : ClauseEntry) → IsEntry ss e → IsEntry (ss ++ rest) e
-entry_more ss rest e t = (
-  omega (arith, length-append ss rest, t.0),
-  all_there_more ss rest 0 (map node_item e.items.items) t.1,
-  subst HasOwnVariables (sym (entry_same ss rest e t)) t.2,
-)
+-- what a clause adds to both
+abbrev pub clauses_with : SourceClause → List Clause
+clauses_with k = lifted_clause k ∷ clauses_of_items k k.body
 
-entries_more : (ss rest : List Shape) (es : List ClauseEntry) → AllEntries ss es → AllEntries (ss ++ rest) es
-entries_more ss rest [] t = tt
-entries_more ss rest (e ∷ es) t = (entry_more ss rest e t.0, entries_more ss rest es t.1)
+abbrev pub calls_with : SourceClause → List Called
+calls_with k = map (call_at k.line) (calls_in_items k.body)
 
-entries_push : (ss : List Shape) (es : List ClauseEntry) (e : ClauseEntry) → AllEntries ss es → IsEntry ss e → AllEntries ss (es ++ e ∷ [])
-entries_push ss [] e t i = (i, tt)
-entries_push ss (d ∷ es) e t i = (t.0, entries_push ss es e t.1 i)
+nil_of : {X : Type 0} (xs : List X) → length xs ≡ 0 → xs ≡ []
+nil_of [] e = refl
+nil_of (x ∷ xs) e = absurd (omega (arith, e))
 
-asked_more : (ss rest : List Shape) (n m : ℕ) (q : Option Asked) → n ≤ m → IsAsked ss n q → IsAsked (ss ++ rest) m q
-asked_more ss rest n m None le t = tt
-asked_more ss rest n m (Some a) le t = (entry_more ss rest a.query t.0, t.1, omega (arith, t.2))
+abbrev table_by : List SourceClause → Option SourceClause → List SourceClause → Table → Table
+table_by earlier asked later T = record T { earlier = earlier; asked = asked; later = later }
 
-pub kept_clause : (old new : List Shape) (es : List ClauseEntry) (q : Option Asked) (names more : List Bytes) (w : Written) (k : Clause) (e : ClauseEntry) (all : List ClauseEntry)
-    → IsKept old es q names → IsMade old new names more w k e → length es < 65535 → all ≡ es ++ e ∷ [] → IsKept new all q more
-kept_clause old new es q names more w k e all h m room pushed =
-    let n : length all ≡ length es + 1 = ap length pushed ∙ length-append es (e ∷ []) in
-    record {
-      begins = ap begins_with_true m.begins ∙ begins_more old m.rest h.begins;
-      falls = m.falls h.falls;
-      within = m.within h.within;
-      entries = subst (AllEntries new) (sym pushed) (entries_push new es e (subst (λ (ss : List Shape). AllEntries ss es) (sym m.begins) (entries_more old m.rest es h.entries)) m.entry);
-      asked = subst (λ (ss : List Shape). IsAsked ss (length all) q) (sym m.begins) (asked_more old m.rest (length es) (length all) q (omega arith) h.asked);
-      few_nodes = m.few_nodes;
-      few_clauses = omega arith;
-      few_names = omega (arith, m.few_names, m.nodes, h.few_names);
+-- a clause is lifted behind the others
+pub placed_lifted : (T : Table) (k : SourceClause) → (T.asked ≡ None → length T.later ≡ 0) → lifted_of (placed T k) ≡ lifted_of T ++ clauses_with k
+placed_lifted T k none = by T.asked none
+  where
+    by : (a : Option SourceClause) → (a ≡ None → length T.later ≡ 0)
+        → lifted_of (placed (table_by T.earlier a T.later T) k) ≡ ((clauses_of T.earlier ++ asked_clauses a) ++ clauses_of T.later) ++ clauses_with k
+    by None none =
+        let e : T.later ≡ [] = nil_of T.later (none refl) in
+        let xs : List Clause = clauses_of T.earlier in
+        let new : List Clause = clauses_of (T.earlier ++ k ∷ []) in
+        ap (λ js. (new ++ []) ++ clauses_of js) e ∙ append-nil (new ++ []) ∙ append-nil new
+        ∙ clauses_of-append T.earlier (k ∷ []) ∙ ap (λ cs. xs ++ cs) (append-nil (clauses_with k))
+        ∙ ap (λ cs. cs ++ clauses_with k) (sym (append-nil xs) ∙ sym (append-nil (xs ++ [])))
+        ∙ ap (λ js. ((xs ++ []) ++ clauses_of js) ++ clauses_with k) (sym e)
+    by (Some q) none =
+        let xs : List Clause = clauses_of T.earlier ++ clauses_of_items q q.body in
+        ap (λ cs. xs ++ cs) (clauses_of-append T.later (k ∷ []) ∙ ap (λ cs. clauses_of T.later ++ cs) (append-nil (clauses_with k)))
+        ∙ sym (append_assoc xs (clauses_of T.later) (clauses_with k))
+
+pub placed_called : (T : Table) (k : SourceClause) → (T.asked ≡ None → length T.later ≡ 0) → called_of (placed T k) ≡ called_of T ++ calls_with k
+placed_called T k none = by T.asked none
+  where
+    by : (a : Option SourceClause) → (a ≡ None → length T.later ≡ 0)
+        → called_of (placed (table_by T.earlier a T.later T) k) ≡ ((calls_of T.earlier ++ asked_calls a) ++ calls_of T.later) ++ calls_with k
+    by None none =
+        let e : T.later ≡ [] = nil_of T.later (none refl) in
+        let xs : List Called = calls_of T.earlier in
+        let new : List Called = calls_of (T.earlier ++ k ∷ []) in
+        ap (λ js. (new ++ []) ++ calls_of js) e ∙ append-nil (new ++ []) ∙ append-nil new
+        ∙ calls_of-append T.earlier (k ∷ []) ∙ ap (λ cs. xs ++ cs) (append-nil (calls_with k))
+        ∙ ap (λ cs. cs ++ calls_with k) (sym (append-nil xs) ∙ sym (append-nil (xs ++ []))) ∙ ap (λ js. ((xs ++ []) ++ calls_of js) ++ calls_with k) (sym e)
+    by (Some q) none =
+        let xs : List Called = calls_of T.earlier ++ calls_with q in
+        ap (λ cs. xs ++ cs) (calls_of-append T.later (k ∷ []) ∙ ap (λ cs. calls_of T.later ++ cs) (append-nil (calls_with k)))
+        ∙ sym (append_assoc xs (calls_of T.later) (calls_with k))
+
+-- without a query nothing stands behind it
+pub none_later : (ss : List Shape) (e : Option ClauseEntry) (q : Option SourceClause) (n : ℕ) → IsAsked ss e q n → q ≡ None → n ≡ 0
+none_later ss None None n a h = a
+none_later ss None (Some q) n a h = absurd a
+none_later ss (Some e) None n a h = absurd a
+none_later ss (Some e) (Some q) n a h = absurd cc
+
+-- ---- A table that is kept is a program once it has a query.
+pub kept_program : (ss : List Shape) (es : List ClauseEntry) (e : ClauseEntry) (calls : List Called) (names : List Bytes) (used : Used) (T : Table)
+    → IsKept ss es (Some e) calls names used T → IsProgram ss e es names
+kept_program ss es e calls names used T k =
+    let a = by T.asked (length T.later) k.asked in record {
+      begins = k.begins;
+      falls = k.falls;
+      within = k.within;
+      entries = k.entries;
+      query_there = a.1;
+      query_true = a.0;
+      few_nodes = omega (arith, k.few_nodes, k.few_used);
+      few_clauses = omega (arith, k.numbered, k.few_clauses);
+    }
+  where
+    by : (q : Option SourceClause) (n : ℕ) → IsAsked ss (Some e) q n → (e.head.0 ≡ 0) × IsEntry ss e
+    by None n a = absurd a
+    by (Some q) n a = (a.0, a.1)
+
+-- and that program is the lifted one
+pub kept_lifted : (ss : List Shape) (es : List ClauseEntry) (e : ClauseEntry) (calls : List Called) (names : List Bytes) (used : Used) (T : Table)
+    → IsKept ss es (Some e) calls names used T → (q : SourceClause) × (T.asked ≡ Some q) × (program_in ss e es names ≡ lift (program_of T q))
+kept_lifted ss es e calls names used T k =
+    by T.asked (length T.later) k.asked refl
+  where
+    by : (a : Option SourceClause) (n : ℕ) → IsAsked ss (Some e) a n → T.asked ≡ a
+        → (q : SourceClause) × (T.asked ≡ Some q) × (program_in ss e es names ≡ lift (program_of T q))
+    by None n i h = absurd i
+    by (Some q) n i h =
+        let lifted : map (entry_clause ss) es ≡ clauses_of T.earlier ++ clauses_of_items q q.body ++ clauses_of T.later =
+        clauses-are (map (entry_clause ss) es) (lifted_of T) k.clauses ∙ ap (λ a. clauses_of T.earlier ++ asked_clauses a ++ clauses_of T.later) h in (
+          q,
+          h,
+          ap (λ cs. let p : Program = record { clauses = cs; query = entry_clause ss e; names = names } in p) lifted
+              ∙ ap (λ c. let p : Program = record {
+                clauses = clauses_of T.earlier ++ clauses_of_items q q.body ++ clauses_of T.later;
+                query = c;
+                names = names;
+              } in p)
+              (clause-is (entry_clause ss e) (lifted_clause q) i.2)
+              ∙ ap (λ ns. let p : Program = record {
+                clauses = clauses_of T.earlier ++ clauses_of_items q q.body ++ clauses_of T.later;
+                query = lifted_clause q;
+                names = ns;
+              } in p) k.all_names,
+        )
+
+-- ---- What a clause adds to a table that is kept.
+begins_front : (ss us : List Shape) → begins_with_true ss ≡ true → begins_with_true (ss ++ us) ≡ true
+begins_front [] us e = absurd cc
+begins_front (variable k ∷ ss) us e = absurd cc
+begins_front (number z ∷ ss) us e = absurd cc
+begins_front (compound c [] ∷ ss) us e = e
+begins_front (compound c (n ∷ ns) ∷ ss) us e = absurd cc
+
+asked_front : (ss us : List Shape) (e : Option ClauseEntry) (q : Option SourceClause) (n m : ℕ) → (q ≡ None → n ≡ m) → IsAsked ss e q n
+    → IsAsked (ss ++ us) e q m
+asked_front ss us None None n m same a = sym (same refl) ∙ a
+asked_front ss us None (Some q) n m same a = a
+asked_front ss us (Some e) None n m same a = a
+asked_front ss us (Some e) (Some q) n m same a =
+    (a.0, is_entry_front ss us e a.1, ap (λ c. same_clause c (lifted_clause q)) (entry_front ss us e a.1) ∙ a.2)
+
+placed_asked : (T : Table) (k : SourceClause) → (placed T k).asked ≡ T.asked
+placed_asked T k = by T.asked
+  where
+    by : (a : Option SourceClause) → (placed (table_by T.earlier a T.later T) k).asked ≡ a
+    by None = refl
+    by (Some q) = refl
+
+placed_later : (T : Table) (k : SourceClause) → (placed T k).asked ≡ None → length T.later ≡ length (placed T k).later
+placed_later T k e = by T.asked (sym (placed_asked T k) ∙ e)
+  where
+    by : (a : Option SourceClause) → a ≡ None → length T.later ≡ length (placed (table_by T.earlier a T.later T) k).later
+    by None h = refl
+    by (Some q) h = absurd cc
+
+module _ (T : Table) (k : SourceClause) where
+  placed_names : (placed T k).names ≡ T.names
+  placed_names = by T.asked
+    where
+      by : (a : Option SourceClause) → (placed (table_by T.earlier a T.later T) k).names ≡ T.names
+      by None = refl
+      by (Some q) = refl
+
+  placed_nodes : (placed T k).nodes ≡ T.nodes
+  placed_nodes = by T.asked
+    where
+      by : (a : Option SourceClause) → (placed (table_by T.earlier a T.later T) k).nodes ≡ T.nodes
+      by None = refl
+      by (Some q) = refl
+
+  placed_numbers : (placed T k).numbers ≡ T.numbers
+  placed_numbers = by T.asked
+    where
+      by : (a : Option SourceClause) → (placed (table_by T.earlier a T.later T) k).numbers ≡ T.numbers
+      by None = refl
+      by (Some q) = refl
+
+  placed_disjunctions : (placed T k).disjunctions ≡ T.disjunctions
+  placed_disjunctions = by T.asked
+    where
+      by : (a : Option SourceClause) → (placed (table_by T.earlier a T.later T) k).disjunctions ≡ T.disjunctions
+      by None = refl
+      by (Some q) = refl
+
+-- the table with these names and sizes
+abbrev pub sized_table : Table → List Bytes → Used → Table
+sized_table T names used = record T { names = names; nodes = used.nodes; numbers = used.numbers; disjunctions = used.disjunctions }
+
+pub kept_clause : (ss us : List Shape) (es fs : List ClauseEntry) (query : Option ClauseEntry) (calls : List Called) (names named : List Bytes)
+    (used now : Used) (T : Table) (k : SourceClause)
+    → IsKept ss es query calls names used T
+    → AllFall 0 (ss ++ us) → AllWithin (length named) (ss ++ us) → AllEntries (ss ++ us) fs → map (entry_clause (ss ++ us)) fs ≡ clauses_with k
+    → length (ss ++ us) ≤ now.nodes + 1 → now.nodes ≤ 524288 → now.numbers ≤ 65535 → length named ≤ 27 + now.nodes → now.disjunctions ≤ now.nodes
+    → length es + length fs ≡ now.numbers
+    → IsKept (ss ++ us) (es ++ fs) query (calls ++ calls_with k) named now (placed (sized_table T named now) k)
+kept_clause ss us es fs query calls names named used now T k kept falls within entries clauses nodes few_nodes few_numbers few_names few_disjunctions numbers =
+    let V : Table = sized_table T named now in
+    let none : V.asked ≡ None → length V.later ≡ 0 = none_later ss query T.asked (length T.later) kept.asked in
+    let all : List Shape = ss ++ us in record {
+      begins = begins_front ss us kept.begins;
+      falls = falls;
+      within = within;
+      entries = entries_append all es fs (are_entries_front ss us es kept.entries) entries;
+      clauses = clauses-same (map (entry_clause all) (es ++ fs)) (lifted_of (placed V k))
+          (map-append (entry_clause all) es fs
+          ∙ ap (λ cs. cs ++ map (entry_clause all) fs) (entries_front ss us es kept.entries
+          ∙ clauses-are (map (entry_clause ss) es) (lifted_of T) kept.clauses)
+          ∙ ap (λ cs. lifted_of T ++ cs) clauses ∙ sym (placed_lifted V k none));
+      asked = subst (λ q. IsAsked all query q (length (placed V k).later)) (sym (placed_asked V k))
+          (asked_front ss us query T.asked (length T.later) (length (placed V k).later) (λ h. placed_later V k (placed_asked V k ∙ h)) kept.asked);
+      called = ap (λ cs. cs ++ calls_with k) kept.called ∙ sym (placed_called V k none);
+      all_names = sym (placed_names V k);
+      all_nodes = sym (placed_nodes V k);
+      all_numbers = sym (placed_numbers V k);
+      all_disjunctions = sym (placed_disjunctions V k);
+      numbered = length-append es fs ∙ numbers;
+      few_nodes = nodes;
+      few_used = few_nodes;
+      few_clauses = few_numbers;
+      few_names = few_names;
+      few_disjunctions = few_disjunctions;
     }
 
-pub kept_query : (old new : List Shape) (es : List ClauseEntry) (q : Option Asked) (names more : List Bytes) (w : Written) (k : Clause) (e : ClauseEntry) (before : ℕ)
-    → IsKept old es q names → IsMade old new names more w k e → e.head.0 ≡ 0 → before ≤ length es → IsKept new es (Some (record { query = e; before = before })) more
-kept_query old new es q names more w k e before h m head few =
-    record {
-      begins = ap begins_with_true m.begins ∙ begins_more old m.rest h.begins;
-      falls = m.falls h.falls;
-      within = m.within h.within;
-      entries = subst (λ (ss : List Shape). AllEntries ss es) (sym m.begins) (entries_more old m.rest es h.entries);
-      asked = (m.entry, head, few);
-      few_nodes = m.few_nodes;
-      few_clauses = h.few_clauses;
-      few_names = omega (arith, m.few_names, m.nodes, h.few_names);
+-- and what the query adds
+pub kept_query : (ss us : List Shape) (es fs : List ClauseEntry) (e : ClauseEntry) (calls : List Called) (names named : List Bytes) (used now : Used)
+    (T : Table) (q : SourceClause)
+    → IsKept ss es None calls names used T → e.head.0 ≡ 0 → IsEntry (ss ++ us) e → entry_clause (ss ++ us) e ≡ lifted_clause q
+    → AllFall 0 (ss ++ us) → AllWithin (length named) (ss ++ us) → AllEntries (ss ++ us) fs → map (entry_clause (ss ++ us)) fs ≡ clauses_of_items q q.body
+    → length (ss ++ us) ≤ now.nodes + 1 → now.nodes ≤ 524288 → now.numbers ≤ 65535 → length named ≤ 27 + now.nodes → now.disjunctions ≤ now.nodes
+    → length es + length fs ≡ now.numbers
+    → IsKept (ss ++ us) (es ++ fs) (Some e) (calls ++ calls_with q) named now (record (sized_table T named now) { asked = Some q })
+kept_query ss us es fs e calls names named used now T q kept head there same falls within entries clauses nodes few_nodes few_numbers few_names
+    few_disjunctions numbers =
+    let all : List Shape = ss ++ us in
+    let unasked = none_asked ss T.asked (length T.later) kept.asked in
+    let later : T.later ≡ [] = nil_of T.later unasked.1 in record {
+      begins = begins_front ss us kept.begins;
+      falls = falls;
+      within = within;
+      entries = entries_append all es fs (are_entries_front ss us es kept.entries) entries;
+      clauses = clauses-same (map (entry_clause all) (es ++ fs)) ((clauses_of T.earlier ++ clauses_of_items q q.body) ++ clauses_of T.later)
+          (map-append (entry_clause all) es fs
+          ∙ ap (λ cs. cs ++ map (entry_clause all) fs) (entries_front ss us es kept.entries
+          ∙ clauses-are (map (entry_clause ss) es) (lifted_of T) kept.clauses)
+          ∙ ap (λ cs. lifted_of T ++ cs) clauses
+          ∙ ap (λ a. ((clauses_of T.earlier ++ asked_clauses a) ++ clauses_of T.later) ++ clauses_of_items q q.body) unasked.0
+          ∙ ap (λ js. ((clauses_of T.earlier ++ []) ++ clauses_of js) ++ clauses_of_items q q.body) later
+          ∙ ap (λ cs. cs ++ clauses_of_items q q.body) (append-nil (clauses_of T.earlier ++ []) ∙ append-nil (clauses_of T.earlier))
+          ∙ sym (append-nil (clauses_of T.earlier ++ clauses_of_items q q.body))
+          ∙ ap (λ js. (clauses_of T.earlier ++ clauses_of_items q q.body) ++ clauses_of js) (sym later));
+      asked = (head, there, ap (λ c. same_clause c (lifted_clause q)) same ∙ clause-same (lifted_clause q));
+      called = ap (λ cs. cs ++ calls_with q) kept.called
+          ∙ ap (λ a. ((calls_of T.earlier ++ asked_calls a) ++ calls_of T.later) ++ calls_with q) unasked.0
+          ∙ ap (λ js. ((calls_of T.earlier ++ []) ++ calls_of js) ++ calls_with q) later
+          ∙ ap (λ cs. cs ++ calls_with q) (append-nil (calls_of T.earlier ++ []) ∙ append-nil (calls_of T.earlier))
+          ∙ sym (append-nil (calls_of T.earlier ++ calls_with q))
+          ∙ ap (λ js. (calls_of T.earlier ++ calls_with q) ++ calls_of js) (sym later);
+      all_names = refl;
+      all_nodes = refl;
+      all_numbers = refl;
+      all_disjunctions = refl;
+      numbered = length-append es fs ∙ numbers;
+      few_nodes = nodes;
+      few_used = few_nodes;
+      few_clauses = few_numbers;
+      few_names = few_names;
+      few_disjunctions = few_disjunctions;
     }
-
-abbrev table_with : List Clause → Option Tables.Asked → List Bytes → ℕ → Table
-table_with cs q names n = record { clauses = cs; asked = q; names = names; nodes = n }
-
-nodes_left : (old new : List Node) (w : Written) → begins_with_true (shapes_of old) ≡ true → length (shapes_of new) ≡ length (shapes_of old) + nodes_of w → length new - 1 ≡ (length old - 1) + nodes_of w
-nodes_left [] new w b e = cc
-nodes_left (n ∷ old) new w b e = omega (arith, length-map new shape_of, length-map (n ∷ old) shape_of)
-
--- the table with one more clause
-pub table_clause : (old new : List Node) (es all : List ClauseEntry) (q : Option Asked) (names more : List Bytes) (w : Written) (k : Clause) (e : ClauseEntry)
-    → IsKept (shapes_of old) es q names → IsMade (shapes_of old) (shapes_of new) names more w k e → all ≡ es ++ e ∷ []
-    → table_with (map (entry_clause (shapes_of new)) all) (asked_of (shapes_of new) q) more (length new - 1)
-    ≡ table_with (map (entry_clause (shapes_of old)) es ++ k ∷ []) (asked_of (shapes_of old) q) (named names w) ((length old - 1) + nodes_of w)
-table_clause old new es all q names more w k e h m pushed =
-    let ss : List Shape = shapes_of new in
-    let front : map (entry_clause ss) es ≡ map (entry_clause (shapes_of old)) es = ap (λ (us : List Shape). map (entry_clause us) es) m.begins ∙ entries_same (shapes_of old) m.rest es h.entries in
-    let cs : map (entry_clause ss) all ≡ map (entry_clause (shapes_of old)) es ++ k ∷ [] =
-    ap (map (entry_clause ss)) pushed ∙ map_push (entry_clause ss) es e ∙ ap (λ (ks : List Clause). ks ++ entry_clause ss e ∷ []) front ∙ ap (λ (d : Clause). map (entry_clause (shapes_of old)) es ++ d ∷ []) m.clause in
-    let asks : asked_of ss q ≡ asked_of (shapes_of old) q = ap (λ (us : List Shape). asked_of us q) m.begins ∙ asked_same (shapes_of old) m.rest (length es) q h.asked in
-    ap (λ ks. table_with ks (asked_of ss q) more (length new - 1)) cs
-    ∙ ap (λ o. table_with (map (entry_clause (shapes_of old)) es ++ k ∷ []) o more (length new - 1)) asks
-    ∙ ap (λ ns. table_with (map (entry_clause (shapes_of old)) es ++ k ∷ []) (asked_of (shapes_of old) q) ns (length new - 1)) m.names_are
-    ∙ ap (table_with (map (entry_clause (shapes_of old)) es ++ k ∷ []) (asked_of (shapes_of old) q) (named names w)) (nodes_left old new w h.begins m.nodes)
-
--- the table with the query
-pub table_query : (old new : List Node) (es : List ClauseEntry) (q : Option Asked) (names more : List Bytes) (w : Written) (k : Clause) (e : ClauseEntry) (before : ℕ)
-    → IsKept (shapes_of old) es q names → IsMade (shapes_of old) (shapes_of new) names more w k e → before ≡ length (map (entry_clause (shapes_of old)) es)
-    → table_with (map (entry_clause (shapes_of new)) es) (asked_of (shapes_of new) (Some (record { query = e; before = before }))) more (length new - 1)
-    ≡ table_with (map (entry_clause (shapes_of old)) es) (Some (record { query = k; before = length (map (entry_clause (shapes_of old)) es) })) (named names w) ((length old - 1) + nodes_of w)
-table_query old new es q names more w k e before h m at =
-    let ss : List Shape = shapes_of new in
-    let cs : map (entry_clause ss) es ≡ map (entry_clause (shapes_of old)) es = ap (λ (us : List Shape). map (entry_clause us) es) m.begins ∙ entries_same (shapes_of old) m.rest es h.entries in
-    let asked : Clause → ℕ → Option Tables.Asked = λ c n. Some (record { query = c; before = n }) in
-    ap (λ ks. table_with ks (asked (entry_clause ss e) before) more (length new - 1)) cs
-    ∙ ap (λ c. table_with (map (entry_clause (shapes_of old)) es) (asked c before) more (length new - 1)) m.clause
-    ∙ ap (λ n. table_with (map (entry_clause (shapes_of old)) es) (asked k n) more (length new - 1)) at
-    ∙ ap (λ ns. table_with (map (entry_clause (shapes_of old)) es) (asked k (length (map (entry_clause (shapes_of old)) es))) ns (length new - 1)) m.names_are
-    ∙ ap (table_with (map (entry_clause (shapes_of old)) es) (asked k (length (map (entry_clause (shapes_of old)) es))) (named names w)) (nodes_left old new w h.begins m.nodes)
-
--- a table that was cut back is as it was
-pub cut_names : (old new cut : List (Vec ℕ Global)) (n : ℕ) → cut ≡ take n new → n ≡ length old → Extends (names_of old) (names_of new) → names_of cut ≡ names_of old
-cut_names old new cut n e same h =
-    ap names_of e ∙ sym (take-map (λ (v : Vec ℕ Global). v.items) n new)
-    ∙ ap (λ (m : ℕ). take m (names_of new)) (same ∙ sym (length-map old (λ (v : Vec ℕ Global). v.items))) ∙ h
-
-pub table_cut : (old cut : List Node) (es all : List ClauseEntry) (q : Option Asked) (names less : List Bytes) → cut ≡ old → all ≡ es → less ≡ names
-    → table_with (map (entry_clause (shapes_of cut)) all) (asked_of (shapes_of cut) q) less (length cut - 1) ≡ table_with (map (entry_clause (shapes_of old)) es) (asked_of (shapes_of old) q) names (length old - 1)
-table_cut old cut es all q names less c a n =
-    ap (λ (ns : List Node). table_with (map (entry_clause (shapes_of ns)) all) (asked_of (shapes_of ns) q) less (length ns - 1)) c
-    ∙ ap (λ (ds : List ClauseEntry). table_with (map (entry_clause (shapes_of old)) ds) (asked_of (shapes_of old) q) less (length old - 1)) a
-    ∙ ap (λ (ns : List Bytes). table_with (map (entry_clause (shapes_of old)) es) (asked_of (shapes_of old) q) ns (length old - 1)) n
-
-pub unasked : (ss : List Shape) (q : Option Asked) (b : Bool) → b ≡ is_some q → b ≡ false → asked_of ss q ≡ None
-unasked ss None b e f = refl
-unasked ss (Some a) b e f = cc
-
-pub room_there : (n m : ℕ) → n ≡ m → ltb n 65535 ≡ true → m < 65535
-room_there n m e t = grind (arith, nat_tests)
-
-pub one_query : (ws : List Written) → IsTrue (is_query ws) → (w : Written) × (ws ≡ w ∷ [])
-one_query [] e = cc
-one_query (w ∷ []) e = (w, refl)
-one_query (w ∷ v ∷ ws) e = cc
-
-pub one_query_alone : (ws : List Written) → IsTrue (is_query ws) → length ws ≡ 1
-one_query_alone [] e = cc
-one_query_alone (w ∷ []) e = refl
-one_query_alone (w ∷ v ∷ ws) e = cc
-
--- a whole draft with the name `?-` is a query
-pub asking : (ws asked : List Written) → length ws ≡ 1 → asked ≡ take (length ws - 1) ws ++ Written.compound (codes "?-") (many (drop (length ws - 1) ws)) ∷ [] → IsTrue (is_query asked)
-asking [] asked e now = absurd (omega arith)
-asking (w ∷ []) asked e now = subst (λ (vs : List Written). IsTrue (is_query vs)) (sym now) refl
-asking (w ∷ v ∷ ws) asked e now = absurd (omega arith)
+  where
+    none_asked : (xs : List Shape) (a : Option SourceClause) (n : ℕ) → IsAsked xs None a n → (a ≡ None) × (n ≡ 0)
+    none_asked xs None n i = (refl, i)
+    none_asked xs (Some p) n i = absurd i

@@ -1,5 +1,6 @@
 -- Names in a set, and the bytes that they are.
-use Rattle.std.proofs.Common.{ℕ, suc, ◌+◌, ◌≡◌, ◌<◌, ◌≤◌, Bool, true, false, not, cond, ◌||◌, ltb, leb, List, [], ◌∷◌, ◌++◌, length, get_or, drop, Option, Some, None, unwrap_or, refl, sym, ap, ◌∙◌, arith, subst, Vec}
+use Rattle.std.proofs.Common.{ℕ, suc, ◌+◌, ◌≡◌, ◌<◌, ◌≤◌, Bool, true, false, not, cond, ◌||◌, ltb, leb, List, [], ◌∷◌, ◌++◌, length, get_or, drop, Option}
+use Rattle.std.proofs.Common.{Some, None, unwrap_or, refl, sym, ap, ◌∙◌, arith, subst, Vec}
 use Rattle.std.specs.Borrow.{Bor}
 use Rattle.std.specs.Str.{bytes_eq}
 use Rattle.std.specs.List.{list_any, position, position_or_len}
@@ -35,7 +36,8 @@ pub including_known : (x : Bytes) (ks : List (Vec ℕ Global)) (b : Bool) → b 
 including_known x ks b e t = sym (ap (λ (v : Bool). cond v (names_of ks) (names_of ks ++ x ∷ [])) (sym (has_items x ks) ∙ sym e ∙ t))
 
 -- a name that is inserted
-pub including_new : (x : Bytes) (v : Vec ℕ Global) (ks new : List (Vec ℕ Global)) → v.items ≡ x → new ≡ insert_key same_items ks v → names_of new ≡ including (names_of ks) x
+pub including_new : (x : Bytes) (v : Vec ℕ Global) (ks new : List (Vec ℕ Global)) → v.items ≡ x → new ≡ insert_key same_items ks v
+    → names_of new ≡ including (names_of ks) x
 including_new x v ks new is e =
     let P : Bool → Type 0 = λ b. names_of (cond b ks (ks ++ v ∷ [])) ≡ cond b (names_of ks) (names_of ks ++ v.items ∷ []) in
     ap names_of e ∙ ap (λ (b : Bool). names_of (cond b ks (ks ++ v ∷ []))) (has_items v.items ks)
@@ -54,14 +56,18 @@ position_else p n le =
     let P : Bool → Type 0 = λ b. ltb p n ≡ b → unwrap_or (cond b (Some p) None) n ≡ p in
     (elim (ltb p n) as P [ true ↦ λ e. refl | false ↦ λ e. grind (arith, nat_tests) ]) refl
 
-pub number_is : (x : Bytes) (ks : List (Vec ℕ Global)) (o : Option ℕ) (r n : ℕ) → o ≡ position (by_items x) ks → r ≡ unwrap_or o n → n ≡ length ks → r ≡ place x (names_of ks)
+pub number_is : (x : Bytes) (ks : List (Vec ℕ Global)) (o : Option ℕ) (r n : ℕ) → o ≡ position (by_items x) ks → r ≡ unwrap_or o n → n ≡ length ks
+    → r ≡ place x (names_of ks)
 number_is x ks o r n at is few =
     is ∙ ap (λ (m : ℕ). unwrap_or o m) few ∙ ap (λ (q : Option ℕ). unwrap_or q (length ks)) at
-    ∙ position_else (position_or_len (by_items x) ks) (length ks) (let h : place x (names_of ks) ≤ length (names_of ks) = place-le x (names_of ks) in omega (arith, place_items x ks, length-map ks (λ (k : Vec ℕ Global). k.items)))
+    ∙ position_else (position_or_len (by_items x) ks) (length ks)
+    (let h : place x (names_of ks) ≤ length (names_of ks) =
+    place-le x (names_of ks) in omega (arith, place_items x ks, length-map ks (λ (k : Vec ℕ Global). k.items)))
     ∙ place_items x ks
 
 -- one more of several that occur in turn
-pub including_more : (old new : List Bytes) (occurring : List (Bor Bytes)) (i : ℕ) (d : Bor Bytes) (total : List Bytes) → i < length occurring → new ≡ including old (get_or occurring i d).now
+pub including_more : (old new : List Bytes) (occurring : List (Bor Bytes)) (i : ℕ) (d : Bor Bytes) (total : List Bytes) → i < length occurring
+    → new ≡ including old (get_or occurring i d).now
     → including_all old (bytes_of (drop i occurring)) ≡ total → including_all new (bytes_of (drop (i + 1) occurring)) ≡ total
 including_more old new occurring i d total lt e h =
     ap (λ (ns : List Bytes). including_all ns (bytes_of (drop (i + 1) occurring))) e
@@ -81,7 +87,8 @@ met_by-grows met (p ∷ ps) = omega (arith, met_with-grows met p, met_by-grows (
     met_with-grows ms (integer z) = omega arith
     met_with-grows ms (compound c ns) = omega arith
 
-pub met_more : (old new : List Bytes) (parts : List DraftPart) (i : ℕ) (p : DraftPart) (total : List Bytes) → i < length parts → p ≡ get_or parts i p → new ≡ met_with old (part_shape p)
+pub met_more : (old new : List Bytes) (parts : List DraftPart) (i : ℕ) (p : DraftPart) (total : List Bytes) → i < length parts → p ≡ get_or parts i p
+    → new ≡ met_with old (part_shape p)
     → met_by old (part_shapes (drop i parts)) ≡ total → met_by new (part_shapes (drop (i + 1) parts)) ≡ total
 met_more old new parts i p total lt at e h =
     let opened : drop i parts ≡ p ∷ drop (i + 1) parts = drop_more parts i p lt ∙ ap (λ (q : DraftPart). q ∷ drop (i + 1) parts) (sym at) in
@@ -92,7 +99,8 @@ too_many met total ps n e few many =
     let more : length met ≤ length total = subst (λ (t : List Bytes). length met ≤ length t) e (met_by-grows met ps) in
     grind (arith, nat_tests)
 
-pub few_enough : (met : List Bytes) (parts : List DraftPart) (i : ℕ) (total : List Bytes) → length parts ≤ i → met_by met (part_shapes (drop i parts)) ≡ total → length met ≤ 255 → true ≡ leb (length total) 255
+pub few_enough : (met : List Bytes) (parts : List DraftPart) (i : ℕ) (total : List Bytes) → length parts ≤ i → met_by met (part_shapes (drop i parts)) ≡ total
+    → length met ≤ 255 → true ≡ leb (length total) 255
 few_enough met parts i total le e few =
     let same : met ≡ total = sym (ap (λ (qs : List DraftPart). met_by met (part_shapes qs)) (drop_of_length-le parts le)) ∙ e in
     let some : length total ≤ 255 = subst (λ (t : List Bytes). length t ≤ 255) same few in

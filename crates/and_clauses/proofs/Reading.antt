@@ -13,7 +13,8 @@ use Rattle.and_clauses.specs.Parts.{PartShape, variable, integer, compound, befo
 use Rattle.and_program.proofs.NodeTerms.{terms_behind-append, length-terms_behind, node_term_front}
 use Rattle.and_clauses.proofs.Drafting.{length-postfix, length-postfix_all, before_last-below}
 
-pub shapes_in-append : (names met : List Bytes) (ps qs : List PartShape) → shapes_in names met (ps ++ qs) ≡ shapes_in names met ps ++ shapes_in names (met_by met ps) qs
+pub shapes_in-append : (names met : List Bytes) (ps qs : List PartShape)
+    → shapes_in names met (ps ++ qs) ≡ shapes_in names met ps ++ shapes_in names (met_by met ps) qs
 shapes_in-append names met [] qs = refl
 shapes_in-append names met (p ∷ ps) qs = ap (λ (ss : List Shape). shape_in names met p ∷ ss) (shapes_in-append names (met_with met p) ps qs)
 
@@ -56,7 +57,8 @@ mutual
       let inner : List Shape = shapes_in names met ps in
       let s : Shape = Skeletons.compound (place c names) (roots n ts) in
       let size : length (ss ++ inner) ≡ n + nodes_in ts = omega (arith, length-append ss inner, length-shapes_in names met ps, length-postfix_all n ts) in
-      ap (λ (us : List Shape). node_term us (n + nodes_in ts)) (ap (λ (us : List Shape). ss ++ us) (shapes_in-append names met ps (compound c (roots n ts) ∷ [])) ∙ sym (append_assoc ss inner (s ∷ [])))
+      ap (λ (us : List Shape). node_term us (n + nodes_in ts))
+      (ap (λ (us : List Shape). ss ++ us) (shapes_in-append names met ps (compound c (roots n ts) ∷ [])) ∙ sym (append_assoc ss inner (s ∷ [])))
       ∙ last_term (ss ++ inner) s (n + nodes_in ts) size
       ∙ ap (λ (us : Terms). Terms.compound (place c names) us) (terms_of_postfix names met n ss ts few)
 

@@ -1,20 +1,10 @@
 -- What a draft is as a clause or a query, and what is wrong with it.
-use Rattle.std.specs.Prelude.{ℕ, ◌≡◌, Bool, not, cond, ltb, ◌||◌, nat_eq, List, [], ◌∷◌, ◌++◌, map, length, get_or, Option, Some, None}
-use Rattle.std.specs.List.{list_any}
+use Rattle.std.specs.Prelude.{ℕ, cond, nat_eq, List, [], ◌∷◌, length, get_or, Option, Some, None}
 use Rattle.and_model.specs.Lines.{Bytes}
-use Rattle.and_model.specs.Terms.{Term}
 use Rattle.and_syntax.specs.Written.{place}
-use Rattle.and_syntax.specs.Clauses
-use Rattle.and_syntax.specs.Clauses.{BodyPart, is_refused, head_of, body_of, asked_of, is_named, name_of, arity_of, is_built_in}
-use Rattle.and_syntax.specs.Tables.{Fault, not_pure, redefines, too_big, variables, nodes, clauses}
-use Rattle.and_program.specs.Skeletons.{Shape, node_term, item_of, AllThere}
-use Rattle.and_program.specs.Items.{node_item}
-use Rattle.and_clauses.specs.Numbered.{met_by}
 use Rattle.and_clauses.specs.Parts.{PartShape, variable, integer, compound}
-use Rattle.and_program.specs.declared.item.ItemNode.{ItemNode}
 use Rattle.and_clauses.specs.declared.judging.Sides.{Sides}
 use Rattle.and_clauses.specs.declared.judging.Functor.{Functor}
-use Rattle.and_model.specs.declared.limits.TheConstants.{MAX_VARIABLES}
 use Rattle.and_model.specs.declared.builtins.TheConstants.{NECK}
 
 -- a head alone
@@ -63,24 +53,3 @@ functor_of names (compound c ns) = Some (record { name = place c names; arity = 
 -- the name of the part of that number, and how many arguments it has
 abbrev pub functor_at : List Bytes → List PartShape → ℕ → Option Functor
 functor_at names ps n = functor_of names (get_or ps n (variable []))
-
--- what there may be too much of, where it is known whether the nodes fit
-abbrev pub size_faults : List PartShape → Bool → List (Bool × Fault)
-size_faults ps fits = (ltb MAX_VARIABLES (length (met_by [] ps)), too_big variables) ∷ (not fits, too_big nodes) ∷ []
-
--- what may be wrong with a clause, where it is known whether its nodes fit and whether there is room for a clause
-abbrev pub faults_of_clause : List Bytes → Term → List PartShape → Bool → Bool → List (Bool × Fault)
-faults_of_clause names t ps fits room =
-    (not (is_named (head_of t)) || list_any is_refused (body_of t), not_pure)
-    ∷ (is_built_in (name_of (head_of t)) (arity_of (head_of t)), redefines (get_or names (name_of (head_of t)) []) (arity_of (head_of t)))
-    ∷ (size_faults ps fits ++ (not room, too_big clauses) ∷ [])
-
--- what may be wrong with a query
-abbrev pub faults_of_query : Term → List PartShape → Bool → List (Bool × Fault)
-faults_of_query t ps fits = (list_any is_refused (asked_of t), not_pure) ∷ size_faults ps fits
-
--- the node is the head, and the items are those of the body's parts
-pub record IsJudged (ss : List Shape) (head : Term) (body : List BodyPart) (n : ℕ) (items : List ItemNode) : Type 0 where
-  pub head_is : node_term ss n ≡ head
-  pub body_is : map (item_of ss) (map node_item items) ≡ Clauses.items_of body
-  pub there : AllThere ss 0 (map node_item items)

@@ -18,7 +18,7 @@ pub data PartShape : Type 0 where
 
 -- what a part of the code stands for
 abbrev pub part_shape : DraftPart → PartShape
-part_shape (Variable x) = variable x
+part_shape (Variable x n) = variable x
 part_shape (Integer z) = integer z
 part_shape (Compound c ns) = compound c ns.items
 

@@ -1,17 +1,26 @@
-//! A table's query, and why tables refuse.
+//! The clauses of a table, its query, and why tables refuse.
 
 ghost use Rattle.std.specs.Prelude.{◌≡◌};
 ghost use Rattle.and_clauses.specs.declared.data.TableFault.TheVariants.{Memory};
 
+use crate::draft::ClauseDraft;
 use and_model::Text;
-use and_program::ClauseEntry;
+use and_program::Predicate;
 use std::alloc::{AllocError, AllocFailed};
+use std::snapshot::Snapshot;
 
-/// The query, and how many clauses stand before it in the text.
+/// A predicate that a clause calls, and the line of the clause.
+#[derive(Clone, Copy)]
+pub(crate) struct Called {
+    pub(crate) predicate: Predicate,
+    pub(crate) line: u32,
+}
+
+/// What was added to a table, which contracts alone read.
 #[derive(Drop)]
-pub(crate) struct Asked {
-    pub(crate) query: ClauseEntry,
-    pub(crate) before: u32,
+pub(crate) enum Added {
+    Clause(Snapshot<ClauseDraft>),
+    Query(Snapshot<ClauseDraft>),
 }
 
 /// What there is too much of.

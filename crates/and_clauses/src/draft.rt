@@ -3,7 +3,10 @@
 ghost use Rattle.std.specs.Prelude.{◌≡◌, ◌<◌, ◌≤◌, ◌-◌, ◌^◌, ◌++◌, [], ◌∷◌, take, length, vec_len, OnOk, OnErr};
 ghost use Rattle.std.proofs.Props.{props};
 ghost use Rattle.and_clauses.specs.Parts.{IsFormed, AllNarrow, AllNarrow-prop, part_shapes};
+ghost use Rattle.and_clauses.specs.Numbered.{met_by};
+ghost use Rattle.and_clauses.specs.Variables.{HasMet, AllNumbered, AllNumbered-prop};
 
+use crate::variables::Variables;
 use and_model::Text;
 use std::alloc::{AllocError, Global};
 
@@ -11,7 +14,8 @@ use std::alloc::{AllocError, Global};
 /// are parts with smaller numbers.
 #[derive(Drop)]
 pub(crate) enum DraftPart {
-    Variable(Text),
+    /// Its name, and its number by first occurrence.
+    Variable(Text, u32),
     Integer(i64),
     Compound { name: Text, arguments: Vec<u32> },
 }
@@ -25,16 +29,32 @@ pub struct ClauseDraft {
     pub(crate) parts: Vec<DraftPart>,
     /// The parts that are whole terms, and no arguments yet.
     pub(crate) finished: Vec<u32>,
+    variables: Variables,
     ghost few: { vec_len parts ≤ 4294967295 },
     ghost formed: { IsFormed (part_shapes parts.items) finished.items } by { Prim.hlevel props },
     ghost narrow: { AllNarrow (part_shapes parts.items) } by { AllNarrow-prop (part_shapes parts.items) },
+    ghost met: { HasMet variables (met_by [] (part_shapes parts.items)) } by { Prim.hlevel props },
+    ghost numbered: { AllNumbered [] parts.items } by { AllNumbered-prop [] parts.items },
+}
+
+/// A part of a draft as it is read: an occurrence of a variable with its number, a number, or a
+/// name with how many arguments it has, which are whole terms that end before it.
+#[derive(Clone, Copy)]
+pub enum Part<'a> {
+    Variable { number: u32, name: &'a [u8] },
+    Integer(i64),
+    Compound { name: &'a [u8], count: u8 },
 }
 
 impl ClauseDraft {
     ghost use Rattle.std.specs.Prelude.{◌+◌, drop, IsTrue, ◌↔◌};
     ghost use Rattle.and_syntax.specs.Written.{variable, integer, compound};
     ghost use Rattle.and_clauses.specs.Parts.{many};
-    ghost use Rattle.and_clauses.specs.Drafts.{draft_of};
+    ghost use Rattle.and_clauses.specs.Drafts.{draft_of, shapes_of, read_part, read_shape};
+    ghost use Rattle.and_clauses.specs.Parts.{arguments_of};
+    ghost use Rattle.and_clauses.specs.Parts;
+    ghost use Rattle.std.specs.Prelude.{get_or, true, false};
+    ghost use Rattle.and_syntax.specs.Written.{is_new, place};
 
     /// A draft of a clause whose first token is on that line. Takes no memory.
     pub fn new(alloc: Global, line: u32) -> ClauseDraft
@@ -45,6 +65,7 @@ impl ClauseDraft {
             line,
             parts: Vec::new(alloc),
             finished: Vec::new(alloc),
+            variables: Variables::new(alloc),
         }
     }
 
@@ -58,14 +79,51 @@ impl ClauseDraft {
             ≡ record d { finished = finished; parts = d.parts + 1 }) }
         ensures err { OnErr result (draft_of self.new ≡ draft_of self.old) }
     {
-        let name = Text::of(self.alloc, name)?;
+        match self.variables.find(name) {
+            Some(number) => self.variable_again(name, number),
+            None => self.new_variable(name),
+        }
+    }
+
+    /// Adds an occurrence of a variable that was met, whose number is known.
+    fn variable_again(&mut self, name: &[u8], number: u32) -> Result<(), AllocError>
+        requires room { (draft_of self.old).parts < 2 ^ 32 - 1 }
+        requires known { let met = met_by [] (shapes_of self.old) in
+            (is_new name.now met ≡ false) × (number ≡ place name.now met) }
+        ensures ok { let d = draft_of self.old in
+            let finished = d.finished ++ variable name.now ∷ [] in
+            OnOk result (draft_of self.new
+            ≡ record d { finished = finished; parts = d.parts + 1 }) }
+        ensures err { OnErr result (draft_of self.new ≡ draft_of self.old) }
+    {
+        let text = Text::of(self.alloc, name)?;
+        let part = DraftPart::Variable(text, number);
         let start = self.finished.len();
-        add_part(
-            &mut self.parts,
-            &mut self.finished,
-            DraftPart::Variable(name),
-            start,
-        )
+        add_part(&mut self.parts, &mut self.finished, part, start)
+    }
+
+    /// Adds the first occurrence of a variable.
+    fn new_variable(&mut self, name: &[u8]) -> Result<(), AllocError>
+        requires room { (draft_of self.old).parts < 2 ^ 32 - 1 }
+        requires new { is_new name.now (met_by [] (shapes_of self.old)) ≡ true }
+        ensures ok { let d = draft_of self.old in
+            let finished = d.finished ++ variable name.now ∷ [] in
+            OnOk result (draft_of self.new
+            ≡ record d { finished = finished; parts = d.parts + 1 }) }
+        ensures err { OnErr result (draft_of self.new ≡ draft_of self.old) }
+    {
+        let mark = self.variables.mark();
+        let text = Text::of(self.alloc, name)?;
+        self.variables.meet(self.alloc, name)?;
+        let part = DraftPart::Variable(text, mark.count);
+        let start = self.finished.len();
+        match add_part(&mut self.parts, &mut self.finished, part, start) {
+            Ok(()) => Ok(()),
+            Err(refused) => {
+                self.variables.cut(mark);
+                Err(refused)
+            }
+        }
     }
 
     /// Adds an integer. An error is want of memory, and leaves the draft as it was.
@@ -116,6 +174,59 @@ impl ClauseDraft {
         ensures { IsTrue result ↔ (length (draft_of self.now).finished ≡ 1) }
     {
         self.finished.len() == 1
+    }
+
+    /// The line that `new` was given. Takes no memory.
+    pub fn line(&self) -> u32
+        ensures { result ≡ (draft_of self.now).line }
+    {
+        self.line
+    }
+
+    /// How many parts there are. Takes no memory.
+    pub fn part_count(&self) -> u32
+        ensures { result ≡ (draft_of self.now).parts }
+    {
+        self.parts.len() as u32
+    }
+
+    /// The part of that number, in postfix order. Takes no memory.
+    pub fn part(&self, place: u32) -> Part<'_>
+        requires { place < (draft_of self.now).parts }
+        ensures { let shapes = shapes_of self.now in
+            let met = met_by [] (take place shapes) in
+            read_part result ≡ read_shape met (get_or shapes place (Parts.variable [])) }
+    {
+        match &self.parts[place as usize] {
+            DraftPart::Variable(name, number) => Part::Variable {
+                number: *number,
+                name: name.bytes(),
+            },
+            DraftPart::Integer(value) => Part::Integer(*value),
+            DraftPart::Compound { name, arguments } => Part::Compound {
+                name: name.bytes(),
+                count: arguments.len() as u8,
+            },
+        }
+    }
+
+    /// The parts that are the arguments of that one. Takes no memory.
+    pub fn arguments(&self, place: u32) -> &[u32]
+        requires { place < (draft_of self.now).parts }
+        ensures { result.now ≡ arguments_of (get_or (shapes_of self.now) place (Parts.variable [])) }
+    {
+        match &self.parts[place as usize] {
+            DraftPart::Compound { name: _, arguments } => arguments,
+            DraftPart::Variable(_, _) => &[],
+            DraftPart::Integer(_) => &[],
+        }
+    }
+
+    /// How many variables were met. Takes no memory.
+    pub(crate) fn variable_count(&self) -> usize
+        ensures { result ≡ length (met_by [] (part_shapes self.now.parts.items)) }
+    {
+        self.variables.count as usize
     }
 
     /// The one finished term, a part. Takes no memory.

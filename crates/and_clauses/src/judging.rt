@@ -1,29 +1,32 @@
 //! What a draft is as a clause or a query, and what is wrong with it.
 
-ghost use Rattle.std.specs.Prelude.{◌≡◌, ◌≤◌, ◌<◌, ◌+◌, ◌^◌, List, [], ◌∷◌, length};
-ghost use Rattle.std.specs.Prelude.{IfOk, IfErr, IfSome, Some, None, true, get_or};
-ghost use Rattle.and_program.specs.Skeletons.{Shape};
-ghost use Rattle.and_syntax.specs.Written.{nodes_of};
-ghost use Rattle.and_syntax.specs.Clauses.{is_built_in, head_of, body_of, asked_of};
+ghost use Rattle.std.specs.Prelude.{ℕ, suc, ◌≡◌, ◌<◌, ◌≤◌, ◌+◌, ◌-◌, ◌^◌, [], ◌∷◌, length, IfOk, IfErr, IfSome, Some};
+ghost use Rattle.std.specs.Prelude.{None};
+ghost use Rattle.std.specs.Prelude.{get_or};
+ghost use Rattle.and_syntax.specs.Written.{Written};
+ghost use Rattle.and_syntax.specs.Clauses.{Parts, is_built_in, alternatives_of, head_of, body_of as body_parts};
+ghost use Rattle.and_syntax.specs.Clauses.{asked_of as asked_parts};
+ghost use Rattle.and_syntax.specs.Tables.{Table, redefines, first_of, sizes, names_with, term_with, clause_fault};
+ghost use Rattle.and_syntax.specs.Tables.{query_fault};
 ghost use Rattle.and_program.specs.Nodes.{names_of};
-ghost use Rattle.and_clauses.specs.Numbered.{IsRead, met_by};
-ghost use Rattle.and_clauses.specs.Parts.{part_shapes, written_at, PartsFall, AllNarrow};
-ghost use Rattle.and_clauses.specs.Conjuncts.{AreItemsOf, GivesItems, body_parts};
-ghost use Rattle.and_clauses.specs.Judged.{sides_in, sides_at, functor_at, one_in, asked_at};
-ghost use Rattle.and_clauses.specs.Judged.{size_faults, faults_of_clause, faults_of_query, IsJudged};
-ghost use Rattle.and_clauses.specs.Faults.{fault_of, what_of};
-ghost use Rattle.and_syntax.specs.Tables.{redefines, too_big, first_of};
 ghost use Rattle.and_program.specs.Skeletons.{node_term};
-ghost use Rattle.std.specs.Option.{option_map};
-ghost use Rattle.and_model.specs.declared.limits.TheConstants.{MAX_VARIABLES};
+ghost use Rattle.and_clauses.specs.Parts.{part_shapes};
+ghost use Rattle.and_clauses.specs.Drafts.{draft_of};
+ghost use Rattle.and_clauses.specs.Bodies.{IsBody};
+ghost use Rattle.and_clauses.specs.Sorts.{shapes_under};
+ghost use Rattle.and_clauses.specs.Makes.{IsUnder, IsJudged};
+ghost use Rattle.and_clauses.specs.Verdicts.{IsBodyOf};
+ghost use Rattle.and_clauses.specs.Judged.{sides_in, sides_at, functor_at, one_in, asked_at};
+ghost use Rattle.and_clauses.specs.Faults.{fault_of};
 
+use crate::body::{Body, BodyToken, body_of};
 use crate::data::{TableFault, What};
-use crate::draft::DraftPart;
-use crate::items::items_of;
-use crate::numbering::{has_few_variables, number_of};
+use crate::draft::{ClauseDraft, DraftPart};
+use crate::numbering::number_of;
+use crate::sorting::{Sorted, lifted_nodes, sort_tokens};
 use and_model::Text;
 use and_model::builtins::NECK;
-use and_program::ItemNode;
+use and_model::limits::{MAX_CLAUSES, MAX_NODES, MAX_VARIABLES};
 use indexmap::IndexSet;
 use std::alloc::{AllocError, Global};
 
@@ -55,7 +58,7 @@ pub(crate) fn clause_sides(names: &IndexSet<Vec<u8>>, parts: &[DraftPart], root:
             arguments,
             root,
         ),
-        DraftPart::Variable(_) => Sides {
+        DraftPart::Variable(_, _) => Sides {
             head: root,
             body: None,
         },
@@ -92,7 +95,7 @@ fn head_functor(names: &IndexSet<Vec<u8>>, parts: &[DraftPart], head: u32) -> Op
             name: number_of(names, name.bytes()),
             arity: arguments.len(),
         }),
-        DraftPart::Variable(_) => None,
+        DraftPart::Variable(_, _) => None,
         DraftPart::Integer(_) => None,
     }
 }
@@ -104,7 +107,7 @@ pub(crate) fn asked(parts: &[DraftPart], root: u32) -> Option<u32>
 {
     match &parts[root as usize] {
         DraftPart::Compound { name: _, arguments } => one_of(arguments),
-        DraftPart::Variable(_) => None,
+        DraftPart::Variable(_, _) => None,
         DraftPart::Integer(_) => None,
     }
 }
@@ -158,138 +161,165 @@ fn redefinition(
     })
 }
 
-/// What there is too much of: variables, or nodes, which `fits` says there are not.
-fn excess(alloc: Global, parts: &[DraftPart], fits: bool) -> Result<Option<What>, AllocError>
-    ensures { let faults = size_faults (part_shapes parts.now) fits in
-        IfOk result (λ o. first_of faults ≡ option_map (λ what. too_big (what_of what)) o) }
-{
-    if !has_few_variables(alloc, parts)? {
-        return Ok(Some(What::Variables));
-    }
-    if !fits {
-        return Ok(Some(What::Nodes));
-    }
-    Ok(None)
+/// How much of a table is used.
+#[derive(Clone, Copy)]
+pub(crate) struct Used {
+    /// How many nodes are counted.
+    pub(crate) nodes: usize,
+    /// The last number of a clause or an alternative.
+    pub(crate) numbers: usize,
+    /// How many disjunctions there are.
+    pub(crate) disjunctions: usize,
 }
 
-/// The items of a body, if there is one; `None` where it has something that is refused.
-fn body_items(
-    alloc: Global,
-    names: &IndexSet<Vec<u8>>,
-    parts: &[DraftPart],
-    body: Option<u32>,
-    base: u32,
-) -> Result<Option<Vec<ItemNode>>, AllocError>
-    requires there { IfSome body (λ n. n < length parts.now) }
-    requires small { IfSome body (λ n. nodes_of (written_at (part_shapes parts.now) n) ≤ length parts.now) }
-    requires falls { PartsFall 0 (part_shapes parts.now) }
-    requires room { base + length parts.now < 2 ^ 32 }
-    ensures few { IfOk result (λ o. IfSome o (λ items. length items.items ≤ length parts.now)) }
-    ensures items { (ss : List Shape)
-        → IsRead ss base (names_of names.now.keys) (part_shapes parts.now)
-        → GivesItems ss (body_parts ss base body) result }
-{
-    match body {
-        Some(body) => items_of(alloc, names, parts, body, base),
-        None => Ok(Some(Vec::new(alloc))),
-    }
-}
-
-/// A clause or a query that is not refused: its head, a part of the draft, and its items, whose
-/// nodes are those behind `base`.
+/// A clause or a query that is not refused: its head, a part of the draft, the tokens of its body, what these fall
+/// into, and what is used with it.
 #[derive(Drop)]
 pub(crate) struct Judged {
     pub(crate) head: u32,
-    pub(crate) items: Vec<ItemNode>,
+    pub(crate) tokens: Vec<BodyToken>,
+    pub(crate) sorted: Sorted,
+    pub(crate) used: Used,
 }
 
-/// A draft as a clause. `fits` says whether its nodes fit behind `base`, and `room` whether one
-/// more clause may be there.
+/// Judges how much a clause or a query takes, in order: variables, nodes, numbers.
+fn sized(
+    alloc: Global,
+    draft: &ClauseDraft,
+    used: Used,
+    head: u32,
+    body: Body,
+) -> Result<Judged, TableFault>
+    requires few_nodes { used.nodes ≤ MAX_NODES }
+    requires numbered { 0 < body.next_clause }
+    requires body { IsBodyOf draft.now.parts.items body }
+    ensures judged { (T : Table) (w : Written) (ps : Parts) (c n : ℕ) → IsUnder T w (names_with T w) used
+        → (draft_of draft.now).finished ≡ w ∷ []
+        → IsBody (shapes_under (names_with T w) draft.now.parts.items) c T.disjunctions ps (Some body)
+        → body.next_clause ≡ suc (T.numbers + n)
+        → IfOk result (λ j. (first_of (sizes T w ps n) ≡ None) × IsJudged T w draft.now.parts.items ps c n j) }
+    ensures head { IfOk result (λ j. j.head ≡ head) }
+    ensures fault { (T : Table) (w : Written) (ps : Parts) (c n : ℕ) → IsUnder T w (names_with T w) used
+        → (draft_of draft.now).finished ≡ w ∷ []
+        → IsBody (shapes_under (names_with T w) draft.now.parts.items) c T.disjunctions ps (Some body)
+        → body.next_clause ≡ suc (T.numbers + n)
+        → IfErr result (λ e. IfSome (fault_of e) (λ f. first_of (sizes T w ps n) ≡ Some f)) }
+{
+    let parts = draft.parts.as_slice();
+    if draft.variable_count() > MAX_VARIABLES {
+        return Err(TableFault::TooBig {
+            what: What::Variables,
+        });
+    }
+    let room = MAX_NODES - used.nodes;
+    if parts.len() > room {
+        return Err(TableFault::TooBig { what: What::Nodes });
+    }
+    let sorted = sort_tokens(alloc, parts, &body.tokens)?;
+    let Some(lifted) = lifted_nodes(&sorted.disjunctions, room - parts.len()) else {
+        return Err(TableFault::TooBig { what: What::Nodes });
+    };
+    if body.next_clause > MAX_CLAUSES + 1 {
+        return Err(TableFault::TooBig {
+            what: What::Clauses,
+        });
+    }
+    Ok(with_nodes(used, head, body, sorted, parts.len() + lifted))
+}
+
+/// What was judged, with so many nodes more.
+fn with_nodes(used: Used, head: u32, body: Body, sorted: Sorted, nodes: usize) -> Judged
+    requires numbered { 0 < body.next_clause }
+    requires few { used.nodes + nodes < 2 ^ 64 }
+    ensures head { result.head ≡ head }
+    ensures tokens { result.tokens.items ≡ body.tokens.items }
+    ensures disjunctions { result.sorted.disjunctions.items ≡ sorted.disjunctions.items }
+    ensures outlines { result.sorted.outlines.items ≡ sorted.outlines.items }
+    ensures used { result.used ≡ record {
+      nodes = used.nodes + nodes;
+      numbers = body.next_clause - 1;
+      disjunctions = body.next_disjunction;
+    } }
+{
+    let Body {
+        tokens,
+        next_clause,
+        next_disjunction,
+    } = body;
+    Judged {
+        head,
+        tokens,
+        sorted,
+        used: Used {
+            nodes: used.nodes + nodes,
+            numbers: next_clause - 1,
+            disjunctions: next_disjunction,
+        },
+    }
+}
+
+/// A draft as a clause, under the names of a table that has so much.
 pub(crate) fn judge_clause(
     alloc: Global,
     names: &IndexSet<Vec<u8>>,
-    parts: &[DraftPart],
-    root: u32,
-    base: u32,
-    fits: bool,
-    room: bool,
+    draft: &ClauseDraft,
+    used: Used,
 ) -> Result<Judged, TableFault>
-    requires there { root < length parts.now }
-    requires falls { PartsFall 0 (part_shapes parts.now) }
-    requires small { nodes_of (written_at (part_shapes parts.now) root) ≤ length parts.now }
-    requires narrow { AllNarrow (part_shapes parts.now) }
-    requires below { base + length parts.now < 2 ^ 32 }
-    ensures ok { (ss : List Shape)
-        → IsRead ss base (names_of names.now.keys) (part_shapes parts.now)
-        → let t = node_term ss (base + root) in let shapes = part_shapes parts.now in
-        let faults = faults_of_clause (names_of names.now.keys) t shapes fits room in
-        IfOk result (λ j. (first_of faults ≡ None)
-        × IsJudged ss (head_of t) (body_of t) (base + j.head) j.items.items) }
-    ensures few { IfOk result (λ j. (length j.items.items ≤ length parts.now)
-        × (j.head < length parts.now) × (fits ≡ true)
-        × (length (met_by [] (part_shapes parts.now)) ≤ MAX_VARIABLES) × (room ≡ true)) }
-    ensures fault { (ss : List Shape)
-        → IsRead ss base (names_of names.now.keys) (part_shapes parts.now)
-        → let t = node_term ss (base + root) in let shapes = part_shapes parts.now in
-        let faults = faults_of_clause (names_of names.now.keys) t shapes fits room in
-        IfErr result (λ e. IfSome (fault_of e) (λ f. first_of faults ≡ Some f)) }
+    requires one { length (draft_of draft.now).finished ≡ 1 }
+    requires few_nodes { used.nodes ≤ MAX_NODES }
+    requires few_clauses { used.numbers ≤ MAX_CLAUSES }
+    requires few_disjunctions { used.disjunctions ≤ used.nodes }
+    ensures judged { (T : Table) (w : Written) → IsUnder T w (names_of names.now.keys) used
+        → (draft_of draft.now).finished ≡ w ∷ [] → let ps = body_parts (term_with T w) in
+        IfOk result (λ j. (clause_fault T w ≡ None)
+        × IsJudged T w draft.now.parts.items ps (suc (suc T.numbers)) (suc (alternatives_of ps)) j) }
+    ensures head { (T : Table) (w : Written) → IsUnder T w (names_of names.now.keys) used
+        → (draft_of draft.now).finished ≡ w ∷ [] → let parts = draft.now.parts.items in
+        IfOk result (λ j. (j.head < length parts)
+        × (node_term (shapes_under (names_with T w) parts) j.head ≡ head_of (term_with T w))) }
+    ensures fault { (T : Table) (w : Written) → IsUnder T w (names_of names.now.keys) used
+        → (draft_of draft.now).finished ≡ w ∷ []
+        → IfErr result (λ e. IfSome (fault_of e) (λ f. clause_fault T w ≡ Some f)) }
 {
-    let sides = clause_sides(names, parts, root);
+    let parts = draft.parts.as_slice();
+    let sides = clause_sides(names, parts, draft.root());
     let Some(functor) = head_functor(names, parts, sides.head) else {
         return Err(TableFault::NotPure);
     };
-    let Some(items) = body_items(alloc, names, parts, sides.body, base)? else {
+    let clause = used.numbers + 2;
+    let Some(body) = body_of(alloc, names, parts, sides.body, clause, used.disjunctions)? else {
         return Err(TableFault::NotPure);
     };
     if already_means(&functor) {
         return Err(redefinition(alloc, names, &functor)?);
     }
-    if let Some(what) = excess(alloc, parts, fits)? {
-        return Err(TableFault::TooBig { what });
-    }
-    if !room {
-        return Err(TableFault::TooBig {
-            what: What::Clauses,
-        });
-    }
-    Ok(Judged {
-        head: sides.head,
-        items,
-    })
+    sized(alloc, draft, used, sides.head, body)
 }
 
-/// The items of a draft as a query, whose nodes are those behind `base`. `fits` says whether
-/// these fit.
+/// A draft as a query, under the names of a table that has so much. (Its head is no part: 0 stands for it.)
 pub(crate) fn judge_query(
     alloc: Global,
     names: &IndexSet<Vec<u8>>,
-    parts: &[DraftPart],
-    root: u32,
-    base: u32,
-    fits: bool,
-) -> Result<Vec<ItemNode>, TableFault>
-    requires there { root < length parts.now }
-    requires falls { PartsFall 0 (part_shapes parts.now) }
-    requires small { nodes_of (written_at (part_shapes parts.now) root) ≤ length parts.now }
-    requires below { base + length parts.now < 2 ^ 32 }
-    ensures ok { (ss : List Shape)
-        → IsRead ss base (names_of names.now.keys) (part_shapes parts.now)
-        → let t = node_term ss (base + root) in
-        IfOk result (λ items. (first_of (faults_of_query t (part_shapes parts.now) fits) ≡ None)
-        × AreItemsOf ss (asked_of t) items.items) }
-    ensures few { IfOk result (λ items. (length items.items ≤ length parts.now) × (fits ≡ true)
-        × (length (met_by [] (part_shapes parts.now)) ≤ MAX_VARIABLES)) }
-    ensures fault { (ss : List Shape)
-        → IsRead ss base (names_of names.now.keys) (part_shapes parts.now)
-        → let faults = faults_of_query (node_term ss (base + root)) (part_shapes parts.now) fits in
-        IfErr result (λ e. IfSome (fault_of e) (λ f. first_of faults ≡ Some f)) }
+    draft: &ClauseDraft,
+    used: Used,
+) -> Result<Judged, TableFault>
+    requires one { length (draft_of draft.now).finished ≡ 1 }
+    requires few_nodes { used.nodes ≤ MAX_NODES }
+    requires few_clauses { used.numbers ≤ MAX_CLAUSES }
+    requires few_disjunctions { used.disjunctions ≤ used.nodes }
+    ensures judged { (T : Table) (w : Written) → IsUnder T w (names_of names.now.keys) used
+        → (draft_of draft.now).finished ≡ w ∷ [] → T.asked ≡ None → let ps = asked_parts (term_with T w) in
+        IfOk result (λ j. (query_fault T w ≡ None)
+        × IsJudged T w draft.now.parts.items ps (suc T.numbers) (alternatives_of ps) j) }
+    ensures fault { (T : Table) (w : Written) → IsUnder T w (names_of names.now.keys) used
+        → (draft_of draft.now).finished ≡ w ∷ [] → T.asked ≡ None
+        → IfErr result (λ e. IfSome (fault_of e) (λ f. query_fault T w ≡ Some f)) }
 {
-    let body = asked(parts, root);
-    let Some(items) = body_items(alloc, names, parts, body, base)? else {
+    let parts = draft.parts.as_slice();
+    let part = asked(parts, draft.root());
+    let clause = used.numbers + 1;
+    let Some(body) = body_of(alloc, names, parts, part, clause, used.disjunctions)? else {
         return Err(TableFault::NotPure);
     };
-    if let Some(what) = excess(alloc, parts, fits)? {
-        return Err(TableFault::TooBig { what });
-    }
-    Ok(items)
+    sized(alloc, draft, used, 0, body)
 }

@@ -2,21 +2,24 @@
 //!
 //! A `ClauseDraft` is one clause as a term. A `ClauseTable` takes drafts in the order of the text,
 //! refuses what is no pure clause, and keeps the others as nodes that name each other. Sealed, it is
-//! a `Loaded` program.
+//! a `Loaded` program, in which each disjunction is a predicate of its own.
 #![tactic(auto)]
 
+mod body;
 pub mod data;
 pub mod draft;
 mod items;
 mod judging;
+mod lifting;
 mod making;
-mod nodes;
 mod numbering;
+mod sorting;
 pub mod table;
 mod unknown;
+mod variables;
 
 pub use data::{SealFault, TableFault, What};
-pub use draft::ClauseDraft;
+pub use draft::{ClauseDraft, Part};
 pub use table::ClauseTable;
 
 // What a sealed table is read by.

@@ -1,16 +1,17 @@
 //! The numbers of names in a table, and of variables in a clause.
 
-ghost use Rattle.std.specs.Prelude.{◌≡◌, ◌<◌, [], ◌∷◌, ◌++◌, length, None, Some, IfOk, OnOk, if◌then◌else◌, leb, reverse};
+ghost use Rattle.std.specs.Prelude.{◌≡◌, ◌<◌, ◌+◌, ◌^◌, [], ◌++◌, length, IfOk, OnOk, reverse};
 ghost use Rattle.and_model.specs.Programs.{builtin_names};
-ghost use Rattle.and_syntax.specs.Written.{is_new, place, including, named, variable_number};
+ghost use Rattle.and_syntax.specs.Written.{place, including, named};
+ghost use Rattle.and_syntax.specs.Tables.{disjunction_name, with_disjunctions};
+ghost use Rattle.and_clauses.specs.Lifts.{places_from, places_in};
+ghost use Rattle.and_clauses.specs.Variables.{AllNumbered, IsNumbered};
 ghost use Rattle.and_clauses.specs.Parts.{part_shapes, part_shape, arguments_of, written_at, PartsFall};
 ghost use Rattle.and_program.specs.Nodes.{names_of};
 ghost use Rattle.and_clauses.specs.Numbered.{bytes_of, including_all, named_by, met_by, met_with, Extends};
-ghost use Rattle.and_model.specs.declared.limits.TheConstants.{MAX_VARIABLES};
 
 use crate::draft::DraftPart;
-use and_model::Text;
-use and_model::limits::MAX_VARIABLES;
+use and_model::{NameNo, Text};
 use indexmap::IndexSet;
 use std::alloc::{AllocError, Global};
 
@@ -69,7 +70,8 @@ pub(crate) fn note_names(
 ) -> Result<(), AllocError>
     requires there { root < length parts.now }
     requires falls { PartsFall 0 (part_shapes parts.now) }
-    ensures ok { OnOk result (names_of names.new.keys ≡ named (names_of names.old.keys) (written_at (part_shapes parts.now) root)) }
+    ensures ok { OnOk result (names_of names.new.keys
+        ≡ named (names_of names.old.keys) (written_at (part_shapes parts.now) root)) }
     ensures kept { Extends (names_of names.old.keys) (names_of names.new.keys) }
 {
     let mut pending = Vec::new(alloc);
@@ -89,7 +91,8 @@ fn note_part(
     part: &DraftPart,
 ) -> Result<(), AllocError>
     ensures names { OnOk result (names_of names.new.keys ≡ named_by (names_of names.old.keys) (part_shape part.now)) }
-    ensures pending { OnOk result (reverse pending.new.items ≡ arguments_of (part_shape part.now) ++ reverse pending.old.items) }
+    ensures pending { OnOk result (reverse pending.new.items
+        ≡ arguments_of (part_shape part.now) ++ reverse pending.old.items) }
     ensures kept { Extends (names_of names.old.keys) (names_of names.new.keys) }
 {
     match part {
@@ -97,13 +100,13 @@ fn note_part(
             note_name(alloc, names, name.bytes())?;
             push_reversed(pending, arguments)
         }
-        DraftPart::Variable(_) => Ok(()),
+        DraftPart::Variable(_, _) => Ok(()),
         DraftPart::Integer(_) => Ok(()),
     }
 }
 
 /// Puts numbers at the end, the last first.
-fn push_reversed(pending: &mut Vec<u32>, numbers: &[u32]) -> Result<(), AllocError>
+pub(crate) fn push_reversed(pending: &mut Vec<u32>, numbers: &[u32]) -> Result<(), AllocError>
     ensures { OnOk result (reverse pending.new.items ≡ numbers.now ++ reverse pending.old.items) }
 {
     let mut left = numbers.len();
@@ -114,60 +117,29 @@ fn push_reversed(pending: &mut Vec<u32>, numbers: &[u32]) -> Result<(), AllocErr
     Ok(())
 }
 
-/// The number of a variable at its next occurrence in a clause. An error is want of memory.
-pub(crate) fn variable_at(
-    alloc: Global,
-    met: &mut Vec<Text>,
-    name: &[u8],
-) -> Result<usize, AllocError>
-    ensures number { IfOk result (λ n. n ≡ variable_number name.now met.old.items) }
-    ensures met { let old = met.old.items in
-        OnOk result (met.new.items ≡ (if is_new name.now old then old ++ name.now ∷ [] else old)) }
+/// The written names of the variables of a draft with these parts, by their numbers. An error is want of memory.
+pub(crate) fn written_names(alloc: Global, parts: &[DraftPart]) -> Result<Vec<Text>, AllocError>
+    requires numbered { AllNumbered [] parts.now }
+    requires room { length parts.now < 2 ^ 32 }
+    ensures { IfOk result (λ names. names.items ≡ met_by [] (part_shapes parts.now)) }
 {
-    if let Some(number) = find(met, name) {
-        return Ok(number);
-    }
-    let number = met.len();
-    met.push(Text::of(alloc, name)?)?;
-    Ok(number)
-}
-
-/// The number of the variable of that name among these, where it is no new one.
-fn find(variables: &[Text], name: &[u8]) -> Option<usize>
-    ensures { result ≡ (if is_new name.now variables.now then None else Some (place name.now variables.now)) }
-{
-    if name == b"_".as_slice() {
-        return None;
-    }
-    for (number, variable) in variables.iter().enumerate() {
-        if name == variable.bytes() {
-            return Some(number);
-        }
-    }
-    None
-}
-
-/// Whether the parts have no more variables than a clause may have. An error is want of memory.
-pub(crate) fn has_few_variables(alloc: Global, parts: &[DraftPart]) -> Result<bool, AllocError>
-    ensures { IfOk result (λ few. few ≡ leb (length (met_by [] (part_shapes parts.now))) MAX_VARIABLES) }
-{
-    let mut met = Vec::new(alloc);
+    let mut names = Vec::new(alloc);
     for part in parts {
-        meet(alloc, &mut met, part)?;
-        if met.len() > MAX_VARIABLES {
-            return Ok(false);
-        }
+        note_variable(alloc, &mut names, part)?;
     }
-    Ok(true)
+    Ok(names)
 }
 
-/// Adds the variable of a part to those that were met, where it is a new one.
-fn meet(alloc: Global, met: &mut Vec<Text>, part: &DraftPart) -> Result<(), AllocError>
-    ensures { OnOk result (met.new.items ≡ met_with met.old.items (part_shape part.now)) }
+/// Adds the name of a part's variable, where it is the next one.
+fn note_variable(alloc: Global, names: &mut Vec<Text>, part: &DraftPart) -> Result<(), AllocError>
+    requires { IsNumbered names.old.items part.now }
+    ensures { OnOk result (names.new.items ≡ met_with names.old.items (part_shape part.now)) }
 {
     match part {
-        DraftPart::Variable(name) => {
-            variable_at(alloc, met, name.bytes())?;
+        DraftPart::Variable(name, number) => {
+            if *number as usize == names.len() {
+                names.push(Text::of(alloc, name.bytes())?)?;
+            }
             Ok(())
         }
         DraftPart::Integer(_) => Ok(()),
@@ -176,4 +148,45 @@ fn meet(alloc: Global, met: &mut Vec<Text>, part: &DraftPart) -> Result<(), Allo
             arguments: _,
         } => Ok(()),
     }
+}
+
+/// Numbers the names of the predicates to which `count` disjunctions are lifted, the first of which is that number, and
+/// answers the numbers of these names. An error is want of memory; names may then have been numbered.
+pub(crate) fn note_disjunctions(
+    alloc: Global,
+    names: &mut IndexSet<Vec<u8>>,
+    first: usize,
+    count: usize,
+) -> Result<Vec<NameNo>, AllocError>
+    requires few_names { length (names_of names.old.keys) + count < 2 ^ 32 }
+    requires few { first + count < 2 ^ 64 }
+    ensures names { OnOk result (names_of names.new.keys ≡ with_disjunctions first count (names_of names.old.keys)) }
+    ensures numbers { IfOk result (λ ns. places_in ns.items ≡ places_from (names_of names.new.keys) first count) }
+    ensures kept { Extends (names_of names.old.keys) (names_of names.new.keys) }
+{
+    let mut numbers = Vec::new(alloc);
+    for place in 0..count {
+        let number = note_disjunction(alloc, names, first + place)?;
+        numbers.push(NameNo(number as u32))?;
+    }
+    Ok(numbers)
+}
+
+/// Numbers the name of the predicate to which a disjunction is lifted, the byte FF and its number, and answers that
+/// name's number. An error is want of memory.
+pub(crate) fn note_disjunction(
+    alloc: Global,
+    names: &mut IndexSet<Vec<u8>>,
+    disjunction: usize,
+) -> Result<usize, AllocError>
+    ensures names { OnOk result (names_of names.new.keys
+        ≡ including (names_of names.old.keys) (disjunction_name disjunction)) }
+    ensures number { IfOk result (λ n. n ≡ place (disjunction_name disjunction) (names_of names.new.keys)) }
+    ensures kept { Extends (names_of names.old.keys) (names_of names.new.keys) }
+{
+    let mut name = Vec::new(alloc);
+    name.push(0xFF)?;
+    name.extend_from_slice(itoa::Buffer::new().format(disjunction).as_bytes())?;
+    note_name(alloc, names, &name)?;
+    Ok(number_of(names, &name))
 }

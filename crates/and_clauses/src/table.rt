@@ -1,38 +1,45 @@
 //! The clauses of a text, in a table.
 
-ghost use Rattle.std.specs.Prelude.{◌≡◌};
+ghost use Rattle.std.specs.Prelude.{◌≡◌, ◌∷◌, [], length, Option, Some, None, IfOk, OnErr};
+ghost use Rattle.and_syntax.specs.Written.{Written};
+ghost use Rattle.and_syntax.specs.Tables.{empty, clause_fault, query_fault, with_clause, with_query};
 ghost use Rattle.and_program.specs.Nodes.{shapes_of, names_of};
-ghost use Rattle.and_clauses.specs.Kept.{IsKept-prop};
-ghost use Rattle.and_clauses.specs.Kept.{IsKept};
+ghost use Rattle.and_program.specs.declared.entry.ClauseEntry.{ClauseEntry};
+ghost use Rattle.and_clauses.specs.Added.{RefusesClause, RefusesQuery};
+ghost use Rattle.and_clauses.specs.Adds.{with_all};
+ghost use Rattle.and_clauses.specs.Drafts.{draft_of};
+ghost use Rattle.and_clauses.specs.Kept.{IsKept, IsKept-prop};
+ghost use Rattle.and_clauses.specs.Makes.{Keeps, HasRoom, Grows};
 
-use crate::data::{Asked, SealFault, TableFault};
+use crate::data::{Added, SealFault, TableFault};
 use crate::draft::ClauseDraft;
-use crate::making::{clause_entry, query_entry};
+use crate::judging::Used;
+use crate::making::{Lists, clause_added, query_added};
 use crate::numbering::built_in_names;
 use crate::unknown::{first_unknown_call, unknown_fault};
-use and_model::limits::MAX_CLAUSES;
 use and_model::{ClauseNo, NameNo};
 use and_program::{ClauseEntry, Loaded, Node, clause_numbers};
-use indexmap::IndexSet;
 use std::alloc::{AllocError, Global};
+use std::snapshot::Snapshot;
 
 /// The clauses of a text as far as it was read, and its query.
 #[derive(Drop)]
 pub struct ClauseTable {
     alloc: Global,
-    pub(crate) names: IndexSet<Vec<u8>>,
-    /// Node 0 is the atom `true`, the head of a query.
-    pub(crate) nodes: Vec<Node>,
-    pub(crate) clauses: Vec<ClauseEntry>,
-    pub(crate) query: Option<Asked>,
-    ghost kept: { IsKept (shapes_of nodes.items) clauses.items query (names_of names.keys) } by { IsKept-prop (shapes_of nodes.items) clauses.items query (names_of names.keys) },
+    pub(crate) lists: Lists,
+    pub(crate) query: Option<ClauseEntry>,
+    pub(crate) used: Used,
+    /// What was added, which contracts alone read.
+    pub(crate) added: Vec<Added>,
+    ghost kept: { IsKept (shapes_of lists.nodes.items) lists.clauses.items query lists.calls.items
+        (names_of lists.names.keys)
+        used (with_all empty added.items) } by { IsKept-prop (shapes_of lists.nodes.items) lists.clauses.items query
+            lists.calls.items (names_of lists.names.keys) used (with_all empty added.items) },
 }
 
 impl ClauseTable {
-    ghost use Rattle.std.specs.Prelude.{length, IfOk, IfErr, OnErr, IsTrue};
-    ghost use Rattle.and_syntax.specs.Tables.{empty};
-    ghost use Rattle.and_clauses.specs.Added.{AddsClause, RefusesClause, SetsQuery, RefusesQuery};
-    ghost use Rattle.and_clauses.specs.Drafts.{draft_of};
+    ghost use Rattle.std.specs.Prelude.{IfErr, IsTrue};
+    ghost use Rattle.and_clauses.specs.Added.{AddsClause, SetsQuery};
     ghost use Rattle.and_clauses.specs.Views.{table_of, is_query};
     ghost use Rattle.and_program.specs.Loaded.{program_of};
     ghost use Rattle.and_clauses.specs.Sealing.{Seals, Refuses};
@@ -49,15 +56,25 @@ impl ClauseTable {
         let names = built_in_names(alloc)?;
         Ok(ClauseTable {
             alloc,
-            names,
-            nodes,
-            clauses: Vec::new(alloc),
+            lists: Lists {
+                names,
+                nodes,
+                clauses: Vec::new(alloc),
+                calls: Vec::new(alloc),
+            },
             query: None,
+            used: Used {
+                nodes: 0,
+                numbers: 0,
+                disjunctions: 0,
+            },
+            added: Vec::new(alloc),
         })
     }
 
     /// Adds the clause of a draft, and answers its number. A draft that is a compound `:-` of two
-    /// arguments has the first as its head and the second as its body; any other is a head.
+    /// arguments has the first as its head and the second as its body; any other is a head. Its
+    /// alternatives take the numbers behind it.
     ///
     /// Refused, the table is as it was.
     pub fn add_clause(&mut self, draft: ClauseDraft) -> Result<ClauseNo, TableFault>
@@ -66,27 +83,28 @@ impl ClauseTable {
         ensures fault { RefusesClause (table_of self.old) (draft_of draft) result }
         ensures refused { OnErr result (table_of self.new ≡ table_of self.old) }
     {
-        let known = self.names.len();
-        let kept = self.nodes.len();
-        let room = self.clauses.len() < MAX_CLAUSES;
-        match clause_entry(self.alloc, &mut self.names, &mut self.nodes, &draft, room) {
-            Ok(entry) => match self.clauses.push(entry) {
-                Ok(()) => Ok(ClauseNo(self.clauses.len() as u16)),
-                Err(_) => {
-                    self.names.truncate(known);
-                    self.nodes.truncate(kept);
-                    Err(TableFault::Memory)
-                }
-            },
+        let lengths = self.lists.lengths();
+        let number = self.used.numbers + 1;
+        match add_clause(
+            self.alloc,
+            &mut self.lists,
+            &mut self.added,
+            &draft,
+            self.used,
+        ) {
+            Ok(used) => {
+                self.used = used;
+                Ok(ClauseNo(number as u16))
+            }
             Err(fault) => {
-                self.names.truncate(known);
-                self.nodes.truncate(kept);
+                self.lists.cut(lengths);
                 Err(fault)
             }
         }
     }
 
-    /// Sets the query of a draft, the one argument of a compound `?-`.
+    /// Sets the query of a draft, the one argument of a compound `?-`. Its alternatives take the
+    /// next numbers.
     ///
     /// Refused, the table is as it was.
     pub fn set_query(&mut self, draft: ClauseDraft) -> Result<(), TableFault>
@@ -98,43 +116,100 @@ impl ClauseTable {
         if self.query.is_some() {
             return Err(TableFault::SecondQuery);
         }
-        let known = self.names.len();
-        let kept = self.nodes.len();
-        match query_entry(self.alloc, &mut self.names, &mut self.nodes, &draft) {
-            Ok(query) => {
-                let before = self.clauses.len() as u32;
-                self.query = Some(Asked { query, before });
+        let lengths = self.lists.lengths();
+        match set_query(
+            self.alloc,
+            &mut self.lists,
+            &mut self.added,
+            &draft,
+            self.used,
+        ) {
+            Ok((query, used)) => {
+                self.query = Some(query);
+                self.used = used;
                 Ok(())
             }
             Err(fault) => {
-                self.names.truncate(known);
-                self.nodes.truncate(kept);
+                self.lists.cut(lengths);
                 Err(fault)
             }
         }
     }
 
-    /// The program of the table, whose query is there and whose calls all have clauses.
+    /// The program of the table, whose query is there and whose calls all have clauses. Each
+    /// disjunction was lifted to a predicate of its own.
     pub fn seal(self) -> Result<Loaded, SealFault>
         ensures sealed { IfOk result (λ l. Seals (table_of self) (program_of l)) }
         ensures refused { IfErr result (λ fault. Refuses (table_of self) fault) }
     {
         let ClauseTable {
-            names,
-            nodes,
-            clauses,
+            alloc,
+            lists,
             query,
             ..
         } = self;
-        let Some(asked) = query else {
+        let Lists {
+            names,
+            nodes,
+            clauses,
+            calls,
+        } = lists;
+        let Some(query) = query else {
             return Err(SealFault::NoQuery);
         };
-        let alloc = *nodes.allocator();
         let numbers = clause_numbers(alloc, &nodes, &clauses)?;
-        let Asked { query, before } = asked;
-        match first_unknown_call(&nodes, &numbers, &clauses, &query, before as usize) {
-            Some(call) => Err(unknown_fault(alloc, &names, &nodes, call)?),
+        match first_unknown_call(&numbers, &calls) {
+            Some(call) => Err(unknown_fault(alloc, &names, call)?),
             None => Ok(Loaded::new(nodes, clauses, query, names, numbers)),
         }
     }
+}
+
+/// Adds a draft to these lists as a clause. Refused, they may have grown, and nothing was added.
+fn add_clause(
+    alloc: Global,
+    lists: &mut Lists,
+    added: &mut Vec<Added>,
+    draft: &ClauseDraft,
+    used: Used,
+) -> Result<Used, TableFault>
+    requires one { length (draft_of draft.now).finished ≡ 1 }
+    requires room { HasRoom (shapes_of lists.old.nodes.items) (names_of lists.old.names.keys) used }
+    ensures added { (query : Option ClauseEntry) (w : Written) → let T = with_all empty added.old.items in
+        let U = with_all empty added.new.items in
+        Keeps lists.old query used T → (draft_of draft.now).finished ≡ w ∷ []
+        → IfOk result (λ now. (clause_fault T w ≡ None) × (U ≡ with_clause T w draft.now.line)
+        × Keeps lists.new query now U) }
+    ensures fault { (query : Option ClauseEntry) → let T = with_all empty added.old.items in
+        Keeps lists.old query used T → RefusesClause T (draft_of draft.now) result }
+    ensures grown { Grows lists.old lists.new }
+    ensures kept { OnErr result (added.new.items ≡ added.old.items) }
+{
+    let used = clause_added(alloc, lists, draft, used)?;
+    added.push(Added::Clause(Snapshot::of(draft)))?;
+    Ok(used)
+}
+
+/// Adds a draft to these lists as a query. Refused, they may have grown, and nothing was added.
+fn set_query(
+    alloc: Global,
+    lists: &mut Lists,
+    added: &mut Vec<Added>,
+    draft: &ClauseDraft,
+    used: Used,
+) -> Result<(ClauseEntry, Used), TableFault>
+    requires one { length (draft_of draft.now).finished ≡ 1 }
+    requires room { HasRoom (shapes_of lists.old.nodes.items) (names_of lists.old.names.keys) used }
+    ensures set { (w : Written) → let T = with_all empty added.old.items in let U = with_all empty added.new.items in
+        Keeps lists.old None used T → (draft_of draft.now).finished ≡ w ∷ []
+        → IfOk result (λ set. (query_fault T w ≡ None) × (U ≡ with_query T w draft.now.line)
+        × Keeps lists.new (Some set.0) set.1 U) }
+    ensures fault { let T = with_all empty added.old.items in
+        Keeps lists.old None used T → RefusesQuery T (draft_of draft.now) result }
+    ensures grown { Grows lists.old lists.new }
+    ensures kept { OnErr result (added.new.items ≡ added.old.items) }
+{
+    let set = query_added(alloc, lists, draft, used)?;
+    added.push(Added::Query(Snapshot::of(draft)))?;
+    Ok(set)
 }

@@ -1,164 +1,140 @@
 //! Calls of predicates without a clause.
 
-ghost use Rattle.std.specs.Prelude.{◌≡◌, ◌≤◌, ◌∷◌, ◌++◌, [], ℕ, List, map, length, None, Some, take, drop, IfOk};
-ghost use Rattle.std.specs.Option.{option_map};
-ghost use Rattle.std.specs.List.{list_any};
-ghost use Rattle.and_model.specs.Lines.{Bytes};
-ghost use Rattle.and_model.specs.Programs.{Clause, same_predicate};
-ghost use Rattle.and_program.specs.Skeletons.{node_term, item_of};
-ghost use Rattle.and_syntax.specs.Tables.{first_unknown, unknown_in};
-ghost use Rattle.and_program.specs.Items.{node_item};
-ghost use Rattle.and_program.specs.Kept.{AllWithin};
-ghost use Rattle.and_program.specs.Nodes.{shapes_of, names_of, entry_clause};
+ghost use Rattle.std.specs.Prelude.{◌≡◌, ◌≤◌, ◌<◌, ◌^◌, ℕ, List, [], ◌∷◌, map, ◌++◌, take, length, OnOk, IfOk};
+ghost use Rattle.and_model.specs.Programs.{Clause};
+ghost use Rattle.and_program.specs.Nodes.{names_of};
 ghost use Rattle.and_program.specs.Predicates.{Finds};
-ghost use Rattle.and_clauses.specs.Unknown.{unknown_at};
+ghost use Rattle.and_program.specs.Skeletons.{node_term};
+ghost use Rattle.and_clauses.specs.Parts.{part_shapes, PartsFall};
+ghost use Rattle.and_clauses.specs.Marks.{mark_of, marks_in, calls_in_marks};
+ghost use Rattle.and_clauses.specs.Sorts.{shapes_under, TokenThere, TokensThere};
+ghost use Rattle.and_clauses.specs.Kept.{call_at};
+ghost use Rattle.and_clauses.specs.Unknown.{unknown_at, first_called, goal_in};
 ghost use Rattle.and_clauses.specs.Sealing.{IsUnknown};
 
-use crate::data::SealFault;
+use crate::body::BodyToken;
+use crate::data::{Called, SealFault};
+use crate::draft::DraftPart;
+use crate::numbering::number_of;
 use and_model::{NameNo, NodeNo, Text};
-use and_program::{
-    ClauseEntry, ClauseNumbers, ItemNode, Node, Predicate, clauses_at, name_at, predicate_at,
-};
+use and_program::{ClauseNumbers, ItemNode, Predicate, clauses_at, name_at};
 use indexmap::IndexSet;
 use std::alloc::{AllocError, Global};
 
-/// A call without a clause, and the line of the clause that calls.
-#[derive(Clone, Copy)]
-pub(crate) struct UnknownCall {
-    pub(crate) goal: NodeNo,
-    pub(crate) line: u32,
-}
-
-/// Whether the predicate of a goal has a clause.
-fn is_known(nodes: &[Node], found: &ClauseNumbers, goal: NodeNo) -> bool
-    ensures { (cs : List Clause) → Finds found.now cs
-        → let call = node_term (shapes_of nodes.now) goal.0 in
-        result ≡ list_any (λ c. same_predicate call c.head) cs }
+/// Adds what the calls of a body call, in order, on that line. An error is want of memory; some may then have been
+/// added.
+pub(crate) fn append_calls(
+    calls: &mut Vec<Called>,
+    names: &IndexSet<Vec<u8>>,
+    parts: &[DraftPart],
+    tokens: &[BodyToken],
+    line: u32,
+) -> Result<(), AllocError>
+    requires there { TokensThere (length parts.now) tokens.now }
+    requires falls { PartsFall 0 (part_shapes parts.now) }
+    requires few_names { length (names_of names.now.keys) < 2 ^ 32 }
+    ensures calls { let ss = shapes_under (names_of names.now.keys) parts.now in
+        OnOk result (calls.new.items
+        ≡ calls.old.items ++ map (call_at line) (calls_in_marks (marks_in ss tokens.now))) }
+    ensures kept { take (length calls.old.items) calls.new.items ≡ calls.old.items }
 {
-    match predicate_at(nodes, goal) {
-        Some(predicate) => !clauses_at(found, predicate).is_empty(),
-        None => false,
+    for token in tokens {
+        append_call(calls, names, parts, token, line)?;
     }
+    Ok(())
 }
 
-/// The goal of an item, where it is a call without a clause.
-fn unknown_goal(nodes: &[Node], found: &ClauseNumbers, item: &ItemNode) -> Option<NodeNo>
-    ensures { (cs : List Clause) → Finds found.now cs
-        → let shapes = shapes_of nodes.now in
-        option_map (λ n. node_term shapes n.0) result
-        ≡ first_unknown cs (item_of shapes (node_item item.now) ∷ []) }
+/// Adds what a token calls, if it is a call. An error is want of memory, and leaves the calls as they were.
+fn append_call(
+    calls: &mut Vec<Called>,
+    names: &IndexSet<Vec<u8>>,
+    parts: &[DraftPart],
+    token: &BodyToken,
+    line: u32,
+) -> Result<(), AllocError>
+    requires there { TokenThere (length parts.now) token.now }
+    requires falls { PartsFall 0 (part_shapes parts.now) }
+    requires few_names { length (names_of names.now.keys) < 2 ^ 32 }
+    ensures calls { let ss = shapes_under (names_of names.now.keys) parts.now in
+        OnOk result (calls.new.items
+        ≡ calls.old.items ++ map (call_at line) (calls_in_marks (mark_of ss token.now ∷ []))) }
+    ensures kept { take (length calls.old.items) calls.new.items ≡ calls.old.items }
 {
-    match item {
-        ItemNode::Call { goal } => {
-            if is_known(nodes, found, *goal) {
-                None
-            } else {
-                Some(*goal)
-            }
+    match goal_of(token) {
+        Some(goal) => {
+            let predicate = predicate_of(names, parts, goal);
+            calls.push(Called { predicate, line })?;
+            Ok(())
         }
-        ItemNode::Equal { .. } => None,
-        ItemNode::Is { .. } => None,
-        ItemNode::Compare { .. } => None,
-        ItemNode::Fail => None,
+        None => Ok(()),
     }
 }
 
-/// The first call of a body without a clause.
-fn first_unknown_goal(nodes: &[Node], found: &ClauseNumbers, items: &[ItemNode]) -> Option<NodeNo>
-    ensures { (cs : List Clause) → Finds found.now cs
-        → let shapes = shapes_of nodes.now in
-        option_map (λ n. node_term shapes n.0) result
-        ≡ first_unknown cs (map (item_of shapes) (map node_item items.now)) }
+/// The part that a token calls.
+fn goal_of(token: &BodyToken) -> Option<NodeNo>
+    ensures { result ≡ goal_in token.now }
 {
-    for item in items {
-        if let Some(goal) = unknown_goal(nodes, found, item) {
-            return Some(goal);
+    match token {
+        BodyToken::Item(ItemNode::Call { goal }) => Some(*goal),
+        BodyToken::Item(ItemNode::Equal { .. }) => None,
+        BodyToken::Item(ItemNode::Is { .. }) => None,
+        BodyToken::Item(ItemNode::Compare { .. }) => None,
+        BodyToken::Item(ItemNode::Fail) => None,
+        BodyToken::Open(_) => None,
+        BodyToken::Next(_) => None,
+        BodyToken::Close => None,
+    }
+}
+
+/// The predicate of a part's term. (A variable and a number, which no body calls, have that of `true`.)
+fn predicate_of(names: &IndexSet<Vec<u8>>, parts: &[DraftPart], part: NodeNo) -> Predicate
+    requires there { part.0 < length parts.now }
+    requires falls { PartsFall 0 (part_shapes parts.now) }
+    requires few_names { length (names_of names.now.keys) < 2 ^ 32 }
+    ensures { (line : ℕ) → let goal = node_term (shapes_under (names_of names.now.keys) parts.now) part.0 in
+        record { predicate = result; line = line } ≡ call_at line goal }
+{
+    match &parts[part.0 as usize] {
+        DraftPart::Compound { name, arguments } => Predicate {
+            name: NameNo(number_of(names, name.bytes()) as u32),
+            arity: arguments.len(),
+        },
+        DraftPart::Variable(_, _) => Predicate {
+            name: NameNo(0),
+            arity: 0,
+        },
+        DraftPart::Integer(_) => Predicate {
+            name: NameNo(0),
+            arity: 0,
+        },
+    }
+}
+
+/// The first of these calls that has no clause.
+pub(crate) fn first_unknown_call(found: &ClauseNumbers, calls: &[Called]) -> Option<Called>
+    ensures { (cs : List Clause) → Finds found.now cs → result ≡ first_called cs calls.now }
+{
+    for call in calls {
+        if clauses_at(found, call.predicate).is_empty() {
+            return Some(*call);
         }
     }
     None
-}
-
-/// The first call without a clause in the body of a clause.
-fn unknown_in_entry(
-    nodes: &[Node],
-    found: &ClauseNumbers,
-    entry: &ClauseEntry,
-) -> Option<UnknownCall>
-    ensures { (cs : List Clause) (names : List Bytes) → Finds found.now cs
-        → let shapes = shapes_of nodes.now in
-        option_map (unknown_at names shapes) result
-        ≡ unknown_in names cs (entry_clause shapes entry.now ∷ []) }
-{
-    let goal = first_unknown_goal(nodes, found, &entry.items)?;
-    Some(UnknownCall {
-        goal,
-        line: entry.line,
-    })
-}
-
-/// The first call without a clause in the bodies of these clauses.
-fn unknown_in_entries(
-    nodes: &[Node],
-    found: &ClauseNumbers,
-    entries: &[ClauseEntry],
-) -> Option<UnknownCall>
-    ensures { (cs : List Clause) (names : List Bytes) → Finds found.now cs
-        → let shapes = shapes_of nodes.now in
-        option_map (unknown_at names shapes) result
-        ≡ unknown_in names cs (map (entry_clause shapes) entries.now) }
-{
-    for entry in entries {
-        if let Some(call) = unknown_in_entry(nodes, found, entry) {
-            return Some(call);
-        }
-    }
-    None
-}
-
-/// The first call without a clause, in the order of the text: before the query stand so many of the
-/// clauses.
-pub(crate) fn first_unknown_call(
-    nodes: &[Node],
-    found: &ClauseNumbers,
-    clauses: &[ClauseEntry],
-    query: &ClauseEntry,
-    before: usize,
-) -> Option<UnknownCall>
-    requires { before ≤ length clauses.now }
-    ensures { (cs : List Clause) (names : List Bytes) → Finds found.now cs
-        → let shapes = shapes_of nodes.now in
-        let entries = take before clauses.now ++ query.now ∷ drop before clauses.now in
-        option_map (unknown_at names shapes) result
-        ≡ unknown_in names cs (map (entry_clause shapes) entries) }
-{
-    let (earlier, later) = clauses.split_at(before);
-    if let Some(call) = unknown_in_entries(nodes, found, earlier) {
-        return Some(call);
-    }
-    if let Some(call) = unknown_in_entry(nodes, found, query) {
-        return Some(call);
-    }
-    unknown_in_entries(nodes, found, later)
 }
 
 /// Names what is called without a clause.
 pub(crate) fn unknown_fault(
     alloc: Global,
     names: &IndexSet<Vec<u8>>,
-    nodes: &[Node],
-    call: UnknownCall,
+    call: Called,
 ) -> Result<SealFault, AllocError>
-    requires { (m : ℕ) × AllWithin m (shapes_of nodes.now) }
-    ensures { let unknown = unknown_at (names_of names.now.keys) (shapes_of nodes.now) call in
+    requires { call.predicate.arity ≤ 255 }
+    ensures { let unknown = unknown_at (names_of names.now.keys) call in
         IfOk result (λ fault. IsUnknown unknown fault) }
 {
-    let predicate = predicate_at(nodes, call.goal).unwrap_or(Predicate {
-        name: NameNo(0),
-        arity: 0,
-    });
     Ok(SealFault::Unknown {
-        name: Text::of(alloc, name_at(names, predicate.name))?,
-        arity: predicate.arity as u8,
+        name: Text::of(alloc, name_at(names, call.predicate.name))?,
+        arity: call.predicate.arity as u8,
         line: call.line,
     })
 }

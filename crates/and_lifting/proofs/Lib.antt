@@ -10,7 +10,7 @@ mod Numbered
 mod Taking
 mod Stages
 mod Outcomes
-mod Listing
+pub mod Listing
 mod TrialSteps
 mod AnswersTrial
 mod ForksTrial

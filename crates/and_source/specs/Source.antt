@@ -1,11 +1,12 @@
 -- Programs whose bodies may hold disjunctions, and what their clauses and alternatives weigh (Lloyd, section 18; the
 -- numbers and the weights are this project's own).
 use Rattle.std.specs.Prelude.{ℕ, zero, suc, ◌+◌, ◌≡◌, ◌≢◌, Bool, false, List, [], ◌∷◌, ◌++◌, length, nat_eq, AllPairs}
-use Rattle.std.specs.Prelude.{Contains}
+use Rattle.std.specs.Prelude.{All, Contains}
 use Rattle.and_model.specs.Terms.{Path, Term, variable, number, compound, variables_of}
 use Rattle.and_model.specs.Programs.{Item, call, equal, arithmetic, fail, is_goals}
 use Rattle.and_model.specs.Stands.{item_term}
 use Rattle.and_model.specs.Lines.{first_seen}
+use Rattle.and_model.specs.OwnVariables.{IsOwn, AreOwn}
 
 mutual
   -- The items of a body or of an alternative. An item is one of a clause without disjunctions, or an `Either`, which
@@ -156,3 +157,7 @@ pub record IsNumbered (P : SourceProgram) : Type 0 where
   -- which no clause and no call has.
   pub unwritten : (d : ℕ × Alternatives) (t : Term) → Contains (disjunctions_in P) d → Contains (heads_and_calls P) t
       → has_name d.0 t ≡ false
+
+-- the terms of the clause, those inside disjunctions too, have no variables but its own
+abbrev pub HasOwnSourceVariables : SourceClause → Type 0
+HasOwnSourceVariables k = AreOwn k.variables k.head × All (IsOwn k.variables) (variables_of_items k.body)

@@ -1,1 +1,4 @@
 pub mod OwnVariables
+pub mod Numbering
+pub mod Names
+pub mod Calls

@@ -9,16 +9,21 @@ use Rattle.and_model.specs.Terms
 use Rattle.and_model.specs.Terms.{Path, Term, Terms, variables_of, variables_in}
 use Rattle.and_model.specs.Arithmetic.{Relation}
 use Rattle.and_model.specs.Lines.{Bytes}
-use Rattle.and_model.specs.Programs.{call}
-use Rattle.and_model.specs.OwnVariables.{terms_of_item, IsOwn, AreOwn, HasOwnVariables}
+use Rattle.and_model.specs.Programs.{Item, call, equal, arithmetic, fail}
+use Rattle.and_model.specs.Stands.{item_term}
+use Rattle.and_model.specs.OwnVariables.{IsOwn, AreOwn}
 use Rattle.and_model.specs.declared.builtins.TheConstants.{CONJUNCTION, CUT, DISJUNCTION, EQUAL, FAIL}
 use Rattle.and_model.specs.declared.builtins.TheConstants.{IF_THEN, IS, NECK, NOT_PROVABLE, TRUE}
 use Rattle.and_model.proofs.OwnVariables.{more_own, first_own, others_own}
 use Rattle.and_syntax.specs.Written
 use Rattle.and_syntax.specs.Written.{Written, Many, has, place, is_new, met_after, met_after_all, variable_number, term_in, terms_in}
-use Rattle.and_syntax.specs.Clauses.{BodyPart, item, impure, atom_parts, binary_part, compare_or, relation_of}
-use Rattle.and_syntax.specs.Clauses.{parts_of, items_of, head_of, body_of, asked_of}
+use Rattle.and_syntax.specs.Clauses
+use Rattle.and_syntax.specs.Clauses.{Parts, no_parts, item, impure, Choices, no_choices, choice, Reading, joined, alone, disjoined}
+use Rattle.and_syntax.specs.Clauses.{atom_parts, unary_part, binary_part, binary_reading, compare_or, relation_of, reading_of, parts_of}
+use Rattle.and_syntax.specs.Clauses.{alternatives_of, alternatives_in, disjunctions_of, disjunctions_within, numbered, numbered_in}
+use Rattle.and_syntax.specs.Clauses.{head_of, body_of, asked_of}
 use Rattle.and_syntax.specs.Tables.{clause_of}
+use Rattle.and_source.specs.Source.{variables_of_items, variables_of_alternatives, HasOwnSourceVariables}
 
 -- The number of a name that is there is below how many there are,
 pub place-below : (x : Bytes) (xs : List Bytes) → has x xs ≡ true → place x xs < length xs
@@ -74,66 +79,80 @@ mutual
       All-append (IsOwn n) (variables_of first) (variables_in (terms_in names now ts))
       (more_own (length now) n first (met_after_all-longer now ts) (term_own names met t)) (terms_own names now ts)
 
--- a part of a body names no variables but the first n
-abbrev IsOwnPart : ℕ → BodyPart → Type 0
-IsOwnPart n impure = Unit {0}
-IsOwnPart n (item i) = All (AreOwn n) (terms_of_item i)
+abbrev mutual
+  -- the parts of a body name no variables but the first n
+  OwnParts : ℕ → Parts → Type 0
+  OwnParts n no_parts = Unit {0}
+  OwnParts n (item i ps) = AreOwn n (item_term i) × OwnParts n ps
+  OwnParts n (impure ps) = OwnParts n ps
+  OwnParts n (Clauses.either cs ps) = OwnChoices n cs × OwnParts n ps
 
-abbrev AreOwnParts : ℕ → List BodyPart → Type 0
-AreOwnParts n [] = Unit {0}
-AreOwnParts n (p ∷ ps) = IsOwnPart n p × AreOwnParts n ps
+  OwnChoices : ℕ → Choices → Type 0
+  OwnChoices n no_choices = Unit {0}
+  OwnChoices n (choice ps cs) = OwnParts n ps × OwnChoices n cs
 
-one : (n : ℕ) (t : Term) → AreOwn n t → All (AreOwn n) (t ∷ [])
-one n t own = All-cons (AreOwn n) t [] own (All-nil (AreOwn n))
+abbrev OwnReading : ℕ → Reading → Type 0
+OwnReading n r = OwnParts n r.body × OwnChoices n r.last
 
-two : (n : ℕ) (t u : Term) → AreOwn n t → AreOwn n u → All (AreOwn n) (t ∷ u ∷ [])
-two n t u first second = All-cons (AreOwn n) t (u ∷ []) first (one n u second)
+joined_own : (n : ℕ) (ps qs : Parts) → OwnParts n ps → OwnParts n qs → OwnParts n (joined ps qs)
+joined_own n no_parts qs a b = b
+joined_own n (item i ps) qs a b = (a.0, joined_own n ps qs a.1 b)
+joined_own n (impure ps) qs a b = joined_own n ps qs a b
+joined_own n (Clauses.either cs ps) qs a b = (a.0, joined_own n ps qs a.1 b)
 
-joined : (n : ℕ) (ps qs : List BodyPart) → AreOwnParts n ps → AreOwnParts n qs → AreOwnParts n (ps ++ qs)
-joined n [] qs a b = b
-joined n (p ∷ ps) qs a b = (a.0, joined n ps qs a.1 b)
+alone_own : (n : ℕ) (ps : Parts) → OwnParts n ps → OwnReading n (alone ps)
+alone_own n ps a = (a, (a, tt))
 
 -- a choice of two
 chosen : {X : Type 0} (P : X → Type 0) (b : Bool) (x y : X) → P x → P y → P (cond b x y)
 chosen P true x y a b = a
 chosen P false x y a b = b
 
-compared : (n : ℕ) (r : Option Relation) (a b : Term) (p : BodyPart) → All (AreOwn n) (a ∷ b ∷ []) → IsOwnPart n p
-    → IsOwnPart n (compare_or r a b p)
-compared n None a b p both h = h
-compared n (Some r) a b p both h = both
+compared : (n : ℕ) (r : Option Relation) (a b : Term) (ps : Parts) → All (IsOwn n) (variables_in (Terms.more a (Terms.more b Terms.none))) → OwnParts n ps
+    → OwnParts n (compare_or r a b ps)
+compared n None a b ps both h = h
+compared n (Some r) a b ps both h = (both, tt)
 
-binary_own : (n c : ℕ) (a b : Term) → AreOwn n a → AreOwn n b → AreOwn n (Terms.compound c (Terms.more a (Terms.more b Terms.none)))
-    → IsOwnPart n (binary_part c a b)
-binary_own n c a b left right whole =
-    let both = two n a b left right in
-    let called : BodyPart = item (call (Terms.compound c (Terms.more a (Terms.more b Terms.none)))) in
-    let other : BodyPart = cond (nat_eq c DISJUNCTION || nat_eq c IF_THEN) impure called in
-    chosen (IsOwnPart n) (nat_eq c EQUAL) _ _ both
-    (chosen (IsOwnPart n) (nat_eq c IS) _ _ both
+binary_own : (n c : ℕ) (a b : Term) → All (IsOwn n) (variables_in (Terms.more a (Terms.more b Terms.none))) → OwnParts n (binary_part c a b)
+binary_own n c a b both =
+    let called : Parts = item (call (Terms.compound c (Terms.more a (Terms.more b Terms.none)))) no_parts in
+    let other : Parts = cond (nat_eq c IF_THEN) (impure no_parts) called in
+    chosen (OwnParts n) (nat_eq c EQUAL) _ _ (both, tt)
+    (chosen (OwnParts n) (nat_eq c IS) _ _ (both, tt)
     (compared n (relation_of c) a b other both
-    (chosen (IsOwnPart n) (nat_eq c DISJUNCTION || nat_eq c IF_THEN) impure called tt (one n _ whole))))
+    (chosen (OwnParts n) (nat_eq c IF_THEN) (impure no_parts) called tt (both, tt))))
 
-atom_own : (n c : ℕ) → AreOwnParts n (atom_parts c)
+atom_own : (n c : ℕ) → OwnParts n (atom_parts c)
 atom_own n c =
-    let nothing = All-nil (AreOwn n) in
     let none = All-nil (IsOwn n) in
-    chosen (AreOwnParts n) (nat_eq c TRUE) _ _ tt
-    (chosen (AreOwnParts n) (nat_eq c FAIL) _ _ (nothing, tt)
-    (chosen (AreOwnParts n) (nat_eq c CUT) _ _ (tt, tt) (one n (Terms.compound c Terms.none) none, tt)))
+    chosen (OwnParts n) (nat_eq c TRUE) _ _ tt
+    (chosen (OwnParts n) (nat_eq c FAIL) _ _ (none, tt)
+    (chosen (OwnParts n) (nat_eq c CUT) _ _ tt (none, tt)))
+
+binary_reading_own : (n c : ℕ) (a b : Term) (x y : Reading) → All (IsOwn n) (variables_in (Terms.more a (Terms.more b Terms.none)))
+    → OwnReading n x → OwnReading n y → OwnReading n (binary_reading c a b x y)
+binary_reading_own n c a b x y both left right =
+    let P : Reading → Type 0 = λ r. OwnReading n r in
+    let joint = joined_own n x.body y.body left.0 right.0 in
+    let single = binary_own n c a b both in
+    chosen P (nat_eq c CONJUNCTION) _ _ (joint, (joint, tt))
+    (chosen P (nat_eq c DISJUNCTION) _ _ (((left.0, right.1), tt), (left.0, right.1)) (single, (single, tt)))
 
 -- the parts of a body
-parts_own : (n : ℕ) (t : Term) → AreOwn n t → AreOwnParts n (parts_of t)
-parts_own n (Terms.variable q k) own = (tt, tt)
-parts_own n (Terms.number z) own = (tt, tt)
-parts_own n (Terms.compound c Terms.none) own = atom_own n c
-parts_own n (Terms.compound c (Terms.more a Terms.none)) own = (chosen (IsOwnPart n) (nat_eq c NOT_PROVABLE) _ _ tt (one n _ own), tt)
-parts_own n (Terms.compound c (Terms.more a (Terms.more b Terms.none))) own =
+reading_own : (n : ℕ) (t : Term) → AreOwn n t → OwnReading n (reading_of t)
+reading_own n (Terms.variable q k) own = (tt, (tt, tt))
+reading_own n (Terms.number z) own = (tt, (tt, tt))
+reading_own n (Terms.compound c Terms.none) own = alone_own n (atom_parts c) (atom_own n c)
+reading_own n (Terms.compound c (Terms.more a Terms.none)) own =
+    alone_own n (unary_part c a) (chosen (OwnParts n) (nat_eq c NOT_PROVABLE) _ _ tt (own, tt))
+reading_own n (Terms.compound c (Terms.more a (Terms.more b Terms.none))) own =
     let left : AreOwn n a = first_own n a (Terms.more b Terms.none) own in
     let right : AreOwn n b = first_own n b Terms.none (others_own n a (Terms.more b Terms.none) own) in
-    let both = joined n (parts_of a) (parts_of b) (parts_own n a left) (parts_own n b right) in
-    chosen (AreOwnParts n) (nat_eq c CONJUNCTION) _ _ both (binary_own n c a b left right own, tt)
-parts_own n (Terms.compound c (Terms.more a (Terms.more b (Terms.more d ts)))) own = (one n _ own, tt)
+    binary_reading_own n c a b (reading_of a) (reading_of b) own (reading_own n a left) (reading_own n b right)
+reading_own n (Terms.compound c (Terms.more a (Terms.more b (Terms.more d ts)))) own = ((own, tt), ((own, tt), tt))
+
+parts_own : (n : ℕ) (t : Term) → AreOwn n t → OwnParts n (parts_of t)
+parts_own n t own = (reading_own n t own).0
 
 -- a head and a body
 head_own : (n : ℕ) (t : Term) → AreOwn n t → AreOwn n (head_of t)
@@ -145,45 +164,58 @@ head_own n (Terms.compound c (Terms.more a (Terms.more b Terms.none))) own =
     chosen (AreOwn n) (nat_eq c NECK) _ _ (first_own n a (Terms.more b Terms.none) own) own
 head_own n (Terms.compound c (Terms.more a (Terms.more b (Terms.more d ts)))) own = own
 
-body_own : (n : ℕ) (t : Term) → AreOwn n t → AreOwnParts n (body_of t)
+body_own : (n : ℕ) (t : Term) → AreOwn n t → OwnParts n (body_of t)
 body_own n (Terms.variable q k) own = tt
 body_own n (Terms.number z) own = tt
 body_own n (Terms.compound c Terms.none) own = tt
 body_own n (Terms.compound c (Terms.more a Terms.none)) own = tt
 body_own n (Terms.compound c (Terms.more a (Terms.more b Terms.none))) own =
     let right : AreOwn n b = first_own n b Terms.none (others_own n a (Terms.more b Terms.none) own) in
-    chosen (AreOwnParts n) (nat_eq c NECK) (parts_of b) [] (parts_own n b right) tt
+    chosen (OwnParts n) (nat_eq c NECK) (parts_of b) no_parts (parts_own n b right) tt
 body_own n (Terms.compound c (Terms.more a (Terms.more b (Terms.more d ts)))) own = tt
 
 -- the body of a query
-asked_own : (n : ℕ) (t : Term) → AreOwn n t → AreOwnParts n (asked_of t)
+asked_own : (n : ℕ) (t : Term) → AreOwn n t → OwnParts n (asked_of t)
 asked_own n (Terms.variable q k) own = tt
 asked_own n (Terms.number z) own = tt
 asked_own n (Terms.compound c Terms.none) own = tt
 asked_own n (Terms.compound c (Terms.more b Terms.none)) own = parts_own n b (first_own n b Terms.none own)
 asked_own n (Terms.compound c (Terms.more a (Terms.more b ts))) own = tt
 
--- the terms of the items
-items_own : (n : ℕ) (ps : List BodyPart) → AreOwnParts n ps → All (AreOwn n) (flat_map terms_of_item (items_of ps))
-items_own n [] own = All-nil (AreOwn n)
-items_own n (impure ∷ ps) own = items_own n ps own.1
-items_own n (item i ∷ ps) own = All-append (AreOwn n) (terms_of_item i) (flat_map terms_of_item (items_of ps)) own.0 (items_own n ps own.1)
+mutual
+  -- the terms of the items
+  items_own : (name : ℕ → ℕ) (n c d : ℕ) (ps : Parts) → OwnParts n ps → All (IsOwn n) (variables_of_items (numbered name c d ps))
+  items_own name n c d no_parts own = All-nil (IsOwn n)
+  items_own name n c d (item i ps) own =
+      All-append (IsOwn n) (variables_of (item_term i)) (variables_of_items (numbered name c d ps)) own.0 (items_own name n c d ps own.1)
+  items_own name n c d (impure ps) own = items_own name n c d ps own
+  items_own name n c d (Clauses.either cs ps) own =
+      let m : ℕ = c + alternatives_in cs in
+      let e : ℕ = suc (d + disjunctions_within cs) in
+      All-append (IsOwn n) (variables_of_alternatives (numbered_in name c (suc d) cs)) (variables_of_items (numbered name m e ps))
+      (alternatives_own name n c (suc d) cs own.0) (items_own name n m e ps own.1)
 
--- The clause of a term, under any names,
-pub clause_own : (names : List Bytes) (w : Written) (line : ℕ)
-    → let t = term_in names [] w in HasOwnVariables (clause_of w line (head_of t) (body_of t))
-clause_own names w line =
+  alternatives_own : (name : ℕ → ℕ) (n c d : ℕ) (cs : Choices) → OwnChoices n cs → All (IsOwn n) (variables_of_alternatives (numbered_in name c d cs))
+  alternatives_own name n c d no_choices own = All-nil (IsOwn n)
+  alternatives_own name n c d (choice ps cs) own =
+      let m : ℕ = suc (c + alternatives_of ps) in
+      let e : ℕ = d + disjunctions_of ps in
+      All-append (IsOwn n) (variables_of_items (numbered name (suc c) d ps)) (variables_of_alternatives (numbered_in name m e cs))
+      (items_own name n (suc c) d ps own.0) (alternatives_own name n m e cs own.1)
+
+-- The clause of a term, under any names and with any numbers,
+pub clause_own : (names : List Bytes) (name : ℕ → ℕ) (w : Written) (number line c d : ℕ)
+    → let t = term_in names [] w in HasOwnSourceVariables (clause_of number w line (head_of t) (numbered name c d (body_of t)))
+clause_own names name w number line c d =
     let n : ℕ = length (met_after [] w) in
     let t : Term = term_in names [] w in
     let own : AreOwn n t = term_own names [] w in
-    All-cons (AreOwn n) (head_of t) (flat_map terms_of_item (items_of (body_of t)))
-    (head_own n t own) (items_own n (body_of t) (body_own n t own))
+    (head_own n t own, items_own name n c d (body_of t) (body_own n t own))
 
 -- and the query.
-pub query_own : (names : List Bytes) (w : Written) (line : ℕ)
-    → HasOwnVariables (clause_of w line (Terms.compound TRUE Terms.none) (asked_of (term_in names [] w)))
-query_own names w line =
+pub query_own : (names : List Bytes) (name : ℕ → ℕ) (w : Written) (number line c d : ℕ)
+    → HasOwnSourceVariables (clause_of number w line (Terms.compound TRUE Terms.none) (numbered name c d (asked_of (term_in names [] w))))
+query_own names name w number line c d =
     let n : ℕ = length (met_after [] w) in
     let t : Term = term_in names [] w in
-    All-cons (AreOwn n) (Terms.compound TRUE Terms.none) (flat_map terms_of_item (items_of (asked_of t)))
-    (All-nil (IsOwn n)) (items_own n (asked_of t) (asked_own n t (term_own names [] w)))
+    (All-nil (IsOwn n), items_own name n c d (asked_of t) (asked_own n t (term_own names [] w)))

@@ -8,7 +8,8 @@ use Rattle.and_clauses.proofs.numbering.note_names.Given as goal
 
 abbrev pub invariant-loop-number : goal.invariant-loop-number
 invariant-loop-number l = record {
-  owed : named_all (names_of l.names.keys) (many (map (written_at (part_shapes l.parts)) (reverse l.pending.items))) ≡ named (names_of l.initial.names.keys) (written_at (part_shapes l.parts) l.root);
+  owed : named_all (names_of l.names.keys) (many (map (written_at (part_shapes l.parts)) (reverse l.pending.items)))
+      ≡ named (names_of l.initial.names.keys) (written_at (part_shapes l.parts) l.root);
   there : Falls (length l.parts) l.pending.items;
   kept : Extends (names_of l.initial.names.keys) (names_of l.names.keys);
 }

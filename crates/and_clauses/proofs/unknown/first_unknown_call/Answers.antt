@@ -1,35 +1,24 @@
-use Rattle.std.proofs.Common.{[], ◌∷◌, take, drop, ◌∙◌, ap, map, List, Option, None}
-use Rattle.and_syntax.specs.Tables.{Unknown, unknown_in}
-use Rattle.and_program.specs.Nodes.{shapes_of, entry_clause}
-use Rattle.and_program.specs.declared.entry.ClauseEntry.{ClauseEntry}
-use Rattle.and_clauses.proofs.UnknownLemmas.{either, text_order}
+use Rattle.std.proofs.Common.{get_or, ◌∙◌}
+use Rattle.and_clauses.specs.Unknown.{first_called}
+use Rattle.and_clauses.specs.declared.data.Called.{Called}
+use Rattle.and_clauses.proofs.UnknownLemmas.{found_here, found_later, found_none}
 use Rattle.and_clauses.proofs.unknown.first_unknown_call.Goals as goal
 
-pub returns-in-Some : goal.returns-in-Some
-returns-in-Some c = λ cs names finds.
-    let ss = shapes_of c.args.nodes.now in
-    let of : List ClauseEntry → Option Unknown = λ es. unknown_in names cs (map (entry_clause ss) es) in
-    let here = c.in-Some.ensures cs names finds ∙ ap of c.split_at.ensures.front in
-    ap (λ o. either o (either (of (c.args.query.now ∷ [])) (of (drop c.args.before c.args.clauses.now)))) here
-    ∙ text_order names cs ss (take c.args.before c.args.clauses.now) c.args.query.now (drop c.args.before c.args.clauses.now)
+abbrev no_call : Called
+no_call = record { predicate = record { name = record { 0 = 0 }; arity = 0 }; line = 0 }
 
-pub returns-in-Some-unknown_in_entry : goal.returns-in-Some-unknown_in_entry
-returns-in-Some-unknown_in_entry c = λ cs names finds.
-    let ss = shapes_of c.args.nodes.now in
-    let of : List ClauseEntry → Option Unknown = λ es. unknown_in names cs (map (entry_clause ss) es) in
-    let back = of (drop c.args.before c.args.clauses.now) in
-    let before = c.in_default.ensures cs names finds ∙ ap of c.split_at.ensures.front in
-    ap (λ o. either None (either o back)) (c.in-Some-unknown_in_entry.ensures cs names finds)
-    ∙ ap (λ o. either o (either (of (c.args.query.now ∷ [])) back)) before
-    ∙ text_order names cs ss (take c.args.before c.args.clauses.now) c.args.query.now (drop c.args.before c.args.clauses.now)
+pub returns-then-is_empty : goal.returns-then-is_empty
+returns-then-is_empty c = λ cs finds.
+    let k = get_or c.args.calls.now c.loop-call.call-index no_call in
+    found_here cs c.args.calls.now c.loop-call.call-index no_call c.clauses_at.result.now c.is_empty.result (first_called cs c.args.calls.now)
+    c.loop-call-test.true c.is_empty.ensures (c.clauses_at.ensures ∙ finds k.predicate) c.if-is_empty.true (c.loop-call.invariant cs finds)
+
+pub loop-call-preserved : goal.loop-call-preserved
+loop-call-preserved c = λ cs finds.
+    let k = get_or c.args.calls.now c.loop-call.call-index no_call in
+    found_later cs c.args.calls.now c.loop-call.call-index no_call c.clauses_at.result.now c.is_empty.result (first_called cs c.args.calls.now)
+    c.loop-call-test.true c.is_empty.ensures (c.clauses_at.ensures ∙ finds k.predicate) c.if-is_empty.false (c.loop-call.invariant cs finds)
 
 pub returns : goal.returns
-returns c = λ cs names finds.
-    let ss = shapes_of c.args.nodes.now in
-    let of : List ClauseEntry → Option Unknown = λ es. unknown_in names cs (map (entry_clause ss) es) in
-    let back = of (drop c.args.before c.args.clauses.now) in
-    let before = c.in_default.ensures cs names finds ∙ ap of c.split_at.ensures.front in
-    c.unknown_in_entries-2.ensures cs names finds ∙ ap of c.split_at.ensures.back
-    ∙ ap (λ o. either None (either o back)) (c.in_default-unknown_in_entry.ensures cs names finds)
-    ∙ ap (λ o. either o (either (of (c.args.query.now ∷ [])) back)) before
-    ∙ text_order names cs ss (take c.args.before c.args.clauses.now) c.args.query.now (drop c.args.before c.args.clauses.now)
+returns c = λ cs finds.
+    found_none cs c.args.calls.now c.loop-call.call-index (first_called cs c.args.calls.now) c.loop-call-test.false (c.loop-call.invariant cs finds)

@@ -1,24 +1,16 @@
-use Rattle.std.proofs.Common.{◌≤◌, [], ◌∷◌, map, refl, length, arith, ap, sym}
-use Rattle.and_model.specs.Lines.{Bytes}
-use Rattle.and_syntax.specs.Written
-use Rattle.and_clauses.specs.declared.draft.DraftPart.TheVariants.{Variable}
-use Rattle.and_clauses.specs.Parts.{part_shapes, written_at, variable}
-use Rattle.and_clauses.proofs.Drafting.{Stepped, stepped_leaf, drafted}
+use Rattle.std.proofs.Common.{[], sym, ◌∙◌}
+use Rattle.and_syntax.specs.Written.{is_new, place}
+use Rattle.and_clauses.specs.Numbered.{met_by}
+use Rattle.and_clauses.specs.Parts.{part_shapes}
+use Rattle.and_clauses.proofs.Meeting.{found_some, found_none}
 use Rattle.and_clauses.proofs.draft.ClauseDraft.variable.Goals as goal
 
-pub invariant_of-self : goal.invariant_of-self
-invariant_of-self c =
-    let s : Stepped c.add_part.result c.args.self.now.parts.items c.add_part.new.parts.items c.add_part.new.finished.items (map (written_at (part_shapes c.args.self.now.parts.items)) c.args.self.now.finished.items) (Written.variable c.args.name.now) =
-    stepped_leaf c.add_part.result c.args.self.now.parts.items c.add_part.new.parts.items c.args.self.now.finished.items c.add_part.new.finished.items (Variable c.in_ok-name.name) (Written.variable c.args.name.now) c.len-start.result
-    c.args.self.now.formed c.args.self.now.narrow (omega arith) c.add_part.ensures.parts c.add_part.ensures.finished c.add_part.ensures.parts_kept c.add_part.ensures.finished_kept
-    (omega arith) tt (ap Written.variable c.in_ok-name.ensures) (λ n. ap (λ (x : Bytes). variable x ∷ []) (sym c.in_ok-name.ensures)) refl in
-    let h : length c.add_part.new.parts.items ≤ 4294967295 = s.few in
-    record { few = omega arith; formed = s.formed; narrow = s.narrow }
+pub variable_again-requires-clause-known : goal.variable_again-requires-clause-known
+variable_again-requires-clause-known c =
+    let met = met_by [] (part_shapes c.args.self.now.parts.items) in
+    found_some (is_new c.args.name.now met) c.in-Some.number (place c.args.name.now met) (sym c.in-Some.is ∙ c.find.ensures met c.args.self.now.met)
 
-pub returns-clause-ok : goal.returns-clause-ok
-returns-clause-ok c =
-    let s : Stepped c.add_part.result c.args.self.now.parts.items c.add_part.new.parts.items c.add_part.new.finished.items (map (written_at (part_shapes c.args.self.now.parts.items)) c.args.self.now.finished.items) (Written.variable c.args.name.now) =
-    stepped_leaf c.add_part.result c.args.self.now.parts.items c.add_part.new.parts.items c.args.self.now.finished.items c.add_part.new.finished.items (Variable c.in_ok-name.name) (Written.variable c.args.name.now) c.len-start.result
-    c.args.self.now.formed c.args.self.now.narrow (omega arith) c.add_part.ensures.parts c.add_part.ensures.finished c.add_part.ensures.parts_kept c.add_part.ensures.finished_kept
-    (omega arith) tt (ap Written.variable c.in_ok-name.ensures) (λ n. ap (λ (x : Bytes). variable x ∷ []) (sym c.in_ok-name.ensures)) refl in
-    drafted c.add_part.result c.args.self.now.line _ _ _ _ s.meaning
+pub new_variable-requires-clause-new : goal.new_variable-requires-clause-new
+new_variable-requires-clause-new c =
+    let met = met_by [] (part_shapes c.args.self.now.parts.items) in
+    found_none (is_new c.args.name.now met) (place c.args.name.now met) (sym c.in-None.is ∙ c.find.ensures met c.args.self.now.met)
