@@ -1,5 +1,6 @@
 -- The generated text is the text of a program.
-use Rattle.std.proofs.Common.{ℕ, zero, suc, ◌+◌, ◌*◌, ◌≡◌, ◌<◌, ◌≤◌, Bool, true, ◌&&◌, ltb, List, [], ◌∷◌, ◌++◌, map, length, refl, sym, ap, subst, ◌∙◌, arith, codes, append_assoc, length-append}
+use Rattle.std.proofs.Common.{ℕ, zero, suc, ◌+◌, ◌*◌, ◌≡◌, ◌<◌, ◌≤◌, Bool, true, ◌&&◌, ltb, List, [], ◌∷◌, ◌++◌, map, length, refl, sym, ap, subst, ◌∙◌}
+use Rattle.std.proofs.Common.{arith, codes, append_assoc, length-append}
 use Rattle.std.specs.Prelude.{IsUtf8}
 use Rattle.std.specs.Str.{IsAscii}
 use Rattle.std.specs.Fmt.{decimal}
@@ -8,7 +9,7 @@ use Rattle.std.proofs.lemmas.Str.Ascii.{IsAscii-nil}
 use Rattle.std.proofs.lemmas.Fmt.{IsAscii-decimal, length-decimal-le}
 use Rattle.std.proofs.lemmas.List.{length-map, map-append}
 use Rattle.and_model.specs.Lines.{Bytes}
-use Rattle.and_model.specs.Programs.{Program}
+use Rattle.and_source.specs.Source.{SourceProgram}
 use Rattle.and_syntax.specs.Tables.{program_of}
 use Rattle.and_language.specs.Tokens as tokens
 use Rattle.and_language.specs.Refusals.{Reads}
@@ -78,7 +79,7 @@ few_text (l ∷ ls) small =
 
 -- a text of such lines is read
 lines_are_read : (e : Edge) (es : List Edge) (n : ℕ) → length es < 900 → AllSmall (lines_of (e ∷ es) n)
-    → (P : Program) × Reads (text (lines_of (e ∷ es) n)) P
+    → (P : SourceProgram) × Reads (text (lines_of (e ∷ es) n)) P
 lines_are_read e es n few small =
     let ls = lines_of (e ∷ es) n in
     let bytes = text ls in
@@ -221,13 +222,13 @@ count_is n =
     )
 
 some_are_read : (es : List Edge) (n : ℕ) → 0 < length es → length es < 900 → AllSmall (lines_of es n)
-    → (P : Program) × Reads (text (lines_of es n)) P
+    → (P : SourceProgram) × Reads (text (lines_of es n)) P
 some_are_read [] n some few small = absurd (omega arith)
 some_are_read (e ∷ es) n some few small = lines_are_read e es n (omega arith) small
 
-pub generated_is_read : (n : ℕ) → n ≤ 64 → (P : Program) × Reads (generated.layered n) P
+pub generated_is_read : (n : ℕ) → n ≤ 64 → (P : SourceProgram) × Reads (generated.layered n) P
 generated_is_read n h =
-    subst (λ bs. (P : Program) × Reads bs P) (sym (whole n)) (some_are_read (edges n) n (omega (arith, count_is n)) (omega (
+    subst (λ bs. (P : SourceProgram) × Reads bs P) (sym (whole n)) (some_are_read (edges n) n (omega (arith, count_is n)) (omega (
       arith,
       count_is n,
     )) (all_small n h))

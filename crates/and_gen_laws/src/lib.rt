@@ -6,11 +6,11 @@
 #![tactic(auto)]
 
 ghost use Rattle.std.specs.Prelude.{ℕ, ◌≤◌};
-ghost use Rattle.and_model.specs.Programs.{Program};
+ghost use Rattle.and_source.specs.Source.{SourceProgram};
 ghost use Rattle.and_language.specs.Refusals.{Reads};
 ghost use Rattle.and_gen.specs.Layered.{layered};
 
 /// The generated text reads as a program: that of each number up to 64.
 pub fn generated_texts_are_read()
-    ensures { (n : ℕ) → n ≤ 64 → (P : Program) × Reads (layered n) P }
+    ensures { (n : ℕ) → n ≤ 64 → (P : SourceProgram) × Reads (layered n) P }
 {}

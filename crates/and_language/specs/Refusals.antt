@@ -2,8 +2,12 @@
 use Rattle.std.specs.Prelude.{ℕ, ◌<◌, ◌≤◌, ◌≡◌, true, false, List, [], ◌∷◌, ◌++◌, length, Option, Some, None, codes}
 use Rattle.and_model.specs.Lines.{Bytes}
 use Rattle.and_model.specs.Programs.{Program}
-use Rattle.and_syntax.specs.Tables.{What, source, arguments, nesting, Table, Asked, empty, clause_fault, query_fault, with_clause, with_query, unknown_of, program_of}
+use Rattle.and_source.specs.Source.{SourceClause, SourceProgram}
+use Rattle.and_source.specs.Lifted.{lift}
+use Rattle.and_syntax.specs.Tables.{What, source, arguments, nesting, Table, empty, clause_fault, query_fault, with_clause, with_query, unknown_of, program_of}
 use Rattle.and_syntax.specs.Tables as tables
+use Rattle.and_syntax.specs.Written.{Written}
+use Rattle.and_translation.specs.Translation.{translated, translation_fault}
 use Rattle.and_language.specs.Tokens.{line_at, Answer, no_more, one, none_for, Token}
 use Rattle.and_language.specs.Tokens as tokens
 use Rattle.and_language.specs.Words.{Word, Placed, AreWords, variable, integer, name, quoted, minus, open_bracket, close_bracket, open_list, close_list, open_brace, close_brace, comma, semicolon, bar, end}
@@ -44,14 +48,27 @@ fault_at bytes (tokens.not_text p) = at bytes p not_text
 fault_at bytes (tokens.too_wide p) = at bytes p too_wide
 fault_at bytes (tokens.not_pure p) = at bytes p not_pure
 
--- What a clause or query is refused for, and the table with it. (A grammar rule is not pure.)
+-- the one fault if there is one, and else the other
+abbrev pub first_fault : Option tables.Fault → Option tables.Fault → Option tables.Fault
+first_fault None g = g
+first_fault (Some f) g = Some f
+
+-- what a grammar rule is refused for: its own fault, or else one of the clause that it stands for
+abbrev pub rule_fault : Table → Written → Option tables.Fault
+rule_fault T w = first_fault (translation_fault w) (clause_fault T (translated w))
+
+-- What a clause, query or rule is refused for, and the table with it. (With a rule it is that with the rule's clause.)
 abbrev pub statement_fault : Table → Statement → Option tables.Fault
-statement_fault T s = elim s.sort [ Sort.clause ↦ clause_fault T s.term | Sort.query ↦ query_fault T s.term | Sort.grammar_rule ↦ Some tables.not_pure ]
+statement_fault T s = elim s.sort [ Sort.clause ↦ clause_fault T s.term | Sort.query ↦ query_fault T s.term | Sort.grammar_rule ↦ rule_fault T s.term ]
 
 abbrev pub with_statement : Bytes → Table → Statement → Table
-with_statement bytes T s = elim s.sort [ Sort.clause ↦ with_clause T s.term (line_at bytes s.place) | Sort.query ↦ with_query T s.term (line_at bytes s.place) | Sort.grammar_rule ↦ T ]
+with_statement bytes T s = elim s.sort [
+  | Sort.clause ↦ with_clause T s.term (line_at bytes s.place)
+  | Sort.query ↦ with_query T s.term (line_at bytes s.place)
+  | Sort.grammar_rule ↦ with_clause T (translated s.term) (line_at bytes s.place)
+]
 
--- The clauses and queries are taken one after another by the one table, which becomes the other.
+-- The clauses, queries and rules are taken one after another by the one table, which becomes the other.
 pub data Takes (bytes : Bytes) : Table → List Statement → Table → Type 0 where
   nothing : (T : Table) → Takes bytes T [] T
   more : (T U : Table) (s : Statement) (ss : List Statement) → statement_fault T s ≡ None → Takes bytes (with_statement bytes T s) ss U → Takes bytes T (s ∷ ss) U
@@ -65,7 +82,7 @@ abbrev pub NoneEnds : List Placed → Type 0
 NoneEnds [] = Unit {0}
 NoneEnds (p ∷ ps) = (p.word ≡ end → ⊥) × NoneEnds ps
 
--- The words are clauses and queries that were taken, and then the beginning of one.
+-- The words are clauses, queries and rules that were taken, and then the beginning of one.
 pub record IsPassed (bytes : Bytes) (ws : List Placed) : Type 0 where
   pub whole : List Placed
   pub begun : List Placed
@@ -105,7 +122,7 @@ pub data IsRefusedWord (ws begun : List Placed) (p : Placed) : Cause → Type 0 
   no_grammar : (IsDirective begun p.word → ⊥) → (CanGoOn false (ws ++ p ∷ []) → ⊥) → IsRefusedWord ws begun p syntax
   over_limit : CanGoOn false (ws ++ p ∷ []) → (CanGoOn true (ws ++ p ∷ []) → ⊥) → IsRefusedWord ws begun p (limit_of p.word)
 
--- The text of these clauses and queries becomes that table.
+-- The text of these clauses, queries and rules becomes that table.
 pub record IsTaken (bytes : Bytes) (ws : List Placed) (T : Table) : Type 0 where
   pub statements : List Statement
   pub spelled : IsText true ws statements
@@ -121,20 +138,24 @@ pub data IsRefused (bytes : Bytes) : Refusal → Type 0 where
   at_token : (ws : List Placed) (f : tokens.Fault) → length bytes ≤ MAX_BYTES → HasWords bytes ws (none_for f) → IsPassed bytes ws → IsRefused bytes (fault_at bytes f)
   unended : (ws : List Placed) → length bytes ≤ MAX_BYTES → HasWords bytes ws no_more → (passed : IsPassed bytes ws) → (passed.begun ≡ [] → ⊥) → IsRefused bytes (at bytes (length bytes) syntax)
   without_query : (ws : List Placed) (T : Table) → length bytes ≤ MAX_BYTES → HasWords bytes ws no_more → IsTaken bytes ws T → T.asked ≡ None → IsRefused bytes (at bytes (length bytes) no_query)
-  with_unknown : (ws : List Placed) (T : Table) (a : Asked) (u : tables.Unknown) → length bytes ≤ MAX_BYTES → HasWords bytes ws no_more → IsTaken bytes ws T → T.asked ≡ Some a
-      → unknown_of T a ≡ Some u → IsRefused bytes (record { cause = unknown u.name u.arity; line = u.line })
+  with_unknown : (ws : List Placed) (T : Table) (q : SourceClause) (u : tables.Unknown) → length bytes ≤ MAX_BYTES → HasWords bytes ws no_more → IsTaken bytes ws T → T.asked ≡ Some q
+      → unknown_of T q ≡ Some u → IsRefused bytes (record { cause = unknown u.name u.arity; line = u.line })
 
--- The bytes are in the grammar, and stand for that program.
-pub record IsTextOf (bytes : Bytes) (P : Program) : Type 0 where
+-- The bytes are in the grammar, and stand for that program, whose bodies may hold disjunctions.
+pub record IsTextOf (bytes : Bytes) (P : SourceProgram) : Type 0 where
   pub size : length bytes ≤ MAX_BYTES
   pub words : List Placed
   pub spelled : HasWords bytes words no_more
   pub table : Table
   pub taken : IsTaken bytes words table
-  pub query : Asked
+  pub query : SourceClause
   pub asked : table.asked ≡ Some query
   pub known : unknown_of table query ≡ None
   pub program : program_of table query ≡ P
 
-abbrev pub Reads : Bytes → Program → Type 0
+abbrev pub Reads : Bytes → SourceProgram → Type 0
 Reads bytes P = IsTextOf bytes P
+
+-- They stand for a program that is lifted to that one.
+abbrev pub IsLiftedFrom : Bytes → Program → Type 0
+IsLiftedFrom bytes P = (S : SourceProgram) × Reads bytes S × (P ≡ lift S)

@@ -1,5 +1,6 @@
 -- What the machine makes of a word.
-use Rattle.std.proofs.Common.{ℕ, suc, sym, subst, arith, ◌+◌, ◌≡◌, Bool, true, false, cond, leb, List, [], ◌∷◌, length, refl, ap, ◌∙◌, Option, Some, None, Result, Ok, Err}
+use Rattle.std.proofs.Common.{ℕ, suc, sym, subst, arith, ◌+◌, ◌≡◌, Bool, true, false, cond, leb, List, [], ◌∷◌, length, refl, ap, ◌∙◌, Option, Some, None}
+use Rattle.std.proofs.Common.{Result, Ok, Err}
 use Rattle.std.specs.Prelude.{codes, ◌&&◌}
 use Rattle.std.specs.Str.{bytes_eq}
 use Rattle.std.proofs.lemmas.Bool.{lt-leb, le-leb}
@@ -12,7 +13,8 @@ use Rattle.and_language.specs.Refusals
 use Rattle.and_language.specs.Refusals.{limit_of}
 use Rattle.and_language.specs.Grammar.{nil}
 use Rattle.and_automaton.specs.Machine
-use Rattle.and_automaton.specs.Machine.{Outermost, State, start, inside, opened_list, operand, wanted, in_part, nothing_pending, begins_query, closes_list, go, exceeds, step, take_operand, take_operator, operator_exceeds, comma_exceeds, depth, role}
+use Rattle.and_automaton.specs.Machine.{Outermost, State, start, inside, opened_list, operand, wanted, in_part, nothing_pending, begins_query, closes_list}
+use Rattle.and_automaton.specs.Machine.{go, exceeds, step, take_operand, take_operator, operator_exceeds, comma_exceeds, depth, role}
 use Rattle.and_clauses.specs.declared.data.What.TheVariants as whats
 use Rattle.and_reader.specs.declared.state.Bracket.{Bracket}
 use Rattle.and_reader.specs.declared.state.Bracket.TheVariants as brackets
@@ -31,9 +33,10 @@ kept : (s : State) (x : Words.Word) (r : Option State) → exceeds s x ≡ false
 kept s x r within e = ap (λ (b : Bool). cond (true && b) None (go s x)) within ∙ e
 
 -- an answer piece by piece is one of the whole machine
-pub answers : (s : State) (x : Words.Word) (r : Result Next Cause) (P : Parser) → (IsDirective s x → ⊥) → Answered (go s x) (exceeds s x) x r P → Answers s x r P
+pub answers : (s : State) (x : Words.Word) (r : Result Next Cause) (P : Parser) → (IsDirective s x → ⊥)
+    → Answered (go s x) (exceeds s x) x r P → Answers s x r P
 answers s x (Ok next.Inside) P d h = (h.0, kept s x (Some h.0) h.2 h.1, h.3, h.4)
-answers s x (Ok (next.Over sort)) P d h = (h.0, kept s x (Some (Machine.over (sort_of sort) h.0)) h.2 h.1, h.3, h.4)
+answers s x (Ok (next.Over sort)) P d h = (h.0, kept s x (Some (Machine.over (sort_of sort) h.0)) h.2 h.1, h.3, h.4, h.5)
 answers s x (Err causes.Syntax) P d h = (d, h)
 answers s x (Err causes.NotText) P d h = h
 answers s x (Err causes.TooWide) P d h = h
@@ -46,7 +49,8 @@ answers s x (Err causes.SecondQuery) P d h = h
 answers s x (Err causes.Memory) P d h = tt
 
 -- only the start is before a directive
-pub inside_no_directive : (l : Outermost) (fs : List Machine.Frame) (p : Machine.Pending) (m : Machine.Mode) (x : Words.Word) → IsDirective (inside l fs p m) x → ⊥
+pub inside_no_directive : (l : Outermost) (fs : List Machine.Frame) (p : Machine.Pending) (m : Machine.Mode) (x : Words.Word)
+    → IsDirective (inside l fs p m) x → ⊥
 inside_no_directive l fs p m x d = let e : inside l fs p m ≡ start = d.0 in cc
 
 pub opened_no_directive : (l : Outermost) (fs : List Machine.Frame) (p : Machine.Pending) (x : Words.Word) → IsDirective (opened_list l fs p) x → ⊥
@@ -59,7 +63,8 @@ functor_step l fs p w c (Words.open_bracket true) e = refl
 functor_step l fs p w c (Words.open_bracket false) e = absurd cc
 functor_step l fs p w c x e = absurd cc
 
-pub functor_exceeds : (fs : List Machine.Frame) (p : Machine.Pending) (x : Words.Word) → is_functor_bracket x ≡ true → operator_exceeds fs p x ≡ leb MAX_NESTING (p.minuses + depth fs)
+pub functor_exceeds : (fs : List Machine.Frame) (p : Machine.Pending) (x : Words.Word) → is_functor_bracket x ≡ true
+    → operator_exceeds fs p x ≡ leb MAX_NESTING (p.minuses + depth fs)
 functor_exceeds fs p (Words.open_bracket b) e = refl
 functor_exceeds fs p x e = absurd cc
 
@@ -75,7 +80,8 @@ other_step l fs p w c (Words.open_bracket false) e = refl
 other_step l fs p w c x e = refl
 
 -- a list that closes at once
-pub closing_step : (l : Outermost) (fs : List Machine.Frame) (p : Machine.Pending) (x : Words.Word) → closes_list x ≡ true → step true (opened_list l fs p) x ≡ Some (inside l fs p (operand nil None))
+pub closing_step : (l : Outermost) (fs : List Machine.Frame) (p : Machine.Pending) (x : Words.Word) → closes_list x ≡ true
+    → step true (opened_list l fs p) x ≡ Some (inside l fs p (operand nil None))
 closing_step l fs p Words.close_list e = refl
 closing_step l fs p x e = absurd cc
 
@@ -91,7 +97,8 @@ other_in false d e = refl
 
 pub query_step : (x : Words.Word) → firsts.Query ≡ first_of x → step true start x ≡ Some (in_part Machine.query)
 query_step (Words.name c) e =
-    ap (λ (b : Bool). cond b (Some (in_part Machine.query)) (take_operand (record { part = Machine.head; alternatives = []; before = [] }) [] nothing_pending (Words.name c)))
+    ap (λ (b : Bool). cond b (Some (in_part Machine.query))
+    (take_operand (record { part = Machine.head; alternatives = []; before = [] }) [] nothing_pending (Words.name c)))
     (query_in (bytes_eq c (codes "?-")) (bytes_eq c (codes ":-")) e)
 query_step x e = absurd cc
 
@@ -103,7 +110,8 @@ pub other_no_directive : (x : Words.Word) → firsts.Other ≡ first_of x → Is
 other_no_directive x e d = let f : firsts.Other ≡ firsts.Directive = e ∙ ap first_of d.1 in cc
 
 -- a comma or a bar in a bracket
-pub comma_step : (l : Outermost) (fs : List Machine.Frame) (b : Machine.Bracket) (before : List Written) (outside : Machine.Pending) (a : Written) → TakesComma b
+pub comma_step : (l : Outermost) (fs : List Machine.Frame) (b : Machine.Bracket) (before : List Written) (outside : Machine.Pending) (a : Written)
+    → TakesComma b
     → Machine.take_comma l (record { bracket = b; before = before; outside = outside } ∷ fs) a
     ≡ Some (inside l (record { bracket = b; before = a ∷ before; outside = outside } ∷ fs) nothing_pending wanted)
 comma_step l fs (Machine.plain es) before outside a h = refl
@@ -121,8 +129,10 @@ comma_within fs Machine.elements before outside h = refl
 comma_within fs Machine.tail before outside h = refl
 
 -- a comma that may not stand there
-pub comma_refused : (l : Outermost) (fs : List Machine.Frame) (b : Machine.Bracket) (before : List Written) (outside : Machine.Pending) (a : Written) (n : ℕ) (c : Cause) → n ≡ suc (length before) → IsCommaFault b n c
-    → IsCaused (Machine.take_comma l (record { bracket = b; before = before; outside = outside } ∷ fs) a) (comma_exceeds (record { bracket = b; before = before; outside = outside } ∷ fs)) Words.comma c
+pub comma_refused : (l : Outermost) (fs : List Machine.Frame) (b : Machine.Bracket) (before : List Written) (outside : Machine.Pending) (a : Written) (n : ℕ)
+    (c : Cause) → n ≡ suc (length before) → IsCommaFault b n c
+    → IsCaused (Machine.take_comma l (record { bracket = b; before = before; outside = outside } ∷ fs) a)
+    (comma_exceeds (record { bracket = b; before = before; outside = outside } ∷ fs)) Words.comma c
 comma_refused l fs b before outside a n causes.Syntax e h =
     let P : Machine.Bracket → Type 0 = λ k. Machine.take_comma l (record { bracket = k; before = before; outside = outside } ∷ fs) a ≡ None in
     subst P (sym h) refl
@@ -134,8 +144,12 @@ comma_refused l fs b before outside a n (causes.TooBig whats.Arguments) e h =
     let d = h.0 in
     let P : Machine.Bracket → Type 0 = λ k. IsCaused (Machine.take_comma l (record { bracket = k; before = before; outside = outside } ∷ fs) a)
     (comma_exceeds (record { bracket = k; before = before; outside = outside } ∷ fs)) Words.comma (causes.TooBig whats.Arguments) in
-    subst P (sym h.1)
-    (inside l (record { bracket = Machine.arguments d; before = a ∷ before; outside = outside } ∷ fs) nothing_pending wanted, refl, le-leb MAX_ARGUMENTS (suc (length before)) (let more = h.2 in omega arith), refl)
+    subst P (sym h.1) (
+      inside l (record { bracket = Machine.arguments d; before = a ∷ before; outside = outside } ∷ fs) nothing_pending wanted,
+      refl,
+      le-leb MAX_ARGUMENTS (suc (length before)) (let more = h.2 in omega arith),
+      refl,
+    )
 comma_refused l fs b before outside a n (causes.TooBig whats.Variables) e h = absurd h
 comma_refused l fs b before outside a n (causes.TooBig whats.Nodes) e h = absurd h
 comma_refused l fs b before outside a n (causes.TooBig whats.Nesting) e h = absurd h
@@ -154,7 +168,8 @@ with_alternative (Machine.arguments c) v = Machine.arguments c
 with_alternative Machine.elements v = Machine.elements
 with_alternative Machine.tail v = Machine.tail
 
-pub semicolon_step : (l : Outermost) (fs : List Machine.Frame) (b : Machine.Bracket) (before : List Written) (outside : Machine.Pending) (a : Written) → takes_semicolon b ≡ true
+pub semicolon_step : (l : Outermost) (fs : List Machine.Frame) (b : Machine.Bracket) (before : List Written) (outside : Machine.Pending) (a : Written)
+    → takes_semicolon b ≡ true
     → Machine.take_semicolon l (record { bracket = b; before = before; outside = outside } ∷ fs) a
     ≡ Some (inside l (record { bracket = with_alternative b (Machine.conjunction before a); before = []; outside = outside } ∷ fs) nothing_pending wanted)
 semicolon_step l fs (Machine.plain es) before outside a e = refl

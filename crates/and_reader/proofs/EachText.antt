@@ -1,17 +1,20 @@
 -- A text is read token by token, up to a refusal or its end.
-use Rattle.std.proofs.Common.{◌≡◌, ◌⊎◌, inl, inr, ℕ, zero, suc, ◌+◌, ◌≤◌, ◌<◌, Bool, true, false, List, [], ◌∷◌, ◌++◌, length, Option, Some, None, sym, refl, ap, ◌∙◌, subst, arith, append_assoc}
+use Rattle.std.proofs.Common.{◌≡◌, ◌⊎◌, inl, inr, ℕ, zero, suc, ◌+◌, ◌≤◌, ◌<◌, Bool, true, false, List, [], ◌∷◌, ◌++◌, length, Option, Some, None, sym, refl}
+use Rattle.std.proofs.Common.{ap, ◌∙◌, subst, arith, append_assoc}
 use Rattle.std.proofs.lemmas.Bool.{cases_lt}
 use Rattle.std.proofs.lemmas.List.{append-nil}
 use Rattle.and_model.specs.Lines.{Bytes}
-use Rattle.and_model.specs.Programs.{Program}
+use Rattle.and_source.specs.Source.{SourceClause, SourceProgram}
 use Rattle.and_syntax.specs.Written.{Written}
 use Rattle.and_syntax.specs.Tables
-use Rattle.and_syntax.specs.Tables.{Table, Asked, Unknown, source, empty, unknown_of, program_of}
+use Rattle.and_syntax.specs.Tables.{Table, Unknown, source, empty, unknown_of, program_of}
 use Rattle.and_language.specs.Tokens.{Answer, no_more, one, none_for, IsFront}
 use Rattle.and_language.specs.Words.{Word, Placed, before}
 use Rattle.and_language.specs.Grammar.{Sort, Statement, IsText, CanGoOn}
 use Rattle.and_language.specs.Refusals
-use Rattle.and_language.specs.Refusals.{Refusal, at, cause_of, limit_of, Takes, HasWords, IsPassed, IsDirective, directive, no_grammar, over_limit, IsTaken, IsRefused, too_long, at_word, at_clause, at_token, unended, without_query, with_unknown, statement_fault, with_statement, Reads}
+use Rattle.and_language.specs.Refusals.{Refusal, at, cause_of, limit_of, Takes, HasWords, IsPassed, IsDirective, directive, no_grammar, over_limit, IsTaken}
+use Rattle.and_language.specs.Refusals.{IsRefused, too_long, at_word, at_clause, at_token, unended, without_query, with_unknown, statement_fault}
+use Rattle.and_language.specs.Refusals.{with_statement, Reads}
 use Rattle.and_automaton.specs.Machine.{State, start, inside, opened_list, over, is_over, go, exceeds, step, run, words_of}
 use Rattle.and_automaton.proofs.Steps.{stepped, run_more}
 use Rattle.and_automaton.proofs.Texts.{joined}
@@ -25,7 +28,7 @@ use Rattle.and_reader.proofs.Judgement.{is_neck, neck_word}
 use Rattle.and_model.specs.declared.limits.TheConstants.{MAX_BYTES}
 
 abbrev Judged : Bytes → Type 0
-Judged bytes = ((P : Program) × Reads bytes P) ⊎ ((r : Refusal) × IsRefused bytes r)
+Judged bytes = ((P : SourceProgram) × Reads bytes P) ⊎ ((r : Refusal) × IsRefused bytes r)
 
 nothing_passed : (bytes : Bytes) → IsPassed bytes []
 nothing_passed bytes = passed bytes [] [] [] [] empty start refl IsText.nothing (Refusals.nothing empty) refl refl
@@ -42,7 +45,8 @@ is_directive [] x = by (is_neck x) refl
     by false e = inr (λ d. let f : is_neck x ≡ true = ap is_neck d.0 in cc)
 
 -- Behind words that are passed, of which those of the clause that is begun have led to a state.
-module _ (bytes : Bytes) (small : length bytes ≤ MAX_BYTES) (ws : List Placed) (p : Placed) (a : Answer) (hw : HasWords bytes (ws ++ p ∷ []) a) (h : IsPassed bytes ws)
+module _ (bytes : Bytes) (small : length bytes ≤ MAX_BYTES) (ws : List Placed) (p : Placed) (a : Answer) (hw : HasWords bytes (ws ++ p ∷ []) a)
+    (h : IsPassed bytes ws)
     (s : State) (ran : run true start (words_of h.begun) ≡ Some s) (on : is_over s ≡ false) where
   -- the text is judged by that word, or it is passed
   abbrev Further : Type 0
@@ -71,7 +75,8 @@ module _ (bytes : Bytes) (small : length bytes ≤ MAX_BYTES) (ws : List Placed)
 
   goes_further : (t : State) → step true s p.word ≡ Some t → is_over t ≡ false → Further
   goes_further t e o =
-      inr (passed bytes (ws ++ p ∷ []) h.whole (h.begun ++ p ∷ []) h.statements h.table t on_joined h.spelled h.taken (run_more true start h.begun p s t ran e) o)
+      inr (passed bytes (ws ++ p ∷ []) h.whole (h.begun ++ p ∷ []) h.statements h.table t on_joined h.spelled h.taken
+      (run_more true start h.begun p s t ran e) o)
 
   -- the clause or query that it ends
   abbrev ended : Sort → Written → Statement
@@ -139,11 +144,14 @@ module _ (bytes : Bytes) (small : length bytes ≤ MAX_BYTES) (ws : List Placed)
   whole_end : (T : Table) → IsTaken bytes ws T → Judged bytes
   whole_end T taken = asked T.asked refl
     where
-      known : (k : Asked) → T.asked ≡ Some k → (o : Option Unknown) → unknown_of T k ≡ o → Judged bytes
-      known k e None f = inl (program_of T k, record { size = small; words = ws; spelled = hw; table = T; taken = taken; query = k; asked = e; known = f; program = refl })
+      known : (k : SourceClause) → T.asked ≡ Some k → (o : Option Unknown) → unknown_of T k ≡ o → Judged bytes
+      known k e None f = inl (
+        program_of T k,
+        record { size = small; words = ws; spelled = hw; table = T; taken = taken; query = k; asked = e; known = f; program = refl },
+      )
       known k e (Some u) f = inr (record { cause = Refusals.unknown u.name u.arity; line = u.line }, with_unknown ws T k u small hw taken e f)
 
-      asked : (o : Option Asked) → T.asked ≡ o → Judged bytes
+      asked : (o : Option SourceClause) → T.asked ≡ o → Judged bytes
       asked None e = inr (at bytes (length bytes) Refusals.no_query, without_query ws T small hw taken e)
       asked (Some k) e = known k e (unknown_of T k) refl
 
@@ -174,7 +182,7 @@ module _ (bytes : Bytes) (small : length bytes ≤ MAX_BYTES) (n : ℕ) (front :
         | inr r ↦ judged_from bound t.end (ws ++ p ∷ []) later.0 (omega (arith, e.0)) later.2 more r
       ]
 
-pub each_judged : (bytes : Bytes) → ((P : Program) × Reads bytes P) ⊎ ((r : Refusal) × IsRefused bytes r)
+pub each_judged : (bytes : Bytes) → ((P : SourceProgram) × Reads bytes P) ⊎ ((r : Refusal) × IsRefused bytes r)
 each_judged bytes = elim (cases_lt MAX_BYTES (length bytes)) [
   | inl l ↦ inr (at bytes MAX_BYTES (Refusals.too_big source), too_long l)
   | inr small ↦

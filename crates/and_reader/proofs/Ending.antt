@@ -3,12 +3,12 @@ use Rattle.std.proofs.Common.{◌≡◌, ◌≤◌, true, false, List, [], lengt
 use Rattle.std.specs.Option.{IfSome, is_some}
 use Rattle.and_model.specs.Lines.{Bytes}
 use Rattle.and_model.specs.Programs.{Program}
-use Rattle.and_syntax.specs.Tables.{Table, empty}
+use Rattle.and_syntax.specs.Tables.{program_of, Table, empty}
 use Rattle.and_language.specs.Tokens.{no_more, line_at}
 use Rattle.and_language.specs.Words.{Placed}
 use Rattle.and_language.specs.Grammar
 use Rattle.and_language.specs.Refusals
-use Rattle.and_language.specs.Refusals.{Refusal, at, Takes, HasWords, IsTaken, IsRefused, without_query, with_unknown, IsTextOf}
+use Rattle.and_language.specs.Refusals.{Refusal, at, Takes, HasWords, IsTaken, IsRefused, without_query, with_unknown, IsTextOf, IsLiftedFrom}
 use Rattle.and_clauses.specs.Views.{table_of}
 use Rattle.and_clauses.specs.Sealing.{Seals, Refuses}
 use Rattle.and_clauses.specs.declared.data.SealFault.{SealFault}
@@ -53,7 +53,8 @@ something_there : (o : Option Begun) → is_some o ≡ true → (b : Begun) × (
 something_there None e = cc
 something_there (Some b) e = (b, refl)
 
-pub unended_text : (bytes : Bytes) (r : Reader) (ws : List Placed) → length bytes ≤ MAX_BYTES → HasWords bytes ws no_more → IsRead bytes r ws → is_some r.clause ≡ true
+pub unended_text : (bytes : Bytes) (r : Reader) (ws : List Placed) → length bytes ≤ MAX_BYTES → HasWords bytes ws no_more → IsRead bytes r ws
+    → is_some r.clause ≡ true
     → (e : ReadRefusal) → e ≡ record { line = line_at r.bytes.now (length bytes); cause = causes.Syntax } → IfSome (refusal_of e) (IsRefused bytes)
 unended_text bytes r ws small hw h s e q =
     let there = something_there r.clause s in
@@ -61,21 +62,25 @@ unended_text bytes r ws small hw h s e q =
     let Q : Bytes → Type 0 = λ bs. IsRefused bytes (record { cause = Refusals.syntax; line = line_at bs (length bytes) }) in
     subst P (sym q) (subst Q (sym h.text) (end_refused bytes r there.0 ws h there.1 small hw))
 
-pub whole_text : (bytes : Bytes) (r : Reader) (ws : List Placed) (p : Program) → length bytes ≤ MAX_BYTES → HasWords bytes ws no_more → IsRead bytes r ws → is_some r.clause ≡ false
-    → Seals (table_of r.table) p → IsTextOf bytes p
-whole_text bytes r ws p small hw h n s = record {
-  size = small;
-  words = ws;
-  spelled = hw;
-  table = table_of r.table;
-  taken = read_whole bytes r ws h (nothing_there r.clause n);
-  query = s.0;
-  asked = s.1;
-  known = s.2;
-  program = sym s.3;
-}
+pub whole_text : (bytes : Bytes) (r : Reader) (ws : List Placed) (p : Program) → length bytes ≤ MAX_BYTES → HasWords bytes ws no_more → IsRead bytes r ws
+    → is_some r.clause ≡ false
+    → Seals (table_of r.table) p → IsLiftedFrom bytes p
+whole_text bytes r ws p small hw h n s =
+    let text : IsTextOf bytes (program_of (table_of r.table) s.0) = record {
+      size = small;
+      words = ws;
+      spelled = hw;
+      table = table_of r.table;
+      taken = read_whole bytes r ws h (nothing_there r.clause n);
+      query = s.0;
+      asked = s.1;
+      known = s.2;
+      program = refl;
+    } in
+    (program_of (table_of r.table) s.0, text, s.3)
 
-seal_refused : (bytes : Bytes) (ws : List Placed) (T : Table) → length bytes ≤ MAX_BYTES → HasWords bytes ws no_more → IsTaken bytes ws T → (fault : SealFault) (x : Refusal)
+seal_refused : (bytes : Bytes) (ws : List Placed) (T : Table) → length bytes ≤ MAX_BYTES → HasWords bytes ws no_more → IsTaken bytes ws T
+    → (fault : SealFault) (x : Refusal)
     → Refuses T fault → IsSealRefusal bytes fault x → IsRefused bytes x
 seal_refused bytes ws T small hw h seals.NoQuery x f e = let P : Refusal → Type 0 = IsRefused bytes in subst P (sym e) (without_query ws T small hw h f)
 seal_refused bytes ws T small hw h (seals.Unknown name arity line) x f e =
@@ -83,7 +88,9 @@ seal_refused bytes ws T small hw h (seals.Unknown name arity line) x f e =
     subst P (sym e) (with_unknown ws T f.0 (record { name = name; arity = arity; line = line }) small hw h f.1 f.2)
 seal_refused bytes ws T small hw h seals.Memory x f e = absurd e
 
-pub sealed_text : (bytes : Bytes) (r : Reader) (ws : List Placed) → length bytes ≤ MAX_BYTES → HasWords bytes ws no_more → IsRead bytes r ws → is_some r.clause ≡ false
+pub sealed_text : (bytes : Bytes) (r : Reader) (ws : List Placed) → length bytes ≤ MAX_BYTES → HasWords bytes ws no_more → IsRead bytes r ws
+    → is_some r.clause ≡ false
     → (fault : SealFault) → Refuses (table_of r.table) fault → (o : Option Refusal) → IfSome o (IsSealRefusal bytes fault) → IfSome o (IsRefused bytes)
 sealed_text bytes r ws small hw h n fault f None e = tt
-sealed_text bytes r ws small hw h n fault f (Some x) e = seal_refused bytes ws (table_of r.table) small hw (read_whole bytes r ws h (nothing_there r.clause n)) fault x f e
+sealed_text bytes r ws small hw h n fault f (Some x) e =
+    seal_refused bytes ws (table_of r.table) small hw (read_whole bytes r ws h (nothing_there r.clause n)) fault x f e

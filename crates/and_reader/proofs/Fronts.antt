@@ -3,7 +3,9 @@ use Rattle.std.proofs.Common.{◌≡◌, ℕ, true≢false, List, [], ◌∷◌,
 use Rattle.and_model.specs.Lines.{Bytes}
 use Rattle.and_language.specs.Tokens
 use Rattle.and_language.specs.Tokens.{Token, Answer, no_more, one, none_for, Comes, HasTokens, no_token, token, Quotes}
-use Rattle.and_language.specs.Words.{Before, bracket, Word, Placed, before, IsWord, AreWords, variable_token, integer_token, name_token, symbol_token, minus_token, functor_token, quoted_token, open_bracket_token, close_bracket_token, open_list_token, close_list_token, open_brace_token, close_brace_token, comma_token, semicolon_token, bar_token, end_token}
+use Rattle.and_language.specs.Words.{Before, bracket, Word, Placed, before, IsWord, AreWords, variable_token, integer_token, name_token, symbol_token}
+use Rattle.and_language.specs.Words.{minus_token, functor_token, quoted_token, open_bracket_token, close_bracket_token, open_list_token, close_list_token}
+use Rattle.and_language.specs.Words.{open_brace_token, close_brace_token, comma_token, semicolon_token, bar_token, end_token}
 use Rattle.and_language.specs.Words as words
 use Rattle.and_language.specs.Refusals.{HasWords}
 use Rattle.and_lex.specs.Quoting.{text_between}
@@ -43,11 +45,13 @@ one_word bytes t b bar_token bar_token = refl
 one_word bytes t b end_token end_token = refl
 
 -- what comes first, seen from a minus
-first_answer : (bytes : Bytes) (a : Answer) {p : ℕ} {ts : List Token} → HasTokens bytes a p ts → (x : Answer) × Comes bytes p x × (before bytes ts a ≡ before bytes [] x)
+first_answer : (bytes : Bytes) (a : Answer) {p : ℕ} {ts : List Token} → HasTokens bytes a p ts
+    → (x : Answer) × Comes bytes p x × (before bytes ts a ≡ before bytes [] x)
 first_answer bytes a (no_token p c) = (a, c, refl)
 first_answer bytes a (token p t ts c h) = (one t, c, refl)
 
-same_before : (bytes : Bytes) (a b : Answer) {p : ℕ} {ts us : List Token} → HasTokens bytes a p ts → HasTokens bytes b p us → before bytes ts a ≡ before bytes us b
+same_before : (bytes : Bytes) (a b : Answer) {p : ℕ} {ts us : List Token} → HasTokens bytes a p ts → HasTokens bytes b p us
+    → before bytes ts a ≡ before bytes us b
 same_before bytes a b {p = p} h k =
     let x = first_answer bytes a h in
     let y = first_answer bytes b k in
@@ -67,8 +71,10 @@ front_more ws vs a b p q e (shorter es t f g) = shorter es t (ap (λ x. p ∷ x)
 compared : (bytes : Bytes) (a b : Answer) {p : ℕ} {ts us : List Token} {ws vs : List Placed} → HasTokens bytes a p ts → AreWords bytes a ts ws
     → HasTokens bytes b p us → AreWords bytes b us vs → Fronts ws vs a b
 compared bytes a b (no_token p c) words.nothing (no_token q d) words.nothing = same refl (one_answer bytes p a b c d)
-compared bytes a b (no_token p c) words.nothing (token q u us e l) (words.more v vs w ws i further) = longer (record { word = w; place = v.start } ∷ ws) u refl (one_answer bytes p a (one u) c e)
-compared bytes a b (token q u us e l) (words.more v vs w ws i further) (no_token p d) words.nothing = shorter (record { word = w; place = v.start } ∷ ws) u refl (one_answer bytes p b (one u) d e)
+compared bytes a b (no_token p c) words.nothing (token q u us e l) (words.more v vs w ws i further) =
+    longer (record { word = w; place = v.start } ∷ ws) u refl (one_answer bytes p a (one u) c e)
+compared bytes a b (token q u us e l) (words.more v vs w ws i further) (no_token p d) words.nothing =
+    shorter (record { word = w; place = v.start } ∷ ws) u refl (one_answer bytes p b (one u) d e)
 compared bytes a b (token p t ts e l) (words.more t2 ts2 w ws i further) (token p' u us f m) (words.more u2 us2 v vs j rest) =
     let tok : u ≡ t = one_is u t (one_answer bytes p (one u) (one t) f e) in
     let L : Token → Type 0 = λ x. HasTokens bytes b x.end us in
@@ -78,7 +84,8 @@ compared bytes a b (token p t ts e l) (words.more t2 ts2 w ws i further) (token 
     let j' = subst B (sym (same_before bytes a b l l')) (subst J tok j) in
     let word : w ≡ v = one_word bytes t (before bytes ts a) i j' in
     let placed : ◌≡◌ {A = Placed} (record { word = w; place = t.start }) (record { word = v; place = u.start }) =
-    ap (λ x. let y : Placed = record { word = x; place = t.start } in y) word ∙ ap (λ (x : Token). let y : Placed = record { word = v; place = x.start } in y) (sym tok) in
+    ap (λ x. let y : Placed = record { word = x; place = t.start } in y) word
+    ∙ ap (λ (x : Token). let y : Placed = record { word = v; place = x.start } in y) (sym tok) in
     front_more ws vs a b _ _ placed (compared bytes a b l further l' rest)
 
 -- two fronts of the words of a text

@@ -41,20 +41,24 @@ comes_at xs ys p q a e f h =
     subst Q f (subst P e h)
 
 pub next_is : (bytes xs : Bytes) (cursor old new : ℕ) (r : Result (Option Token) LexFault) → xs ≡ bytes → cursor ≤ old
-    → IfOk r (λ o. IfSome o (λ t. (old ≤ t.start) × (t.start < t.end) × (t.end ≤ length xs))) → IfOk r (λ o. IfSome o (λ t. new ≡ t.end)) → IsNext bytes cursor new r
+    → IfOk r (λ o. IfSome o (λ t. (old ≤ t.start) × (t.start < t.end) × (t.end ≤ length xs))) → IfOk r (λ o. IfSome o (λ t. new ≡ t.end))
+    → IsNext bytes cursor new r
 next_is bytes xs cursor old new (Ok None) e c w n = tt
 next_is bytes xs cursor old new (Ok (Some t)) e c w n = (omega arith, w.1, omega (arith, ap length e), n)
 next_is bytes xs cursor old new (Err f) e c w n = tt
 
 -- one word more is read
-pub going_more : (bytes : Bytes) (r z : Reader) (lexer later : Reading.Reading) (t : Token) (next : Result (Option Token) LexFault) (w : Word) (g : IsGoing bytes r lexer (Ok (Some t)))
+pub going_more : (bytes : Bytes) (r z : Reader) (lexer later : Reading.Reading) (t : Token) (next : Result (Option Token) LexFault) (w : Word)
+    (g : IsGoing bytes r lexer (Ok (Some t)))
     → Comes lexer.text lexer.place (answer_of next) → IsWord bytes (token_of t) (before bytes [] (answer_of next)) (kind_of t.kind) w
     → IsRead bytes z (g.words ++ record { word = w; place = t.start } ∷ []) → z.cursor.place ≤ t.start → later.text ≡ lexer.text
-    → IfOk next (λ o. IfSome o (λ u. (lexer.place ≤ u.start) × (u.start < u.end) × (u.end ≤ length lexer.text))) → IfOk next (λ o. IfSome o (λ u. later.place ≡ u.end))
+    → IfOk next (λ o. IfSome o (λ u. (lexer.place ≤ u.start) × (u.start < u.end) × (u.end ≤ length lexer.text)))
+    → IfOk next (λ o. IfSome o (λ u. later.place ≡ u.end))
     → IsGoing bytes z later next
 going_more bytes r z lexer later t next w g c i read cursor text within place = record {
   words = g.words ++ record { word = w; place = t.start } ∷ [];
-  spelled = more_words bytes g.words (token_of t) (answer_of next) w g.spelled (comes_at lexer.text bytes lexer.place t.end (answer_of next) g.text g.next_there.3 c) i;
+  spelled = more_words bytes g.words (token_of t) (answer_of next) w g.spelled
+      (comes_at lexer.text bytes lexer.place t.end (answer_of next) g.text g.next_there.3 c) i;
   read = read;
   text = text ∙ g.text;
   next_there = next_is bytes lexer.text z.cursor.place lexer.place later.place next g.text (omega (arith, cursor, g.next_there)) within place;

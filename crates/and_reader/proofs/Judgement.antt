@@ -1,19 +1,22 @@
 -- The one refusal of a text: a function of its words, to which each refusal comes.
-use Rattle.std.proofs.Common.{◌≡◌, ◌⊎◌, inl, inr, ℕ, ◌≤◌, ◌<◌, Bool, true, false, true≢false, cond, List, [], ◌∷◌, ◌++◌, length, Option, Some, None, sym, refl, ap, ◌∙◌, subst, arith, codes}
+use Rattle.std.proofs.Common.{◌≡◌, ◌⊎◌, inl, inr, ℕ, ◌≤◌, ◌<◌, Bool, true, false, true≢false, cond, List, [], ◌∷◌, ◌++◌, length, Option, Some, None, sym}
+use Rattle.std.proofs.Common.{refl, ap, ◌∙◌, subst, arith, codes}
 use Rattle.std.specs.Str.{bytes_eq}
 use Rattle.std.proofs.lemmas.Slice.Eq.{bytes_eq-Decides}
 use Rattle.and_model.specs.Lines.{Bytes}
-use Rattle.and_model.specs.Programs.{Program}
+use Rattle.and_source.specs.Source.{SourceClause, SourceProgram}
 use Rattle.and_syntax.specs.Written.{Written}
 use Rattle.and_syntax.specs.Tables
-use Rattle.and_syntax.specs.Tables.{Table, Asked, Unknown, source, empty, unknown_of, program_of}
+use Rattle.and_syntax.specs.Tables.{Table, Unknown, source, empty, unknown_of, program_of}
 use Rattle.and_language.specs.Tokens.{Token, Answer, no_more, one, none_for}
 use Rattle.and_language.specs.Words.{Word, Placed}
 use Rattle.and_language.specs.Words as words
 use Rattle.and_language.specs.Grammar.{Sort, Statement, IsText, CanGoOn}
 use Rattle.and_language.specs.Grammar as grammar
 use Rattle.and_language.specs.Refusals
-use Rattle.and_language.specs.Refusals.{Cause, Refusal, at, cause_of, limit_of, fault_at, Takes, HasWords, NoneEnds, IsPassed, IsDirective, IsRefusedWord, directive, no_grammar, over_limit, IsTaken, IsRefused, too_long, at_word, at_clause, at_token, unended, without_query, with_unknown, statement_fault, with_statement, IsTextOf}
+use Rattle.and_language.specs.Refusals.{Cause, Refusal, at, cause_of, limit_of, fault_at, Takes, HasWords, NoneEnds, IsPassed, IsDirective, IsRefusedWord}
+use Rattle.and_language.specs.Refusals.{directive, no_grammar, over_limit, IsTaken, IsRefused, too_long, at_word, at_clause, at_token, unended, without_query}
+use Rattle.and_language.specs.Refusals.{with_unknown, statement_fault, with_statement, IsTextOf}
 use Rattle.and_automaton.specs.Machine.{State, start, inside, opened_list, over, is_over, go, exceeds, step, run, words_of}
 use Rattle.and_automaton.proofs.Steps.{stepped, step_tells}
 use Rattle.and_automaton.proofs.Accepted.{and_then_tells}
@@ -87,7 +90,8 @@ both : (bytes : Bytes) (o : Outcome) (ps qs : List Placed) → outcome bytes o (
 both bytes o [] qs = refl
 both bytes o (p ∷ ps) qs = both bytes (next bytes o p) ps qs
 
-step_settled : (bytes : Bytes) (T : Table) (n : ℕ) (s t : State) (p : Placed) → step true s p.word ≡ Some t → next bytes (reached T n s) p ≡ settled bytes T (place_of s n p.place) t
+step_settled : (bytes : Bytes) (T : Table) (n : ℕ) (s t : State) (p : Placed) → step true s p.word ≡ Some t
+    → next bytes (reached T n s) p ≡ settled bytes T (place_of s n p.place) t
 step_settled bytes T n s t p e =
     let told = step_tells true s p.word t e in
     ap (gone bytes T n s p) told.1 ∙ ap (λ b. cond b (refused (at bytes p.place (limit_of p.word))) (settled bytes T (place_of s n p.place) t)) (told.0 refl)
@@ -112,12 +116,14 @@ run_settled bytes T (q ∷ ps) n s t p e =
     by (opened_list l fs k) f g h = h (opened_list l fs k) (place_of s n p.place) g
     by (over k w) f g h = cc
 
-clause_settled : (bytes : Bytes) (T : Table) (first : Placed) (others : List Placed) (q : Sort) (w : Written) → grammar.IsClause true (words_of (first ∷ others)) q w
+clause_settled : (bytes : Bytes) (T : Table) (first : Placed) (others : List Placed) (q : Sort) (w : Written)
+    → grammar.IsClause true (words_of (first ∷ others)) q w
     → outcome bytes (reached T 0 start) (first ∷ others) ≡ put bytes T (statement q w first.place) (statement_fault T (statement q w first.place))
 clause_settled bytes T first others q w c = run_settled bytes T others 0 start (over q w) first (clause_taken true c)
 
 -- whole clauses and queries
-text_settled : (bytes : Bytes) {ws : List Placed} {ss : List Statement} → IsText true ws ss → (T U : Table) → Takes bytes T ss U → outcome bytes (reached T 0 start) ws ≡ reached U 0 start
+text_settled : (bytes : Bytes) {ws : List Placed} {ss : List Statement} → IsText true ws ss → (T U : Table) → Takes bytes T ss U
+    → outcome bytes (reached T 0 start) ws ≡ reached U 0 start
 text_settled bytes IsText.nothing T U (Refusals.nothing V) = refl
 text_settled bytes (IsText.statement first others rest whole q w more is clause text) T U (Refusals.more V W s ss f h) =
     ap (outcome bytes (reached T 0 start)) is
@@ -188,28 +194,34 @@ module _ (bytes : Bytes) (ws : List Placed) (h : IsPassed bytes ws) (p : Placed)
   goes : (r : IsReached bytes ws h) (t : State) → go r.state p.word ≡ Some t → CanGoOn false (ws ++ p ∷ [])
   goes r t e =
       let G : List Placed → Type 0 = λ vs. CanGoOn false (vs ++ p ∷ []) in
-      subst G (sym h.joined) ((word_goes_on false h.whole h.begun p h.statements r.state (text_free h.whole h.statements h.spelled) (run_free start r.state (words_of h.begun) r.ran) r.on).1 (t, e))
+      subst G (sym h.joined) ((word_goes_on false h.whole h.begun p h.statements r.state (text_free h.whole h.statements h.spelled)
+      (run_free start r.state (words_of h.begun) r.ran) r.on).1 (t, e))
 
-  word_refused : (c : Cause) → IsRefusedWord ws h.begun p c → (r : IsReached bytes ws h) → next bytes (reached h.table r.place r.state) p ≡ refused (at bytes p.place c)
+  word_refused : (c : Cause) → IsRefusedWord ws h.begun p c → (r : IsReached bytes ws h)
+      → next bytes (reached h.table r.place r.state) p ≡ refused (at bytes p.place c)
   word_refused c (directive d) r =
       let is : start ≡ r.state =
       let e : ◌≡◌ {A = Option State} (Some r.state) (Some start) = sym r.ran ∙ ap (λ ps. run true start (words_of ps)) d.1 in
       cc in
       let P : State → Type 0 = λ s. gone bytes h.table r.place s p (go s p.word) ≡ refused (at bytes p.place Refusals.not_pure) in
-      let Q : Word → Type 0 = λ x. gone bytes h.table r.place start (record { word = x; place = p.place }) (go start x) ≡ refused (at bytes p.place Refusals.not_pure) in
+      let Q : Word → Type 0 = λ x. gone bytes h.table r.place start (record { word = x; place = p.place }) (go start x)
+      ≡ refused (at bytes p.place Refusals.not_pure) in
       subst P is (subst Q (sym d.0) refl)
   word_refused c (no_grammar n g) r = by (go r.state p.word) (goes r)
     where
-      by : (o : Option State) → ((t : State) → o ≡ Some t → CanGoOn false (ws ++ p ∷ [])) → gone bytes h.table r.place r.state p o ≡ refused (at bytes p.place Refusals.syntax)
+      by : (o : Option State) → ((t : State) → o ≡ Some t → CanGoOn false (ws ++ p ∷ []))
+          → gone bytes h.table r.place r.state p o ≡ refused (at bytes p.place Refusals.syntax)
       by None k = ap (λ d. refused (at bytes p.place d)) (syntax_at r.state r.first n)
       by (Some t) k = absurd (g (k t refl))
   word_refused c (over_limit f g) r =
       let G : List Placed → Type 0 = λ vs. CanGoOn false (vs ++ p ∷ []) in
-      let (t, e) = (word_goes_on false h.whole h.begun p h.statements r.state (text_free h.whole h.statements h.spelled) (run_free start r.state (words_of h.begun) r.ran) r.on).0 (subst G h.joined f) in
+      let (t, e) = (word_goes_on false h.whole h.begun p h.statements r.state (text_free h.whole h.statements h.spelled)
+      (run_free start r.state (words_of h.begun) r.ran) r.on).0 (subst G h.joined f) in
       ap (gone bytes h.table r.place r.state p) e ∙ by t (exceeds r.state p.word) (λ low. stepped true r.state p.word t (λ _. low) e)
     where
       by : (t : State) (b : Bool) → (b ≡ false → step true r.state p.word ≡ Some t)
-          → cond b (refused (at bytes p.place (limit_of p.word))) (settled bytes h.table (place_of r.state r.place p.place) t) ≡ refused (at bytes p.place (limit_of p.word))
+          → cond b (refused (at bytes p.place (limit_of p.word))) (settled bytes h.table (place_of r.state r.place p.place) t)
+          ≡ refused (at bytes p.place (limit_of p.word))
       by t true k = refl
       by t false k =
           let G : List Placed → Type 0 = λ vs. CanGoOn true (vs ++ p ∷ []) in
@@ -235,7 +247,7 @@ abbrev unknown_end : Option Unknown → Option Refusal
 unknown_end None = None
 unknown_end (Some u) = Some (record { cause = Refusals.unknown u.name u.arity; line = u.line })
 
-abbrev table_end : Bytes → Table → Option Asked → Option Refusal
+abbrev table_end : Bytes → Table → Option SourceClause → Option Refusal
 table_end bytes T None = Some (at bytes (length bytes) Refusals.no_query)
 table_end bytes T (Some a) = unknown_end (unknown_of T a)
 
@@ -268,7 +280,8 @@ not_start (over q w) n bytes T = refl
 taken_outcome : (bytes : Bytes) (ws : List Placed) (T : Table) → IsTaken bytes ws T → outcome bytes beginning ws ≡ reached T 0 start
 taken_outcome bytes ws T h = text_settled bytes h.spelled empty T h.taken
 
-refusal_told : (bytes : Bytes) (r : Refusal) → IsRefused bytes r → ((MAX_BYTES < length bytes) × (r ≡ at bytes MAX_BYTES (Refusals.too_big source))) ⊎ Tells bytes (Some r)
+refusal_told : (bytes : Bytes) (r : Refusal) → IsRefused bytes r
+    → ((MAX_BYTES < length bytes) × (r ≡ at bytes MAX_BYTES (Refusals.too_big source))) ⊎ Tells bytes (Some r)
 refusal_told bytes r (too_long l) = inl (l, refl)
 refusal_told bytes r (at_word ws p a c small hw passed i) = inr (record {
   small = small;
@@ -282,7 +295,8 @@ refusal_told bytes r (at_clause ws us a T s f small hw taken text e) = inr (reco
   words = ws ++ us;
   answer = a;
   spelled = hw;
-  judged = ap (λ o. told bytes o a) (both bytes beginning ws us ∙ (ap (λ o. outcome bytes o us) (taken_outcome bytes ws T taken) ∙ clause_outcome bytes T f s text e));
+  judged = ap (λ o. told bytes o a) (both bytes beginning ws us
+      ∙ (ap (λ o. outcome bytes o us) (taken_outcome bytes ws T taken) ∙ clause_outcome bytes T f s text e));
 })
 refusal_told bytes r (at_token ws f small hw passed) = inr (record {
   small = small;
@@ -315,25 +329,30 @@ refusal_told bytes r (with_unknown ws T a u small hw taken e f) = inr (record {
   judged = ap (λ o. told bytes o no_more) (taken_outcome bytes ws T taken) ∙ (ap (table_end bytes T) e ∙ ap unknown_end f);
 })
 
-read_told : (bytes : Bytes) (p : Program) (h : IsTextOf bytes p) → told bytes (outcome bytes beginning h.words) no_more ≡ None
-read_told bytes p h = ap (λ o. told bytes o no_more) (taken_outcome bytes h.words h.table h.taken) ∙ (ap (table_end bytes h.table) h.asked ∙ ap unknown_end h.known)
+read_told : (bytes : Bytes) (p : SourceProgram) (h : IsTextOf bytes p) → told bytes (outcome bytes beginning h.words) no_more ≡ None
+read_told bytes p h = ap (λ o. told bytes o no_more) (taken_outcome bytes h.words h.table h.taken)
+    ∙ (ap (table_end bytes h.table) h.asked ∙ ap unknown_end h.known)
 
 -- What is told before more words is told with them.
-told_longer : (bytes : Bytes) (o : Outcome) (t : Token) (es : List Placed) (b : Answer) (r : Refusal) → told bytes o (one t) ≡ Some r → told bytes (outcome bytes o es) b ≡ Some r
+told_longer : (bytes : Bytes) (o : Outcome) (t : Token) (es : List Placed) (b : Answer) (r : Refusal) → told bytes o (one t) ≡ Some r
+    → told bytes (outcome bytes o es) b ≡ Some r
 told_longer bytes (refused q) t es b r e = ap (λ x. told bytes x b) (stays bytes q es) ∙ e
 told_longer bytes (reached T n s) t es b r e = cc
 
-one_refusal_told : (bytes : Bytes) (r s : Refusal) (h : Tells bytes (Some r)) (k : Tells bytes (Some s)) → Fronts h.words k.words h.answer k.answer → ◌≡◌ {A = Option Refusal} (Some r) (Some s)
+one_refusal_told : (bytes : Bytes) (r s : Refusal) (h : Tells bytes (Some r)) (k : Tells bytes (Some s)) → Fronts h.words k.words h.answer k.answer
+    → ◌≡◌ {A = Option Refusal} (Some r) (Some s)
 one_refusal_told bytes r s h k (same e f) =
     sym h.judged ∙ (ap (λ ws. told bytes (outcome bytes beginning ws) h.answer) e ∙ (ap (told bytes (outcome bytes beginning k.words)) f ∙ k.judged))
 one_refusal_told bytes r s h k (longer es t e f) =
     let going = ap (told bytes (outcome bytes beginning h.words)) (sym f) ∙ h.judged in
     sym (told_longer bytes (outcome bytes beginning h.words) t es k.answer r going)
-    ∙ (ap (λ o. told bytes o k.answer) (sym (both bytes beginning h.words es)) ∙ (ap (λ ws. told bytes (outcome bytes beginning ws) k.answer) (sym e) ∙ k.judged))
+    ∙ (ap (λ o. told bytes o k.answer) (sym (both bytes beginning h.words es))
+    ∙ (ap (λ ws. told bytes (outcome bytes beginning ws) k.answer) (sym e) ∙ k.judged))
 one_refusal_told bytes r s h k (shorter es t e f) =
     let going = ap (told bytes (outcome bytes beginning k.words)) (sym f) ∙ k.judged in
     sym (sym (told_longer bytes (outcome bytes beginning k.words) t es h.answer s going)
-    ∙ (ap (λ o. told bytes o h.answer) (sym (both bytes beginning k.words es)) ∙ (ap (λ ws. told bytes (outcome bytes beginning ws) h.answer) (sym e) ∙ h.judged)))
+    ∙ (ap (λ o. told bytes o h.answer) (sym (both bytes beginning k.words es))
+    ∙ (ap (λ ws. told bytes (outcome bytes beginning ws) h.answer) (sym e) ∙ h.judged)))
 
 -- a text has one refusal
 pub refused_once : (bytes : Bytes) (r s : Refusal) → IsRefused bytes r → IsRefused bytes s → r ≡ s
@@ -347,7 +366,8 @@ refused_once bytes r s h k = by (refusal_told bytes r h) (refusal_told bytes s k
     by (inr x) (inr y) = let e = one_refusal_told bytes r s x y (fronts bytes x.words y.words x.answer y.answer x.spelled y.spelled) in cc
 
 -- a text that reads as a program has none
-read_told_otherwise : (bytes : Bytes) (p : Program) (r : Refusal) (h : IsTextOf bytes p) (k : Tells bytes (Some r)) → Fronts h.words k.words no_more k.answer → ⊥
+read_told_otherwise : (bytes : Bytes) (p : SourceProgram) (r : Refusal) (h : IsTextOf bytes p) (k : Tells bytes (Some r))
+    → Fronts h.words k.words no_more k.answer → ⊥
 read_told_otherwise bytes p r h k (same e f) =
     let read : told bytes (outcome bytes beginning h.words) no_more ≡ None = (read_told bytes p h) in
     let there = sym read ∙ (ap (λ ws. told bytes (outcome bytes beginning ws) no_more) e ∙ (ap (told bytes (outcome bytes beginning k.words)) f ∙ k.judged)) in
@@ -360,7 +380,7 @@ read_told_otherwise bytes p r h k (shorter es t e f) =
     ∙ (ap (λ o. told bytes o no_more) (sym (both bytes beginning k.words es)) ∙ (ap (λ ws. told bytes (outcome bytes beginning ws) no_more) (sym e) ∙ read)) in
     cc
 
-pub read_not_refused : (bytes : Bytes) (p : Program) (r : Refusal) → IsTextOf bytes p → IsRefused bytes r → ⊥
+pub read_not_refused : (bytes : Bytes) (p : SourceProgram) (r : Refusal) → IsTextOf bytes p → IsRefused bytes r → ⊥
 read_not_refused bytes p r h k = by (refusal_told bytes r k)
   where
     by : ((MAX_BYTES < length bytes) × (r ≡ at bytes MAX_BYTES (Refusals.too_big source))) ⊎ Tells bytes (Some r) → ⊥
@@ -374,11 +394,11 @@ same_words ws vs (same e f) = e
 same_words ws vs (longer es t e f) = cc
 same_words ws vs (shorter es t e f) = cc
 
-pub read_once : (bytes : Bytes) (p q : Program) → IsTextOf bytes p → IsTextOf bytes q → p ≡ q
+pub read_once : (bytes : Bytes) (p q : SourceProgram) → IsTextOf bytes p → IsTextOf bytes q → p ≡ q
 read_once bytes p q h k =
     let words : h.words ≡ k.words = same_words h.words k.words (fronts bytes h.words k.words no_more no_more h.spelled k.spelled) in
     let reached_both = sym (taken_outcome bytes h.words h.table h.taken) ∙ (ap (outcome bytes beginning) words ∙ taken_outcome bytes k.words k.table k.taken) in
     let table : h.table ≡ k.table = cc in
-    let asked : ◌≡◌ {A = Option Asked} (Some h.query) (Some k.query) = sym h.asked ∙ (ap (λ (T : Table). T.asked) table ∙ k.asked) in
+    let asked : ◌≡◌ {A = Option SourceClause} (Some h.query) (Some k.query) = sym h.asked ∙ (ap (λ (T : Table). T.asked) table ∙ k.asked) in
     let query : h.query ≡ k.query = cc in
     sym h.program ∙ (ap (λ T. program_of T h.query) table ∙ (ap (program_of k.table) query ∙ k.program))

@@ -7,6 +7,7 @@ pub mod Started
 pub mod Spelling
 pub mod ReadingLemmas
 pub mod Told
+pub mod Puts
 pub mod Going
 pub mod Ending
 pub mod Fronts

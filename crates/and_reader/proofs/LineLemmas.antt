@@ -17,10 +17,11 @@ newlines-is bs = is_count_by newlines (λ b. eqb b 10) refl newlines-cons bs
 
 pub newlines-append : (cs bs : Bytes) → newlines (cs ++ bs) ≡ newlines cs + newlines bs
 newlines-append [] bs = omega arith
-newlines-append (c ∷ cs) bs = elim (eqb c 10) as (λ v. cond v (suc (newlines (cs ++ bs))) (newlines (cs ++ bs)) ≡ cond v (suc (newlines cs)) (newlines cs) + newlines bs) [
-  | true ↦ omega (arith, newlines-append cs bs)
-  | false ↦ newlines-append cs bs
-]
+newlines-append (c ∷ cs) bs =
+    elim (eqb c 10) as (λ v. cond v (suc (newlines (cs ++ bs))) (newlines (cs ++ bs)) ≡ cond v (suc (newlines cs)) (newlines cs) + newlines bs) [
+      | true ↦ omega (arith, newlines-append cs bs)
+      | false ↦ newlines-append cs bs
+    ]
 
 -- the line of a place, counted on from one before it
 pub line_at-on : (bs : Bytes) (p q : ℕ) → p ≤ q → line_at bs p + newlines (slice_range bs p q) ≡ line_at bs q

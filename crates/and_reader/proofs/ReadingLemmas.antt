@@ -11,7 +11,9 @@ use Rattle.and_language.specs.Tokens.{Token, Answer, no_more, one, none_for, lin
 use Rattle.and_language.specs.Words.{Word, Placed}
 use Rattle.and_language.specs.Grammar.{Sort, Statement, IsText, CanGoOn}
 use Rattle.and_language.specs.Refusals
-use Rattle.and_language.specs.Refusals.{Refusal, at, cause_of, limit_of, fault_at, Takes, HasWords, NoneEnds, IsPassed, IsRefusedWord, directive, no_grammar, over_limit, IsTaken, IsRefused, at_word, at_clause, at_token, unended, without_query, with_unknown, statement_fault, with_statement, IsTextOf}
+use Rattle.and_language.specs.Refusals.{Refusal, at, cause_of, limit_of, fault_at, Takes, HasWords, NoneEnds, IsPassed, IsRefusedWord, directive, no_grammar}
+use Rattle.and_language.specs.Refusals.{over_limit, IsTaken, IsRefused, at_word, at_clause, at_token, unended, without_query, with_unknown, statement_fault}
+use Rattle.and_language.specs.Refusals.{with_statement, IsTextOf}
 use Rattle.and_automaton.specs.Machine.{State, start, over, is_over, go, step, run, words_of}
 use Rattle.and_automaton.proofs.Steps.{step_tells, run_more}
 use Rattle.and_automaton.proofs.Texts.{joined, one_clause, none_ends, begun_goes_on}
@@ -58,7 +60,8 @@ begun_more bytes place b c ps x h t e o i l d = (
 )
 
 pub read_more : (bytes : Bytes) (place : ℕ) (r : Reader) (b c : Begun) (ws : List Placed) (x : Word) (h : IsReadBefore bytes place r b ws) (t : State)
-    → step true h.rest.state x ≡ Some t → is_over t ≡ false → IsState c.parser t → c.line ≡ b.line → (draft_of c.parser.draft).line ≡ (draft_of b.parser.draft).line
+    → step true h.rest.state x ≡ Some t → is_over t ≡ false → IsState c.parser t → c.line ≡ b.line
+    → (draft_of c.parser.draft).line ≡ (draft_of b.parser.draft).line
     → IsRead bytes (record r { clause = Some c }) (ws ++ record { word = x; place = place } ∷ [])
 read_more bytes place r b c ws x h t e o i l d =
     let p : Placed = record { word = x; place = place } in
@@ -76,7 +79,8 @@ read_more bytes place r b c ws x h t e o i l d =
 
 -- Passed words.
 
-pub passed : (bytes : Bytes) (ws whole begun : List Placed) (ss : List Statement) (T : Table) (s : State) → ws ≡ whole ++ begun → IsText true whole ss → Takes bytes empty ss T
+pub passed : (bytes : Bytes) (ws whole begun : List Placed) (ss : List Statement) (T : Table) (s : State) → ws ≡ whole ++ begun → IsText true whole ss
+    → Takes bytes empty ss T
     → run true start (words_of begun) ≡ Some s → is_over s ≡ false → IsPassed bytes ws
 passed bytes ws whole begun ss T s e text taken ran o =
     let P : List Placed → Type 0 = CanGoOn true in
@@ -93,9 +97,11 @@ passed bytes ws whole begun ss T s e text taken ran o =
     }
 
 pub passed_before : (bytes : Bytes) (place : ℕ) (r : Reader) (b : Begun) (ws : List Placed) → IsReadBefore bytes place r b ws → IsPassed bytes ws
-passed_before bytes place r b ws h = passed bytes ws h.whole h.begun h.statements (table_of r.table) h.rest.state h.joined h.spelled h.taken h.rest.ran h.rest.unended
+passed_before bytes place r b ws h =
+    passed bytes ws h.whole h.begun h.statements (table_of r.table) h.rest.state h.joined h.spelled h.taken h.rest.ran h.rest.unended
 
-clause_state : (bytes : Bytes) (b : Option Begun) (ps : List Placed) → IsClause bytes b ps → (s : State) × (run true start (words_of ps) ≡ Some s) × (is_over s ≡ false)
+clause_state : (bytes : Bytes) (b : Option Begun) (ps : List Placed) → IsClause bytes b ps
+    → (s : State) × (run true start (words_of ps) ≡ Some s) × (is_over s ≡ false)
 clause_state bytes None ps e = (start, ap (λ xs. run true start (words_of xs)) e, refl)
 clause_state bytes (Some b) ps h = (h.1.state, h.1.ran, h.1.unended)
 
@@ -126,7 +132,8 @@ syntax_word bytes place r b ws p h n e =
     no_grammar (λ d. n (begins_here bytes place b h.begun h.rest d.1, d.0))
     (subst G (sym h.joined) (refused_word h.whole h.begun p h.statements h.rest.state h.spelled h.rest.ran h.rest.unended e))
 
-refused_for : (bytes : Bytes) (place : ℕ) (r : Reader) (b : Begun) (ws : List Placed) (p : Placed) (h : IsReadBefore bytes place r b ws) (c : Cause) → Refuses h.rest.state p.word c
+refused_for : (bytes : Bytes) (place : ℕ) (r : Reader) (b : Begun) (ws : List Placed) (p : Placed) (h : IsReadBefore bytes place r b ws) (c : Cause)
+    → Refuses h.rest.state p.word c
     → IfSome (views.cause_of c) (IsRefusedWord ws h.begun p)
 refused_for bytes place r b ws p h causes.Syntax x = syntax_word bytes place r b ws p h x.0 x.1
 refused_for bytes place r b ws p h causes.NotText x = absurd x
@@ -140,31 +147,38 @@ refused_for bytes place r b ws p h causes.SecondQuery x = absurd x
 refused_for bytes place r b ws p h causes.Memory x = tt
 
 -- the refusal of a word that the parser refuses
-pub word_refused : (bytes : Bytes) (place : ℕ) (r : Reader) (b : Begun) (ws : List Placed) (x : Word) (a : Answer) (h : IsReadBefore bytes place r b ws) (c : Cause) → Refuses h.rest.state x c
+pub word_refused : (bytes : Bytes) (place : ℕ) (r : Reader) (b : Begun) (ws : List Placed) (x : Word) (a : Answer) (h : IsReadBefore bytes place r b ws)
+    (c : Cause) → Refuses h.rest.state x c
     → length bytes ≤ MAX_BYTES → HasWords bytes (ws ++ record { word = x; place = place } ∷ []) a
     → IfSome (refusal_with (line_at bytes place) (views.cause_of c)) (IsRefused bytes)
 unfolding passed_before passed
 word_refused bytes place r b ws x a h c y small w = by (views.cause_of c) (refused_for bytes place r b ws (record { word = x; place = place }) h c y)
   where
-    by : (o : Option Refusals.Cause) → IfSome o (IsRefusedWord ws h.begun (record { word = x; place = place })) → IfSome (refusal_with (line_at bytes place) o) (IsRefused bytes)
+    by : (o : Option Refusals.Cause) → IfSome o (IsRefusedWord ws h.begun (record { word = x; place = place }))
+        → IfSome (refusal_with (line_at bytes place) o) (IsRefused bytes)
     by None i = tt
     by (Some d) i = at_word ws (record { word = x; place = place }) a d small w (passed_before bytes place r b ws h) i
 
 -- A clause or query is over.
 
-pub over_text : (ps : List Placed) (x : Word) (place : ℕ) (s : State) (q : Sort) (w : Written) → run true start (words_of ps) ≡ Some s → step true s x ≡ Some (over q w)
+pub over_text : (ps : List Placed) (x : Word) (place : ℕ) (s : State) (q : Sort) (w : Written) → run true start (words_of ps) ≡ Some s
+    → step true s x ≡ Some (over q w)
     → IsText true (ps ++ record { word = x; place = place } ∷ []) (record { sort = q; term = w; place = first_place ps place } ∷ [])
-over_text [] x place s q w r e = one_clause true (record { word = x; place = place }) [] q w (run_more true start [] (record { word = x; place = place }) s (over q w) r e)
-over_text (p ∷ ps) x place s q w r e = one_clause true p (ps ++ record { word = x; place = place } ∷ []) q w (run_more true start (p ∷ ps) (record { word = x; place = place }) s (over q w) r e)
+over_text [] x place s q w r e =
+    one_clause true (record { word = x; place = place }) [] q w (run_more true start [] (record { word = x; place = place }) s (over q w) r e)
+over_text (p ∷ ps) x place s q w r e =
+    one_clause true p (ps ++ record { word = x; place = place } ∷ []) q w (run_more true start (p ∷ ps) (record { word = x; place = place }) s (over q w) r e)
 
-pub takes_more : (bytes : Bytes) (V : Table) (s : Statement) {T U : Table} {ss : List Statement} → Takes bytes T ss U → statement_fault U s ≡ None → V ≡ with_statement bytes U s → Takes bytes T (ss ++ s ∷ []) V
+pub takes_more : (bytes : Bytes) (V : Table) (s : Statement) {T U : Table} {ss : List Statement} → Takes bytes T ss U → statement_fault U s ≡ None
+    → V ≡ with_statement bytes U s → Takes bytes T (ss ++ s ∷ []) V
 takes_more bytes V s (Refusals.nothing T) f e =
     let P : Table → Type 0 = λ X. Takes bytes T (s ∷ []) X in
     subst P (sym e) (Refusals.more T (with_statement bytes T s) s [] f (Refusals.nothing (with_statement bytes T s)))
 takes_more bytes V s (Refusals.more T U u us f h) g e = Refusals.more T V u (us ++ s ∷ []) f (takes_more bytes V s h g e)
 
 -- its clause or query is in the table
-pub read_over : (bytes : Bytes) (place : ℕ) (r z : Reader) (b : Begun) (ws : List Placed) (x : Word) (q : Sort) (w : Written) (h : IsReadBefore bytes place r b ws) → step true h.rest.state x ≡ Some (over q w)
+pub read_over : (bytes : Bytes) (place : ℕ) (r z : Reader) (b : Begun) (ws : List Placed) (x : Word) (q : Sort) (w : Written)
+    (h : IsReadBefore bytes place r b ws) → step true h.rest.state x ≡ Some (over q w)
     → z.bytes ≡ r.bytes → z.cursor ≡ r.cursor → z.clause ≡ None
     → statement_fault (table_of r.table) (record { sort = q; term = w; place = first_place h.begun place }) ≡ None
     → table_of z.table ≡ with_statement bytes (table_of r.table) (record { sort = q; term = w; place = first_place h.begun place })
@@ -186,7 +200,8 @@ read_over bytes place r z b ws x q w h e sb sc sn f t =
     }
 
 -- it is refused
-pub clause_refused : (bytes : Bytes) (place : ℕ) (r : Reader) (b : Begun) (ws : List Placed) (x : Word) (a : Answer) (q : Sort) (w : Written) (h : IsReadBefore bytes place r b ws) → step true h.rest.state x ≡ Some (over q w)
+pub clause_refused : (bytes : Bytes) (place : ℕ) (r : Reader) (b : Begun) (ws : List Placed) (x : Word) (a : Answer) (q : Sort) (w : Written)
+    (h : IsReadBefore bytes place r b ws) → step true h.rest.state x ≡ Some (over q w)
     → length bytes ≤ MAX_BYTES → HasWords bytes (ws ++ record { word = x; place = place } ∷ []) a → (f : Tables.Fault)
     → statement_fault (table_of r.table) (record { sort = q; term = w; place = first_place h.begun place }) ≡ Some f
     → IsRefused bytes (at bytes (first_place h.begun place) (cause_of f))
@@ -201,10 +216,12 @@ clause_refused bytes place r b ws x a q w h e small hw f g =
 
 -- The text ends.
 
-pub fault_refused : (bytes : Bytes) (r : Reader) (ws : List Placed) (f : Tokens.Fault) → IsRead bytes r ws → length bytes ≤ MAX_BYTES → HasWords bytes ws (none_for f) → IsRefused bytes (fault_at bytes f)
+pub fault_refused : (bytes : Bytes) (r : Reader) (ws : List Placed) (f : Tokens.Fault) → IsRead bytes r ws → length bytes ≤ MAX_BYTES
+    → HasWords bytes ws (none_for f) → IsRefused bytes (fault_at bytes f)
 fault_refused bytes r ws f h small hw = at_token ws f small hw (passed_words bytes r ws h)
 
-pub end_refused : (bytes : Bytes) (r : Reader) (b : Begun) (ws : List Placed) → IsRead bytes r ws → r.clause ≡ Some b → length bytes ≤ MAX_BYTES → HasWords bytes ws no_more
+pub end_refused : (bytes : Bytes) (r : Reader) (b : Begun) (ws : List Placed) → IsRead bytes r ws → r.clause ≡ Some b → length bytes ≤ MAX_BYTES
+    → HasWords bytes ws no_more
     → IsRefused bytes (at bytes (length bytes) Refusals.syntax)
 unfolding passed_words passed
 end_refused bytes r b ws h e small hw =

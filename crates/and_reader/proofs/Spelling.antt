@@ -5,7 +5,9 @@ use Rattle.std.specs.Str.{bytes_eq}
 use Rattle.and_model.specs.Lines.{Bytes}
 use Rattle.and_language.specs.Tokens.{Kind, Token, Answer, one, IsToken, Comes, HasTokens, no_token, token}
 use Rattle.and_language.specs.Tokens as tokens
-use Rattle.and_language.specs.Words.{Before, Word, Placed, bytes_of, before, IsWord, variable_token, integer_token, name_token, symbol_token, minus_token, functor_token, quoted_token, open_bracket_token, close_bracket_token, open_list_token, close_list_token, open_brace_token, close_brace_token, comma_token, semicolon_token, bar_token, end_token, AreWords}
+use Rattle.and_language.specs.Words.{Before, Word, Placed, bytes_of, before, IsWord, variable_token, integer_token, name_token, symbol_token, minus_token}
+use Rattle.and_language.specs.Words.{functor_token, quoted_token, open_bracket_token, close_bracket_token, open_list_token, close_list_token}
+use Rattle.and_language.specs.Words.{open_brace_token, close_brace_token, comma_token, semicolon_token, bar_token, end_token, AreWords}
 use Rattle.and_language.specs.Words as words
 use Rattle.and_language.specs.Refusals.{HasWords}
 use Rattle.and_lex.proofs.Written.{written}
@@ -17,7 +19,8 @@ symbol_word bytes t words.bracket true e = (words.name (bytes_of bytes t), funct
 symbol_word bytes t words.stop true e = (words.minus words.stop, minus_token e (λ h. cc))
 symbol_word bytes t words.operand true e = (words.minus words.operand, minus_token e (λ h. cc))
 
-kind_word : (bytes : Bytes) (t : Token) (b : Before) (cut : Bool) (rest : Bytes) (k : Kind) → IsToken cut k (bytes_of bytes t) rest → (w : Word) × IsWord bytes t b k w
+kind_word : (bytes : Bytes) (t : Token) (b : Before) (cut : Bool) (rest : Bytes) (k : Kind) → IsToken cut k (bytes_of bytes t) rest
+    → (w : Word) × IsWord bytes t b k w
 kind_word bytes t b cut rest tokens.variable h = (words.variable (bytes_of bytes t), variable_token)
 kind_word bytes t b cut rest tokens.name h = (words.name (bytes_of bytes t), name_token)
 kind_word bytes t b cut rest tokens.quoted h = (words.quoted h.0.0, quoted_token h.0.0 h.0.1)
@@ -48,7 +51,8 @@ each_word bytes ws t b h =
 
 -- The words before a token, and the token's own.
 
-tokens_more : (bytes : Bytes) (t : Token) (a : Answer) {p : ℕ} {ts : List Token} → HasTokens bytes (one t) p ts → Comes bytes t.end a → HasTokens bytes a p (ts ++ t ∷ [])
+tokens_more : (bytes : Bytes) (t : Token) (a : Answer) {p : ℕ} {ts : List Token} → HasTokens bytes (one t) p ts → Comes bytes t.end a
+    → HasTokens bytes a p (ts ++ t ∷ [])
 tokens_more bytes t a (no_token p c) d = token p t [] c (no_token t.end d)
 tokens_more bytes t a (token p u us e h) d = token p u (us ++ t ∷ []) e (tokens_more bytes t a h d)
 
@@ -56,7 +60,8 @@ before_same : (bytes : Bytes) (t : Token) (ts : List Token) (a : Answer) → bef
 before_same bytes t [] a = refl
 before_same bytes t (u ∷ us) a = refl
 
-words_more : (bytes : Bytes) (t : Token) (a : Answer) (w : Word) {ts : List Token} {ws : List Placed} → AreWords bytes (one t) ts ws → IsWord bytes t (before bytes [] a) t.kind w
+words_more : (bytes : Bytes) (t : Token) (a : Answer) (w : Word) {ts : List Token} {ws : List Placed} → AreWords bytes (one t) ts ws
+    → IsWord bytes t (before bytes [] a) t.kind w
     → AreWords bytes a (ts ++ t ∷ []) (ws ++ record { word = w; place = t.start } ∷ [])
 words_more bytes t a w words.nothing h = words.more t [] w [] h words.nothing
 words_more bytes t a w (words.more u us x vs i later) h =
@@ -66,7 +71,8 @@ words_more bytes t a w (words.more u us x vs i later) h =
 pub no_words : (bytes : Bytes) (a : Answer) → Comes bytes 0 a → HasWords bytes [] a
 no_words bytes a c = ([], no_token 0 c, words.nothing)
 
-pub more_words : (bytes : Bytes) (ws : List Placed) (t : Token) (a : Answer) (w : Word) → HasWords bytes ws (one t) → Comes bytes t.end a → IsWord bytes t (before bytes [] a) t.kind w
+pub more_words : (bytes : Bytes) (ws : List Placed) (t : Token) (a : Answer) (w : Word) → HasWords bytes ws (one t) → Comes bytes t.end a
+    → IsWord bytes t (before bytes [] a) t.kind w
     → HasWords bytes (ws ++ record { word = w; place = t.start } ∷ []) a
 more_words bytes ws t a w h c i =
     (h.0 ++ t ∷ [], tokens_more bytes t a h.1 c, words_more bytes t a w h.2 i)

@@ -1,5 +1,5 @@
 -- Brackets, parts and modes of a parser beside those of the machine.
-use Rattle.std.proofs.Common.{suc, ◌≡◌, ◌<◌, true, false, List, [], ◌∷◌, ◌++◌, length, refl, sym, ap, ◌∙◌, arith, subst, Option, Some, None}
+use Rattle.std.proofs.Common.{suc, IsTrue, ◌≡◌, ◌<◌, true, false, List, [], ◌∷◌, ◌++◌, length, refl, sym, ap, ◌∙◌, arith, subst, Option, Some, None}
 use Rattle.std.specs.Prelude.{reverse, nat_lt}
 use Rattle.std.proofs.lemmas.Bool.{ltb-true, ltb-false}
 use Rattle.std.specs.Option.{option_copied, is_some, MatchOption}
@@ -13,6 +13,7 @@ use Rattle.and_reader.specs.declared.state.Frame.{Frame}
 use Rattle.and_reader.specs.declared.state.ClausePart.TheVariants.{Head, Body, Query}
 use Rattle.and_automaton.specs.Machine.{at1100}
 use Rattle.and_language.specs.Grammar
+use Rattle.and_translation.specs.Bodies.{is_arrow}
 use Rattle.and_reader.specs.declared.state.Neck.{Neck}
 use Rattle.and_reader.specs.declared.state.Neck.TheVariants.{Turnstile, Arrow}
 use Rattle.and_reader.specs.Views.{neck_of}
@@ -64,6 +65,11 @@ pub no_query_behind : (n : Grammar.Neck) → Grammar.sort_of n ≡ Grammar.Sort.
 no_query_behind Grammar.turnstile e = cc e
 no_query_behind Grammar.arrow e = cc e
 
+pub rule_behind : (n : Grammar.Neck) (a b : Written) → Grammar.sort_of n ≡ Grammar.Sort.grammar_rule
+    → IsTrue (is_arrow (Grammar.binary (Grammar.symbol_of n) a b))
+rule_behind Grammar.turnstile a b e = absurd (cc e)
+rule_behind Grammar.arrow a b e = refl
+
 -- one finished term
 pub whole : (f : List Written) (w : Written) → reverse f ≡ w ∷ [] → f ≡ w ∷ []
 whole f w e = sym (reverse-reverse f) ∙ ap reverse e
@@ -82,9 +88,11 @@ none_is None e = refl
 none_is (Some x) e = absurd cc
 
 -- some terms stand before the last comma of a bracket
-pub few_before : (ts : List Written) (a : Written) (l : Machine.Outermost) (F : Frame) (Fs : List Frame) (fs : List Machine.Frame) → AreFrames (F ∷ Fs) fs → ts ≡ a ∷ waiting l fs → F.before < length ts
+pub few_before : (ts : List Written) (a : Written) (l : Machine.Outermost) (F : Frame) (Fs : List Frame) (fs : List Machine.Frame) → AreFrames (F ∷ Fs) fs
+    → ts ≡ a ∷ waiting l fs → F.before < length ts
 few_before ts a l F Fs [] h e = absurd h
-few_before ts a l F Fs (f ∷ fs) h e = let n = h.0.before in omega (arith, ap length e, length-append f.before (alternatives_in f.bracket ++ with_lefts f.outside (waiting l fs)))
+few_before ts a l F Fs (f ∷ fs) h e = let n =
+    h.0.before in omega (arith, ap length e, length-append f.before (alternatives_in f.bracket ++ with_lefts f.outside (waiting l fs)))
 
 -- what is told of an option that is no `Some`
 pub none_taken : {T A : Type 0} (o : Option T) (B : T → Type 0) → ((x : T) → o ≡ Some x → ⊥) → MatchOption o A B → A
@@ -92,7 +100,8 @@ none_taken None B f h = h
 none_taken (Some x) B f h = absurd (f x refl)
 
 -- what stands in the innermost bracket
-pub bracket_there : (P : Parser) (new : List Frame) (F : Frame) (l : Machine.Outermost) (fs : List Machine.Frame) (a : Written) → P.frames.items ≡ new ++ F ∷ [] → Finished P l fs a
+pub bracket_there : (P : Parser) (new : List Frame) (F : Frame) (l : Machine.Outermost) (fs : List Machine.Frame) (a : Written)
+    → P.frames.items ≡ new ++ F ∷ [] → Finished P l fs a
     → HasAlternatives P.draft F.alternatives F.before
 bracket_there P new F l [] a e s = absurd (popped P.frames.items new F [] e s.frames)
 bracket_there P new F l (f ∷ fs) a e s =
@@ -113,7 +122,8 @@ no_frames Fs fs e h = omega (arith, count_frames Fs fs h, ltb-false 0 (length Fs
 
 -- what is outside of brackets, joined
 pub ended : (P : Parser) (ts : List Written) (l : Machine.Outermost) (fs : List Machine.Frame) (a : Written) → Finished P l fs a → length fs ≡ 0
-    → ((w : Written) (b es rest : List Written) → terms P.draft ≡ w ∷ (b ++ (es ++ rest)) → length b ≡ P.before → length es ≡ P.alternatives → ts ≡ at1100 es b w ∷ rest)
+    → ((w : Written) (b es rest : List Written) → terms P.draft ≡ w ∷ (b ++ (es ++ rest)) → length b ≡ P.before → length es ≡ P.alternatives
+    → ts ≡ at1100 es b w ∷ rest)
     → ts ≡ at1100 l.alternatives l.before a ∷ head_in l.part
 ended P ts l (f ∷ fs) a s n h = absurd (omega arith)
 ended P ts l [] a s n h = h a l.before l.alternatives (head_in l.part) s.finished (sym s.before) (sym s.alternatives)
@@ -122,6 +132,7 @@ pub at_outermost : (P : Parser) (l : Machine.Outermost) (fs : List Machine.Frame
 at_outermost P l (f ∷ fs) a s n = absurd (omega arith)
 at_outermost P l [] a s n = s
 
-pub alternatives_there : (P : Parser) (l : Machine.Outermost) (fs : List Machine.Frame) (a : Written) → Finished P l fs a → length fs ≡ 0 → HasAlternatives P.draft P.alternatives P.before
+pub alternatives_there : (P : Parser) (l : Machine.Outermost) (fs : List Machine.Frame) (a : Written) → Finished P l fs a → length fs ≡ 0
+    → HasAlternatives P.draft P.alternatives P.before
 alternatives_there P l (f ∷ fs) a s n = absurd (omega arith)
 alternatives_there P l [] a s n = (a, l.before, l.alternatives, head_in l.part, s.finished, sym s.before, sym s.alternatives)

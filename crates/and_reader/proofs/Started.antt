@@ -6,7 +6,11 @@ use Rattle.and_syntax.specs.Written.{Written}
 use Rattle.and_language.specs.Words.{Word, Before, is_reserved}
 use Rattle.and_language.specs.Words as words
 use Rattle.and_language.specs.Grammar.{nil, Neck}
-use Rattle.and_automaton.specs.Machine.{Half, Pending, Bracket, plain, braces, arguments, elements, tail, Frame, ClausePart, head, body, query, Outermost, wanted, numeral, operand, State, start, inside, opened_list, over, Role, is_product, is_sum, is_relation, is_neck, is_none, role, nothing_pending, take_operand, take_numeral, take_relation, take_neck, take_name, take_comma, take_semicolon, take_bar, take_close_bracket, take_close_brace, take_close_list, take_end, take_functor, take_operator, at700, begins_query, closes_list, in_part, go}
+use Rattle.and_automaton.specs.Machine.{Half, Pending, Bracket, plain, braces, arguments, elements, tail, Frame, ClausePart, head, body, query, Outermost}
+use Rattle.and_automaton.specs.Machine.{wanted, numeral, operand, State, start, inside, opened_list, over, Role, is_product, is_sum, is_relation, is_neck}
+use Rattle.and_automaton.specs.Machine.{is_none, role, nothing_pending, take_operand, take_numeral, take_relation, take_neck, take_name, take_comma}
+use Rattle.and_automaton.specs.Machine.{take_semicolon, take_bar, take_close_bracket, take_close_brace, take_close_list, take_end, take_functor}
+use Rattle.and_automaton.specs.Machine.{take_operator, at700, begins_query, closes_list, in_part, go}
 
 abbrev Past : Option State → Type 0
 Past None = Unit {0}
@@ -31,7 +35,8 @@ numeral_past : (l : Outermost) (fs : List Frame) (p : Pending) (x : Word) → Pa
 numeral_past l fs p (words.integer z) = tt
 numeral_past l fs p x = tt
 
-relation_past : (l : Outermost) (fs : List Frame) (p : Pending) (w : Written) (c : Bytes) (r : Option Half) → Past (take_relation l fs (record p { relation = r }) w c)
+relation_past : (l : Outermost) (fs : List Frame) (p : Pending) (w : Written) (c : Bytes) (r : Option Half)
+    → Past (take_relation l fs (record p { relation = r }) w c)
 relation_past l fs p w c None = tt
 relation_past l fs p w c (Some h) = tt
 
@@ -49,14 +54,16 @@ name_past l fs p w c (is_neck n) = neck_past l fs n (at700 p w) l.part
 name_past l fs p w c is_none = tt
 
 bracket_past : (l : Outermost) (f : Frame) (fs : List Frame) (a : Written) (k : Bracket)
-    → (Past (take_comma l (record f { bracket = k } ∷ fs) a)) × (Past (take_bar l (record f { bracket = k } ∷ fs) a)) × (Past (take_close_bracket l (record f { bracket = k } ∷ fs) a)) × (Past (take_close_list l (record f { bracket = k } ∷ fs) a))
+    → (Past (take_comma l (record f { bracket = k } ∷ fs) a)) × (Past (take_bar l (record f { bracket = k } ∷ fs) a))
+    × (Past (take_close_bracket l (record f { bracket = k } ∷ fs) a)) × (Past (take_close_list l (record f { bracket = k } ∷ fs) a))
 bracket_past l f fs a (plain es) = (tt, tt, tt, tt)
 bracket_past l f fs a (braces es) = (tt, tt, tt, tt)
 bracket_past l f fs a (arguments c) = (tt, tt, tt, tt)
 bracket_past l f fs a elements = (tt, tt, tt, tt)
 bracket_past l f fs a tail = (tt, tt, tt, tt)
 
-closing_past : (l : Outermost) (fs : List Frame) (a : Written) → (Past (take_comma l fs a)) × (Past (take_bar l fs a)) × (Past (take_close_bracket l fs a)) × (Past (take_close_list l fs a))
+closing_past : (l : Outermost) (fs : List Frame) (a : Written)
+    → (Past (take_comma l fs a)) × (Past (take_bar l fs a)) × (Past (take_close_bracket l fs a)) × (Past (take_close_list l fs a))
 closing_past l [] a = (tt, tt, tt, tt)
 closing_past l (f ∷ fs) a = bracket_past l f fs a f.bracket
 
@@ -96,11 +103,13 @@ operator_past l fs p w f words.end = end_past l fs (at700 p w) l.part
 operator_past l fs p w f x = tt
 
 past : (s : State) (x : Word) → Past (go s x)
-past start x = either (begins_query x) (Some (in_part query)) (take_operand (record { part = head; alternatives = []; before = [] }) [] nothing_pending x) tt (operand_past (record { part = head; alternatives = []; before = [] }) [] nothing_pending x)
+past start x = either (begins_query x) (Some (in_part query)) (take_operand (record { part = head; alternatives = []; before = [] }) [] nothing_pending x) tt
+    (operand_past (record { part = head; alternatives = []; before = [] }) [] nothing_pending x)
 past (inside l fs p wanted) x = operand_past l fs p x
 past (inside l fs p numeral) x = numeral_past l fs p x
 past (inside l fs p (operand w f)) x = operator_past l fs p w f x
-past (opened_list l fs p) x = either (closes_list x) (Some (inside l fs p (operand nil None))) (take_operand l (record { bracket = elements; before = []; outside = p } ∷ fs) nothing_pending x) tt
+past (opened_list l fs p) x = either (closes_list x) (Some (inside l fs p (operand nil None)))
+    (take_operand l (record { bracket = elements; before = []; outside = p } ∷ fs) nothing_pending x) tt
     (operand_past l (record { bracket = elements; before = []; outside = p } ∷ fs) nothing_pending x)
 past (over q w) x = tt
 

@@ -1,5 +1,6 @@
 -- What becomes of finished terms.
-use Rattle.std.proofs.Common.{ℕ, zero, suc, ◌+◌, ◌-◌, ◌≡◌, ◌<◌, ◌≤◌, List, [], ◌∷◌, ◌++◌, length, take, drop, refl, sym, ap, ◌∙◌, arith, subst, Option, Some, None, Result, Ok, Err, OnOk, add-one}
+use Rattle.std.proofs.Common.{ℕ, zero, suc, ◌+◌, ◌-◌, ◌≡◌, ◌<◌, ◌≤◌, List, [], ◌∷◌, ◌++◌, length, take, drop, refl, sym, ap, ◌∙◌, arith, subst, Option, Some}
+use Rattle.std.proofs.Common.{None, Result, Ok, Err, OnOk, add-one}
 use Rattle.std.specs.Prelude.{reverse, codes}
 use mathlib.Core.List.{reverse_aux}
 use Rattle.std.proofs.lemmas.List.{reverse-append, reverse-reverse, length-reverse, length-append}
@@ -34,12 +35,15 @@ finished_one f g c count ws rest e n is =
     let back : drop k f ≡ reverse ws = ap (drop k) split ∙ back_of (reverse rest) (reverse ws) k few in
     let x : Written = Written.compound c (many (reverse ws)) in
     let now : g ≡ reverse rest ++ x ∷ [] =
-    is ∙ ap (λ (us : List Written). us ++ Written.compound c (many (drop k f)) ∷ []) front ∙ ap (λ (us : List Written). reverse rest ++ Written.compound c (many us) ∷ []) back in
+    is ∙ ap (λ (us : List Written). us ++ Written.compound c (many (drop k f)) ∷ []) front
+    ∙ ap (λ (us : List Written). reverse rest ++ Written.compound c (many us) ∷ []) back in
     ap reverse now ∙ reverse-append (reverse rest) (x ∷ []) ∙ ap (λ (us : List Written). x ∷ us) (reverse-reverse rest)
 
 -- an infix operator takes its operands
-pub infix_done : {T E : Type 0} (r : Result T E) (old new : List Written) (c : Bytes) (o : Option Half) (w : Written) (rest : List Written) → Some c ≡ name_in o → old ≡ w ∷ with_left o rest
-    → ((ws us : List Written) → old ≡ ws ++ us → length ws ≡ 2 → OnOk r (new ≡ Written.compound c (many (reverse ws)) ∷ us)) → OnOk r (new ≡ with_half o w ∷ rest)
+pub infix_done : {T E : Type 0} (r : Result T E) (old new : List Written) (c : Bytes) (o : Option Half) (w : Written) (rest : List Written)
+    → Some c ≡ name_in o → old ≡ w ∷ with_left o rest
+    → ((ws us : List Written) → old ≡ ws ++ us → length ws ≡ 2 → OnOk r (new ≡ Written.compound c (many (reverse ws)) ∷ us))
+    → OnOk r (new ≡ with_half o w ∷ rest)
 infix_done r old new c None w rest e t f = absurd cc
 infix_done r old new c (Some h) w rest e t f =
     let same : c ≡ h.operator = cc in
@@ -61,7 +65,8 @@ one_first [] lt = absurd (omega arith)
 one_first (w ∷ rest) lt = (w, rest, refl)
 
 -- and with n terms behind that
-pub some_first : (n : ℕ) (us : List Written) → n < length us → (w : Written) × (ws : List Written) × (rest : List Written) × (us ≡ w ∷ (ws ++ rest)) × (length ws ≡ n)
+pub some_first : (n : ℕ) (us : List Written) → n < length us
+    → (w : Written) × (ws : List Written) × (rest : List Written) × (us ≡ w ∷ (ws ++ rest)) × (length ws ≡ n)
 some_first n [] lt = absurd (omega arith)
 some_first n (w ∷ us) lt = let p = split n us (omega arith) in (w, p.0, p.1, ap (λ (vs : List Written). w ∷ vs) p.2, p.3) where
   split : (n : ℕ) (us : List Written) → n ≤ length us → (ws : List Written) × (rest : List Written) × (us ≡ ws ++ rest) × (length ws ≡ n)
@@ -82,14 +87,16 @@ list_is [] w = refl
 list_is (a ∷ ws) w = list_is ws (cell a w)
 
 -- one pair more
-pub pairs_step : (c : Bytes) (times i : ℕ) (old new ws rest us : List Written) (w v : Written) → i < times → old ≡ v ∷ (us ++ rest) → length us + i ≡ times → paired c us v ≡ paired c ws w
+pub pairs_step : (c : Bytes) (times i : ℕ) (old new ws rest us : List Written) (w v : Written) → i < times → old ≡ v ∷ (us ++ rest) → length us + i ≡ times
+    → paired c us v ≡ paired c ws w
     → ((xs ys : List Written) → old ≡ xs ++ ys → length xs ≡ 2 → new ≡ Written.compound c (many (reverse xs)) ∷ ys)
     → (x : Written) × (vs : List Written) × (new ≡ x ∷ (vs ++ rest)) × (length vs + (i + 1) ≡ times) × (paired c vs x ≡ paired c ws w)
 pairs_step c times i old new ws rest [] w v lt t n same f = absurd (omega arith)
 pairs_step c times i old new ws rest (a ∷ us) w v lt t n same f = (binary c a v, us, f (v ∷ a ∷ []) (us ++ rest) t refl, omega arith, same)
 
 -- and all
-pub pairs_end : (c : Bytes) (times i : ℕ) (old ws rest us : List Written) (w v : Written) → times ≤ i → old ≡ v ∷ (us ++ rest) → length us + i ≡ times → paired c us v ≡ paired c ws w
+pub pairs_end : (c : Bytes) (times i : ℕ) (old ws rest us : List Written) (w v : Written) → times ≤ i → old ≡ v ∷ (us ++ rest) → length us + i ≡ times
+    → paired c us v ≡ paired c ws w
     → old ≡ paired c ws w ∷ rest
 pairs_end c times i old ws rest [] w v le t n same = t ∙ ap (λ (x : Written). x ∷ rest) same
 pairs_end c times i old ws rest (a ∷ us) w v le t n same = absurd (omega arith)

@@ -21,7 +21,8 @@ pub some_told : {A : Type 0} (P Q : A → Type 0) (o : Option A) → ((a : A) �
 some_told P Q None f h = tt
 some_told P Q (Some a) f h = f a h
 
-pub refusal_told : {A : Type 0} (P Q : Refusal → Type 0) (r : Result A ReadRefusal) → ((a : Refusal) → P a → Q a) → IfErr r (λ e. IfSome (refusal_of e) P) → IfErr r (λ e. IfSome (refusal_of e) Q)
+pub refusal_told : {A : Type 0} (P Q : Refusal → Type 0) (r : Result A ReadRefusal) → ((a : Refusal) → P a → Q a) → IfErr r (λ e. IfSome (refusal_of e) P)
+    → IfErr r (λ e. IfSome (refusal_of e) Q)
 refusal_told P Q (Ok a) f h = tt
 refusal_told P Q (Err e) f h = some_told P Q (refusal_of e) f h
 

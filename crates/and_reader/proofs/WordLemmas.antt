@@ -38,7 +38,8 @@ no_bracket befores.Stop e = cc
 no_bracket befores.Operand e = cc
 
 -- a minus that no bracket stands right behind
-pub minus_word : (bytes : Bytes) (b : Before) (a : Seen) (s dash : Bytes) → dash ≡ codes "-" → false ≡ not (bytes_eq s dash) → before_of a ≡ b → (t : Tokens.Token) → s ≡ bytes_of bytes t
+pub minus_word : (bytes : Bytes) (b : Before) (a : Seen) (s dash : Bytes) → dash ≡ codes "-" → false ≡ not (bytes_eq s dash) → before_of a ≡ b
+    → (t : Tokens.Token) → s ≡ bytes_of bytes t
     → IsWord bytes t b Tokens.symbol (minus (before_of a))
 minus_word bytes b a s dash d e seen t h =
     let P : Before → Type 0 = λ x. IsWord bytes t x Tokens.symbol (minus (before_of a)) in
@@ -46,7 +47,8 @@ minus_word bytes b a s dash d e seen t h =
     subst P seen (minus_token (ap (λ x. bytes_eq x (codes "-")) (sym h) ∙ same) (no_bracket a))
 
 -- and one that a bracket stands right behind
-pub functor_word : (bytes : Bytes) (b : Before) (s dash : Bytes) → dash ≡ codes "-" → false ≡ not (bytes_eq s dash) → bracket ≡ b → (t : Tokens.Token) → s ≡ bytes_of bytes t
+pub functor_word : (bytes : Bytes) (b : Before) (s dash : Bytes) → dash ≡ codes "-" → false ≡ not (bytes_eq s dash) → bracket ≡ b → (t : Tokens.Token)
+    → s ≡ bytes_of bytes t
     → IsWord bytes t b Tokens.symbol (name s)
 functor_word bytes b s dash d e seen t h =
     let P : Bytes → Type 0 = λ x. IsWord bytes t b Tokens.symbol (name x) in
@@ -54,7 +56,8 @@ functor_word bytes b s dash d e seen t h =
     subst P (sym h) (functor_token (ap (λ x. bytes_eq x (codes "-")) (sym h) ∙ same) (sym seen))
 
 -- a quoted token has a text
-pub quoted_text : (bytes : Bytes) (p : ℕ) (tok : Tokens.Token) → Comes bytes p (one tok) → tok.kind ≡ Tokens.quoted → (text : Bytes) × Quotes (bytes_of bytes tok) text
+pub quoted_text : (bytes : Bytes) (p : ℕ) (tok : Tokens.Token) → Comes bytes p (one tok) → tok.kind ≡ Tokens.quoted
+    → (text : Bytes) × Quotes (bytes_of bytes tok) text
 quoted_text bytes p tok h q =
     let (cut, rest, is) = written bytes p tok h in
     let P : Tokens.Kind → Type 0 = λ k. IsToken cut k (bytes_of bytes tok) rest in

@@ -1,5 +1,6 @@
 -- What the parts of a parser do, piece by piece with the machine.
-use Rattle.std.specs.Prelude.{ℕ, ◌≤◌, ◌≡◌, Bool, true, false, IsTrue, List, [], ◌∷◌, ◌++◌, length, reverse, Option, Some, None, Result, Ok, Err, cond, codes}
+use Rattle.std.specs.Prelude.{ℕ, ◌≤◌, ◌≡◌, Bool, true, false, IsTrue, List, [], ◌∷◌, ◌++◌, length, reverse, Option}
+use Rattle.std.specs.Prelude.{Some, None, Result, Ok, Err, cond, codes}
 use Rattle.std.specs.Str.{bytes_eq}
 use Rattle.and_model.specs.Lines.{Bytes}
 use Rattle.and_syntax.specs.Written.{Written}
@@ -12,6 +13,7 @@ use Rattle.and_language.specs.Grammar.{binary}
 use Rattle.and_automaton.specs.Machine
 use Rattle.and_automaton.specs.Machine.{Half, Outermost, State, over, is_over, depth}
 use Rattle.and_clauses.specs.Drafts.{draft_of}
+use Rattle.and_translation.specs.Bodies.{is_arrow}
 use Rattle.and_clauses.specs.Views.{is_asking}
 use Rattle.and_clauses.specs.Faults.{what_of}
 use Rattle.and_clauses.specs.declared.draft.ClauseDraft.{ClauseDraft}
@@ -25,7 +27,8 @@ use Rattle.and_reader.specs.declared.refusal.Cause.TheVariants as causes
 use Rattle.and_reader.specs.declared.words.First.{First}
 use Rattle.and_reader.specs.declared.words.First.TheVariants as firsts
 use Rattle.and_reader.specs.Views.{sort_of}
-use Rattle.and_reader.specs.Standing.{terms, part_of, name_in, IsPending, AreFrames, with_left, with_lefts, waiting, Stands, IsState}
+use Rattle.and_reader.specs.Standing.{terms, part_of, name_in, IsPending, AreFrames, with_left, with_lefts, waiting}
+use Rattle.and_reader.specs.Standing.{Stands, IsState}
 use Rattle.and_model.specs.declared.limits.TheConstants.{MAX_ARGUMENTS, MAX_NESTING}
 
 -- terms (the latest first) and then w, joined by a name from the right
@@ -35,15 +38,18 @@ paired c (a ∷ ws) w = paired c ws (binary c a w)
 
 -- the latest finished terms are an operand and, where an operator of that name is pending, its left operand
 abbrev pub HasInfix : ClauseDraft → Option Bytes → Type 0
-HasInfix d c = (o : Option Half) × (w : Written) × (rest : List Written) × (c ≡ name_in o) × (terms d ≡ w ∷ with_left o rest)
+HasInfix d c = (o : Option Half) × (w : Written) × (rest : List Written) × (c ≡ name_in o)
+    × (terms d ≡ w ∷ with_left o rest)
 
 -- the latest finished terms are one, those before so many commas, and those before so many semicolons
 abbrev pub HasAlternatives : ClauseDraft → ℕ → ℕ → Type 0
-HasAlternatives d n m = (w : Written) × (b es rest : List Written) × (terms d ≡ w ∷ (b ++ (es ++ rest))) × (length b ≡ m) × (length es ≡ n)
+HasAlternatives d n m = (w : Written) × (b es rest : List Written) × (terms d ≡ w ∷ (b ++ (es ++ rest)))
+    × (length b ≡ m) × (length es ≡ n)
 
 -- the latest finished terms are an operand and the left operands of what is pending
 abbrev pub HasOperand : ClauseDraft → Pending → Type 0
-HasOperand d P = (p : Machine.Pending) × (w : Written) × (rest : List Written) × IsPending P p × (terms d ≡ w ∷ with_lefts p rest)
+HasOperand d P = (p : Machine.Pending) × (w : Written) × (rest : List Written) × IsPending P p
+    × (terms d ≡ w ∷ with_lefts p rest)
 
 -- The parser has these brackets open; its latest finished term is a, and nothing is pending with it.
 pub record Finished (P : Parser) (l : Outermost) (fs : List Machine.Frame) (a : Written) : Type 0 where
@@ -60,7 +66,8 @@ abbrev pub IsBefore : Parser → Type 0
 IsBefore P = (l : Outermost) × (fs : List Machine.Frame) × (p : Machine.Pending) × Stands P l fs p []
 
 abbrev pub IsBehind : Parser → Type 0
-IsBehind P = (l : Outermost) × (fs : List Machine.Frame) × (p : Machine.Pending) × (w : Written) × Stands P l fs p (w ∷ [])
+IsBehind P = (l : Outermost) × (fs : List Machine.Frame) × (p : Machine.Pending) × (w : Written)
+    × Stands P l fs p (w ∷ [])
 
 abbrev pub IsFinished : Parser → Type 0
 IsFinished P = (l : Outermost) × (fs : List Machine.Frame) × (a : Written) × Finished P l fs a
@@ -70,7 +77,8 @@ abbrev pub IsCaused : Option State → Bool → Word → Cause → Type 0
 IsCaused s b x causes.Syntax = s ≡ None
 IsCaused s b x causes.NotText = ⊥
 IsCaused s b x causes.TooWide = (t : State) × (s ≡ Some t) × (b ≡ true) × (Refusals.too_wide ≡ limit_of x)
-IsCaused s b x (causes.TooBig what) = (t : State) × (s ≡ Some t) × (b ≡ true) × (Refusals.too_big (what_of what) ≡ limit_of x)
+IsCaused s b x (causes.TooBig what) = (t : State) × (s ≡ Some t) × (b ≡ true)
+    × (Refusals.too_big (what_of what) ≡ limit_of x)
 IsCaused s b x causes.NotPure = ⊥
 IsCaused s b x (causes.Redefines c n) = ⊥
 IsCaused s b x (causes.Unknown c n) = ⊥
@@ -82,7 +90,9 @@ IsCaused s b x causes.Memory = Unit {0}
 abbrev pub Answered : Option State → Bool → Word → Result Next Cause → Parser → Type 0
 Answered s b x (Ok next.Inside) P = (t : State) × (s ≡ Some t) × (b ≡ false) × (is_over t ≡ false) × IsState P t
 Answered s b x (Ok (next.Over sort)) P =
-    (w : Written) × (s ≡ Some (over (sort_of sort) w)) × (b ≡ false) × ((draft_of P.draft).finished ≡ w ∷ []) × (sort_of sort ≡ Grammar.Sort.query → IsTrue (is_asking w))
+    (w : Written) × (s ≡ Some (over (sort_of sort) w)) × (b ≡ false) × ((draft_of P.draft).finished ≡ w ∷ [])
+    × (sort_of sort ≡ Grammar.Sort.query → IsTrue (is_asking w))
+    × (sort_of sort ≡ Grammar.Sort.grammar_rule → IsTrue (is_arrow w))
 Answered s b x (Err c) P = IsCaused s b x c
 
 -- why no comma stands in a bracket, where n arguments or elements are before it
@@ -117,7 +127,8 @@ takes_semicolon Machine.tail = false
 
 -- what the first word of a clause begins
 abbrev pub first_of : Word → First
-first_of (Words.name c) = cond (bytes_eq c (codes "?-")) firsts.Query (cond (bytes_eq c (codes ":-")) firsts.Directive firsts.Other)
+first_of (Words.name c) =
+    cond (bytes_eq c (codes "?-")) firsts.Query (cond (bytes_eq c (codes ":-")) firsts.Directive firsts.Other)
 first_of x = firsts.Other
 
 -- the word is a bracket right behind the word before it

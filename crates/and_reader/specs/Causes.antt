@@ -7,7 +7,8 @@ use Rattle.and_clauses.specs.Faults.{what_of}
 use Rattle.and_clauses.specs.declared.data.SealFault.{SealFault}
 use Rattle.and_clauses.specs.declared.data.SealFault.TheVariants as seals
 use Rattle.and_reader.specs.declared.refusal.Cause.{Cause}
-use Rattle.and_reader.specs.declared.refusal.Cause.TheVariants.{Syntax, NotText, TooWide, TooBig, NotPure, Redefines, Unknown, NoQuery, SecondQuery, Memory}
+use Rattle.and_reader.specs.declared.refusal.Cause.TheVariants.{Syntax, NotText, TooWide, TooBig, NotPure, Redefines}
+use Rattle.and_reader.specs.declared.refusal.Cause.TheVariants.{Unknown, NoQuery, SecondQuery, Memory}
 use Rattle.and_reader.specs.declared.refusal.ReadRefusal.{ReadRefusal}
 
 -- why a text is refused, if not for want of memory

@@ -1,11 +1,13 @@
 -- How far a text is read.
 use Rattle.std.specs.Prelude.{ℕ, ◌≡◌, ◌++◌, true, false, List, [], ◌∷◌, Option, Some, None}
 use Rattle.and_model.specs.Lines.{Bytes}
-use Rattle.and_syntax.specs.Tables.{empty, Table, Fault}
+use Rattle.and_syntax.specs.Written.{Written}
+use Rattle.and_syntax.specs.Tables.{empty, Table, Fault, clause_fault, with_clause}
+use Rattle.and_translation.specs.Translation.{translated}
 use Rattle.and_language.specs.Tokens.{line_at}
 use Rattle.and_language.specs.Words.{Word, Placed}
 use Rattle.and_language.specs.Grammar.{Sort, Statement, IsText}
-use Rattle.and_language.specs.Refusals.{Takes, Refusal, at, cause_of, statement_fault, with_statement}
+use Rattle.and_language.specs.Refusals.{Takes, Refusal, at, cause_of, rule_fault, statement_fault, with_statement}
 use Rattle.and_automaton.specs.Machine.{State, start, is_over, run, words_of}
 use Rattle.and_clauses.specs.Drafts.{Draft, draft_of}
 use Rattle.and_clauses.specs.Views.{table_of}
@@ -18,7 +20,8 @@ abbrev pub first_place : List Placed → ℕ → ℕ
 first_place [] n = n
 first_place (p ∷ ps) n = p.place
 
--- The clause of these words is begun: its parser stands for the state behind them, and its line is that of the first of them (or of the place, where there are none yet).
+-- The clause of these words is begun: its parser stands for the state behind them, and its line is that of the first
+-- of them (or of the place, where there are none yet).
 pub record IsBegun (bytes : Bytes) (place : ℕ) (b : Begun) (words : List Placed) : Type 0 where
   pub state : State
   pub ran : run true start (words_of words) ≡ Some state
@@ -33,7 +36,7 @@ abbrev pub IsClause : Bytes → Option Begun → List Placed → Type 0
 IsClause bytes None words = words ≡ []
 IsClause bytes (Some b) words = (words ≡ [] → ⊥) × IsBegun bytes 0 b words
 
--- The reader's table has the clauses and queries of the words before those begun, of which more is said.
+-- The reader's table has the clauses, queries and rules of the words before those begun, of which more is said.
 pub record Reads (bytes : Bytes) (r : Reader) (words : List Placed) (IsRest : List Placed → Type 0) : Type 0 where
   pub text : r.bytes.now ≡ bytes
   pub line : r.cursor.line ≡ line_at bytes r.cursor.place
@@ -63,10 +66,18 @@ pub record IsDraftOf (bytes : Bytes) (draft : Draft) (sort : Sort) (s : Statemen
   pub term : draft.finished ≡ s.term ∷ []
   pub line : draft.line ≡ line_at bytes s.place
 
--- the clause or query is added to a table, which becomes the other
+-- A term is added to a table as a clause on that line; or the clause for which it stands as a rule is. The table
+-- becomes the other.
+abbrev pub IsPut : Table → Written → ℕ → Table → Type 0
+IsPut T w line U = (clause_fault T w ≡ None) × (U ≡ with_clause T w line)
+
+abbrev pub IsRulePut : Table → Written → ℕ → Table → Type 0
+IsRulePut T w line U = (rule_fault T w ≡ None) × (U ≡ with_clause T (translated w) line)
+
+-- the clause, query or rule is added to a table, which becomes the other
 abbrev pub IsAdded : Bytes → Table → Statement → Table → Type 0
 IsAdded bytes T s U = (statement_fault T s ≡ None) × (U ≡ with_statement bytes T s)
 
--- the clause or query is refused for a fault, at its place
+-- the clause, query or rule is refused for a fault, at its place
 abbrev pub IsFaultOf : Bytes → Table → Statement → Refusal → Type 0
 IsFaultOf bytes T s r = (f : Fault) × (statement_fault T s ≡ Some f) × (r ≡ at bytes s.place (cause_of f))

@@ -3,7 +3,8 @@ use Rattle.std.specs.Prelude.{ℕ, ◌++◌, codes}
 use Rattle.std.specs.Fmt.{decimal}
 use Rattle.and_model.specs.Lines.{Bytes, shown_name}
 use Rattle.and_syntax.specs.Tables.{What, source, clauses, arguments, variables, nodes, nesting}
-use Rattle.and_language.specs.Refusals.{Cause, syntax, not_text, too_wide, too_big, not_pure, redefines, unknown, no_query, second_query, Refusal}
+use Rattle.and_language.specs.Refusals.{Cause, syntax, not_text, too_wide, too_big, not_pure, redefines, unknown}
+use Rattle.and_language.specs.Refusals.{no_query, second_query, Refusal}
 
 abbrev pub what_text : What → Bytes
 what_text source = codes "source"

@@ -1,5 +1,6 @@
 -- What state of the machine a parser stands for.
-use Rattle.std.specs.Prelude.{ℕ, ◌+◌, ◌<◌, ◌≤◌, ◌≡◌, true, false, IsTrue, List, [], ◌∷◌, ◌++◌, length, reverse, Option, Some, None, Result, Ok, Err, codes}
+use Rattle.std.specs.Prelude.{ℕ, ◌+◌, ◌<◌, ◌≤◌, ◌≡◌, true, false, IsTrue, List, [], ◌∷◌, ◌++◌, length, reverse}
+use Rattle.std.specs.Prelude.{Option, Some, None, Result, Ok, Err, codes}
 use Rattle.std.specs.Option.{option_copied}
 use Rattle.and_model.specs.Lines.{Bytes}
 use Rattle.and_syntax.specs.Written
@@ -11,6 +12,7 @@ use Rattle.and_language.specs.Refusals.{limit_of}
 use Rattle.and_automaton.specs.Machine
 use Rattle.and_automaton.specs.Machine.{Half, Outermost, State, start, over, is_over, depth, go, exceeds, step}
 use Rattle.and_clauses.specs.Drafts.{draft_of}
+use Rattle.and_translation.specs.Bodies.{is_arrow}
 use Rattle.and_clauses.specs.Views.{is_asking}
 use Rattle.and_clauses.specs.Faults.{what_of}
 use Rattle.and_clauses.specs.declared.draft.ClauseDraft.{ClauseDraft}
@@ -112,7 +114,8 @@ waiting l [] = l.before ++ (l.alternatives ++ head_in l.part)
 waiting l (f ∷ fs) = f.before ++ (alternatives_in f.bracket ++ with_lefts f.outside (waiting l fs))
 
 -- The parser has these brackets open and these operators pending; among its finished terms ws are the latest.
-pub record Stands (P : Parser) (l : Outermost) (fs : List Machine.Frame) (p : Machine.Pending) (ws : List Written) : Type 0 where
+pub record Stands (P : Parser) (l : Outermost) (fs : List Machine.Frame) (p : Machine.Pending)
+    (ws : List Written) : Type 0 where
   pub part : P.part ≡ part_of l.part
   pub alternatives : P.alternatives ≡ length l.alternatives
   pub before : P.before ≡ length l.before
@@ -132,8 +135,10 @@ IsState P start = (P.mode ≡ Start) × StandsFirst P
 IsState P (Machine.inside l fs p Machine.wanted) = (P.mode ≡ Wanted) × Stands P l fs p []
 IsState P (Machine.inside l fs p Machine.numeral) = (P.mode ≡ Numeral) × Stands P l fs p []
 IsState P (Machine.inside l fs p (Machine.operand w None)) = (P.mode ≡ Operand) × Stands P l fs p (w ∷ [])
-IsState P (Machine.inside l fs p (Machine.operand w (Some c))) = (n : Name) × (P.mode ≡ Atom n) × (name_of n ≡ c) × (w ≡ Written.compound c Written.none) × Stands P l fs p []
-IsState P (Machine.opened_list l fs p) = (P.mode ≡ OpenedList) × (p.minuses + depth fs < MAX_NESTING) × Stands P l fs p []
+IsState P (Machine.inside l fs p (Machine.operand w (Some c))) =
+    (n : Name) × (P.mode ≡ Atom n) × (name_of n ≡ c) × (w ≡ Written.compound c Written.none) × Stands P l fs p []
+IsState P (Machine.opened_list l fs p) = (P.mode ≡ OpenedList) × (p.minuses + depth fs < MAX_NESTING)
+    × Stands P l fs p []
 IsState P (over q t) = ⊥
 
 -- an integer is at most 2 ^ 63, as that of a token is
@@ -149,7 +154,8 @@ IsDirective s x = (s ≡ start) × (x ≡ Words.name (codes ":-"))
 abbrev pub IsOver : State → Words.Word → Refusals.Cause → Type 0
 IsOver s x c = (t : State) × (go s x ≡ Some t) × (exceeds s x ≡ true) × (c ≡ limit_of x)
 
--- In the state, the word is refused for that cause. (Of want of memory nothing is said; no word is refused for another cause than these.)
+-- In the state, the word is refused for that cause. (Of want of memory nothing is said; no word is refused for
+-- another cause than these.)
 abbrev pub Refuses : State → Words.Word → Cause → Type 0
 Refuses s x causes.Syntax = (IsDirective s x → ⊥) × (go s x ≡ None)
 Refuses s x causes.NotText = ⊥
@@ -162,8 +168,11 @@ Refuses s x causes.NoQuery = ⊥
 Refuses s x causes.SecondQuery = ⊥
 Refuses s x causes.Memory = Unit {0}
 
--- In the state, the word is answered so: the clause goes on, and the parser stands for the state behind the word; it is over, of that sort, and the draft has its term; or the word is refused.
+-- In the state, the word is answered so: the clause goes on, and the parser stands for the state behind the word; it
+-- is over, of that sort, and the draft has its term; or the word is refused.
 abbrev pub Answers : State → Words.Word → Result Next Cause → Parser → Type 0
 Answers s x (Ok next.Inside) P = (t : State) × (step true s x ≡ Some t) × (is_over t ≡ false) × IsState P t
-Answers s x (Ok (next.Over sort)) P = (w : Written) × (step true s x ≡ Some (over (sort_of sort) w)) × ((draft_of P.draft).finished ≡ w ∷ []) × (sort_of sort ≡ Grammar.Sort.query → IsTrue (is_asking w))
+Answers s x (Ok (next.Over sort)) P = (w : Written) × (step true s x ≡ Some (over (sort_of sort) w))
+    × ((draft_of P.draft).finished ≡ w ∷ []) × (sort_of sort ≡ Grammar.Sort.query → IsTrue (is_asking w))
+    × (sort_of sort ≡ Grammar.Sort.grammar_rule → IsTrue (is_arrow w))
 Answers s x (Err c) P = Refuses s x c

@@ -3,17 +3,17 @@
 
 ghost use Rattle.std.specs.Prelude.{◌≡◌, ◌⊎◌};
 ghost use Rattle.and_model.specs.Lines.{Bytes};
-ghost use Rattle.and_model.specs.Programs.{Program};
+ghost use Rattle.and_source.specs.Source.{SourceProgram};
 ghost use Rattle.and_language.specs.Refusals.{Refusal, Reads, IsRefused};
 
 /// One program: a text that reads as two programs reads as one.
 pub fn one_program()
-    ensures { (bytes : Bytes) (p q : Program) → Reads bytes p → Reads bytes q → p ≡ q }
+    ensures { (bytes : Bytes) (p q : SourceProgram) → Reads bytes p → Reads bytes q → p ≡ q }
 {}
 
 /// One refusal: a text that reads as a program is not refused, and a refused text has one refusal.
 pub fn one_refusal()
-    ensures read { (bytes : Bytes) (p : Program) (r : Refusal)
+    ensures read { (bytes : Bytes) (p : SourceProgram) (r : Refusal)
         → Reads bytes p → IsRefused bytes r → ⊥ }
     ensures refused { (bytes : Bytes) (r s : Refusal)
         → IsRefused bytes r → IsRefused bytes s → r ≡ s }
@@ -22,5 +22,5 @@ pub fn one_refusal()
 /// Each text is read or refused: each list of bytes reads as a program, or is refused.
 pub fn each_text_is_read_or_refused()
     ensures { (bytes : Bytes)
-        → ((P : Program) × Reads bytes P) ⊎ ((r : Refusal) × IsRefused bytes r) }
+        → ((P : SourceProgram) × Reads bytes P) ⊎ ((r : Refusal) × IsRefused bytes r) }
 {}

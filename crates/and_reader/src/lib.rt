@@ -5,6 +5,7 @@ mod emitting;
 mod laws;
 mod lines;
 mod parser;
+mod putting;
 mod reading;
 mod refusal;
 mod state;
@@ -12,5 +13,6 @@ mod words;
 
 pub use and_clauses::{Loaded, What};
 pub use laws::{each_text_is_read_or_refused, one_program, one_refusal};
+pub use lines::line_at;
 pub use reading::read_program;
 pub use refusal::{Cause, ReadRefusal, refusal_text};

@@ -12,8 +12,8 @@ fn newlines(bytes: &[u8]) -> u32
     bytes.iter().filter(|byte| **byte == b'\n').count() as u32
 }
 
-/// The line of a place.
-pub(crate) fn line_at(bytes: &[u8], place: usize) -> u32
+/// The line of a place. Takes no memory.
+pub fn line_at(bytes: &[u8], place: usize) -> u32
     requires { min place (length bytes.now) < 2 ^ 32 - 1 }
     ensures { result ≡ line_at bytes.now place }
 {

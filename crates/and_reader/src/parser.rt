@@ -412,7 +412,8 @@ impl<'a> Parser<'a> {
     pub(crate) fn begin(&mut self, part: ClausePart, alternatives: usize, before: usize)
         ensures ok { (l : Outermost)
             → length (reverse self.old.frames.items) ≡ 0 → part ≡ part_of l.part
-            → alternatives ≡ length l.alternatives → before ≡ length l.before → self.old.depth ≡ 0 → terms self.old.draft ≡ waiting l []
+            → alternatives ≡ length l.alternatives → before ≡ length l.before → self.old.depth ≡ 0
+            → terms self.old.draft ≡ waiting l []
             → IsState self.new (inside l [] nothing_pending wanted) }
         ensures line { (draft_of self.new.draft).line ≡ (draft_of self.old.draft).line }
     {

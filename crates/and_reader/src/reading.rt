@@ -7,11 +7,11 @@ ghost use Rattle.and_model.specs.Lines.{Bytes};
 ghost use Rattle.and_language.specs.Tokens.{line_at, Answer, no_more};
 ghost use Rattle.and_language.specs.Words.{Placed};
 ghost use Rattle.and_language.specs.Grammar.{Statement};
-ghost use Rattle.and_language.specs.Refusals.{Reads, IsRefused, HasWords, statement_fault};
+ghost use Rattle.and_language.specs.Refusals.{IsLiftedFrom, IsRefused, HasWords};
+ghost use Rattle.and_translation.specs.Bodies.{is_rule};
 ghost use Rattle.and_clauses.specs.Drafts.{draft_of};
 ghost use Rattle.and_clauses.specs.Views.{table_of, is_query as asks};
 ghost use Rattle.and_program.specs.Loaded.{program_of};
-ghost use Rattle.and_clauses.specs.Faults.{fault_of};
 ghost use Rattle.and_reader.specs.Views.{word_of as word_shown, sort_of};
 ghost use Rattle.and_reader.specs.Standing.{IsFit};
 ghost use Rattle.and_reader.specs.Causes.{refusal_of};
@@ -21,10 +21,11 @@ ghost use Rattle.and_model.specs.declared.limits.TheConstants.{MAX_BYTES};
 
 use crate::lines::{Cursor, line_at};
 use crate::parser::Parser;
+use crate::putting::put;
 use crate::refusal::{Cause, ReadRefusal, fault_refusal, seal_refusal, table_cause};
 use crate::state::{Next, Sort};
 use crate::words::{Word, word_of};
-use and_clauses::{ClauseDraft, ClauseTable, Loaded, TableFault, What};
+use and_clauses::{ClauseTable, Loaded, What};
 use and_lex::Lexer;
 use and_model::limits::MAX_BYTES;
 use std::alloc::Global;
@@ -54,28 +55,6 @@ fn memory() -> ReadRefusal
     ReadRefusal {
         line: 1,
         cause: Cause::Memory,
-    }
-}
-
-/// Puts a whole clause or query into the table. A grammar rule is not pure.
-fn put(table: &mut ClauseTable, draft: ClauseDraft, sort: Sort) -> Result<(), TableFault>
-    requires whole { length (draft_of draft).finished ≡ 1 }
-    requires query { sort_of sort ≡ StatementSort.query → IsTrue (asks (draft_of draft).finished) }
-    ensures added { (bytes : Bytes) (s : Statement)
-        → IsDraftOf bytes (draft_of draft) (sort_of sort) s
-        → OnOk result (IsAdded bytes (table_of table.old) s (table_of table.new)) }
-    ensures refused { (bytes : Bytes) (s : Statement)
-        → IsDraftOf bytes (draft_of draft) (sort_of sort) s
-        → IfErr result (λ e. IfSome (fault_of e)
-        (λ f. statement_fault (table_of table.old) s ≡ Some f)) }
-{
-    match sort {
-        Sort::Query => table.set_query(draft),
-        Sort::Clause => match table.add_clause(draft) {
-            Ok(_) => Ok(()),
-            Err(fault) => Err(fault),
-        },
-        Sort::GrammarRule => Err(TableFault::NotPure),
     }
 }
 
@@ -117,6 +96,8 @@ impl<'a> Reader<'a> {
         requires whole { length (draft_of begun.parser.draft).finished ≡ 1 }
         requires query { sort_of sort ≡ StatementSort.query
             → IsTrue (asks (draft_of begun.parser.draft).finished) }
+        requires rule { sort_of sort ≡ StatementSort.grammar_rule
+            → IsTrue (is_rule (draft_of begun.parser.draft).finished) }
         ensures added { (bytes : Bytes) (s : Statement)
             → IsDraftOf bytes (draft_of begun.entry.parser.draft) (sort_of sort) s
             → OnOk result (IsAdded bytes (table_of self.old.table) s (table_of self.new.table)) }
@@ -130,7 +111,7 @@ impl<'a> Reader<'a> {
         ensures clause { self.new.clause ≡ self.old.clause }
     {
         let Begun { line, parser } = begun;
-        match put(&mut self.table, parser.draft, sort) {
+        match put(self.alloc, &mut self.table, parser.draft, sort) {
             Ok(()) => Ok(()),
             Err(fault) => Err(ReadRefusal {
                 line,
@@ -198,10 +179,10 @@ impl<'a> Reader<'a> {
     }
 }
 
-/// Reads a text. It is a program exactly where the text is in the grammar, and then the grammar's;
-/// any other refusal than want of memory is the text's first.
+/// Reads a text. It is a program exactly where the text is in the grammar, and then that to which
+/// the grammar's is lifted; any other refusal than want of memory is the text's first.
 pub fn read_program(alloc: Global, bytes: &[u8]) -> Result<Loaded, ReadRefusal>
-    ensures program { IfOk result (λ l. Reads bytes.now (program_of l)) }
+    ensures program { IfOk result (λ l. IsLiftedFrom bytes.now (program_of l)) }
     ensures refused { IfErr result (λ e. IfSome (refusal_of e) (IsRefused bytes.now)) }
 {
     if bytes.len() > MAX_BYTES {

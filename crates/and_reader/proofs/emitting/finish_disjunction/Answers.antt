@@ -18,4 +18,5 @@ pub returns-clause-ok : goal.returns-clause-ok
 returns-clause-ok c w b es rest is lb le =
     let t = c.in_ok-finish_pairs.ensures.ok w b (es ++ rest) is lb in
     let joined = t ∙ ap (λ (v : Written). v ∷ (es ++ rest)) (conjunction_is b w) in
-    on_ok c.finish_pairs-2.result (λ u. u ∙ ap (λ (v : Written). v ∷ rest) (disjunction_is es (conjunction b w))) (c.finish_pairs-2.ensures.ok (conjunction b w) es rest joined le)
+    on_ok c.finish_pairs-2.result (λ u. u ∙ ap (λ (v : Written). v ∷ rest) (disjunction_is es (conjunction b w)))
+    (c.finish_pairs-2.ensures.ok (conjunction b w) es rest joined le)

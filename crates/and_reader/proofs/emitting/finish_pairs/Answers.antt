@@ -14,7 +14,8 @@ pub loop-time-preserved : goal.loop-time-preserved
 loop-time-preserved c = record {
   finished = λ w ws rest e n.
       let q = c.loop-time.invariant.finished w ws rest e n in
-      pairs_step c.args.name.now c.args.times c.loop-time._time (terms c.loop-time.draft) (terms c.finish.new.draft) ws rest q.1 w q.0 (omega arith) q.2 q.3 q.4 c.in_ok-finish.ensures.ok;
+      pairs_step c.args.name.now c.args.times c.loop-time._time (terms c.loop-time.draft) (terms c.finish.new.draft) ws rest q.1 w q.0 (omega arith) q.2 q.3
+      q.4 c.in_ok-finish.ensures.ok;
   line = c.in_ok-finish.ensures.line ∙ c.loop-time.invariant.line;
 }
 

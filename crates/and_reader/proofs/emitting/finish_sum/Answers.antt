@@ -9,4 +9,5 @@ finish_infix-requires c =
     (p.sum, at400 p q.1, with_left p.relation q.2, q.3.sum, c.in_ok-finish_product.ensures.ok p q.1 q.2 q.3 q.4)
 
 pub returns-clause-ok : goal.returns-clause-ok
-returns-clause-ok c p w rest is has = c.finish_infix.ensures.ok p.sum (at400 p w) (with_left p.relation rest) is.sum (c.in_ok-finish_product.ensures.ok p w rest is has)
+returns-clause-ok c p w rest is has =
+    c.finish_infix.ensures.ok p.sum (at400 p w) (with_left p.relation rest) is.sum (c.in_ok-finish_product.ensures.ok p w rest is has)

@@ -12,7 +12,11 @@ returns-then-bytes-gt-MAX_BYTES-clause-refused c =
     subst P (sym c.line_at.ensures) (too_long c.if-bytes-gt-MAX_BYTES.true)
 
 pub read-requires-clause-read : goal.read-requires-clause-read
-read-requires-clause-read c = (c.args.bytes.now, read_nothing (record { alloc = c.args.alloc; bytes = c.args.bytes; table = c.in-Ok.table; cursor = c.new-2.result; clause = None }) c.in-Ok.ensures c.new-2.ensures refl)
+read-requires-clause-read c = (
+  c.args.bytes.now,
+  read_nothing (record { alloc = c.args.alloc; bytes = c.args.bytes; table = c.in-Ok.table; cursor = c.new-2.result; clause = None })
+      c.in-Ok.ensures c.new-2.ensures refl,
+)
 
 pub returns-then-is_some-clause-refused : goal.returns-then-is_some-clause-refused
 returns-then-is_some-clause-refused c =
@@ -27,4 +31,5 @@ returns-in-Ok-seal-clause-program c =
 pub returns-clause-refused : goal.returns-clause-refused
 returns-clause-refused c =
     let a = c.in_ok-read.ensures.read in
-    sealed_text c.args.bytes.now c.read.new.self a.0 (omega arith) a.1 a.2 (sym c.is_some.ensures ∙ c.if-is_some.false) c.in-Err.fault c.in-Err.ensures.refused (refusal_of c.seal_refusal.result) c.seal_refusal.ensures
+    sealed_text c.args.bytes.now c.read.new.self a.0 (omega arith) a.1 a.2 (sym c.is_some.ensures ∙ c.if-is_some.false) c.in-Err.fault c.in-Err.ensures.refused
+    (refusal_of c.seal_refusal.result) c.seal_refusal.ensures

@@ -1,5 +1,6 @@
 use Rattle.std.proofs.Common.{ap}
-use Rattle.and_language.specs.Words.{variable_token, integer_token, name_token, quoted_token, open_bracket_token, close_bracket_token, open_list_token, close_list_token, open_brace_token, close_brace_token, comma_token, semicolon_token, bar_token, end_token}
+use Rattle.and_language.specs.Words.{variable_token, integer_token, name_token, quoted_token, open_bracket_token, close_bracket_token, open_list_token}
+use Rattle.and_language.specs.Words.{close_list_token, open_brace_token, close_brace_token, comma_token, semicolon_token, bar_token, end_token}
 use Rattle.and_lex.specs.Views.{kind_of, token_of}
 use Rattle.and_reader.proofs.WordLemmas.{of_kind, quoted_text, small_integer}
 use Rattle.and_reader.proofs.words.word_of.Goals as goal
@@ -11,7 +12,8 @@ pub returns-in-Integer-clause-word : goal.returns-in-Integer-clause-word
 returns-in-Integer-clause-word c = of_kind _ _ _ _ _ _ c.in-Integer.is (integer_token c.in-Integer.value)
 
 pub returns-in_ok-quoted_text-in-Quoted-clause-word : goal.returns-in_ok-quoted_text-in-Quoted-clause-word
-returns-in_ok-quoted_text-in-Quoted-clause-word c = of_kind _ _ _ _ _ _ c.in-Quoted.is (quoted_token c.in_ok-quoted_text-in-Quoted.field-0 c.in_ok-quoted_text-in-Quoted.ensures)
+returns-in_ok-quoted_text-in-Quoted-clause-word c =
+    of_kind _ _ _ _ _ _ c.in-Quoted.is (quoted_token c.in_ok-quoted_text-in-Quoted.field-0 c.in_ok-quoted_text-in-Quoted.ensures)
 
 pub returns-in-Variable-clause-word : goal.returns-in-Variable-clause-word
 returns-in-Variable-clause-word c = of_kind _ _ _ _ _ _ c.in-Variable.is variable_token
@@ -50,4 +52,5 @@ pub returns-in-End-clause-word : goal.returns-in-End-clause-word
 returns-in-End-clause-word c = of_kind _ _ _ _ _ _ c.in-End.is end_token
 
 pub returns-in-Integer-clause-fits : goal.returns-in-Integer-clause-fits
-returns-in-Integer-clause-fits c = small_integer c.args.bytes.now c.requires.comes.0 (token_of c.args.token.now) c.in-Integer.value c.requires.comes.1 (ap kind_of c.in-Integer.is)
+returns-in-Integer-clause-fits c =
+    small_integer c.args.bytes.now c.requires.comes.0 (token_of c.args.token.now) c.in-Integer.value c.requires.comes.1 (ap kind_of c.in-Integer.is)

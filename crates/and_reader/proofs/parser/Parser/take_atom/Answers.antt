@@ -18,6 +18,15 @@ returns-clause-answer c l fs p s =
         refl,
         refl,
         refl,
-        record { part = s.part; alternatives = s.alternatives; before = s.before; frames = s.frames; pending = s.pending; opened = s.opened; nesting = s.nesting; finished = s.finished },
+        record {
+          part = s.part;
+          alternatives = s.alternatives;
+          before = s.before;
+          frames = s.frames;
+          pending = s.pending;
+          opened = s.opened;
+          nesting = s.nesting;
+          finished = s.finished;
+        },
       ),
     )

@@ -19,6 +19,7 @@ returns-clause-answer c l (f ∷ fs) a s =
       ap (λ (b : Machine.Bracket). Machine.take_bar l (record { bracket = b; before = f.before; outside = f.outside } ∷ fs) a) e,
       refl,
       refl,
-      c.in_ok-enter.ensures.ok l fs g s.part s.alternatives s.before q.1 (record { bracket = refl; alternatives = refl; before = more; outside = q.0.outside; narrow = tt }) s.opened s.nesting
+      c.in_ok-enter.ensures.ok l fs g s.part s.alternatives s.before q.1
+          (record { bracket = refl; alternatives = refl; before = more; outside = q.0.outside; narrow = tt }) s.opened s.nesting
           (s.finished ∙ ap (λ (b : Machine.Bracket). a ∷ (f.before ++ (alternatives_in b ++ with_lefts f.outside (waiting l fs)))) e),
     )

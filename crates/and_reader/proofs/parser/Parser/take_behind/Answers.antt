@@ -16,7 +16,8 @@ returns-then-is_deep-clause-answer c l fs p s =
     let x = word_of c.args.word in
     let b = name_of c.args.name in
     let e : is_functor_bracket x ≡ true = sym c.is_behind.ensures ∙ c.if-is_behind.true in
-    let sum : c.args.self.now.pending.minuses + c.args.self.now.depth ≡ p.minuses + depth fs = ap (λ (n : ℕ). n + c.args.self.now.depth) s.pending.minuses ∙ ap (λ (n : ℕ). p.minuses + n) s.opened in
+    let sum : c.args.self.now.pending.minuses + c.args.self.now.depth ≡ p.minuses + depth fs =
+    ap (λ (n : ℕ). n + c.args.self.now.depth) s.pending.minuses ∙ ap (λ (n : ℕ). p.minuses + n) s.opened in
     let deep : leb MAX_NESTING (c.args.self.now.pending.minuses + c.args.self.now.depth) ≡ true = cc in (
       inside l (record { bracket = Machine.arguments b; before = []; outside = p } ∷ fs) nothing_pending wanted,
       functor_step l fs p (compound b none) b x e,
@@ -30,7 +31,8 @@ returns-then-is_behind-clause-answer c l fs p s =
     let b = name_of c.args.name in
     let w = compound b none in
     let e : is_functor_bracket x ≡ true = sym c.is_behind.ensures ∙ c.if-is_behind.true in
-    let sum : c.args.self.now.pending.minuses + c.args.self.now.depth ≡ p.minuses + depth fs = ap (λ (n : ℕ). n + c.args.self.now.depth) s.pending.minuses ∙ ap (λ (n : ℕ). p.minuses + n) s.opened in
+    let sum : c.args.self.now.pending.minuses + c.args.self.now.depth ≡ p.minuses + depth fs =
+    ap (λ (n : ℕ). n + c.args.self.now.depth) s.pending.minuses ∙ ap (λ (n : ℕ). p.minuses + n) s.opened in
     let shallow : leb MAX_NESTING (c.args.self.now.pending.minuses + c.args.self.now.depth) ≡ false = cc in
     let within : operator_exceeds fs p x ≡ false = functor_exceeds fs p x e ∙ ap (leb MAX_NESTING) (sym sum) ∙ shallow in (
       inside l (record { bracket = Machine.arguments b; before = []; outside = p } ∷ fs) nothing_pending wanted,

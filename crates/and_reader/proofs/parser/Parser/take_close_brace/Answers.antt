@@ -19,7 +19,8 @@ finish-requires c =
     omega (arith, ap length (c.in_ok-finish_disjunction-in-Braces.ensures.ok w b es rest is lb le))
 
 pub returns-in_ok-finish-in-Braces-clause-answer : goal.returns-in_ok-finish-in-Braces-clause-answer
-returns-in_ok-finish-in-Braces-clause-answer c l [] a s = absurd (popped c.args.self.now.frames.items c.pop.new.self.items c.in-Some.frame [] c.in-Some.ensures.items s.frames)
+returns-in_ok-finish-in-Braces-clause-answer c l [] a s =
+    absurd (popped c.args.self.now.frames.items c.pop.new.self.items c.in-Some.frame [] c.in-Some.ensures.items s.frames)
 returns-in_ok-finish-in-Braces-clause-answer c l (f ∷ fs) a s =
     let q = popped c.args.self.now.frames.items c.pop.new.self.items c.in-Some.frame (f ∷ fs) c.in-Some.ensures.items s.frames in
     let es = alternatives_in f.bracket in
@@ -32,5 +33,6 @@ returns-in_ok-finish-in-Braces-clause-answer c l (f ∷ fs) a s =
       refl,
       refl,
       c.leave.ensures.ok l fs f w s.part s.alternatives s.before q.1 q.0.outside s.opened s.nesting
-          (c.in_ok-finish-in-Braces.ensures.ok (v ∷ []) rest (c.in_ok-finish_disjunction-in-Braces.ensures.ok a f.before es rest s.finished (sym q.0.before) (sym q.0.alternatives)) refl),
+          (c.in_ok-finish-in-Braces.ensures.ok (v ∷ []) rest
+          (c.in_ok-finish_disjunction-in-Braces.ensures.ok a f.before es rest s.finished (sym q.0.before) (sym q.0.alternatives)) refl),
     )

@@ -15,7 +15,8 @@ pub finish_disjunction-requires : goal.finish_disjunction-requires
 finish_disjunction-requires c = let q = c.requires in bracket_there c.args.self.now c.pop.new.self.items c.in-Some.frame q.0 q.1 q.2 c.in-Some.ensures.items q.3
 
 pub returns-in_ok-finish_disjunction-in-Plain-clause-answer : goal.returns-in_ok-finish_disjunction-in-Plain-clause-answer
-returns-in_ok-finish_disjunction-in-Plain-clause-answer c l [] a s = absurd (popped c.args.self.now.frames.items c.pop.new.self.items c.in-Some.frame [] c.in-Some.ensures.items s.frames)
+returns-in_ok-finish_disjunction-in-Plain-clause-answer c l [] a s =
+    absurd (popped c.args.self.now.frames.items c.pop.new.self.items c.in-Some.frame [] c.in-Some.ensures.items s.frames)
 returns-in_ok-finish_disjunction-in-Plain-clause-answer c l (f ∷ fs) a s =
     let q = popped c.args.self.now.frames.items c.pop.new.self.items c.in-Some.frame (f ∷ fs) c.in-Some.ensures.items s.frames in
     let es = alternatives_in f.bracket in
@@ -30,7 +31,8 @@ returns-in_ok-finish_disjunction-in-Plain-clause-answer c l (f ∷ fs) a s =
     )
 
 pub returns-in_ok-finish-in-Arguments-clause-answer : goal.returns-in_ok-finish-in-Arguments-clause-answer
-returns-in_ok-finish-in-Arguments-clause-answer c l [] a s = absurd (popped c.args.self.now.frames.items c.pop.new.self.items c.in-Some.frame [] c.in-Some.ensures.items s.frames)
+returns-in_ok-finish-in-Arguments-clause-answer c l [] a s =
+    absurd (popped c.args.self.now.frames.items c.pop.new.self.items c.in-Some.frame [] c.in-Some.ensures.items s.frames)
 returns-in_ok-finish-in-Arguments-clause-answer c l (f ∷ fs) a s =
     let q = popped c.args.self.now.frames.items c.pop.new.self.items c.in-Some.frame (f ∷ fs) c.in-Some.ensures.items s.frames in
     let n = name_of c.in-Arguments.name in
@@ -43,7 +45,8 @@ returns-in_ok-finish-in-Arguments-clause-answer c l (f ∷ fs) a s =
       refl,
       refl,
       c.leave-in-Arguments.ensures.ok l fs f w s.part s.alternatives s.before q.1 q.0.outside s.opened s.nesting
-          (c.in_ok-finish-in-Arguments.ensures.ok (a ∷ f.before) rest (s.finished ∙ ap (λ (b : Machine.Bracket). a ∷ (f.before ++ (alternatives_in b ++ rest))) e) many
+          (c.in_ok-finish-in-Arguments.ensures.ok (a ∷ f.before) rest (s.finished
+          ∙ ap (λ (b : Machine.Bracket). a ∷ (f.before ++ (alternatives_in b ++ rest))) e) many
           ∙ ap (λ (ts : Many). Written.compound c.bytes.result.now ts ∷ rest) (arguments_are f.before (a ∷ []))
           ∙ ap (λ (b : Bytes). Written.compound b (Machine.many f.before (Written.more a Written.none)) ∷ rest) c.bytes.ensures),
     )

@@ -24,7 +24,8 @@ close_list-requires-clause-many c =
     (popped c.args.self.now.frames.items c.pop.new.self.items c.in-Some.frame q.1 c.in-Some.ensures.items q.3.frames) u
 
 pub returns-in_ok-finish-in-Elements-2-clause-answer : goal.returns-in_ok-finish-in-Elements-2-clause-answer
-returns-in_ok-finish-in-Elements-2-clause-answer c l [] a s = absurd (popped c.args.self.now.frames.items c.pop.new.self.items c.in-Some.frame [] c.in-Some.ensures.items s.frames)
+returns-in_ok-finish-in-Elements-2-clause-answer c l [] a s =
+    absurd (popped c.args.self.now.frames.items c.pop.new.self.items c.in-Some.frame [] c.in-Some.ensures.items s.frames)
 returns-in_ok-finish-in-Elements-2-clause-answer c l (f ∷ fs) a s =
     let q = popped c.args.self.now.frames.items c.pop.new.self.items c.in-Some.frame (f ∷ fs) c.in-Some.ensures.items s.frames in
     let e : f.bracket ≡ Machine.elements = sym q.0.bracket ∙ ap (λ (b : Bracket). bracket_of b (alternatives_in f.bracket)) c.in-Elements.is in

@@ -33,22 +33,27 @@ returns-clause-answer c l (f ∷ fs) a s =
     let k = c.in_ok-check_comma.ensures.ok (alternatives_in f.bracket) in
     let more : c.in-Some-checked_add-2.before ≡ suc (length f.before) = let n = q.0.before in omega (arith, c.in-Some-checked_add-2.ensures.1) in
     let narrow : IsNarrow f.bracket (suc (length f.before)) =
-    subst (λ (b : Machine.Bracket). IsNarrow b (suc (length f.before))) q.0.bracket (subst (λ (n : ℕ). IsNarrow (bracket_of c.in-Some.frame.bracket (alternatives_in f.bracket)) n) more k.1) in
+    subst (λ (b : Machine.Bracket). IsNarrow b (suc (length f.before))) q.0.bracket
+    (subst (λ (n : ℕ). IsNarrow (bracket_of c.in-Some.frame.bracket (alternatives_in f.bracket)) n) more k.1) in
     let g : Machine.Frame = record { bracket = f.bracket; before = a ∷ f.before; outside = f.outside } in (
       inside l (g ∷ fs) nothing_pending wanted,
       comma_step l fs f.bracket f.before f.outside a (subst TakesComma q.0.bracket k.0),
       comma_within fs f.bracket f.before f.outside narrow,
       refl,
-      c.in_ok-enter.ensures.ok l fs g s.part s.alternatives s.before q.1 (record { bracket = q.0.bracket; alternatives = q.0.alternatives; before = more; outside = q.0.outside; narrow = narrow }) s.opened s.nesting s.finished,
+      c.in_ok-enter.ensures.ok l fs g s.part s.alternatives s.before q.1
+          (record { bracket = q.0.bracket; alternatives = q.0.alternatives; before = more; outside = q.0.outside; narrow = narrow }) s.opened
+          s.nesting s.finished,
     )
 
 pub returns-in_err-check_comma-clause-answer : goal.returns-in_err-check_comma-clause-answer
-returns-in_err-check_comma-clause-answer c l [] a s = absurd (popped c.args.self.now.frames.items c.pop.new.self.items c.in-Some.frame [] c.in-Some.ensures.items s.frames)
+returns-in_err-check_comma-clause-answer c l [] a s =
+    absurd (popped c.args.self.now.frames.items c.pop.new.self.items c.in-Some.frame [] c.in-Some.ensures.items s.frames)
 returns-in_err-check_comma-clause-answer c l (f ∷ fs) a s =
     let q = popped c.args.self.now.frames.items c.pop.new.self.items c.in-Some.frame (f ∷ fs) c.in-Some.ensures.items s.frames in
     let x : Cause = c.in_err-check_comma.field-0.0 in
     let more : c.in-Some-checked_add-2.before ≡ suc (length f.before) = let n = q.0.before in omega (arith, c.in-Some-checked_add-2.ensures.1) in
-    let fault = subst (λ (b : Machine.Bracket). IsCommaFault b c.in-Some-checked_add-2.before x) q.0.bracket (c.in_err-check_comma.ensures.err (alternatives_in f.bracket)) in
+    let fault = subst (λ (b : Machine.Bracket). IsCommaFault b c.in-Some-checked_add-2.before x) q.0.bracket
+    (c.in_err-check_comma.ensures.err (alternatives_in f.bracket)) in
     let told = comma_refused l fs f.bracket f.before f.outside a c.in-Some-checked_add-2.before x more fault in
     let p = err_from_is_err_and c.from_residual.result c.from_residual.ensures.1 in
     rw (p.1, p.2) told

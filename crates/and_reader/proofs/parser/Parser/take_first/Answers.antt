@@ -18,5 +18,6 @@ returns-clause-answer c l fs p few s =
     let e : closes_list x ≡ false = sym c.closes_list.ensures ∙ c.if-closes_list.false in
     let gs : List Machine.Frame = record { bracket = Machine.elements; before = []; outside = p } ∷ fs in
     answers (opened_list l fs p) x c.take_operand.result c.take_operand.new.self (opened_no_directive l fs p x)
-    (subst (λ (b : Bool). Answered (cond b (Some (inside l fs p (operand nil None))) (take_operand l gs nothing_pending x)) (operand_exceeds gs nothing_pending x) x c.take_operand.result c.take_operand.new.self) (sym e)
+    (subst (λ (b : Bool). Answered (cond b (Some (inside l fs p (operand nil None))) (take_operand l gs nothing_pending x))
+    (operand_exceeds gs nothing_pending x) x c.take_operand.result c.take_operand.new.self) (sym e)
     (c.take_operand.ensures.answer l gs nothing_pending (c.in_ok-open.ensures.ok l fs p s).1))

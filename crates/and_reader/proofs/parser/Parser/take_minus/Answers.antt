@@ -12,7 +12,8 @@ use Rattle.and_model.specs.declared.limits.TheConstants.{MAX_NESTING}
 
 pub returns-then-is_deep-clause-answer : goal.returns-then-is_deep-clause-answer
 returns-then-is_deep-clause-answer c l fs p s =
-    let sum : c.args.self.now.pending.minuses + c.args.self.now.depth ≡ p.minuses + depth fs = ap (λ (n : ℕ). n + c.args.self.now.depth) s.pending.minuses ∙ ap (λ (n : ℕ). p.minuses + n) s.opened in
+    let sum : c.args.self.now.pending.minuses + c.args.self.now.depth ≡ p.minuses + depth fs =
+    ap (λ (n : ℕ). n + c.args.self.now.depth) s.pending.minuses ∙ ap (λ (n : ℕ). p.minuses + n) s.opened in
     let deep : leb MAX_NESTING (c.args.self.now.pending.minuses + c.args.self.now.depth) ≡ true = cc in (
       inside l fs (record p { minuses = suc p.minuses }) wanted,
       ap (λ (b : Before). Machine.take_operand l fs p (Words.minus (before_of b))) c.in-Operand.is,
@@ -26,7 +27,19 @@ returns-in-Integer-clause-answer c l fs p s = (
   ap (λ (b : Before). Machine.take_operand l fs p (Words.minus (before_of b))) c.in-Integer.is,
   ap (λ (b : Before). operand_exceeds fs p (Words.minus (before_of b))) c.in-Integer.is,
   refl,
-  (refl, record { part = s.part; alternatives = s.alternatives; before = s.before; frames = s.frames; pending = s.pending; opened = s.opened; nesting = s.nesting; finished = s.finished }),
+  (
+    refl,
+    record {
+      part = s.part;
+      alternatives = s.alternatives;
+      before = s.before;
+      frames = s.frames;
+      pending = s.pending;
+      opened = s.opened;
+      nesting = s.nesting;
+      finished = s.finished;
+    },
+  ),
 )
 
 pub returns-in_ok-put_atom-in-Stop-clause-answer : goal.returns-in_ok-put_atom-in-Stop-clause-answer
@@ -40,7 +53,8 @@ returns-in_ok-put_atom-in-Stop-clause-answer c l fs p s = (
 
 pub returns-else-is_deep-clause-answer : goal.returns-else-is_deep-clause-answer
 returns-else-is_deep-clause-answer c l fs p s =
-    let sum : c.args.self.now.pending.minuses + c.args.self.now.depth ≡ p.minuses + depth fs = ap (λ (n : ℕ). n + c.args.self.now.depth) s.pending.minuses ∙ ap (λ (n : ℕ). p.minuses + n) s.opened in
+    let sum : c.args.self.now.pending.minuses + c.args.self.now.depth ≡ p.minuses + depth fs =
+    ap (λ (n : ℕ). n + c.args.self.now.depth) s.pending.minuses ∙ ap (λ (n : ℕ). p.minuses + n) s.opened in
     let shallow : leb MAX_NESTING (c.args.self.now.pending.minuses + c.args.self.now.depth) ≡ false = cc in
     let few = leb-false MAX_NESTING (c.args.self.now.pending.minuses + c.args.self.now.depth) shallow in
     let one : c.args.self.now.pending.minuses + 1 ≡ suc p.minuses = let n = s.pending.minuses in omega arith in (

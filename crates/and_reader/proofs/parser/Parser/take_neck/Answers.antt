@@ -9,7 +9,8 @@ use Rattle.and_reader.proofs.StandLemmas.{count_frames, is_head, body_kept, some
 use Rattle.and_reader.proofs.parser.Parser.take_neck.Goals as goal
 
 pub returns-then-is_inside-clause-answer : goal.returns-then-is_inside-clause-answer
-returns-then-is_inside-clause-answer c l [] a s = absurd (some_frames c.args.self.now.frames.items [] (sym c.if-is_inside.true ∙ c.is_inside.ensures) s.frames refl)
+returns-then-is_inside-clause-answer c l [] a s =
+    absurd (some_frames c.args.self.now.frames.items [] (sym c.if-is_inside.true ∙ c.is_inside.ensures) s.frames refl)
 returns-then-is_inside-clause-answer c l (f ∷ fs) a s = refl
 
 pub finish_disjunction-requires : goal.finish_disjunction-requires
@@ -27,8 +28,10 @@ returns-in_ok-finish_disjunction-in-Head-clause-answer c l [] a s =
       ap (λ (q : Machine.ClausePart). Machine.take_neck (record { part = q; alternatives = l.alternatives; before = l.before }) [] n a) e,
       refl,
       refl,
-      c.begin.ensures.ok m (length-reverse c.args.self.now.frames.items ∙ count_frames c.args.self.now.frames.items [] s.frames) (body_kept c.args.neck h) refl refl s.opened
+      c.begin.ensures.ok m (length-reverse c.args.self.now.frames.items ∙ count_frames c.args.self.now.frames.items [] s.frames)
+          (body_kept c.args.neck h) refl refl s.opened
           (c.in_ok-finish_disjunction-in-Head.ensures.ok a l.before l.alternatives (head_in l.part) s.finished (sym s.before) (sym s.alternatives)
           ∙ ap (λ (q : Machine.ClausePart). h ∷ head_in q) e),
     )
-returns-in_ok-finish_disjunction-in-Head-clause-answer c l (f ∷ fs) a s = absurd (omega (arith, no_frames c.args.self.now.frames.items (f ∷ fs) (sym c.if-is_inside.false ∙ c.is_inside.ensures) s.frames))
+returns-in_ok-finish_disjunction-in-Head-clause-answer c l (f ∷ fs) a s =
+    absurd (omega (arith, no_frames c.args.self.now.frames.items (f ∷ fs) (sym c.if-is_inside.false ∙ c.is_inside.ensures) s.frames))

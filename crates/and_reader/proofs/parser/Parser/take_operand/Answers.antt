@@ -22,5 +22,20 @@ returns-in-Quoted-clause-answer c l fs p s = (
   ap (λ (x : Word). Machine.take_operand l fs p (word_of x)) c.in-Quoted.is,
   ap (λ (x : Word). operand_exceeds fs p (word_of x)) c.in-Quoted.is,
   refl,
-  (names.Quoted c.in-Quoted.text, refl, refl, refl, record { part = s.part; alternatives = s.alternatives; before = s.before; frames = s.frames; pending = s.pending; opened = s.opened; nesting = s.nesting; finished = s.finished }),
+  (
+    names.Quoted c.in-Quoted.text,
+    refl,
+    refl,
+    refl,
+    record {
+      part = s.part;
+      alternatives = s.alternatives;
+      before = s.before;
+      frames = s.frames;
+      pending = s.pending;
+      opened = s.opened;
+      nesting = s.nesting;
+      finished = s.finished;
+    },
+  ),
 )

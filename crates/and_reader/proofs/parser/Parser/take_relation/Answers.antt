@@ -12,7 +12,12 @@ returns-clause-answer c l fs p w s =
     let free : p.relation ≡ None = named_none p.relation (none_is q missing ∙ s.pending.relation) in
     let b = c.args.name.now in (
       inside l fs (record { relation = Some (record { left = at500 p w; operator = b }); sum = None; product = None; minuses = 0 }) wanted,
-      ap (λ (r : Option Half). elim r [ None ↦ Some (inside l fs (record { relation = Some (record { left = at500 p w; operator = b }); sum = None; product = None; minuses = 0 }) wanted) | Some h ↦ None ]) free,
+      ap (λ (r : Option Half).
+          elim r [
+            | None ↦ Some (inside l fs (record { relation = Some (record { left = at500 p w; operator = b }); sum = None; product = None; minuses = 0 })
+                wanted)
+            | Some h ↦ None
+          ]) free,
       refl,
       refl,
       (
@@ -25,7 +30,8 @@ returns-clause-answer c l fs p w s =
           pending = record { relation = refl; sum = refl; product = refl; minuses = refl };
           opened = s.opened;
           nesting = omega (arith, s.nesting);
-          finished = c.in_ok-finish_sum.ensures.ok p w (waiting l fs) s.pending s.finished ∙ ap (λ (r : Option Half). at500 p w ∷ with_left r (waiting l fs)) free;
+          finished = c.in_ok-finish_sum.ensures.ok p w (waiting l fs) s.pending s.finished
+              ∙ ap (λ (r : Option Half). at500 p w ∷ with_left r (waiting l fs)) free;
         },
       ),
     )

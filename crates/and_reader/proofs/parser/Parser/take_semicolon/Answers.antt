@@ -31,7 +31,8 @@ take_outer_semicolon-requires c =
 pub finish_pairs-requires : goal.finish_pairs-requires
 finish_pairs-requires c =
     let q = c.requires in
-    few_before _ q.2 q.0 c.in-Some.frame _ q.1 (popped c.args.self.now.frames.items c.pop.new.self.items c.in-Some.frame q.1 c.in-Some.ensures.items q.3.frames) q.3.finished
+    few_before _ q.2 q.0 c.in-Some.frame _ q.1
+    (popped c.args.self.now.frames.items c.pop.new.self.items c.in-Some.frame q.1 c.in-Some.ensures.items q.3.frames) q.3.finished
 
 pub returns-in_default-clause-answer : goal.returns-in_default-clause-answer
 returns-in_default-clause-answer c l [] a s =

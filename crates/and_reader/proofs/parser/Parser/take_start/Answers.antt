@@ -15,7 +15,8 @@ returns-in-Query-clause-answer c s =
       in_part Machine.query,
       query_step (word_of c.args.word) e,
       refl,
-      c.begin.ensures.ok (record { part = Machine.query; alternatives = []; before = [] }) (length-reverse c.args.self.now.frames.items ∙ count_frames c.args.self.now.frames.items [] s.frames) refl refl refl s.opened s.finished,
+      c.begin.ensures.ok (record { part = Machine.query; alternatives = []; before = [] }) (length-reverse c.args.self.now.frames.items
+          ∙ count_frames c.args.self.now.frames.items [] s.frames) refl refl refl s.opened s.finished,
     )
 
 pub returns-in-Other-clause-answer : goal.returns-in-Other-clause-answer
@@ -25,5 +26,6 @@ returns-in-Other-clause-answer c s =
     let l : Machine.Outermost = record { part = Machine.head; alternatives = []; before = [] } in
     let r : Option State = take_operand l [] nothing_pending x in
     answers start x c.take_operand.result c.take_operand.new.self (other_no_directive x e)
-    (subst (λ (b : Bool). Answered (cond b (Some (in_part Machine.query)) r) (operand_exceeds [] nothing_pending x) x c.take_operand.result c.take_operand.new.self) (sym (other_first x e))
+    (subst (λ (b : Bool). Answered (cond b (Some (in_part Machine.query)) r) (operand_exceeds [] nothing_pending x) x c.take_operand.result
+    c.take_operand.new.self) (sym (other_first x e))
     (c.take_operand.ensures.answer l [] nothing_pending s))

@@ -19,10 +19,12 @@ reading-init c =
     let P : Bytes → Type 0 = λ x. IsRead x c.args.self.now [] in
     record {
       words = [];
-      spelled = no_words bytes (answer_of c.next-next.result) (comes_at _ bytes _ 0 _ c.new-lexer.ensures.text c.new-lexer.ensures.place c.next-next.ensures.next);
+      spelled = no_words bytes (answer_of c.next-next.result)
+          (comes_at _ bytes _ 0 _ c.new-lexer.ensures.text c.new-lexer.ensures.place c.next-next.ensures.next);
       read = subst P (sym c.requires.read.1.text) c.requires.read.1;
       text = c.next-next.ensures.text ∙ c.new-lexer.ensures.text;
-      next_there = next_is bytes c.new-lexer.result.text c.args.self.now.cursor.place c.new-lexer.result.place c.next-next.new.self.place c.next-next.result c.new-lexer.ensures.text (omega (arith, c.requires.first)) c.next-next.ensures.within c.next-next.ensures.read;
+      next_there = next_is bytes c.new-lexer.result.text c.args.self.now.cursor.place c.new-lexer.result.place c.next-next.new.self.place c.next-next.result
+          c.new-lexer.ensures.text (omega (arith, c.requires.first)) c.next-next.ensures.within c.next-next.ensures.read;
     }
 
 pub word_of-requires-clause-comes : goal.word_of-requires-clause-comes

@@ -1,0 +1,6 @@
+pub mod CopyLemmas
+pub mod Viewing
+pub mod Looking
+pub mod Standing
+pub mod ThreadLemmas
+pub mod TranslateLemmas

@@ -1,0 +1,5 @@
+pub mod Views
+pub mod Copies
+pub mod Acts
+pub mod Checked
+pub mod Translated

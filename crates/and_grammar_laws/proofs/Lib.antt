@@ -1,0 +1,11 @@
+pub mod Chains
+pub mod Finding
+pub mod Building
+pub mod Asking
+pub mod Settled
+pub mod Walking
+pub mod Reading
+pub mod Numbers
+pub mod Clauses
+pub mod Programs
+pub mod ReadTexts
