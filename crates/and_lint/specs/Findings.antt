@@ -1,5 +1,6 @@
 -- Findings: what is told of a program that can be run, and may still not be meant. Each is a line.
-use Rattle.std.specs.Prelude.{ℕ, ◌≡◌, Bool, false, not, ◌&&◌, cond, nat_eq, List, [], ◌∷◌, ◌++◌, length, get_or, codes}
+use Rattle.std.specs.Prelude.{ℕ, suc, ◌≡◌, Bool, false, not, ◌&&◌, cond, nat_eq, List, [], ◌∷◌, ◌++◌, length, get_or}
+use Rattle.std.specs.Prelude.{codes}
 use Rattle.std.specs.List.{flat_map, range_with_len}
 use Rattle.std.specs.Fmt.{decimal}
 use Rattle.and_model.specs.Terms.{Term, variable, number, compound, width, variables_of}
@@ -7,8 +8,8 @@ use Rattle.and_model.specs.Lines.{Bytes, shown_name, shown, first_seen, begins_u
 use Rattle.and_model.specs.Programs.{Program, Clause, Item, call, equal, arithmetic, fail, clause_at}
 use Rattle.and_model.specs.declared.numbers.ClauseNo.{ClauseNo}
 use Rattle.and_program.specs.Shown.{clauses_with}
-use Rattle.and_lint.specs.Subterms.{subterms_of_clause, subterms_worked_out, occurrences, has_no_value}
-use Rattle.and_lint.specs.Subterms.{looks_worked_out}
+use Rattle.and_lint.specs.Bodies.{is_lifted, items_written, variables_written}
+use Rattle.and_lint.specs.Subterms.{subterms, expressions_of, has_no_value, looks_worked_out}
 use Rattle.and_lint.specs.Reached.{TellsReached}
 
 -- the name of a term
@@ -24,20 +25,24 @@ shown_name_of P t = shown_name (get_or P.names (name_of t) [])
 abbrev pub front : (line : ℕ) → Bytes
 front n = codes "line " ++ decimal n ++ codes ": "
 
--- The variable occurs once in the clause, and its name does not begin with `_`.
-abbrev pub is_alone : Clause → (variable : ℕ) → Bool
-is_alone k v =
-    not (begins_underscore (get_or k.written v [])) && nat_eq (occurrences v (subterms_of_clause k)) 1
+-- how often a number is among these
+abbrev pub times : ℕ → List ℕ → ℕ
+times n [] = 0
+times n (m ∷ ms) = cond (nat_eq m n) (suc (times n ms)) (times n ms)
+
+-- The variable is among these once, and its name does not begin with `_`.
+abbrev pub is_alone : Clause → List ℕ → (variable : ℕ) → Bool
+is_alone k vs v = not (begins_underscore (get_or k.written v [])) && nat_eq (times v vs) 1
 
 abbrev pub once_line : Clause → (variable : ℕ) → Bytes
 once_line k v = front k.line ++ get_or k.written v [] ++ codes " occurs once"
 
-abbrev pub once_lines_of : Clause → (variable : ℕ) → List Bytes
-once_lines_of k v = cond (is_alone k v) (once_line k v ∷ []) []
+abbrev pub once_lines_of : Clause → List ℕ → (variable : ℕ) → List Bytes
+once_lines_of k vs v = cond (is_alone k vs v) (once_line k v ∷ []) []
 
--- The variables that occur once, by their numbers, which are in the order of first occurrences.
-abbrev pub once_lines : Clause → List Bytes
-once_lines k = flat_map (once_lines_of k) (range_with_len 0 k.variables)
+-- The variables that are among these once, by their numbers, which are in the order of first occurrences.
+abbrev pub once_lines : Clause → List ℕ → List Bytes
+once_lines k vs = flat_map (once_lines_of k vs) (range_with_len 0 k.variables)
 
 -- the first number of a list is this one
 abbrev pub begins_with : ℕ → List ClauseNo → Bool
@@ -71,9 +76,9 @@ no_value_line P k t = front k.line ++ shown_name_of P t ++ codes " has no value"
 abbrev pub no_value_lines_of : Program → Clause → Term → List Bytes
 no_value_lines_of P k t = cond (has_no_value t) (no_value_line P k t ∷ []) []
 
--- The subterms of expressions that can have no value.
-abbrev pub no_value_lines : Program → Clause → List Bytes
-no_value_lines P k = flat_map (no_value_lines_of P k) (subterms_worked_out k)
+-- The subterms of these items' expressions that can have no value.
+abbrev pub no_value_lines : Program → Clause → List Item → List Bytes
+no_value_lines P k items = flat_map (no_value_lines_of P k) (flat_map subterms (flat_map expressions_of items))
 
 -- the term as it is written, its variables named by first occurrence
 abbrev pub left_line : Program → Clause → Term → Bytes
@@ -94,13 +99,18 @@ left_lines_of P k (equal a b) = left_lines_between P k a b
 left_lines_of P k (arithmetic g) = []
 left_lines_of P k fail = []
 
-abbrev pub left_lines : Program → Clause → List Bytes
-left_lines P k = flat_map (left_lines_of P k) k.body
+abbrev pub left_lines : Program → Clause → List Item → List Bytes
+left_lines P k items = flat_map (left_lines_of P k) items
 
--- the findings of a clause, or of the query
+-- the findings of a clause of the text, or of the query, those of its disjunctions among them
+abbrev pub clause_lines : Program → (reached : ℕ → Bool) → ℕ → List Bytes
+clause_lines P reached c = let k = clause_at P c in
+    once_lines k (variables_written P c) ++ never_lines P reached c
+    ++ no_value_lines P k (items_written P c) ++ left_lines P k (items_written P c)
+
+-- An alternative of a disjunction is told of where its clause is.
 abbrev pub lines_of : Program → (reached : ℕ → Bool) → ℕ → List Bytes
-lines_of P reached c = let k = clause_at P c in
-    once_lines k ++ never_lines P reached c ++ no_value_lines P k ++ left_lines P k
+lines_of P reached c = cond (is_lifted P (clause_at P c).head) [] (clause_lines P reached c)
 
 -- the findings of all clauses in the order of the text, the query's last
 abbrev pub all_lines : Program → (reached : ℕ → Bool) → List Bytes

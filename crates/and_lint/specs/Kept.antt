@@ -8,8 +8,8 @@ use Rattle.and_model.specs.declared.numbers.NodeNo.{NodeNo}
 use Rattle.and_program.specs.Skeletons.{Shape, node_term}
 use Rattle.and_program.specs.declared.node.NodeKind.{NodeKind}
 use Rattle.and_program.specs.declared.node.NodeKind.TheVariants.{Variable, Number, Compound}
-use Rattle.and_lint.specs.Subterms.{subterms, occurrences}
-use Rattle.and_lint.specs.Findings.{written_lines}
+use Rattle.and_lint.specs.Subterms.{subterms}
+use Rattle.and_lint.specs.Findings.{written_lines, times}
 use Rattle.and_lint.specs.declared.findings.Findings.{Findings}
 
 -- terms as a list
@@ -62,20 +62,18 @@ variable_here (compound c ts) = []
 abbrev pub one_more : ℕ → ℕ
 one_more n = cond (ltb n 2) (n + 1) n
 
--- the counts after a term: that of a variable is one more
-abbrev pub counted : List ℕ → Term → List ℕ
-counted counts (variable q k) = set counts k (one_more (get_or counts k 0))
-counted counts (number z) = counts
-counted counts (compound c ts) = counts
+-- the counts after a variable: its own is one more
+abbrev pub counted : List ℕ → ℕ → List ℕ
+counted counts k = set counts k (one_more (get_or counts k 0))
 
--- the counts after all of these terms
-abbrev pub all_counted : List ℕ → List Term → List ℕ
+-- the counts after all of these variables
+abbrev pub all_counted : List ℕ → List ℕ → List ℕ
 all_counted counts [] = counts
-all_counted counts (t ∷ ts) = all_counted (counted counts t) ts
+all_counted counts (k ∷ ks) = all_counted (counted counts k) ks
 
--- the counts say of each variable how often it is among the terms: not at all, once, or more than once
-abbrev pub IsCountOf : List ℕ → List Term → Type 0
-IsCountOf counts ts = (k : ℕ) → k < 256 → get_or counts k 0 ≡ min 2 (occurrences k ts)
+-- the counts say of each variable how often it is among these: not at all, once, or more than once
+abbrev pub IsCountOf : List ℕ → List ℕ → Type 0
+IsCountOf counts ks = (k : ℕ) → k < 256 → get_or counts k 0 ≡ min 2 (times k ks)
 
 -- These lines were added to the findings.
 pub record Adds (old new : Findings) (lines : List Bytes) : Type 0 where

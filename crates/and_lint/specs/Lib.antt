@@ -1,7 +1,9 @@
 pub mod Subterms
+pub mod Bodies
 pub mod Reached
 pub mod Findings
 pub mod Kept
+pub mod Held
 pub mod Printed
 pub mod Marked
 pub mod Told

@@ -1,10 +1,10 @@
 -- The subterms of a clause's terms, and what can be seen of each.
-use Rattle.std.specs.Prelude.{ℕ, suc, Bool, true, false, not, ◌&&◌, ◌||◌, cond, nat_eq, List, [], ◌∷◌}
+use Rattle.std.specs.Prelude.{ℕ, Bool, true, false, not, ◌&&◌, ◌||◌, nat_eq, List, [], ◌∷◌}
 use Rattle.std.specs.Prelude.{◌++◌}
-use Rattle.std.specs.List.{flat_map, list_any}
+use Rattle.std.specs.List.{list_any}
 use Rattle.and_model.specs.Terms.{Term, Terms, variable, number, compound, none, more, width}
 use Rattle.and_model.specs.Arithmetic.{is_zero}
-use Rattle.and_model.specs.Programs.{Clause, Item, call, equal, arithmetic, fail, is, compare}
+use Rattle.and_model.specs.Programs.{Item, call, equal, arithmetic, fail, is, compare}
 use Rattle.and_program.specs.Shown.{term_at}
 use Rattle.and_model.specs.declared.builtins.TheConstants.{PLUS, MINUS, TIMES, DIVIDE, MODULO, REMAINDER, LEAST}
 use Rattle.and_model.specs.declared.builtins.TheConstants.{GREATEST}
@@ -35,25 +35,6 @@ expressions_of (equal a b) = []
 expressions_of (arithmetic (is l r)) = r ∷ []
 expressions_of (arithmetic (compare o a b)) = a ∷ b ∷ []
 expressions_of fail = []
-
--- all subterms of a clause: those of its head, and then those of its items
-abbrev pub subterms_of_clause : Clause → List Term
-subterms_of_clause k = flat_map subterms (k.head ∷ flat_map terms_of k.body)
-
--- the subterms of the expressions of a clause
-abbrev pub subterms_worked_out : Clause → List Term
-subterms_worked_out k = flat_map subterms (flat_map expressions_of k.body)
-
--- the variable of that number
-abbrev pub is_variable : ℕ → Term → Bool
-is_variable k (variable q j) = nat_eq j k
-is_variable k (number z) = false
-is_variable k (compound c ts) = false
-
--- how often the variable of that number is among the terms
-abbrev pub occurrences : ℕ → List Term → ℕ
-occurrences k [] = 0
-occurrences k (t ∷ ts) = cond (is_variable k t) (suc (occurrences k ts)) (occurrences k ts)
 
 -- an operator of arithmetic: + - * // mod rem min max of two arguments, and - of one
 abbrev pub is_operator : (name count : ℕ) → Bool

@@ -8,6 +8,7 @@ ghost use Rattle.and_program.specs.Loaded.{program_of, skeleton_of};
 ghost use Rattle.and_program.specs.Skeletons.{node_term, item_of, IsThere};
 ghost use Rattle.and_lint.specs.Findings as specs;
 ghost use Rattle.and_lint.specs.Findings.{no_value_lines, no_value_lines_of};
+ghost use Rattle.and_lint.specs.Held.{AreItems, items_shown};
 ghost use Rattle.and_lint.specs.Kept.{Adds};
 ghost use Rattle.and_lint.specs.Subterms.{expressions_of, subterms};
 
@@ -131,19 +132,21 @@ fn look_at_item(
     }
 }
 
-/// Adds the subterms of a clause's expressions that can have no value. After an error, which is want
+/// Adds the subterms of these items' expressions that can have no value. After an error, which is want
 /// of memory, the findings are spent.
 pub(crate) fn add_no_values(
     alloc: Global,
     loaded: &Loaded,
     no: ClauseNo,
+    items: &[ItemNode],
     findings: &mut Findings,
 ) -> Result<(), AllocError>
-    requires { no.0 ≤ length (program_of loaded.now).clauses }
-    ensures { OnOk result (Adds findings.old findings.new
-        (no_value_lines (program_of loaded.now) (clause_at (program_of loaded.now) no.0))) }
+    requires there { no.0 ≤ length (program_of loaded.now).clauses }
+    requires items { AreItems (skeleton_of loaded.now).nodes items.now }
+    ensures { OnOk result (Adds findings.old findings.new (no_value_lines (program_of loaded.now)
+        (clause_at (program_of loaded.now) no.0) (items_shown (skeleton_of loaded.now).nodes items.now))) }
 {
-    for item in loaded.items(no) {
+    for item in items {
         look_at_item(alloc, loaded, no, *item, findings)?;
     }
     Ok(())

@@ -8,6 +8,7 @@ ghost use Rattle.and_program.specs.Skeletons.{node_term, item_of, IsThere};
 ghost use Rattle.and_lint.specs.Findings as specs;
 ghost use Rattle.and_lint.specs.Findings.{left_lines, left_lines_of};
 ghost use Rattle.and_lint.specs.Findings.{left_lines_at, left_lines_between};
+ghost use Rattle.and_lint.specs.Held.{AreItems, items_shown};
 ghost use Rattle.and_lint.specs.Kept.{Adds};
 
 use crate::findings::{Findings, front};
@@ -119,19 +120,21 @@ fn look_at_item(
     }
 }
 
-/// Adds what the equations of a clause leave as terms. After an error, which is want of memory, the
-/// findings are spent.
+/// Adds what the equations among these items leave as terms. After an error, which is want of memory,
+/// the findings are spent.
 pub(crate) fn add_left_terms(
     alloc: Global,
     loaded: &Loaded,
     no: ClauseNo,
+    items: &[ItemNode],
     findings: &mut Findings,
 ) -> Result<(), AllocError>
-    requires { no.0 ≤ length (program_of loaded.now).clauses }
-    ensures { OnOk result (Adds findings.old findings.new
-        (left_lines (program_of loaded.now) (clause_at (program_of loaded.now) no.0))) }
+    requires there { no.0 ≤ length (program_of loaded.now).clauses }
+    requires items { AreItems (skeleton_of loaded.now).nodes items.now }
+    ensures { OnOk result (Adds findings.old findings.new (left_lines (program_of loaded.now)
+        (clause_at (program_of loaded.now) no.0) (items_shown (skeleton_of loaded.now).nodes items.now))) }
 {
-    for item in loaded.items(no) {
+    for item in items {
         look_at_item(alloc, loaded, no, *item, findings)?;
     }
     Ok(())

@@ -5,6 +5,7 @@
 //! `specs/Findings` says what the findings of a program are. `lint` writes them.
 #![tactic(auto)]
 
+mod bodies;
 mod counting;
 mod expressions;
 pub mod findings;
@@ -13,6 +14,7 @@ mod leaving;
 mod linting;
 mod lone;
 mod names;
+mod occurring;
 mod operators;
 mod printing;
 mod reaching;

@@ -6,14 +6,17 @@ ghost use Rattle.and_model.specs.Programs.{clause_at};
 ghost use Rattle.and_program.specs.Loaded.{program_of, skeleton_of};
 ghost use Rattle.and_program.specs.Skeletons.{node_term};
 ghost use Rattle.and_lint.specs.Findings as specs;
-ghost use Rattle.and_lint.specs.Findings.{IsLint, lines_of, never_lines};
+ghost use Rattle.and_lint.specs.Bodies.{items_written, variables_in_body};
+ghost use Rattle.and_lint.specs.Findings.{IsLint, clause_lines, lines_of, never_lines};
+ghost use Rattle.and_lint.specs.Held.{Tells};
 ghost use Rattle.and_lint.specs.Kept.{Adds};
 ghost use Rattle.and_lint.specs.Told.{never_line_of};
 
+use crate::bodies::{Body, all_bodies, is_lifted, items_at};
 use crate::expressions::add_no_values;
 use crate::findings::{Findings, front};
 use crate::leaving::add_left_terms;
-use crate::lone::add_lone_variables;
+use crate::lone::{add_lone_variables, variables_of};
 use crate::names::write_name_of;
 use crate::reaching::reached_clauses;
 use crate::walking::count;
@@ -21,15 +24,16 @@ use and_model::{ClauseNo, NodeNo, Text};
 use and_program::{Loaded, NodeKind};
 use std::alloc::{AllocError, Global};
 
-/// What is told of a program: its findings, each a line, and last how many they are. An error is want
-/// of memory.
+/// What is told of a program: its findings, each a line, and last how many they are. What stands in a
+/// disjunction is told of the clause that it stands in. An error is want of memory.
 pub fn lint(alloc: Global, loaded: &Loaded) -> Result<Findings, AllocError>
     ensures { IfOk result (λ findings. IsLint (program_of loaded.now) findings.text findings.count) }
 {
     let reached = reached_clauses(alloc, loaded)?;
+    let bodies = all_bodies(alloc, loaded)?;
     let mut findings = Findings::new(alloc);
-    add_clauses(alloc, loaded, &reached, &mut findings)?;
-    add_clause(alloc, loaded, &reached, ClauseNo(0), &mut findings)?;
+    add_clauses(alloc, loaded, &reached, &bodies, &mut findings)?;
+    add_clause(alloc, loaded, &reached, &bodies, ClauseNo(0), &mut findings)?;
     findings.write_count(alloc)?;
     Ok(findings)
 }
@@ -39,34 +43,70 @@ fn add_clauses(
     alloc: Global,
     loaded: &Loaded,
     reached: &[bool],
+    bodies: &[Body],
     findings: &mut Findings,
 ) -> Result<(), AllocError>
+    requires { Tells (skeleton_of loaded.now).nodes bodies.now (items_written (program_of loaded.now))
+        (variables_in_body (program_of loaded.now)) }
     ensures { OnOk result (Adds findings.old findings.new (flat_map
         (lines_of (program_of loaded.now) (λ c. get_or reached.now c false))
         (range_with_len 1 (length (program_of loaded.now).clauses)))) }
 {
     for number in 1..loaded.clause_count() + 1 {
-        add_clause(alloc, loaded, reached, ClauseNo(number as u16), findings)?;
+        add_clause(
+            alloc,
+            loaded,
+            reached,
+            bodies,
+            ClauseNo(number as u16),
+            findings,
+        )?;
     }
     Ok(())
 }
 
-/// Adds the findings of a clause, or of the query.
+/// Adds the findings of a clause, or of the query. Those of an alternative are its clause's.
 fn add_clause(
     alloc: Global,
     loaded: &Loaded,
     reached: &[bool],
+    bodies: &[Body],
     no: ClauseNo,
     findings: &mut Findings,
 ) -> Result<(), AllocError>
-    requires { no.0 ≤ length (program_of loaded.now).clauses }
+    requires there { no.0 ≤ length (program_of loaded.now).clauses }
+    requires bodies { Tells (skeleton_of loaded.now).nodes bodies.now (items_written (program_of loaded.now))
+        (variables_in_body (program_of loaded.now)) }
     ensures { OnOk result (Adds findings.old findings.new
         (lines_of (program_of loaded.now) (λ c. get_or reached.now c false) no.0)) }
 {
-    add_lone_variables(alloc, loaded, no, findings)?;
+    if is_lifted(loaded, loaded.head(no)) {
+        return Ok(());
+    }
+    add_written(alloc, loaded, reached, bodies, no, findings)
+}
+
+/// Adds the findings of a clause of the text, or of the query.
+fn add_written(
+    alloc: Global,
+    loaded: &Loaded,
+    reached: &[bool],
+    bodies: &[Body],
+    no: ClauseNo,
+    findings: &mut Findings,
+) -> Result<(), AllocError>
+    requires there { no.0 ≤ length (program_of loaded.now).clauses }
+    requires bodies { Tells (skeleton_of loaded.now).nodes bodies.now (items_written (program_of loaded.now))
+        (variables_in_body (program_of loaded.now)) }
+    ensures { OnOk result (Adds findings.old findings.new
+        (clause_lines (program_of loaded.now) (λ c. get_or reached.now c false) no.0)) }
+{
+    let variables = variables_of(alloc, loaded, no, bodies)?;
+    add_lone_variables(alloc, loaded, no, &variables, findings)?;
     add_never_called(alloc, loaded, reached, no, findings)?;
-    add_no_values(alloc, loaded, no, findings)?;
-    add_left_terms(alloc, loaded, no, findings)
+    let items = items_at(bodies, no);
+    add_no_values(alloc, loaded, no, items, findings)?;
+    add_left_terms(alloc, loaded, no, items, findings)
 }
 
 /// Adds that a predicate is never called, where the clause is its first and no chain of calls leads

@@ -1,16 +1,19 @@
 //! Variables that occur once in their clause.
 
-ghost use Rattle.std.specs.Prelude.{◌≡◌, ◌≤◌, ◌∷◌, [], IfOk, OnOk, get_or, length, nat_eq};
+ghost use Rattle.std.specs.Prelude.{◌≡◌, ◌≤◌, ◌∷◌, ◌++◌, [], ℕ, List, IfOk, OnOk, get_or, length, nat_eq};
 ghost use Rattle.and_model.specs.Lines.{begins_underscore};
 ghost use Rattle.and_model.specs.Programs.{clause_at};
 ghost use Rattle.and_program.specs.Loaded.{program_of};
+ghost use Rattle.and_lint.specs.Bodies.{numbers_in};
 ghost use Rattle.and_lint.specs.Findings as specs;
 ghost use Rattle.and_lint.specs.Findings.{is_alone, once_lines, once_lines_of};
+ghost use Rattle.and_lint.specs.Held as held;
 ghost use Rattle.and_lint.specs.Kept.{Adds, IsCountOf};
-ghost use Rattle.and_lint.specs.Subterms.{subterms_of_clause};
 
-use crate::counting::count_clause;
+use crate::bodies::{Body, variables_at};
+use crate::counting::count_variables;
 use crate::findings::{Findings, front};
+use crate::occurring::push_variables;
 use and_model::{ClauseNo, Text};
 use and_program::Loaded;
 use std::alloc::{AllocError, Global};
@@ -52,8 +55,8 @@ fn add_once(
 fn is_alone(loaded: &Loaded, no: ClauseNo, counts: &[u8], variable: u8) -> bool
     requires there { no.0 ≤ length (program_of loaded.now).clauses }
     requires long { length counts.now ≡ 256 }
-    requires counts { IsCountOf counts.now (subterms_of_clause (clause_at (program_of loaded.now) no.0)) }
-    ensures { result ≡ is_alone (clause_at (program_of loaded.now) no.0) variable }
+    ensures { (vs : List ℕ) → IsCountOf counts.now vs
+        → result ≡ is_alone (clause_at (program_of loaded.now) no.0) vs variable }
 {
     if begins_underscore(loaded.variable_name(no, variable)) {
         return false;
@@ -80,9 +83,8 @@ fn look_at_variable(
 ) -> Result<(), AllocError>
     requires there { no.0 ≤ length (program_of loaded.now).clauses }
     requires long { length counts.now ≡ 256 }
-    requires counts { IsCountOf counts.now (subterms_of_clause (clause_at (program_of loaded.now) no.0)) }
-    ensures { OnOk result (Adds findings.old findings.new
-        (once_lines_of (clause_at (program_of loaded.now) no.0) variable)) }
+    ensures { (vs : List ℕ) → IsCountOf counts.now vs → OnOk result (Adds findings.old findings.new
+        (once_lines_of (clause_at (program_of loaded.now) no.0) vs variable)) }
 {
     if is_alone(loaded, no, counts, variable) {
         return add_once(alloc, loaded, no, variable, findings);
@@ -90,22 +92,41 @@ fn look_at_variable(
     Ok(())
 }
 
-/// Adds the variables of a clause that occur once. After an error, which is want of memory, the
-/// findings are spent.
+/// Adds the variables of a clause that are among these once. After an error, which is want of memory,
+/// the findings are spent.
 pub(crate) fn add_lone_variables(
     alloc: Global,
     loaded: &Loaded,
     no: ClauseNo,
+    variables: &[u8],
     findings: &mut Findings,
 ) -> Result<(), AllocError>
     requires { no.0 ≤ length (program_of loaded.now).clauses }
     ensures { OnOk result (Adds findings.old findings.new
-        (once_lines (clause_at (program_of loaded.now) no.0))) }
+        (once_lines (clause_at (program_of loaded.now) no.0) variables.now)) }
 {
     let mut counts = [0; 256];
-    count_clause(alloc, loaded, no, &mut counts)?;
+    count_variables(variables, &mut counts);
     for variable in 0..loaded.variables(no) {
         look_at_variable(alloc, loaded, no, &counts, variable, findings)?;
     }
     Ok(())
+}
+
+/// The variables of a clause, each where it occurs, those of its disjunctions among them. An error is
+/// want of memory.
+pub(crate) fn variables_of(
+    alloc: Global,
+    loaded: &Loaded,
+    no: ClauseNo,
+    bodies: &[Body],
+) -> Result<Vec<u8>, AllocError>
+    requires { no.0 ≤ length (program_of loaded.now).clauses }
+    ensures { IfOk result (λ variables. variables.items
+        ≡ numbers_in ((clause_at (program_of loaded.now) no.0).head ∷ []) ++ held.variables_at bodies.now no.0) }
+{
+    let mut variables = Vec::new(alloc);
+    push_variables(alloc, loaded, loaded.head(no), &mut variables)?;
+    variables.extend_from_slice(variables_at(bodies, no))?;
+    Ok(variables)
 }

@@ -1,4 +1,4 @@
-use Rattle.std.proofs.Common.{◌∙◌, ◌+◌, ℕ, List, ap, sym, subst, map, drop, get_or}
+use Rattle.std.proofs.Common.{◌∙◌, ◌+◌, ℕ, List, ap, map, drop, get_or}
 use Rattle.std.specs.List.{flat_map}
 use Rattle.and_model.specs.Lines.{Bytes}
 use Rattle.and_model.specs.Programs.{Clause, Item, clause_at}
@@ -7,29 +7,24 @@ use Rattle.and_program.specs.Loaded.{program_of, skeleton_of}
 use Rattle.and_program.specs.Skeletons.{Shape, item_of}
 use Rattle.and_program.specs.declared.item.ItemNode.{ItemNode}
 use Rattle.and_program.specs.declared.item.ItemNode.TheVariants.{Call}
-use Rattle.and_lint.specs.Kept.{Comes}
-use Rattle.and_lint.proofs.Steps.{item_there, items_drop, items_end}
+use Rattle.and_lint.specs.Held.{items_shown}
+use Rattle.and_lint.proofs.Growing.{item_of_these}
+use Rattle.and_lint.proofs.Steps.{items_drop, items_end}
 use Rattle.and_model.specs.Terms.{Term}
 use Rattle.and_lint.specs.Findings.{no_value_lines_of}
 use Rattle.and_lint.specs.Subterms.{expressions_of, subterms}
 use Rattle.and_lint.proofs.Adding.{comes_end, comes_first, comes_more, spread_lines}
 use Rattle.and_lint.proofs.expressions.add_no_values.Goals as goal
 
-pub loop-item-init : goal.loop-item-init
-loop-item-init c =
-    let ss : List Shape = (skeleton_of c.args.loaded.now).nodes in
-    let k : Clause = clause_at (program_of c.args.loaded.now) c.args.no.0 in
-    let f : Term → List Bytes = no_value_lines_of (program_of c.args.loaded.now) k in
-    let all : List Item → List Bytes = λ xs. flat_map f (flat_map subterms (flat_map expressions_of xs)) in
-    subst (λ (xs : List Item). Comes c.args.findings.now (all k.body) c.args.findings.now (all xs)) (sym c.items-item-items.ensures.body)
-    (comes_first c.args.findings.now (all k.body))
-
 pub look_at_item-requires : goal.look_at_item-requires
 look_at_item-requires c = record {
-  there = c.requires;
-  item = item_there (skeleton_of c.args.loaded.now).nodes 0 c.items-item-items.result.now c.loop-item.item-index (Call (record { 0 = 0 }))
-      c.items-item-items.ensures.there c.loop-item-test.true;
+  there = c.requires.there;
+  item = item_of_these (skeleton_of c.args.loaded.now).nodes c.args.items.now c.loop-item.item-index (Call (record { 0 = 0 }))
+      c.requires.items c.loop-item-test.true;
 }
+
+pub loop-item-init : goal.loop-item-init
+loop-item-init c = comes_first c.args.findings.now _
 
 pub loop-item-preserved : goal.loop-item-preserved
 loop-item-preserved c =
@@ -37,11 +32,12 @@ loop-item-preserved c =
     let k : Clause = clause_at (program_of c.args.loaded.now) c.args.no.0 in
     let f : Term → List Bytes = no_value_lines_of (program_of c.args.loaded.now) k in
     let all : List Item → List Bytes = λ xs. flat_map f (flat_map subterms (flat_map expressions_of xs)) in
-    let items : List ItemNode = c.items-item-items.result.now in
+    let items : List ItemNode = c.args.items.now in
     let i : ℕ = c.loop-item.item-index in
     let item : Item = item_of ss (node_item (get_or items i (Call (record { 0 = 0 })))) in
     let rest : List Item = map (item_of ss) (map node_item (drop (i + 1) items)) in
-    comes_more c.args.findings.now c.loop-item.findings c.look_at_item.new.findings (all k.body) (all (map (item_of ss) (map node_item (drop i items))))
+    comes_more c.args.findings.now c.loop-item.findings c.look_at_item.new.findings (all (items_shown ss c.args.items.now))
+    (all (map (item_of ss) (map node_item (drop i items))))
     (flat_map f (flat_map subterms (expressions_of item))) (all rest) c.loop-item.invariant
     (ap (λ (xs : List Item). all xs) (items_drop ss items i (Call (record { 0 = 0 })) c.loop-item-test.true) ∙ spread_lines f subterms expressions_of item rest)
     c.in_ok-look_at_item.ensures
@@ -52,6 +48,6 @@ returns c =
     let k : Clause = clause_at (program_of c.args.loaded.now) c.args.no.0 in
     let f : Term → List Bytes = no_value_lines_of (program_of c.args.loaded.now) k in
     let all : List Item → List Bytes = λ xs. flat_map f (flat_map subterms (flat_map expressions_of xs)) in
-    comes_end c.args.findings.now c.loop-item.findings (all k.body)
-    (all (map (item_of ss) (map node_item (drop c.loop-item.item-index c.items-item-items.result.now)))) c.loop-item.invariant
-    (ap (λ (xs : List Item). all xs) (items_end ss c.items-item-items.result.now c.loop-item.item-index c.loop-item-test.false))
+    comes_end c.args.findings.now c.loop-item.findings (all (items_shown ss c.args.items.now))
+    (all (map (item_of ss) (map node_item (drop c.loop-item.item-index c.args.items.now)))) c.loop-item.invariant
+    (ap (λ (xs : List Item). all xs) (items_end ss c.args.items.now c.loop-item.item-index c.loop-item-test.false))

@@ -3,6 +3,7 @@ use Rattle.std.specs.List.{flat_map}
 use Rattle.and_model.specs.Programs.{clause_at}
 use Rattle.and_program.specs.Loaded.{program_of}
 use Rattle.and_lint.specs.Findings.{no_value_lines_of}
+use Rattle.and_lint.specs.Held.{items_shown}
 use Rattle.and_lint.specs.Kept.{Comes}
 use Rattle.and_lint.specs.Subterms.{subterms, expressions_of}
 use Rattle.and_program.specs.Loaded.{skeleton_of}
@@ -15,6 +16,6 @@ invariant-loop-item l =
     let P = program_of l.loaded in
     let k = clause_at P l.no.0 in
     let f = no_value_lines_of P k in
-    Comes l.initial.findings (flat_map f (flat_map subterms (flat_map expressions_of k.body)))
+    Comes l.initial.findings (flat_map f (flat_map subterms (flat_map expressions_of (items_shown (skeleton_of l.loaded).nodes l.items))))
     l.findings (flat_map f (flat_map subterms
-    (flat_map expressions_of (map (item_of (skeleton_of l.loaded).nodes) (map node_item (drop l.item-index l.item-items))))))
+    (flat_map expressions_of (map (item_of (skeleton_of l.loaded).nodes) (map node_item (drop l.item-index l.items))))))

@@ -5,8 +5,7 @@ use Rattle.and_model.specs.Lines.{Bytes}
 use Rattle.and_model.specs.Programs.{Clause, clause_at}
 use Rattle.and_program.specs.Loaded.{program_of}
 use Rattle.and_lint.specs.Findings.{once_lines_of}
-use Rattle.and_lint.specs.Kept.{Comes}
-use Rattle.and_lint.specs.Subterms.{subterms_of_clause}
+use Rattle.and_lint.specs.Kept.{Comes, IsCountOf}
 use Rattle.and_lint.proofs.Adding.{comes_end, comes_first, comes_more, range_more, range_none}
 use Rattle.and_lint.proofs.Counts.{counts_tell, zeros}
 use Rattle.and_lint.proofs.lone.add_lone_variables.Goals as goal
@@ -14,15 +13,10 @@ use Rattle.and_lint.proofs.lone.add_lone_variables.Goals as goal
 pub loop-variable-init : goal.loop-variable-init
 loop-variable-init c =
     let k : Clause = clause_at (program_of c.args.loaded.now) c.args.no.0 in
-    let all : List Bytes = flat_map (once_lines_of k) (range_with_len 0 k.variables) in
+    let all : List Bytes = flat_map (once_lines_of k c.args.variables.now) (range_with_len 0 k.variables) in
     let same : k.variables - 0 ≡ k.variables = omega arith in
-    subst (λ (n : ℕ). Comes c.args.findings.now all c.args.findings.now (flat_map (once_lines_of k) (range_with_len 0 n))) (sym same)
+    subst (λ (n : ℕ). Comes c.args.findings.now all c.args.findings.now (flat_map (once_lines_of k c.args.variables.now) (range_with_len 0 n))) (sym same)
     (comes_first c.args.findings.now all)
-
-pub look_at_variable-requires-clause-counts : goal.look_at_variable-requires-clause-counts
-look_at_variable-requires-clause-counts c =
-    counts_tell (replicate 256 0) c.count_clause.new.counts (subterms_of_clause (clause_at (program_of c.args.loaded.now) c.args.no.0))
-    (length-replicate {A = ℕ} 256 0) (zeros 256) c.in_ok-count_clause.ensures
 
 pub loop-variable-preserved : goal.loop-variable-preserved
 loop-variable-preserved c =
@@ -30,10 +24,12 @@ loop-variable-preserved c =
     let v : ℕ = c.loop-variable.variable in
     let n : ℕ = k.variables in
     let below : v < n = let e = c.variables-variable-end.ensures in let t = c.loop-variable-test.true in omega arith in
-    let f : ℕ → List Bytes = once_lines_of k in
+    let f : ℕ → List Bytes = once_lines_of k c.args.variables.now in
+    let told : IsCountOf c.count_variables.new.counts c.args.variables.now =
+    counts_tell (replicate 256 0) c.count_variables.new.counts c.args.variables.now (length-replicate {A = ℕ} 256 0) (zeros 256) c.count_variables.ensures in
     comes_more c.args.findings.now c.loop-variable.findings c.look_at_variable.new.findings (flat_map f (range_with_len 0 n))
     (flat_map f (range_with_len v (n - v))) (f v) (flat_map f (range_with_len (v + 1) (n - (v + 1)))) c.loop-variable.invariant
-    (ap (λ (vs : List ℕ). flat_map f vs) (range_more v n below)) c.in_ok-look_at_variable.ensures
+    (ap (λ (vs : List ℕ). flat_map f vs) (range_more v n below)) (c.in_ok-look_at_variable.ensures c.args.variables.now told)
 
 pub returns : goal.returns
 returns c =
@@ -41,6 +37,6 @@ returns c =
     let v : ℕ = c.loop-variable.variable in
     let n : ℕ = k.variables in
     let past : n ≤ v = let e = c.variables-variable-end.ensures in let t = c.loop-variable-test.false in omega arith in
-    let f : ℕ → List Bytes = once_lines_of k in
+    let f : ℕ → List Bytes = once_lines_of k c.args.variables.now in
     comes_end c.args.findings.now c.loop-variable.findings (flat_map f (range_with_len 0 n)) (flat_map f (range_with_len v (n - v)))
     c.loop-variable.invariant (ap (λ (vs : List ℕ). flat_map f vs) (range_none v n past))
