@@ -1,36 +1,39 @@
 -- The code of a proof is that of its lines.
-use Rattle.std.proofs.Common.{ℕ, ◌≡◌, ◌+◌, ◌<◌, ◌≤◌, ◌^◌, List, [], ◌∷◌, ◌++◌, append_assoc, length, map, not, nat_eq, refl, ap, sym, ◌∙◌, subst, arith}
-use Rattle.std.proofs.Common.{codes, Contains, Some}
+use Rattle.std.proofs.Common.{ℕ, ◌≡◌, ◌<◌, ◌≤◌, ◌^◌, List, [], ◌∷◌, ◌++◌, append_assoc, length, map, not, nat_eq, refl, ap, sym, ◌∙◌, arith}
+use Rattle.std.proofs.Common.{Bool, true, false, codes, Contains}
 use Rattle.std.specs.Prelude.{All}
 use Rattle.std.proofs.lemmas.List.Elements.{All-nil, All-cons, All-head, All-tail}
-use Rattle.and_model.specs.Terms.{Path, Term, variables_of}
+use Rattle.and_model.specs.Terms.{Path, Term}
 use Rattle.and_model.specs.Programs.{Program}
-use Rattle.and_model.specs.Trees.{Agenda, Tree, QueryTree, done, left, by, equate, reckon, code}
-use Rattle.and_model.specs.Lines.{Bytes, first_seen, shown, goal_term, line_of}
+use Rattle.and_model.specs.Trees.{Agenda, Tree, done, left, by, equate, reckon, code}
+use Rattle.and_model.specs.Lines.{Bytes, goal_term, line_of}
 use Rattle.and_model.specs.Terms.{Substitution, apply}
 use Rattle.and_laws.proofs.Deciding.{of_bounds}
 use Rattle.and_laws.proofs.Unfolding.{unfolding_code}
 use Rattle.and_proof.specs.Documents.{mark}
-use Rattle.and_proof.specs.Entries.{Entry, IsEntry, entry_line, entry_lines, HasEntries}
-use Rattle.and_proof.specs.Proofs.{Replaced, all_replaced, solved_by, call_line, call_lines, named_along, proof_of, HasProof, ProofText}
+use Rattle.and_proof.specs.Entries.{Entry, IsEntry, entry_lines, HasEntries}
+use Rattle.and_proof.specs.Proofs.{Replaced, all_replaced, solved_by, is_alternative, goal_text, named_with, call_line, call_lines, named_along, proof_of}
+use Rattle.and_proof.specs.Proofs.{HasProof, ProofText}
 use Rattle.and_proof.proofs.PlainBytes.{passed_plain, shown_plain}
 
 -- the lines of calls by their parts
-abbrev entries : List Bytes → List (Path × ℕ) → List Replaced → List Entry
-entries names seen [] = []
-entries names seen (r ∷ rs) =
-    let vs = first_seen seen (variables_of r.call) in
-    record { depth = r.depth; clause = r.clause; call = shown names vs r.call } ∷ entries names vs rs
+abbrev entries : Program → List (Path × ℕ) → List Replaced → List Entry
+entries P seen [] = []
+entries P seen (r ∷ rs) =
+    let other = is_alternative P r.clause in
+    let vs = named_with other seen r.call in
+    record { depth = r.depth; clause = r.clause; call = goal_text other P.names vs r.call } ∷ entries P vs rs
 
-lines_are : (names : List Bytes) (seen : List (Path × ℕ)) (rs : List Replaced) → entry_lines (entries names seen rs) ≡ call_lines names seen rs
-lines_are names seen [] = refl
-lines_are names seen (r ∷ rs) =
-    ap (λ (l : Bytes). call_line names (first_seen seen (variables_of r.call)) r ++ l) (lines_are names (first_seen seen (variables_of r.call)) rs)
+lines_are : (P : Program) (seen : List (Path × ℕ)) (rs : List Replaced) → entry_lines (entries P seen rs) ≡ call_lines P seen rs
+lines_are P seen [] = refl
+lines_are P seen (r ∷ rs) =
+    let vs = named_with (is_alternative P r.clause) seen r.call in
+    ap (λ (l : Bytes). call_line P vs r ++ l) (lines_are P vs rs)
 
-clauses_are : (names : List Bytes) (seen : List (Path × ℕ)) (rs : List Replaced)
-    → map (λ (e : Entry). e.clause) (entries names seen rs) ≡ map (λ (r : Replaced). r.clause) rs
-clauses_are names seen [] = refl
-clauses_are names seen (r ∷ rs) = ap (λ l. r.clause ∷ l) (clauses_are names (first_seen seen (variables_of r.call)) rs)
+clauses_are : (P : Program) (seen : List (Path × ℕ)) (rs : List Replaced)
+    → map (λ (e : Entry). e.clause) (entries P seen rs) ≡ map (λ (r : Replaced). r.clause) rs
+clauses_are P seen [] = refl
+clauses_are P seen (r ∷ rs) = ap (λ l. r.clause ∷ l) (clauses_are P (named_with (is_alternative P r.clause) seen r.call) rs)
 
 solved_clauses : (s : Substitution) (rs : List Replaced) → map (λ (r : Replaced). r.clause) (map (solved_by s) rs) ≡ map (λ (r : Replaced). r.clause) rs
 solved_clauses s [] = refl
@@ -59,14 +62,20 @@ solved_few n s [] all = All-nil (HasFew n)
 solved_few n s (r ∷ rs) all =
     All-cons (HasFew n) (solved_by s r) (map (solved_by s) rs) (All-head (HasFew n) r rs all) (solved_few n s rs (All-tail (HasFew n) r rs all))
 
-are_entries : (names : List Bytes) (seen : List (Path × ℕ)) (n : ℕ) (rs : List Replaced) → n < 2 ^ 16 → All (HasFew n) rs
-    → All IsEntry (entries names seen rs)
-are_entries names seen n [] few all = All-nil IsEntry
-are_entries names seen n (r ∷ rs) few all =
-    let vs = first_seen seen (variables_of r.call) in
+goal_plain : (other : Bool) (names : List Bytes) (vs : List (Path × ℕ)) (t : Term) → Contains (goal_text other names vs t) 10 → ⊥
+goal_plain true names vs t = passed_plain (λ b. not (nat_eq b 10)) (codes ";") refl refl
+goal_plain false names vs t = shown_plain names vs t
+
+are_entries : (P : Program) (seen : List (Path × ℕ)) (n : ℕ) (rs : List Replaced) → n < 2 ^ 16 → All (HasFew n) rs
+    → All IsEntry (entries P seen rs)
+are_entries P seen n [] few all = All-nil IsEntry
+are_entries P seen n (r ∷ rs) few all =
+    let other = is_alternative P r.clause in
+    let vs = named_with other seen r.call in
     let low = All-head (HasFew n) r rs all in
-    All-cons IsEntry (record { depth = r.depth; clause = r.clause; call = shown names vs r.call }) (entries names vs rs)
-    (record { clause = omega (arith, low, few); call = shown_plain names vs r.call }) (are_entries names vs n rs few (All-tail (HasFew n) r rs all))
+    All-cons IsEntry (record { depth = r.depth; clause = r.clause; call = goal_text other P.names vs r.call }) (entries P vs rs)
+    (record { clause = omega (arith, low, few); call = goal_plain other P.names vs r.call })
+    (are_entries P vs n rs few (All-tail (HasFew n) r rs all))
 
 mark_plain : Contains mark 10 → ⊥
 mark_plain = passed_plain (λ b. not (nat_eq b 10)) mark refl refl
@@ -79,21 +88,21 @@ text_entries P cs text few x =
     let goals : List Term = map (λ g. apply s (goal_term g)) x.waits in
     let rs : List Replaced = map (solved_by s) (all_replaced x.tree) in
     let seen : List (Path × ℕ) = named_along P s goals in
-    let es : List Entry = entries P.names seen rs in
+    let es : List Entry = entries P seen rs in
     let last : Bytes = line_of P s goals ++ 10 ∷ [] in
-    let lines : Bytes = call_lines P.names seen rs in
+    let lines : Bytes = call_lines P seen rs in
     let inner : lines ++ codes "%% line " ++ line_of P s goals ++ 10 ∷ [] ≡ entry_lines es ++ (codes "%% line " ++ last) =
     append_assoc (lines ++ codes "%% line ") (line_of P s goals) (10 ∷ []) ∙ append_assoc lines (codes "%% line ") last
-    ∙ ap (λ (b : Bytes). b ++ (codes "%% line " ++ last)) (sym (lines_are P.names seen rs)) in
+    ∙ ap (λ (b : Bytes). b ++ (codes "%% line " ++ last)) (sym (lines_are P seen rs)) in
     let parts : proof_of P s goals rs ≡ mark ++ 10 ∷ (entry_lines es ++ (codes "%% line " ++ last)) =
     ap (λ (b : Bytes). mark ++ 10 ∷ b) inner in
     let is : text ≡ mark ++ 10 ∷ (entry_lines es ++ (codes "%% line " ++ last)) = x.text_is ∙ parts in (
       es,
       (
-        are_entries P.names seen (length P.clauses) rs few (solved_few (length P.clauses) s (all_replaced x.tree) (tree_few x.tree)),
+        are_entries P seen (length P.clauses) rs few (solved_few (length P.clauses) s (all_replaced x.tree) (tree_few x.tree)),
         (mark, last, mark_plain, is),
       ),
-      clauses_are P.names seen rs ∙ solved_clauses s (all_replaced x.tree) ∙ tree_clauses x.tree ∙ (unfolding_code P cs x.tree x.unfolds).0,
+      clauses_are P seen rs ∙ solved_clauses s (all_replaced x.tree) ∙ tree_clauses x.tree ∙ (unfolding_code P cs x.tree x.unfolds).0,
     )
 
 -- A code with a proof's text has an outcome and is not too heavy.

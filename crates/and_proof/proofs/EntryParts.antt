@@ -1,5 +1,5 @@
 -- The parts of the lines of a proof, as they are read.
-use Rattle.std.proofs.Common.{ℕ, zero, suc, ◌≡◌, ◌+◌, ◌≤◌, ◌<◌, List, [], ◌∷◌, ◌++◌, append_assoc, append-nil, length, map, get_or, not, nat_eq, refl, ap}
+use Rattle.std.proofs.Common.{ℕ, ◌≡◌, List, [], ◌∷◌, ◌++◌, append_assoc, append-nil, map, get_or, not, nat_eq, refl, ap}
 use Rattle.std.proofs.Common.{sym, ◌∙◌, subst, inl, inr, arith, codes, Contains}
 use Rattle.std.specs.Prelude.{All}
 use Rattle.std.specs.Fmt.{decimal}
@@ -7,7 +7,7 @@ use Rattle.std.proofs.lemmas.List.{map-append}
 use Rattle.std.proofs.lemmas.List.Elements.{All-head, All-tail}
 use Rattle.and_model.specs.Lines.{Bytes}
 use Rattle.and_laws.proofs.Ordered.{contains_first, contains_cases, contains_none}
-use Rattle.and_proof.specs.Entries.{Entry, IsEntry, entry_text, entry_line, entry_lines, HasEntries}
+use Rattle.and_proof.specs.Entries.{Entry, IsEntry, entry_text, entry_line, entry_lines}
 use Rattle.and_proof.proofs.PlainBytes.{IsPlain, passed_plain, both_plain, byte_plain, decimal_plain, decimal_digits, decimal_first, no_digit}
 
 -- the text of a line, and what stands behind its mark, behind its depth and behind its clause

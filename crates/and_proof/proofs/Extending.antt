@@ -1,14 +1,13 @@
 -- Codes that are unfolded, clause by clause.
-use Rattle.std.proofs.Common.{ℕ, ◌≡◌, ◌+◌, List, [], ◌∷◌, ◌++◌, append-nil, append_assoc, length, map, refl, ap, sym, ◌∙◌, subst, inl, inr, arith, Option}
-use Rattle.std.proofs.Common.{Some, None, true, false, Bool, true≢false}
-use Rattle.and_model.specs.Terms.{Path, Term, framed}
-use Rattle.and_model.specs.Programs.{Program, Item, call, equal, arithmetic, fail, clause_at, is_of, Of}
-use Rattle.and_model.specs.Trees.{Agenda, end, goal, equation, reckoning, agenda, Tree, QueryTree, query_agenda, blank, done, left, by, equate, reckon, code}
-use Rattle.and_model.specs.Trees.{decided, Open, IsLeftmost, path, call_of, fresh, reduce, Below, both_done, both_left, both_by, grown, both_equate}
+use Rattle.std.proofs.Common.{ℕ, ◌≡◌, List, [], ◌∷◌, ◌++◌, append_assoc, length, refl, ap, sym, ◌∙◌, subst, inl, inr, Option}
+use Rattle.std.proofs.Common.{Some, None}
+use Rattle.and_model.specs.Terms.{Path, Term}
+use Rattle.and_model.specs.Programs.{Program, Item, call, equal, arithmetic, fail, clause_at, Of}
+use Rattle.and_model.specs.Trees.{Agenda, end, goal, equation, reckoning, Tree, QueryTree, query_agenda, blank, done, left, by, equate, reckon, code}
+use Rattle.and_model.specs.Trees.{decided, Open, IsLeftmost, path, call_of, fresh, reduce, Below, both_by, grown, both_equate}
 use Rattle.and_model.specs.Trees.{both_reckon, taking, mapped, then, extend, extend_all, unfold_code}
 use Rattle.and_model.specs.Stands.{calls_left}
-use Rattle.and_laws.proofs.Bodies.{fresh_code}
-use Rattle.and_laws.proofs.Order.{below_self, below_then, reduce_above}
+use Rattle.and_laws.proofs.Order.{below_self, below_then}
 use Rattle.and_laws.proofs.Unfolding.{extend_leftmost, unfolding_code}
 use Rattle.and_laws.proofs.Keys.{next_taken}
 use Rattle.and_proof.specs.Proofs.{Replaced, all_replaced}

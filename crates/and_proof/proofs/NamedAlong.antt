@@ -1,15 +1,16 @@
 -- Names that are given along a line, and lines of calls.
-use Rattle.std.proofs.Common.{ℕ, zero, suc, ◌≡◌, ◌+◌, ◌<◌, ◌≤◌, cond, List, [], ◌∷◌, ◌++◌, append_assoc, append-nil, drop, length, map, get_or, refl, ap, sym}
+use Rattle.std.proofs.Common.{ℕ, zero, suc, ◌≡◌, ◌+◌, ◌<◌, ◌≤◌, cond, List, [], ◌∷◌, ◌++◌, append_assoc, drop, length, map, get_or, refl, ap, sym}
 use Rattle.std.proofs.Common.{◌∙◌, subst, inl, inr, arith}
 use Rattle.std.proofs.Math.Seq.{drop-nil}
 use Rattle.and_model.specs.Terms.{Path, Term, variables_of, Substitution}
+use Rattle.and_model.specs.Programs.{Program}
 use Rattle.and_model.specs.Lines.{Bytes, first_seen, variables_along, shown_variables, begins_underscore}
 use Rattle.and_model.specs.declared.reference.Ref.{Ref}
 use Rattle.and_cells.specs.Ranges.{NamedProgram}
 use Rattle.and_laws.proofs.Equality.{bool_cases}
 use Rattle.and_print.proofs.Owing.{seen_in_turn}
 use Rattle.and_print.proofs.Showing.{shown_from, passed_over, shown_here, shown_end, shown_all}
-use Rattle.and_proof.specs.Proofs.{Replaced, call_line, call_lines}
+use Rattle.and_proof.specs.Proofs.{Replaced, is_alternative, named_with, call_line, call_lines}
 use Rattle.and_proof.specs.Written.{IsCallRead, AreCallsRead, named_if_shown}
 use Rattle.and_proof.specs.declared.goals.Taken.{Taken}
 
@@ -68,16 +69,16 @@ pub onto : (old x y mid new : Bytes) → mid ≡ old ++ x → new ≡ mid ++ y �
 onto old x y mid new first second = second ∙ ap (λ (l : Bytes). l ++ y) first ∙ append_assoc old x y
 
 -- the lines of these calls have still to be written
-abbrev pub LinesLeft : List Bytes → (all rest : List Replaced) → (seen now : List (Path × ℕ)) → (old new : Bytes) → Type 0
-LinesLeft names all rest seen now old new = new ++ call_lines names now rest ≡ old ++ call_lines names seen all
+abbrev pub LinesLeft : Program → (all rest : List Replaced) → (seen now : List (Path × ℕ)) → (old new : Bytes) → Type 0
+LinesLeft P all rest seen now old new = new ++ call_lines P now rest ≡ old ++ call_lines P seen all
 
 -- One more was written.
-pub one_written : (names : List Bytes) (all rest : List Replaced) (r : Replaced) (seen now next : List (Path × ℕ)) (old mid new : Bytes)
-    → LinesLeft names all (r ∷ rest) seen now old mid → next ≡ first_seen now (variables_of r.call) → new ≡ mid ++ call_line names next r
-    → LinesLeft names all rest seen next old new
-one_written names all rest r seen now next old mid new left e f =
-    ap (λ (b : Bytes). b ++ call_lines names next rest) f ∙ append_assoc mid (call_line names next r) (call_lines names next rest)
-    ∙ ap (λ vs. mid ++ (call_line names vs r ++ call_lines names vs rest)) e ∙ left
+pub one_written : (P : Program) (all rest : List Replaced) (r : Replaced) (seen now next : List (Path × ℕ)) (old mid new : Bytes)
+    → LinesLeft P all (r ∷ rest) seen now old mid → next ≡ named_with (is_alternative P r.clause) now r.call → new ≡ mid ++ call_line P next r
+    → LinesLeft P all rest seen next old new
+one_written P all rest r seen now next old mid new left e f =
+    ap (λ (b : Bytes). b ++ call_lines P next rest) f ∙ append_assoc mid (call_line P next r) (call_lines P next rest)
+    ∙ ap (λ vs. mid ++ (call_line P vs r ++ call_lines P vs rest)) e ∙ left
 
 -- a call that is read, and those behind it
 pub record CallAt (P : NamedProgram) (row : List Ref) (e : Taken) (n : ℕ) (rs : List Replaced) : Type 0 where

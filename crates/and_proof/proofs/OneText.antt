@@ -1,13 +1,13 @@
 -- A code has one proof.
-use Rattle.std.proofs.Common.{ℕ, ◌≡◌, ◌≤◌, List, [], ◌∷◌, length, map, refl, ap, sym, ◌∙◌, subst, inl, inr, Some, arith}
+use Rattle.std.proofs.Common.{ℕ, ◌≡◌, List, [], ◌∷◌, length, map, refl, ap, sym, ◌∙◌, subst, Some, arith}
 use Rattle.and_model.specs.Terms.{Term, variable, Substitution, apply}
-use Rattle.and_model.specs.Solutions.{Equation, MostGeneral, Entails, Solvable}
+use Rattle.and_model.specs.Solutions.{Equation, MostGeneral, Entails}
 use Rattle.and_model.specs.Programs.{Program, Arithmetic}
 use Rattle.and_model.specs.Trees.{QueryTree, equations, arithmetics, Closed}
 use Rattle.and_model.specs.Lines.{Bytes, goal_term}
 use Rattle.and_laws.proofs.Closing.{closure_order, closes_anyhow}
 use Rattle.and_laws.proofs.Printing.{Twins}
-use Rattle.and_laws.proofs.Substitutions.{Through, apply_through}
+use Rattle.and_laws.proofs.Substitutions.{apply_through}
 use Rattle.and_proof.specs.Proofs.{Replaced, all_replaced, solved_by, proof_of, ProofText}
 use Rattle.and_proof.proofs.Variants.{AreAlike, one_proof}
 

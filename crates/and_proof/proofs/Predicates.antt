@@ -1,7 +1,7 @@
 -- Calls and clauses of one predicate.
-use Rattle.std.proofs.Common.{ℕ, zero, suc, ◌≡◌, ◌+◌, ◌<◌, ◌≤◌, Bool, true, false, ◌&&◌, length, nat_eq, leb, ltb, refl, ap, sym, ◌∙◌, inl, inr, arith}
+use Rattle.std.proofs.Common.{ℕ, ◌≡◌, ◌<◌, ◌≤◌, Bool, true, false, ◌&&◌, length, nat_eq, leb, ltb, refl, ap, ◌∙◌, inl, inr, arith}
 use Rattle.std.proofs.Math.Dec.{eqb-suc-zero, eqb-zero-suc, eqb-suc-suc}
-use Rattle.std.proofs.lemmas.Bool.{leb-true, leb-false, ltb-false}
+use Rattle.std.proofs.lemmas.Bool.{leb-false, ltb-false}
 use Rattle.and_model.specs.Terms.{Term, Terms, variable, number, compound, none, more, width}
 use Rattle.and_model.specs.Programs.{Program, is_of, clause_at, same_count, same_predicate}
 use Rattle.and_laws.proofs.Deciding.{of_bounds}

@@ -1,7 +1,6 @@
 -- From an unfolding to a proof.
-use Rattle.std.proofs.Common.{ℕ, ◌≡◌, ◌+◌, List, [], ◌∷◌, ◌++◌, append-nil, length, reverse, ap, sym, ◌∙◌, subst, arith, Some}
-use Rattle.and_model.specs.Trees.{QueryTree, HasOutcome, unfold_code, weight}
-use Rattle.and_model.specs.Reductions.{Reduction}
+use Rattle.std.proofs.Common.{ℕ, ◌≡◌, List, [], ◌++◌, append-nil, length, reverse, ap, sym, ◌∙◌, subst, arith, Some}
+use Rattle.and_model.specs.Trees.{HasOutcome}
 use Rattle.and_model.specs.declared.goal.Goal.{Goal}
 use Rattle.and_model.specs.declared.reference.Ref.{Ref}
 use Rattle.and_cells.specs.Ranges.{NamedProgram}

@@ -1,7 +1,7 @@
 -- Calls and nodes that are read in the row, to be written.
-use Rattle.std.proofs.Common.{ℕ, ◌≡◌, ◌+◌, ◌≤◌, List, length, Some, ap, sym, ◌∙◌, subst, Contains}
+use Rattle.std.proofs.Common.{ℕ, ◌≡◌, ◌≤◌, List, length, Some, ap, sym, ◌∙◌, subst, Contains}
 use Rattle.std.specs.Prelude.{slice_get}
-use Rattle.and_model.specs.Terms.{Path, Term, variables_of, apply}
+use Rattle.and_model.specs.Terms.{Term, variables_of, apply}
 use Rattle.and_model.specs.declared.numbers.NodeNo.{NodeNo}
 use Rattle.and_model.specs.declared.reference.Ref.{Ref}
 use Rattle.and_program.specs.Loaded.{program_of, skeleton_of, nodes_at, shape_at}

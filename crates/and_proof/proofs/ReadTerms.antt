@@ -1,18 +1,14 @@
 -- What terms read as in a row.
-use Rattle.std.proofs.Common.{ℕ, ◌+◌, ◌≡◌, ◌<◌, true, false, List, [], length, refl, sym, ap, ◌∙◌, subst, Contains}
-use Rattle.and_model.specs.Terms.{Path, Term, variables_of, is_ground, Substitution, apply}
-use Rattle.and_model.specs.Solutions.{Equation, Solves, Entails}
+use Rattle.std.proofs.Common.{ℕ, ◌+◌, ◌≡◌, ◌<◌, false, List, [], length, refl, sym, ◌∙◌, Contains}
+use Rattle.and_model.specs.Terms.{Path, Term, variables_of, Substitution, apply}
+use Rattle.and_model.specs.Solutions.{Equation}
 use Rattle.and_model.specs.Store.{is_half}
 use Rattle.and_model.specs.declared.reference.Ref.{Ref}
 use Rattle.and_model.specs.declared.reference.Ref.TheVariants.{Cell}
-use Rattle.and_laws.proofs.Substitutions.{then, apply_then, apply_ground}
 use Rattle.and_cells.specs.Ranges.{NamedProgram}
 use Rattle.and_cells.specs.Seen.{word_at}
-use Rattle.and_cells.specs.Meaning.{StandsFor}
 use Rattle.and_cells.specs.Solved.{IsMostGeneral}
 use Rattle.and_cells.proofs.OneTerm.{one_term, apply_agree}
-use Rattle.and_cell_laws.proofs.TermsOfRows.{cell_is_below, cell_is_whole}
-use Rattle.and_branch_laws.specs.Variables.{cells_from, placed}
 use Rattle.and_branch_laws.specs.Running.{IsRead}
 
 -- A term reads in one way.

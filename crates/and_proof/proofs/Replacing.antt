@@ -1,5 +1,5 @@
 -- A call that is replaced by a clause.
-use Rattle.std.proofs.Common.{ℕ, suc, ◌≡◌, ◌+◌, ◌≤◌, ◌<◌, true, false, true≢false, cond, List, [], ◌∷◌, ◌++◌, append-nil, append_assoc, length, map, reverse}
+use Rattle.std.proofs.Common.{ℕ, suc, ◌≡◌, ◌+◌, ◌≤◌, ◌<◌, true, false, true≢false, cond, List, [], ◌∷◌, ◌++◌, length, map, reverse}
 use Rattle.std.proofs.Common.{refl, ap, sym, ◌∙◌, subst, inl, inr, arith, Some, Contains, leb, ltb, ◌&&◌}
 use Rattle.std.specs.Prelude.{All}
 use Rattle.std.proofs.lemmas.List.{map-append, reverse-append, reverse-reverse, length-append}
@@ -7,13 +7,14 @@ use Rattle.std.proofs.lemmas.List.Elements.{All-tail, All-append, All-contains, 
 use Rattle.and_model.specs.Terms.{Path, Term, Terms, variable, number, compound, none, more, framed, Substitution, apply_all}
 use Rattle.and_model.specs.Solutions.{Solvable}
 use Rattle.and_model.specs.Programs.{Program, call, clause_at, clause_weight, is_of, Of, same_count, same_predicate}
-use Rattle.and_model.specs.Trees.{QueryTree, query_agenda, Open, IsLeftmost, path, call_of, reduce, weight, equations, HasOutcome, Below, code, decided}
+use Rattle.and_model.specs.Trees.{QueryTree, query_agenda, Open, IsLeftmost, path, call_of, reduce, equations, Below}
 use Rattle.and_model.specs.Reached.{Dead}
 use Rattle.and_model.specs.Reductions.{Reduction, PlaceHas, query, reduced, Makes}
-use Rattle.and_model.specs.Stands.{Framed, IsFramed, ClauseHas, in_tree, term_of, call_in_tree, calls_left}
+use Rattle.and_model.specs.Stands.{Framed, IsFramed, in_tree, term_of, call_in_tree, calls_left}
 use Rattle.and_model.specs.declared.goal.Goal.{Goal}
 use Rattle.and_model.specs.declared.limits.TheConstants.{MAX_LIMIT}
 use Rattle.and_model.specs.declared.reference.Ref.{Ref}
+use Rattle.and_laws.proofs.Deciding.{of_bounds}
 use Rattle.and_laws.proofs.Keeping
 use Rattle.and_laws.proofs.Order.{below_then, below_weight, reduce_weight, whole_has_none, clause_weighs}
 use Rattle.and_laws.proofs.Ordered.{contains_first}
@@ -27,7 +28,7 @@ use Rattle.and_branch_laws.specs.Tasks.{tasks}
 use Rattle.and_branch_laws.specs.Reducing.{reduction_in_cells, reduction_by, body_goals}
 use Rattle.and_branch_laws.specs.Settling.{widened, Settled}
 use Rattle.and_branch_laws.specs.Judging.{NoCall}
-use Rattle.and_branch_laws.specs.Kept.{item_at, task_of, is_call, IsCall, calls_kept, goal_of, Kept}
+use Rattle.and_branch_laws.specs.Kept.{item_at, task_of, IsCall, calls_kept, Kept}
 use Rattle.and_branch_laws.proofs.Asking.{goal_cells_whole}
 use Rattle.and_branch_laws.proofs.Clauses.{goal_range_more}
 use Rattle.and_branch_laws.proofs.Places.{frame_within}
@@ -37,7 +38,7 @@ use Rattle.and_branch_laws.proofs.Tasks
 use Rattle.and_proof.specs.Calls.{CanBeTaken}
 use Rattle.and_proof.specs.Proofs.{Replaced, all_replaced, HasProof}
 use Rattle.and_proof.specs.Stacks.{at_depth}
-use Rattle.and_proof.specs.Unfolding.{ahead_of, IsGoal, IsTaken, AreTaken, IsUnfolding, Enters}
+use Rattle.and_proof.specs.Unfolding.{ahead_of, IsGoal, IsTaken, AreTaken, IsUnfolding}
 use Rattle.and_proof.specs.declared.goals.Ahead.{Ahead}
 use Rattle.and_proof.specs.declared.goals.Goals.{Goals}
 use Rattle.and_proof.specs.declared.goals.Taken.{Taken}
@@ -93,6 +94,7 @@ more_taken P rs qs words bigger e r grows l x = record {
   is_call = x.is_call;
   depth = x.depth;
   clause = x.clause;
+  numbered = x.numbered;
   call_is = x.call_is;
 }
 
@@ -290,6 +292,7 @@ module _ (P : NamedProgram) (loaded : IsLoaded P) (row : List Ref) (goals : Goal
           is_call = item;
           depth = whole_path;
           clause = refl;
+          numbered = (of_bounds P.program (call_of x.tree o) c of_call).1;
           call_is = (open_call).3;
         } in
         let codes = unfolding_code P.program cs x.tree x.unfolds in

@@ -1,40 +1,22 @@
 -- Where the terms of nodes are found.
-use Rattle.std.proofs.Common.{ℕ, ◌+◌, ◌≡◌, ◌≢◌, ◌<◌, false, List, [], ◌∷◌, ◌++◌, append-nil, length, map, refl, sym, ap, ◌∙◌, subst, inl, inr, arith}
+use Rattle.std.proofs.Common.{ℕ, ◌+◌, ◌≡◌, ◌≢◌, ◌<◌, List, [], ◌∷◌, refl, sym, ◌∙◌, subst, arith}
 use Rattle.std.specs.Prelude.{All, Contains}
-use Rattle.std.proofs.lemmas.List.Elements.{All-nil, All-cons, All-head, All-weaker, All-contains, Contains-append_cases}
-use Rattle.and_model.specs.Terms.{Path, Term, variables_of, framed}
-use Rattle.and_model.specs.Solutions.{Equation, Solves, Solvable, Entails}
-use Rattle.and_model.specs.Programs.{Item, Of, clause_at}
-use Rattle.and_model.specs.Candidates.{In, guard, Refuted, Candidate}
-use Rattle.and_model.specs.Store.{is_half}
+use Rattle.std.proofs.lemmas.List.Elements.{All-head, All-contains}
+use Rattle.and_model.specs.Terms.{Path, Term, variables_of}
 use Rattle.and_model.specs.declared.numbers.NodeNo.{NodeNo}
-use Rattle.and_model.specs.declared.reference.Ref.{Ref}
 use Rattle.and_model.specs.declared.reference.Ref.TheVariants.{Number}
 use Rattle.and_program.specs.Skeletons
 use Rattle.and_program.specs.Skeletons.{Shape, NodeItem, node_term, shape_term, terms_behind, item_of, AllFall}
 use Rattle.and_program.specs.Loaded.{shape_at}
 use Rattle.and_program.specs.Shown.{resolved}
-use Rattle.and_laws.proofs.Ordered.{contains_cases, contains_none}
-use Rattle.and_laws.proofs.Solving.{solves_join, solves_front, solves_back}
 use Rattle.and_cells.specs.Ranges.{NamedProgram, IsNodeInRange, IsInRange}
-use Rattle.and_cells.specs.Rows.{IsSound, plain}
-use Rattle.and_cells.specs.Seen.{Seen, word_at, IsWrittenIfNumber}
-use Rattle.and_cells.specs.Meaning.{shallow_cells, equations_of, equations_between}
+use Rattle.and_cells.specs.Seen.{Seen, IsWrittenIfNumber}
+use Rattle.and_cells.specs.Meaning.{shallow_cells}
 use Rattle.and_cells.specs.Parts.{part_at}
 use Rattle.and_cells.specs.Ends.{IsBelow}
-use Rattle.and_cells.specs.Solved.{IsMostGeneral}
 use Rattle.and_cells.proofs.Frames.{no_variable}
 use Rattle.and_cell_laws.proofs.Structures.{node_term_shape}
-use Rattle.and_branch_laws.specs.Variables.{SpeaksOf, placed, cells_from}
-use Rattle.and_branch_laws.specs.Settling.{widened}
-use Rattle.and_branch_laws.specs.Judging.{outside}
-use Rattle.and_branch_laws.proofs.Lists.{all_of}
-use Rattle.and_branch_laws.proofs.PairEquations.{part_cells, nodes_ask, IsWholeIn}
-use Rattle.and_branch_laws.proofs.Rows.{widened_words, widened_states, widened_stated}
-use Rattle.and_branch_laws.proofs.Speaking.{variables_applied}
-use Rattle.and_unify.specs.Pairs.{AreInRange, AreWritten, NameNoHalf, equations_of_pairs}
-use Rattle.and_unify.specs.Settling.{equations_with, KeepsBelow, AreNewFrom}
-use Rattle.and_unify.specs.declared.pairs.Pair.{Pair}
+use Rattle.and_branch_laws.proofs.PairEquations.{part_cells}
 
 -- ---- Where a node is found
 

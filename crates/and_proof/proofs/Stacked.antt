@@ -1,11 +1,10 @@
 -- The goals of a body, put on a stack.
-use Rattle.std.proofs.Common.{ℕ, suc, ◌≡◌, ◌<◌, ◌≤◌, true, false, List, [], ◌∷◌, ◌++◌, length, map, reverse, append-nil, append_assoc}
+use Rattle.std.proofs.Common.{ℕ, suc, ◌≡◌, ◌<◌, true, false, List, [], ◌∷◌, ◌++◌, length, map, reverse, append-nil, append_assoc}
 use Rattle.std.proofs.Common.{get_or, drop, refl, ap, sym, ◌∙◌, subst, inl, inr, arith, drop-cons}
 use Rattle.std.proofs.lemmas.Bool.{true≢false}
-use Rattle.std.proofs.lemmas.List.{length-map, get_or-map, reverse-append, reverse-reverse}
+use Rattle.std.proofs.lemmas.List.{length-map, get_or-map, reverse-append}
 use Rattle.and_model.specs.Terms.{Path}
 use Rattle.and_model.specs.Programs.{Item, call, equal, arithmetic, fail}
-use Rattle.and_model.specs.Stands.{Framed}
 use Rattle.and_laws.proofs.Equality.{bool_cases}
 use Rattle.and_program.specs.Items.{node_item}
 use Rattle.and_program.specs.Skeletons

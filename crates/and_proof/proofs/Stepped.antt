@@ -1,53 +1,38 @@
 -- The steps of an unfolding.
-use Rattle.std.proofs.Common.{ℕ, suc, ◌≡◌, ◌+◌, ◌≤◌, ◌<◌, ◌⊎◌, true, false, true≢false, Bool, List, [], ◌∷◌, ◌++◌, append-nil, append_assoc, length, map}
-use Rattle.std.proofs.Common.{reverse, replicate, get_or, cond, refl, ap, sym, ◌∙◌, subst, inl, inr, arith, Some, Contains, nat_eq, leb, ltb, ◌&&◌}
+use Rattle.std.proofs.Common.{ℕ, suc, ◌≡◌, ◌+◌, ◌≤◌, ◌<◌, ◌⊎◌, true, false, true≢false, Bool, List, [], ◌∷◌, ◌++◌, append_assoc, length, map}
+use Rattle.std.proofs.Common.{reverse, replicate, get_or, cond, refl, ap, sym, ◌∙◌, subst, inl, inr, arith, Contains}
 use Rattle.std.specs.Prelude.{All}
-use Rattle.std.proofs.lemmas.List.{map-append, reverse-append, reverse-reverse, length-append}
-use Rattle.std.proofs.lemmas.List.Elements.{All-nil, All-cons, All-head, All-tail, All-append, All-contains, Contains-append_left, Contains-append_right}
+use Rattle.std.proofs.lemmas.List.{map-append, reverse-append, reverse-reverse}
+use Rattle.std.proofs.lemmas.List.Elements.{All-nil, All-cons, All-head, All-tail, All-contains, Contains-append_right}
 use Rattle.std.proofs.lemmas.List.Elements.{Contains-append_cases}
-use Rattle.and_model.specs.Terms.{Path, Term, Terms, variable, number, compound, none, more, framed, Substitution, apply, apply_all}
+use Rattle.and_model.specs.Terms.{Path, Term}
 use Rattle.and_model.specs.Solutions.{Solvable}
-use Rattle.and_model.specs.Programs.{Program, Item, call, equal, arithmetic, fail, Arithmetic, clause_at, clause_weight, is_of, Of, same_count, same_predicate}
-use Rattle.and_model.specs.Trees.{QueryTree, query_agenda, blank, Open, IsLeftmost, path, call_of, reduce, weight, taken_weight, unfold_code, HasOutcome}
-use Rattle.and_model.specs.Trees.{Below, code, decided}
-use Rattle.and_model.specs.Reached.{Dead}
-use Rattle.and_model.specs.Reductions.{Reduction, PlaceHas}
-use Rattle.and_model.specs.Stands.{Framed, IsFramed, ClauseHas, in_tree, term_of, call_in_tree, calls_left}
+use Rattle.and_model.specs.Programs.{Program, Item, call, equal, arithmetic, fail, Arithmetic, clause_at, clause_weight}
+use Rattle.and_model.specs.Trees.{QueryTree, query_agenda, blank, weight}
+use Rattle.and_model.specs.Stands.{Framed}
 use Rattle.and_model.specs.declared.goal.Goal.{Goal}
 use Rattle.and_model.specs.declared.limits.TheConstants.{MAX_LIMIT}
 use Rattle.and_model.specs.declared.reference.Ref.{Ref}
 use Rattle.and_model.specs.declared.reference.Ref.TheVariants.{Free}
 use Rattle.and_laws.proofs.Equality.{bool_cases}
 use Rattle.and_laws.proofs.Keeping
-use Rattle.and_laws.proofs.Order.{blank_below, blank_weighs, below_self, below_then, below_weight, reduce_weight, whole_has_none}
+use Rattle.and_laws.proofs.Order.{blank_below, blank_weighs}
 use Rattle.and_laws.proofs.Ordered.{contains_first, contains_more, contains_cases, contains_none}
-use Rattle.and_laws.proofs.Placing.{place_more}
-use Rattle.and_laws.proofs.Splitting.{leftmost_same, reduce_same}
-use Rattle.and_laws.proofs.Unfolding.{unfolding_code}
 use Rattle.and_cells.specs.Ranges.{NamedProgram, IsGoalInRange}
 use Rattle.and_cells.specs.Meaning.{equations_of}
 use Rattle.and_branch_laws.specs.OwnVariables.{IsLoaded}
 use Rattle.and_branch_laws.specs.Variables.{placed}
-use Rattle.and_branch_laws.specs.Tasks.{tasks}
-use Rattle.and_branch_laws.specs.Reducing.{body_equations, reduction_in_cells, reduction_by, goal_at, body_goals}
-use Rattle.and_branch_laws.specs.Settling.{widened, Settled}
+use Rattle.and_branch_laws.specs.Reducing.{body_equations, goal_at, body_goals}
+use Rattle.and_branch_laws.specs.Settling.{Settled}
 use Rattle.and_branch_laws.specs.Judging.{NoCall}
 use Rattle.and_branch_laws.specs.Kept.{item_at, task_in, task_of, is_call, IsCall, calls_kept, goal_of, Kept}
-use Rattle.and_branch_laws.proofs.Asking.{goal_cells_whole}
-use Rattle.and_branch_laws.proofs.Clauses.{goal_range_more}
-use Rattle.and_branch_laws.proofs.Reading
 use Rattle.and_branch_laws.proofs.Rooting
-use Rattle.and_branch_laws.proofs.Stepping
-use Rattle.and_branch_laws.proofs.Tasks
-use Rattle.and_model.specs.Trees.{equations}
-use Rattle.and_proof.specs.Calls.{CanBeTaken}
-use Rattle.and_proof.specs.Proofs.{Replaced, all_replaced, HasProof}
+use Rattle.and_proof.specs.Proofs.{all_replaced, HasProof}
 use Rattle.and_proof.specs.Stacks.{at_depth}
-use Rattle.and_proof.specs.Unfolding.{ahead_of, IsGoal, IsTaken, AreTaken, IsUnfolding, IsAtCall, Enters}
+use Rattle.and_proof.specs.Unfolding.{ahead_of, IsGoal, AreTaken, IsUnfolding, IsAtCall}
 use Rattle.and_proof.specs.declared.goals.Ahead.{Ahead}
 use Rattle.and_proof.specs.declared.goals.Goals.{Goals}
-use Rattle.and_proof.specs.declared.goals.Taken.{Taken}
-use Rattle.and_proof.proofs.Extending.{next_of, one_more_unfolds, one_more_replaced, blank_replaced, first_left, none_left}
+use Rattle.and_proof.proofs.Extending.{blank_replaced}
 use Rattle.and_proof.proofs.Stacked.{depths_are}
 
 -- ---- Lists

@@ -1,17 +1,16 @@
 -- What is read in the cells for a proof that is kept there, and that it is the proof's.
-use Rattle.std.proofs.Common.{ℕ, ◌≡◌, ◌+◌, ◌<◌, ◌≤◌, not, Bool, true, false, cond, List, [], ◌∷◌, ◌++◌, append-nil, length, map, filter, refl, sym, ap, ◌∙◌}
+use Rattle.std.proofs.Common.{ℕ, ◌≡◌, ◌+◌, not, Bool, true, false, cond, List, [], ◌∷◌, length, map, refl, sym, ap, ◌∙◌}
 use Rattle.std.proofs.Common.{subst, inl, inr, arith, Contains}
 use Rattle.std.specs.Prelude.{All}
-use Rattle.std.proofs.lemmas.List.Elements.{All-nil, All-cons, All-head, All-tail, All-contains, All-map, Contains-append_cases}
+use Rattle.std.proofs.lemmas.List.Elements.{All-map, Contains-append_cases}
 use Rattle.and_model.specs.Terms.{Path, Term, variable, none, more, framed, variables_of, variables_in, Substitution, apply}
-use Rattle.and_model.specs.Solutions.{Equation, MostGeneral}
-use Rattle.and_model.specs.Programs.{Program, Arithmetic, is, compare, arithmetic, clause_at}
-use Rattle.and_model.specs.Trees.{QueryTree, equations, arithmetics, Closed, weight}
+use Rattle.and_model.specs.Solutions.{MostGeneral}
+use Rattle.and_model.specs.Programs.{Arithmetic, is, compare}
+use Rattle.and_model.specs.Trees.{QueryTree, equations, arithmetics}
 use Rattle.and_model.specs.Reductions.{Reduction, query}
-use Rattle.and_model.specs.Stands.{Framed, IsFramed, in_tree, term_of}
+use Rattle.and_model.specs.Stands.{Framed, in_tree, term_of}
 use Rattle.and_model.specs.Lines.{Bytes, goal_term}
 use Rattle.and_model.specs.declared.goal.Goal.{Goal}
-use Rattle.and_model.specs.declared.limits.TheConstants.{MAX_LIMIT}
 use Rattle.and_model.specs.declared.reference.Ref.{Ref}
 use Rattle.and_model.specs.declared.reference.Ref.TheVariants.{Cell}
 use Rattle.and_laws.proofs.Deciding.{closes_total}
@@ -26,7 +25,7 @@ use Rattle.and_branch_laws.specs.OwnVariables.{IsLoaded}
 use Rattle.and_branch_laws.specs.Variables.{SpeaksOf, ArithmeticSpeaksOf, IsVariable}
 use Rattle.and_branch_laws.specs.Tasks.{Task, take, run, arithmetic_among}
 use Rattle.and_branch_laws.specs.Judging.{NoneIsGround, NoCall}
-use Rattle.and_branch_laws.specs.Kept.{item_at, task_of, is_call, goal_of, arithmetic_kept, Kept}
+use Rattle.and_branch_laws.specs.Kept.{task_of, is_call, goal_of, arithmetic_kept, Kept}
 use Rattle.and_branch_laws.proofs.Growing.{TasksSpeakOf}
 use Rattle.and_branch_laws.proofs.Judging.{closed_is, solved_solvable, tree_whole}
 use Rattle.and_branch_laws.proofs.Keeping
@@ -36,7 +35,6 @@ use Rattle.and_branch_laws.proofs.Reading.{row_solution, row_reading, cell_read,
 use Rattle.and_branch_laws.proofs.Reading.{to_tree_term, to_row_term, arithmetic_are}
 use Rattle.and_branch_laws.proofs.Speaking.{speaks_applied, speaks_variable}
 use Rattle.and_print.specs.Given.{Given, GivesGoal}
-use Rattle.and_print.specs.Goals.{GoalMeans}
 use Rattle.and_proof.specs.Proofs.{Replaced, all_replaced, solved_by, proof_of, ProofText}
 use Rattle.and_proof.specs.Unfolding.{IsTaken, AreTaken, IsWholeIn, AllWait, IsProved}
 use Rattle.and_proof.specs.Written.{IsCallRead, AreCallsRead}
@@ -172,6 +170,7 @@ module _ (P : NamedProgram) (loaded : IsLoaded P) (rs : List Reduction) (row : L
       is_call = y.is_call;
       depth = y.depth;
       clause = y.clause;
+      numbered = y.numbered;
     }
 
   pub calls_read : (es : List Taken) (all : List Replaced) → AreTaken P rs (length row) es all → AreCallsRead P row es (map (solved_by terms) all)

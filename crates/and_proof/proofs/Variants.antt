@@ -1,15 +1,16 @@
 -- One text: solutions that rename each other give one proof.
-use Rattle.std.proofs.Common.{ℕ, suc, ◌≡◌, ◌+◌, ◌<◌, ◌≤◌, List, [], ◌∷◌, ◌++◌, append-nil, length, map, cond, true, false, refl, ap, sym, ◌∙◌, subst, arith}
-use Rattle.std.proofs.Common.{codes, Contains, decimal}
+use Rattle.std.proofs.Common.{ℕ, suc, Bool, ◌≡◌, ◌+◌, ◌<◌, ◌≤◌, List, [], ◌∷◌, ◌++◌, append-nil, length, map, cond, true, false, refl, ap, sym, ◌∙◌, subst}
+use Rattle.std.proofs.Common.{arith}
+use Rattle.std.proofs.Common.{codes, decimal}
 use Rattle.std.proofs.lemmas.List.{map-append}
-use Rattle.and_model.specs.Terms.{Path, Term, variables_of, Substitution, apply}
+use Rattle.and_model.specs.Terms.{Term, variables_of, Substitution, apply}
 use Rattle.and_model.specs.Programs.{Program}
-use Rattle.and_model.specs.Lines.{Bytes, first_seen, shown, shown_variables, variables_along, begins_underscore, line_of}
+use Rattle.and_model.specs.Lines.{Bytes, shown_variables, variables_along, begins_underscore, line_of}
 use Rattle.and_model.specs.Stands.{numbers_below, AreVariants}
 use Rattle.and_laws.proofs.Printing.{Variable, Pairs, first_seen_pairs, shown_twin, Twins, twins_pairs, variants_line}
 use Rattle.and_branch_laws.proofs.Reading.{mapped, below_cases}
 use Rattle.and_proof.specs.Documents.{mark}
-use Rattle.and_proof.specs.Proofs.{Replaced, call_line, call_lines, named_along, proof_of}
+use Rattle.and_proof.specs.Proofs.{Replaced, is_alternative, goal_text, named_with, call_line, call_lines, named_along, proof_of}
 
 module _ (s t : Substitution) where
   twins_join : (xs ys us zs : List Term) → Twins s t xs ys → Twins s t us zs → Twins s t (xs ++ us) (ys ++ zs)
@@ -50,23 +51,36 @@ module _ (s t : Substitution) where
       subst (λ ws. Pairs s t (variables_of x) ws) (append-nil (variables_of y))
       (subst (λ vs. Pairs s t vs (variables_of y ++ [])) (append-nil (variables_of x)) both)
 
-  -- Their lines are the same, where the variables that have names are paired.
-  lines_same : (names : List Bytes) (seen told : List Variable) (cs ds : List Replaced) → Pairs s t seen told → AreAlike cs ds
-      → call_lines names seen cs ≡ call_lines names told ds
-  lines_same names seen told [] [] p a = refl
-  lines_same names seen told [] (d ∷ ds) p a = elim a [ ]
-  lines_same names seen told (c ∷ cs) [] p a = elim a [ ]
-  lines_same names seen told (c ∷ cs) (d ∷ ds) p a =
-      let vs : List Variable = first_seen seen (variables_of c.call) in
-      let ws : List Variable = first_seen told (variables_of d.call) in
-      let known : Pairs s t vs ws = first_seen_pairs s t seen told (variables_of c.call) (variables_of d.call) p
-      (variables_paired c.call d.call a.2 a.3) in
-      let text : shown names vs c.call ≡ shown names ws d.call = shown_twin s t names vs ws known c.call d.call a.2 a.3 in
-      let one : call_line names vs c ≡ call_line names ws d =
-      ap (λ n. codes "%% " ++ decimal n ++ 32 ∷ decimal c.clause ++ 32 ∷ shown names vs c.call ++ 10 ∷ []) a.0
-      ∙ ap (λ n. codes "%% " ++ decimal d.depth ++ 32 ∷ decimal n ++ 32 ∷ shown names vs c.call ++ 10 ∷ []) a.1
-      ∙ ap (λ (b : Bytes). codes "%% " ++ decimal d.depth ++ 32 ∷ decimal d.clause ++ 32 ∷ b ++ 10 ∷ []) text in
-      ap (λ (l : Bytes). l ++ call_lines names vs cs) one ∙ ap (λ (l : Bytes). call_line names ws d ++ l) (lines_same names vs ws cs ds known a.4)
+  -- What is written for them, and what then has names, is the same, where the variables that have names are paired.
+  named_same : (other : Bool) (seen told : List Variable) (x y : Term) → Pairs s t seen told → y ≡ apply t x → x ≡ apply s y
+      → Pairs s t (named_with other seen x) (named_with other told y)
+  named_same true seen told x y p e f = p
+  named_same false seen told x y p e f = first_seen_pairs s t seen told (variables_of x) (variables_of y) p (variables_paired x y e f)
+
+  text_same : (other : Bool) (names : List Bytes) (vs ws : List Variable) (x y : Term) → Pairs s t vs ws → y ≡ apply t x → x ≡ apply s y
+      → goal_text other names vs x ≡ goal_text other names ws y
+  text_same true names vs ws x y known e f = refl
+  text_same false names vs ws x y known e f = shown_twin s t names vs ws known x y e f
+
+  -- So are their lines.
+  lines_same : (P : Program) (seen told : List Variable) (cs ds : List Replaced) → Pairs s t seen told → AreAlike cs ds
+      → call_lines P seen cs ≡ call_lines P told ds
+  lines_same P seen told [] [] p a = refl
+  lines_same P seen told [] (d ∷ ds) p a = elim a [ ]
+  lines_same P seen told (c ∷ cs) [] p a = elim a [ ]
+  lines_same P seen told (c ∷ cs) (d ∷ ds) p a =
+      let other : Bool = is_alternative P c.clause in
+      let vs : List Variable = named_with other seen c.call in
+      let ws : List Variable = named_with other told d.call in
+      let known : Pairs s t vs ws = named_same other seen told c.call d.call p a.2 a.3 in
+      let text : goal_text other P.names vs c.call ≡ goal_text other P.names ws d.call =
+      text_same other P.names vs ws c.call d.call known a.2 a.3 in
+      let line : Bytes = codes "%% " ++ decimal d.depth ++ 32 ∷ decimal c.clause ++ 32 ∷ goal_text other P.names ws d.call ++ 10 ∷ [] in
+      let one : call_line P vs c ≡ line =
+      ap (λ n. codes "%% " ++ decimal n ++ 32 ∷ decimal c.clause ++ 32 ∷ goal_text other P.names vs c.call ++ 10 ∷ []) a.0
+      ∙ ap (λ (b : Bytes). codes "%% " ++ decimal d.depth ++ 32 ∷ decimal c.clause ++ 32 ∷ b ++ 10 ∷ []) text in
+      let all : ℕ → Bytes = λ n. call_lines P told (record d { clause = n } ∷ ds) in
+      ap (λ (l : Bytes). l ++ call_lines P vs cs) one ∙ ap (λ (l : Bytes). line ++ l) (lines_same P vs ws cs ds known a.4) ∙ ap all a.1
 
   -- Values f and g of the query's variables that differ by names alone
   module _ (f g : Substitution) (n : ℕ) (values : (k : ℕ) → k < n → (g [] k ≡ apply t (f [] k)) × (f [] k ≡ apply s (g [] k))) where
@@ -108,7 +122,7 @@ module _ (s t : Substitution) where
         let twins : Twins s t (xs ++ gs) (ys ++ hs) = twins_join xs ys gs hs (shown_twins 0 P.query.written (omega arith)) goals in
         let known : Pairs s t (named_along P f gs) (named_along P g hs) =
         first_seen_pairs s t [] [] (variables_along (xs ++ gs)) (variables_along (ys ++ hs)) tt (twins_pairs s t (xs ++ gs) (ys ++ hs) twins) in
-        let lines : call_lines P.names (named_along P f gs) cs ≡ call_lines P.names (named_along P g hs) ds =
-        lines_same P.names (named_along P f gs) (named_along P g hs) cs ds known calls in
+        let lines : call_lines P (named_along P f gs) cs ≡ call_lines P (named_along P g hs) ds =
+        lines_same P (named_along P f gs) (named_along P g hs) cs ds known calls in
         ap (λ (b : Bytes). mark ++ 10 ∷ b ++ codes "%% line " ++ line_of P f gs ++ 10 ∷ []) lines
-        ∙ ap (λ (b : Bytes). mark ++ 10 ∷ call_lines P.names (named_along P g hs) ds ++ codes "%% line " ++ b ++ 10 ∷ []) line
+        ∙ ap (λ (b : Bytes). mark ++ 10 ∷ call_lines P (named_along P g hs) ds ++ codes "%% line " ++ b ++ 10 ∷ []) line

@@ -1,16 +1,13 @@
 -- Arithmetic that is run in a whole tree.
-use Rattle.std.proofs.Common.{ℕ, ◌≡◌, ◌+◌, ◌≤◌, ◌⊎◌, true, List, [], ◌∷◌, ◌++◌, append-nil, length, map, reverse, refl, ap, sym, ◌∙◌, subst, inl, inr, arith}
+use Rattle.std.proofs.Common.{◌≡◌, List, [], ◌∷◌, ◌++◌, map, refl, ap, sym, ◌∙◌, subst, inl, inr, arith}
 use Rattle.std.proofs.Common.{Contains}
-use Rattle.std.proofs.lemmas.List.{map-append, length-append, length-reverse, reverse-append}
+use Rattle.std.proofs.lemmas.List.{map-append}
 use Rattle.std.proofs.lemmas.List.Elements.{Contains-append_left, Contains-append_right, Contains-append_cases}
-use Rattle.and_model.specs.Terms.{Terms, are_ground}
-use Rattle.and_model.specs.Programs.{Arithmetic, arithmetic}
-use Rattle.and_model.specs.Trees.{QueryTree, HasOutcome, weight}
+use Rattle.and_model.specs.Trees.{QueryTree, HasOutcome}
 use Rattle.and_model.specs.Reached.{Dead}
 use Rattle.and_model.specs.Reductions.{Reduction}
 use Rattle.and_model.specs.Stands.{Framed}
 use Rattle.and_model.specs.declared.goal.Goal.{Goal}
-use Rattle.and_model.specs.declared.limits.TheConstants.{MAX_LIMIT}
 use Rattle.and_model.specs.declared.reference.Ref.{Ref}
 use Rattle.and_laws.proofs.Keeping
 use Rattle.and_laws.proofs.Order.{below_self}
@@ -19,7 +16,7 @@ use Rattle.and_cells.specs.Ranges.{NamedProgram}
 use Rattle.and_cells.specs.Meaning.{IsSettled}
 use Rattle.and_branch_laws.specs.OwnVariables.{IsLoaded}
 use Rattle.and_branch_laws.specs.Judging.{NoCall}
-use Rattle.and_branch_laws.specs.Kept.{item_at, goal_of, Kept}
+use Rattle.and_branch_laws.specs.Kept.{goal_of, Kept}
 use Rattle.and_branch_laws.proofs.Asking
 use Rattle.and_proof.specs.Runs.{CanBeRun, IsWaiting, HasRun, CannotHold, compared, assigned}
 use Rattle.and_proof.specs.Runs as runs

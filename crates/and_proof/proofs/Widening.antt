@@ -1,30 +1,25 @@
 -- Rows behind which free words were put.
-use Rattle.std.proofs.Common.{ℕ, ◌+◌, ◌≡◌, ◌<◌, ◌≤◌, List, [], length, replicate, Some, refl, sym, ap, ◌∙◌, subst, inl, inr, arith}
+use Rattle.std.proofs.Common.{ℕ, ◌+◌, ◌≡◌, ◌<◌, ◌≤◌, List, [], length, replicate, sym, ap, ◌∙◌, subst, inl, inr, arith}
 use Rattle.std.specs.Prelude.{Contains}
 use Rattle.std.proofs.lemmas.Bool.{cases_lt}
 use Rattle.std.proofs.lemmas.List.{get_or_past, length-append, length-replicate}
 use Rattle.std.proofs.lemmas.List.Elements.{All-contains}
-use Rattle.and_model.specs.Terms.{Path, Term, Substitution, variables_of}
-use Rattle.and_model.specs.Solutions.{Solves}
+use Rattle.and_model.specs.Terms.{Path, Term, variables_of}
 use Rattle.and_model.specs.Store.{is_half}
 use Rattle.and_model.specs.declared.reference.Ref.{Ref}
 use Rattle.and_model.specs.declared.reference.Ref.TheVariants.{Free, Cell, Node, Number, Half}
 use Rattle.and_program.specs.Skeletons.{node_term}
-use Rattle.and_laws.proofs.Ordered.{contains_first, contains_cases, contains_none}
-use Rattle.and_cell_laws.proofs.Images.{contains_origin, contains_image}
-use Rattle.and_cell_laws.proofs.Between.{one_value, names_no_half, between_solved, set_is_below}
-use Rattle.and_cell_laws.proofs.Structures.{in_frame, value_of_node}
-use Rattle.and_cells.proofs.OneTerm.{apply_agree}
+use Rattle.and_laws.proofs.Ordered.{contains_cases, contains_none}
+use Rattle.and_cell_laws.proofs.Images.{contains_origin}
+use Rattle.and_cell_laws.proofs.Between.{set_is_below}
 use Rattle.and_cells.specs.Ranges.{NamedProgram, CanHold}
 use Rattle.and_cells.specs.Rows.{IsSound}
 use Rattle.and_cells.specs.Seen.{word_at, IsSetTo}
-use Rattle.and_cells.specs.Meaning.{Words, StandsFor, unbound, bound, structure, integer, cell_variable, shallow_cells, IsSettled, number_in, equations_of}
-use Rattle.and_cells.specs.Meaning.{equations_between}
-use Rattle.and_cells.specs.Joined.{value}
+use Rattle.and_cells.specs.Meaning.{Words, StandsFor, unbound, bound, structure, integer, cell_variable, shallow_cells, IsSettled, number_in}
 use Rattle.and_cells.specs.Solved.{HasTerm, AllHaveTerms}
 use Rattle.and_cell_laws.proofs.Settling.{settled_rows_have_terms}
 use Rattle.and_branch_laws.specs.Settling.{widened}
-use Rattle.and_branch_laws.proofs.Rows.{widened_words, words_solved, row_solved}
+use Rattle.and_branch_laws.proofs.Rows.{widened_words}
 
 -- a widened row has so many words more
 pub widened_length : (row : List Ref) (by : ℕ) → length (widened row by) ≡ length row + by

@@ -1,5 +1,5 @@
 -- The lines of a proof as they are read again.
-use Rattle.std.specs.Prelude.{ℕ, ◌^◌, ◌<◌, ◌≡◌, List, [], ◌∷◌, ◌++◌, map, codes, All, Contains}
+use Rattle.std.specs.Prelude.{ℕ, ◌^◌, ◌<◌, ◌≡◌, List, [], ◌∷◌, ◌++◌, codes, All, Contains}
 use Rattle.std.specs.Fmt.{decimal}
 use Rattle.and_model.specs.Lines.{Bytes}
 

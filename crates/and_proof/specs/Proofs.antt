@@ -1,9 +1,10 @@
 -- The text of a proof, which can be checked without a search (this project's own).
-use Rattle.std.specs.Prelude.{ℕ, ◌≤◌, ◌≡◌, List, [], ◌∷◌, ◌++◌, length, map, codes, Some}
+use Rattle.std.specs.Prelude.{ℕ, ◌≤◌, ◌≡◌, Bool, false, cond, nat_eq, List, [], ◌∷◌, ◌++◌, length, map, codes, get_or}
+use Rattle.std.specs.Prelude.{Some}
 use Rattle.std.specs.Fmt.{decimal}
-use Rattle.and_model.specs.Terms.{Path, Term, variables_of, Substitution, apply}
+use Rattle.and_model.specs.Terms.{Path, Term, variable, number, compound, variables_of, Substitution, apply}
 use Rattle.and_model.specs.Solutions.{Equation, MostGeneral}
-use Rattle.and_model.specs.Programs.{Program, Arithmetic}
+use Rattle.and_model.specs.Programs.{Program, Arithmetic, clause_at}
 use Rattle.and_model.specs.Trees.{Agenda, Tree, QueryTree, done, left, by, equate, reckon, unfold_code, weight}
 use Rattle.and_model.specs.Trees.{IsWhole, Closed, HasOutcome}
 use Rattle.and_model.specs.Lines.{Bytes, first_seen, shown, goal_term, shown_variables, variables_along, line_of}
@@ -28,15 +29,40 @@ all_replaced (reckon t) = all_replaced t
 abbrev pub solved_by : Substitution → Replaced → Replaced
 solved_by s r = record { depth = r.depth; clause = r.clause; call = apply s r.call }
 
--- The line of a call, under a table of names, where variables are named by their places in `vs`.
-abbrev pub call_line : List Bytes → List (Path × ℕ) → Replaced → Bytes
-call_line names vs r = codes "%% " ++ decimal r.depth ++ 32 ∷ decimal r.clause ++ 32 ∷ shown names vs r.call ++ 10 ∷ []
+-- The name of the predicate to which a disjunction was lifted begins with the byte FF, which no text can write.
+abbrev pub begins_lifted : Bytes → Bool
+begins_lifted [] = false
+begins_lifted (b ∷ bs) = nat_eq b 255
+
+-- the name of a head, under a table of names
+abbrev pub head_name : List Bytes → Term → Bytes
+head_name names (variable q k) = []
+head_name names (number z) = []
+head_name names (compound c ts) = get_or names c []
+
+-- the clause is an alternative of a disjunction
+abbrev pub is_alternative : Program → ℕ → Bool
+is_alternative P c = begins_lifted (head_name P.names (clause_at P c).head)
+
+-- What is written for a call that was replaced, where variables are named by their places in `vs`: `;` where an
+-- alternative replaced it, and else the call.
+abbrev pub goal_text : (alternative : Bool) → List Bytes → List (Path × ℕ) → Term → Bytes
+goal_text alternative names vs g = cond alternative (codes ";") (shown names vs g)
+
+-- the variables that then have names: those of `;` are none
+abbrev pub named_with : (alternative : Bool) → List (Path × ℕ) → Term → List (Path × ℕ)
+named_with alternative seen g = cond alternative seen (first_seen seen (variables_of g))
+
+-- the line of a call
+abbrev pub call_line : Program → List (Path × ℕ) → Replaced → Bytes
+call_line P vs r = codes "%% " ++ decimal r.depth ++ 32 ∷ decimal r.clause
+    ++ 32 ∷ goal_text (is_alternative P r.clause) P.names vs r.call ++ 10 ∷ []
 
 -- The lines of calls, where these variables have names. Each call names those of its own that have none.
-abbrev pub call_lines : List Bytes → List (Path × ℕ) → List Replaced → Bytes
-call_lines names seen [] = []
-call_lines names seen (r ∷ rs) =
-    let vs = first_seen seen (variables_of r.call) in call_line names vs r ++ call_lines names vs rs
+abbrev pub call_lines : Program → List (Path × ℕ) → List Replaced → Bytes
+call_lines P seen [] = []
+call_lines P seen (r ∷ rs) =
+    let vs = named_with (is_alternative P r.clause) seen r.call in call_line P vs r ++ call_lines P vs rs
 
 -- the variables along the line of the outcome, by first occurrence
 abbrev pub named_along : Program → Substitution → List Term → List (Path × ℕ)
@@ -47,7 +73,7 @@ named_along P s goals = first_seen []
 -- each call, and the outcome's line. Variables are named along that line first, and then along the calls.
 abbrev pub proof_of : Program → Substitution → List Term → List Replaced → Bytes
 proof_of P s goals calls =
-    mark ++ 10 ∷ call_lines P.names (named_along P s goals) calls ++ codes "%% line " ++ line_of P s goals ++ 10 ∷ []
+    mark ++ 10 ∷ call_lines P (named_along P s goals) calls ++ codes "%% line " ++ line_of P s goals ++ 10 ∷ []
 
 -- The code has an outcome, and weighs at most the greatest limit.
 abbrev pub HasProof : Program → List ℕ → Type 0

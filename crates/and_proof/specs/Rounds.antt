@@ -1,5 +1,5 @@
 -- Rounds of running goals of arithmetic.
-use Rattle.std.specs.Prelude.{ℕ, ◌<◌, ◌≡◌, List, length}
+use Rattle.std.specs.Prelude.{◌<◌, List, length}
 use Rattle.and_model.specs.Reductions.{Reduction}
 use Rattle.and_model.specs.Trees.{QueryTree, HasOutcome}
 use Rattle.and_model.specs.declared.reference.Ref.{Ref}

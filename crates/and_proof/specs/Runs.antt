@@ -14,7 +14,7 @@ use Rattle.and_program.specs.Skeletons.{NodeItem}
 use Rattle.and_cells.specs.Ranges.{NamedProgram, IsGoalInRange, pair_of}
 use Rattle.and_cells.specs.Rows.{IsSound}
 use Rattle.and_cells.specs.Seen.{word_at, IsSetTo}
-use Rattle.and_cells.specs.Meaning.{IsSettled, equations_of, shallow_cells}
+use Rattle.and_cells.specs.Meaning.{equations_of, shallow_cells}
 use Rattle.and_branch_laws.specs.Kept.{item_at, node_item_at, HasFreePair}
 use Rattle.and_branch_laws.specs.Running.{IsRead, AreRead}
 use Rattle.and_branch_laws.specs.Settling.{Settled, IsWritten}

@@ -1,5 +1,5 @@
 -- What the sides of a goal of arithmetic come to in the cells of a frame.
-use Rattle.std.specs.Prelude.{ℕ, ◌+◌, ◌≡◌, Bool, true, false, List, [], ◌∷◌, Some, None, length, Contains}
+use Rattle.std.specs.Prelude.{ℕ, ◌+◌, ◌≡◌, Bool, true, false, List, Some, None, length, Contains}
 use Rattle.and_model.specs.Terms.{Path, Term, Terms, none, more, variables_of, is_ground, are_ground}
 use Rattle.and_model.specs.Arithmetic.{Relation, related, value, holds}
 use Rattle.and_model.specs.Store.{is_half}

@@ -1,5 +1,5 @@
 -- Goals on stacks.
-use Rattle.std.specs.Prelude.{ℕ, ◌≡◌, ◌++◌, ◌∷◌, [], Bool, true, false, List, reverse}
+use Rattle.std.specs.Prelude.{ℕ, ◌≡◌, ◌++◌, [], Bool, true, false, List, reverse}
 use Rattle.and_model.specs.Stands.{Framed}
 use Rattle.and_model.specs.declared.goal.Goal.{Goal}
 use Rattle.and_program.specs.Skeletons

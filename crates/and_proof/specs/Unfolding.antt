@@ -38,6 +38,7 @@ pub record IsTaken (P : NamedProgram) (rs : List Reduction) (words : ℕ) (e : T
   pub is_call : item_at P.program e.call ≡ call term
   pub depth : r.depth ≡ e.depth
   pub clause : r.clause ≡ e.clause.0
+  pub numbered : e.clause.0 ≤ length P.program.clauses
   pub call_is : r.call ≡ in_tree P.program framed
 
 -- so were these, one after another

@@ -1,5 +1,5 @@
 -- What the lines of a proof are written of.
-use Rattle.std.specs.Prelude.{ℕ, ◌≡◌, List, [], ◌∷◌, cond}
+use Rattle.std.specs.Prelude.{ℕ, ◌≡◌, ◌≤◌, length, List, [], ◌∷◌, cond}
 use Rattle.and_model.specs.Terms.{Path, Term, variables_of}
 use Rattle.and_model.specs.Programs.{call}
 use Rattle.and_model.specs.Lines.{Bytes, first_seen, begins_underscore}
@@ -17,6 +17,7 @@ pub record IsCallRead (P : NamedProgram) (row : List Ref) (e : Taken) (r : Repla
   pub is_call : item_at P.program e.call ≡ call term
   pub depth : r.depth ≡ e.depth
   pub clause : r.clause ≡ e.clause.0
+  pub numbered : e.clause.0 ≤ length P.program.clauses
 
 -- so do these, one after another
 abbrev pub AreCallsRead : NamedProgram → List Ref → List Taken → List Replaced → Type 0

@@ -1,8 +1,9 @@
 //! The text of the proof of a code.
 
-ghost use Rattle.std.specs.Prelude.{◌≡◌, ◌<◌, ◌++◌, ◌∷◌, [], ℕ, List, IfOk, OnOk, IsNone, IfSome, map, get_or};
+ghost use Rattle.std.specs.Prelude.{◌≡◌, ◌<◌, ◌≤◌, ◌++◌, ◌∷◌, [], ℕ, List, IfOk, OnOk, IsNone, IfSome, length, map};
+ghost use Rattle.std.specs.Prelude.{get_or};
 ghost use Rattle.std.specs.Fmt.{decimal};
-ghost use Rattle.and_model.specs.Lines.{first_seen, variables_along, shown_variables, begins_underscore};
+ghost use Rattle.and_model.specs.Lines.{first_seen, shown, variables_along, shown_variables, begins_underscore};
 ghost use Rattle.and_model.specs.Stands.{item_term};
 ghost use Rattle.and_model.specs.Terms.{Term, variables_of, Substitution, apply};
 ghost use Rattle.and_program.specs.Items.{node_item};
@@ -11,7 +12,8 @@ ghost use Rattle.and_program.specs.Skeletons.{item_of, node_term};
 ghost use Rattle.and_cells.specs.Parts.{named};
 ghost use Rattle.and_print.specs.Given.{GivesQuery};
 ghost use Rattle.and_print.specs.Goals.{NodeMeans, ItemMeans, GoalMeans, GoalsMean};
-ghost use Rattle.and_proof.specs.Proofs.{HasProof, ProofText, Replaced, call_line, call_lines};
+ghost use Rattle.and_proof.specs.Proofs.{HasProof, ProofText, Replaced, call_line, call_lines, goal_text, named_with};
+ghost use Rattle.and_proof.specs.Proofs as specs;
 ghost use Rattle.and_proof.specs.Unfolding.{IsProved};
 ghost use Rattle.and_proof.specs.Written.{IsCallRead, AreCallsRead, named_if_shown};
 
@@ -22,9 +24,9 @@ use crate::goals::{Goals, Taken};
 use crate::unfolding::{QUERY, unfold};
 use crate::waiting::{Waiting, run_arithmetic};
 use and_cells::{Naming, PlainCells};
-use and_model::{Code, Goal, GoalList, NodeNo, Ref, Text};
+use and_model::{ClauseNo, Code, Goal, GoalList, NodeNo, Ref, Text};
 use and_print::{VariableNames, show_line, show_term};
-use and_program::{ItemNode, Loaded};
+use and_program::{ItemNode, Loaded, NodeKind};
 use itoa::Buffer;
 use std::alloc::{AllocError, Global};
 use std::marker::Brand;
@@ -110,7 +112,7 @@ fn write_calls<N: Naming>(
     requires program { N.program ≡ named loaded.now }
     requires calls { (rs : List Replaced) × AreCallsRead (named loaded.now) cells.now taken.now rs }
     ensures { (rs : List Replaced) → AreCallsRead (named loaded.now) cells.now taken.now rs
-        → OnOk result (out.new ≡ out.old ++ call_lines (program_of loaded.now).names names.old rs) }
+        → OnOk result (out.new ≡ out.old ++ call_lines (program_of loaded.now) names.old rs) }
 {
     for place in 0..taken.len() {
         write_call(alloc, loaded, cells, taken[place], names, out)?;
@@ -130,19 +132,81 @@ fn write_call<N: Naming>(
     requires program { N.program ≡ named loaded.now }
     requires call { (r : Replaced) × IsCallRead (named loaded.now) cells.now taken r }
     ensures { (r : Replaced) → IsCallRead (named loaded.now) cells.now taken r → OnOk result
-        ((names.new ≡ first_seen names.old (variables_of r.call))
-        × (out.new ≡ out.old ++ call_line (program_of loaded.now).names names.new r)) }
+        ((names.new ≡ named_with (specs.is_alternative (program_of loaded.now) r.clause) names.old r.call)
+        × (out.new ≡ out.old ++ call_line (program_of loaded.now) names.new r)) }
 {
-    loaded.skeleton_is_of_the_program();
-    let node = call_at(loaded, taken.call.clause, taken.call.item);
-    let call = loaded.resolve(node, taken.call.base);
     out.append(b"%%")?;
     write_number(taken.depth, out)?;
     write_number(u32::from(taken.clause.0), out)?;
     out.append(b" ")?;
-    show_term(alloc, loaded, cells, call, names, out)?;
+    write_goal(alloc, loaded, cells, taken, names, out)?;
     out.append(b"\n")?;
     Ok(())
+}
+
+/// Writes a call, or `;` where an alternative replaced it. After want of memory the names and the text are spent.
+fn write_goal<N: Naming>(
+    alloc: Global,
+    loaded: &Loaded,
+    cells: &PlainCells<N>,
+    taken: Taken,
+    names: &mut VariableNames,
+    out: &mut Text,
+) -> Result<(), AllocError>
+    requires program { N.program ≡ named loaded.now }
+    requires call { (r : Replaced) × IsCallRead (named loaded.now) cells.now taken r }
+    ensures { (r : Replaced) → IsCallRead (named loaded.now) cells.now taken r
+        → let other = specs.is_alternative (program_of loaded.now) taken.clause.0 in
+        OnOk result ((names.new ≡ named_with other names.old r.call)
+        × (out.new ≡ out.old ++ goal_text other (program_of loaded.now).names names.new r.call)) }
+{
+    if is_alternative(loaded, taken.clause) {
+        out.append(b";")?;
+        return Ok(());
+    }
+    show_call(alloc, loaded, cells, taken, names, out)
+}
+
+/// Writes a call as it is printed. After want of memory the names and the text are spent.
+fn show_call<N: Naming>(
+    alloc: Global,
+    loaded: &Loaded,
+    cells: &PlainCells<N>,
+    taken: Taken,
+    names: &mut VariableNames,
+    out: &mut Text,
+) -> Result<(), AllocError>
+    requires program { N.program ≡ named loaded.now }
+    requires call { (r : Replaced) × IsCallRead (named loaded.now) cells.now taken r }
+    ensures { (r : Replaced) → IsCallRead (named loaded.now) cells.now taken r → OnOk result
+        ((names.new ≡ first_seen names.old (variables_of r.call))
+        × (out.new ≡ out.old ++ shown (program_of loaded.now).names names.new r.call)) }
+{
+    loaded.skeleton_is_of_the_program();
+    let node = call_at(loaded, taken.call.clause, taken.call.item);
+    let call = loaded.resolve(node, taken.call.base);
+    show_term(alloc, loaded, cells, call, names, out)?;
+    Ok(())
+}
+
+/// Whether a clause is an alternative of a disjunction: its predicate has a name that no text can write. Takes no
+/// memory.
+fn is_alternative(loaded: &Loaded, clause: ClauseNo) -> bool
+    requires { clause.0 ≤ length (program_of loaded.now).clauses }
+    ensures { result ≡ specs.is_alternative (program_of loaded.now) clause.0 }
+{
+    match loaded.kind(loaded.head(clause)) {
+        NodeKind::Compound { name, count: _ } => begins_lifted(loaded.name(name)),
+        NodeKind::Variable(_) => false,
+        NodeKind::Number(_) => false,
+    }
+}
+
+/// Whether a name begins with the byte FF. Takes no memory.
+fn begins_lifted(name: &[u8]) -> bool
+    ensures { result ≡ specs.begins_lifted name.now }
+{
+    matches!(name, [255, ..])
 }
 
 /// Writes a space and a number. After want of memory the text is spent.

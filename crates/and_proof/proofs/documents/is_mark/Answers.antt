@@ -1,9 +1,9 @@
 use Rattle.std.specs.List.{between}
-use Rattle.std.proofs.Common.{◌≡◌, length, drop, sym, ◌∙◌, arith, rules, IsTrue}
+use Rattle.std.proofs.Common.{length, drop, sym, ◌∙◌, arith, rules, IsTrue}
 use Rattle.std.proofs.lemmas.Bool.Decides.{Decides-eqb}
 use Rattle.std.proofs.lemmas.Slice.{between_to_end}
 use Rattle.std.proofs.lemmas.Slice.Eq.{starts_is}
-use Rattle.and_proof.specs.Documents.{mark, IsMark}
+use Rattle.and_proof.specs.Documents.{mark}
 use Rattle.and_proof.proofs.documents.is_mark.Goals as goal
 
 pub returns : goal.returns

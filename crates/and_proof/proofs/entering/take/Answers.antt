@@ -1,5 +1,4 @@
 use Rattle.std.proofs.Common.{ℕ, sym, subst}
-use Rattle.std.proofs.lemmas.Result.{on_ok_weaker}
 use Rattle.and_model.specs.Programs.{clause_at, clause_weight}
 use Rattle.and_proof.specs.Frames.{IsCallBelow}
 use Rattle.and_proof.proofs.RunGoals.{call_cells}

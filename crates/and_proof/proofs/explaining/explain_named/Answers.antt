@@ -1,6 +1,5 @@
-use Rattle.std.proofs.Common.{ℕ, ◌≡◌, ◌++◌, [], List, length, reverse, append-nil, refl, ap, sym, ◌∙◌, subst}
+use Rattle.std.proofs.Common.{◌≡◌, ◌++◌, [], List, reverse, append-nil, ap, sym, ◌∙◌, subst}
 use Rattle.and_model.specs.declared.goal.Goal.{Goal}
-use Rattle.and_cells.specs.Parts.{named}
 use Rattle.and_cells.specs.Ranges.{NamedProgram}
 use Rattle.and_proof.specs.Proofs.{HasProof}
 use Rattle.and_proof.specs.Stacks.{in_order}

@@ -1,4 +1,4 @@
-use Rattle.std.proofs.Common.{List, ap, ◌∙◌}
+use Rattle.std.proofs.Common.{ap, ◌∙◌}
 use Rattle.and_model.specs.Lines.{first_seen}
 use Rattle.and_model.specs.Terms.{variables_of, apply}
 use Rattle.and_program.specs.Loaded.{skeleton_of}

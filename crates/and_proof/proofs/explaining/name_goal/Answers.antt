@@ -1,4 +1,3 @@
-use Rattle.std.proofs.Common.{◌≡◌}
 use Rattle.and_cells.specs.Parts.{named}
 use Rattle.and_program.specs.declared.item.ItemNode.TheVariants.{Call}
 use Rattle.and_print.proofs.Reckoning.{goal_read}

@@ -1,4 +1,4 @@
-use Rattle.std.proofs.Common.{◌≡◌, ◌+◌, ◌≤◌, [], List, length, drop, refl, ap, sym, ◌∙◌, subst, arith}
+use Rattle.std.proofs.Common.{◌+◌, List, drop, refl, ap, sym, ◌∙◌, subst, arith}
 use Rattle.and_model.specs.Lines.{first_seen, variables_along}
 use Rattle.and_model.specs.Terms.{Term}
 use Rattle.and_cells.specs.Parts.{named}

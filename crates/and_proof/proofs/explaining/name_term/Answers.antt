@@ -1,4 +1,4 @@
-use Rattle.std.proofs.Common.{List, length, sym, subst}
+use Rattle.std.proofs.Common.{length, sym, subst}
 use Rattle.and_model.specs.Terms.{apply}
 use Rattle.and_program.specs.Loaded.{skeleton_of}
 use Rattle.and_program.specs.Skeletons.{node_term}

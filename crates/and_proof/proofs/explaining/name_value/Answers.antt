@@ -1,5 +1,5 @@
-use Rattle.std.proofs.Common.{ℕ, ◌≡◌, ◌<◌, ◌+◌, true, false, [], List, length, get_or, cond, refl, ap, sym, ◌∙◌, subst}
-use Rattle.and_model.specs.Lines.{Bytes, first_seen, begins_underscore}
+use Rattle.std.proofs.Common.{◌≡◌, ◌+◌, true, false, [], length, get_or, cond, ap, sym, ◌∙◌, subst}
+use Rattle.and_model.specs.Lines.{first_seen, begins_underscore}
 use Rattle.and_model.specs.Terms.{variables_of}
 use Rattle.and_model.specs.declared.reference.Ref.TheVariants.{Cell}
 use Rattle.and_program.specs.Loaded.{program_of}

@@ -1,4 +1,4 @@
-use Rattle.std.proofs.Common.{ℕ, ◌≡◌, ◌<◌, ◌≤◌, List, length, refl, ap, sym, ◌∙◌, subst, arith}
+use Rattle.std.proofs.Common.{◌<◌, ◌≤◌, List, length, refl, arith}
 use Rattle.and_model.specs.Lines.{Bytes}
 use Rattle.and_program.specs.Loaded.{program_of}
 use Rattle.and_proof.proofs.NamedAlong.{value_named, values_named}

@@ -2,7 +2,6 @@ use Rattle.std.proofs.Common.{ℕ, ◌≡◌, ◌++◌, ◌∷◌, [], List, len
 use Rattle.std.specs.Prelude.{All}
 use Rattle.and_model.specs.Lines.{Bytes, goal_term, first_seen, variables_along, shown_variables, line}
 use Rattle.and_model.specs.Terms.{Term, Substitution, apply}
-use Rattle.and_program.specs.Loaded.{program_of}
 use Rattle.and_cells.specs.Parts.{named}
 use Rattle.and_cells.specs.Ranges.{NamedProgram, IsGoalInRange}
 use Rattle.and_branch_laws.proofs.Loading.{loaded_is}
@@ -100,12 +99,12 @@ returns g c = λ cs y.
     (waiting_mean P row waiting given (Told.goals_in_range P facts rs row waiting y.tree y.whole)) in
     let along : c.name_goals.new.names ≡ named_along P.program terms goals =
     named_in_turn values goals [] c.name_values.new.names c.name_goals.new.names first second in
-    let lines : c.write_calls.new.out ≡ c.append.new.self ++ call_lines P.program.names (named_along P.program terms goals) calls =
+    let lines : c.write_calls.new.out ≡ c.append.new.self ++ call_lines P.program (named_along P.program terms goals) calls =
     c.in_ok-write_calls.ensures calls (Told.calls_read P facts rs row waiting y.tree y.whole c.args.taken.now (all_replaced y.tree) y.replaced)
-    ∙ ap (λ seen. c.append.new.self ++ call_lines P.program.names seen calls) along in
+    ∙ ap (λ seen. c.append.new.self ++ call_lines P.program seen calls) along in
     let last : c.append-3.new.self ≡ c.append-2.new.self ++ line P.program terms (Told.waits P facts rs row waiting y.tree y.whole) =
     c.in_ok-append-3.ensures ∙ ap (λ (b : Bytes). c.append-2.new.self ++ b) (c.bytes.ensures ∙ line_is) in
     Told.proof_told P facts row waiting c.args.taken.now cs y c.append-4.new.self
-    (text_is (call_lines P.program.names (named_along P.program terms goals) calls)
+    (text_is (call_lines P.program (named_along P.program terms goals) calls)
     (line P.program terms (Told.waits P facts rs row waiting y.tree y.whole)) c.in_ok-out.out c.append.new.self c.write_calls.new.out c.append-2.new.self
     c.append-3.new.self c.append-4.new.self c.in_ok-out.ensures c.in_ok-append.ensures lines c.in_ok-append-2.ensures last c.in_ok-append-4.ensures)

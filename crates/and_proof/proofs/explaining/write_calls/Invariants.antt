@@ -8,4 +8,4 @@ use Rattle.and_proof.proofs.explaining.write_calls.Given as goal
 
 abbrev pub invariant-loop-place : goal.invariant-loop-place
 invariant-loop-place g l = (rs : List Replaced) → AreCallsRead (named l.loaded) l.cells l.taken rs
-    → LinesLeft (program_of l.loaded).names rs (drop l.place rs) l.initial.names l.names l.initial.out l.out
+    → LinesLeft (program_of l.loaded) rs (drop l.place rs) l.initial.names l.names l.initial.out l.out

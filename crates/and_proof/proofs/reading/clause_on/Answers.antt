@@ -1,4 +1,4 @@
-use Rattle.std.proofs.Common.{◌∷◌, ◌∙◌, codes}
+use Rattle.std.proofs.Common.{◌∙◌, codes}
 use Rattle.std.specs.Fmt.{decimal}
 use Rattle.and_proof.proofs.EntryParts.{behind_mark, behind_depth, mark_parts, depth_parts, mark_closed, number_closed}
 use Rattle.and_proof.proofs.reading.clause_on.Goals as goal

@@ -1,7 +1,6 @@
-use Rattle.std.proofs.Common.{ℕ, ◌≡◌, ◌++◌, ◌∷◌, [], codes, refl, sym, ◌∙◌, subst, ap}
-use Rattle.std.specs.Prelude.{IsSomeAnd, IsNone}
-use Rattle.and_proof.specs.Entries.{Entry, entry_lines}
-use Rattle.and_proof.proofs.EntryParts.{EntriesLeft, one_read, all_read}
+use Rattle.std.proofs.Common.{◌++◌, [], codes, refl}
+use Rattle.and_proof.specs.Entries.{entry_lines}
+use Rattle.and_proof.proofs.EntryParts.{one_read, all_read}
 use Rattle.and_proof.proofs.reading.code_of.Goals as goal
 
 pub loop-clause-init : goal.loop-clause-init

@@ -1,4 +1,4 @@
-use Rattle.std.proofs.Common.{◌+◌, length, refl, ◌∙◌, arith}
+use Rattle.std.proofs.Common.{◌+◌, length, ◌∙◌, arith}
 use Rattle.std.proofs.lemmas.Slice.{between_to_end}
 use Rattle.and_proof.proofs.PartedBytes.{parts_are, none_parted}
 use Rattle.and_proof.proofs.reading.parted.Goals as goal

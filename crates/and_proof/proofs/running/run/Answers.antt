@@ -1,7 +1,6 @@
 use Rattle.std.proofs.Common.{◌≡◌, ◌≤◌, rules, sym, subst, arith, w64, to_z, of_z}
 use Rattle.std.specs.Prelude.{IfOk, FitsSigned}
 use Rattle.std.proofs.lemmas.Int.{ints, to_z-of_z}
-use Rattle.std.proofs.lemmas.Result.{on_ok_weaker}
 use Rattle.and_model.specs.declared.limits.TheConstants.{MAX_LIMIT}
 use Rattle.and_program.specs.Items.{relation}
 use Rattle.and_program.specs.Skeletons

@@ -1,12 +1,8 @@
-use Rattle.std.proofs.Common.{rules, ℕ, ◌≡◌, [], length, Some, refl, sym, ap, ◌∙◌, subst, w64}
+use Rattle.std.proofs.Common.{rules, length, Some, refl, sym, ap, ◌∙◌, subst, w64}
 use Rattle.std.specs.Prelude.{FitsSigned}
 use Rattle.std.proofs.lemmas.Int.{ints, to_z-of_z}
-use Rattle.std.proofs.lemmas.List.Elements.{All-head}
-use Rattle.and_model.specs.declared.reference.Ref.TheVariants.{Free}
-use Rattle.and_program.specs.Skeletons.{node_term}
 use Rattle.and_cells.specs.Ranges.{IsInRange}
 use Rattle.and_cells.specs.Rows.{plain}
-use Rattle.and_cells.specs.Seen.{word_at}
 use Rattle.and_arith.specs.Values.{HasValue, LacksValue, IsFirstFree}
 use Rattle.and_proof.proofs.Resolving.{part_in_range}
 use Rattle.and_proof.proofs.Valuing.{number_side, no_value_side, waiting_side}

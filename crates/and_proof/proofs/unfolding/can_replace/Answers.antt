@@ -1,5 +1,5 @@
-use Rattle.std.proofs.Common.{ℕ, ◌≡◌, ◌<◌, ◌≤◌, length, refl, ap, sym, ◌∙◌, arith}
-use Rattle.and_model.specs.Programs.{clause_at, same_predicate}
+use Rattle.std.proofs.Common.{◌<◌, ◌≤◌, length, refl, ap, sym, ◌∙◌, arith}
+use Rattle.and_model.specs.Programs.{same_predicate}
 use Rattle.and_model.specs.Stands.{term_of}
 use Rattle.and_model.specs.Terms.{Term}
 use Rattle.and_program.specs.Loaded.{program_of, skeleton_of}

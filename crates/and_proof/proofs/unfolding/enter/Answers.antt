@@ -1,4 +1,4 @@
-use Rattle.std.proofs.Common.{ℕ, ◌≡◌, ◌+◌, ◌++◌, ◌∷◌, [], map, reverse, length, ap, sym, ◌∙◌, subst, arith}
+use Rattle.std.proofs.Common.{ℕ, ◌≡◌, ◌+◌, ◌++◌, ◌∷◌, [], map, reverse, ap, sym, ◌∙◌, subst, arith}
 use Rattle.and_model.specs.Programs.{clause_at}
 use Rattle.and_laws.proofs.Deciding.{of_bounds}
 use Rattle.and_cells.specs.Ranges.{NamedProgram}
@@ -6,7 +6,6 @@ use Rattle.and_model.specs.Stands.{term_of}
 use Rattle.and_branch_laws.specs.Reducing.{body_goals}
 use Rattle.and_branch_laws.proofs.Loading.{loaded_is}
 use Rattle.and_proof.specs.Stacks.{at_depth}
-use Rattle.and_proof.specs.Unfolding.{IsUnfolding}
 use Rattle.and_proof.proofs.Replacing.{next_can, depth_fits, entered, reduced_dead}
 use Rattle.and_proof.proofs.unfolding.enter.Goals as goal
 

@@ -1,9 +1,8 @@
-use Rattle.std.proofs.Common.{ℕ, ◌≡◌, ◌++◌, ◌∷◌, [], ◌⊎◌, List, length, refl, ap, sym, ◌∙◌, subst, inl, inr, arith, append-nil}
+use Rattle.std.proofs.Common.{◌≡◌, ◌⊎◌, length, refl, sym, ◌∙◌, subst, inl, inr, append-nil}
 use Rattle.and_model.specs.Programs.{call, arithmetic, Arithmetic}
 use Rattle.and_model.specs.Terms.{Term}
 use Rattle.and_cells.specs.Ranges.{NamedProgram, IsGoalInRange}
 use Rattle.and_branch_laws.specs.Kept.{item_at}
-use Rattle.and_proof.specs.Unfolding.{IsUnfolding}
 use Rattle.and_proof.proofs.Stepped.{next_in_range, next_is_goal, passed_on, same_goals, none_there}
 use Rattle.and_proof.proofs.unfolding.pass_arithmetic.Goals as goal
 

@@ -1,13 +1,10 @@
-use Rattle.std.proofs.Common.{ℕ, ◌≡◌, ◌+◌, ◌<◌, ◌≤◌, ◌++◌, ◌∷◌, [], true, false, List, length, refl, ap, sym, ◌∙◌, subst, arith}
+use Rattle.std.proofs.Common.{◌≡◌, ◌+◌, ◌<◌, ◌≤◌, true, false, length, refl, sym, ◌∙◌, subst, arith}
 use Rattle.and_model.specs.Programs.{call, is_of, clause_at, clause_weight}
 use Rattle.and_model.specs.Stands.{term_of}
-use Rattle.and_model.specs.Terms.{Term}
 use Rattle.and_model.specs.declared.limits.TheConstants.{MAX_LIMIT}
-use Rattle.and_laws.proofs.Deciding.{of_bounds}
 use Rattle.and_cells.specs.Ranges.{NamedProgram, IsGoalInRange}
 use Rattle.and_branch_laws.specs.Kept.{item_at}
 use Rattle.and_branch_laws.proofs.Loading.{loaded_is}
-use Rattle.and_proof.specs.Unfolding.{IsUnfolding, Enters}
 use Rattle.and_proof.proofs.Replacing.{none_goes_on, next_can, other_predicate, too_heavy}
 use Rattle.and_proof.proofs.Stepped.{next_called, none_there}
 use Rattle.and_proof.proofs.unfolding.replace_next.Goals as goal

@@ -1,11 +1,8 @@
-use Rattle.std.proofs.Common.{ℕ, ◌≡◌, ◌+◌, ◌<◌, ◌++◌, ◌∷◌, [], List, length, refl, ap, sym, ◌∙◌, subst, arith}
+use Rattle.std.proofs.Common.{◌∷◌, [], List, length, refl, ap, sym, ◌∙◌, subst, arith}
 use Rattle.std.proofs.lemmas.List.{length-append}
 use Rattle.and_model.specs.declared.reference.Ref.{Ref}
 use Rattle.and_branch_laws.proofs.Loading.{loaded_is}
-use Rattle.and_proof.specs.Rounds.{IsRound}
 use Rattle.and_proof.specs.Stacks.{in_order, goals_before}
-use Rattle.and_proof.specs.declared.waiting.Round.{Round}
-use Rattle.and_proof.specs.declared.waiting.Round.TheVariants.{False}
 use Rattle.and_proof.proofs.Rounds.{RoundSoFar, begun, next_can, waited, ran, none_holds, ended}
 use Rattle.and_proof.proofs.WholeRuns.{whole_settled}
 use Rattle.and_proof.proofs.waiting.go_round.Goals as goal

@@ -1,4 +1,4 @@
-use Rattle.std.proofs.Common.{ℕ, ◌≡◌, ◌<◌, List, length, subst, arith}
+use Rattle.std.proofs.Common.{subst}
 use Rattle.and_proof.specs.Rounds.{IsRound}
 use Rattle.and_proof.specs.declared.waiting.Round.{Round}
 use Rattle.and_proof.proofs.waiting.run_arithmetic.Goals as goal

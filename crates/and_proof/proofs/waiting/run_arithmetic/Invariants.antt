@@ -1,4 +1,4 @@
-use Rattle.std.proofs.Common.{List, length}
+use Rattle.std.proofs.Common.{length}
 use Rattle.and_proof.specs.Rounds.{KeepsWhole}
 use Rattle.and_proof.specs.Stacks.{in_order, NoneBehind}
 use Rattle.and_proof.proofs.waiting.run_arithmetic.Given as goal

@@ -1,4 +1,4 @@
-use Rattle.std.proofs.Common.{ℕ, ◌≡◌, ◌≤◌, ◌++◌, length, take, drop, reverse}
+use Rattle.std.proofs.Common.{◌≡◌, ◌≤◌, ◌++◌, length, take, drop, reverse}
 use Rattle.and_proof.proofs.waiting.Waiting.all.Given as goal
 
 abbrev pub invariant-loop-goal : goal.invariant-loop-goal
