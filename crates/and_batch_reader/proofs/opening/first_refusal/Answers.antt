@@ -1,0 +1,29 @@
+use Rattle.std.proofs.Common.{◌≡◌, true, false, arith, rules}
+use Rattle.std.specs.Prelude.{is_some}
+use Rattle.and_batch_text.specs.Views.{spans_of}
+use Rattle.and_batch_reader.proofs.Judged.{none_before, one_more, first_one, all_read, spans_long}
+use Rattle.and_batch_reader.proofs.opening.first_refusal.Goals as goal
+
+pub loop-number-init : goal.loop-number-init
+loop-number-init c = none_before c.args.bytes.now (spans_of c.args.spans.now)
+
+pub returns-then-is_some : goal.returns-then-is_some
+returns-then-is_some c =
+    let o = c.in_ok-refusal.refusal in
+    let some : is_some o ≡ true = search rules in
+    let ss = c.args.spans.now in
+    let long = spans_long ss in
+    first_one c.args.bytes.now (spans_of ss) c.loop-number.number o (omega (arith, long, c.loop-number-test.true)) c.loop-number.invariant
+    c.in_ok-refusal.ensures some
+
+pub loop-number-preserved : goal.loop-number-preserved
+loop-number-preserved c =
+    let o = c.in_ok-refusal.refusal in
+    let none : is_some o ≡ false = search rules in
+    one_more c.args.bytes.now (spans_of c.args.spans.now) c.loop-number.number o c.loop-number.invariant c.in_ok-refusal.ensures none
+
+pub returns : goal.returns
+returns c =
+    let ss = c.args.spans.now in
+    let long = spans_long ss in
+    all_read c.args.bytes.now (spans_of ss) c.loop-number.number (omega (arith, long, c.loop-number-test.false)) c.loop-number.invariant

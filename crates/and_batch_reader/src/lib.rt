@@ -1,0 +1,6 @@
+//! The queries of a text that has several, found and read before any of them is answered.
+#![tactic(auto)]
+
+mod opening;
+
+pub use opening::{Opened, open};

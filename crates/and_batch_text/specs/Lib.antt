@@ -1,0 +1,4 @@
+pub mod Queries
+pub mod Singles
+pub mod Refused
+pub mod Views
