@@ -58,13 +58,14 @@ pub struct Form {
 }
 
 /// The commands that are there, in the order of the usage line.
-pub const KINDS: [Kind; 8] = [
+pub const KINDS: [Kind; 9] = [
     Kind::Run,
     Kind::Check,
     Kind::Demo,
     Kind::Explain,
     Kind::Verify,
     Kind::Tree,
+    Kind::Batch,
     Kind::First,
     Kind::Lint,
 ];
@@ -77,6 +78,7 @@ pub const USAGE: &[u8] = b"usage: \
     andorra explain K [--limit N] [--teams T] [--workers W] | \
     andorra verify | \
     andorra tree [--limit N] | \
+    andorra batch [--limit N] [--jobs J] [--teams T] [--workers W] | \
     andorra first K [--limit N] [--teams T] [--workers W] | \
     andorra lint\n";
 

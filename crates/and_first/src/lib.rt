@@ -7,3 +7,4 @@ mod steps;
 mod telling;
 
 pub use first::{End, First, first_by};
+pub use telling::are_floundered;

@@ -22,8 +22,8 @@ fn first_of(entries: &[Entry], count: usize) -> &[Entry]
     }
 }
 
-/// Whether some entry is no answer, since some of its arithmetic waits forever.
-fn are_floundered(entries: &[Entry]) -> bool
+/// Whether some entry is no answer, since some of its arithmetic waits forever. Takes no memory.
+pub fn are_floundered(entries: &[Entry]) -> bool
     ensures { result ≡ list_any (λ e. e.floundered) entries.now }
 {
     entries.iter().any(|entry| entry.floundered)

@@ -7,6 +7,10 @@ use Rattle.std.proofs.lemmas.List.{get_or-map, length-map}
 use Rattle.and_model.specs.Lines.{Bytes}
 use Rattle.and_model.specs.Programs.{Program}
 use Rattle.and_model.specs.Listing.{Entry, Listing}
+use Rattle.and_source.specs.Source.{SourceProgram}
+use Rattle.and_source.specs.Lifted.{lift}
+use Rattle.and_source.specs.SourceListing.{SourceListing}
+use Rattle.and_lifting.proofs.Listing.{lifting_keeps, exhausted_alike}
 use Rattle.and_model.specs.Output.{last_lines}
 use Rattle.and_model.specs.Trees.{unfold_code}
 use Rattle.and_model.specs.declared.goal
@@ -21,6 +25,7 @@ use Rattle.and_search_laws.specs.Found.{IsFound, IsEnd}
 use Rattle.and_search_laws.specs.Found as walks
 use Rattle.and_proof.specs.Proofs.{HasProof}
 use Rattle.and_top.specs.Explained.{IsAt}
+use Rattle.and_top.specs.Lifted.{IsLifted}
 use Rattle.and_top.specs.Top.{Documents, WasExplained, lacking_status}
 use Rattle.and_top.specs.declared.answering.Reply.{Reply}
 use Rattle.and_top.specs.declared.status.Status.{Status}
@@ -51,53 +56,63 @@ module _ (es : List answers.Entry) (place : ℕ) (e : answers.Entry) (first : 1 
       listed_has_proof P limit (map entry_of es) (entry_of e) lists small
       (place - 1, omega (arith, at_place.0, at_place.1), at_place.2)
 
-  pub explains : (P : Program) (limit : ℕ) (bytes out : Bytes) → Listing P limit (map entry_of es) → Documents P bytes e.code out
-      → WasExplained place limit bytes P Answers out
-  explains P limit bytes out lists (proof, proves, written) = record {
-    listing = map entry_of es;
-    entry = entry_of e;
-    proof = proof;
-    lists = lists;
-    is_there = at_place;
-    proves = proves;
-    written = written;
-  }
+  pub explains : (S : SourceProgram) (P : Program) (limit : ℕ) (bytes out : Bytes) → IsLifted S P → Listing P limit (map entry_of es)
+      → Documents P bytes e.code out → WasExplained place limit bytes S Answers out
+  explains S P limit bytes out lifted lists documents = explained (subst (λ Q. Documents Q bytes e.code out) lifted.is documents)
+    where
+      explained : Documents (lift S) bytes e.code out → WasExplained place limit bytes S Answers out
+      explained (proof, proves, written) = record {
+        listing = map entry_of es;
+        entry = entry_of e;
+        proof = proof;
+        lists = (lifting_keeps S limit (map entry_of es) lifted.numbered).1 (subst (λ Q. Listing Q limit (map entry_of es)) lifted.is lists);
+        is_there = at_place;
+        proves = proves;
+        written = written;
+      }
 
 -- where there is no such entry
-lacks_reply : (P : Program) (place limit : ℕ) (bytes out : Bytes) (f : Found) (es : List answers.Entry) (status : Status) → IsFound P limit f
-    → map entry_of es ≡ listed f → length es < place → out ≡ last_lines (finish_of f false) → status ≡ lacking_status f.cut
-    → WasExplained place limit bytes P status out
-lacks_reply P place limit bytes out f es status found all few is said = by f.cut refl
+lacks_reply : (S : SourceProgram) (P : Program) (place limit : ℕ) (bytes out : Bytes) (f : Found) (es : List answers.Entry) (status : Status)
+    → IsLifted S P → IsFound P limit f → map entry_of es ≡ listed f → length es < place → out ≡ last_lines (finish_of f false)
+    → status ≡ lacking_status f.cut → WasExplained place limit bytes S status out
+lacks_reply S P place limit bytes out f es status lifted finds all few is said = by f.cut refl
   where
+    found : IsFound (lift S) limit f
+    found = subst (λ Q. IsFound Q limit f) lifted.is finds
+
+    lists : SourceListing S limit (listed f)
+    lists = (lifting_keeps S limit (listed f) lifted.numbered).1 found.listing
+
     long : length (listed f) ≡ length es
     long = sym (ap length all) ∙ length-map es entry_of
 
-    by : (o : Option goal.Cut.Cut) → f.cut ≡ o → WasExplained place limit bytes P status out
+    by : (o : Option goal.Cut.Cut) → f.cut ≡ o → WasExplained place limit bytes S status out
     by None at =
-        let end : walks.IsComplete P limit f = subst (IsEnd P limit f) at found.end in
-        subst (λ s. WasExplained place limit bytes P s out) (sym (said ∙ ap lacking_status at)) (record {
+        let end : walks.IsComplete (lift S) limit f = subst (IsEnd (lift S) limit f) at found.end in
+        subst (λ s. WasExplained place limit bytes S s out) (sym (said ∙ ap lacking_status at)) (record {
           listing = listed f;
           forks = end.forks;
           failed = end.failed;
-          lists = found.listing;
+          lists = lists;
           few = omega (arith, long, few);
-          exhausted = end.exhausted;
+          exhausted = (exhausted_alike S limit lifted.numbered).1 end.exhausted;
           numbers = end.numbers;
           written = is ∙ ap (λ o. last_lines (finish_with o f.forks f.failed false)) at;
         })
     by (Some cut) at =
-        let end : IsEnd P limit f (Some cut) = subst (IsEnd P limit f) at found.end in
-        subst (λ s. WasExplained place limit bytes P s out) (sym (said ∙ ap lacking_status at)) (record {
+        let end : IsEnd (lift S) limit f (Some cut) = subst (IsEnd (lift S) limit f) at found.end in
+        subst (λ s. WasExplained place limit bytes S s out) (sym (said ∙ ap lacking_status at)) (record {
           listing = listed f;
           cut = end.0;
-          lists = found.listing;
+          lists = lists;
           few = omega (arith, long, few);
           over = end.2;
           written = is ∙ ap (λ o. last_lines (finish_with o f.forks f.failed false)) at;
         })
 
-pub lacks : {E : Type 0} (P : Program) (place limit : ℕ) (bytes : Bytes) (f : Found) (es : List answers.Entry) (r : Result Reply E) → IsFound P limit f
-    → map entry_of es ≡ listed f → length es < place → IfOk r (λ reply. reply.text ≡ last_lines (finish_of f false))
-    → IfOk r (λ reply. reply.status ≡ lacking_status f.cut) → IfOk r (λ reply. WasExplained place limit bytes P reply.status reply.text)
-lacks P place limit bytes f es (Ok reply) found all few is said = lacks_reply P place limit bytes reply.text f es reply.status found all few is said
-lacks P place limit bytes f es (Err e) found all few is said = tt
+pub lacks : {E : Type 0} (S : SourceProgram) (P : Program) (place limit : ℕ) (bytes : Bytes) (f : Found) (es : List answers.Entry) (r : Result Reply E)
+    → IsLifted S P → IsFound P limit f → map entry_of es ≡ listed f → length es < place → IfOk r (λ reply. reply.text ≡ last_lines (finish_of f false))
+    → IfOk r (λ reply. reply.status ≡ lacking_status f.cut) → IfOk r (λ reply. WasExplained place limit bytes S reply.status reply.text)
+lacks S P place limit bytes f es (Ok reply) lifted found all few is said =
+    lacks_reply S P place limit bytes reply.text f es reply.status lifted found all few is said
+lacks S P place limit bytes f es (Err e) lifted found all few is said = tt

@@ -1,3 +1,4 @@
+pub mod BatchLemmas
 pub mod CheckingLemmas
 pub mod ExplainLemmas
 pub mod ForkedTrees

@@ -24,7 +24,7 @@ is_work words (commands.Demo number settings) is range = (range.0, demo_limit wo
 is_work words (commands.Explain place settings) is range = (range.0.0, range.1.0.1)
 is_work words commands.Verify is range = tt
 is_work words (commands.Tree limit) is range = range.1
-is_work words (commands.Batch jobs settings) is range = tt
+is_work words (commands.Batch jobs settings) is range = (omega (arith, range.0.0), range.0.1, range.1.0.1)
 is_work words (commands.First count settings) is range = range.1.0.1
 is_work words commands.Lint is range = tt
 

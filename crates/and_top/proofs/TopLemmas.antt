@@ -13,18 +13,24 @@ use Rattle.and_io.specs.declared.reading.ReadAll.TheVariants as reads
 use Rattle.and_model.specs.Lines.{Bytes}
 use Rattle.and_model.specs.Programs.{Program}
 use Rattle.and_model.specs.Listing.{Entry}
+use Rattle.and_source.specs.Source.{SourceProgram}
+use Rattle.and_source.specs.Lifted.{lift}
+use Rattle.and_source.specs.SourceListing.{SourceListing}
+use Rattle.and_lifting.proofs.Listing.{lifting_keeps, exhausted_alike}
 use Rattle.and_model.specs.Output.{Finish, limit_met, counted}
 use Rattle.and_model.specs.declared.goal
+use Rattle.and_batch_text.specs.Refused.{IsBatchRefused}
 use Rattle.and_answers.specs.Kept.{listed, entry_of, outcome_with, finish_with}
 use Rattle.and_answers.specs.declared.found.Entry as answers
 use Rattle.and_answers.specs.declared.found.Found.{Found}
 use Rattle.and_search_laws.specs.Found.{IsFound, IsEnd, kept_count}
 use Rattle.and_search_laws.specs.Found as walks
 use Rattle.and_language.specs.Tokens.{newlines}
-use Rattle.and_language.specs.Refusals.{Reads, IsRefused, Refusal, at, too_big}
+use Rattle.and_language.specs.Refusals.{Reads, IsLiftedFrom, IsRefused, Refusal, at, too_big}
+use Rattle.and_language.proofs.NumberedTexts.{numbered_text}
 use Rattle.and_syntax.specs.Tables.{source}
 use Rattle.and_command.specs.declared.reading.Command.{Command}
-use Rattle.and_first.specs.First.{IsFirstOf, is_floundered}
+use Rattle.and_first.specs.First.{IsFirstOf, IsTold, is_floundered}
 use Rattle.and_first.specs.declared.first.First as first_answers
 use Rattle.and_first.specs.declared.first.End.{End}
 use Rattle.and_first.specs.declared.first.End.TheVariants as ends
@@ -33,17 +39,19 @@ use Rattle.and_top.specs.declared.status.Status.TheVariants.{Answers, NoAnswer, 
 use Rattle.and_reader.specs.RefusalLine.{refusal_line}
 use Rattle.and_reader.proofs.Judgement.{read_not_refused}
 use Rattle.and_top.specs.Finding.{Finds}
+use Rattle.and_top.specs.Lifted.{IsLifted}
+use Rattle.and_top.specs.Batched.{IsBatched, WasBatched}
 use Rattle.and_top.specs.Shown.{shown, completed, finish}
 use Rattle.and_top.specs.declared.answering.Reply.{Reply}
 use Rattle.and_top.specs.declared.question.Question.{Question}
 use Rattle.and_top.specs.declared.question.Question.TheVariants.{Run, Check, First, Explain, Tree, Lint}
 use Rattle.and_top.specs.declared.question.Request.{Request}
-use Rattle.and_top.specs.declared.question.Request.TheVariants.{Text, Document}
+use Rattle.and_top.specs.declared.question.Request.TheVariants.{Text, Document, Batch}
 use Rattle.and_top.specs.declared.question.TheConstants.{MAX_DOCUMENT}
 use Rattle.and_top.specs.declared.showing.Show.{Show}
 use Rattle.and_top.specs.declared.showing.Show.TheVariants.{Whole, Summary}
 use Rattle.and_top.specs.Top.{FindsAll, TellsFirst, first_status, status_seen, told_status, IsRefusedBy, WasRun, IsReply, WasReplied, WasAnswered, IsBounded}
-use Rattle.and_top.specs.Top.{Answered, IsAllowed, IsAnswer, IsLineOf, most_of}
+use Rattle.and_top.specs.Top.{Answered, IsAllowed, IsAnswer, IsLineOf, IsRunOf, most_of}
 use Rattle.and_top.specs.Verified.{IsDocumentRefused, WasVerified, too_long as document_too_long, by_program}
 use Rattle.and_top.specs.Top.{GivesAnswer, FailsWriting, GivesPrefix, Told, Took, IsRead}
 use Rattle.and_top.specs.Top.{AreAnswers, IsComplete, bytes_read, exhausted, has_floundered, status_for}
@@ -97,7 +105,7 @@ status_is None (e ∷ es) ls b none some is said =
     ap (λ (b : Bool). if b then Floundered else Answers) (said ∙ floundered_kept (e ∷ es)) ∙ ap exhausted is
 
 -- an exhausted search is answered by its listing
-exhausted_is : (show : Show) (limit : ℕ) (P : Program) (out : Bytes) (ls : List Entry) (status : Status) → status ≡ exhausted ls
+exhausted_is : (show : Show) (limit : ℕ) (P : SourceProgram) (out : Bytes) (ls : List Entry) (status : Status) → status ≡ exhausted ls
     → ((lines : List Entry → Type 0) → lines ls → FindsAll show limit lines P out) → WasRun show limit P status out
 exhausted_is show limit P out [] status said finds =
     subst (λ s. WasRun show limit P s out) (sym said) (finds (λ ls. ls ≡ []) refl)
@@ -111,37 +119,43 @@ exhausted_is show limit P out (e ∷ es) status said finds = by (has_floundered 
     by false is = subst Says (sym (said ∙ ap (λ b. if b then Floundered else Answers) is)) (finds AreAnswers ((λ q. cc), is))
 
 -- what was found is answered by what is written of it, and the status goes with that
-pub was_run : (show : Show) (limit : ℕ) (P : Program) (f : Found) (status : Status) (out : Bytes) → IsFound P limit f
-    → out ≡ shown show (listed f) (finish show f) → status ≡ status_for f.cut (listed f) → WasRun show limit P status out
-was_run show limit P f status out found is said = by f.cut refl
+pub was_run : (show : Show) (limit : ℕ) (S : SourceProgram) (P : Program) (f : Found) (status : Status) (out : Bytes) → IsLifted S P
+    → IsFound P limit f → out ≡ shown show (listed f) (finish show f) → status ≡ status_for f.cut (listed f) → WasRun show limit S status out
+was_run show limit S P f status out lifted finds is said = by f.cut refl
   where
     ls : List Entry
     ls = listed f
 
-    by : (o : Option goal.Cut.Cut) → f.cut ≡ o → WasRun show limit P status out
+    found : IsFound (lift S) limit f
+    found = subst (λ Q. IsFound Q limit f) lifted.is finds
+
+    lists : SourceListing S limit ls
+    lists = (lifting_keeps S limit ls lifted.numbered).1 found.listing
+
+    by : (o : Option goal.Cut.Cut) → f.cut ≡ o → WasRun show limit S status out
     by None at =
-        let end : walks.IsComplete P limit f = subst (IsEnd P limit f) at found.end in
+        let end : walks.IsComplete (lift S) limit f = subst (IsEnd (lift S) limit f) at found.end in
         let ends : finish show f ≡ completed show f.forks f.failed =
         finish_is show f ∙ ap (λ o. finish_at show o f.forks f.failed) at ∙ finish_none show f.forks f.failed in
-        exhausted_is show limit P out ls status (said ∙ ap (λ o. status_for o ls) at)
+        exhausted_is show limit S out ls status (said ∙ ap (λ o. status_for o ls) at)
         (λ lines has. record {
           listing = ls;
           forks = end.forks;
           failed = end.failed;
-          lists = found.listing;
-          exhausted = end.exhausted;
+          lists = lists;
+          exhausted = (exhausted_alike S limit lifted.numbered).1 end.exhausted;
           numbers = end.numbers;
           written = is ∙ ap (shown show ls) ends ∙ same_counts show ls f.forks f.failed end.forks end.failed end.forks_kept end.failed_kept;
           has = has;
         })
     by (Some cut) at =
-        let end : IsEnd P limit f (Some cut) = subst (IsEnd P limit f) at found.end in
+        let end : IsEnd (lift S) limit f (Some cut) = subst (IsEnd (lift S) limit f) at found.end in
         let ends : finish show f ≡ limit_met =
         finish_is show f ∙ ap (λ o. finish_at show o f.forks f.failed) at ∙ finish_cut show cut f.forks f.failed in
-        subst (λ s. WasRun show limit P s out) (sym (said ∙ ap (λ o. status_for o ls) at)) (record {
+        subst (λ s. WasRun show limit S s out) (sym (said ∙ ap (λ o. status_for o ls) at)) (record {
           listing = ls;
           cut = end.0;
-          lists = found.listing;
+          lists = lists;
           over = end.2;
           written = is ∙ ap (shown show ls) ends;
         })
@@ -165,12 +179,13 @@ seen_is ends.Complete (e ∷ es) =
 seen_is ends.LimitMet es = refl
 
 -- the first answers are told, and the status goes with them
-pub tells_first : (count limit : ℕ) (P : Program) (first : first_answers.First) (status : Status) → IsFirstOf P limit count first
-    → status ≡ status_seen first.end first.lines first.floundered → TellsFirst count limit P status first.text
-tells_first count limit P first status is said = record {
+pub tells_first : (count limit : ℕ) (S : SourceProgram) (P : Program) (first : first_answers.First) (status : Status) → IsLifted S P
+    → IsFirstOf P limit count first → status ≡ status_seen first.end first.lines first.floundered → TellsFirst count limit S status first.text
+tells_first count limit S P first status lifted is said = record {
   told = is.told;
   ending = first.end;
-  is_told = is.is_told;
+  is_told = subst (λ Q. IsTold Q limit count first.end is.told) lifted.is is.is_told;
+  same = λ step ls. lifting_keeps S step ls lifted.numbered;
   written = is.text;
   status_is = said
       ∙ ap (λ n. status_seen first.end n first.floundered) is.lines
@@ -199,7 +214,8 @@ never_bad ends.Complete [] = refl
 never_bad ends.Complete (e ∷ es) = told_not_bad (has_floundered (e ∷ es))
 never_bad ends.LimitMet es = refl
 
-not_bad : (question : Question) (bytes : Bytes) (P : Program) (status : Status) (out : Bytes) → is_bad status ≡ true → IsReply question bytes P status out → ⊥
+not_bad : (question : Question) (bytes : Bytes) (P : SourceProgram) (status : Status) (out : Bytes) → is_bad status ≡ true
+    → IsReply question bytes P status out → ⊥
 unfolding is_bad
 not_bad (Run show limit) bytes P Usage out bad w = w
 not_bad (Run show limit) bytes P Refused out bad w = w
@@ -250,7 +266,7 @@ not_bad (First count limit) bytes P status out bad w =
     true≢false (sym bad ∙ ap is_bad w.status_is ∙ never_bad w.ending w.told)
 
 -- what a program is answered with is what its text is
-replied : (question : Question) (P : Program) (status : Status) (bytes out : Bytes) → Reads bytes P → IsReply question bytes P status out
+replied : (question : Question) (P : SourceProgram) (status : Status) (bytes out : Bytes) → Reads bytes P → IsReply question bytes P status out
     → WasAnswered question status bytes out
 unfolding is_bad
 replied question P Answers bytes out reads w = (P, reads, w)
@@ -263,10 +279,12 @@ replied question P ReadFault bytes out reads w = absurd (not_bad question bytes 
 replied question P WriteFault bytes out reads w = absurd (not_bad question bytes P WriteFault out refl w)
 replied question P Memory bytes out reads w = absurd (not_bad question bytes P Memory out refl w)
 
-pub answered_by : {E : Type 0} (question : Question) (P : Program) (r : Result Reply E) (bytes : Bytes) → Reads bytes P
-    → IfOk r (λ reply. IsReply question bytes P reply.status reply.text) → IfOk r (λ reply. WasAnswered question reply.status bytes reply.text)
-answered_by question P (Ok reply) bytes reads w = replied question P reply.status bytes reply.text reads w
-answered_by question P (Err e) bytes reads w = tt
+pub answered_by : {E : Type 0} (question : Question) (P : Program) (r : Result Reply E) (bytes : Bytes) → IsLiftedFrom bytes P
+    → ((S : SourceProgram) → IsLifted S P → IfOk r (λ reply. IsReply question bytes S reply.status reply.text))
+    → IfOk r (λ reply. WasAnswered question reply.status bytes reply.text)
+answered_by question P (Ok reply) bytes (S, reads, same) w =
+    replied question S reply.status bytes reply.text reads (w S (record { numbered = numbered_text bytes S reads; is = same }))
+answered_by question P (Err e) bytes lifted w = tt
 
 -- Without an answer to the bytes of a source there is no such status.
 pub record IsSilent (request : Request) (bytes out : Bytes) : Type 0 where
@@ -278,6 +296,7 @@ pub record IsSilent (request : Request) (bytes out : Bytes) : Type 0 where
 silent : (request : Request) (bytes out : Bytes) → IsSilent request bytes out
 silent (Text question) bytes out = record { usage = λ w. w; read_fault = λ w. w; write_fault = λ w. w; memory = λ w. w }
 silent Document bytes out = record { usage = λ w. w; read_fault = λ w. w; write_fault = λ w. w; memory = λ w. w }
+silent (Batch jobs limit) bytes out = record { usage = λ w. w; read_fault = λ w. w; write_fault = λ w. w; memory = λ w. w }
 
 module _ (request : Request) (old new bytes out : Bytes) where
   -- where an answer was written, so it is
@@ -355,7 +374,7 @@ pub memory_gave_none : (request : Request) (old new bytes : Bytes) (status : Sta
 memory_gave_none request old new bytes status a e = subst (λ s. Answered request old new s bytes) e a
 
 -- A text that reads as a program is not refused.
-pub never_refused : (show : Show) (limit : ℕ) (old new : Bytes) (P : Program) (bytes : Bytes) (status : Status) → Reads bytes P
+pub never_refused : (show : Show) (limit : ℕ) (old new : Bytes) (P : SourceProgram) (bytes : Bytes) (status : Status) → Reads bytes P
     → Answered (Text (Run show limit)) old new status bytes → status ≢ Refused
 never_refused show limit old new P bytes status reads answered e =
     let asked : Request = Text (Run show limit) in
@@ -410,7 +429,7 @@ module _ (bytes text rest : Bytes) (joined : bytes ≡ text ++ rest) (large : MA
     said ∙ ap refusal_line (same_refusal r is),
   )
 
-  no_program : (P : Program) → Reads text P → ⊥
+  no_program : (P : SourceProgram) → Reads text P → ⊥
   no_program P r = let s = r.size in omega (arith, large, s)
 
   same_reply : (question : Question) (status : Status) (out : Bytes) → WasReplied question status text out → WasReplied question status bytes out
@@ -448,10 +467,38 @@ module _ (bytes text rest : Bytes) (joined : bytes ≡ text ++ rest) (large : MA
   same_verdict Memory out w = w
   same_verdict Floundered out w = w
 
+-- and with a text of several queries
+module _ (Replies : Status → Bytes → Bytes → Type 0) (bytes text rest : Bytes) (joined : bytes ≡ text ++ rest) (large : MAX_BYTES < length text) where
+  same_batch_refusal : (r : Refusal) → IsBatchRefused text r → r ≡ at bytes MAX_BYTES (too_big source)
+  same_batch_refusal r (IsBatchRefused.too_long h) = same_place MAX_BYTES bytes text rest joined large
+  same_batch_refusal r (IsBatchRefused.without_query s h has refused) = absurd (omega (arith, h))
+  same_batch_refusal r (IsBatchRefused.too_many spans s h has found) = absurd (omega (arith, h))
+  same_batch_refusal r (IsBatchRefused.at_query spans k s h has few less read refused) = absurd (omega (arith, h))
+
+  no_batch : (status : Status) (out : Bytes) → IsBatched Replies status text out → ⊥
+  no_batch status out w = let s = w.batch.size in omega (arith, large, s)
+
+  same_batch : (status : Status) (out : Bytes) → WasBatched Replies status text out → WasBatched Replies status bytes out
+  same_batch Answers out w = absurd (no_batch Answers out w)
+  same_batch NoAnswer out w = absurd (no_batch NoAnswer out w)
+  same_batch Usage out w = w
+  same_batch Refused out (r, is, said) = (
+    at bytes MAX_BYTES (too_big source),
+    IsBatchRefused.too_long (longer MAX_BYTES bytes text rest joined large),
+    said ∙ ap refusal_line (same_batch_refusal r is),
+  )
+  same_batch ReadFault out w = w
+  same_batch WriteFault out w = w
+  same_batch Limit out w = absurd (no_batch Limit out w)
+  same_batch Memory out w = w
+  same_batch Floundered out w = absurd (no_batch Floundered out w)
+
 same_due_of : (request : Request) (bytes text rest : Bytes) → bytes ≡ text ++ rest → most_of request < length text → (status : Status) (out : Bytes)
     → IsAnswer request status text out → IsAnswer request status bytes out
 same_due_of (Text question) bytes text rest joined large status out w = same_due bytes text rest joined large question status out w
 same_due_of Document bytes text rest joined large status out w = same_verdict bytes text rest joined large status out w
+same_due_of (Batch jobs limit) bytes text rest joined large status out w =
+    same_batch (IsRunOf limit) bytes text rest joined large status out w
 
 module _ (request : Request) (bytes text rest : Bytes) (joined : bytes ≡ text ++ rest) (large : most_of request < length text) where
   same : (status : Status) (out : Bytes) → IsAnswer request status text out → IsAnswer request status bytes out
@@ -536,6 +583,10 @@ answer_fits Document Answers bytes out c (document, said) = document.fits
 answer_fits Document NoAnswer bytes out c (document, said) = document.fits
 answer_fits Document Limit bytes out c w = absurd w
 answer_fits Document Floundered bytes out c w = absurd w
+answer_fits (Batch jobs limit) Answers bytes out c w = w.batch.size
+answer_fits (Batch jobs limit) NoAnswer bytes out c w = w.batch.size
+answer_fits (Batch jobs limit) Limit bytes out c w = w.batch.size
+answer_fits (Batch jobs limit) Floundered bytes out c w = w.batch.size
 answer_fits request Usage bytes out c w = absurd (true≢false (sym c))
 answer_fits request Refused bytes out c w = absurd (true≢false (sym c))
 answer_fits request ReadFault bytes out c w = absurd (true≢false (sym c))

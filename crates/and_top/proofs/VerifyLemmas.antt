@@ -3,11 +3,10 @@ use Rattle.std.proofs.Common.{ℕ, ◌≡◌, ◌≤◌, ◌<◌, ◌↔◌, Boo
 use Rattle.std.proofs.Common.{refl, sym, ap, subst, arith, rules, inl, inr}
 use Rattle.std.specs.List.{between}
 use Rattle.std.proofs.lemmas.Bool.{cases_lt}
-use Rattle.std.proofs.lemmas.List.{length-take-le}
 use Rattle.std.proofs.lemmas.Slice.{between_to_end}
 use Rattle.and_model.specs.Lines.{Bytes}
 use Rattle.and_model.specs.Programs.{Program}
-use Rattle.and_language.specs.Refusals.{Reads, Refusal, IsRefused}
+use Rattle.and_language.specs.Refusals.{IsLiftedFrom, Refusal, IsRefused}
 use Rattle.and_proof.specs.Documents.{IsMark}
 use Rattle.and_proof.specs.Proofs.{ProofText}
 use Rattle.and_proof.proofs.Marks.{none_at_end}
@@ -16,10 +15,6 @@ use Rattle.and_top.specs.Verified.{IsDivided, IsDocument, IsDocumentRefused, IsP
 use Rattle.and_top.specs.declared.answering.Reply.{Reply}
 use Rattle.and_top.specs.declared.question.TheConstants.{MAX_DOCUMENT}
 use Rattle.and_top.specs.declared.status.Status.TheVariants.{Refused}
-
--- the bytes that are too many begin with as many as there may be
-pub many_taken : (bytes : Bytes) → MAX_DOCUMENT < length bytes → length (take MAX_DOCUMENT bytes) ≡ MAX_DOCUMENT
-many_taken bytes large = length-take-le MAX_DOCUMENT bytes (omega (arith, large))
 
 -- what was found is where the document is divided
 pub is_divided : (bytes : Bytes) (r : Option ℕ) → IfSome r (IsMark bytes) → IfSome r (λ place. (other : ℕ) → IsMark bytes other → other ≤ place)
@@ -59,7 +54,7 @@ none_proved P bytes o is =
 -- the verdict is told of the document
 pub was_verified : {E : Type 0} (bytes : Bytes) (o : Option ℕ) (P : Program) (holds : Bool) (r : Result Reply E)
     → length bytes ≤ MAX_DOCUMENT → IsDivided bytes o
-    → Reads (program_part bytes o) P → (holds ≡ true) ↔ IsProved P bytes o
+    → IsLiftedFrom (program_part bytes o) P → (holds ≡ true) ↔ IsProved P bytes o
     → IfOk r (λ reply. (reply.status ≡ status_of holds) × (reply.text ≡ line_of holds)) → IfOk r (λ reply. WasVerified reply.status bytes reply.text)
 was_verified bytes o P holds (Err e) fits d reads proved told = tt
 was_verified bytes o P true (Ok reply) fits d reads proved told =

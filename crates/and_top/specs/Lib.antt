@@ -1,4 +1,7 @@
+pub mod Lifted
 pub mod Explained
+pub mod Batched
+pub mod Handed
 pub mod Finding
 pub mod Forked
 pub mod Linted

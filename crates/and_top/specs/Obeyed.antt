@@ -13,7 +13,7 @@ use Rattle.and_model.specs.declared.limits.TheConstants.{DEFAULT_LIMIT}
 use Rattle.and_top.specs.Top.{IsUsage, Answered, GivesPrefix, IsComplete, Took, Told, IsAllowed, most_of}
 use Rattle.and_top.specs.declared.question.Question.TheVariants.{Run, Check, First, Explain, Tree, Lint}
 use Rattle.and_top.specs.declared.question.Request.{Request}
-use Rattle.and_top.specs.declared.question.Request.TheVariants.{Text, Document}
+use Rattle.and_top.specs.declared.question.Request.TheVariants.{Text, Document, Batch}
 use Rattle.and_top.specs.declared.work.Work.{Work}
 use Rattle.and_top.specs.declared.work.Work.TheVariants.{Source, Demo}
 use Rattle.and_top.specs.declared.showing.Show.TheVariants.{Whole, Summary}
@@ -28,7 +28,7 @@ work_of (commands.Demo number settings) = Demo number settings
 work_of (commands.Explain place settings) = Source (Text (Explain place settings.limit))
 work_of commands.Verify = Source Document
 work_of (commands.Tree limit) = Source (Text (Tree limit))
-work_of (commands.Batch jobs settings) = Source (Text Check)
+work_of (commands.Batch jobs settings) = Source (Batch jobs settings.limit)
 work_of (commands.First count settings) = Source (Text (First count settings.limit))
 work_of commands.Lint = Source (Text Lint)
 

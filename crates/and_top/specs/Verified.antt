@@ -2,7 +2,7 @@
 use Rattle.std.specs.Prelude.{ℕ, ◌≡◌, ◌<◌, ◌≤◌, Bool, true, false, List, length, take, drop, codes, Option, Some, None}
 use Rattle.and_model.specs.Lines.{Bytes}
 use Rattle.and_model.specs.Programs.{Program}
-use Rattle.and_language.specs.Refusals.{Reads, Refusal, IsRefused, at, too_big}
+use Rattle.and_language.specs.Refusals.{IsLiftedFrom, Refusal, IsRefused, at, too_big}
 use Rattle.and_syntax.specs.Tables.{source}
 use Rattle.and_reader.specs.RefusalLine.{refusal_line}
 use Rattle.and_proof.specs.Documents.{IsMark}
@@ -26,14 +26,14 @@ abbrev pub IsProved : Program → Bytes → Option ℕ → Type 0
 IsProved P bytes None = ⊥
 IsProved P bytes (Some place) = (code : List ℕ) × ProofText P code (drop place bytes)
 
--- The document is not too large, and its program part reads as a program; this holds of that and of where the proof
--- part begins.
+-- The document is not too large, and its program part reads as a program; this holds of that to which it is lifted,
+-- and of where the proof part begins.
 pub record IsDocument (bytes : Bytes) (fact : Program → Option ℕ → Type 0) : Type 0 where
   pub place : Option ℕ
   pub program : Program
   pub fits : length bytes ≤ MAX_DOCUMENT
   pub divided : IsDivided bytes place
-  pub reads : Reads (program_part bytes place) program
+  pub reads : IsLiftedFrom (program_part bytes place) program
   pub has : fact program place
 
 -- Why a document is refused: it is too large; or else its program part is refused.

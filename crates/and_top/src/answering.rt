@@ -1,13 +1,13 @@
 //! What a text is answered with.
 
 ghost use Rattle.std.specs.Prelude.{◌≡◌, ◌≤◌, ℕ, IfOk};
-ghost use Rattle.std.specs.List.{list_any};
 ghost use Rattle.and_answers.specs.Kept.{listed};
 ghost use Rattle.and_program.specs.Loaded.{program_of};
 ghost use Rattle.and_model.specs.declared.limits.TheConstants.{MAX_LIMIT};
 ghost use Rattle.and_reader.specs.Causes.{refusal_of};
 ghost use Rattle.and_search_laws.specs.Found.{FindsFirst};
 ghost use Rattle.and_top.specs.Finding.{Finds};
+ghost use Rattle.and_top.specs.Lifted.{IsLifted};
 ghost use Rattle.and_top.specs.Top.{IsBounded, IsLineOf, IsReply, TellsFirst, WasAnswered, WasChecked, WasExplained};
 ghost use Rattle.and_top.specs.Top.{WasRun};
 ghost use Rattle.and_top.specs.Top.{status_for, status_seen, status_told, told_status};
@@ -19,8 +19,8 @@ use crate::linting::linted;
 use crate::question::Question;
 use crate::showing::{Show, written};
 use crate::status::Status;
-use and_answers::{Entry, Found};
-use and_first::{End, First, first_by};
+use and_answers::Found;
+use and_first::{End, First, are_floundered, first_by};
 use and_gate::Gate;
 use and_model::Text;
 use and_modes::verdicts::Verdict;
@@ -38,13 +38,6 @@ pub struct Reply {
     pub status: Status,
     /// Why the text is refused, where it is.
     pub refusal: Option<ReadRefusal>,
-}
-
-/// Whether some entry is no answer, since some of its arithmetic waits forever.
-fn are_floundered(entries: &[Entry]) -> bool
-    ensures { result ≡ list_any (λ e. e.floundered) entries.now }
-{
-    entries.iter().any(|entry| entry.floundered)
 }
 
 /// The status of a search that found this.
@@ -104,7 +97,8 @@ fn found_in<F: Fn(&Loaded, u32, Option<u32>) -> Result<Found, AllocError>>(
     requires callable { (l : _) (n : ℕ) (o : _) → n ≤ MAX_LIMIT → F.pre search.now l n o }
     requires finds { (l : _) (n : ℕ) (o : _) (found : _) → n ≤ MAX_LIMIT → F.post search.now l n o found
         → IfOk found (Finds (program_of l.now) n o) }
-    ensures { IfOk result (λ reply. WasRun show limit (program_of loaded.now) reply.status reply.text) }
+    ensures { (program : _) → IsLifted program (program_of loaded.now)
+        → IfOk result (λ reply. WasRun show limit program reply.status reply.text) }
 {
     let found = search(loaded, limit, None)?;
     let text = written(alloc, show, &found)?;
@@ -156,7 +150,8 @@ fn first_in<F: Fn(&Loaded, u32, Option<u32>) -> Result<Found, AllocError>>(
     requires callable { (l : _) (n : ℕ) (o : _) → n ≤ MAX_LIMIT → F.pre search.now l n o }
     requires finds { (l : _) (n : ℕ) (o : _) (found : _) → n ≤ MAX_LIMIT → F.post search.now l n o found
         → IfOk found (Finds (program_of l.now) n o) }
-    ensures { IfOk result (λ reply. TellsFirst count limit (program_of loaded.now) reply.status reply.text) }
+    ensures { (program : _) → IsLifted program (program_of loaded.now)
+        → IfOk result (λ reply. TellsFirst count limit program reply.status reply.text) }
 {
     let search_step = |step: u32|
         requires limited { step ≤ MAX_LIMIT }
@@ -195,8 +190,8 @@ fn explained_in<F: Fn(&Loaded, u32, Option<u32>) -> Result<Found, AllocError>>(
     requires callable { (l : _) (n : ℕ) (o : _) → n ≤ MAX_LIMIT → F.pre search.now l n o }
     requires finds { (l : _) (n : ℕ) (o : _) (found : _) → n ≤ MAX_LIMIT → F.post search.now l n o found
         → IfOk found (Finds (program_of l.now) n o) }
-    ensures { IfOk result
-        (λ reply. WasExplained place limit bytes.now (program_of loaded.now) reply.status reply.text) }
+    ensures { (program : _) → IsLifted program (program_of loaded.now)
+        → IfOk result (λ reply. WasExplained place limit bytes.now program reply.status reply.text) }
 {
     let found = search(loaded, limit, None)?;
     explained(alloc, place, bytes, loaded, &found)
@@ -215,7 +210,8 @@ fn reply_to<F: Fn(&Loaded, u32, Option<u32>) -> Result<Found, AllocError>, G: Ga
     requires callable { (l : _) (n : ℕ) (o : _) → n ≤ MAX_LIMIT → F.pre search.now l n o }
     requires finds { (l : _) (n : ℕ) (o : _) (found : _) → n ≤ MAX_LIMIT → F.post search.now l n o found
         → IfOk found (Finds (program_of l.now) n o) }
-    ensures { IfOk result (λ reply. IsReply question bytes.now (program_of loaded.now) reply.status reply.text) }
+    ensures { (program : _) → IsLifted program (program_of loaded.now)
+        → IfOk result (λ reply. IsReply question bytes.now program reply.status reply.text) }
 {
     match question {
         Question::Run { show, limit } => found_in(search, alloc, show, limit, loaded),

@@ -8,6 +8,7 @@ ghost use Rattle.and_program.specs.Loaded.{program_of};
 ghost use Rattle.and_proof.specs.Proofs.{HasProof};
 ghost use Rattle.and_search_laws.specs.Found.{IsFound};
 ghost use Rattle.and_top.specs.Explained as specs;
+ghost use Rattle.and_top.specs.Lifted.{IsLifted};
 ghost use Rattle.and_top.specs.Top.{Documents, WasExplained, lacking_status};
 
 use crate::answering::Reply;
@@ -80,8 +81,9 @@ pub fn explained(
 ) -> Result<Reply, AllocError>
     requires place { 1 ≤ place }
     requires found { (limit : _) × (limit ≤ MAX_LIMIT) × IsFound (program_of loaded.now) limit found.now }
-    ensures { (limit : _) → limit ≤ MAX_LIMIT → IsFound (program_of loaded.now) limit found.now →
-        IfOk result (λ reply. WasExplained place limit bytes.now (program_of loaded.now) reply.status reply.text) }
+    ensures { (program : _) (limit : _) → limit ≤ MAX_LIMIT → IsLifted program (program_of loaded.now)
+        → IsFound (program_of loaded.now) limit found.now
+        → IfOk result (λ reply. WasExplained place limit bytes.now program reply.status reply.text) }
 {
     let entries = found.entries();
     let place = place as usize;

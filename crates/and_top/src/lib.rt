@@ -6,6 +6,7 @@
 
 pub mod answering;
 pub mod asking;
+pub mod batches;
 pub mod checking;
 pub mod explaining;
 pub mod forks;

@@ -76,6 +76,13 @@ pub enum Request {
     Text(Question),
     /// They are the text of a program with the proof of an answer, which is checked.
     Document,
+    /// They are a text of several queries, each of which is answered.
+    Batch {
+        /// How many queries are answered at the same time.
+        jobs: u32,
+        /// The most that a proof may weigh.
+        limit: u32,
+    },
 }
 
 impl Request {
@@ -86,6 +93,7 @@ impl Request {
         match self {
             Request::Text(_) => MAX_BYTES,
             Request::Document => MAX_DOCUMENT,
+            Request::Batch { jobs: _, limit: _ } => MAX_BYTES,
         }
     }
 }

@@ -77,6 +77,18 @@ fn hands_for(settings: Settings) -> Option<Hands>
     Some(Hands { teams, workers })
 }
 
+/// The workers that a batch of so many jobs asks for; `None` where one is enough.
+fn hands_for_batch(jobs: u32, settings: Settings) -> Option<Hands>
+    requires { AreInRange settings }
+{
+    if jobs == 1 {
+        return hands_for(settings);
+    }
+    let teams = settings.teams;
+    let workers = settings.workers;
+    Some(Hands { teams, workers })
+}
+
 /// The workers that a command asks for; `None` where one is enough, or nothing is searched.
 fn hands_in(command: Command) -> Option<Hands>
     requires { IsInRange command }
@@ -89,7 +101,7 @@ fn hands_in(command: Command) -> Option<Hands>
         } => hands_for(settings),
         Command::Explain { place: _, settings } => hands_for(settings),
         Command::First { count: _, settings } => hands_for(settings),
-        Command::Batch { jobs: _, settings } => hands_for(settings),
+        Command::Batch { jobs, settings } => hands_for_batch(jobs, settings),
         Command::Check | Command::Verify | Command::Tree { limit: _ } | Command::Lint => None,
     }
 }

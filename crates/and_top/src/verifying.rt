@@ -1,7 +1,6 @@
 //! Whether a document proves an answer of its program.
 
-ghost use Rattle.std.specs.Prelude.{◌≡◌, ◌↔◌, ◌<◌, ◌≤◌, ◌^◌, ◌-◌, true, length, IfOk, IfSome};
-ghost use Rattle.and_language.specs.Tokens as tokens;
+ghost use Rattle.std.specs.Prelude.{◌≡◌, ◌↔◌, ◌<◌, true, length, IfOk, IfSome};
 ghost use Rattle.and_program.specs.Loaded.{program_of};
 ghost use Rattle.and_reader.specs.Causes.{refusal_of};
 ghost use Rattle.and_top.specs.Verified as specs;
@@ -13,17 +12,8 @@ use crate::status::Status;
 use and_model::Text;
 use and_program::Loaded;
 use and_proof::{check_proof, split_document};
-use and_reader::{Cause, ReadRefusal, What, read_program};
+use and_reader::{Cause, ReadRefusal, What, line_at, read_program};
 use std::alloc::{AllocError, Global};
-
-/// How many newlines bytes have.
-fn newlines(bytes: &[u8]) -> u32
-    requires { length bytes.now < 2 ^ 32 - 1 }
-    ensures count { result ≡ tokens.newlines bytes.now }
-    ensures few { result ≤ length bytes.now }
-{
-    bytes.iter().filter(|byte| **byte == b'\n').count() as u32
-}
 
 /// The refusal of a document that is too large.
 fn too_large(bytes: &[u8]) -> ReadRefusal
@@ -31,7 +21,7 @@ fn too_large(bytes: &[u8]) -> ReadRefusal
     ensures { IfSome (refusal_of result) (IsDocumentRefused bytes.now) }
 {
     ReadRefusal {
-        line: newlines(&bytes[..MAX_DOCUMENT]) + 1,
+        line: line_at(bytes, MAX_DOCUMENT),
         cause: Cause::TooBig(What::Source),
     }
 }

@@ -34,10 +34,10 @@ pub fn work_of(command: Command) -> Work
         }
         Command::Verify => Work::Source(Request::Document),
         Command::Tree { limit } => Work::Source(Request::Text(Question::Tree { limit })),
-        Command::Batch {
-            jobs: _,
-            settings: _,
-        } => Work::Source(Request::Text(Question::Check)),
+        Command::Batch { jobs, settings } => {
+            let limit = settings.limit;
+            Work::Source(Request::Batch { jobs, limit })
+        }
         Command::First { count, settings } => {
             let limit = settings.limit;
             Work::Source(Request::Text(Question::First { count, limit }))

@@ -7,6 +7,6 @@ explained-requires g c =
     record { place = c.requires.place; found = (c.args.limit, c.requires.limited, found) }
 
 pub returns : goal.returns
-returns g c =
+returns g c = λ program lifted.
     let found = c.requires.finds c.args.loaded c.args.limit None (Ok c.in_ok-found.found) c.requires.limited c.in_ok-found.ensures in
-    c.explained.ensures c.args.limit c.requires.limited found
+    c.explained.ensures program c.args.limit c.requires.limited lifted found

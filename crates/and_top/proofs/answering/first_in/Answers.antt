@@ -5,7 +5,7 @@ use Rattle.and_top.proofs.TopLemmas.{tells_first}
 use Rattle.and_top.proofs.answering.first_in.Goals as goal
 
 pub returns : goal.returns
-returns g c =
+returns g c = λ program lifted.
     let first = c.in_ok-first in
-    tells_first c.args.count c.args.limit (program_of c.args.loaded.now) first.first _
+    tells_first c.args.count c.args.limit program (program_of c.args.loaded.now) first.first _ lifted
     (subst (λ l. IsFirstOf (program_of l) c.args.limit c.args.count first.first) c.of.ensures first.ensures) c.status_of_first-status.ensures

@@ -18,15 +18,16 @@ document-requires c =
     (has_proof_at c.entries-entries.result.now c.args.place at.result c.requires.place c.if-place-entries.false at.is P found.0 lists found.1)
 
 pub returns-then-place-entries : goal.returns-then-place-entries
-returns-then-place-entries c = λ limit small found.
-    lacks (program_of c.args.loaded.now) c.args.place limit c.args.bytes.now c.args.found.now c.entries-entries.result.now c.lacking.result found
+returns-then-place-entries c = λ program limit small lifted found.
+    lacks program (program_of c.args.loaded.now) c.args.place limit c.args.bytes.now c.args.found.now c.entries-entries.result.now c.lacking.result
+    lifted found
     c.entries-entries.ensures c.if-place-entries.true c.lacking.ensures.text c.lacking.ensures.status
 
 pub returns : goal.returns
-returns c = λ limit small found.
+returns c = λ program limit small lifted found.
     let P : Program = program_of c.args.loaded.now in
     let at = c.index-entries-place in
     let lists = subst (Listing P limit) (sym c.entries-entries.ensures) found.listing in
-    explains c.entries-entries.result.now c.args.place at.result c.requires.place c.if-place-entries.false at.is P limit c.args.bytes.now
-    c.in_ok-text.text lists
+    explains c.entries-entries.result.now c.args.place at.result c.requires.place c.if-place-entries.false at.is program P limit c.args.bytes.now
+    c.in_ok-text.text lifted lists
     (subst (λ (e : Entry). Documents P c.args.bytes.now e.code c.in_ok-text.text) (sym at.is) c.in_ok-text.ensures)

@@ -1,5 +1,5 @@
 use Rattle.std.proofs.Common.{IfSome, subst, arith}
-use Rattle.and_language.specs.Refusals.{Reads, IsRefused}
+use Rattle.and_language.specs.Refusals.{IsLiftedFrom, IsRefused}
 use Rattle.and_program.specs.Loaded.{program_of}
 use Rattle.and_reader.specs.Causes.{refusal_of}
 use Rattle.and_top.proofs.VerifyLemmas.{was_verified, part_refused, document_refused}
@@ -13,7 +13,7 @@ returns-then-bytes-gt-MAX_DOCUMENT c =
 pub returns-in_ok-is_proved-in-Ok : goal.returns-in_ok-is_proved-in-Ok
 returns-in_ok-is_proved-in-Ok c =
     let P = program_of c.in-Ok.loaded in
-    let reads = subst (λ bs. Reads bs P) c.program_part.ensures c.in-Ok.ensures.program in
+    let reads = subst (λ bs. IsLiftedFrom bs P) c.program_part.ensures c.in-Ok.ensures.program in
     was_verified c.args.bytes.now c.divided-place.result P c.in_ok-is_proved-in-Ok.field-0 c.told.result (omega arith) c.divided-place.ensures reads
     c.in_ok-is_proved-in-Ok.ensures c.told.ensures
 

@@ -1,0 +1,12 @@
+use Rattle.std.proofs.Common.{◌≡◌, length}
+use Rattle.and_batch.specs.Working.{IsDueAtEach}
+use Rattle.and_batch_text.specs.Views.{spans_of}
+use Rattle.and_top.specs.Handed.{IsDue}
+use Rattle.and_top.specs.Top.{IsRunOf}
+use Rattle.and_top.proofs.batches.one_by_one.Given as goal
+
+abbrev pub invariant-loop-number : goal.invariant-loop-number
+invariant-loop-number g l = record {
+  count : length l.texts ≡ l.number;
+  due : IsDueAtEach (IsDue (IsRunOf l.limit) l.bytes (spans_of l.spans)) l.texts;
+}
