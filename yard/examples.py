@@ -41,8 +41,9 @@ def written_by_swi(example):
 
 
 def compare(name, expected, found):
-    """Whether the two are the same; the first line in which they differ is told."""
-    if expected == found:
+    """Whether the two are the same, where a line `..` stands for any lines; the first line in which they differ is told."""
+    any_lines = "(.*\n)*?".join(re.escape(part) for part in re.split(r"^\.\.\n", expected, flags=re.M))
+    if expected == found or re.fullmatch(any_lines, found):
         return True
     ours, theirs = found.splitlines() + ["(the end)"], expected.splitlines() + ["(the end)"]
     place = next((k for k, (a, b) in enumerate(zip(ours, theirs)) if a != b), 0)

@@ -30,9 +30,11 @@ load(Stream, How, Query, Names) :-
     ).
 
 clause_of(How, (Head :- Body), (Head :- Goal)) :- !, query(How, Body, Goal).
+clause_of(How, (Head --> Body), Clause) :- !, dcg_translate_rule((Head --> Body), Rule), clause_of(How, Rule, Clause).
 clause_of(_, Fact, Fact).
 
 query(How, (A, B), (C, D)) :- !, query(How, A, C), query(How, B, D).
+query(How, (A ; B), (C ; D)) :- !, query(How, A, C), query(How, B, D).
 query(wait, X is E, when(ground(E), catch(X is E, _, fail))) :- !.
 query(wait, Test, when(ground(Test), catch(Test, _, fail))) :- is_comparison(Test), !.
 query(_, Goal, Goal).
