@@ -1,6 +1,6 @@
 % Five jobs in a house, three of them for the same painter: when does each begin, so that all are done within nine hours?
-% What to see: `apart` has two clauses, one for each order of two jobs, and makes no fork here. It waits, behind the places where hours are chosen,
-% until its guards leave one clause or none.
+% What to see: `apart` has two alternatives, one for each order of two jobs, and makes no fork here. It waits, behind the places where hours are chosen,
+% until the comparisons with which they begin, their guards, leave one alternative or none.
 
 schedule([wiring(W), plaster(P), paint(C), floor(F), clean(L)]) :-
     W + 1 =< P, P + 2 =< C, W + 1 =< F, C + 2 =< L, F + 3 =< L,
@@ -9,9 +9,8 @@ schedule([wiring(W), plaster(P), paint(C), floor(F), clean(L)]) :-
     apart(C, 2, F, 3),
     L + 1 =< 9.
 
-% A job that begins at A and takes so many hours ends before one that begins at B, or the other way round.
-apart(A, Takes, B, _) :- A + Takes =< B.
-apart(A, _, B, Takes) :- B + Takes =< A.
+% A job that begins at A and takes M hours ends before one that begins at B and takes N, or the other way round.
+apart(A, M, B, N) :- ( A + M =< B ; B + N =< A ).
 
 hours([]).
 hours([H|Hs]) :- hour(H), hours(Hs).

@@ -1,14 +1,16 @@
-% A small grammar over lists of words, where two lists stand for the words between them.
+% A small English: a sentence and its tree.
+% What to see: a rule stands for a clause with two arguments more, the words before and behind what it takes; so the query calls `sentence` with three, and the
+% same rules take a sentence apart and make some.
 
-sentence(s(N, V), From, To) :- noun_phrase(N, From, Mid), verb_phrase(V, Mid, To).
+sentence(s(N, V)) --> noun_phrase(N), verb_phrase(V).
 
-noun_phrase(np(D, N), From, To) :- determiner(D, From, Mid), noun(N, Mid, To).
-verb_phrase(vp(V, N), From, To) :- verb(V, From, Mid), noun_phrase(N, Mid, To).
+noun_phrase(np(D, N)) --> determiner(D), noun(N).
+verb_phrase(vp(V, N)) --> verb(V), noun_phrase(N).
 
-determiner(d(the), [the|Rest], Rest).
-determiner(d(a), [a|Rest], Rest).
-noun(n(cat), [cat|Rest], Rest).
-noun(n(mouse), [mouse|Rest], Rest).
-verb(v(sees), [sees|Rest], Rest).
+determiner(d(the)) --> [the].
+determiner(d(a)) --> [a].
+noun(n(cat)) --> [cat].
+noun(n(mouse)) --> [mouse].
+verb(v(sees)) --> [sees].
 
 ?- Words = [the,cat,sees|_], sentence(Tree, Words, []).

@@ -27,8 +27,8 @@
     table))
 
 (defvar andorra-font-lock-keywords
-  '(("-->\\|->\\|\\\\\\+\\|[!;{}\"`]" . font-lock-warning-face)
-    (":-\\|\\?-" . font-lock-keyword-face)
+  '((":-\\|\\?-\\|-->" . font-lock-keyword-face)
+    ("->\\|\\\\\\+\\|[!\"`]" . font-lock-warning-face)
     ("^[a-z][A-Za-z0-9_]*" . font-lock-function-name-face)
     ("\\_<\\(?:is\\|mod\\|rem\\|min\\|max\\)\\_>" . font-lock-builtin-face)
     ("\\_<\\(?:true\\|fail\\)\\_>" . font-lock-constant-face)

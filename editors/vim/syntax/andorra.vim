@@ -7,12 +7,12 @@ syntax match andorraVariable /\<[A-Z_][A-Za-z0-9_]*\>/
 syntax match andorraNumber /\<[0-9]\+\>/
 syntax match andorraOperator /[-+*\/\\^<>=~:.?@#&$]\+/
 syntax match andorraEnd /\.\ze\(\s\|%\|$\)/
-syntax match andorraClause /:-\|?-/
+syntax match andorraClause /:-\|?-\|-->/
 syntax keyword andorraWord is mod rem min max
 syntax keyword andorraGoal true fail
 syntax match andorraHead /^[a-z][A-Za-z0-9_]*/
 syntax region andorraQuoted start=/'/ skip=/\\.\|''/ end=/'/ oneline
-syntax match andorraNotPure /[!;{}"`]\|\\+\|-->\|->/
+syntax match andorraNotPure /[!"`]\|\\+\|-\@1<!->/
 syntax match andorraComment /%.*$/ contains=andorraTodo,@Spell
 syntax region andorraComment start=+/\*+ end=+\*/+ contains=andorraTodo,@Spell
 syntax keyword andorraTodo TODO FIXME contained
