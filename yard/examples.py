@@ -41,9 +41,8 @@ def written_by_swi(example):
 
 
 def compare(name, expected, found):
-    """Whether the two are the same, where a line `..` stands for any lines; the first line in which they differ is told."""
-    any_lines = "(.*\n)*?".join(re.escape(part) for part in re.split(r"^\.\.\n", expected, flags=re.M))
-    if expected == found or re.fullmatch(any_lines, found):
+    """Whether the two are the same; the first line in which they differ is told."""
+    if expected == found:
         return True
     ours, theirs = found.splitlines() + ["(the end)"], expected.splitlines() + ["(the end)"]
     place = next((k for k, (a, b) in enumerate(zip(ours, theirs)) if a != b), 0)
@@ -74,7 +73,7 @@ def is_document_right(document, environment):
             ["bash", "-c", command], cwd=TOP, env=environment, stdout=subprocess.PIPE, stderr=subprocess.STDOUT, text=True, check=False, timeout=SECONDS
         )
         count += 1
-        pattern = re.escape("\n".join(lines)).replace(r"\.\.\n", r"(?:.*\n)*")
+        pattern = r"(?:.*\n)*".join(re.escape(part) for part in re.split(r"^\.\.\n", "\n".join(lines), flags=re.MULTILINE))
         if not re.fullmatch(pattern + "\n?", done.stdout):
             right = compare(f"{document.name}, line {number}: {command}", "\n".join(lines) + "\n", done.stdout) and False
     print(f"{document.name}: {count} commands {'as they are told' if right else ''}")
