@@ -1,17 +1,19 @@
 -- Rows whose cells are made free again, and which are cut off.
 use Rattle.std.proofs.Common.{ℕ, zero, suc, ◌≡◌, ◌≢◌, ◌<◌, ◌≤◌, ◌⊎◌, inl, inr, List, [], ◌∷◌, length, get_or, set, ◌++◌, take, refl, sym, ap, subst, ◌∙◌, arith}
-use Rattle.std.specs.Prelude.{Contains}
-use Rattle.std.proofs.lemmas.Bool.{cases_eq}
-use Rattle.std.proofs.lemmas.List.{map-set, take-map, get_or-take, get_or_append_left, get_or_default, same_lists, length-append, length-take-le}
-use Rattle.std.proofs.lemmas.List.Elements.{All-take, Contains-append_left, Contains-append_right, Contains-append_cases}
+use Rattle.std.specs.Prelude.{All, Contains}
+use Rattle.std.proofs.lemmas.Bool.{cases_eq, cases_lt}
+use Rattle.std.proofs.lemmas.List.{map-set, take-map, get_or-take, get_or_append_left, get_or_default, same_lists, length-append, length-take-le, take_all}
+use Rattle.std.proofs.lemmas.List.Elements.{All-take, All-contains, Contains-append_left, Contains-append_right, Contains-append_cases}
 use Rattle.std.proofs.Math.ListN.{length-set}
 use Rattle.and_model.specs.Words.{HasWord, word_of}
 use Rattle.and_model.specs.declared.reference.Ref.{Ref}
-use Rattle.and_model.specs.declared.reference.Ref.TheVariants.{Free}
+use Rattle.and_model.specs.declared.reference.Ref.TheVariants.{Free, Cell}
 use Rattle.and_cells.specs.Ranges.{NamedProgram}
 use Rattle.and_cells.specs.Seen.{word_at, IsSetTo}
 use Rattle.and_cells.specs.Rows.{IsSound, ref_of, row_of, AreWords, all_set, taken_back, OnlySet}
-use Rattle.and_cells.proofs.Keeping.{free_or_set, word_set_here, word_set_other}
+use Rattle.and_cells.proofs.Keeping.{free_or_set, word_set_here, word_set_other, nothing_there}
+use Rattle.and_cells.specs.Ground.{AreFounded}
+use Rattle.and_cells.proofs.Grounding.{founded_kept}
 use Rattle.and_cells.proofs.PlainRows.{words_set}
 
 row_all_set : (cells : List ℕ) (ws : List ℕ) → row_of (all_set 0 cells ws) ≡ all_set Free cells (row_of ws)
@@ -124,3 +126,32 @@ words_taken_back P ws after cut cells words row is are is_cut is_after sound =
       ),
       same,
     )
+
+-- What is known to be ground stays so where none of its cells is made free or cut off.
+pub founded_taken_back : (P : NamedProgram) (row known : List Ref) (cells : List ℕ) (words : ℕ)
+    → All (λ (cell : ℕ). Contains known (Cell cell) → ⊥) cells
+    → ((cell : ℕ) → words ≤ cell → cell < length row → Contains known (Cell cell) → ⊥)
+    → AreFounded P row known → AreFounded P (taken_back row cells words) known
+founded_taken_back P row known cells words none past = founded_kept P row (taken_back row cells words) known same
+  where
+    within : (cell : ℕ) → cell < length row → cell < words → cell < length (take words row)
+    within cell there before = by_length (cases_lt words (length row))
+      where
+        by_length : (words < length row) ⊎ (length row ≤ words) → cell < length (take words row)
+        by_length (inl longer) = let cut = length-take-le words row (omega arith) in omega arith
+        by_length (inr whole) = let cut = ap length (take_all words row whole) in omega arith
+
+    by_word : (cell : ℕ) → Contains known (Cell cell) → cell < words → ((word_at (taken_back row cells words) cell ≡ Free) × Contains cells cell)
+        ⊎ ((word_at (taken_back row cells words) cell ≡ word_at (take words row) cell) × (Contains cells cell → ⊥))
+        → word_at (taken_back row cells words) cell ≡ word_at row cell
+    by_word cell has before (inl free) = absurd (All-contains (λ (cell : ℕ). Contains known (Cell cell) → ⊥) cells cell none free.1 has)
+    by_word cell has before (inr old) = old.0 ∙ get_or-take words row cell Free before
+
+    same : (cell : ℕ) → Contains known (Cell cell) → word_at row cell ≢ Free → word_at (taken_back row cells words) cell ≡ word_at row cell
+    same cell has set = elim (cases_lt cell (length row)) [
+      | inl there ↦ (elim (cases_lt cell words) [
+        | inl before ↦ by_word cell has before (all_set_at cells (take words row) cell (within cell there before))
+        | inr behind ↦ absurd (past cell behind there has)
+      ])
+      | inr beyond ↦ absurd (set (nothing_there row cell beyond))
+    ]

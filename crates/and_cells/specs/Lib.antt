@@ -8,3 +8,4 @@ pub mod Solved
 pub mod Known
 pub mod Ends
 pub mod Joined
+pub mod Ground

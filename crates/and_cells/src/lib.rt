@@ -3,6 +3,8 @@
 
 pub mod cells;
 pub mod chain;
+mod ground;
+mod known;
 pub mod laws;
 pub mod loose;
 pub mod naming;

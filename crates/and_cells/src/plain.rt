@@ -5,24 +5,32 @@ ghost use Rattle.std.specs.Prelude.{IsTrue, IfOk, OnOk, OnErr};
 ghost use Rattle.and_model.specs.declared.reference.Ref.{Ref};
 ghost use Rattle.and_model.specs.Store.{is_half};
 ghost use Rattle.and_model.specs.Words.{HasWord};
-ghost use Rattle.and_cells.specs.Ranges.{CanHold, IsPairInRange};
+ghost use Rattle.and_cells.specs.Ranges.{CanHold, IsInRange, IsPairInRange};
+ghost use Rattle.and_cells.specs.Parts.{named};
+ghost use Rattle.and_cells.specs.Ground.{EndsGround};
 ghost use Rattle.and_cells.specs.Seen.{word_at};
 ghost use Rattle.and_cells.specs.Numbers.{number_of};
 ghost use Rattle.and_cells.specs.Rows.{IsSound, AreWords, row_of, taken_back, all_set};
 ghost use Rattle.and_model.specs.declared.limits.TheConstants.{MAX_WORDS};
 
 use crate::cells::{Bound, Cells};
+use crate::ground::{is_end_or_known, parts_are_known};
+use crate::known::Known;
 use crate::naming::Naming;
 use crate::number::{halves, joined};
-use and_model::Ref;
+use and_model::{NodeNo, Ref};
+use and_program::Loaded;
 use std::alloc::{AllocError, Global};
 use std::marker::{Model, PhantomData};
 
 /// A row of words that one thread alone sets, so that contracts see the row itself. It takes 8 bytes
-/// a word, and keeps the allocator that it was made with.
+/// a word, and keeps the allocator that it was made with. References that were seen to be ground are known until
+/// a cell below them is made free again.
 #[derive(Drop)]
 pub struct PlainCells<N: Naming> {
     words: Vec<u64>,
+    /// References whose terms are ground.
+    known: Known,
     of: PhantomData<N>,
 }
 
@@ -30,12 +38,14 @@ impl<N: Naming> Model for PlainCells<N> {
     ghost use Rattle.std.specs.Prelude.{List};
     ghost use Rattle.and_model.specs.declared.reference.Ref.{Ref};
     ghost use Rattle.and_cells.specs.Rows.{row_of, AreWords, IsSound};
+    ghost use Rattle.and_cells.specs.Ground.{AreFounded};
 
     ghost Value = { List Ref };
 
     ghost view = { λ cells. row_of cells.words.items };
 
-    ghost invariant = { λ cells. AreWords cells.words.items × IsSound N.program (row_of cells.words.items) };
+    ghost invariant = { λ cells. AreWords cells.words.items × IsSound N.program (row_of cells.words.items)
+        × AreFounded N.program (row_of cells.words.items) cells.known };
 }
 
 /// Whether a word is free. Takes no memory.
@@ -66,6 +76,7 @@ impl<N: Naming> PlainCells<N> {
         let words = Vec::from_elem(alloc, Ref::Free.to_word(), words as usize)?;
         Ok(PlainCells {
             words,
+            known: Known::new(alloc),
             of: PhantomData,
         })
     }
@@ -76,8 +87,10 @@ impl<N: Naming> PlainCells<N> {
         requires sound { IsSound N.program (row_of words.items) }
         ensures { result ≡ row_of words.items }
     {
+        let alloc = *words.allocator();
         PlainCells {
             words,
+            known: Known::new(alloc),
             of: PhantomData,
         }
     }
@@ -107,17 +120,72 @@ impl<N: Naming> PlainCells<N> {
         requires { IsSound N.program (taken_back self.old cells.now words) }
         ensures { self.new ≡ taken_back self.old cells.now words }
     {
+        let end = self.len();
+        self.known.forget(cells);
+        self.known.forget_between(words, end);
         self.words.truncate(words as usize);
         set_free(&mut self.words, cells);
     }
 
-    /// Another row of the same words, on the same allocator. An error is want of memory.
+    /// Whether a reference is known to be ground, so that no path from it comes to a free cell. `false` says
+    /// nothing. Takes no memory.
+    pub fn is_ground(&self, at: Ref) -> bool
+        ensures { result ≡ true → EndsGround N.program self.now at }
+    {
+        self.known.has(at)
+    }
+
+    /// Notes that a reference is ground, where it is seen at once by what is known so far. An error is want of memory.
+    pub fn note_ground(&mut self, loaded: &Loaded, at: Ref) -> Result<(), AllocError>
+        requires program { N.program ≡ named loaded.now }
+        requires in_range { IsInRange N.program (length self.old) at }
+        ensures { self.new ≡ self.old }
+    {
+        match at {
+            Ref::Cell(cell) => self.note_cell(loaded, cell),
+            Ref::Node { node, base } => self.note_structure(loaded, node, base),
+            Ref::Free => Ok(()),
+            Ref::Number(_) => Ok(()),
+            Ref::Half(_) => Ok(()),
+        }
+    }
+
+    /// The same of a cell.
+    fn note_cell(&mut self, loaded: &Loaded, cell: u32) -> Result<(), AllocError>
+        requires program { N.program ≡ named loaded.now }
+        requires in_range { cell < length self.old }
+        ensures { self.new ≡ self.old }
+    {
+        let word = self.word(cell);
+        if self.known.has(Ref::Cell(cell)) || !is_end_or_known(loaded, &self.known, word) {
+            return Ok(());
+        }
+        self.known.put(Ref::Cell(cell))
+    }
+
+    /// The same of a structure.
+    fn note_structure(&mut self, loaded: &Loaded, node: NodeNo, base: u32) -> Result<(), AllocError>
+        requires program { N.program ≡ named loaded.now }
+        requires in_range { IsInRange N.program (length self.old) (Ref.Node node base) }
+        ensures { self.new ≡ self.old }
+    {
+        let at = Ref::Node { node, base };
+        if self.known.has(at) || !parts_are_known(loaded, &self.known, node, base) {
+            return Ok(());
+        }
+        self.known.put(at)
+    }
+
+    /// Another row of the same words, on the same allocator, of which no reference is known to be ground. An error is
+    /// want of memory.
     pub fn copy(&self) -> Result<PlainCells<N>, AllocError>
         ensures { IfOk result (λ cells. cells ≡ self.now) }
     {
-        let words = Vec::from_slice(*self.words.allocator(), &self.words)?;
+        let alloc = *self.words.allocator();
+        let words = Vec::from_slice(alloc, &self.words)?;
         Ok(PlainCells {
             words,
+            known: Known::new(alloc),
             of: PhantomData,
         })
     }

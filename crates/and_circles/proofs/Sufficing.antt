@@ -1,7 +1,7 @@
 -- What suffices that each path from a reference ends, when it is followed by one place.
-use Rattle.std.proofs.Common.{ℕ, zero, suc, ◌+◌, ◌≡◌, ◌<◌, ◌≤◌, ◌≢◌, inl, inr, List, [], ◌∷◌, ◌++◌, length, get_or, refl, ap, sym, subst, ◌∙◌, arith}
+use Rattle.std.proofs.Common.{ℕ, zero, suc, ◌+◌, ◌≡◌, ◌<◌, ◌≤◌, ◌≢◌, ◌⊎◌, inl, inr, List, [], ◌∷◌, ◌++◌, length, get_or, refl, ap, sym, subst, ◌∙◌, arith}
 use Rattle.std.proofs.Common.{append_assoc, false}
-use Rattle.std.specs.Prelude.{Contains, All}
+use Rattle.std.specs.Prelude.{Bool, Contains, All}
 use Rattle.std.proofs.lemmas.Bool.{cases_lt}
 use Rattle.std.proofs.lemmas.List.{append-nil}
 use Rattle.std.proofs.lemmas.List.Elements.{All-nil, All-cons, All-head, All-append, All-push, All-contains, All-weaker, All-contains_itself, All-from_get_or}
@@ -17,9 +17,22 @@ use Rattle.and_cells.specs.Rows.{IsSound}
 use Rattle.and_cells.specs.Seen.{word_at}
 use Rattle.and_cells.specs.Parts.{named, part_at}
 use Rattle.and_cells.specs.Ends.{Ends}
+use Rattle.and_cells.specs.Ground.{EndsGround}
 use Rattle.and_circles.specs.Following.{argument_part, Suffice, Puts, LeadsOn, step_beyond}
 use Rattle.and_circles.proofs.Members.{image_in, from_image}
 use Rattle.and_circles.proofs.Parts.{part_in_range, step_in_range}
+
+-- from what is ground each path ends
+pub ground_ends : (P : NamedProgram) (row : List Ref) (floor : ℕ) (halves : Bool) (r : Ref) → EndsGround P row r → Ends P row floor halves r
+ground_ends P row floor halves r (EndsGround.set cell to is_set ground) = Ends.set cell to is_set (ground_ends P row floor halves to ground)
+ground_ends P row floor halves r (EndsGround.parts node base each) = Ends.parts node base (λ part has. ground_ends P row floor halves part (each part has))
+ground_ends P row floor halves r (EndsGround.number pair) = Ends.number pair
+
+-- a reference in range is put on a list of such, or is not
+pub all_noted : (P : NamedProgram) (words : ℕ) (at : Ref) (old new : List Ref) → All (IsInRange P words) old → IsInRange P words at
+    → (new ≡ old) ⊎ (new ≡ old ++ at ∷ []) → All (IsInRange P words) new
+all_noted P words at old new all fits (inl same) = subst (All (IsInRange P words)) (sym same) all
+all_noted P words at old new all fits (inr more) = subst (All (IsInRange P words)) (sym more) (All-push (IsInRange P words) old at all fits)
 
 module _ {X : Type 0} (P : X → Type 0) (xs ys : List X) (all : All P (xs ++ ys)) where
   -- what holds of a list, holds of its beginning

@@ -1,6 +1,6 @@
 //! Short paths, followed with nothing remembered of what was passed.
 
-ghost use Rattle.std.specs.Prelude.{◌≡◌, ◌<◌, length, true, false, Ok, IsTrue, OnOk, IfOk};
+ghost use Rattle.std.specs.Prelude.{◌≡◌, ◌<◌, ◌⊎◌, ◌++◌, ◌∷◌, [], All, length, true, false, Ok, IsTrue, OnOk, IfOk};
 ghost use Rattle.and_model.specs.declared.reference.Ref.{Ref};
 ghost use Rattle.and_program.specs.Skeletons.{AllFall};
 ghost use Rattle.and_program.specs.Loaded.{skeleton_of, arguments_at};
@@ -13,6 +13,9 @@ use and_cells::{Naming, PlainCells};
 use and_model::{NodeNo, Ref};
 use and_program::{Loaded, NodeKind};
 use std::alloc::AllocError;
+
+/// So many places are followed before it is asked what is known of them.
+const SHORT_PATH: u64 = 64;
 
 /// What comes of one place of a path.
 #[derive(Clone, Copy, PartialEq, Eq, Debug)]
@@ -28,8 +31,9 @@ enum Step {
 /// Whether each path from a reference is seen to end when it is followed, by so many places at most,
 /// and nothing remembered. `false` says nothing. What was followed is taken from `most`.
 ///
-/// Takes memory for the list of what is still to be followed alone, which its caller keeps and uses
-/// again. An error is want of memory.
+/// Behind the first 64 places, what the cells know to be ground is not followed, and what is followed is put on the
+/// list `met`, each place before those that it leads to. Memory is taken for this list and for that of what is still
+/// to be followed alone, which the caller keeps and uses again. An error is want of memory.
 pub fn ends_soon<N: Naming>(
     loaded: &Loaded,
     cells: &PlainCells<N>,
@@ -37,18 +41,22 @@ pub fn ends_soon<N: Naming>(
     root: Ref,
     most: &mut u64,
     visits: &mut Vec<Ref>,
+    met: &mut Vec<Ref>,
 ) -> Result<bool, AllocError>
     requires program { N.program ≡ named loaded.now }
     requires in_range { IsInRange N.program (length cells.now) root }
     ensures ends { result ≡ Ok true → Ends N.program cells.now floor false root }
+    ensures met { OnOk result (All (IsInRange N.program (length cells.now)) met.old.items
+        → All (IsInRange N.program (length cells.now)) met.new.items) }
 {
     // Arguments come before their nodes: the proof needs it.
     loaded.skeleton_is_of_the_program();
     visits.clear();
+    let far = most.saturating_sub(SHORT_PATH);
     let mut at = root;
     while *most > 0 {
         *most -= 1;
-        match follow(loaded, cells, floor, at, visits)? {
+        match go_on(loaded, cells, floor, at, *most < far, visits, met)? {
             Step::Ended => match visits.pop() {
                 Some(next) => at = next,
                 None => return Ok(true),
@@ -58,6 +66,32 @@ pub fn ends_soon<N: Naming>(
         }
     }
     Ok(false)
+}
+
+/// Follows a path by one place, which is put on a list where it is far from the root. There it is not followed where it
+/// is known to be ground.
+fn go_on<N: Naming>(
+    loaded: &Loaded,
+    cells: &PlainCells<N>,
+    floor: u32,
+    at: Ref,
+    is_far: bool,
+    visits: &mut Vec<Ref>,
+    met: &mut Vec<Ref>,
+) -> Result<Step, AllocError>
+    requires program { N.program ≡ named loaded.now }
+    requires falls { AllFall 0 N.program.skeleton.nodes }
+    requires in_range { IsInRange N.program (length cells.now) at }
+    ensures leads { IfOk result (LeadsOn N.program cells.now floor at visits.old.items visits.new.items) }
+    ensures met { OnOk result ((met.new.items ≡ met.old.items) ⊎ (met.new.items ≡ met.old.items ++ at ∷ [])) }
+{
+    if is_far {
+        if cells.is_ground(at) {
+            return Ok(Step::Ended);
+        }
+        met.push(at)?;
+    }
+    follow(loaded, cells, floor, at, visits)
 }
 
 /// Follows a path by one place.

@@ -1,6 +1,7 @@
 //! Unification with the occurs check over plain cells.
 
-ghost use Rattle.std.specs.Prelude.{◌≡◌, ◌≢◌, ◌<◌, ◌≤◌, ◌⊎◌, ℕ, [], length, take, true, false, IfOk, Ok, Contains, All};
+ghost use Rattle.std.specs.Prelude.{◌≡◌, ◌≢◌, ◌<◌, ◌≤◌, ◌⊎◌, ℕ, [], length, take, true, false, IfOk, OnOk, Ok};
+ghost use Rattle.std.specs.Prelude.{Contains, All};
 ghost use Rattle.and_model.specs.Store.{is_half};
 ghost use Rattle.and_model.specs.Terms.{Substitution};
 ghost use Rattle.and_model.specs.Solutions.{Solves, Solvable};
@@ -30,6 +31,9 @@ use std::marker::Model;
 
 /// So many places more than a row has words are followed before marks are kept of places.
 const SMALL_TERM: u64 = 64;
+
+/// So many places are followed again rather than that it is noted which of them are ground.
+const LONG_PATH: usize = 64;
 
 /// How many places may be followed before marks are kept of places.
 #[derive(Clone, Copy, PartialEq, Eq, Debug)]
@@ -82,6 +86,8 @@ pub struct Solver {
     bound: Vec<u32>,
     /// Where paths that are followed are still to be followed from.
     visits: Vec<Ref>,
+    /// Places that were followed.
+    met: Vec<Ref>,
 }
 
 impl Model for Solver {
@@ -100,6 +106,7 @@ impl Solver {
         Solver {
             bound: Vec::new(alloc),
             visits: Vec::new(alloc),
+            met: Vec::new(alloc),
         }
     }
 
@@ -123,8 +130,9 @@ impl Solver {
     /// to above the floor, and nothing else of the row. At first as many places are followed as the row
     /// has words, and 64 more, and as the greatest node to which a cell that is followed is set has a
     /// number, the same place perhaps several times. What is left then is explored with marks, so that no
-    /// place is explored twice. The cells that were set can be freed again, where there is no solution and after
-    /// want of memory too.
+    /// place is explored twice. What was followed for long and is ground is known so to the cells from then on, and
+    /// is not followed again until a cell below it is made free. The cells that were set can be freed again, where
+    /// there is no solution and after want of memory too.
     pub fn settle_further<N: Naming>(
         &mut self,
         loaded: &Loaded,
@@ -150,6 +158,7 @@ impl Solver {
             pairs,
             &mut self.bound,
             &mut self.visits,
+            &mut self.met,
         )
     }
 }
@@ -162,6 +171,7 @@ fn settle_into<N: Naming>(
     pairs: &mut PairList,
     bound: &mut Vec<u32>,
     visits: &mut Vec<Ref>,
+    met: &mut Vec<Ref>,
 ) -> Settled
     requires program { N.program ≡ named loaded.now }
     requires in_range { AreInRange N.program (length cells.old) pairs.old }
@@ -177,7 +187,7 @@ fn settle_into<N: Naming>(
     laws_of_rows(loaded, cells);
     let alloc = *bound.allocator();
     match equate(loaded, cells, pairs, bound) {
-        Unified::Same => judge(loaded, cells, floor, bound, visits),
+        Unified::Same => judge(loaded, cells, floor, bound, visits, met),
         Unified::Apart { .. } => Settled::NoSolution,
         // The pairs would have 2^64 places, for which there is no memory.
         Unified::PutOff => Settled::Memory,
@@ -195,32 +205,54 @@ fn laws_of_rows<N: Naming>(loaded: &Loaded, cells: &PlainCells<N>)
     loaded.skeleton_is_of_the_program();
 }
 
-/// What cells came to in which these were bound, where those from `floor` on are new.
+/// What cells came to in which these were bound, where those from `floor` on are new. The cells stay, and know of
+/// more that it is ground.
 fn judge<N: Naming>(
     loaded: &Loaded,
-    cells: &PlainCells<N>,
+    cells: &mut PlainCells<N>,
     floor: u32,
     bound: &[u32],
     visits: &mut Vec<Ref>,
+    met: &mut Vec<Ref>,
 ) -> Settled
     requires program { N.program ≡ named loaded.now }
-    requires in_row { All (λ (cell : ℕ). cell < length cells.now) bound.now }
+    requires in_row { All (λ (cell : ℕ). cell < length cells.old) bound.now }
+    ensures same { cells.new ≡ cells.old }
     ensures below { result ≡ Settled.Solved → (cell : ℕ) → Contains bound.now cell → cell < floor
-        → is_half (word_at cells.now cell) ≡ false → Ends N.program cells.now 0 false (Ref.Cell cell) }
+        → is_half (word_at cells.old cell) ≡ false → Ends N.program cells.old 0 false (Ref.Cell cell) }
     ensures above { result ≡ Settled.Solved → (cell : ℕ) → Contains bound.now cell
-        → is_half (word_at cells.now cell) ≡ false → Ends N.program cells.now floor false (Ref.Cell cell) }
-    ensures no_solution { result ≡ Settled.NoSolution → Solvable (equations_of N.program cells.now) → ⊥ }
-    ensures sound { IsSound N.program cells.now }
+        → is_half (word_at cells.old cell) ≡ false → Ends N.program cells.old floor false (Ref.Cell cell) }
+    ensures no_solution { result ≡ Settled.NoSolution → Solvable (equations_of N.program cells.old) → ⊥ }
+    ensures sound { IsSound N.program cells.old }
 {
     let mut budget = Budget {
         places: u64::from(cells.len()) + SMALL_TERM,
         node: 0,
     };
-    match bound_end(loaded, cells, floor, bound, &mut budget, visits) {
-        Ok(true) => Settled::Solved,
+    met.clear();
+    match bound_end(loaded, cells, floor, bound, &mut budget, visits, met) {
+        Ok(true) => solved(loaded, cells, met),
         Ok(false) => Settled::NoSolution,
         Err(_) => Settled::Memory,
     }
+}
+
+/// The cells are solved. Where these places are many, those of them that are ground are noted, the last first.
+fn solved<N: Naming>(loaded: &Loaded, cells: &mut PlainCells<N>, met: &mut Vec<Ref>) -> Settled
+    requires program { N.program ≡ named loaded.now }
+    requires met { All (IsInRange N.program (length cells.old)) met.old.items }
+    ensures same { cells.new ≡ cells.old }
+    ensures no_failure { result ≢ Settled.NoSolution }
+{
+    if met.len() < LONG_PATH {
+        return Settled::Solved;
+    }
+    while let Some(at) = met.pop() {
+        if cells.note_ground(loaded, at).is_err() {
+            return Settled::Memory;
+        }
+    }
+    Settled::Solved
 }
 
 /// Grants places for the node that a word names, beyond those that were granted before. The term of a
@@ -245,6 +277,7 @@ fn bound_end<N: Naming>(
     bound: &[u32],
     budget: &mut Budget,
     visits: &mut Vec<Ref>,
+    met: &mut Vec<Ref>,
 ) -> Result<bool, AllocError>
     requires program { N.program ≡ named loaded.now }
     requires in_row { All (λ (cell : ℕ). cell < length cells.now) bound.now }
@@ -253,8 +286,10 @@ fn bound_end<N: Naming>(
     ensures above { result ≡ Ok true → (cell : ℕ) → Contains bound.now cell
         → is_half (word_at cells.now cell) ≡ false → Ends N.program cells.now floor false (Ref.Cell cell) }
     ensures no_solution { result ≡ Ok false → Solvable (equations_of N.program cells.now) → ⊥ }
+    ensures met { OnOk result (All (IsInRange N.program (length cells.now)) met.old.items
+        → All (IsInRange N.program (length cells.now)) met.new.items) }
 {
-    let seen = seen_to_end(loaded, cells, floor, bound, budget, visits)?;
+    let seen = seen_to_end(loaded, cells, floor, bound, budget, visits, met)?;
     if seen == bound.len() {
         return Ok(true);
     }
@@ -293,16 +328,19 @@ fn seen_to_end<N: Naming>(
     bound: &[u32],
     budget: &mut Budget,
     visits: &mut Vec<Ref>,
+    met: &mut Vec<Ref>,
 ) -> Result<usize, AllocError>
     requires program { N.program ≡ named loaded.now }
     requires in_row { All (λ (cell : ℕ). cell < length cells.now) bound.now }
-    ensures { IfOk result (λ seen. (seen ≤ length bound.now)
+    ensures seen { IfOk result (λ seen. (seen ≤ length bound.now)
         × All (EndsFrom N.program cells.now floor) (take seen bound.now)) }
+    ensures met { OnOk result (All (IsInRange N.program (length cells.now)) met.old.items
+        → All (IsInRange N.program (length cells.now)) met.new.items) }
 {
     for place in 0..bound.len() {
         let cell = bound[place];
         let from = floor_beside(cell, floor);
-        if !is_seen_to_end(loaded, cells, from, cell, budget, visits)? {
+        if !is_seen_to_end(loaded, cells, from, cell, budget, visits, met)? {
             return Ok(place);
         }
     }
@@ -325,10 +363,13 @@ fn is_seen_to_end<N: Naming>(
     cell: u32,
     budget: &mut Budget,
     visits: &mut Vec<Ref>,
+    met: &mut Vec<Ref>,
 ) -> Result<bool, AllocError>
     requires program { N.program ≡ named loaded.now }
     requires in_row { cell < length cells.now }
-    ensures { result ≡ Ok true → Ends N.program cells.now floor false (Ref.Cell cell) }
+    ensures ends { result ≡ Ok true → Ends N.program cells.now floor false (Ref.Cell cell) }
+    ensures met { OnOk result (All (IsInRange N.program (length cells.now)) met.old.items
+        → All (IsInRange N.program (length cells.now)) met.new.items) }
 {
     let word = cells.word(cell);
     if is_end(floor, word) {
@@ -342,6 +383,7 @@ fn is_seen_to_end<N: Naming>(
         Ref::Cell(cell),
         &mut budget.places,
         visits,
+        met,
     )
 }
 

@@ -1,6 +1,9 @@
 use Rattle.std.proofs.Common.{ℕ, ◌<◌, List, length, refl, sym, subst, inl}
 use Rattle.std.specs.Prelude.{All}
 use Rattle.and_model.specs.Solutions.{Solves}
+use Rattle.and_model.specs.declared.reference.Ref.{Ref}
+use Rattle.and_unify.specs.Setting.{HaveBeenSet}
+use Rattle.and_unify.specs.Settling.{Settles}
 use Rattle.and_unify.specs.declared.pairs.Pair.{Pair}
 use Rattle.and_unify.specs.Pairs.{equations_of_pairs}
 use Rattle.and_unify.proofs.SettlingTerms.{BoundEnd, binds}
@@ -26,12 +29,13 @@ returns-in-Same-clause-settles g c =
     let keeps = c.equate.ensures.keeps in
     let bindings = binds P old new pairs floor items laws.falls laws.sound given.in_range given.settled given.no_half given.new keeps
     c.equate.ensures.sets in
-    judged P old new pairs floor items bindings keeps given.written c.equate.ensures.unifies.follows c.judge.result
+    subst (λ (row : List Ref). Settles P old row pairs c.judge.result) (sym c.judge.ensures.same)
+    (judged P old new pairs floor items bindings keeps given.written c.equate.ensures.unifies.follows c.judge.result
     (λ w has none t known. c.in-Same.ensures.unifies.equal (inl refl) w has none t known
     (subst (λ (left : List Pair). Solves t (equations_of_pairs P w left)) (sym (c.in-Same.ensures.unifies.same refl)) tt))
     (λ is. subst (BoundEnd P new floor) c.deref.ensures.value
     (record { sound = c.judge.ensures.sound; below = c.judge.ensures.below is; above = c.judge.ensures.above is }))
-    c.judge.ensures.no_solution
+    c.judge.ensures.no_solution)
 
 pub returns-in-Apart-clause-settles : goal.returns-in-Apart-clause-settles
 returns-in-Apart-clause-settles g c =
@@ -81,9 +85,10 @@ returns-in-Memory-clause-settles g c =
 
 pub returns-in-Same-clause-bound : goal.returns-in-Same-clause-bound
 returns-in-Same-clause-bound g c =
-    have_been_set g.N.Naming.program c.args.cells.now c.equate.new.cells c.args.pairs.now c.args.bound.now.items c.equate.new.bound.items c.requires.empty
+    subst (λ (row : List Ref). HaveBeenSet c.args.cells.now row c.equate.new.bound.items) (sym c.judge.ensures.same)
+    (have_been_set g.N.Naming.program c.args.cells.now c.equate.new.cells c.args.pairs.now c.args.bound.now.items c.equate.new.bound.items c.requires.empty
     c.equate.ensures.keeps
-    c.equate.ensures.sets c.equate.ensures.bound
+    c.equate.ensures.sets c.equate.ensures.bound)
 
 pub returns-in-Apart-clause-bound : goal.returns-in-Apart-clause-bound
 returns-in-Apart-clause-bound g c =

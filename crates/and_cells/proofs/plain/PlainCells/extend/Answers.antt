@@ -2,7 +2,9 @@ use Rattle.std.proofs.Common.{ℕ, ◌≡◌, ◌+◌, ◌-◌, List, ◌++◌, 
 use Rattle.std.proofs.lemmas.List.{take_all}
 use Rattle.and_model.specs.declared.reference.Ref.TheVariants.{Free}
 use Rattle.and_cells.specs.Rows.{row_of, AreWords, IsSound}
+use Rattle.and_cells.specs.Ground.{AreFounded}
 use Rattle.and_cells.proofs.PlainRows.{kept_extend, row_extend}
+use Rattle.and_cells.proofs.Grounding.{founded_extend}
 use Rattle.and_cells.proofs.plain.PlainCells.extend.Goals as goal
 
 -- what the words are after they were filled up
@@ -17,9 +19,16 @@ pub invariant_of-self-2 : goal.invariant_of-self-2
 invariant_of-self-2 g c =
     let items = longer c.self.inside.words.items c.resize.new.self.items c.len.result (vec_len c.self.inside.words) c.args.by c.to_word.result c.len.ensures
     c.self.inside.words.ok.0 c.to_word.ensures c.in_ok-resize.ensures.items in
-    subst (λ ws. AreWords ws × IsSound g.N.Naming.program (row_of ws)) (sym items)
-    (kept_extend g.N.Naming.program c.self.inside.words.items c.args.by c.self.invariant (let few = c.requires in
-    let view = ap length c.self.view_is in omega arith))
+    let P = g.N.Naming.program in
+    let row = row_of c.self.inside.words.items in
+    let kept = kept_extend P c.self.inside.words.items c.args.by (c.self.invariant.0, c.self.invariant.1) (let few = c.requires in
+    let view = ap length c.self.view_is in omega arith) in
+    subst (λ ws. AreWords ws × IsSound P (row_of ws) × AreFounded P (row_of ws) c.self.inside.known) (sym items) (
+      kept.0,
+      kept.1,
+      subst (λ after. AreFounded P after c.self.inside.known) (sym (row_extend c.self.inside.words.items c.args.by))
+          (founded_extend P row c.self.inside.known c.args.by c.self.invariant.2),
+    )
 
 pub returns-clause-ok : goal.returns-clause-ok
 returns-clause-ok g c =

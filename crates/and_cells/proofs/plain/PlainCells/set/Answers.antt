@@ -5,7 +5,9 @@ use Rattle.and_model.specs.declared.reference.Ref.TheVariants.{Free, Number}
 use Rattle.and_cells.specs.Ranges.{NamedProgram, CanHold}
 use Rattle.and_cells.specs.Seen.{word_at}
 use Rattle.and_cells.specs.Rows.{row_of, AreWords, IsSound}
+use Rattle.and_cells.specs.Ground.{AreFounded}
 use Rattle.and_cells.proofs.PlainRows.{kept_set, row_set}
+use Rattle.and_cells.proofs.Grounding.{founded_set}
 use Rattle.and_cells.proofs.plain.PlainCells.set.Goals as goal
 
 -- the same, where the row and the word have names of their own
@@ -27,12 +29,18 @@ named P ws row place w r is word kept below has free fits written =
 
 pub invariant_of-self : goal.invariant_of-self
 invariant_of-self g c =
-    (named g.N.Naming.program c.self.inside.words.items c.args.self.now c.args.place c.to_word.result c.args.to c.self.view_is
-    c.to_word.ensures c.self.invariant
-    c.requires.place c.requires.kept c.requires.free c.requires.fits c.requires.written).0
+    let P = g.N.Naming.program in
+    let both = named P c.self.inside.words.items c.args.self.now c.args.place c.to_word.result c.args.to c.self.view_is c.to_word.ensures
+    (c.self.invariant.0, c.self.invariant.1) c.requires.place c.requires.kept c.requires.free c.requires.fits c.requires.written in (
+      both.0.0,
+      both.0.1,
+      subst (λ row. AreFounded P row c.self.inside.known) (sym both.1)
+          (founded_set P c.args.self.now c.self.inside.known c.args.place c.args.to c.requires.free
+          (subst (λ row. AreFounded P row c.self.inside.known) c.self.view_is c.self.invariant.2)),
+    )
 
 pub returns : goal.returns
 returns g c =
     (named g.N.Naming.program c.self.inside.words.items c.args.self.now c.args.place c.to_word.result c.args.to c.self.view_is
-    c.to_word.ensures c.self.invariant
+    c.to_word.ensures (c.self.invariant.0, c.self.invariant.1)
     c.requires.place c.requires.kept c.requires.free c.requires.fits c.requires.written).1
