@@ -1,2 +1,9 @@
+mod BesideLemmas
 mod LineLemmas
-mod OrderLemmas
+mod TailLemmas
+mod CompareLemmas
+mod PieceLemmas
+mod RunLemmas
+mod MergeLemmas
+mod CutLemmas
+mod RisingLemmas

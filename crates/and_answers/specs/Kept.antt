@@ -1,5 +1,6 @@
 -- What a run found, as a listing and an end.
-use Rattle.std.specs.Prelude.{ℕ, ◌≡◌, ◌+◌, ◌-◌, ◌^◌, min, Bool, if◌then◌else◌, List, ◌++◌, map, Option, Some, None}
+use Rattle.std.specs.Prelude.{ℕ, ◌≡◌, ◌+◌, ◌-◌, ◌^◌, min, Bool, if◌then◌else◌, List, [], ◌∷◌, ◌++◌, map, Option, Some}
+use Rattle.std.specs.Prelude.{None}
 use Rattle.std.specs.Option.{option_or}
 use Rattle.and_model.specs.Lines.{Bytes}
 use Rattle.and_model.specs.Listing
@@ -14,11 +15,21 @@ outcome_with floundered line = if floundered then Listing.floundered line else L
 
 -- the entry of a listing that an entry is
 abbrev pub entry_of : Entry → Listing.Entry
-entry_of entry = record { code = entry.code; outcome = outcome_with entry.floundered entry.line }
+entry_of entry = record { code = entry.code.value; outcome = outcome_with entry.floundered entry.line }
 
 -- what was found, as a listing
 abbrev pub listed : Found → List Listing.Entry
 listed found = map entry_of found.entries.items
+
+-- The codes are those of the entries, in the same order.
+abbrev pub AreCodesOf : Found → List (List ℕ) → Type 0
+AreCodesOf found codes = map (λ (e : Listing.Entry). e.code) (listed found) ≡ codes
+
+-- the code of the last of these
+abbrev pub last_code : List Listing.Entry → Option (List ℕ)
+last_code [] = None
+last_code (e ∷ []) = Some e.code
+last_code (e ∷ d ∷ es) = last_code (d ∷ es)
 
 -- how a run with this cut and these counts ended, as far as it is told
 abbrev pub finish_with : Option Cut → ℕ → ℕ → Bool → Finish

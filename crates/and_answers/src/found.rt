@@ -5,12 +5,13 @@ ghost use Rattle.std.specs.Prelude.{◌≡◌, [], ◌∷◌, ◌++◌, map, Non
 use crate::printing::{write_counts, write_lines};
 use and_model::{Code, Cut, Text};
 use std::alloc::{AllocError, Global};
+use std::snapshot::Snapshot;
 
 /// One proof of the query that has an outcome.
-#[derive(Drop, Debug)]
+#[derive(Drop)]
 pub struct Entry {
-    /// The code of its tree.
-    pub code: Code,
+    /// The code of its tree. It is there for contracts alone.
+    pub code: Snapshot<Code>,
     /// Its line, without a newline.
     pub line: Text,
     /// Whether some of its arithmetic waits forever, so that the line is no answer.
@@ -18,7 +19,7 @@ pub struct Entry {
 }
 
 /// What a run found. It keeps the allocator that it was made with.
-#[derive(Drop, Debug)]
+#[derive(Drop)]
 pub struct Found {
     /// How many forks were made. It stays at its last value.
     pub forks: u64,
@@ -26,13 +27,12 @@ pub struct Found {
     pub failed: u64,
     /// Where the search was cut off, if a branch outgrew the limit.
     pub cut: Option<Cut>,
-    entries: Vec<Entry>,
+    pub(crate) entries: Vec<Entry>,
 }
 
 impl Found {
     ghost use Rattle.and_model.specs.Output.{lines_of, last_lines};
     ghost use Rattle.and_answers.specs.Kept.{entry_of, listed, finish_of, total, SameEnd, IsSame, Merges};
-    ghost use Rattle.and_answers.specs.Order.{HasDistinctCodes, InOrder};
 
     /// Nothing was found yet. Takes no memory.
     pub fn new(alloc: Global) -> Found
@@ -95,22 +95,6 @@ impl Found {
         self.failed = self.failed.saturating_add(other.failed);
         self.cut = self.cut.or(other.cut);
         Ok(self)
-    }
-
-    /// The same with its entries in the lexicographic order of their codes. An error is want of
-    /// memory, and hands it back.
-    pub fn in_order(mut self) -> Result<Found, Found>
-        requires { HasDistinctCodes (listed self) }
-        ensures ok { IfOk result (λ found. InOrder (listed self) (listed found) × SameEnd self found) }
-        ensures given_back { IfErr result (IsSame self) }
-    {
-        match self
-            .entries
-            .sort_by(|one, other| one.code.order(&other.code))
-        {
-            Ok(()) => Ok(self),
-            Err(AllocError) => Err(self),
-        }
     }
 
     /// The whole text of the run: each line, and how the run ended, with the two counts where `stats`

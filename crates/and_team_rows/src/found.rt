@@ -5,66 +5,43 @@ ghost use Rattle.and_answers.specs.Kept.{listed};
 ghost use Rattle.and_answers.specs.Order.{HasDistinctCodes};
 
 use crate::saying::say;
-use and_answers::{Entry, Found};
+use and_answers::{Coded, Found};
 use and_model::{ClauseNo, Code, Cut, Goal, ReductionList, Text};
 use and_rows::Untold;
 use std::alloc::{AllocError, Global};
 
 /// Puts an entry with a code of one clause behind the others.
-fn add(alloc: Global, found: &mut Found, clause: u16, line: &[u8]) -> Result<(), AllocError>
+fn add(alloc: Global, found: &mut Coded, clause: u16, line: &[u8]) -> Result<(), AllocError>
     ensures { OnOk result (map (λ e. e.code) (listed found.new)
         ≡ map (λ e. e.code) (listed found.old) ++ (clause ∷ []) ∷ []) }
 {
     let mut code = Code::new(alloc);
     code.push(ClauseNo(clause))?;
-    let entry = Entry {
-        code,
-        line: Text::of(alloc, line)?,
-        floundered: false,
-    };
-    match found.add(entry) {
-        Ok(()) => Ok(()),
-        Err(_entry) => Err(AllocError),
-    }
+    let line = Text::of(alloc, line)?;
+    found.add(code, line, false)
 }
 
 /// What was found in two parts and merged, out of order.
-fn merged(alloc: Global) -> Result<Found, AllocError>
+fn merged(alloc: Global) -> Result<Coded, AllocError>
     ensures { IfOk result (λ found. HasDistinctCodes (listed found)) }
 {
-    let mut one = Found::new(alloc);
+    let mut one = Coded::new(alloc);
     add(alloc, &mut one, 2, b"X = b")?;
     add(alloc, &mut one, 1, b"X = a")?;
     one.count_fork();
-    let mut other = Found::new(alloc);
-    add(alloc, &mut other, 3, b"X = b")?;
+    let mut other = Coded::new(alloc);
+    add(alloc, &mut other, 3, b"X = c")?;
     other.count_failed();
     other.count_failed();
-    match one.merge(other) {
-        Ok(found) => Ok(found),
-        Err(_both) => Err(AllocError),
-    }
+    let both = one.merge(other)?;
+    Ok(both)
 }
 
-/// The codes of what was found.
-fn codes(alloc: Global, found: &Found) -> Result<String, AllocError> {
-    let mut out = String::new(alloc);
-    for entry in found.entries() {
-        for place in 0..entry.code.len() {
-            say(alloc, &mut out, *entry.code.at(place))?;
-        }
-    }
-    Ok(out)
-}
-
-/// The codes of what was merged, in order, and the text.
+/// The text of what was merged, in order.
 pub(crate) fn in_order(alloc: Global) -> Result<String, Untold> {
-    let Ok(found) = merged(alloc)?.in_order() else {
-        return Err(Untold::Memory);
-    };
-    let mut out = codes(alloc, &found)?;
-    let text = found.text(true)?;
-    out.push_str(&String::from_utf8_lossy(alloc, text.bytes())?)?;
+    let found = merged(alloc)?.in_order()?;
+    let mut out = String::new(alloc);
+    push_text(alloc, &mut out, &found, true)?;
     Ok(out)
 }
 

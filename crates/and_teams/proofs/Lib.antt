@@ -13,3 +13,4 @@ pub mod NextChild
 pub mod HandedBack
 pub mod Counted
 pub mod Agreeing
+mod Sending

@@ -8,7 +8,6 @@ ghost use Rattle.and_cells.specs.Parts.{named};
 ghost use Rattle.and_clause_index.specs.Tables.{IsTableOf};
 ghost use Rattle.and_model.specs.Trees.{blank, query_agenda};
 ghost use Rattle.and_branch.specs.Branches.{IsBranchOf};
-ghost use Rattle.and_answers.specs.Kept.{Merges};
 ghost use Rattle.and_tree.specs.Passes.{fresh_from};
 ghost use Rattle.and_search_laws.specs.Found.{IsFound};
 ghost use Rattle.and_teams.specs.Working.{Works};
@@ -17,7 +16,7 @@ ghost use Rattle.and_teams.specs.Ended.{AreFresh, IsWorked, AreDone, AllFound, I
 use crate::placed::PlacedBranch;
 use crate::team::{Shared, Team};
 use crate::work::{Worked, work};
-use and_answers::Found;
+use and_answers::{Coded, Found};
 use and_branch::{Branch, Rooted, Workspace};
 use and_cells::Naming;
 use and_clause_index::Determinacy;
@@ -147,13 +146,11 @@ fn explore_root<N: Naming + Send + Sync, R: Threads + Wait + Sync, G: Gate>(
     let worked = work_by_teams(rt, &shared, passes)?;
     let (found, passes) = gathered(alloc, worked)?;
     let closed = tree.close(passes);
-    match found.in_order() {
-        Ok(found) => Ok(Explored {
-            found,
-            closed: Some(closed),
-        }),
-        Err(_) => Err(AllocError),
-    }
+    let ordered = found.in_order()?;
+    Ok(Explored {
+        found: ordered,
+        closed: Some(closed),
+    })
 }
 
 /// All teams work. An error is want of memory.
@@ -204,30 +201,20 @@ fn with_passes<N: Naming, G: Gate>(
 fn gathered<N: Naming>(
     alloc: Global,
     mut worked: Vec<Worked<N>>,
-) -> Result<(Found, TreePassList<PlacedBranch<N>>), AllocError>
+) -> Result<(Coded, TreePassList<PlacedBranch<N>>), AllocError>
     ensures { IfOk result (λ r. AllFound worked.items r.0 r.1) }
 {
-    let mut found = Found::new(alloc);
+    let mut found = Coded::new(alloc);
     let mut passes = TreePassList::new(alloc);
     while let Some(done) = worked.pop() {
         let Worked { team, has_failed } = done;
         if has_failed {
             return Err(AllocError);
         }
-        found = merged(found, team.found)?;
+        found = found.merge(team.found)?;
         if passes.push(team.pass).is_err() {
             return Err(AllocError);
         }
     }
     Ok((found, passes))
-}
-
-/// What both found. An error is want of memory.
-fn merged(one: Found, other: Found) -> Result<Found, AllocError>
-    ensures { IfOk result (Merges one other) }
-{
-    match one.merge(other) {
-        Ok(both) => Ok(both),
-        Err(_) => Err(AllocError),
-    }
 }

@@ -2,7 +2,6 @@
 
 ghost use Rattle.std.specs.Prelude.{◌≡◌, ◌≢◌, ◌⊎◌, ◌<◌, ◌*◌, ◌^◌, ◌≤◌, length, ◌++◌, ◌∷◌, [], ℕ, List, Option, None};
 ghost use Rattle.std.specs.Prelude.{Some, OnOk, OnErr, IfOk, IfSome, IfNone, true};
-ghost use Rattle.std.specs.Option.{option_or};
 ghost use Rattle.and_model.specs.declared.limits.TheConstants.{MAX_LIMIT};
 ghost use Rattle.and_model.specs.Trees.{QueryTree, Open};
 ghost use Rattle.and_model.specs.Trees as trees;
@@ -15,16 +14,16 @@ ghost use Rattle.and_branch.specs.Children.{AreChildren, Fork};
 ghost use Rattle.and_branch.specs.Ended.{HasEnded};
 ghost use Rattle.and_branch.specs.Origins.{GoesBack, KeepsWhatIsNoted};
 ghost use Rattle.and_branch.specs.States.{IsState, IsAtRest, IsCutOf};
-ghost use Rattle.and_answers.specs.Kept.{SameEnd, listed, entry_of};
+ghost use Rattle.and_answers.specs.Kept.{SameEnd, listed};
 ghost use Rattle.and_histories.specs.PlainTree.{Key, Owns, children};
-ghost use Rattle.and_search_laws.specs.Ended.{EndsSo, SameButCut};
+ghost use Rattle.and_search_laws.specs.Ended.{EndsSo};
 ghost use Rattle.and_team_laws.specs.Owed.{SameItems};
 ghost use Rattle.and_teams.specs.Working.{Has, Works, some_task};
 ghost use Rattle.and_teams.specs.declared.team.TheConstants.{MOST_TASKS};
 
 use crate::placed::{PlacedBranch, PlacedSplit};
 use crate::stack::Task;
-use and_answers::{Entry, Found};
+use and_answers::Coded;
 use and_branch::{Branch, BranchList, BranchState, Split, Workspace};
 use and_cells::Naming;
 use and_clause_index::Determinacy;
@@ -64,33 +63,12 @@ pub struct Shared<'a, N: Naming, G: Gate> {
 pub struct Team<N: Naming> {
     pub number: u32,
     pub pass: TreePass<PlacedBranch<N>>,
-    pub found: Found,
+    pub found: Coded,
     /// What it has still to explore, the oldest first.
     pub stack: Vec<Task<N>>,
     pace: Pace,
     workspace: Workspace,
     ghost number_is: { pass.team ≡ number },
-}
-
-/// Keeps a cut, unless there is one.
-fn keep_cut(found: &mut Found, cut: Option<Cut>)
-    ensures same { SameButCut found.old found.new }
-    ensures cut { found.new.cut ≡ option_or found.old.cut cut }
-{
-    if found.cut.is_none() {
-        found.cut = cut;
-    }
-}
-
-/// Puts an entry behind the others. An error is want of memory.
-fn put_entry(found: &mut Found, entry: Entry) -> Result<(), AllocError>
-    ensures entries { OnOk result (listed found.new ≡ listed found.old ++ entry_of entry ∷ []) }
-    ensures end { SameEnd found.old found.new }
-{
-    match found.add(entry) {
-        Ok(()) => Ok(()),
-        Err(_) => Err(AllocError),
-    }
 }
 
 impl<N: Naming> Team<N> {
@@ -104,7 +82,7 @@ impl<N: Naming> Team<N> {
         Team {
             number,
             pass,
-            found: Found::new(alloc),
+            found: Coded::new(alloc),
             stack: Vec::new(alloc),
             pace: Pace::new(),
             workspace: Workspace::new(alloc),
@@ -326,7 +304,7 @@ impl<N: Naming> Team<N> {
                 Ok(Some(branch))
             }
             BranchState::OverLimit(cut) => {
-                keep_cut(&mut self.found, Some(cut));
+                self.found.keep_cut(Some(cut));
                 shared.tree.retire(&mut self.pass, branch.key());
                 Ok(Some(branch))
             }
@@ -391,7 +369,7 @@ impl<N: Naming> Team<N> {
         let placed = PlacedSplit { split };
         shared.tree.fork(&mut self.pass, &placed);
         self.found.count_fork();
-        keep_cut(&mut self.found, cut);
+        self.found.keep_cut(cut);
         self.put(shared, Task::Children(placed.split.into_children()))
     }
 
@@ -441,12 +419,7 @@ impl<N: Naming> Team<N> {
     {
         let code = branch.code(shared.alloc, shared.loaded)?;
         let line = branch.line(shared.alloc, shared.loaded)?;
-        let entry = Entry {
-            code,
-            line,
-            floundered,
-        };
-        put_entry(&mut self.found, entry)
+        self.found.add(code, line, floundered)
     }
 
     // ---- handing on, and taking over

@@ -17,6 +17,7 @@ use crate::explaining::explained;
 use crate::forks::forked;
 use crate::linting::linted;
 use crate::question::Question;
+use crate::searching::found_to;
 use crate::showing::{Show, written};
 use crate::status::Status;
 use and_answers::Found;
@@ -177,8 +178,8 @@ fn first_in<F: Fn(&Loaded, u32, Option<u32>) -> Result<Found, AllocError>>(
 }
 
 /// Why an answer of a program is one.
-fn explained_in<F: Fn(&Loaded, u32, Option<u32>) -> Result<Found, AllocError>>(
-    search: &F,
+fn explained_in<G: Gate>(
+    gate: &G,
     alloc: Global,
     place: u32,
     limit: u32,
@@ -187,14 +188,11 @@ fn explained_in<F: Fn(&Loaded, u32, Option<u32>) -> Result<Found, AllocError>>(
 ) -> Result<Reply, AllocError>
     requires place { 1 ≤ place }
     requires limited { limit ≤ MAX_LIMIT }
-    requires callable { (l : _) (n : ℕ) (o : _) → n ≤ MAX_LIMIT → F.pre search.now l n o }
-    requires finds { (l : _) (n : ℕ) (o : _) (found : _) → n ≤ MAX_LIMIT → F.post search.now l n o found
-        → IfOk found (Finds (program_of l.now) n o) }
     ensures { (program : _) → IsLifted program (program_of loaded.now)
         → IfOk result (λ reply. WasExplained place limit bytes.now program reply.status reply.text) }
 {
-    let found = search(loaded, limit, None)?;
-    explained(alloc, place, bytes, loaded, &found)
+    let latest = found_to(alloc, loaded, limit, place, gate)?;
+    explained(alloc, place, bytes, loaded, latest)
 }
 
 /// What a program is answered with.
@@ -217,7 +215,7 @@ fn reply_to<F: Fn(&Loaded, u32, Option<u32>) -> Result<Found, AllocError>, G: Ga
         Question::Run { show, limit } => found_in(search, alloc, show, limit, loaded),
         Question::Check => told_of(alloc, loaded),
         Question::Explain { place, limit } => {
-            explained_in(search, alloc, place, limit, bytes, loaded)
+            explained_in(gate, alloc, place, limit, bytes, loaded)
         }
         Question::Tree { limit } => forked(alloc, limit, loaded, gate),
         Question::Lint => linted(alloc, loaded),

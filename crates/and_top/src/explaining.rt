@@ -1,19 +1,19 @@
 //! Why an answer of a text is one.
 
-ghost use Rattle.std.specs.Prelude.{◌≡◌, ◌≤◌, ◌<◌, ◌++◌, false, length, IfOk};
+ghost use Rattle.std.specs.Prelude.{◌≡◌, ◌≤◌, ◌++◌, false, length, IfOk};
 ghost use Rattle.and_answers.specs.Kept.{finish_of, listed};
 ghost use Rattle.and_model.specs.Output.{last_lines};
 ghost use Rattle.and_model.specs.declared.limits.TheConstants.{MAX_LIMIT};
 ghost use Rattle.and_program.specs.Loaded.{program_of};
 ghost use Rattle.and_proof.specs.Proofs.{HasProof};
-ghost use Rattle.and_search_laws.specs.Found.{IsFound};
+ghost use Rattle.and_search_laws.specs.Found.{FindsFirst};
 ghost use Rattle.and_top.specs.Explained as specs;
 ghost use Rattle.and_top.specs.Lifted.{IsLifted};
 ghost use Rattle.and_top.specs.Top.{Documents, WasExplained, lacking_status};
 
 use crate::answering::Reply;
 use crate::status::Status;
-use and_answers::Found;
+use and_answers::{Found, Latest};
 use and_model::{Code, Text};
 use and_program::Loaded;
 use and_proof::proof_text;
@@ -71,29 +71,35 @@ fn lacking(alloc: Global, found: &Found) -> Result<Reply, AllocError>
     })
 }
 
-/// What is told of an answer of a program, by its place among those that were found. An error is want of memory.
+/// What is told of an answer of a program, by its place: the last of the first that were found, if there are so many.
+/// An error is want of memory.
 pub fn explained(
     alloc: Global,
     place: u32,
     bytes: &[u8],
     loaded: &Loaded,
-    found: &Found,
+    latest: Latest,
 ) -> Result<Reply, AllocError>
     requires place { 1 ≤ place }
-    requires found { (limit : _) × (limit ≤ MAX_LIMIT) × IsFound (program_of loaded.now) limit found.now }
+    requires few { length (listed latest) ≤ place }
+    requires found { (limit : _) × (limit ≤ MAX_LIMIT) × FindsFirst (program_of loaded.now) limit place latest }
     ensures { (program : _) (limit : _) → limit ≤ MAX_LIMIT → IsLifted program (program_of loaded.now)
-        → IsFound (program_of loaded.now) limit found.now
+        → FindsFirst (program_of loaded.now) limit place latest
         → IfOk result (λ reply. WasExplained place limit bytes.now program reply.status reply.text) }
 {
-    let entries = found.entries();
-    let place = place as usize;
-    if place > entries.len() {
-        return lacking(alloc, found);
+    let (found, last) = latest.into_parts();
+    if found.entries().len() < place as usize {
+        return lacking(alloc, &found);
     }
-    let text = document(alloc, loaded, bytes, &entries[place - 1].code)?;
-    Ok(Reply {
-        text,
-        status: Status::Answers,
-        refusal: None,
-    })
+    match last {
+        Some(code) => {
+            let text = document(alloc, loaded, bytes, &code)?;
+            Ok(Reply {
+                text,
+                status: Status::Answers,
+                refusal: None,
+            })
+        }
+        None => lacking(alloc, &found),
+    }
 }

@@ -8,9 +8,9 @@ use Rattle.and_team_rows.proofs.found.merged.Goals as goal
 codes : List Entry → List (List ℕ)
 codes es = map (λ e. e.code) es
 
-pub returns-in-Ok : goal.returns-in-Ok
+pub returns : goal.returns
 unfolding codes
-returns-in-Ok c =
+returns c =
     let after : List ℕ → List Entry → List (List ℕ) = λ code es. codes es ++ code ∷ [] in
     let first = c.in_ok-add.ensures ∙ ap (after (2 ∷ [])) c.new-one.ensures.entries in
     let one : codes (listed c.count_fork.new.self) ≡ (2 ∷ []) ∷ (1 ∷ []) ∷ [] =
@@ -19,4 +19,4 @@ returns-in-Ok c =
     let other : codes (listed c.count_failed-2.new.self) ≡ (3 ∷ []) ∷ [] =
     ap codes (c.count_failed-2.ensures.rest.1 ∙ c.count_failed.ensures.rest.1) ∙ third in
     let joined = map-append (λ (e : Entry). e.code) (listed c.count_fork.new.self) (listed c.count_failed-2.new.self) in
-    three_apart (listed c.in-Ok.found) (ap codes c.in-Ok.ensures.ok.entries ∙ joined ∙ (λ i. one i ++ other i))
+    three_apart (listed c.in_ok-both.both) (ap codes c.in_ok-both.ensures.entries ∙ joined ∙ (λ i. one i ++ other i))

@@ -27,28 +27,28 @@ in_order-requires g c =
     history counts c.requires.teams.0 c.close-closed.ensures in
     whole_once g.N.Naming.program.program c.args.settings.limit c.args.settings.teams c.in_ok-found.found history counts whole
 
-pub returns-in-Ok-in_order-clause-found : goal.returns-in-Ok-in_order-clause-found
-returns-in-Ok-in_order-clause-found g c =
+pub returns-clause-found : goal.returns-clause-found
+returns-clause-found g c =
     let history = history_in c.close-closed.result.last.value.views in
     let counts = tally c.close-closed.result.counts in
     let whole =
     closed_whole g.N.Naming.program.program c.args.settings.limit c.args.settings.teams c.in-Ok.tree c.in-Ok.ensures.about
     c.in_ok-worked.worked.items c.in_ok-worked.ensures.0 c.in_ok-worked.ensures.1 c.in_ok-found.found c.in_ok-found.passes c.in_ok-found.ensures
     history counts c.requires.teams.0 c.close-closed.ensures in
-    let order = c.in-Ok-in_order.ensures.ok in
+    let order = c.in_ok-ordered.ensures in
     whole_found g.N.Naming.program.program c.args.settings.limit c.args.settings.teams c.in_ok-found.found history counts whole
-    c.in-Ok-in_order.found order.0 order.1
+    c.in_ok-ordered.ordered order.0 order.1
 
-pub returns-in-Ok-in_order-clause-closed : goal.returns-in-Ok-in_order-clause-closed
-returns-in-Ok-in_order-clause-closed g c =
+pub returns-clause-closed : goal.returns-clause-closed
+returns-clause-closed g c =
     let history = history_in c.close-closed.result.last.value.views in
     let counts = tally c.close-closed.result.counts in
     let whole =
     closed_whole g.N.Naming.program.program c.args.settings.limit c.args.settings.teams c.in-Ok.tree c.in-Ok.ensures.about
     c.in_ok-worked.worked.items c.in_ok-worked.ensures.0 c.in_ok-worked.ensures.1 c.in_ok-found.found c.in_ok-found.passes c.in_ok-found.ensures
     history counts c.requires.teams.0 c.close-closed.ensures in
-    let order = c.in-Ok-in_order.ensures.ok in
+    let order = c.in_ok-ordered.ensures in
     let P = g.N.Naming.program.program in
     let within = reached_within P c.args.branch.limit c.args.branch.key (blank (query_agenda P)) c.requires.root.reached in
-    whole_run P c.args.settings.limit c.args.settings.teams c.in_ok-found.found history counts whole c.in-Ok-in_order.found order.0 order.1
+    whole_run P c.args.settings.limit c.args.settings.teams c.in_ok-found.found history counts whole c.in_ok-ordered.ordered order.0 order.1
     (subst (λ n. weight (blank {P = P} (query_agenda P)) ≤ n) c.requires.plain.1 within) c.requires.teams.0

@@ -1,33 +1,48 @@
-use Rattle.std.proofs.Common.{sym, subst}
-use Rattle.and_model.specs.Listing.{Listing}
+use Rattle.std.proofs.Common.{◌≡◌, ◌∙◌, IfOk, false, length, arith, ap, sym, subst}
+use Rattle.std.proofs.lemmas.List.{length-map}
+use Rattle.and_model.specs.Output.{last_lines}
 use Rattle.and_model.specs.Programs.{Program}
 use Rattle.and_program.specs.Loaded.{program_of}
-use Rattle.and_answers.specs.declared.found.Entry.{Entry}
-use Rattle.and_proof.specs.Proofs.{HasProof}
-use Rattle.and_top.specs.Top.{Documents}
-use Rattle.and_top.proofs.ExplainLemmas.{has_proof_at, explains, lacks}
+use Rattle.and_answers.specs.Kept.{entry_of, finish_of, listed}
+use Rattle.and_answers.specs.declared.found.Found.{Found}
+use Rattle.and_top.specs.Top.{lacking_status}
+use Rattle.and_top.proofs.ExplainLemmas.{has_proof_at, explains, lacks, no_last}
 use Rattle.and_top.proofs.explaining.explained.Goals as goal
+
+pub returns-then-entries-place : goal.returns-then-entries-place
+returns-then-entries-place c = λ program limit small lifted finds.
+    let P : Program = program_of c.args.loaded.now in
+    let same = c.into_parts-found.ensures.found in
+    let long : length c.entries.result.now ≡ length (listed c.args.latest) =
+    sym (length-map c.entries.result.now entry_of) ∙ ap length (c.entries.ensures ∙ ap listed same) in
+    let few = c.if-entries-place.true in
+    lacks program P c.args.place limit c.args.bytes.now c.args.latest c.lacking.result lifted finds (omega (arith, long, few))
+    (subst (λ (f : Found). IfOk c.lacking.result (λ reply. reply.text ≡ last_lines (finish_of f false))) same c.lacking.ensures.text)
+    (subst (λ (f : Found). IfOk c.lacking.result (λ reply. reply.status ≡ lacking_status f.cut)) same c.lacking.ensures.status)
 
 pub document-requires : goal.document-requires
 document-requires c =
     let P : Program = program_of c.args.loaded.now in
-    let at = c.index-entries-place in
-    let found = c.requires.found in
-    let lists = subst (Listing P found.0) (sym c.entries-entries.ensures) found.2.listing in
-    subst (λ (e : Entry). HasProof P e.code) at.is
-    (has_proof_at c.entries-entries.result.now c.args.place at.result c.requires.place c.if-place-entries.false at.is P found.0 lists found.1)
+    let (limit, small, finds) = c.requires.found in
+    let long : length c.entries.result.now ≡ length (listed c.args.latest) =
+    sym (length-map c.entries.result.now entry_of) ∙ ap length (c.entries.ensures ∙ ap listed c.into_parts-found.ensures.found) in
+    let enough = c.if-entries-place.false in
+    has_proof_at P c.args.place limit c.args.latest c.in-Some.code c.requires.place c.requires.few (omega (arith, long, enough))
+    (sym c.into_parts-found.ensures.code ∙ c.in-Some.is) finds small
 
-pub returns-then-place-entries : goal.returns-then-place-entries
-returns-then-place-entries c = λ program limit small lifted found.
-    lacks program (program_of c.args.loaded.now) c.args.place limit c.args.bytes.now c.args.found.now c.entries-entries.result.now c.lacking.result
-    lifted found
-    c.entries-entries.ensures c.if-place-entries.true c.lacking.ensures.text c.lacking.ensures.status
+pub returns-in-Some : goal.returns-in-Some
+returns-in-Some c = λ program limit small lifted finds.
+    let P : Program = program_of c.args.loaded.now in
+    let long : length c.entries.result.now ≡ length (listed c.args.latest) =
+    sym (length-map c.entries.result.now entry_of) ∙ ap length (c.entries.ensures ∙ ap listed c.into_parts-found.ensures.found) in
+    let enough = c.if-entries-place.false in
+    explains P c.args.place limit c.args.latest c.in-Some.code c.requires.place c.requires.few (omega (arith, long, enough))
+    (sym c.into_parts-found.ensures.code ∙ c.in-Some.is) finds program c.args.bytes.now c.in_ok-text-in-Some.text lifted c.in_ok-text-in-Some.ensures
 
 pub returns : goal.returns
-returns c = λ program limit small lifted found.
-    let P : Program = program_of c.args.loaded.now in
-    let at = c.index-entries-place in
-    let lists = subst (Listing P limit) (sym c.entries-entries.ensures) found.listing in
-    explains c.entries-entries.result.now c.args.place at.result c.requires.place c.if-place-entries.false at.is program P limit c.args.bytes.now
-    c.in_ok-text.text lifted lists
-    (subst (λ (e : Entry). Documents P c.args.bytes.now e.code c.in_ok-text.text) (sym at.is) c.in_ok-text.ensures)
+returns c = λ program limit small lifted finds.
+    let long : length c.entries.result.now ≡ length (listed c.args.latest) =
+    sym (length-map c.entries.result.now entry_of) ∙ ap length (c.entries.ensures ∙ ap listed c.into_parts-found.ensures.found) in
+    let enough = c.if-entries-place.false in
+    let first = c.requires.place in
+    no_last (listed c.args.latest) (sym c.into_parts-found.ensures.code ∙ c.in-None.is) (omega (arith, long, enough, first))

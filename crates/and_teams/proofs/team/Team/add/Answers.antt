@@ -4,7 +4,7 @@ use Rattle.and_teams.proofs.Judging.{told_entry}
 use Rattle.and_teams.proofs.team.Team.add.Goals as goal
 
 pub returns-clause-entries : goal.returns-clause-entries
-returns-clause-entries g c = on_ok_weaker c.put_entry.result
+returns-clause-entries g c = on_ok_weaker c.add.result
     (λ added. told_entry g.N.Naming.program c.args.branch.now c.args.floundered c.in_ok-code.code c.in_ok-line.line
-    (listed c.args.self.now.found) (listed c.put_entry.new.found) c.in_ok-code.ensures c.in_ok-line.ensures added)
-    c.put_entry.ensures.entries
+    (listed c.args.self.now.found) (listed c.add.new.self) c.in_ok-code.ensures c.in_ok-line.ensures added)
+    c.add.ensures.ok

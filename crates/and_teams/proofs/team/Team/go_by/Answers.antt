@@ -44,10 +44,11 @@ pub returns-in-OverLimit-clause-works : goal.returns-in-OverLimit-clause-works
 returns-in-OverLimit-clause-works g c =
     let P : NamedProgram = g.N.Naming.program in
     let s = c.args.self.now in
-    cut_works P c.args.shared.now.tree.now (is_last c.retire-in-OverLimit.result) s.pass c.retire-in-OverLimit.new.pass s.found c.keep_cut.new.found
+    let kept = c.keep_cut.ensures in
+    cut_works P c.args.shared.now.tree.now (is_last c.retire-in-OverLimit.result) s.pass c.retire-in-OverLimit.new.pass s.found c.keep_cut.new.self
     c.args.branch c.key-in-OverLimit.result.now s.stack.items c.in-OverLimit.cut c.requires.works
     (state_told P c.args.branch c.args.state (told.OverLimit c.in-OverLimit.cut) c.in-OverLimit.is c.requires.state)
-    c.keep_cut.ensures.same c.keep_cut.ensures.cut c.key-in-OverLimit.ensures c.retire-in-OverLimit.ensures
+    (record { entries = kept.rest; forks = kept.counts.0; failed = kept.counts.1 }) kept.cut c.key-in-OverLimit.ensures c.retire-in-OverLimit.ensures
 
 pub returns-in-OverLimit-clause-has : goal.returns-in-OverLimit-clause-has
 returns-in-OverLimit-clause-has g c = (returns-in-OverLimit-clause-works g c).has

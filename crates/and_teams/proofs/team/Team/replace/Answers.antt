@@ -48,9 +48,9 @@ put-requires-clause-has g c κs within =
     let (t, o, first, branch, are, is_cut, state) = c.requires.split in
     let counted = c.count_fork.ensures in
     let kept = c.keep_cut.ensures in
-    let forked = forked_works P tree s.pass c.fork.new.pass s.found c.keep_cut.new.found f s.stack.items t o first c.args.cut c.requires.works
-    branch are is_cut state (few_children P c.args.shared.now.loaded.now f t o first c.requires.program state) (kept.same.entries ∙ counted.rest.1)
-    (kept.same.forks ∙ counted.forks) (kept.same.failed ∙ counted.failed)
+    let forked = forked_works P tree s.pass c.fork.new.pass s.found c.keep_cut.new.self f s.stack.items t o first c.args.cut c.requires.works
+    branch are is_cut state (few_children P c.args.shared.now.loaded.now f t o first c.requires.program state) (kept.rest ∙ counted.rest.1)
+    (kept.counts.0 ∙ counted.forks) (kept.counts.1 ∙ counted.failed)
     (kept.cut ∙ ap (λ (x : Option Cut). option_or x c.args.cut) counted.rest.0) c.fork.ensures in (
       s.stack.items,
       subst (λ (l : Fork). Has P tree c.fork.new.pass (Children l ∷ s.stack.items)) (sym c.into_children.ensures) forked.has,
@@ -65,13 +65,13 @@ returns-clause-works g c =
     let (t, o, first, branch, are, is_cut, state) = c.requires.split in
     let counted = c.count_fork.ensures in
     let kept = c.keep_cut.ensures in
-    let forked = forked_works P tree s.pass c.fork.new.pass s.found c.keep_cut.new.found f s.stack.items t o first c.args.cut c.requires.works
-    branch are is_cut state (few_children P c.args.shared.now.loaded.now f t o first c.requires.program state) (kept.same.entries ∙ counted.rest.1)
-    (kept.same.forks ∙ counted.forks) (kept.same.failed ∙ counted.failed)
+    let forked = forked_works P tree s.pass c.fork.new.pass s.found c.keep_cut.new.self f s.stack.items t o first c.args.cut c.requires.works
+    branch are is_cut state (few_children P c.args.shared.now.loaded.now f t o first c.requires.program state) (kept.rest ∙ counted.rest.1)
+    (kept.counts.0 ∙ counted.forks) (kept.counts.1 ∙ counted.failed)
     (kept.cut ∙ ap (λ (x : Option Cut). option_or x c.args.cut) counted.rest.0) c.fork.ensures in
-    let w = subst (λ (l : Fork). Works P tree c.fork.new.pass c.keep_cut.new.found (Children l ∷ s.stack.items)) (sym c.into_children.ensures) forked in
+    let w = subst (λ (l : Fork). Works P tree c.fork.new.pass c.keep_cut.new.self (Children l ∷ s.stack.items)) (sym c.into_children.ensures) forked in
     on_ok_weaker c.put.result
-    (works_put P tree c.fork.new.pass c.put.new.self.pass c.keep_cut.new.found c.put.new.self.found (Children c.into_children.result) s.stack.items
+    (works_put P tree c.fork.new.pass c.put.new.self.pass c.keep_cut.new.self c.put.new.self.found (Children c.into_children.result) s.stack.items
     c.put.new.self.stack.items w c.put.ensures.same.1)
     c.put.ensures.put
 
@@ -84,9 +84,9 @@ returns-clause-has g c =
     let (t, o, first, branch, are, is_cut, state) = c.requires.split in
     let counted = c.count_fork.ensures in
     let kept = c.keep_cut.ensures in
-    let forked = forked_works P tree s.pass c.fork.new.pass s.found c.keep_cut.new.found f s.stack.items t o first c.args.cut c.requires.works
-    branch are is_cut state (few_children P c.args.shared.now.loaded.now f t o first c.requires.program state) (kept.same.entries ∙ counted.rest.1)
-    (kept.same.forks ∙ counted.forks) (kept.same.failed ∙ counted.failed)
+    let forked = forked_works P tree s.pass c.fork.new.pass s.found c.keep_cut.new.self f s.stack.items t o first c.args.cut c.requires.works
+    branch are is_cut state (few_children P c.args.shared.now.loaded.now f t o first c.requires.program state) (kept.rest ∙ counted.rest.1)
+    (kept.counts.0 ∙ counted.forks) (kept.counts.1 ∙ counted.failed)
     (kept.cut ∙ ap (λ (x : Option Cut). option_or x c.args.cut) counted.rest.0) c.fork.ensures in
     let w = subst (λ (l : Fork). Has P tree c.fork.new.pass (Children l ∷ s.stack.items)) (sym c.into_children.ensures) forked.has in
     has_either P tree c.put.result c.fork.new.pass c.put.new.self.pass (Children c.into_children.result) s.stack.items c.put.new.self.stack.items w

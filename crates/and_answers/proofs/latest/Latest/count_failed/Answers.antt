@@ -1,0 +1,5 @@
+use Rattle.and_answers.proofs.BesideLemmas.{last_kept}
+use Rattle.and_answers.proofs.latest.Latest.count_failed.Goals as goal
+
+pub invariant_of-self : goal.invariant_of-self
+invariant_of-self c = last_kept c.self.inside.found c.count_failed.new.self c.self.inside.code c.count_failed.ensures.rest.1 c.self.invariant

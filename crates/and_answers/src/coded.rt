@@ -1,0 +1,124 @@
+//! What a run found, with the codes of the entries beside them.
+
+ghost use Rattle.std.specs.Prelude.{◌≡◌, [], ◌∷◌, ◌++◌, None, OnOk, OnErr, IfOk};
+
+use crate::codes::CodeList;
+use crate::cutting::{put_back, runs_of};
+use crate::found::{Entry, Found};
+use crate::merging::as_one;
+use and_model::{Code, Cut, Text};
+use std::alloc::{AllocError, Global};
+use std::marker::Model;
+use std::snapshot::Snapshot;
+
+/// What a run found, as contracts see it, and the code of each entry beside it, so that the entries can be put in
+/// order. It keeps the allocator that it was made with.
+#[derive(Drop)]
+pub struct Coded {
+    found: Found,
+    codes: CodeList,
+}
+
+impl Model for Coded {
+    ghost use Rattle.and_answers.specs.declared.found.Found.{Found};
+    ghost use Rattle.and_answers.specs.Kept.{AreCodesOf};
+
+    ghost Value = { Found };
+
+    ghost view = { λ coded. coded.found };
+
+    ghost invariant = { λ coded. AreCodesOf coded.found coded.codes };
+}
+
+impl Coded {
+    ghost use Rattle.std.specs.Option.{option_or};
+    ghost use Rattle.and_answers.specs.Kept.{listed, outcome_with, total, SameEnd, Merges};
+    ghost use Rattle.and_answers.specs.Order.{HasDistinctCodes, InOrder};
+
+    /// Nothing was found yet. Takes no memory.
+    pub fn new(alloc: Global) -> Coded
+        ensures entries { listed result ≡ [] }
+        ensures end { (result.forks ≡ 0) × (result.failed ≡ 0) × (result.cut ≡ None) }
+    {
+        Coded {
+            found: Found::new(alloc),
+            codes: CodeList::new(alloc),
+        }
+    }
+
+    /// Puts an entry of this code, line and outcome behind the others. An error is want of memory.
+    pub fn add(&mut self, code: Code, line: Text, floundered: bool) -> Result<(), AllocError>
+        ensures ok { OnOk result (listed self.new
+            ≡ listed self.old ++ record { code = code; outcome = outcome_with floundered line } ∷ []) }
+        ensures end { SameEnd self.old self.new }
+        ensures unchanged { OnErr result (listed self.new ≡ listed self.old) }
+    {
+        let entry = Entry {
+            code: Snapshot::of(&code),
+            line,
+            floundered,
+        };
+        self.found.entries.reserve(1)?;
+        self.codes.push(code)?;
+        self.found.entries.push(entry)?;
+        Ok(())
+    }
+
+    /// Counts one fork more.
+    pub fn count_fork(&mut self)
+        ensures forks { self.new.forks ≡ total self.old.forks 1 }
+        ensures failed { self.new.failed ≡ self.old.failed }
+        ensures rest { (self.new.cut ≡ self.old.cut) × (listed self.new ≡ listed self.old) }
+    {
+        self.found.count_fork();
+    }
+
+    /// Counts one failed branch more.
+    pub fn count_failed(&mut self)
+        ensures failed { self.new.failed ≡ total self.old.failed 1 }
+        ensures forks { self.new.forks ≡ self.old.forks }
+        ensures rest { (self.new.cut ≡ self.old.cut) × (listed self.new ≡ listed self.old) }
+    {
+        self.found.count_failed();
+    }
+
+    /// Keeps where the search was cut off, unless that is known by now.
+    pub fn keep_cut(&mut self, cut: Option<Cut>)
+        ensures cut { self.new.cut ≡ option_or self.old.cut cut }
+        ensures counts { (self.new.forks ≡ self.old.forks) × (self.new.failed ≡ self.old.failed) }
+        ensures rest { listed self.new ≡ listed self.old }
+    {
+        if self.found.cut.is_none() {
+            self.found.cut = cut;
+        }
+    }
+
+    /// What both found, the entries of `other` behind. An error is want of memory.
+    pub fn merge(self, other: Coded) -> Result<Coded, AllocError>
+        ensures { IfOk result (Merges self other) }
+    {
+        let Coded { found, codes } = self;
+        let Coded {
+            found: others,
+            codes: behind,
+        } = other;
+        let codes = codes.joined(behind)?;
+        match found.merge(others) {
+            Ok(found) => Ok(Coded { found, codes }),
+            Err(_) => Err(AllocError),
+        }
+    }
+
+    /// What was found with the entries in the lexicographic order of their codes, which are gone then. An error is
+    /// want of memory.
+    pub fn in_order(self) -> Result<Found, AllocError>
+        requires { HasDistinctCodes (listed self) }
+        ensures { IfOk result (λ found. InOrder (listed self) (listed found) × SameEnd self found) }
+    {
+        let Coded { mut found, codes } = self;
+        let runs = runs_of(&mut found.entries, codes)?;
+        let one = as_one(runs)?;
+        put_back(&mut found.entries, one)?;
+        Ok(found)
+    }
+}
