@@ -1,6 +1,4 @@
 mod WrittenLines
 mod Counted
 mod Agreed
-mod Owing
-mod Splitting
-mod Going
+mod Traced

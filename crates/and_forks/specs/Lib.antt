@@ -1,4 +1,4 @@
 pub mod Texts
 pub mod Written
-pub mod Walking
+pub mod Told
 pub mod Trees

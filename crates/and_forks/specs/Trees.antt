@@ -3,7 +3,7 @@ use Rattle.std.specs.Prelude.{ℕ, List}
 use Rattle.and_model.specs.Programs.{Program}
 use Rattle.and_model.specs.Trees.{blank, query_agenda}
 use Rattle.and_forks.specs.Texts.{Line, TreeText}
-use Rattle.and_forks.specs.Walking.{MeetsLimit}
+use Rattle.and_traces.specs.Traces.{MeetsLimit}
 use Rattle.and_forks.specs.Written.{AreWritten}
 use Rattle.and_forks.specs.declared.tree.Walk.{Walk}
 use Rattle.and_forks.specs.declared.tree.Walk.TheVariants.{Whole, Cut}

@@ -10,17 +10,16 @@ ghost use Rattle.and_forks.specs.Trees.{IsForkTree};
 
 pub mod laws;
 mod lines;
-mod stack;
 mod tree;
-mod walker;
+mod writer;
 
-use crate::walker::walk_named;
+use crate::writer::Writer;
 use and_clause_index::Determinacy;
 use and_gate::Gate;
 use and_program::Loaded;
+use and_visit::search;
 pub use laws::{one_text, trees_count_what_runs_count};
 use std::alloc::{AllocError, Global};
-use std::marker::Brand;
 pub use tree::Walk;
 
 /// The fork tree of a program's query within a limit, as a text with the numbers of its lines; or where the limit kept
@@ -37,5 +36,6 @@ pub fn fork_tree<G: Gate>(
     requires limit { limit ≤ MAX_LIMIT }
     ensures { IfOk result (IsForkTree (program_of loaded.now) limit) }
 {
-    walk_named::<Brand, G>(alloc, loaded, table, limit, gate)
+    let writer = search(alloc, loaded, table, limit, gate, Writer::new(alloc))?;
+    Ok(writer.into_walk())
 }

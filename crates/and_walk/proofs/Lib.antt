@@ -1,6 +1,1 @@
-pub mod Turns
-pub mod Going
-pub mod Forking
-pub mod Turning
-pub mod Existing
-pub mod Beginning
+pub mod Finding

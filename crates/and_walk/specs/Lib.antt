@@ -1,2 +1,2 @@
 pub mod Walked
-pub mod Walking
+pub mod Finding

@@ -1,12 +1,12 @@
 -- What a walk of a program's query is (this project's own).
-use Rattle.std.specs.Prelude.{ℕ, ◌+◌, ◌≡◌, ◌<◌, ◌≤◌, ◌⊎◌, Bool, true, false, length, Option, Some, None}
+use Rattle.std.specs.Prelude.{ℕ, ◌≡◌, ◌<◌, ◌≤◌, ◌⊎◌, Bool, true, false, length, Option, Some, None}
 use Rattle.and_model.specs.Programs.{Program}
 use Rattle.and_model.specs.Trees.{blank, query_agenda, weight}
 use Rattle.and_model.specs.declared.goal
 use Rattle.and_answers.specs.Kept.{listed}
 use Rattle.and_answers.specs.declared.found.Found.{Found}
 use Rattle.and_walk_laws.specs.Walks.{Walks}
-use Rattle.and_search_laws.specs.Found.{kept_count, IsFound, FindsFirst}
+use Rattle.and_search_laws.specs.Found.{kept_count}
 
 -- A walk of the query finds this. Each of its forks is of the leftmost goal of a Shut tree, by all the candidates of
 -- that goal in the order of the text, and those that fit are walked. Where nothing was cut off, its forks and
@@ -28,18 +28,3 @@ WasWalked P limit found = (limit < weight (blank {P = P} (query_agenda P))) ⊎ 
 abbrev pub IsFew : Option ℕ → Found → Type 0
 IsFew None found = Unit {0}
 IsFew (Some count) found = length (listed found) ≤ count
-
--- There are as many entries as are asked for, if any number is.
-abbrev pub IsEnough : Option ℕ → Found → Type 0
-IsEnough None found = ⊥
-IsEnough (Some count) found = count ≤ length (listed found)
-
--- All was found by a walk, where no number of entries is asked for; else so many of the first, or all where there are
--- fewer.
-abbrev pub EndsWith : Program → ℕ → Option ℕ → Found → Type 0
-EndsWith P limit None found = IsFound P limit found × WasWalked P limit found
-EndsWith P limit (Some count) found = FindsFirst P limit count found × IsFew (Some count) found
-
--- At most one entry came to what was found.
-abbrev pub HasOneMore : (old new : Found) → Type 0
-HasOneMore old new = length (listed new) ≤ length (listed old) + 1

@@ -10,16 +10,15 @@ ghost use Rattle.and_answers.specs.Kept.{listed};
 ghost use Rattle.and_search_laws.specs.Found.{IsFound, FindsFirst};
 ghost use Rattle.and_walk.specs.Walked.{WasWalked};
 
-pub mod stack;
-mod walker;
+mod finder;
 
-use crate::walker::walk_named;
-use and_answers::Found;
+use crate::finder::{Coder, Finder};
+use and_answers::{Found, Latest};
 use and_clause_index::Determinacy;
 use and_gate::{Gate, Quiet};
 use and_program::Loaded;
+use and_visit::search;
 use std::alloc::{AllocError, Global};
-use std::marker::Brand;
 
 /// All answers of a program within a limit, in the order of their codes, and how the search ended. An
 /// error is want of memory.
@@ -51,7 +50,8 @@ pub fn walk_watched<G: Gate>(
     ensures found { IfOk result (IsFound (program_of loaded.now) limit) }
     ensures walked { IfOk result (WasWalked (program_of loaded.now) limit) }
 {
-    walk_named::<Brand, G>(alloc, loaded, table, limit, None, gate)
+    let finder = search(alloc, loaded, table, limit, gate, Finder::new(alloc, None))?;
+    Ok(finder.found)
 }
 
 /// The first answers of a program within a limit, in the order of their codes: as many as are asked for, or all where
@@ -70,5 +70,40 @@ pub fn walk_first<G: Gate>(
     ensures first { IfOk result (FindsFirst (program_of loaded.now) limit count) }
     ensures few { IfOk result (λ found. length (listed found) ≤ count) }
 {
-    walk_named::<Brand, G>(alloc, loaded, table, limit, Some(count), gate)
+    let finder = search(
+        alloc,
+        loaded,
+        table,
+        limit,
+        gate,
+        Finder::new(alloc, Some(count)),
+    )?;
+    Ok(finder.found)
+}
+
+/// The first answers of a program within a limit, in the order of their codes: as many as are asked for, or all where
+/// there are fewer, and how the search ended then; and the code of the last of them. It stops where it has so many. A
+/// gate is told of each reduction before it is made, and of each answer. An error is want of memory.
+pub fn walk_to<G: Gate>(
+    alloc: Global,
+    loaded: &Loaded,
+    table: &Determinacy,
+    limit: u32,
+    count: usize,
+    gate: &G,
+) -> Result<Latest, AllocError>
+    requires table { IsTableOf (named loaded.now) table.now }
+    requires limit { limit ≤ MAX_LIMIT }
+    ensures first { IfOk result (FindsFirst (program_of loaded.now) limit count) }
+    ensures few { IfOk result (λ found. length (listed found) ≤ count) }
+{
+    let coder = search(
+        alloc,
+        loaded,
+        table,
+        limit,
+        gate,
+        Coder::new(alloc, Some(count)),
+    )?;
+    Ok(coder.latest)
 }

@@ -1,0 +1,5 @@
+pub mod Turns
+pub mod Told
+pub mod Owing
+pub mod Splitting
+pub mod Going
