@@ -11,16 +11,18 @@ that is false end a branch early. It shares nothing with the program.
 import argparse
 import os
 import random
+import re
 import subprocess
 import sys
 import tempfile
 
-from plain import Either, fresh, is_arithmetic, line, read, run_waiting, undo, unify
+from plain import Either, Fault, fresh, is_arithmetic, line, read, run_waiting, undo, unify
 
 TOP = os.path.dirname(os.path.dirname(os.path.abspath(__file__)))
 
 
 APART = object()
+SKIPPED, NOT_OVER = 'too long a search', 'where nothing is over the limit'
 
 
 class TooLong(Exception):
@@ -82,6 +84,7 @@ class Search:
 
     def put(self, item, weight, goals, waiting, open_branches):
         """Puts the choices for a call, the first on top."""
+        self.steps -= len(waiting)
         waiting = run_waiting(list(waiting), self.trail)
         if waiting is None:
             return
@@ -155,25 +158,121 @@ class Writer:
             return f'{self.number(variables)} {comparison} {self.number(variables)}'
         return self.dice.choice(['true', 'fail'])
 
+    def limit(self):
+        return self.dice.choice([8, 12, 20, 30, 40])
+
+    def body(self, variables, most, depth=0):
+        """Goals with commas between them, some of them disjunctions."""
+        goals = []
+        for _ in range(most):
+            if depth < 2 and self.dice.random() < 0.08:
+                goals.append(f'( {self.body(variables, 1, depth + 1)} ; {self.body(variables, self.dice.randint(1, 2), depth + 1)} )')
+            else:
+                goals.append(self.goal(variables))
+        return ', '.join(goals)
+
     def text(self):
         out = []
         for name, size in self.sizes.items():
             for _ in range(self.dice.randint(1, 4)):
                 variables = self.dice.sample(['X', 'Y', 'Z', 'U', '_'], self.dice.randint(1, 4))
                 head = f'{name}({",".join(self.term(variables) for _ in range(size))})'
-                goals = [self.goal(variables) for _ in range(self.dice.choice([0, 0, 1, 1, 2, 3]))]
-                out.append(f'{head} :- {", ".join(goals)}.' if goals else f'{head}.')
+                count = self.dice.choice([0, 0, 1, 1, 2, 3])
+                out.append(f'{head} :- {self.body(variables, count)}.' if count else f'{head}.')
         self.dice.shuffle(out)
-        goals = [self.goal(['A', 'B', '_C']) for _ in range(self.dice.randint(1, 3))]
-        return '\n'.join(out + [f'?- {", ".join(goals)}.']) + '\n'
+        return '\n'.join(out + [f'?- {self.body(["A", "B", "_C"], self.dice.randint(1, 3))}.']) + '\n'
+
+
+class TypedWriter:
+    """Writes programs whose arguments have types, and which go down a list, a term or a number: deep ones, and wide ones over tables."""
+
+    def __init__(self, dice):
+        self.dice = dice
+        self.sorts = {f'p{place}': [dice.choice(['list', 'nat', 'int', 'name']) for _ in range(dice.randint(1, 3))]
+                      for place in range(dice.randint(1, 3))}
+        self.tables = {f'k{place}': dice.randint(2, 9) for place in range(dice.randint(1, 2))}
+        self.depth = dice.choice([2, 3, 3, 4, 6, 10])
+
+    def limit(self):
+        return self.dice.choice([20, 40, 80, 150])
+
+    def value(self, sort, depth):
+        """A ground term of the sort, or with a variable in it now and then."""
+        if self.dice.random() < 0.06:
+            return '_'
+        if sort == 'list':
+            return '[' + ','.join(self.value('int', 0) for _ in range(depth)) + ']'
+        if sort == 'nat':
+            return 's(' * depth + 'z' + ')' * depth
+        return str(self.dice.randint(0, depth)) if sort == 'int' else self.dice.choice(['a', 'b', 'c'])
+
+    def least(self, sort):
+        return {'list': '[]', 'nat': 'z', 'int': self.dice.choice(['0', 'N']), 'name': self.dice.choice(['a', 'b', '_'])}[sort]
+
+    def parts(self, sort, place):
+        """How an argument looks in the head of a clause that goes on, its rest, and goals that tie the two."""
+        if sort == 'list':
+            return f'[H{place}|T{place}]', f'T{place}', []
+        if sort == 'nat':
+            return f's(T{place})', f'T{place}', []
+        if sort == 'int':
+            step = self.dice.choice([f'M{place} is N{place}-1', f'N{place} is M{place}+1', f'N{place}-1 =:= M{place}'])
+            return f'N{place}', f'M{place}', [f'N{place} > 0', step]
+        return f'A{place}', self.dice.choice([f'A{place}', 'a', 'b', f'B{place}']), []
+
+    def extra(self, variables):
+        """A goal over these variables: a test, a table, another predicate, or a choice of two."""
+        roll, one = self.dice.random(), self.dice.choice(variables)
+        if roll < 0.3:
+            return f'{one} {self.dice.choice(["<", ">", "=<", ">=", "=:=", "=" + chr(92) + "="])} {self.dice.randint(0, 4)}'
+        if roll < 0.6:
+            table = self.dice.choice(list(self.tables))
+            return f'{table}({one},{self.dice.choice(variables)})'
+        if roll < 0.75:
+            name = self.dice.choice(list(self.sorts))
+            return f'{name}({",".join(self.dice.choice([*variables, self.value(sort, 1)]) for sort in self.sorts[name])})'
+        if roll < 0.9:
+            return f'( {one} = {self.dice.randint(0, 2)} ; {one} = {self.dice.choice(variables)} )'
+        return f'{one} is {self.dice.choice(variables)} {self.dice.choice(["+", "-", "*", "//", "mod"])} {self.dice.randint(0, 2)}'
+
+    def clauses(self, name, sorts):
+        yield f'{name}({",".join(self.least(sort) for sort in sorts)}).'
+        for _ in range(self.dice.choice([1, 1, 2])):
+            heads, rests, ties = zip(*(self.parts(sort, place) for place, sort in enumerate(sorts)))
+            goals = [goal for tie in ties for goal in tie] + [f'{name}({",".join(rests)})']
+            variables = sorted({*re.findall(r'[A-Z][0-9]*', ' '.join(heads + rests))})
+            goals += [self.extra(variables) for _ in range(self.dice.choice([0, 0, 1, 2]))]
+            self.dice.shuffle(goals)
+            yield f'{name}({",".join(heads)}) :- {", ".join(goals)}.'
+
+    def rule(self):
+        """A grammar rule or two for words of a and b."""
+        yield self.dice.choice(['w --> [].', 'w --> [a].', 'w --> {1 < 2}, [b].'])
+        yield self.dice.choice(['w --> [a], w.', 'w --> [a], w, [b].', 'w --> ( [a] ; [b] ), w.', 'w --> w, [a].'])
+
+    def text(self):
+        out = [clause for name, sorts in self.sorts.items() for clause in self.clauses(name, sorts)]
+        for name, size in self.tables.items():
+            out += [f'{name}({self.dice.randint(0, 3)},{self.dice.choice(["a", "b", self.dice.randint(0, 4)])}).' for _ in range(size)]
+        asked = []
+        for name in self.dice.sample(list(self.sorts), self.dice.randint(1, len(self.sorts))):
+            values = [self.dice.choice([self.value(sort, self.depth), self.value(sort, self.depth), 'X', 'Y']) for sort in self.sorts[name]]
+            asked.append(f'{name}({",".join(values)})')
+        if self.dice.random() < 0.5:
+            asked.append(self.extra(['X', 'Y', 'Z']))
+        if self.dice.random() < 0.15:
+            out += self.rule()
+            asked.append(f'w([{",".join(self.dice.choice("ab") for _ in range(min(self.depth, 6)))}],R)')
+        self.dice.shuffle(asked)
+        return '\n'.join(out + [f'?- {", ".join(asked)}.']) + '\n'
 
 
 def differs(program, text, limit):
-    """What the program writes for a text and should not; None where all is well or the text is too long a search."""
+    """What the program writes for a text and should not; None where all is well, and SKIPPED where the text is too long a search."""
     try:
-        plain = Search(read(text), limit, 200_000).run()
+        plain = Search(read(text), limit, 4_000).run()
     except TooLong:
-        return None
+        return SKIPPED
     told = []
     for words in (['--teams', '1', '--workers', '1'], ['--teams', '3', '--workers', '2']):
         lines, status = run(program, text, limit, words)
@@ -183,10 +282,10 @@ def differs(program, text, limit):
         if lines[:-1] != plain.lines:
             return f'other lines with {" ".join(words)}'
         if not plain.is_cut and lines[-1] != '% complete':
-            return f'{lines[-1]} with {" ".join(words)}, where nothing is over the limit'
+            return f'{lines[-1]} with {" ".join(words)}, {NOT_OVER}'
         if lines[-1] == '% complete' and plain.is_cut:
             try:
-                if Search(read(text), 2 * limit, 400_000).run().lines != plain.lines:
+                if Search(read(text), 2 * limit, 8_000).run().lines != plain.lines:
                     return 'complete, and a larger limit has other lines'
             except TooLong:
                 pass
@@ -196,10 +295,10 @@ def differs(program, text, limit):
 def try_random(arguments):
     dice, wrong = random.Random(arguments.seed), 0
     for number in range(arguments.random):
-        text = Writer(dice).text()
-        limit = dice.choice([8, 12, 20, 30, 40])
+        writer = (Writer if number % 4 else TypedWriter)(dice)
+        text, limit = writer.text(), writer.limit()
         found = differs(arguments.program, text, limit)
-        if found:
+        if found and found != SKIPPED:
             wrong += 1
             print(f'text {number}, limit {limit}: {found}\n{text}', flush=True)
     print(f'{arguments.random} texts, {wrong} differ')

@@ -1,17 +1,23 @@
 #!/usr/bin/env python3
 """Uses the program as no friend would, and says what broke: each run has to end with a status of the table and the bytes that are due.
 
-    yard/hostile.py [PART ..] [--quick] [--program FILE] [--seed S]
+    yard/hostile.py [PART ..] [--quick] [--program FILE] [--seed S] [--from N] [--count N]
 
 Parts: streams (reads and writes that fail, come in pieces, are closed or full; texts cut at each byte), memory (each allocation refused in
-turn, and a bounded address space), threads (refused, many, on one processor), ends (each limit at its last allowed value and one beyond),
+turn, and a bounded address space), threads (each refused in turn), crowd (16 teams of 8 workers, on all processors, on one, on busy ones),
+system (control groups of few bytes or threads, a user of few threads), ends (each limit at its last allowed value and one beyond),
 mutation (texts of examples and rows, changed by bytes and tokens), random (random programs beside yard/evaluate.py).
---quick takes a sample of each. Refusals are made by yard/refusing.c, which gcc compiles, in a program that is as it is shipped.
+--quick takes a sample of each. --from and --count tell which of the numbered texts of mutation and random are made, and which rounds of
+crowd are run: each number is made by itself, so that a run can go on where another ended.
+Refusals are made by yard/refusing.c, which gcc compiles, in a program that is as it is shipped.
 """
 import argparse
-import glob
+import contextlib
 import os
 import random
+import re
+import resource
+import signal
 import struct
 import subprocess
 import sys
@@ -19,37 +25,61 @@ import tempfile
 import time
 
 import evaluate
+import hostile_ends
+import hostile_random
+import hostile_system
 import same_bytes
+from hostile_texts import crowd_texts, crowded
 
 HERE = os.path.dirname(os.path.abspath(__file__))
-STATUSES = {0, 1, 2, 3, 4, 5, 6, 7, 8}
-CHECK = "p(1). p(2). q(X,Y) :- p(X), Y is X+1. ?- q(A,B), B < 3.\n"
+# seconds of the clock after which a run is taken to hang
+WAIT = 1_200
+STATUSES_OF_TEXTS = (0, 1, 3, 6, 8)
+
+
+def used_seconds():
+    """Processor seconds of the runs that have ended."""
+    usage = resource.getrusage(resource.RUSAGE_CHILDREN)
+    return usage.ru_utime + usage.ru_stime
+
+
+def as_bytes(text):
+    return text if isinstance(text, bytes) else text.encode(errors="surrogateescape")
 
 
 class Trial:
     """The program, what stands before it, and what broke so far."""
 
-    def __init__(self, program, quick, seed):
-        self.program, self.quick = os.path.abspath(program), quick
-        self.dice = random.Random(seed)
-        self.broken, self.runs = 0, 0
+    def __init__(self, given):
+        self.program, self.quick = os.path.abspath(given.program), given.quick
+        self.seed, self.first, self.count = given.seed, given.first, given.count
+        self.dice = random.Random(given.seed)
+        self.broken, self.runs, self.took = 0, 0, 0.0
         self.folder = tempfile.mkdtemp(prefix="hostile-")
         self.refusing = os.path.join(self.folder, "refusing.so")
         subprocess.run(["gcc", "-O2", "-shared", "-fPIC", "-o", self.refusing, os.path.join(HERE, "refusing.c"), "-ldl"], check=True)
 
     def run(self, words, text, before=(), seconds=300, **more):
-        """Status, what was written and what was told; status None where it did not end."""
+        """Status, what was written and what was told; status None where it did not end, or wanted a processor for so many seconds.
+        How long it had one is in `took`."""
         self.runs += 1
         refusals = {key: str(value) for key, value in more.items()}
-        environment = dict(os.environ, **refusals)
-        if refusals:
-            environment["LD_PRELOAD"] = self.refusing
-        try:
-            done = subprocess.run([*before, self.program, *words], input=text if isinstance(text, bytes) else text.encode(),
-                                  capture_output=True, timeout=seconds, env=environment, check=False)
-        except subprocess.TimeoutExpired:
-            return None, b"", b""
-        return done.returncode, done.stdout, done.stderr
+        environment = dict(os.environ, LD_PRELOAD=self.refusing, **refusals) if refusals else None
+        start = used_seconds()
+        with subprocess.Popen([*before, self.program, *words], stdin=subprocess.PIPE, stdout=subprocess.PIPE, stderr=subprocess.PIPE,
+                              env=environment) as child:
+            with contextlib.suppress(ProcessLookupError, PermissionError):
+                resource.prlimit(child.pid, resource.RLIMIT_CPU, (seconds, seconds + 1))
+            is_hung = False
+            try:
+                written, told = child.communicate(as_bytes(text), timeout=WAIT)
+            except subprocess.TimeoutExpired:
+                is_hung = True
+                child.kill()
+                written, told = child.communicate()
+        self.took = used_seconds() - start
+        is_ended = child.returncode != -signal.SIGXCPU and self.took < seconds and not is_hung
+        return child.returncode if is_ended else None, written, told
 
     def counts(self, words, text):
         """How often memory, threads, reads and writes were asked for in a run."""
@@ -62,222 +92,216 @@ class Trial:
 
     def broke(self, what, words, text, found):
         self.broken += 1
-        told = text if isinstance(text, bytes) else text.encode()
-        print(f"BROKEN {what}: {' '.join(words)}: status {found[0]}, {found[1][:120]!r}, {found[2][-160:]!r}\n{told[:400]!r}", flush=True)
+        print(f"BROKEN {what}: {' '.join(words)[:80]!a}: status {found[0]}, {found[1][:120]!r}, {found[2][-160:]!r}\n{as_bytes(text)[:400]!r}", flush=True)
 
     def some(self, many, few):
         """The numbers below, or a sample of them."""
         return range(many) if not self.quick or many <= few else sorted(self.dice.sample(range(many), few))
 
+    def numbers(self, few, many):
+        """The numbers of the texts or rounds that are due: few of the quick form, or as many as there are. Tells how far it has come."""
+        count = few if self.quick else self.count or many - self.first
+        for number in range(self.first, self.first + count):
+            yield number
+            if not self.quick and (number + 1) % max(1, many // 50) == 0:
+                print(f"up to {number}: {self.runs} runs, {self.broken} broken", flush=True)
 
-def rows():
-    """Name, words and text of some programs that run, check and fork."""
-    yield "append", ["run"], same_bytes.ROWS[0][2]
-    yield "two forks", ["run", "--stats", "--teams", "3"], same_bytes.ROWS[1][2]
-    yield "floundered", ["run"], "?- X is X + 0.\n"
-    yield "four queens", ["run", "--stats"], same_bytes.QUEENS
-    yield "four queens, 8 teams", ["run", "--stats", "--teams", "8", "--workers", "8"], same_bytes.QUEENS
-    yield "check", ["check"], CHECK
-
-
-def programs():
-    """The rows, and programs of other commands and with more answers, by one team, two and eight."""
-    yield from rows()
-    others = [("explain", ["explain", "2"], same_bytes.ROWS[0][2]), ("first", ["first", "2"], same_bytes.ROWS[0][2]),
-              ("splits", ["run"], "app([],L,L). app([H|T],L,[H|R]) :- app(T,L,R). ?- app(X,Y,[1,2,3,4,5,6,7,8,9]), app(_,[Z],X)."),
-              ("sums", ["run"], "len([],0). len([_|T],N) :- len(T,M), N is M+1. ?- len([a,b,c,d,e,f,g,h],N), N > M, M is 3.")]
-    for name, words, text in others:
-        for crowd in ("1", "2", "8"):
-            yield f"{name}, {crowd} teams", [*words, "--teams", crowd, "--workers", crowd], text
-    yield "tree", ["tree"], same_bytes.QUEENS
-    yield "lint", ["lint"], CHECK
-    yield "verify", ["verify"], "p(a). p(b). ?- p(X).\n%% proof\n%% 1 2 p(b)\n%% line X = b\n"
+    def dice_of(self, part, number):
+        """The dice of one text, whatever was thrown before it."""
+        return random.Random(f"{self.seed} {part} {number}")
 
 
 def streams(trial):
-    for name, words, text in rows():
+    for name, words, text in crowded((2,)):
         due = trial.run(words, text)
-        _, _, reads, writes = trial.counts(words, text)
-        for number in range(reads + 1):
-            found = trial.run(words, text, REFUSE_READ=number)
-            if found[:2] != ((4, b"") if number < reads else due[:2]):
-                trial.broke(f"{name}, read {number} fails", words, text, found)
-        for number in range(writes + 1):
-            found = trial.run(words, text, REFUSE_WRITE=number)
-            if found[:2] != due[:2] and not (found[0] == 5 and due[1].startswith(found[1])):
-                trial.broke(f"{name}, write {number} fails", words, text, found)
-        for piece in (1, 2, 3, 7, 64):
-            found = trial.run(words, text, PIECE=piece)
-            if found[:2] != due[:2]:
-                trial.broke(f"{name}, pieces of {piece}", words, text, found)
-        for number in trial.some(len(due[1]) + 1, 8):
-            found = trial.run(words, text, PIECE=1, REFUSE_WRITE=f"{number}+")
-            if number <= len(due[1]) - 1 and found[:2] != (5, due[1][:number]):
-                trial.broke(f"{name}, sink full after {number}", words, text, found)
-        for number in trial.some(len(text), 40):
-            found = trial.run(words, text[:number])
-            if found[0] not in (0, 1, 3, 6, 8) or (found[0] == 3) != found[1].startswith(b"error: line "):
-                trial.broke(f"{name}, cut after {number}", words, text[:number], found)
-        closed = ["sh", "-c", 'exec "$0" "$@" >&-']
-        for before, statuses in ((["sh", "-c", 'exec "$0" "$@" <&-'], (4,)), (closed, (5,)),
-                                 (["sh", "-c", 'exec "$0" "$@" > /dev/full'], (5,)), (["sh", "-c", '"$0" "$@" | true'], (0,))):
-            found = trial.run(words, text, before=before)
-            if found[0] not in statuses:
-                trial.broke(f"{name}, {before[2]}", words, text, found)
+        refuse_calls(trial, name, words, text, due)
+        pieces(trial, name, words, text, due)
+        for number in trial.some(len(text), 25):
+            cut(trial, name, words, text[:number])
+        if words[0] != "demo":
+            outside(trial, name, words, text, due)
+    pipes(trial)
+    unready(trial)
+    if not trial.quick:
+        telling(trial)
+
+
+def refuse_calls(trial, name, words, text, due):
+    """Each read fails in turn, each write, and the sink after each byte."""
+    _, _, reads, writes = trial.counts(words, text)
+    for number in range(reads + 1):
+        found = trial.run(words, text, REFUSE_READ=number)
+        if found[:2] != ((4, b"") if number < reads else due[:2]):
+            trial.broke(f"{name}, read {number} fails", words, text, found)
+    for number in range(writes + 1):
+        found = trial.run(words, text, REFUSE_WRITE=number)
+        if found[:2] != due[:2] and not (found[0] == 5 and due[1].startswith(found[1])):
+            trial.broke(f"{name}, write {number} fails", words, text, found)
+    for number in trial.some(len(due[1]), 8):
+        found = trial.run(words, text, PIECE=1, REFUSE_WRITE=f"{number}+")
+        if found[:2] != (5, due[1][:number]):
+            trial.broke(f"{name}, sink full after {number}", words, text, found)
+    for number in trial.some(len(text) + 1 if reads else 0, 8):
+        found = trial.run(words, text, PIECE=1, REFUSE_READ=number)
+        if found[:2] != (4, b""):
+            trial.broke(f"{name}, read {number} of single bytes fails", words, text, found)
+
+
+def pieces(trial, name, words, text, due):
+    """Reads and writes of each size, up to one that takes all."""
+    for piece in (size + 1 for size in trial.some(max(len(text), len(due[1])) + 1, 6)):
+        found = trial.run(words, text, PIECE=piece)
+        if found[:2] != due[:2]:
+            trial.broke(f"{name}, pieces of {piece}", words, text, found)
+
+
+def cut(trial, name, words, text):
+    """A text that ends too early: its refusal, or its run, whose lines are those of the definitions."""
+    found = trial.run(words, text)
+    is_refused = re.fullmatch(rb"error: line (\d+): [^\n]+\n", found[1])
+    last = text.count("\n") + 1
+    if found[0] not in STATUSES_OF_TEXTS or (found[0] == 3) != bool(is_refused) or (is_refused and not 1 <= int(is_refused[1]) <= last):
+        trial.broke(f"{name}, cut after {len(text)}", words, text, found)
+    if words[0] == "run" and found[0] != 3:
+        lines = evaluate.Search(evaluate.read(text), 262_144).run().lines
+        if found[1].decode().split("% ")[0].splitlines() != lines:
+            trial.broke(f"{name}, cut after {len(text)}, is not what the definitions say", words, text, found)
+
+
+def outside(trial, name, words, text, due):
+    """Streams that are closed, full, or not what they should be."""
+    ways = [("<&-", (4, b"")), ("< /", (4, b"")), (">&-", (5, b"")), ("> /dev/full", (5, b"")), ("2>&-", due[:2]), ("2> /dev/full", due[:2]),
+            ("1< /dev/null", (5, b"")), ("0> /dev/null", (4, b"")), ("<&- >&- 2>&-", (4, b"")), ("<&- 2> /dev/full", (4, b""))]
+    for way, expected in ways:
+        for told in ([], ["env", "ANDORRA_HINTS=1", "ANDORRA_PROGRESS=1"]):
+            found = trial.run(words, text, before=[*told, "sh", "-c", f'exec "$0" "$@" {way}'])
+            if found[:2] != expected:
+                trial.broke(f"{name}, {' '.join(told)} {way}", words, text, found)
+
+
+def pipes(trial):
+    """A pipe whose reader goes before anything is written, or after some bytes; one that takes nothing for a while; a source that dawdles."""
+    line = "?- X = [" + ",".join(["a"] * 200_000) + "].\n"
+    for taken in (0, 1, 4_096, 65_536, 100_000, 300_000):
+        status, read = through(trial, line, taken)
+        if (status, read) != (5, ("X = [" + "a," * taken)[:taken].encode()):
+            trial.broke(f"a pipe that closes after {taken} bytes", ["run"], line, (status, read, b""))
+    due = trial.run(["run"], line)
+    for before in ('(sleep 0.2; cat) | "$0" "$@"', '"$0" "$@" | (sleep 0.2; cat)', 'dd bs=1000 status=none | "$0" "$@" | dd bs=7000 status=none'):
+        found = trial.run(["run"], line, before=["sh", "-c", before])
+        if found[:2] != due[:2]:
+            trial.broke(before, ["run"], line, found)
+
+
+def telling(trial):
+    """A run of some seconds that tells how far it is, where nobody takes what it tells."""
+    text = "".join(f"d({digit}). " for digit in range(10)) + "?- d(A), d(B), d(C), d(D), d(E), d(F), A+B+C+D+E+F > 53."
+    due = trial.run(["run"], text)
+    for way in ("2> /dev/null", "2> /dev/full", "2>&-", "2> >(true)"):
+        found = trial.run(["run"], text, before=["env", "ANDORRA_HINTS=1", "ANDORRA_PROGRESS=1", "bash", "-c", f'exec "$0" "$@" {way}'])
+        if found[:2] != due[:2]:
+            trial.broke(f"told, {way}", ["run"], text, found)
+
+
+def unready(trial):
+    """A source that has nothing yet, and a sink that takes no more, where neither is waited for: each is a failure."""
+    trial.runs += 2
+    source, late = os.pipe()
+    os.set_blocking(source, False)
+    done = subprocess.run([trial.program, "run"], stdin=source, capture_output=True, check=False)
+    if (done.returncode, done.stdout) != (4, b""):
+        trial.broke("a source that has nothing yet", ["run"], "", (done.returncode, done.stdout, done.stderr))
+    taken, sink = os.pipe()
+    os.set_blocking(sink, False)
+    line = "?- X = [" + ",".join(["a"] * 200_000) + "].\n"
+    done = subprocess.run([trial.program, "run"], input=line.encode(), stdout=sink, stderr=subprocess.PIPE, check=False)
+    written = os.read(taken, 1 << 20)
+    if done.returncode != 5 or not f"X = [{'a,' * 200_000}".encode().startswith(written):
+        trial.broke("a sink that takes no more", ["run"], line, (done.returncode, written, done.stderr))
+    for end in (source, late, taken, sink):
+        os.close(end)
+
+
+def through(trial, text, taken):
+    """The status of a run whose reader takes so many bytes and goes; and what it has read."""
+    trial.runs += 1
+    with subprocess.Popen([trial.program, "run"], stdin=subprocess.PIPE, stdout=subprocess.PIPE, stderr=subprocess.DEVNULL) as run:
+        if taken == 0:
+            run.stdout.close()
+        run.stdin.write(text.encode())
+        run.stdin.close()
+        read = b""
+        if taken:
+            read = run.stdout.read(taken)
+            run.stdout.close()
+        return run.wait(timeout=300), read
 
 
 def memory(trial):
-    for name, words, text in rows() if trial.quick else programs():
+    for name, words, text in crowded((3,) if trial.quick else (1, 2, 8)):
         due = trial.run(words, text)
         many = trial.counts(words, text)[0]
-        for number in trial.some(many + 3, 60):
+        for number in trial.some(many + 3, 15):
             for form in (f"{number}", f"{number}+"):
                 found = trial.run(words, text, REFUSE_MEMORY=form)
-                if found[:2] != due[:2] and found[:2] != (7, b""):
+                if found[:2] not in (due[:2], (7, b"")):
                     trial.broke(f"{name}, allocation {form} refused", words, text, found)
-        for kilobytes in (2000, 4000, 8000, 16000, 32000, 64000, 128000):
-            found = trial.run(words, text, before=["sh", "-c", f'ulimit -v {kilobytes}; exec "$0" "$@"'])
-            if found[:2] != due[:2] and found[:2] != (7, b"") and b"loading shared" not in found[2] and found[0] not in (126, 127, -11, 139):
+    spaces(trial)
+
+
+def spaces(trial):
+    """An address space of so many KB: from the least in which the program is loaded, up to where all is had."""
+    least = least_space(trial)
+    steps = [*range(least, least + 40_000, 20_000 if trial.quick else 500), 64_000, 128_000, 512_000]
+    for name, words, text in crowded((2,) if trial.quick else (1, 2, 8)):
+        due = trial.run(words, text)
+        for kilobytes in steps:
+            found = trial.run(words, text, before=limited(kilobytes))
+            if found[:2] not in (due[:2], (7, b"")):
                 trial.broke(f"{name}, {kilobytes} KB", words, text, found)
 
 
+def limited(kilobytes):
+    return ["sh", "-c", f'ulimit -v {kilobytes}; exec "$0" "$@"']
+
+
+def least_space(trial):
+    """The least address space, in KB, in which the program is loaded and tells how it is used."""
+    low, high = 0, 64_000
+    while high - low > 20:
+        middle = (low + high) // 2
+        if trial.run([], "", before=limited(middle))[0] == 2:
+            high = middle
+        else:
+            low = middle
+    return high
+
+
 def threads(trial):
-    for name, words, text in rows():
+    for name, words, text in crowded((3,) if trial.quick else (2, 3, 8, 16)):
         due = trial.run(words, text)
         many = trial.counts(words, text)[1]
-        for number in range(many + 1):
+        for number in trial.some(many + 1, 8):
             for form in (f"{number}", f"{number}+"):
                 found = trial.run(words, text, REFUSE_THREAD=form)
                 if found[:2] != due[:2]:
                     trial.broke(f"{name}, thread {form} refused", words, text, found)
-    for name, words, text in same_bytes.texts():
-        due = trial.run(["run", *words, "--teams", "1", "--workers", "1"], text, seconds=300)
-        for before in ([], ["taskset", "-c", "0"], ["nice", "-n", "19"]):
-            for _ in range(2 if trial.quick else 334):
-                crowd = ["run", *words, "--teams", "16", "--workers", "8"]
-                found = trial.run(crowd, text, before=before)
-                if found[:2] != due[:2]:
-                    trial.broke(f"{name}, {' '.join(before)}", crowd, text, found)
 
 
-def last_allowed():
-    """What is at the end of a limit or one beyond it: name, words, text, status and how the output begins or ends."""
-    arguments = ",".join(["a"] * 255)
-    variables = ",".join(f"X{place}" for place in range(254))
-    yield "255 arguments", ["run"], f"?- X = f({arguments}).", 0, b"% complete\n"
-    yield "256 arguments", ["run"], f"?- X = f({arguments},a).", 3, b"too big: arguments\n"
-    yield "255 variables", ["run"], f"?- Y = f({variables}).", 0, b"% complete\n"
-    yield "256 variables", ["run"], f"?- Y = f({variables}), Z = U.", 3, b"too big: variables\n"
-    yield "nesting 256", ["run"], f"?- X = {'(' * 256}a{')' * 256}.", 0, b"% complete\n"
-    yield "nesting 257", ["run"], f"?- X = {'(' * 257}a{')' * 257}.", 3, b"too big: nesting\n"
-    facts = "\n".join(f"k({place})." for place in range(65_535))
-    yield "65,535 clauses", ["run", "--stats"], f"{facts}\n?- k(65534).", 0, b"% complete\n% forks 0 failed 0\n"
-    yield "65,536 clauses", ["run"], f"{facts}\nk(65535).\n?- k(1).", 3, b"too big: clauses\n"
-    row = "k([" + ",".join(["a"] * 1_022) + "])."
-    full = "\n".join([row] * 256)
-    short = "c. k([" + ",".join(["a"] * 253) + "])."
-    yield "524,288 nodes", ["run"], f"{full}\n{short}\n?- k(b).", 1, b"% complete\n"
-    yield "524,289 nodes", ["run"], f"{full}\n{short}\n?- k(b(c)).", 3, b"too big: nodes\n"
-    yield "number", ["run"], "?- X = 9223372036854775807, Y = -9223372036854775808.", 0, b"% complete\n"
-    yield "number too wide", ["run"], "?- X = 9223372036854775808.", 3, b"number too wide\n"
-    blank = "?- true." + " " * (1_048_576 - len("?- true."))
-    yield "1,048,576 bytes", ["run"], blank, 0, b"true\n% complete\n"
-    yield "1,048,577 bytes", ["run"], blank + " ", 3, b"too big: source\n"
-    yield "one line of quotes", ["run"], "?- X = '" + "a" * 1_000_000 + "'.", 0, b"'\n% complete\n"[1:]
-    yield "a comment of a megabyte", ["run"], "/*" + "*" * 1_000_000 + "*/ ?- true.", 0, b"true\n% complete\n"
-    yield "a body of 100,000 goals", ["run"], "p. ?- " + ", ".join(["p"] * 100_000) + ".", 0, b"true\n% complete\n"
-    yield "a list of 200,000", ["run"], "?- X = [" + ",".join(["a"] * 200_000) + "].", 0, b"% complete\n"
-    count = "c(0). c(N) :- N > 0, M is N-1, c(M). ?- c(700000)."
-    yield "a chain of 700,000", ["run", "--limit", "4194304"], count, 0, b"true\n% complete\n"
-    yield "a term of 800,000", ["run", "--limit", "4194304"], "n(0,z). n(K,s(T)) :- K > 0, J is K-1, n(J,T). ?- n(800000,X).", 6, b"% limit met\n"
-    digits = "d(0). d(1). d(2). d(3). d(4). d(5). d(6). d(7). d(8). d(9). "
-    yield "100,000 answers", ["run"], digits + "?- d(A), d(B), d(C), d(D), d(E).", 0, b"% complete\n"
-    yield "limit 4,194,304", ["run", "--limit", "4194304"], "p. ?- p.", 0, b"true\n% complete\n"
-    yield "limit one more", ["run", "--limit", "4194305"], "p. ?- p.", 2, b""
-    yield "teams 17", ["run", "--teams", "17"], "p. ?- p.", 2, b""
-    yield "workers 9", ["run", "--workers", "9"], "p. ?- p.", 2, b""
-    yield "demo 65", ["demo", "65"], "", 2, b""
+def crowd(trial):
+    """Each example, row and edge by 16 teams of 8 workers: on all processors, on one, and on ones that are busy, a thousand times in all."""
+    due = {name: trial.run([*words, "--teams", "1", "--workers", "1"], text) for name, words, text in crowd_texts()}
+    for number in trial.numbers(1, 334):
+        for busy, before in ((0, ()), (0, ("taskset", "-c", "0")), (8, ())):
+            with hostile_system.Busy(busy):
+                for name, words, text in crowd_texts():
+                    found = trial.run([*words, "--teams", "16", "--workers", "8"], text, before=before)
+                    if found[:2] != due[name][:2]:
+                        trial.broke(f"{name}, round {number}, {' '.join(before)}, {busy} others", words, text, found)
 
 
-def largest():
-    """What takes minutes."""
-    digits = "".join(f"d({digit}). " for digit in range(10))
-    yield "a million answers", ["run"], digits + "?- d(A), d(B), d(C), d(D), d(E), d(F).", 0, b"% complete\n"
-    count = "c(0). c(N) :- N > 0, M is N-1, c(M). ?- c(1000000)."
-    yield "a chain of a million", ["run", "--limit", "4194304"], count, 6, b"% limit met\n"
-    numbers = "n(z). n(s(N)) :- n(N). l(z,[]). l(s(N),[a|T]) :- l(N,T). ?- n(X), l(X,_L)."
-    yield "20,000 terms and their lists", ["run", "--limit", "20000"], numbers, 6, b"% limit met\n"
-
-
-def ends(trial):
-    for name, words, text, status, end in [*last_allowed(), *([] if trial.quick else largest())]:
-        start = time.monotonic()
-        found = trial.run(words, text, seconds=300)
-        took = time.monotonic() - start
-        if found[0] != status or not found[1].endswith(end):
-            trial.broke(name, words, text[:100], found)
-        if not trial.quick:
-            print(f"{name:28} {took:7.2f} s", flush=True)
-
-
-TOKENS = ["(", ")", "[", "]", ",", "|", ".", ". ", " ", ":-", "?-", "-->", ";", "{", "}", "=", "is", "<", "=\\=", "+", "-", "*", "//", "mod",
-          "X", "_", "a", "'a b'", "'", "0", "9223372036854775808", "%", "/*", "*/", "\\", "!", "\"", "\x00", "é", "\xff", "f(", "[X|Y]", "\n"]
-
-
-def changed(dice, text):
-    """The text with some bytes or tokens changed."""
-    out = bytearray(text.encode())
-    for _ in range(dice.choice((1, 1, 1, 2, 3, 8))):
-        place, roll = dice.randrange(len(out) + 1), dice.random()
-        if roll < 0.3:
-            del out[place:place + dice.choice((1, 1, 2, 5, 20))]
-        elif roll < 0.7:
-            out[place:place] = dice.choice(TOKENS).encode()
-        elif roll < 0.8:
-            out[place:place + 1] = bytes([dice.randrange(256)])
-        else:
-            start = dice.randrange(len(out) + 1)
-            out[place:place] = out[start:start + dice.choice((1, 4, 30))]
-    return bytes(out)
-
-
-def mutation(trial):
-    base = [text for _, _, text in same_bytes.texts()] + [CHECK]
-    times = [[] for _ in base]
-    for number in range(400 if trial.quick else 100_000):
-        place = trial.dice.randrange(len(base))
-        text = changed(trial.dice, base[place])
-        words = ["check"] if number % 5 == 0 else ["run", "--limit", "600", "--teams", str(1 + number % 3), "--workers", str(1 + number % 2)]
-        start = time.monotonic()
-        found = trial.run(words, text, seconds=120)
-        if found[0] not in (0, 1, 3, 6, 8) or (found[0] == 3) != (found[1].startswith(b"error: line ") and found[1].count(b"\n") == 1):
-            trial.broke("a changed text", words, text, found)
-        times[place].append((time.monotonic() - start, words, text))
-    slowest(trial, times)
-
-
-def slowest(trial, times):
-    """Texts that take more than ten times as long as their neighbours, asked again, since a machine may be busy."""
-    for near in times:
-        usual = sorted(seconds for seconds, _, _ in near)[len(near) * 9 // 10] if near else 0
-        for seconds, words, text in near:
-            if seconds > 1 + 10 * usual:
-                start = time.monotonic()
-                found = trial.run(words, text, seconds=120)
-                if time.monotonic() - start > 1 + 10 * usual:
-                    trial.broke("a slow text", words, text, found)
-
-
-def beside_definitions(trial):
-    for number in range(150 if trial.quick else 100_000):
-        text, limit = evaluate.Writer(trial.dice).text(), trial.dice.choice([8, 12, 20, 30, 40])
-        trial.runs += 2
-        found = evaluate.differs(trial.program, text, limit)
-        if found:
-            trial.broke(f"random text {number}: {found}", ["run", "--limit", str(limit)], text, (None, b"", b""))
-
-
-PARTS = {"streams": streams, "memory": memory, "threads": threads, "ends": ends, "mutation": mutation, "random": beside_definitions}
+PARTS = {"streams": streams, "memory": memory, "threads": threads, "crowd": crowd, "system": hostile_system.system,
+         "ends": hostile_ends.ends, "mutation": hostile_random.mutation, "random": hostile_random.beside_definitions}
 
 
 def main():
@@ -286,9 +310,10 @@ def main():
     words.add_argument("--quick", action="store_true")
     words.add_argument("--program", default=same_bytes.PROGRAM)
     words.add_argument("--seed", type=int, default=1)
-    arguments = words.parse_args()
-    trial = Trial(arguments.program, arguments.quick, arguments.seed)
-    for name in arguments.parts or PARTS:
+    words.add_argument("--from", dest="first", type=int, default=0)
+    words.add_argument("--count", type=int, default=0)
+    trial = Trial(words.parse_args())
+    for name in words.parse_args().parts or PARTS:
         start, runs, broken = time.monotonic(), trial.runs, trial.broken
         PARTS[name](trial)
         took = time.monotonic() - start

@@ -17,6 +17,7 @@ import tempfile
 import growth
 import same_bytes
 from figures import listed
+from hostile_ends import LATER, threaded
 
 LARGEST = ["--limit", "4194304"]
 
@@ -72,6 +73,22 @@ def circle(n):
     return f"?- X = {listed(range(n))[:-1]}|A], X = {listed(range(n))[:-1]}|[A]]."
 
 
+def handed_on(n):
+    """Lists of 1,000 times n that are built by calls which hand their rest on, and walked by such calls at the same time."""
+    return threaded(4, "t0([a|T],T).", n) + "?- t4(_X,[]), t4(_X,[])."
+
+
+def same_terms(n):
+    """Two lists of 1,000 times n, which are made one once both of them stand."""
+    return threaded(4, "t0([a|T],T).", n) + LATER + "?- t4(_X,[]), t4(_Y,[]), way(Z), same(Z,_X,_Y)."
+
+
+def rules_over(n):
+    """A grammar over a list that stands, word by word."""
+    return (threaded(4, "t0([a|T],T).", n) + "s --> []. s --> w, s. w --> [a]. way(1). way(2). go(1,X) :- s(X,[]). go(2,_).\n"
+            "?- t4(_X,[]), way(Z), go(Z,_X).")
+
+
 def unreadable(n):
     return "a:-b,c.\n" * n + "?- ."
 
@@ -104,6 +121,9 @@ SHAPES = [
     ("path", growth.path(4_000), LARGEST, 143),
     ("a loop before an answer", growth.backwards(0), ["--limit", "20000"], 1322),
     ("states in a list", growth.states(1_000), LARGEST, 239),
+    ("a list handed on, twice", handed_on(2), LARGEST, 9999),
+    ("two lists made one", same_terms(40), LARGEST, 9999),
+    ("rules over a list", rules_over(20), LARGEST, 9999),
     ("a shared expression", growth.shared(14), LARGEST, 34),
     ("sums behind calls", growth.behind(1_000), LARGEST, 142),
 ]
