@@ -1,5 +1,5 @@
 -- What was added last, and the sizes of disjunctions.
-use Rattle.std.proofs.Common.{ℕ, suc, ◌+◌, ◌*◌, length, ◌≡◌, ◌≤◌, Bool, true, false, List, [], ◌∷◌, ◌++◌, map, Option, Some, None, refl, ap, sym, ◌∙◌, arith}
+use Rattle.std.proofs.Common.{ℕ, suc, ◌+◌, ◌*◌, length, ◌≡◌, ◌≤◌, Bool, true, false, List, [], ◌∷◌, ◌++◌, map, Option, Some, None, refl, ap, ◌∙◌, arith}
 use Rattle.std.specs.Prelude.{IsTrue, is_some}
 use Rattle.and_source.specs.Source.{Alternatives, distinct_variables}
 use Rattle.and_syntax.specs.Written.{Written}
@@ -11,7 +11,6 @@ use Rattle.and_program.specs.declared.entry.ClauseEntry.{ClauseEntry}
 use Rattle.and_clauses.specs.Drafts.{draft_of}
 use Rattle.and_clauses.specs.Kept.{IsAsked}
 use Rattle.and_clauses.specs.Views.{is_query}
-use Rattle.and_clauses.specs.declared.judging.Used.{Used}
 use Rattle.and_clauses.specs.Parts.{part_shapes, written_at}
 use Rattle.and_clauses.specs.Sorted.{local_of, locals_size}
 use Rattle.and_clauses.specs.Adds.{term_of, first_of, with_added, with_all}

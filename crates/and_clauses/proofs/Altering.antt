@@ -1,7 +1,7 @@
 -- One of a list is changed in place.
-use Rattle.std.proofs.Common.{ℕ, zero, suc, ◌+◌, ◌*◌, ◌≡◌, ◌<◌, ◌≤◌, List, [], ◌∷◌, ◌++◌, length, get_or, map, set, drop, reverse, Option, Some, None, refl}
-use Rattle.std.proofs.Common.{ap, sym, ◌∙◌, arith, subst}
-use Rattle.std.proofs.lemmas.List.{reverse-append, length-map, get_or-map, map_push, drop_more}
+use Rattle.std.proofs.Common.{ℕ, zero, suc, ◌+◌, ◌*◌, ◌≡◌, ◌<◌, ◌≤◌, List, [], ◌∷◌, ◌++◌, length, get_or, map, set, drop, Option, refl}
+use Rattle.std.proofs.Common.{ap, sym, ◌∙◌, arith}
+use Rattle.std.proofs.lemmas.List.{length-map, get_or-map, map_push, drop_more}
 use Rattle.std.proofs.lemmas.Nat.{mul-le}
 use Rattle.and_model.specs.Lines.{first_seen}
 use Rattle.and_model.specs.Terms.{Path}

@@ -1,9 +1,8 @@
 -- What is still to be done of a body becomes less, and what is there stays there.
-use Rattle.std.proofs.Common.{ℕ, suc, ◌+◌, ◌*◌, ◌≡◌, ◌<◌, ◌≤◌, ◌||◌, Bool, true, false, Some, List, [], ◌∷◌, ◌++◌, length, map, get_or, refl, sym, ap, ◌∙◌}
+use Rattle.std.proofs.Common.{ℕ, ◌+◌, ◌*◌, ◌≡◌, ◌<◌, ◌≤◌, ◌||◌, Bool, true, false, Some, List, [], ◌∷◌, ◌++◌, length, map, get_or, refl, sym, ap, ◌∙◌}
 use Rattle.std.proofs.Common.{arith, subst}
 use Rattle.std.proofs.lemmas.List.{append-nil, length-map}
 use Rattle.and_model.specs.Lines.{Bytes}
-use Rattle.and_syntax.specs.Written
 use Rattle.and_syntax.specs.Written.{Written, nodes_of, nodes_in}
 use Rattle.and_program.specs.Skeletons.{Shape, Falls, node_term}
 use Rattle.and_clauses.specs.Parts.{PartShape, part_shape, part_shapes, many, written_at, arguments_of, PartsFall}
@@ -16,7 +15,7 @@ use Rattle.and_clauses.specs.declared.body.Pending.TheVariants.{Part, Last, End}
 use Rattle.and_clauses.specs.declared.items.Conjunct.{Conjunct}
 use Rattle.and_clauses.specs.declared.items.Conjunct.TheVariants.{Both, Either, Nothing, Item, Refused}
 use Rattle.and_clauses.proofs.Noting.{part_falls, arguments_below}
-use Rattle.and_clauses.proofs.ConjunctLemmas.{Has, conjunct_at_has, conjunct_at_says, first_part, part_of}
+use Rattle.and_clauses.proofs.ConjunctLemmas.{conjunct_at_has, conjunct_at_says, first_part, part_of}
 use Rattle.and_clauses.proofs.BodySteps.{Owed, Says}
 use Rattle.and_clauses.specs.Numbered.{IsRead}
 use Rattle.and_clauses.specs.Marks.{Mark, marks_in}

@@ -1,5 +1,5 @@
 -- How a draft is judged as a clause or as a query.
-use Rattle.std.proofs.Common.{ℕ, suc, ◌+◌, ◌≡◌, ◌<◌, ◌≤◌, Bool, true, false, List, [], ◌∷◌, length, map, get_or, Option, Some, None, IfSome, Result, Ok, Err}
+use Rattle.std.proofs.Common.{ℕ, suc, ◌+◌, ◌≡◌, ◌<◌, ◌≤◌, true, false, List, [], ◌∷◌, length, map, get_or, Option, Some, None, IfSome, Result, Ok, Err}
 use Rattle.std.proofs.Common.{IfOk, IfErr}
 use Rattle.std.proofs.Common.{refl, ap, sym, ◌∙◌, subst, arith}
 use Rattle.std.specs.Prelude.{All}
@@ -8,7 +8,7 @@ use Rattle.and_model.specs.Terms.{Term}
 use Rattle.and_model.specs.OwnVariables.{IsOwn}
 use Rattle.and_source.specs.Source.{variables_of_items}
 use Rattle.and_syntax.specs.Written.{Written, nodes_of, met_after, term_in}
-use Rattle.and_syntax.specs.Clauses.{Parts, is_refused, alternatives_of, disjunctions_of, numbered, head_of, body_of, asked_of, is_named, name_of, arity_of}
+use Rattle.and_syntax.specs.Clauses.{Parts, is_refused, alternatives_of, head_of, body_of, asked_of, is_named, name_of, arity_of}
 use Rattle.and_syntax.specs.Clauses.{is_built_in}
 use Rattle.and_syntax.specs.Tables.{Table, Fault, first_of, sizes, names_with, term_with, clause_fault, query_fault, not_pure, redefines}
 use Rattle.and_syntax.proofs.OwnVariables.{clause_own, query_own}
@@ -21,20 +21,19 @@ use Rattle.and_clauses.specs.Judged.{sides_at, asked_at, functor_at}
 use Rattle.and_clauses.specs.Bodies.{bare, body_parts, IsBody}
 use Rattle.and_clauses.specs.Sorts.{shapes_under, TokensThere}
 use Rattle.and_clauses.specs.Outlined.{size_of}
-use Rattle.and_clauses.specs.Makes.{IsUnder, IsJudged}
+use Rattle.and_clauses.specs.Makes.{IsUnder}
 use Rattle.and_clauses.specs.Verdicts.{IsBodyOf}
 use Rattle.and_clauses.specs.declared.draft.ClauseDraft.{ClauseDraft}
 use Rattle.and_clauses.specs.declared.draft.DraftPart.{DraftPart}
 use Rattle.and_clauses.specs.declared.body.Body.{Body}
 use Rattle.and_clauses.specs.declared.judging.Used.{Used}
-use Rattle.and_clauses.specs.declared.judging.Judged.{Judged}
 use Rattle.and_clauses.specs.declared.judging.Sides.{Sides}
 use Rattle.and_clauses.specs.declared.judging.Functor.{Functor}
 use Rattle.and_clauses.proofs.Telling.{all_fall}
 use Rattle.and_clauses.proofs.Sizes.{written_size}
 use Rattle.and_clauses.proofs.Sizing.{clause_short, query_short}
 use Rattle.and_clauses.proofs.Rooted.{read_parts, size_is, met_is, root_written, root_term}
-use Rattle.and_clauses.proofs.Halving.{Halves, halves, asked_parts, IsCalled, called, Stand, stand, asked_stand}
+use Rattle.and_clauses.proofs.Halving.{halves, asked_parts, IsCalled, called, Stand, stand, asked_stand}
 use Rattle.and_clauses.proofs.Verdicts as verdicts
 
 -- ---- A result, case by case.

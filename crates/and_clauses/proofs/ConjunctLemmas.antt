@@ -1,34 +1,28 @@
 -- One step of a way through the conjuncts of a body.
-use Rattle.std.proofs.Common.{ℕ, zero, suc, pos, ◌+◌, ◌≡◌, ◌<◌, ◌≤◌, Bool, true, false, cond, ◌||◌, nat_eq, List, [], ◌∷◌, ◌++◌, length, map, get_or, reverse}
+use Rattle.std.proofs.Common.{ℕ, zero, suc, pos, ◌+◌, ◌≡◌, ◌<◌, Bool, true, false, cond, nat_eq, List, [], ◌∷◌, length, map, get_or}
 use Rattle.std.proofs.Common.{refl, sym, ap, ◌∙◌, arith, subst, Option, Some, None}
-use Rattle.std.specs.List.{list_any}
-use Rattle.std.proofs.Math.Bool.{or_assoc}
-use Rattle.std.proofs.lemmas.List.{append_assoc, append-nil, length-append, length-map, get_or-map, reverse-append, map_push, get_or_default}
+use Rattle.std.proofs.lemmas.List.{length-map, get_or-map, get_or_default}
 use Rattle.and_model.specs.Lines.{Bytes}
 use Rattle.and_model.specs.Terms
 use Rattle.and_model.specs.Terms.{Term, Terms}
 use Rattle.and_model.specs.Arithmetic as arithmetic
 use Rattle.and_model.specs.Programs as programs
-use Rattle.and_syntax.specs.Written.{Written, nodes_of, nodes_in, place}
+use Rattle.and_syntax.specs.Written.{place}
 use Rattle.and_syntax.specs.Clauses
 use Rattle.and_syntax.specs.Clauses.{Parts as Body, no_parts, impure, Choices, choice, Reading, joined, alone, disjoined, reading_of, parts_of, compare_or}
-use Rattle.and_program.specs.Skeletons
-use Rattle.and_program.specs.Skeletons.{Shape, term_list, node_term, item_of, IsThere, AllThere, NodeItem, after, Falls}
-use Rattle.and_program.specs.Items.{node_item, pairs}
+use Rattle.and_program.specs.Skeletons.{Shape, term_list, node_term, item_of, IsThere, Falls}
+use Rattle.and_program.specs.Items.{node_item}
 use Rattle.and_clauses.specs.Conjuncts.{call_of, compared_or, conjunct_of, other_conjunct, shape_conjunct, conjunct_at}
 use Rattle.and_clauses.specs.Numbered.{IsRead}
 use Rattle.and_clauses.specs.Parts
 use Rattle.and_clauses.specs.Parts.{PartShape, part_shape, part_shapes, many, written_at, nth_written, shape_written, written_behind, arguments_of, PartsFall}
 use Rattle.and_clauses.specs.declared.draft.DraftPart as code
 use Rattle.and_clauses.specs.declared.draft.DraftPart.TheVariants as variants
-use Rattle.and_program.specs.declared.item.ItemNode.{ItemNode}
-use Rattle.and_program.specs.declared.item.ItemNode.TheVariants as nodes
 use Rattle.and_clauses.specs.declared.items.Conjunct.{Conjunct}
 use Rattle.and_clauses.specs.declared.items.Conjunct.TheVariants.{Both, Either, Nothing, Item, Refused}
 use Rattle.and_model.specs.declared.relation.Relation.{Relation}
 use Rattle.and_model.specs.declared.relation.Relation.TheVariants.{Less, Greater, AtMost, AtLeast, Same, Differs}
-use Rattle.and_clauses.proofs.Drafting.{Falls-more}
-use Rattle.and_clauses.proofs.Noting.{PartsFall-at, part_falls, Falls-append, Falls-front, arguments_below}
+use Rattle.and_clauses.proofs.Noting.{PartsFall-at, part_falls}
 use Rattle.and_clauses.proofs.Shifting.{read_term, part_read, length_read}
 
 Falls-at : (m : ℕ) (ns : List ℕ) (k d : ℕ) → Falls m ns → k < length ns → get_or ns k d < m

@@ -1,15 +1,14 @@
 -- A term is copied part by part.
 use Rattle.std.proofs.Common.{ℕ, zero, suc, ◌+◌, ◌*◌, ◌-◌, ◌≡◌, ◌<◌, ◌≤◌, List, [], ◌∷◌, ◌++◌, length, get_or, map, take, drop}
 use Rattle.std.proofs.Common.{refl, ap, sym, ◌∙◌, arith, subst}
-use Rattle.std.proofs.lemmas.List.{append_assoc, append-nil, length-append, length-map, map-append, map_push, take-append-drop}
-use Rattle.std.proofs.Math.Seq.{take-append_seam, drop-append_seam, take-length}
+use Rattle.std.proofs.lemmas.List.{append_assoc, append-nil, length-append, length-map}
+use Rattle.std.proofs.Math.Seq.{take-append_seam, drop-append_seam}
 use Rattle.and_model.specs.Terms
 use Rattle.and_model.specs.Terms.{Path, Term, Terms, variables_of, variables_in, apply, apply_all}
 use Rattle.and_source.specs.Lifted.{Numbering, renumbered}
-use Rattle.and_program.specs.Skeletons
-use Rattle.and_program.specs.Skeletons.{Shape, node_term, nth, shape_term, terms_behind, term_list, Falls, IsFalling, AllFall}
+use Rattle.and_program.specs.Skeletons.{Shape, node_term, shape_term, terms_behind, term_list, Falls, IsFalling, AllFall}
 use Rattle.and_program.specs.Kept.{IsWithin, AllWithin}
-use Rattle.and_program.proofs.NodeTerms.{node_term_front, node_term_at, terms_behind-append, length-terms_behind}
+use Rattle.and_program.proofs.NodeTerms.{node_term_front, node_term_at}
 use Rattle.and_clauses.proofs.SortingSteps.{get-last}
 use Rattle.and_clauses.specs.Outlined.{size_of, size_in}
 use Rattle.and_clauses.specs.Copied.{Task, term, name, finish, Fits, tasks_size, tasks_work, tasks_variables, AreTasks, Grown}

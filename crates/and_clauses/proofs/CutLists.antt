@@ -1,5 +1,5 @@
 -- Lists that are cut, as what they stand for.
-use Rattle.std.proofs.Common.{ℕ, ◌≡◌, List, map, take, Vec, ap, sym, ◌∙◌}
+use Rattle.std.proofs.Common.{ℕ, ◌≡◌, List, take, Vec, ap, sym, ◌∙◌}
 use Rattle.std.proofs.lemmas.List.{take-map}
 use Rattle.std.specs.declared.alloc.Global.{Global}
 use Rattle.and_program.specs.Nodes.{shapes_of, shape_of, names_of}

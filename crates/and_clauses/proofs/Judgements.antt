@@ -1,15 +1,13 @@
 -- How a draft is judged: its sizes, and its body.
-use Rattle.std.proofs.Common.{ℕ, suc, ◌+◌, ◌-◌, ◌≡◌, ◌<◌, ◌≤◌, Bool, true, false, cond, leb, List, [], ◌∷◌, length, Option, Some, None, IfSome, refl, ap, sym}
+use Rattle.std.proofs.Common.{ℕ, suc, ◌+◌, ◌-◌, ◌≡◌, ◌<◌, ◌≤◌, Bool, true, false, cond, leb, List, [], ◌∷◌, length, Option, Some, None, refl, ap, sym}
 use Rattle.std.proofs.Common.{◌∙◌, subst}
 use Rattle.std.proofs.Common.{arith}
-use Rattle.std.specs.Prelude.{All}
 use Rattle.std.proofs.lemmas.Bool.Decides.{nat_tests}
 use Rattle.and_model.specs.Lines.{Bytes}
-use Rattle.and_model.specs.OwnVariables.{IsOwn}
-use Rattle.and_source.specs.Source.{variables_of_items, disjunctions_in_items}
+use Rattle.and_source.specs.Source.{disjunctions_in_items}
 use Rattle.and_syntax.specs.Written.{Written, nodes_of, met_after}
-use Rattle.and_syntax.specs.Clauses.{Parts, is_refused, alternatives_of, disjunctions_of, numbered}
-use Rattle.and_syntax.specs.Tables.{Table, Fault, first_of, sizes, names_with, term_with, nodes_with, items_with, lifted_nodes, too_big, variables, nodes}
+use Rattle.and_syntax.specs.Clauses.{Parts, numbered}
+use Rattle.and_syntax.specs.Tables.{Table, first_of, sizes, names_with, nodes_with, items_with, lifted_nodes, too_big, variables, nodes}
 use Rattle.and_syntax.specs.Tables.{clauses}
 use Rattle.and_program.specs.Skeletons.{Shape}
 use Rattle.and_clauses.specs.Drafts.{draft_of}
@@ -17,8 +15,7 @@ use Rattle.and_clauses.specs.Parts.{part_shapes}
 use Rattle.and_clauses.specs.Numbered.{met_by}
 use Rattle.and_clauses.specs.Marks.{marks_in}
 use Rattle.and_clauses.specs.Bodies.{bare, marks_at, IsBody}
-use Rattle.and_clauses.specs.Sorted as sorted
-use Rattle.and_clauses.specs.Sorted.{Local, locals_of, locals_size}
+use Rattle.and_clauses.specs.Sorted.{locals_of, locals_size}
 use Rattle.and_clauses.specs.Sorts.{shapes_under, locals_in, outlines_in, AreFew, AreNarrow, IsSorted, TokensThere, AreOutlinesThere}
 use Rattle.and_clauses.specs.Makes.{IsUnder, IsJudged}
 use Rattle.and_clauses.specs.Verdicts.{IsBodyOf}

@@ -1,7 +1,7 @@
 -- Tables grow, and are sealed.
-use Rattle.std.proofs.Common.{ℕ, zero, suc, ◌+◌, ◌≡◌, ◌<◌, ◌≤◌, Bool, true, false, List, [], ◌∷◌, ◌++◌, length, map, take, get_or, Option, Some, None, refl}
+use Rattle.std.proofs.Common.{ℕ, ◌+◌, ◌≡◌, ◌≤◌, true, List, [], ◌∷◌, ◌++◌, length, map, Option, Some, None, refl}
 use Rattle.std.proofs.Common.{ap, sym, ◌∙◌, arith, subst}
-use Rattle.std.proofs.lemmas.List.{append_assoc, append-nil, length-append, map-append, map_push, take-append-drop}
+use Rattle.std.proofs.lemmas.List.{append_assoc, append-nil, length-append, map-append}
 use Rattle.and_model.specs.Lines.{Bytes}
 use Rattle.and_model.specs.Terms.{Term}
 use Rattle.and_model.specs.Programs as programs
@@ -20,7 +20,7 @@ use Rattle.and_program.proofs.NodeTerms.{node_term_front}
 use Rattle.and_model.specs.OwnVariables.{HasOwnVariables}
 use Rattle.and_clauses.specs.declared.data.Called.{Called}
 use Rattle.and_clauses.specs.declared.judging.Used.{Used}
-use Rattle.and_clauses.specs.Same.{same_clause, same_clauses}
+use Rattle.and_clauses.specs.Same.{same_clause}
 use Rattle.and_clauses.specs.Kept.{asked_clauses, lifted_of, call_at, calls_of, asked_calls, called_of, IsAsked, IsKept}
 use Rattle.and_clauses.proofs.Sameness.{clause-is, clause-same, clauses-are, clauses-same}
 

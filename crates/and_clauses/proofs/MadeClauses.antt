@@ -22,7 +22,7 @@ use Rattle.and_clauses.specs.Parts.{part_shapes, PartsFall, AllNarrow}
 use Rattle.and_clauses.specs.Numbered.{met_by}
 use Rattle.and_clauses.specs.Sorted as sorted
 use Rattle.and_clauses.specs.Sorted.{local_of, locals_of, locals_size, pieces_of, outlines_of}
-use Rattle.and_clauses.specs.Sorts.{shapes_under, own, local_in, locals_in, outlines_in, AreNarrow, AreOutlinesThere}
+use Rattle.and_clauses.specs.Sorts.{shapes_under, local_in, locals_in, outlines_in, AreNarrow, AreOutlinesThere}
 use Rattle.and_clauses.specs.Outlined.{Named, named_of, named_in, size_of, outlines_size}
 use Rattle.and_clauses.specs.Copies.{named_by}
 use Rattle.and_clauses.specs.Lifts.{places_from, places_in, AllNamed, names_under, nodes_under, named_under, IsLifting, HaveRoom, head_term, head_size}

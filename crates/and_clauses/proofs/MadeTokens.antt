@@ -1,5 +1,5 @@
 -- The tokens that are made of parts name parts that are there.
-use Rattle.std.proofs.Common.{ℕ, ◌+◌, ◌≡◌, ◌<◌, Bool, true, false, List, [], ◌∷◌, ◌++◌, length, map, refl, ap, sym, ◌∙◌, arith, subst}
+use Rattle.std.proofs.Common.{ℕ, ◌+◌, ◌≡◌, ◌<◌, Bool, true, List, [], ◌∷◌, ◌++◌, length, map, refl, sym, ◌∙◌, subst}
 use Rattle.std.proofs.lemmas.List.{length-map}
 use Rattle.and_model.specs.Lines.{Bytes}
 use Rattle.and_program.specs.Skeletons.{Shape, IsThere, node_term}
@@ -10,7 +10,7 @@ use Rattle.and_clauses.specs.Parts.{PartShape, part_shape, part_shapes, PartsFal
 use Rattle.and_clauses.specs.Numbered.{IsRead, behind, shapes_in}
 use Rattle.and_clauses.specs.Conjuncts.{conjunct_at}
 use Rattle.and_clauses.specs.Bodies.{Made, with_token, with_open, with_next, TakesPart, TakesLast, Takes, IsPart}
-use Rattle.and_clauses.specs.Sorts.{ItemThere, TokenThere, TokensThere}
+use Rattle.and_clauses.specs.Sorts.{ItemThere, TokensThere}
 use Rattle.and_clauses.specs.declared.draft.DraftPart.{DraftPart}
 use Rattle.and_clauses.specs.declared.body.BodyToken.{BodyToken}
 use Rattle.and_clauses.specs.declared.body.BodyToken.TheVariants as tokens

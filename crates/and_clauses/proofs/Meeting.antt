@@ -1,34 +1,61 @@
 -- Variables of a draft and their numbers.
-use Rattle.std.proofs.Common.{ℕ, zero, suc, ◌+◌, ◌≡◌, ◌<◌, ◌≤◌, Bool, true, false, not, cond, ◌||◌, List, [], ◌∷◌, ◌++◌, length, map, take, drop, get_or}
-use Rattle.std.proofs.Common.{Option, Some, None, refl, sym, ap, ◌∙◌, arith, subst, codes, Vec, Result, Ok, Err, OnOk, OnErr, true≢false}
+use Rattle.std.proofs.Common.{ℕ, zero, suc, ◌+◌, ◌≡◌, ◌<◌, ◌≤◌, Bool, true, false, not, cond, ◌||◌, List, [], ◌∷◌, ◌++◌, length, take, drop, get_or}
+use Rattle.std.proofs.Common.{Option, Some, None, refl, sym, ap, ◌∙◌, arith, subst, codes, Vec, Result, Ok, Err, OnOk, OnErr}
 use Rattle.std.specs.Str.{bytes_eq}
 use Rattle.std.specs.declared.alloc.Global.{Global}
 use Rattle.std.proofs.lemmas.Slice.Eq.{bytes_eq-Decides}
-use Rattle.std.proofs.lemmas.List.{map_push, length-map, length-append, append-nil, get_or-map}
+use Rattle.std.proofs.lemmas.List.{map_push, length-map, length-append, append-nil, get_or-map, take-append-drop, take-append-le, drop-append-le}
 use Rattle.std.proofs.Math.Seq.{take-append_seam}
 use Rattle.std.specs.Map.{lookup}
 use Rattle.indexmap.specs.IndexMap.{insert_entry}
 use Rattle.and_model.specs.Lines.{Bytes}
 use Rattle.and_syntax.specs.Written.{has, place, is_new, variable_number}
 use Rattle.and_clauses.specs.declared.draft.DraftPart.{DraftPart}
-use Rattle.and_clauses.specs.declared.draft.DraftPart.TheVariants.{Variable, Integer, Compound}
+use Rattle.and_clauses.specs.declared.draft.DraftPart.TheVariants.{Variable}
 use Rattle.and_clauses.specs.declared.variables.Variables.{Variables}
 use Rattle.and_clauses.specs.Numbered.{met_with, met_by}
 use Rattle.and_clauses.specs.Parts.{PartShape, variable, integer, compound, part_shape, part_shapes, IsNarrow, AllNarrow}
 use Rattle.and_clauses.specs.Drafts
 use Rattle.and_clauses.specs.Drafts.{read_shape}
-use Rattle.and_clauses.specs.Variables.{entries_of, bytes_in, HasMet, IsNumbered, AllNumbered}
+use Rattle.and_clauses.specs.Variables.{entries_of, bytes_in, number_among, HasMet, IsNumbered, AllNumbered}
+use Rattle.and_clauses.specs.declared.variables.TheConstants.{FIRST}
 use Rattle.and_clauses.proofs.Naming.{by_items, same_items}
 use Rattle.and_clauses.proofs.Reading.{met_by-append}
 
--- the number of a name among entries
 abbrev look : Bytes → List (Bytes × ℕ) → Option ℕ
-look x [] = None
-look x (e ∷ es) = cond (bytes_eq x e.0) (Some e.1) (look x es)
+look = number_among
 
 look_items : (x : Bytes) (es : List (Vec ℕ Global × ℕ)) → lookup (by_items x) es ≡ look x (bytes_in es)
 look_items x [] = refl
 look_items x (e ∷ es) = ap (λ (o : Option ℕ). cond (bytes_eq x e.0.items) (Some e.1) o) (look_items x es)
+
+-- what is found among two lists
+look_both : (x : Bytes) (ds es : List (Bytes × ℕ)) → look x ds ≡ None → look x (ds ++ es) ≡ look x es
+look_both x [] es none = refl
+look_both x (d ∷ ds) es none = by (λ h. look_both x ds es h) (bytes_eq x d.0) none
+  where
+    by : (look x ds ≡ None → look x (ds ++ es) ≡ look x es) → (b : Bool) → cond b (Some d.1) (look x ds) ≡ None
+        → cond b (Some d.1) (look x (ds ++ es)) ≡ look x es
+    by more true h = absurd (cc)
+    by more false h = more h
+
+look_first : (x : Bytes) (ds es : List (Bytes × ℕ)) (n : ℕ) → look x ds ≡ Some n → look x (ds ++ es) ≡ Some n
+look_first x [] es n some = absurd (cc)
+look_first x (d ∷ ds) es n some = by (λ h. look_first x ds es n h) (bytes_eq x d.0) some
+  where
+    by : (look x ds ≡ Some n → look x (ds ++ es) ≡ Some n) → (b : Bool) → cond b (Some d.1) (look x ds) ≡ Some n
+        → cond b (Some d.1) (look x (ds ++ es)) ≡ Some n
+    by more true h = h
+    by more false h = more h
+
+-- a list that has nothing has nothing in its front, and nothing behind it
+look_front : (x : Bytes) (ds es : List (Bytes × ℕ)) → look x (ds ++ es) ≡ None → look x ds ≡ None
+look_front x [] es none = refl
+look_front x (d ∷ ds) es none = by (λ h. look_front x ds es h) (bytes_eq x d.0) none
+  where
+    by : (look x (ds ++ es) ≡ None → look x ds ≡ None) → (b : Bool) → cond b (Some d.1) (look x (ds ++ es)) ≡ None → cond b (Some d.1) (look x ds) ≡ None
+    by more true h = h
+    by more false h = more h
 
 abbrev bare : Bytes
 bare = codes "_"
@@ -89,11 +116,66 @@ look_entries x n (y ∷ met) = by (look_entries x (suc n) met) (bytes_eq y bare)
     by there true e = there ∙ looked_bare x y met n e
     by there false e = tested there e (bytes_eq x y) refl
 
-pub found_is : (v : Variables) (x : Bytes) (r : Option ℕ) (met : List Bytes) → HasMet v met → r ≡ lookup (by_items x) v.named.entries
-    → r ≡ cond (is_new x met) None (Some (place x met))
-found_is v x r met h found =
-    let z : 0 + place x met ≡ place x met = omega arith in
-    found ∙ look_items x v.named.entries ∙ ap (look x) h.1 ∙ look_entries x 0 met ∙ ap (λ (m : ℕ). cond (is_new x met) None (Some m)) z
+take-all : {X : Type 0} (n : ℕ) (xs : List X) → length xs ≤ n → take n xs ≡ xs
+take-all zero [] le = refl
+take-all zero (x ∷ xs) le = absurd (omega arith)
+take-all (suc n) [] le = refl
+take-all (suc n) (x ∷ xs) le = ap (λ ys. x ∷ ys) (take-all n xs (omega arith))
+
+drop-none : {X : Type 0} (n : ℕ) (xs : List X) → length xs ≤ n → drop n xs ≡ []
+drop-none zero [] le = refl
+drop-none zero (x ∷ xs) le = absurd (omega arith)
+drop-none (suc n) [] le = refl
+drop-none (suc n) (x ∷ xs) le = drop-none n xs (omega arith)
+
+-- a front that is shorter than it may be is all
+short_take : {X : Type 0} (n : ℕ) (xs : List X) → length (take n xs) < n → length xs ≤ n
+short_take zero xs lt = absurd (omega arith)
+short_take (suc n) [] lt = omega arith
+short_take (suc n) (x ∷ xs) lt = let h : length xs ≤ n = short_take n xs (omega arith) in omega arith
+
+full_take : {X : Type 0} (n : ℕ) (xs : List X) → n ≤ length (take n xs) → n ≤ length xs
+full_take zero xs le = omega arith
+full_take (suc n) [] le = absurd (omega arith)
+full_take (suc n) (x ∷ xs) le = let h : n ≤ length xs = full_take n xs (omega arith) in omega arith
+
+module _ (v : Variables) (met : List Bytes) (h : HasMet v met) where
+  -- all that have a name, those of the one list before those of the map
+  entries_both : v.first.items ++ bytes_in v.named.entries ≡ entries_of 0 met
+  entries_both =
+      ap (λ (es : List (Bytes × ℕ)). es ++ bytes_in v.named.entries) h.1 ∙ ap (λ (es : List (Bytes × ℕ)). take FIRST (entries_of 0 met) ++ es) h.2
+      ∙ take-append-drop FIRST (entries_of 0 met)
+
+  -- where the list is short they are all in it
+  few_entries : length v.first.items < FIRST → v.first.items ≡ entries_of 0 met
+  few_entries few =
+      h.1 ∙ take-all FIRST (entries_of 0 met)
+      (let long : length (take FIRST (entries_of 0 met)) < FIRST = omega (arith, few, ap length h.1) in short_take FIRST (entries_of 0 met) long)
+
+  found_whole : (x : Bytes) (o : Option ℕ) → o ≡ look x (v.first.items ++ bytes_in v.named.entries) → o ≡ cond (is_new x met) None (Some (place x met))
+  found_whole x o found =
+      let z : 0 + place x met ≡ place x met = omega arith in
+      found ∙ ap (look x) entries_both ∙ look_entries x 0 met ∙ ap (λ (m : ℕ). cond (is_new x met) None (Some m)) z
+
+  pub found_first : (x : Bytes) (n : ℕ) → number_among x v.first.items ≡ Some n → Some n ≡ cond (is_new x met) None (Some (place x met))
+  found_first x n found = sym (look_first x v.first.items (bytes_in v.named.entries) n found)
+      ∙ found_whole x (look x (v.first.items ++ bytes_in v.named.entries)) refl
+
+  pub found_nowhere : (x : Bytes) → length v.first.items < FIRST → number_among x v.first.items ≡ None
+      → None ≡ cond (is_new x met) None (Some (place x met))
+  found_nowhere x few none =
+      let z : 0 + place x met ≡ place x met = omega arith in
+      sym none ∙ ap (look x) (few_entries few) ∙ look_entries x 0 met ∙ ap (λ (m : ℕ). cond (is_new x met) None (Some m)) z
+
+  pub found_is : (x : Bytes) (r : Option ℕ) → number_among x v.first.items ≡ None → r ≡ lookup (by_items x) v.named.entries
+      → r ≡ cond (is_new x met) None (Some (place x met))
+  found_is x r none found =
+      found ∙ look_items x v.named.entries ∙ sym (look_both x v.first.items (bytes_in v.named.entries) none)
+      ∙ found_whole x (look x (v.first.items ++ bytes_in v.named.entries)) refl
+
+  -- a new variable is in neither
+  new_nowhere : (x : Bytes) → is_new x met ≡ true → look x (v.first.items ++ bytes_in v.named.entries) ≡ None
+  new_nowhere x new = ap (look x) entries_both ∙ look_entries x 0 met ∙ ap (λ (b : Bool). cond b None (Some (0 + place x met))) new
 
 pub found_some : (b : Bool) (n p : ℕ) → Some n ≡ cond b None (Some p) → (b ≡ false) × (n ≡ p)
 found_some true n p e = absurd (cc)
@@ -129,27 +211,56 @@ entries_more n (y ∷ met) x =
 
 -- a variable without a name is met
 pub bare_met : (v w : Variables) (x : Bytes) (met : List Bytes) → HasMet v met → bytes_eq x bare ≡ true → w.count ≡ v.count + 1
-    → w.named.entries ≡ v.named.entries → HasMet w (met ++ x ∷ [])
-bare_met v w x met h e counted same = (
-  counted ∙ omega (arith, h.0, length-append met (x ∷ [])),
-  ap bytes_in same ∙ h.1 ∙ sym (entries_more 0 met x ∙ ap (λ (b : Bool). entries_of 0 met ++ cond b [] ((x, 0 + length met) ∷ [])) e
-      ∙ append-nil (entries_of 0 met)),
-)
-
--- a variable with a name is met
-pub named_met : (v w : Variables) (x : Bytes) (k : Vec ℕ Global) (met : List Bytes) → HasMet v met → is_new x met ≡ true → bytes_eq x bare ≡ false → k.items ≡ x
-    → w.count ≡ v.count + 1 → w.named.entries ≡ insert_entry same_items v.named.entries k v.count → HasMet w (met ++ x ∷ [])
-named_met v w x k met h new e is counted made =
-    let none : look k.items (bytes_in v.named.entries) ≡ None =
-    ap (λ (y : Bytes). look y (bytes_in v.named.entries)) is ∙ ap (look x) h.1 ∙ look_entries x 0 met
-    ∙ ap (λ (b : Bool). cond b None (Some (0 + place x met))) new in
-    let z : v.count ≡ 0 + length met = omega (arith, h.0) in (
+    → w.first.items ≡ v.first.items → w.named.entries ≡ v.named.entries → HasMet w (met ++ x ∷ [])
+bare_met v w x met h e counted first same =
+    let all : entries_of 0 met ≡ entries_of 0 (met ++ x ∷ []) =
+    sym (entries_more 0 met x ∙ ap (λ (b : Bool). entries_of 0 met ++ cond b [] ((x, 0 + length met) ∷ [])) e ∙ append-nil (entries_of 0 met)) in (
       counted ∙ omega (arith, h.0, length-append met (x ∷ [])),
-      ap bytes_in (made ∙ inserted k v.count v.named.entries none) ∙ map_push (λ (f : Vec ℕ Global × ℕ). (f.0.items, f.1)) v.named.entries (k, v.count)
-          ∙ ap (λ (es : List (Bytes × ℕ)). es ++ (k.items, v.count) ∷ []) h.1 ∙ ap (λ (y : Bytes). entries_of 0 met ++ (y, v.count) ∷ []) is
-          ∙ ap (λ (m : ℕ). entries_of 0 met ++ (x, m) ∷ []) z
-          ∙ sym (entries_more 0 met x ∙ ap (λ (b : Bool). entries_of 0 met ++ cond b [] ((x, 0 + length met) ∷ [])) e),
+      first ∙ h.1 ∙ ap (take FIRST) all,
+      ap bytes_in same ∙ h.2 ∙ ap (drop FIRST) all,
     )
+
+module _ (v w : Variables) (x : Bytes) (met : List Bytes) (h : HasMet v met) (new : is_new x met ≡ true) (e : bytes_eq x bare ≡ false)
+    (counted : w.count ≡ v.count + 1) where
+  more_entries : entries_of 0 met ++ (x, v.count) ∷ [] ≡ entries_of 0 (met ++ x ∷ [])
+  more_entries =
+      let z : v.count ≡ 0 + length met = omega (arith, h.0) in
+      ap (λ (m : ℕ). entries_of 0 met ++ (x, m) ∷ []) z
+      ∙ sym (entries_more 0 met x ∙ ap (λ (b : Bool). entries_of 0 met ++ cond b [] ((x, 0 + length met) ∷ [])) e)
+
+  -- a variable with a name is met, one of the first
+  pub first_named : (text : Bytes) → text ≡ x → length v.first.items < FIRST → w.first.items ≡ v.first.items ++ (text, v.count) ∷ []
+      → w.named.entries ≡ v.named.entries → HasMet w (met ++ x ∷ [])
+  first_named text is few made same =
+      let all : v.first.items ++ (text, v.count) ∷ [] ≡ entries_of 0 (met ++ x ∷ []) =
+      ap (λ (y : Bytes). v.first.items ++ (y, v.count) ∷ []) is
+      ∙ ap (λ (es : List (Bytes × ℕ)). es ++ (x, v.count) ∷ []) (few_entries v met h few) ∙ more_entries in
+      let short : length (entries_of 0 (met ++ x ∷ [])) ≤ FIRST =
+      omega (arith, few, sym (ap length all), length-append v.first.items ((text, v.count) ∷ [])) in
+      let none : drop FIRST (entries_of 0 met) ≡ [] =
+      drop-none FIRST (entries_of 0 met) (omega (arith, few, ap length (few_entries v met h few))) in (
+        counted ∙ omega (arith, h.0, length-append met (x ∷ [])),
+        made ∙ all ∙ sym (take-all FIRST (entries_of 0 (met ++ x ∷ [])) short),
+        ap bytes_in same ∙ h.2 ∙ none ∙ sym (drop-none FIRST (entries_of 0 (met ++ x ∷ [])) short),
+      )
+
+  -- one behind the first
+  pub named_met : (k : Vec ℕ Global) → FIRST ≤ length v.first.items → k.items ≡ x → w.first.items ≡ v.first.items
+      → w.named.entries ≡ insert_entry same_items v.named.entries k v.count → HasMet w (met ++ x ∷ [])
+  named_met k full is first made =
+      let es : List (Bytes × ℕ) = entries_of 0 met in
+      let many : FIRST ≤ length es = full_take FIRST es (omega (arith, full, ap length h.1)) in
+      let none : look k.items (bytes_in v.named.entries) ≡ None =
+      ap (λ (y : Bytes). look y (bytes_in v.named.entries)) is
+      ∙ sym (look_both x v.first.items (bytes_in v.named.entries)
+      (look_front x v.first.items (bytes_in v.named.entries) (new_nowhere v met h x new)))
+      ∙ new_nowhere v met h x new in (
+        counted ∙ omega (arith, h.0, length-append met (x ∷ [])),
+        first ∙ h.1 ∙ sym (take-append-le FIRST es ((x, v.count) ∷ []) many) ∙ ap (take FIRST) more_entries,
+        ap bytes_in (made ∙ inserted k v.count v.named.entries none) ∙ map_push (λ (f : Vec ℕ Global × ℕ). (f.0.items, f.1)) v.named.entries (k, v.count)
+            ∙ ap (λ (fs : List (Bytes × ℕ)). fs ++ (k.items, v.count) ∷ []) h.2 ∙ ap (λ (y : Bytes). drop FIRST es ++ (y, v.count) ∷ []) is
+            ∙ sym (drop-append-le FIRST es ((x, v.count) ∷ []) many) ∙ ap (drop FIRST) more_entries,
+      )
 
 pub named_kept : (v : Variables) (x : Bytes) (k : Vec ℕ Global) (n : ℕ) (met : List Bytes) (fs : List (Vec ℕ Global × ℕ)) → HasMet v met
     → is_new x met ≡ true → k.items ≡ x
@@ -157,12 +268,22 @@ pub named_kept : (v : Variables) (x : Bytes) (k : Vec ℕ Global) (n : ℕ) (met
 named_kept v x k n met fs h new is made =
     let es : List (Vec ℕ Global × ℕ) = v.named.entries in
     let none : look k.items (bytes_in es) ≡ None =
-    ap (λ (y : Bytes). look y (bytes_in es)) is ∙ ap (look x) h.1 ∙ look_entries x 0 met ∙ ap (λ (b : Bool). cond b None (Some (0 + place x met))) new in
+    ap (λ (y : Bytes). look y (bytes_in es)) is
+    ∙ sym (look_both x v.first.items (bytes_in es) (look_front x v.first.items (bytes_in es) (new_nowhere v met h x new))) ∙ new_nowhere v met h x new in
     ap (take (length es)) (made ∙ inserted k n es none) ∙ take-append_seam es ((k, n) ∷ [])
 
+-- what is put behind the first leaves these
+pub first_kept : (old new : List (Bytes × ℕ)) (e : Bytes × ℕ) → new ≡ old ++ e ∷ [] → take (length old) new ≡ old
+first_kept old new e made = ap (take (length old)) made ∙ take-append_seam old (e ∷ [])
+
 -- variables that were cut off again
-pub cut_met : (v w : Variables) (met : List Bytes) → HasMet v met → w.count ≡ v.count → w.named.entries ≡ v.named.entries → HasMet w met
-cut_met v w met h e f = (e ∙ h.0, ap bytes_in f ∙ h.1)
+pub cut_met : (v w : Variables) (met : List Bytes) → HasMet v met → w.count ≡ v.count → w.first.items ≡ v.first.items
+    → w.named.entries ≡ v.named.entries → HasMet w met
+cut_met v w met h e d f = (e ∙ h.0, d ∙ h.1, ap bytes_in f ∙ h.2)
+
+-- no variables
+pub none_met : (v : Variables) → v.count ≡ 0 → v.first.items ≡ [] → v.named.entries ≡ [] → HasMet v []
+none_met v e d f = (e, d, ap bytes_in f)
 
 pub length-met_by : (met : List Bytes) (ps : List PartShape) → length (met_by met ps) ≤ length met + length ps
 length-met_by met [] = omega arith

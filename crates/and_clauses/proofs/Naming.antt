@@ -1,5 +1,9 @@
 -- Names in a set, and the bytes that they are.
-use Rattle.std.proofs.Common.{ℕ, suc, ◌+◌, ◌≡◌, ◌<◌, ◌≤◌, Bool, true, false, not, cond, ◌||◌, ltb, leb, List, [], ◌∷◌, ◌++◌, length, get_or, drop, Option}
+use Rattle.std.proofs.Common.{ℕ, zero, suc, ◌+◌, ◌≡◌, ◌<◌, ◌≤◌, Bool, true, false, not, cond, ◌||◌, ltb, leb, List, [], ◌∷◌, ◌++◌, length, get_or, drop, Option}
+use Rattle.std.proofs.Common.{true≢false}
+use Rattle.std.specs.List.{AllByRecursion, IsDistinct, slice_get}
+use Rattle.std.proofs.lemmas.Map.Keys.{IsDistinct-head, IsDistinct-tail}
+use Rattle.std.proofs.lemmas.Slice.Eq.{bytes_eq-Decides}
 use Rattle.std.proofs.Common.{Some, None, unwrap_or, refl, sym, ap, ◌∙◌, arith, subst, Vec}
 use Rattle.std.specs.Borrow.{Bor}
 use Rattle.std.specs.Str.{bytes_eq}
@@ -111,3 +115,33 @@ variable_number-le x met =
     let P : Bool → Type 0 = λ b. cond b (length met) (place x met) ≤ length met in
     let h : place x met ≤ length met = place-le x met in
     elim (is_new x met) as P [ true ↦ omega arith | false ↦ h ]
+
+-- A guess: a name that stands at a place among names none of which is there twice.
+
+turned : (x y : Bytes) → bytes_eq x y ≡ true → bytes_eq y x ≡ true
+turned x y e = (bytes_eq-Decides y x).1 (sym ((bytes_eq-Decides x y).0 e))
+
+apart_at : (j k : Vec ℕ Global) (ks : List (Vec ℕ Global)) (n : ℕ) → AllByRecursion (λ v. same_items j v ≡ false) ks → slice_get ks n ≡ Some k
+    → same_items j k ≡ false
+apart_at j k [] n a at = absurd cc
+apart_at j k (v ∷ ks) zero a at = let is : v ≡ k = cc in subst (λ (u : Vec ℕ Global). same_items j u ≡ false) is a.0
+apart_at j k (v ∷ ks) (suc n) a at = apart_at j k ks n a.1 at
+
+pub place_there : (x : Bytes) (k : Vec ℕ Global) (ks : List (Vec ℕ Global)) (n : ℕ) → IsDistinct same_items ks → slice_get ks n ≡ Some k
+    → bytes_eq x k.items ≡ true → place x (names_of ks) ≡ n
+place_there x k [] n d at e = absurd cc
+place_there x k (j ∷ ks) zero d at e =
+    let is : j ≡ k = cc in
+    let same : bytes_eq x j.items ≡ true = ap (λ (v : Vec ℕ Global). bytes_eq x v.items) is ∙ e in
+    ap (λ (b : Bool). cond (not b) (1 + place x (names_of ks)) 0) same
+place_there x k (j ∷ ks) (suc n) d at e =
+    let apart : same_items j k ≡ false = apart_at j k ks n (IsDistinct-head same_items j ks d) at in
+    let other : bytes_eq x j.items ≡ false = by (bytes_eq x j.items) refl apart in
+    ap (λ (b : Bool). cond (not b) (1 + place x (names_of ks)) 0) other
+    ∙ (let h : place x (names_of ks) ≡ n = place_there x k ks n (IsDistinct-tail same_items j ks d) at e in omega (arith, h))
+  where
+    by : (b : Bool) → bytes_eq x j.items ≡ b → same_items j k ≡ false → b ≡ false
+    by false h apart = refl
+    by true h apart =
+        let there : bytes_eq j.items k.items ≡ true = subst (λ (y : Bytes). bytes_eq y k.items ≡ true) ((bytes_eq-Decides x j.items).0 h) e in
+        absurd (true≢false (sym there ∙ apart))

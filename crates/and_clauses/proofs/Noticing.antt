@@ -1,20 +1,19 @@
 -- The variables of the terms of parts, as they are noted.
-use Rattle.std.proofs.Common.{ℕ, zero, suc, ◌+◌, ◌≡◌, ◌<◌, ◌≤◌, ◌||◌, ◌&&◌, Bool, true, false, cond, nat_eq, List, [], ◌∷◌, ◌++◌, length, get_or, map, take}
-use Rattle.std.proofs.Common.{drop, reverse, pos}
-use Rattle.std.proofs.Common.{Option, Some, None, refl, ap, sym, ◌∙◌, arith, subst}
+use Rattle.std.proofs.Common.{ℕ, suc, ◌≡◌, ◌<◌, ◌||◌, true, false, cond, nat_eq, List, [], ◌∷◌, ◌++◌, length, get_or, map}
+use Rattle.std.proofs.Common.{reverse}
+use Rattle.std.proofs.Common.{refl, ap, sym, ◌∙◌, arith, subst}
 use Rattle.std.specs.List.{list_any}
-use Rattle.std.proofs.lemmas.List.{append_assoc, append-nil, length-append, length-map, map-append, map_push, reverse-append, drop_more, get_or-map}
+use Rattle.std.proofs.lemmas.List.{append_assoc, append-nil, length-map, map_push, reverse-append, get_or-map}
 use Rattle.std.proofs.lemmas.Bool.Decides.{nat_tests}
-use Rattle.and_model.specs.Lines.{Bytes, has, same_variable, first_seen}
+use Rattle.and_model.specs.Lines.{Bytes, has, first_seen}
 use Rattle.and_model.specs.Terms
 use Rattle.and_model.specs.Terms.{Path, Term, Terms, variables_of, variables_in}
 use Rattle.and_syntax.specs.Written.{place}
-use Rattle.and_program.specs.Skeletons
-use Rattle.and_program.specs.Skeletons.{Shape, node_term, term_list, nth, shape_term, terms_behind, Falls, IsFalling, AllFall}
+use Rattle.and_program.specs.Skeletons.{Shape, node_term, term_list, nth, shape_term, terms_behind, Falls, AllFall}
 use Rattle.and_program.proofs.NodeTerms.{node_term_whole}
 use Rattle.and_clauses.specs.declared.draft.DraftPart.{DraftPart}
 use Rattle.and_clauses.specs.declared.draft.DraftPart.TheVariants.{Variable, Integer, Compound}
-use Rattle.and_clauses.specs.Parts.{PartShape, part_shape, part_shapes, arguments_of, PartsFall}
+use Rattle.and_clauses.specs.Parts.{part_shape, part_shapes, arguments_of, PartsFall}
 use Rattle.and_clauses.specs.Sorts.{shape_under, shapes_under, variable_in, own}
 use Rattle.and_clauses.proofs.SortingSteps.{seen_in_turn}
 

@@ -6,7 +6,7 @@ use Rattle.and_model.specs.Lines.{Bytes}
 use Rattle.and_model.specs.Terms.{Term}
 use Rattle.and_source.specs.Source.{SourceClause, calls_in_items}
 use Rattle.and_source.specs.Lifted.{lifted_clause, clauses_of_items}
-use Rattle.and_syntax.specs.Written.{Written, named, nodes_of}
+use Rattle.and_syntax.specs.Written.{Written, named}
 use Rattle.and_syntax.specs.Clauses.{Parts, body_of, asked_of, head_of, alternatives_of, disjunctions_of}
 use Rattle.and_syntax.specs.Tables.{Table, names_with, term_with, all_names_with, items_with, clause_of, next_clause, next_query, nodes_with, empty}
 use Rattle.and_syntax.specs.Tables.{clause_fault, query_fault, with_clause, with_query}

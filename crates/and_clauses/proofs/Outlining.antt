@@ -1,20 +1,18 @@
 -- Outlines stand for the clauses to which a clause is lifted, and have as many nodes as are counted.
-use Rattle.std.proofs.Common.{ℕ, zero, suc, ◌+◌, ◌*◌, ◌≡◌, ◌<◌, ◌≤◌, Bool, true, false, cond, nat_eq, List, [], ◌∷◌, ◌++◌, length, get_or, map, Option, Some}
-use Rattle.std.proofs.Common.{None}
+use Rattle.std.proofs.Common.{ℕ, suc, ◌+◌, ◌*◌, ◌≡◌, List, [], ◌∷◌, ◌++◌, length, map}
 use Rattle.std.proofs.Common.{refl, ap, sym, ◌∙◌, arith, subst}
-use Rattle.std.proofs.lemmas.List.{append_assoc, append-nil, length-append, length-map, map-append}
-use Rattle.and_model.specs.Terms.{Path, Term, Terms}
-use Rattle.and_model.specs.Programs.{Item, call, equal, arithmetic, fail, is, compare, Clause}
+use Rattle.std.proofs.lemmas.List.{append_assoc, length-append, length-map, map-append}
+use Rattle.and_model.specs.Programs.{Item, call, Clause}
 use Rattle.and_source.specs.Source
 use Rattle.and_source.specs.Source.{SourceItems, no_items, plain, Alternatives, no_alternatives, alternative, distinct_variables, SourceClause}
 use Rattle.and_source.specs.Source.{disjunctions_in_items, disjunctions_in_alternatives}
 use Rattle.and_source.specs.Lifted.{Numbering, renumbered, renumbered_item, lifted_items, lifted_clause, lifted_alternative, clauses_of_items}
 use Rattle.and_source.specs.Lifted.{clauses_of_alternatives, numbering_of}
 use Rattle.and_syntax.specs.Tables.{count_of, lifted_nodes}
-use Rattle.and_clauses.specs.Sorted.{Piece, kept, called, Outline, local_of, locals_of, locals_in, pieces_of, outlines_of, outlines_in}
-use Rattle.and_clauses.specs.Outlined.{Named, named_of, named_in, named_at, call_of, numbering_by, piece_item, pieces_items, alternative_clause, own_clause}
+use Rattle.and_clauses.specs.Sorted.{Outline, local_of, locals_of, locals_in, pieces_of, outlines_of, outlines_in}
+use Rattle.and_clauses.specs.Outlined.{Named, named_of, named_in, named_at, call_of, pieces_items, alternative_clause, own_clause}
 use Rattle.and_clauses.specs.Outlined.{outline_clause}
-use Rattle.and_clauses.specs.Outlined.{item_size, piece_size, pieces_size, scope_size, outlines_size}
+use Rattle.and_clauses.specs.Outlined.{item_size, pieces_size, outlines_size}
 use Rattle.and_clauses.proofs.SortingSteps.{get-last}
 
 abbrev named_alternatives : Alternatives → List Named

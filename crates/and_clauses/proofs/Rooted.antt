@@ -1,8 +1,7 @@
 -- A draft that is one term: its nodes, its size, and its variables.
-use Rattle.std.proofs.Common.{ℕ, suc, ◌+◌, ◌≡◌, ◌<◌, List, [], ◌∷◌, ◌++◌, length, map, refl, sym, ap, ◌∙◌, arith, subst}
+use Rattle.std.proofs.Common.{ℕ, ◌+◌, ◌≡◌, List, [], ◌∷◌, length, map, refl, sym, ap, ◌∙◌, arith}
 use Rattle.std.proofs.lemmas.List.{append-nil, length-map}
 use Rattle.and_model.specs.Lines.{Bytes}
-use Rattle.and_model.specs.Terms.{Term}
 use Rattle.and_syntax.specs.Written.{Written, nodes_of, variable_number, met_after, term_in, place}
 use Rattle.and_program.specs.Skeletons
 use Rattle.and_program.specs.Skeletons.{Shape, node_term}
@@ -10,7 +9,7 @@ use Rattle.and_clauses.specs.Numbered.{met_with, met_by, shapes_in, behind, IsRe
 use Rattle.and_clauses.specs.Parts.{part_shape, part_shapes, many, written_at, roots, postfix, postfix_all, before_last}
 use Rattle.and_clauses.specs.Variables.{AllNumbered}
 use Rattle.and_clauses.specs.Drafts.{draft_of}
-use Rattle.and_clauses.specs.Sorts.{shape_under, shapes_under}
+use Rattle.and_clauses.specs.Sorts.{shapes_under}
 use Rattle.and_clauses.specs.declared.draft.ClauseDraft.{ClauseDraft}
 use Rattle.and_clauses.specs.declared.draft.DraftPart.{DraftPart}
 use Rattle.and_clauses.specs.declared.draft.DraftPart.TheVariants.{Variable, Integer, Compound}

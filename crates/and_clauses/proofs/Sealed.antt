@@ -1,5 +1,5 @@
 -- From a table to its program, and to what is unknown in it.
-use Rattle.std.proofs.Common.{◌≡◌, ◌≤◌, List, [], ◌∷◌, ◌++◌, map, Option, Some, None, Vec, refl, sym, ap, ◌∙◌, subst}
+use Rattle.std.proofs.Common.{◌≡◌, ◌≤◌, List, ◌∷◌, ◌++◌, map, Option, Some, None, Vec, sym, ap, ◌∙◌, subst}
 use Rattle.std.specs.HashMap.{HashMap}
 use Rattle.std.specs.Option.{option_map}
 use Rattle.and_model.specs.Programs.{Clause, Program}
@@ -15,7 +15,7 @@ use Rattle.and_program.specs.Predicates.{Finds}
 use Rattle.and_program.specs.declared.node.Node.{Node}
 use Rattle.and_program.specs.declared.entry.ClauseEntry.{ClauseEntry}
 use Rattle.and_program.specs.declared.predicates.Predicate.{Predicate}
-use Rattle.and_clauses.specs.Kept.{IsKept, called_of}
+use Rattle.and_clauses.specs.Kept.{IsKept}
 use Rattle.and_clauses.specs.Sealing.{IsUnknown, Refuses}
 use Rattle.and_clauses.specs.Unknown.{unknown_at, first_called}
 use Rattle.and_clauses.specs.Views.{table_of}

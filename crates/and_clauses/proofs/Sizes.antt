@@ -1,13 +1,10 @@
 -- The items of a body have no more nodes than its term, and a term as many as what is written.
-use Rattle.std.proofs.Common.{ℕ, zero, suc, ◌+◌, ◌≡◌, ◌≤◌, Bool, true, false, cond, nat_eq, List, [], ◌∷◌, ◌++◌, Option, Some, None, refl, ap, sym, ◌∙◌}
-use Rattle.std.proofs.Common.{arith, subst}
+use Rattle.std.proofs.Common.{ℕ, suc, ◌+◌, ◌≡◌, ◌≤◌, Bool, true, false, cond, nat_eq, List, Option, Some, None, refl, ap}
+use Rattle.std.proofs.Common.{arith}
 use Rattle.and_model.specs.Terms
 use Rattle.and_model.specs.Terms.{Term, Terms}
-use Rattle.and_model.specs.Arithmetic.{Relation, less, greater, at_most, at_least, same, differs}
-use Rattle.and_model.specs.Programs.{Item}
-use Rattle.and_model.specs.Programs
+use Rattle.and_model.specs.Arithmetic.{Relation}
 use Rattle.and_model.specs.Lines.{Bytes}
-use Rattle.and_source.specs.Source.{SourceItems, Alternatives}
 use Rattle.and_syntax.specs.Written
 use Rattle.and_syntax.specs.Written.{Written, Many, nodes_of, nodes_in, term_in, terms_in, met_after}
 use Rattle.and_syntax.specs.Clauses

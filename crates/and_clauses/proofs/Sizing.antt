@@ -1,8 +1,8 @@
 -- The sizes of a body do not depend on numbers and names, and are within those of its term.
-use Rattle.std.proofs.Common.{ℕ, zero, suc, ◌+◌, ◌*◌, ◌≡◌, ◌<◌, ◌≤◌, Bool, true, false, cond, nat_eq, List, [], ◌∷◌, ◌++◌, length, map, Option, Some, None}
+use Rattle.std.proofs.Common.{ℕ, suc, ◌+◌, ◌≡◌, ◌<◌, ◌≤◌, Bool, true, false, cond, nat_eq, List, [], ◌∷◌, ◌++◌, map, Option, Some, None}
 use Rattle.std.proofs.Common.{refl, ap, sym, ◌∙◌, arith, subst}
 use Rattle.std.specs.Prelude.{All}
-use Rattle.std.proofs.lemmas.List.{append_assoc, length-append, length-map, map-append}
+use Rattle.std.proofs.lemmas.List.{map-append}
 use Rattle.std.proofs.lemmas.List.Elements.{All-nil, All-cons, All-head, All-tail}
 use Rattle.and_model.specs.Terms
 use Rattle.and_model.specs.Terms.{Path, Term, Terms, variables_of}
@@ -10,16 +10,16 @@ use Rattle.and_model.specs.Arithmetic.{Relation}
 use Rattle.and_model.specs.Programs.{call}
 use Rattle.and_model.specs.Stands.{item_term}
 use Rattle.and_model.specs.OwnVariables.{IsOwn}
-use Rattle.and_model.specs.Lines.{Bytes, first_seen}
+use Rattle.and_model.specs.Lines.{first_seen}
 use Rattle.and_source.specs.Source.{SourceItems, no_items, plain, either, Alternatives, no_alternatives, alternative, variables_of_items}
-use Rattle.and_source.specs.Source.{variables_of_alternatives, distinct_variables, disjunctions_in_items}
+use Rattle.and_source.specs.Source.{variables_of_alternatives, disjunctions_in_items}
 use Rattle.and_source.specs.Source.{disjunctions_in_alternatives}
 use Rattle.and_syntax.specs.Clauses
 use Rattle.and_syntax.specs.Clauses.{Parts, no_parts, impure, Choices, no_choices, choice, Reading, joined, alone, reading_of, parts_of, head_of, body_of}
 use Rattle.and_syntax.specs.Clauses.{asked_of}
 use Rattle.and_syntax.specs.Clauses.{alternatives_of, alternatives_in, disjunctions_of, disjunctions_within, numbered, numbered_in, compare_or, relation_of}
 use Rattle.and_syntax.specs.Clauses.{binary_part}
-use Rattle.and_syntax.specs.Tables.{count_of, lifted_nodes}
+use Rattle.and_syntax.specs.Tables.{count_of}
 use Rattle.and_clauses.specs.Outlined.{size_of, size_in}
 use Rattle.and_clauses.specs.Sorted.{Local, local_of, locals_of, locals_in}
 use Rattle.and_clauses.specs.Sorts.{AreFew, AreNarrow}

@@ -1,5 +1,5 @@
 -- The items of outlines name parts that are there.
-use Rattle.std.proofs.Common.{ℕ, zero, suc, ◌+◌, ◌≡◌, ◌<◌, List, [], ◌∷◌, ◌++◌, length, get_or, map, set, ap, sym, arith, subst}
+use Rattle.std.proofs.Common.{ℕ, zero, suc, ◌≡◌, ◌<◌, List, [], ◌∷◌, ◌++◌, length, get_or, map, set, ap, sym, arith, subst}
 use Rattle.std.specs.Prelude.{None}
 use Rattle.and_program.specs.Skeletons.{Shape}
 use Rattle.and_clauses.specs.Sorted as sorted

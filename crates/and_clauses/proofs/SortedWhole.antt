@@ -1,10 +1,9 @@
 -- All tokens of a body sorted, and how many alternatives there may be.
 use Rattle.std.proofs.Common.{ℕ, zero, suc, ◌+◌, ◌≡◌, ◌<◌, ◌≤◌, List, [], ◌∷◌, ◌++◌, length, get_or, map, drop, reverse, Option, Some, None, Result, OnOk}
-use Rattle.std.proofs.Common.{refl, ap, sym, ◌∙◌, arith, subst}
+use Rattle.std.proofs.Common.{ap, sym, ◌∙◌, arith, subst}
 use Rattle.std.proofs.lemmas.List.{append-nil, reverse-append, drop_more, drop_all}
-use Rattle.and_model.specs.Terms.{Path, variables_of}
+use Rattle.and_model.specs.Terms.{variables_of}
 use Rattle.and_model.specs.Stands.{item_term}
-use Rattle.and_source.specs.Source.{SourceItems, variables_of_items}
 use Rattle.and_syntax.specs.Clauses.{Parts, numbered}
 use Rattle.and_clauses.specs.Marks
 use Rattle.and_clauses.specs.Marks.{Mark, open_mark, next, close, mark_of, marks_in}

@@ -1,13 +1,12 @@
 -- Marks of a body are sorted into its disjunctions and the clauses of its alternatives.
-use Rattle.std.proofs.Common.{ℕ, zero, suc, ◌+◌, ◌≡◌, ◌<◌, ◌≤◌, ◌||◌, ◌&&◌, Bool, true, false, cond, nat_eq, List, [], ◌∷◌, ◌++◌, length, get_or, map, Option}
+use Rattle.std.proofs.Common.{ℕ, zero, suc, ◌+◌, ◌≡◌, ◌<◌, ◌≤◌, ◌||◌, ◌&&◌, Bool, true, false, cond, nat_eq, List, [], ◌∷◌, ◌++◌, length, get_or, Option}
 use Rattle.std.proofs.Common.{Some, None}
 use Rattle.std.proofs.Common.{refl, ap, sym, ◌∙◌, arith, subst}
 use Rattle.std.specs.Prelude.{All}
 use Rattle.std.proofs.lemmas.Bool.Decides.{nat_tests}
 use Rattle.std.proofs.lemmas.List.{append_assoc, append-nil, length-append, map-append}
 use Rattle.std.proofs.lemmas.List.Elements.{All-head, All-tail}
-use Rattle.and_model.specs.Terms.{Path, Term, variables_of}
-use Rattle.and_model.specs.Programs.{Item}
+use Rattle.and_model.specs.Terms.{Path, variables_of}
 use Rattle.and_model.specs.Stands.{item_term}
 use Rattle.and_model.specs.Lines.{same_path, same_variable, has, first_seen}
 use Rattle.and_source.specs.Source
@@ -19,11 +18,10 @@ use Rattle.and_syntax.specs.Clauses.{Parts, no_parts, impure, Choices, no_choice
 use Rattle.and_syntax.specs.Clauses.{disjunctions_within}
 use Rattle.and_syntax.specs.Clauses.{numbered, numbered_in}
 use Rattle.and_syntax.specs.Tables.{count_of}
-use Rattle.and_clauses.specs.Marks
-use Rattle.and_clauses.specs.Marks.{Mark, item, open_mark, next, close}
+use Rattle.and_clauses.specs.Marks.{Mark, close}
 use Rattle.and_clauses.specs.Bodies.{marks_at, choices_at}
 use Rattle.and_clauses.specs.Sorted.{Local, Piece, kept, called, Outline, local_of, locals_of, locals_in, pieces_of, outlines_of, outlines_in, alter}
-use Rattle.and_clauses.specs.Sorted.{Sorting, begun, with_piece, with_variables, with_alternative, alter_in, variables_in_scope, step, steps}
+use Rattle.and_clauses.specs.Sorted.{Sorting, with_piece, with_variables, with_alternative, alter_in, variables_in_scope, steps}
 
 abbrev Variable : Type 0
 Variable = Path × ℕ

@@ -1,7 +1,7 @@
 -- What the clauses of a table call: names with at most 255 arguments.
 use Rattle.std.proofs.Common.{ℕ, suc, ◌+◌, ◌≡◌, ◌≤◌, Bool, true, false, cond, nat_eq, List, [], ◌∷◌, ◌++◌, length, map, Option, Some, None, refl, ap, sym}
 use Rattle.std.proofs.Common.{◌∙◌, subst}
-use Rattle.std.proofs.Common.{arith, pos}
+use Rattle.std.proofs.Common.{arith}
 use Rattle.std.specs.Prelude.{All}
 use Rattle.std.specs.Option.{option_map}
 use Rattle.std.proofs.lemmas.List.{append-nil, append_assoc}
@@ -18,7 +18,7 @@ use Rattle.and_syntax.specs.Clauses
 use Rattle.and_syntax.specs.Clauses.{Parts, no_parts, item, impure, Choices, no_choices, choice, Reading, joined, alone, atom_parts, unary_part, binary_part}
 use Rattle.and_syntax.specs.Clauses.{binary_reading, compare_or, relation_of, reading_of, parts_of, alternatives_of, alternatives_in, disjunctions_of}
 use Rattle.and_syntax.specs.Clauses.{disjunctions_within, numbered, numbered_in, body_of, asked_of}
-use Rattle.and_syntax.specs.Tables.{Table, Unknown, empty, with_clause, with_query, term_with, unknown_in}
+use Rattle.and_syntax.specs.Tables.{Table, Unknown, empty, with_clause, term_with, unknown_in}
 use Rattle.and_clauses.specs.Parts
 use Rattle.and_clauses.specs.Parts.{PartShape, part_shapes, written_at, many, postfix, postfix_all, roots, AllNarrow, IsNarrow}
 use Rattle.and_clauses.specs.Adds.{first_of, term_of, with_added, with_all}

@@ -2,13 +2,12 @@
 use Rattle.std.proofs.Common.{ℕ, suc, ◌+◌, ◌-◌, ◌<◌, ◌≡◌, ℤ, List, [], ◌∷◌, length, map, get_or, refl, sym, ap, ◌∙◌, arith, subst}
 use Rattle.std.proofs.lemmas.List.{length-map}
 use Rattle.and_model.specs.Lines.{Bytes}
-use Rattle.and_syntax.specs.Written
 use Rattle.and_syntax.specs.Written.{Written, nodes_of}
 use Rattle.and_program.specs.Skeletons.{Falls}
 use Rattle.and_clauses.specs.declared.draft.ClauseDraft.{ClauseDraft}
 use Rattle.and_clauses.specs.Drafts as drafts
 use Rattle.and_clauses.specs.Drafts.{draft_of, shapes_of, read_shape}
-use Rattle.and_clauses.specs.Parts.{PartShape, variable, integer, compound, part_shape, part_shapes, many, written_at, written_behind, shape_written}
+use Rattle.and_clauses.specs.Parts.{PartShape, variable, integer, compound, part_shape, many, written_at, written_behind, shape_written}
 use Rattle.and_clauses.specs.Parts.{arguments_of, before_last, roots, postfix_all, PartsFall}
 use Rattle.and_clauses.proofs.Drafting.{PartsFall-postfix_all, length-postfix_all}
 use Rattle.and_clauses.proofs.Noting.{written_at_whole, PartsFall-at}

@@ -1,16 +1,15 @@
 -- Which calls have no clause.
-use Rattle.std.proofs.Common.{ℕ, ℤ, suc, ◌+◌, ◌≡◌, ◌<◌, ◌≤◌, ◌||◌, Bool, true, false, not, cond, eqb, nat_eq, List, [], ◌∷◌, ◌++◌, length, map, get_or, drop}
+use Rattle.std.proofs.Common.{ℕ, ℤ, suc, ◌+◌, ◌≡◌, ◌<◌, ◌≤◌, ◌||◌, Bool, true, false, not, cond, eqb, List, [], ◌∷◌, ◌++◌, length, map, get_or, drop}
 use Rattle.std.proofs.Common.{take}
-use Rattle.std.proofs.Common.{Option, Some, None, refl, sym, ap, ◌∙◌, arith, subst, IfSome}
+use Rattle.std.proofs.Common.{Option, Some, None, refl, sym, ap, ◌∙◌, arith, subst}
 use Rattle.std.specs.Prelude.{All}
 use Rattle.std.specs.Option.{option_map}
 use Rattle.std.proofs.lemmas.Bool.Decides.{nat_tests}
 use Rattle.std.proofs.lemmas.List.{append_assoc, append-nil, drop_more, drop_all, map-append, length-map, length-take, take-take}
 use Rattle.std.proofs.Math.Seq.{take-append_seam, take-length}
 use Rattle.std.proofs.lemmas.List.Elements.{All-head, All-tail}
-use Rattle.std.specs.Prelude.{Vec}
-use Rattle.std.specs.declared.alloc.Global.{Global}
 use Rattle.std.specs.List.{list_any}
+use Rattle.smallvec.specs.SmallVec.{SmallVec}
 use Rattle.and_model.specs.Lines.{Bytes}
 use Rattle.and_model.specs.Terms
 use Rattle.and_model.specs.Terms.{Term, Terms, width}
@@ -21,11 +20,11 @@ use Rattle.and_model.specs.declared.numbers.ClauseNo.{ClauseNo}
 use Rattle.and_program.specs.Predicates.{predicate_in, is_key_of, numbers_from}
 use Rattle.and_program.specs.declared.predicates.Predicate.{Predicate}
 use Rattle.and_program.specs.declared.item.ItemNode.TheVariants as items
-use Rattle.and_program.specs.Skeletons.{Shape, node_term, term_list}
+use Rattle.and_program.specs.Skeletons.{Shape, node_term}
 use Rattle.and_program.proofs.PredicateLemmas.{width-term_list}
 use Rattle.and_program.proofs.MemberLemmas.{key, is_key_of-same}
 use Rattle.and_source.specs.Source.{SourceClause, calls_in_items}
-use Rattle.and_syntax.specs.Clauses.{is_named, name_of, arity_of}
+use Rattle.and_syntax.specs.Clauses.{is_named, arity_of}
 use Rattle.and_syntax.specs.Tables.{Unknown, first_unknown, unknown_or, unknown_in}
 use Rattle.and_clauses.specs.Kept.{call_at, calls_of}
 use Rattle.and_clauses.specs.Unknown.{unknown_at, first_called, goal_in}
@@ -200,7 +199,7 @@ module _ (names : List Bytes) (ps : List DraftPart) (n : ℕ) (p : DraftPart) (f
   pub number_called : (z : ℤ) → p ≡ parts.Integer z → said 0 0 ≡ call_at line (node_term (shapes_under names ps) n)
   number_called z e = sym (ap (call_at line) (term_is (parts.Integer z) e))
 
-  pub compound_called : (c : Bytes) (v : Vec ℕ Global) (x : Bytes) (number k : ℕ) → p ≡ parts.Compound c v → x ≡ c → number ≡ place x names → k ≡ length v.items
+  pub compound_called : (c : Bytes) (v : SmallVec ℕ) (x : Bytes) (number k : ℕ) → p ≡ parts.Compound c v → x ≡ c → number ≡ place x names → k ≡ length v.items
       → said number k ≡ call_at line (node_term (shapes_under names ps) n)
   compound_called c v x number k e same named long =
       let us : List Term = map (node_term (shapes_under names ps)) v.items in

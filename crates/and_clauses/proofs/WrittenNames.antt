@@ -1,13 +1,13 @@
 -- The written names of variables, as they are met.
-use Rattle.std.proofs.Common.{ℕ, suc, ◌+◌, ◌≡◌, ◌<◌, ◌≤◌, ◌||◌, Bool, true, false, not, cond, List, [], ◌∷◌, ◌++◌, length, get_or, drop, refl, ap, sym, ◌∙◌}
+use Rattle.std.proofs.Common.{ℕ, suc, ◌+◌, ◌≡◌, ◌<◌, ◌||◌, Bool, true, false, not, cond, List, [], ◌∷◌, ◌++◌, length, get_or, drop, refl, ap, sym, ◌∙◌}
 use Rattle.std.proofs.Common.{arith, subst, codes}
 use Rattle.std.specs.Str.{bytes_eq}
 use Rattle.std.proofs.lemmas.List.{drop_more}
 use Rattle.and_model.specs.Lines.{Bytes}
 use Rattle.and_syntax.specs.Written.{has, is_new, place, variable_number}
 use Rattle.and_clauses.specs.declared.draft.DraftPart.{DraftPart}
-use Rattle.and_clauses.specs.Numbered.{met_with, met_by}
-use Rattle.and_clauses.specs.Parts.{part_shape, part_shapes}
+use Rattle.and_clauses.specs.Numbered.{met_with}
+use Rattle.and_clauses.specs.Parts.{part_shape}
 use Rattle.and_clauses.specs.Variables.{IsNumbered, AllNumbered}
 
 -- what was met has a place

@@ -1,6 +1,5 @@
 -- What was added to a table.
 use Rattle.std.specs.Prelude.{ℕ, pos, List, [], ◌∷◌}
-use Rattle.and_syntax.specs.Written
 use Rattle.and_syntax.specs.Written.{Written}
 use Rattle.and_syntax.specs.Tables.{Table, with_clause, with_query}
 use Rattle.and_clauses.specs.Parts.{part_shapes, written_at}

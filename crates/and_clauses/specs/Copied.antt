@@ -1,5 +1,5 @@
 -- How a term is copied with new numbers for its variables.
-use Rattle.std.specs.Prelude.{ℕ, suc, ◌+◌, ◌*◌, ◌-◌, ◌≡◌, ◌≤◌, ◌<◌, List, [], ◌∷◌, ◌++◌, map, length, take, drop}
+use Rattle.std.specs.Prelude.{ℕ, suc, ◌+◌, ◌*◌, ◌-◌, ◌≡◌, ◌≤◌, ◌<◌, List, [], ◌∷◌, ◌++◌, length, take, drop}
 use Rattle.and_model.specs.Terms.{Path, Term, compound, variables_of}
 use Rattle.and_source.specs.Lifted.{Numbering, renumbered}
 use Rattle.and_program.specs.Skeletons.{Shape, node_term, term_list, AllFall}

@@ -1,9 +1,9 @@
 -- What the copying of terms works on.
-use Rattle.std.specs.Prelude.{ℕ, ◌+◌, ◌-◌, ◌≡◌, ◌≤◌, ◌<◌, List, [], ◌∷◌, ◌++◌, map, length, take, drop, All, Option}
+use Rattle.std.specs.Prelude.{ℕ, ◌≡◌, ◌<◌, List, [], ◌∷◌, ◌++◌, map, length, take, Option}
 use Rattle.std.specs.Prelude.{Some, None}
 use Rattle.std.specs.Borrow.{Bor}
 use Rattle.and_model.specs.Lines.{Bytes, place_of}
-use Rattle.and_model.specs.Terms.{Path, Term, variables_of}
+use Rattle.and_model.specs.Terms.{Term}
 use Rattle.and_model.specs.declared.numbers.NodeNo.{NodeNo}
 use Rattle.and_model.specs.declared.numbers.NameNo.{NameNo}
 use Rattle.and_source.specs.Lifted.{Numbering}

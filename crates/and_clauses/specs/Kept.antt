@@ -1,6 +1,5 @@
 -- What holds of every table: its lists are the lifted clauses of what was added to it.
-use Rattle.std.specs.Prelude.{ℕ, suc, ◌+◌, ◌≤◌, ◌≡◌, true, List, [], ◌∷◌, ◌++◌, map, length, Option, Some, None}
-use Rattle.std.specs.Coded.{×_prop, Unit-prop}
+use Rattle.std.specs.Prelude.{ℕ, ◌+◌, ◌≤◌, ◌≡◌, true, List, [], ◌∷◌, ◌++◌, map, length, Option, Some, None}
 use Rattle.std.proofs.Props.{props}
 use Rattle.and_model.specs.Lines.{Bytes}
 use Rattle.and_model.specs.Terms.{Term}

@@ -1,10 +1,10 @@
 -- The clauses that outlines stand for.
-use Rattle.std.specs.Prelude.{ℕ, suc, ◌+◌, List, [], ◌∷◌, ◌++◌, map, length, get_or, Option, Some, None}
+use Rattle.std.specs.Prelude.{ℕ, suc, ◌+◌, List, [], ◌∷◌, map, length, get_or, Option, Some, None}
 use Rattle.and_model.specs.Terms.{Path, Term, Terms, variable, number, compound, none, more}
 use Rattle.and_model.specs.Programs.{Item, call, equal, arithmetic, fail, is, compare, Clause}
 use Rattle.and_model.specs.Lines.{place_of}
 use Rattle.and_source.specs.Source.{SourceItems, Alternatives, distinct_variables, disjunctions_in_items}
-use Rattle.and_source.specs.Source.{disjunctions_in_alternatives, SourceClause}
+use Rattle.and_source.specs.Source.{SourceClause}
 use Rattle.and_source.specs.Lifted.{Numbering, renumbered, renumbered_item, as_terms, numbered_variables}
 use Rattle.and_clauses.specs.Sorted.{Piece, kept, called, Outline}
 

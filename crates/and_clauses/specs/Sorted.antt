@@ -1,12 +1,12 @@
 -- The clauses and the disjunctions into which a body falls.
 use Rattle.std.specs.Prelude.{ℕ, zero, suc, ◌+◌, ◌*◌, List, [], ◌∷◌, ◌++◌, map, length, get_or, Option, Some, None}
-use Rattle.and_model.specs.Terms.{Path, Term, variables_of}
+use Rattle.and_model.specs.Terms.{Path, variables_of}
 use Rattle.and_model.specs.Programs.{Item}
 use Rattle.and_model.specs.Stands.{item_term}
 use Rattle.and_model.specs.Lines.{first_seen}
 use Rattle.and_source.specs.Source.{SourceItems, no_items, plain, either, Alternatives, no_alternatives, alternative}
 use Rattle.and_source.specs.Source.{distinct_variables}
-use Rattle.and_source.specs.Source.{variables_of_items, variables_of_alternatives, disjunctions_in_items}
+use Rattle.and_source.specs.Source.{disjunctions_in_items}
 use Rattle.and_source.specs.Source.{disjunctions_in_alternatives}
 use Rattle.and_syntax.specs.Tables.{count_of}
 use Rattle.and_clauses.specs.Marks.{Mark, item, open_mark, next, close}

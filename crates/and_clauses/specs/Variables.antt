@@ -1,5 +1,5 @@
 -- The variables of a draft, by their numbers.
-use Rattle.std.specs.Prelude.{ℕ, suc, ◌+◌, ◌≡◌, cond, List, [], ◌∷◌, map, length, codes, Vec}
+use Rattle.std.specs.Prelude.{ℕ, suc, ◌≡◌, cond, List, [], ◌∷◌, map, length, codes, Vec, Option, Some, None, take, drop}
 use Rattle.std.specs.Str.{bytes_eq}
 use Rattle.std.specs.Coded.{×_prop, Unit-prop}
 use Rattle.std.specs.declared.alloc.Global.{Global}
@@ -11,6 +11,7 @@ use Rattle.and_clauses.specs.Parts.{part_shape}
 use Rattle.and_clauses.specs.declared.draft.DraftPart.{DraftPart}
 use Rattle.and_clauses.specs.declared.draft.DraftPart.TheVariants.{Variable, Integer, Compound}
 use Rattle.and_clauses.specs.declared.variables.Variables.{Variables}
+use Rattle.and_clauses.specs.declared.variables.TheConstants.{FIRST}
 
 -- the variables that have a name, with their numbers, where the first has number n
 abbrev pub entries_of : ℕ → List Bytes → List (Bytes × ℕ)
@@ -21,9 +22,16 @@ entries_of n (x ∷ met) = cond (bytes_eq x (codes "_")) (entries_of (suc n) met
 abbrev pub bytes_in : List (Vec ℕ Global × ℕ) → List (Bytes × ℕ)
 bytes_in es = map (λ e. (e.0.items, e.1)) es
 
--- these variables were met
+-- the number of a name among these
+abbrev pub number_among : Bytes → List (Bytes × ℕ) → Option ℕ
+number_among x [] = None
+number_among x (e ∷ es) = cond (bytes_eq x e.0) (Some e.1) (number_among x es)
+
+-- These variables were met: the first of those that have a name are in the one list, the others in the map.
 abbrev pub HasMet : Variables → List Bytes → Type 0
-HasMet v met = (v.count ≡ length met) × (bytes_in v.named.entries ≡ entries_of 0 met)
+HasMet v met =
+    (v.count ≡ length met) × (v.first.items ≡ take FIRST (entries_of 0 met))
+    × (bytes_in v.named.entries ≡ drop FIRST (entries_of 0 met))
 
 -- a variable has its number, where these were met before it
 abbrev pub IsNumbered : List Bytes → DraftPart → Type 0

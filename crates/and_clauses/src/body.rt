@@ -10,6 +10,7 @@ ghost use Rattle.and_clauses.specs.Sorts.{TokensThere};
 ghost use Rattle.and_clauses.specs.Bodies.{made_of, with_next, TakesPart, TakesLast, Takes, IsPart, IsBody, body_parts};
 
 use crate::draft::DraftPart;
+use crate::guesses::Guesses;
 use crate::items::{Conjunct, part_as_conjunct};
 use and_program::ItemNode;
 use indexmap::IndexSet;
@@ -52,6 +53,7 @@ pub(crate) struct Body {
 pub(crate) fn body_of(
     alloc: Global,
     names: &IndexSet<Vec<u8>>,
+    guesses: &Guesses,
     parts: &[DraftPart],
     part: Option<u32>,
     clause: usize,
@@ -78,7 +80,7 @@ pub(crate) fn body_of(
     let mut pending = Vec::new(alloc);
     pending.push(Pending::Part(part))?;
     while let Some(next) = pending.pop() {
-        if !take_pending(names, parts, next, &mut body, &mut pending)? {
+        if !take_pending(names, guesses, parts, next, &mut body, &mut pending)? {
             return Ok(None);
         }
     }
@@ -88,6 +90,7 @@ pub(crate) fn body_of(
 /// Adds what comes next; `false` where it is refused.
 fn take_pending(
     names: &IndexSet<Vec<u8>>,
+    guesses: &Guesses,
     parts: &[DraftPart],
     next: Pending,
     body: &mut Body,
@@ -103,11 +106,11 @@ fn take_pending(
 {
     match next {
         Pending::Part(part) => {
-            let conjunct = part_as_conjunct(names, parts, part, 0);
+            let conjunct = part_as_conjunct(names, guesses, parts, part, 0);
             take_conjunct(conjunct, body, pending)
         }
         Pending::Last(part) => {
-            let conjunct = part_as_conjunct(names, parts, part, 0);
+            let conjunct = part_as_conjunct(names, guesses, parts, part, 0);
             take_last(part, conjunct, body, pending)?;
             Ok(true)
         }

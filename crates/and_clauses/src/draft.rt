@@ -6,8 +6,9 @@ ghost use Rattle.and_clauses.specs.Parts.{IsFormed, AllNarrow, AllNarrow-prop, p
 ghost use Rattle.and_clauses.specs.Numbered.{met_by};
 ghost use Rattle.and_clauses.specs.Variables.{HasMet, AllNumbered, AllNumbered-prop};
 
+use crate::short::ShortText;
 use crate::variables::Variables;
-use and_model::Text;
+use smallvec::SmallVec;
 use std::alloc::{AllocError, Global};
 
 /// A part of a draft: an occurrence of a variable, a number, or a name with its arguments, which
@@ -15,9 +16,12 @@ use std::alloc::{AllocError, Global};
 #[derive(Drop)]
 pub(crate) enum DraftPart {
     /// Its name, and its number by first occurrence.
-    Variable(Text, u32),
+    Variable(ShortText, u32),
     Integer(i64),
-    Compound { name: Text, arguments: Vec<u32> },
+    Compound {
+        name: ShortText,
+        arguments: SmallVec<u32, 4>,
+    },
 }
 
 /// One clause as a term that is given in postfix order: arguments first, then the name that takes
@@ -69,6 +73,16 @@ impl ClauseDraft {
         }
     }
 
+    /// Makes it a draft of another clause, whose first token is on that line, and keeps its memory. Takes none.
+    pub fn restart(&mut self, line: u32)
+        ensures { draft_of self.new ≡ record { line = line; finished = []; parts = 0 } }
+    {
+        self.line = line;
+        self.parts.clear();
+        self.finished.clear();
+        self.variables.clear();
+    }
+
     /// Adds an occurrence of a variable. The name `_` is a new variable each time. An error is
     /// want of memory, and leaves the draft as it was.
     pub fn variable(&mut self, name: &[u8]) -> Result<(), AllocError>
@@ -96,7 +110,7 @@ impl ClauseDraft {
             ≡ record d { finished = finished; parts = d.parts + 1 }) }
         ensures err { OnErr result (draft_of self.new ≡ draft_of self.old) }
     {
-        let text = Text::of(self.alloc, name)?;
+        let text = ShortText::of(self.alloc, name)?;
         let part = DraftPart::Variable(text, number);
         let start = self.finished.len();
         add_part(&mut self.parts, &mut self.finished, part, start)
@@ -113,7 +127,7 @@ impl ClauseDraft {
         ensures err { OnErr result (draft_of self.new ≡ draft_of self.old) }
     {
         let mark = self.variables.mark();
-        let text = Text::of(self.alloc, name)?;
+        let text = ShortText::of(self.alloc, name)?;
         self.variables.meet(self.alloc, name)?;
         let part = DraftPart::Variable(text, mark.count);
         let start = self.finished.len();
@@ -156,8 +170,8 @@ impl ClauseDraft {
         ensures err { OnErr result (draft_of self.new ≡ draft_of self.old) }
     {
         let start = self.finished.len() - count as usize;
-        let name = Text::of(self.alloc, name)?;
-        let arguments = Vec::from_slice(self.alloc, &self.finished[start..])?;
+        let name = ShortText::of(self.alloc, name)?;
+        let arguments = SmallVec::from_slice(self.alloc, &self.finished[start..])?;
         let part = DraftPart::Compound { name, arguments };
         add_part(&mut self.parts, &mut self.finished, part, start)
     }
@@ -216,7 +230,7 @@ impl ClauseDraft {
         ensures { result.now ≡ arguments_of (get_or (shapes_of self.now) place (Parts.variable [])) }
     {
         match &self.parts[place as usize] {
-            DraftPart::Compound { name: _, arguments } => arguments,
+            DraftPart::Compound { name: _, arguments } => arguments.as_slice(),
             DraftPart::Variable(_, _) => &[],
             DraftPart::Integer(_) => &[],
         }

@@ -7,6 +7,7 @@ ghost use Rattle.and_clauses.specs.Conjuncts.{atom_conjunct, unary_conjunct, bin
 ghost use Rattle.and_clauses.specs.Conjuncts.{relation_named, other_conjunct, conjunct_of, conjunct_at};
 
 use crate::draft::DraftPart;
+use crate::guesses::Guesses;
 use crate::numbering::number_of;
 use and_model::{NodeNo, Relation, builtins};
 use and_program::ItemNode;
@@ -61,6 +62,7 @@ pub(crate) enum Conjunct {
 /// What a part is as a conjunct.
 pub(crate) fn part_as_conjunct(
     names: &IndexSet<Vec<u8>>,
+    guesses: &Guesses,
     parts: &[DraftPart],
     number: u32,
     base: u32,
@@ -72,8 +74,8 @@ pub(crate) fn part_as_conjunct(
 {
     match &parts[number as usize] {
         DraftPart::Compound { name, arguments } => conjunct_named(
-            number_of(names, name.bytes()),
-            arguments,
+            number_of(names, guesses, number, name.bytes()),
+            arguments.as_slice(),
             NodeNo(base + number),
             base,
         ),

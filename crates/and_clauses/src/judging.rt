@@ -22,6 +22,7 @@ ghost use Rattle.and_clauses.specs.Faults.{fault_of};
 use crate::body::{Body, BodyToken, body_of};
 use crate::data::{TableFault, What};
 use crate::draft::{ClauseDraft, DraftPart};
+use crate::guesses::Guesses;
 use crate::numbering::number_of;
 use crate::sorting::{Sorted, lifted_nodes, sort_tokens};
 use and_model::Text;
@@ -48,14 +49,19 @@ pub(crate) struct Functor {
 }
 
 /// The head and the body of a clause whose term ends with that part.
-pub(crate) fn clause_sides(names: &IndexSet<Vec<u8>>, parts: &[DraftPart], root: u32) -> Sides
+pub(crate) fn clause_sides(
+    names: &IndexSet<Vec<u8>>,
+    guesses: &Guesses,
+    parts: &[DraftPart],
+    root: u32,
+) -> Sides
     requires { root < length parts.now }
     ensures { result ≡ sides_at (names_of names.now.keys) (part_shapes parts.now) root }
 {
     match &parts[root as usize] {
         DraftPart::Compound { name, arguments } => sides_of(
-            number_of(names, name.bytes()),
-            arguments,
+            number_of(names, guesses, root, name.bytes()),
+            arguments.as_slice(),
             root,
         ),
         DraftPart::Variable(_, _) => Sides {
@@ -86,13 +92,18 @@ fn sides_of(name: usize, arguments: &[u32], root: u32) -> Sides
 }
 
 /// The name of a head, and how many arguments it has; `None` where it is a variable or a number.
-fn head_functor(names: &IndexSet<Vec<u8>>, parts: &[DraftPart], head: u32) -> Option<Functor>
+fn head_functor(
+    names: &IndexSet<Vec<u8>>,
+    guesses: &Guesses,
+    parts: &[DraftPart],
+    head: u32,
+) -> Option<Functor>
     requires { head < length parts.now }
     ensures { result ≡ functor_at (names_of names.now.keys) (part_shapes parts.now) head }
 {
     match &parts[head as usize] {
         DraftPart::Compound { name, arguments } => Some(Functor {
-            name: number_of(names, name.bytes()),
+            name: number_of(names, guesses, head, name.bytes()),
             arity: arguments.len(),
         }),
         DraftPart::Variable(_, _) => None,
@@ -106,7 +117,7 @@ pub(crate) fn asked(parts: &[DraftPart], root: u32) -> Option<u32>
     ensures { result ≡ asked_at (part_shapes parts.now) root }
 {
     match &parts[root as usize] {
-        DraftPart::Compound { name: _, arguments } => one_of(arguments),
+        DraftPart::Compound { name: _, arguments } => one_of(arguments.as_slice()),
         DraftPart::Variable(_, _) => None,
         DraftPart::Integer(_) => None,
     }
@@ -262,6 +273,7 @@ fn with_nodes(used: Used, head: u32, body: Body, sorted: Sorted, nodes: usize) -
 pub(crate) fn judge_clause(
     alloc: Global,
     names: &IndexSet<Vec<u8>>,
+    guesses: &Guesses,
     draft: &ClauseDraft,
     used: Used,
 ) -> Result<Judged, TableFault>
@@ -282,12 +294,21 @@ pub(crate) fn judge_clause(
         → IfErr result (λ e. IfSome (fault_of e) (λ f. clause_fault T w ≡ Some f)) }
 {
     let parts = draft.parts.as_slice();
-    let sides = clause_sides(names, parts, draft.root());
-    let Some(functor) = head_functor(names, parts, sides.head) else {
+    let sides = clause_sides(names, guesses, parts, draft.root());
+    let Some(functor) = head_functor(names, guesses, parts, sides.head) else {
         return Err(TableFault::NotPure);
     };
     let clause = used.numbers + 2;
-    let Some(body) = body_of(alloc, names, parts, sides.body, clause, used.disjunctions)? else {
+    let Some(body) = body_of(
+        alloc,
+        names,
+        guesses,
+        parts,
+        sides.body,
+        clause,
+        used.disjunctions,
+    )?
+    else {
         return Err(TableFault::NotPure);
     };
     if already_means(&functor) {
@@ -300,6 +321,7 @@ pub(crate) fn judge_clause(
 pub(crate) fn judge_query(
     alloc: Global,
     names: &IndexSet<Vec<u8>>,
+    guesses: &Guesses,
     draft: &ClauseDraft,
     used: Used,
 ) -> Result<Judged, TableFault>
@@ -318,7 +340,16 @@ pub(crate) fn judge_query(
     let parts = draft.parts.as_slice();
     let part = asked(parts, draft.root());
     let clause = used.numbers + 1;
-    let Some(body) = body_of(alloc, names, parts, part, clause, used.disjunctions)? else {
+    let Some(body) = body_of(
+        alloc,
+        names,
+        guesses,
+        parts,
+        part,
+        clause,
+        used.disjunctions,
+    )?
+    else {
         return Err(TableFault::NotPure);
     };
     sized(alloc, draft, used, 0, body)

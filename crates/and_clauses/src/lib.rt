@@ -8,11 +8,14 @@
 mod body;
 pub mod data;
 pub mod draft;
+mod guesses;
 mod items;
 mod judging;
 mod lifting;
 mod making;
 mod numbering;
+mod scratch;
+mod short;
 mod sorting;
 pub mod table;
 mod unknown;

@@ -24,7 +24,9 @@ ghost use Rattle.and_clauses.specs.declared.draft.DraftPart.{DraftPart};
 ghost use Rattle.and_model.specs.declared.limits.TheConstants.{MAX_NODES, MAX_VARIABLES};
 
 use crate::draft::DraftPart;
+use crate::guesses::Guesses;
 use crate::numbering::number_of;
+use crate::scratch::CopyLists;
 use crate::sorting::{Disjunction, Outline, Piece};
 use and_model::{NameNo, NodeNo, Text};
 use and_program::{ClauseEntry, ItemNode, Node};
@@ -37,6 +39,7 @@ use std::alloc::{AllocError, Global};
 pub(crate) struct Lifting<'a> {
     pub(crate) alloc: Global,
     pub(crate) names: &'a IndexSet<Vec<u8>>,
+    pub(crate) guesses: &'a Guesses,
     pub(crate) parts: &'a [DraftPart],
     pub(crate) disjunctions: &'a [Disjunction],
     pub(crate) numbers: &'a [NameNo],
@@ -46,6 +49,7 @@ pub(crate) struct Lifting<'a> {
 pub(crate) fn lifted_items(
     lifting: Lifting<'_>,
     nodes: &mut Vec<Node>,
+    lists: &mut CopyLists,
     scope: Option<&[u32]>,
     pieces: &[Piece],
 ) -> Result<Vec<ItemNode>, AllocError>
@@ -71,7 +75,7 @@ pub(crate) fn lifted_items(
     let mut items = Vec::new(lifting.alloc);
     let mut pairs = 0;
     for piece in pieces {
-        let item = lifted_item(lifting, nodes, scope, piece, pairs)?;
+        let item = lifted_item(lifting, nodes, lists, scope, piece, pairs)?;
         items.push(item)?;
         pairs += pairs_of(&item);
     }
@@ -104,6 +108,7 @@ fn pairs_of(item: &ItemNode) -> u32
 fn lifted_item(
     lifting: Lifting<'_>,
     nodes: &mut Vec<Node>,
+    lists: &mut CopyLists,
     scope: Option<&[u32]>,
     piece: &Piece,
     pairs: u32,
@@ -125,7 +130,7 @@ fn lifted_item(
     ensures there { IfOk result (λ item. IsThere (shapes_of nodes.new.items) pairs (node_item item)) }
 {
     match piece {
-        Piece::Item(item) => copied_item(lifting, nodes, scope, item, pairs),
+        Piece::Item(item) => copied_item(lifting, nodes, lists, scope, item, pairs),
         Piece::Disjunction(number) => {
             let goal = lifted_call(lifting, nodes, scope, *number)?;
             Ok(ItemNode::Call { goal })
@@ -137,6 +142,7 @@ fn lifted_item(
 fn copied_item(
     lifting: Lifting<'_>,
     nodes: &mut Vec<Node>,
+    lists: &mut CopyLists,
     scope: Option<&[u32]>,
     item: &ItemNode,
     pairs: u32,
@@ -160,12 +166,12 @@ fn copied_item(
 {
     match item {
         ItemNode::Call { goal } => {
-            let goal = copied(lifting, nodes, scope, goal.0)?;
+            let goal = copied(lifting, nodes, lists, scope, goal.0)?;
             Ok(ItemNode::Call { goal })
         }
         ItemNode::Equal { left, right } => {
-            let left = copied(lifting, nodes, scope, left.0)?;
-            let right = copied(lifting, nodes, scope, right.0)?;
+            let left = copied(lifting, nodes, lists, scope, left.0)?;
+            let right = copied(lifting, nodes, lists, scope, right.0)?;
             Ok(ItemNode::Equal { left, right })
         }
         ItemNode::Is {
@@ -173,8 +179,8 @@ fn copied_item(
             right,
             pair: _,
         } => {
-            let left = copied(lifting, nodes, scope, left.0)?;
-            let right = copied(lifting, nodes, scope, right.0)?;
+            let left = copied(lifting, nodes, lists, scope, left.0)?;
+            let right = copied(lifting, nodes, lists, scope, right.0)?;
             Ok(ItemNode::Is {
                 left,
                 right,
@@ -186,8 +192,8 @@ fn copied_item(
             left,
             right,
         } => {
-            let left = copied(lifting, nodes, scope, left.0)?;
-            let right = copied(lifting, nodes, scope, right.0)?;
+            let left = copied(lifting, nodes, lists, scope, left.0)?;
+            let right = copied(lifting, nodes, lists, scope, right.0)?;
             Ok(ItemNode::Compare {
                 relation: *relation,
                 left,
@@ -318,6 +324,7 @@ pub(crate) enum Copying {
 pub(crate) fn copied(
     lifting: Lifting<'_>,
     nodes: &mut Vec<Node>,
+    lists: &mut CopyLists,
     scope: Option<&[u32]>,
     root: u32,
 ) -> Result<NodeNo, AllocError>
@@ -334,20 +341,27 @@ pub(crate) fn copied(
     ensures term { IfOk result (λ n. IsNode (shapes_of nodes.new.items) n.0
         (renumbered (numbering_at scope.entry) (node_term (nodes_under lifting.entry) root))) }
 {
-    let mut pending = Vec::new(lifting.alloc);
-    let mut finished = Vec::new(lifting.alloc);
-    pending.push(Copying::Term(root))?;
-    while let Some(next) = pending.pop() {
+    lists.pending.clear();
+    lists.finished.clear();
+    lists.pending.push(Copying::Term(root))?;
+    while let Some(next) = lists.pending.pop() {
         match next {
             Copying::Term(part) => {
-                copy_part(lifting, nodes, scope, part, &mut pending, &mut finished)?;
+                copy_part(
+                    lifting,
+                    nodes,
+                    scope,
+                    part,
+                    &mut lists.pending,
+                    &mut lists.finished,
+                )?;
             }
             Copying::Name { name, count } => {
-                finish_name(lifting.alloc, nodes, name, count, &mut finished)?;
+                finish_name(lifting.alloc, nodes, name, count, &mut lists.finished)?;
             }
         }
     }
-    Ok(finished[0])
+    Ok(lists.finished[0])
 }
 
 /// Adds the node of a name with the last terms that were copied as its arguments.
@@ -405,12 +419,12 @@ fn copy_part(
             finished.push(push_node(nodes, Node::Number(*value))?)?;
         }
         DraftPart::Compound { name, arguments } => {
-            let number = number_of(lifting.names, name.bytes());
+            let number = number_of(lifting.names, lifting.guesses, part, name.bytes());
             pending.push(Copying::Name {
                 name: NameNo(number as u32),
                 count: arguments.len(),
             })?;
-            push_terms(pending, arguments)?;
+            push_terms(pending, arguments.as_slice())?;
         }
     }
     Ok(())
@@ -459,6 +473,7 @@ fn written_name(written: &[Text], variable: u32) -> &[u8]
 pub(crate) fn alternative(
     lifting: Lifting<'_>,
     nodes: &mut Vec<Node>,
+    lists: &mut CopyLists,
     written: &[Text],
     outline: &Outline,
     line: u32,
@@ -482,7 +497,7 @@ pub(crate) fn alternative(
     let disjunction = scope_of(outline);
     let variables = lifting.disjunctions[disjunction].variables.as_slice();
     let head = lifted_head(lifting, nodes, disjunction)?;
-    let items = lifted_items(lifting, nodes, Some(variables), &outline.pieces)?;
+    let items = lifted_items(lifting, nodes, lists, Some(variables), &outline.pieces)?;
     let names = names_in(lifting.alloc, written, variables)?;
     Ok(ClauseEntry::new(head, items, names, line))
 }
@@ -502,6 +517,7 @@ fn scope_of(outline: &Outline) -> usize
 pub(crate) fn alternatives(
     lifting: Lifting<'_>,
     nodes: &mut Vec<Node>,
+    lists: &mut CopyLists,
     written: &[Text],
     outlines: &[Outline],
     line: u32,
@@ -523,7 +539,7 @@ pub(crate) fn alternatives(
 {
     let mut entries = Vec::new(lifting.alloc);
     for outline in outlines {
-        let entry = alternative(lifting, nodes, written, outline, line)?;
+        let entry = alternative(lifting, nodes, lists, written, outline, line)?;
         entries.push(entry)?;
     }
     Ok(entries)

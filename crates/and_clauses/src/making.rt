@@ -28,9 +28,11 @@ ghost use Rattle.and_model.specs.declared.limits.TheConstants.{MAX_VARIABLES};
 use crate::body::BodyToken;
 use crate::data::{Called, TableFault};
 use crate::draft::ClauseDraft;
+use crate::guesses::Guesses;
 use crate::judging::{Judged, Used, judge_clause, judge_query};
 use crate::lifting::{Lifting, alternatives, copied, lifted_items};
 use crate::numbering::{note_disjunctions, note_names, written_names};
+use crate::scratch::{CopyLists, Scratch};
 use crate::sorting::{Outline, Sorted};
 use crate::unknown::append_calls;
 use and_model::NodeNo;
@@ -103,6 +105,7 @@ pub(crate) struct Made {
 pub(crate) fn clause_added(
     alloc: Global,
     lists: &mut Lists,
+    scratch: &mut Scratch,
     draft: &ClauseDraft,
     used: Used,
 ) -> Result<Used, TableFault>
@@ -116,13 +119,27 @@ pub(crate) fn clause_added(
         → RefusesClause T (draft_of draft.now) result }
     ensures grown { Grows lists.old lists.new }
 {
-    note_names(alloc, &mut lists.names, &draft.parts, draft.root())?;
-    let judged = judge_clause(alloc, &lists.names, draft, used)?;
+    let Scratch {
+        guesses,
+        parts,
+        copying,
+    } = scratch;
+    note_names(
+        alloc,
+        &mut lists.names,
+        guesses,
+        parts,
+        &draft.parts,
+        draft.root(),
+    )?;
+    let judged = judge_clause(alloc, &lists.names, guesses, draft, used)?;
     let head = Some(judged.head);
     let made = made_of(
         alloc,
         &mut lists.names,
         &mut lists.nodes,
+        guesses,
+        copying,
         draft,
         judged,
         head,
@@ -139,6 +156,7 @@ pub(crate) fn clause_added(
     append_calls(
         &mut lists.calls,
         &lists.names,
+        guesses,
         &draft.parts,
         &tokens,
         draft.line,
@@ -151,6 +169,7 @@ pub(crate) fn clause_added(
 pub(crate) fn query_added(
     alloc: Global,
     lists: &mut Lists,
+    scratch: &mut Scratch,
     draft: &ClauseDraft,
     used: Used,
 ) -> Result<(ClauseEntry, Used), TableFault>
@@ -163,12 +182,26 @@ pub(crate) fn query_added(
     ensures fault { (T : Table) → Keeps lists.old None used T → RefusesQuery T (draft_of draft.now) result }
     ensures grown { Grows lists.old lists.new }
 {
-    note_names(alloc, &mut lists.names, &draft.parts, draft.root())?;
-    let judged = judge_query(alloc, &lists.names, draft, used)?;
+    let Scratch {
+        guesses,
+        parts,
+        copying,
+    } = scratch;
+    note_names(
+        alloc,
+        &mut lists.names,
+        guesses,
+        parts,
+        &draft.parts,
+        draft.root(),
+    )?;
+    let judged = judge_query(alloc, &lists.names, guesses, draft, used)?;
     let made = made_of(
         alloc,
         &mut lists.names,
         &mut lists.nodes,
+        guesses,
+        copying,
         draft,
         judged,
         None,
@@ -184,6 +217,7 @@ pub(crate) fn query_added(
     append_calls(
         &mut lists.calls,
         &lists.names,
+        guesses,
         &draft.parts,
         &tokens,
         draft.line,
@@ -207,6 +241,8 @@ fn made_of(
     alloc: Global,
     names: &mut IndexSet<Vec<u8>>,
     nodes: &mut Vec<Node>,
+    guesses: &Guesses,
+    copying: &mut CopyLists,
     draft: &ClauseDraft,
     judged: Judged,
     head: Option<u32>,
@@ -235,11 +271,12 @@ fn made_of(
     let lifting = Lifting {
         alloc,
         names,
+        guesses,
         parts: &draft.parts,
         disjunctions: &disjunctions,
         numbers: &numbers,
     };
-    let (entry, alternatives) = entries(lifting, nodes, &outlines, head, draft.line)?;
+    let (entry, alternatives) = entries(lifting, nodes, copying, &outlines, head, draft.line)?;
     Ok(Made {
         entry,
         alternatives,
@@ -252,6 +289,7 @@ fn made_of(
 fn entries(
     lifting: Lifting<'_>,
     nodes: &mut Vec<Node>,
+    lists: &mut CopyLists,
     outlines: &[Outline],
     head: Option<u32>,
     line: u32,
@@ -277,10 +315,10 @@ fn entries(
         (lifted_clause k ∷ clauses_of_items k items)) }
     ensures asked { head ≡ None → IfOk result (λ made. made.0.head.0 ≡ 0) }
 {
-    let head = head_node(lifting, nodes, head)?;
-    let items = lifted_items(lifting, nodes, None, &outlines[0].pieces)?;
+    let head = head_node(lifting, nodes, lists, head)?;
+    let items = lifted_items(lifting, nodes, lists, None, &outlines[0].pieces)?;
     let written = written_names(lifting.alloc, lifting.parts)?;
-    let alternatives = alternatives(lifting, nodes, &written, &outlines[1..], line)?;
+    let alternatives = alternatives(lifting, nodes, lists, &written, &outlines[1..], line)?;
     Ok((ClauseEntry::new(head, items, written, line), alternatives))
 }
 
@@ -288,6 +326,7 @@ fn entries(
 fn head_node(
     lifting: Lifting<'_>,
     nodes: &mut Vec<Node>,
+    lists: &mut CopyLists,
     head: Option<u32>,
 ) -> Result<NodeNo, AllocError>
     requires lifting { IsLifting lifting }
@@ -305,7 +344,7 @@ fn head_node(
     ensures asked { head ≡ None → IfOk result (λ n. n.0 ≡ 0) }
 {
     match head {
-        Some(part) => copied(lifting, nodes, None, part),
+        Some(part) => copied(lifting, nodes, lists, None, part),
         None => Ok(NodeNo(0)),
     }
 }

@@ -1,6 +1,6 @@
 //! The numbers of names in a table, and of variables in a clause.
 
-ghost use Rattle.std.specs.Prelude.{◌≡◌, ◌<◌, ◌+◌, ◌^◌, [], ◌++◌, length, IfOk, OnOk, reverse};
+ghost use Rattle.std.specs.Prelude.{◌≡◌, ◌<◌, ◌+◌, ◌^◌, [], ◌++◌, length, IfOk, OnOk, IsTrue, reverse};
 ghost use Rattle.and_model.specs.Programs.{builtin_names};
 ghost use Rattle.and_syntax.specs.Written.{place, including, named};
 ghost use Rattle.and_syntax.specs.Tables.{disjunction_name, with_disjunctions};
@@ -11,6 +11,7 @@ ghost use Rattle.and_program.specs.Nodes.{names_of};
 ghost use Rattle.and_clauses.specs.Numbered.{bytes_of, including_all, named_by, met_by, met_with, Extends};
 
 use crate::draft::DraftPart;
+use crate::guesses::Guesses;
 use and_model::{NameNo, Text};
 use indexmap::IndexSet;
 use std::alloc::{AllocError, Global};
@@ -41,23 +42,62 @@ fn name_set(alloc: Global, occurring: &[&[u8]]) -> Result<IndexSet<Vec<u8>>, All
     Ok(names)
 }
 
-/// Numbers a name, where it has no number yet. An error is want of memory.
-fn note_name(alloc: Global, names: &mut IndexSet<Vec<u8>>, name: &[u8]) -> Result<(), AllocError>
+/// Numbers a name, where it has no number yet, and answers its number. An error is want of memory.
+fn note_name(alloc: Global, names: &mut IndexSet<Vec<u8>>, name: &[u8]) -> Result<usize, AllocError>
     ensures ok { OnOk result (names_of names.new.keys ≡ including (names_of names.old.keys) name.now) }
     ensures kept { Extends (names_of names.old.keys) (names_of names.new.keys) }
 {
-    if names.contains(name) {
-        return Ok(());
+    if let Some(number) = names.get_index_of(name) {
+        return Ok(number);
     }
+    let number = names.len();
     names.insert(Vec::from_slice(alloc, name)?)?;
-    Ok(())
+    Ok(number)
 }
 
 /// The number of a name, or how many names there are where it has none. Takes no memory.
-pub(crate) fn number_of(names: &IndexSet<Vec<u8>>, name: &[u8]) -> usize
+fn find_number(names: &IndexSet<Vec<u8>>, name: &[u8]) -> usize
     ensures { result ≡ place name.now (names_of names.now.keys) }
 {
     names.get_index_of(name).unwrap_or(names.len())
+}
+
+/// The number of the name of a part, or how many names there are where it has none. It is looked for only where it is
+/// not the guess for that part. Takes no memory.
+pub(crate) fn number_of(
+    names: &IndexSet<Vec<u8>>,
+    guesses: &Guesses,
+    part: u32,
+    name: &[u8],
+) -> usize
+    ensures { result ≡ place name.now (names_of names.now.keys) }
+{
+    match guesses.of(part) {
+        Some(guess) => checked_number(names, guess, name),
+        None => find_number(names, name),
+    }
+}
+
+/// The number of a name, for which there is a guess.
+fn checked_number(names: &IndexSet<Vec<u8>>, guess: usize, name: &[u8]) -> usize
+    ensures { result ≡ place name.now (names_of names.now.keys) }
+{
+    if is_named(names, guess, name) {
+        guess
+    } else {
+        find_number(names, name)
+    }
+}
+
+/// Whether a name has that number.
+fn is_named(names: &IndexSet<Vec<u8>>, number: usize, name: &[u8]) -> bool
+    ensures { IsTrue result → place name.now (names_of names.now.keys) ≡ number }
+{
+    let _count = names.len();
+    match names.get_index(number) {
+        Some(there) => name == there.as_slice(),
+        None => false,
+    }
 }
 
 /// Numbers the names of a term as they are first seen from left to right. An error is want of
@@ -65,6 +105,8 @@ pub(crate) fn number_of(names: &IndexSet<Vec<u8>>, name: &[u8]) -> usize
 pub(crate) fn note_names(
     alloc: Global,
     names: &mut IndexSet<Vec<u8>>,
+    guesses: &mut Guesses,
+    pending: &mut Vec<u32>,
     parts: &[DraftPart],
     root: u32,
 ) -> Result<(), AllocError>
@@ -74,11 +116,13 @@ pub(crate) fn note_names(
         ≡ named (names_of names.old.keys) (written_at (part_shapes parts.now) root)) }
     ensures kept { Extends (names_of names.old.keys) (names_of names.new.keys) }
 {
-    let mut pending = Vec::new(alloc);
+    guesses.make_room(parts.len())?;
+    pending.clear();
     pending.push(root)?;
     while let Some(number) = pending.pop() {
         let part = &parts[number as usize];
-        note_part(alloc, names, &mut pending, part)?;
+        let name = note_part(alloc, names, pending, part)?;
+        guesses.note(number, name);
     }
     Ok(())
 }
@@ -89,7 +133,7 @@ fn note_part(
     names: &mut IndexSet<Vec<u8>>,
     pending: &mut Vec<u32>,
     part: &DraftPart,
-) -> Result<(), AllocError>
+) -> Result<usize, AllocError>
     ensures names { OnOk result (names_of names.new.keys ≡ named_by (names_of names.old.keys) (part_shape part.now)) }
     ensures pending { OnOk result (reverse pending.new.items
         ≡ arguments_of (part_shape part.now) ++ reverse pending.old.items) }
@@ -97,11 +141,12 @@ fn note_part(
 {
     match part {
         DraftPart::Compound { name, arguments } => {
-            note_name(alloc, names, name.bytes())?;
-            push_reversed(pending, arguments)
+            let number = note_name(alloc, names, name.bytes())?;
+            push_reversed(pending, arguments.as_slice())?;
+            Ok(number)
         }
-        DraftPart::Variable(_, _) => Ok(()),
-        DraftPart::Integer(_) => Ok(()),
+        DraftPart::Variable(_, _) => Ok(0),
+        DraftPart::Integer(_) => Ok(0),
     }
 }
 
@@ -188,5 +233,5 @@ pub(crate) fn note_disjunction(
     name.push(0xFF)?;
     name.extend_from_slice(itoa::Buffer::new().format(disjunction).as_bytes())?;
     note_name(alloc, names, &name)?;
-    Ok(number_of(names, &name))
+    Ok(find_number(names, &name))
 }

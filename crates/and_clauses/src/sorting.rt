@@ -388,7 +388,7 @@ fn note_part(
     match part {
         DraftPart::Variable(_, number) => note(variables, *number),
         DraftPart::Integer(_) => Ok(()),
-        DraftPart::Compound { name: _, arguments } => push_reversed(pending, arguments),
+        DraftPart::Compound { name: _, arguments } => push_reversed(pending, arguments.as_slice()),
     }
 }
 

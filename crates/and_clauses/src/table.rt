@@ -16,6 +16,7 @@ use crate::draft::ClauseDraft;
 use crate::judging::Used;
 use crate::making::{Lists, clause_added, query_added};
 use crate::numbering::built_in_names;
+use crate::scratch::Scratch;
 use crate::unknown::{first_unknown_call, unknown_fault};
 use and_model::{ClauseNo, NameNo};
 use and_program::{ClauseEntry, Loaded, Node, clause_numbers};
@@ -29,6 +30,7 @@ pub struct ClauseTable {
     pub(crate) lists: Lists,
     pub(crate) query: Option<ClauseEntry>,
     pub(crate) used: Used,
+    scratch: Scratch,
     /// What was added, which contracts alone read.
     pub(crate) added: Vec<Added>,
     ghost kept: { IsKept (shapes_of lists.nodes.items) lists.clauses.items query lists.calls.items
@@ -68,6 +70,7 @@ impl ClauseTable {
                 numbers: 0,
                 disjunctions: 0,
             },
+            scratch: Scratch::new(alloc),
             added: Vec::new(alloc),
         })
     }
@@ -77,10 +80,10 @@ impl ClauseTable {
     /// alternatives take the numbers behind it.
     ///
     /// Refused, the table is as it was.
-    pub fn add_clause(&mut self, draft: ClauseDraft) -> Result<ClauseNo, TableFault>
-        requires { length (draft_of draft).finished ≡ 1 }
-        ensures ok { AddsClause (table_of self.old) (table_of self.new) (draft_of draft) result }
-        ensures fault { RefusesClause (table_of self.old) (draft_of draft) result }
+    pub fn add_clause(&mut self, draft: &ClauseDraft) -> Result<ClauseNo, TableFault>
+        requires { length (draft_of draft.now).finished ≡ 1 }
+        ensures ok { AddsClause (table_of self.old) (table_of self.new) (draft_of draft.now) result }
+        ensures fault { RefusesClause (table_of self.old) (draft_of draft.now) result }
         ensures refused { OnErr result (table_of self.new ≡ table_of self.old) }
     {
         let lengths = self.lists.lengths();
@@ -88,8 +91,9 @@ impl ClauseTable {
         match add_clause(
             self.alloc,
             &mut self.lists,
+            &mut self.scratch,
             &mut self.added,
-            &draft,
+            draft,
             self.used,
         ) {
             Ok(used) => {
@@ -107,10 +111,10 @@ impl ClauseTable {
     /// next numbers.
     ///
     /// Refused, the table is as it was.
-    pub fn set_query(&mut self, draft: ClauseDraft) -> Result<(), TableFault>
-        requires { IsTrue (is_query (draft_of draft).finished) }
-        ensures ok { SetsQuery (table_of self.old) (table_of self.new) (draft_of draft) result }
-        ensures fault { RefusesQuery (table_of self.old) (draft_of draft) result }
+    pub fn set_query(&mut self, draft: &ClauseDraft) -> Result<(), TableFault>
+        requires { IsTrue (is_query (draft_of draft.now).finished) }
+        ensures ok { SetsQuery (table_of self.old) (table_of self.new) (draft_of draft.now) result }
+        ensures fault { RefusesQuery (table_of self.old) (draft_of draft.now) result }
         ensures refused { OnErr result (table_of self.new ≡ table_of self.old) }
     {
         if self.query.is_some() {
@@ -120,8 +124,9 @@ impl ClauseTable {
         match set_query(
             self.alloc,
             &mut self.lists,
+            &mut self.scratch,
             &mut self.added,
-            &draft,
+            draft,
             self.used,
         ) {
             Ok((query, used)) => {
@@ -169,6 +174,7 @@ impl ClauseTable {
 fn add_clause(
     alloc: Global,
     lists: &mut Lists,
+    scratch: &mut Scratch,
     added: &mut Vec<Added>,
     draft: &ClauseDraft,
     used: Used,
@@ -185,7 +191,7 @@ fn add_clause(
     ensures grown { Grows lists.old lists.new }
     ensures kept { OnErr result (added.new.items ≡ added.old.items) }
 {
-    let used = clause_added(alloc, lists, draft, used)?;
+    let used = clause_added(alloc, lists, scratch, draft, used)?;
     added.push(Added::Clause(Snapshot::of(draft)))?;
     Ok(used)
 }
@@ -194,6 +200,7 @@ fn add_clause(
 fn set_query(
     alloc: Global,
     lists: &mut Lists,
+    scratch: &mut Scratch,
     added: &mut Vec<Added>,
     draft: &ClauseDraft,
     used: Used,
@@ -209,7 +216,7 @@ fn set_query(
     ensures grown { Grows lists.old lists.new }
     ensures kept { OnErr result (added.new.items ≡ added.old.items) }
 {
-    let set = query_added(alloc, lists, draft, used)?;
+    let set = query_added(alloc, lists, scratch, draft, used)?;
     added.push(Added::Query(Snapshot::of(draft)))?;
     Ok(set)
 }

@@ -15,6 +15,7 @@ ghost use Rattle.and_clauses.specs.Sealing.{IsUnknown};
 use crate::body::BodyToken;
 use crate::data::{Called, SealFault};
 use crate::draft::DraftPart;
+use crate::guesses::Guesses;
 use crate::numbering::number_of;
 use and_model::{NameNo, NodeNo, Text};
 use and_program::{ClauseNumbers, ItemNode, Predicate, clauses_at, name_at};
@@ -26,6 +27,7 @@ use std::alloc::{AllocError, Global};
 pub(crate) fn append_calls(
     calls: &mut Vec<Called>,
     names: &IndexSet<Vec<u8>>,
+    guesses: &Guesses,
     parts: &[DraftPart],
     tokens: &[BodyToken],
     line: u32,
@@ -39,7 +41,7 @@ pub(crate) fn append_calls(
     ensures kept { take (length calls.old.items) calls.new.items ≡ calls.old.items }
 {
     for token in tokens {
-        append_call(calls, names, parts, token, line)?;
+        append_call(calls, names, guesses, parts, token, line)?;
     }
     Ok(())
 }
@@ -48,6 +50,7 @@ pub(crate) fn append_calls(
 fn append_call(
     calls: &mut Vec<Called>,
     names: &IndexSet<Vec<u8>>,
+    guesses: &Guesses,
     parts: &[DraftPart],
     token: &BodyToken,
     line: u32,
@@ -62,7 +65,7 @@ fn append_call(
 {
     match goal_of(token) {
         Some(goal) => {
-            let predicate = predicate_of(names, parts, goal);
+            let predicate = predicate_of(names, guesses, parts, goal);
             calls.push(Called { predicate, line })?;
             Ok(())
         }
@@ -87,7 +90,12 @@ fn goal_of(token: &BodyToken) -> Option<NodeNo>
 }
 
 /// The predicate of a part's term. (A variable and a number, which no body calls, have that of `true`.)
-fn predicate_of(names: &IndexSet<Vec<u8>>, parts: &[DraftPart], part: NodeNo) -> Predicate
+fn predicate_of(
+    names: &IndexSet<Vec<u8>>,
+    guesses: &Guesses,
+    parts: &[DraftPart],
+    part: NodeNo,
+) -> Predicate
     requires there { part.0 < length parts.now }
     requires falls { PartsFall 0 (part_shapes parts.now) }
     requires few_names { length (names_of names.now.keys) < 2 ^ 32 }
@@ -96,7 +104,7 @@ fn predicate_of(names: &IndexSet<Vec<u8>>, parts: &[DraftPart], part: NodeNo) ->
 {
     match &parts[part.0 as usize] {
         DraftPart::Compound { name, arguments } => Predicate {
-            name: NameNo(number_of(names, name.bytes()) as u32),
+            name: NameNo(number_of(names, guesses, part.0, name.bytes()) as u32),
             arity: arguments.len(),
         },
         DraftPart::Variable(_, _) => Predicate {

@@ -402,16 +402,16 @@ pub list_put_or : {T E : Type 0} (r : Result T E) (a b c d : ClauseDraft) (items
 list_put_or (Ok x) a b c d items s k few f g h = list_put a b c d items s k few f g h
 list_put_or (Err e) a b c d items s k few f g h = tt
 
--- all terms as one goal
-pub whole_joined : {T E : Type 0} (r : Result T E) (old new : ClauseDraft) (items : List Written) (k : ℕ) → (draft_of old).finished ≡ items
-    → length items ≡ suc k
+-- the last terms as one goal
+pub whole_joined : {T E : Type 0} (r : Result T E) (old new : ClauseDraft) (before items : List Written) (k : ℕ)
+    → (draft_of old).finished ≡ before ++ items → length items ≡ suc k
     → ((ws us : List Written) (last : Written) → (draft_of old).finished ≡ ws ++ (us ++ last ∷ []) → length us ≡ k
     → OnOk r (Becomes old new (ws ++ chain (codes ",") us last ∷ [])))
-    → OnOk r (Becomes old new (joined items ∷ []))
-whole_joined r old new items k e few h =
+    → OnOk r (Becomes old new (before ++ joined items ∷ []))
+whole_joined r old new before items k e few h =
     let s : Snoc items k = snoc items k few in
-    subst (λ (w : Written). OnOk r (Becomes old new (w ∷ []))) (chained_goals s.front s.last ∙ ap joined (sym s.split))
-    (h [] s.front s.last (e ∙ s.split) s.few)
+    subst (λ (w : Written). OnOk r (Becomes old new (before ++ w ∷ []))) (chained_goals s.front s.last ∙ ap joined (sym s.split))
+    (h before s.front s.last (e ∙ ap (λ (ws : List Written). before ++ ws) s.split) s.few)
 
 pub same_count : (x y : Bytes) (us vs : List Written) → compound x (many us) ≡ compound y (many vs) → (x ≡ y) × (length us ≡ length vs)
 same_count x y us vs e =

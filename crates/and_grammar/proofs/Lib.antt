@@ -4,3 +4,4 @@ pub mod Looking
 pub mod Standing
 pub mod ThreadLemmas
 pub mod TranslateLemmas
+pub mod CountLemmas

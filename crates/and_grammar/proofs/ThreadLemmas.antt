@@ -106,7 +106,7 @@ pub terminals_left_out : (old : Threaded) (first : Bool) (items : List Written) 
 terminals_left_out old first items now counted =
     subst (λ (f : Bool). Makes old old (done (body (cond f nothing (terminals items))) (stand_of old))) (sym now) (nothing_made old counted)
 
-effort_some : (d : ClauseDraft) (t : Task) → 0 < effort d t
+pub effort_some : (d : ClauseDraft) (t : Task) → 0 < effort d t
 effort_some d (tasks.Body place first) = omega (arith, nodes_some d place)
 effort_some d (tasks.Others place from into) = omega arith
 effort_some d (tasks.EndAlternative into) = omega arith
@@ -128,11 +128,11 @@ module _ (d : ClauseDraft) (t : Task) (todo after : List Task) (old new : Thread
       })
 
 -- a body that is not taken apart is itself behind what stands first
-first_same : (first : Bool) (b c : Body) → b ≡ c → behind_first c ≡ c → cond first (behind_first b) b ≡ c
+pub first_same : (first : Bool) (b c : Body) → b ≡ c → behind_first c ≡ c → cond first (behind_first b) b ≡ c
 first_same true b c e f = ap behind_first e ∙ f
 first_same false b c e f = e
 
-first_both : (first : Bool) (b x y : Body) → b ≡ both x y → cond first (behind_first b) b ≡ both (cond first (behind_first x) x) y
+pub first_both : (first : Bool) (b x y : Body) → b ≡ both x y → cond first (behind_first b) b ≡ both (cond first (behind_first x) x) y
 first_both true b x y e = ap behind_first e
 first_both false b x y e = e
 
@@ -284,25 +284,16 @@ resume_made old new n few same counted_more at next =
       counted = omega (arith, ap (λ (d : Draft). length d.finished) same);
     }
 
-pub stand_begun : (t : Threaded) → terms t ≡ [] → t.goals ≡ 0 → t.state ≡ 0 → t.next ≡ 1 → stand_of t ≡ stand [] [] 0 1
-stand_begun t e no_goals at next =
-    ap (λ (s : ℕ). stand (stand_of t).below (stand_of t).goals s t.next) at
-    ∙ ap (λ (n : ℕ). stand (stand_of t).below (stand_of t).goals 0 n) next
-    ∙ ap (λ (k : ℕ). stand (take (length (terms t) - k) (terms t)) (drop (length (terms t) - k) (terms t)) 0 1) no_goals
-    ∙ ap (λ (ws : List Written). stand (take (length ws - 0) ws) (drop (length ws - 0) ws) 0 1) e
-
--- all is done: the terms are the goals of the whole body
-pub record Finished (t : Threaded) (w : Walk) : Type 0 where
-  pub all : terms t ≡ w.goals
+-- all is done: the terms are those that were there and the goals of the whole body
+pub record Finished (t : Threaded) (ws : List Written) (w : Walk) : Type 0 where
+  pub all : terms t ≡ ws ++ w.goals
   pub few : length w.goals ≡ t.goals
-  pub at : t.state ≡ w.behind
 
-pub all_finished : (t : Threaded) (b : Body) → t.goals ≤ length (terms t) → stand_of t ≡ stand [] (walk b 0 1).goals (walk b 0 1).behind (walk b 0 1).next
-    → Finished t (walk b 0 1)
-all_finished t b counted e = record {
+pub all_finished : (t : Threaded) (ws : List Written) (b : Body) → t.goals ≤ length (terms t)
+    → stand_of t ≡ stand ws (walk b 0 1).goals (walk b 0 1).behind (walk b 0 1).next → Finished t ws (walk b 0 1)
+all_finished t ws b counted e = record {
   all = sym (stand_whole t) ∙ ap whole e;
   few = ap (λ (s : Stand). length s.goals) (sym e) ∙ goals_counted t counted;
-  at = ap (λ (s : Stand). s.state) e;
 }
 
 -- a task that is that one was done at once
@@ -320,9 +311,10 @@ task_split d t place from into todo after old new is below p m =
     (split_step d place from into todo after old new p
     (subst (λ (x : Task). AreBelow (acts_of d (x ∷ todo)) (length (stand_of old).below)) is below) m)
 
--- the whole body is to be translated
-pub begun : (d : ClauseDraft) (place : ℕ) (ts : List Task) (t : Threaded) → ts ≡ tasks.Body place true ∷ [] → terms t ≡ [] → t.goals ≡ 0 → t.state ≡ 0
-    → t.next ≡ 1 → all_done (acts_of d ts) (stand_of t) ≡ all_done (body (behind_first (body_at d place)) ∷ []) (stand [] [] 0 1)
-begun d place ts t e none no_goals at next =
+-- the whole body is to be translated, behind the terms that are there
+pub begun : (d : ClauseDraft) (place : ℕ) (ts : List Task) (t : Threaded) → ts ≡ tasks.Body place true ∷ [] → t.goals ≡ 0 → t.state ≡ 0
+    → t.next ≡ 1 → all_done (acts_of d ts) (stand_of t) ≡ all_done (body (behind_first (body_at d place)) ∷ []) (stand (terms t) [] 0 1)
+begun d place ts t e no_goals at next =
+    let here : Makes t t (stand (terms t) [] 0 1) = all_below t t (omega (arith, no_goals)) refl (terms t) 0 1 refl no_goals at next in
     ap (λ (us : List Task). all_done (acts_of d us) (stand_of t)) e
-    ∙ ap (all_done (body (behind_first (body_at d place)) ∷ [])) (stand_begun t none no_goals at next)
+    ∙ ap (all_done (body (behind_first (body_at d place)) ∷ [])) here.stand

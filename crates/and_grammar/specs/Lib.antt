@@ -3,3 +3,4 @@ pub mod Copies
 pub mod Acts
 pub mod Checked
 pub mod Translated
+pub mod Counts

@@ -15,6 +15,7 @@ use crate::bodies::cell_at;
 use crate::fault::RuleFault;
 use and_clauses::{ClauseDraft, Part};
 use itoa::Buffer;
+use smallvec::SmallVec;
 use std::alloc::{AllocError, Global};
 
 /// What is left to do of a copy.
@@ -67,9 +68,10 @@ pub(crate) fn put_state(alloc: Global, out: &mut ClauseDraft, number: u32) -> Re
     ensures { OnOk result (Adds out.old out.new (state number ∷ [])) }
 {
     let mut buffer = Buffer::new();
-    let mut name = Vec::from_slice(alloc, &[255])?;
+    let mut name = SmallVec::<u8, 15>::new(alloc);
+    name.push(255)?;
     name.extend_from_slice(buffer.format(number).as_bytes())?;
-    put_variable(out, &name)
+    put_variable(out, name.as_slice())
 }
 
 /// Puts a name of two arguments between the last `count + 1` terms, nested to the right.
@@ -89,6 +91,23 @@ pub(crate) fn put_chain(out: &mut ClauseDraft, name: &[u8], count: u32) -> Resul
 
 /// Adds the term that ends at a part of another draft. An error is want of memory.
 pub(crate) fn copy_term(
+    alloc: Global,
+    rule: &ClauseDraft,
+    out: &mut ClauseDraft,
+    place: u32,
+) -> Result<(), RuleFault>
+    requires { place < (draft_of rule.now).parts }
+    ensures { OnOk result (Adds out.old out.new (term_at rule.now place ∷ [])) }
+{
+    match rule.part(place) {
+        Part::Variable { name, .. } => put_variable(out, name),
+        Part::Integer(value) => put_integer(out, value),
+        Part::Compound { .. } => copy_parts(alloc, rule, out, place),
+    }
+}
+
+/// Adds the term that ends at a part of another draft, part by part. An error is want of memory.
+fn copy_parts(
     alloc: Global,
     rule: &ClauseDraft,
     out: &mut ClauseDraft,

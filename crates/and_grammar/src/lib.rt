@@ -7,6 +7,7 @@
 mod bodies;
 mod checking;
 mod copying;
+mod counting;
 pub mod fault;
 mod threading;
 mod translating;

@@ -49,15 +49,20 @@ pub(crate) struct Threaded {
     pub(crate) goals: u32,
 }
 
-/// The goals of a body as one term, and the state behind it. Terminals at its beginning are left
+/// Puts the goals of a body as one term behind what a draft has. Terminals at its beginning are left
 /// out. An error is want of memory.
-pub(crate) fn thread(alloc: Global, rule: &ClauseDraft, body: u32) -> Result<Threaded, RuleFault>
+pub(crate) fn thread(
+    alloc: Global,
+    rule: &ClauseDraft,
+    out: ClauseDraft,
+    body: u32,
+) -> Result<Threaded, RuleFault>
     requires { body < (draft_of rule.now).parts }
     ensures { let w = walk (behind_first (body_at rule.now body)) 0 1 in
-        IfOk result (λ t. ((draft_of t.out).finished ≡ joined w.goals ∷ []) × (t.state ≡ w.behind)) }
+        IfOk result (λ t. Adds out t.out (joined w.goals ∷ [])) }
 {
     let mut threaded = Threaded {
-        out: ClauseDraft::new(alloc, rule.line()),
+        out,
         state: 0,
         next: 1,
         goals: 0,
@@ -241,8 +246,8 @@ impl Threaded {
 /// Makes the last goals one term. An error is want of memory.
 fn join_goals(out: &mut ClauseDraft, goals: u32) -> Result<(), RuleFault>
     requires { goals ≤ length (draft_of out.old).finished }
-    ensures { (items : List Written) → (draft_of out.old).finished ≡ items → length items ≡ goals
-        → OnOk result (Becomes out.old out.new (joined items ∷ [])) }
+    ensures { (ws items : List Written) → (draft_of out.old).finished ≡ ws ++ items → length items ≡ goals
+        → OnOk result (Becomes out.old out.new (ws ++ joined items ∷ [])) }
 {
     if goals == 0 {
         return put_compound(out, b"true", 0);
@@ -251,7 +256,7 @@ fn join_goals(out: &mut ClauseDraft, goals: u32) -> Result<(), RuleFault>
 }
 
 /// One more. An error is want of room for such a number.
-fn one_more(number: u32) -> Result<u32, RuleFault>
+pub(crate) fn one_more(number: u32) -> Result<u32, RuleFault>
     ensures { IfOk result (λ more. more ≡ number + 1) }
 {
     match number.checked_add(1) {
@@ -261,7 +266,12 @@ fn one_more(number: u32) -> Result<u32, RuleFault>
 }
 
 /// Two bodies come next.
-fn push_both(pending: &mut Vec<Task>, left: u32, right: u32, first: bool) -> Result<(), AllocError>
+pub(crate) fn push_both(
+    pending: &mut Vec<Task>,
+    left: u32,
+    right: u32,
+    first: bool,
+) -> Result<(), AllocError>
     ensures { OnOk result (reverse pending.new.items
         ≡ Body left first ∷ Body right false ∷ reverse pending.old.items) }
 {
@@ -274,7 +284,7 @@ fn push_both(pending: &mut Vec<Task>, left: u32, right: u32, first: bool) -> Res
 }
 
 /// A first alternative and others come next.
-fn push_alternatives(
+pub(crate) fn push_alternatives(
     pending: &mut Vec<Task>,
     left: u32,
     right: u32,
@@ -308,7 +318,7 @@ fn push_alternative(pending: &mut Vec<Task>, place: u32, into: u32) -> Result<()
 }
 
 /// The alternatives that a body is behind a `;` come next.
-fn push_others(
+pub(crate) fn push_others(
     rule: &ClauseDraft,
     pending: &mut Vec<Task>,
     place: u32,

@@ -9,20 +9,26 @@ ghost use Rattle.and_grammar.specs.Translated.{Answers, AnswersSides};
 
 use crate::bodies::{BodyPart, body_part};
 use crate::checking::check;
-use crate::copying::{copy_arguments, copy_term, put_compound, put_list_before, put_state};
+use crate::copying::{copy_arguments, put_compound, put_list_before, put_state};
+use crate::counting::state_behind;
 use crate::fault::RuleFault;
-use crate::threading::{put_wider, thread};
+use crate::threading::{Threaded, put_wider, thread};
 use and_clauses::ClauseDraft;
 use std::alloc::Global;
 
-/// A draft of the clause for which the draft of a rule, a compound `-->` of two arguments, stands.
-pub fn translate(alloc: Global, rule: &ClauseDraft) -> Result<ClauseDraft, RuleFault>
+/// A draft of the clause for which the draft of a rule, a compound `-->` of two arguments, stands. It takes the memory
+/// of a draft that is not wanted any more.
+pub fn translate(
+    alloc: Global,
+    rule: &ClauseDraft,
+    spare: ClauseDraft,
+) -> Result<ClauseDraft, RuleFault>
     requires { IsTrue (is_rule (draft_of rule.now).finished) }
     ensures { Answers (draft_of rule.now) result }
 {
     let root = rule.part_count() - 1;
     match rule.arguments(root) {
-        [head, body] => translate_sides(alloc, rule, *head, *body),
+        [head, body] => translate_sides(alloc, rule, spare, *head, *body),
         _ => Err(RuleFault::Memory),
     }
 }
@@ -31,6 +37,7 @@ pub fn translate(alloc: Global, rule: &ClauseDraft) -> Result<ClauseDraft, RuleF
 fn translate_sides(
     alloc: Global,
     rule: &ClauseDraft,
+    spare: ClauseDraft,
     head: u32,
     body: u32,
 ) -> Result<ClauseDraft, RuleFault>
@@ -39,7 +46,7 @@ fn translate_sides(
     ensures { AnswersSides rule.now (term_at rule.now head) (body_at rule.now body) result }
 {
     check(alloc, rule, head, body)?;
-    match put_sides(alloc, rule, head, body) {
+    match put_sides(alloc, rule, spare, head, body) {
         Ok(clause) => Ok(clause),
         // Nothing is wrong with the rule, so it was want of memory.
         Err(_) => Err(RuleFault::Memory),
@@ -50,6 +57,7 @@ fn translate_sides(
 fn put_sides(
     alloc: Global,
     rule: &ClauseDraft,
+    spare: ClauseDraft,
     head: u32,
     body: u32,
 ) -> Result<ClauseDraft, RuleFault>
@@ -59,21 +67,15 @@ fn put_sides(
     ensures { IfOk result (λ d. ((draft_of d).line ≡ (draft_of rule.now).line)
         × ((draft_of d).finished ≡ rule_clause (term_at rule.now head) (body_at rule.now body) ∷ [])) }
 {
-    let threaded = thread(alloc, rule, body)?;
-    let mut clause = ClauseDraft::new(alloc, rule.line());
-    put_head(alloc, rule, &mut clause, head, body, threaded.state)?;
-    put_whole(alloc, &threaded.out, &mut clause)?;
+    let mut clause = spare;
+    clause.restart(rule.line());
+    let behind = state_behind(alloc, rule, body)?;
+    put_head(alloc, rule, &mut clause, head, body, behind)?;
+    let threaded = thread(alloc, rule, clause, body)?;
+    let Threaded { out, .. } = threaded;
+    let mut clause = out;
     put_compound(&mut clause, b":-", 2)?;
     Ok(clause)
-}
-
-/// Adds the one term of another draft. An error is want of memory.
-fn put_whole(alloc: Global, from: &ClauseDraft, out: &mut ClauseDraft) -> Result<(), RuleFault>
-    requires { length (draft_of from.now).finished ≡ 1 }
-    ensures { OnOk result (Adds out.old out.new (draft_of from.now).finished) }
-{
-    let root = from.part_count() - 1;
-    copy_term(alloc, from, out, root)
 }
 
 /// Adds a head with the state before the body, in which terminals at its beginning are, and the

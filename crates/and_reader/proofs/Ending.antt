@@ -1,5 +1,5 @@
 -- The beginning of a text, and its end.
-use Rattle.std.proofs.Common.{◌≡◌, ◌≤◌, true, false, List, [], length, Option, Some, None, sym, refl, ap, ◌∙◌, subst}
+use Rattle.std.proofs.Common.{◌≡◌, ◌≤◌, Bool, true, false, List, [], length, Option, Some, None, sym, refl, ap, ◌∙◌, subst}
 use Rattle.std.specs.Option.{IfSome, is_some}
 use Rattle.and_model.specs.Lines.{Bytes}
 use Rattle.and_model.specs.Programs.{Program}
@@ -24,7 +24,7 @@ use Rattle.and_reader.proofs.ReadingLemmas.{end_refused, read_whole}
 use Rattle.and_model.specs.declared.limits.TheConstants.{MAX_BYTES}
 
 -- nothing is read yet
-pub read_nothing : (r : Reader) → table_of r.table ≡ empty → r.cursor ≡ record { place = 0; line = 1 } → r.clause ≡ None → IsRead r.bytes.now r []
+pub read_nothing : (r : Reader) → table_of r.table ≡ empty → r.cursor ≡ record { place = 0; line = 1 } → r.is_begun ≡ false → IsRead r.bytes.now r []
 read_nothing r t c n =
     let P : Table → Type 0 = λ T. Takes r.bytes.now empty [] T in
     let start : Cursor = record { place = 0; line = 1 } in
@@ -38,32 +38,19 @@ read_nothing r t c n =
       statements = [];
       spelled = Grammar.nothing;
       taken = subst P (sym t) (Refusals.nothing empty);
-      rest = no_clause r.bytes.now r.clause n;
+      rest = subst (λ (o : Bool). IsClause r.bytes.now o r.clause []) (sym n) refl;
     }
-  where
-    no_clause : (bytes : Bytes) (o : Option Begun) → o ≡ None → IsClause bytes o []
-    no_clause bytes None e = refl
-    no_clause bytes (Some b) e = cc
-
-nothing_there : (o : Option Begun) → is_some o ≡ false → o ≡ None
-nothing_there None e = refl
-nothing_there (Some b) e = cc
-
-something_there : (o : Option Begun) → is_some o ≡ true → (b : Begun) × (o ≡ Some b)
-something_there None e = cc
-something_there (Some b) e = (b, refl)
 
 pub unended_text : (bytes : Bytes) (r : Reader) (ws : List Placed) → length bytes ≤ MAX_BYTES → HasWords bytes ws no_more → IsRead bytes r ws
-    → is_some r.clause ≡ true
+    → r.is_begun ≡ true
     → (e : ReadRefusal) → e ≡ record { line = line_at r.bytes.now (length bytes); cause = causes.Syntax } → IfSome (refusal_of e) (IsRefused bytes)
 unended_text bytes r ws small hw h s e q =
-    let there = something_there r.clause s in
     let P : ReadRefusal → Type 0 = λ x. IfSome (refusal_of x) (IsRefused bytes) in
     let Q : Bytes → Type 0 = λ bs. IsRefused bytes (record { cause = Refusals.syntax; line = line_at bs (length bytes) }) in
-    subst P (sym q) (subst Q (sym h.text) (end_refused bytes r there.0 ws h there.1 small hw))
+    subst P (sym q) (subst Q (sym h.text) (end_refused bytes r ws h s small hw))
 
 pub whole_text : (bytes : Bytes) (r : Reader) (ws : List Placed) (p : Program) → length bytes ≤ MAX_BYTES → HasWords bytes ws no_more → IsRead bytes r ws
-    → is_some r.clause ≡ false
+    → r.is_begun ≡ false
     → Seals (table_of r.table) p → IsLiftedFrom bytes p
 whole_text bytes r ws p small hw h n s =
     let text : IsTextOf bytes (program_of (table_of r.table) s.0) = record {
@@ -71,7 +58,7 @@ whole_text bytes r ws p small hw h n s =
       words = ws;
       spelled = hw;
       table = table_of r.table;
-      taken = read_whole bytes r ws h (nothing_there r.clause n);
+      taken = read_whole bytes r ws h n;
       query = s.0;
       asked = s.1;
       known = s.2;
@@ -89,8 +76,8 @@ seal_refused bytes ws T small hw h (seals.Unknown name arity line) x f e =
 seal_refused bytes ws T small hw h seals.Memory x f e = absurd e
 
 pub sealed_text : (bytes : Bytes) (r : Reader) (ws : List Placed) → length bytes ≤ MAX_BYTES → HasWords bytes ws no_more → IsRead bytes r ws
-    → is_some r.clause ≡ false
+    → r.is_begun ≡ false
     → (fault : SealFault) → Refuses (table_of r.table) fault → (o : Option Refusal) → IfSome o (IsSealRefusal bytes fault) → IfSome o (IsRefused bytes)
 sealed_text bytes r ws small hw h n fault f None e = tt
 sealed_text bytes r ws small hw h n fault f (Some x) e =
-    seal_refused bytes ws (table_of r.table) small hw (read_whole bytes r ws h (nothing_there r.clause n)) fault x f e
+    seal_refused bytes ws (table_of r.table) small hw (read_whole bytes r ws h n) fault x f e

@@ -1,5 +1,5 @@
 -- How far a text is read, word by word.
-use Rattle.std.proofs.Common.{◌≡◌, ℕ, ◌≤◌, true, false, List, [], ◌∷◌, ◌++◌, length, Option, Some, None, sym, refl, ap, ◌∙◌, subst, append_assoc}
+use Rattle.std.proofs.Common.{◌≡◌, ℕ, ◌≤◌, Bool, true, false, List, [], ◌∷◌, ◌++◌, length, Option, Some, None, sym, refl, ap, ◌∙◌, subst, append_assoc}
 use Rattle.std.specs.Option.{IfSome}
 use Rattle.std.proofs.lemmas.List.{append-nil}
 use Rattle.and_model.specs.Lines.{Bytes}
@@ -41,11 +41,67 @@ first_more : (ps : List Placed) (x : Word) (n m : ℕ) → first_place (ps ++ re
 first_more [] x n m = refl
 first_more (q ∷ ps) x n m = refl
 
+-- A clause is begun.
+
+first_same : (ps : List Placed) (n m : ℕ) → (ps ≡ [] → ⊥) → first_place ps n ≡ first_place ps m
+first_same [] n m some = absurd (some refl)
+first_same (q ∷ ps) n m some = refl
+
+pub begun_there : (bytes : Bytes) (place : ℕ) (r : Reader) (ws : List Placed) → IsRead bytes r ws → r.is_begun ≡ true → IsReadBefore bytes place r r.clause ws
+begun_there bytes place r ws h e =
+    let C : Bool → Type 0 = λ o. IsClause bytes o r.clause h.begun in
+    let there = subst C e h.rest in
+    record {
+      text = h.text;
+      line = h.line;
+      whole = h.whole;
+      begun = h.begun;
+      joined = h.joined;
+      statements = h.statements;
+      spelled = h.spelled;
+      taken = h.taken;
+      rest = record {
+        state = there.1.state;
+        ran = there.1.ran;
+        unended = there.1.unended;
+        stands = there.1.stands;
+        first = there.1.first;
+        line = there.1.line ∙ ap (line_at bytes) (first_same h.begun 0 place there.0);
+        drafted = there.1.drafted;
+      };
+    }
+
+pub begun_here : (bytes : Bytes) (place : ℕ) (r z : Reader) (ws : List Placed) → IsRead bytes r ws → r.is_begun ≡ false → z.bytes ≡ r.bytes
+    → z.table ≡ r.table → z.cursor.line ≡ line_at bytes z.cursor.place → IsState z.clause.parser start → z.clause.line ≡ line_at bytes place
+    → (draft_of z.clause.parser.draft).line ≡ z.clause.line → IsReadBefore bytes place z z.clause ws
+begun_here bytes place r z ws h e text table at stands line drafted =
+    let C : Bool → Type 0 = λ o. IsClause bytes o r.clause h.begun in
+    let none : h.begun ≡ [] = subst C e h.rest in
+    record {
+      text = ap (λ y. y.now) text ∙ h.text;
+      line = at;
+      whole = h.whole;
+      begun = h.begun;
+      joined = h.joined;
+      statements = h.statements;
+      spelled = h.spelled;
+      taken = subst (λ T. Takes bytes empty h.statements (table_of T)) (sym table) h.taken;
+      rest = record {
+        state = start;
+        ran = ap (λ xs. run true start (words_of xs)) none;
+        unended = refl;
+        stands = stands;
+        first = λ s. none;
+        line = line ∙ sym (ap (λ xs. line_at bytes (first_place xs place)) none);
+        drafted = drafted;
+      };
+    }
+
 -- The clause goes on.
 
 pub begun_more : (bytes : Bytes) (place : ℕ) (b c : Begun) (ps : List Placed) (x : Word) (h : IsBegun bytes place b ps) (t : State)
     → step true h.state x ≡ Some t → is_over t ≡ false → IsState c.parser t → c.line ≡ b.line → (draft_of c.parser.draft).line ≡ (draft_of b.parser.draft).line
-    → IsClause bytes (Some c) (ps ++ record { word = x; place = place } ∷ [])
+    → IsClause bytes true c (ps ++ record { word = x; place = place } ∷ [])
 begun_more bytes place b c ps x h t e o i l d = (
   not_empty ps (record { word = x; place = place }),
   record {
@@ -62,7 +118,7 @@ begun_more bytes place b c ps x h t e o i l d = (
 pub read_more : (bytes : Bytes) (place : ℕ) (r : Reader) (b c : Begun) (ws : List Placed) (x : Word) (h : IsReadBefore bytes place r b ws) (t : State)
     → step true h.rest.state x ≡ Some t → is_over t ≡ false → IsState c.parser t → c.line ≡ b.line
     → (draft_of c.parser.draft).line ≡ (draft_of b.parser.draft).line
-    → IsRead bytes (record r { clause = Some c }) (ws ++ record { word = x; place = place } ∷ [])
+    → IsRead bytes (record r { is_begun = true; clause = c }) (ws ++ record { word = x; place = place } ∷ [])
 read_more bytes place r b c ws x h t e o i l d =
     let p : Placed = record { word = x; place = place } in
     record {
@@ -100,14 +156,14 @@ pub passed_before : (bytes : Bytes) (place : ℕ) (r : Reader) (b : Begun) (ws :
 passed_before bytes place r b ws h =
     passed bytes ws h.whole h.begun h.statements (table_of r.table) h.rest.state h.joined h.spelled h.taken h.rest.ran h.rest.unended
 
-clause_state : (bytes : Bytes) (b : Option Begun) (ps : List Placed) → IsClause bytes b ps
+clause_state : (bytes : Bytes) (is_begun : Bool) (b : Begun) (ps : List Placed) → IsClause bytes is_begun b ps
     → (s : State) × (run true start (words_of ps) ≡ Some s) × (is_over s ≡ false)
-clause_state bytes None ps e = (start, ap (λ xs. run true start (words_of xs)) e, refl)
-clause_state bytes (Some b) ps h = (h.1.state, h.1.ran, h.1.unended)
+clause_state bytes false b ps e = (start, ap (λ xs. run true start (words_of xs)) e, refl)
+clause_state bytes true b ps h = (h.1.state, h.1.ran, h.1.unended)
 
 pub passed_words : (bytes : Bytes) (r : Reader) (ws : List Placed) → IsRead bytes r ws → IsPassed bytes ws
 passed_words bytes r ws h =
-    let s = clause_state bytes r.clause h.begun h.rest in
+    let s = clause_state bytes r.is_begun r.clause h.begun h.rest in
     passed bytes ws h.whole h.begun h.statements (table_of r.table) s.0 h.joined h.spelled h.taken s.1 s.2
 
 -- A word is refused.
@@ -179,14 +235,14 @@ takes_more bytes V s (Refusals.more T U u us f h) g e = Refusals.more T V u (us 
 -- its clause or query is in the table
 pub read_over : (bytes : Bytes) (place : ℕ) (r z : Reader) (b : Begun) (ws : List Placed) (x : Word) (q : Sort) (w : Written)
     (h : IsReadBefore bytes place r b ws) → step true h.rest.state x ≡ Some (over q w)
-    → z.bytes ≡ r.bytes → z.cursor ≡ r.cursor → z.clause ≡ None
+    → z.bytes ≡ r.bytes → z.cursor ≡ r.cursor → z.is_begun ≡ false
     → statement_fault (table_of r.table) (record { sort = q; term = w; place = first_place h.begun place }) ≡ None
     → table_of z.table ≡ with_statement bytes (table_of r.table) (record { sort = q; term = w; place = first_place h.begun place })
     → IsRead bytes z (ws ++ record { word = x; place = place } ∷ [])
 read_over bytes place r z b ws x q w h e sb sc sn f t =
     let p : Placed = record { word = x; place = place } in
     let s : Statement = record { sort = q; term = w; place = first_place h.begun place } in
-    let C : Option Begun → Type 0 = λ o. IsClause bytes o [] in
+    let C : Bool → Type 0 = λ o. IsClause bytes o z.clause [] in
     record {
       text = ap (λ y. y.now) sb ∙ h.text;
       line = ap (λ y. y.line) sc ∙ (h.line ∙ ap (λ y. line_at bytes y.place) (sym sc));
@@ -220,17 +276,17 @@ pub fault_refused : (bytes : Bytes) (r : Reader) (ws : List Placed) (f : Tokens.
     → HasWords bytes ws (none_for f) → IsRefused bytes (fault_at bytes f)
 fault_refused bytes r ws f h small hw = at_token ws f small hw (passed_words bytes r ws h)
 
-pub end_refused : (bytes : Bytes) (r : Reader) (b : Begun) (ws : List Placed) → IsRead bytes r ws → r.clause ≡ Some b → length bytes ≤ MAX_BYTES
+pub end_refused : (bytes : Bytes) (r : Reader) (ws : List Placed) → IsRead bytes r ws → r.is_begun ≡ true → length bytes ≤ MAX_BYTES
     → HasWords bytes ws no_more
     → IsRefused bytes (at bytes (length bytes) Refusals.syntax)
 unfolding passed_words passed
-end_refused bytes r b ws h e small hw =
-    let C : Option Begun → Type 0 = λ o. IsClause bytes o h.begun in
+end_refused bytes r ws h e small hw =
+    let C : Bool → Type 0 = λ o. IsClause bytes o r.clause h.begun in
     unended ws small hw (passed_words bytes r ws h) (subst C e h.rest).0
 
-pub read_whole : (bytes : Bytes) (r : Reader) (ws : List Placed) → IsRead bytes r ws → r.clause ≡ None → IsTaken bytes ws (table_of r.table)
+pub read_whole : (bytes : Bytes) (r : Reader) (ws : List Placed) → IsRead bytes r ws → r.is_begun ≡ false → IsTaken bytes ws (table_of r.table)
 read_whole bytes r ws h e =
-    let C : Option Begun → Type 0 = λ o. IsClause bytes o h.begun in
+    let C : Bool → Type 0 = λ o. IsClause bytes o r.clause h.begun in
     let none : h.begun ≡ [] = subst C e h.rest in
     let T : List Placed → Type 0 = λ vs. IsText true vs h.statements in
     let same : ws ≡ h.whole = h.joined ∙ (ap (λ vs. h.whole ++ vs) none ∙ append-nil h.whole) in

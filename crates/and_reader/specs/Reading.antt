@@ -1,5 +1,5 @@
 -- How far a text is read.
-use Rattle.std.specs.Prelude.{ℕ, ◌≡◌, ◌++◌, true, false, List, [], ◌∷◌, Option, Some, None}
+use Rattle.std.specs.Prelude.{ℕ, ◌≡◌, ◌++◌, Bool, true, false, List, [], ◌∷◌, Some, None}
 use Rattle.and_model.specs.Lines.{Bytes}
 use Rattle.and_syntax.specs.Written.{Written}
 use Rattle.and_syntax.specs.Tables.{empty, Table, Fault, clause_fault, with_clause}
@@ -32,9 +32,9 @@ pub record IsBegun (bytes : Bytes) (place : ℕ) (b : Begun) (words : List Place
   pub drafted : (draft_of b.parser.draft).line ≡ b.line
 
 -- The clause that is begun, if one is, is that of these words.
-abbrev pub IsClause : Bytes → Option Begun → List Placed → Type 0
-IsClause bytes None words = words ≡ []
-IsClause bytes (Some b) words = (words ≡ [] → ⊥) × IsBegun bytes 0 b words
+abbrev pub IsClause : Bytes → Bool → Begun → List Placed → Type 0
+IsClause bytes false b words = words ≡ []
+IsClause bytes true b words = (words ≡ [] → ⊥) × IsBegun bytes 0 b words
 
 -- The reader's table has the clauses, queries and rules of the words before those begun, of which more is said.
 pub record Reads (bytes : Bytes) (r : Reader) (words : List Placed) (IsRest : List Placed → Type 0) : Type 0 where
@@ -50,9 +50,9 @@ pub record Reads (bytes : Bytes) (r : Reader) (words : List Placed) (IsRest : Li
 
 -- the reader has read these words of the text
 abbrev pub IsRead : Bytes → Reader → List Placed → Type 0
-IsRead bytes r words = Reads bytes r words (IsClause bytes r.clause)
+IsRead bytes r words = Reads bytes r words (IsClause bytes r.is_begun r.clause)
 
--- the same, where the clause that is begun was moved out, and its next word stands at the place
+-- the same, where that clause is begun, whose next word stands at the place
 abbrev pub IsReadBefore : Bytes → ℕ → Reader → Begun → List Placed → Type 0
 IsReadBefore bytes place r b words = Reads bytes r words (IsBegun bytes place b)
 

@@ -4,6 +4,7 @@
 mod emitting;
 mod laws;
 mod lines;
+mod operators;
 mod parser;
 mod putting;
 mod reading;

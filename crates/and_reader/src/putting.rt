@@ -33,11 +33,11 @@ fn rule_fault(fault: RuleFault) -> TableFault
 }
 
 /// Puts a whole clause into the table.
-fn put_clause(table: &mut ClauseTable, draft: ClauseDraft) -> Result<(), TableFault>
-    requires { length (draft_of draft).finished ≡ 1 }
-    ensures added { (w : Written) → (draft_of draft).finished ≡ w ∷ []
-        → OnOk result (IsPut (table_of table.old) w (draft_of draft).line (table_of table.new)) }
-    ensures refused { RefusesClause (table_of table.old) (draft_of draft) result }
+fn put_clause(table: &mut ClauseTable, draft: &ClauseDraft) -> Result<(), TableFault>
+    requires { length (draft_of draft.now).finished ≡ 1 }
+    ensures added { (w : Written) → (draft_of draft.now).finished ≡ w ∷ []
+        → OnOk result (IsPut (table_of table.old) w (draft_of draft.now).line (table_of table.new)) }
+    ensures refused { RefusesClause (table_of table.old) (draft_of draft.now) result }
 {
     match table.add_clause(draft) {
         Ok(_) => Ok(()),
@@ -45,8 +45,22 @@ fn put_clause(table: &mut ClauseTable, draft: ClauseDraft) -> Result<(), TableFa
     }
 }
 
-/// Puts the clause for which a whole grammar rule stands into the table.
-fn put_rule(alloc: Global, table: &mut ClauseTable, rule: &ClauseDraft) -> Result<(), TableFault>
+/// The spare draft, or a new one. Takes no memory.
+fn taken(alloc: Global, spare: &mut Option<ClauseDraft>) -> ClauseDraft {
+    match spare.take() {
+        Some(draft) => draft,
+        None => ClauseDraft::new(alloc, 1),
+    }
+}
+
+/// Puts the clause for which a whole grammar rule stands into the table. Its draft is made of the spare one, and is the
+/// spare one for the next.
+fn put_rule(
+    alloc: Global,
+    table: &mut ClauseTable,
+    rule: &ClauseDraft,
+    spare: &mut Option<ClauseDraft>,
+) -> Result<(), TableFault>
     requires { IsTrue (is_rule (draft_of rule.now).finished) }
     ensures added { (w : Written) → (draft_of rule.now).finished ≡ w ∷ []
         → OnOk result (IsRulePut (table_of table.old) w (draft_of rule.now).line (table_of table.new)) }
@@ -54,8 +68,12 @@ fn put_rule(alloc: Global, table: &mut ClauseTable, rule: &ClauseDraft) -> Resul
         → IfErr result (λ e. IfSome (fault_of e)
         (λ f. fault_of_rule (table_of table.old) w ≡ Some f)) }
 {
-    match translate(alloc, rule) {
-        Ok(clause) => put_clause(table, clause),
+    match translate(alloc, rule, taken(alloc, spare)) {
+        Ok(clause) => {
+            let put = put_clause(table, &clause);
+            *spare = Some(clause);
+            put
+        }
         Err(fault) => Err(rule_fault(fault)),
     }
 }
@@ -64,24 +82,25 @@ fn put_rule(alloc: Global, table: &mut ClauseTable, rule: &ClauseDraft) -> Resul
 pub(crate) fn put(
     alloc: Global,
     table: &mut ClauseTable,
-    draft: ClauseDraft,
+    draft: &ClauseDraft,
     sort: Sort,
+    spare: &mut Option<ClauseDraft>,
 ) -> Result<(), TableFault>
-    requires whole { length (draft_of draft).finished ≡ 1 }
-    requires query { sort_of sort ≡ StatementSort.query → IsTrue (asks (draft_of draft).finished) }
+    requires whole { length (draft_of draft.now).finished ≡ 1 }
+    requires query { sort_of sort ≡ StatementSort.query → IsTrue (asks (draft_of draft.now).finished) }
     requires rule { sort_of sort ≡ StatementSort.grammar_rule
-        → IsTrue (is_rule (draft_of draft).finished) }
+        → IsTrue (is_rule (draft_of draft.now).finished) }
     ensures added { (bytes : Bytes) (s : Statement)
-        → IsDraftOf bytes (draft_of draft) (sort_of sort) s
+        → IsDraftOf bytes (draft_of draft.now) (sort_of sort) s
         → OnOk result (IsAdded bytes (table_of table.old) s (table_of table.new)) }
     ensures refused { (bytes : Bytes) (s : Statement)
-        → IsDraftOf bytes (draft_of draft) (sort_of sort) s
+        → IsDraftOf bytes (draft_of draft.now) (sort_of sort) s
         → IfErr result (λ e. IfSome (fault_of e)
         (λ f. statement_fault (table_of table.old) s ≡ Some f)) }
 {
     match sort {
         Sort::Query => table.set_query(draft),
         Sort::Clause => put_clause(table, draft),
-        Sort::GrammarRule => put_rule(alloc, table, &draft),
+        Sort::GrammarRule => put_rule(alloc, table, draft, spare),
     }
 }

@@ -13,7 +13,8 @@ ghost use Rattle.and_clauses.specs.Drafts.{draft_of};
 ghost use Rattle.and_clauses.specs.Views.{table_of, is_query as asks};
 ghost use Rattle.and_program.specs.Loaded.{program_of};
 ghost use Rattle.and_reader.specs.Views.{word_of as word_shown, sort_of};
-ghost use Rattle.and_reader.specs.Standing.{IsFit};
+ghost use Rattle.and_automaton.specs.Machine.{State, start};
+ghost use Rattle.and_reader.specs.Standing.{IsState, IsFit, Answers};
 ghost use Rattle.and_reader.specs.Causes.{refusal_of};
 ghost use Rattle.and_reader.specs.Reading.{IsRead, IsReadBefore, with_word};
 ghost use Rattle.and_reader.specs.Reading.{IsDraftOf, IsAdded, IsFaultOf};
@@ -25,7 +26,7 @@ use crate::putting::put;
 use crate::refusal::{Cause, ReadRefusal, fault_refusal, seal_refusal, table_cause};
 use crate::state::{Next, Sort};
 use crate::words::{Word, word_of};
-use and_clauses::{ClauseTable, Loaded, What};
+use and_clauses::{ClauseDraft, ClauseTable, Loaded, What};
 use and_lex::Lexer;
 use and_model::limits::MAX_BYTES;
 use std::alloc::Global;
@@ -37,8 +38,12 @@ struct Reader<'a> {
     bytes: &'a [u8],
     table: ClauseTable,
     cursor: Cursor,
-    /// The clause that is begun.
-    clause: Option<Begun<'a>>,
+    /// Whether a clause is begun.
+    is_begun: bool,
+    /// That clause. The next one takes its memory.
+    clause: Begun<'a>,
+    /// A draft that is used again for what rules stand for.
+    spare: Option<ClauseDraft>,
 }
 
 /// A clause that is begun, and the line of its first word.
@@ -46,6 +51,30 @@ struct Reader<'a> {
 struct Begun<'a> {
     line: u32,
     parser: Parser<'a>,
+}
+
+impl<'a> Begun<'a> {
+    /// Begins another clause, whose first word is on that line.
+    fn restart(&mut self, line: u32)
+        ensures line { self.new.line ≡ line }
+        ensures state { IsState self.new.parser start }
+        ensures drafted { (draft_of self.new.parser.draft).line ≡ line }
+    {
+        self.line = line;
+        self.parser.restart(line);
+    }
+
+    /// Takes the next word.
+    fn take(&mut self, word: Word<'a>) -> Result<Next, Cause>
+        requires stands { (s : State) × IsState self.old.parser s }
+        requires fits { IsFit (word_shown word) }
+        ensures answer { (s : State) → IsState self.old.parser s
+            → Answers s (word_shown word.entry) result self.new.parser }
+        ensures drafted { (draft_of self.new.parser.draft).line ≡ (draft_of self.old.parser.draft).line }
+        ensures line { self.new.line ≡ self.old.line }
+    {
+        self.parser.take(word)
+    }
 }
 
 /// A refusal for want of memory.
@@ -70,51 +99,47 @@ impl<'a> Reader<'a> {
         }
     }
 
-    /// Moves the clause that is begun out, or begins one at that place.
-    fn begin(&mut self, place: usize) -> Begun<'a>
+    /// Begins a clause at that place, unless one is begun.
+    fn begin(&mut self, place: usize)
         requires read { (bytes : Bytes) × (words : List Placed) × IsRead bytes self.old words }
         requires before { self.old.cursor.place ≤ place }
         requires within { place ≤ length self.old.bytes.now }
         requires few { length self.old.bytes.now < 2 ^ 32 - 1 }
         ensures begun { (bytes : Bytes) (words : List Placed)
-            → IsRead bytes self.old words → IsReadBefore bytes place self.new result words }
-        ensures moved { self.new.clause ≡ None }
+            → IsRead bytes self.old words → IsReadBefore bytes place self.new self.new.clause words }
         ensures cursor { self.new.cursor.place ≤ place }
     {
-        if let Some(begun) = self.clause.take() {
-            return begun;
+        if self.is_begun {
+            return;
         }
         let line = self.cursor.go_to(self.bytes, place);
-        Begun {
-            line,
-            parser: Parser::new(self.alloc, line),
-        }
+        self.clause.restart(line);
     }
 
     /// Puts the clause, query or rule, which is over, into the table.
-    fn finish(&mut self, begun: Begun<'a>, sort: Sort) -> Result<(), ReadRefusal>
-        requires whole { length (draft_of begun.parser.draft).finished ≡ 1 }
+    fn finish(&mut self, sort: Sort) -> Result<(), ReadRefusal>
+        requires whole { length (draft_of self.old.clause.parser.draft).finished ≡ 1 }
         requires query { sort_of sort ≡ StatementSort.query
-            → IsTrue (asks (draft_of begun.parser.draft).finished) }
+            → IsTrue (asks (draft_of self.old.clause.parser.draft).finished) }
         requires rule { sort_of sort ≡ StatementSort.grammar_rule
-            → IsTrue (is_rule (draft_of begun.parser.draft).finished) }
+            → IsTrue (is_rule (draft_of self.old.clause.parser.draft).finished) }
         ensures added { (bytes : Bytes) (s : Statement)
-            → IsDraftOf bytes (draft_of begun.entry.parser.draft) (sort_of sort) s
+            → IsDraftOf bytes (draft_of self.old.clause.parser.draft) (sort_of sort) s
             → OnOk result (IsAdded bytes (table_of self.old.table) s (table_of self.new.table)) }
         ensures refused { (bytes : Bytes) (s : Statement)
-            → IsDraftOf bytes (draft_of begun.entry.parser.draft) (sort_of sort) s
-            → begun.entry.line ≡ line_at bytes s.place
+            → IsDraftOf bytes (draft_of self.old.clause.parser.draft) (sort_of sort) s
+            → self.old.clause.line ≡ line_at bytes s.place
             → IfErr result (λ e. IfSome (refusal_of e)
             (IsFaultOf bytes (table_of self.old.table) s)) }
         ensures text { self.new.bytes ≡ self.old.bytes }
         ensures cursor { self.new.cursor ≡ self.old.cursor }
-        ensures clause { self.new.clause ≡ self.old.clause }
+        ensures kept { self.new.is_begun ≡ self.old.is_begun }
     {
-        let Begun { line, parser } = begun;
-        match put(self.alloc, &mut self.table, parser.draft, sort) {
+        let draft = &self.clause.parser.draft;
+        match put(self.alloc, &mut self.table, draft, sort, &mut self.spare) {
             Ok(()) => Ok(()),
             Err(fault) => Err(ReadRefusal {
-                line,
+                line: self.clause.line,
                 cause: table_cause(fault),
             }),
         }
@@ -137,13 +162,16 @@ impl<'a> Reader<'a> {
             → IfErr result (λ e. IfSome (refusal_of e) (IsRefused bytes)) }
         ensures cursor { OnOk result (self.new.cursor.place ≤ place) }
     {
-        let mut begun = self.begin(place);
-        match begun.parser.take(word) {
+        self.begin(place);
+        match self.clause.take(word) {
             Ok(Next::Inside) => {
-                self.clause = Some(begun);
+                self.is_begun = true;
                 Ok(())
             }
-            Ok(Next::Over(sort)) => self.finish(begun, sort),
+            Ok(Next::Over(sort)) => {
+                self.is_begun = false;
+                self.finish(sort)
+            }
             Err(cause) => Err(self.at(place, cause)),
         }
     }
@@ -199,10 +227,15 @@ pub fn read_program(alloc: Global, bytes: &[u8]) -> Result<Loaded, ReadRefusal>
         bytes,
         table,
         cursor: Cursor::new(),
-        clause: None,
+        is_begun: false,
+        clause: Begun {
+            line: 1,
+            parser: Parser::new(alloc, 1),
+        },
+        spare: None,
     };
     reader.read()?;
-    if reader.clause.is_some() {
+    if reader.is_begun {
         return Err(reader.at(bytes.len(), Cause::Syntax));
     }
     match reader.table.seal() {

@@ -31,7 +31,7 @@ fn no_goals(rt: &impl Abort, alloc: Global) -> Result<Loaded, AllocError> {
     assert!(rt; query.is_whole());
     assert!(rt; !query.is_full());
     query.compound(b"?-", 1)?;
-    assert!(rt; table.set_query(query).is_ok());
+    assert!(rt; table.set_query(&query).is_ok());
     match table.seal() {
         Ok(loaded) => Ok(loaded),
         Err(_) => rt.abort(),

@@ -51,11 +51,11 @@ fn answer_to(
     match line.strip_prefix("?- ") {
         Some(body) => {
             let query = query_draft(alloc, number, body)?;
-            Ok(query_answer(alloc, &table.set_query(query))?)
+            Ok(query_answer(alloc, &table.set_query(&query))?)
         }
         None => {
             let clause = draft(alloc, number, line)?;
-            Ok(clause_answer(alloc, &table.add_clause(clause))?)
+            Ok(clause_answer(alloc, &table.add_clause(&clause))?)
         }
     }
 }

@@ -1,4 +1,4 @@
-use Rattle.std.proofs.Common.{ℕ, ◌≡◌, ◌<◌, ◌≤◌, ◌+◌, Bool, true, false, Option, Some, length, sym, subst, arith, rules, IfSome}
+use Rattle.std.proofs.Common.{ℕ, ◌≡◌, ◌<◌, ◌≤◌, ◌+◌, true, false, Option, length, sym, subst, arith, rules, IfSome}
 use Rattle.std.proofs.lemmas.List.{length-map}
 use Rattle.and_syntax.specs.Written.{nodes_of}
 use Rattle.and_syntax.specs.Clauses.{is_refused, alternatives_of, disjunctions_of}

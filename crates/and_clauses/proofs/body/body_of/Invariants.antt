@@ -1,4 +1,4 @@
-use Rattle.std.proofs.Common.{◌≡◌, ◌+◌, ◌*◌, ◌≤◌, List, length}
+use Rattle.std.proofs.Common.{◌+◌, ◌*◌, ◌≤◌, List, length}
 use Rattle.and_syntax.specs.Clauses.{is_refused, alternatives_of, disjunctions_of}
 use Rattle.and_program.specs.Skeletons.{Shape}
 use Rattle.and_program.specs.Nodes.{names_of}

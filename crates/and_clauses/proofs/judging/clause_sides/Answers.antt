@@ -8,6 +8,6 @@ use Rattle.and_clauses.proofs.judging.clause_sides.Goals as goal
 pub returns-in-Compound : goal.returns-in-Compound
 returns-in-Compound c =
     sides_is (names_of c.args.names.now.keys) c.args.parts.now c.args.root c.index-parts-root.result c.in-Compound.name c.in-Compound.arguments.items
-    c.deref.result.now c.number_of.result c.sides_of.result
-    c.requires c.index-parts-root.is (ap part_shape c.in-Compound.is) c.deref.ensures.value (c.number_of.ensures
+    c.as_slice.result.now c.number_of.result c.sides_of.result
+    c.requires c.index-parts-root.is (ap part_shape c.in-Compound.is) c.as_slice.ensures (c.number_of.ensures
     ∙ ap (λ x. place x (names_of c.args.names.now.keys)) c.bytes.ensures) c.sides_of.ensures

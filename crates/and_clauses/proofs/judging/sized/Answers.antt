@@ -1,4 +1,4 @@
-use Rattle.std.proofs.Common.{◌≡◌, ◌+◌, ◌-◌, ◌≤◌, cond, leb, Some, None, List, length, ap, sym, ◌∙◌, arith, refl, subst}
+use Rattle.std.proofs.Common.{◌≡◌, ◌+◌, ◌-◌, ◌≤◌, cond, leb, Some, None, List, length, ap, sym, ◌∙◌, arith, subst}
 use Rattle.and_clauses.specs.Parts.{part_shapes, PartsFall}
 use Rattle.and_clauses.specs.Sorted.{locals_size}
 use Rattle.and_clauses.specs.Sorts.{locals_in, AreFew, AreNarrow, AreOutlinesThere}

@@ -1,4 +1,4 @@
-use Rattle.std.proofs.Common.{ap, sym, ◌∙◌, ◌≡◌, ◌≤◌, length, arith}
+use Rattle.std.proofs.Common.{rules, ap, sym, ◌∙◌, ◌≡◌, ◌<◌, length, arith}
 use Rattle.std.proofs.lemmas.List.{length-map}
 use Rattle.std.proofs.Common.{refl, get_or, []}
 use Rattle.and_model.specs.declared.numbers.NodeNo.{NodeNo}
@@ -12,6 +12,13 @@ use Rattle.and_clauses.specs.Lifts.{nodes_under, named_under}
 use Rattle.and_clauses.proofs.LiftSteps.{node_kept}
 use Rattle.and_clauses.proofs.LiftClauses.{few_read, variables_read, scope_below, no_clause, pieces_own, alternative_made}
 use Rattle.and_clauses.proofs.lifting.alternative.Goals as goal
+
+pub offset_bounds-lifting-disjunction : goal.offset_bounds-lifting-disjunction
+offset_bounds-lifting-disjunction c =
+    let there : c.scope_of-disjunction.result < length c.args.lifting.disjunctions.now =
+    scope_below (length c.args.lifting.disjunctions.now) c.scope_of-disjunction.result c.args.outline.now.scope c.scope_of-disjunction.ensures
+    c.requires.scope in
+    search rules
 
 pub lifted_items-requires-clause-few : goal.lifted_items-requires-clause-few
 lifted_items-requires-clause-few c =

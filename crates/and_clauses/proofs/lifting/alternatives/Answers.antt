@@ -1,4 +1,4 @@
-use Rattle.std.proofs.Common.{refl, ap, sym, ◌∙◌, ◌+◌, length, map, arith, subst, Option, Some}
+use Rattle.std.proofs.Common.{refl, sym, ◌+◌, length, subst}
 use Rattle.and_program.specs.Nodes.{shapes_of}
 use Rattle.and_model.specs.OwnVariables.{HasOwnVariables}
 use Rattle.and_clauses.specs.Sorts.{outline_in, outlines_in}

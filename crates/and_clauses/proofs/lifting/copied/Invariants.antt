@@ -14,9 +14,9 @@ invariant-loop-next l = record {
   copying : let ss = nodes_under l.lifting in
       let old = shapes_of l.initial.nodes.items in
       IsCopying ss (numbering_at l.scope) (length l.lifting.parts.now) (length (names_under l.lifting)) old (shapes_of l.nodes.items)
-      (length old + size_of (node_term ss l.root)) (numbers_in l.finished.items) (tasks_in (reverse l.pending.items))
+      (length old + size_of (node_term ss l.root)) (numbers_in l.lists.finished.items) (tasks_in (reverse l.lists.pending.items))
       (renumbered (numbering_at l.scope) (node_term ss l.root));
 }
 
 abbrev pub decreases-loop-next : goal.decreases-loop-next
-decreases-loop-next l = tasks_work (nodes_under l.lifting) (tasks_in (reverse l.pending.items))
+decreases-loop-next l = tasks_work (nodes_under l.lifting) (tasks_in (reverse l.lists.pending.items))

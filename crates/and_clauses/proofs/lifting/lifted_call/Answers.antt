@@ -1,4 +1,4 @@
-use Rattle.std.proofs.Common.{ap, sym, ◌∙◌, ◌≡◌, ◌≤◌, length, arith}
+use Rattle.std.proofs.Common.{ap, sym, ◌∙◌, length, arith}
 use Rattle.and_program.specs.Nodes.{shapes_of}
 use Rattle.and_clauses.specs.Sorts.{own}
 use Rattle.and_clauses.specs.Copies.{numbering_at}

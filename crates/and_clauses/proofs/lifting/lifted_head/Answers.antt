@@ -1,4 +1,4 @@
-use Rattle.std.proofs.Common.{ap, ◌∙◌, ◌≡◌, ◌≤◌, sym, length, get_or, arith}
+use Rattle.std.proofs.Common.{◌≡◌, length, get_or, arith}
 use Rattle.and_program.specs.Nodes.{shapes_of}
 use Rattle.and_clauses.specs.Outlined.{named_at}
 use Rattle.and_clauses.specs.Lifts.{names_under, named_under}

@@ -1,4 +1,4 @@
-use Rattle.std.proofs.Common.{refl, ap, sym, ◌∙◌, ◌+◌, ◌≤◌, length, map, get_or, arith, subst}
+use Rattle.std.proofs.Common.{refl, ap, ◌+◌, ◌≤◌, length, map, get_or, arith}
 use Rattle.std.proofs.lemmas.List.{get_or_default}
 use Rattle.and_program.specs.Nodes.{shapes_of}
 use Rattle.and_program.specs.declared.item.ItemNode.TheVariants.{Call}

@@ -1,4 +1,4 @@
-use Rattle.std.proofs.Common.{arith, length}
+use Rattle.std.proofs.Common.{arith}
 use Rattle.and_clauses.proofs.LiftClauses.{name_at}
 use Rattle.and_clauses.proofs.lifting.name_of.Goals as goal
 

@@ -1,7 +1,6 @@
-use Rattle.std.proofs.Common.{ap, sym, ◌∙◌, subst, Option, Some, None, IfOk, ℕ}
+use Rattle.std.proofs.Common.{ap, sym, ◌∙◌, subst, Option, IfOk, ℕ}
 use Rattle.and_model.specs.Terms.{Term}
 use Rattle.and_model.specs.OwnVariables.{AreOwn}
-use Rattle.and_model.specs.declared.numbers.NodeNo.{NodeNo}
 use Rattle.and_program.specs.Skeletons.{node_term}
 use Rattle.and_program.specs.Nodes.{shapes_of}
 use Rattle.and_clauses.specs.Copies.{IsNode}

@@ -1,4 +1,4 @@
-use Rattle.std.proofs.Common.{refl, ap, ◌∙◌, ◌≡◌, length, arith, vec_len}
+use Rattle.std.proofs.Common.{refl, ap, ◌∙◌, ◌≡◌, length, arith}
 use Rattle.and_syntax.specs.Tables.{with_disjunctions, items_with}
 use Rattle.and_program.specs.Nodes.{shapes_of, names_of}
 use Rattle.and_clauses.specs.Lifts.{places_from}
@@ -70,6 +70,7 @@ entries-requires-clause-room c =
     let l : Lifting = record {
       alloc = c.args.alloc;
       names = record { ref_ptr = c.deref.result.ref_ptr; now = c.note_disjunctions.new.names };
+      guesses = c.args.guesses;
       parts = c.deref.result;
       disjunctions = c.deref-2.result;
       numbers = c.deref-3.result;

@@ -2,7 +2,7 @@ use Rattle.std.proofs.Common.{arith, ◌+◌}
 use Rattle.and_syntax.specs.Tables.{disjunction_name}
 use Rattle.and_program.specs.Nodes.{names_of}
 use Rattle.and_clauses.proofs.Noting.{Extends-again, Extends-self}
-use Rattle.and_clauses.proofs.LiftedNames.{none_numbered, next_numbered, all_numbered, place_few}
+use Rattle.and_clauses.proofs.LiftedNames.{none_numbered, next_numbered, place_few}
 use Rattle.and_clauses.proofs.numbering.note_disjunctions.Goals as goal
 
 pub loop-place-init : goal.loop-place-init

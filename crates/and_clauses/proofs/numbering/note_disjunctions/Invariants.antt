@@ -1,4 +1,3 @@
-use Rattle.std.proofs.Common.{◌≡◌, ◌≤◌, ◌+◌, length}
 use Rattle.and_program.specs.Nodes.{names_of}
 use Rattle.and_clauses.specs.Numbered.{Extends}
 use Rattle.and_clauses.proofs.LiftedNames.{Numbers}

@@ -13,7 +13,7 @@ pub loop-number-smaller : goal.loop-number-smaller
 loop-number-smaller c = note_less c.args.parts.now c.in-Some.number c.index-parts-number.result c.loop-number.pending.items c.pop.new.self.items
     c.note_part.new.pending.items c.requires.falls
     (last_there (length c.args.parts.now) c.loop-number.pending.items c.pop.new.self.items c.in-Some.number c.in-Some.ensures.items
-    c.loop-number.invariant.there) c.index-parts-number.is c.in-Some.ensures.items c.in_ok-note_part.ensures.pending
+    c.loop-number.invariant.there) c.index-parts-number.is c.in-Some.ensures.items c.in_ok-name.ensures.pending
 
 pub loop-number-preserved : goal.loop-number-preserved
 loop-number-preserved c = record {
@@ -21,12 +21,12 @@ loop-number-preserved c = record {
       c.loop-number.pending.items c.pop.new.self.items c.note_part.new.pending.items
       (named (names_of c.args.names.now.keys) (written_at (part_shapes c.args.parts.now) c.args.root))
       c.requires.falls (last_there (length c.args.parts.now) c.loop-number.pending.items c.pop.new.self.items c.in-Some.number c.in-Some.ensures.items
-      c.loop-number.invariant.there) c.index-parts-number.is c.in-Some.ensures.items c.in_ok-note_part.ensures.names c.in_ok-note_part.ensures.pending
+      c.loop-number.invariant.there) c.index-parts-number.is c.in-Some.ensures.items c.in_ok-name.ensures.names c.in_ok-name.ensures.pending
       c.loop-number.invariant.owed;
   there = note_there c.args.parts.now c.in-Some.number c.index-parts-number.result c.loop-number.pending.items c.pop.new.self.items
       c.note_part.new.pending.items c.requires.falls
       (last_there (length c.args.parts.now) c.loop-number.pending.items c.pop.new.self.items c.in-Some.number c.in-Some.ensures.items
-      c.loop-number.invariant.there) c.index-parts-number.is c.in-Some.ensures.items c.in_ok-note_part.ensures.pending c.loop-number.invariant.there;
+      c.loop-number.invariant.there) c.index-parts-number.is c.in-Some.ensures.items c.in_ok-name.ensures.pending c.loop-number.invariant.there;
   kept = Extends-again (names_of c.args.names.now.keys) (names_of c.loop-number.names.keys) (names_of c.note_part.new.names.keys) c.loop-number.invariant.kept
       c.note_part.ensures.kept;
 }

@@ -1,4 +1,4 @@
-use Rattle.std.proofs.Common.{length, ◌∙◌, arith}
+use Rattle.std.proofs.Common.{arith}
 use Rattle.and_program.specs.Nodes.{names_of}
 use Rattle.and_clauses.proofs.Naming.{place-le}
 use Rattle.and_clauses.proofs.UnknownLemmas.{variable_called, number_called, compound_called}
@@ -12,7 +12,7 @@ pub returns-in-Compound : goal.returns-in-Compound
 returns-in-Compound c = λ line.
     compound_called (names_of c.args.names.now.keys) c.args.parts.now c.args.part.0 c.index-parts-part.result c.requires.falls c.requires.there
     c.index-parts-part.is line c.in-Compound.name c.in-Compound.arguments c.bytes.result.now c.number_of.result c.len.result c.in-Compound.is
-    c.bytes.ensures c.number_of.ensures (c.len.ensures ∙ c.in-Compound.arguments.ok.0)
+    c.bytes.ensures c.number_of.ensures c.len.ensures.value
 
 pub returns-in-Variable : goal.returns-in-Variable
 returns-in-Variable c = λ line.

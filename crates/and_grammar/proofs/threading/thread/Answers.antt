@@ -1,7 +1,8 @@
 use Rattle.std.proofs.Common.{◌≡◌, List, [], ◌∷◌, ◌++◌, rules, true, length, reverse, refl, sym, ap, ◌∙◌, arith, subst}
 use Rattle.and_translation.specs.Bodies.{behind_first}
 use Rattle.and_translation.specs.Translation.{walk}
-use Rattle.and_clauses.specs.Drafts.{Draft, draft_of}
+use Rattle.and_syntax.specs.Written.{Written}
+use Rattle.and_clauses.specs.Drafts.{draft_of}
 use Rattle.and_grammar.specs.declared.threading.Task.{Task}
 use Rattle.and_grammar.specs.declared.threading.Task.TheVariants as tasks
 use Rattle.and_grammar.specs.Views.{body_at}
@@ -14,12 +15,13 @@ use Rattle.and_grammar.proofs.threading.thread.Goals as goal
 
 pub loop-task-init : goal.loop-task-init
 loop-task-init c =
-    let t : Threaded = record { out = c.new.result; state = 0; next = 1; goals = 0 } in
+    let t : Threaded = record { out = c.args.out; state = 0; next = 1; goals = 0 } in
     let e : reverse c.push.new.self.items ≡ tasks.Body c.args.body true ∷ [] =
     last_task c.push.new.self.items c.new-pending.result.items (tasks.Body c.args.body true) c.in_ok-push.ensures.items
     ∙ ap (λ (ts : List Task). tasks.Body c.args.body true ∷ reverse ts) c.new-pending.ensures.items in
     record {
-      same = begun c.args.rule.now c.args.body (reverse c.push.new.self.items) t e (ap (λ (d : Draft). d.finished) c.new.ensures) refl refl refl;
+      line = refl;
+      same = begun c.args.rule.now c.args.body (reverse c.push.new.self.items) t e refl refl refl;
       counted = omega arith;
       below = subst (λ (ts : List Task). AreBelow (acts_of c.args.rule.now ts) (length (stand_of t).below)) (sym e) tt;
       within = subst (AreTasksWithin c.args.rule.now) (sym e) (c.requires, tt);
@@ -46,6 +48,7 @@ loop-task-preserved c =
     let e : reverse c.loop-task.pending.items ≡ c.in-Some.task ∷ reverse c.pop.new.self.items =
     last_task c.loop-task.pending.items c.pop.new.self.items c.in-Some.task c.in-Some.ensures.items in
     record {
+      line = c.in_ok-step.ensures.line ∙ c.loop-task.invariant.line;
       same = c.in_ok-step.ensures.same ∙ ap (λ (ts : List Task). all_done (acts_of c.args.rule.now ts) (stand_of c.loop-task.threaded)) (sym e)
           ∙ c.loop-task.invariant.same;
       counted = c.in_ok-step.ensures.counted;
@@ -59,9 +62,10 @@ join_goals-requires c = c.loop-task.invariant.counted
 pub returns : goal.returns
 returns c =
     let b = behind_first (body_at c.args.rule.now c.args.body) in
+    let before : List Written = (draft_of c.args.out).finished in
     let none : c.loop-task.pending.items ≡ [] = no_more c.loop-task.pending.items (let h : c.loop-task.pending.len ≡ 0 = search rules in omega arith) in
-    let over : stand_of c.loop-task.threaded ≡ stand [] (walk b 0 1).goals (walk b 0 1).behind (walk b 0 1).next =
+    let over : stand_of c.loop-task.threaded ≡ stand before (walk b 0 1).goals (walk b 0 1).behind (walk b 0 1).next =
     ap (λ (ts : List Task). all_done (acts_of c.args.rule.now (reverse ts)) (stand_of c.loop-task.threaded)) (sym none) ∙ c.loop-task.invariant.same in
-    let end = all_finished c.loop-task.threaded b c.loop-task.invariant.counted over in
-    let joined = c.in_ok-join_goals.ensures (walk b 0 1).goals end.all end.few in
-    (joined.finished, end.at)
+    let end = all_finished c.loop-task.threaded before b c.loop-task.invariant.counted over in
+    let joined = c.in_ok-join_goals.ensures before (walk b 0 1).goals end.all end.few in
+    record { line = joined.line ∙ c.loop-task.invariant.line; finished = joined.finished }

@@ -16,7 +16,7 @@ returns-in-Query-clause-refused c = λ bytes s h.
 pub returns-in-Clause-clause-added : goal.returns-in-Clause-clause-added
 returns-in-Clause-clause-added c = λ bytes s h.
     on_ok c.put_clause.result
-    (λ x. clause_added bytes (table_of c.args.table.now) (table_of c.put_clause.new.table) s (draft_of c.args.draft).line (h.kind
+    (λ x. clause_added bytes (table_of c.args.table.now) (table_of c.put_clause.new.table) s (draft_of c.args.draft.now).line (h.kind
     ∙ ap sort_of c.in-Clause.is) h.line x)
     (c.put_clause.ensures.added s.term h.term)
 
@@ -30,7 +30,7 @@ put_rule-requires c = c.requires.rule (ap sort_of c.in-GrammarRule.is)
 
 pub returns-in-GrammarRule-clause-added : goal.returns-in-GrammarRule-clause-added
 returns-in-GrammarRule-clause-added c = λ bytes s h.
-    on_ok c.put_rule.result (λ x. rule_added bytes (table_of c.args.table.now) (table_of c.put_rule.new.table) s (draft_of c.args.draft).line (h.kind
+    on_ok c.put_rule.result (λ x. rule_added bytes (table_of c.args.table.now) (table_of c.put_rule.new.table) s (draft_of c.args.draft.now).line (h.kind
     ∙ ap sort_of c.in-GrammarRule.is) h.line x)
     (c.put_rule.ensures.added s.term h.term)
 

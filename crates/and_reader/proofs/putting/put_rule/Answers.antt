@@ -8,23 +8,23 @@ use Rattle.and_reader.proofs.TermLemmas.{on_ok}
 use Rattle.and_reader.proofs.Puts.{rule_alone, rule_put, rule_unput, rule_wrong}
 use Rattle.and_reader.proofs.putting.put_rule.Goals as goal
 
-pub put_clause-requires : goal.put_clause-requires
-put_clause-requires c =
+pub put_clause-put-requires : goal.put_clause-put-requires
+put_clause-put-requires c =
     let a = rule_alone (draft_of c.args.rule.now).finished c.requires in
     ap length (c.in-Ok.ensures a.0 a.1).0.term
 
 pub returns-in-Ok-clause-added : goal.returns-in-Ok-clause-added
 returns-in-Ok-clause-added c = λ w e.
     let t = (c.in-Ok.ensures w e).0 in
-    on_ok c.put_clause.result
-    (λ x. rule_put (table_of c.args.table.now) (table_of c.put_clause.new.table) w (draft_of c.in-Ok.clause).line
+    on_ok c.put_clause-put.result
+    (λ x. rule_put (table_of c.args.table.now) (table_of c.put_clause-put.new.table) w (draft_of c.in-Ok.clause).line
     (draft_of c.args.rule.now).line t.sound t.line x)
-    (c.put_clause.ensures.added (translated w) t.term)
+    (c.put_clause-put.ensures.added (translated w) t.term)
 
 pub returns-in-Ok-clause-refused : goal.returns-in-Ok-clause-refused
 returns-in-Ok-clause-refused c = λ w e.
     let t = (c.in-Ok.ensures w e).0 in
-    rule_unput (table_of c.args.table.now) w c.put_clause.result fault_of t.sound (c.put_clause.ensures.refused (translated w) t.term)
+    rule_unput (table_of c.args.table.now) w c.put_clause-put.result fault_of t.sound (c.put_clause-put.ensures.refused (translated w) t.term)
 
 pub returns-in-Err-clause-refused : goal.returns-in-Err-clause-refused
 returns-in-Err-clause-refused c = λ w e.

@@ -1,4 +1,4 @@
-use Rattle.std.proofs.Common.{◌∙◌, sym, refl, arith, subst, ℕ, None}
+use Rattle.std.proofs.Common.{◌∙◌, sym, refl, arith, subst, ℕ, None, false}
 use Rattle.and_language.specs.Refusals
 use Rattle.and_language.specs.Refusals.{Refusal, IsRefused, too_long}
 use Rattle.and_syntax.specs.Tables.{source}
@@ -14,22 +14,29 @@ returns-then-bytes-gt-MAX_BYTES-clause-refused c =
 pub read-requires-clause-read : goal.read-requires-clause-read
 read-requires-clause-read c = (
   c.args.bytes.now,
-  read_nothing (record { alloc = c.args.alloc; bytes = c.args.bytes; table = c.in-Ok.table; cursor = c.new-2.result; clause = None })
-      c.in-Ok.ensures c.new-2.ensures refl,
+  read_nothing (record {
+    alloc = c.args.alloc;
+    bytes = c.args.bytes;
+    table = c.in-Ok.table;
+    cursor = c.new-2.result;
+    is_begun = false;
+    clause = record { line = 1; parser = c.new-3.result };
+    spare = None;
+  }) c.in-Ok.ensures c.new-2.ensures refl,
 )
 
-pub returns-then-is_some-clause-refused : goal.returns-then-is_some-clause-refused
-returns-then-is_some-clause-refused c =
+pub returns-then-reader-clause-refused : goal.returns-then-reader-clause-refused
+returns-then-reader-clause-refused c =
     let a = c.in_ok-read.ensures.read in
-    unended_text c.args.bytes.now c.read.new.self a.0 (omega arith) a.1 a.2 (sym c.is_some.ensures ∙ c.if-is_some.true) c.at.result c.at.ensures
+    unended_text c.args.bytes.now c.read.new.self a.0 (omega arith) a.1 a.2 c.if-reader.true c.at.result c.at.ensures
 
 pub returns-in-Ok-seal-clause-program : goal.returns-in-Ok-seal-clause-program
 returns-in-Ok-seal-clause-program c =
     let a = c.in_ok-read.ensures.read in
-    whole_text c.args.bytes.now c.read.new.self a.0 _ (omega arith) a.1 a.2 (sym c.is_some.ensures ∙ c.if-is_some.false) c.in-Ok-seal.ensures.sealed
+    whole_text c.args.bytes.now c.read.new.self a.0 _ (omega arith) a.1 a.2 c.if-reader.false c.in-Ok-seal.ensures.sealed
 
 pub returns-clause-refused : goal.returns-clause-refused
 returns-clause-refused c =
     let a = c.in_ok-read.ensures.read in
-    sealed_text c.args.bytes.now c.read.new.self a.0 (omega arith) a.1 a.2 (sym c.is_some.ensures ∙ c.if-is_some.false) c.in-Err.fault c.in-Err.ensures.refused
+    sealed_text c.args.bytes.now c.read.new.self a.0 (omega arith) a.1 a.2 c.if-reader.false c.in-Err.fault c.in-Err.ensures.refused
     (refusal_of c.seal_refusal.result) c.seal_refusal.ensures

@@ -20,7 +20,7 @@ invariant_of-self c =
     c.args.self.now.formed c.args.self.now.narrow (omega arith) c.add_part.ensures.parts c.add_part.ensures.finished c.add_part.ensures.parts_kept
     c.add_part.ensures.finished_kept
     (omega arith) c.requires.there (omega arith) (ap (λ (x : Bytes). compound x c.in_ok-arguments.arguments.items) c.in_ok-name.ensures)
-    (c.in_ok-arguments.ensures.items ∙ tail_is (c.len.result - c.args.count) c.args.self.now.finished.items c.deref.result.now c.deref.ensures.value) in
+    (c.in_ok-arguments.ensures.ok ∙ tail_is (c.len.result - c.args.count) c.args.self.now.finished.items c.deref.result.now c.deref.ensures.value) in
     let h : length c.add_part.new.parts.items ≤ 4294967295 = s.few in
     let m : Met c.args.self.now.variables c.add_part.new.parts.items =
     met_either c.add_part.result c.args.self.now.variables c.args.self.now.parts.items c.add_part.new.parts.items
@@ -41,5 +41,5 @@ returns-clause-ok c =
     c.args.self.now.formed c.args.self.now.narrow (omega arith) c.add_part.ensures.parts c.add_part.ensures.finished c.add_part.ensures.parts_kept
     c.add_part.ensures.finished_kept
     (omega arith) c.requires.there (omega arith) (ap (λ (x : Bytes). compound x c.in_ok-arguments.arguments.items) c.in_ok-name.ensures)
-    (c.in_ok-arguments.ensures.items ∙ tail_is (c.len.result - c.args.count) c.args.self.now.finished.items c.deref.result.now c.deref.ensures.value) in
+    (c.in_ok-arguments.ensures.ok ∙ tail_is (c.len.result - c.args.count) c.args.self.now.finished.items c.deref.result.now c.deref.ensures.value) in
     drafted c.add_part.result c.args.self.now.line _ _ _ _ s.meaning

@@ -59,6 +59,8 @@ invariant_of-self-in-Err c =
     let m : Met c.cut.new.self c.add_part.new.parts.items =
     met_same c.cut.new.self c.args.self.now.parts.items c.add_part.new.parts.items c.in-Err.ensures.parts_kept
     (cut_met c.args.self.now.variables c.cut.new.self met c.args.self.now.met (c.cut.ensures.count ∙ c.mark-mark.ensures.count)
+    (c.cut.ensures.first ∙ ap (λ (n : ℕ). take n c.meet.new.self.first.items) c.mark-mark.ensures.first
+    ∙ c.in_ok-meet.ensures.first_kept met c.args.self.now.met c.requires.new)
     (c.cut.ensures.named ∙ ap (λ (n : ℕ). take n c.meet.new.self.named.entries) c.mark-mark.ensures.named
     ∙ c.in_ok-meet.ensures.kept met c.args.self.now.met c.requires.new))
     c.args.self.now.numbered in

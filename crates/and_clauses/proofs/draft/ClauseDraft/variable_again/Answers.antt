@@ -1,8 +1,8 @@
-use Rattle.std.proofs.Common.{◌≤◌, [], ◌∷◌, map, refl, length, arith, ap, sym, ◌∙◌}
+use Rattle.std.proofs.Common.{◌≤◌, [], ◌∷◌, map, refl, length, arith, ap, sym}
 use Rattle.and_model.specs.Lines.{Bytes}
 use Rattle.and_syntax.specs.Written
 use Rattle.and_clauses.specs.declared.draft.DraftPart.TheVariants.{Variable}
-use Rattle.and_clauses.specs.Parts.{part_shape, part_shapes, written_at, variable}
+use Rattle.and_clauses.specs.Parts.{part_shapes, written_at, variable}
 use Rattle.and_clauses.proofs.Drafting.{Stepped, stepped_leaf, drafted}
 use Rattle.and_clauses.proofs.Meeting.{Met, met_again}
 use Rattle.and_clauses.proofs.draft.ClauseDraft.variable_again.Goals as goal

@@ -2,7 +2,7 @@ use Rattle.std.proofs.Common.{◌≡◌, [], ◌∷◌, ◌++◌, length, revers
 use Rattle.and_clauses.specs.Drafts.{draft_of}
 use Rattle.and_grammar.specs.Views.{term_at}
 use Rattle.and_grammar.specs.Copies.{copied, AreEnough, AreWithin, work}
-use Rattle.and_grammar.proofs.copying.copy_term.Given as goal
+use Rattle.and_grammar.proofs.copying.copy_parts.Given as goal
 
 abbrev pub invariant-loop-copy : goal.invariant-loop-copy
 invariant-loop-copy l = record {

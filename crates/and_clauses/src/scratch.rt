@@ -1,0 +1,36 @@
+//! Lists that are used again for each clause.
+
+use crate::guesses::Guesses;
+use crate::lifting::Copying;
+use and_model::NodeNo;
+use std::alloc::Global;
+
+/// Lists that are used again for each clause. What is in them between two clauses means nothing.
+#[derive(Drop)]
+pub(crate) struct Scratch {
+    pub(crate) guesses: Guesses,
+    /// Parts that come next.
+    pub(crate) parts: Vec<u32>,
+    pub(crate) copying: CopyLists,
+}
+
+/// What comes next of a term that is copied, and the terms that are.
+#[derive(Drop)]
+pub(crate) struct CopyLists {
+    pub(crate) pending: Vec<Copying>,
+    pub(crate) finished: Vec<NodeNo>,
+}
+
+impl Scratch {
+    /// Empty lists. Takes no memory.
+    pub(crate) fn new(alloc: Global) -> Scratch {
+        Scratch {
+            guesses: Guesses::new(alloc),
+            parts: Vec::new(alloc),
+            copying: CopyLists {
+                pending: Vec::new(alloc),
+                finished: Vec::new(alloc),
+            },
+        }
+    }
+}
