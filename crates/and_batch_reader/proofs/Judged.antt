@@ -19,6 +19,7 @@ use Rattle.and_batch_text.specs.declared.span.Span as values
 use Rattle.and_reader.specs.Causes.{refusal_of, cause_of, refusal_with}
 use Rattle.and_reader.specs.declared.refusal.ReadRefusal.{ReadRefusal}
 use Rattle.and_batch_reader.specs.Opened.{IsRefusedAs, IsJudged, AreJudged, IsJudgedWhole}
+use Rattle.and_batch_reader.proofs.Asked.{unasked}
 
 pub judged_read : (text : Bytes) (P : Program) → IsLiftedFrom text P → IsJudged text None
 judged_read text P (S, reads, is) = (S, reads)
@@ -80,9 +81,6 @@ as_too_many bytes ss d line fits has many is =
 
 -- ---- the whole
 
-cons_not : (s : Span) (ss : List Span) → s ∷ ss ≡ [] → ⊥
-cons_not s ss e = cc
-
 pub as_refused : (bytes : Bytes) (ss : List values.Span) (e : ReadRefusal) → length bytes ≤ MAX_BYTES → HasQueries bytes (spans_of ss) → length ss ≤ 256
     → IsJudgedWhole bytes (spans_of ss) (Some e) → IsRefusedAs (IsBatchRefused bytes) e
 as_refused bytes ss e fits has few judged = by (spans_of ss) has (omega (arith, spans_long ss, few)) judged
@@ -96,17 +94,11 @@ pub as_batch : (bytes : Bytes) (ss : List values.Span) → length bytes ≤ MAX_
 as_batch bytes ss fits has few judged = by (spans_of ss) has (omega (arith, spans_long ss, few)) judged
   where
     by : (spans : List Span) → HasQueries bytes spans → length spans ≤ 256 → IsJudgedWhole bytes spans None → IsBatch bytes spans
-    by [] has few judged = record {
-      size = fits;
-      queries = has;
-      whole = λ none. judged;
-      few = few;
-      read = none_before bytes [];
-    }
+    by [] has few (P, reads) = absurd (unasked bytes P has reads)
     by (s ∷ us) has few judged = record {
       size = fits;
       queries = has;
-      whole = λ none. absurd (cons_not s us none);
+      some = omega arith;
       few = few;
       read = judged;
     }

@@ -24,11 +24,10 @@ pub data IsBatchRefused (bytes : Bytes) : Refusal → Type 0 where
       → length spans ≤ 256 → k < length spans → AreRead bytes spans k → IsRefused (single bytes spans k) r
       → IsBatchRefused bytes r
 
--- These are the text's queries, at most 256; by itself each is that of a program. (A text without a query would have to
--- be that of a program itself, which none is.)
+-- These are the text's queries, one at least and at most 256; by itself each is that of a program.
 pub record IsBatch (bytes : Bytes) (spans : List Span) : Type 0 where
   pub size : length bytes ≤ MAX_BYTES
   pub queries : HasQueries bytes spans
-  pub whole : spans ≡ [] → (P : SourceProgram) × Reads bytes P
+  pub some : 0 < length spans
   pub few : length spans ≤ 256
   pub read : AreRead bytes spans (length spans)
