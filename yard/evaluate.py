@@ -14,9 +14,8 @@ import random
 import re
 import subprocess
 import sys
-import tempfile
 
-from plain import Either, Fault, fresh, is_arithmetic, line, read, run_waiting, undo, unify
+from plain import Either, fresh, is_arithmetic, line, read, run_waiting, undo, unify
 
 TOP = os.path.dirname(os.path.dirname(os.path.abspath(__file__)))
 
@@ -104,11 +103,7 @@ def linked(body, goals):
 
 def run(program, text, limit, words):
     """The lines that the program writes, and its status."""
-    with tempfile.NamedTemporaryFile('w', suffix='.pl') as source:
-        source.write(text)
-        source.flush()
-        with open(source.name) as given:
-            done = subprocess.run([program, 'run', '--limit', str(limit), *words], stdin=given, capture_output=True, timeout=120)
+    done = subprocess.run([program, 'run', '--limit', str(limit), *words], input=text.encode(), capture_output=True, timeout=1200, check=False)
     return done.stdout.decode().splitlines(), done.returncode
 
 
@@ -270,7 +265,7 @@ class TypedWriter:
 def differs(program, text, limit):
     """What the program writes for a text and should not; None where all is well, and SKIPPED where the text is too long a search."""
     try:
-        plain = Search(read(text), limit, 4_000).run()
+        plain = Search(read(text), limit, 3_000).run()
     except TooLong:
         return SKIPPED
     told = []
@@ -285,7 +280,7 @@ def differs(program, text, limit):
             return f'{lines[-1]} with {" ".join(words)}, {NOT_OVER}'
         if lines[-1] == '% complete' and plain.is_cut:
             try:
-                if Search(read(text), 2 * limit, 8_000).run().lines != plain.lines:
+                if Search(read(text), 2 * limit, 6_000).run().lines != plain.lines:
                     return 'complete, and a larger limit has other lines'
             except TooLong:
                 pass

@@ -5,18 +5,21 @@
 
 Parts: streams (reads and writes that fail, come in pieces, are closed or full; texts cut at each byte), memory (each allocation refused in
 turn, and a bounded address space), threads (each refused in turn), crowd (16 teams of 8 workers, on all processors, on one, on busy ones),
-system (control groups of few bytes or threads, a user of few threads), ends (each limit at its last allowed value and one beyond),
-mutation (texts of examples and rows, changed by bytes and tokens), random (random programs beside yard/evaluate.py).
---quick takes a sample of each. --from and --count tell which of the numbered texts of mutation and random are made, and which rounds of
-crowd are run: each number is made by itself, so that a run can go on where another ended.
+system (control groups of few bytes or threads, a user of few threads, small stacks), checked (memory as valgrind sees it), ends (each limit
+at its last allowed value and one beyond), mutation (texts of examples and rows, changed by bytes and tokens), random (random programs
+beside yard/evaluate.py).
+--quick takes a sample of each. --from and --count tell which of the numbered texts of mutation and random are made, which rounds of crowd
+are run, and over which programs allocations are refused: each number is made by itself, so that a run can go on where another ended.
 Refusals are made by yard/refusing.c, which gcc compiles, in a program that is as it is shipped.
 """
 import argparse
+import atexit
 import contextlib
 import os
 import random
 import re
 import resource
+import shutil
 import signal
 import struct
 import subprocess
@@ -29,6 +32,7 @@ import hostile_ends
 import hostile_random
 import hostile_system
 import same_bytes
+from hostile_system import least_space, limited
 from hostile_texts import crowd_texts, crowded
 
 HERE = os.path.dirname(os.path.abspath(__file__))
@@ -56,6 +60,7 @@ class Trial:
         self.dice = random.Random(given.seed)
         self.broken, self.runs, self.took = 0, 0, 0.0
         self.folder = tempfile.mkdtemp(prefix="hostile-")
+        atexit.register(shutil.rmtree, self.folder, ignore_errors=True)
         self.refusing = os.path.join(self.folder, "refusing.so")
         subprocess.run(["gcc", "-O2", "-shared", "-fPIC", "-o", self.refusing, os.path.join(HERE, "refusing.c"), "-ldl"], check=True)
 
@@ -238,7 +243,9 @@ def through(trial, text, taken):
 
 
 def memory(trial):
-    for name, words, text in crowded((3,) if trial.quick else (1, 2, 8)):
+    programs = list(crowded((3,) if trial.quick else (8, 2, 1)))
+    for place in trial.numbers(len(programs), len(programs)):
+        name, words, text = programs[place]
         due = trial.run(words, text)
         many = trial.counts(words, text)[0]
         for number in trial.some(many + 3, 15):
@@ -259,22 +266,6 @@ def spaces(trial):
             found = trial.run(words, text, before=limited(kilobytes))
             if found[:2] not in (due[:2], (7, b"")):
                 trial.broke(f"{name}, {kilobytes} KB", words, text, found)
-
-
-def limited(kilobytes):
-    return ["sh", "-c", f'ulimit -v {kilobytes}; exec "$0" "$@"']
-
-
-def least_space(trial):
-    """The least address space, in KB, in which the program is loaded and tells how it is used."""
-    low, high = 0, 64_000
-    while high - low > 20:
-        middle = (low + high) // 2
-        if trial.run([], "", before=limited(middle))[0] == 2:
-            high = middle
-        else:
-            low = middle
-    return high
 
 
 def threads(trial):
@@ -301,7 +292,8 @@ def crowd(trial):
 
 
 PARTS = {"streams": streams, "memory": memory, "threads": threads, "crowd": crowd, "system": hostile_system.system,
-         "ends": hostile_ends.ends, "mutation": hostile_random.mutation, "random": hostile_random.beside_definitions}
+         "checked": hostile_system.checked, "ends": hostile_ends.ends, "mutation": hostile_random.mutation,
+         "random": hostile_random.beside_definitions}
 
 
 def main():
@@ -314,10 +306,10 @@ def main():
     words.add_argument("--count", type=int, default=0)
     trial = Trial(words.parse_args())
     for name in words.parse_args().parts or PARTS:
-        start, runs, broken = time.monotonic(), trial.runs, trial.broken
+        start, used, runs, broken = time.monotonic(), used_seconds() + time.process_time(), trial.runs, trial.broken
         PARTS[name](trial)
-        took = time.monotonic() - start
-        print(f"{name:9} {trial.runs - runs:7} runs, {trial.broken - broken} broken, {took:.0f} s", flush=True)
+        took, used = time.monotonic() - start, used_seconds() + time.process_time() - used
+        print(f"{name:9} {trial.runs - runs:7} runs, {trial.broken - broken} broken, {took:.0f} s, {used:.0f} s of a processor", flush=True)
     return 1 if trial.broken else 0
 
 

@@ -3,6 +3,7 @@ import re
 
 import evaluate
 import forks
+import plain
 import same_bytes
 from hostile_texts import ALONE, EDGES, SEARCHES
 
@@ -120,7 +121,7 @@ def steps(words, text):
         pass
     except forks.TooLong:
         return 1_000_000
-    except (evaluate.Fault, AttributeError, TypeError):
+    except (plain.Fault, AttributeError, TypeError):
         return 0
     return most - search.steps
 

@@ -1,12 +1,15 @@
 """What the system may refuse a program: memory and threads of a control group, threads of a user, a processor that others want."""
 import contextlib
 import os
+import shutil
 import subprocess
 import time
 
 from hostile_texts import crowd_texts, crowded
 
 LONG_LIST = "?- X = [" + ",".join(["a"] * 250_000) + "].\n"
+# so many threads a group or a user may have, the first of the program among them
+THREADS = (*range(1, 20), 32, 64, 128)
 COUNT = "n(0,z). n(K,s(T)) :- K > 0, J is K-1, n(J,T). ?- n(80000,X).\n"
 
 
@@ -49,6 +52,22 @@ class Group:
                 time.sleep(0.1)
 
 
+def limited(kilobytes):
+    return ["sh", "-c", f'ulimit -v {kilobytes}; exec "$0" "$@"']
+
+
+def least_space(trial):
+    """The least address space, in KB, in which the program is loaded and tells how it is used."""
+    low, high = 0, 64_000
+    while high - low > 20:
+        middle = (low + high) // 2
+        if trial.run([], "", before=limited(middle))[0] == 2:
+            high = middle
+        else:
+            low = middle
+    return high
+
+
 def system(trial):
     for part in (memory_groups, thread_groups, users, stacks):
         try:
@@ -70,7 +89,7 @@ def memory_groups(trial):
     with contextlib.ExitStack() as stack:
         group = Group("memory")
         stack.callback(group.remove)
-        killed = 0
+        killed, least = 0, least_space(trial)
         for name, words, text in big_programs():
             due = trial.run(words, text)
             for megabytes in (4, 16) if trial.quick else (1, 2, 3, 4, 6, 8, 12, 16, 24, 32, 48, 64):
@@ -79,15 +98,12 @@ def memory_groups(trial):
                 killed += found[0] == -9
                 if found[:2] not in (due[:2], (7, b""), (-9, b"")):
                     trial.broke(f"{name}, a group of {megabytes} MB", words, text, found)
+                if megabytes << 10 < least:
+                    continue
                 bounded = trial.run(words, text, before=group.before(f"ulimit -v {megabytes << 10};"))
-                if bounded[:2] not in (due[:2], (7, b"")) and not is_unloaded(bounded):
+                if bounded[:2] not in (due[:2], (7, b"")):
                     trial.broke(f"{name}, a group and an address space of {megabytes} MB", words, text, bounded)
         print(f"memory groups: {killed} runs ended by the system, with nothing written", flush=True)
-
-
-def is_unloaded(found):
-    """The shell or the loader had too little memory to begin with."""
-    return found[1] == b"" and (found[0] in (126, 127, 2) or b"error while loading" in found[2] or found[0] == -9)
 
 
 def thread_groups(trial):
@@ -97,11 +113,11 @@ def thread_groups(trial):
         stack.callback(group.remove)
         for name, words, text in crowded((3,) if trial.quick else (2, 8, 16)):
             due = trial.run(words, text)
-            for most in trial.some(130, 4):
-                group.limit("pids.max", most + 1)
+            for most in (1, 2, 4) if trial.quick else THREADS:
+                group.limit("pids.max", most)
                 found = trial.run(words, text, before=group.before())
                 if found[:2] != due[:2]:
-                    trial.broke(f"{name}, a group of {most + 1} threads", words, text, found)
+                    trial.broke(f"{name}, a group of {most} threads", words, text, found)
 
 
 def users(trial):
@@ -111,11 +127,11 @@ def users(trial):
     subprocess.run(["install", "-m", "755", trial.program, copy], check=True)
     for name, words, text in crowded((3,) if trial.quick else (2, 8, 16)):
         due = trial.run(words, text)
-        for most in trial.some(130, 4):
+        for most in (1, 2, 4) if trial.quick else THREADS:
             nobody = ["setpriv", "--reuid", "65534", "--regid", "65534", "--clear-groups", "sh", "-c", f'exec {copy} "$@"']
-            found = trial.run(words, text, before=["prlimit", f"--nproc={most + 1}", *nobody])
+            found = trial.run(words, text, before=["prlimit", f"--nproc={most}", *nobody])
             if found[:2] != due[:2]:
-                trial.broke(f"{name}, a user of {most + 1} threads", words, text, found)
+                trial.broke(f"{name}, a user of {most} threads", words, text, found)
 
 
 def stacks(trial):
@@ -129,3 +145,26 @@ def stacks(trial):
             found = trial.run(crowd, text, before=["sh", "-c", f'ulimit -s {size}; exec "$0" "$@"'])
             if found[:2] != due[:2]:
                 trial.broke(f"{name}, a stack of {size} KB", crowd, text, found)
+
+
+CHECKED = ["valgrind", "--quiet", "--error-exitcode=99", "--leak-check=full", "--show-leak-kinds=all", "--errors-for-leak-kinds=all",
+           "--soname-synonyms=somalloc=nouserintercepts"]
+# allocations of the shell that begins valgrind, which are refused with the others
+OF_THE_SHELL = 60
+
+
+def checked(trial):
+    """Memory as valgrind sees it: nothing read before it is written, nothing beyond its block, and each block given back; also where an
+    allocation is refused."""
+    if not shutil.which("valgrind"):
+        print("checked: not tried, since there is no valgrind", flush=True)
+        return
+    programs = list(crowded((3,)))
+    for name, words, text in programs[3::5] if trial.quick else programs:
+        due = trial.run(words, text)
+        many = trial.counts(words, text)[0]
+        for number in [None, *(trial.dice.randrange(OF_THE_SHELL, many) for _ in range(1 if trial.quick else 8))]:
+            more = {} if number is None else {"REFUSE_MEMORY": f"{number}+"}
+            found = trial.run(words, text, before=CHECKED, **more)
+            if found[:2] != due[:2] and (number is None or found[:2] != (7, b"")):
+                trial.broke(f"{name}, checked, allocation {number} refused", words, text, found)

@@ -88,8 +88,8 @@ EDGES = [
 
 def crowded(crowds):
     """The searches, each by so many teams of as many workers, and what takes none."""
-    for name, words, text in SEARCHES:
-        for crowd in crowds:
+    for crowd in crowds:
+        for name, words, text in SEARCHES:
             yield f"{name}, {crowd} teams", [*words, "--teams", str(crowd), "--workers", str(min(crowd, 8))], text
     yield from ALONE
 

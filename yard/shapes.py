@@ -121,9 +121,9 @@ SHAPES = [
     ("path", growth.path(4_000), LARGEST, 143),
     ("a loop before an answer", growth.backwards(0), ["--limit", "20000"], 1322),
     ("states in a list", growth.states(1_000), LARGEST, 239),
-    ("a list handed on, twice", handed_on(2), LARGEST, 9999),
-    ("two lists made one", same_terms(40), LARGEST, 9999),
-    ("rules over a list", rules_over(20), LARGEST, 9999),
+    ("a list handed on, twice", handed_on(2), LARGEST, 230),
+    ("two lists made one", same_terms(20), LARGEST, 148),
+    ("rules over a list", rules_over(2), LARGEST, 313),
     ("a shared expression", growth.shared(14), LARGEST, 34),
     ("sums behind calls", growth.behind(1_000), LARGEST, 142),
 ]
