@@ -14,10 +14,11 @@ use std::alloc::{AllocError, Global};
 use std::marker::Model;
 
 /// How many cells are listed at most before it is asked whether most are those of goals that are gone.
-const FEW: usize = 4096;
+const FEW: usize = 64;
 
-/// How many times as many cells as goals are listed then at most.
-const TIMES: usize = 16;
+/// How many times as many cells as goals are listed then at most: as many as a goal that is left is watched by, so that
+/// its own never look like those of goals that are gone.
+const TIMES: usize = 128;
 
 /// A goal that is left, and where its cells are listed, if it is watched.
 #[derive(Clone, Copy)]

@@ -29,7 +29,10 @@ use and_program::Loaded;
 use std::alloc::{AllocError, Global};
 use std::marker::Model;
 
-/// So many places more than a row has words are followed before marks are kept of places.
+/// So many places are followed for each word of a row before marks are kept of places.
+const PLACES_PER_WORD: u64 = 8;
+
+/// So many places more are followed, since a row may be short.
 const SMALL_TERM: u64 = 64;
 
 /// So many places are followed again rather than that it is noted which of them are ground.
@@ -226,7 +229,9 @@ fn judge<N: Naming>(
     ensures sound { IsSound N.program cells.old }
 {
     let mut budget = Budget {
-        places: u64::from(cells.len()) + SMALL_TERM,
+        places: u64::from(cells.len())
+            .saturating_mul(PLACES_PER_WORD)
+            .saturating_add(SMALL_TERM),
         node: 0,
     };
     met.clear();
