@@ -23,9 +23,10 @@ use and_arith::WorkList;
 use and_cells::{Naming, PlainCells};
 use and_clause_index::{Determinacy, Look};
 use and_guards::is_guard_false;
+use and_heads::HeadSolver;
 use and_model::{ClauseNo, NodeNo};
 use and_program::Loaded;
-use and_unify::{PairList, Settled, Solver};
+use and_unify::{PairList, Settled};
 use std::alloc::{AllocError, Global};
 
 /// What trials of clauses work with, kept by their caller and used again.
@@ -112,7 +113,7 @@ impl Trials {
 /// What clauses are tried with.
 #[derive(Drop)]
 struct Tools {
-    solver: Solver,
+    solver: HeadSolver,
     pairs: PairList,
     values: WorkList,
 }
@@ -121,7 +122,7 @@ impl Tools {
     /// Nothing was tried yet. Takes no memory.
     fn new(alloc: Global) -> Tools {
         Tools {
-            solver: Solver::new(alloc),
+            solver: HeadSolver::new(alloc),
             pairs: PairList::new(alloc),
             values: WorkList::new(alloc),
         }

@@ -23,17 +23,18 @@ use crate::settling::settle_noted;
 use crate::trail::Trail;
 use and_arith::WorkList;
 use and_cells::{Naming, PlainCells};
+use and_heads::HeadSolver;
 use and_model::limits::MAX_LIMIT;
 use and_model::{ClauseNo, Goal};
 use and_program::Loaded;
-use and_unify::{PairList, Settled as Answer, Solver};
+use and_unify::{PairList, Settled as Answer};
 use std::alloc::{AllocError, Global};
 
 /// What steps work with, kept by their caller and used again.
 #[derive(Drop)]
 pub struct Tools {
     alloc: Global,
-    pub(crate) solver: Solver,
+    pub(crate) solver: HeadSolver,
     pub(crate) pairs: PairList,
     pub(crate) values: WorkList,
 }
@@ -43,7 +44,7 @@ impl Tools {
     pub fn new(alloc: Global) -> Tools {
         Tools {
             alloc,
-            solver: Solver::new(alloc),
+            solver: HeadSolver::new(alloc),
             pairs: PairList::new(alloc),
             values: WorkList::new(alloc),
         }

@@ -1,0 +1,40 @@
+use Rattle.std.proofs.Common.{◌≡◌, length, sym, ◌∙◌, subst, arith}
+use Rattle.std.proofs.lemmas.Bool.Decides.{nat_tests}
+use Rattle.and_model.specs.declared.reference.Ref.TheVariants.{Cell}
+use Rattle.and_program.specs.Loaded.{arguments_at}
+use Rattle.and_cells.specs.Ranges.{NamedProgram, CanHold}
+use Rattle.and_cells.specs.Ends.{Ends}
+use Rattle.and_circles.proofs.Sufficing.{structure_ends}
+use Rattle.and_heads.proofs.Looking.{free_word, number_word, cell_word, node_word}
+use Rattle.and_heads.proofs.ending.word_ends.Goals as goal
+
+pub is_free-requires : goal.is_free-requires
+is_free-requires g c =
+    let P = g.N.Naming.program in
+    let row = c.args.cells.now in
+    let held : CanHold P (length row) c.args.cell (Cell c.in-Cell.other) =
+    subst (CanHold P (length row) c.args.cell) (sym c.word.ensures.value ∙ c.in-Cell.is) (c.word.ensures.sound.fits c.args.cell) in
+    let below = c.requires.in_row in
+    omega arith
+
+pub returns-in-Free : goal.returns-in-Free
+returns-in-Free g c = λ _. free_word g.N.Naming.program c.args.cells.now c.args.floor c.args.cell c.word.result c.word.ensures.value c.in-Free.is
+
+pub returns-in-Number : goal.returns-in-Number
+returns-in-Number g c = λ _.
+    number_word g.N.Naming.program c.args.cells.now c.args.floor c.args.cell c.word.result c.word.ensures.value c.in-Number.field-0 c.in-Number.is
+
+pub returns-in-Cell : goal.returns-in-Cell
+returns-in-Cell g c = λ is.
+    cell_word g.N.Naming.program c.args.cells.now c.args.floor c.args.cell c.word.result c.word.ensures.value c.in-Cell.other c.in-Cell.is
+    (Ends.free c.in-Cell.other (c.is_free.ensures is))
+
+pub returns-in-Node : goal.returns-in-Node
+returns-in-Node g c = λ none.
+    let P = g.N.Naming.program in
+    let row = c.args.cells.now in
+    let zero : c.argument_count.result ≡ 0 = grind (arith, nat_tests, none) in
+    let count : length (arguments_at P.skeleton c.in-Node.node.0) ≡ 0 =
+    subst (λ (Q : NamedProgram). length (arguments_at Q.skeleton c.in-Node.node.0) ≡ 0) (sym c.requires.program) (sym c.argument_count.ensures ∙ zero) in
+    node_word P row c.args.floor c.args.cell c.word.result c.word.ensures.value c.in-Node.node c.in-Node.base c.in-Node.is
+    (structure_ends P row c.in-Node.node c.in-Node.base c.args.floor (λ place below. absurd (omega arith)))

@@ -1,0 +1,308 @@
+//! A call and the head of a clause, met argument by argument.
+
+ghost use Rattle.std.specs.Prelude.{◌≡◌, ◌≢◌, ◌<◌, [], ◌∷◌, ◌++◌, ℕ, List, length, false, true, OnOk, All};
+ghost use Rattle.std.specs.Prelude.{vec_len, vec_capacity};
+ghost use Rattle.and_model.specs.Store.{is_half};
+ghost use Rattle.and_model.specs.declared.reference.Ref.{Ref};
+ghost use Rattle.and_program.specs.Skeletons.{AllFall};
+ghost use Rattle.and_cells.specs.Ranges.{IsInRange, IsInRangeOrHalf};
+ghost use Rattle.and_cells.specs.Rows.{plain};
+ghost use Rattle.and_cells.specs.Seen.{IsWrittenIfNumber, OnlyReads, Sets};
+ghost use Rattle.and_cells.specs.Parts.{named};
+ghost use Rattle.and_unify.specs.Meeting.{IsToBeSet};
+ghost use Rattle.and_unify.specs.Running.{arguments_of_both};
+ghost use Rattle.and_heads.specs.Entering.{Meets, ComesToParts};
+ghost use Rattle.and_heads.specs.Parts.{HasShape, Puts, both_of, arguments_of_parts};
+
+use crate::parts::{
+    Part, Structure, argument_at, argument_count, arguments_of_both, end_of, kind_at,
+};
+use and_cells::{Bound, Cells, Naming, PlainCells};
+use and_model::Ref;
+use and_program::Loaded;
+use std::alloc::AllocError;
+
+/// So many parts are met at most.
+const MOST_PARTS: u32 = 64;
+
+/// What became of pairs of parts of a call and of a head.
+#[derive(Clone, Copy, PartialEq, Eq, Debug)]
+pub(crate) enum Entered {
+    /// They are made the same.
+    Done,
+    /// Two of them are never the same.
+    Apart,
+    /// It is not told here.
+    GivenUp,
+}
+
+/// What two references call for.
+#[derive(Clone, Copy, PartialEq, Eq, Debug)]
+enum Case {
+    /// They are one cell.
+    OneCell,
+    /// The left one is this cell, which is to be set to the right one.
+    SetLeft(u32),
+    /// The right one is this cell, which is to be set to the left one.
+    SetRight(u32),
+    /// Neither can be set to the other.
+    Compare,
+}
+
+/// Makes two structures the same, by so many parts at most. The cells that are set go on the list.
+pub(crate) fn enter<N: Naming>(
+    loaded: &Loaded,
+    cells: &mut PlainCells<N>,
+    whole: Part,
+    bound: &mut Vec<u32>,
+    parts: &mut Vec<Part>,
+) -> Entered
+    requires program { N.program ≡ named loaded.now }
+    requires falls { AllFall 0 N.program.skeleton.nodes }
+    requires shape { HasShape N.program (length cells.old) whole }
+    ensures comes { ComesToParts N.program (plain cells.old) (plain cells.new) (both_of whole ∷ []) [] bound.old.items
+        bound.new.items result }
+{
+    parts.clear();
+    match parts.push(whole) {
+        Ok(()) => {}
+        Err(_) => return Entered::GivenUp,
+    }
+    for _turn in 0..MOST_PARTS {
+        let Some(part) = parts.pop() else {
+            return Entered::Done;
+        };
+        match enter_arguments(loaded, cells, part, bound, parts) {
+            Entered::Done => {}
+            Entered::Apart => return Entered::Apart,
+            Entered::GivenUp => return Entered::GivenUp,
+        }
+    }
+    Entered::GivenUp
+}
+
+/// Meets the arguments of two structures, and puts those that lead to structures on the list of parts.
+fn enter_arguments<N: Naming>(
+    loaded: &Loaded,
+    cells: &mut PlainCells<N>,
+    part: Part,
+    bound: &mut Vec<u32>,
+    parts: &mut Vec<Part>,
+) -> Entered
+    requires program { N.program ≡ named loaded.now }
+    requires falls { AllFall 0 N.program.skeleton.nodes }
+    requires shape { HasShape N.program (length cells.old) part }
+    requires shapes { All (HasShape N.program (length cells.old)) parts.old.items }
+    ensures comes { ComesToParts N.program (plain cells.old) (plain cells.new)
+        (arguments_of_both N.program (both_of part) ++ arguments_of_parts N.program parts.old.items) parts.new.items
+        bound.old.items bound.new.items result }
+    ensures shapes { result ≡ Entered.Done → All (HasShape N.program (length cells.old)) parts.new.items }
+{
+    for place in 0..argument_count(loaded, part.left.node) {
+        let left = argument_at(loaded, part.left, place);
+        let right = argument_at(loaded, part.right, place);
+        match enter_argument(loaded, cells, left, right, bound, parts) {
+            Entered::Done => {}
+            Entered::Apart => return Entered::Apart,
+            Entered::GivenUp => return Entered::GivenUp,
+        }
+    }
+    Entered::Done
+}
+
+/// Follows two references, and meets what they lead to.
+fn enter_argument<N: Naming>(
+    loaded: &Loaded,
+    cells: &mut PlainCells<N>,
+    left: Ref,
+    right: Ref,
+    bound: &mut Vec<u32>,
+    parts: &mut Vec<Part>,
+) -> Entered
+    requires program { N.program ≡ named loaded.now }
+    requires left_in_range { IsInRange N.program (length cells.old) left }
+    requires right_in_range { IsInRange N.program (length cells.old) right }
+    requires left_written { IsWrittenIfNumber (plain cells.old) left }
+    requires right_written { IsWrittenIfNumber (plain cells.old) right }
+    ensures { Meets N.program (record { left = left; right = right }) (plain cells.old) (plain cells.new)
+        parts.old.items parts.new.items bound.old.items bound.new.items result }
+{
+    let one = end_of(cells, left);
+    let other = end_of(cells, right);
+    meet(loaded, cells, one, other, bound, parts)
+}
+
+/// Sets one of two references to the other, or compares them.
+fn meet<N: Naming>(
+    loaded: &Loaded,
+    cells: &mut PlainCells<N>,
+    one: Ref,
+    other: Ref,
+    bound: &mut Vec<u32>,
+    parts: &mut Vec<Part>,
+) -> Entered
+    requires program { N.program ≡ named loaded.now }
+    requires one_in_range { IsInRangeOrHalf N.program (length cells.old) one }
+    requires other_in_range { IsInRangeOrHalf N.program (length cells.old) other }
+    requires one_written { IsWrittenIfNumber (plain cells.old) one }
+    requires other_written { IsWrittenIfNumber (plain cells.old) other }
+    ensures { Meets N.program (record { left = one; right = other }) (plain cells.old) (plain cells.new)
+        parts.old.items parts.new.items bound.old.items bound.new.items result }
+{
+    match case_of(one, other) {
+        Case::OneCell => Entered::Done,
+        Case::SetLeft(cell) => take(cells, bound, cell, other),
+        Case::SetRight(cell) => take(cells, bound, cell, one),
+        Case::Compare => compare(loaded, cells, one, other, parts),
+    }
+}
+
+/// What two references call for. Of two cells the one with the larger number is to be set.
+fn case_of(one: Ref, other: Ref) -> Case
+    ensures one_cell { result ≡ Case.OneCell → (one ≡ other) × (is_half one ≡ false) }
+    ensures left { (cell : ℕ) → result ≡ Case.SetLeft cell → IsToBeSet cell one other }
+    ensures right { (cell : ℕ) → result ≡ Case.SetRight cell → IsToBeSet cell other one }
+{
+    match other {
+        Ref::Cell(cell) => beside_cell(one, cell),
+        Ref::Node { .. } => beside_end(one, other),
+        Ref::Number(_) => beside_end(one, other),
+        Ref::Half(_) => Case::Compare,
+        Ref::Free => Case::Compare,
+    }
+}
+
+/// The same where the right one is a cell.
+fn beside_cell(one: Ref, cell: u32) -> Case
+    ensures one_cell { result ≡ Case.OneCell → (one ≡ Ref.Cell cell) × (is_half one ≡ false) }
+    ensures left { (set : ℕ) → result ≡ Case.SetLeft set → IsToBeSet set one (Ref.Cell cell) }
+    ensures right { (set : ℕ) → result ≡ Case.SetRight set → IsToBeSet set (Ref.Cell cell) one }
+{
+    match one {
+        Ref::Cell(there) => {
+            if there < cell {
+                Case::SetRight(cell)
+            } else if there == cell {
+                Case::OneCell
+            } else {
+                Case::SetLeft(there)
+            }
+        }
+        Ref::Node { .. } => Case::SetRight(cell),
+        Ref::Number(_) => Case::SetRight(cell),
+        Ref::Half(_) => Case::Compare,
+        Ref::Free => Case::Compare,
+    }
+}
+
+/// The same where the right one is a node or a number.
+fn beside_end(one: Ref, other: Ref) -> Case
+    requires whole { is_half other ≡ false }
+    requires no_cell { (cell : ℕ) → other ≢ Ref.Cell cell }
+    ensures one_cell { result ≢ Case.OneCell }
+    ensures left { (cell : ℕ) → result ≡ Case.SetLeft cell → IsToBeSet cell one other }
+    ensures right { (cell : ℕ) → result ≢ Case.SetRight cell }
+{
+    match one {
+        Ref::Cell(cell) => Case::SetLeft(cell),
+        Ref::Node { .. } => Case::Compare,
+        Ref::Number(_) => Case::Compare,
+        Ref::Half(_) => Case::Compare,
+        Ref::Free => Case::Compare,
+    }
+}
+
+/// Sets a free cell, which goes on the list. Where it is not free, or there is no room on the list, nothing is set.
+fn take<N: Naming>(cells: &mut PlainCells<N>, bound: &mut Vec<u32>, cell: u32, to: Ref) -> Entered
+    requires in_row { cell < length cells.old }
+    requires in_range { IsInRange N.program (length cells.old) to }
+    requires falls { (other : ℕ) → to ≡ Ref.Cell other → other < cell }
+    requires written { IsWrittenIfNumber (plain cells.old) to }
+    ensures done { result ≡ Entered.Done → Sets cell to (plain cells.old) (plain cells.new)
+        × (bound.new.items ≡ bound.old.items ++ cell ∷ []) }
+    ensures apart { result ≢ Entered.Apart }
+    ensures given_up { result ≡ Entered.GivenUp → OnlyReads (plain cells.old) (plain cells.new)
+        × (bound.new.items ≡ bound.old.items) }
+{
+    if make_room(bound).is_err() {
+        return Entered::GivenUp;
+    }
+    match cells.bind(cell, to) {
+        Bound::Won => {
+            bound.push_reserved(cell);
+            Entered::Done
+        }
+        Bound::Already(_) => Entered::GivenUp,
+    }
+}
+
+/// Makes room for one cell more, where the list has none. An error is want of memory.
+fn make_room(bound: &mut Vec<u32>) -> Result<(), AllocError>
+    ensures items { bound.new.items ≡ bound.old.items }
+    ensures room { OnOk result (vec_len bound.new < vec_capacity bound.new) }
+{
+    if bound.len() == bound.capacity() {
+        bound.reserve(1)?;
+    }
+    Ok(())
+}
+
+/// Compares two references, of which structures of one shape go on the list of parts.
+fn compare<N: Naming>(
+    loaded: &Loaded,
+    cells: &PlainCells<N>,
+    one: Ref,
+    other: Ref,
+    parts: &mut Vec<Part>,
+) -> Entered
+    requires program { N.program ≡ named loaded.now }
+    requires one_in_range { IsInRangeOrHalf N.program (length cells.now) one }
+    requires other_in_range { IsInRangeOrHalf N.program (length cells.now) other }
+    requires one_written { IsWrittenIfNumber (plain cells.now) one }
+    requires other_written { IsWrittenIfNumber (plain cells.now) other }
+    ensures { (bound : List ℕ) → Meets N.program (record { left = one; right = other }) (plain cells.now)
+        (plain cells.now) parts.old.items parts.new.items bound bound result }
+{
+    let Some(first) = kind_at(loaded, cells, one) else {
+        return Entered::GivenUp;
+    };
+    let Some(second) = kind_at(loaded, cells, other) else {
+        return Entered::GivenUp;
+    };
+    match arguments_of_both(first, second) {
+        None => Entered::Apart,
+        Some(0) => Entered::Done,
+        Some(_) => put(one, other, parts),
+    }
+}
+
+/// Puts two structures on the list of parts, unless they are one.
+fn put(one: Ref, other: Ref, parts: &mut Vec<Part>) -> Entered
+    ensures done { result ≡ Entered.Done → Puts one other parts.old.items parts.new.items }
+    ensures apart { result ≢ Entered.Apart }
+{
+    let Ref::Node { node, base } = one else {
+        return Entered::GivenUp;
+    };
+    let Ref::Node {
+        node: there,
+        base: by,
+    } = other
+    else {
+        return Entered::GivenUp;
+    };
+    if node.0 == there.0 && base == by {
+        return Entered::Done;
+    }
+    let part = Part {
+        left: Structure { node, base },
+        right: Structure {
+            node: there,
+            base: by,
+        },
+    };
+    match parts.push(part) {
+        Ok(()) => Entered::Done,
+        Err(_) => Entered::GivenUp,
+    }
+}

@@ -1,0 +1,260 @@
+//! A call that is settled with the head of a clause.
+
+ghost use Rattle.std.specs.Prelude.{◌≡◌, ◌≢◌, [], true, length, IfSome};
+ghost use Rattle.and_model.specs.declared.reference.Ref.{Ref};
+ghost use Rattle.and_program.specs.Skeletons.{AllFall};
+ghost use Rattle.and_cells.specs.Ranges.{IsInRange};
+ghost use Rattle.and_cells.specs.Rows.{plain, IsSound};
+ghost use Rattle.and_cells.specs.Seen.{word_at, IsWrittenIfNumber};
+ghost use Rattle.and_cells.specs.Meaning.{IsSettled};
+ghost use Rattle.and_cells.specs.Parts.{named};
+ghost use Rattle.and_unify.specs.Pairs.{AreInRange, AreWritten, NameNoHalf};
+ghost use Rattle.and_unify.specs.Setting.{HaveBeenSet};
+ghost use Rattle.and_unify.specs.Settling.{AreNewFrom, Settles};
+ghost use Rattle.and_unify.specs.declared.settling.Settled.{Settled};
+ghost use Rattle.and_heads.specs.Parts.{HasShape, both_of};
+ghost use Rattle.and_heads.specs.Settling.{the_pair};
+
+use crate::ending::all_end;
+use crate::entering::{Entered, enter};
+use crate::parts::{Part, Structure, arguments_of_both, kind_at};
+use and_cells::{Naming, PlainCells};
+use and_model::Ref;
+use and_program::Loaded;
+use and_unify::{Pair, PairList, Settled, Solver};
+use std::alloc::Global;
+use std::marker::Model;
+
+/// Settles calls with heads of clauses over cells that are settled, and tells which cells it set. It is kept by its
+/// caller and used again, so that its lists take memory once. Contracts see the cells that the last call set.
+#[derive(Drop)]
+pub struct HeadSolver {
+    bound: Vec<u32>,
+    /// Whether the solver set the cells.
+    is_solved: bool,
+    solver: Solver,
+    /// Structures whose arguments are to be met.
+    parts: Vec<Part>,
+    /// Where paths that are followed are still to be followed from.
+    visits: Vec<Ref>,
+    /// Places that were followed.
+    met: Vec<Ref>,
+}
+
+impl Model for HeadSolver {
+    ghost use Rattle.std.specs.Prelude.{List, ℕ, cond};
+
+    ghost Value = { List ℕ };
+
+    ghost view = { λ heads. cond heads.is_solved heads.solver heads.bound.items };
+}
+
+impl HeadSolver {
+    /// A solver that has set nothing yet. Takes no memory.
+    pub fn new(alloc: Global) -> HeadSolver
+        ensures { result ≡ [] }
+    {
+        HeadSolver {
+            bound: Vec::new(alloc),
+            is_solved: false,
+            solver: Solver::new(alloc),
+            parts: Vec::new(alloc),
+            visits: Vec::new(alloc),
+            met: Vec::new(alloc),
+        }
+    }
+
+    /// Forgets which cells were set. Takes no memory.
+    pub fn forget(&mut self)
+        ensures { self.new ≡ [] }
+    {
+        self.bound.clear();
+        self.is_solved = false;
+    }
+
+    /// The cells that the last call set, each once. Takes no memory.
+    pub fn bound(&self) -> &[u32]
+        ensures { result.now ≡ self.now }
+    {
+        if self.is_solved {
+            self.solver.bound()
+        } else {
+            &self.bound
+        }
+    }
+
+    /// The same as [`Solver::settle_further`], word for word.
+    ///
+    /// Where there is one pair, of two structures, their arguments are met one after the other, and of paths 64 places
+    /// are followed at most. What is not told by that is taken back, and left to the solver.
+    pub fn settle_further<N: Naming>(
+        &mut self,
+        loaded: &Loaded,
+        cells: &mut PlainCells<N>,
+        floor: u32,
+        pairs: &mut PairList,
+    ) -> Settled
+        requires program { N.program ≡ named loaded.now }
+        requires in_range { AreInRange N.program (length cells.old) pairs.old }
+        requires written { AreWritten (plain cells.old) pairs.old }
+        requires settled { IsSettled N.program cells.old }
+        requires no_half { NameNoHalf N.program (word_at cells.old) pairs.old }
+        requires new { AreNewFrom N.program cells.old pairs.old floor }
+        ensures settles { Settles N.program cells.old cells.new pairs.old result }
+        ensures bound { HaveBeenSet cells.old cells.new self.new }
+        ensures done { result ≡ Settled.Solved → pairs.new ≡ [] }
+    {
+        let words = cells.len();
+        self.bound.clear();
+        self.is_solved = false;
+        match settle_one_pair(
+            loaded,
+            cells,
+            floor,
+            pairs,
+            &mut self.bound,
+            &mut self.parts,
+            &mut self.visits,
+            &mut self.met,
+        ) {
+            Entered::Done => {
+                pairs.clear();
+                return Settled::Solved;
+            }
+            Entered::Apart => return Settled::NoSolution,
+            Entered::GivenUp => {}
+        }
+        cells.take_back(&self.bound, words);
+        self.is_solved = true;
+        self.solver.settle_further(loaded, cells, floor, pairs)
+    }
+}
+
+/// The same, where there is one pair, and where it is told by arguments that are met one after the other.
+fn settle_one_pair<N: Naming>(
+    loaded: &Loaded,
+    cells: &mut PlainCells<N>,
+    floor: u32,
+    pairs: &PairList,
+    bound: &mut Vec<u32>,
+    parts: &mut Vec<Part>,
+    visits: &mut Vec<Ref>,
+    met: &mut Vec<Ref>,
+) -> Entered
+    requires program { N.program ≡ named loaded.now }
+    requires in_range { AreInRange N.program (length cells.old) pairs.now }
+    requires written { AreWritten (plain cells.old) pairs.now }
+    requires settled { IsSettled N.program cells.old }
+    requires no_half { NameNoHalf N.program (word_at cells.old) pairs.now }
+    requires new { AreNewFrom N.program cells.old pairs.now floor }
+    requires empty { bound.old.items ≡ [] }
+    ensures done { result ≡ Entered.Done → Settles N.program cells.old cells.new pairs.now Settled.Solved }
+    ensures apart { result ≡ Entered.Apart → Settles N.program cells.old cells.new pairs.now Settled.NoSolution }
+    ensures bound { HaveBeenSet cells.old cells.new bound.new.items }
+{
+    match only_pair(pairs) {
+        Some(pair) => settle_directly(
+            loaded, cells, floor, pair.left, pair.right, bound, parts, visits, met,
+        ),
+        None => Entered::GivenUp,
+    }
+}
+
+/// The pair of a list that has no other.
+fn only_pair(pairs: &PairList) -> Option<Pair>
+    ensures { IfSome result (λ pair. pairs.now ≡ the_pair pair.left pair.right) }
+{
+    if pairs.len() == 1 {
+        Some(*pairs.at(0))
+    } else {
+        None
+    }
+}
+
+/// The same of a call and a head, by arguments that are met one after the other, where that tells it.
+fn settle_directly<N: Naming>(
+    loaded: &Loaded,
+    cells: &mut PlainCells<N>,
+    floor: u32,
+    call: Ref,
+    head: Ref,
+    bound: &mut Vec<u32>,
+    parts: &mut Vec<Part>,
+    visits: &mut Vec<Ref>,
+    met: &mut Vec<Ref>,
+) -> Entered
+    requires program { N.program ≡ named loaded.now }
+    requires in_range { AreInRange N.program (length cells.old) (the_pair call head) }
+    requires written { AreWritten (plain cells.old) (the_pair call head) }
+    requires settled { IsSettled N.program cells.old }
+    requires no_half { NameNoHalf N.program (word_at cells.old) (the_pair call head) }
+    requires new { AreNewFrom N.program cells.old (the_pair call head) floor }
+    requires empty { bound.old.items ≡ [] }
+    ensures done { result ≡ Entered.Done → Settles N.program cells.old cells.new (the_pair call head) Settled.Solved }
+    ensures apart { result ≡ Entered.Apart
+        → Settles N.program cells.old cells.new (the_pair call head) Settled.NoSolution }
+    ensures bound { HaveBeenSet cells.old cells.new bound.new.items }
+{
+    laws_of_rows(loaded, cells);
+    let Some(whole) = whole_of(loaded, cells, call, head) else {
+        return Entered::GivenUp;
+    };
+    match enter(loaded, cells, whole, bound, parts) {
+        Entered::Done => ended(all_end(loaded, cells, floor, bound, visits, met)),
+        Entered::Apart => Entered::Apart,
+        Entered::GivenUp => Entered::GivenUp,
+    }
+}
+
+/// What holds of each row, and of the nodes of each program.
+fn laws_of_rows<N: Naming>(loaded: &Loaded, cells: &PlainCells<N>)
+    requires program { N.program ≡ named loaded.now }
+    ensures sound { IsSound N.program cells.now }
+    ensures falls { AllFall 0 N.program.skeleton.nodes }
+{
+    let _words = cells.len();
+    loaded.skeleton_is_of_the_program();
+}
+
+/// What parts that were made the same come to, where it was seen of all paths that they end, or not.
+fn ended(all: bool) -> Entered
+    ensures done { result ≡ Entered.Done → all ≡ true }
+    ensures apart { result ≢ Entered.Apart }
+{
+    if all { Entered::Done } else { Entered::GivenUp }
+}
+
+/// The call and the head as a part, where they are structures of one name and number of arguments.
+fn whole_of<N: Naming>(loaded: &Loaded, cells: &PlainCells<N>, call: Ref, head: Ref) -> Option<Part>
+    requires program { N.program ≡ named loaded.now }
+    requires call { IsInRange N.program (length cells.now) call }
+    requires head { IsInRange N.program (length cells.now) head }
+    requires call_written { IsWrittenIfNumber (plain cells.now) call }
+    requires head_written { IsWrittenIfNumber (plain cells.now) head }
+    ensures { IfSome result (λ whole. (both_of whole ≡ record { left = call; right = head })
+        × HasShape N.program (length cells.now) whole) }
+{
+    let Ref::Node { node, base } = call else {
+        return None;
+    };
+    let Ref::Node {
+        node: there,
+        base: by,
+    } = head
+    else {
+        return None;
+    };
+    let first = kind_at(loaded, cells, call)?;
+    let second = kind_at(loaded, cells, head)?;
+    let count = arguments_of_both(first, second)?;
+    if count == 0 {
+        return None;
+    }
+    Some(Part {
+        left: Structure { node, base },
+        right: Structure {
+            node: there,
+            base: by,
+        },
+    })
+}
