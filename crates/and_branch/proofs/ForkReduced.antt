@@ -1,7 +1,7 @@
--- A branch that is split: its children.
-use Rattle.std.proofs.Common.{ℕ, suc, ◌≡◌, ◌≢◌, ◌+◌, ◌≤◌, ◌<◌, add-one, drop, drop-cons, get_or, Some, Ok, List, [], ◌∷◌, ◌++◌, map, length}
+-- A branch that is forked: its children.
+use Rattle.std.proofs.Common.{ℕ, suc, ◌≡◌, ◌≢◌, ◌+◌, ◌≤◌, ◌<◌, add-one, drop, drop-cons, get_or, Some, List, [], ◌∷◌, ◌++◌, map, length}
 use Rattle.std.proofs.Common.{refl, ap, sym, ◌∙◌, subst, inl, inr, arith, Contains, Option}
-use Rattle.std.specs.Prelude.{Result, slice_get}
+use Rattle.std.specs.Prelude.{slice_get}
 use Rattle.std.proofs.lemmas.Bool.{cases_lt}
 use Rattle.std.proofs.lemmas.List.{length-map, get_or-map, drop-drop, drop_all}
 use Rattle.std.proofs.lemmas.List.Elements.{Contains-append_right}
@@ -248,9 +248,6 @@ child_is P f n c e b m = record {
   stands = λ t u k split. m.stands (drop (n + 1) f.clauses) t u (subst (λ (l : List ℕ). AreChildren P (record f { clauses = l }) t) e k)
       split;
 }
-
-pub same_value : {A E : Type 0} (r : Result (Option A) E) (x y : A) → r ≡ Ok (Some x) → r ≡ Ok (Some y) → x ≡ y
-same_value r x y e f = cc
 
 -- ---- The fork
 

@@ -1,6 +1,6 @@
 -- What can be had again of a branch, after steps.
 use Rattle.std.proofs.Common.{ℕ, ◌≡◌, ◌≢◌, ◌⊎◌, Bool, inl, inr, List, [], ◌∷◌, ◌++◌, length, append-nil, append_assoc}
-use Rattle.std.proofs.Common.{refl, ap, sym, ◌∙◌, subst, arith, take, None, Some}
+use Rattle.std.proofs.Common.{refl, ap, sym, ◌∙◌, subst, arith, take, None}
 use Rattle.std.specs.Prelude.{Result, OnOk}
 use Rattle.std.proofs.lemmas.List.{take-map}
 use Rattle.std.proofs.lemmas.Result.{on_ok_weaker}
@@ -17,7 +17,7 @@ use Rattle.and_code.specs.Written.{written, all_written}
 use Rattle.and_reduction.specs.Trails.{Noted, IsNoted, KeepsNoted}
 use Rattle.and_branch.specs.Branches.{Held}
 use Rattle.and_branch.specs.Origins.{GoesBack, KeepsBack, KeepsWhatIsNoted, GoBackFrom}
-use Rattle.and_branch.specs.Making.{nothing_noted, noted_from}
+use Rattle.and_branch.specs.Making.{noted_from}
 use Rattle.and_branch.specs.Outlines.{IsOutlineOf, outlined}
 use Rattle.and_branch.specs.Watching.{Watched}
 use Rattle.and_branch.specs.declared.outline.Outline.{Outline}

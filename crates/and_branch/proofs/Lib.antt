@@ -8,6 +8,7 @@ pub mod LinesTold
 pub mod ForkReduced
 pub mod LoadedPrograms
 pub mod KeptOrigins
+pub mod CopiedBranches
 pub mod LivingGoals
 pub mod ClausesOf
 pub mod NextReduced

@@ -1,4 +1,4 @@
--- The line and the code of a branch that has ended.
+-- The line of a branch that has ended, and what is told of its key.
 use Rattle.std.proofs.Common.{ℕ, ◌≡◌, ◌≢◌, Bool, true, false, not, List, [], ◌∷◌, ◌++◌, map, filter, length, refl, ap, sym, ◌∙◌, subst, inl}
 use Rattle.std.proofs.Common.{inr, ◌⊎◌}
 use Rattle.std.proofs.Common.{Contains, cond, All, Ok, Err}
@@ -202,9 +202,3 @@ pub line_told : (P : NamedProgram) (loaded : IsLoaded P) (b : Held) → HasEnded
 line_told P loaded b ended waiting e (Ok text) says = λ t x. line_is P loaded b ended t x text
     (subst (λ (gs : List Goal). (g : Given P b.row gs) → text ≡ line P.program g.terms g.waits) e says)
 line_told P loaded b ended waiting e (Err error) says = tt
-
-pub code_told : (P Q : NamedProgram) → P ≡ Q → (b : Held) → {E : Type 0} (r : Result (List ℕ) E)
-    → IfOk r (Decides Q.program b.reductions (at_query ∷ []))
-    → IfOk r (λ code. (t : QueryTree P.program) → IsBranchOf P b t → IsWhole t → code ≡ trees.code t)
-code_told P Q same b (Ok code) d = λ t x whole. code_is P Q same b t x whole code d
-code_told P Q same b (Err error) d = tt

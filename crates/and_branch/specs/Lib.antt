@@ -1,6 +1,7 @@
 pub mod Branches
 pub mod States
 pub mod Children
+pub mod Copies
 pub mod Ended
 pub mod Finding
 pub mod Forking

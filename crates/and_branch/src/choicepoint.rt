@@ -5,7 +5,7 @@
 //! once. The key of the branch at work begins with what was decided in each of the branches that were forked, and is
 //! cut off where the next child of one is made.
 
-ghost use Rattle.std.specs.Prelude.{◌≡◌, ◌≢◌, [], drop, take, length, ℕ, Option, OnOk, OnErr, IfOk};
+ghost use Rattle.std.specs.Prelude.{◌≡◌, ◌≢◌, ◌<◌, ◌+◌, ◌∷◌, [], drop, take, length, ℕ, Option, OnOk, OnErr, IfOk};
 ghost use Rattle.and_model.specs.Prefixes.{IsPrefix};
 ghost use Rattle.and_model.specs.Trees.{QueryTree, Open};
 ghost use Rattle.and_model.specs.Trees as trees;
@@ -16,6 +16,7 @@ ghost use Rattle.and_branch_laws.specs.States.{StateOf, fork};
 ghost use Rattle.and_branch.specs.Branches.{IsBranch, IsBranchOf, IsOpenGoal};
 ghost use Rattle.and_branch.specs.States.{numbers};
 ghost use Rattle.and_branch.specs.Children.{Fork, AreChildren, IsChild, IsForkOf};
+ghost use Rattle.and_branch.specs.Copies.{IsBackAt};
 ghost use Rattle.and_branch.specs.Origins.{GoesBack, KeepsBack};
 
 use crate::branch::Branch;
@@ -159,6 +160,46 @@ impl<N: Naming> Branch<N> {
 }
 
 impl<N: Naming> Choicepoint<N> {
+    /// The clause of a child that is still to come, behind so many others. Takes no memory.
+    pub fn clause_left(&self, place: usize) -> ClauseNo
+        requires { place < length self.now.clauses }
+        ensures { drop place self.now.clauses ≡ result.0 ∷ drop (place + 1) self.now.clauses }
+    {
+        // (So many fit a word. This says so to what follows.)
+        let _all = self.clauses.len();
+        *self.clauses.at(self.made + place)
+    }
+
+    /// A copy of what is left, of which the next child can be made too. An error is want of memory.
+    pub fn copied(&self, alloc: Global, left: &Branch<N>) -> Result<Branch<N>, AllocError>
+        requires children { (t : QueryTree N.program.program) × AreChildren N.program self.now t }
+        requires back { GoesBack self.now.parent left.now }
+        ensures back { IfOk result (IsBackAt self.now.parent) }
+        ensures key { IfOk result (λ b. b.key ≡ left.now.key) }
+    {
+        left.copied_back(alloc, &self.parent, self.outline.words, self.outline.count)
+    }
+
+    /// Such a copy, as one of which the next child of this fork can be made, which stands below the one above. Takes no
+    /// memory.
+    pub fn taken_below(&self, above: &Choicepoint<N>, copy: Branch<N>) -> Branch<N>
+        requires children { (t : QueryTree N.program.program) × AreChildren N.program self.now t }
+        requires below { GoesBack self.now.parent above.now.parent }
+        requires copy { IsBackAt above.now.parent copy }
+        ensures back { IsBackAt self.now.parent result }
+        ensures key { result.key ≡ copy.key }
+    {
+        let mut branch = copy;
+        branch.go_below(
+            &self.parent,
+            &above.parent,
+            &above.outline.trail,
+            self.outline.words,
+            self.outline.count,
+        );
+        branch
+    }
+
     /// How many children are still to come. Takes no memory.
     pub fn left(&self) -> usize
         ensures { result ≡ length self.now.clauses }

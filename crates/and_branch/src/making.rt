@@ -1,95 +1,23 @@
-//! How the children of a fork begin: as the branch that was split, but for the key.
-//!
-//! The first is a copy. Where a child has ended, the next one is made of it at the cost of what it
-//! changed.
+//! How the children of a fork are made, each of what is left of a branch.
 
-ghost use Rattle.std.specs.Prelude.{◌≡◌, length, take, OnOk, IfOk, IfSome};
+ghost use Rattle.std.specs.Prelude.{◌≡◌, length, take, IfOk};
+ghost use Rattle.and_cells.specs.Parts.{named};
 ghost use Rattle.and_cells.specs.Rows.{IsSound};
-ghost use Rattle.and_branch.specs.Origins.{GoesBack};
-ghost use Rattle.and_branch.specs.Making.{nothing_noted, noted_from};
+ghost use Rattle.and_branch.specs.Children.{Fork};
+ghost use Rattle.and_branch.specs.Origins.{GoesBack, KeepsBack};
+ghost use Rattle.and_branch.specs.Making.{IsBegun, IsMade, noted_from};
 
 use crate::branch::Branch;
+use crate::workspace::Workspace;
 use and_cells::Naming;
-use and_model::{Code, ReductionList};
-use and_reduction::Trail;
-use std::alloc::{AllocError, Global};
+use and_model::{ClauseNo, Goal, ReductionList};
+use and_program::Loaded;
+use std::alloc::AllocError;
 use std::snapshot::Snapshot;
 
 impl<N: Naming> Branch<N> {
-    /// The same branch, but for the key, of whose row nothing is noted. Takes no memory.
-    pub(crate) fn with_key(self, key: Code) -> Branch<N>
-        ensures { result ≡ record self { key = key; trail = nothing_noted } }
-    {
-        let mut branch = self;
-        branch.key = key;
-        branch.trail.forget();
-        branch
-    }
-
-    /// Another branch of the same, but for the key, which notes what is set of its row. It is made of
-    /// the spare, if there is one. An error is want of memory, and the spare is given up.
-    pub(crate) fn again(
-        &self,
-        alloc: Global,
-        key: Code,
-        spare: Option<Branch<N>>,
-    ) -> Result<Branch<N>, AllocError>
-        requires spare { IfSome spare (GoesBack self.now) }
-        ensures { IfOk result (λ b. b ≡ record self.now { key = key; trail = noted_from self.now.row }) }
-    {
-        match spare {
-            Some(spare) => spare.made_into(self, key),
-            None => self.copy_with(alloc, key),
-        }
-    }
-
-    /// The same by a copy.
-    fn copy_with(&self, alloc: Global, key: Code) -> Result<Branch<N>, AllocError>
-        ensures { IfOk result (λ b. b ≡ record self.now { key = key; trail = noted_from self.now.row }) }
-    {
-        let cells = self.cells.copy()?;
-        let reductions = self.reductions.copy()?;
-        let goals = self.goals.copy(alloc)?;
-        let trail = Trail::begun(alloc, self.cells.len());
-        Ok(Branch {
-            key,
-            limit: self.limit,
-            cells,
-            reductions,
-            goals,
-            used: self.used,
-            is_failed: self.is_failed,
-            trail,
-        })
-    }
-
-    /// The first branch, but for the key, made of this one.
-    fn made_into(self, first: &Branch<N>, key: Code) -> Result<Branch<N>, AllocError>
-        requires { GoesBack first.now self }
-        ensures { IfOk result (λ b. b ≡ record first.now { key = key; trail = noted_from first.now.row }) }
-    {
-        let mut branch = self;
-        branch.go_back(first);
-        branch.fill_from(first)?;
-        branch.key = key;
-        Ok(branch)
-    }
-
-    /// Goes back to the row and the reductions of the first branch. Takes no memory.
-    fn go_back(&mut self, first: &Branch<N>)
-        requires { GoesBack first.now self.old }
-        ensures { self.new ≡ record self.old {
-          row = first.now.row;
-          reductions = first.now.reductions;
-          trail = noted_from first.now.row;
-        } }
-    {
-        let words = first.cells.len();
-        let count = first.reductions.len();
-        self.go_back_by(&Snapshot::of(first), words, count);
-    }
-
-    /// The same, where the first branch's row has so many words, and so many reductions were made.
+    /// Goes back to the row and the reductions of the first branch, whose row has so many words, and which has so many
+    /// reductions. Takes no memory.
     pub(crate) fn go_back_by(&mut self, first: &Snapshot<Branch<N>>, words: u32, count: usize)
         requires sound { IsSound N.program first.now.value.row }
         requires words { length first.now.value.row ≡ words }
@@ -106,26 +34,30 @@ impl<N: Naming> Branch<N> {
         cut_off(&mut self.reductions, count);
     }
 
-    /// Takes over from the first branch whatever does not stand in the row, the reductions or the key. An
-    /// error is want of memory, and the branch is spent.
-    fn fill_from(&mut self, first: &Branch<N>) -> Result<(), AllocError>
-        ensures { OnOk result (self.new ≡ record first.now {
-          key = self.old.key;
-          row = self.old.row;
-          reductions = self.old.reductions;
-          trail = self.old.trail;
-        }) }
+    /// The child of a fork, of which this is the beginning: the goal is taken by the clause. An error is
+    /// want of memory.
+    pub(crate) fn taking(
+        self,
+        loaded: &Loaded,
+        goal: Goal,
+        clause: ClauseNo,
+        workspace: &mut Workspace,
+    ) -> Result<Branch<N>, AllocError>
+        requires program { N.program ≡ named loaded.now }
+        requires begun { (f : Fork) × IsBegun N.program f clause.0 goal self }
+        ensures made { IfOk result (λ b. (f : Fork) → IsBegun N.program f clause.0 goal self
+            → IsMade N.program f clause.0 b) }
+        ensures back { IfOk result (KeepsBack self) }
     {
-        self.goals.fill_from(&first.goals)?;
-        self.used = first.used;
-        self.limit = first.limit;
-        self.is_failed = first.is_failed;
-        Ok(())
+        let mut child = self;
+        child.seek(goal)?;
+        child.reduce_next(loaded, clause, workspace)?;
+        Ok(child)
     }
 }
 
 /// Takes reductions out from the end, until there are so many. Takes no memory.
-fn cut_off(reductions: &mut ReductionList, count: usize)
+pub(crate) fn cut_off(reductions: &mut ReductionList, count: usize)
     ensures { reductions.new ≡ take count reductions.old }
 {
     while reductions.len() > count {

@@ -1,16 +1,14 @@
-//! What is told of a branch that has ended: its line and its code.
+//! The line of a branch that has ended.
 
 ghost use Rattle.std.specs.Prelude.{◌≡◌, ◌++◌, ◌∷◌, [], IfOk, OnOk};
-ghost use Rattle.and_model.specs.Trees as trees;
-ghost use Rattle.and_model.specs.Trees.{QueryTree, IsWhole};
+ghost use Rattle.and_model.specs.Trees.{QueryTree};
 ghost use Rattle.and_cells.specs.Parts.{named};
-ghost use Rattle.and_branch.specs.Branches.{IsBranch, IsBranchOf};
+ghost use Rattle.and_branch.specs.Branches.{IsBranchOf};
 ghost use Rattle.and_branch.specs.Ended.{HasEnded, IsLineOf};
 
 use crate::branch::Branch;
 use and_cells::Naming;
-use and_code::decided_by;
-use and_model::{Code, Goal, GoalList, Text};
+use and_model::{Goal, GoalList, Text};
 use and_print::show_line;
 use and_program::Loaded;
 use std::alloc::{AllocError, Global};
@@ -27,16 +25,6 @@ impl<N: Naming> Branch<N> {
         let goals = self.goals.all(alloc)?;
         let waiting = list_of(alloc, &goals)?;
         show_line(alloc, loaded, &self.cells, &waiting)
-    }
-
-    /// The code of such a branch: the clauses of its tree in preorder. An error is want of memory.
-    pub fn code(&self, alloc: Global, loaded: &Loaded) -> Result<Code, AllocError>
-        requires program { N.program ≡ named loaded.now }
-        requires branch { IsBranch N.program self.now }
-        ensures { IfOk result (λ code. (t : QueryTree N.program.program) → IsBranchOf N.program self.now t → IsWhole t
-            → code ≡ trees.code t) }
-    {
-        decided_by(alloc, loaded, &self.reductions)
     }
 }
 

@@ -40,7 +40,7 @@ impl Pace {
     }
 
     /// Whether the next phase is left to the leader. It counts as one of those that are.
-    pub(crate) fn rests(&mut self) -> bool
+    pub fn rests(&mut self) -> bool
         ensures rests { result ≡ true → self.old ≡ record self.new { rest = self.new.rest + 1 } }
         ensures tries { result ≡ false → (self.old.rest ≡ 0) × (self.new ≡ self.old) }
     {

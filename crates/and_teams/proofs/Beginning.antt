@@ -14,7 +14,7 @@ use Rattle.and_answers.specs.Kept.{listed}
 use Rattle.and_search_laws.specs.Ended.{IsEndSoFar}
 use Rattle.and_team_laws.specs.Done.{DidAll}
 use Rattle.and_cells.specs.declared.naming.Naming.{Ghosts}
-use Rattle.and_teams.specs.Working.{Works}
+use Rattle.and_teams.specs.Working.{Works, AreServed, IsAtWork}
 use Rattle.and_teams.specs.Ended.{IsFresh, AreFresh, IsWorked, AreDone}
 use Rattle.and_teams.specs.declared.team.Team.{Team}
 use Rattle.and_teams.specs.declared.work.Worked.{Worked}
@@ -79,7 +79,7 @@ last_team tree count passes rest pass are is =
 
 -- ---- a team with no task, that has done nothing
 
-pub fresh_works : {N : Type 0} {G : Ghosts N} (P : NamedProgram) (tree : TreeId) (number : ℕ) (t : Team N G) → IsFresh tree number t
+fresh_works : {N : Type 0} {G : Ghosts N} (P : NamedProgram) (tree : TreeId) (number : ℕ) (t : Team N G) → IsFresh tree number t
     → Works P tree t.pass t.found t.stack.items
 fresh_works P tree number t f =
     subst (λ (p : PassSeen). Works P tree p t.found t.stack.items) (sym f.pass_is)
@@ -95,6 +95,13 @@ fresh_works P tree number t f =
         end = subst (λ c. IsEndSoFar P.program tree.about.limit t.found 0 0 false c) (sym f.cut) (refl, f.forks, f.failed);
       };
     }))
+
+pub fresh_at_work : {N : Type 0} {G : Ghosts N} (P : NamedProgram) (tree : TreeId) (number : ℕ) (t : Team N G) → IsFresh tree number t
+    → IsAtWork P tree t.pass t.found t.stack.items t.left
+fresh_at_work P tree number t f = record {
+  works = fresh_works P tree number t f;
+  served = subst (λ tasks. AreServed t.left tasks) (sym f.stack) tt;
+}
 
 -- One team more, in front of those that are made.
 pub begun_one : {N : Type 0} {G : Ghosts N} (tree : TreeId) (count : ℕ) (teams : List (Team N G)) (passes rest : List PassSeen)
@@ -142,14 +149,14 @@ module _ {N : Type 0} {G : Ghosts N} (tree : TreeId) where
       (subst (λ k. IsFresh tree k t) (omega (arith, length-reverse ts)) last, fresh_down ts rest)
 
   all_down : (P : NamedProgram) (ts : List (Team N G)) → AreFreshDown ts
-      → All (λ (t : Team N G). Works P tree t.pass t.found t.stack.items) ts
-  all_down P [] f = all_none (λ (t : Team N G). Works P tree t.pass t.found t.stack.items)
+      → All (λ (t : Team N G). IsAtWork P tree t.pass t.found t.stack.items t.left) ts
+  all_down P [] f = all_none (λ (t : Team N G). IsAtWork P tree t.pass t.found t.stack.items t.left)
   all_down P (t ∷ ts) f =
-      All-cons (λ (t : Team N G). Works P tree t.pass t.found t.stack.items) t ts (fresh_works P tree (length ts) t f.0) (all_down P ts f.1)
+      All-cons (λ (t : Team N G). IsAtWork P tree t.pass t.found t.stack.items t.left) t ts (fresh_at_work P tree (length ts) t f.0) (all_down P ts f.1)
 
   -- Each of them is at work.
   pub all_at_work : (P : NamedProgram) (ts : List (Team N G)) → AreFresh tree 0 (reverse ts)
-      → All (λ (t : Team N G). Works P tree t.pass t.found t.stack.items) ts
+      → All (λ (t : Team N G). IsAtWork P tree t.pass t.found t.stack.items t.left) ts
   all_at_work P ts f = all_down P ts (fresh_down ts f)
 
   module _ (P : Program) where

@@ -14,6 +14,8 @@ use Rattle.and_model.specs.declared.goal.Goal.{Goal}
 use Rattle.and_laws.proofs.Ordered.{contains_first}
 use Rattle.and_cells.specs.Ranges.{NamedProgram}
 use Rattle.and_branch_laws.specs.States.{StateOf, fork}
+use Rattle.and_code.specs.Telling.{IsTold}
+use Rattle.and_code.specs.declared.telling.Told.{Told}
 use Rattle.and_branch.specs.Branches.{Held, IsBranchOf, IsOpenGoal}
 use Rattle.and_branch.specs.Children.{Fork, AreChildren, IsChild}
 use Rattle.and_histories.specs.PlainTree as plain
@@ -23,9 +25,10 @@ use Rattle.and_tree.proofs.Hands.{taken_hand}
 use Rattle.and_search_laws.proofs.Splitting.{candidate_splits}
 use Rattle.and_team_laws.specs.Owed.{SameItems}
 use Rattle.and_teams.specs.Placed.{StandsWithin}
-use Rattle.and_teams.specs.Working.{keys_of, IsTask, AreTasks, Has}
+use Rattle.and_teams.specs.Working.{keys_of, AreToCome, IsTask, AreTasks, Has}
+use Rattle.and_teams.specs.declared.stack.Level.{Level}
 use Rattle.and_teams.specs.declared.stack.Task.{Task}
-use Rattle.and_teams.specs.declared.stack.Task.TheVariants.{One, Children}
+use Rattle.and_teams.specs.declared.stack.Task.TheVariants.{One, Children, Left}
 use Rattle.and_teams.proofs.Calls.{ended_sum, forked_sum, published_sum, taken_sum, same_keys}
 
 -- ---- the keys of tasks
@@ -62,9 +65,10 @@ module _ {N : Type 0} (P : NamedProgram) (limit : ℕ) where
 
   few_keys : (x : Task N) → IsTask P limit x → length (keys_of x) ≤ 2 ^ 16
   few_keys (One b) is = omega arith
-  few_keys (Children f) is =
-      let mapped = length-map f.clauses (λ (c : ℕ). f.longer ++ c ∷ []) in
-      let few = is.3 in
+  few_keys (Left b) is = omega arith
+  few_keys (Children l) is =
+      let mapped = length-map l.point.clauses (λ (c : ℕ). l.point.longer ++ c ∷ []) in
+      let few = is.few in
       omega (arith, mapped, few)
 
   few_sums : (xs : List (Task N)) → AreTasks P limit xs → sum_by (λ (key : Key). 1) (all_keys xs) ≤ length xs * 2 ^ 16
@@ -108,11 +112,32 @@ module _ (P : NamedProgram) (limit : ℕ) where
         longer = is.longer ∙ x.longer;
       }
 
+  -- So what is told of them stays.
+  pub others_come : {N : Type 0} (l m : Level N) (b : Held) → IsChild P l.point m.point b → m.told ≡ l.told → m.longer.value ≡ l.longer.value
+      → m.point.clauses ≢ [] → AreToCome P limit l → AreToCome P limit m
+  others_come l m b is told longer some x =
+      let fewer = ap (λ (cs : List ℕ). length cs) is.next in
+      let few = x.few in record {
+        tree = x.tree;
+        children = others_stand l.point m.point b x.tree is x.children;
+        limited = ap (λ (d : Held). d.limit) is.parent ∙ x.limited;
+        some = some;
+        few = omega (arith, few, fewer);
+        told = subst (λ (u : Told). IsTold P.program m.point.parent.reductions u m.point.longer) (sym told)
+            (subst (λ (key : Key). IsTold P.program m.point.parent.reductions l.told key) (sym is.longer)
+            (subst (λ (d : Held). IsTold P.program d.reductions l.told l.point.longer) (sym is.parent) x.told));
+        long = ap (λ (u : Told). u.length) told ∙ x.long ∙ ap (λ (key : Key). length key) (sym is.longer);
+        longer = longer ∙ x.longer ∙ sym is.longer;
+      }
+
 -- ---- lists
 
 pub some_long : {A : Type 0} (xs : List A) → xs ≢ [] → 0 < length xs
 some_long [] some = absurd (some refl)
 some_long (x ∷ xs) some = omega arith
+
+pub some_left : (cs : List ℕ) → length cs ≢ 0 → cs ≢ []
+some_left cs more none = more (ap (λ (ds : List ℕ). length ds) none)
 
 pub first_removed : {A : Type 0} (xs others : List A) (x : A) → xs ≢ [] → x ≡ get_or xs 0 x → others ≡ remove xs 0 → xs ≡ x ∷ others
 first_removed [] others x some is rest = absurd (some refl)
@@ -167,6 +192,10 @@ module _ {N : Type 0} (P : NamedProgram) (tree : TreeId) where
   pub has_nothing : (pass : PassSeen) (tasks : List (Task N)) → tasks ≡ [] → Has P tree pass tasks → pass.hand ≡ []
   has_nothing pass tasks none h =
       nothing_in_hand pass.hand (subst (λ (ts : List (Task N)). Has P tree pass ts) none h).hand
+
+  -- What was left of a branch has no key.
+  pub has_unleft : (pass : PassSeen) (b : Held) (xs : List (Task N)) → Has P tree pass (Left b ∷ xs) → Has P tree pass xs
+  has_unleft pass b xs h = record { of_tree = h.of_tree; hand = h.hand; tasks_are = h.tasks_are.1 }
 
   -- other tasks of the same keys
   pub has_others : (pass : PassSeen) (tasks others : List (Task N)) → Has P tree pass tasks → AreTasks P tree.about.limit others
@@ -293,73 +322,69 @@ module _ {N : Type 0} (P : NamedProgram) (tree : TreeId) where
   }
 
   -- The branch in front was forked: its children are in its place.
-  pub has_forked : (f : Fork) (xs : List (Task N)) (p q : PassSeen)
-      → Makes (plain.fork p.team f.parent.key f.longer f.clauses) plain.forked p q → IsTask {N = N} P tree.about.limit (Children f)
-      → Has P tree p (One f.parent ∷ xs) → Has P tree q (Children f ∷ xs)
-  has_forked f xs p q m task h = record {
-    of_tree = m.tree ∙ h.of_tree;
-    hand = λ g.
-        let forked = forked_sum g f.parent.key f.longer f.clauses p q m in
-        let all = h.hand g in
-        let one = sum_by-cons g f.parent.key (all_keys xs) in
-        let new = sum_first g (Children f) xs in
-        omega (arith, forked, all, one, new);
-    tasks_are = (task, h.tasks_are.1);
-  }
+  pub has_forked : (l : Level N) (xs : List (Task N)) (p q : PassSeen)
+      → Makes (plain.fork p.team l.point.parent.key l.point.longer l.point.clauses) plain.forked p q → AreToCome P tree.about.limit l
+      → Has P tree p (One l.point.parent ∷ xs) → Has P tree q (Children l ∷ xs)
+  has_forked l xs p q m task h =
+      let f : Fork = l.point in record {
+        of_tree = m.tree ∙ h.of_tree;
+        hand = λ g.
+            let forked = forked_sum g f.parent.key f.longer f.clauses p q m in
+            let all = h.hand g in
+            let one = sum_by-cons g f.parent.key (all_keys xs) in
+            let new = sum_first g (Children l) xs in
+            omega (arith, forked, all, one, new);
+        tasks_are = (task, h.tasks_are.1);
+      }
 
   -- ---- the children of a fork
 
   -- The next child is parted from the others.
-  pub child_parted : (f g : Fork) (b : Held) (xs : List (Task N)) (pass : PassSeen) → IsChild P f g b
-      → Has P tree pass (Children f ∷ xs) → Has P tree pass (One b ∷ Children g ∷ xs)
-  child_parted f g b xs pass is h =
-      let (t, come, limited, few) = h.tasks_are.0 in
-      let fewer = ap (λ (cs : List ℕ). length cs) is.next in
-      has_others pass (Children f ∷ xs) (One b ∷ Children g ∷ xs) h (
-        child_stands P tree.about.limit f g b t is come limited,
-        (
-          (
-            t,
-            others_stand P tree.about.limit f g b t is come,
-            ap (λ (d : Held). d.limit) is.parent ∙ limited,
-            omega (arith, few, fewer),
-          ),
-          h.tasks_are.1,
-        ),
+  pub child_parted : (l m : Level N) (b : Held) (xs : List (Task N)) (pass : PassSeen) → IsChild P l.point m.point b → m.told ≡ l.told
+      → m.longer.value ≡ l.longer.value → m.point.clauses ≢ [] → Has P tree pass (Children l ∷ xs) → Has P tree pass (One b ∷ Children m ∷ xs)
+  child_parted l m b xs pass is told longer some h =
+      let x : AreToCome P tree.about.limit l = h.tasks_are.0 in
+      has_others pass (Children l ∷ xs) (One b ∷ Children m ∷ xs) h (
+        child_stands P tree.about.limit l.point m.point b x.tree is x.children x.limited,
+        (others_come P tree.about.limit l m b is told longer some x, h.tasks_are.1),
       )
       (λ s.
-      ap (λ keys. sum_by s (keys ++ all_keys xs)) (children_parted f g b is))
+      ap (λ keys. sum_by s (keys ++ all_keys xs)) (children_parted l.point m.point b is))
 
   -- The last child is left.
-  pub last_parted : (f g : Fork) (b : Held) (xs : List (Task N)) (pass : PassSeen) → IsChild P f g b
-      → length f.clauses ≡ 1 → Has P tree pass (Children f ∷ xs) → Has P tree pass (One b ∷ xs)
-  last_parted f g b xs pass is last h =
-      let (t, come, limited, few) = h.tasks_are.0 in
+  pub last_parted : (l : Level N) (g : Fork) (b : Held) (xs : List (Task N)) (pass : PassSeen) → IsChild P l.point g b
+      → length l.point.clauses ≡ 1 → Has P tree pass (Children l ∷ xs) → Has P tree pass (One b ∷ xs)
+  last_parted l g b xs pass is last h =
+      let x : AreToCome P tree.about.limit l = h.tasks_are.0 in
       let whole = ap (λ (cs : List ℕ). length cs) is.next in
       let none : g.clauses ≡ [] = nil_from_length g.clauses (omega (arith, last, whole)) in
-      has_others pass (Children f ∷ xs) (One b ∷ xs) h (child_stands P tree.about.limit f g b t is come limited, h.tasks_are.1)
-      (λ s. ap (λ keys. sum_by s (keys ++ all_keys xs)) (children_parted f g b is ∙ ap (λ cs. b.key ∷ children g.longer cs) none))
+      has_others pass (Children l ∷ xs) (One b ∷ xs) h
+      (child_stands P tree.about.limit l.point g b x.tree is x.children x.limited, h.tasks_are.1)
+      (λ s. ap (λ keys. sum_by s (keys ++ all_keys xs)) (children_parted l.point g b is ∙ ap (λ cs. b.key ∷ children g.longer cs) none))
+
+  -- No child is left behind it.
+  pub only_parted : (l m : Level N) (b : Held) (xs : List (Task N)) (pass : PassSeen) → IsChild P l.point m.point b
+      → length m.point.clauses ≡ 0 → Has P tree pass (Children l ∷ xs) → Has P tree pass (One b ∷ xs)
+  only_parted l m b xs pass is none h =
+      let whole = ap (λ (cs : List ℕ). length cs) is.next in
+      last_parted l m.point b xs pass is (omega (arith, whole, none)) h
 
   -- (there is a tree of which they are the children)
-  pub children_there : (f : Fork) (xs : List (Task N)) (pass : PassSeen) → Has P tree pass (Children f ∷ xs)
-      → (t : QueryTree P.program) × AreChildren P f t
-  children_there f xs pass h = (h.tasks_are.0.0, h.tasks_are.0.1)
+  pub children_there : (l : Level N) (xs : List (Task N)) (pass : PassSeen) → Has P tree pass (Children l ∷ xs)
+      → (t : QueryTree P.program) × AreChildren P l.point t
+  children_there l xs pass h = (h.tasks_are.0.tree, h.tasks_are.0.children)
 
   -- They are given up.
-  pub has_given_up : (f : Fork) (xs : List (Task N)) (p q : PassSeen) → q.tree ≡ p.tree
-      → SameItems q.hand (all_keys xs) → Has P tree p (Children f ∷ xs) → Has P tree q xs
-  has_given_up f xs p q of same h = record { of_tree = of ∙ h.of_tree; hand = same; tasks_are = h.tasks_are.1 }
-
-  -- There is none.
-  pub has_no_child : (f : Fork) (xs : List (Task N)) (pass : PassSeen) → f.clauses ≡ [] → Has P tree pass (Children f ∷ xs) → Has P tree pass xs
-  has_no_child f xs pass none h =
-      has_given_up f xs pass pass refl (subst (λ cs. SameItems pass.hand (children f.longer cs ++ all_keys xs)) none h.hand) h
+  pub has_given_up : (l : Level N) (xs : List (Task N)) (p q : PassSeen) → q.tree ≡ p.tree
+      → SameItems q.hand (all_keys xs) → Has P tree p (Children l ∷ xs) → Has P tree q xs
+  has_given_up l xs p q of same h = record { of_tree = of ∙ h.of_tree; hand = same; tasks_are = h.tasks_are.1 }
 
   -- The only one that was left is given up.
-  pub has_last_given_up : (f : Fork) (key : Key) (c : ℕ) (xs : List (Task N)) (is_last : Bool) (p q : PassSeen) → length f.clauses ≡ 1
-      → drop 0 f.clauses ≡ c ∷ drop 1 f.clauses → key ≡ f.longer ++ c ∷ []
-      → Makes (plain.end p.team key plain.given_up) (plain.last is_last) p q → Has P tree p (Children f ∷ xs) → Has P tree q xs
-  has_last_given_up f key c xs is_last p q one next is m h =
+  pub has_last_given_up : (l : Level N) (key : Key) (c : ℕ) (xs : List (Task N)) (is_last : Bool) (p q : PassSeen) → length l.point.clauses ≡ 1
+      → drop 0 l.point.clauses ≡ c ∷ drop 1 l.point.clauses → key ≡ l.point.longer ++ c ∷ []
+      → Makes (plain.end p.team key plain.given_up) (plain.last is_last) p q → Has P tree p (Children l ∷ xs) → Has P tree q xs
+  has_last_given_up l key c xs is_last p q one next is m h =
+      let f : Fork = l.point in
       let none : drop 1 f.clauses ≡ [] = drop_all 1 f.clauses (omega (arith, one)) in
-      has_given_up f xs p q m.tree
+      has_given_up l xs p q m.tree
       (child_ended (all_keys xs) key f.longer f.clauses [] c plain.given_up is_last p q (next ∙ ap (λ cs. c ∷ cs) none) is m h.hand) h

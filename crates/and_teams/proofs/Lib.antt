@@ -9,8 +9,10 @@ pub mod Judging
 pub mod Turns
 pub mod Closing
 pub mod Mapping
-pub mod NextChild
-pub mod HandedBack
+pub mod Serving
+pub mod ToldKeys
+pub mod Ready
+pub mod Copied
 pub mod Counted
 pub mod Agreeing
 mod Sending

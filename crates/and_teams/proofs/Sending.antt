@@ -4,11 +4,10 @@ use denote.RattleType.{RattleType}
 use denote.Hole.{as_row}
 use denote.Struct.Field.{u32-field, bool-field}
 use denote.Param.Send.{IsSend, sendable, view_send}
-use denote.Param.SendFields.{declared_send}
+use denote.Param.SendFields.{declared_send, variants_send}
 use Rattle.std.proofs.Crossing.{crosses, Vec-send}
 use Rattle.atomic_table.proofs.shared.Seat.TheSendSync.{the_send as seat_send}
 use Rattle.and_model.specs.contracts.code.Code as code
-use Rattle.and_model.specs.contracts.goal.Goal as goal
 use Rattle.and_model.specs.contracts.goal.Reduction as reduction
 use Rattle.and_model.specs.contracts.list.ListOf as list
 use Rattle.and_model.specs.contracts.numbers.ClauseNo as clause
@@ -19,7 +18,7 @@ use Rattle.and_cells.specs.contracts.plain.PlainCells as cells
 use Rattle.and_arith.specs.contracts.taken.Taken as taken
 use Rattle.and_arith.specs.contracts.values.WorkList as values
 use Rattle.and_unify.specs.contracts.pairs.PairList as pairs
-use Rattle.and_unify.specs.contracts.settling.Solver as solver
+use Rattle.and_heads.proofs.Sending.{heads_send}
 use Rattle.and_clause_index.specs.contracts.looking.Look as look
 use Rattle.and_determinacy.specs.contracts.rests.Rests as rests
 use Rattle.and_determinacy.specs.contracts.trying.Trials as trials
@@ -29,13 +28,13 @@ use Rattle.and_reduction.specs.contracts.trail.Trail as trail
 use Rattle.and_pending.specs.contracts.pending.PendingGoals as goals
 use Rattle.and_branch.specs.contracts.workspace.Workspace as workspace
 use Rattle.and_branch.specs.contracts.branch.Branch as branch
-use Rattle.and_branch.specs.contracts.splitting.Split as split
-use Rattle.and_branch.specs.contracts.splitting.BranchList as branches
+use Rattle.and_branch.specs.contracts.choicepoint.Choicepoint as choicepoint
 use Rattle.and_answers.specs.contracts.codes.CodeList as codes
 use Rattle.and_answers.specs.contracts.coded.Coded as coded
 use Rattle.and_phase.specs.contracts.pace.Pace as pace
 use Rattle.and_tree.specs.contracts.pass.TreePass as pass
 use Rattle.and_teams.specs.contracts.placed.PlacedBranch as placed
+use Rattle.and_teams.specs.contracts.stack.Level as level
 use Rattle.and_teams.specs.contracts.stack.Task as task
 use Rattle.and_teams.specs.contracts.team.Team as team
 use Rattle.and_teams.specs.contracts.work.Worked as worked
@@ -59,9 +58,6 @@ clauses_send = list_send clause.the_row (search sendable depth 20)
 reductions_send : IsSend (list.the_row reduction.the_row)
 reductions_send = list_send reduction.the_row (search sendable depth 20)
 
-goal_send : IsSend goal.the_row
-goal_send = search sendable depth 20
-
 reference_send : IsSend reference.the_row
 reference_send = search sendable depth 20
 
@@ -73,9 +69,6 @@ coded_send : IsSend coded.the_row
 coded_send = search (sendable, crosses, codes_send) depth 40
 
 -- what a team works with
-solver_send : IsSend solver.the_row
-solver_send = search (sendable, crosses) depth 40
-
 pairs_send : IsSend pairs.the_row
 pairs_send = search (sendable, crosses) depth 40
 
@@ -92,13 +85,13 @@ look_send : IsSend look.the_row
 look_send = search sendable depth 40
 
 trial_tools_send : IsSend trial_tools.the_row
-trial_tools_send = declared_send trial_tools.the_type (solver_send, (pairs_send, (values_send, tt)))
+trial_tools_send = declared_send trial_tools.the_type (heads_send, (pairs_send, (values_send, tt)))
 
 trials_send : IsSend trials.the_row
 trials_send = declared_send trials.the_type (look_send, (trial_tools_send, (rests_send, tt)))
 
 tools_send : IsSend tools.the_row
-tools_send = declared_send tools.the_type (search sendable depth 20, (solver_send, (pairs_send, (values_send, tt))))
+tools_send = declared_send tools.the_type (search sendable depth 20, (heads_send, (pairs_send, (values_send, tt))))
 
 workspace_send : IsSend workspace.the_row
 workspace_send =
@@ -131,21 +124,30 @@ module _ (N : RattleType) (g : Ghosts N.Denot) (sent : IsSend N) where
       (declared_send (branch.TheInside.the_type N g)
       (code_send, (number, (cells_send, (reductions_send, (goals_send, (number, (flag, (trail_send, tt)))))))))
 
-  split_send : IsSend (split.the_row N g)
-  split_send = view_send _ _ _ _ _ (declared_send (split.TheInside.the_type N g) (branch_send, (goal_send, (code_send, (clauses_send, tt)))))
+  choicepoint_send : IsSend (choicepoint.the_row N g)
+  choicepoint_send = search (sendable, crosses, goals_send, trail_send, clauses_send) depth 60
 
-  branches_send : IsSend (branches.the_row N g)
-  branches_send = search (sendable, split_send, branch_send) depth 40
+  level_send : IsSend (level.the_row N g)
+  level_send = search (sendable, crosses, choicepoint_send) depth 40
 
   task_send : IsSend (task.the_row N g)
-  task_send = search (sendable, branch_send, branches_send) depth 40
+  task_send = variants_send (task.enum N g) ((branch_send, tt), ((level_send, tt), ((branch_send, tt), tt)))
 
   placed_send : IsSend (placed.the_row N g)
   placed_send = declared_send (placed.the_type N g) (branch_send, tt)
 
   pub team_send : IsSend (team.the_row N g)
   team_send =
-      declared_send (team.the_type N g) (number, (pass_send _ placed_send, (coded_send, (Vec-send _ task_send, (pace_send, (workspace_send, tt))))))
+      declared_send (team.the_type N g) (
+        number,
+        (
+          pass_send _ placed_send,
+          (
+            coded_send,
+            (Vec-send _ task_send, (search (sendable, branch_send) depth 20, (workspace_send, (pace_send, (number, tt))))),
+          ),
+        ),
+      )
 
   pub worked_send : IsSend (worked.the_row N g)
   worked_send = declared_send (worked.the_type N g) (team_send, (flag, tt))

@@ -1,5 +1,5 @@
 -- What calls that share branches make of what a team keeps.
-use Rattle.std.proofs.Common.{ℕ, ◌≡◌, List, [], ◌∷◌, ◌++◌, refl, sym, ap, subst, ◌∙◌, Result, Ok, Err}
+use Rattle.std.proofs.Common.{ℕ, ◌≡◌, List, [], ◌∷◌, ◌++◌, refl, sym, ap, subst, ◌∙◌, Option, Result, Ok, Err}
 use Rattle.std.specs.Prelude.{OnOk, OnErr}
 use Rattle.and_cells.specs.Ranges.{NamedProgram}
 use Rattle.and_branch.specs.Branches.{Held}
@@ -18,7 +18,7 @@ use Rattle.and_tree.proofs.Hands.{taken_hand}
 use Rattle.and_answers.specs.declared.found.Found.{Found}
 use Rattle.and_team_laws.specs.Done.{IsPassing}
 use Rattle.and_teams.specs.Placed.{StandsWithin}
-use Rattle.and_teams.specs.Working.{Has, Works, Tells, SeesNone}
+use Rattle.and_teams.specs.Working.{Has, Works, Tells, SeesNone, AreServed, IsAtWork}
 use Rattle.and_teams.specs.declared.placed.PlacedBranch.{PlacedBranch}
 use Rattle.and_teams.specs.declared.stack.Task.{Task}
 use Rattle.and_teams.specs.declared.stack.Task.TheVariants.{One}
@@ -142,6 +142,20 @@ module _ {N : Type 0} (P : NamedProgram) (tree : TreeId) where
   works_put p q found told x tasks after w kept_found put =
       works_still p q found told (x ∷ tasks) after w put.0 kept_found (has_put p q x tasks after w.has put)
 
+  -- So is one that was put below all others.
+  pub has_put_below : (p q : PassSeen) (xs : List (Task N)) (after : List (Task N)) → Has P tree p xs → (q ≡ p) × (after ≡ xs) → Has P tree q after
+  has_put_below p q xs after h (same, put) =
+      subst (λ ts. Has P tree q ts) (sym put) (subst (λ (r : PassSeen). Has P tree r xs) (sym same) h)
+
+  pub at_work_below : (p q : PassSeen) (found told : Found) (b : Held) (tasks after : List (Task N)) (below now : Option Held)
+      → Works P tree p found (One b ∷ tasks) → AreServed below tasks → told ≡ found → now ≡ below
+      → (q ≡ p) × (after ≡ One b ∷ tasks) → IsAtWork P tree q told after now
+  at_work_below p q found told b tasks after below now w s kept_found kept_left put = record {
+    works = works_still p q found told (One b ∷ tasks) after w put.0 kept_found (has_put_below p q (One b ∷ tasks) after w.has put);
+    served = subst (λ (o : Option Held). AreServed o after) (sym kept_left)
+        (subst (λ (ts : List (Task N)). AreServed below ts) (sym put.1) s);
+  }
+
   -- Where it could not be put, it was given up.
   pub has_given : (p q : PassSeen) (x : Task N) (tasks after : List (Task N)) → Has P tree p (x ∷ tasks)
       → (after ≡ tasks) × ((others : List (Task N)) → Has P tree p (x ∷ others) → Has P tree q others) → Has P tree q after
@@ -152,3 +166,9 @@ module _ {N : Type 0} (P : NamedProgram) (tree : TreeId) where
       → OnErr r ((after ≡ tasks) × ((others : List (Task N)) → Has P tree p (x ∷ others) → Has P tree q others)) → Has P tree q after
   has_either (Ok y) p q x tasks after h put given = has_put p q x tasks after h put
   has_either (Err e) p q x tasks after h put given = has_given p q x tasks after h given
+
+  pub has_either_below : {A E : Type 0} (r : Result A E) (p q : PassSeen) (x : Task N) (tasks after : List (Task N)) → Has P tree p (x ∷ tasks)
+      → OnOk r ((q ≡ p) × (after ≡ x ∷ tasks))
+      → OnErr r ((after ≡ tasks) × ((others : List (Task N)) → Has P tree p (x ∷ others) → Has P tree q others)) → Has P tree q after
+  has_either_below (Ok y) p q x tasks after h put given = has_put_below p q (x ∷ tasks) after h put
+  has_either_below (Err e) p q x tasks after h put given = has_given p q x tasks after h given

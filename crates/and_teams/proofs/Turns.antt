@@ -28,6 +28,7 @@ use Rattle.and_histories.specs.PlainTree.{Key, Ending, answered, retired, given_
 use Rattle.and_tree.specs.Few.{most_in_hand}
 use Rattle.and_tree.specs.Passes.{TreeId, PassSeen, Makes}
 use Rattle.and_tree.specs.Plain.{Tally, ended_so}
+use Rattle.and_code.specs.Telling.{IsTold}
 use Rattle.and_branch_laws.specs.States.{StateOf, fork}
 use Rattle.and_branch.specs.Branches.{Held, IsBranchOf, IsOpenGoal, SameKey}
 use Rattle.and_branch.specs.Children.{Fork, AreChildren, IsForkOf}
@@ -41,7 +42,8 @@ use Rattle.and_search_laws.proofs.Ending.{one_counted, end_counted, end_cut}
 use Rattle.and_search_laws.proofs.Telling.{state_within}
 use Rattle.and_team_laws.specs.Done.{Did}
 use Rattle.and_teams.specs.Placed.{StandsWithin, IsForkWithin, fork_of}
-use Rattle.and_teams.specs.Working.{keys_of, Has, Works, Tells}
+use Rattle.and_teams.specs.Working.{keys_of, AreToCome, Has, Works, Tells}
+use Rattle.and_teams.specs.declared.stack.Level.{Level}
 use Rattle.and_teams.specs.declared.stack.Task.{Task}
 use Rattle.and_teams.specs.declared.stack.Task.TheVariants.{One, Children}
 use Rattle.and_teams.specs.declared.team.TheConstants.{MOST_TASKS}
@@ -250,14 +252,17 @@ module _ {N : Type 0} (P : NamedProgram) (tree : TreeId) where
       }
 
   -- The children are a task in the place of the branch.
-  pub forked_works : (p q : PassSeen) (old new : Found) (f : Fork) (tasks : List (Task N))
+  pub forked_works : (p q : PassSeen) (old new : Found) (l : Level N) (tasks : List (Task N))
       (t : QueryTree P.program) (o : Open t) (first : Option ℕ) (cut : Option goal.Cut.Cut)
-      → Works P tree p old (One f.parent ∷ tasks) → IsBranchOf P f.parent t → AreChildren P f t → IsCutOf P t o first cut
-      → StateOf P.program f.parent.limit t (fork o f.clauses first) → length f.clauses ≤ 2 ^ 16
+      → Works P tree p old (One l.point.parent ∷ tasks) → IsBranchOf P l.point.parent t → AreChildren P l.point t → IsCutOf P t o first cut
+      → StateOf P.program l.point.parent.limit t (fork o l.point.clauses first) → length l.point.clauses ≤ 2 ^ 16
+      → IsTold P.program l.point.parent.reductions l.told l.point.longer → l.told.length ≡ length l.point.longer
+      → l.longer.value ≡ l.point.longer
       → listed new ≡ listed old → new.forks ≡ total old.forks 1 → new.failed ≡ old.failed → new.cut ≡ option_or old.cut cut
-      → Makes (plain.fork p.team f.parent.key f.longer f.clauses) forked p q → Works P tree q new (Children f ∷ tasks)
-  forked_works p q old new f tasks t o first cut w branch are is_cut state few entries forks failed kept makes =
+      → Makes (plain.fork p.team l.point.parent.key l.point.longer l.point.clauses) forked p q → Works P tree q new (Children l ∷ tasks)
+  forked_works p q old new l tasks t o first cut w branch are is_cut state few is_told long longer entries forks failed kept makes =
       let limit : ℕ = tree.about.limit in
+      let f : Fork = l.point in
       let b : Held = f.parent in
       let limited : b.limit ≡ limit = w.has.tasks_are.0.limited in
       let tells : Tells P.program limit p old = w.tells in
@@ -266,8 +271,18 @@ module _ {N : Type 0} (P : NamedProgram) (tree : TreeId) where
       (did_fork P limit p.team b t o f.clauses first branch limited state) in
       let so_far = forked_end P limit old new tells.forks tells.failed tells.is_cut t o b.key f.clauses first cut
       (reached_at P limit b t branch limited) (state_within P limit b t (fork o f.clauses first) limited state) is_cut forks failed kept tells.end in
+      let come : AreToCome P limit l = record {
+        tree = t;
+        children = are;
+        limited = limited;
+        some = state.3;
+        few = few;
+        told = is_told;
+        long = long;
+        longer = longer;
+      } in
       record {
-        has = has_forked P tree f tasks p q makes (t, are, limited, few) w.has;
+        has = has_forked P tree l tasks p q makes come w.has;
         tells = tells_more P.program limit (plain.fork p.team b.key f.longer f.clauses) forked p q old new [] 1 0 (is_there first) tells makes refl did
             (entries ∙ sym (append-nil (listed old)))
             (subst (λ n. IsEndSoFar P.program limit new (tells.forks + 1) n (tells.is_cut || is_there first) new.cut) (omega arith) so_far)

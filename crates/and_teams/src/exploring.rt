@@ -10,7 +10,7 @@ ghost use Rattle.and_model.specs.Trees.{blank, query_agenda};
 ghost use Rattle.and_branch.specs.Branches.{IsBranchOf};
 ghost use Rattle.and_tree.specs.Passes.{fresh_from};
 ghost use Rattle.and_search_laws.specs.Found.{IsFound};
-ghost use Rattle.and_teams.specs.Working.{Works};
+ghost use Rattle.and_teams.specs.Working.{IsAtWork};
 ghost use Rattle.and_teams.specs.Ended.{AreFresh, IsWorked, AreDone, AllFound, IsRunOf};
 
 use crate::placed::PlacedBranch;
@@ -172,7 +172,8 @@ fn work_by_teams<N: Naming + Send + Sync, R: Threads + Wait + Sync, G: Gate>(
         &|team: Team<N>| -> Worked<N>
             requires { IsSync R.row × (N.program ≡ named shared.now.loaded.now)
                 × IsTableOf N.program shared.now.table.now
-                × Works N.program shared.now.tree.now team.pass team.found team.stack.items }
+                × IsAtWork N.program shared.now.tree.now team.pass team.found team.stack.items
+                team.left }
             ensures { IsWorked N.program.program shared.entry.now.tree.now team.number result }
         { work(rt, shared, team) },
     )
@@ -187,7 +188,7 @@ fn with_passes<N: Naming, G: Gate>(
     ensures fresh { IfOk result (λ teams. AreFresh shared.now.tree.now 0 (reverse teams.items)
         × (length teams.items ≡ shared.now.teams)) }
     ensures at_work { IfOk result
-        (λ teams. All (λ t. Works N.program shared.now.tree.now t.pass t.found t.stack.items) teams.items) }
+        (λ teams. All (λ t. IsAtWork N.program shared.now.tree.now t.pass t.found t.stack.items t.left) teams.items) }
 {
     let mut teams = Vec::with_capacity(shared.alloc, passes.len())?;
     while let Some(pass) = passes.pop() {

@@ -6,6 +6,7 @@
 #![tactic(auto)]
 
 pub mod exploring;
+mod handing;
 pub mod laws;
 mod placed;
 mod stack;

@@ -2,9 +2,9 @@
 
 ghost use Rattle.std.specs.Prelude.{◌≡◌};
 
-use and_branch::{Branch, Split};
+use and_branch::{Branch, Choicepoint};
 use and_cells::Naming;
-use and_model::{ClauseList, Code};
+use and_model::Code;
 use and_tree::{Forking, Keyed};
 
 /// A branch that may lie in a tree.
@@ -29,24 +29,16 @@ impl<N: Naming> Keyed for PlacedBranch<N> {
 
 /// A fork that is made in a tree.
 #[derive(Drop)]
-pub struct PlacedSplit<N: Naming> {
-    pub split: Split<N>,
+pub struct PlacedFork<N: Naming> {
+    pub point: Choicepoint<N>,
 }
 
-impl<N: Naming> Forking for PlacedSplit<N> {
+impl<N: Naming> Forking for PlacedFork<N> {
     ghost use Rattle.and_teams.specs.Placed.{fork_of};
 
-    ghost fork_of = { λ placed. fork_of placed.split };
+    ghost fork_of = { λ placed. fork_of placed.point };
 
-    fn key(&self) -> &Code {
-        self.split.key()
-    }
-
-    fn longer(&self) -> &Code {
-        self.split.longer()
-    }
-
-    fn clauses(&self) -> &ClauseList {
-        self.split.clauses()
+    fn count(&self) -> usize {
+        self.point.left()
     }
 }

@@ -10,28 +10,30 @@ ghost use Rattle.and_cells.specs.Parts.{named};
 ghost use Rattle.and_clause_index.specs.Tables.{IsTableOf};
 ghost use Rattle.and_branch_laws.specs.States.{StateOf, fork};
 ghost use Rattle.and_branch.specs.Branches.{IsBranchOf};
-ghost use Rattle.and_branch.specs.Children.{AreChildren, Fork};
+ghost use Rattle.and_branch.specs.Children.{AreChildren};
 ghost use Rattle.and_branch.specs.Ended.{HasEnded};
-ghost use Rattle.and_branch.specs.Origins.{GoesBack, KeepsWhatIsNoted};
+ghost use Rattle.and_branch.specs.Origins.{GoesBack};
+ghost use Rattle.and_code.specs.Telling.{IsTold};
 ghost use Rattle.and_branch.specs.States.{IsState, IsAtRest, IsCutOf};
 ghost use Rattle.and_answers.specs.Kept.{SameEnd, listed};
 ghost use Rattle.and_histories.specs.PlainTree.{Key, Owns, children};
 ghost use Rattle.and_search_laws.specs.Ended.{EndsSo};
 ghost use Rattle.and_team_laws.specs.Owed.{SameItems};
-ghost use Rattle.and_teams.specs.Working.{Has, Works, some_task};
+ghost use Rattle.and_teams.specs.Working.{AreServed, Has, IsAtWork, IsReady, Serves, Works, at_fork, forked};
 ghost use Rattle.and_teams.specs.declared.team.TheConstants.{MOST_TASKS};
 
-use crate::placed::{PlacedBranch, PlacedSplit};
-use crate::stack::Task;
+use crate::placed::{PlacedBranch, PlacedFork};
+use crate::stack::{Hand, Level, Task, untold};
 use and_answers::Coded;
-use and_branch::{Branch, BranchList, BranchState, Split, Workspace};
+use and_branch::{Branch, BranchState, Forked, Workspace};
 use and_cells::Naming;
 use and_clause_index::Determinacy;
+use and_code::Told;
 use and_gate::Gate;
 use and_model::{ClauseList, Cut, Goal};
-use and_phase::{Pace, phase_to_state};
+use and_phase::{Advanced, Pace, phase_to_state};
 use and_program::Loaded;
-use and_tree::{CELLS_PER_TEAM, CellSeen, Claimed, Published, Tree, TreePass};
+use and_tree::{Tree, TreePass};
 use std::alloc::{AllocError, Global};
 use std::snapshot::Snapshot;
 use std::thread::Threads;
@@ -39,6 +41,9 @@ use std::thread::Threads;
 /// A team that has more tasks forks no more: so its hand has no more keys than a tree allows. No team comes
 /// so far, since it would have as many branches.
 const MOST_TASKS: usize = 1 << 22;
+
+/// How many words a child counts for beside those that its branch grows by.
+const A_CHILD: u32 = 8;
 
 /// What all teams share.
 #[derive(Drop)]
@@ -66,8 +71,12 @@ pub struct Team<N: Naming> {
     pub found: Coded,
     /// What it has still to explore, the oldest first.
     pub stack: Vec<Task<N>>,
+    /// What is left of a branch that has ended: the next child of the fork on top of the stack is made of it.
+    pub left: Option<Branch<N>>,
+    pub(crate) workspace: Workspace,
     pace: Pace,
-    workspace: Workspace,
+    /// How many words it set up since it last copied a row.
+    pub(crate) worked: u32,
     ghost number_is: { pass.team ≡ number },
 }
 
@@ -84,8 +93,10 @@ impl<N: Naming> Team<N> {
             pass,
             found: Coded::new(alloc),
             stack: Vec::new(alloc),
-            pace: Pace::new(),
+            left: None,
             workspace: Workspace::new(alloc),
+            pace: Pace::new(),
+            worked: 0,
         }
     }
 }
@@ -100,74 +111,70 @@ impl<N: Naming + Send + Sync> Team<N> {
     ) -> Result<bool, AllocError>
         requires program { N.program ≡ named shared.now.loaded.now }
         requires table { IsTableOf N.program shared.now.table.now }
-        requires works { Works N.program shared.now.tree.now self.old.pass self.old.found (self.old.stack.items) }
-        ensures has { Has N.program shared.now.tree.now self.new.pass (self.new.stack.items) }
-        ensures works { OnOk result
-            (Works N.program shared.now.tree.now self.new.pass self.new.found (self.new.stack.items)) }
+        requires at_work { IsAtWork N.program shared.now.tree.now self.old.pass self.old.found self.old.stack.items
+            self.old.left }
+        ensures has { Has N.program shared.now.tree.now self.new.pass self.new.stack.items }
+        ensures at_work { OnOk result
+            (IsAtWork N.program shared.now.tree.now self.new.pass self.new.found self.new.stack.items self.new.left) }
         ensures same { self.new.number ≡ self.old.number }
     {
         match self.stack.pop() {
             Some(Task::One(branch)) => {
-                self.explore(rt, shared, branch)?;
+                let told = untold(shared.alloc, shared.loaded);
+                self.explore(rt, shared, Hand { branch, told })?;
                 Ok(true)
             }
-            Some(Task::Children(list)) => {
-                self.explore_next(rt, shared, list)?;
+            Some(Task::Children(level)) => {
+                let child = self.next_child(shared, level)?;
+                self.explore(rt, shared, child)?;
+                Ok(true)
+            }
+            Some(Task::Left(branch)) => {
+                self.left = Some(branch);
                 Ok(true)
             }
             None => Ok(false),
         }
     }
 
-    /// Goes on with the next child of a fork. Where it has ended, and others are still to come, the next of
-    /// them is made of it.
-    fn explore_next<R: Threads + Sync, G: Gate>(
-        &mut self,
-        rt: &R,
-        shared: &Shared<N, G>,
-        list: BranchList<N>,
-    ) -> Result<(), AllocError>
-        requires program { N.program ≡ named shared.now.loaded.now }
-        requires table { IsTableOf N.program shared.now.table.now }
-        requires works { Works N.program shared.now.tree.now self.old.pass self.old.found
-            (Task.Children list ∷ self.old.stack.items) }
-        ensures has { Has N.program shared.now.tree.now self.new.pass (self.new.stack.items) }
-        ensures works { OnOk result
-            (Works N.program shared.now.tree.now self.new.pass self.new.found (self.new.stack.items)) }
-        ensures same { self.new.number ≡ self.old.number }
-    {
-        let (child, rest) = self.next_child(shared, list)?;
-        let Some(task) = rest else {
-            self.explore(rt, shared, child)?;
-            return Ok(());
-        };
-        if self.put(shared, task).is_err() {
-            shared.tree.give_up(&mut self.pass, child.key());
-            return Err(AllocError);
-        }
-        if let Some(ended) = self.explore(rt, shared, child)? {
-            self.take_in(ended);
-        }
-        Ok(())
-    }
-
     /// Explores a branch: its determinate goals are reduced, by the workers of the team where that may pay,
-    /// and it goes on by its state. Answers the branch, if it has ended.
+    /// and it goes on by its state.
     fn explore<R: Threads + Sync, G: Gate>(
         &mut self,
         rt: &R,
         shared: &Shared<N, G>,
+        hand: Hand<N>,
+    ) -> Result<(), AllocError>
+        requires program { N.program ≡ named shared.now.loaded.now }
+        requires table { IsTableOf N.program shared.now.table.now }
+        requires ready { IsReady N.program shared.now.tree.now self.old.pass self.old.found self.old.stack.items hand }
+        ensures has { Has N.program shared.now.tree.now self.new.pass self.new.stack.items }
+        ensures at_work { OnOk result
+            (IsAtWork N.program shared.now.tree.now self.new.pass self.new.found self.new.stack.items self.new.left) }
+        ensures same { self.new.number ≡ self.old.number }
+    {
+        if shared.workers < 2 || self.pace.rests() {
+            return self.lead(shared, hand);
+        }
+        let own = self.own_row(shared, hand)?;
+        self.send_off(rt, shared, own)
+    }
+
+    /// Explores a branch of a row of its own, by the workers of the team where that may pay.
+    fn send_off<R: Threads + Sync, G: Gate>(
+        &mut self,
+        rt: &R,
+        shared: &Shared<N, G>,
         branch: Branch<N>,
-    ) -> Result<Option<Branch<N>>, AllocError>
+    ) -> Result<(), AllocError>
         requires program { N.program ≡ named shared.now.loaded.now }
         requires table { IsTableOf N.program shared.now.table.now }
         requires works { Works N.program shared.now.tree.now self.old.pass self.old.found
             (Task.One branch ∷ self.old.stack.items) }
-        ensures has { Has N.program shared.now.tree.now self.new.pass (self.new.stack.items) }
-        ensures works { OnOk result
-            (Works N.program shared.now.tree.now self.new.pass self.new.found (self.new.stack.items)) }
-        ensures ended { IfOk result
-            (λ ended. IfSome ended (λ b. KeepsWhatIsNoted branch b × (self.new.stack.items ≡ self.old.stack.items))) }
+        requires served { AreServed None self.old.stack.items }
+        ensures has { Has N.program shared.now.tree.now self.new.pass self.new.stack.items }
+        ensures at_work { OnOk result
+            (IsAtWork N.program shared.now.tree.now self.new.pass self.new.found self.new.stack.items self.new.left) }
         ensures same { self.new.number ≡ self.old.number }
     {
         let advanced = phase_to_state(
@@ -182,9 +189,15 @@ impl<N: Naming + Send + Sync> Team<N> {
             &mut self.workspace,
         );
         match advanced {
-            Ok(done) => self.go_by(shared, done.branch, done.state),
+            Ok(done) => {
+                let Advanced { branch, state } = done;
+                let told = untold(shared.alloc, shared.loaded);
+                self.go_by(shared, Hand { branch, told }, state)
+            }
             Err(refused) => {
-                shared.tree.give_up(&mut self.pass, &refused.key);
+                shared
+                    .tree
+                    .give_up(&mut self.pass, &Snapshot::of(&refused.key));
                 Err(AllocError)
             }
         }
@@ -192,121 +205,208 @@ impl<N: Naming + Send + Sync> Team<N> {
 }
 
 impl<N: Naming> Team<N> {
-    /// The next child of a fork, and those behind it, if there are any. The last child takes the place
-    /// of the branch that was forked. After want of memory all of them have been given up.
-    fn next_child<G: Gate>(
+    /// The branch in hand with a row of its own: a copy, where the stack needs its row, which lies there then. After
+    /// want of memory it has been given up.
+    fn own_row<G: Gate>(
         &mut self,
         shared: &Shared<N, G>,
-        mut list: BranchList<N>,
-    ) -> Result<(Branch<N>, Option<Task<N>>), AllocError>
-        requires program { N.program ≡ named shared.now.loaded.now }
-        requires has { Has N.program shared.now.tree.now self.old.pass (Task.Children list ∷ self.old.stack.items) }
-        ensures same { (self.new.number ≡ self.old.number) × (self.new.found ≡ self.old.found)
-            × (self.new.stack ≡ self.old.stack) }
-        ensures child { IfOk result (λ next. (self.new.pass ≡ self.old.pass)
-            × Has N.program shared.now.tree.now self.new.pass
-            (Task.One next.0 ∷ some_task next.1 ++ self.new.stack.items)) }
-        ensures back { IfOk result (λ next. (f : Fork) → next.1 ≡ Some (Task.Children f)
-            → (next.0.trail.mark ≡ None) ⊎ GoesBack f.parent next.0) }
-        ensures given_up { OnErr result (Has N.program shared.now.tree.now self.new.pass (self.new.stack.items)) }
+        hand: Hand<N>,
+    ) -> Result<Branch<N>, AllocError>
+        requires ready { IsReady N.program shared.now.tree.now self.old.pass self.old.found self.old.stack.items hand }
+        ensures works { IfOk result (λ own. Works N.program shared.now.tree.now self.new.pass self.new.found
+            (Task.One own ∷ self.new.stack.items)) }
+        ensures served { OnOk result (AreServed None self.new.stack.items) }
+        ensures given_up { OnErr result (Has N.program shared.now.tree.now self.new.pass self.new.stack.items) }
+        ensures same { self.new.number ≡ self.old.number }
     {
-        if list.left() == 1 {
-            let child = self.last_child(shared, list)?;
-            return Ok((child, None));
+        let Hand { branch, told: _ } = hand;
+        if self.stack.len() == 0 {
+            return Ok(branch);
         }
-        match list.next(shared.alloc, shared.loaded, &mut self.workspace) {
-            Ok(Some(child)) => Ok((child, Some(Task::Children(list)))),
-            Ok(None) => Err(AllocError),
-            Err(AllocError) => {
-                self.give_up_children(shared, &list);
+        let key = Snapshot::of(branch.key());
+        let Ok(own) = branch.copy(shared.alloc) else {
+            shared.tree.give_up(&mut self.pass, &key);
+            return Err(AllocError);
+        };
+        match self.stack.push(Task::Left(branch)) {
+            Ok(()) => Ok(own),
+            Err(_) => {
+                shared.tree.give_up(&mut self.pass, &key);
                 Err(AllocError)
             }
         }
     }
 
-    /// Hands a branch that has ended back to the fork whose child it was: those that are still to come are
-    /// on top of the stack. Takes no memory.
-    fn take_in(&mut self, child: Branch<N>)
-        requires back { (f : Fork) (below : List (Task N)) → self.old.stack.items ≡ below ++ Task.Children f ∷ []
-            → child.trail.mark ≢ None → GoesBack f.parent child }
-        ensures stack { self.new.stack.items ≡ self.old.stack.items }
-        ensures same { (self.new.number ≡ self.old.number) × (self.new.found ≡ self.old.found)
-            × (self.new.pass ≡ self.old.pass) }
+    /// Explores a branch by the leader alone.
+    fn lead<G: Gate>(&mut self, shared: &Shared<N, G>, hand: Hand<N>) -> Result<(), AllocError>
+        requires program { N.program ≡ named shared.now.loaded.now }
+        requires table { IsTableOf N.program shared.now.table.now }
+        requires ready { IsReady N.program shared.now.tree.now self.old.pass self.old.found self.old.stack.items hand }
+        ensures has { Has N.program shared.now.tree.now self.new.pass self.new.stack.items }
+        ensures at_work { OnOk result
+            (IsAtWork N.program shared.now.tree.now self.new.pass self.new.found self.new.stack.items self.new.left) }
+        ensures same { self.new.number ≡ self.old.number }
     {
-        if let Some(task) = self.stack.last_mut() {
-            task.take_in(child);
+        let Hand { branch, told } = hand;
+        let mut branch = branch;
+        let before = branch.weight();
+        let advanced = branch.advance_to_state(
+            shared.loaded,
+            shared.table,
+            shared.gate,
+            &mut self.workspace,
+        );
+        self.note_work(before, branch.weight());
+        match advanced {
+            Ok(state) => self.go_by(shared, Hand { branch, told }, state),
+            Err(AllocError) => {
+                shared
+                    .tree
+                    .give_up(&mut self.pass, &Snapshot::of(branch.key()));
+                Err(AllocError)
+            }
         }
     }
 
-    /// The last child of a fork, in the place of the branch that was forked. After want of memory it has
-    /// been given up.
+    /// Notes that a branch grew.
+    fn note_work(&mut self, before: u32, after: u32)
+        ensures { (self.new.number ≡ self.old.number) × (self.new.pass ≡ self.old.pass)
+            × (self.new.found ≡ self.old.found) × (self.new.stack ≡ self.old.stack) × (self.new.left ≡ self.old.left) }
+    {
+        let more = after.saturating_sub(before).saturating_add(A_CHILD);
+        self.worked = self.worked.saturating_add(more);
+    }
+
+    /// The next child of a fork, made of what is left of a branch. The fork is on top of the stack again then, if
+    /// others are still to come. After want of memory all of them have been given up.
+    fn next_child<G: Gate>(
+        &mut self,
+        shared: &Shared<N, G>,
+        level: Level<N>,
+    ) -> Result<Hand<N>, AllocError>
+        requires program { N.program ≡ named shared.now.loaded.now }
+        requires at_work { IsAtWork N.program shared.now.tree.now self.old.pass self.old.found
+            (self.old.stack.items ++ Task.Children level ∷ []) self.old.left }
+        ensures ready { IfOk result
+            (IsReady N.program shared.now.tree.now self.new.pass self.new.found self.new.stack.items) }
+        ensures given_up { OnErr result (Has N.program shared.now.tree.now self.new.pass self.new.stack.items) }
+        ensures same { self.new.number ≡ self.old.number }
+    {
+        let Some(left) = self.left.take() else {
+            unreachable!()
+        };
+        if level.point.left() == 1 {
+            self.last_child(shared, level, left)
+        } else {
+            self.another_child(shared, level, left)
+        }
+    }
+
+    /// The last child of a fork.
     fn last_child<G: Gate>(
         &mut self,
         shared: &Shared<N, G>,
-        list: BranchList<N>,
-    ) -> Result<Branch<N>, AllocError>
+        level: Level<N>,
+        left: Branch<N>,
+    ) -> Result<Hand<N>, AllocError>
         requires program { N.program ≡ named shared.now.loaded.now }
-        requires one { length list.clauses ≡ 1 }
-        requires has { Has N.program shared.now.tree.now self.old.pass (Task.Children list ∷ self.old.stack.items) }
-        ensures same { (self.new.number ≡ self.old.number) × (self.new.found ≡ self.old.found)
-            × (self.new.stack ≡ self.old.stack) }
-        ensures child { IfOk result (λ child. (self.new.pass ≡ self.old.pass)
-            × Has N.program shared.now.tree.now self.new.pass (Task.One child ∷ self.new.stack.items)) }
-        ensures given_up { OnErr result (Has N.program shared.now.tree.now self.new.pass (self.new.stack.items)) }
+        requires works { Works N.program shared.now.tree.now self.old.pass self.old.found
+            (Task.Children level ∷ self.old.stack.items) }
+        requires left { Serves level left }
+        requires served { AreServed (Some (forked level)) self.old.stack.items }
+        requires one { length level.point.clauses ≡ 1 }
+        ensures ready { IfOk result
+            (IsReady N.program shared.now.tree.now self.new.pass self.new.found self.new.stack.items) }
+        ensures given_up { OnErr result (Has N.program shared.now.tree.now self.new.pass self.new.stack.items) }
+        ensures same { self.new.number ≡ self.old.number }
     {
-        let longer = Snapshot::of(list.longer());
-        let clause = list.clause_left(0);
-        let next = list.into_next(shared.loaded, &mut self.workspace);
-        if let Ok(Some(child)) = next {
-            return Ok(child);
+        let Level {
+            point,
+            told,
+            longer,
+        } = level;
+        let clause = point.clause_left(0);
+        match point.into_last(shared.loaded, left, &mut self.workspace) {
+            Ok(branch) => Ok(Hand { branch, told }),
+            Err(AllocError) => {
+                shared.tree.give_up_child(&mut self.pass, &longer, clause);
+                Err(AllocError)
+            }
         }
-        shared.tree.give_up_child(&mut self.pass, longer, clause);
-        Err(AllocError)
     }
 
-    /// Goes on with a branch by its state. Answers the branch, if it has ended, and nothing where it was
-    /// forked.
+    /// The next child of a fork, behind which others come.
+    fn another_child<G: Gate>(
+        &mut self,
+        shared: &Shared<N, G>,
+        level: Level<N>,
+        left: Branch<N>,
+    ) -> Result<Hand<N>, AllocError>
+        requires program { N.program ≡ named shared.now.loaded.now }
+        requires works { Works N.program shared.now.tree.now self.old.pass self.old.found
+            (Task.Children level ∷ self.old.stack.items) }
+        requires left { Serves level left }
+        requires served { AreServed (Some (forked level)) self.old.stack.items }
+        requires more { length level.point.clauses ≢ 1 }
+        ensures ready { IfOk result
+            (IsReady N.program shared.now.tree.now self.new.pass self.new.found self.new.stack.items) }
+        ensures given_up { OnErr result (Has N.program shared.now.tree.now self.new.pass self.new.stack.items) }
+        ensures same { self.new.number ≡ self.old.number }
+    {
+        let Ok(told) = level.told.copy(shared.alloc) else {
+            self.give_up_children(shared, &level);
+            return Err(AllocError);
+        };
+        let mut level = level;
+        let Ok(branch) = level.next(shared.loaded, left, &mut self.workspace) else {
+            self.give_up_children(shared, &level);
+            return Err(AllocError);
+        };
+        match self.put(shared, Task::Children(level)) {
+            Ok(()) => Ok(Hand { branch, told }),
+            Err(AllocError) => {
+                shared
+                    .tree
+                    .give_up(&mut self.pass, &Snapshot::of(branch.key()));
+                Err(AllocError)
+            }
+        }
+    }
+
+    /// Goes on with a branch by its state.
     fn go_by<G: Gate>(
         &mut self,
         shared: &Shared<N, G>,
-        branch: Branch<N>,
+        hand: Hand<N>,
         state: BranchState,
-    ) -> Result<Option<Branch<N>>, AllocError>
+    ) -> Result<(), AllocError>
         requires program { N.program ≡ named shared.now.loaded.now }
-        requires works { Works N.program shared.now.tree.now self.old.pass self.old.found
-            (Task.One branch ∷ self.old.stack.items) }
-        requires state { (t : QueryTree N.program.program) → IsBranchOf N.program branch t
-            → IsState N.program branch t state }
-        requires at_rest { IsAtRest N.program branch state }
-        ensures has { Has N.program shared.now.tree.now self.new.pass (self.new.stack.items) }
-        ensures works { OnOk result
-            (Works N.program shared.now.tree.now self.new.pass self.new.found (self.new.stack.items)) }
-        ensures ended { IfOk result
-            (λ ended. IfSome ended (λ b. (b ≡ branch) × (self.new.stack.items ≡ self.old.stack.items))) }
+        requires ready { IsReady N.program shared.now.tree.now self.old.pass self.old.found self.old.stack.items hand }
+        requires state { (t : QueryTree N.program.program) → IsBranchOf N.program hand.branch t
+            → IsState N.program hand.branch t state }
+        requires at_rest { IsAtRest N.program hand.branch state }
+        ensures has { Has N.program shared.now.tree.now self.new.pass self.new.stack.items }
+        ensures at_work { OnOk result
+            (IsAtWork N.program shared.now.tree.now self.new.pass self.new.found self.new.stack.items self.new.left) }
         ensures same { self.new.number ≡ self.old.number }
     {
         match state {
-            BranchState::Fork { goal, clauses, cut } => {
-                self.fork(shared, branch, goal, clauses, cut)?;
-                Ok(None)
-            }
-            BranchState::Answer => {
-                self.tell(shared, &branch, false)?;
-                Ok(Some(branch))
-            }
-            BranchState::Floundered => {
-                self.tell(shared, &branch, true)?;
-                Ok(Some(branch))
-            }
+            BranchState::Fork { goal, clauses, cut } => self.fork(shared, hand, goal, clauses, cut),
+            BranchState::Answer => self.tell(shared, hand, false),
+            BranchState::Floundered => self.tell(shared, hand, true),
             BranchState::Failed => {
+                let Hand { branch, told: _ } = hand;
                 self.found.count_failed();
                 shared.tree.retire(&mut self.pass, branch.key());
-                Ok(Some(branch))
+                self.left = Some(branch);
+                Ok(())
             }
             BranchState::OverLimit(cut) => {
+                let Hand { branch, told: _ } = hand;
                 self.found.keep_cut(Some(cut));
                 shared.tree.retire(&mut self.pass, branch.key());
-                Ok(Some(branch))
+                self.left = Some(branch);
+                Ok(())
             }
         }
     }
@@ -315,88 +415,105 @@ impl<N: Naming> Team<N> {
     fn fork<G: Gate>(
         &mut self,
         shared: &Shared<N, G>,
-        branch: Branch<N>,
+        hand: Hand<N>,
         goal: Goal,
         clauses: ClauseList,
         cut: Option<Cut>,
     ) -> Result<(), AllocError>
         requires program { N.program ≡ named shared.now.loaded.now }
-        requires works { Works N.program shared.now.tree.now self.old.pass self.old.found
-            (Task.One branch ∷ self.old.stack.items) }
-        requires state { (t : QueryTree N.program.program) → IsBranchOf N.program branch t
-            → IsState N.program branch t (BranchState.Fork goal clauses cut) }
-        ensures has { Has N.program shared.now.tree.now self.new.pass (self.new.stack.items) }
-        ensures works { OnOk result
-            (Works N.program shared.now.tree.now self.new.pass self.new.found (self.new.stack.items)) }
+        requires ready { IsReady N.program shared.now.tree.now self.old.pass self.old.found self.old.stack.items hand }
+        requires state { (t : QueryTree N.program.program) → IsBranchOf N.program hand.branch t
+            → IsState N.program hand.branch t (BranchState.Fork goal clauses cut) }
+        ensures has { Has N.program shared.now.tree.now self.new.pass self.new.stack.items }
+        ensures at_work { OnOk result
+            (IsAtWork N.program shared.now.tree.now self.new.pass self.new.found self.new.stack.items self.new.left) }
         ensures same { self.new.number ≡ self.old.number }
     {
+        let Hand { branch, told } = hand;
+        let key = Snapshot::of(branch.key());
         if self.stack.len() >= MOST_TASKS {
-            shared.tree.give_up(&mut self.pass, branch.key());
+            shared.tree.give_up(&mut self.pass, &key);
             return Err(AllocError);
         }
-        match branch.split(shared.alloc, shared.loaded, goal, clauses) {
-            Ok(split) => {
-                self.replace(shared, split, cut)?;
-                self.hand_on(shared)
+        let words = branch.weight();
+        let mut told = told;
+        match branch.fork(shared.alloc, shared.loaded, goal, clauses, &mut told) {
+            Ok(forked) => {
+                self.replace(shared, forked, told, cut)?;
+                self.hand_on(shared, words)
             }
-            Err(branch) => {
-                shared.tree.give_up(&mut self.pass, branch.key());
+            Err(AllocError) => {
+                shared.tree.give_up(&mut self.pass, &key);
                 Err(AllocError)
             }
         }
     }
 
-    /// Puts the children of a fork in the place of the branch that is split.
+    /// Puts the children of a fork in the place of the branch that is forked. What is left of it serves them.
     fn replace<G: Gate>(
         &mut self,
         shared: &Shared<N, G>,
-        split: Split<N>,
+        forked: Forked<N>,
+        told: Told,
         cut: Option<Cut>,
     ) -> Result<(), AllocError>
         requires program { N.program ≡ named shared.now.loaded.now }
         requires works { Works N.program shared.now.tree.now self.old.pass self.old.found
-            (Task.One split.parent ∷ self.old.stack.items) }
+            (Task.One forked.choicepoint.parent ∷ self.old.stack.items) }
         requires few { length self.old.stack.items < MOST_TASKS }
         requires split { (t : QueryTree N.program.program) × (o : Open t) × (first : Option ℕ)
-            × IsBranchOf N.program split.parent t
-            × AreChildren N.program split t × IsCutOf N.program t o first cut
-            × StateOf N.program.program split.parent.limit t (fork o split.clauses first) }
-        ensures has { Has N.program shared.now.tree.now self.new.pass (self.new.stack.items) }
-        ensures works { OnOk result
-            (Works N.program shared.now.tree.now self.new.pass self.new.found (self.new.stack.items)) }
+            × IsBranchOf N.program forked.choicepoint.parent t
+            × AreChildren N.program forked.choicepoint t × IsCutOf N.program t o first cut
+            × StateOf N.program.program forked.choicepoint.parent.limit t (fork o forked.choicepoint.clauses first) }
+        requires told { IsTold N.program.program forked.choicepoint.parent.reductions told forked.choicepoint.longer }
+        requires length { told.length ≡ length forked.choicepoint.longer }
+        requires left { GoesBack forked.choicepoint.parent forked.left }
+        requires key { forked.left.key ≡ forked.choicepoint.longer }
+        requires served { AreServed (Some (at_fork forked.choicepoint)) self.old.stack.items }
+        ensures has { Has N.program shared.now.tree.now self.new.pass self.new.stack.items }
+        ensures at_work { OnOk result
+            (IsAtWork N.program shared.now.tree.now self.new.pass self.new.found self.new.stack.items self.new.left) }
         ensures same { self.new.number ≡ self.old.number }
     {
-        let placed = PlacedSplit { split };
+        let Forked { choicepoint, left } = forked;
+        let longer = Snapshot::of(left.key());
+        let placed = PlacedFork { point: choicepoint };
         shared.tree.fork(&mut self.pass, &placed);
         self.found.count_fork();
         self.found.keep_cut(cut);
-        self.put(shared, Task::Children(placed.split.into_children()))
+        let PlacedFork { point } = placed;
+        let level = Level::new(point, told, longer);
+        self.left = Some(left);
+        self.put(shared, Task::Children(level))
     }
 
     /// Adds what a branch ended with.
     fn tell<G: Gate>(
         &mut self,
         shared: &Shared<N, G>,
-        branch: &Branch<N>,
+        hand: Hand<N>,
         floundered: bool,
     ) -> Result<(), AllocError>
         requires program { N.program ≡ named shared.now.loaded.now }
-        requires works { Works N.program shared.now.tree.now self.old.pass self.old.found
-            (Task.One branch.now ∷ self.old.stack.items) }
-        requires ended { HasEnded N.program branch.now }
-        requires state { (t : QueryTree N.program.program) → IsBranchOf N.program branch.now t
-            → EndsSo N.program branch.now t floundered }
-        ensures has { Has N.program shared.now.tree.now self.new.pass (self.new.stack.items) }
-        ensures works { OnOk result
-            (Works N.program shared.now.tree.now self.new.pass self.new.found (self.new.stack.items)) }
-        ensures same { (self.new.number ≡ self.old.number) × (self.new.stack ≡ self.old.stack) }
+        requires ready { IsReady N.program shared.now.tree.now self.old.pass self.old.found self.old.stack.items hand }
+        requires ended { HasEnded N.program hand.branch }
+        requires state { (t : QueryTree N.program.program) → IsBranchOf N.program hand.branch t
+            → EndsSo N.program hand.branch t floundered }
+        ensures has { Has N.program shared.now.tree.now self.new.pass self.new.stack.items }
+        ensures at_work { OnOk result
+            (IsAtWork N.program shared.now.tree.now self.new.pass self.new.found self.new.stack.items self.new.left) }
+        ensures same { self.new.number ≡ self.old.number }
     {
-        if self.add(shared, branch, floundered).is_err() {
-            shared.tree.give_up(&mut self.pass, branch.key());
+        let Hand { branch, told } = hand;
+        if self.add(shared, &branch, told, floundered).is_err() {
+            shared
+                .tree
+                .give_up(&mut self.pass, &Snapshot::of(branch.key()));
             return Err(AllocError);
         }
         shared.tree.answer(&mut self.pass, branch.key());
         shared.gate.found(self.number);
+        self.left = Some(branch);
         Ok(())
     }
 
@@ -405,9 +522,11 @@ impl<N: Naming> Team<N> {
         &mut self,
         shared: &Shared<N, G>,
         branch: &Branch<N>,
+        told: Told,
         floundered: bool,
     ) -> Result<(), AllocError>
         requires program { N.program ≡ named shared.now.loaded.now }
+        requires told { IsTold N.program.program branch.now.reductions told branch.now.key }
         requires ended { HasEnded N.program branch.now }
         ensures entries { OnOk result ((t : QueryTree N.program.program) → IsBranchOf N.program branch.now t
             → EndsSo N.program branch.now t floundered → (outcome : Outcome) × Ends t outcome
@@ -415,169 +534,11 @@ impl<N: Naming> Team<N> {
             ++ record { code = trees.code t; outcome = outcome } ∷ [])) }
         ensures end { SameEnd self.old.found self.new.found }
         ensures same { (self.new.number ≡ self.old.number) × (self.new.pass ≡ self.old.pass)
-            × (self.new.stack ≡ self.old.stack) }
+            × (self.new.stack ≡ self.old.stack) × (self.new.left ≡ self.old.left) }
     {
-        let code = branch.code(shared.alloc, shared.loaded)?;
+        let code = branch.code_of(shared.alloc, shared.loaded, told)?;
         let line = branch.line(shared.alloc, shared.loaded)?;
         self.found.add(code, line, floundered)
-    }
-
-    // ---- handing on, and taking over
-
-    /// Publishes its oldest branches, while it has more than one and finds a cell of its own free.
-    fn hand_on<G: Gate>(&mut self, shared: &Shared<N, G>) -> Result<(), AllocError>
-        requires program { N.program ≡ named shared.now.loaded.now }
-        requires works { Works N.program shared.now.tree.now self.old.pass self.old.found (self.old.stack.items) }
-        ensures has { Has N.program shared.now.tree.now self.new.pass (self.new.stack.items) }
-        ensures works { OnOk result
-            (Works N.program shared.now.tree.now self.new.pass self.new.found (self.new.stack.items)) }
-        ensures same { self.new.number ≡ self.old.number }
-    {
-        // (Each team's number is below that of the teams. This says so to what follows.)
-        if shared.teams == 1 || self.number >= shared.teams {
-            return Ok(());
-        }
-        for place in 0..CELLS_PER_TEAM {
-            let cell = self.number * CELLS_PER_TEAM + place;
-            if !self.has_several() {
-                return Ok(());
-            }
-            if shared.tree.look(&mut self.pass, cell) == CellSeen::Free {
-                self.hand_on_oldest(shared, cell)?;
-            }
-        }
-        Ok(())
-    }
-
-    /// Whether it has more than one branch.
-    fn has_several(&self) -> bool
-        ensures { result ≡ true → self.now.stack.items ≢ [] }
-    {
-        if self.stack.len() > 1 {
-            return true;
-        }
-        match self.stack.first() {
-            Some(Task::Children(list)) => list.left() > 1,
-            Some(Task::One(_)) => false,
-            None => false,
-        }
-    }
-
-    /// Publishes its oldest branch in a cell that was found free.
-    fn hand_on_oldest<G: Gate>(
-        &mut self,
-        shared: &Shared<N, G>,
-        cell: u32,
-    ) -> Result<(), AllocError>
-        requires program { N.program ≡ named shared.now.loaded.now }
-        requires works { Works N.program shared.now.tree.now self.old.pass self.old.found (self.old.stack.items) }
-        requires some { self.old.stack.items ≢ [] }
-        requires own { Owns self.old.number cell }
-        ensures has { Has N.program shared.now.tree.now self.new.pass (self.new.stack.items) }
-        ensures works { OnOk result
-            (Works N.program shared.now.tree.now self.new.pass self.new.found (self.new.stack.items)) }
-        ensures same { self.new.number ≡ self.old.number }
-    {
-        let branch = self.take_oldest(shared)?;
-        match shared
-            .tree
-            .publish(&mut self.pass, cell, PlacedBranch { branch })
-        {
-            Published::Done => {
-                shared.gate.publish(self.number);
-                Ok(())
-            }
-            Published::NotFree { branch, seen: _ } => self.put(shared, Task::One(branch.branch)),
-            Published::Spent { branch } => self.put(shared, Task::One(branch.branch)),
-        }
-    }
-
-    /// Takes its oldest branch out of the stack, which is not empty.
-    fn take_oldest<G: Gate>(&mut self, shared: &Shared<N, G>) -> Result<Branch<N>, AllocError>
-        requires program { N.program ≡ named shared.now.loaded.now }
-        requires has { Has N.program shared.now.tree.now self.old.pass (self.old.stack.items) }
-        requires some { self.old.stack.items ≢ [] }
-        ensures same { (self.new.number ≡ self.old.number) × (self.new.found ≡ self.old.found) }
-        ensures branch { IfOk result (λ branch. (self.new.pass ≡ self.old.pass)
-            × Has N.program shared.now.tree.now self.new.pass (Task.One branch ∷ self.new.stack.items)) }
-        ensures given_up { OnErr result (Has N.program shared.now.tree.now self.new.pass (self.new.stack.items)) }
-    {
-        let (branch, rest) = self.part_oldest(shared)?;
-        let Some(task) = rest else {
-            return Ok(branch);
-        };
-        match self.stack.insert(0, task) {
-            Ok(()) => Ok(branch),
-            Err(refused) => {
-                self.give_up_task(shared, refused.value);
-                shared.tree.give_up(&mut self.pass, branch.key());
-                Err(AllocError)
-            }
-        }
-    }
-
-    /// Takes its oldest task off the stack, which is not empty: its first branch, and what is left of it.
-    /// After want of memory all of it has been given up.
-    fn part_oldest<G: Gate>(
-        &mut self,
-        shared: &Shared<N, G>,
-    ) -> Result<(Branch<N>, Option<Task<N>>), AllocError>
-        requires program { N.program ≡ named shared.now.loaded.now }
-        requires has { Has N.program shared.now.tree.now self.old.pass (self.old.stack.items) }
-        requires some { self.old.stack.items ≢ [] }
-        ensures same { (self.new.number ≡ self.old.number) × (self.new.found ≡ self.old.found) }
-        ensures child { IfOk result (λ next. (self.new.pass ≡ self.old.pass)
-            × Has N.program shared.now.tree.now self.new.pass
-            (Task.One next.0 ∷ some_task next.1 ++ self.new.stack.items)) }
-        ensures given_up { OnErr result (Has N.program shared.now.tree.now self.new.pass (self.new.stack.items)) }
-    {
-        match self.stack.remove(0) {
-            Task::One(branch) => Ok((branch, None)),
-            Task::Children(list) => self.next_child(shared, list),
-        }
-    }
-
-    /// Looks at each cell once, and takes what is open in the first where it succeeds. Answers whether it
-    /// did. After want of memory what it took has been given up.
-    pub fn take_over<G: Gate>(&mut self, shared: &Shared<N, G>) -> Result<bool, AllocError>
-        requires works { Works N.program shared.now.tree.now self.old.pass self.old.found (self.old.stack.items) }
-        ensures has { Has N.program shared.now.tree.now self.new.pass (self.new.stack.items) }
-        ensures works { OnOk result
-            (Works N.program shared.now.tree.now self.new.pass self.new.found (self.new.stack.items)) }
-        ensures same { self.new.number ≡ self.old.number }
-    {
-        let cells = shared.teams * CELLS_PER_TEAM;
-        let first = self.number % shared.teams * CELLS_PER_TEAM;
-        for turn in 0..cells {
-            let cell = (first + turn) % cells;
-            if let Some(branch) = self.claim(shared, cell) {
-                shared.gate.claim(self.number);
-                self.put(shared, Task::One(branch))?;
-                return Ok(true);
-            }
-        }
-        Ok(false)
-    }
-
-    /// What lies open in a cell, if this team gets it.
-    fn claim<G: Gate>(&mut self, shared: &Shared<N, G>, cell: u32) -> Option<Branch<N>>
-        requires works { Works N.program shared.now.tree.now self.old.pass self.old.found (self.old.stack.items) }
-        requires cell { cell < 8 * shared.now.teams }
-        ensures none { IfNone result
-            (Works N.program shared.now.tree.now self.new.pass self.new.found (self.new.stack.items)) }
-        ensures some { IfSome result
-            (λ branch. Works N.program shared.now.tree.now self.new.pass self.new.found
-            (Task.One branch ∷ self.new.stack.items)) }
-        ensures same { (self.new.number ≡ self.old.number) × (self.new.stack ≡ self.old.stack) }
-    {
-        match shared.tree.look(&mut self.pass, cell) {
-            CellSeen::Open { serial } => match shared.tree.claim(&mut self.pass, cell, serial) {
-                Claimed::Taken(placed) => Some(placed.branch),
-                Claimed::Moved(_seen) => None,
-            },
-            CellSeen::Free => None,
-            CellSeen::Taking { team: _, serial: _ } => None,
-        }
     }
 
     // ---- want of memory
@@ -585,7 +546,8 @@ impl<N: Naming> Team<N> {
     /// Puts a task on top of the stack. After want of memory it has been given up.
     fn put<G: Gate>(&mut self, shared: &Shared<N, G>, task: Task<N>) -> Result<(), AllocError>
         requires has { (others : List (Task N)) × Has N.program shared.now.tree.now self.old.pass (task ∷ others) }
-        ensures same { (self.new.number ≡ self.old.number) × (self.new.found ≡ self.old.found) }
+        ensures same { (self.new.number ≡ self.old.number) × (self.new.found ≡ self.old.found)
+            × (self.new.left ≡ self.old.left) }
         ensures put { OnOk result ((self.new.pass ≡ self.old.pass)
             × (self.new.stack.items ≡ self.old.stack.items ++ task ∷ [])) }
         ensures given_up { OnErr result ((self.new.stack.items ≡ self.old.stack.items) × ((others : List (Task N))
@@ -615,38 +577,43 @@ impl<N: Naming> Team<N> {
     }
 
     /// Gives up a task.
-    fn give_up_task<G: Gate>(&mut self, shared: &Shared<N, G>, task: Task<N>)
+    pub(crate) fn give_up_task<G: Gate>(&mut self, shared: &Shared<N, G>, task: Task<N>)
         requires has { (others : List (Task N)) × Has N.program shared.now.tree.now self.old.pass (task ∷ others) }
         ensures has { (others : List (Task N)) → Has N.program shared.now.tree.now self.old.pass (task ∷ others)
             → Has N.program shared.now.tree.now self.new.pass others }
         ensures same { (self.new.number ≡ self.old.number) × (self.new.found ≡ self.old.found)
-            × (self.new.stack ≡ self.old.stack) }
+            × (self.new.stack ≡ self.old.stack) × (self.new.left ≡ self.old.left) }
     {
         match task {
             Task::One(branch) => {
-                shared.tree.give_up(&mut self.pass, branch.key());
+                shared
+                    .tree
+                    .give_up(&mut self.pass, &Snapshot::of(branch.key()));
             }
-            Task::Children(list) => self.give_up_children(shared, &list),
+            Task::Children(level) => self.give_up_children(shared, &level),
+            Task::Left(_) => {}
         }
     }
 
     /// Gives up the children of a fork that are still to come.
-    fn give_up_children<G: Gate>(&mut self, shared: &Shared<N, G>, list: &BranchList<N>)
+    pub(crate) fn give_up_children<G: Gate>(&mut self, shared: &Shared<N, G>, level: &Level<N>)
         requires tree { self.old.pass.tree ≡ shared.now.tree.now }
+        requires longer { level.now.longer.value ≡ level.now.point.longer }
         requires hand { (rest : List Key)
-            × SameItems self.old.pass.hand (children list.now.longer list.now.clauses ++ rest) }
+            × SameItems self.old.pass.hand (children level.now.point.longer level.now.point.clauses ++ rest) }
         ensures hand { (rest : List Key)
-            → SameItems self.old.pass.hand (children list.now.longer list.now.clauses ++ rest)
+            → SameItems self.old.pass.hand (children level.now.point.longer level.now.point.clauses ++ rest)
             → SameItems self.new.pass.hand rest }
         ensures tree { self.new.pass.tree ≡ self.old.pass.tree }
         ensures same { (self.new.number ≡ self.old.number) × (self.new.found ≡ self.old.found)
-            × (self.new.stack ≡ self.old.stack) }
+            × (self.new.stack ≡ self.old.stack) × (self.new.left ≡ self.old.left) }
     {
-        for place in 0..list.left() {
-            let longer = Snapshot::of(list.longer());
-            shared
-                .tree
-                .give_up_child(&mut self.pass, longer, list.clause_left(place));
+        for place in 0..level.point.left() {
+            shared.tree.give_up_child(
+                &mut self.pass,
+                &level.longer,
+                level.point.clause_left(place),
+            );
         }
     }
 }

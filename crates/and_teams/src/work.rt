@@ -3,7 +3,7 @@
 ghost use Rattle.std.specs.Prelude.{◌≡◌, [], false, OnOk, IfOk, true};
 ghost use Rattle.and_cells.specs.Parts.{named};
 ghost use Rattle.and_clause_index.specs.Tables.{IsTableOf};
-ghost use Rattle.and_teams.specs.Working.{Has, Works, IsDone, SeesNone};
+ghost use Rattle.and_teams.specs.Working.{Has, IsAtWork, IsDone, SeesNone};
 
 use crate::team::{Shared, Team};
 use and_cells::Naming;
@@ -29,7 +29,8 @@ pub fn work<N: Naming + Send + Sync, R: Threads + Wait + Sync, G: Gate>(
 ) -> Worked<N>
     requires program { N.program ≡ named shared.now.loaded.now }
     requires table { IsTableOf N.program shared.now.table.now }
-    requires works { Works N.program shared.now.tree.now team.pass team.found team.stack.items }
+    requires at_work { IsAtWork N.program shared.now.tree.now team.pass team.found team.stack.items
+        team.left }
     ensures tree { result.team.pass.tree ≡ shared.now.tree.now }
     ensures team { result.team.number ≡ team.number }
     ensures done { result.has_failed ≡ false
@@ -65,10 +66,11 @@ fn go_on<N: Naming + Send + Sync, R: Threads + Wait + Sync, G: Gate>(
 ) -> Result<bool, AllocError>
     requires program { N.program ≡ named shared.now.loaded.now }
     requires table { IsTableOf N.program shared.now.table.now }
-    requires works { Works N.program shared.now.tree.now team.old.pass team.old.found team.old.stack.items }
+    requires at_work { IsAtWork N.program shared.now.tree.now team.old.pass team.old.found team.old.stack.items
+        team.old.left }
     ensures has { Has N.program shared.now.tree.now team.new.pass team.new.stack.items }
-    ensures works { OnOk result
-        (Works N.program shared.now.tree.now team.new.pass team.new.found team.new.stack.items) }
+    ensures at_work { OnOk result
+        (IsAtWork N.program shared.now.tree.now team.new.pass team.new.found team.new.stack.items team.new.left) }
     ensures over { IfOk result (λ goes_on. goes_on ≡ false → SeesNone team.new.pass) }
     ensures same { team.new.number ≡ team.old.number }
 {
@@ -84,10 +86,11 @@ fn wait<N: Naming, R: Wait, G: Gate>(
     shared: &Shared<N, G>,
     team: &mut Team<N>,
 ) -> Result<bool, AllocError>
-    requires works { Works N.program shared.now.tree.now team.old.pass team.old.found team.old.stack.items }
+    requires at_work { IsAtWork N.program shared.now.tree.now team.old.pass team.old.found team.old.stack.items
+        team.old.left }
     ensures has { Has N.program shared.now.tree.now team.new.pass team.new.stack.items }
-    ensures works { OnOk result
-        (Works N.program shared.now.tree.now team.new.pass team.new.found team.new.stack.items) }
+    ensures at_work { OnOk result
+        (IsAtWork N.program shared.now.tree.now team.new.pass team.new.found team.new.stack.items team.new.left) }
     ensures over { IfOk result (λ goes_on. goes_on ≡ false → SeesNone team.new.pass) }
     ensures same { team.new.number ≡ team.old.number }
 {

@@ -71,13 +71,13 @@ impl<B: Keyed + Drop> Tree<B> {
     fn end(
         &self,
         pass: &mut TreePass<B>,
-        longer: Snapshot<Code>,
+        longer: &Snapshot<Code>,
         last: Option<ClauseNo>,
         how: Ended,
     ) -> Last
         requires tree { pass.old.tree ≡ self.now }
-        requires hand { Contains pass.old.hand (with_last longer.value last) }
-        ensures { Makes (Event.end pass.old.team (with_last longer.value last) (ending_of how))
+        requires hand { Contains pass.old.hand (with_last longer.now.value last) }
+        ensures { Makes (Event.end pass.old.team (with_last longer.now.value last) (ending_of how))
             (Reply.last (is_last result)) pass.old pass.new }
     {
         let found = self.take_from_live::<Brand>(&mut pass.seat, longer, last, how);
@@ -178,7 +178,7 @@ impl<B: Keyed + Drop> Tree<B> {
         ensures { Makes (Event.end pass.old.team key.now Ending.answered)
             (Reply.last (is_last result)) pass.old pass.new }
     {
-        self.end(pass, Snapshot::of(key), None, Ended::Answered)
+        self.end(pass, &Snapshot::of(key), None, Ended::Answered)
     }
 
     /// Ends a key in hand: its branch has failed or outgrown the limit. Takes no memory.
@@ -188,17 +188,17 @@ impl<B: Keyed + Drop> Tree<B> {
         ensures { Makes (Event.end pass.old.team key.now Ending.retired)
             (Reply.last (is_last result)) pass.old pass.new }
     {
-        self.end(pass, Snapshot::of(key), None, Ended::Retired)
+        self.end(pass, &Snapshot::of(key), None, Ended::Retired)
     }
 
     /// Ends a key in hand, for want of memory. Takes no memory.
-    pub fn give_up(&self, pass: &mut TreePass<B>, key: &Code) -> Last
+    pub fn give_up(&self, pass: &mut TreePass<B>, key: &Snapshot<Code>) -> Last
         requires tree { pass.old.tree ≡ self.now }
-        requires hand { Contains pass.old.hand key.now }
-        ensures { Makes (Event.end pass.old.team key.now Ending.given_up)
+        requires hand { Contains pass.old.hand key.now.value }
+        ensures { Makes (Event.end pass.old.team key.now.value Ending.given_up)
             (Reply.last (is_last result)) pass.old pass.new }
     {
-        self.end(pass, Snapshot::of(key), None, Ended::GivenUp)
+        self.end(pass, key, None, Ended::GivenUp)
     }
 
     /// Ends a key in hand, for want of memory: that of a child by this clause, which need not have been
@@ -206,12 +206,12 @@ impl<B: Keyed + Drop> Tree<B> {
     pub fn give_up_child(
         &self,
         pass: &mut TreePass<B>,
-        longer: Snapshot<Code>,
+        longer: &Snapshot<Code>,
         clause: ClauseNo,
     ) -> Last
         requires tree { pass.old.tree ≡ self.now }
-        requires hand { Contains pass.old.hand (longer.value ++ clause.0 ∷ []) }
-        ensures { Makes (Event.end pass.old.team (longer.value ++ clause.0 ∷ []) Ending.given_up)
+        requires hand { Contains pass.old.hand (longer.now.value ++ clause.0 ∷ []) }
+        ensures { Makes (Event.end pass.old.team (longer.now.value ++ clause.0 ∷ []) Ending.given_up)
             (Reply.last (is_last result)) pass.old pass.new }
     {
         self.end(pass, longer, Some(clause), Ended::GivenUp)

@@ -1,6 +1,7 @@
 //! The choicepoint tree of one thread.
 
 ghost use Rattle.std.specs.Prelude.{◌≡◌, ◌<◌, ◌≤◌, ◌+◌, [], length, OnOk, OnErr, Ok, IfOk, IfErr, nat_eq};
+ghost use Rattle.and_model.specs.Codes.{numbers_of};
 ghost use Rattle.and_model.specs.Prefixes.{IsPrefix};
 ghost use Rattle.and_histories.specs.PlainTree.{Event, Reply, Ending, Holds, IsTeam, IsCell, Owns, hand_of};
 ghost use Rattle.and_tree.specs.Counted.{tally, ending_of};
@@ -10,11 +11,11 @@ ghost use Rattle.and_tree.specs.Replies.{seen_of, is_last};
 
 use crate::counts::{Counts, Ended};
 use crate::hand::children_of;
-use crate::keyed::{Forking, Keyed};
+use crate::keyed::Keyed;
 use crate::places::Places;
 use crate::replies::{CellSeen, Claimed, Last, Published};
 use crate::words::LAST_SERIAL;
-use and_model::Code;
+use and_model::{ClauseList, Code};
 use std::alloc::{AllocError, Global};
 use std::marker::Model;
 
@@ -59,25 +60,30 @@ impl<B: Keyed + Drop> PlainTree<B> {
         })
     }
 
-    /// Puts the keys of the children of a branch that is split in the place of its key. An error is
-    /// want of memory, and leaves the tree as it was.
-    pub fn fork<S: Forking>(&mut self, team: u32, split: &S) -> Result<(), AllocError>
-        requires hand { Holds self.old.state team (S.fork_of split.now).key }
-        requires longer { IsPrefix (S.fork_of split.now).key (S.fork_of split.now).longer }
-        requires is_fork { B.IsFork self.old.limit (S.fork_of split.now) }
-        requires few { length (hand_of self.old.state team) + length (S.fork_of split.now).clauses ≤ most_in_hand }
-        ensures ok { OnOk result
-            (Turns (Event.fork team (S.fork_of split.now).key (S.fork_of split.now).longer
-            (S.fork_of split.now).clauses) Reply.forked
+    /// Puts the keys of the children of a branch that is split in the place of its key: the longer one, with one of the
+    /// clauses behind it. An error is want of memory, and leaves the tree as it was.
+    pub fn fork(
+        &mut self,
+        team: u32,
+        key: &Code,
+        longer: &Code,
+        clauses: &ClauseList,
+    ) -> Result<(), AllocError>
+        requires hand { Holds self.old.state team key.now }
+        requires longer { IsPrefix key.now longer.now }
+        requires is_fork { B.IsFork self.old.limit
+            (record { key = key.now; longer = longer.now; clauses = numbers_of clauses.now }) }
+        requires few { length (hand_of self.old.state team) + length (numbers_of clauses.now) ≤ most_in_hand }
+        ensures ok { OnOk result (Turns (Event.fork team key.now longer.now (numbers_of clauses.now)) Reply.forked
             self.old self.new) }
         ensures unchanged { OnErr result (self.new ≡ self.old) }
     {
-        let children = children_of(self.alloc, split.longer(), split.clauses())?;
+        let children = children_of(self.alloc, longer, clauses)?;
         // More keys than a number of 64 bits counts would take more memory than there is.
         let Some(left) = self.left.checked_add(children.len() as u64) else {
             return Err(AllocError);
         };
-        self.places.put_in_place(team, split.key(), children)?;
+        self.places.put_in_place(team, key, children)?;
         self.left = left - 1;
         self.counts.count_fork();
         Ok(())

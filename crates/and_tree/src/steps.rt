@@ -42,7 +42,7 @@ impl<B: Keyed + Drop> Tree<B> {
         ensures same { seat.new.table_id ≡ seat.old.table_id }
         ensures told { (found : ℕ) × CallTold C.event seat.old.me.0 found seat.new.me.0 × (seat.new.me.1 ≡ []) }
     {
-        let more = one_less(split.clauses().len() as u64);
+        let more = one_less(split.count() as u64);
         self.table.shared.fetch_add::<Calls<C>>(seat, LIVE, more);
     }
 
@@ -50,13 +50,13 @@ impl<B: Keyed + Drop> Tree<B> {
     pub(crate) fn take_from_live<C: Calling>(
         &self,
         seat: &mut Seat<Option<B>, View>,
-        longer: Snapshot<Code>,
+        longer: &Snapshot<Code>,
         last: Option<ClauseNo>,
         how: Ended,
     ) -> u64
         requires same { (seat.old.table_id ≡ self.now.table) × (seat.old.me.1 ≡ []) }
         requires can { CanCall self.now.about seat.old.me.0 C.event × ((mine_of seat.old.me.0).work ≡ at_rest) }
-        requires ends { C.event ≡ Event.end (mine_of seat.old.me.0).team (with_last longer.value last) (ending_of how) }
+        requires ends { C.event ≡ Event.end (mine_of seat.old.me.0).team (with_last longer.now.value last) (ending_of how) }
         ensures same { seat.new.table_id ≡ seat.old.table_id }
         ensures told { CallTold C.event seat.old.me.0 result seat.new.me.0 × (seat.new.me.1 ≡ []) }
     {

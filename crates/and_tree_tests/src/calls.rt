@@ -2,6 +2,7 @@
 
 use crate::leaves::{claimed, closed, opened};
 use and_tree::{CellSeen, Claimed, Last, Published};
+use std::snapshot::Snapshot;
 use std::test::Fail;
 
 #[test]
@@ -32,7 +33,10 @@ fn tree_calls(rt: HostRuntime) -> Result<(), Fail> {
 fn given_up(rt: HostRuntime) -> Result<(), Fail> {
     let (tree, mut first, mut second) = opened(&rt, rt.alloc())?;
     let branch = claimed(&rt, &tree, &mut first, 0, 1);
-    assert_eq!(rt; tree.give_up(&mut first, &branch.key), Last::Yes);
+    assert_eq!(rt;
+        tree.give_up(&mut first, &Snapshot::of(&branch.key)),
+        Last::Yes
+    );
     assert_eq!(rt; tree.left(&mut second), 0);
     let closed = closed(tree, rt.alloc(), first, second)?;
     assert_eq!(rt; closed.counts.given_up, 1);

@@ -6,7 +6,7 @@ ghost use Rattle.and_histories.specs.PlainTree.{joined, opening};
 
 use crate::leaves::Leaf;
 use and_model::{ClauseList, ClauseNo, Code};
-use and_tree::{CellSeen, Claimed, Forking, Last, PlainTree, Published};
+use and_tree::{CellSeen, Claimed, Last, PlainTree, Published};
 use std::alloc::{AllocError, Global};
 use std::process::Abort;
 use std::test::Fail;
@@ -17,24 +17,6 @@ struct Forked {
     key: Code,
     longer: Code,
     clauses: ClauseList,
-}
-
-impl Forking for Forked {
-    ghost use Rattle.and_model.specs.Codes.{numbers_of};
-
-    ghost fork_of = { λ f. record { key = f.key; longer = f.longer; clauses = numbers_of f.clauses } };
-
-    fn key(&self) -> &Code {
-        &self.key
-    }
-
-    fn longer(&self) -> &Code {
-        &self.longer
-    }
-
-    fn clauses(&self) -> &ClauseList {
-        &self.clauses
-    }
 }
 
 /// The key of one clause.
@@ -92,7 +74,8 @@ fn plain_tree_calls(rt: HostRuntime) -> Result<(), Fail> {
     let alloc = rt.alloc();
     let (mut tree, branch) = with_claimed_root(&rt, alloc, 1)?;
     assert_eq!(rt; branch.key.len(), 0);
-    tree.fork(0, &fork_of_root(alloc)?)?;
+    let split = fork_of_root(alloc)?;
+    tree.fork(0, &split.key, &split.longer, &split.clauses)?;
     assert_eq!(rt; tree.left(0), 2);
     assert_eq!(rt; tree.retire(0, &key_of_one(alloc, 1)?), Last::No);
     assert_eq!(rt; tree.answer(0, &key_of_one(alloc, 2)?), Last::Yes);

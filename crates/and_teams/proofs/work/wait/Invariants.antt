@@ -1,7 +1,8 @@
 use Rattle.std.proofs.Common.{◌≡◌}
-use Rattle.and_teams.specs.Working.{Works}
+use Rattle.and_teams.specs.Working.{IsAtWork}
 use Rattle.and_teams.proofs.work.wait.Given as goal
 
 abbrev pub invariant-waiting : goal.invariant-waiting
 invariant-waiting g l =
-    Works g.N.Naming.program l.shared.tree.now l.team.pass l.team.found l.team.stack.items × (l.team.number ≡ l.fn.team.number)
+    IsAtWork g.N.Naming.program l.shared.tree.now l.team.pass l.team.found l.team.stack.items l.team.left
+    × (l.team.number ≡ l.fn.team.number)

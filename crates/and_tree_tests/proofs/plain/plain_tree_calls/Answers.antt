@@ -6,12 +6,12 @@ pub fork-requires : goal.fork-requires
 fork-requires g c =
     let stage : Stage c.in_ok-tree.tree.state (([] ∷ []) ∷ []) 8 = record
     { hands_are = c.in_ok-tree.ensures.hands; cells_are = c.in_ok-tree.ensures.cells } in
-    let split = c.in_ok-fork_of_root.field-0 in
-    let (key_is, longer_is) = c.in_ok-fork_of_root.ensures.key in record {
+    let split = c.in_ok-split.split in
+    let (key_is, longer_is) = c.in_ok-split.ensures.key in record {
       hand = held_on 0 split.key stage (at_first split.key [] [] key_is);
       longer = (split.longer, ap (λ k. k ++ split.longer) (sym key_is));
       is_fork = tt;
-      few = few_on 0 _ _ stage (rw c.in_ok-fork_of_root.ensures.clauses (omega arith));
+      few = few_on 0 _ _ stage (rw c.in_ok-split.ensures.clauses (omega arith));
     }
 
 pub left-requires : goal.left-requires
@@ -24,8 +24,8 @@ pub retire-requires : goal.retire-requires
 retire-requires g c =
     let stage : Stage c.in_ok-tree.tree.state (([] ∷ []) ∷ []) 8 = record
     { hands_are = c.in_ok-tree.ensures.hands; cells_are = c.in_ok-tree.ensures.cells } in
-    let (key_is, longer_is) = c.in_ok-fork_of_root.ensures.key in
-    let forked = forked_root (1 ∷ 2 ∷ []) key_is longer_is c.in_ok-fork_of_root.ensures.clauses stage c.in_ok-fork.ensures.ok in
+    let (key_is, longer_is) = c.in_ok-split.ensures.key in
+    let forked = forked_root (1 ∷ 2 ∷ []) key_is longer_is c.in_ok-split.ensures.clauses stage c.in_ok-fork.ensures.ok in
     held_on 0 c.in_ok-key_of_one.field-0 (turned forked c.left.ensures)
     (at_first c.in_ok-key_of_one.field-0 (1 ∷ []) ((2 ∷ []) ∷ []) c.in_ok-key_of_one.ensures)
 
@@ -33,7 +33,7 @@ pub answer-requires : goal.answer-requires
 answer-requires g c =
     let stage : Stage c.in_ok-tree.tree.state (([] ∷ []) ∷ []) 8 = record
     { hands_are = c.in_ok-tree.ensures.hands; cells_are = c.in_ok-tree.ensures.cells } in
-    let (key_is, longer_is) = c.in_ok-fork_of_root.ensures.key in
-    let forked = forked_root (1 ∷ 2 ∷ []) key_is longer_is c.in_ok-fork_of_root.ensures.clauses stage c.in_ok-fork.ensures.ok in
+    let (key_is, longer_is) = c.in_ok-split.ensures.key in
+    let forked = forked_root (1 ∷ 2 ∷ []) key_is longer_is c.in_ok-split.ensures.clauses stage c.in_ok-fork.ensures.ok in
     let retired = ended_known (1 ∷ []) c.in_ok-key_of_one.ensures (turned forked c.left.ensures) c.retire.ensures in
     held_on 0 c.in_ok-key_of_one-2.field-0 retired (at_first c.in_ok-key_of_one-2.field-0 (2 ∷ []) [] c.in_ok-key_of_one-2.ensures)

@@ -1,5 +1,5 @@
 use Rattle.std.proofs.Common.{List, ℕ, length, ap, sym, subst, ◌∙◌}
-use Rattle.and_branch.specs.Branches.{Held, IsBranchOf}
+use Rattle.and_branch.specs.Branches.{Held}
 use Rattle.and_branch.specs.Children.{AreChildren}
 use Rattle.and_branch.specs.Outlines.{IsOutlineOf}
 use Rattle.and_branch.specs.States.{numbers}

@@ -6,7 +6,7 @@ use Rattle.and_teams.proofs.team.Team.give_up_children.Given as goal
 -- The keys of the children that are left are in the hand, whatever the others there are.
 abbrev pub invariant-loop-place : goal.invariant-loop-place
 invariant-loop-place g l =
-    ((rest : List Key) → SameItems l.fn.self.pass.hand (children l.list.longer l.list.clauses ++ rest)
-    → SameItems l.self.pass.hand (children l.list.longer (drop l.place l.list.clauses) ++ rest))
+    ((rest : List Key) → SameItems l.fn.self.pass.hand (children l.level.point.longer l.level.point.clauses ++ rest)
+    → SameItems l.self.pass.hand (children l.level.point.longer (drop l.place l.level.point.clauses) ++ rest))
     × (l.self.pass.tree ≡ l.fn.self.pass.tree) × (l.self.number ≡ l.fn.self.number) × (l.self.found ≡ l.fn.self.found)
-    × (l.self.stack ≡ l.fn.self.stack)
+    × (l.self.stack ≡ l.fn.self.stack) × (l.self.left ≡ l.fn.self.left)

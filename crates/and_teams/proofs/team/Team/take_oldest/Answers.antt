@@ -1,65 +1,46 @@
-use Rattle.std.proofs.Common.{◌≡◌, ◌++◌, ◌∷◌, List, Option, Some, sym, subst}
-use Rattle.and_branch.specs.Branches.{Held}
+use Rattle.std.proofs.Common.{ℕ, List, arith, sym, subst}
+use Rattle.std.specs.Prelude.{IfSome}
 use Rattle.and_cells.specs.Ranges.{NamedProgram}
-use Rattle.and_histories.specs.PlainTree as plain
-use Rattle.and_tree.specs.Passes.{TreeId, PassSeen}
-use Rattle.and_tree.specs.Replies.{is_last}
-use Rattle.and_teams.specs.Working.{Has, some_task}
+use Rattle.and_teams.specs.Copying.{IsCopyAt}
+use Rattle.and_teams.specs.Working.{AreServed, AreTasks}
 use Rattle.and_teams.specs.declared.stack.Task.{Task}
-use Rattle.and_teams.specs.declared.stack.Task.TheVariants.{One}
-use Rattle.and_teams.proofs.Having.{items_still, has_swapped, key_there, has_ended_under}
+use Rattle.and_teams.proofs.Copied.{copy_first, served_off_below}
+use Rattle.and_teams.proofs.Having.{some_long, has_removed}
 use Rattle.and_teams.proofs.team.Team.take_oldest.Goals as goal
 
--- What was left of the oldest task was refused, and is handed back: it is in front.
-refused_first : {N : Type 0} (P : NamedProgram) (tree : TreeId) (pass : PassSeen) (b : Held) (task back : Task N) (rest : Option (Task N))
-    (stack : List (Task N)) → rest ≡ Some task → back ≡ task → Has P tree pass (One b ∷ some_task rest ++ stack)
-    → Has P tree pass (back ∷ One b ∷ stack)
-refused_first {N} P tree pass b task back rest stack is same has =
-    subst (λ (t : Task N). Has P tree pass (t ∷ One b ∷ stack)) (sym same)
-    (has_swapped P tree pass (One b) task stack (subst (λ (o : Option (Task N)). Has P tree pass (One b ∷ some_task o ++ stack)) is has))
-
-pub give_up_task-requires-clause-has : goal.give_up_task-requires-clause-has
-give_up_task-requires-clause-has g c κs within =
+pub copy_for_oldest-requires-clause-tasks : goal.copy_for_oldest-requires-clause-tasks
+copy_for_oldest-requires-clause-tasks g c =
     let P : NamedProgram = g.N.Naming.program in
-    let tree : TreeId = c.args.shared.now.tree.now in
-    let s = c.part_oldest.new.self in
-    let others : List (Task g.row.N.Denot) = One c.in_ok-branch.branch ∷ s.stack.items in (
-      others,
-      refused_first P tree s.pass c.in_ok-branch.branch c.in-Some.task c.in-Err.refused.value c.in_ok-branch.rest s.stack.items c.in-Some.is
-          c.in-Err.ensures.value_returned c.in_ok-branch.ensures.child.1,
+    let limit : ℕ = c.args.shared.now.tree.now.about.limit in (
+      limit,
+      subst (λ (ts : List (Task g.row.N.Denot)). AreTasks P limit ts) (sym c.as_slice.ensures.value) c.requires.has.tasks_are,
     )
 
-pub give_up-requires-clause-tree : goal.give_up-requires-clause-tree
-give_up-requires-clause-tree g c =
-    let P : NamedProgram = g.N.Naming.program in
-    let tree : TreeId = c.args.shared.now.tree.now in
-    let s = c.part_oldest.new.self in
-    let others : List (Task g.row.N.Denot) = One c.in_ok-branch.branch ∷ s.stack.items in
-    (c.give_up_task.ensures.has others
-    (refused_first P tree s.pass c.in_ok-branch.branch c.in-Some.task c.in-Err.refused.value c.in_ok-branch.rest s.stack.items c.in-Some.is
-    c.in-Err.ensures.value_returned c.in_ok-branch.ensures.child.1)).of_tree
+pub copy_for_oldest-requires-clause-served : goal.copy_for_oldest-requires-clause-served
+copy_for_oldest-requires-clause-served g c =
+    subst (λ (ts : List (Task g.row.N.Denot)). AreServed c.args.self.now.left ts) (sym c.as_slice.ensures.value) c.requires.served
 
-pub give_up-requires-clause-hand : goal.give_up-requires-clause-hand
-give_up-requires-clause-hand g c =
-    let P : NamedProgram = g.N.Naming.program in
-    let tree : TreeId = c.args.shared.now.tree.now in
-    let s = c.part_oldest.new.self in
-    let others : List (Task g.row.N.Denot) = One c.in_ok-branch.branch ∷ s.stack.items in
-    key_there P tree c.give_up_task.new.self.pass c.in_ok-branch.branch s.stack.items c.key.result.now c.key.ensures
-    (c.give_up_task.ensures.has others
-    (refused_first P tree s.pass c.in_ok-branch.branch c.in-Some.task c.in-Err.refused.value c.in_ok-branch.rest s.stack.items c.in-Some.is
-    c.in-Err.ensures.value_returned c.in_ok-branch.ensures.child.1))
+pub remove-requires : goal.remove-requires
+remove-requires g c =
+    let long = c.args.self.now.stack.ok.0 in
+    let some = some_long c.args.self.now.stack.items c.requires.some in
+    omega (arith, long, some)
 
-pub returns-in-Err-clause-given_up : goal.returns-in-Err-clause-given_up
-returns-in-Err-clause-given_up g c =
-    let P : NamedProgram = g.N.Naming.program in
-    let tree : TreeId = c.args.shared.now.tree.now in
-    let s = c.part_oldest.new.self in
-    let others : List (Task g.row.N.Denot) = One c.in_ok-branch.branch ∷ s.stack.items in
-    let stack = items_still c.give_up_task.new.self.stack c.insert.new.self s.stack.items c.give_up_task.ensures.same.2 c.in-Err.ensures.items in
-    subst (λ (ts : List (Task g.row.N.Denot)). Has P tree c.give_up.new.pass ts) (sym stack)
-    (has_ended_under P tree c.key.result.now c.in_ok-branch.branch s.stack.items plain.given_up (is_last c.give_up.result)
-    c.give_up_task.new.self.pass c.give_up.new.pass c.key.ensures c.give_up.ensures
-    (c.give_up_task.ensures.has others
-    (refused_first P tree s.pass c.in_ok-branch.branch c.in-Some.task c.in-Err.refused.value c.in_ok-branch.rest s.stack.items c.in-Some.is
-    c.in-Err.ensures.value_returned c.in_ok-branch.ensures.child.1)))
+pub part_child-requires-clause-has : goal.part_child-requires-clause-has
+part_child-requires-clause-has g c κs within =
+    let s = c.args.self.now in
+    has_removed g.N.Naming.program c.args.shared.now.tree.now s.pass s.stack.items c.remove.new.self.items c.remove.result _ c.requires.some
+    c.remove.ensures.value c.remove.ensures.items c.in-Children.is c.requires.has
+
+pub part_child-requires-clause-served : goal.part_child-requires-clause-served
+part_child-requires-clause-served g c κs within =
+    let s = c.args.self.now in
+    served_off_below s.left s.stack.items c.remove.new.self.items c.remove.result _ c.requires.some c.remove.ensures.value c.remove.ensures.items
+    c.in-Children.is c.requires.served
+
+pub part_child-requires-clause-copy : goal.part_child-requires-clause-copy
+part_child-requires-clause-copy g c κs within =
+    let s = c.args.self.now in
+    copy_first s.stack.items c.remove.new.self.items c.remove.result _ c.in_ok-copy.copy c.requires.some c.remove.ensures.value
+    c.remove.ensures.items c.in-Children.is
+    (subst (λ (ts : List (Task g.row.N.Denot)). IfSome c.in_ok-copy.copy (IsCopyAt ts 0)) c.as_slice.ensures.value c.in_ok-copy.ensures)

@@ -1,7 +1,8 @@
 use Rattle.std.proofs.Common.{◌≡◌}
-use Rattle.and_teams.specs.Working.{Works}
+use Rattle.and_teams.specs.Working.{IsAtWork}
 use Rattle.and_teams.proofs.team.Team.take_over.Given as goal
 
 abbrev pub invariant-loop-turn : goal.invariant-loop-turn
 invariant-loop-turn g l =
-    Works g.N.Naming.program l.shared.tree.now l.self.pass l.self.found l.self.stack.items × (l.self.number ≡ l.fn.self.number)
+    IsAtWork g.N.Naming.program l.shared.tree.now l.self.pass l.self.found l.self.stack.items l.self.left
+    × (l.self.number ≡ l.fn.self.number)

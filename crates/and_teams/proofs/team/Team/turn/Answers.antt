@@ -1,20 +1,33 @@
-use Rattle.std.proofs.Common.{◌∙◌, ◌∷◌, ◌++◌, [], List, ap}
+use Rattle.std.proofs.Common.{◌∙◌, ◌∷◌, ◌++◌, [], List, ap, sym, subst}
+use Rattle.and_cells.specs.Ranges.{NamedProgram}
+use Rattle.and_code.specs.Telling.{IsTold}
+use Rattle.and_teams.specs.Working.{IsAtWork}
 use Rattle.and_teams.specs.declared.stack.Task.{Task}
-use Rattle.and_teams.specs.declared.stack.Task.TheVariants.{One, Children}
-use Rattle.and_teams.proofs.Turns.{works_popped}
+use Rattle.and_teams.proofs.Ready.{ready_popped, left_popped}
 use Rattle.and_teams.proofs.team.Team.turn.Goals as goal
 
-pub explore-requires-clause-works : goal.explore-requires-clause-works
-explore-requires-clause-works g c κs within =
+pub explore-requires-clause-ready : goal.explore-requires-clause-ready
+explore-requires-clause-ready g c κs within =
     let s = c.args.self.now in
     let rest : List (Task g.row.N.Denot) = c.pop.new.self.items in
-    works_popped g.N.Naming.program c.args.shared.now.tree.now s.pass s.found (One c.in-Some-One.branch) rest s.stack.items c.requires.works
+    let told = c.untold-told.result in
+    ready_popped g.N.Naming.program c.args.shared.now.tree.now s.pass s.found s.stack.items rest s.left c.in-Some-One.branch told c.requires.at_work
     (c.in-Some-One.ensures.items ∙ ap (λ (x : Task g.row.N.Denot). rest ++ x ∷ []) c.in-Some-One.field-0-is)
+    (subst (λ (R : NamedProgram). IsTold R.program [] told []) (sym c.requires.program) c.untold-told.ensures.told) c.untold-told.ensures.length
 
-pub explore_next-requires-clause-works : goal.explore_next-requires-clause-works
-explore_next-requires-clause-works g c κs within =
+pub next_child-requires-clause-at_work : goal.next_child-requires-clause-at_work
+next_child-requires-clause-at_work g c κs within =
     let s = c.args.self.now in
     let rest : List (Task g.row.N.Denot) = c.pop.new.self.items in
-    works_popped g.N.Naming.program c.args.shared.now.tree.now s.pass s.found (Children c.in-Some-Children.list) rest
-    s.stack.items c.requires.works
-    (c.in-Some-Children.ensures.items ∙ ap (λ (x : Task g.row.N.Denot). rest ++ x ∷ []) c.in-Some-Children.field-0-is)
+    subst (λ (ts : List (Task g.row.N.Denot)). IsAtWork g.N.Naming.program c.args.shared.now.tree.now s.pass s.found ts s.left)
+    (c.in-Some-Children.ensures.items ∙ ap (λ (x : Task g.row.N.Denot). rest ++ x ∷ []) c.in-Some-Children.field-0-is) c.requires.at_work
+
+pub returns-in-Some-Left-clause-at_work : goal.returns-in-Some-Left-clause-at_work
+returns-in-Some-Left-clause-at_work g c =
+    let s = c.args.self.now in
+    let rest : List (Task g.row.N.Denot) = c.pop.new.self.items in
+    left_popped g.N.Naming.program c.args.shared.now.tree.now s.pass s.found s.stack.items rest s.left c.in-Some-Left.branch c.requires.at_work
+    (c.in-Some-Left.ensures.items ∙ ap (λ (x : Task g.row.N.Denot). rest ++ x ∷ []) c.in-Some-Left.field-0-is)
+
+pub returns-in-Some-Left-clause-has : goal.returns-in-Some-Left-clause-has
+returns-in-Some-Left-clause-has g c = (returns-in-Some-Left-clause-at_work g c).works.has

@@ -1,5 +1,4 @@
 use Rattle.std.proofs.Common.{◌≡◌, length, ap, sym, subst, ◌∙◌}
-use Rattle.std.proofs.lemmas.List.{length-map}
 use Rattle.and_tree.specs.Forked.{Fork}
 use Rattle.and_tree.specs.Sight.{mine_of}
 use Rattle.and_tree.specs.Told.{MayCall, added_by}
@@ -15,7 +14,7 @@ fetch_add-requires g c =
     let may = subst (MayCall c.self.inside.table.shared.key.teams (mine_of v).hand) c.requires.forks
     (subst (λ n. MayCall n (mine_of v).hand g.C.Calling.event) (sym (ap (λ z. z.about.teams) c.self.view_is)) can.may) in
     let many : c.one_less-more.result ≡ added_by (length split.clauses) =
-    c.one_less-more.ensures ∙ ap added_by (c.len.ensures ∙ sym (length-map _ _) ∙ ap length c.clauses.ensures) in (
+    c.one_less-more.ensures ∙ ap added_by c.count.ensures in (
       c.requires.same.0 ∙ sym (ap (λ z. z.table) c.self.view_is),
       live_in _ _ _ c.self.invariant,
       rw (c.requires.forks, many)
