@@ -145,3 +145,29 @@ place_there x k (j ∷ ks) (suc n) d at e =
     by true h apart =
         let there : bytes_eq j.items k.items ≡ true = subst (λ (y : Bytes). bytes_eq y k.items ≡ true) ((bytes_eq-Decides x j.items).0 h) e in
         absurd (true≢false (sym there ∙ apart))
+
+pub has_there : (x : Bytes) (k : Vec ℕ Global) (ks : List (Vec ℕ Global)) (n : ℕ) → slice_get ks n ≡ Some k → bytes_eq x k.items ≡ true
+    → has x (names_of ks) ≡ true
+has_there x k [] n at e = absurd cc
+has_there x k (j ∷ ks) zero at e =
+    let is : j ≡ k = cc in
+    let same : bytes_eq x j.items ≡ true = ap (λ (v : Vec ℕ Global). bytes_eq x v.items) is ∙ e in
+    ap (λ (b : Bool). b || has x (names_of ks)) same
+has_there x k (j ∷ ks) (suc n) at e = by (bytes_eq x j.items) (has_there x k ks n at e)
+  where
+    by : (b : Bool) → has x (names_of ks) ≡ true → b || has x (names_of ks) ≡ true
+    by true h = refl
+    by false h = h
+
+-- A name has as its number how many names there were, where it had none.
+
+place-end : (x : Bytes) (names : List Bytes) → place x (names ++ x ∷ []) ≡ place x names
+place-end x [] = ap (λ (b : Bool). cond (not b) 1 0) ((bytes_eq-Decides x x).1 refl)
+place-end x (y ∷ names) = ap (λ (n : ℕ). cond (not (bytes_eq x y)) (1 + n) 0) (place-end x names)
+
+pub place-included : (x : Bytes) (names : List Bytes) → place x (including names x) ≡ place x names
+place-included x names = by (has x names)
+  where
+    by : (b : Bool) → place x (cond b names (names ++ x ∷ [])) ≡ place x names
+    by true = refl
+    by false = place-end x names

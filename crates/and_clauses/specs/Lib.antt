@@ -1,3 +1,4 @@
+pub mod Short
 pub mod Parts
 pub mod Numbered
 pub mod Variables

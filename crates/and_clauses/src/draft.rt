@@ -270,10 +270,10 @@ fn add_part(
     ensures finished_kept { OnErr result (finished.new.items ≡ finished.old.items) }
 {
     let number = parts.len() as u32;
-    finished.push(number)?;
-    if let Err(refused) = parts.push(part) {
-        finished.pop();
-        return Err(AllocError::from(refused));
+    parts.push(part)?;
+    if finished.push(number).is_err() {
+        parts.pop();
+        return Err(AllocError);
     }
     finished[start] = number;
     finished.truncate(start + 1);

@@ -1,8 +1,8 @@
 //! The numbers of names in a table, and of variables in a clause.
 
-ghost use Rattle.std.specs.Prelude.{◌≡◌, ◌<◌, ◌+◌, ◌^◌, [], ◌++◌, length, IfOk, OnOk, IsTrue, reverse};
+ghost use Rattle.std.specs.Prelude.{◌≡◌, ◌<◌, ◌+◌, ◌^◌, [], ◌++◌, length, IfOk, OnOk, IsTrue, reverse, true};
 ghost use Rattle.and_model.specs.Programs.{builtin_names};
-ghost use Rattle.and_syntax.specs.Written.{place, including, named};
+ghost use Rattle.and_syntax.specs.Written.{place, has, including, named};
 ghost use Rattle.and_syntax.specs.Tables.{disjunction_name, with_disjunctions};
 ghost use Rattle.and_clauses.specs.Lifts.{places_from, places_in};
 ghost use Rattle.and_clauses.specs.Variables.{AllNumbered, IsNumbered};
@@ -12,8 +12,9 @@ ghost use Rattle.and_clauses.specs.Numbered.{bytes_of, including_all, named_by, 
 
 use crate::draft::DraftPart;
 use crate::guesses::Guesses;
-use and_model::{NameNo, Text};
+use and_model::{NameNo, Text, builtins};
 use indexmap::IndexSet;
+use smallvec::SmallVec;
 use std::alloc::{AllocError, Global};
 
 /// The names that every table begins with.
@@ -42,11 +43,29 @@ fn name_set(alloc: Global, occurring: &[&[u8]]) -> Result<IndexSet<Vec<u8>>, All
     Ok(names)
 }
 
+/// The number that a name mostly has, where it is one of the built-in names that are met most often. Nothing is
+/// promised of it. Takes no memory.
+fn usual_number(name: &[u8]) -> usize {
+    match name {
+        [b','] => builtins::CONJUNCTION as usize,
+        [b';'] => builtins::DISJUNCTION as usize,
+        [b'='] => builtins::EQUAL as usize,
+        [b'.'] => builtins::POINT as usize,
+        [b':', b'-'] => builtins::NECK as usize,
+        _ => 0,
+    }
+}
+
 /// Numbers a name, where it has no number yet, and answers its number. An error is want of memory.
 fn note_name(alloc: Global, names: &mut IndexSet<Vec<u8>>, name: &[u8]) -> Result<usize, AllocError>
     ensures ok { OnOk result (names_of names.new.keys ≡ including (names_of names.old.keys) name.now) }
+    ensures number { IfOk result (λ n. n ≡ place name.now (names_of names.new.keys)) }
     ensures kept { Extends (names_of names.old.keys) (names_of names.new.keys) }
 {
+    let usual = usual_number(name);
+    if is_named(names, usual, name) {
+        return Ok(usual);
+    }
     if let Some(number) = names.get_index_of(name) {
         return Ok(number);
     }
@@ -91,7 +110,8 @@ fn checked_number(names: &IndexSet<Vec<u8>>, guess: usize, name: &[u8]) -> usize
 
 /// Whether a name has that number.
 fn is_named(names: &IndexSet<Vec<u8>>, number: usize, name: &[u8]) -> bool
-    ensures { IsTrue result → place name.now (names_of names.now.keys) ≡ number }
+    ensures number { IsTrue result → place name.now (names_of names.now.keys) ≡ number }
+    ensures there { IsTrue result → has name.now (names_of names.now.keys) ≡ true }
 {
     let _count = names.len();
     match names.get_index(number) {
@@ -229,9 +249,8 @@ pub(crate) fn note_disjunction(
     ensures number { IfOk result (λ n. n ≡ place (disjunction_name disjunction) (names_of names.new.keys)) }
     ensures kept { Extends (names_of names.old.keys) (names_of names.new.keys) }
 {
-    let mut name = Vec::new(alloc);
+    let mut name = SmallVec::<u8, 23>::new(alloc);
     name.push(0xFF)?;
     name.extend_from_slice(itoa::Buffer::new().format(disjunction).as_bytes())?;
-    note_name(alloc, names, &name)?;
-    Ok(find_number(names, &name))
+    note_name(alloc, names, name.as_slice())
 }

@@ -1,21 +1,31 @@
 //! Names that mostly need no memory.
 
-ghost use Rattle.std.specs.Prelude.{◌≡◌, ℕ, List, IfOk};
+ghost use Rattle.std.specs.Prelude.{◌≡◌, ℕ, List, take, IfOk};
+ghost use Rattle.and_clauses.specs.Short.{held_bytes};
 
-use smallvec::SmallVec;
 use std::alloc::{AllocError, Global};
 use std::marker::Model;
+
+/// How many bytes stand in the value itself.
+const SHORT: usize = 15;
 
 /// A name, which stands in the value itself where it has at most 15 bytes.
 #[derive(Drop)]
 pub(crate) struct ShortText {
-    items: SmallVec<u8, 15>,
+    held: Held,
+}
+
+/// What holds the bytes of a name: the first of an array, or a list.
+#[derive(Drop)]
+pub(crate) enum Held {
+    Short { bytes: [u8; SHORT], length: u8 },
+    Long(Vec<u8>),
 }
 
 impl Model for ShortText {
     ghost Value = { List ℕ };
 
-    ghost view = { λ t. t.items.items };
+    ghost view = { λ t. held_bytes t.held };
 }
 
 impl ShortText {
@@ -23,8 +33,18 @@ impl ShortText {
     pub(crate) fn of(alloc: Global, bytes: &[u8]) -> Result<ShortText, AllocError>
         ensures { IfOk result (λ t. t ≡ bytes.now) }
     {
+        let length = bytes.len();
+        if length > SHORT {
+            let held = Held::Long(Vec::from_slice(alloc, bytes)?);
+            return Ok(ShortText { held });
+        }
+        let mut short = [0; SHORT];
+        short[..length].copy_from_slice(bytes);
         Ok(ShortText {
-            items: SmallVec::from_slice(alloc, bytes)?,
+            held: Held::Short {
+                bytes: short,
+                length: length as u8,
+            },
         })
     }
 
@@ -32,6 +52,16 @@ impl ShortText {
     pub(crate) fn bytes(&self) -> &[u8]
         ensures { result.now ≡ self.now }
     {
-        self.items.as_slice()
+        match &self.held {
+            Held::Short { bytes, length } => first(bytes, *length as usize),
+            Held::Long(bytes) => bytes,
+        }
     }
+}
+
+/// The first of these bytes, or all where they are fewer.
+fn first(bytes: &[u8], count: usize) -> &[u8]
+    ensures { result.now ≡ take count bytes.now }
+{
+    &bytes[..count.min(bytes.len())]
 }

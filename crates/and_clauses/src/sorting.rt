@@ -88,8 +88,9 @@ pub(crate) fn sort_tokens(
     ensures there { IfOk result (λ sorted. AreOutlinesThere (length parts.now) sorted.outlines.items) }
 {
     let mut sorting = begin(alloc)?;
+    let mut pending = Vec::new(alloc);
     for token in tokens {
-        take_token(alloc, parts, &mut sorting, token)?;
+        take_token(alloc, parts, &mut pending, &mut sorting, token)?;
     }
     let Sorting { sorted, .. } = sorting;
     Ok(sorted)
@@ -121,6 +122,7 @@ fn begin(alloc: Global) -> Result<Sorting, AllocError>
 fn take_token(
     alloc: Global,
     parts: &[DraftPart],
+    pending: &mut Vec<u32>,
     sorting: &mut Sorting,
     token: &BodyToken,
 ) -> Result<(), AllocError>
@@ -136,8 +138,8 @@ fn take_token(
         BodyToken::Item(item) => {
             let here = sorting.here;
             note_item(
-                alloc,
                 parts,
+                pending,
                 &mut sorting.sorted.disjunctions,
                 here.scope,
                 item,
@@ -150,7 +152,7 @@ fn take_token(
         }
         BodyToken::Open(_) => open(alloc, sorting),
         BodyToken::Next(_) => next(alloc, sorting),
-        BodyToken::Close => close(alloc, sorting),
+        BodyToken::Close => close(pending, sorting),
     }
 }
 
@@ -199,8 +201,8 @@ fn next(alloc: Global, sorting: &mut Sorting) -> Result<(), AllocError>
     Ok(())
 }
 
-/// The disjunction ends. Its variables are variables of the one around it.
-fn close(alloc: Global, sorting: &mut Sorting) -> Result<(), AllocError>
+/// The disjunction ends. Its variables are variables of the one around it. What was in the list means nothing.
+fn close(list: &mut Vec<u32>, sorting: &mut Sorting) -> Result<(), AllocError>
     ensures sorted { (ss : List Shape)
         → OnOk result (sorting_in ss sorting.new ≡ step (sorting_in ss sorting.old) close_mark) }
     ensures there { (n : ℕ) → AreOutlinesThere n sorting.old.sorted.outlines.items
@@ -208,7 +210,7 @@ fn close(alloc: Global, sorting: &mut Sorting) -> Result<(), AllocError>
 {
     let inner = sorting.here.scope;
     if let Some(outer) = sorting.around.pop() {
-        note_inner(alloc, &mut sorting.sorted.disjunctions, inner, outer.scope)?;
+        note_inner(list, &mut sorting.sorted.disjunctions, inner, outer.scope)?;
         sorting.here = outer;
     }
     Ok(())
@@ -243,8 +245,8 @@ fn count_alternative(disjunctions: &mut Vec<Disjunction>, scope: Option<usize>)
 
 /// Notes the variables of an item in the disjunction in which it stands.
 fn note_item(
-    alloc: Global,
     parts: &[DraftPart],
+    pending: &mut Vec<u32>,
     disjunctions: &mut Vec<Disjunction>,
     scope: Option<usize>,
     item: &ItemNode,
@@ -259,7 +261,7 @@ fn note_item(
     if let Some(place) = scope {
         if place < disjunctions.len() {
             let disjunction = &mut disjunctions[place];
-            note_terms(alloc, parts, item, &mut disjunction.variables)?;
+            note_terms(parts, pending, item, &mut disjunction.variables)?;
         }
     }
     Ok(())
@@ -267,7 +269,7 @@ fn note_item(
 
 /// Notes the variables of a disjunction in the one around it.
 fn note_inner(
-    alloc: Global,
+    list: &mut Vec<u32>,
     disjunctions: &mut Vec<Disjunction>,
     inner: Option<usize>,
     outer: Option<usize>,
@@ -276,8 +278,8 @@ fn note_inner(
         OnOk result (locals_in disjunctions.new.items
         ≡ alter_in outer (with_variables (variables_in_scope old inner)) old) }
 {
-    let variables = variables_in(alloc, disjunctions, inner)?;
-    note_in(disjunctions, outer, &variables)
+    copy_variables(list, disjunctions, inner)?;
+    note_in(disjunctions, outer, list)
 }
 
 /// Notes these variables in a disjunction, if there is one.
@@ -298,26 +300,27 @@ fn note_in(
     Ok(())
 }
 
-/// The variables of a disjunction, if there is one.
-fn variables_in(
-    alloc: Global,
+/// Makes the list that of the variables of a disjunction, if there is one.
+fn copy_variables(
+    list: &mut Vec<u32>,
     disjunctions: &[Disjunction],
     scope: Option<usize>,
-) -> Result<Vec<u32>, AllocError>
-    ensures { IfOk result (λ variables. own variables.items ≡ variables_in_scope (locals_in disjunctions.now) scope) }
+) -> Result<(), AllocError>
+    ensures { OnOk result (own list.new.items ≡ variables_in_scope (locals_in disjunctions.now) scope) }
 {
+    list.clear();
     if let Some(place) = scope {
         if place < disjunctions.len() {
-            return Ok(Vec::from_slice(alloc, &disjunctions[place].variables)?);
+            list.extend_from_slice(&disjunctions[place].variables)?;
         }
     }
-    Ok(Vec::new(alloc))
+    Ok(())
 }
 
 /// Notes the variables of an item's terms, from left to right.
 fn note_terms(
-    alloc: Global,
     parts: &[DraftPart],
+    pending: &mut Vec<u32>,
     item: &ItemNode,
     variables: &mut Vec<u32>,
 ) -> Result<(), AllocError>
@@ -328,35 +331,35 @@ fn note_terms(
         OnOk result (own variables.new.items ≡ first_seen (own variables.old.items) (variables_of term)) }
 {
     match item {
-        ItemNode::Call { goal } => note_term(alloc, parts, goal.0, variables),
+        ItemNode::Call { goal } => note_term(parts, pending, goal.0, variables),
         ItemNode::Equal { left, right } => {
-            note_term(alloc, parts, left.0, variables)?;
-            note_term(alloc, parts, right.0, variables)
+            note_term(parts, pending, left.0, variables)?;
+            note_term(parts, pending, right.0, variables)
         }
         ItemNode::Is {
             left,
             right,
             pair: _,
         } => {
-            note_term(alloc, parts, left.0, variables)?;
-            note_term(alloc, parts, right.0, variables)
+            note_term(parts, pending, left.0, variables)?;
+            note_term(parts, pending, right.0, variables)
         }
         ItemNode::Compare {
             relation: _,
             left,
             right,
         } => {
-            note_term(alloc, parts, left.0, variables)?;
-            note_term(alloc, parts, right.0, variables)
+            note_term(parts, pending, left.0, variables)?;
+            note_term(parts, pending, right.0, variables)
         }
         ItemNode::Fail => Ok(()),
     }
 }
 
-/// Notes the variables of a term, from left to right.
+/// Notes the variables of a term, from left to right. What was in the list means nothing.
 fn note_term(
-    alloc: Global,
     parts: &[DraftPart],
+    pending: &mut Vec<u32>,
     root: u32,
     variables: &mut Vec<u32>,
 ) -> Result<(), AllocError>
@@ -365,11 +368,11 @@ fn note_term(
     ensures { (names : List Bytes) → let term = node_term (shapes_under names parts.now) root in
         OnOk result (own variables.new.items ≡ first_seen (own variables.old.items) (variables_of term)) }
 {
-    let mut pending = Vec::new(alloc);
+    pending.clear();
     pending.push(root)?;
     while let Some(number) = pending.pop() {
         let part = &parts[number as usize];
-        note_part(part, variables, &mut pending)?;
+        note_part(part, variables, pending)?;
     }
     Ok(())
 }

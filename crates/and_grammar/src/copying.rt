@@ -67,6 +67,16 @@ pub(crate) fn put_compound(out: &mut ClauseDraft, name: &[u8], count: u8) -> Res
 pub(crate) fn put_state(alloc: Global, out: &mut ClauseDraft, number: u32) -> Result<(), RuleFault>
     ensures { OnOk result (Adds out.old out.new (state number ∷ [])) }
 {
+    if number < 10 {
+        return put_variable(out, &[255, b'0' + number as u8]);
+    }
+    put_written_state(alloc, out, number)
+}
+
+/// Adds the new variable of that number, whose digits are written one after the other.
+fn put_written_state(alloc: Global, out: &mut ClauseDraft, number: u32) -> Result<(), RuleFault>
+    ensures { OnOk result (Adds out.old out.new (state number ∷ [])) }
+{
     let mut buffer = Buffer::new();
     let mut name = SmallVec::<u8, 15>::new(alloc);
     name.push(255)?;

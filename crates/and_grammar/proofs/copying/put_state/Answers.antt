@@ -1,13 +1,12 @@
-use Rattle.std.proofs.Common.{[], ◌∷◌, ◌++◌, ap, ◌∙◌, subst, OnOk}
+use Rattle.std.proofs.Common.{[], ◌∷◌, ap, sym, subst, OnOk, arith}
+use Rattle.std.proofs.lemmas.Fmt.{decimal_digit}
 use Rattle.and_model.specs.Lines.{Bytes}
 use Rattle.and_syntax.specs.Written.{variable}
 use Rattle.and_grammar.specs.Views.{Adds}
 use Rattle.and_grammar.proofs.copying.put_state.Goals as goal
 
-pub returns : goal.returns
-returns c =
+pub returns-then-number-lt10 : goal.returns-then-number-lt10
+returns-then-number-lt10 c =
+    let digit = decimal_digit c.args.number (omega (arith, c.if-number-lt10.true)) in
     subst (λ (x : Bytes). OnOk c.put_variable.result (Adds c.args.out.now c.put_variable.new.out (variable x ∷ [])))
-    (c.as_slice.ensures ∙ c.in_ok-extend_from_slice.ensures.ok
-    ∙ ap (λ (xs : Bytes). xs ++ c.as_bytes.result.now) (c.in_ok-push.ensures.ok ∙ ap (λ (xs : Bytes). xs ++ 255 ∷ []) c.new-name.ensures.items)
-    ∙ ap (λ (ys : Bytes). 255 ∷ ys) (c.as_bytes.ensures.value ∙ c.format.ensures.text))
-    c.put_variable.ensures
+    (sym (ap (λ (ds : Bytes). 255 ∷ ds) digit)) c.put_variable.ensures
