@@ -244,8 +244,8 @@ fn predicate_number(
 }
 
 impl Determinacy {
-    /// A table without calls. An error is want of memory.
-    fn empty(alloc: Global, loaded: &Loaded) -> Result<Determinacy, AllocError>
+    /// A table that knows of no call yet. An error is want of memory.
+    pub fn empty(alloc: Global, loaded: &Loaded) -> Result<Determinacy, AllocError>
         ensures { IfOk result (λ table. IsMade (program_of loaded.now) table []) }
     {
         let mut predicates = Vec::new(alloc);
@@ -306,7 +306,7 @@ impl Determinacy {
     }
 
     /// Makes known the predicates that a clause calls. An error is want of memory.
-    fn add_calls(
+    pub fn add_calls(
         &mut self,
         loaded: &Loaded,
         clause: ClauseNo,

@@ -1,7 +1,7 @@
 //! The tokens of a text, one after the other.
 
-ghost use Rattle.std.specs.Prelude.{◌≡◌, ◌≤◌, ◌<◌, ◌+◌, ◌^◌, length, IfOk, IfSome, OnErr, IfNone};
-ghost use Rattle.and_language.specs.Tokens.{Next, Comes};
+ghost use Rattle.std.specs.Prelude.{◌≡◌, ◌≤◌, ◌<◌, ◌+◌, ◌^◌, ℕ, true, length, IfOk, IfSome, OnErr, IfNone};
+ghost use Rattle.and_language.specs.Tokens.{Next, Comes, IsFront};
 ghost use Rattle.and_lex.specs.Views.{answer_of, LiesBetween};
 
 use crate::found::find_token;
@@ -66,6 +66,19 @@ impl<'a> Lexer<'a> {
             valid,
             place: 0,
         }
+    }
+
+    /// Goes to a place, and tells whether the text is UTF-8 up to it; where it is not stays. Takes no memory.
+    pub fn go_to(&mut self, place: usize) -> bool
+        ensures text { self.new.text ≡ self.old.text }
+        ensures reached { result ≡ true → self.new.place ≡ place }
+        ensures valid { result ≡ true → (n : ℕ) × IsFront self.old.text n × (place ≤ n) }
+    {
+        if place > self.valid {
+            return false;
+        }
+        self.place = place;
+        true
     }
 
     /// The next token, `None` at the end of the text, or why no token can be read. After `None` or

@@ -40,3 +40,13 @@ shape_at S n = get_or S.nodes n (Skeletons.number (pos 0))
 -- the nodes of the arguments of a node
 abbrev pub arguments_at : Skeleton → ℕ → List ℕ
 arguments_at S n = arguments_in (shape_at S n)
+
+-- the nodes, the clauses and the names of which it is made
+abbrev pub nodes_in : Loaded → List Shape
+nodes_in l = shapes_of l.nodes.items
+
+abbrev pub entries_in : Loaded → List ClauseEntry
+entries_in l = l.clauses.items
+
+abbrev pub names_in : Loaded → List Bytes
+names_in l = names_of l.names.keys

@@ -13,7 +13,7 @@ pub mod predicates;
 
 pub use entry::ClauseEntry;
 pub use item::ItemNode;
-pub use loaded::Loaded;
+pub use loaded::{Loaded, LoadedParts};
 pub use names::name_at;
 pub use node::{Node, NodeKind};
 pub use predicates::{ClauseNumbers, Predicate, clause_numbers, clauses_at, predicate_at};

@@ -9,6 +9,8 @@ ghost use Rattle.and_program.specs.Predicates.{Finds};
 ghost use Rattle.and_program.specs.Shown.{truth, shown, count_of, shown_term, argument_of, clauses_with, resolved};
 ghost use Rattle.and_model.specs.declared.limits.TheConstants.{MAX_CLAUSES, MAX_NODES};
 
+mod parts;
+
 use crate::entry::ClauseEntry;
 use crate::item::ItemNode;
 use crate::names::name_at;
@@ -16,6 +18,7 @@ use crate::node::{Node, NodeKind};
 use crate::predicates::{ClauseNumbers, Predicate, clauses_at};
 use and_model::{ClauseNo, NameNo, NodeNo, Ref};
 use indexmap::IndexSet;
+pub use parts::LoadedParts;
 
 /// A program. Contracts speak of the program that it stands for, and of the skeleton, whose nodes
 /// have the terms of the program's clauses. Reading it takes no memory.
