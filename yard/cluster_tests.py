@@ -197,6 +197,7 @@ def by_slurm(room):
             both = seen.exists() and set(seen.read_text().split()) == {"one", "two"}
             yield say("an array of jobs on two nodes", found == room.wanted["text"] and both)
             yield from killed(room, "--slurm")
+            yield from resumed(room, "--slurm")
 
 
 @contextlib.contextmanager

@@ -15,17 +15,15 @@ import re
 import subprocess
 import sys
 
-from plain import Either, fresh, is_arithmetic, line, read, run_waiting, undo, unify
+from plain import Either, TooLong, at_most, fresh, is_arithmetic, line, read, run_waiting, undo, unify
 
 TOP = os.path.dirname(os.path.dirname(os.path.abspath(__file__)))
 
 
 APART = object()
 SKIPPED, NOT_OVER = 'too long a search', 'where nothing is over the limit'
-
-
-class TooLong(Exception):
-    """More steps than are worth it."""
+# so many places of terms a search for a random text goes to at most
+PLACES = 500_000
 
 
 class Search:
@@ -265,7 +263,8 @@ class TypedWriter:
 def differs(program, text, limit):
     """What the program writes for a text and should not; None where all is well, and SKIPPED where the text is too long a search."""
     try:
-        plain = Search(read(text), limit, 3_000).run()
+        with at_most(PLACES):
+            plain = Search(read(text), limit, 3_000).run()
     except TooLong:
         return SKIPPED
     told = []
@@ -280,7 +279,9 @@ def differs(program, text, limit):
             return f'{lines[-1]} with {" ".join(words)}, {NOT_OVER}'
         if lines[-1] == '% complete' and plain.is_cut:
             try:
-                if Search(read(text), 2 * limit, 6_000).run().lines != plain.lines:
+                with at_most(PLACES):
+                    larger = Search(read(text), 2 * limit, 6_000).run()
+                if larger.lines != plain.lines:
                     return 'complete, and a larger limit has other lines'
             except TooLong:
                 pass

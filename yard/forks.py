@@ -16,17 +16,13 @@ import subprocess
 import sys
 
 from evaluate import TOP, Writer
-from plain import Either, fresh, is_arithmetic, line, read, run_waiting, undo, unify
+from plain import Either, TooLong, fresh, is_arithmetic, line, read, run_waiting, undo, unify
 
 PROGRAM = os.path.join(TOP, 'crates/andorra/out/andorra')
 
 
 class Cut(Exception):
     """The limit keeps the search from going on."""
-
-
-class TooLong(Exception):
-    """More steps than are worth it."""
 
 
 class ForkTree:
@@ -66,9 +62,13 @@ class ForkTree:
                 kind = 'floundered' if goals else 'answer'
                 self.lines.append(f'{depth} {kind} {line(self.variables, goals, {})}')
                 return
-            if any(weight + choice.weight > self.limit for choice in choices):
-                raise Cut
+            fitting = [choice for choice in choices if weight + choice.weight <= self.limit]
+            if len(fitting) < len(choices):
+                self.met_limit()
+            if not fitting:
+                return
             if len(choices) > 1:
+                choices = fitting
                 break
             weight += choices[0].weight
             before, body, behind = goals[:place], self.taken(goals[place], choices[0]), goals[place + 1:]
@@ -76,6 +76,9 @@ class ForkTree:
         length = len(self.trail)
         for choice in reversed(choices):
             still_to_come.append((depth + 1, length, weight, goals, place, choice, None))
+
+    def met_limit(self):
+        raise Cut
 
     def with_body(self, before, body, behind):
         """The goals with a body's among them, what can be run being run; None where there is no solution."""

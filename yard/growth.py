@@ -66,7 +66,7 @@ def states(n):
 
 
 def shared(n):
-    return f"d(0, 1).\nd(N, E-E) :- N > 0, M is N-1, d(M, E).\n?- d({n}, E), 0 =:= E, _X = E."
+    return f"d(0, 1).\nd(N, E-E) :- N > 0, M is N-1, d(M, E).\n?- d({n}, _E), 0 =:= _E."
 
 
 def behind(n):

@@ -96,8 +96,14 @@ class Trial:
             return struct.unpack("4q", counts.read(32))
 
     def broke(self, what, words, text, found):
+        """Tells of a failure, with the whole text, or with a file that has it where it is long."""
         self.broken += 1
-        print(f"BROKEN {what}: {' '.join(words)[:80]!a}: status {found[0]}, {found[1][:120]!r}, {found[2][-160:]!r}\n{as_bytes(text)[:400]!r}", flush=True)
+        told = as_bytes(text)
+        if len(told) > 16_384:
+            with tempfile.NamedTemporaryFile(prefix="broken-", suffix=".pl", delete=False) as kept:
+                kept.write(told)
+            told = kept.name
+        print(f"BROKEN {what}: {' '.join(words)[:400]!a}: status {found[0]}, {found[1][:120]!r}, {found[2][-160:]!r}\n{told!r}", flush=True)
 
     def some(self, many, few):
         """The numbers below, or a sample of them."""

@@ -224,6 +224,6 @@ def ends(trial):
         found = trial.run(words, text, seconds=900)
         is_due = found[0] == status if status is not None else found[0] in (0, 1, 6, 8)
         if not is_due or not found[1].endswith(end) or (length is not None and len(found[1]) != length):
-            trial.broke(f"{name} ({len(found[1])} bytes)", words[:8], text[:100], found)
+            trial.broke(f"{name} ({len(found[1])} bytes)", words, text, found)
         if trial.took > 1 and not trial.quick:
             print(f"{name:40} {trial.took:7.2f} s", flush=True)

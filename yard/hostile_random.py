@@ -1,4 +1,5 @@
 """Texts that nobody wrote: changed ones, of examples and rows, and random ones, which are evaluated by the definitions too."""
+import random
 import re
 
 import evaluate
@@ -11,6 +12,8 @@ TOKENS = ["(", ")", "[", "]", ",", "|", ".", ". ", " ", ":-", "?-", "-->", ";", 
           "X", "_", "a", "'a b'", "'", "0", "9223372036854775808", "%", "/*", "*/", "\\", "!", "\"", "\x00", "é", "\xff", "f(", "[X|Y]", "\n",
           "min(", "max(", "true", "fail", "->", "\\+", "%% proof\n", "%% 1 1 ", " ; ", ", X = Y", "X is Y+1, "]
 LIMIT = 120
+# so many orders of goals with one candidate are tried, where the limit was met and the leftmost goal first does not meet it
+ORDERS = 60
 # what a changed text is given to, in turn
 COMMANDS = [["check"], ["lint"], ["tree"], ["first", "2"], ["explain", "1"], ["batch"], ["run"], ["run"], ["run"], ["run"]]
 REFUSAL = re.compile(rb"error: line [1-9][0-9]*: (syntax|not text|number too wide|too big: (source|clauses|arguments|variables|nodes|nesting)"
@@ -95,12 +98,13 @@ def judge(trial, number, words, text, found):
 
 
 def slowest(trial, times):
-    """Texts that take more than ten times as long as their neighbours (processor seconds, which a busy machine makes no longer), where the
-    search is no longer by as much."""
+    """Texts that take more than ten times as long as their neighbours, by the least of three runs, where the search is no longer by as much."""
     searches = 0
     for near in times.values():
         usual = sorted(took for took, *_ in near)[len(near) * 9 // 10]
         for took, number, words, text in near:
+            if took > 0.05 + 10 * usual:
+                took = min([took, *(again(trial, words, text) for _ in range(2))])
             if took > 0.05 + 10 * usual:
                 if took < 0.05 + 0.0001 * steps(words, text):
                     searches += 1
@@ -109,33 +113,75 @@ def slowest(trial, times):
     print(f"mutation: {searches} of these texts were longer searches, by the definitions too", flush=True)
 
 
+def again(trial, words, text):
+    """How long the run takes now: a machine with much other work makes the seconds of a processor more."""
+    trial.run(words, text, seconds=1)
+    return trial.took
+
+
+class WholeSearch(forks.ForkTree):
+    """Goes on where the limit was met."""
+
+    def met_limit(self):
+        pass
+
+
 def steps(words, text):
-    """How many candidates a search by the definitions judges, up to a bound behind which it is a long one."""
+    """How many candidates a search by the definitions judges, beyond what the limit cuts too, up to a bound behind which it is a long one."""
     most = 12_000
     if words[0] in ("check", "lint"):
         return 0
     try:
-        search = forks.ForkTree(evaluate.read(text.decode(errors="replace")), LIMIT, most)
-        search.run()
-    except forks.Cut:
-        pass
-    except forks.TooLong:
+        search = WholeSearch(evaluate.read(text.decode(errors="replace")), LIMIT, most)
+        with plain.at_most(evaluate.PLACES):
+            search.run()
+    except plain.TooLong:
         return 1_000_000
     except (plain.Fault, AttributeError, TypeError):
         return 0
     return most - search.steps
 
 
-def outgrew(found, text, limit):
-    """Whether the limit was met by goals with one candidate, which a search by the leftmost goal did not come to."""
-    try:
-        return evaluate.NOT_OVER in found and forks.tree_of(text, limit, 20_000) == ["% limit met"]
-    except forks.TooLong:
-        return True
+class AnyOrder(forks.ForkTree):
+    """Takes goals with one candidate in an order of chance: new ones first, so that what never ends may go on, and one that is too heavy
+    before all others. The definitions allow each order; so where one of them meets the limit, a run may."""
+
+    def __init__(self, program, limit, dice):
+        super().__init__(program, limit, 20_000)
+        # how many calls stand before those that came last, and how many behind them
+        self.dice, self.before, self.behind = dice, 0, 0
+
+    def judged(self, goals, room):
+        calls = [(place, self.candidates(goal)) for place, goal in enumerate(goals) if not self.is_waiting(goal)]
+        if any(not choices for _, choices in calls):
+            return None
+        if not calls:
+            return None, []
+        alone = [call for call in calls if len(call[1]) == 1]
+        new = [call for call in calls[self.before:len(calls) - self.behind] if len(call[1]) == 1]
+        heavy = [call for call in alone if call[1][0].weight > room]
+        taken = self.dice.choice(heavy or new or alone or calls[:1])
+        self.before = calls.index(taken)
+        self.behind = len(calls) - self.before - 1
+        return taken
+
+
+def may_meet_limit(text, limit):
+    """Whether a search within the limit may meet it, by one of some orders: None where that was too long to be said."""
+    is_said = True
+    for number in range(ORDERS):
+        try:
+            with plain.at_most(evaluate.PLACES):
+                AnyOrder(evaluate.read(text), limit, random.Random(number)).run()
+        except forks.Cut:
+            return True
+        except plain.TooLong:
+            is_said = False
+    return False if is_said else None
 
 
 def beside_definitions(trial):
-    skipped = 0
+    skipped = met = unsaid = 0
     for number in trial.numbers(150, 100_000):
         dice = trial.dice_of("random", number)
         writer = evaluate.Writer(dice) if number % 4 else evaluate.TypedWriter(dice)
@@ -143,10 +189,15 @@ def beside_definitions(trial):
         trial.runs += 2
         found = evaluate.differs(trial.program, text, limit)
         skipped += found == evaluate.SKIPPED
-        if found and found != evaluate.SKIPPED and not outgrew(found, text, limit):
+        if found and evaluate.NOT_OVER in found:
+            may_meet = may_meet_limit(text, limit)
+            met, unsaid = met + (may_meet is True), unsaid + (may_meet is None)
+            found = found if may_meet is False else evaluate.SKIPPED
+        if found and found != evaluate.SKIPPED:
             trial.broke(f"random text {number}: {found}", ["run", "--limit", str(limit)], text, (None, b"", b""))
         if number % 10 == 0 and found is None:
             status, document, _ = trial.run(["explain", "1", "--limit", str(limit)], text)
             if status == 0:
                 proofs(trial, number, dice, document)
-    print(f"random: {skipped} of these texts were too long a search for plain Python", flush=True)
+    print(f"random: {skipped} of these texts were too long a search for plain Python; {met} met the limit, which the definitions allow by another "
+          f"order, and of {unsaid} it could not be said", flush=True)

@@ -3,6 +3,8 @@
 It shares nothing with the program. It reads texts that the program takes (a text that it refuses may pass
 here), with disjunctions in bodies and grammar rules.
 """
+import contextlib
+import math
 import re
 
 # Terms: a variable is a Var, a number an int, anything else a tuple (name, argument, ..).
@@ -15,6 +17,31 @@ SYMBOLS = '+-*/\\^<>=~:.?@#&$'
 
 class Fault(Exception):
     """The text is none that this module reads."""
+
+
+class TooLong(Exception):
+    """More steps, or more places of terms, than are worth it."""
+
+
+class Places:
+    """How many places of terms may still be gone to."""
+    left = math.inf
+
+
+@contextlib.contextmanager
+def at_most(count):
+    """Inside, so many places of terms are gone to at most, or TooLong is raised: a term that shares its parts may have many."""
+    Places.left = count
+    try:
+        yield
+    finally:
+        Places.left = math.inf
+
+
+def go_to_place():
+    Places.left -= 1
+    if Places.left < 0:
+        raise TooLong
 
 
 class Var:
@@ -343,6 +370,7 @@ def printed(root, names):
     """The term as it is printed; names has what unbound variables are called, by first occurrence."""
     out, stack = [], [root]
     while stack:
+        go_to_place()
         term = stack.pop()
         if type(term) is str:
             out.append(term)
@@ -384,6 +412,7 @@ def quoted(name):
 def is_ground(root):
     stack = [root]
     while stack:
+        go_to_place()
         term = walked(stack.pop())
         if type(term) is Var:
             return False
@@ -400,6 +429,7 @@ def value(root):
     """The value of a ground term, or None."""
     tasks, values = [root], []
     while tasks:
+        go_to_place()
         task = tasks.pop()
         if type(task) is Shown:
             name, count = task.term
@@ -433,6 +463,7 @@ def unify(left, right, trail):
     """Whether the terms are made the same, with the occurs check. What is set goes on the trail."""
     pairs = [(left, right)]
     while pairs:
+        go_to_place()
         a, b = pairs.pop()
         a, b = walked(a), walked(b)
         if a is b:
@@ -457,6 +488,7 @@ def unify(left, right, trail):
 def occurs(variable, root):
     stack, seen = [root], set()
     while stack:
+        go_to_place()
         term = walked(stack.pop())
         if term is variable:
             return True

@@ -17,7 +17,7 @@ import tempfile
 import growth
 import same_bytes
 from figures import listed
-from hostile_ends import LATER, threaded
+from hostile_ends import DIGITS, LATER, threaded
 
 LARGEST = ["--limit", "4194304"]
 
@@ -89,6 +89,20 @@ def rules_over(n):
             "?- t4(_X,[]), way(Z), go(Z,_X).")
 
 
+def asleep(n):
+    """Twenty goals, each of which sleeps on n cells, above a thousand branches."""
+    zeros, ones, free = (",".join([item] * n) for item in ("0", "1", "_"))
+    return (f"w([{zeros}]).\nw([{ones}]).\n{DIGITS}\nm(0).\nm(N) :- N > 0, w([{free}]), M is N-1, m(M).\n"
+            "?- d(A), d(B), d(C), m(20), A+B+C > 27.")
+
+
+def doubled(n):
+    """Five terms of forty doublings, one after the other, beside a list of n that stands."""
+    return ("l(0,[]). l(N,[N|T]) :- N > 0, M is N-1, l(M,T).\nu(0,T,T). u(N,T,R) :- N > 0, M is N-1, u(M,f(T,T),R).\n"
+            "c(0). c(N) :- N > 0, M is N-1, u(40,a,_), c(M).\nway(1). way(2). go(1) :- c(5). go(2).\n"
+            f"?- l({n},_L), way(Z), go(Z).")
+
+
 def unreadable(n):
     return "a:-b,c.\n" * n + "?- ."
 
@@ -99,32 +113,34 @@ def unknown(n):
 
 # name, text, words, and how many million instructions it may take
 SHAPES = [
-    ("65,535 facts", facts(65_535), [], 1245),
-    ("clauses of 254 variables", clauses_of_variables(900), [], 1524),
-    ("20,000 predicates", predicates(20_000), LARGEST, 618),
-    ("brackets and comments", brackets(16_000), [], 25),
-    ("a long quoted name", quoted(300_000), [], 185),
+    ("65,535 facts", facts(65_535), [], 901),
+    ("clauses of 254 variables", clauses_of_variables(900), [], 1119),
+    ("20,000 predicates", predicates(20_000), LARGEST, 485),
+    ("brackets and comments", brackets(16_000), [], 24),
+    ("a long quoted name", quoted(300_000), [], 180),
     ("a comment of comments", comment(500_000), [], 100),
-    ("a body of 50,000 goals", body(50_000), [], 687),
-    ("200 tests that wait", waiting(200), [], 5),
-    ("5,000 goals of one variable", one_variable(5_000), LARGEST, 105),
-    ("a sum of 250 numbers", ones(250), [], 3),
-    ("a term that doubles", chained(120), [], 5),
-    ("a circle at the end", circle(50_000), LARGEST, 825),
-    ("a fault at the end", unreadable(60_000), [], 1711),
-    ("a name that is not there", unknown(40_000), [], 525),
-    ("member", growth.member(4_000), LARGEST, 391),
-    ("member, one answer", growth.member_told(8_000), LARGEST, 580),
-    ("splits", growth.splits(8_000), LARGEST, 196),
-    ("select", growth.select(500), LARGEST, 143),
-    ("between", growth.between(4_000), LARGEST, 391),
-    ("path", growth.path(4_000), LARGEST, 143),
-    ("a loop before an answer", growth.backwards(0), ["--limit", "20000"], 1322),
-    ("states in a list", growth.states(1_000), LARGEST, 239),
-    ("a list handed on, twice", handed_on(2), LARGEST, 230),
-    ("two lists made one", same_terms(20), LARGEST, 148),
-    ("rules over a list", rules_over(2), LARGEST, 313),
-    ("a shared expression", growth.shared(14), LARGEST, 34),
+    ("a body of 50,000 goals", body(50_000), [], 473),
+    ("200 tests that wait", waiting(200), [], 3),
+    ("5,000 goals of one variable", one_variable(5_000), LARGEST, 69),
+    ("a sum of 250 numbers", ones(250), [], 2),
+    ("a term that doubles", chained(120), [], 4),
+    ("a circle at the end", circle(50_000), LARGEST, 623),
+    ("a fault at the end", unreadable(60_000), [], 1097),
+    ("a name that is not there", unknown(40_000), [], 391),
+    ("member", growth.member(4_000), LARGEST, 172),
+    ("member, one answer", growth.member_told(8_000), LARGEST, 342),
+    ("splits", growth.splits(8_000), LARGEST, 191),
+    ("select", growth.select(500), LARGEST, 75),
+    ("between", growth.between(4_000), LARGEST, 186),
+    ("path", growth.path(4_000), LARGEST, 137),
+    ("a loop before an answer", growth.backwards(0), ["--limit", "20000"], 304),
+    ("states in a list", growth.states(1_000), LARGEST, 37),
+    ("a list handed on, twice", handed_on(2), LARGEST, 46),
+    ("two lists made one", same_terms(20), LARGEST, 333),
+    ("rules over a list", rules_over(2), LARGEST, 72),
+    ("goals that sleep on 40 cells", asleep(40), LARGEST, 71),
+    ("terms that double, and a list", doubled(4_000), LARGEST, 1060),
+    ("a shared expression", growth.shared(14), LARGEST, 33),
     ("sums behind calls", growth.behind(1_000), LARGEST, 142),
 ]
 
