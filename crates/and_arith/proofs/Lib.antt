@@ -18,3 +18,4 @@ pub mod Concluding
 pub mod Solving
 pub mod PlainTerms
 pub mod Grounding
+pub mod Telling

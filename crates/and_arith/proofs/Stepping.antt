@@ -1,6 +1,6 @@
 -- Steps of a walk: references without parts, structures, and what becomes of them.
-use Rattle.std.proofs.Common.{ℕ, ℤ, pos, suc, ◌≡◌, ◌≤◌, ◌<◌, ◌++◌, List, [], ◌∷◌, length, reverse, Result, Ok, Err, Option, Some, None, FitsSigned, w64, to_z}
-use Rattle.std.proofs.Common.{of_z, refl, ap, sym, ◌∙◌, subst, arith, inl, inr}
+use Rattle.std.proofs.Common.{ℕ, ℤ, pos, ◌≡◌, ◌≤◌, ◌<◌, ◌++◌, List, [], ◌∷◌, length, reverse, Result, Ok, Err, Option, Some, None, FitsSigned, w64, to_z}
+use Rattle.std.proofs.Common.{of_z, refl, ap, sym, ◌∙◌, subst, arith}
 use Rattle.std.specs.Prelude.{OnOk, OnErr, ◌^◌}
 use Rattle.std.proofs.lemmas.Int.{to_z-of_z}
 use Rattle.std.proofs.lemmas.Option.{slice_get-get_or}

@@ -1,5 +1,6 @@
 pub mod Operators
 pub mod Values
+pub mod Glances
 pub mod Sizes
 pub mod Taken
 pub mod Turns

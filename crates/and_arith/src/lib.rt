@@ -2,6 +2,7 @@
 #![tactic(auto)]
 
 mod chains;
+mod glancing;
 pub mod laws;
 pub mod operations;
 mod taken;

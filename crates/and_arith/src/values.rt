@@ -10,12 +10,16 @@ ghost use Rattle.and_arith.specs.Values.{Reaches, HasValue, LacksValue, IsFirstF
 ghost use Rattle.and_arith.specs.Sizes.{Spends};
 ghost use Rattle.and_arith.specs.declared.walk.Task.{Task};
 
+use crate::glancing::glance;
 use crate::taken::Taken;
 use crate::walk::{Task, Turn, take_turn};
 use and_cells::{Cells, Naming, PlainCells};
 use and_model::Ref;
 use and_program::Loaded;
 use std::alloc::{AllocError, Global};
+
+/// So many levels of an expression are looked at before it is gone through by a list.
+const LEVELS: u32 = 16;
 
 /// What became of an expression.
 #[derive(Clone, Copy, PartialEq, Eq, Debug)]
@@ -113,6 +117,36 @@ pub fn value<C: Cells>(
 /// `Number` or `NoValue` exactly where that term is ground, with a value or without one, and else
 /// `Waits` for the term's first variable.
 pub fn value_of<N: Naming>(
+    loaded: &Loaded,
+    cells: &mut PlainCells<N>,
+    expression: Ref,
+    work: &mut WorkList,
+) -> Valued
+    requires program { N.program ≡ named loaded.now }
+    requires in_range { IsInRange N.program (length cells.old) expression }
+    requires written { IsWrittenIfNumber (plain cells.old) expression }
+    ensures unchanged { cells.new ≡ cells.old }
+    ensures number { (z : ℤ) → result ≡ Valued.Number z → HasValue N.program (plain cells.old) expression z }
+    ensures no_value { result ≡ Valued.NoValue → LacksValue N.program (plain cells.old) expression }
+    ensures waits { (cell : ℕ) → result ≡ Valued.Waits cell
+        → (word_at cells.old cell ≡ Ref.Free)
+        × Reaches N.program (plain cells.old) expression (Ref.Cell cell)
+        × IsFirstFree N.program (plain cells.old) expression cell }
+    ensures not_put_off { result ≢ Valued.PutOff }
+{
+    loaded.skeleton_is_of_the_program();
+    let told = glance(loaded, cells, expression, LEVELS);
+    match told {
+        Valued::Number(_) => told,
+        Valued::Waits { cell: _ } => told,
+        Valued::NoValue => value_by_list(loaded, cells, expression, work),
+        Valued::PutOff => value_by_list(loaded, cells, expression, work),
+        Valued::Memory => value_by_list(loaded, cells, expression, work),
+    }
+}
+
+/// The same, by a list of what is to be done.
+fn value_by_list<N: Naming>(
     loaded: &Loaded,
     cells: &mut PlainCells<N>,
     expression: Ref,

@@ -9,3 +9,4 @@ pub mod SettledPairs
 pub mod AskedNumbers
 pub mod Noting
 pub mod NotedSteps
+pub mod NumbersSet

@@ -1,3 +1,4 @@
+pub mod Asked
 pub mod Asking
 pub mod Assigning
 pub mod Frames

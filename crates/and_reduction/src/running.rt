@@ -17,7 +17,7 @@ ghost use Rattle.and_reduction.specs.Assigning.{CanBeAssigned, IsAssigned, IsFre
 ghost use Rattle.and_reduction.specs.Sides.{IsComparison};
 ghost use Rattle.and_reduction.specs.Trails.{KeepsNoted};
 
-use crate::settling::settle_noted;
+use crate::settling::settle_number;
 use crate::sides::compare_sides;
 use crate::taking::Tools;
 use crate::trail::Trail;
@@ -172,7 +172,7 @@ fn assign<N: Naming>(
     trail.note(&[pair, pair + 1])?;
     tools.pairs.clear();
     tools.pairs.push(left, Ref::Number(pair))?;
-    match settle_noted(loaded, cells, words, trail, tools) {
+    match settle_number(loaded, cells, left, pair, words, trail, tools) {
         Answer::Solved => {
             let _words = cells.len();
             Ok(Ran::Done)

@@ -1,18 +1,22 @@
 //! What is settled, and noted.
 
-ghost use Rattle.std.specs.Prelude.{◌≡◌, ◌≢◌, length};
+ghost use Rattle.std.specs.Prelude.{◌≡◌, ◌≢◌, ◌<◌, ◌∷◌, [], ℕ, suc, length, slice_set};
+ghost use Rattle.and_model.specs.declared.reference.Ref.{Ref};
 ghost use Rattle.and_cells.specs.Meaning.{IsSettled};
 ghost use Rattle.and_cells.specs.Parts.{named};
-ghost use Rattle.and_cells.specs.Rows.{plain};
-ghost use Rattle.and_cells.specs.Seen.{word_at};
+ghost use Rattle.and_cells.specs.Ranges.{IsInRange, IsInRangeOrHalf, IsPairInRange};
+ghost use Rattle.and_cells.specs.Rows.{plain, IsSound};
+ghost use Rattle.and_cells.specs.Seen.{word_at, IsWrittenIfNumber, LeadsTo};
 ghost use Rattle.and_unify.specs.Pairs.{AreInRange, AreWritten, NameNoHalf};
 ghost use Rattle.and_unify.specs.Settling.{AreNewFrom, Settles};
-ghost use Rattle.and_unify.specs.declared.settling.Settled.TheVariants.{Memory};
-ghost use Rattle.and_reduction.specs.Trails.{KeepsNoted};
+ghost use Rattle.and_unify.specs.declared.settling.Settled.TheVariants.{Memory, NoSolution};
+ghost use Rattle.and_reduction.specs.Trails.{AreNoted, KeepsNoted};
+ghost use Rattle.and_reduction.specs.Asked.{the_pair};
 
 use crate::taking::Tools;
 use crate::trail::Trail;
-use and_cells::{Naming, PlainCells};
+use and_cells::{Naming, PlainCells, deref};
+use and_model::Ref;
 use and_program::Loaded;
 use and_unify::Settled as Answer;
 
@@ -39,6 +43,72 @@ pub(crate) fn settle_noted<N: Naming>(
         .settle_further(loaded, cells, floor, &mut tools.pairs);
     match trail.note(tools.solver.bound()) {
         Ok(()) => answer,
+        Err(_) => Answer::Memory,
+    }
+}
+
+/// The same of the one pair of a reference and the number that a pair of words holds. Where the reference leads to
+/// a free cell, this is set to the number.
+pub(crate) fn settle_number<N: Naming>(
+    loaded: &Loaded,
+    cells: &mut PlainCells<N>,
+    left: Ref,
+    pair: u32,
+    floor: u32,
+    trail: &mut Trail,
+    tools: &mut Tools,
+) -> Answer
+    requires program { N.program ≡ named loaded.now }
+    requires asked { tools.old.pairs ≡ the_pair left (Ref.Number pair) }
+    requires in_range { AreInRange N.program (length cells.old) tools.old.pairs }
+    requires written { AreWritten (plain cells.old) tools.old.pairs }
+    requires settled { IsSettled N.program cells.old }
+    requires no_half { NameNoHalf N.program (word_at cells.old) tools.old.pairs }
+    requires new { AreNewFrom N.program cells.old tools.old.pairs floor }
+    ensures settles { Settles N.program cells.old cells.new tools.old.pairs result }
+    ensures noted { result ≢ Memory → KeepsNoted trail.old trail.new cells.old cells.new }
+{
+    loaded.skeleton_is_of_the_program();
+    let _words = cells.len();
+    if let Ref::Cell(cell) = end_of(cells, left) {
+        return set_to_number(cells, cell, pair, trail);
+    }
+    settle_noted(loaded, cells, floor, trail, tools)
+}
+
+/// What a reference leads to: a node, a number, a free cell, or a word of a pair. The cells are as before.
+fn end_of<N: Naming>(cells: &mut PlainCells<N>, from: Ref) -> Ref
+    requires in_range { IsInRange N.program (length cells.old) from }
+    requires written { IsWrittenIfNumber (plain cells.old) from }
+    ensures unchanged { cells.new ≡ cells.old }
+    ensures leads { LeadsTo (plain cells.old) from result }
+    ensures in_range { IsInRangeOrHalf N.program (length cells.old) result }
+    ensures free { (cell : ℕ) → result ≡ Ref.Cell cell → word_at cells.old cell ≡ Ref.Free }
+{
+    deref(cells, from)
+}
+
+/// Sets a free cell to the number that a pair of words holds, and notes it.
+fn set_to_number<N: Naming>(
+    cells: &mut PlainCells<N>,
+    cell: u32,
+    pair: u32,
+    trail: &mut Trail,
+) -> Answer
+    requires cell { cell < length cells.old }
+    requires free { word_at cells.old cell ≡ Ref.Free }
+    requires pair { IsPairInRange (length cells.old) pair }
+    requires written { (word_at cells.old pair ≢ Ref.Free) × (word_at cells.old (suc pair) ≢ Ref.Free) }
+    ensures set { cells.new ≡ slice_set cells.old cell (Ref.Number pair) }
+    ensures sound { IsSound N.program cells.new }
+    ensures solved { result ≢ NoSolution }
+    ensures noted { result ≢ Memory → AreNoted trail.old trail.new (cell ∷ []) }
+{
+    let _before = cells.len();
+    cells.set(cell, Ref::Number(pair));
+    let _after = cells.len();
+    match trail.note(&[cell]) {
+        Ok(()) => Answer::Solved,
         Err(_) => Answer::Memory,
     }
 }

@@ -1,4 +1,4 @@
-use Rattle.std.proofs.Common.{◌<◌, ◌∙◌, subst}
+use Rattle.std.proofs.Common.{◌∙◌, subst}
 use Rattle.and_model.specs.declared.reference.Ref.TheVariants.{Cell}
 use Rattle.and_cells.specs.Seen.{here, Misses}
 use Rattle.and_cells.proofs.Chains.{reads_nothing}

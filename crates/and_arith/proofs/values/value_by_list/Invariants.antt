@@ -3,7 +3,7 @@ use Rattle.and_model.specs.Store.{Setting}
 use Rattle.and_cells.specs.Rows.{plain}
 use Rattle.and_arith.proofs.Standing.{Stands}
 use Rattle.and_arith.proofs.Counting.{weight}
-use Rattle.and_arith.proofs.values.value_of.Given as goal
+use Rattle.and_arith.proofs.values.value_by_list.Given as goal
 
 abbrev pub invariant-loop-value : goal.invariant-loop-value
 invariant-loop-value g l = record {
