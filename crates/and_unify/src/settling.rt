@@ -29,8 +29,11 @@ use and_program::Loaded;
 use std::alloc::{AllocError, Global};
 use std::marker::Model;
 
-/// So many places are followed for each word of a row before marks are kept of places.
+/// So many places are followed at most for each word of a row before marks are kept of places.
 const PLACES_PER_WORD: u64 = 8;
+
+/// After so many long looks in vain one follows as many places again as at first.
+const TRIALS: u32 = 8;
 
 /// So many places more are followed, since a row may be short.
 const SMALL_TERM: u64 = 64;
@@ -45,6 +48,38 @@ struct Budget {
     places: u64,
     /// The greatest number of a node for which places were granted.
     node: u32,
+}
+
+/// How long looks for circles fared of late.
+#[derive(Clone, Copy, PartialEq, Eq, Debug)]
+struct Patience {
+    /// So many one after the other had to be begun again with marks.
+    vain: u32,
+}
+
+impl Patience {
+    /// How many places are followed for each word of a row.
+    fn places_per_word(self) -> u64 {
+        match self.vain % TRIALS {
+            0 => PLACES_PER_WORD,
+            1 => PLACES_PER_WORD / 2,
+            2 => PLACES_PER_WORD / 4,
+            _ => 1,
+        }
+    }
+
+    /// The same after a look that was granted so many places and left so many of them.
+    fn after(self, granted: u64, left: u64) -> Patience {
+        if left == 0 {
+            Patience {
+                vain: self.vain.wrapping_add(1),
+            }
+        } else if left < granted / 2 {
+            Patience { vain: 0 }
+        } else {
+            self
+        }
+    }
 }
 
 /// What the equations of cells and pairs came to.
@@ -91,6 +126,7 @@ pub struct Solver {
     visits: Vec<Ref>,
     /// Places that were followed.
     met: Vec<Ref>,
+    patience: Patience,
 }
 
 impl Model for Solver {
@@ -110,6 +146,7 @@ impl Solver {
             bound: Vec::new(alloc),
             visits: Vec::new(alloc),
             met: Vec::new(alloc),
+            patience: Patience { vain: 0 },
         }
     }
 
@@ -130,10 +167,10 @@ impl Solver {
     /// The same as [`settle`] over cells that are settled, where the words from `floor` on are new.
     ///
     /// Explored are what the new bindings of cells below the floor lead to, and what the others lead
-    /// to above the floor, and nothing else of the row. At first as many places are followed as the row
-    /// has words, and 64 more, and as the greatest node to which a cell that is followed is set has a
+    /// to above the floor, and nothing else of the row. At first up to eight times as many places are followed as the
+    /// row has words, and 64 more, and as the greatest node to which a cell that is followed is set has a
     /// number, the same place perhaps several times. What is left then is explored with marks, so that no
-    /// place is explored twice. What was followed for long and is ground is known so to the cells from then on, and
+    /// place is explored twice; and where that was so of late, fewer are followed at first. What was followed for long and is ground is known so to the cells from then on, and
     /// is not followed again until a cell below it is made free. The cells that were set can be freed again, where
     /// there is no solution and after want of memory too.
     pub fn settle_further<N: Naming>(
@@ -162,6 +199,7 @@ impl Solver {
             &mut self.bound,
             &mut self.visits,
             &mut self.met,
+            &mut self.patience,
         )
     }
 }
@@ -175,6 +213,7 @@ fn settle_into<N: Naming>(
     bound: &mut Vec<u32>,
     visits: &mut Vec<Ref>,
     met: &mut Vec<Ref>,
+    patience: &mut Patience,
 ) -> Settled
     requires program { N.program ≡ named loaded.now }
     requires in_range { AreInRange N.program (length cells.old) pairs.old }
@@ -190,7 +229,7 @@ fn settle_into<N: Naming>(
     laws_of_rows(loaded, cells);
     let alloc = *bound.allocator();
     match equate(loaded, cells, pairs, bound) {
-        Unified::Same => judge(loaded, cells, floor, bound, visits, met),
+        Unified::Same => judge(loaded, cells, floor, bound, visits, met, patience),
         Unified::Apart { .. } => Settled::NoSolution,
         // The pairs would have 2^64 places, for which there is no memory.
         Unified::PutOff => Settled::Memory,
@@ -217,6 +256,7 @@ fn judge<N: Naming>(
     bound: &[u32],
     visits: &mut Vec<Ref>,
     met: &mut Vec<Ref>,
+    patience: &mut Patience,
 ) -> Settled
     requires program { N.program ≡ named loaded.now }
     requires in_row { All (λ (cell : ℕ). cell < length cells.old) bound.now }
@@ -228,14 +268,17 @@ fn judge<N: Naming>(
     ensures no_solution { result ≡ Settled.NoSolution → Solvable (equations_of N.program cells.old) → ⊥ }
     ensures sound { IsSound N.program cells.old }
 {
+    let granted = u64::from(cells.len())
+        .saturating_mul(patience.places_per_word())
+        .saturating_add(SMALL_TERM);
     let mut budget = Budget {
-        places: u64::from(cells.len())
-            .saturating_mul(PLACES_PER_WORD)
-            .saturating_add(SMALL_TERM),
+        places: granted,
         node: 0,
     };
     met.clear();
-    match bound_end(loaded, cells, floor, bound, &mut budget, visits, met) {
+    let ended = bound_end(loaded, cells, floor, bound, &mut budget, visits, met);
+    *patience = patience.after(granted, budget.places);
+    match ended {
         Ok(true) => solved(loaded, cells, met),
         Ok(false) => Settled::NoSolution,
         Err(_) => Settled::Memory,
