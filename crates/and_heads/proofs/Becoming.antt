@@ -1,9 +1,8 @@
 -- What becomes of a row in which a call and a head were met part by part.
-use Rattle.std.proofs.Common.{ℕ, ◌≡◌, ◌≢◌, ◌<◌, ◌⊎◌, List, [], ◌∷◌, length, refl, sym, ap, subst, ◌∙◌, inl, inr, arith, slice_get, Some}
+use Rattle.std.proofs.Common.{ℕ, ◌≡◌, ◌⊎◌, List, [], ◌∷◌, length, refl, sym, ap, subst, ◌∙◌, inl, inr, arith}
 use Rattle.std.specs.Prelude.{All, Contains}
 use Rattle.std.proofs.lemmas.Bool.{cases_eq}
-use Rattle.std.proofs.lemmas.Option.{same_Some}
-use Rattle.std.proofs.lemmas.List.Elements.{All-contains, All-nil}
+use Rattle.std.proofs.lemmas.List.Elements.{All-contains}
 use Rattle.and_model.specs.declared.reference.Ref.{Ref}
 use Rattle.and_model.specs.declared.reference.Ref.TheVariants.{Free}
 use Rattle.and_program.specs.Skeletons.{AllFall}
@@ -12,7 +11,6 @@ use Rattle.and_cells.specs.Rows.{plain, IsSound, OnlySet, taken_back}
 use Rattle.and_cells.specs.Seen.{word_at, IsSetTo}
 use Rattle.and_cells.specs.Meaning.{IsSettled}
 use Rattle.and_cells.proofs.TakingBack.{took_back}
-use Rattle.and_laws.proofs.Pairwise.{all_pairs_none}
 use Rattle.and_laws.proofs.Ordered.{contains_first, contains_more, contains_cases, contains_none}
 use Rattle.and_unify.specs.declared.pairs.Pair.{Pair}
 use Rattle.and_unify.specs.declared.settling.Settled.TheVariants.{Solved, NoSolution}
@@ -23,7 +21,6 @@ use Rattle.and_unify.specs.Setting.{HaveBeenSet}
 use Rattle.and_unify.specs.Settling.{AreNewFrom, EndsFrom, Settles}
 use Rattle.and_unify.specs.Running.{Runs, BreaksOff}
 use Rattle.and_unify.specs.Unifying.{Unifies}
-use Rattle.and_heads.specs.Settling.{the_pair}
 use Rattle.and_unify.proofs.TurnAnswers.{sets_end}
 use Rattle.and_unify.proofs.DescentKept.{Held, IsOutOr, held_stopped, same_end, apart_met}
 use Rattle.and_unify.proofs.DescentRuns.{held_asked, held_first}
@@ -52,23 +49,6 @@ set_back old new cells listed words is all set =
       others = λ place low. elim (among_or_not cells place) [ inl at ↦ inr at | inr none ↦ inl (set.others place none) ];
     } in
     ap (λ (xs : List ℕ). taken_back new xs words) all ∙ ap (λ (n : ℕ). taken_back new cells n) is ∙ took_back old new cells only
-
--- A list of one pair.
-pub only_one : (pairs : List Pair) (pair : Pair) → length pairs ≡ 1 → slice_get pairs 0 ≡ Some pair → pairs ≡ the_pair pair.left pair.right
-only_one [] pair one here = absurd (omega arith)
-only_one (p ∷ []) pair one here = ap (λ (x : Pair). x ∷ []) (same_Some p pair here)
-only_one (p ∷ (q ∷ ps)) pair one here = absurd (omega arith)
-
--- Nothing was set.
-pub nothing_set : (row : List Ref) (cells : List ℕ) → cells ≡ [] → HaveBeenSet row row cells
-nothing_set row cells none = subst (HaveBeenSet row row) (sym none) (record {
-  once = all_pairs_none (λ n m. n ≢ m);
-  in_row = All-nil (λ (cell : ℕ). cell < length row);
-  were_free = All-nil (λ (cell : ℕ). word_at row cell ≡ Free);
-  are_set = All-nil (λ (cell : ℕ). word_at row cell ≢ Free);
-  words = refl;
-  others = λ place out. refl;
-})
 
 module _ (P : NamedProgram) (old new : List Ref) (asked : List Pair) (floor : ℕ) (began items : List ℕ) (none : began ≡ []) (fall : AllFall 0 P.skeleton.nodes)
     (sound : IsSound P old) (range : AreInRange P (length old) asked) (written : AreWritten (plain old) asked) where

@@ -3,5 +3,6 @@ mod Begins
 mod Comparing
 mod Looking
 mod Meeting
+mod Pairing
 mod Parting
 pub mod Sending

@@ -2,7 +2,8 @@
 use Rattle.std.proofs.Common.{ℕ, ◌≡◌, List, [], ◌∷◌, ◌++◌, refl, sym, ap, subst, ◌∙◌, append-nil}
 use Rattle.std.specs.Prelude.{All, Contains}
 use Rattle.std.proofs.lemmas.List.Concat.{flat_map-append}
-use Rattle.std.proofs.lemmas.List.Elements.{All-append, All-contains, All-contains_itself, All-weaker, Contains-append_left, Contains-append_right}
+use Rattle.std.proofs.lemmas.List.Elements.{All-append, All-cons, All-nil, All-contains, All-contains_itself, All-weaker, Contains-append_left}
+use Rattle.std.proofs.lemmas.List.Elements.{Contains-append_right}
 use Rattle.and_cells.specs.Ranges.{NamedProgram}
 use Rattle.and_cells.specs.Seen.{Seen}
 use Rattle.and_laws.proofs.Ordered.{contains_first}
@@ -11,10 +12,11 @@ use Rattle.and_cells.proofs.Chains.{reads_nothing}
 use Rattle.and_unify.specs.Meeting.{MeetStructures}
 use Rattle.and_unify.proofs.MeetingSteps.{lead_here}
 use Rattle.and_unify.proofs.DescentKept.{plainly_joins}
-use Rattle.and_unify.specs.Running.{Runs, start, stepped, sorted, arguments_of_both}
+use Rattle.and_unify.specs.Running.{Runs, sorted, arguments_of_both}
 use Rattle.and_unify.proofs.DescentRuns.{same_swapped}
 use Rattle.and_heads.specs.declared.parts.Part.{Part}
 use Rattle.and_heads.specs.Parts.{HasShape, both_of, arguments_of_parts}
+use Rattle.and_heads.specs.Entering.{StepsToParts}
 
 module _ (P : NamedProgram) (parts rest : List Part) (part : Part) (last : parts ≡ rest ++ part ∷ []) where
   -- The arguments of the last part come first,
@@ -39,15 +41,22 @@ module _ (P : NamedProgram) (parts rest : List Part) (part : Part) (last : parts
             rest (All-contains_itself rest),
       )
 
--- A structure and another of its shape are begun with by the pairs of their arguments.
-pub begun_with : (P : NamedProgram) (s : Seen) (whole : Part) (bound : List ℕ) → HasShape P s.words whole
-    → Runs P s (both_of whole ∷ []) bound s (arguments_of_parts P (whole ∷ [])) bound
-begun_with P s whole bound shape =
+-- Two structures of one shape are put on the list of parts.
+pub whole_put : (P : NamedProgram) (s : Seen) (pair : Pair) (whole : Part) (parts longer : List Part) (bound : List ℕ) → both_of whole ≡ pair
+    → HasShape P s.words whole → longer ≡ parts ++ whole ∷ [] → StepsToParts P pair s s parts longer bound bound
+whole_put P s pair whole parts longer bound is shape gains =
     let both : Pair = both_of whole in
     let met : MeetStructures P both.left both.right s s both.left both.right =
     record { lead = lead_here both.left both.right s s (reads_nothing s); shape = shape } in
-    stepped s s both [] (arguments_of_parts P (whole ∷ [])) bound bound start
-    (plainly_joins P P both both.left both.right s s [] (arguments_of_parts P (whole ∷ [])) bound bound refl met refl (append-nil (arguments_of_both P both)))
+    let steps : StepsToParts P both s s parts longer bound bound = record {
+      more = whole ∷ [];
+      gains = gains;
+      shapes = All-cons (HasShape P s.words) whole [] shape (All-nil (HasShape P s.words));
+      steps = λ list.
+          plainly_joins P P both both.left both.right s s list (list ++ arguments_of_parts P (whole ∷ [])) bound bound refl met refl
+          (ap (λ xs. list ++ xs) (append-nil (arguments_of_both P both)));
+    } in
+    subst (λ p. StepsToParts P p s s parts longer bound bound) is steps
 
 -- Parts that are put behind others of one shape are of one shape with them.
 pub shapes_behind : (P : NamedProgram) (words : ℕ) (parts more longer : List Part) → longer ≡ parts ++ more → All (HasShape P words) parts

@@ -1,6 +1,6 @@
 //! A call and the head of a clause, met argument by argument.
 
-ghost use Rattle.std.specs.Prelude.{◌≡◌, ◌≢◌, ◌<◌, [], ◌∷◌, ◌++◌, ℕ, List, length, false, true, OnOk, All};
+ghost use Rattle.std.specs.Prelude.{◌≡◌, ◌≢◌, ◌<◌, [], ◌∷◌, ◌++◌, ℕ, List, length, false, true, OnOk, All, IfSome};
 ghost use Rattle.std.specs.Prelude.{vec_len, vec_capacity};
 ghost use Rattle.and_model.specs.Store.{is_half};
 ghost use Rattle.and_model.specs.declared.reference.Ref.{Ref};
@@ -10,6 +10,7 @@ ghost use Rattle.and_cells.specs.Rows.{plain};
 ghost use Rattle.and_cells.specs.Seen.{IsWrittenIfNumber, OnlyReads, Sets};
 ghost use Rattle.and_cells.specs.Parts.{named};
 ghost use Rattle.and_unify.specs.Meeting.{IsToBeSet};
+ghost use Rattle.and_unify.specs.Pairs.{AreInRange, AreWritten};
 ghost use Rattle.and_unify.specs.Running.{arguments_of_both};
 ghost use Rattle.and_heads.specs.Entering.{Meets, ComesToParts};
 ghost use Rattle.and_heads.specs.Parts.{HasShape, Puts, both_of, arguments_of_parts};
@@ -20,6 +21,7 @@ use crate::parts::{
 use and_cells::{Bound, Cells, Naming, PlainCells};
 use and_model::Ref;
 use and_program::Loaded;
+use and_unify::{Pair, PairList};
 use std::alloc::AllocError;
 
 /// So many parts are met at most.
@@ -49,25 +51,149 @@ enum Case {
     Compare,
 }
 
-/// Makes two structures the same, by so many parts at most. The cells that are set go on the list.
+/// Makes the sides of pairs the same, by so many parts at most. The cells that are set go on the list.
 pub(crate) fn enter<N: Naming>(
     loaded: &Loaded,
     cells: &mut PlainCells<N>,
-    whole: Part,
+    pairs: &PairList,
     bound: &mut Vec<u32>,
     parts: &mut Vec<Part>,
 ) -> Entered
     requires program { N.program ≡ named loaded.now }
     requires falls { AllFall 0 N.program.skeleton.nodes }
-    requires shape { HasShape N.program (length cells.old) whole }
-    ensures comes { ComesToParts N.program (plain cells.old) (plain cells.new) (both_of whole ∷ []) [] bound.old.items
+    requires in_range { AreInRange N.program (length cells.old) pairs.now }
+    requires written { AreWritten (plain cells.old) pairs.now }
+    ensures comes { ComesToParts N.program (plain cells.old) (plain cells.new) pairs.now [] bound.old.items
         bound.new.items result }
 {
     parts.clear();
-    match parts.push(whole) {
-        Ok(()) => {}
-        Err(_) => return Entered::GivenUp,
+    match enter_pairs(loaded, cells, pairs, bound, parts) {
+        Entered::Done => enter_parts(loaded, cells, bound, parts),
+        Entered::Apart => Entered::Apart,
+        Entered::GivenUp => Entered::GivenUp,
     }
+}
+
+/// Meets the sides of pairs, and puts those that lead to structures on the list of parts.
+fn enter_pairs<N: Naming>(
+    loaded: &Loaded,
+    cells: &mut PlainCells<N>,
+    pairs: &PairList,
+    bound: &mut Vec<u32>,
+    parts: &mut Vec<Part>,
+) -> Entered
+    requires program { N.program ≡ named loaded.now }
+    requires falls { AllFall 0 N.program.skeleton.nodes }
+    requires in_range { AreInRange N.program (length cells.old) pairs.now }
+    requires written { AreWritten (plain cells.old) pairs.now }
+    requires none { parts.old.items ≡ [] }
+    ensures comes { ComesToParts N.program (plain cells.old) (plain cells.new) pairs.now parts.new.items
+        bound.old.items bound.new.items result }
+    ensures shapes { result ≡ Entered.Done → All (HasShape N.program (length cells.old)) parts.new.items }
+{
+    for place in 0..pairs.len() {
+        match enter_pair(loaded, cells, *pairs.at(place), bound, parts) {
+            Entered::Done => {}
+            Entered::Apart => return Entered::Apart,
+            Entered::GivenUp => return Entered::GivenUp,
+        }
+    }
+    Entered::Done
+}
+
+/// Meets the sides of a pair. Two structures of one name and number of arguments go on the list of parts at once.
+fn enter_pair<N: Naming>(
+    loaded: &Loaded,
+    cells: &mut PlainCells<N>,
+    pair: Pair,
+    bound: &mut Vec<u32>,
+    parts: &mut Vec<Part>,
+) -> Entered
+    requires program { N.program ≡ named loaded.now }
+    requires left_in_range { IsInRange N.program (length cells.old) pair.left }
+    requires right_in_range { IsInRange N.program (length cells.old) pair.right }
+    requires left_written { IsWrittenIfNumber (plain cells.old) pair.left }
+    requires right_written { IsWrittenIfNumber (plain cells.old) pair.right }
+    ensures { Meets N.program pair (plain cells.old) (plain cells.new) parts.old.items parts.new.items
+        bound.old.items bound.new.items result }
+{
+    let Some(whole) = whole_of(loaded, cells, pair.left, pair.right) else {
+        return enter_sides(loaded, cells, pair, bound, parts);
+    };
+    match parts.push(whole) {
+        Ok(()) => Entered::Done,
+        Err(_) => Entered::GivenUp,
+    }
+}
+
+/// Follows the sides of a pair, and meets what they lead to.
+#[inline(never)]
+fn enter_sides<N: Naming>(
+    loaded: &Loaded,
+    cells: &mut PlainCells<N>,
+    pair: Pair,
+    bound: &mut Vec<u32>,
+    parts: &mut Vec<Part>,
+) -> Entered
+    requires program { N.program ≡ named loaded.now }
+    requires left_in_range { IsInRange N.program (length cells.old) pair.left }
+    requires right_in_range { IsInRange N.program (length cells.old) pair.right }
+    requires left_written { IsWrittenIfNumber (plain cells.old) pair.left }
+    requires right_written { IsWrittenIfNumber (plain cells.old) pair.right }
+    ensures { Meets N.program pair (plain cells.old) (plain cells.new) parts.old.items parts.new.items
+        bound.old.items bound.new.items result }
+{
+    enter_argument(loaded, cells, pair.left, pair.right, bound, parts)
+}
+
+/// Two references as a part, where they are structures of one name and number of arguments.
+fn whole_of<N: Naming>(loaded: &Loaded, cells: &PlainCells<N>, one: Ref, other: Ref) -> Option<Part>
+    requires program { N.program ≡ named loaded.now }
+    requires one_in_range { IsInRange N.program (length cells.now) one }
+    requires other_in_range { IsInRange N.program (length cells.now) other }
+    requires one_written { IsWrittenIfNumber (plain cells.now) one }
+    requires other_written { IsWrittenIfNumber (plain cells.now) other }
+    ensures { IfSome result (λ whole. (both_of whole ≡ record { left = one; right = other })
+        × HasShape N.program (length cells.now) whole) }
+{
+    let Ref::Node { node, base } = one else {
+        return None;
+    };
+    let Ref::Node {
+        node: there,
+        base: by,
+    } = other
+    else {
+        return None;
+    };
+    let first = kind_at(loaded, cells, one)?;
+    let second = kind_at(loaded, cells, other)?;
+    let count = arguments_of_both(first, second)?;
+    if count == 0 {
+        return None;
+    }
+    Some(Part {
+        left: Structure { node, base },
+        right: Structure {
+            node: there,
+            base: by,
+        },
+    })
+}
+
+/// Meets the arguments of the structures on the list of parts, and of those that they put there.
+fn enter_parts<N: Naming>(
+    loaded: &Loaded,
+    cells: &mut PlainCells<N>,
+    bound: &mut Vec<u32>,
+    parts: &mut Vec<Part>,
+) -> Entered
+    requires program { N.program ≡ named loaded.now }
+    requires falls { AllFall 0 N.program.skeleton.nodes }
+    requires shapes { All (HasShape N.program (length cells.old)) parts.old.items }
+    ensures { ComesToParts N.program (plain cells.old) (plain cells.new)
+        (arguments_of_parts N.program parts.old.items) [] bound.old.items bound.new.items result }
+{
     for _turn in 0..MOST_PARTS {
         let Some(part) = parts.pop() else {
             return Entered::Done;
@@ -111,6 +237,7 @@ fn enter_arguments<N: Naming>(
 }
 
 /// Follows two references, and meets what they lead to.
+#[inline(always)]
 fn enter_argument<N: Naming>(
     loaded: &Loaded,
     cells: &mut PlainCells<N>,
@@ -133,6 +260,7 @@ fn enter_argument<N: Naming>(
 }
 
 /// Sets one of two references to the other, or compares them.
+#[inline(always)]
 fn meet<N: Naming>(
     loaded: &Loaded,
     cells: &mut PlainCells<N>,
@@ -213,6 +341,7 @@ fn beside_end(one: Ref, other: Ref) -> Case
 }
 
 /// Sets a free cell, which goes on the list. Where it is not free, or there is no room on the list, nothing is set.
+#[inline(always)]
 fn take<N: Naming>(cells: &mut PlainCells<N>, bound: &mut Vec<u32>, cell: u32, to: Ref) -> Entered
     requires in_row { cell < length cells.old }
     requires in_range { IsInRange N.program (length cells.old) to }
@@ -248,6 +377,7 @@ fn make_room(bound: &mut Vec<u32>) -> Result<(), AllocError>
 }
 
 /// Compares two references, of which structures of one shape go on the list of parts.
+#[inline(always)]
 fn compare<N: Naming>(
     loaded: &Loaded,
     cells: &PlainCells<N>,

@@ -12,16 +12,14 @@ ghost use Rattle.and_unify.specs.Pairs.{AreInRange, AreWritten, NameNoHalf};
 ghost use Rattle.and_unify.specs.Setting.{HaveBeenSet};
 ghost use Rattle.and_unify.specs.Settling.{AreNewFrom, Settles};
 ghost use Rattle.and_unify.specs.declared.settling.Settled.{Settled};
-ghost use Rattle.and_heads.specs.Parts.{HasShape, both_of};
-ghost use Rattle.and_heads.specs.Settling.{the_pair};
 
 use crate::ending::all_end;
 use crate::entering::{Entered, enter};
-use crate::parts::{Part, Structure, arguments_of_both, kind_at};
+use crate::parts::Part;
 use and_cells::{Naming, PlainCells};
 use and_model::Ref;
 use and_program::Loaded;
-use and_unify::{Pair, PairList, Settled, Solver};
+use and_unify::{PairList, Settled, Solver};
 use std::alloc::Global;
 use std::marker::Model;
 
@@ -85,8 +83,8 @@ impl HeadSolver {
 
     /// The same as [`Solver::settle_further`], word for word.
     ///
-    /// Where there is one pair, of two structures, their arguments are met one after the other, and of paths 64 places
-    /// are followed at most. What is not told by that is taken back, and left to the solver.
+    /// The sides of pairs are met one after the other, and so are the arguments of structures, 64 at most. Of paths 64
+    /// places are followed at most. What is not told by that is taken back, and left to the solver.
     pub fn settle_further<N: Naming>(
         &mut self,
         loaded: &Loaded,
@@ -107,7 +105,7 @@ impl HeadSolver {
         let words = cells.len();
         self.bound.clear();
         self.is_solved = false;
-        match settle_one_pair(
+        match settle_directly(
             loaded,
             cells,
             floor,
@@ -130,8 +128,8 @@ impl HeadSolver {
     }
 }
 
-/// The same, where there is one pair, and where it is told by arguments that are met one after the other.
-fn settle_one_pair<N: Naming>(
+/// The same by arguments that are met one after the other, where that tells it.
+fn settle_directly<N: Naming>(
     loaded: &Loaded,
     cells: &mut PlainCells<N>,
     floor: u32,
@@ -152,54 +150,8 @@ fn settle_one_pair<N: Naming>(
     ensures apart { result ≡ Entered.Apart → Settles N.program cells.old cells.new pairs.now Settled.NoSolution }
     ensures bound { HaveBeenSet cells.old cells.new bound.new.items }
 {
-    match only_pair(pairs) {
-        Some(pair) => settle_directly(
-            loaded, cells, floor, pair.left, pair.right, bound, parts, visits, met,
-        ),
-        None => Entered::GivenUp,
-    }
-}
-
-/// The pair of a list that has no other.
-fn only_pair(pairs: &PairList) -> Option<Pair>
-    ensures { IfSome result (λ pair. pairs.now ≡ the_pair pair.left pair.right) }
-{
-    if pairs.len() == 1 {
-        Some(*pairs.at(0))
-    } else {
-        None
-    }
-}
-
-/// The same of a call and a head, by arguments that are met one after the other, where that tells it.
-fn settle_directly<N: Naming>(
-    loaded: &Loaded,
-    cells: &mut PlainCells<N>,
-    floor: u32,
-    call: Ref,
-    head: Ref,
-    bound: &mut Vec<u32>,
-    parts: &mut Vec<Part>,
-    visits: &mut Vec<Ref>,
-    met: &mut Vec<Ref>,
-) -> Entered
-    requires program { N.program ≡ named loaded.now }
-    requires in_range { AreInRange N.program (length cells.old) (the_pair call head) }
-    requires written { AreWritten (plain cells.old) (the_pair call head) }
-    requires settled { IsSettled N.program cells.old }
-    requires no_half { NameNoHalf N.program (word_at cells.old) (the_pair call head) }
-    requires new { AreNewFrom N.program cells.old (the_pair call head) floor }
-    requires empty { bound.old.items ≡ [] }
-    ensures done { result ≡ Entered.Done → Settles N.program cells.old cells.new (the_pair call head) Settled.Solved }
-    ensures apart { result ≡ Entered.Apart
-        → Settles N.program cells.old cells.new (the_pair call head) Settled.NoSolution }
-    ensures bound { HaveBeenSet cells.old cells.new bound.new.items }
-{
     laws_of_rows(loaded, cells);
-    let Some(whole) = whole_of(loaded, cells, call, head) else {
-        return Entered::GivenUp;
-    };
-    match enter(loaded, cells, whole, bound, parts) {
+    match enter(loaded, cells, pairs, bound, parts) {
         Entered::Done => ended(all_end(loaded, cells, floor, bound, visits, met)),
         Entered::Apart => Entered::Apart,
         Entered::GivenUp => Entered::GivenUp,
@@ -222,39 +174,4 @@ fn ended(all: bool) -> Entered
     ensures apart { result ≢ Entered.Apart }
 {
     if all { Entered::Done } else { Entered::GivenUp }
-}
-
-/// The call and the head as a part, where they are structures of one name and number of arguments.
-fn whole_of<N: Naming>(loaded: &Loaded, cells: &PlainCells<N>, call: Ref, head: Ref) -> Option<Part>
-    requires program { N.program ≡ named loaded.now }
-    requires call { IsInRange N.program (length cells.now) call }
-    requires head { IsInRange N.program (length cells.now) head }
-    requires call_written { IsWrittenIfNumber (plain cells.now) call }
-    requires head_written { IsWrittenIfNumber (plain cells.now) head }
-    ensures { IfSome result (λ whole. (both_of whole ≡ record { left = call; right = head })
-        × HasShape N.program (length cells.now) whole) }
-{
-    let Ref::Node { node, base } = call else {
-        return None;
-    };
-    let Ref::Node {
-        node: there,
-        base: by,
-    } = head
-    else {
-        return None;
-    };
-    let first = kind_at(loaded, cells, call)?;
-    let second = kind_at(loaded, cells, head)?;
-    let count = arguments_of_both(first, second)?;
-    if count == 0 {
-        return None;
-    }
-    Some(Part {
-        left: Structure { node, base },
-        right: Structure {
-            node: there,
-            base: by,
-        },
-    })
 }

@@ -1,103 +1,24 @@
-use Rattle.std.proofs.Common.{◌≡◌, [], ◌∷◌, ◌++◌, length, List, sym, ap, subst, ◌∙◌}
+use Rattle.std.proofs.Common.{[], sym, subst}
 use Rattle.std.specs.Prelude.{All}
-use Rattle.std.proofs.lemmas.List.Elements.{All-nil, All-cons}
 use Rattle.and_cells.specs.Rows.{plain}
-use Rattle.and_unify.specs.Running.{Runs, start, arguments_of_both}
-use Rattle.and_unify.proofs.DescentRuns.{runs_words, runs_then}
-use Rattle.and_heads.specs.declared.parts.Part.{Part}
-use Rattle.and_heads.specs.declared.entering.Entered.TheVariants.{Apart, GivenUp}
-use Rattle.and_heads.specs.Parts.{HasShape, both_of, arguments_of_parts}
+use Rattle.and_unify.proofs.DescentRuns.{runs_words}
+use Rattle.and_heads.specs.Parts.{HasShape, arguments_of_parts}
 use Rattle.and_heads.proofs.Meeting.{parts_after}
-use Rattle.and_heads.proofs.Parting.{begun_with, last_first, last_shape}
 use Rattle.and_heads.proofs.entering.enter.Goals as goal
 
-pub loop-turn-init : goal.loop-turn-init
-loop-turn-init g c =
+pub enter_parts-requires-clause-shapes : goal.enter_parts-requires-clause-shapes
+enter_parts-requires-clause-shapes g c =
     let P = g.N.Naming.program in
-    let s = plain c.args.cells.now in
-    let whole = c.args.whole in
-    let is : c.push.new.self.items ≡ whole ∷ [] = c.in-Ok.ensures.items ∙ ap (λ xs. xs ++ whole ∷ []) c.clear.ensures.items in record {
-      shapes = subst (All (HasShape P (length c.args.cells.now))) (sym is)
-          (All-cons (HasShape P (length c.args.cells.now)) whole [] c.requires.shape (All-nil (HasShape P (length c.args.cells.now))));
-      runs = subst (λ (xs : List Part). Runs P s (both_of whole ∷ []) c.args.bound.now.items s (arguments_of_parts P xs) c.args.bound.now.items) (sym is)
-          (begun_with P s whole c.args.bound.now.items c.requires.shape);
-    }
+    let parts = c.enter_pairs.new.parts.items in
+    let words = runs_words P (plain c.args.cells.now) c.args.pairs.now c.args.bound.now.items (plain c.enter_pairs.new.cells) (arguments_of_parts P parts)
+    c.enter_pairs.new.bound.items c.in-Done.ensures.comes in
+    subst (λ n. All (HasShape P n) parts) (sym words) (c.enter_pairs.ensures.shapes c.in-Done.is)
 
-pub enter_arguments-requires-clause-shape : goal.enter_arguments-requires-clause-shape
-enter_arguments-requires-clause-shape g c =
+pub returns-in-Done : goal.returns-in-Done
+returns-in-Done g c =
     let P = g.N.Naming.program in
-    let old = plain c.args.cells.now in
-    let s = plain c.loop-turn.cells in
-    let todo = both_of c.args.whole ∷ [] in
-    let words = runs_words P old todo c.args.bound.now.items s (arguments_of_parts P c.loop-turn.parts.items) c.loop-turn.bound.items
-    c.loop-turn.invariant.runs in
-    subst (λ n. HasShape P n c.in-Some.part) (sym words)
-    (last_shape P c.loop-turn.parts.items c.pop.new.self.items c.in-Some.part c.in-Some.ensures.items old.words c.loop-turn.invariant.shapes).0
-
-pub enter_arguments-requires-clause-shapes : goal.enter_arguments-requires-clause-shapes
-enter_arguments-requires-clause-shapes g c =
-    let P = g.N.Naming.program in
-    let old = plain c.args.cells.now in
-    let s = plain c.loop-turn.cells in
-    let todo = both_of c.args.whole ∷ [] in
-    let words = runs_words P old todo c.args.bound.now.items s (arguments_of_parts P c.loop-turn.parts.items) c.loop-turn.bound.items
-    c.loop-turn.invariant.runs in
-    subst (λ n. All (HasShape P n) c.pop.new.self.items) (sym words)
-    (last_shape P c.loop-turn.parts.items c.pop.new.self.items c.in-Some.part c.in-Some.ensures.items old.words c.loop-turn.invariant.shapes).1
-
-pub loop-turn-preserved : goal.loop-turn-preserved
-loop-turn-preserved g c =
-    let P = g.N.Naming.program in
-    let old = plain c.args.cells.now in
-    let s = plain c.loop-turn.cells in
-    let new = plain c.enter_arguments.new.cells in
-    let part = c.in-Some.part in
-    let rest = c.pop.new.self.items in
-    let todo = both_of c.args.whole ∷ [] in
-    let list = arguments_of_both P (both_of part) ++ arguments_of_parts P rest in
-    let words = runs_words P old todo c.args.bound.now.items s (arguments_of_parts P c.loop-turn.parts.items) c.loop-turn.bound.items
-    c.loop-turn.invariant.runs in
-    let first = last_first P c.loop-turn.parts.items rest part c.in-Some.ensures.items old s todo c.args.bound.now.items c.loop-turn.bound.items
-    c.loop-turn.invariant.runs in
     record {
-      shapes = subst (λ n. All (HasShape P n) c.enter_arguments.new.parts.items) words (c.enter_arguments.ensures.shapes c.in-Done.is);
-      runs = runs_then P old s todo list c.args.bound.now.items c.loop-turn.bound.items new (arguments_of_parts P c.enter_arguments.new.parts.items)
-          c.enter_arguments.new.bound.items first c.in-Done.ensures.comes;
+      comes = parts_after P (plain c.args.cells.now) (plain c.enter_pairs.new.cells) (plain c.enter_parts.new.cells) c.args.pairs.now
+          (arguments_of_parts P c.enter_pairs.new.parts.items) [] c.args.bound.now.items c.enter_pairs.new.bound.items c.enter_parts.new.bound.items
+          c.enter_parts.result c.in-Done.ensures.comes c.enter_parts.ensures;
     }
-
-pub returns-in-Apart : goal.returns-in-Apart
-returns-in-Apart g c =
-    let P = g.N.Naming.program in
-    let old = plain c.args.cells.now in
-    let s = plain c.loop-turn.cells in
-    let new = plain c.enter_arguments.new.cells in
-    let part = c.in-Some.part in
-    let rest = c.pop.new.self.items in
-    let todo = both_of c.args.whole ∷ [] in
-    let list = arguments_of_both P (both_of part) ++ arguments_of_parts P rest in
-    let first = last_first P c.loop-turn.parts.items rest part c.in-Some.ensures.items old s todo c.args.bound.now.items c.loop-turn.bound.items
-    c.loop-turn.invariant.runs in
-    record {
-      comes = parts_after P old s new todo list [] c.args.bound.now.items c.loop-turn.bound.items c.enter_arguments.new.bound.items Apart first
-          c.in-Apart.ensures.comes;
-    }
-
-pub returns-in-GivenUp : goal.returns-in-GivenUp
-returns-in-GivenUp g c =
-    let P = g.N.Naming.program in
-    let old = plain c.args.cells.now in
-    let s = plain c.loop-turn.cells in
-    let new = plain c.enter_arguments.new.cells in
-    let part = c.in-Some.part in
-    let rest = c.pop.new.self.items in
-    let todo = both_of c.args.whole ∷ [] in
-    let list = arguments_of_both P (both_of part) ++ arguments_of_parts P rest in
-    let first = last_first P c.loop-turn.parts.items rest part c.in-Some.ensures.items old s todo c.args.bound.now.items c.loop-turn.bound.items
-    c.loop-turn.invariant.runs in
-    record {
-      comes = parts_after P old s new todo list [] c.args.bound.now.items c.loop-turn.bound.items c.enter_arguments.new.bound.items GivenUp first
-          c.in-GivenUp.ensures.comes;
-    }
-
-pub returns-in-Err : goal.returns-in-Err
-returns-in-Err g c = record { comes = (both_of c.args.whole ∷ [], start) }
