@@ -118,7 +118,7 @@ room b = b.limit - b.used
 
 -- a bound on the turns that a round has left
 abbrev pub turns_left : Way → Held → ℕ
-turns_left Onward b = room b * 2 ^ 130 + 2 ^ 129 + length b.right
+turns_left Onward b = room b * 2 ^ 130 + 2 ^ 129 + goal_count b + length b.right
 turns_left Back b = room b * 2 ^ 130 + goal_count b * 2 ^ 64 + length b.left
 
 moved_count : (old new : Held) → IsMoved old new → goal_count new ≡ goal_count old
@@ -158,6 +158,10 @@ fewer_passed P may one two three four Onward goal seen heavy more come passed (i
     let c = ap (λ (h : Held). length h.right) is in
     let moved = come_alike P Onward one two true come in
     let alike = passed.alike in
+    let d = come.1 in
+    let e = same_count one two d.alike in
+    let f = same_count two three alike in
+    let same : goal_count four ≡ goal_count three = ap (λ (h : Held). goal_count h) is in
     let limit : four.limit ≡ one.limit = ap (λ (h : Held). h.limit) is ∙ alike.limit ∙ moved.0 in
     let used : four.used ≡ one.used = ap (λ (h : Held). h.used) is ∙ alike.used ∙ moved.1 in
     omega arith
@@ -172,20 +176,24 @@ fewer_passed P may one two three four Back goal seen heavy more (m, before) pass
     let used : four.used ≡ one.used = back.used ∙ alike.used ∙ m.used in
     omega arith
 
--- Arithmetic was run.
-pub fewer_ran : (P : NamedProgram) (one two three : Held) (way : Way) → HasCome P way one two true → SameKey two three
+-- Arithmetic was run, and the place of work may have been moved back by a goal.
+pub fewer_ran : (P : NamedProgram) (one two three four : Held) (way : Way) → HasCome P way one two true → SameKey two three
     → HasProgressed two three × (three.used ≡ two.used) × (length three.right < length two.right)
-    → turns_left way three < turns_left way one
-fewer_ran P one two three Onward come same (progress, used, right) =
+    → IsMoved three four → length four.right ≤ length three.right + 1 → turns_left way four < turns_left way one
+fewer_ran P one two three four Onward come same ((few, how), used, right) m near =
     let a = slept_right P one two come.1 in
+    let b = come.1 in
+    let c = same_count one two b.alike in
+    let d = moved_count three four m in
     let moved = come_alike P Onward one two true come in
-    let limits : three.limit ≡ one.limit = same.limit ∙ moved.0 in
-    let uses : three.used ≡ one.used = used ∙ moved.1 in
-    omega arith
-fewer_ran P one two three Back (m, before) same ((few, how), used, right) =
+    let limits : four.limit ≡ one.limit = m.limit ∙ same.limit ∙ moved.0 in
+    let uses : four.used ≡ one.used = m.used ∙ used ∙ moved.1 in
+    elim how [ inl grew ↦ absurd (omega arith) | inr less ↦ (let e = less.1 in omega arith) ]
+fewer_ran P one two three four Back (m, before) same ((few, how), used, right) back near =
     let c = moved_count one two m in
-    let limits : three.limit ≡ one.limit = same.limit ∙ m.limit in
-    let uses : three.used ≡ one.used = used ∙ m.used in
+    let d = moved_count three four back in
+    let limits : four.limit ≡ one.limit = back.limit ∙ same.limit ∙ m.limit in
+    let uses : four.used ≡ one.used = back.used ∙ used ∙ m.used in
     elim how [ inl grew ↦ absurd (omega arith) | inr less ↦ (let a = less.1 in omega arith) ]
 
 -- A call was reduced: there is less room.

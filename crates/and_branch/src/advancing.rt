@@ -181,7 +181,10 @@ impl<N: Naming> Branch<N> {
                 Looked::Passed { goal, seen } => {
                     heavy = self.note_passed(way, heavy, goal, seen)?
                 }
-                Looked::Ran => changed = true,
+                Looked::Ran => {
+                    changed = true;
+                    self.turn_to_woken(way)?;
+                }
                 Looked::Reduced => {
                     share.left -= 1;
                     changed = true;

@@ -1,6 +1,6 @@
 //! The place where a branch is at work among its goals.
 
-ghost use Rattle.std.specs.Prelude.{◌≡◌, ◌<◌, ◌++◌, ◌∷◌, [], List, OnOk, Ok, true, false, length};
+ghost use Rattle.std.specs.Prelude.{◌≡◌, ◌<◌, ◌≤◌, ◌+◌, ◌++◌, ◌∷◌, [], List, OnOk, Ok, true, false, length};
 ghost use Rattle.and_model.specs.declared.goal.Goal.{Goal};
 ghost use Rattle.and_branch.specs.Branches.{SameKey};
 ghost use Rattle.and_branch.specs.Next.{IsMoved, IsSameItem, HasItem};
@@ -94,6 +94,16 @@ impl<N: Naming> Branch<N> {
         ensures before { result ≡ Ok true → length self.new.left < length self.old.left }
     {
         self.goals.go_back_over_sleepers(&self.cells)
+    }
+
+    /// Goes back before the goal that was passed last, if it was asleep and no longer is. An error is want of memory,
+    /// and the branch is spent.
+    pub(crate) fn back_to_woken(&mut self) -> Result<(), AllocError>
+        ensures same { SameKey self.old self.new }
+        ensures moved { OnOk result (IsMoved self.old self.new) }
+        ensures near { OnOk result (length self.new.right ≤ length self.old.right + 1) }
+    {
+        self.goals.go_back_to_woken(&self.cells)
     }
 
     /// Whether the next goal is this one.

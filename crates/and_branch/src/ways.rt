@@ -1,9 +1,10 @@
 //! The ways in which a round goes over the goals of a branch.
 
-ghost use Rattle.std.specs.Prelude.{◌≡◌, ◌<◌, ◌≤◌, ◌++◌, ◌∷◌, [], List, true, OnOk, IfOk};
+ghost use Rattle.std.specs.Prelude.{◌≡◌, ◌<◌, ◌≤◌, ◌+◌, ◌++◌, ◌∷◌, [], List, true, OnOk, IfOk, length};
 ghost use Rattle.and_model.specs.declared.goal.Goal.{Goal};
 ghost use Rattle.and_branch.specs.Branches.{IsBranch, SameKey};
 ghost use Rattle.and_branch.specs.Finding.{with_passed};
+ghost use Rattle.and_branch.specs.Next.{IsMoved};
 ghost use Rattle.and_branch.specs.Rounds.{StepsOn};
 ghost use Rattle.and_branch.specs.Ways.{HasCome, HasNoted};
 ghost use Rattle.and_branch.specs.declared.advancing.Round.{Round};
@@ -92,6 +93,20 @@ impl<N: Naming> Branch<N> {
                 Ok(true)
             }
             Way::Back => self.back_up(),
+        }
+    }
+
+    /// Turns to a goal that waited for what was set just now, on the way onward, if it is the last that was passed (on
+    /// the way back it comes next anyway): so goals that wake one another across the place of work need no round each.
+    /// An error is want of memory, and the branch is spent.
+    pub(crate) fn turn_to_woken(&mut self, way: Way) -> Result<(), AllocError>
+        ensures same { SameKey self.old self.new }
+        ensures moved { OnOk result (IsMoved self.old self.new) }
+        ensures near { OnOk result (length self.new.right ≤ length self.old.right + 1) }
+    {
+        match way {
+            Way::Onward => self.back_to_woken(),
+            Way::Back => Ok(()),
         }
     }
 

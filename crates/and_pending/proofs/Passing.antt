@@ -1,5 +1,5 @@
 -- Sleepers that are passed over, one after another, and gone back over.
-use Rattle.std.proofs.Common.{◌≡◌, ◌<◌, ◌≤◌, Bool, true, false, List, [], ◌∷◌, ◌++◌, length, append_assoc, length-append, refl, sym, ap, ◌∙◌, arith}
+use Rattle.std.proofs.Common.{◌≡◌, ◌<◌, ◌≤◌, ◌+◌, Bool, true, false, List, [], ◌∷◌, ◌++◌, length, append_assoc, length-append, refl, sym, ap, ◌∙◌, arith}
 use Rattle.std.specs.Prelude.{All}
 use Rattle.std.proofs.lemmas.List.{append-nil}
 use Rattle.std.proofs.lemmas.List.Elements.{All-nil, All-push, All-cons}
@@ -94,3 +94,22 @@ module _ (row : List Ref) (old now : Pending) (is : IsGoneOver row old now) wher
     -- or over this one too
     pub gone_over : Sleeps row w → IsGoneOver row old new
     gone_over sleeps = record { passed = w ∷ is.passed; asleep = All-cons (Sleeps row) w is.passed sleeps is.asleep; left = left_was; right = right_is }
+
+-- ---- Back by a goal at most
+
+-- No goal is lost, and at most one more is ahead.
+pub one_back_at_most : (old new : Pending) (there : Bool) → (there ≡ false → (old.left ≡ []) × (new ≡ old))
+    → (there ≡ true → (front : List Watched) × (w : Watched) × (old.left ≡ front ++ w ∷ []) × (new ≡ record { left = front; right = w ∷ old.right }))
+    → (new.left ++ new.right ≡ old.left ++ old.right) × (length new.right ≤ length old.right + 1)
+one_back_at_most old new false none back =
+    let is = (none refl).1 in
+    let same = ap (λ (p : Pending). length p.right) is in
+    (ap (λ (p : Pending). p.left ++ p.right) is, omega arith)
+one_back_at_most old new true none back =
+    let (front, w, last, is) = back refl in
+    let one = ap (λ (p : Pending). length p.right) is in (
+      ap (λ (p : Pending). p.left ++ p.right) is
+          ∙ sym (append_assoc front (w ∷ []) old.right)
+          ∙ ap (λ (l : List Watched). l ++ old.right) (sym last),
+      omega arith,
+    )

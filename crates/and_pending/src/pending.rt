@@ -201,6 +201,28 @@ impl PendingGoals {
         Ok(false)
     }
 
+    /// Goes back before the goal that was passed last, if it is watched and does not sleep in a row. An error is want
+    /// of memory, and a goal is lost.
+    pub fn go_back_to_woken<N: Naming>(&mut self, row: &PlainCells<N>) -> Result<(), AllocError>
+        ensures moved { OnOk result (self.new.left ++ self.new.right ≡ self.old.left ++ self.old.right) }
+        ensures near { OnOk result (length self.new.right ≤ length self.old.right + 1) }
+    {
+        if self.last_is_woken(row) {
+            let _is_there = self.go_back()?;
+        }
+        Ok(())
+    }
+
+    /// Whether there is a goal that was passed last, which is watched and does not sleep in a row. Takes no memory.
+    fn last_is_woken<N: Naming>(&self, row: &PlainCells<N>) -> bool {
+        let count = self.left.len();
+        if count == 0 {
+            return false;
+        }
+        let last = self.left[count - 1];
+        last.watch.is_some() && !sleeps(&self.cells, row, last)
+    }
+
     /// Whether there is a next goal, which sleeps in a row. Takes no memory.
     fn next_sleeps<N: Naming>(&self, row: &PlainCells<N>) -> bool
         ensures { result ≡ true → (w : Watched) × (rest : List Watched) × (self.now.right ≡ w ∷ rest)

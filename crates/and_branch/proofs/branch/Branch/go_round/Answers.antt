@@ -10,7 +10,7 @@ use Rattle.and_branch.proofs.LoadedPrograms.{is_loaded}
 use Rattle.and_branch.proofs.LookedGoals.{moved_steps, steps_then, still_branch}
 use Rattle.and_branch.proofs.MovedBranches.{moved_twice}
 use Rattle.and_branch.proofs.RoundsKept.{RoundStands, round_begun, round_passed, round_changed, round_ended, past_idle, alike_then, moved_alike}
-use Rattle.and_branch.proofs.WaysGone.{has_come, share_at, over_back, has_noted, fewer_passed, fewer_ran, fewer_reduced, fewer_back}
+use Rattle.and_branch.proofs.WaysGone.{has_come, share_at, over_back, has_noted, fewer_passed, fewer_ran, fewer_reduced, fewer_back, round_moved}
 use Rattle.and_branch.proofs.branch.Branch.go_round.Goals as goal
 
 pub goals-init : goal.goals-init
@@ -178,17 +178,18 @@ goals-preserved-in-Passed g c =
     has_noted P c.clear_out.new.self c.look.new.self c.note_passed.new.self c.goals.way c.goals.changed c.at-share.result c.goals.heavy more
     c.in_ok-heavy-in-Passed.heavy c.goals.invariant.back come.some passed c.note_passed.ensures.same c.in_ok-heavy-in-Passed.ensures.noted
 
-pub goals-smaller-in-Ran : goal.goals-smaller-in-Ran
-goals-smaller-in-Ran g c =
+pub goals-smaller-in_ok-turn_to_woken-in-Ran : goal.goals-smaller-in_ok-turn_to_woken-in-Ran
+goals-smaller-in_ok-turn_to_woken-in-Ran g c =
     let P = g.N.Naming.program in
     let there : c.in_ok-come_to_next.field-0 ≡ true = search rules in
     let at = subst (HasCome P c.goals.way c.goals.self c.come_to_next.new.self) there c.in_ok-come_to_next.ensures.came in
     let looked = subst (λ (l : Looked). LookIs P
     (nat_lt 0 c.at-share.result.left) c.come_to_next.new.self c.look.new.self l) c.in-Ran.is c.in_ok-look.ensures.came_to in
-    fewer_ran P c.goals.self c.come_to_next.new.self c.look.new.self c.goals.way at c.look.ensures.same looked
+    fewer_ran P c.goals.self c.come_to_next.new.self c.look.new.self c.turn_to_woken.new.self c.goals.way at c.look.ensures.same looked
+    c.in_ok-turn_to_woken-in-Ran.ensures.moved c.in_ok-turn_to_woken-in-Ran.ensures.near
 
-pub goals-preserved-in-Ran : goal.goals-preserved-in-Ran
-goals-preserved-in-Ran g c =
+pub goals-preserved-in_ok-turn_to_woken-in-Ran : goal.goals-preserved-in_ok-turn_to_woken-in-Ran
+goals-preserved-in_ok-turn_to_woken-in-Ran g c =
     let P = g.N.Naming.program in
     let says = c.skeleton_is_of_the_program.ensures in
     let loaded = is_loaded P c.args.loaded.now c.requires.program says.skeleton says.own_variables says.few in
@@ -198,10 +199,11 @@ goals-preserved-in-Ran g c =
     c.goals.heavy came c.at-share.ensures.next c.at-share.ensures.same in
     let looked = subst (λ (l : Looked). LookIs P
     (nat_lt 0 c.at-share.result.left) c.come_to_next.new.self c.look.new.self l) c.in-Ran.is c.in_ok-look.ensures.came_to in
+    let ran = round_changed P c.clear_out.new.self c.come_to_next.new.self c.look.new.self c.goals.changed c.at-share.result.left
+    c.at-share.result.left c.goals.heavy come.stands c.look.ensures.same c.in_ok-look.ensures.steps looked.0 in
     record {
-      stands = round_changed P c.clear_out.new.self c.come_to_next.new.self c.look.new.self c.goals.changed c.at-share.result.left
-          c.at-share.result.left c.goals.heavy
-          come.stands c.look.ensures.same c.in_ok-look.ensures.steps looked.0;
+      stands = round_moved P c.clear_out.new.self c.look.new.self c.turn_to_woken.new.self true c.at-share.result.left c.goals.heavy c.goals.heavy
+          refl ran c.turn_to_woken.ensures.same c.in_ok-turn_to_woken-in-Ran.ensures.moved;
       back = λ _. refl;
       some = come.some;
     }
