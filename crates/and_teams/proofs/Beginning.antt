@@ -14,9 +14,9 @@ use Rattle.and_answers.specs.Kept.{listed}
 use Rattle.and_search_laws.specs.Ended.{IsEndSoFar}
 use Rattle.and_team_laws.specs.Done.{DidAll}
 use Rattle.and_cells.specs.declared.naming.Naming.{Ghosts}
-use Rattle.and_teams.specs.Working.{Works, AreServed, IsAtWork}
+use Rattle.and_tasks.specs.Working.{Works, AreServed, IsAtWork}
 use Rattle.and_teams.specs.Ended.{IsFresh, AreFresh, IsWorked, AreDone}
-use Rattle.and_teams.specs.declared.team.Team.{Team}
+use Rattle.and_tasks.specs.declared.team.Team.{Team}
 use Rattle.and_teams.specs.declared.work.Worked.{Worked}
 use Rattle.and_teams.proofs.Gathering.{AreDoneDown}
 

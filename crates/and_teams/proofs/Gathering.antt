@@ -24,7 +24,7 @@ use Rattle.and_team_laws.specs.Done.{DidAll, Part, DidParts, all_parts}
 use Rattle.and_team_laws.proofs.Bools.{or_assoc, or_false}
 use Rattle.std.proofs.Math.Bool.{or-true}
 use Rattle.and_cells.specs.declared.naming.Naming.{Ghosts}
-use Rattle.and_teams.specs.Working.{Tells, SeesNone}
+use Rattle.and_tasks.specs.Working.{Tells, SeesNone}
 use Rattle.and_teams.specs.Ended.{IsWorked, AreDone, AllFound}
 use Rattle.and_teams.specs.declared.work.Worked.{Worked}
 

@@ -7,7 +7,7 @@ use Rattle.and_model.specs.Programs.{Program}
 use Rattle.and_cells.specs.declared.naming.Naming.{Ghosts}
 use Rattle.and_tree.specs.Passes.{TreeId}
 use Rattle.and_teams.specs.Ended.{AreFresh, IsWorked, AreDone}
-use Rattle.and_teams.specs.declared.team.Team.{Team}
+use Rattle.and_tasks.specs.declared.team.Team.{Team}
 use Rattle.and_teams.specs.declared.work.Worked.{Worked}
 use Rattle.and_teams.proofs.Beginning.{all_done}
 

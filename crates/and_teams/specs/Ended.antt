@@ -19,8 +19,8 @@ use Rattle.and_answers.specs.Kept.{listed, Merges}
 use Rattle.and_answers.specs.declared.found.Found.{Found}
 use Rattle.and_search_laws.specs.Found.{kept_count}
 use Rattle.and_cells.specs.declared.naming.Naming.{Ghosts}
-use Rattle.and_teams.specs.Working.{IsDone}
-use Rattle.and_teams.specs.declared.team.Team.{Team}
+use Rattle.and_tasks.specs.Working.{IsDone}
+use Rattle.and_tasks.specs.declared.team.Team.{Team}
 use Rattle.and_teams.specs.declared.work.Worked.{Worked}
 
 -- The team of this number has done nothing.

@@ -1,4 +1,1 @@
-pub mod Placed
-pub mod Working
-pub mod Copying
 pub mod Ended

@@ -1,20 +1,24 @@
 //! The search by several teams.
 
-ghost use Rattle.std.specs.Prelude.{◌≡◌, ◌<◌, ◌≤◌, [], length, reverse, IfOk, All};
+ghost use Rattle.std.specs.Prelude.{◌≡◌, ◌<◌, ◌≤◌, [], ◌∷◌, ◌++◌, false, length, reverse, IfOk, All};
 ghost use Rattle.std.specs.Thread.{IsSync};
+ghost use Rattle.and_model.specs.declared.goal.Cut.{Cut};
 ghost use Rattle.and_model.specs.declared.limits.TheConstants.{MAX_LIMIT};
+ghost use Rattle.and_model.specs.Limits.{query_alone};
+ghost use Rattle.and_model.specs.Programs.{clause_weight};
 ghost use Rattle.and_program.specs.Loaded.{program_of};
 ghost use Rattle.and_cells.specs.Parts.{named};
 ghost use Rattle.and_clause_index.specs.Tables.{IsTableOf};
 ghost use Rattle.and_model.specs.Trees.{blank, query_agenda};
-ghost use Rattle.and_branch.specs.Branches.{IsBranchOf};
+ghost use Rattle.and_answers.specs.Kept.{Merges};
+ghost use Rattle.and_branch_laws.specs.States.{IsCut};
+ghost use Rattle.and_code.specs.Written.{all_written};
+ghost use Rattle.and_branch.specs.Branches.{Held, IsBranchOf};
 ghost use Rattle.and_tree.specs.Passes.{fresh_from};
 ghost use Rattle.and_search_laws.specs.Found.{IsFound};
-ghost use Rattle.and_teams.specs.Working.{IsAtWork};
+ghost use Rattle.and_tasks.specs.Working.{IsAtWork};
 ghost use Rattle.and_teams.specs.Ended.{AreFresh, IsWorked, AreDone, AllFound, IsRunOf};
 
-use crate::placed::PlacedBranch;
-use crate::team::{Shared, Team};
 use crate::work::{Worked, work};
 use and_answers::{Coded, Found};
 use and_branch::{Branch, Rooted, Workspace};
@@ -22,6 +26,7 @@ use and_cells::Naming;
 use and_clause_index::Determinacy;
 use and_gate::Gate;
 use and_program::Loaded;
+use and_tasks::{PlacedBranch, Shared, Team};
 use and_tree::{ClosedTree, Tree, TreePassList};
 use std::alloc::{AllocError, Global};
 use std::marker::Brand;
@@ -89,8 +94,7 @@ fn explore_named<N: Naming + Send + Sync, R: Threads + Wait + Sync, G: Gate>(
     ensures closed { IfOk result
         (λ explored. IsRunOf N.program.program settings.limit settings.teams explored.found explored.closed) }
 {
-    let mut workspace = Workspace::new(alloc);
-    match Branch::<N>::root(alloc, loaded, settings.limit, &mut workspace) {
+    match rooted::<N>(alloc, loaded, settings.limit) {
         Rooted::Ready(branch) => { explore_root(rt, alloc, loaded, table, settings, gate, branch) }
         Rooted::TooHeavy(cut) => {
             let mut found = Found::new(alloc);
@@ -102,6 +106,23 @@ fn explore_named<N: Naming + Send + Sync, R: Threads + Wait + Sync, G: Gate>(
         }
         Rooted::Memory => Err(AllocError),
     }
+}
+
+/// The branch of the program's query, of which nothing is reduced yet.
+fn rooted<N: Naming>(alloc: Global, loaded: &Loaded, limit: u32) -> Rooted<N>
+    requires program { N.program ≡ named loaded.now }
+    requires limit { limit ≤ MAX_LIMIT }
+    ensures ready { (b : Held) → result ≡ Rooted.Ready b
+        → IsBranchOf N.program b (blank (query_agenda N.program.program)) }
+    ensures plain { (b : Held) → result ≡ Rooted.Ready b → (b.key ≡ []) × (b.limit ≡ limit) × (b.reductions ≡ []) }
+    ensures heavy { (cut : Cut) → result ≡ Rooted.TooHeavy cut → limit < clause_weight N.program.program.query }
+    ensures cut { (cut : Cut) → result ≡ Rooted.TooHeavy cut
+        → IsCut {P = N.program.program} (all_written cut.partial) cut.goal cut.clause.0 query_alone }
+{
+    let mut workspace = Workspace::new(alloc);
+    let root = Branch::root(alloc, loaded, limit, &mut workspace);
+    drop(workspace);
+    root
 }
 
 /// All answers that the root of the search leads to.
@@ -208,14 +229,37 @@ fn gathered<N: Naming>(
     let mut found = Coded::new(alloc);
     let mut passes = TreePassList::new(alloc);
     while let Some(done) = worked.pop() {
-        let Worked { team, has_failed } = done;
-        if has_failed {
-            return Err(AllocError);
-        }
-        found = found.merge(team.found)?;
-        if passes.push(team.pass).is_err() {
-            return Err(AllocError);
-        }
+        let (more, all) = joined(found, passes, done)?;
+        found = more;
+        passes = all;
     }
     Ok((found, passes))
+}
+
+/// What was found and the passes, with those of a team that is done. An error is want of memory.
+fn joined<N: Naming>(
+    found: Coded,
+    passes: TreePassList<PlacedBranch<N>>,
+    done: Worked<N>,
+) -> Result<(Coded, TreePassList<PlacedBranch<N>>), AllocError>
+    ensures { IfOk result (λ r. (done.has_failed ≡ false) × Merges found done.team.found r.0
+        × (r.1 ≡ passes ++ done.team.pass ∷ [])) }
+{
+    let Some((part, pass)) = done.into_parts() else {
+        drop(found);
+        drop(passes);
+        return Err(AllocError);
+    };
+    let Ok(both) = found.merge(part) else {
+        drop(pass);
+        drop(passes);
+        return Err(AllocError);
+    };
+    let mut passes = passes;
+    if passes.push(pass).is_err() {
+        drop(both);
+        drop(passes);
+        return Err(AllocError);
+    }
+    Ok((both, passes))
 }

@@ -6,11 +6,8 @@
 #![tactic(auto)]
 
 pub mod exploring;
-mod handing;
 pub mod laws;
-mod placed;
-mod stack;
-mod team;
+mod turning;
 mod work;
 
 pub use exploring::{Explored, Settings, explore};

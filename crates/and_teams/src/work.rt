@@ -1,13 +1,17 @@
 //! How a team works until nothing is left.
 
-ghost use Rattle.std.specs.Prelude.{◌≡◌, [], false, OnOk, IfOk, true};
+ghost use Rattle.std.specs.Prelude.{◌≡◌, [], false, OnOk, IfOk, IfSome, true};
 ghost use Rattle.and_cells.specs.Parts.{named};
 ghost use Rattle.and_clause_index.specs.Tables.{IsTableOf};
-ghost use Rattle.and_teams.specs.Working.{Has, IsAtWork, IsDone, SeesNone};
+ghost use Rattle.and_tasks.specs.Working.{Has, IsAtWork, IsDone, SeesNone};
 
-use crate::team::{Shared, Team};
+use crate::turning::turn;
+use and_answers::Coded;
 use and_cells::Naming;
 use and_gate::Gate;
+use and_phase::Pace;
+use and_tasks::{PlacedBranch, Shared, Team};
+use and_tree::TreePass;
 use crossbeam_utils::Backoff;
 use std::alloc::AllocError;
 use std::sync::Wait;
@@ -18,6 +22,21 @@ use std::thread::Threads;
 pub struct Worked<N: Naming> {
     pub team: Team<N>,
     pub has_failed: bool,
+}
+
+impl<N: Naming> Worked<N> {
+    /// What the team found, and its pass; `None` where it met want of memory. Takes no memory.
+    pub fn into_parts(self) -> Option<(Coded, TreePass<PlacedBranch<N>>)>
+        ensures { IfSome result
+            (λ r. (self.has_failed ≡ false) × (r.0 ≡ self.team.found) × (r.1 ≡ self.team.pass)) }
+    {
+        let Worked { team, has_failed } = self;
+        if has_failed {
+            drop(team);
+            return None;
+        }
+        Some(team.into_parts())
+    }
 }
 
 /// Works until no branch is left, of this team or of another. After want of memory the team gives up
@@ -37,8 +56,9 @@ pub fn work<N: Naming + Send + Sync, R: Threads + Wait + Sync, G: Gate>(
         → IsDone N.program.program shared.now.tree.now result.team.pass result.team.found }
     ensures given_up { result.has_failed ≡ true → result.team.pass.hand ≡ [] }
 {
+    let mut pace = Pace::new();
     'working: for _ in rt.forever() {
-        match go_on(rt, shared, &mut team) {
+        match go_on(rt, shared, &mut team, &mut pace) {
             Ok(true) => {}
             Ok(false) => {
                 return Worked {
@@ -63,6 +83,7 @@ fn go_on<N: Naming + Send + Sync, R: Threads + Wait + Sync, G: Gate>(
     rt: &R,
     shared: &Shared<N, G>,
     team: &mut Team<N>,
+    pace: &mut Pace,
 ) -> Result<bool, AllocError>
     requires program { N.program ≡ named shared.now.loaded.now }
     requires table { IsTableOf N.program shared.now.table.now }
@@ -74,7 +95,7 @@ fn go_on<N: Naming + Send + Sync, R: Threads + Wait + Sync, G: Gate>(
     ensures over { IfOk result (λ goes_on. goes_on ≡ false → SeesNone team.new.pass) }
     ensures same { team.new.number ≡ team.old.number }
 {
-    if team.turn(rt, shared)? {
+    if turn(rt, shared, team, pace)? {
         return Ok(true);
     }
     wait(rt, shared, team)

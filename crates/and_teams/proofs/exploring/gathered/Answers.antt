@@ -1,7 +1,6 @@
 use Rattle.std.proofs.Common.{◌≡◌, ◌++◌, ◌∷◌, [], append-nil, append_assoc, sym, ap, subst, ◌∙◌, arith}
 use Rattle.std.proofs.lemmas.List.{nil_from_length}
 use Rattle.and_teams.specs.Ended.{AllFound}
-use Rattle.and_teams.proofs.Beginning.{if_not_err}
 use Rattle.and_teams.proofs.exploring.gathered.Goals as goal
 
 pub loop-done-init : goal.loop-done-init
@@ -12,18 +11,11 @@ loop-done-init g c =
 pub loop-done-preserved : goal.loop-done-preserved
 loop-done-preserved g c =
     let i = c.loop-done.invariant in
-    let w = c.in-Some.done in (
+    let w = c.in-Some.done in
+    let more = c.in_ok-more.ensures in (
       w ∷ i.0,
       i.1 ∙ ap (λ l. l ++ i.0) c.in-Some.ensures.items ∙ append_assoc c.pop.new.self.items (w ∷ []) i.0,
-      (
-        c.if-has_failed.false,
-        c.loop-done.found,
-        c.loop-done.passes,
-        i.2,
-        c.in_ok-found.ensures,
-        if_not_err c.push.result (c.push.new.self ≡ c.loop-done.passes ++ w.team.pass ∷ []) (sym c.is_err.ensures.value ∙ c.if-is_err.false)
-            c.push.ensures.ok,
-      ),
+      (more.0, c.loop-done.found, c.loop-done.passes, i.2, more.1, more.2),
     )
 
 pub returns : goal.returns

@@ -4,7 +4,8 @@ use denote.Param.Send.{param_send, arg_send}
 use Rattle.std.proofs.Common.{◌≡◌, length, ◌∙◌, arith}
 use Rattle.and_teams.proofs.Beginning.{if_ok_both}
 use Rattle.and_teams.proofs.Mapping.{all_called}
-use Rattle.and_teams.proofs.Sending.{team_send, worked_send}
+use Rattle.and_tasks.proofs.Sending.{team_send}
+use Rattle.and_teams.proofs.Sending.{worked_send}
 use Rattle.and_teams.proofs.exploring.work_by_teams.Goals as goal
 
 pub returns : goal.returns

@@ -1,5 +1,5 @@
 use Rattle.std.proofs.Common.{◌∙◌}
-use Rattle.and_teams.proofs.Sharing.{sees_none, works_counted}
+use Rattle.and_tasks.proofs.Sharing.{sees_none, works_counted}
 use Rattle.and_teams.proofs.work.wait.Goals as goal
 
 pub returns-then-left-eq0-clause-at_work : goal.returns-then-left-eq0-clause-at_work

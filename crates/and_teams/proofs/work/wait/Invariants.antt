@@ -1,5 +1,5 @@
 use Rattle.std.proofs.Common.{◌≡◌}
-use Rattle.and_teams.specs.Working.{IsAtWork}
+use Rattle.and_tasks.specs.Working.{IsAtWork}
 use Rattle.and_teams.proofs.work.wait.Given as goal
 
 abbrev pub invariant-waiting : goal.invariant-waiting

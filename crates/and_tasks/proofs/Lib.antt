@@ -1,0 +1,11 @@
+pub mod Calls
+pub mod Telling
+pub mod Having
+pub mod Sharing
+pub mod Judging
+pub mod Turns
+pub mod Serving
+pub mod ToldKeys
+pub mod Ready
+pub mod Copied
+pub mod Sending

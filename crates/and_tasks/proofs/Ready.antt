@@ -1,0 +1,212 @@
+-- A branch in hand: how it comes to be there, goes on, ends and is forked, above a stack that it will serve.
+use Rattle.std.proofs.Common.{ℕ, ◌≡◌, ◌≢◌, inl, inr, List, [], ◌∷◌, ◌++◌, length, take, Option, Some, None, refl, sym, ap, subst, arith, Vec}
+use Rattle.std.specs.declared.alloc.Global.{Global}
+use Rattle.and_model.specs.Prefixes.{IsPrefix}
+use Rattle.and_model.specs.Trees.{QueryTree}
+use Rattle.and_cells.specs.Ranges.{NamedProgram}
+use Rattle.and_branch.specs.Branches.{Held, IsBranchOf, SameKey}
+use Rattle.and_branch.specs.Children.{Fork, IsChild}
+use Rattle.and_branch.specs.Origins.{GoesBack, KeepsBack}
+use Rattle.and_code.specs.Telling.{IsTold, left_of}
+use Rattle.and_reduction.specs.Trails.{Noted}
+use Rattle.and_code.specs.declared.telling.Told.{Told}
+use Rattle.and_tree.specs.Passes.{TreeId, PassSeen}
+use Rattle.and_answers.specs.declared.found.Found.{Found}
+use Rattle.and_tasks.specs.Working.{AreToCome, Has, Works, AreServed, Serves, IsAtWork, IsReady, as_told, at_fork, forked}
+use Rattle.and_tasks.specs.declared.stack.Hand.{Hand}
+use Rattle.and_tasks.specs.declared.stack.Level.{Level}
+use Rattle.and_tasks.specs.declared.stack.Task.{Task}
+use Rattle.and_tasks.specs.declared.stack.Task.TheVariants.{One, Children, Left}
+use Rattle.and_tasks.proofs.Serving.{back_keyed, back_unkeyed, served_off, served_put, served_alone, served_kept, served_keyed}
+use Rattle.and_tasks.proofs.ToldKeys.{told_anew, told_kept, begins_key, begins_same, child_told, last_served, child_served}
+use Rattle.and_tasks.proofs.Having.{has_unleft, has_pushed, child_parted, last_parted}
+use Rattle.and_tasks.proofs.Turns.{works_put, works_popped, works_stepped, works_kept, has_second_on_top}
+
+-- What could be had again can be, whatever the keys are.
+keeps_keyed : (b d : Held) (one two : List ℕ) → KeepsBack b d → KeepsBack (record b { key = one }) (record d { key = two })
+keeps_keyed b d one two keeps = record {
+  mark = keeps.mark;
+  again = λ first x. back_keyed first d two (keeps.again first (back_unkeyed first b one x));
+  made = keeps.made;
+  grows = keeps.grows;
+}
+
+-- What is noted of its row is of no account to what a branch stands for.
+other_trail : (P : NamedProgram) (b : Held) (noted : Noted) (t : QueryTree P.program) → IsBranchOf P b t
+    → IsBranchOf P (record b { trail = noted }) t
+other_trail P b noted t x = record {
+  made = x.made;
+  reached = x.reached;
+  bounded = x.bounded;
+  used = x.used;
+  state = elim x.state [
+    | inl dead ↦ inl dead
+    | inr l ↦ inr (record { kept = l.kept; keeps = l.keeps; goals = l.goals; long = l.long; live = l.live; asleep = l.asleep })
+  ];
+}
+
+module _ {N : Type 0} where
+  -- What is left of a branch in hand serves the stack,
+  pub ended_served : (h : Hand N) (stack : List (Task N)) → AreServed (Some (as_told h)) stack → AreServed (Some h.branch) stack
+  ended_served h stack s = served_keyed h.branch (take h.told.length h.branch.key) h.branch.key stack (begins_key h.told.length h.branch.key) s
+
+  -- and so does the branch, where it was forked.
+  pub forked_served : (h : Hand N) (f : Fork) (stack : List (Task N)) → f.parent ≡ h.branch → IsPrefix (take h.told.length h.branch.key) f.longer
+      → AreServed (Some (as_told h)) stack → AreServed (Some (at_fork f)) stack
+  forked_served h f stack is begins s =
+      subst (λ (d : Held). AreServed (Some (record d { key = f.longer })) stack) (sym is)
+      (served_keyed h.branch (take h.told.length h.branch.key) f.longer stack begins s)
+
+-- A fork is of the branch that was in hand.
+pub told_fork : (P : NamedProgram) (b : Held) (f : Fork) (t : Told) → f.parent ≡ b → IsTold P.program b.reductions t f.longer
+    → IsTold P.program f.parent.reductions t f.longer
+told_fork P b f t is told = subst (λ (d : Held). IsTold P.program d.reductions t f.longer) (sym is) told
+
+pub back_fork : (b left : Held) (f : Fork) → f.parent ≡ b → GoesBack b left → GoesBack f.parent left
+back_fork b left f is back = subst (λ (d : Held). GoesBack d left) (sym is) back
+
+module _ {N : Type 0} (P : NamedProgram) (tree : TreeId) (pass : PassSeen) (found : Found) where
+  -- A branch in hand has ended, and what is left of it serves the stack.
+  pub left_at_work : (h : Hand N) (u v : Vec (Task N) Global) → v ≡ u → AreServed (Some (as_told h)) u.items → Works P tree pass found v.items
+      → IsAtWork P tree pass found v.items (Some h.branch)
+  left_at_work h u v same s w = record {
+    works = w;
+    served = ended_served h v.items (subst (λ (x : Vec (Task N) Global). AreServed (Some (as_told h)) x.items) (sym same) s);
+  }
+
+  -- What was left of a branch is no task that has a key.
+  pub works_unleft : (b : Held) (tasks : List (Task N)) → Works P tree pass found (Left b ∷ tasks) → Works P tree pass found tasks
+  works_unleft b tasks w = record { has = has_unleft P tree pass b tasks w.has; tells = w.tells }
+
+  pub has_left_put : (b c : Held) (tasks after : List (Task N)) → after ≡ tasks ++ Left c ∷ [] → Has P tree pass (One b ∷ tasks)
+      → Has P tree pass (One b ∷ after)
+  has_left_put b c tasks after is h =
+      subst (λ (ts : List (Task N)). Has P tree pass (One b ∷ ts)) (sym is)
+      (has_pushed P tree pass (One b ∷ tasks) (Left c)
+      (record { of_tree = h.of_tree; hand = h.hand; tasks_are = (tt, h.tasks_are) }))
+
+  -- A branch on top comes to hand, of whose key nothing is told.
+  pub ready_popped : (stack rest : List (Task N)) (left : Option Held) (b : Held) (t : Told) → IsAtWork P tree pass found stack left
+      → stack ≡ rest ++ One b ∷ [] → IsTold P.program [] t [] → t.length ≡ 0 → IsReady P tree pass found rest (record { branch = b; told = t })
+  ready_popped stack rest left b t w is told none = record {
+    works = works_popped P tree pass found (One b) rest stack w.works is;
+    told = told_anew P b.reductions t b.key none told;
+    served = served_alone (Some (as_told {N = N} (record { branch = b; told = t }))) rest
+        (served_off left rest (One b) (subst (λ (ts : List (Task N)). AreServed left ts) is w.served)).0;
+  }
+
+  -- What was left of a branch serves the stack again.
+  pub left_popped : (stack rest : List (Task N)) (left : Option Held) (b : Held) → IsAtWork P tree pass found stack left
+      → stack ≡ rest ++ Left b ∷ [] → IsAtWork P tree pass found rest (Some b)
+  left_popped stack rest left b w is = record {
+    works = works_unleft b rest (works_popped P tree pass found (Left b) rest stack w.works is);
+    served = (served_off left rest (Left b) (subst (λ (ts : List (Task N)). AreServed left ts) is w.served)).0;
+  }
+
+  -- The branch in hand went on by Steps under its key,
+  pub ready_on : (stack : List (Task N)) (h : Hand N) (d : Held) → IsReady P tree pass found stack h → SameKey h.branch d
+      → ((t : QueryTree P.program) → IsBranchOf P h.branch t → (u : QueryTree P.program) × IsBranchOf P d u) → KeepsBack h.branch d
+      → IsReady P tree pass found stack (record { branch = d; told = h.told })
+  ready_on stack h d r same steps keeps =
+      let n : ℕ = h.told.length in record {
+        works = works_stepped P tree pass found h.branch d stack r.works same steps;
+        told = told_kept P h.branch d h.told same keeps r.told;
+        served = served_kept (as_told h) (record d { key = take n d.key }) stack
+            (keeps_keyed h.branch d (take n h.branch.key) (take n d.key) keeps)
+            (begins_same (take n h.branch.key) (take n d.key) (ap (λ (key : List ℕ). take n key) same.key)) r.served;
+      }
+
+  -- (what the team has is the same)
+  pub ready_still : (q : PassSeen) (new : Found) (u v : Vec (Task N) Global) (h : Hand N) → q ≡ pass → new ≡ found → v ≡ u
+      → IsReady P tree pass found u.items h → IsReady P tree q new v.items h
+  ready_still q new u v h same_pass kept same r =
+      subst (λ (p : PassSeen). IsReady P tree p new v.items h) (sym same_pass)
+      (subst (λ (f : Found). IsReady P tree pass f v.items h) (sym kept)
+      (subst (λ (w : Vec (Task N) Global). IsReady P tree pass found w.items h) (sym same) r))
+
+  -- or one of a row of its own did.
+  pub ready_alone : (stack : List (Task N)) (b d : Held) (t : Told) → Works P tree pass found (One b ∷ stack) → AreServed None stack
+      → SameKey b d → ((u : QueryTree P.program) → IsBranchOf P b u → (v : QueryTree P.program) × IsBranchOf P d v)
+      → IsTold P.program [] t [] → t.length ≡ 0 → IsReady P tree pass found stack (record { branch = d; told = t })
+  ready_alone stack b d t w s same steps told none = record {
+    works = works_stepped P tree pass found b d stack w same steps;
+    told = told_anew P d.reductions t d.key none told;
+    served = served_alone (Some (as_told {N = N} (record { branch = d; told = t }))) stack s;
+  }
+
+  -- The last child of a fork comes to hand,
+  pub last_ready : (l : Level N) (g : Fork) (b : Held) (stack : List (Task N)) → Works P tree pass found (Children l ∷ stack)
+      → IsChild P l.point g b → length l.point.clauses ≡ 1 → KeepsBack l.point.parent b → AreServed (Some (forked l)) stack
+      → IsReady P tree pass found stack (record { branch = b; told = l.told })
+  last_ready l g b stack w is one keeps s =
+      let x : AreToCome P tree.about.limit l = w.has.tasks_are.0 in record {
+        works = record { has = last_parted P tree l g b stack pass is one w.has; tells = w.tells };
+        told = child_told P l.point g b l.told l.told is x.long refl keeps.made refl x.told keeps.grows;
+        served = last_served P l.point g b l.told l.told is x.long refl l refl stack keeps s;
+      }
+
+  -- (behind the next of several others come)
+  pub some_more : (l m : Level N) (b : Held) → IsChild P l.point m.point b → length l.point.clauses ≢ 1 → m.point.clauses ≢ []
+  some_more l m b is more none =
+      let whole = ap (λ (cs : List ℕ). length cs) is.next in
+      let left = ap (λ (cs : List ℕ). length cs) none in
+      more (omega (arith, whole, left))
+
+  pub another_parted : (l m : Level N) (b : Held) (stack : List (Task N)) → Works P tree pass found (Children l ∷ stack)
+      → IsChild P l.point m.point b → length l.point.clauses ≢ 1 → m ≡ record l { point = m.point }
+      → Has P tree pass (One b ∷ Children m ∷ stack)
+  another_parted l m b stack w is more same =
+      child_parted P tree l m b stack pass is (ap (λ (k : Level N). k.told) same) (ap (λ (k : Level N). k.longer.value) same)
+      (some_more l m b is more) w.has
+
+  -- and so does the next one, where others come behind it.
+  pub another_ready : (q : PassSeen) (new : Found) (l m : Level N) (b : Held) (t : Told) (stack after : List (Task N))
+      → Works P tree pass found (Children l ∷ stack) → IsChild P l.point m.point b → length l.point.clauses ≢ 1
+      → m ≡ record l { point = m.point } → t.length ≡ l.told.length → left_of t ≡ left_of l.told → GoesBack l.point.parent b
+      → AreServed (Some (forked l)) stack → new ≡ found → (q ≡ pass) × (after ≡ stack ++ Children m ∷ [])
+      → IsReady P tree q new after (record { branch = b; told = t })
+  another_ready q new l m b t stack after w is more same long left back s kept (same_pass, put) =
+      let x : AreToCome P tree.about.limit l = w.has.tasks_are.0 in
+      let has : Has P tree pass (One b ∷ after) =
+      has_second_on_top P tree pass (One b) (Children m) stack after (another_parted l m b stack w is more same) put in record {
+        works = works_kept P tree pass q found new (Children l ∷ stack) (One b ∷ after) same_pass kept w
+            (subst (λ (r : PassSeen). Has P tree r (One b ∷ after)) (sym same_pass) has);
+        told = child_told P l.point m.point b l.told t is x.long long back.made left x.told back.reductions;
+        served = subst (λ (ts : List (Task N)). AreServed (Some (as_told {N = N} (record { branch = b; told = t }))) ts) (sym put)
+            (child_served P l.point m.point b l.told t is x.long long l refl stack m refl back s);
+      }
+
+  -- The branch with a row of its own, above what is left of the one that was copied.
+  pub own_works : (h : Hand N) (own : Held) (noted : Noted) (stack after : List (Task N)) → IsReady P tree pass found stack h
+      → own ≡ record h.branch { trail = noted } → after ≡ stack ++ Left h.branch ∷ []
+      → Works P tree pass found (One own ∷ after) × AreServed None after
+  own_works h own noted stack after r is put =
+      let b : Held = h.branch in
+      let stands = r.works.has.tasks_are.0 in
+      let copied : Works P tree pass found (One own ∷ stack) =
+      works_stepped P tree pass found b own stack r.works
+      (record { key = ap (λ (d : Held). d.key) is; limit = ap (λ (d : Held). d.limit) is })
+      (λ t x. (t, subst (λ (d : Held). IsBranchOf P d t) (sym is) (other_trail P b noted t x))) in (
+        record {
+          has = has_left_put own b stack after put copied.has;
+          tells = copied.tells;
+        },
+        subst (λ (ts : List (Task N)). AreServed None ts) (sym put) (served_put None stack (Left b) (ended_served h stack r.served) tt),
+      )
+
+  -- A fork was put on the stack, and what is left of the branch that was forked serves it.
+  pub fork_at_work : (q : PassSeen) (new : Found) (l k : Level N) (b : Held) (stack after : List (Task N)) (left : Option Held)
+      → Works P tree pass found (Children k ∷ stack) → k ≡ l → GoesBack l.point.parent b → b.key ≡ l.point.longer
+      → AreServed (Some (at_fork l.point)) stack → new ≡ found → left ≡ Some b → (q ≡ pass) × (after ≡ stack ++ Children k ∷ [])
+      → IsAtWork P tree q new after left
+  fork_at_work q new l k b stack after left w same back key below kept is (same_pass, put) =
+      let here : Serves l b = record { back = back; begins = begins_same l.point.longer b.key key } in
+      let served : AreServed (Some b) (stack ++ Children l ∷ []) = served_put (Some b) stack (Children l) below (here, tt) in
+      record {
+        works = works_put P tree q new (Children k) stack after
+            (works_kept P tree pass q found new (Children k ∷ stack) (Children k ∷ stack) same_pass kept w
+            (subst (λ (r : PassSeen). Has P tree r (Children k ∷ stack)) (sym same_pass) w.has)) put;
+        served = subst (λ (o : Option Held). AreServed o after) (sym is)
+            (subst (λ (ts : List (Task N)). AreServed (Some b) ts) (sym put)
+            (subst (λ (m : Level N). AreServed (Some b) (stack ++ Children m ∷ [])) (sym same) served));
+      }

@@ -1,0 +1,103 @@
+use Rattle.std.proofs.Common.{◌∙◌, ◌∷◌, ap, sym, subst, refl}
+use Rattle.std.specs.Prelude.{Option}
+use Rattle.std.specs.Option.{option_or}
+use Rattle.and_model.specs.declared.goal.Cut.{Cut}
+use Rattle.std.proofs.lemmas.Result.{on_ok_weaker}
+use Rattle.and_cells.specs.Ranges.{NamedProgram}
+use Rattle.and_branch.specs.Children.{Fork}
+use Rattle.and_tree.specs.Passes.{TreeId}
+use Rattle.and_tasks.specs.Working.{Has, Works}
+use Rattle.and_tasks.specs.declared.stack.Level.{Level}
+use Rattle.and_tasks.specs.declared.stack.Task.TheVariants.{Children}
+use Rattle.and_tasks.proofs.Having.{key_there}
+use Rattle.and_tasks.proofs.Ready.{fork_at_work}
+use Rattle.and_tasks.proofs.Sharing.{has_either}
+use Rattle.and_tasks.proofs.Turns.{begins_longer, few_children, few_in_hand, justified_fork, forked_works}
+use Rattle.and_tasks.proofs.team.Team.replace.Goals as goal
+
+pub fork-requires-clause-hand : goal.fork-requires-clause-hand
+fork-requires-clause-hand g c =
+    let s = c.args.self.now in
+    let f : Fork = c.args.forked.choicepoint in
+    key_there g.N.Naming.program c.args.shared.now.tree.now s.pass f.parent s.stack.items f.parent.key refl c.requires.works.has
+
+pub fork-requires-clause-longer : goal.fork-requires-clause-longer
+fork-requires-clause-longer g c =
+    let (t, o, first, branch, are, is_cut, state) = c.requires.split in
+    begins_longer g.N.Naming.program c.args.forked.choicepoint t branch are
+
+pub fork-requires-clause-is_fork : goal.fork-requires-clause-is_fork
+fork-requires-clause-is_fork g c =
+    let s = c.args.self.now in
+    let (t, o, first, branch, are, is_cut, state) = c.requires.split in
+    justified_fork g.N.Naming.program c.args.shared.now.tree.now s.pass s.found c.args.forked.choicepoint s.stack.items t o first c.requires.works
+    branch are state
+
+pub fork-requires-clause-few : goal.fork-requires-clause-few
+fork-requires-clause-few g c =
+    let P : NamedProgram = g.N.Naming.program in
+    let s = c.args.self.now in
+    let f : Fork = c.args.forked.choicepoint in
+    let (t, o, first, branch, are, is_cut, state) = c.requires.split in
+    few_in_hand P c.args.shared.now.tree.now s.pass f.parent s.stack.items f.clauses c.requires.works.has c.requires.few
+    (few_children P c.args.shared.now.loaded.now f t o first c.requires.program state)
+
+pub put-requires-clause-has : goal.put-requires-clause-has
+put-requires-clause-has g c κs within =
+    let P : NamedProgram = g.N.Naming.program in
+    let tree : TreeId = c.args.shared.now.tree.now in
+    let s = c.args.self.now in
+    let f : Fork = c.args.forked.choicepoint in
+    let l : Level g.row.N.Denot = record { point = f; told = c.args.told; longer = c.of-longer.result } in
+    let (t, o, first, branch, are, is_cut, state) = c.requires.split in
+    let counted = c.count_fork.ensures in
+    let kept = c.keep_cut.ensures in
+    let forked = forked_works P tree s.pass c.fork.new.pass s.found c.keep_cut.new.self l s.stack.items t o first c.args.cut c.requires.works
+    branch are is_cut state (few_children P c.args.shared.now.loaded.now f t o first c.requires.program state) c.requires.told c.requires.length
+    (c.of-longer.ensures ∙ c.key.ensures ∙ c.requires.key) (kept.rest ∙ counted.rest.1)
+    (kept.counts.0 ∙ counted.forks) (kept.counts.1 ∙ counted.failed)
+    (kept.cut ∙ ap (λ (x : Option Cut). option_or x c.args.cut) counted.rest.0) c.fork.ensures in
+    (s.stack.items, subst (λ (k : Level g.row.N.Denot). Has P tree c.fork.new.pass (Children k ∷ s.stack.items)) (sym c.new-level.ensures) forked.has)
+
+pub returns-clause-at_work : goal.returns-clause-at_work
+returns-clause-at_work g c =
+    let P : NamedProgram = g.N.Naming.program in
+    let tree : TreeId = c.args.shared.now.tree.now in
+    let s = c.args.self.now in
+    let f : Fork = c.args.forked.choicepoint in
+    let l : Level g.row.N.Denot = record { point = f; told = c.args.told; longer = c.of-longer.result } in
+    let (t, o, first, branch, are, is_cut, state) = c.requires.split in
+    let counted = c.count_fork.ensures in
+    let kept = c.keep_cut.ensures in
+    let forked = forked_works P tree s.pass c.fork.new.pass s.found c.keep_cut.new.self l s.stack.items t o first c.args.cut c.requires.works
+    branch are is_cut state (few_children P c.args.shared.now.loaded.now f t o first c.requires.program state) c.requires.told c.requires.length
+    (c.of-longer.ensures ∙ c.key.ensures ∙ c.requires.key) (kept.rest ∙ counted.rest.1)
+    (kept.counts.0 ∙ counted.forks) (kept.counts.1 ∙ counted.failed)
+    (kept.cut ∙ ap (λ (x : Option Cut). option_or x c.args.cut) counted.rest.0) c.fork.ensures in
+    let k : Level g.row.N.Denot = c.new-level.result in
+    let w = subst (λ (m : Level g.row.N.Denot). Works P tree c.fork.new.pass c.keep_cut.new.self (Children m ∷ s.stack.items))
+    (sym c.new-level.ensures) forked in
+    on_ok_weaker c.put.result
+    (fork_at_work P tree c.fork.new.pass c.keep_cut.new.self c.put.new.self.pass c.put.new.self.found l k c.args.forked.left s.stack.items
+    c.put.new.self.stack.items c.put.new.self.left w c.new-level.ensures c.requires.left c.requires.key c.requires.served c.put.ensures.same.1
+    c.put.ensures.same.2)
+    c.put.ensures.put
+
+pub returns-clause-has : goal.returns-clause-has
+returns-clause-has g c =
+    let P : NamedProgram = g.N.Naming.program in
+    let tree : TreeId = c.args.shared.now.tree.now in
+    let s = c.args.self.now in
+    let f : Fork = c.args.forked.choicepoint in
+    let l : Level g.row.N.Denot = record { point = f; told = c.args.told; longer = c.of-longer.result } in
+    let (t, o, first, branch, are, is_cut, state) = c.requires.split in
+    let counted = c.count_fork.ensures in
+    let kept = c.keep_cut.ensures in
+    let forked = forked_works P tree s.pass c.fork.new.pass s.found c.keep_cut.new.self l s.stack.items t o first c.args.cut c.requires.works
+    branch are is_cut state (few_children P c.args.shared.now.loaded.now f t o first c.requires.program state) c.requires.told c.requires.length
+    (c.of-longer.ensures ∙ c.key.ensures ∙ c.requires.key) (kept.rest ∙ counted.rest.1)
+    (kept.counts.0 ∙ counted.forks) (kept.counts.1 ∙ counted.failed)
+    (kept.cut ∙ ap (λ (x : Option Cut). option_or x c.args.cut) counted.rest.0) c.fork.ensures in
+    let w = subst (λ (k : Level g.row.N.Denot). Has P tree c.fork.new.pass (Children k ∷ s.stack.items)) (sym c.new-level.ensures) forked.has in
+    has_either P tree c.put.result c.fork.new.pass c.put.new.self.pass (Children c.new-level.result) s.stack.items c.put.new.self.stack.items w
+    c.put.ensures.put c.put.ensures.given_up

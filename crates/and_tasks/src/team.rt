@@ -1,0 +1,555 @@
+//! A team: what it has found, and what it has still to explore.
+
+ghost use Rattle.std.specs.Prelude.{◌≡◌, ◌≢◌, ◌⊎◌, ◌<◌, ◌*◌, ◌^◌, ◌≤◌, length, ◌++◌, ◌∷◌, [], ℕ, List, Option, None};
+ghost use Rattle.std.specs.Prelude.{Some, OnOk, OnErr, IfOk, IfSome, IfNone, true};
+ghost use Rattle.and_model.specs.declared.limits.TheConstants.{MAX_LIMIT};
+ghost use Rattle.and_model.specs.Trees.{QueryTree, Open};
+ghost use Rattle.and_model.specs.Trees as trees;
+ghost use Rattle.and_model.specs.Listing.{Outcome, Ends};
+ghost use Rattle.and_cells.specs.Parts.{named};
+ghost use Rattle.and_clause_index.specs.Tables.{IsTableOf};
+ghost use Rattle.and_branch_laws.specs.States.{StateOf, fork};
+ghost use Rattle.and_branch.specs.Branches.{IsBranchOf};
+ghost use Rattle.and_branch.specs.Children.{AreChildren};
+ghost use Rattle.and_branch.specs.Ended.{HasEnded};
+ghost use Rattle.and_branch.specs.Origins.{GoesBack};
+ghost use Rattle.and_code.specs.Telling.{IsTold};
+ghost use Rattle.and_branch.specs.States.{IsState, IsAtRest, IsCutOf};
+ghost use Rattle.and_answers.specs.Kept.{SameEnd, listed};
+ghost use Rattle.and_histories.specs.PlainTree.{Key, Owns, children};
+ghost use Rattle.and_search_laws.specs.Ended.{EndsSo};
+ghost use Rattle.and_team_laws.specs.Owed.{SameItems};
+ghost use Rattle.and_tasks.specs.Working.{AreServed, Has, IsAtWork, IsReady, Serves, Works, at_fork, forked};
+ghost use Rattle.and_tasks.specs.declared.team.TheConstants.{MOST_TASKS};
+
+use crate::placed::{PlacedBranch, PlacedFork};
+use crate::stack::{Hand, Level, Task};
+use and_answers::Coded;
+use and_branch::{Branch, BranchState, Forked, Workspace};
+use and_cells::Naming;
+use and_clause_index::Determinacy;
+use and_code::Told;
+use and_gate::Gate;
+use and_model::{ClauseList, Cut, Goal};
+use and_program::Loaded;
+use and_tree::{Tree, TreePass};
+use std::alloc::{AllocError, Global};
+use std::snapshot::Snapshot;
+
+/// A team that has more tasks forks no more: so its hand has no more keys than a tree allows. No team comes
+/// so far, since it would have as many branches.
+const MOST_TASKS: usize = 1 << 22;
+
+/// How many words a child counts for beside those that its branch grows by.
+const A_CHILD: u32 = 8;
+
+/// What all teams share.
+#[derive(Drop)]
+pub struct Shared<'a, N: Naming, G: Gate> {
+    pub alloc: Global,
+    pub loaded: &'a Loaded,
+    pub table: &'a Determinacy,
+    pub tree: &'a Tree<PlacedBranch<N>>,
+    pub gate: &'a G,
+    /// How many teams there are.
+    pub teams: u32,
+    /// How many workers each of them has.
+    pub workers: u32,
+    ghost teams_are: { tree.now.about.teams ≡ teams },
+    ghost few_teams: { (0 < teams) × (teams ≤ 16) },
+    ghost few_workers: { (0 < workers) × (workers ≤ 8) },
+    ghost limited: { tree.now.about.limit ≤ MAX_LIMIT },
+}
+
+/// A team.
+#[derive(Drop)]
+pub struct Team<N: Naming> {
+    pub number: u32,
+    pub pass: TreePass<PlacedBranch<N>>,
+    pub found: Coded,
+    /// What it has still to explore, the oldest first.
+    pub stack: Vec<Task<N>>,
+    /// What is left of a branch that has ended: the next child of the fork on top of the stack is made of it.
+    pub left: Option<Branch<N>>,
+    pub workspace: Workspace,
+    /// How many words it set up since it last copied a row.
+    pub(crate) worked: u32,
+    ghost number_is: { pass.team ≡ number },
+}
+
+impl<N: Naming> Team<N> {
+    /// A team that has done nothing.
+    pub fn new(alloc: Global, number: u32, pass: TreePass<PlacedBranch<N>>) -> Team<N>
+        requires { pass.team ≡ number }
+        ensures { (result.pass ≡ pass) × (listed result.found ≡ []) × (result.found.cut ≡ None)
+            × (result.found.forks ≡ 0)
+            × (result.found.failed ≡ 0) × (result.stack.items ≡ []) }
+    {
+        Team {
+            number,
+            pass,
+            found: Coded::new(alloc),
+            stack: Vec::new(alloc),
+            left: None,
+            workspace: Workspace::new(alloc),
+            worked: 0,
+        }
+    }
+
+    /// What it found, and its pass. Takes no memory.
+    pub fn into_parts(self) -> (Coded, TreePass<PlacedBranch<N>>)
+        ensures { (result.0 ≡ self.found) × (result.1 ≡ self.pass) }
+    {
+        let Team {
+            number: _,
+            pass,
+            found,
+            stack,
+            left,
+            workspace,
+            worked: _,
+        } = self;
+        drop(stack);
+        drop(left);
+        drop(workspace);
+        (found, pass)
+    }
+}
+
+impl<N: Naming> Team<N> {
+    /// The branch in hand with a row of its own: a copy, where the stack needs its row, which lies there then. After
+    /// want of memory it has been given up.
+    pub fn own_row<G: Gate>(
+        &mut self,
+        shared: &Shared<N, G>,
+        hand: Hand<N>,
+    ) -> Result<Branch<N>, AllocError>
+        requires ready { IsReady N.program shared.now.tree.now self.old.pass self.old.found self.old.stack.items hand }
+        ensures works { IfOk result (λ own. Works N.program shared.now.tree.now self.new.pass self.new.found
+            (Task.One own ∷ self.new.stack.items)) }
+        ensures served { OnOk result (AreServed None self.new.stack.items) }
+        ensures given_up { OnErr result (Has N.program shared.now.tree.now self.new.pass self.new.stack.items) }
+        ensures same { self.new.number ≡ self.old.number }
+    {
+        let Hand { branch, told } = hand;
+        drop(told);
+        if self.stack.len() == 0 {
+            return Ok(branch);
+        }
+        let key = Snapshot::of(branch.key());
+        let Ok(own) = branch.copy(shared.alloc) else {
+            shared.tree.give_up(&mut self.pass, &key);
+            drop(branch);
+            return Err(AllocError);
+        };
+        match self.stack.push(Task::Left(branch)) {
+            Ok(()) => Ok(own),
+            Err(refused) => {
+                shared.tree.give_up(&mut self.pass, &key);
+                drop(refused);
+                drop(own);
+                Err(AllocError)
+            }
+        }
+    }
+
+    /// Explores a branch by the leader alone.
+    pub fn lead<G: Gate>(&mut self, shared: &Shared<N, G>, hand: Hand<N>) -> Result<(), AllocError>
+        requires program { N.program ≡ named shared.now.loaded.now }
+        requires table { IsTableOf N.program shared.now.table.now }
+        requires ready { IsReady N.program shared.now.tree.now self.old.pass self.old.found self.old.stack.items hand }
+        ensures has { Has N.program shared.now.tree.now self.new.pass self.new.stack.items }
+        ensures at_work { OnOk result
+            (IsAtWork N.program shared.now.tree.now self.new.pass self.new.found self.new.stack.items self.new.left) }
+        ensures same { self.new.number ≡ self.old.number }
+    {
+        let Hand { branch, told } = hand;
+        let mut branch = branch;
+        let before = branch.weight();
+        let advanced = branch.advance_to_state(
+            shared.loaded,
+            shared.table,
+            shared.gate,
+            &mut self.workspace,
+        );
+        self.note_work(before, branch.weight());
+        match advanced {
+            Ok(state) => self.go_by(shared, Hand { branch, told }, state),
+            Err(AllocError) => {
+                shared
+                    .tree
+                    .give_up(&mut self.pass, &Snapshot::of(branch.key()));
+                drop(told);
+                drop(branch);
+                Err(AllocError)
+            }
+        }
+    }
+
+    /// Notes that a branch grew.
+    fn note_work(&mut self, before: u32, after: u32)
+        ensures { (self.new.number ≡ self.old.number) × (self.new.pass ≡ self.old.pass)
+            × (self.new.found ≡ self.old.found) × (self.new.stack ≡ self.old.stack) × (self.new.left ≡ self.old.left) }
+    {
+        let more = after.saturating_sub(before).saturating_add(A_CHILD);
+        self.worked = self.worked.saturating_add(more);
+    }
+
+    /// The next child of a fork, made of what is left of a branch. The fork is on top of the stack again then, if
+    /// others are still to come. After want of memory all of them have been given up.
+    pub fn next_child<G: Gate>(
+        &mut self,
+        shared: &Shared<N, G>,
+        level: Level<N>,
+    ) -> Result<Hand<N>, AllocError>
+        requires program { N.program ≡ named shared.now.loaded.now }
+        requires at_work { IsAtWork N.program shared.now.tree.now self.old.pass self.old.found
+            (self.old.stack.items ++ Task.Children level ∷ []) self.old.left }
+        ensures ready { IfOk result
+            (IsReady N.program shared.now.tree.now self.new.pass self.new.found self.new.stack.items) }
+        ensures given_up { OnErr result (Has N.program shared.now.tree.now self.new.pass self.new.stack.items) }
+        ensures same { self.new.number ≡ self.old.number }
+    {
+        let Some(left) = self.left.take() else {
+            unreachable!()
+        };
+        if level.point.left() == 1 {
+            self.last_child(shared, level, left)
+        } else {
+            self.another_child(shared, level, left)
+        }
+    }
+
+    /// The last child of a fork.
+    fn last_child<G: Gate>(
+        &mut self,
+        shared: &Shared<N, G>,
+        level: Level<N>,
+        left: Branch<N>,
+    ) -> Result<Hand<N>, AllocError>
+        requires program { N.program ≡ named shared.now.loaded.now }
+        requires works { Works N.program shared.now.tree.now self.old.pass self.old.found
+            (Task.Children level ∷ self.old.stack.items) }
+        requires left { Serves level left }
+        requires served { AreServed (Some (forked level)) self.old.stack.items }
+        requires one { length level.point.clauses ≡ 1 }
+        ensures ready { IfOk result
+            (IsReady N.program shared.now.tree.now self.new.pass self.new.found self.new.stack.items) }
+        ensures given_up { OnErr result (Has N.program shared.now.tree.now self.new.pass self.new.stack.items) }
+        ensures same { self.new.number ≡ self.old.number }
+    {
+        let Level {
+            point,
+            told,
+            longer,
+        } = level;
+        let clause = point.clause_left(0);
+        match point.into_last(shared.loaded, left, &mut self.workspace) {
+            Ok(branch) => Ok(Hand { branch, told }),
+            Err(AllocError) => {
+                shared.tree.give_up_child(&mut self.pass, &longer, clause);
+                drop(told);
+                Err(AllocError)
+            }
+        }
+    }
+
+    /// The next child of a fork, behind which others come.
+    fn another_child<G: Gate>(
+        &mut self,
+        shared: &Shared<N, G>,
+        level: Level<N>,
+        left: Branch<N>,
+    ) -> Result<Hand<N>, AllocError>
+        requires program { N.program ≡ named shared.now.loaded.now }
+        requires works { Works N.program shared.now.tree.now self.old.pass self.old.found
+            (Task.Children level ∷ self.old.stack.items) }
+        requires left { Serves level left }
+        requires served { AreServed (Some (forked level)) self.old.stack.items }
+        requires more { length level.point.clauses ≢ 1 }
+        ensures ready { IfOk result
+            (IsReady N.program shared.now.tree.now self.new.pass self.new.found self.new.stack.items) }
+        ensures given_up { OnErr result (Has N.program shared.now.tree.now self.new.pass self.new.stack.items) }
+        ensures same { self.new.number ≡ self.old.number }
+    {
+        let Ok(told) = level.told.copy(shared.alloc) else {
+            self.give_up_children(shared, &level);
+            drop(level);
+            drop(left);
+            return Err(AllocError);
+        };
+        let mut level = level;
+        let Ok(branch) = level.next(shared.loaded, left, &mut self.workspace) else {
+            self.give_up_children(shared, &level);
+            drop(told);
+            drop(level);
+            return Err(AllocError);
+        };
+        match self.put(shared, Task::Children(level)) {
+            Ok(()) => Ok(Hand { branch, told }),
+            Err(AllocError) => {
+                shared
+                    .tree
+                    .give_up(&mut self.pass, &Snapshot::of(branch.key()));
+                drop(told);
+                drop(branch);
+                Err(AllocError)
+            }
+        }
+    }
+
+    /// Goes on with a branch by its state.
+    pub fn go_by<G: Gate>(
+        &mut self,
+        shared: &Shared<N, G>,
+        hand: Hand<N>,
+        state: BranchState,
+    ) -> Result<(), AllocError>
+        requires program { N.program ≡ named shared.now.loaded.now }
+        requires ready { IsReady N.program shared.now.tree.now self.old.pass self.old.found self.old.stack.items hand }
+        requires state { (t : QueryTree N.program.program) → IsBranchOf N.program hand.branch t
+            → IsState N.program hand.branch t state }
+        requires at_rest { IsAtRest N.program hand.branch state }
+        ensures has { Has N.program shared.now.tree.now self.new.pass self.new.stack.items }
+        ensures at_work { OnOk result
+            (IsAtWork N.program shared.now.tree.now self.new.pass self.new.found self.new.stack.items self.new.left) }
+        ensures same { self.new.number ≡ self.old.number }
+    {
+        match state {
+            BranchState::Fork { goal, clauses, cut } => self.fork(shared, hand, goal, clauses, cut),
+            BranchState::Answer => self.tell(shared, hand, false),
+            BranchState::Floundered => self.tell(shared, hand, true),
+            BranchState::Failed => {
+                let Hand { branch, told } = hand;
+                drop(told);
+                self.found.count_failed();
+                shared.tree.retire(&mut self.pass, branch.key());
+                self.left = Some(branch);
+                Ok(())
+            }
+            BranchState::OverLimit(cut) => {
+                let Hand { branch, told } = hand;
+                drop(told);
+                self.found.keep_cut(Some(cut));
+                shared.tree.retire(&mut self.pass, branch.key());
+                self.left = Some(branch);
+                Ok(())
+            }
+        }
+    }
+
+    /// Forks a branch, whose children are to come then.
+    fn fork<G: Gate>(
+        &mut self,
+        shared: &Shared<N, G>,
+        hand: Hand<N>,
+        goal: Goal,
+        clauses: ClauseList,
+        cut: Option<Cut>,
+    ) -> Result<(), AllocError>
+        requires program { N.program ≡ named shared.now.loaded.now }
+        requires ready { IsReady N.program shared.now.tree.now self.old.pass self.old.found self.old.stack.items hand }
+        requires state { (t : QueryTree N.program.program) → IsBranchOf N.program hand.branch t
+            → IsState N.program hand.branch t (BranchState.Fork goal clauses cut) }
+        ensures has { Has N.program shared.now.tree.now self.new.pass self.new.stack.items }
+        ensures at_work { OnOk result
+            (IsAtWork N.program shared.now.tree.now self.new.pass self.new.found self.new.stack.items self.new.left) }
+        ensures same { self.new.number ≡ self.old.number }
+    {
+        let Hand { branch, told } = hand;
+        let key = Snapshot::of(branch.key());
+        if self.stack.len() >= MOST_TASKS {
+            shared.tree.give_up(&mut self.pass, &key);
+            drop(clauses);
+            drop(told);
+            drop(branch);
+            return Err(AllocError);
+        }
+        let words = branch.weight();
+        let mut told = told;
+        match branch.fork(shared.alloc, shared.loaded, goal, clauses, &mut told) {
+            Ok(forked) => {
+                self.replace(shared, forked, told, cut)?;
+                self.hand_on(shared, words)
+            }
+            Err(AllocError) => {
+                shared.tree.give_up(&mut self.pass, &key);
+                drop(told);
+                Err(AllocError)
+            }
+        }
+    }
+
+    /// Puts the children of a fork in the place of the branch that is forked. What is left of it serves them.
+    fn replace<G: Gate>(
+        &mut self,
+        shared: &Shared<N, G>,
+        forked: Forked<N>,
+        told: Told,
+        cut: Option<Cut>,
+    ) -> Result<(), AllocError>
+        requires program { N.program ≡ named shared.now.loaded.now }
+        requires works { Works N.program shared.now.tree.now self.old.pass self.old.found
+            (Task.One forked.choicepoint.parent ∷ self.old.stack.items) }
+        requires few { length self.old.stack.items < MOST_TASKS }
+        requires split { (t : QueryTree N.program.program) × (o : Open t) × (first : Option ℕ)
+            × IsBranchOf N.program forked.choicepoint.parent t
+            × AreChildren N.program forked.choicepoint t × IsCutOf N.program t o first cut
+            × StateOf N.program.program forked.choicepoint.parent.limit t (fork o forked.choicepoint.clauses first) }
+        requires told { IsTold N.program.program forked.choicepoint.parent.reductions told forked.choicepoint.longer }
+        requires length { told.length ≡ length forked.choicepoint.longer }
+        requires left { GoesBack forked.choicepoint.parent forked.left }
+        requires key { forked.left.key ≡ forked.choicepoint.longer }
+        requires served { AreServed (Some (at_fork forked.choicepoint)) self.old.stack.items }
+        ensures has { Has N.program shared.now.tree.now self.new.pass self.new.stack.items }
+        ensures at_work { OnOk result
+            (IsAtWork N.program shared.now.tree.now self.new.pass self.new.found self.new.stack.items self.new.left) }
+        ensures same { self.new.number ≡ self.old.number }
+    {
+        let Forked { choicepoint, left } = forked;
+        let longer = Snapshot::of(left.key());
+        let placed = PlacedFork { point: choicepoint };
+        shared.tree.fork(&mut self.pass, &placed);
+        self.found.count_fork();
+        self.found.keep_cut(cut);
+        let PlacedFork { point } = placed;
+        let level = Level::new(point, told, longer);
+        self.left = Some(left);
+        self.put(shared, Task::Children(level))
+    }
+
+    /// Adds what a branch ended with.
+    fn tell<G: Gate>(
+        &mut self,
+        shared: &Shared<N, G>,
+        hand: Hand<N>,
+        floundered: bool,
+    ) -> Result<(), AllocError>
+        requires program { N.program ≡ named shared.now.loaded.now }
+        requires ready { IsReady N.program shared.now.tree.now self.old.pass self.old.found self.old.stack.items hand }
+        requires ended { HasEnded N.program hand.branch }
+        requires state { (t : QueryTree N.program.program) → IsBranchOf N.program hand.branch t
+            → EndsSo N.program hand.branch t floundered }
+        ensures has { Has N.program shared.now.tree.now self.new.pass self.new.stack.items }
+        ensures at_work { OnOk result
+            (IsAtWork N.program shared.now.tree.now self.new.pass self.new.found self.new.stack.items self.new.left) }
+        ensures same { self.new.number ≡ self.old.number }
+    {
+        let Hand { branch, told } = hand;
+        if self.add(shared, &branch, told, floundered).is_err() {
+            shared
+                .tree
+                .give_up(&mut self.pass, &Snapshot::of(branch.key()));
+            drop(branch);
+            return Err(AllocError);
+        }
+        shared.tree.answer(&mut self.pass, branch.key());
+        shared.gate.found(self.number);
+        self.left = Some(branch);
+        Ok(())
+    }
+
+    /// Adds the entry of a branch. An error is want of memory.
+    fn add<G: Gate>(
+        &mut self,
+        shared: &Shared<N, G>,
+        branch: &Branch<N>,
+        told: Told,
+        floundered: bool,
+    ) -> Result<(), AllocError>
+        requires program { N.program ≡ named shared.now.loaded.now }
+        requires told { IsTold N.program.program branch.now.reductions told branch.now.key }
+        requires ended { HasEnded N.program branch.now }
+        ensures entries { OnOk result ((t : QueryTree N.program.program) → IsBranchOf N.program branch.now t
+            → EndsSo N.program branch.now t floundered → (outcome : Outcome) × Ends t outcome
+            × (listed self.new.found ≡ listed self.old.found
+            ++ record { code = trees.code t; outcome = outcome } ∷ [])) }
+        ensures end { SameEnd self.old.found self.new.found }
+        ensures same { (self.new.number ≡ self.old.number) × (self.new.pass ≡ self.old.pass)
+            × (self.new.stack ≡ self.old.stack) × (self.new.left ≡ self.old.left) }
+    {
+        let code = branch.code_of(shared.alloc, shared.loaded, told)?;
+        let line = branch.line(shared.alloc, shared.loaded)?;
+        self.found.add(code, line, floundered)
+    }
+
+    // ---- want of memory
+
+    /// Puts a task on top of the stack. After want of memory it has been given up.
+    fn put<G: Gate>(&mut self, shared: &Shared<N, G>, task: Task<N>) -> Result<(), AllocError>
+        requires has { (others : List (Task N)) × Has N.program shared.now.tree.now self.old.pass (task ∷ others) }
+        ensures same { (self.new.number ≡ self.old.number) × (self.new.found ≡ self.old.found)
+            × (self.new.left ≡ self.old.left) }
+        ensures put { OnOk result ((self.new.pass ≡ self.old.pass)
+            × (self.new.stack.items ≡ self.old.stack.items ++ task ∷ [])) }
+        ensures given_up { OnErr result ((self.new.stack.items ≡ self.old.stack.items) × ((others : List (Task N))
+            → Has N.program shared.now.tree.now self.old.pass (task ∷ others)
+            → Has N.program shared.now.tree.now self.new.pass others)) }
+    {
+        match self.stack.push(task) {
+            Ok(()) => Ok(()),
+            Err(refused) => {
+                self.give_up_task(shared, refused.value);
+                Err(AllocError)
+            }
+        }
+    }
+
+    /// Gives up all that it has still to explore.
+    pub fn give_up<G: Gate>(&mut self, shared: &Shared<N, G>)
+        requires has { Has N.program shared.now.tree.now self.old.pass (self.old.stack.items) }
+        ensures has { (self.new.stack.items ≡ [])
+            × Has N.program shared.now.tree.now self.new.pass (self.new.stack.items) }
+        ensures hand { self.new.pass.hand ≡ [] }
+        ensures same { self.new.number ≡ self.old.number }
+    {
+        while let Some(task) = self.stack.pop() {
+            self.give_up_task(shared, task);
+        }
+    }
+
+    /// Gives up a task.
+    pub(crate) fn give_up_task<G: Gate>(&mut self, shared: &Shared<N, G>, task: Task<N>)
+        requires has { (others : List (Task N)) × Has N.program shared.now.tree.now self.old.pass (task ∷ others) }
+        ensures has { (others : List (Task N)) → Has N.program shared.now.tree.now self.old.pass (task ∷ others)
+            → Has N.program shared.now.tree.now self.new.pass others }
+        ensures same { (self.new.number ≡ self.old.number) × (self.new.found ≡ self.old.found)
+            × (self.new.stack ≡ self.old.stack) × (self.new.left ≡ self.old.left) }
+    {
+        match task {
+            Task::One(branch) => {
+                shared
+                    .tree
+                    .give_up(&mut self.pass, &Snapshot::of(branch.key()));
+                drop(branch);
+            }
+            Task::Children(level) => {
+                self.give_up_children(shared, &level);
+                drop(level);
+            }
+            Task::Left(left) => drop(left),
+        }
+    }
+
+    /// Gives up the children of a fork that are still to come.
+    pub(crate) fn give_up_children<G: Gate>(&mut self, shared: &Shared<N, G>, level: &Level<N>)
+        requires tree { self.old.pass.tree ≡ shared.now.tree.now }
+        requires longer { level.now.longer.value ≡ level.now.point.longer }
+        requires hand { (rest : List Key)
+            × SameItems self.old.pass.hand (children level.now.point.longer level.now.point.clauses ++ rest) }
+        ensures hand { (rest : List Key)
+            → SameItems self.old.pass.hand (children level.now.point.longer level.now.point.clauses ++ rest)
+            → SameItems self.new.pass.hand rest }
+        ensures tree { self.new.pass.tree ≡ self.old.pass.tree }
+        ensures same { (self.new.number ≡ self.old.number) × (self.new.found ≡ self.old.found)
+            × (self.new.stack ≡ self.old.stack) × (self.new.left ≡ self.old.left) }
+    {
+        for place in 0..level.point.left() {
+            shared.tree.give_up_child(
+                &mut self.pass,
+                &level.longer,
+                level.point.clause_left(place),
+            );
+        }
+    }
+}
