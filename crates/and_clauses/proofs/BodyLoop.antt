@@ -134,26 +134,39 @@ module _ (names : List Bytes) (parts : List DraftPart) (base : ℕ) (falls : Par
         (omega arith) (omega arith) tt
     part_left k Refused pure after lt e was t is = absurd (cc (t, is))
 
-    -- what comes of a last operand
-    again_left : (k : ℕ) (after : List Pending) → k < length parts → works ps before ≡ works ps rest + work ps (Last k) → n ≡ with_next m
-        → after ≡ rest ++ Part k ∷ []
-        → Left ps m n before after
-    again_left k after lt was made pushed =
-        left_by after (Part k ∷ []) (work ps (Last k)) 1 0 pushed was (omega arith) (omega (arith, same_clause (with_next m) made))
-        (omega (arith, same_disjunction (with_next m) made))
-        (omega arith) (omega arith) (omega arith, tt)
-
-    last_left : (k : ℕ) (g : Conjunct) (after : List Pending) → k < length parts → g ≡ conjunct_at names ps base k
-        → works ps before ≡ works ps rest + work ps (Last k) → TakesLast k g m n rest after → Left ps m n before after
-    last_left k (Either l r) after lt e was t =
+    -- more alternatives
+    more_left : (k l r : ℕ) (after : List Pending) → k < length parts → Either l r ≡ conjunct_at names ps base k
+        → works ps before ≡ works ps rest + work ps (Last k) → n ≡ with_next m → after ≡ rest ++ Last r ∷ Part l ∷ [] → Left ps m n before after
+    more_left k l r after lt e was made pushed =
         let two = operands k l r lt (conjunct_at_has base k names parts (Either l r) lt e) in
-        left_by after (Last r ∷ Part l ∷ []) (work ps (Last k)) 1 0 t.1 was (omega (arith, two.2)) (omega (arith, same_clause (with_next m) t.0))
-        (omega (arith, same_disjunction (with_next m) t.0))
+        left_by after (Last r ∷ Part l ∷ []) (work ps (Last k)) 1 0 pushed was (omega (arith, two.2)) (omega (arith, same_clause (with_next m) made))
+        (omega (arith, same_disjunction (with_next m) made))
         (omega (arith, two.2)) (omega (arith, two.2)) (omega (arith, two.1), (omega (arith, two.0), tt))
-    last_left k (Both l r) after lt e was t = again_left k after lt was t.0 t.1
-    last_left k Nothing after lt e was t = again_left k after lt was t.0 t.1
-    last_left k (Item i) after lt e was t = again_left k after lt was t.0 t.1
-    last_left k Refused after lt e was t = again_left k after lt was t.0 t.1
+
+  -- what comes of a last operand that is no disjunction
+  one_left : (m n : Made) (rest before : List Pending) → AreParts (length ps) rest → length ps ≡ length parts → (k : ℕ) (g : Conjunct) (pure : Bool)
+      (after : List Pending) → k < length parts → g ≡ conjunct_at names ps base k → works ps before ≡ works ps rest + work ps (Last k)
+      → TakesPart g pure (with_next m) n rest after → pure ≡ true → Left ps m n before after
+  one_left m n rest before there few k g pure after lt e was t is =
+      let middle : List Pending = rest ++ Part k ∷ [] in
+      let sum : works ps middle ≡ works ps rest + work ps (Part k) =
+      works-append ps rest (Part k ∷ []) ∙ (let z : works ps rest + (work ps (Part k) + 0) ≡ works ps rest + work ps (Part k) = omega arith in z) in
+      let left = part_left (with_next m) n rest middle there few k g pure after lt e sum t is in
+      record {
+        less = omega (arith, left.less, sum, was);
+        clauses = omega (arith, left.clauses, sum, was);
+        disjunctions = omega (arith, left.disjunctions, sum, was);
+        there = left.there;
+      }
+
+  last_left : (m n : Made) (rest before : List Pending) → AreParts (length ps) rest → length ps ≡ length parts → (k : ℕ) (g : Conjunct) (pure : Bool)
+      (after : List Pending) → k < length parts → g ≡ conjunct_at names ps base k → works ps before ≡ works ps rest + work ps (Last k)
+      → TakesLast g pure m n rest after → pure ≡ true → Left ps m n before after
+  last_left m n rest before there few k (Either l r) pure after lt e was t is = more_left m n rest before there few k l r after lt e was t.1 t.2
+  last_left m n rest before there few k (Both l r) pure after lt e was t is = one_left m n rest before there few k (Both l r) pure after lt e was t is
+  last_left m n rest before there few k Nothing pure after lt e was t is = one_left m n rest before there few k Nothing pure after lt e was t is
+  last_left m n rest before there few k (Item i) pure after lt e was t is = one_left m n rest before there few k (Item i) pure after lt e was t is
+  last_left m n rest before there few k Refused pure after lt e was t is = absurd (cc (t, is))
 
   some_left : (m n : Made) (rest before after : List Pending) (p : Pending) (pure : Bool) → length ps ≡ length parts → IsPart (length ps) p
       → AreParts (length ps) rest
@@ -161,7 +174,7 @@ module _ (names : List Bytes) (parts : List DraftPart) (base : ℕ) (falls : Par
   some_left m n rest before after (Part k) pure few there others was t is =
       part_left m n rest before others few k (conjunct_at names ps base k) pure after (omega arith) refl was t is
   some_left m n rest before after (Last k) pure few there others was t is =
-      last_left m n rest before others few k (conjunct_at names ps base k) after (omega arith) refl was t.1
+      last_left m n rest before others few k (conjunct_at names ps base k) pure after (omega arith) refl was t is
   some_left m n rest before after End pure few there others was t is =
       left_by m n rest before others few after [] 1 0 0 (t.2 ∙ sym (append-nil rest)) was (omega arith)
       (omega (arith, same_clause m n rest before others few (with_token m tokens.Close) t.1))

@@ -164,28 +164,37 @@ module _ (ss : List Shape) (base : ℕ) where
         single true b = refl
         single false b = refl
 
-    last_step : (m n : Made) (k : ℕ) (g : Conjunct) (before rest after : List Pending) → IsConjunct ss base (term k) g
-        → before ≡ rest ++ Last k ∷ [] → TakesLast k g m n rest after
+    -- the same as that part, where the next alternative has begun
+    one_step : (m n : Made) (k : ℕ) (g : Conjunct) (pure : Bool) (before rest after : List Pending) (ps : Parts) → reading_of (term k) ≡ alone ps
+        → IsConjunct ss base (term k) g → before ≡ rest ++ Last k ∷ [] → TakesPart g pure (with_next m) n rest after → pure ≡ true
         → Owed ss base m before whole refused c d → Owed ss base n after whole refused c d
-    last_step m n k (Either l r) before rest after says popped takes o =
+    one_step m n k g pure before rest after ps read says popped takes is o =
+        part_step (with_next m) n k g pure (rest ++ Part k ∷ []) rest after says refl takes is
+        (alone_step m (with_next m) k before rest (rest ++ Part k ∷ []) ps read popped refl refl o)
+
+    last_step : (m n : Made) (k : ℕ) (g : Conjunct) (pure : Bool) (before rest after : List Pending) → IsConjunct ss base (term k) g
+        → before ≡ rest ++ Last k ∷ [] → TakesLast g pure m n rest after → pure ≡ true
+        → Owed ss base m before whole refused c d → Owed ss base n after whole refused c d
+    last_step m n k (Either l r) pure before rest after says popped takes is o =
         let ts : List Todo = left rest in
         let ps : Parts = parts_of (term l) in
         let cs : Choices = (reading_of (term r)).last in
         let was : left before ≡ last (choice ps cs) ∷ ts =
         first before rest (Last k) popped ∙ ap (λ us. last us ∷ ts) (last_is (term k) (disjoined (choice ps cs)) says) in
-        next_step m n before rest after ps cs (last (choice ps cs) ∷ ts) (part ps ∷ last cs ∷ ts) takes.0 was (two after rest (Part l) (Last r) takes.1)
+        next_step m n before rest after ps cs (last (choice ps cs) ∷ ts) (part ps ∷ last cs ∷ ts) takes.1 was (two after rest (Part l) (Last r) takes.2)
         (owed-choice m.clause m.disjunction ps cs ts) (or_three (Clauses.is_refused ps) (Clauses.is_refused_in cs) (refused_of ts))
         (omega arith) (omega arith) o
       where
         or_three : (a b e : Bool) → (a || b) || e ≡ a || (b || e)
         or_three true b e = refl
         or_three false b e = refl
-    last_step m n k (Both l r) before rest after says popped takes o =
-        alone_step m n k before rest after (joined (parts_of (term l)) (parts_of (term r))) says popped takes.0 takes.1 o
-    last_step m n k Nothing before rest after says popped takes o = alone_step m n k before rest after no_parts says popped takes.0 takes.1 o
-    last_step m n k (Item i) before rest after says popped takes o =
-        alone_step m n k before rest after (Clauses.item (item_of ss (node_item i)) no_parts) says.0 popped takes.0 takes.1 o
-    last_step m n k Refused before rest after says popped takes o = alone_step m n k before rest after (impure no_parts) says popped takes.0 takes.1 o
+    last_step m n k (Both l r) pure before rest after says popped takes is o =
+        one_step m n k (Both l r) pure before rest after (joined (parts_of (term l)) (parts_of (term r))) says says popped takes is o
+    last_step m n k Nothing pure before rest after says popped takes is o =
+        one_step m n k Nothing pure before rest after no_parts says says popped takes is o
+    last_step m n k (Item i) pure before rest after says popped takes is o =
+        one_step m n k (Item i) pure before rest after (Clauses.item (item_of ss (node_item i)) no_parts) says.0 says popped takes is o
+    last_step m n k Refused pure before rest after says popped takes is o = absurd (cc (takes, is))
 
     -- what was refused
     pub part_refused : (m n : Made) (k : ℕ) (g : Conjunct) (pure : Bool) (before rest after : List Pending) → IsConjunct ss base (term k) g
@@ -197,6 +206,16 @@ module _ (ss : List Shape) (base : ℕ) where
     part_refused m n k Refused pure before rest after says popped takes is o =
         sym o.pure ∙ ap refused_of (first before rest (Part k) popped ∙ ap (λ us. part us ∷ left rest) (body_is (term k) (alone (impure no_parts)) says))
 
+    last_refused : (m n : Made) (k : ℕ) (g : Conjunct) (pure : Bool) (before rest after : List Pending) → IsConjunct ss base (term k) g
+        → before ≡ rest ++ Last k ∷ [] → TakesLast g pure m n rest after → pure ≡ false → Owed ss base m before whole refused c d → refused ≡ true
+    last_refused m n k (Both l r) pure before rest after says popped takes is o = absurd (cc (takes.0, is))
+    last_refused m n k (Either l r) pure before rest after says popped takes is o = absurd (cc (takes.0, is))
+    last_refused m n k Nothing pure before rest after says popped takes is o = absurd (cc (takes.0, is))
+    last_refused m n k (Item i) pure before rest after says popped takes is o = absurd (cc (takes.0, is))
+    last_refused m n k Refused pure before rest after says popped takes is o =
+        part_refused (with_next m) n k Refused pure (rest ++ Part k ∷ []) rest after says refl takes is
+        (alone_step m (with_next m) k before rest (rest ++ Part k ∷ []) (impure no_parts) says popped refl refl o)
+
     -- A step keeps what is owed.
     pub owed_step : (names : List Bytes) (shapes : List PartShape) (m n : Made) (p : Pending) (pure : Bool) (before rest after : List Pending)
         → Says names shapes p → before ≡ rest ++ p ∷ [] → Takes names shapes base p pure m n rest after
@@ -204,7 +223,7 @@ module _ (ss : List Shape) (base : ℕ) where
     owed_step names shapes m n (Part k) pure before rest after says popped takes is o =
         part_step m n k (conjunct_at names shapes base k) pure before rest after says popped takes is o
     owed_step names shapes m n (Last k) pure before rest after says popped takes is o =
-        last_step m n k (conjunct_at names shapes base k) before rest after says popped takes.1 o
+        last_step m n k (conjunct_at names shapes base k) pure before rest after says popped takes is o
     owed_step names shapes m n End pure before rest after says popped takes is o =
         let ts : List Todo = left rest in
         let P : Made → Type 0 = λ x. Owed ss base x after whole refused c d in
@@ -217,5 +236,6 @@ module _ (ss : List Shape) (base : ℕ) where
         → pure ≡ false → Owed ss base m before whole refused c d → refused ≡ true
     refused_step names shapes m n (Part k) pure before rest after says popped takes is o =
         part_refused m n k (conjunct_at names shapes base k) pure before rest after says popped takes is o
-    refused_step names shapes m n (Last k) pure before rest after says popped takes is o = absurd (cc (takes.0, is))
+    refused_step names shapes m n (Last k) pure before rest after says popped takes is o =
+        last_refused m n k (conjunct_at names shapes base k) pure before rest after says popped takes is o
     refused_step names shapes m n End pure before rest after says popped takes is o = absurd (cc (takes.0, is))

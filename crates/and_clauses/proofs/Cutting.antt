@@ -27,7 +27,8 @@ room_of ss es query calls names used T k = record {
 }
 
 -- the same lists are those of the same table
-kept_same : (ss us : List Shape) (es fs : List ClauseEntry) (query : Option ClauseEntry) (calls called : List Called) (names named : List Bytes) (used : Used)
+pub kept_same : (ss us : List Shape) (es fs : List ClauseEntry) (query : Option ClauseEntry) (calls called : List Called)
+    (names named : List Bytes) (used : Used)
     (T : Table) → us ≡ ss → fs ≡ es → called ≡ calls → named ≡ names → IsKept ss es query calls names used T → IsKept us fs query called named used T
 kept_same ss us es fs query calls called names named used T a b d e k =
     subst (λ xs. IsKept us fs query called xs used T) (sym e)

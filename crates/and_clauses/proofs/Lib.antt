@@ -47,3 +47,4 @@ pub mod LiftedEntries
 pub mod CutLists
 pub mod ReadyDrafts
 pub mod OneMore
+pub mod Questions

@@ -66,12 +66,17 @@ module _ (names : List Bytes) (parts : List DraftPart) (falls : PartsFall 0 (par
     next_there : n ≡ with_next m → TokensThere (length parts) n.tokens
     next_there e = made (with_next m) e (tokens_append (length parts) m.tokens (tokens.Next m.clause ∷ []) there (tt, tt))
 
-    of_last : (k : ℕ) (g : Conjunct) → TakesLast k g m n before after → TokensThere (length parts) n.tokens
-    of_last k (Both l r) t = next_there t.0
-    of_last k (Either l r) t = next_there t.0
-    of_last k Nothing t = next_there t.0
-    of_last k (Item i) t = next_there t.0
-    of_last k Refused t = next_there t.0
+  of_last : (m n : Made) (before after : List Pending) → TokensThere (length parts) m.tokens → (k : ℕ) (g : Conjunct) (pure : Bool) → k < length parts
+      → g ≡ conjunct_at names ps 0 k → IsConjunct nodes 0 (node_term nodes (0 + k)) g → TakesLast g pure m n before after → pure ≡ true
+      → TokensThere (length parts) n.tokens
+  of_last m n before after there k (Either l r) pure lt e says t is = next_there m n before after there t.1
+  of_last m n before after there k (Both l r) pure lt e says t is =
+      of_part (with_next m) n before after (next_there m (with_next m) before after there refl) k (Both l r) pure lt e says t is
+  of_last m n before after there k Nothing pure lt e says t is =
+      of_part (with_next m) n before after (next_there m (with_next m) before after there refl) k Nothing pure lt e says t is
+  of_last m n before after there k (Item i) pure lt e says t is =
+      of_part (with_next m) n before after (next_there m (with_next m) before after there refl) k (Item i) pure lt e says t is
+  of_last m n before after there k Refused pure lt e says t is = absurd (cc (t, is))
 
   -- A step makes such tokens alone.
   pub step_there : (m n : Made) (before after : List Pending) (p : Pending) (pure : Bool) → IsPart (length parts) p
@@ -80,6 +85,8 @@ module _ (names : List Bytes) (parts : List DraftPart) (falls : PartsFall 0 (par
   step_there m n before after (Part k) pure lt t is there =
       of_part m n before after there k (conjunct_at names ps 0 k) pure lt refl
       (conjunct_at_says nodes 0 k names parts (conjunct_at names ps 0 k) read falls lt refl) t is
-  step_there m n before after (Last k) pure lt t is there = of_last m n before after there k (conjunct_at names ps 0 k) t.1
+  step_there m n before after (Last k) pure lt t is there =
+      of_last m n before after there k (conjunct_at names ps 0 k) pure lt refl
+      (conjunct_at_says nodes 0 k names parts (conjunct_at names ps 0 k) read falls lt refl) t is
   step_there m n before after End pure lt t is there =
       made m n before after there (with_token m tokens.Close) t.1 (tokens_append (length parts) m.tokens (tokens.Close ∷ []) there (tt, tt))

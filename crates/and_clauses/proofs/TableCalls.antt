@@ -18,7 +18,7 @@ use Rattle.and_syntax.specs.Clauses
 use Rattle.and_syntax.specs.Clauses.{Parts, no_parts, item, impure, Choices, no_choices, choice, Reading, joined, alone, atom_parts, unary_part, binary_part}
 use Rattle.and_syntax.specs.Clauses.{binary_reading, compare_or, relation_of, reading_of, parts_of, alternatives_of, alternatives_in, disjunctions_of}
 use Rattle.and_syntax.specs.Clauses.{disjunctions_within, numbered, numbered_in, body_of, asked_of}
-use Rattle.and_syntax.specs.Tables.{Table, Unknown, empty, with_clause, term_with, unknown_in}
+use Rattle.and_syntax.specs.Tables.{Table, Unknown, empty, with_clause, with_query, term_with, unknown_in}
 use Rattle.and_clauses.specs.Parts
 use Rattle.and_clauses.specs.Parts.{PartShape, part_shapes, written_at, many, postfix, postfix_all, roots, AllNarrow, IsNarrow}
 use Rattle.and_clauses.specs.Adds.{first_of, term_of, with_added, with_all}
@@ -216,13 +216,16 @@ clause_fits T w line f h = by T.asked f.asked
       later = fit_more T.later _ f.later (items_fit _ _ _ (body_of (term_with T w)) (body_fits (term_with T w) h));
     }
 
-added_fits : (T : Table) (a : Added) → TableFits T → TableFits (with_added T a)
-added_fits T (ClauseAdded d) f = clause_fits T (term_of d.value) d.value.line f (draft_narrow _ d.value)
-added_fits T (QueryAdded d) f = record {
+pub query_fits : (T : Table) (d : ClauseDraft) (line : ℕ) → TableFits T → TableFits (with_query T (term_of d) line)
+query_fits T d line f = record {
   earlier = f.earlier;
-  asked = items_fit _ _ _ (asked_of (term_with T (term_of d.value))) (asked_fits (term_with T (term_of d.value)) (draft_narrow _ d.value));
+  asked = items_fit _ _ _ (asked_of (term_with T (term_of d))) (asked_fits (term_with T (term_of d)) (draft_narrow _ d));
   later = f.later;
 }
+
+added_fits : (T : Table) (a : Added) → TableFits T → TableFits (with_added T a)
+added_fits T (ClauseAdded d) f = clause_fits T (term_of d.value) d.value.line f (draft_narrow _ d.value)
+added_fits T (QueryAdded d) f = query_fits T d.value d.value.line f
 
 pub all_fit : (T : Table) (xs : List Added) → TableFits T → TableFits (with_all T xs)
 all_fit T [] f = f

@@ -112,13 +112,15 @@ TakesPart Nothing pure old new before after = (pure ≡ true) × (new ≡ old) �
 TakesPart (Item i) pure old new before after = (pure ≡ true) × (new ≡ with_token old (tokens.Item i)) × (after ≡ before)
 TakesPart Refused pure old new before after = pure ≡ false
 
--- What comes of a last operand of `;`, a part that is that conjunct.
-abbrev pub TakesLast : ℕ → Conjunct → (old new : Made) → (before after : List Pending) → Type 0
-TakesLast n (Either l r) old new before after = (new ≡ with_next old) × (after ≡ before ++ Last r ∷ Part l ∷ [])
-TakesLast n (Both l r) old new before after = (new ≡ with_next old) × (after ≡ before ++ Part n ∷ [])
-TakesLast n Nothing old new before after = (new ≡ with_next old) × (after ≡ before ++ Part n ∷ [])
-TakesLast n (Item i) old new before after = (new ≡ with_next old) × (after ≡ before ++ Part n ∷ [])
-TakesLast n Refused old new before after = (new ≡ with_next old) × (after ≡ before ++ Part n ∷ [])
+-- What comes of a last operand of `;`, a part that is that conjunct: the next alternative begins. It is the first of
+-- more alternatives, or that part.
+abbrev pub TakesLast : Conjunct → Bool → (old new : Made) → (before after : List Pending) → Type 0
+TakesLast (Either l r) pure old new before after =
+    (pure ≡ true) × (new ≡ with_next old) × (after ≡ before ++ Last r ∷ Part l ∷ [])
+TakesLast (Both l r) pure old new before after = TakesPart (Both l r) pure (with_next old) new before after
+TakesLast Nothing pure old new before after = TakesPart Nothing pure (with_next old) new before after
+TakesLast (Item i) pure old new before after = TakesPart (Item i) pure (with_next old) new before after
+TakesLast Refused pure old new before after = TakesPart Refused pure (with_next old) new before after
 
 -- What comes of what is pending.
 abbrev pub Takes : List Bytes → List PartShape → ℕ → Pending → Bool → (old new : Made)
@@ -126,7 +128,7 @@ abbrev pub Takes : List Bytes → List PartShape → ℕ → Pending → Bool �
 Takes names ps base (Part n) pure old new before after =
     TakesPart (conjunct_at names ps base n) pure old new before after
 Takes names ps base (Last n) pure old new before after =
-    (pure ≡ true) × TakesLast n (conjunct_at names ps base n) old new before after
+    TakesLast (conjunct_at names ps base n) pure old new before after
 Takes names ps base End pure old new before after =
     (pure ≡ true) × (new ≡ with_token old tokens.Close) × (after ≡ before)
 

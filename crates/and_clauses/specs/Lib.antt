@@ -23,3 +23,4 @@ pub mod Sealing
 pub mod Lifts
 pub mod Verdicts
 pub mod Makes
+pub mod Asking

@@ -99,7 +99,7 @@ fn take_pending(
     requires there { IsPart (length parts.now) next }
     requires falls { PartsFall 0 (part_shapes parts.now) }
     requires room { length parts.now < 2 ^ 32 }
-    requires few_clauses { body.old.next_clause < 2 ^ 64 - 1 }
+    requires few_clauses { body.old.next_clause < 2 ^ 64 - 2 }
     requires few_disjunctions { body.old.next_disjunction < 2 ^ 64 - 1 }
     ensures { IfOk result (λ pure. Takes (names_of names.now.keys) (part_shapes parts.now) 0 next pure
         (made_of body.old) (made_of body.new) pending.old.items pending.new.items) }
@@ -111,8 +111,7 @@ fn take_pending(
         }
         Pending::Last(part) => {
             let conjunct = part_as_conjunct(names, guesses, parts, part, 0);
-            take_last(part, conjunct, body, pending)?;
-            Ok(true)
+            take_last(conjunct, body, pending)
         }
         Pending::End => {
             body.tokens.push(BodyToken::Close)?;
@@ -156,15 +155,15 @@ fn take_conjunct(
     }
 }
 
-/// Adds the first of the alternatives that a last operand of `;` is.
+/// Adds the first of the alternatives that a last operand of `;` is; `false` where it is refused.
 fn take_last(
-    part: u32,
     conjunct: Conjunct,
     body: &mut Body,
     pending: &mut Vec<Pending>,
-) -> Result<(), AllocError>
-    requires { body.old.next_clause < 2 ^ 64 - 1 }
-    ensures { OnOk result (TakesLast part conjunct (made_of body.old) (made_of body.new) pending.old.items
+) -> Result<bool, AllocError>
+    requires few_clauses { body.old.next_clause < 2 ^ 64 - 2 }
+    requires few_disjunctions { body.old.next_disjunction < 2 ^ 64 - 1 }
+    ensures { IfOk result (λ pure. TakesLast conjunct pure (made_of body.old) (made_of body.new) pending.old.items
         pending.new.items) }
 {
     begin_alternative(body)?;
@@ -172,19 +171,21 @@ fn take_last(
         Conjunct::Either { left, right } => {
             pending.push(Pending::Last(right))?;
             pending.push(Pending::Part(left))?;
+            Ok(true)
         }
-        Conjunct::Both { left: _, right: _ } => pending.push(Pending::Part(part))?,
-        Conjunct::Nothing => pending.push(Pending::Part(part))?,
-        Conjunct::Item { item: _ } => pending.push(Pending::Part(part))?,
-        Conjunct::Refused => pending.push(Pending::Part(part))?,
+        Conjunct::Both { left: _, right: _ } => take_conjunct(conjunct, body, pending),
+        Conjunct::Nothing => take_conjunct(conjunct, body, pending),
+        Conjunct::Item { item: _ } => take_conjunct(conjunct, body, pending),
+        Conjunct::Refused => take_conjunct(conjunct, body, pending),
     }
-    Ok(())
 }
 
 /// Begins the next alternative.
 fn begin_alternative(body: &mut Body) -> Result<(), AllocError>
     requires { body.old.next_clause < 2 ^ 64 - 1 }
-    ensures { OnOk result (made_of body.new ≡ with_next (made_of body.old)) }
+    ensures made { OnOk result (made_of body.new ≡ with_next (made_of body.old)) }
+    ensures few { body.new.next_clause ≤ body.old.next_clause + 1 }
+    ensures kept { body.new.next_disjunction ≡ body.old.next_disjunction }
 {
     body.tokens.push(BodyToken::Next(body.next_clause))?;
     body.next_clause += 1;

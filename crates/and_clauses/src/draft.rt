@@ -271,11 +271,14 @@ fn add_part(
 {
     let number = parts.len() as u32;
     parts.push(part)?;
+    if start < finished.len() {
+        finished[start] = number;
+        finished.truncate(start + 1);
+        return Ok(());
+    }
     if finished.push(number).is_err() {
         parts.pop();
         return Err(AllocError);
     }
-    finished[start] = number;
-    finished.truncate(start + 1);
     Ok(())
 }

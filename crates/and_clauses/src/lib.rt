@@ -5,6 +5,8 @@
 //! a `Loaded` program, in which each disjunction is a predicate of its own.
 #![tactic(auto)]
 
+mod asked;
+mod asking;
 mod body;
 pub mod data;
 pub mod draft;
@@ -21,6 +23,7 @@ pub mod table;
 mod unknown;
 mod variables;
 
+pub use asked::{Asked, Asking, Clauses};
 pub use data::{SealFault, TableFault, What};
 pub use draft::{ClauseDraft, Part};
 pub use table::ClauseTable;

@@ -497,7 +497,13 @@ pub(crate) fn alternative(
     let disjunction = scope_of(outline);
     let variables = lifting.disjunctions[disjunction].variables.as_slice();
     let head = lifted_head(lifting, nodes, disjunction)?;
-    let items = lifted_items(lifting, nodes, lists, Some(variables), &outline.pieces)?;
+    let items = lifted_items(
+        lifting,
+        nodes,
+        lists,
+        Some(variables),
+        outline.pieces.as_slice(),
+    )?;
     let names = names_in(lifting.alloc, written, variables)?;
     Ok(ClauseEntry::new(head, items, names, line))
 }

@@ -55,10 +55,10 @@ pub(crate) struct Lists {
 /// How long the lists of a table are.
 #[derive(Clone, Copy)]
 pub(crate) struct Lengths {
-    names: usize,
-    nodes: usize,
-    clauses: usize,
-    calls: usize,
+    pub(crate) names: usize,
+    pub(crate) nodes: usize,
+    pub(crate) clauses: usize,
+    pub(crate) calls: usize,
 }
 
 impl Lists {
@@ -316,7 +316,7 @@ fn entries(
     ensures asked { head ≡ None → IfOk result (λ made. made.0.head.0 ≡ 0) }
 {
     let head = head_node(lifting, nodes, lists, head)?;
-    let items = lifted_items(lifting, nodes, lists, None, &outlines[0].pieces)?;
+    let items = lifted_items(lifting, nodes, lists, None, outlines[0].pieces.as_slice())?;
     let written = written_names(lifting.alloc, lifting.parts)?;
     let alternatives = alternatives(lifting, nodes, lists, &written, &outlines[1..], line)?;
     Ok((ClauseEntry::new(head, items, written, line), alternatives))

@@ -14,7 +14,6 @@ use crate::draft::DraftPart;
 use crate::guesses::Guesses;
 use and_model::{NameNo, Text, builtins};
 use indexmap::IndexSet;
-use smallvec::SmallVec;
 use std::alloc::{AllocError, Global};
 
 /// The names that every table begins with.
@@ -249,8 +248,18 @@ pub(crate) fn note_disjunction(
     ensures number { IfOk result (λ n. n ≡ place (disjunction_name disjunction) (names_of names.new.keys)) }
     ensures kept { Extends (names_of names.old.keys) (names_of names.new.keys) }
 {
-    let mut name = SmallVec::<u8, 23>::new(alloc);
+    let mut name = Vec::new(alloc);
     name.push(0xFF)?;
     name.extend_from_slice(itoa::Buffer::new().format(disjunction).as_bytes())?;
-    note_name(alloc, names, name.as_slice())
+    note_new_name(names, name)
+}
+
+/// Numbers a name, which mostly has no number yet, and answers its number. An error is want of memory.
+fn note_new_name(names: &mut IndexSet<Vec<u8>>, name: Vec<u8>) -> Result<usize, AllocError>
+    ensures ok { OnOk result (names_of names.new.keys ≡ including (names_of names.old.keys) name.items) }
+    ensures number { IfOk result (λ n. n ≡ place name.items (names_of names.new.keys)) }
+    ensures kept { Extends (names_of names.old.keys) (names_of names.new.keys) }
+{
+    let (number, _) = names.insert_full(name)?;
+    Ok(number)
 }

@@ -24,13 +24,14 @@ use crate::body::BodyToken;
 use crate::draft::DraftPart;
 use crate::numbering::push_reversed;
 use and_program::ItemNode;
+use smallvec::SmallVec;
 use std::alloc::{AllocError, Global};
 
 /// A disjunction: its distinct variables by first occurrence, which are numbered as in its clause, and how many
 /// alternatives it has.
 #[derive(Drop)]
 pub(crate) struct Disjunction {
-    pub(crate) variables: Vec<u32>,
+    pub(crate) variables: SmallVec<u32, 6>,
     pub(crate) count: usize,
 }
 
@@ -43,11 +44,17 @@ pub(crate) enum Piece {
     Disjunction(usize),
 }
 
+impl Default for Piece {
+    fn default() -> Piece {
+        Piece::Disjunction(0)
+    }
+}
+
 /// A clause that is to be made: the disjunction of which it is an alternative, if it is one, and its items.
 #[derive(Drop)]
 pub(crate) struct Outline {
     pub(crate) scope: Option<usize>,
-    pub(crate) pieces: Vec<Piece>,
+    pub(crate) pieces: SmallVec<Piece, 2>,
 }
 
 /// Where items are put: the number of an outline, and the disjunction in which it stands.
@@ -103,7 +110,7 @@ fn begin(alloc: Global) -> Result<Sorting, AllocError>
     let mut outlines = Vec::new(alloc);
     outlines.push(Outline {
         scope: None,
-        pieces: Vec::new(alloc),
+        pieces: SmallVec::new(alloc),
     })?;
     Ok(Sorting {
         sorted: Sorted {
@@ -171,7 +178,7 @@ fn open(alloc: Global, sorting: &mut Sorting) -> Result<(), AllocError>
         Piece::Disjunction(number),
     )?;
     sorting.sorted.disjunctions.push(Disjunction {
-        variables: Vec::new(alloc),
+        variables: SmallVec::new(alloc),
         count: 0,
     })?;
     sorting.around.push(here)?;
@@ -195,7 +202,7 @@ fn next(alloc: Global, sorting: &mut Sorting) -> Result<(), AllocError>
     let outline = sorting.sorted.outlines.len();
     sorting.sorted.outlines.push(Outline {
         scope,
-        pieces: Vec::new(alloc),
+        pieces: SmallVec::new(alloc),
     })?;
     sorting.here = Place { outline, scope };
     Ok(())
@@ -311,7 +318,7 @@ fn copy_variables(
     list.clear();
     if let Some(place) = scope {
         if place < disjunctions.len() {
-            list.extend_from_slice(&disjunctions[place].variables)?;
+            list.extend_from_slice(disjunctions[place].variables.as_slice())?;
         }
     }
     Ok(())
@@ -322,7 +329,7 @@ fn note_terms(
     parts: &[DraftPart],
     pending: &mut Vec<u32>,
     item: &ItemNode,
-    variables: &mut Vec<u32>,
+    variables: &mut SmallVec<u32, 6>,
 ) -> Result<(), AllocError>
     requires falls { PartsFall 0 (part_shapes parts.now) }
     requires there { ItemThere (length parts.now) item.now }
@@ -361,7 +368,7 @@ fn note_term(
     parts: &[DraftPart],
     pending: &mut Vec<u32>,
     root: u32,
-    variables: &mut Vec<u32>,
+    variables: &mut SmallVec<u32, 6>,
 ) -> Result<(), AllocError>
     requires falls { PartsFall 0 (part_shapes parts.now) }
     requires there { root < length parts.now }
@@ -380,7 +387,7 @@ fn note_term(
 /// Notes the variable of a part, or makes its arguments the parts that come next.
 fn note_part(
     part: &DraftPart,
-    variables: &mut Vec<u32>,
+    variables: &mut SmallVec<u32, 6>,
     pending: &mut Vec<u32>,
 ) -> Result<(), AllocError>
     ensures variables { OnOk result (own variables.new.items
@@ -396,7 +403,7 @@ fn note_part(
 }
 
 /// Notes these variables, in their order.
-fn note_all(variables: &mut Vec<u32>, others: &[u32]) -> Result<(), AllocError>
+fn note_all(variables: &mut SmallVec<u32, 6>, others: &[u32]) -> Result<(), AllocError>
     ensures { OnOk result (own variables.new.items ≡ first_seen (own variables.old.items) (own others.now)) }
 {
     for variable in others {
@@ -406,10 +413,10 @@ fn note_all(variables: &mut Vec<u32>, others: &[u32]) -> Result<(), AllocError>
 }
 
 /// Notes a variable, where it is not noted yet.
-fn note(variables: &mut Vec<u32>, variable: u32) -> Result<(), AllocError>
+fn note(variables: &mut SmallVec<u32, 6>, variable: u32) -> Result<(), AllocError>
     ensures { OnOk result (own variables.new.items ≡ first_seen (own variables.old.items) (own (variable ∷ []))) }
 {
-    if !variables.contains(&variable) {
+    if !variables.as_slice().contains(&variable) {
         variables.push(variable)?;
     }
     Ok(())

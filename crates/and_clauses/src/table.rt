@@ -26,11 +26,11 @@ use std::snapshot::Snapshot;
 /// The clauses of a text as far as it was read, and its query.
 #[derive(Drop)]
 pub struct ClauseTable {
-    alloc: Global,
+    pub(crate) alloc: Global,
     pub(crate) lists: Lists,
     pub(crate) query: Option<ClauseEntry>,
     pub(crate) used: Used,
-    scratch: Scratch,
+    pub(crate) scratch: Scratch,
     /// What was added, which contracts alone read.
     pub(crate) added: Vec<Added>,
     ghost kept: { IsKept (shapes_of lists.nodes.items) lists.clauses.items query lists.calls.items

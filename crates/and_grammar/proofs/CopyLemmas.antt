@@ -449,3 +449,9 @@ wider_put (Ok x) a b c d e name ts us s t same f g h put =
           ∙ ap (λ (ms : Many). (draft_of a).finished ++ compound name ms ∷ []) (stated us s t ∙ ap (λ (ms : Many). with_states ms s t) same);
     }
 wider_put (Err x) a b c d e name ts us s t same f g h put = tt
+
+-- a name without arguments is an atom
+pub atom_read : (d : ClauseDraft) (n : ℕ) (c : Bytes) (ns : List ℕ) (k : ℕ) → term_at d n ≡ compound c (many (map (term_at d) ns)) → length ns ≡ k → k ≡ 0
+    → term_at d n ≡ compound c none
+atom_read d n c [] k is few none_are = is
+atom_read d n c (m ∷ ns) k is few none_are = absurd (omega arith)

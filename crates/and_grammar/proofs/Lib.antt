@@ -5,3 +5,4 @@ pub mod Standing
 pub mod ThreadLemmas
 pub mod TranslateLemmas
 pub mod CountLemmas
+pub mod PlainLemmas

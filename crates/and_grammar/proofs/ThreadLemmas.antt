@@ -318,3 +318,15 @@ begun d place ts t e no_goals at next =
     let here : Makes t t (stand (terms t) [] 0 1) = all_below t t (omega (arith, no_goals)) refl (terms t) 0 1 refl no_goals at next in
     ap (λ (us : List Task). all_done (acts_of d us) (stand_of t)) e
     ∙ ap (all_done (body (behind_first (body_at d place)) ∷ [])) here.stand
+
+-- one step and then another
+pub steps_on : (d : ClauseDraft) (before middle after : List Task) (old now new : Threaded) → Steps d before middle old now → Steps d middle after now new
+    → Steps d before after old new
+steps_on d before middle after old now new one other = record {
+  line = other.line ∙ one.line;
+  same = other.same ∙ one.same;
+  counted = other.counted;
+  below = other.below;
+  within = λ h. other.within (one.within h);
+  less = omega (arith, one.less, other.less);
+}

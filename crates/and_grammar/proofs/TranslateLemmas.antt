@@ -8,7 +8,7 @@ use Rattle.std.proofs.lemmas.List.{length-append}
 use Rattle.and_model.specs.Lines.{Bytes}
 use Rattle.and_syntax.specs.Written as written
 use Rattle.and_syntax.specs.Written.{Written, Many, compound, none, more}
-use Rattle.and_syntax.specs.Tables.{Fault}
+use Rattle.and_syntax.specs.Tables.{Fault, first_of, not_pure, too_big, arguments}
 use Rattle.and_clauses.specs.Parts.{many}
 use Rattle.and_clauses.specs.Drafts.{Draft, draft_of}
 use Rattle.and_clauses.specs.declared.draft.ClauseDraft.{ClauseDraft}
@@ -49,6 +49,18 @@ not_pure_first false c x rest e = absurd (cc)
 -- where nothing is wrong there is a head
 pub has_head : (h : Written) (b : Body) → rule_fault h b ≡ None → is_head h ≡ true
 has_head h b e = not_pure_first (is_head h) (has_impure b) _ _ e
+
+-- nothing is wrong with a head and a body, each of which is sound
+pub no_fault : (h : Written) (b : Body) → is_head h ≡ true → is_wide_head h ≡ false → has_impure b ≡ false → has_wide b ≡ false → rule_fault h b ≡ None
+no_fault h b head narrow pure few = by (is_head h) (is_wide_head h) (has_impure b) (has_wide b) head narrow pure few
+  where
+    by : (s t u v : Bool) → s ≡ true → t ≡ false → u ≡ false → v ≡ false
+        → first_of ((not s || u, not_pure) ∷ (t || v, too_big arguments) ∷ []) ≡ None
+    by true false false false e f g i = refl
+    by false t u v e f g i = absurd (cc)
+    by true true u v e f g i = absurd (cc)
+    by true false true v e f g i = absurd (cc)
+    by true false false true e f g i = absurd (cc)
 
 pub record Named (w : Written) : Type 0 where
   pub name : Bytes

@@ -125,3 +125,7 @@ arguments_are d n lt c ts is = by (get_or (shapes_of d) n (shapes.variable [])) 
         let here : compound y (many (map (term_at d) (arguments_at d n))) ≡ compound c ts = sym read.1 ∙ is in
         let inside : many (map (term_at d) (arguments_at d n)) ≡ ts = cc in
         same ∙ inside
+
+-- a part that is known to be that body
+pub known : (d : ClauseDraft) (n : ℕ) (p q : BodyPart) → p ≡ q → IsBody d n p (body_at d n) → IsBody d n q (body_at d n)
+known d n p q e h = subst (λ (x : BodyPart). IsBody d n x (body_at d n)) e h

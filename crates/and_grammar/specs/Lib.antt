@@ -4,3 +4,4 @@ pub mod Acts
 pub mod Checked
 pub mod Translated
 pub mod Counts
+pub mod Plain

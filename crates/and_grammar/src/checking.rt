@@ -1,6 +1,7 @@
 //! Whether a rule stands for a clause.
 
-ghost use Rattle.std.specs.Prelude.{◌≡◌, ◌<◌, ◌∷◌, ◌||◌, not, None, Some, reverse, IfErr, IfSome, IfOk, OnOk};
+ghost use Rattle.std.specs.Prelude.{◌≡◌, ◌<◌, ◌∷◌, ◌||◌, not, true, false, None, Some, reverse, IfErr, IfSome, IfOk};
+ghost use Rattle.std.specs.Prelude.{OnOk};
 ghost use Rattle.and_translation.specs.Bodies.{has_impure, has_wide, is_head, is_wide_head};
 ghost use Rattle.and_translation.specs.Translation.{rule_fault};
 ghost use Rattle.and_clauses.specs.Drafts.{draft_of};
@@ -43,6 +44,18 @@ pub(crate) fn check(
     Ok(())
 }
 
+/// Whether nothing is wrong with the head of a rule. Takes no memory.
+pub(crate) fn is_sound_head(rule: &ClauseDraft, head: u32) -> bool
+    requires { head < (draft_of rule.now).parts }
+    ensures head { result ≡ true → is_head (term_at rule.now head) ≡ true }
+    ensures narrow { result ≡ true → is_wide_head (term_at rule.now head) ≡ false }
+{
+    if is_wide(rule, head) {
+        return false;
+    }
+    is_head(rule, head)
+}
+
 /// Whether a part may be the head of a rule.
 fn is_head(rule: &ClauseDraft, head: u32) -> bool
     requires { head < (draft_of rule.now).parts }
@@ -81,7 +94,7 @@ fn either(first: bool, second: bool) -> bool
 }
 
 /// Whether two arguments more are too many.
-fn is_wide(rule: &ClauseDraft, place: u32) -> bool
+pub(crate) fn is_wide(rule: &ClauseDraft, place: u32) -> bool
     requires { place < (draft_of rule.now).parts }
     ensures { result ≡ is_wide_head (term_at rule.now place) }
 {

@@ -112,7 +112,12 @@ pub(crate) fn copy_term(
     match rule.part(place) {
         Part::Variable { name, .. } => put_variable(out, name),
         Part::Integer(value) => put_integer(out, value),
-        Part::Compound { .. } => copy_parts(alloc, rule, out, place),
+        Part::Compound { name, count } => {
+            if count == 0 {
+                return put_compound(out, name, 0);
+            }
+            copy_parts(alloc, rule, out, place)
+        }
     }
 }
 

@@ -9,6 +9,7 @@ mod checking;
 mod copying;
 mod counting;
 pub mod fault;
+mod plain;
 mod threading;
 mod translating;
 

@@ -8,7 +8,7 @@ ghost use Rattle.and_translation.specs.Bodies.{elements, behind_first};
 ghost use Rattle.and_translation.specs.Translation.{state, with_states, walk, joined};
 ghost use Rattle.and_clauses.specs.Drafts.{draft_of};
 ghost use Rattle.and_clauses.specs.Parts.{many};
-ghost use Rattle.and_grammar.specs.Views.{term_at, body_at, arguments_at, Adds, Becomes, IsList};
+ghost use Rattle.and_grammar.specs.Views.{term_at, body_at, arguments_at, Adds, Becomes, IsBody, IsList};
 ghost use Rattle.and_grammar.specs.Acts.{acts_of, stand_of, done, AreBelow, IsTaskWithin};
 ghost use Rattle.and_grammar.specs.Acts.{Steps, Makes, Splits};
 ghost use Rattle.and_grammar.specs.declared.threading.Task.TheVariants.{Body, Others, EndAlternative, Join};
@@ -119,7 +119,7 @@ impl Threaded {
         }
     }
 
-    /// Translates a body, or makes those in it what comes next.
+    /// Translates a body, or the first of those in it, and makes the others what comes next.
     fn take_body(
         &mut self,
         alloc: Global,
@@ -134,7 +134,35 @@ impl Threaded {
         ensures { let before = Body place first ∷ reverse pending.old.items in
             OnOk result (Steps rule.now before (reverse pending.new.items) self.old self.new) }
     {
-        match body_part(rule, place) {
+        let part = body_part(rule, place);
+        let BodyPart::Both { left, right } = part else {
+            return self.take_part(alloc, rule, pending, place, part, first);
+        };
+        pending.push(Task::Body {
+            place: right,
+            first: false,
+        })?;
+        self.take_part(alloc, rule, pending, left, body_part(rule, left), first)
+    }
+
+    /// Translates a part of a body, or makes the bodies in it what comes next.
+    fn take_part(
+        &mut self,
+        alloc: Global,
+        rule: &ClauseDraft,
+        pending: &mut Vec<Task>,
+        place: u32,
+        part: BodyPart,
+        first: bool,
+    ) -> Result<(), RuleFault>
+        requires within { place < (draft_of rule.now).parts }
+        requires part { IsBody rule.now place part (body_at rule.now place) }
+        requires counted { self.old.goals ≤ length (draft_of self.old.out).finished }
+        requires below { AreBelow (acts_of rule.now (reverse pending.old.items)) (length (stand_of self.old).below) }
+        ensures { let before = Body place first ∷ reverse pending.old.items in
+            OnOk result (Steps rule.now before (reverse pending.new.items) self.old self.new) }
+    {
+        match part {
             BodyPart::Nothing => Ok(()),
             BodyPart::Terminals => self.take_terminals(alloc, rule, place, first),
             BodyPart::Goals { goals } => self.take_goals(alloc, rule, goals),

@@ -1,17 +1,19 @@
 //! The clause for which a rule stands.
 
-ghost use Rattle.std.specs.Prelude.{◌≡◌, ◌<◌, ◌∷◌, [], length, true, IsTrue, IfOk, OnOk};
-ghost use Rattle.and_translation.specs.Bodies.{first_terminals, is_head, is_rule};
-ghost use Rattle.and_translation.specs.Translation.{state, list_before, head_between, rule_clause};
+ghost use Rattle.std.specs.Prelude.{◌≡◌, ◌<◌, ◌∷◌, [], length, true, None, Some, IsTrue, IfOk, OnOk, IfErr, IfSome};
+ghost use Rattle.and_translation.specs.Bodies.{first_terminals, behind_first, is_head, is_rule};
+ghost use Rattle.and_translation.specs.Translation.{state, list_before, head_between, rule_clause, rule_fault, walk};
 ghost use Rattle.and_clauses.specs.Drafts.{draft_of};
 ghost use Rattle.and_grammar.specs.Views.{term_at, body_at, IsFirstList, Adds};
+ghost use Rattle.and_grammar.specs.Checked.{fault_of};
 ghost use Rattle.and_grammar.specs.Translated.{Answers, AnswersSides};
 
 use crate::bodies::{BodyPart, body_part};
-use crate::checking::check;
+use crate::checking::{check, is_sound_head};
 use crate::copying::{copy_arguments, put_compound, put_list_before, put_state};
 use crate::counting::state_behind;
 use crate::fault::RuleFault;
+use crate::plain::plain_state;
 use crate::threading::{Threaded, put_wider, thread};
 use and_clauses::ClauseDraft;
 use std::alloc::Global;
@@ -45,31 +47,54 @@ fn translate_sides(
     requires body { body < (draft_of rule.now).parts }
     ensures { AnswersSides rule.now (term_at rule.now head) (body_at rule.now body) result }
 {
-    check(alloc, rule, head, body)?;
-    match put_sides(alloc, rule, spare, head, body) {
+    let behind = checked_state(alloc, rule, head, body)?;
+    match put_sides(alloc, rule, spare, head, body, behind) {
         Ok(clause) => Ok(clause),
         // Nothing is wrong with the rule, so it was want of memory.
         Err(_) => Err(RuleFault::Memory),
     }
 }
 
-/// The clause of a head and a body with which nothing is wrong. An error is want of memory.
+/// The state behind the body of a rule, or what is wrong with the rule.
+fn checked_state(alloc: Global, rule: &ClauseDraft, head: u32, body: u32) -> Result<u32, RuleFault>
+    requires head { head < (draft_of rule.now).parts }
+    requires body { body < (draft_of rule.now).parts }
+    ensures ok { OnOk result (rule_fault (term_at rule.now head) (body_at rule.now body) ≡ None) }
+    ensures state { IfOk result (λ s. s ≡ (walk (behind_first (body_at rule.now body)) 0 1).behind) }
+    ensures fault { let fault = rule_fault (term_at rule.now head) (body_at rule.now body) in
+        IfErr result (λ e. IfSome (fault_of e) (λ f. fault ≡ Some f)) }
+{
+    if is_sound_head(rule, head) {
+        if let Some(state) = plain_state(rule, body) {
+            return Ok(state);
+        }
+    }
+    check(alloc, rule, head, body)?;
+    match state_behind(alloc, rule, body) {
+        Ok(state) => Ok(state),
+        Err(_) => Err(RuleFault::Memory),
+    }
+}
+
+/// The clause of a head and a body with which nothing is wrong, and behind which that state is. An error is want of
+/// memory.
 fn put_sides(
     alloc: Global,
     rule: &ClauseDraft,
     spare: ClauseDraft,
     head: u32,
     body: u32,
+    behind: u32,
 ) -> Result<ClauseDraft, RuleFault>
     requires head { head < (draft_of rule.now).parts }
     requires body { body < (draft_of rule.now).parts }
     requires named { is_head (term_at rule.now head) ≡ true }
+    requires behind { behind ≡ (walk (behind_first (body_at rule.now body)) 0 1).behind }
     ensures { IfOk result (λ d. ((draft_of d).line ≡ (draft_of rule.now).line)
         × ((draft_of d).finished ≡ rule_clause (term_at rule.now head) (body_at rule.now body) ∷ [])) }
 {
     let mut clause = spare;
     clause.restart(rule.line());
-    let behind = state_behind(alloc, rule, body)?;
     put_head(alloc, rule, &mut clause, head, body, behind)?;
     let threaded = thread(alloc, rule, clause, body)?;
     let Threaded { out, .. } = threaded;

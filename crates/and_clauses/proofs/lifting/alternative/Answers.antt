@@ -25,7 +25,7 @@ lifted_items-requires-clause-few c =
     let few = few_read c.args.lifting.disjunctions.now c.scope_of-disjunction.result c.index-lifting-disjunction.result
     (scope_below (length c.args.lifting.disjunctions.now) c.scope_of-disjunction.result c.args.outline.now.scope c.scope_of-disjunction.ensures
     c.requires.scope) c.requires.lifting.few in
-    omega (arith, few, ap length c.as_slice-variables.ensures.value)
+    omega (arith, few, ap length c.as_slice-variables.ensures)
 
 pub lifted_items-requires-clause-own : goal.lifted_items-requires-clause-own
 lifted_items-requires-clause-own c =
@@ -34,12 +34,12 @@ lifted_items-requires-clause-own c =
     c.requires.scope) c.requires.lifting.few in
     let vars = variables_read c.args.lifting.disjunctions.now c.scope_of-disjunction.result c.index-lifting-disjunction.result
     (scope_below (length c.args.lifting.disjunctions.now) c.scope_of-disjunction.result c.args.outline.now.scope c.scope_of-disjunction.ensures
-    c.requires.scope) c.args.lifting.numbers.now c.requires.lifting.numbered ∙ ap own (sym c.as_slice-variables.ensures.value) in
+    c.requires.scope) c.args.lifting.numbers.now c.requires.lifting.numbered ∙ ap own (sym c.as_slice-variables.ensures) in
     subst (λ ps. All (AreOwn 255) (flat_map terms_of_item (pieces_items (named_under c.args.lifting) (numbering_by (own c.as_slice-variables.result.now))
-    (map (piece_in (nodes_under c.args.lifting)) ps)))) (sym c.deref.ensures.value)
+    (map (piece_in (nodes_under c.args.lifting)) ps)))) (sym c.as_slice.ensures)
     (pieces_own (nodes_under c.args.lifting) (named_under c.args.lifting) no_clause c.args.outline.now c.scope_of-disjunction.result
     c.as_slice-variables.result.now c.scope_of-disjunction.ensures
-    vars (omega (arith, few, ap length c.as_slice-variables.ensures.value)) (c.requires.own no_clause))
+    vars (omega (arith, few, ap length c.as_slice-variables.ensures)) (c.requires.own no_clause))
 
 pub new-requires-clause-few_variables : goal.new-requires-clause-few_variables
 new-requires-clause-few_variables c =
@@ -48,13 +48,13 @@ new-requires-clause-few_variables c =
     c.requires.scope) c.requires.lifting.few in
     let count : length c.in_ok-names.names.items ≡ length c.as_slice-variables.result.now =
     ap length c.in_ok-names.ensures ∙ length-map c.as_slice-variables.result.now (λ v. get_or c.args.written.now v []) in
-    omega (arith, few, ap length c.as_slice-variables.ensures.value, count)
+    omega (arith, few, ap length c.as_slice-variables.ensures, count)
 
 pub returns-clause-lifted : goal.returns-clause-lifted
 returns-clause-lifted c = λ k written line.
     let vars = variables_read c.args.lifting.disjunctions.now c.scope_of-disjunction.result c.index-lifting-disjunction.result
     (scope_below (length c.args.lifting.disjunctions.now) c.scope_of-disjunction.result c.args.outline.now.scope c.scope_of-disjunction.ensures
-    c.requires.scope) c.args.lifting.numbers.now c.requires.lifting.numbered ∙ ap own (sym c.as_slice-variables.ensures.value) in
+    c.requires.scope) c.args.lifting.numbers.now c.requires.lifting.numbered ∙ ap own (sym c.as_slice-variables.ensures) in
     let mid = shapes_of c.lifted_head.new.nodes.items in
     let us = shapes_of c.lifted_items.new.nodes.items in
     alternative_made (nodes_under c.args.lifting) (named_under c.args.lifting) k c.args.outline.now c.scope_of-disjunction.result
@@ -63,6 +63,6 @@ returns-clause-lifted c = λ k written line.
     c.in_ok-head.ensures.head
     (node_kept mid us c.in_ok-head.head.0 _ c.lifted_items.ensures.kept (c.in_ok-head.ensures.head.0, refl))
     (c.in_ok-items.ensures.items ∙ ap (λ ps. pieces_items (named_under c.args.lifting) (numbering_by (own c.as_slice-variables.result.now))
-    (map (piece_in (nodes_under c.args.lifting)) ps)) c.deref.ensures.value) c.in_ok-items.ensures.there c.in_ok-names.ensures
+    (map (piece_in (nodes_under c.args.lifting)) ps)) c.as_slice.ensures) c.in_ok-items.ensures.there c.in_ok-names.ensures
     (ap (λ (n : NodeNo). n.0) c.new.ensures.head) c.new.ensures.items
     c.new.ensures.variables c.new.ensures.line written line (c.requires.own k)

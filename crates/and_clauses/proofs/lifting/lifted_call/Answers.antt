@@ -17,13 +17,13 @@ push_node-requires c =
       c.loop-variable.invariant.row.grown.few,
       c.requires.room.room,
       count,
-      ap length c.as_slice-variables.ensures.value,
+      ap length c.as_slice-variables.ensures,
     )
 
 pub loop-variable-preserved : goal.loop-variable-preserved
 loop-variable-preserved c =
     let vars = variables_read c.args.lifting.disjunctions.now c.args.disjunction c.index-lifting-disjunction.result c.requires.there c.args.lifting.numbers.now
-    c.requires.lifting.numbered ∙ ap own (sym c.as_slice-variables.ensures.value) in record {
+    c.requires.lifting.numbered ∙ ap own (sym c.as_slice-variables.ensures) in record {
       row = call_more (numbering_at c.args.scope) (length (names_under c.args.lifting)) (shapes_of c.args.nodes.now.items)
           (shapes_of c.loop-variable.nodes.items)
           (shapes_of c.push_node.new.nodes.items) (named_at (named_under c.args.lifting) c.args.disjunction).variables c.as_slice-variables.result.now
@@ -43,29 +43,29 @@ push_node-requires-2 c =
       c.loop-variable.invariant.row.grown.few,
       c.requires.room.room,
       count,
-      ap length c.as_slice-variables.ensures.value,
+      ap length c.as_slice-variables.ensures,
     )
 
 pub returns-clause-grown : goal.returns-clause-grown
 returns-clause-grown c =
     let vars = variables_read c.args.lifting.disjunctions.now c.args.disjunction c.index-lifting-disjunction.result c.requires.there c.args.lifting.numbers.now
-    c.requires.lifting.numbered ∙ ap own (sym c.as_slice-variables.ensures.value) in
+    c.requires.lifting.numbered ∙ ap own (sym c.as_slice-variables.ensures) in
     let few = few_read c.args.lifting.disjunctions.now c.args.disjunction c.index-lifting-disjunction.result c.requires.there c.requires.lifting.few in
     (call_end c.push_node-2.result (numbering_at c.args.scope) (length (names_under c.args.lifting)) (shapes_of c.args.nodes.now.items)
     (shapes_of c.loop-variable.nodes.items)
     (shapes_of c.push_node-2.new.nodes.items) (named_at (named_under c.args.lifting) c.args.disjunction) c.as_slice-variables.result.now
     c.loop-variable.variable-index c.name_of-name.result.0 c.loop-variable.arguments.items c.name_of-name.ensures.name vars c.loop-variable.invariant.row
     c.loop-variable-test.false c.name_of-name.ensures.within
-    (omega (arith, few, ap length c.as_slice-variables.ensures.value)) c.push_node-2.ensures.number c.push_node-2.ensures.nodes).0
+    (omega (arith, few, ap length c.as_slice-variables.ensures)) c.push_node-2.ensures.number c.push_node-2.ensures.nodes).0
 
 pub returns-clause-call : goal.returns-clause-call
 returns-clause-call c =
     let vars = variables_read c.args.lifting.disjunctions.now c.args.disjunction c.index-lifting-disjunction.result c.requires.there c.args.lifting.numbers.now
-    c.requires.lifting.numbered ∙ ap own (sym c.as_slice-variables.ensures.value) in
+    c.requires.lifting.numbered ∙ ap own (sym c.as_slice-variables.ensures) in
     let few = few_read c.args.lifting.disjunctions.now c.args.disjunction c.index-lifting-disjunction.result c.requires.there c.requires.lifting.few in
     (call_end c.push_node-2.result (numbering_at c.args.scope) (length (names_under c.args.lifting)) (shapes_of c.args.nodes.now.items)
     (shapes_of c.loop-variable.nodes.items)
     (shapes_of c.push_node-2.new.nodes.items) (named_at (named_under c.args.lifting) c.args.disjunction) c.as_slice-variables.result.now
     c.loop-variable.variable-index c.name_of-name.result.0 c.loop-variable.arguments.items c.name_of-name.ensures.name vars c.loop-variable.invariant.row
     c.loop-variable-test.false c.name_of-name.ensures.within
-    (omega (arith, few, ap length c.as_slice-variables.ensures.value)) c.push_node-2.ensures.number c.push_node-2.ensures.nodes).1
+    (omega (arith, few, ap length c.as_slice-variables.ensures)) c.push_node-2.ensures.number c.push_node-2.ensures.nodes).1

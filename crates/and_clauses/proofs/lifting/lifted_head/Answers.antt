@@ -11,8 +11,7 @@ overflow_cast-number c =
     omega (
       arith,
       few,
-      c.len-count.ensures,
-      (get_or c.args.lifting.disjunctions.now c.args.disjunction c.index-lifting-disjunction.result).variables.ok.0,
+      c.len-count.ensures.value,
       c.loop-number-test.true,
     )
 
@@ -25,8 +24,7 @@ push_node-requires c =
       c.loop-number.invariant.row.grown.few,
       c.requires.room.room,
       few,
-      c.len-count.ensures,
-      (get_or c.args.lifting.disjunctions.now c.args.disjunction c.index-lifting-disjunction.result).variables.ok.0,
+      c.len-count.ensures.value,
     )
 
 pub loop-number-preserved : goal.loop-number-preserved
@@ -38,8 +36,7 @@ loop-number-preserved c =
           c.loop-number-test.true (omega (
             arith,
             few,
-            c.len-count.ensures,
-            (get_or c.args.lifting.disjunctions.now c.args.disjunction c.index-lifting-disjunction.result).variables.ok.0,
+            c.len-count.ensures.value,
           )) c.in_ok-push_node.ensures.nodes
           c.in_ok-push_node.ensures.number
           c.in_ok-push.ensures.items;
@@ -54,8 +51,7 @@ push_node-requires-2 c =
       c.loop-number.invariant.row.grown.few,
       c.requires.room.room,
       few,
-      c.len-count.ensures,
-      (get_or c.args.lifting.disjunctions.now c.args.disjunction c.index-lifting-disjunction.result).variables.ok.0,
+      c.len-count.ensures.value,
     )
 
 pub returns-clause-grown : goal.returns-clause-grown
@@ -66,15 +62,14 @@ returns-clause-grown c =
       arith,
       count_read c.args.lifting.disjunctions.now c.args.disjunction c.index-lifting-disjunction.result c.requires.there c.args.lifting.numbers.now
           c.requires.lifting.numbered,
-      c.len-count.ensures,
-      (get_or c.args.lifting.disjunctions.now c.args.disjunction c.index-lifting-disjunction.result).variables.ok.0,
+      c.len-count.ensures.value,
     ) in
     (head_end c.push_node-2.result (length (names_under c.args.lifting)) (shapes_of c.args.nodes.now.items) (shapes_of c.loop-number.nodes.items)
     (shapes_of c.push_node-2.new.nodes.items)
     (named_at (named_under c.args.lifting) c.args.disjunction) c.len-count.result c.loop-number.number c.name_of-name.result.0 c.loop-number.arguments.items
     c.name_of-name.ensures.name count c.loop-number.invariant.row (omega (arith, c.loop-number-test.false, c.loop-number.auto.number-end))
     c.name_of-name.ensures.within
-    (omega (arith, few, c.len-count.ensures, (get_or c.args.lifting.disjunctions.now c.args.disjunction c.index-lifting-disjunction.result).variables.ok.0))
+    (omega (arith, few, c.len-count.ensures.value))
     c.push_node-2.ensures.number c.push_node-2.ensures.nodes).0
 
 pub returns-clause-head : goal.returns-clause-head
@@ -85,13 +80,12 @@ returns-clause-head c =
       arith,
       count_read c.args.lifting.disjunctions.now c.args.disjunction c.index-lifting-disjunction.result c.requires.there c.args.lifting.numbers.now
           c.requires.lifting.numbered,
-      c.len-count.ensures,
-      (get_or c.args.lifting.disjunctions.now c.args.disjunction c.index-lifting-disjunction.result).variables.ok.0,
+      c.len-count.ensures.value,
     ) in
     (head_end c.push_node-2.result (length (names_under c.args.lifting)) (shapes_of c.args.nodes.now.items) (shapes_of c.loop-number.nodes.items)
     (shapes_of c.push_node-2.new.nodes.items)
     (named_at (named_under c.args.lifting) c.args.disjunction) c.len-count.result c.loop-number.number c.name_of-name.result.0 c.loop-number.arguments.items
     c.name_of-name.ensures.name count c.loop-number.invariant.row (omega (arith, c.loop-number-test.false, c.loop-number.auto.number-end))
     c.name_of-name.ensures.within
-    (omega (arith, few, c.len-count.ensures, (get_or c.args.lifting.disjunctions.now c.args.disjunction c.index-lifting-disjunction.result).variables.ok.0))
+    (omega (arith, few, c.len-count.ensures.value))
     c.push_node-2.ensures.number c.push_node-2.ensures.nodes).1

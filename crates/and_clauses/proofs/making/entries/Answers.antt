@@ -29,7 +29,7 @@ lifted_items-requires-clause-there c =
     let o = get_or c.args.outlines.now 0 c.index-outlines-0.result in
     let at = get_or_default c.args.outlines.now 0 c.index-outlines-0.result o
     (outlines_some c.args.lifting c.requires.lifting c.args.head c.args.line c.args.outlines.now c.requires.outlines.0 c.requires.outlines.1) in
-    subst (ArePiecesThere (length c.args.lifting.parts.now) (length c.args.lifting.disjunctions.now)) (sym c.deref.ensures.value)
+    subst (ArePiecesThere (length c.args.lifting.parts.now) (length c.args.lifting.disjunctions.now)) (sym c.as_slice.ensures)
     (first_there c.args.lifting c.requires.lifting c.args.head c.args.line c.args.outlines.now c.requires.outlines.0 c.requires.outlines.1 o at)
 
 pub lifted_items-requires-clause-own : goal.lifted_items-requires-clause-own
@@ -39,7 +39,7 @@ lifted_items-requires-clause-own c =
     (outlines_some c.args.lifting c.requires.lifting c.args.head c.args.line c.args.outlines.now c.requires.outlines.0 c.requires.outlines.1) in
     let ss = nodes_under c.args.lifting in
     let ds = named_under c.args.lifting in
-    subst (λ ps. All (AreOwn 255) (flat_map terms_of_item (pieces_items ds (λ q n. n) (map (piece_in ss) ps)))) (sym c.deref.ensures.value)
+    subst (λ ps. All (AreOwn 255) (flat_map terms_of_item (pieces_items ds (λ q n. n) (map (piece_in ss) ps)))) (sym c.as_slice.ensures)
     (pieces_own c.args.lifting c.requires.lifting c.args.head c.args.line c.args.outlines.now c.requires.outlines.0 c.requires.outlines.1 c.requires.few o at)
 
 pub lifted_items-requires-clause-room : goal.lifted_items-requires-clause-room
@@ -52,10 +52,10 @@ lifted_items-requires-clause-room c =
     let m = length (names_under c.args.lifting) in
     let old = shapes_of c.args.nodes.now.items in
     let a = head_size ss c.args.head in
-    let b = pieces_size ds (map (piece_in ss) c.deref.result.now) in
+    let b = pieces_size ds (map (piece_in ss) c.as_slice.result.now) in
     let rest = outlines_size ds (outlines_in ss (take (length c.args.outlines.now - 1) (drop 1 c.args.outlines.now))) in
     let total = a + outlines_size ds (outlines_in ss c.args.outlines.now) in
-    let same = ap (λ ps. pieces_size ds (map (piece_in ss) ps)) c.deref.ensures.value in
+    let same = ap (λ ps. pieces_size ds (map (piece_in ss) ps)) c.as_slice.ensures in
     let tail = ap (λ xs. outlines_size ds (outlines_in ss xs)) (tail_of 1 c.args.outlines.now c.args.outlines.now refl) in
     let sum = size_split c.args.lifting c.requires.lifting c.args.head c.args.line c.args.outlines.now c.requires.outlines.0 c.requires.outlines.1
     c.requires.few o at in
@@ -87,10 +87,10 @@ alternatives-requires-clause-room c =
     let m = length (names_under c.args.lifting) in
     let old = shapes_of c.args.nodes.now.items in
     let a = head_size ss c.args.head in
-    let b = pieces_size ds (map (piece_in ss) c.deref.result.now) in
+    let b = pieces_size ds (map (piece_in ss) c.as_slice.result.now) in
     let rest = outlines_size ds (outlines_in ss (take (length c.args.outlines.now - 1) (drop 1 c.args.outlines.now))) in
     let total = a + outlines_size ds (outlines_in ss c.args.outlines.now) in
-    let same = ap (λ ps. pieces_size ds (map (piece_in ss) ps)) c.deref.ensures.value in
+    let same = ap (λ ps. pieces_size ds (map (piece_in ss) ps)) c.as_slice.ensures in
     let tail = ap (λ xs. outlines_size ds (outlines_in ss xs)) (tail_of 1 c.args.outlines.now c.args.outlines.now refl) in
     let sum = size_split c.args.lifting c.requires.lifting c.args.head c.args.line c.args.outlines.now c.requires.outlines.0 c.requires.outlines.1
     c.requires.few o at in
@@ -108,10 +108,10 @@ returns-clause-grown c =
     let m = length (names_under c.args.lifting) in
     let old = shapes_of c.args.nodes.now.items in
     let a = head_size ss c.args.head in
-    let b = pieces_size ds (map (piece_in ss) c.deref.result.now) in
+    let b = pieces_size ds (map (piece_in ss) c.as_slice.result.now) in
     let rest = outlines_size ds (outlines_in ss (take (length c.args.outlines.now - 1) (drop 1 c.args.outlines.now))) in
     let total = a + outlines_size ds (outlines_in ss c.args.outlines.now) in
-    let same = ap (λ ps. pieces_size ds (map (piece_in ss) ps)) c.deref.ensures.value in
+    let same = ap (λ ps. pieces_size ds (map (piece_in ss) ps)) c.as_slice.ensures in
     let tail = ap (λ xs. outlines_size ds (outlines_in ss xs)) (tail_of 1 c.args.outlines.now c.args.outlines.now refl) in
     let sum = size_split c.args.lifting c.requires.lifting c.args.head c.args.line c.args.outlines.now c.requires.outlines.0 c.requires.outlines.1
     c.requires.few o at in
@@ -133,10 +133,10 @@ returns-clause-lifted c =
     let vs = shapes_of c.alternatives.new.nodes.items in
     let others = subst (λ xs. AreLifted vs c.in_ok-alternatives.alternatives.items (map (outline_clause ds k) (outlines_in ss xs)))
     (tail_of 1 c.args.outlines.now c.args.outlines.now refl)
-    (c.in_ok-alternatives.ensures.lifted k (sym (c.deref-2.ensures.value ∙ c.in_ok-written.ensures)) refl) in
+    (c.in_ok-alternatives.ensures.lifted k (sym (c.deref.ensures.value ∙ c.in_ok-written.ensures)) refl) in
     entries_made c.args.lifting c.requires.lifting c.args.head c.args.line c.args.outlines.now items are c.requires.few m us mid vs c.new.result
     c.in_ok-alternatives.alternatives.items c.in_ok-head.head.0 c.in_ok-items.items.items c.in_ok-written.written.items o at c.in_ok-head.ensures.node
     c.lifted_items.ensures.kept c.alternatives.ensures.kept
-    (c.in_ok-items.ensures.items ∙ ap (λ ps. pieces_items ds (λ q n. n) (map (piece_in ss) ps)) c.deref.ensures.value)
+    (c.in_ok-items.ensures.items ∙ ap (λ ps. pieces_items ds (λ q n. n) (map (piece_in ss) ps)) c.as_slice.ensures)
     c.in_ok-items.ensures.there others c.in_ok-written.ensures (ap (λ (n : NodeNo). n.0) c.new.ensures.head) c.new.ensures.items c.new.ensures.variables
     c.new.ensures.line

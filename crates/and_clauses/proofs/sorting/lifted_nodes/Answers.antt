@@ -9,6 +9,13 @@ overflow_add-nodes c =
     c.disjunction-item.is c.requires.few in
     omega (arith, few)
 
+pub overflow_add-nodes-in-loop-disjunction : goal.overflow_add-nodes-in-loop-disjunction
+overflow_add-nodes-in-loop-disjunction c =
+    let narrow : length c.disjunction-item.result.variables.items ≤ 255 =
+    variables_few 255 c.args.disjunctions.now c.loop-disjunction.disjunction-index c.disjunction-item.result c.loop-disjunction-test.true c.disjunction-item.is
+    c.requires.narrow in
+    omega (arith, narrow, c.len.ensures.value)
+
 pub overflow_mul-nodes : goal.overflow_mul-nodes
 overflow_mul-nodes c =
     let few : c.disjunction-item.result.count ≤ 4294967296 =
@@ -18,7 +25,7 @@ overflow_mul-nodes c =
     variables_few 255 c.args.disjunctions.now c.loop-disjunction.disjunction-index c.disjunction-item.result c.loop-disjunction-test.true c.disjunction-item.is
     c.requires.narrow in
     let product : (c.disjunction-item.result.count + 1) * (c.len.result + 1) ≤ 1099511628032 =
-    product_few (c.disjunction-item.result.count + 1) (c.len.result + 1) (omega (arith, few)) (omega (arith, narrow, c.len.ensures)) in
+    product_few (c.disjunction-item.result.count + 1) (c.len.result + 1) (omega (arith, few)) (omega (arith, narrow, c.len.ensures.value)) in
     omega (arith, product)
 
 pub overflow_add-nodes-in-loop-disjunction-2 : goal.overflow_add-nodes-in-loop-disjunction-2
@@ -30,5 +37,5 @@ overflow_add-nodes-in-loop-disjunction-2 c =
     variables_few 255 c.args.disjunctions.now c.loop-disjunction.disjunction-index c.disjunction-item.result c.loop-disjunction-test.true c.disjunction-item.is
     c.requires.narrow in
     let product : (c.disjunction-item.result.count + 1) * (c.len.result + 1) ≤ 1099511628032 =
-    product_few (c.disjunction-item.result.count + 1) (c.len.result + 1) (omega (arith, few)) (omega (arith, narrow, c.len.ensures)) in
+    product_few (c.disjunction-item.result.count + 1) (c.len.result + 1) (omega (arith, few)) (omega (arith, narrow, c.len.ensures.value)) in
     omega (arith, product, c.loop-disjunction.invariant.few, c.requires.room)

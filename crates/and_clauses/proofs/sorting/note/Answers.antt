@@ -6,7 +6,7 @@ use Rattle.and_clauses.proofs.sorting.note.Goals as goal
 pub returns-in_ok-push : goal.returns-in_ok-push
 returns-in_ok-push c =
     let none : list_any (λ y. nat_eq y c.args.variable) c.args.variables.now.items ≡ false = search rules in
-    noted_new c.args.variable c.args.variables.now.items c.push.new.self.items none c.in_ok-push.ensures.items
+    noted_new c.args.variable c.args.variables.now.items c.push.new.self.items none c.in_ok-push.ensures.ok
 
 pub returns-else-not-contains : goal.returns-else-not-contains
 returns-else-not-contains c =

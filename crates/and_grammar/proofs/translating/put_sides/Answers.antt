@@ -12,7 +12,7 @@ put_compound-requires c =
     let first = list_before (first_terminals (body_at c.args.rule.now c.args.body)) (state 0) in
     let w = walk (behind_first (body_at c.args.rule.now c.args.body)) 0 1 in
     two_there c.restart.new.self c.put_head.new.out c.in_ok-threaded.threaded.out
-    (head_between (term_at c.args.rule.now c.args.head) first (state c.in_ok-behind.behind)) (joined w.goals) c.in_ok-put_head.ensures
+    (head_between (term_at c.args.rule.now c.args.head) first (state c.args.behind)) (joined w.goals) c.in_ok-put_head.ensures
     c.in_ok-threaded.ensures
 
 pub returns : goal.returns
@@ -21,7 +21,7 @@ returns c =
     let w = walk (behind_first (body_at c.args.rule.now c.args.body)) 0 1 in
     let h = term_at c.args.rule.now c.args.head in
     let head : Adds c.restart.new.self c.put_head.new.out (head_between h first (state w.behind) ∷ []) =
-    subst (λ (k : ℕ). Adds c.restart.new.self c.put_head.new.out (head_between h first (state k) ∷ [])) c.in_ok-behind.ensures
+    subst (λ (k : ℕ). Adds c.restart.new.self c.put_head.new.out (head_between h first (state k) ∷ [])) c.requires.behind
     c.in_ok-put_head.ensures in
     let two = two_taken c.restart.new.self c.put_head.new.out c.in_ok-threaded.threaded.out c.put_compound.new.out (codes ":-")
     (head_between h first (state w.behind)) (joined w.goals) head c.in_ok-threaded.ensures c.in_ok-put_compound.ensures in (
