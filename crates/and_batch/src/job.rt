@@ -88,3 +88,52 @@ pub trait Job: Sync {
         ensures number { IfOk result (λ d. d.number ≡ ticket) }
         ensures due { IfOk result (λ d. due self.now d.number d.text) };
 }
+
+/// Numbered jobs that each worker does with tools of its own, which it hands on from one job to the next.
+pub trait Trade: Sync {
+    /// What a worker has at hand.
+    type Tools;
+
+    /// The text may come of the job of that number.
+    ghost due: { Self → ℕ → List ℕ → Type 0 };
+
+    /// The tools are fit for the next job.
+    ghost fit: { Self → Self.Tools → Type 0 };
+
+    /// The tools with which a worker begins. Takes no memory.
+    fn begin(&self) -> Self::Tools
+        ensures { fit self.now result };
+
+    /// Does the job of the ticket's number. It may wait, as a [`Job`] may. An error is want of memory.
+    fn run(&self, tools: Self::Tools, ticket: Ticket) -> Result<(Done, Self::Tools), AllocError>
+        requires { fit self.now tools }
+        ensures number { IfOk result (λ r. r.0.number ≡ ticket) }
+        ensures due { IfOk result (λ r. due self.now r.0.number r.0.text) }
+        ensures fit { IfOk result (λ r. fit self.now r.1) };
+
+    /// Puts the tools away. Takes no memory.
+    fn end(&self, tools: Self::Tools);
+}
+
+/// Jobs that need no tools.
+#[derive(Drop)]
+pub(crate) struct Plain<'a, J> {
+    pub(crate) job: &'a J,
+}
+
+impl<J: Job> Trade for Plain<'_, J> {
+    type Tools = ();
+
+    ghost due = { λ p number text. J.due p.job.now number text };
+
+    ghost fit = { λ p tools. Unit {0} };
+
+    fn begin(&self) {}
+
+    fn run(&self, tools: (), ticket: Ticket) -> Result<(Done, ()), AllocError> {
+        let done = self.job.run(ticket)?;
+        Ok((done, tools))
+    }
+
+    fn end(&self, tools: ()) {}
+}

@@ -9,6 +9,6 @@ mod running;
 mod share;
 mod working;
 
-pub use job::{Done, Job, Ticket};
+pub use job::{Done, Job, Ticket, Trade};
 pub use list::TextList;
-pub use running::run_all;
+pub use running::{run_all, run_trade};

@@ -1,5 +1,5 @@
 -- What is told of a text of several queries before any is answered (this project's own).
-use Rattle.std.specs.Prelude.{ℕ, ◌≡◌, ◌<◌, List, [], ◌∷◌, length, Option, Some, None}
+use Rattle.std.specs.Prelude.{ℕ, ◌≡◌, ◌<◌, List, [], ◌∷◌, length, Option, Some, None, IfSome}
 use Rattle.and_model.specs.Lines.{Bytes}
 use Rattle.and_source.specs.Source.{SourceProgram}
 use Rattle.and_language.specs.Refusals.{Refusal, IsRefused, Reads}
@@ -7,6 +7,7 @@ use Rattle.and_batch_text.specs.Queries.{Span}
 use Rattle.and_batch_text.specs.Refused.{AreRead, IsBatch, IsBatchRefused}
 use Rattle.and_batch_text.specs.Singles.{single}
 use Rattle.and_batch_text.specs.Views.{spans_of}
+use Rattle.and_reader.specs.Beginning.{IsBeginning}
 use Rattle.and_reader.specs.Causes.{refusal_of}
 use Rattle.and_reader.specs.declared.refusal.ReadRefusal.{ReadRefusal}
 use Rattle.and_batch_reader.specs.declared.opening.Opened.{Opened}
@@ -38,5 +39,5 @@ IsJudgedWhole bytes (s ∷ ss) refusal = AreJudged bytes (s ∷ ss) refusal
 
 -- the text has queries, each that of a program by itself, or it is refused
 abbrev pub IsOpened : Bytes → Opened → Type 0
-IsOpened bytes (Queries spans) = IsBatch bytes (spans_of spans.items)
+IsOpened bytes (Queries spans beginning) = IsBatch bytes (spans_of spans.items) × IfSome beginning IsBeginning
 IsOpened bytes (Refused refusal) = IsRefusedAs (IsBatchRefused bytes) refusal

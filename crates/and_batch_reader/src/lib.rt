@@ -3,4 +3,4 @@
 
 mod opening;
 
-pub use opening::{Opened, open};
+pub use opening::{Opened, beginning_of, open};

@@ -13,3 +13,6 @@ pub mod Ending
 pub mod Fronts
 pub mod Judgement
 pub mod EachText
+pub mod Onward
+pub mod Alone
+pub mod Lifting

@@ -51,7 +51,7 @@ each_word bytes ws t b h =
 
 -- The words before a token, and the token's own.
 
-tokens_more : (bytes : Bytes) (t : Token) (a : Answer) {p : ℕ} {ts : List Token} → HasTokens bytes (one t) p ts → Comes bytes t.end a
+pub tokens_more : (bytes : Bytes) (t : Token) (a : Answer) {p : ℕ} {ts : List Token} → HasTokens bytes (one t) p ts → Comes bytes t.end a
     → HasTokens bytes a p (ts ++ t ∷ [])
 tokens_more bytes t a (no_token p c) d = token p t [] c (no_token t.end d)
 tokens_more bytes t a (token p u us e h) d = token p u (us ++ t ∷ []) e (tokens_more bytes t a h d)
@@ -60,7 +60,7 @@ before_same : (bytes : Bytes) (t : Token) (ts : List Token) (a : Answer) → bef
 before_same bytes t [] a = refl
 before_same bytes t (u ∷ us) a = refl
 
-words_more : (bytes : Bytes) (t : Token) (a : Answer) (w : Word) {ts : List Token} {ws : List Placed} → AreWords bytes (one t) ts ws
+pub words_more : (bytes : Bytes) (t : Token) (a : Answer) (w : Word) {ts : List Token} {ws : List Placed} → AreWords bytes (one t) ts ws
     → IsWord bytes t (before bytes [] a) t.kind w
     → AreWords bytes a (ts ++ t ∷ []) (ws ++ record { word = w; place = t.start } ∷ [])
 words_more bytes t a w words.nothing h = words.more t [] w [] h words.nothing

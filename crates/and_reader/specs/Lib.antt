@@ -5,3 +5,4 @@ pub mod Seen
 pub mod Reading
 pub mod Causes
 pub mod RefusalLine
+pub mod Beginning

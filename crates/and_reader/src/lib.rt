@@ -2,6 +2,7 @@
 #![tactic(auto)]
 
 mod emitting;
+mod kept;
 mod laws;
 mod lines;
 mod operators;
@@ -13,6 +14,7 @@ mod state;
 mod words;
 
 pub use and_clauses::{Loaded, What};
+pub use kept::{Beginning, GoneOn, Whole};
 pub use laws::{each_text_is_read_or_refused, one_program, one_refusal};
 pub use lines::line_at;
 pub use reading::read_program;

@@ -20,6 +20,8 @@ ghost use Rattle.and_reader.specs.Reading.{IsRead, IsReadBefore, with_word};
 ghost use Rattle.and_reader.specs.Reading.{IsDraftOf, IsAdded, IsFaultOf};
 ghost use Rattle.and_model.specs.declared.limits.TheConstants.{MAX_BYTES};
 
+mod beginning;
+
 use crate::lines::{Cursor, line_at};
 use crate::parser::Parser;
 use crate::putting::put;

@@ -1,6 +1,7 @@
 -- What a text of several queries is answered with.
 use Rattle.std.proofs.Common.{◌≡◌, ℕ, zero, suc, ◌+◌, ◌<◌, ◌≤◌, ◌||◌, Bool, true, false, List, [], ◌∷◌, ◌++◌, length, map, drop, nat_eq, get_or, refl, sym}
-use Rattle.std.proofs.Common.{ap, ◌∙◌, subst, arith, rules, take, append-nil, append_assoc}
+use Rattle.std.proofs.Common.{ap, ◌∙◌, subst, arith, rules, take, append-nil, append_assoc, length-append}
+use Rattle.std.specs.Result.{is_err, OnOk}
 use Rattle.std.specs.Prelude.{All, Option, Some, None, slice_get, Result, Ok, Err, IfOk}
 use Rattle.std.specs.List.{list_any}
 use Rattle.std.proofs.lemmas.Bool.{false≢true}
@@ -268,6 +269,22 @@ pub due_more : (due : ℕ → Bytes → Type 0) (ts : List Bytes) (t : Bytes) �
 due_more due [] t each last = by_place due t [] last (λ k u e. absurd (none_there u e))
 due_more due (s ∷ ts) t each last =
     by_place due s (ts ++ t ∷ []) (each 0 s refl) (due_more (λ n. due (suc n)) ts t (λ n v f. each (suc n) v f) last)
+
+-- what a call did that did not fail
+pub went_well : {X E : Type 0} (r : Result X E) (fact : Type 0) → is_err r ≡ false → OnOk r fact → fact
+went_well (Ok x) fact fine is = is
+went_well (Err e) fact fine is = absurd (false≢true (sym fine))
+
+pub count_pushed : (ts new : List Bytes) (t : Bytes) (k : ℕ) → new ≡ ts ++ t ∷ [] → length ts ≡ k → length new ≡ k + 1
+count_pushed ts new t k put long =
+    let joined : length (ts ++ t ∷ []) ≡ length ts + 1 = length-append ts (t ∷ []) in
+    let same : length new ≡ length (ts ++ t ∷ []) = ap length put in
+    omega (arith, joined, same, long)
+
+pub due_pushed : (due : ℕ → Bytes → Type 0) (ts new : List Bytes) (t : Bytes) (k : ℕ) → new ≡ ts ++ t ∷ [] → length ts ≡ k → IsDueAtEach due ts → due k t
+    → IsDueAtEach due new
+due_pushed due ts new t k put long each last =
+    subst (IsDueAtEach due) (sym put) (due_more due ts t each (subst (λ n. due n t) (sym long) last))
 
 close_line : (q d : Bytes) → q ++ d ++ [] ≡ q ++ d
 close_line q d = append-nil (q ++ d)

@@ -4,6 +4,7 @@ pub mod ExplainLemmas
 pub mod ForkedTrees
 pub mod LintLemmas
 pub mod ObeyLemmas
+pub mod PartLemmas
 pub mod ShowingLemmas
 pub mod TopLemmas
 pub mod VerifyLemmas

@@ -25,6 +25,11 @@ number_of Floundered = 8
 abbrev pub handed : Status → Bytes → Bytes
 handed status out = number_of status ∷ out
 
+-- what was handed on is what the text is answered with by itself
+abbrev pub IsHandedFor : (Replies : Status → Bytes → Bytes → Type 0) → (text given : Bytes) → Type 0
+IsHandedFor Replies text given = (status : Status) × (out : Bytes) × Replies status text out
+    × (given ≡ handed status out)
+
 -- what was handed on is a part
 abbrev pub IsHanded : (Replies : Status → Bytes → Bytes → Type 0) → Bytes → List Span → (number : ℕ) → Bytes → Type 0
 IsHanded Replies bytes spans number text =

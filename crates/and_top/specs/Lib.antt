@@ -2,6 +2,7 @@ pub mod Lifted
 pub mod Explained
 pub mod Batched
 pub mod Handed
+pub mod Keeping
 pub mod Finding
 pub mod Forked
 pub mod Linted

@@ -42,7 +42,7 @@ pub struct Reply {
 }
 
 /// The status of a search that found this.
-fn status_of(found: &Found) -> Status
+pub(crate) fn status_of(found: &Found) -> Status
     ensures { result ≡ status_for found.now.cut (listed found.now) }
 {
     if found.cut.is_some() {

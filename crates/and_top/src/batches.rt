@@ -1,103 +1,69 @@
 //! What a text of several queries is answered with.
 
 ghost use Rattle.std.specs.Prelude.{◌≡◌, ◌≤◌, ◌<◌, ◌++◌, ◌||◌, ◌^◌, ℕ, true, false, nat_eq, length, drop};
-ghost use Rattle.std.specs.Prelude.{IfOk, OnOk, All};
+ghost use Rattle.std.specs.Prelude.{IfOk, IfSome, OnOk, All};
 ghost use Rattle.and_batch.specs.Working.{IsDueAtEach};
 ghost use Rattle.and_batch_text.specs.Refused.{IsBatch};
 ghost use Rattle.and_batch_text.specs.Views.{spans_of};
+ghost use Rattle.and_cells.specs.Parts.{named};
+ghost use Rattle.and_clause_index.specs.Tables.{IsTableOf};
 ghost use Rattle.and_model.specs.declared.limits.TheConstants.{MAX_LIMIT};
 ghost use Rattle.and_program.specs.Loaded.{program_of};
+ghost use Rattle.and_reader.specs.Beginning.{IsBeginning};
+ghost use Rattle.and_search_laws.specs.Found.{IsFound};
 ghost use Rattle.and_top.specs.Batched.{WasBatched, query_line, status_by};
-ghost use Rattle.and_top.specs.Finding.{Finds};
-ghost use Rattle.and_top.specs.Handed as specs;
-ghost use Rattle.and_top.specs.Handed.{IsDue, IsHanded, joined_texts, some_text, status_of_texts};
+ghost use Rattle.and_top.specs.Handed.{IsDue, joined_texts, some_text, status_of_texts};
+ghost use Rattle.and_top.specs.Keeping.{IsKept};
 ghost use Rattle.and_top.specs.Top.{IsRunOf};
 
-use crate::answering::{Reply, answer_to, refused};
-use crate::question::Question;
-use crate::searching::found_alone;
-use crate::showing::Show;
+use crate::answering::{Reply, refused};
+use crate::parts::{Kept, Part, kept_of, part_of};
 use crate::status::Status;
 use and_answers::Found;
-use and_batch::{Done, Job, TextList, Ticket, run_all};
-use and_batch_reader::{Opened, open};
-use and_batch_text::{Span, single};
-use and_gate::{Gate, Quiet};
+use and_batch::{Done, TextList, Ticket, Trade, run_trade};
+use and_batch_reader::{Opened, beginning_of, open};
+use and_batch_text::Span;
+use and_clause_index::Determinacy;
+use and_gate::Quiet;
 use and_model::Text;
 use and_program::Loaded;
+use and_reader::Beginning;
+use and_walk::walk_watched;
 use std::alloc::{AllocError, Global};
 use std::sync::Wait;
 use std::thread::Threads;
 
-/// What one query of a text is asked.
-fn all_answers(limit: u32) -> Question
-    ensures { result ≡ Question.Run (Show.Whole false) limit }
-{
-    Question::Run {
-        show: Show::Whole { stats: false },
-        limit,
-    }
-}
-
-/// What a query is answered with, as it is handed on. An error is want of memory.
-fn handed(alloc: Global, reply: &Reply) -> Result<Text, AllocError>
-    ensures { IfOk result (λ text. text ≡ specs.handed reply.now.status reply.now.text) }
-{
-    let mut text = Text::of(alloc, &[reply.status as u8])?;
-    text.append(reply.text.bytes())?;
-    Ok(text)
-}
-
-/// What the query with that number is answered with, by this search, as it is handed on. An error is want of memory.
-fn part<F: Fn(&Loaded, u32, Option<u32>) -> Result<Found, AllocError>, G: Gate>(
-    search: &F,
-    gate: &G,
-    alloc: Global,
-    limit: u32,
-    bytes: &[u8],
-    spans: &[Span],
-    number: usize,
-) -> Result<Text, AllocError>
-    requires limited { limit ≤ MAX_LIMIT }
-    requires number { number < length spans.now }
-    requires callable { (l : _) (n : ℕ) (o : _) → n ≤ MAX_LIMIT → F.pre search.now l n o }
-    requires finds { (l : _) (n : ℕ) (o : _) (found : _) → n ≤ MAX_LIMIT → F.post search.now l n o found
-        → IfOk found (Finds (program_of l.now) n o) }
-    ensures { IsBatch bytes.now (spans_of spans.now)
-        → IfOk result (IsHanded (IsRunOf limit) bytes.now (spans_of spans.now) number) }
-{
-    let text = single(alloc, bytes, spans, number)?;
-    let reply = answer_to(search, gate, alloc, all_answers(limit), text.as_slice())?;
-    handed(alloc, &reply)
-}
-
 /// The answers to all queries, one after another, by this search. An error is want of memory.
-fn one_by_one<F: Fn(&Loaded, u32, Option<u32>) -> Result<Found, AllocError>, G: Gate>(
+fn one_by_one<F: Fn(&Loaded, &Determinacy, u32) -> Result<Found, AllocError>>(
     search: &F,
-    gate: &G,
     alloc: Global,
     limit: u32,
     bytes: &[u8],
     spans: &[Span],
+    beginning: Option<Beginning>,
 ) -> Result<TextList, AllocError>
     requires limited { limit ≤ MAX_LIMIT }
-    requires callable { (l : _) (n : ℕ) (o : _) → n ≤ MAX_LIMIT → F.pre search.now l n o }
-    requires finds { (l : _) (n : ℕ) (o : _) (found : _) → n ≤ MAX_LIMIT → F.post search.now l n o found
-        → IfOk found (Finds (program_of l.now) n o) }
+    requires callable { (l : _) (t : _) (n : ℕ) → IsTableOf (named l.now) t.now → n ≤ MAX_LIMIT
+        → F.pre search.now l t n }
+    requires finds { (l : _) (t : _) (n : ℕ) (found : _) → IsTableOf (named l.now) t.now → n ≤ MAX_LIMIT
+        → F.post search.now l t n found → IfOk found (IsFound (program_of l.now) n) }
+    requires beginning { IfSome beginning IsBeginning }
     ensures len { IfOk result (λ texts. length texts ≡ length spans.now) }
     ensures due { IfOk result (IsDueAtEach (IsDue (IsRunOf limit) bytes.now (spans_of spans.now))) }
 {
     let mut texts = TextList::new(alloc);
+    let mut kept = kept_of(beginning);
     for number in 0..spans.len() {
-        let text = part(search, gate, alloc, limit, bytes, spans, number)?;
-        if texts.push(text).is_err() {
+        let part = part_of(search, alloc, limit, bytes, spans, number, kept)?;
+        kept = part.kept;
+        if texts.push(part.handed).is_err() {
             return Err(AllocError);
         }
     }
     Ok(texts)
 }
 
-/// The job of answering queries, each on the thread that it is done on.
+/// The trade of answering queries, each on the thread that it is done on.
 #[derive(Drop)]
 struct QueryJob<'a> {
     alloc: Global,
@@ -107,33 +73,84 @@ struct QueryJob<'a> {
     ghost limited: { limit ≤ MAX_LIMIT },
 }
 
+/// What a worker has at hand: what is kept of the beginning that the texts of all queries have, and whether that was
+/// read.
+#[derive(Drop)]
+struct Desk {
+    is_read: bool,
+    kept: Option<Kept>,
+}
+
 impl QueryJob<'_> {
+    /// What is kept of the beginning, which is read where it was not. An error is want of memory.
+    fn kept_at(&self, desk: Desk) -> Result<Option<Kept>, AllocError>
+        requires { IfSome desk.kept IsKept }
+        ensures { IfOk result (λ kept. IfSome kept IsKept) }
+    {
+        let Desk { is_read, kept } = desk;
+        if is_read {
+            return Ok(kept);
+        }
+        let beginning = beginning_of(self.alloc, self.bytes, self.spans)?;
+        Ok(kept_of(beginning))
+    }
+
     /// What the query with that number is answered with, as it is handed on. An error is want of memory.
-    fn answer(&self, number: usize) -> Result<Text, AllocError>
-        ensures { IfOk result
-            (IsDue (IsRunOf self.now.limit) self.now.bytes.now (spans_of self.now.spans.now) number) }
+    fn answer(&self, desk: Desk, number: usize) -> Result<Part, AllocError>
+        requires { IfSome desk.kept IsKept }
+        ensures due { IfOk result (λ part.
+            IsDue (IsRunOf self.now.limit) self.now.bytes.now (spans_of self.now.spans.now) number part.handed) }
+        ensures kept { IfOk result (λ part. IfSome part.kept IsKept) }
     {
         let alloc = self.alloc;
+        let kept = self.kept_at(desk)?;
         if number >= self.spans.len() {
-            return Ok(Text::new(alloc));
+            return Ok(Part {
+                handed: Text::new(alloc),
+                kept,
+            });
         }
-        let alone = |loaded: &Loaded, limit: u32, wanted: Option<u32>|
-            requires { limit ≤ MAX_LIMIT }
-            ensures { IfOk result (Finds (program_of loaded.now) limit wanted) }
-        { found_alone(alloc, loaded, limit, wanted, &Quiet) };
-        part(
-            &alone, &Quiet, alloc, self.limit, self.bytes, self.spans, number,
+        let alone = |loaded: &Loaded, table: &Determinacy, limit: u32|
+            requires { IsTableOf (named loaded.now) table.now × (limit ≤ MAX_LIMIT) }
+            ensures { IfOk result (IsFound (program_of loaded.now) limit) }
+        { walk_watched(alloc, loaded, table, limit, &Quiet) };
+        part_of(
+            &alone, alloc, self.limit, self.bytes, self.spans, number, kept,
         )
     }
 }
 
-impl Job for QueryJob<'_> {
+impl Trade for QueryJob<'_> {
+    type Tools = Desk;
+
     ghost due = { λ job number text.
         IsDue (IsRunOf job.limit) job.bytes.now (spans_of job.spans.now) number text };
 
-    fn run(&self, ticket: Ticket) -> Result<Done, AllocError> {
-        let text = self.answer(ticket.number() as usize)?;
-        Ok(ticket.done(text))
+    ghost fit = { λ job desk. IfSome desk.kept IsKept };
+
+    fn begin(&self) -> Desk {
+        Desk {
+            is_read: false,
+            kept: None,
+        }
+    }
+
+    fn run(&self, tools: Desk, ticket: Ticket) -> Result<(Done, Desk), AllocError> {
+        let Part { handed, kept } = self.answer(tools, ticket.number() as usize)?;
+        Ok((
+            ticket.done(handed),
+            Desk {
+                is_read: true,
+                kept,
+            },
+        ))
+    }
+
+    fn end(&self, tools: Desk) {
+        let Desk {
+            is_read: _,
+            kept: _,
+        } = tools;
     }
 }
 
@@ -158,7 +175,7 @@ fn side_by_side<R: Threads + Wait + Sync>(
         spans,
         limit,
     };
-    run_all(rt, alloc, &job, spans.len() as u32, jobs)
+    run_trade(rt, alloc, &job, spans.len() as u32, jobs)
 }
 
 /// Which statuses parts have had.
@@ -246,23 +263,24 @@ fn reply_of(alloc: Global, texts: &TextList) -> Result<Reply, AllocError>
 }
 
 /// The answer to a text of several queries, by this search. An error is want of memory.
-pub fn batched<F: Fn(&Loaded, u32, Option<u32>) -> Result<Found, AllocError>, G: Gate>(
+pub fn batched<F: Fn(&Loaded, &Determinacy, u32) -> Result<Found, AllocError>>(
     search: &F,
-    gate: &G,
     alloc: Global,
     limit: u32,
     bytes: &[u8],
 ) -> Result<Reply, AllocError>
     requires limited { limit ≤ MAX_LIMIT }
-    requires callable { (l : _) (n : ℕ) (o : _) → n ≤ MAX_LIMIT → F.pre search.now l n o }
-    requires finds { (l : _) (n : ℕ) (o : _) (found : _) → n ≤ MAX_LIMIT → F.post search.now l n o found
-        → IfOk found (Finds (program_of l.now) n o) }
+    requires callable { (l : _) (t : _) (n : ℕ) → IsTableOf (named l.now) t.now → n ≤ MAX_LIMIT
+        → F.pre search.now l t n }
+    requires finds { (l : _) (t : _) (n : ℕ) (found : _) → IsTableOf (named l.now) t.now → n ≤ MAX_LIMIT
+        → F.post search.now l t n found → IfOk found (IsFound (program_of l.now) n) }
     ensures { IfOk result (λ reply. WasBatched (IsRunOf limit) reply.status bytes.now reply.text) }
 {
     match open(alloc, bytes)? {
         Opened::Refused(refusal) => refused(alloc, refusal),
-        Opened::Queries(spans) => {
-            let texts = one_by_one(search, gate, alloc, limit, bytes, spans.as_slice())?;
+        Opened::Queries { spans, beginning } => {
+            let spans = spans.as_slice();
+            let texts = one_by_one(search, alloc, limit, bytes, spans, beginning)?;
             reply_of(alloc, &texts)
         }
     }
@@ -282,7 +300,9 @@ pub fn batched_by<R: Threads + Wait + Sync>(
 {
     match open(alloc, bytes)? {
         Opened::Refused(refusal) => refused(alloc, refusal),
-        Opened::Queries(spans) => {
+        Opened::Queries { spans, beginning } => {
+            // Each worker reads a beginning of its own.
+            drop(beginning);
             let texts = side_by_side(rt, alloc, jobs, limit, bytes, spans.as_slice())?;
             reply_of(alloc, &texts)
         }

@@ -11,6 +11,7 @@ pub mod checking;
 pub mod explaining;
 pub mod forks;
 pub mod linting;
+pub mod parts;
 pub mod question;
 pub mod replying;
 pub mod searching;

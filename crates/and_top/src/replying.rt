@@ -1,42 +1,61 @@
 //! Who answers the bytes of a source: one thread alone, or several workers.
 
-ghost use Rattle.std.specs.Prelude.{◌≡◌, ◌≤◌, ℕ, IfOk, IfSome};
+ghost use Rattle.std.specs.Prelude.{◌≡◌, ◌≤◌, IfOk, IfSome};
+ghost use Rattle.and_cells.specs.Parts.{named};
+ghost use Rattle.and_clause_index.specs.Tables.{IsTableOf};
 ghost use Rattle.and_model.specs.declared.limits.TheConstants.{MAX_LIMIT};
 ghost use Rattle.and_program.specs.Loaded.{program_of};
+ghost use Rattle.and_search_laws.specs.Found.{IsFound};
+ghost use Rattle.and_top.specs.Batched.{WasBatched};
 ghost use Rattle.and_top.specs.Finding.{Finds};
-ghost use Rattle.and_top.specs.Top.{IsAllowed, IsAnswer};
+ghost use Rattle.and_top.specs.Top.{IsAllowed, IsAnswer, IsBounded, IsRunOf, WasAnswered};
 
 use crate::answering::{Reply, answer_to};
 use crate::batches::{batched, batched_by};
-use crate::question::Request;
-use crate::searching::{Hands, found_alone, found_by};
+use crate::question::{Question, Request};
+use crate::searching::{Hands, explored_by, found_alone, found_by};
 use crate::verifying::verified;
-use and_answers::Found;
+use and_clause_index::Determinacy;
 use and_gate::Gate;
 use and_program::Loaded;
+use and_walk::walk_watched;
 use std::alloc::{AllocError, Global};
 use std::sync::Wait;
 use std::thread::Threads;
 
-/// The answer to the bytes of a source, by this search. An error is want of memory.
-fn answered<F: Fn(&Loaded, u32, Option<u32>) -> Result<Found, AllocError>, G: Gate>(
-    search: &F,
-    gate: &G,
+/// The answer to a text, on the thread of the caller, who waits for nobody. An error is want of memory.
+fn text_alone<G: Gate>(
     alloc: Global,
-    request: Request,
+    question: Question,
     bytes: &[u8],
+    gate: &G,
 ) -> Result<Reply, AllocError>
-    requires allowed { IsAllowed request }
-    requires callable { (l : _) (n : ℕ) (o : _) → n ≤ MAX_LIMIT → F.pre search.now l n o }
-    requires finds { (l : _) (n : ℕ) (o : _) (found : _) → n ≤ MAX_LIMIT → F.post search.now l n o found
-        → IfOk found (Finds (program_of l.now) n o) }
-    ensures { IfOk result (λ reply. IsAnswer request reply.status bytes.now reply.text) }
+    requires { IsBounded question }
+    ensures { IfOk result (λ reply. WasAnswered question reply.status bytes.now reply.text) }
 {
-    match request {
-        Request::Text(question) => answer_to(search, gate, alloc, question, bytes),
-        Request::Document => verified(alloc, bytes),
-        Request::Batch { jobs: _, limit } => batched(search, gate, alloc, limit, bytes),
-    }
+    let alone = |loaded: &Loaded, limit: u32, wanted: Option<u32>|
+        requires { limit ≤ MAX_LIMIT }
+        ensures { IfOk result (Finds (program_of loaded.now) limit wanted) }
+    { found_alone(alloc, loaded, limit, wanted, gate) };
+    answer_to(&alone, gate, alloc, question, bytes)
+}
+
+/// The answer to a text of several queries, on the thread of the caller, who waits for nobody. An error is want of
+/// memory.
+fn batch_alone<G: Gate>(
+    alloc: Global,
+    limit: u32,
+    bytes: &[u8],
+    gate: &G,
+) -> Result<Reply, AllocError>
+    requires { limit ≤ MAX_LIMIT }
+    ensures { IfOk result (λ reply. WasBatched (IsRunOf limit) reply.status bytes.now reply.text) }
+{
+    let alone = |loaded: &Loaded, table: &Determinacy, limit: u32|
+        requires { IsTableOf (named loaded.now) table.now × (limit ≤ MAX_LIMIT) }
+        ensures { IfOk result (IsFound (program_of loaded.now) limit) }
+    { walk_watched(alloc, loaded, table, limit, gate) };
+    batched(&alone, alloc, limit, bytes)
 }
 
 /// The answer to the bytes of a source, on the thread of the caller, who waits for nobody. An error is want of memory.
@@ -49,15 +68,53 @@ pub fn answered_alone<G: Gate>(
     requires { IsAllowed request }
     ensures { IfOk result (λ reply. IsAnswer request reply.status bytes.now reply.text) }
 {
-    let alone = |loaded: &Loaded, limit: u32, wanted: Option<u32>|
-        requires { limit ≤ MAX_LIMIT }
-        ensures { IfOk result (Finds (program_of loaded.now) limit wanted) }
-    { found_alone(alloc, loaded, limit, wanted, gate) };
-    answered(&alone, gate, alloc, request, bytes)
+    match request {
+        Request::Text(question) => text_alone(alloc, question, bytes, gate),
+        Request::Document => verified(alloc, bytes),
+        Request::Batch { jobs: _, limit } => batch_alone(alloc, limit, bytes, gate),
+    }
 }
 
-/// The answer to the bytes of a source, by these workers, who go through one text after another. An error is want of
-/// memory.
+/// The answer to a text, by these workers. An error is want of memory.
+fn text_together<R: Threads + Wait + Sync, G: Gate>(
+    rt: &R,
+    alloc: Global,
+    question: Question,
+    bytes: &[u8],
+    hands: Hands,
+    gate: &G,
+) -> Result<Reply, AllocError>
+    requires { IsBounded question }
+    ensures { IfOk result (λ reply. WasAnswered question reply.status bytes.now reply.text) }
+{
+    let together = |loaded: &Loaded, limit: u32, wanted: Option<u32>|
+        requires { limit ≤ MAX_LIMIT }
+        ensures { IfOk result (Finds (program_of loaded.now) limit wanted) }
+    { found_by(rt, alloc, loaded, limit, wanted, hands, gate) };
+    answer_to(&together, gate, alloc, question, bytes)
+}
+
+/// The answer to a text of several queries, by these workers, who go through one query after another. An error is
+/// want of memory.
+fn batch_together<R: Threads + Wait + Sync, G: Gate>(
+    rt: &R,
+    alloc: Global,
+    limit: u32,
+    bytes: &[u8],
+    hands: Hands,
+    gate: &G,
+) -> Result<Reply, AllocError>
+    requires { limit ≤ MAX_LIMIT }
+    ensures { IfOk result (λ reply. WasBatched (IsRunOf limit) reply.status bytes.now reply.text) }
+{
+    let together = |loaded: &Loaded, table: &Determinacy, limit: u32|
+        requires { IsTableOf (named loaded.now) table.now × (limit ≤ MAX_LIMIT) }
+        ensures { IfOk result (IsFound (program_of loaded.now) limit) }
+    { explored_by(rt, alloc, loaded, table, limit, hands, gate) };
+    batched(&together, alloc, limit, bytes)
+}
+
+/// The answer to the bytes of a source, by these workers. An error is want of memory.
 fn answered_together<R: Threads + Wait + Sync, G: Gate>(
     rt: &R,
     alloc: Global,
@@ -69,11 +126,11 @@ fn answered_together<R: Threads + Wait + Sync, G: Gate>(
     requires { IsAllowed request }
     ensures { IfOk result (λ reply. IsAnswer request reply.status bytes.now reply.text) }
 {
-    let together = |loaded: &Loaded, limit: u32, wanted: Option<u32>|
-        requires { limit ≤ MAX_LIMIT }
-        ensures { IfOk result (Finds (program_of loaded.now) limit wanted) }
-    { found_by(rt, alloc, loaded, limit, wanted, hands, gate) };
-    answered(&together, gate, alloc, request, bytes)
+    match request {
+        Request::Text(question) => text_together(rt, alloc, question, bytes, hands, gate),
+        Request::Document => verified(alloc, bytes),
+        Request::Batch { jobs: _, limit } => batch_together(rt, alloc, limit, bytes, hands, gate),
+    }
 }
 
 /// How many queries are answered at the same time, each by one worker, and within which limit, where these workers are

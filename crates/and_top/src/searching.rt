@@ -1,6 +1,8 @@
 //! Who searches a program for its answers.
 
 ghost use Rattle.std.specs.Prelude.{◌≤◌, ◌<◌, length, IfOk};
+ghost use Rattle.and_cells.specs.Parts.{named};
+ghost use Rattle.and_clause_index.specs.Tables.{IsTableOf};
 ghost use Rattle.and_model.specs.declared.limits.TheConstants.{MAX_LIMIT};
 ghost use Rattle.and_program.specs.Loaded.{program_of};
 ghost use Rattle.and_answers.specs.Kept.{listed};
@@ -8,7 +10,7 @@ ghost use Rattle.and_search_laws.specs.Found.{IsFound, FindsFirst};
 ghost use Rattle.and_top.specs.Finding.{Finds};
 
 use and_answers::{Found, Latest};
-use and_clause_index::compile;
+use and_clause_index::{Determinacy, compile};
 use and_gate::Gate;
 use and_program::Loaded;
 use and_teams::{Explored, Settings, explore};
@@ -26,26 +28,27 @@ pub struct Hands {
     ghost few_workers: { (0 < workers) × (workers ≤ 8) },
 }
 
-/// All answers of a program within a limit, in the order of their codes, and how the search ended, by these
-/// workers. An error is want of memory.
-fn explored_by<R: Threads + Wait + Sync, G: Gate>(
+/// All answers of a program within a limit, in the order of their codes, and how the search ended, by its table and
+/// these workers. An error is want of memory.
+pub fn explored_by<R: Threads + Wait + Sync, G: Gate>(
     rt: &R,
     alloc: Global,
     loaded: &Loaded,
+    table: &Determinacy,
     limit: u32,
     hands: Hands,
     gate: &G,
 ) -> Result<Found, AllocError>
-    requires { limit ≤ MAX_LIMIT }
+    requires table { IsTableOf (named loaded.now) table.now }
+    requires limit { limit ≤ MAX_LIMIT }
     ensures { IfOk result (IsFound (program_of loaded.now) limit) }
 {
-    let table = compile(alloc, loaded)?;
     let settings = Settings {
         limit,
         teams: hands.teams,
         workers: hands.workers,
     };
-    let explored = explore(rt, alloc, loaded, &table, settings, gate)?;
+    let explored = explore(rt, alloc, loaded, table, settings, gate)?;
     let Explored { found, closed: _ } = explored;
     Ok(found)
 }
@@ -64,7 +67,8 @@ pub fn found_by<R: Threads + Wait + Sync, G: Gate>(
     requires { limit ≤ MAX_LIMIT }
     ensures { IfOk result (Finds (program_of loaded.now) limit wanted) }
 {
-    explored_by(rt, alloc, loaded, limit, hands, gate)
+    let table = compile(alloc, loaded)?;
+    explored_by(rt, alloc, loaded, &table, limit, hands, gate)
 }
 
 /// The answers of a program that are wanted, within a limit, on the thread of the caller, who waits for nobody. An

@@ -9,7 +9,7 @@ use Rattle.and_batch.proofs.running.finish.Goals as goal
 pub loop-worked-preserved : goal.loop-worked-preserved
 loop-worked-preserved g c =
     let i = c.loop-worked.invariant in
-    let due = g.J.Job.due c.args.job.now in
+    let due = g.T.Trade.due c.args.trade.now in
     let popped = All-pop (IsWorked c.args.numbers.now due) c.loop-worked.all.items c.pop.new.self.items (Some c.in-Some.worked)
     c.in-Some.ensures.items i.each in
     let worked = c.in_ok-worked.field-0 in

@@ -11,8 +11,8 @@ invariant-loop-worked g l = record {
   few : length l.all.items ≤ 8;
   put : (view l.whole).put ≡ (view l.fn.whole).put;
   taken : (view l.whole).taken ≡ numbers_of l.dones.items;
-  due : AreDue (g.J.Job.due l.job) l.dones.items;
-  each : All (IsWorked l.numbers (g.J.Job.due l.job)) l.all.items;
+  due : AreDue (g.T.Trade.due l.trade) l.dones.items;
+  each : All (IsWorked l.numbers (g.T.Trade.due l.trade)) l.all.items;
 }
 
 abbrev pub decreases-loop-worked : goal.decreases-loop-worked

@@ -14,19 +14,21 @@ pub working-init : goal.working-init
 working-init g c = record {
   pass = c.requires.pass;
   took = took_begun (view c.args.pass) c.new-dones.result.items c.new-dones.ensures.items;
-  due = due_none (g.J.Job.due c.args.job.now) c.new-dones.result.items c.new-dones.ensures.items;
+  due = due_none (g.T.Trade.due c.args.trade.now) c.new-dones.result.items c.new-dones.ensures.items;
+  fit = c.begin-tools.ensures;
 }
 
 pub working-preserved : goal.working-preserved
 working-preserved g c =
     let i = c.working.invariant in
     let queue = c.pop_as.ensures.queue in
-    let done = c.in_ok-done-in-Some-pop_as.ensures in
-    let more = c.in_ok-push-in-Some-pop_as.ensures.items in record {
+    let (done, more, number, due) = c.in_ok-tools-in-Some-pop_as.ensures.noted in
+    record {
       pass = (queue.0 ∙ i.pass.0, queue.2 ∙ i.pass.1);
-      took = took_one (view c.args.pass) (view c.working.pass) (view c.pop_as.new.pass) c.working.dones.items c.push.new.self.items
-          c.in_ok-done-in-Some-pop_as.done c.in-Some-pop_as.number i.took c.in-Some-pop_as.ensures.rule (done.number ∙ c.new.ensures) more;
-      due = due_more (g.J.Job.due c.args.job.now) c.working.dones.items c.push.new.self.items c.in_ok-done-in-Some-pop_as.done i.due done.due more;
+      took = took_one (view c.args.pass) (view c.working.pass) (view c.pop_as.new.pass) c.working.dones.items c.do_next.new.dones.items
+          done c.in-Some-pop_as.number i.took c.in-Some-pop_as.ensures.rule number more;
+      due = due_more (g.T.Trade.due c.args.trade.now) c.working.dones.items c.do_next.new.dones.items done i.due due more;
+      fit = c.in_ok-tools-in-Some-pop_as.ensures.fit;
     }
 
 pub returns-in-None-pop_as-clause-none_left : goal.returns-in-None-pop_as-clause-none_left

@@ -6,5 +6,6 @@ abbrev pub invariant-working : goal.invariant-working
 invariant-working g l = record {
   pass : IsPassOf l.numbers l.pass;
   took : TookThese (view l.fn.pass) (view l.pass) l.dones.items;
-  due : AreDue (g.J.Job.due l.job) l.dones.items;
+  due : AreDue (g.T.Trade.due l.trade) l.dones.items;
+  fit : g.T.Trade.fit l.trade l.tools;
 }

@@ -9,5 +9,5 @@ returns-in_ok-texts-in-Queries g c =
     let bytes = c.args.bytes.now in
     let texts = c.in_ok-texts-in-Queries in
     let batch = subst (IsOpened bytes) c.in-Queries.is c.in_ok-refusal.ensures in
-    joined_opened (IsRunOf c.args.limit) c.reply_of.result bytes c.in-Queries.spans.items c.as_slice.result.now texts.texts c.as_slice.ensures.value batch
+    joined_opened (IsRunOf c.args.limit) c.reply_of.result bytes c.in-Queries.spans.items c.as_slice.result.now texts.texts c.as_slice.ensures.value batch.0
     texts.ensures.len texts.ensures.due c.reply_of.ensures.text c.reply_of.ensures.status
