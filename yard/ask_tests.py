@@ -10,8 +10,8 @@ import subprocess
 import sys
 import tempfile
 
-TOP = os.path.join(os.path.dirname(os.path.abspath(__file__)), "..")
-PROGRAM = os.path.join(TOP, "crates", "andorra", "out", "andorra")
+import common
+
 
 # the files that the rows name
 FILES = {
@@ -94,7 +94,7 @@ ROWS = [
 def fault_of(row, folder, environment):
     """What is wrong with how a row ends, or None."""
     words, text, status, written, told = row
-    done = subprocess.run([os.path.join(TOP, "ask"), *words], cwd=folder, env=environment, input=text.encode(), capture_output=True, check=False)
+    done = subprocess.run([str(common.TOP / "ask"), *words], cwd=folder, env=environment, input=text.encode(), capture_output=True, check=False)
     output, errors = done.stdout.decode(), done.stderr.decode()
     if done.returncode != status:
         return f"status {done.returncode}, and not {status}: {output}{errors}"
@@ -105,10 +105,9 @@ def fault_of(row, folder, environment):
 
 def main():
     options = argparse.ArgumentParser(description=__doc__, formatter_class=argparse.RawDescriptionHelpFormatter)
-    options.add_argument("--program", default=os.environ.get("ANDORRA", PROGRAM))
+    common.add_program(options)
     program = os.path.abspath(options.parse_args().program)
-    if not os.access(program, os.X_OK):
-        print(f"{program} does not stand yet: ./andorra build makes it")
+    if not common.stands(program):
         return 1
     environment = {**os.environ, "ANDORRA": program, "ANDORRA_PROGRESS": "0"}
     wrong = 0

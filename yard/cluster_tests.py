@@ -18,9 +18,9 @@ import sys
 import tempfile
 import time
 
-TOP = pathlib.Path(__file__).resolve().parent.parent
-PROGRAM = TOP / "crates" / "andorra" / "out" / "andorra"
-CLUSTER = TOP / "yard" / "cluster.py"
+import common
+
+CLUSTER = common.TOP / "yard" / "cluster.py"
 PORT = 22177
 FACTS = "".join(f"p({k}).\n" for k in range(40))
 CHAIN = "nat(z). nat(s(N)) :- nat(N).\n"
@@ -210,7 +210,7 @@ def environment(config):
 
 def main():
     words = argparse.ArgumentParser(description=__doc__, formatter_class=argparse.RawDescriptionHelpFormatter)
-    words.add_argument("--program", type=pathlib.Path, default=PROGRAM)
+    words.add_argument("--program", type=pathlib.Path, default=common.PROGRAM)
     words.add_argument("--only", default="")
     asked = words.parse_args()
     with tempfile.TemporaryDirectory() as folder:

@@ -16,7 +16,8 @@ import subprocess
 import sys
 import tempfile
 
-TOP = pathlib.Path(__file__).resolve().parent.parent
+from common import TOP
+
 
 
 def edits_of(name):

@@ -9,15 +9,14 @@ limit: no determinate goals first, no guards, no teams. Only equations that have
 that is false end a branch early. It shares nothing with the program.
 """
 import argparse
-import os
 import random
 import re
 import subprocess
 import sys
 
+import common
 from plain import Either, TooLong, at_most, fresh, is_arithmetic, line, read, run_waiting, undo, unify
 
-TOP = os.path.dirname(os.path.dirname(os.path.abspath(__file__)))
 
 
 APART = object()
@@ -307,7 +306,7 @@ def main():
     words.add_argument('--limit', type=int, default=262_144)
     words.add_argument('--random', type=int)
     words.add_argument('--seed', type=int, default=1)
-    words.add_argument('--program', default=os.path.join(TOP, 'crates/andorra/out/andorra'))
+    common.add_program(words)
     arguments = words.parse_args()
     if arguments.random:
         return try_random(arguments)

@@ -10,14 +10,13 @@ where swipl is installed; with --write the files examples/NAME.out are written a
 
 import argparse
 import os
-import pathlib
 import re
 import shutil
 import subprocess
 import sys
 
-TOP = pathlib.Path(__file__).resolve().parent.parent
-PROGRAM = str(TOP / "crates" / "andorra" / "out" / "andorra")
+import common
+
 DOCUMENTS = ("docs/tutorial.md", "docs/from-prolog.md")
 SECONDS = 300
 
@@ -32,7 +31,7 @@ def written_by(program, example):
 
 def written_by_swi(example):
     """What SWI-Prolog writes, or None where it finds no end: it takes the leftmost goal always."""
-    command = ["swipl", "-q", str(TOP / "yard" / "swi.pl"), "--", "wait", str(example)]
+    command = common.swi_of(example, True)
     try:
         return subprocess.run(command, stdin=subprocess.DEVNULL, capture_output=True, text=True, check=False, timeout=20).stdout
     except subprocess.TimeoutExpired:
@@ -70,7 +69,7 @@ def is_document_right(document, environment):
     right, count = True, 0
     for number, command, lines in typed_in(document):
         done = subprocess.run(
-            ["bash", "-c", command], cwd=TOP, env=environment, stdout=subprocess.PIPE, stderr=subprocess.STDOUT, text=True, check=False, timeout=SECONDS
+            ["bash", "-c", command], cwd=common.TOP, env=environment, stdout=subprocess.PIPE, stderr=subprocess.STDOUT, text=True, check=False, timeout=SECONDS
         )
         count += 1
         pattern = r"(?:.*\n)*".join(re.escape(part) for part in re.split(r"^\.\.\n", "\n".join(lines), flags=re.MULTILINE))
@@ -83,15 +82,14 @@ def is_document_right(document, environment):
 def main():
     options = argparse.ArgumentParser(description=__doc__, formatter_class=argparse.RawDescriptionHelpFormatter)
     options.add_argument("--only", default="")
-    options.add_argument("--program", default=os.environ.get("ANDORRA", PROGRAM))
+    common.add_program(options)
     options.add_argument("--swi", action="store_true")
     options.add_argument("--write", action="store_true")
     given = options.parse_args()
-    if not os.access(given.program, os.X_OK):
-        print(f"{given.program} does not stand yet: ./andorra build makes it")
+    if not common.stands(given.program):
         return 1
     right, count = True, 0
-    for example in sorted((TOP / "examples").glob("*.pl")):
+    for example in sorted((common.TOP / "examples").glob("*.pl")):
         if given.only not in example.name:
             continue
         count += 1
@@ -103,10 +101,10 @@ def main():
             theirs = written_by_swi(example)
             right &= theirs is None or compare(f"{example.name} by SWI-Prolog", theirs, found)
     print(f"{count} examples {'as they are told' if right else ''}")
-    environment = {**os.environ, "ANDORRA": given.program, "ANDORRA_PROGRESS": "0"}
+    environment = {**os.environ, "ANDORRA": given.program, "ANDORRA_PROGRESS": "0", "ANDORRA_BUILD": "never"}
     for name in DOCUMENTS:
-        if given.only in name and (TOP / name).exists():
-            right &= is_document_right(TOP / name, environment)
+        if given.only in name and (common.TOP / name).exists():
+            right &= is_document_right(common.TOP / name, environment)
     return 0 if right else 1
 
 

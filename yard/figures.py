@@ -3,7 +3,7 @@
 the processor time (the least of the runs; without that of a query that is true at once, and for SWI-Prolog without its start and its reading)
 and the peak of memory.
 
-    yard/figures.py [--runs N] [--only WORD] [--skip-swi] [-- words for `andorra run`]
+    yard/figures.py [--runs N] [--only WORD] [--skip-swi] [--program FILE] [-- words for `andorra run`]
 
 With `--teams` it runs long searches by so many teams instead, and writes for each the wall time and the processor time (the least of the
 runs, the start included), and whether all wrote the same.
@@ -25,8 +25,8 @@ import sys
 import tempfile
 import time
 
-HERE = os.path.dirname(os.path.abspath(__file__))
-PROGRAM = os.path.join(HERE, "..", "crates", "andorra", "out", "andorra")
+import common
+
 EMPTY = "?- true.\n"
 
 APPEND = "app([], L, L).\napp([H|T], L, [H|R]) :- app(T, L, R).\n"
@@ -126,7 +126,7 @@ def colours():
 
 
 def example(name):
-    with open(os.path.join(HERE, "..", "examples", name)) as text:
+    with open(common.TOP / "examples" / name, encoding="utf-8") as text:
         return text.read()
 
 
@@ -226,10 +226,7 @@ def least_on_andorra(words, text, runs):
 
 
 def least_on_swi(text, waits, runs):
-    with tempfile.NamedTemporaryFile("w", suffix=".pl") as file:
-        file.write(text)
-        file.flush()
-        words = ["swipl", "-q", os.path.join(HERE, "swi.pl"), "--", "wait" if waits else "plain", file.name]
+    with common.swi_words(text, waits) as words:
         results = [run(words, "") for _ in range(runs)]
     return results[0][0], min(float(r[1].split()[-1]) for r in results), min(r[3] for r in results)
 
@@ -249,16 +246,16 @@ def repeated(words, text, runs):
     return results[0][0], same, min(wall for _, wall, _ in results), min(processor for _, _, processor in results)
 
 
-def compare(programs, option, numbers, only, runs, words):
-    """Writes a row for each program and value of the option. Answers whether all wrote the same."""
+def compare(program, texts, option, numbers, only, runs, words):
+    """Writes a row for each text and value of the option. Answers whether all wrote the same."""
     print(f"{'program':34} {option[2:]:>7} {'wall':>9} {'processor':>10}  answers")
     are_same = True
-    for name, text in programs:
+    for name, text in texts:
         if only not in name:
             continue
         first = None
         for number in numbers:
-            andorra = [PROGRAM, "run", "--stats", "--limit", "4194304", option, str(number), *words]
+            andorra = [program, "run", "--stats", "--limit", "4194304", option, str(number), *words]
             lines, same, wall, processor = repeated(andorra, text, runs)
             first = first or lines
             same = same and lines == first
@@ -280,15 +277,18 @@ def main():
     options.add_argument("--skip-swi", action="store_true")
     options.add_argument("--teams", type=int, nargs="+")
     options.add_argument("--workers", type=int, nargs="+")
+    common.add_program(options)
     options.add_argument("words", nargs="*")
     given = options.parse_args()
+    if not common.stands(given.program):
+        return 1
     if given.teams:
-        return 0 if compare(LONG, "--teams", given.teams, given.only, given.runs, given.words) else 1
+        return 0 if compare(given.program, LONG, "--teams", given.teams, given.only, given.runs, given.words) else 1
     if given.workers:
         others = [(name, text) for name, text, _ in PROGRAMS if name not in dict(WIDE)]
-        return 0 if compare(WIDE + others, "--workers", given.workers, given.only, given.runs, ["--teams", "1", *given.words]) else 1
+        return 0 if compare(given.program, WIDE + others, "--workers", given.workers, given.only, given.runs, ["--teams", "1", *given.words]) else 1
     has_swi = shutil.which("swipl") is not None and not given.skip_swi
-    andorra = [PROGRAM, "run", "--limit", "4194304", *given.words]
+    andorra = [given.program, "run", "--limit", "4194304", *given.words]
     _, start, _ = least_on_andorra(andorra, EMPTY, given.runs)
     print(f"{'program':34} {'andorra':>9} {'MB':>5} {'SWI':>9} {'MB':>5}  answers")
     differ = False

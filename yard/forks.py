@@ -9,16 +9,15 @@ A goal with one candidate is reduced wherever it stands, and where none has one 
 each of its candidates. All goals are judged anew after each step. It shares nothing with the program.
 """
 import argparse
-import os
 import random
 import re
 import subprocess
 import sys
 
-from evaluate import TOP, Writer
+import common
+from evaluate import Writer
 from plain import Either, TooLong, fresh, is_arithmetic, line, read, run_waiting, undo, unify
 
-PROGRAM = os.path.join(TOP, 'crates/andorra/out/andorra')
 
 
 class Cut(Exception):
@@ -205,7 +204,7 @@ def main():
     words.add_argument('--random', type=int)
     words.add_argument('--check', nargs='*')
     words.add_argument('--seed', type=int, default=1)
-    words.add_argument('--program', default=PROGRAM)
+    common.add_program(words)
     arguments = words.parse_args()
     if arguments.random or arguments.check:
         return compare(arguments)

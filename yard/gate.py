@@ -17,7 +17,8 @@ import sys
 import threading
 import time
 
-TOP = pathlib.Path(__file__).resolve().parent.parent
+from common import TOP
+
 PAPER = TOP / "docs" / "proving.md"
 MARKS = "<!-- the gate's times -->", "<!-- end of the gate's times -->"
 KINDS = "proof", "tests", "edits"

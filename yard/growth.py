@@ -15,10 +15,9 @@ import subprocess
 import sys
 import tempfile
 
-import same_bytes
+import common
 from figures import EMPTY, listed
 
-HERE = os.path.dirname(os.path.abspath(__file__))
 
 MEMBER = "member(X, [X|_]).\nmember(X, [_|T]) :- member(X, T).\n"
 LIMIT = ["--limit", "4194304"]
@@ -110,13 +109,10 @@ def least(command, text, runs):
 
 def swi(text, waits, runs):
     """Seconds of the search in SWI-Prolog; None where it is not here or did not end well."""
-    with tempfile.NamedTemporaryFile("w", suffix=".pl") as source:
-        source.write(text)
-        source.flush()
+    with common.swi_words(text, waits) as words:
         best = None
         for _ in range(runs):
-            done = subprocess.run(["swipl", os.path.join(HERE, "swi.pl"), "wait" if waits else "plain", source.name],
-                                  capture_output=True, text=True, check=False)
+            done = subprocess.run(words, capture_output=True, text=True, check=False)
             try:
                 seconds = float(done.stderr.strip().splitlines()[-1]) / 1000
             except (ValueError, IndexError):
@@ -129,7 +125,7 @@ def main():
     options = argparse.ArgumentParser(description=__doc__, formatter_class=argparse.RawDescriptionHelpFormatter)
     options.add_argument("--only", default="")
     options.add_argument("--runs", type=int, default=1)
-    options.add_argument("--program", default=same_bytes.PROGRAM)
+    common.add_program(options)
     options.add_argument("--skip-swi", action="store_true")
     given = options.parse_args()
     with_swi = not given.skip_swi and shutil.which("swipl") is not None

@@ -27,11 +27,11 @@ import sys
 import tempfile
 import time
 
+import common
 import evaluate
 import hostile_ends
 import hostile_random
 import hostile_system
-import same_bytes
 from hostile_system import least_space, limited
 from hostile_texts import crowd_texts, crowded
 
@@ -306,7 +306,7 @@ def main():
     words = argparse.ArgumentParser(description=__doc__, formatter_class=argparse.RawDescriptionHelpFormatter)
     words.add_argument("parts", nargs="*", metavar="PART")
     words.add_argument("--quick", action="store_true")
-    words.add_argument("--program", default=same_bytes.PROGRAM)
+    common.add_program(words)
     words.add_argument("--seed", type=int, default=1)
     words.add_argument("--from", dest="first", type=int, default=0)
     words.add_argument("--count", type=int, default=0)

@@ -9,15 +9,14 @@ It skips, with status 0, where swipl is not installed.
 """
 
 import argparse
-import os
 import re
 import shutil
 import subprocess
 import sys
 import tempfile
 
-TOP = os.path.join(os.path.dirname(os.path.abspath(__file__)), "..")
-PROGRAM = os.path.join(TOP, "crates", "andorra", "out", "andorra")
+import common
+
 MOST = 4194304
 
 # what SWI-Prolog knows beside its own library: predicates that it does not have, written with its cuts and negation
@@ -353,7 +352,7 @@ def defined_twice():
     """The predicates that two files of lib define, which would then have each answer twice."""
     places = {}
     for lib in ROWS:
-        with open(os.path.join(TOP, "lib", f"{lib}.pl"), encoding="utf-8") as file:
+        with open(common.TOP / "lib" / f"{lib}.pl", encoding="utf-8") as file:
             for line in file:
                 head = re.match(r"([a-z]\w*)\((.*)", line)
                 if head:
@@ -390,7 +389,7 @@ def swi_answers(all_rows):
 def our_answers(program, lib, marks, query):
     """The lines of a row's answers, and what is wrong with how they end."""
     words = ["--limit", "300" if number_of(marks) else str(MOST), "--stats"]
-    with open(os.path.join(TOP, "lib", f"{lib}.pl"), encoding="utf-8") as file:
+    with open(common.TOP / "lib" / f"{lib}.pl", encoding="utf-8") as file:
         text = file.read()
     done = subprocess.run([program, "run", *words], input=f"{text}{GIVEN.get(lib, '')}?- {query}.\n", capture_output=True, text=True, check=False)
     lines = done.stdout.splitlines()
@@ -404,10 +403,9 @@ def our_answers(program, lib, marks, query):
 def main():
     options = argparse.ArgumentParser(description=__doc__, formatter_class=argparse.RawDescriptionHelpFormatter)
     options.add_argument("--only", default="")
-    options.add_argument("--program", default=os.environ.get("ANDORRA", PROGRAM))
+    common.add_program(options)
     given = options.parse_args()
-    if not os.access(given.program, os.X_OK):
-        print(f"{given.program} does not stand yet: ./andorra build makes it")
+    if not common.stands(given.program):
         return 1
     if not shutil.which("swipl"):
         print("skipped: swipl is not installed, so there is nothing to compare with")

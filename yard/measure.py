@@ -6,7 +6,7 @@
 
 The crates of the tree and those of yard/measure are laid into a folder that is removed at the end, or into FOLDER, which is kept and can be
 given again; there `rt run` proves, builds and runs the program, and with --unproved `rt try` runs it as it is. What a program reads from
-standard input it is given. `program` serves yard/store_figures.py and yard/tree_figures.py.
+standard input it is given. `figures` serves yard/store_figures.py and yard/tree_figures.py.
 """
 
 import argparse
@@ -57,6 +57,17 @@ def program(name, words, copy=None):
         crate = os.path.join(folder, "crates", name)
         subprocess.run(["rt", "run", "--", *words], cwd=crate, check=True, stdin=subprocess.DEVNULL, stdout=subprocess.DEVNULL)
         yield os.path.join(crate, "out", name)
+
+
+def figures(description, name, words, compared):
+    """What a script does that compares runs of a program: `compared` is given the program and the options, and gives the status."""
+    options = argparse.ArgumentParser(description=description, formatter_class=argparse.RawDescriptionHelpFormatter)
+    options.add_argument("--runs", type=int, default=20)
+    options.add_argument("--only", default="")
+    options.add_argument("--copy", metavar="FOLDER")
+    given = options.parse_args()
+    with program(name, words, given.copy) as built:
+        return compared(built, given)
 
 
 def main():

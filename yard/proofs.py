@@ -8,14 +8,12 @@ the shortest, each byte of the proof part is changed in turn, and the program mu
 an example has no answer within its limit.
 """
 import argparse
-import os
-import pathlib
 import re
 import subprocess
 import sys
 
-TOP = pathlib.Path(__file__).resolve().parent.parent
-PROGRAM = str(TOP / 'crates' / 'andorra' / 'out' / 'andorra')
+import common
+
 MARK = b'%% proof\n'
 
 
@@ -33,7 +31,7 @@ def places(program, text, words):
 
 def documents(program):
     """The name and the document of each answer that is explained."""
-    for example in sorted((TOP / 'examples').glob('*.pl')):
+    for example in sorted((common.TOP / 'examples').glob('*.pl')):
         text = example.read_bytes()
         said = re.search(rb'^% run: (.*)$', text, re.MULTILINE)
         words = [word for word in said.group(1).decode().split() if word != '--stats'] if said else []
@@ -53,13 +51,13 @@ def changed(document, place):
 
 def main():
     options = argparse.ArgumentParser(description=__doc__, formatter_class=argparse.RawDescriptionHelpFormatter)
-    options.add_argument('--program', default=os.environ.get('ANDORRA', PROGRAM))
+    common.add_program(options)
     options.add_argument('--all', type=int, default=5)
     given = options.parse_args()
     wrong, found = 0, []
     for name, document in documents(given.program):
         ours = run([given.program, 'verify'], document)
-        theirs = run([sys.executable, str(TOP / 'yard' / 'verify.py')], document)
+        theirs = run([sys.executable, str(common.TOP / 'yard' / 'verify.py')], document)
         if ours != (b'holds\n', 0) or theirs != (b'holds\n', 0):
             wrong += 1
             print(f'{name}: {ours} and by verify.py {theirs}')

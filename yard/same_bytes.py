@@ -9,15 +9,13 @@ are made and run in place of the examples and rows: in each some goals fail afte
 """
 
 import argparse
-import glob
-import os
 import random
 import re
 import subprocess
 import sys
 
-HERE = os.path.dirname(os.path.abspath(__file__))
-PROGRAM = os.path.join(HERE, "..", "crates", "andorra", "out", "andorra")
+import common
+
 TEAMS = (1, 2, 4, 16)
 WORKERS = (1, 2, 8)
 
@@ -65,11 +63,10 @@ ROWS = [
 
 def texts():
     """A name, words and a text for each."""
-    for file in sorted(glob.glob(os.path.join(HERE, "..", "examples", "*.pl"))):
-        with open(file, encoding="utf-8") as source:
-            text = source.read()
+    for file in sorted((common.TOP / "examples").glob("*.pl")):
+        text = file.read_text(encoding="utf-8")
         words = re.search(r"^% run: (.*)$", text, re.M)
-        yield os.path.basename(file), words.group(1).split() if words else [], text
+        yield file.name, words.group(1).split() if words else [], text
     yield from ROWS
 
 
@@ -125,7 +122,7 @@ def main():
     options = argparse.ArgumentParser(description=__doc__, formatter_class=argparse.RawDescriptionHelpFormatter)
     options.add_argument("--times", type=int, default=100)
     options.add_argument("--only", default="")
-    options.add_argument("--program", default=PROGRAM)
+    common.add_program(options)
     options.add_argument("--random", type=int, default=0)
     options.add_argument("--seed", type=int, default=1)
     given = options.parse_args()

@@ -14,8 +14,8 @@ import subprocess
 import sys
 import tempfile
 
+import common
 import growth
-import same_bytes
 from figures import listed
 from hostile_ends import DIGITS, LATER, threaded
 
@@ -160,7 +160,7 @@ def counted(program, words, text):
 def main():
     options = argparse.ArgumentParser(description=__doc__, formatter_class=argparse.RawDescriptionHelpFormatter)
     options.add_argument("--only", default="")
-    options.add_argument("--program", default=same_bytes.PROGRAM)
+    common.add_program(options)
     options.add_argument("--measure", action="store_true")
     given = options.parse_args()
     slow = tried = 0

@@ -8,7 +8,6 @@ nothing with its cells, and the peak of memory. It compares the counts with thos
 yard/measure.py builds the program, in a folder of its own or in FOLDER, which is kept. docs/figures.md has what was measured.
 """
 
-import argparse
 import sys
 import time
 
@@ -45,16 +44,6 @@ def least(results):
     return min(r[1] for r in results), min(r[2] for r in results)
 
 
-def main():
-    options = argparse.ArgumentParser(description=__doc__, formatter_class=argparse.RawDescriptionHelpFormatter)
-    options.add_argument("--runs", type=int, default=20)
-    options.add_argument("--only", default="")
-    options.add_argument("--copy", metavar="FOLDER")
-    given = options.parse_args()
-    with measure.program("and_store_bench", ["plain", "looks"], given.copy) as program:
-        return compared(program, given)
-
-
 def compared(program, given):
     """Runs the cases and writes what they took. The status is 1 where a count is not the one that is due."""
     print(f"{'cells':32} {'work':8} {'processor':>9} {'wall':>8} {'net':>8} {'net wall':>8} {'MB':>5}  count")
@@ -76,4 +65,4 @@ def compared(program, given):
 
 
 if __name__ == "__main__":
-    sys.exit(main())
+    sys.exit(measure.figures(__doc__, "and_store_bench", ["plain", "looks"], compared))

@@ -7,15 +7,12 @@ A program is written as a textbook has it, where it is pure. It is asked with on
 occurs check; where a name ends with `(waits)`, arithmetic waits there as it does in the language. It skips, with status 0, where swipl is not installed.
 """
 import argparse
-import os
 import shutil
 import subprocess
 import sys
-import tempfile
 
-import same_bytes
+import common
 
-HERE = os.path.dirname(os.path.abspath(__file__))
 
 PROGRAMS = {
     "siblings": """
@@ -119,18 +116,15 @@ def by_program(program, text, words):
 
 
 def by_swi(text, waits):
-    with tempfile.NamedTemporaryFile("w", suffix=".pl") as source:
-        source.write(text)
-        source.flush()
-        done = subprocess.run(["swipl", os.path.join(HERE, "swi.pl"), "wait" if waits else "plain", source.name],
-                              capture_output=True, text=True, timeout=120, check=False)
+    with common.swi_words(text, waits) as words:
+        done = subprocess.run(words, capture_output=True, text=True, timeout=120, check=False)
     return done.stdout
 
 
 def main():
     options = argparse.ArgumentParser(description=__doc__, formatter_class=argparse.RawDescriptionHelpFormatter)
     options.add_argument("--only", default="")
-    options.add_argument("--program", default=same_bytes.PROGRAM)
+    common.add_program(options)
     given = options.parse_args()
     if shutil.which("swipl") is None:
         print("swipl is not installed")

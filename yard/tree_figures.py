@@ -8,7 +8,6 @@ the wall time by that number, and the peak of memory. It compares with what is d
 yard/measure.py builds the program, in a folder of its own or in FOLDER, which is kept. docs/figures.md has what was measured.
 """
 
-import argparse
 import sys
 import time
 
@@ -30,16 +29,6 @@ def measured(program, words):
     return claims, ended, processor, wall, memory
 
 
-def main():
-    options = argparse.ArgumentParser(description=__doc__, formatter_class=argparse.RawDescriptionHelpFormatter)
-    options.add_argument("--runs", type=int, default=20)
-    options.add_argument("--only", default="")
-    options.add_argument("--copy", metavar="FOLDER")
-    given = options.parse_args()
-    with measure.program("and_tree_bench", ["one"], given.copy) as program:
-        return compared(program, given)
-
-
 def compared(program, given):
     """Runs the cases and writes what they took. The status is 1 where a count is not the one that is due."""
     print(f"{'teams':28} {'processor':>9} {'wall':>8} {'claims':>9} {'a claim':>8} {'MB':>5}")
@@ -58,4 +47,4 @@ def compared(program, given):
 
 
 if __name__ == "__main__":
-    sys.exit(main())
+    sys.exit(measure.figures(__doc__, "and_tree_bench", ["one"], compared))
