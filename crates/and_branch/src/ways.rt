@@ -81,6 +81,7 @@ pub(crate) fn turns_back(way: Way, round: Round) -> bool
 impl<N: Naming> Branch<N> {
     /// Goes to the next goal on a round's way, past those that sleep. Answers whether there may be one. An error is
     /// want of memory, and the branch is spent.
+    #[inline(always)]
     pub(crate) fn come_to_next(&mut self, way: Way) -> Result<bool, AllocError>
         requires branch { IsBranch N.program self.old }
         ensures same { SameKey self.old self.new }

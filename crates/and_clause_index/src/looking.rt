@@ -59,6 +59,7 @@ fn kind_of<C: Cells>(loaded: &Loaded, cells: &mut C, at: Ref) -> NodeKind
 }
 
 /// What is known of the term of a node in the frame at the base.
+#[inline(always)]
 fn kind_in<C: Cells>(loaded: &Loaded, cells: &mut C, node: NodeNo, base: u32) -> NodeKind
     requires program { C.program ≡ named loaded.now }
     requires node { IsNodeInRange C.program (C.seen cells.old).words node.0 base }
@@ -74,6 +75,7 @@ fn kind_in<C: Cells>(loaded: &Loaded, cells: &mut C, node: NodeNo, base: u32) ->
 }
 
 /// The mark of what is known of an argument of a node in the frame at the base.
+#[inline(always)]
 fn known_mark<C: Cells>(loaded: &Loaded, cells: &mut C, node: NodeNo, base: u32, place: u8) -> u8
     requires program { C.program ≡ named loaded.now }
     requires node { IsNodeInRange C.program (C.seen cells.old).words node.0 base }
@@ -207,15 +209,27 @@ impl Look {
         ensures reads { OnlyReads (C.seen cells.old) (C.seen cells.new) }
         ensures look { IsLookOver C.program (C.seen cells.new) node.0 base result }
     {
-        let first = known_first(loaded, cells, node, base);
-        if table.clauses(node, first).len() < 2 {
-            return Look::of_first(first);
+        let first = Look::at_first(loaded, cells, node, base);
+        if table.clauses(node, first.first).len() < 2 {
+            return first;
         }
         Look::at_all(loaded, cells, node, base)
     }
 
-    /// Looks at all that prints tell of a call.
-    fn at_all<C: Cells>(loaded: &Loaded, cells: &mut C, node: NodeNo, base: u32) -> Look
+    /// Looks at the first argument of a call alone. Takes no memory.
+    pub fn at_first<C: Cells>(loaded: &Loaded, cells: &mut C, node: NodeNo, base: u32) -> Look
+        requires program { C.program ≡ named loaded.now }
+        requires node { IsNodeInRange C.program (C.seen cells.old).words node.0 base }
+        ensures over { C.over cells.new ≡ C.over cells.old }
+        ensures grew { C.Grew cells.old cells.new }
+        ensures reads { OnlyReads (C.seen cells.old) (C.seen cells.new) }
+        ensures look { IsLookOver C.program (C.seen cells.new) node.0 base result }
+    {
+        Look::of_first(known_first(loaded, cells, node, base))
+    }
+
+    /// Looks at all that prints tell of a call. Takes no memory.
+    pub fn at_all<C: Cells>(loaded: &Loaded, cells: &mut C, node: NodeNo, base: u32) -> Look
         requires program { C.program ≡ named loaded.now }
         requires node { IsNodeInRange C.program (C.seen cells.old).words node.0 base }
         ensures over { C.over cells.new ≡ C.over cells.old }

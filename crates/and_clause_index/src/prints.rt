@@ -69,7 +69,8 @@ pub(crate) fn mark_of(kind: NodeKind) -> u8
 fn tells_apart(one: u8, other: u8) -> bool
     ensures { result ≡ differ one other }
 {
-    one != 0 && other != 0 && one != other
+    // Most marks that are compared are the same.
+    one != other && one != 0 && other != 0
 }
 
 impl Marks {

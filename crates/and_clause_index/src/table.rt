@@ -27,13 +27,23 @@ struct Predicate {
 
 /// A program's table: for each call of a body, the clauses of its predicate, and for each clause the
 /// print of its head.
-#[derive(Drop)]
 pub struct Determinacy {
     /// By node: the number of the predicate that it calls. Predicate 0 has no clauses.
     numbers: Vec<usize>,
     predicates: Vec<Predicate>,
     /// By clause.
     prints: Vec<Print>,
+}
+
+// By hand, so that it is proved here once, and not in each crate that lets go of a table.
+impl Drop for Determinacy {
+    fn drop(self) {
+        let Determinacy {
+            numbers: _,
+            predicates: _,
+            prints: _,
+        } = self;
+    }
 }
 
 /// The number at a place; 0 where there is none.
@@ -62,6 +72,7 @@ fn put_number(numbers: &mut Vec<usize>, place: usize, number: usize) -> Result<(
 
 impl Predicate {
     /// The clauses that serve a key of first arguments. Takes no memory.
+    #[inline(always)]
     fn under(&self, key: Key) -> &[ClauseNo]
         ensures { result.now ≡ under_key (Some self.now) key }
     {

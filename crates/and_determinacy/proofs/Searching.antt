@@ -31,6 +31,7 @@ use Rattle.and_determinacy.specs.declared.judging.Found.{Found}
 use Rattle.and_determinacy.specs.declared.judging.Judged.{Judged}
 use Rattle.and_determinacy.specs.declared.judging.Two.{Two}
 use Rattle.and_determinacy.specs.declared.judging.Judged.TheVariants.{Nothing, One, Several}
+use Rattle.and_determinacy.specs.declared.judging.Narrowed.{Narrowed}
 use Rattle.and_determinacy.specs.declared.judging.Narrowed.TheVariants as narrowed
 use Rattle.and_clause_index.specs.declared.looking.Look.{Look}
 use Rattle.and_clause_index.specs.declared.table.Determinacy.{Determinacy}
@@ -112,7 +113,7 @@ module _ (Q : ClauseNo → Type 0) (clauses : List ClauseNo) (from mid : ℕ) (b
   ]
 
   -- The first from there on is the first of all,
-  next_joined : from ≤ mid → (found : Found) → IsNextOf Q clauses mid found → IsNextOf Q clauses from found
+  pub next_joined : from ≤ mid → (found : Found) → IsNextOf Q clauses mid found → IsNextOf Q clauses from found
   next_joined later found next = record {
     place = next.place;
     behind = next.behind;
@@ -234,6 +235,17 @@ module _ (P : NamedProgram) (row : List Ref) (g : Goal) (node : ℕ) (of : IsNod
             (All-contains (λ (c : ClauseNo). Of P.program (node_term P.skeleton.nodes node) c.0) clauses clause served.of (place, low, sym read)),
         only_there place clause there before behind,
       )
+
+  -- Where no two clauses serve it.
+  pub few_left : (n : Narrowed) → (n ≡ narrowed.Nothing → clauses ≡ []) → ((clause : ClauseNo) → n ≡ narrowed.AtMost clause → clauses ≡ clause ∷ [])
+      → n ≢ narrowed.Several → IsNarrowed P row g n
+  few_left narrowed.Nothing none one never = none_left (λ k c from low there has. let long = ap length (none refl) in omega arith)
+  few_left (narrowed.AtMost clause) none one never =
+      let is : clauses ≡ clause ∷ [] = one clause refl in
+      let long = ap length is in
+      one_left 0 clause (omega arith) (ap (λ cs. get_or cs 0 clause) (sym is)) (λ k c from low there has. omega arith)
+      (λ k c from low there has. omega arith)
+  few_left narrowed.Several none one never = absurd (never refl)
 
   pub as_judged : (judged : Judged) → IsJudged P row g judged → IsNarrowed P row g (narrowed_as judged)
   as_judged Nothing none = none

@@ -191,6 +191,23 @@ module _ (P : NamedProgram) (row : List Ref) (floor begun : ℕ) where
         ]);
   }
 
+  -- one that is set where its word is followed,
+  pub through_followed : (cell : ℕ) (word : Ref) (visits new : List Ref) (old listed : List ℕ) → word_at row cell ≡ word → word ≢ Free
+      → IsFollowed P row floor begun word visits new old listed → IsFollowed P row floor begun (Cell cell) visits new old listed
+  through_followed cell word visits new old listed is set f = record {
+    more = f.more;
+    put = f.put;
+    gained = f.gained;
+    listed = f.listed;
+    suffices = record {
+      in_range = f.suffices.in_range;
+      owes = λ cells sub all c held free. elim (cell_holds P row cell (Cell cell) c refl held) [
+        | inl e ↦ absurd (set (sym is ∙ ap (word_at row) (sym e) ∙ free))
+        | inr found ↦ f.suffices.owes cells sub all c (subst (λ (r : Ref). Holds P row r c) (sym found.1.0 ∙ is) found.2) free
+      ];
+    };
+  }
+
   -- another set one where its word is visited,
   pub set_followed : IsSound P row → (cell : ℕ) (word : Ref) (visits new : List Ref) (listed : List ℕ) → cell < length row
       → word_at row cell ≡ word → word ≢ Free → is_half word ≡ false → new ≡ visits ++ word ∷ []

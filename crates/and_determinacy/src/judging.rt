@@ -1,6 +1,6 @@
 //! The candidates of goals.
 
-ghost use Rattle.std.specs.Prelude.{◌≡◌, ◌≤◌, ◌<◌, ◌++◌, ◌∷◌, [], ℕ, Some, None, Ok, length, slice_get, All, OnOk};
+ghost use Rattle.std.specs.Prelude.{◌≡◌, ◌≢◌, ◌≤◌, ◌<◌, ◌++◌, ◌∷◌, [], ℕ, Some, None, Ok, length, slice_get, All, OnOk};
 ghost use Rattle.std.specs.Prelude.{IfOk, IfSome};
 ghost use Rattle.and_model.specs.Programs.{Of};
 ghost use Rattle.and_model.specs.declared.limits.TheConstants.{MAX_LIMIT};
@@ -146,15 +146,16 @@ fn next_candidate<N: Naming>(
     Ok(None)
 }
 
-/// Tells whether none, one or more of these clauses, from a place on, are candidates of a call. It
-/// stops at the second that it finds. The cells are as before. An error is want of memory.
-fn judge_from<N: Naming>(
+/// Tells whether one or more of these clauses are candidates of a call. The first is given that is one, and a place
+/// before which no other is. It stops at the second that it finds. The cells are as before. An error is want of memory.
+fn judge_besides<N: Naming>(
     table: &Determinacy,
     loaded: &Loaded,
     cells: &mut PlainCells<N>,
     node: NodeNo,
     base: u32,
     clauses: &[ClauseNo],
+    one: Found,
     from: usize,
     trials: &mut Trials,
 ) -> Result<Judged, AllocError>
@@ -166,19 +167,49 @@ fn judge_from<N: Naming>(
     requires clauses { All (λ (c : ClauseNo). Of N.program.program (node_term N.program.skeleton.nodes node.0) c.0)
         clauses.now }
     requires look { IsLook N.program cells.old node.0 base trials.old.look }
-    ensures count { IfOk result (IsCount (NodeHas N.program cells.old node.0 base) clauses.now from) }
+    requires one { IsNextOf (NodeHas N.program cells.old node.0 base) clauses.now 0 one }
+    requires stays { IfSome trials.old.rests (λ has.
+        StaysWhile N.program cells.old base (node_term N.program.skeleton.nodes node.0) has one.clause.0) }
+    requires behind { one.behind ≤ from }
+    requires between { NoneFrom (NodeHas N.program cells.old node.0 base) clauses.now one.behind from }
+    ensures count { IfOk result (IsCount (NodeHas N.program cells.old node.0 base) clauses.now 0) }
     ensures stay { result ≡ Ok Judged.Several → IfSome trials.new.rests (λ has.
-        IsCount (NodeKeeps N.program cells.old node.0 base has) clauses.now from Judged.Several) }
+        IsCount (NodeKeeps N.program cells.old node.0 base has) clauses.now 0 Judged.Several) }
     ensures unchanged { cells.new ≡ cells.old }
 {
     match next_candidate(table, loaded, cells, node, base, clauses, from, trials)? {
+        None => Ok(Judged::One(one.clause)),
+        Some(_) => Ok(Judged::Several),
+    }
+}
+
+/// Tells whether none, one or more of these clauses are candidates of a call. It stops at the second that it finds. The
+/// cells are as before. An error is want of memory.
+fn judge_all<N: Naming>(
+    table: &Determinacy,
+    loaded: &Loaded,
+    cells: &mut PlainCells<N>,
+    node: NodeNo,
+    base: u32,
+    clauses: &[ClauseNo],
+    trials: &mut Trials,
+) -> Result<Judged, AllocError>
+    requires program { N.program ≡ named loaded.now }
+    requires table { IsTableOf N.program table.now }
+    requires settled { IsSettled N.program cells.old }
+    requires short { length cells.old ≤ MAX_LIMIT }
+    requires node { CanBeRead N.program cells.old base node.0 }
+    requires clauses { All (λ (c : ClauseNo). Of N.program.program (node_term N.program.skeleton.nodes node.0) c.0)
+        clauses.now }
+    requires look { IsLook N.program cells.old node.0 base trials.old.look }
+    ensures count { IfOk result (IsCount (NodeHas N.program cells.old node.0 base) clauses.now 0) }
+    ensures unchanged { cells.new ≡ cells.old }
+{
+    match next_candidate(table, loaded, cells, node, base, clauses, 0, trials)? {
         None => Ok(Judged::Nothing),
-        Some(Found { clause, behind }) => {
-            match next_candidate(table, loaded, cells, node, base, clauses, behind, trials)? {
-                None => Ok(Judged::One(clause)),
-                Some(_) => Ok(Judged::Several),
-            }
-        }
+        Some(one) => judge_besides(
+            table, loaded, cells, node, base, clauses, one, one.behind, trials,
+        ),
     }
 }
 
@@ -202,7 +233,7 @@ pub fn judge<N: Naming>(
     let node = node_of(loaded, cells, goal);
     trials.look_at(table, loaded, cells, node, goal.base);
     let clauses = clauses_to_try(table, cells, &trials.look, node, goal.base);
-    judge_from(table, loaded, cells, node, goal.base, clauses, 0, trials)
+    judge_all(table, loaded, cells, node, goal.base, clauses, trials)
 }
 
 /// The first place, from one on, of a clause that a look does not tell apart from the call.
@@ -233,8 +264,8 @@ fn narrowed_from(judged: Judged) -> Narrowed
 }
 
 /// Tells whether a goal has no candidate, at most one, or more. A clause is tried only where a look at
-/// the goal leaves two or more, so that a call that it leaves one costs no unification. The cells are
-/// as before. An error is want of memory. Where it has two, [`Trials::told`] tells on which cells these
+/// the goal leaves two or more, and the last that is left only where another one is a candidate, so that a call that is
+/// left one clause costs no unification. The cells are as before. An error is want of memory. Where it has two, [`Trials::told`] tells on which cells these
 /// rest.
 pub fn narrow<N: Naming>(
     table: &Determinacy,
@@ -253,20 +284,100 @@ pub fn narrow<N: Naming>(
     ensures unchanged { cells.new ≡ cells.old }
 {
     let node = node_of(loaded, cells, goal);
-    trials.look_at(table, loaded, cells, node, goal.base);
+    trials.look_at_first(loaded, cells, node, goal.base);
     let clauses = clauses_to_try(table, cells, &trials.look, node, goal.base);
+    if clauses.len() < 2 {
+        return Ok(narrowed_to(clauses));
+    }
+    narrow_by_prints(table, loaded, cells, goal, node, clauses, trials)
+}
+
+/// What is told of a goal that these clauses alone serve, of which there are no two.
+fn narrowed_to(clauses: &[ClauseNo]) -> Narrowed
+    requires { length clauses.now < 2 }
+    ensures nothing { result ≡ Narrowed.Nothing → clauses.now ≡ [] }
+    ensures one { (clause : ClauseNo) → result ≡ Narrowed.AtMost clause → clauses.now ≡ clause ∷ [] }
+    ensures never { result ≢ Narrowed.Several }
+{
+    if clauses.len() == 0 {
+        Narrowed::Nothing
+    } else {
+        Narrowed::AtMost(clauses[0])
+    }
+}
+
+/// The same as [`narrow`] of a goal whose node and clauses are given.
+fn narrow_by_prints<N: Naming>(
+    table: &Determinacy,
+    loaded: &Loaded,
+    cells: &mut PlainCells<N>,
+    goal: Goal,
+    node: NodeNo,
+    clauses: &[ClauseNo],
+    trials: &mut Trials,
+) -> Result<Narrowed, AllocError>
+    requires program { N.program ≡ named loaded.now }
+    requires table { IsTableOf N.program table.now }
+    requires settled { IsSettled N.program cells.old }
+    requires short { length cells.old ≤ MAX_LIMIT }
+    requires node { IsNodeOf N.program cells.old goal node.0 }
+    requires served { AreServed N.program cells.old node.0 goal.base clauses.now }
+    ensures narrowed { IfOk result (IsNarrowed N.program cells.old goal) }
+    ensures told { result ≡ Ok Narrowed.Several → IfSome trials.new.rests (TwoStayWhile N.program cells.old goal) }
+    ensures unchanged { cells.new ≡ cells.old }
+{
+    trials.look_at_all(loaded, cells, node, goal.base);
     match next_left(table, &trials.look, clauses, 0) {
         None => Ok(Narrowed::Nothing),
-        Some(first) => match next_left(table, &trials.look, clauses, first + 1) {
-            None => Ok(Narrowed::AtMost(clauses[first])),
-            Some(_) => {
-                trials.rests.begin();
-                let judged = judge_from(
-                    table, loaded, cells, node, goal.base, clauses, first, trials,
-                )?;
-                Ok(narrowed_from(judged))
+        Some(first) => {
+            trials.rests.begin();
+            narrow_from(table, loaded, cells, goal, node, clauses, first, trials)
+        }
+    }
+}
+
+/// The same where no clause before a place is a candidate. The last clause that the look leaves is not tried, unless
+/// another one is a candidate.
+fn narrow_from<N: Naming>(
+    table: &Determinacy,
+    loaded: &Loaded,
+    cells: &mut PlainCells<N>,
+    goal: Goal,
+    node: NodeNo,
+    clauses: &[ClauseNo],
+    first: usize,
+    trials: &mut Trials,
+) -> Result<Narrowed, AllocError>
+    requires program { N.program ≡ named loaded.now }
+    requires table { IsTableOf N.program table.now }
+    requires settled { IsSettled N.program cells.old }
+    requires short { length cells.old ≤ MAX_LIMIT }
+    requires node { IsNodeOf N.program cells.old goal node.0 }
+    requires served { AreServed N.program cells.old node.0 goal.base clauses.now }
+    requires look { IsLook N.program cells.old node.0 goal.base trials.old.look }
+    requires there { first < length clauses.now }
+    requires before { NoneFrom (NodeHas N.program cells.old node.0 goal.base) clauses.now 0 first }
+    ensures narrowed { IfOk result (IsNarrowed N.program cells.old goal) }
+    ensures told { result ≡ Ok Narrowed.Several → IfSome trials.new.rests (TwoStayWhile N.program cells.old goal) }
+    ensures unchanged { cells.new ≡ cells.old }
+{
+    let mut last = first;
+    'clauses: loop {
+        let behind = last + 1;
+        let clause = clauses[last];
+        match next_left(table, &trials.look, clauses, behind) {
+            None => return Ok(Narrowed::AtMost(clause)),
+            Some(next) => {
+                if trials.fits(table, loaded, cells, node, goal.base, clause)? {
+                    let one = Found { clause, behind };
+                    let judged = judge_besides(
+                        table, loaded, cells, node, goal.base, clauses, one, next, trials,
+                    )?;
+                    return Ok(narrowed_from(judged));
+                }
+                last = next;
             }
-        },
+        }
     }
 }
 

@@ -74,6 +74,40 @@ impl Trials {
         self.look = Look::at(table, loaded, cells, node, base);
     }
 
+    /// The same of the first argument alone.
+    pub(crate) fn look_at_first<N: Naming>(
+        &mut self,
+        loaded: &Loaded,
+        cells: &mut PlainCells<N>,
+        node: NodeNo,
+        base: u32,
+    )
+        requires program { N.program ≡ named loaded.now }
+        requires node { CanBeRead N.program cells.old base node.0 }
+        ensures look { IsLook N.program cells.old node.0 base self.new.look }
+        ensures unchanged { cells.new ≡ cells.old }
+    {
+        self.rests.forget();
+        self.look = Look::at_first(loaded, cells, node, base);
+    }
+
+    /// The same of all that prints tell.
+    pub(crate) fn look_at_all<N: Naming>(
+        &mut self,
+        loaded: &Loaded,
+        cells: &mut PlainCells<N>,
+        node: NodeNo,
+        base: u32,
+    )
+        requires program { N.program ≡ named loaded.now }
+        requires node { CanBeRead N.program cells.old base node.0 }
+        ensures look { IsLook N.program cells.old node.0 base self.new.look }
+        ensures unchanged { cells.new ≡ cells.old }
+    {
+        self.rests.forget();
+        self.look = Look::at_all(loaded, cells, node, base);
+    }
+
     /// Whether a clause is a candidate of the call that was looked at. The cells are as before. An error is
     /// want of memory.
     pub(crate) fn fits<N: Naming>(

@@ -114,7 +114,7 @@ fn follow<N: Naming>(
         out.old.items out.new.items) }
 {
     match at {
-        Ref::Cell(cell) => follow_cell(cells, cell, floor, begun, visits, out),
+        Ref::Cell(cell) => follow_cell(loaded, cells, cell, floor, begun, visits, out),
         Ref::Node { node, base } => put_parts(loaded, node, base, visits),
         Ref::Number(_) => Ok(()),
         Ref::Free => unreachable!(),
@@ -122,9 +122,10 @@ fn follow<N: Naming>(
     }
 }
 
-/// Puts a cell on a list if it is free and below the floor, and what it is set to on that of visits. An
-/// error is want of memory.
+/// Puts a cell on a list if it is free and below the floor, and what it is set to on that of visits, of a structure the
+/// parts at once. An error is want of memory.
 fn follow_cell<N: Naming>(
+    loaded: &Loaded,
     cells: &PlainCells<N>,
     cell: u32,
     floor: u32,
@@ -132,6 +133,8 @@ fn follow_cell<N: Naming>(
     visits: &mut Vec<Ref>,
     out: &mut Vec<u32>,
 ) -> Result<(), AllocError>
+    requires program { N.program ≡ named loaded.now }
+    requires falls { AllFall 0 N.program.skeleton.nodes }
     requires in_range { cell < length cells.now }
     requires begun { begun ≤ length out.old.items }
     ensures { OnOk result (IsFollowed N.program cells.now floor begun (Ref.Cell cell) visits.old.items visits.new.items
@@ -145,7 +148,7 @@ fn follow_cell<N: Naming>(
             }
         }
         Ref::Cell(_) => visits.push(word)?,
-        Ref::Node { .. } => visits.push(word)?,
+        Ref::Node { node, base } => put_parts(loaded, node, base, visits)?,
         Ref::Number(_) => {}
         Ref::Half(_) => {}
     }

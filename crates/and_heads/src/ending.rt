@@ -2,13 +2,17 @@
 
 ghost use Rattle.std.specs.Prelude.{◌≡◌, ◌<◌, ◌≤◌, All, ℕ, length, true, false};
 ghost use Rattle.and_model.specs.declared.reference.Ref.{Ref};
+ghost use Rattle.and_program.specs.Loaded.{arguments_at};
 ghost use Rattle.and_program.specs.Skeletons.{AllFall};
 ghost use Rattle.and_cells.specs.Ranges.{IsInRange};
 ghost use Rattle.and_cells.specs.Rows.{IsSound};
 ghost use Rattle.and_cells.specs.Seen.{word_at};
 ghost use Rattle.and_cells.specs.Parts.{named};
 ghost use Rattle.and_cells.specs.Ends.{Ends};
+ghost use Rattle.and_cells.specs.Ground.{EndsGround};
+ghost use Rattle.and_circles.specs.Following.{argument_part};
 ghost use Rattle.and_unify.specs.Settling.{EndsFrom};
+ghost use Rattle.and_heads.specs.Ending.{GoesOn};
 
 use crate::parts::argument_count;
 use and_cells::{Naming, PlainCells};
@@ -16,8 +20,25 @@ use and_circles::ends_soon;
 use and_model::{NodeNo, Ref};
 use and_program::Loaded;
 
-/// So many places are followed at most.
+/// So many places are followed at most where paths branch,
 const MOST_PLACES: u64 = 64;
+
+/// and so many one after the other.
+const MOST_TURNS: u32 = 48;
+
+/// So many are followed before it is asked what is known of them.
+const FEW_TURNS: u32 = 16;
+
+/// What became of a path.
+#[derive(Clone, Copy, PartialEq, Eq, Debug)]
+enum Followed {
+    /// All paths end.
+    Ended,
+    /// All others end, and this one goes on here.
+    Onward(Ref),
+    /// It is not told.
+    Unseen,
+}
 
 /// Whether each path from each of these cells is seen to end: from one below the floor to any, and from others where it
 /// comes below the floor, if not before.
@@ -56,7 +77,7 @@ fn floor_beside(cell: u32, floor: u32) -> u32
     if cell < floor { 0 } else { floor }
 }
 
-/// Whether each path from a cell is seen to end, at a look or by so many places.
+/// Whether each path from a cell is seen to end, at a look or by so many turns or places.
 fn ends<N: Naming>(
     loaded: &Loaded,
     cells: &PlainCells<N>,
@@ -71,29 +92,167 @@ fn ends<N: Naming>(
     requires in_row { cell < length cells.now }
     ensures { result ≡ true → Ends N.program cells.now floor false (Ref.Cell cell) }
 {
-    if ends_at_once(loaded, cells, floor, cell) {
-        return true;
-    }
-    match ends_soon(loaded, cells, floor, Ref::Cell(cell), most, visits, met) {
-        Ok(is_seen) => is_seen,
-        Err(_) => false,
+    match beyond_cell(cells, floor, cell) {
+        Followed::Ended => true,
+        Followed::Onward(next) => behind_ends(loaded, cells, floor, next, most, visits, met),
+        Followed::Unseen => false,
     }
 }
 
-/// Whether each path from a cell ends in its word, or in the parts of the structure to which it is set.
-fn ends_at_once<N: Naming>(loaded: &Loaded, cells: &PlainCells<N>, floor: u32, cell: u32) -> bool
+/// Whether each path from a reference is seen to end, by so many turns or places.
+fn behind_ends<N: Naming>(
+    loaded: &Loaded,
+    cells: &PlainCells<N>,
+    floor: u32,
+    from: Ref,
+    most: &mut u64,
+    visits: &mut Vec<Ref>,
+    met: &mut Vec<Ref>,
+) -> bool
     requires program { N.program ≡ named loaded.now }
     requires falls { AllFall 0 N.program.skeleton.nodes }
-    requires in_row { cell < length cells.now }
-    ensures { result ≡ true → Ends N.program cells.now floor false (Ref.Cell cell) }
+    requires in_range { IsInRange N.program (length cells.now) from }
+    ensures { result ≡ true → Ends N.program cells.now floor false from }
 {
-    match cells.word(cell) {
-        Ref::Free => true,
-        Ref::Number(_) => true,
-        Ref::Cell(other) => other < floor || is_free(cells, other),
-        Ref::Node { node, base } => base < floor || parts_end(loaded, cells, floor, node, base),
-        Ref::Half(_) => false,
+    match in_line(loaded, cells, floor, from) {
+        Followed::Ended => true,
+        Followed::Onward(_) => false,
+        Followed::Unseen => match ends_soon(loaded, cells, floor, from, most, visits, met) {
+            Ok(is_seen) => is_seen,
+            Err(_) => false,
+        },
     }
+}
+
+/// Follows the path from a reference that goes on by the last part of each structure, as far as all other parts end at a
+/// look: so the elements of a list are passed one by one. It tells that all paths end, or how far it has come.
+fn in_line<N: Naming>(loaded: &Loaded, cells: &PlainCells<N>, floor: u32, from: Ref) -> Followed
+    requires program { N.program ≡ named loaded.now }
+    requires falls { AllFall 0 N.program.skeleton.nodes }
+    requires in_range { IsInRange N.program (length cells.now) from }
+    ensures { result ≡ Followed.Ended → Ends N.program cells.now floor false from }
+{
+    let mut at = from;
+    for turn in 0..MOST_TURNS {
+        if is_known(cells, turn, at) {
+            return Followed::Ended;
+        }
+        match beyond(loaded, cells, floor, at) {
+            Followed::Ended => return Followed::Ended,
+            Followed::Onward(next) => at = next,
+            Followed::Unseen => return Followed::Unseen,
+        }
+    }
+    Followed::Onward(at)
+}
+
+/// Whether a reference is known to be ground, which is asked when so many turns were made.
+fn is_known<N: Naming>(cells: &PlainCells<N>, turn: u32, at: Ref) -> bool
+    ensures { result ≡ true → EndsGround N.program cells.now at }
+{
+    turn > FEW_TURNS && cells.is_ground(at)
+}
+
+/// Where a path goes on from a reference.
+fn beyond<N: Naming>(loaded: &Loaded, cells: &PlainCells<N>, floor: u32, at: Ref) -> Followed
+    requires program { N.program ≡ named loaded.now }
+    requires falls { AllFall 0 N.program.skeleton.nodes }
+    requires in_range { IsInRange N.program (length cells.now) at }
+    ensures ended { result ≡ Followed.Ended → Ends N.program cells.now floor false at }
+    ensures onward { (next : Ref) → result ≡ Followed.Onward next → GoesOn N.program cells.now floor at next }
+{
+    match at {
+        Ref::Cell(cell) => beyond_cell(cells, floor, cell),
+        Ref::Node { node, base } => beyond_structure(loaded, cells, floor, node, base),
+        Ref::Number(_) => Followed::Ended,
+        Ref::Free => Followed::Unseen,
+        Ref::Half(_) => Followed::Unseen,
+    }
+}
+
+/// Where a path goes on from a cell.
+fn beyond_cell<N: Naming>(cells: &PlainCells<N>, floor: u32, cell: u32) -> Followed
+    requires in_row { cell < length cells.now }
+    ensures ended { result ≡ Followed.Ended → Ends N.program cells.now floor false (Ref.Cell cell) }
+    ensures onward { (next : Ref) → result ≡ Followed.Onward next
+        → GoesOn N.program cells.now floor (Ref.Cell cell) next }
+{
+    if cell < floor {
+        return Followed::Ended;
+    }
+    match cells.word(cell) {
+        Ref::Free => Followed::Ended,
+        Ref::Number(_) => Followed::Ended,
+        Ref::Cell(other) => {
+            if other < floor {
+                Followed::Ended
+            } else {
+                Followed::Onward(Ref::Cell(other))
+            }
+        }
+        Ref::Node { node, base } => {
+            if base < floor {
+                Followed::Ended
+            } else {
+                Followed::Onward(Ref::Node { node, base })
+            }
+        }
+        Ref::Half(_) => Followed::Unseen,
+    }
+}
+
+/// Where a path goes on from a structure: at its last part, where all others end at a look.
+fn beyond_structure<N: Naming>(
+    loaded: &Loaded,
+    cells: &PlainCells<N>,
+    floor: u32,
+    node: NodeNo,
+    base: u32,
+) -> Followed
+    requires program { N.program ≡ named loaded.now }
+    requires falls { AllFall 0 N.program.skeleton.nodes }
+    requires in_range { IsInRange N.program (length cells.now) (Ref.Node node base) }
+    ensures ended { result ≡ Followed.Ended → Ends N.program cells.now floor false (Ref.Node node base) }
+    ensures onward { (next : Ref) → result ≡ Followed.Onward next
+        → GoesOn N.program cells.now floor (Ref.Node node base) next }
+{
+    if base < floor {
+        return Followed::Ended;
+    }
+    let count = argument_count(loaded, node);
+    if count == 0 {
+        return Followed::Ended;
+    }
+    let last = count - 1;
+    if !parts_end(loaded, cells, floor, node, base, last) {
+        return Followed::Unseen;
+    }
+    Followed::Onward(loaded.resolve(loaded.argument(node, last), base))
+}
+
+/// Whether each path from each of so many parts of a structure ends at a look at the part.
+fn parts_end<N: Naming>(
+    loaded: &Loaded,
+    cells: &PlainCells<N>,
+    floor: u32,
+    node: NodeNo,
+    base: u32,
+    count: u8,
+) -> bool
+    requires program { N.program ≡ named loaded.now }
+    requires falls { AllFall 0 N.program.skeleton.nodes }
+    requires in_range { IsInRange N.program (length cells.now) (Ref.Node node base) }
+    requires count { count ≤ length (arguments_at N.program.skeleton node.0) }
+    ensures { result ≡ true → (k : ℕ) → k < count
+        → Ends N.program cells.now floor false (argument_part N.program node base k) }
+{
+    for place in 0..count {
+        let part = loaded.resolve(loaded.argument(node, place), base);
+        if !part_ends(loaded, cells, floor, part) {
+            return false;
+        }
+    }
+    true
 }
 
 /// Whether a cell is free.
@@ -102,28 +261,6 @@ fn is_free<N: Naming>(cells: &PlainCells<N>, cell: u32) -> bool
     ensures { result ≡ true → word_at cells.now cell ≡ Ref.Free }
 {
     matches!(cells.word(cell), Ref::Free)
-}
-
-/// Whether each path from each part of a structure ends at a look at the part.
-fn parts_end<N: Naming>(
-    loaded: &Loaded,
-    cells: &PlainCells<N>,
-    floor: u32,
-    node: NodeNo,
-    base: u32,
-) -> bool
-    requires program { N.program ≡ named loaded.now }
-    requires falls { AllFall 0 N.program.skeleton.nodes }
-    requires in_range { IsInRange N.program (length cells.now) (Ref.Node node base) }
-    ensures { result ≡ true → Ends N.program cells.now floor false (Ref.Node node base) }
-{
-    for place in 0..argument_count(loaded, node) {
-        let part = loaded.resolve(loaded.argument(node, place), base);
-        if !part_ends(loaded, cells, floor, part) {
-            return false;
-        }
-    }
-    true
 }
 
 /// Whether each path from a reference ends at a look at it, or at the word of its cell.

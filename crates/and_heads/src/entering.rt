@@ -7,7 +7,7 @@ ghost use Rattle.and_model.specs.declared.reference.Ref.{Ref};
 ghost use Rattle.and_program.specs.Skeletons.{AllFall};
 ghost use Rattle.and_cells.specs.Ranges.{IsInRange, IsInRangeOrHalf};
 ghost use Rattle.and_cells.specs.Rows.{plain};
-ghost use Rattle.and_cells.specs.Seen.{IsWrittenIfNumber, OnlyReads, Sets};
+ghost use Rattle.and_cells.specs.Seen.{IsWrittenIfNumber, OnlyReads, Sets, word_at};
 ghost use Rattle.and_cells.specs.Parts.{named};
 ghost use Rattle.and_unify.specs.Meeting.{IsToBeSet};
 ghost use Rattle.and_unify.specs.Pairs.{AreInRange, AreWritten};
@@ -18,7 +18,7 @@ ghost use Rattle.and_heads.specs.Parts.{HasShape, Puts, both_of, arguments_of_pa
 use crate::parts::{
     Part, Structure, argument_at, argument_count, arguments_of_both, end_of, kind_at,
 };
-use and_cells::{Bound, Cells, Naming, PlainCells};
+use and_cells::{Naming, PlainCells};
 use and_model::Ref;
 use and_program::Loaded;
 use and_unify::{Pair, PairList};
@@ -274,6 +274,8 @@ fn meet<N: Naming>(
     requires other_in_range { IsInRangeOrHalf N.program (length cells.old) other }
     requires one_written { IsWrittenIfNumber (plain cells.old) one }
     requires other_written { IsWrittenIfNumber (plain cells.old) other }
+    requires one_free { (cell : ℕ) → one ≡ Ref.Cell cell → word_at cells.old cell ≡ Ref.Free }
+    requires other_free { (cell : ℕ) → other ≡ Ref.Cell cell → word_at cells.old cell ≡ Ref.Free }
     ensures { Meets N.program (record { left = one; right = other }) (plain cells.old) (plain cells.new)
         parts.old.items parts.new.items bound.old.items bound.new.items result }
 {
@@ -340,10 +342,11 @@ fn beside_end(one: Ref, other: Ref) -> Case
     }
 }
 
-/// Sets a free cell, which goes on the list. Where it is not free, or there is no room on the list, nothing is set.
+/// Sets a free cell, which goes on the list. Where there is no room on the list, nothing is set.
 #[inline(always)]
 fn take<N: Naming>(cells: &mut PlainCells<N>, bound: &mut Vec<u32>, cell: u32, to: Ref) -> Entered
     requires in_row { cell < length cells.old }
+    requires free { word_at cells.old cell ≡ Ref.Free }
     requires in_range { IsInRange N.program (length cells.old) to }
     requires falls { (other : ℕ) → to ≡ Ref.Cell other → other < cell }
     requires written { IsWrittenIfNumber (plain cells.old) to }
@@ -356,13 +359,10 @@ fn take<N: Naming>(cells: &mut PlainCells<N>, bound: &mut Vec<u32>, cell: u32, t
     if make_room(bound).is_err() {
         return Entered::GivenUp;
     }
-    match cells.bind(cell, to) {
-        Bound::Won => {
-            bound.push_reserved(cell);
-            Entered::Done
-        }
-        Bound::Already(_) => Entered::GivenUp,
-    }
+    let _words = cells.len();
+    cells.set(cell, to);
+    bound.push_reserved(cell);
+    Entered::Done
 }
 
 /// Makes room for one cell more, where the list has none. An error is want of memory.

@@ -57,6 +57,7 @@ pub(crate) fn end_of<N: Naming>(cells: &PlainCells<N>, from: Ref) -> Ref
     ensures leads { LeadsTo (plain cells.now) from result }
     ensures in_range { IsInRangeOrHalf N.program (length cells.now) result }
     ensures written { IsWrittenIfNumber (plain cells.now) result }
+    ensures free { (cell : ℕ) → result ≡ Ref.Cell cell → word_at cells.now cell ≡ Ref.Free }
 {
     let mut at = from;
     while let Ref::Cell(cell) = at {

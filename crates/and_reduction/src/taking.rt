@@ -142,6 +142,7 @@ fn open_frame<N: Naming>(
 
 /// Settles in a new frame of the clause what the pairs ask, and the `=` items of its body, and notes
 /// what is set. An error is want of memory, and the cells are spent.
+#[inline(always)]
 fn settle_frame<N: Naming>(
     loaded: &Loaded,
     cells: &mut PlainCells<N>,

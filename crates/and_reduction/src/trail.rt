@@ -1,6 +1,6 @@
 //! Which words of a row were set.
 
-ghost use Rattle.std.specs.Prelude.{◌≡◌, ◌≢◌, [], Some, None, true, false, OnOk};
+ghost use Rattle.std.specs.Prelude.{◌≡◌, [], Some, None, OnOk};
 ghost use Rattle.and_reduction.specs.Trails.{AreNoted};
 
 use std::alloc::{AllocError, Global};
@@ -60,14 +60,6 @@ impl Trail {
         self.cells.clear();
     }
 
-    /// Whether what is set is noted. Takes no memory.
-    pub fn is_kept(&self) -> bool
-        ensures kept { result ≡ true → self.now.mark ≢ None }
-        ensures not_kept { result ≡ false → self.now.mark ≡ None }
-    {
-        self.mark.is_some()
-    }
-
     /// The words that were noted. Takes no memory.
     pub fn cells(&self) -> &[u32]
         ensures { result.now ≡ self.now.cells }
@@ -77,6 +69,7 @@ impl Trail {
 
     /// Notes those of the cells that were words of the row. An error is want of memory, and some may be
     /// noted then.
+    #[inline(always)]
     pub(crate) fn note(&mut self, cells: &[u32]) -> Result<(), AllocError>
         ensures { OnOk result (AreNoted self.old self.new cells.now) }
     {

@@ -14,8 +14,8 @@ returns-clause-judged g c =
     let clauses = c.clauses_to_try-clauses.result.now in
     let same = c.look_at.ensures.unchanged in
     let served = subst (λ r. AreServed P r node base clauses) same c.clauses_to_try-clauses.ensures in
-    counted_if P row c.args.goal node c.node_of-node.ensures clauses served c.judge_from.result
-    (subst (λ r. IfOk c.judge_from.result (IsCount (NodeHas P r node base) clauses 0)) same c.judge_from.ensures.count)
+    counted_if P row c.args.goal node c.node_of-node.ensures clauses served c.judge_all.result
+    (subst (λ r. IfOk c.judge_all.result (IsCount (NodeHas P r node base) clauses 0)) same c.judge_all.ensures.count)
 
 pub clauses_to_try-clauses-requires-clause-known : goal.clauses_to_try-clauses-requires-clause-known
 clauses_to_try-clauses-requires-clause-known g c =

@@ -1,6 +1,7 @@
-use Rattle.std.proofs.Common.{ap, ◌∙◌}
-use Rattle.std.specs.Prelude.{Bool, Ok}
 use Rattle.and_heads.proofs.ending.ends.Goals as goal
 
-pub returns-in-Ok : goal.returns-in-Ok
-returns-in-Ok g c = λ is. c.ends_soon.ensures.ends (c.in-Ok.is ∙ ap (λ (b : Bool). Ok b) is)
+pub behind_ends-requires-clause-in_range : goal.behind_ends-requires-clause-in_range
+behind_ends-requires-clause-in_range g c = (c.beyond_cell.ensures.onward c.in-Onward.next c.in-Onward.is).in_range
+
+pub returns-in-Onward : goal.returns-in-Onward
+returns-in-Onward g c = λ is. (c.beyond_cell.ensures.onward c.in-Onward.next c.in-Onward.is).ends (c.behind_ends.ensures is)

@@ -4,7 +4,7 @@ use Rattle.and_program.specs.Loaded.{arguments_at}
 use Rattle.and_cells.specs.Ranges.{NamedProgram, IsInRange}
 use Rattle.and_cells.specs.Ends.{Ends}
 use Rattle.and_circles.specs.Following.{argument_part}
-use Rattle.and_circles.proofs.Sufficing.{part_found, part_fits, structure_ends}
+use Rattle.and_circles.proofs.Sufficing.{part_found, part_fits}
 use Rattle.and_heads.proofs.ending.parts_end.Goals as goal
 
 pub loop-place-init : goal.loop-place-init
@@ -14,8 +14,7 @@ pub part_ends-requires-clause-in_range : goal.part_ends-requires-clause-in_range
 part_ends-requires-clause-in_range g c =
     let P = g.N.Naming.program in
     let row = c.args.cells.now in
-    let count = subst (λ (Q : NamedProgram). length (arguments_at Q.skeleton c.args.node.0) ≡ c.argument_count-place-end.result) (sym c.requires.program)
-    (sym c.argument_count-place-end.ensures) in
+    let many = c.requires.count in
     let below : c.loop-place.place < length (arguments_at P.skeleton c.args.node.0) = let at = c.loop-place-test.true in omega arith in
     let is = part_found P row c.args.node c.args.base c.args.loaded.now c.argument.result.0 c.loop-place.place c.resolve-part.result c.requires.program
     c.resolve-part.ensures c.argument.ensures.node in
@@ -36,10 +35,4 @@ loop-place-preserved g c = λ k below.
     ]
 
 pub returns : goal.returns
-returns g c = λ _.
-    let P = g.N.Naming.program in
-    let row = c.args.cells.now in
-    let count = subst (λ (Q : NamedProgram). length (arguments_at Q.skeleton c.args.node.0) ≡ c.argument_count-place-end.result) (sym c.requires.program)
-    (sym c.argument_count-place-end.ensures) in
-    let past = c.loop-place-test.false in
-    structure_ends P row c.args.node c.args.base c.args.floor (λ place below. c.loop-place.invariant place (omega arith))
+returns g c = λ _ k below. let past = c.loop-place-test.false in c.loop-place.invariant k (omega arith)
