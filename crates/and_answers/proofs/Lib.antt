@@ -2,6 +2,7 @@ mod BesideLemmas
 mod LineLemmas
 mod TailLemmas
 mod CompareLemmas
+pub mod AlikeLemmas
 mod PieceLemmas
 mod RunLemmas
 mod MergeLemmas

@@ -3,7 +3,8 @@ use Rattle.std.proofs.Common.{◌≡◌, ◌≢◌, ◌≤◌, ℕ, zero, suc, L
 use Rattle.std.proofs.Common.{arith}
 use Rattle.std.proofs.lemmas.List.{take-append-drop}
 use Rattle.and_answers.specs.Tails.{MayFollow}
-use Rattle.and_answers.specs.Pieces.{code_behind, codes_from, last_from, IsInPlace, AreInPlace, HasFrom}
+use Rattle.std.specs.Prelude.{Option, Some, None}
+use Rattle.and_answers.specs.Pieces.{code_behind, codes_from, last_from, IsInPlace, AreInPlace, HasFrom, IsLastOf}
 use Rattle.and_answers.specs.declared.piece.Piece.{Piece}
 
 -- ---- one piece more
@@ -64,6 +65,11 @@ pub last_joined : (last : List ℕ) (ps qs : List Piece) → AreInPlace [] qs �
 last_joined last [] [] are some = absurd (some refl)
 last_joined last [] (q ∷ qs) are some = ap (λ c. last_from c qs) (code_anew last q are.0)
 last_joined last (p ∷ ps) qs are some = last_joined (code_behind last p) ps qs are some
+
+pub last_of_both : (last : Option (List ℕ)) (ps qs all : List Piece) → all ≡ ps ++ qs → AreInPlace [] qs → qs ≢ [] → IsLastOf qs last
+    → IsLastOf all last
+last_of_both None ps qs all is are some l = tt
+last_of_both (Some code) ps qs all is are some l = l ∙ sym (last_joined [] ps qs are some) ∙ ap (last_from []) (sym is)
 
 pub places_joined : (last : List ℕ) (ps qs : List Piece) → AreInPlace last ps → AreInPlace [] qs → AreInPlace last (ps ++ qs)
 places_joined last [] [] are others = tt

@@ -31,6 +31,11 @@ last_code [] = None
 last_code (e ∷ []) = Some e.code
 last_code (e ∷ d ∷ es) = last_code (d ∷ es)
 
+-- the code of the last of these; and this one, where there are none
+abbrev pub last_code_or : List ℕ → List Listing.Entry → List ℕ
+last_code_or code [] = code
+last_code_or code (e ∷ es) = last_code_or e.code es
+
 -- how a run with this cut and these counts ended, as far as it is told
 abbrev pub finish_with : Option Cut → ℕ → ℕ → Bool → Finish
 finish_with (Some cut) forks failed stats = limit_met

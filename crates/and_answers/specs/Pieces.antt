@@ -1,5 +1,5 @@
 -- Codes that are kept as what each has behind the one before it.
-use Rattle.std.specs.Prelude.{ℕ, ◌≡◌, ◌≢◌, ◌≤◌, List, [], ◌∷◌, ◌++◌, length, take, drop}
+use Rattle.std.specs.Prelude.{ℕ, ◌≡◌, ◌≢◌, ◌≤◌, List, [], ◌∷◌, ◌++◌, length, take, drop, Option, Some, None}
 use Rattle.and_answers.specs.Tails.{MayFollow}
 use Rattle.and_answers.specs.declared.piece.Piece.{Piece}
 
@@ -16,6 +16,16 @@ codes_from last (piece ∷ pieces) = code_behind last piece ∷ codes_from (code
 abbrev pub last_from : List ℕ → List Piece → List ℕ
 last_from last [] = last
 last_from last (piece ∷ pieces) = last_from (code_behind last piece) pieces
+
+-- the last of these codes; and this one, where there are none
+abbrev pub last_or : List ℕ → List (List ℕ) → List ℕ
+last_or code [] = code
+last_or code (c ∷ codes) = last_or c codes
+
+-- The last of the pieces' codes is there, if any is.
+abbrev pub IsLastOf : List Piece → Option (List ℕ) → Type 0
+IsLastOf pieces None = Unit {0}
+IsLastOf pieces (Some code) = code ≡ last_from [] pieces
 
 -- What a piece has from the code before it is there, and where it has some its code comes no sooner than that.
 pub record IsInPlace (last : List ℕ) (piece : Piece) : Type 0 where

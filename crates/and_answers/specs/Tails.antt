@@ -20,3 +20,9 @@ pub record HaveInCommon (one other : List ℕ) (count : ℕ) : Type 0 where
   pub within_other : count ≤ length other
   pub same : take count one ≡ take count other
   pub parted : ArePartedAtOnce (drop count one) (drop count other)
+
+-- The first so many items of two lists are the same.
+pub record BeginAlike (one other : List ℕ) (count : ℕ) : Type 0 where
+  pub within_one : count ≤ length one
+  pub within_other : count ≤ length other
+  pub same : take count one ≡ take count other

@@ -32,8 +32,9 @@ impl Model for Coded {
 
 impl Coded {
     ghost use Rattle.std.specs.Option.{option_or};
-    ghost use Rattle.and_answers.specs.Kept.{listed, outcome_with, total, SameEnd, Merges};
+    ghost use Rattle.and_answers.specs.Kept.{last_code_or, listed, outcome_with, total, SameEnd, Merges};
     ghost use Rattle.and_answers.specs.Order.{HasDistinctCodes, InOrder};
+    ghost use Rattle.and_answers.specs.Tails.{BeginAlike};
 
     /// Nothing was found yet. Takes no memory.
     pub fn new(alloc: Global) -> Coded
@@ -46,20 +47,28 @@ impl Coded {
         }
     }
 
-    /// Puts an entry of this code, line and outcome behind the others. An error is want of memory.
-    pub fn add(&mut self, code: Code, line: Text, floundered: bool) -> Result<(), AllocError>
+    /// Puts an entry of this code, line and outcome behind the others. It has so many first clauses from the code of
+    /// the last entry, as far as that is known: from there on they are compared. An error is want of memory.
+    pub fn add(
+        &mut self,
+        common: usize,
+        code: &Code,
+        line: Text,
+        floundered: bool,
+    ) -> Result<(), AllocError>
+        requires { BeginAlike (last_code_or [] (listed self.old)) code.now common }
         ensures ok { OnOk result (listed self.new
-            ≡ listed self.old ++ record { code = code; outcome = outcome_with floundered line } ∷ []) }
+            ≡ listed self.old ++ record { code = code.now; outcome = outcome_with floundered line } ∷ []) }
         ensures end { SameEnd self.old self.new }
         ensures unchanged { OnErr result (listed self.new ≡ listed self.old) }
     {
         let entry = Entry {
-            code: Snapshot::of(&code),
+            code: Snapshot::of(code),
             line,
             floundered,
         };
         self.found.entries.reserve(1)?;
-        self.codes.push(code)?;
+        self.codes.push(common, code)?;
         self.found.entries.push(entry)?;
         Ok(())
     }

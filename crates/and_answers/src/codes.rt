@@ -1,9 +1,10 @@
 //! Codes, each kept as what it has behind the one before it.
 
 ghost use Rattle.std.specs.Prelude.{◌≡◌, [], ◌∷◌, ◌++◌, OnOk, OnErr, IfOk};
-ghost use Rattle.and_answers.specs.Pieces.{HasFrom, IsInPlace, AreInPlace, code_behind, codes_from};
+ghost use Rattle.and_answers.specs.Pieces.{HasFrom, IsInPlace, AreInPlace, code_behind, codes_from, last_or};
+ghost use Rattle.and_answers.specs.Tails.{BeginAlike};
 
-use crate::comparing::{behind, in_common, is_no_sooner};
+use crate::comparing::{all_in_common, behind, is_no_sooner, push_behind};
 use crate::piece::Piece;
 use and_model::Code;
 use std::alloc::{AllocError, Global};
@@ -14,18 +15,19 @@ use std::marker::Model;
 #[derive(Drop)]
 pub struct CodeList {
     pieces: Vec<Piece>,
-    last: Code,
+    /// The last code, and the empty one where there is none; `None` after want of memory.
+    last: Option<Code>,
 }
 
 impl Model for CodeList {
-    ghost use Rattle.std.specs.Prelude.{◌≡◌, ℕ, List, []};
-    ghost use Rattle.and_answers.specs.Pieces.{codes_from, last_from, AreInPlace};
+    ghost use Rattle.std.specs.Prelude.{ℕ, List, []};
+    ghost use Rattle.and_answers.specs.Pieces.{codes_from, AreInPlace, IsLastOf};
 
     ghost Value = { List (List ℕ) };
 
     ghost view = { λ list. codes_from [] list.pieces.items };
 
-    ghost invariant = { λ list. (list.last ≡ last_from [] list.pieces.items) × AreInPlace [] list.pieces.items };
+    ghost invariant = { λ list. IsLastOf list.pieces.items list.last × AreInPlace [] list.pieces.items };
 }
 
 impl CodeList {
@@ -35,18 +37,25 @@ impl CodeList {
     {
         CodeList {
             pieces: Vec::new(alloc),
-            last: Code::new(alloc),
+            last: Some(Code::new(alloc)),
         }
     }
 
-    /// Puts a code behind the others. An error is want of memory.
-    pub fn push(&mut self, code: Code) -> Result<(), AllocError>
-        ensures ok { OnOk result (self.new ≡ self.old ++ code ∷ []) }
+    /// Puts a code behind the others, of which it has so many clauses from the last one. An error is want of memory;
+    /// no code can be put there then.
+    pub fn push(&mut self, common: usize, code: &Code) -> Result<(), AllocError>
+        requires { BeginAlike (last_or [] self.old) code.now common }
+        ensures ok { OnOk result (self.new ≡ self.old ++ code.now ∷ []) }
         ensures unchanged { OnErr result (self.new ≡ self.old) }
     {
-        let piece = piece_behind(*self.pieces.allocator(), &self.last, &code)?;
+        let Some(last) = self.last.take() else {
+            return Err(AllocError);
+        };
+        let common = had_from(&last, common, code);
+        let piece = piece_behind(*self.pieces.allocator(), &last, common, code)?;
+        let told = told_on(last, common, code)?;
         self.pieces.push(piece)?;
-        self.last = code;
+        self.last = Some(told);
         Ok(())
     }
 
@@ -79,24 +88,36 @@ impl CodeList {
     }
 }
 
-/// What a code has behind another one. An error is want of memory.
-fn piece_behind(alloc: Global, last: &Code, code: &Code) -> Result<Piece, AllocError>
-    ensures code { IfOk result (λ piece. code_behind last.now piece ≡ code.now) }
-    ensures place { IfOk result (λ piece. IsInPlace last.now piece) }
-{
-    let common = had_from(last, code);
-    let rest = behind(alloc, code, common)?;
-    Ok(Piece { common, rest })
-}
-
-/// How many clauses a code is to have from another one: as many as they have in common, and none where it comes
-/// sooner. Takes no memory.
-fn had_from(last: &Code, code: &Code) -> usize
+/// How many clauses a code is to have from another one: as many as they have in common, which are so many at least; and
+/// none where it comes sooner. Takes no memory.
+fn had_from(last: &Code, common: usize, code: &Code) -> usize
+    requires { BeginAlike last.now code.now common }
     ensures { HasFrom last.now code.now result }
 {
-    let common = in_common(last, 0, code, 0);
+    let common = all_in_common(last, code, common);
     if is_no_sooner(last, common, code, common) {
         return common;
     }
     0
+}
+
+/// What a code has behind another one, from which it has so many clauses. An error is want of memory.
+fn piece_behind(alloc: Global, last: &Code, common: usize, code: &Code) -> Result<Piece, AllocError>
+    requires { HasFrom last.now code.now common }
+    ensures code { IfOk result (λ piece. code_behind last.now piece ≡ code.now) }
+    ensures place { IfOk result (λ piece. IsInPlace last.now piece) }
+{
+    let rest = behind(alloc, code, common)?;
+    Ok(Piece { common, rest })
+}
+
+/// A code, made of another one, from which it has so many clauses. An error is want of memory.
+fn told_on(last: Code, common: usize, code: &Code) -> Result<Code, AllocError>
+    requires { HasFrom last code.now common }
+    ensures { IfOk result (λ told. told ≡ code.now) }
+{
+    let mut told = last;
+    told.truncate(common);
+    push_behind(&mut told, code, common)?;
+    Ok(told)
 }

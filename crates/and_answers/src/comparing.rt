@@ -1,7 +1,7 @@
 //! How codes are told apart.
 
-ghost use Rattle.std.specs.Prelude.{◌≡◌, ◌+◌, ◌<◌, ◌≤◌, ◌^◌, true, false, length, drop, IfOk};
-ghost use Rattle.and_answers.specs.Tails.{MayFollow, ArePartedAtOnce, HaveInCommon};
+ghost use Rattle.std.specs.Prelude.{◌≡◌, ◌+◌, ◌<◌, ◌≤◌, ◌^◌, ◌++◌, true, false, length, drop, IfOk, OnOk};
+ghost use Rattle.and_answers.specs.Tails.{BeginAlike, MayFollow, ArePartedAtOnce, HaveInCommon};
 
 use and_model::Code;
 use std::alloc::{AllocError, Global};
@@ -22,6 +22,16 @@ pub(crate) fn in_common(one: &Code, one_from: usize, other: &Code, other_from: u
         }
     }
     most
+}
+
+/// How many clauses two codes have in common, which are so many at least. Takes no memory.
+pub(crate) fn all_in_common(one: &Code, other: &Code, common: usize) -> usize
+    requires { BeginAlike one.now other.now common }
+    ensures { HaveInCommon one.now other.now result }
+{
+    // (So many fit a word. This says so to what follows.)
+    let _most = one.len();
+    common + in_common(one, common, other, common)
 }
 
 /// Of two codes that part at these places, whether the second comes no sooner than the first. Takes no memory.
@@ -47,9 +57,20 @@ pub(crate) fn behind(alloc: Global, code: &Code, from: usize) -> Result<Code, Al
     ensures rest { IfOk result (λ rest. rest ≡ drop from code.now) }
     ensures fits { IfOk result (λ rest. from + length rest < 2 ^ 64) }
 {
+    // (So many fit a word, too.)
+    let _most = code.len();
     let mut rest = Code::new(alloc);
-    for place in from..code.len() {
-        rest.push(*code.at(place))?;
-    }
+    push_behind(&mut rest, code, from)?;
     Ok(rest)
+}
+
+/// Puts the clauses of a code from a place on behind those of another one. An error is want of memory.
+pub(crate) fn push_behind(short: &mut Code, code: &Code, from: usize) -> Result<(), AllocError>
+    requires { from ≤ length code.now }
+    ensures { OnOk result (short.new ≡ short.old ++ drop from code.now) }
+{
+    for place in from..code.len() {
+        short.push(*code.at(place))?;
+    }
+    Ok(())
 }

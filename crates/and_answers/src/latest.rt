@@ -99,14 +99,6 @@ impl Latest {
         }
     }
 
-    /// What was found, without the code. Takes no memory.
-    pub fn into_found(self) -> Found
-        ensures { result ≡ self }
-    {
-        let Latest { found, code: _ } = self;
-        found
-    }
-
     /// What was found, and the code of the last entry. Takes no memory.
     pub fn into_parts(self) -> (Found, Option<Code>)
         ensures found { result.0 ≡ self }

@@ -157,6 +157,27 @@ impl<N: Naming> Branch<N> {
         told.tell_on(alloc, loaded, &self.reductions, None, &mut code)?;
         Ok(code)
     }
+
+    /// Tells the key of a branch whose state is an answer, or floundered, on to its end, so that it is the code. The
+    /// key was told so far. An error is want of memory.
+    pub fn tell_code(
+        &mut self,
+        alloc: Global,
+        loaded: &Loaded,
+        told: Told,
+    ) -> Result<(), AllocError>
+        requires program { N.program ≡ named loaded.now }
+        requires branch { IsBranch N.program self.old }
+        requires told { IsTold N.program.program self.old.reductions told self.old.key }
+        ensures same { OnOk result (self.new ≡ record self.old { key = self.new.key }) }
+        ensures begins { OnOk result (IsPrefix (take told.length self.old.key) self.new.key) }
+        ensures code { OnOk result ((t : QueryTree N.program.program) → IsBranchOf N.program self.old t → IsWhole t
+            → self.new.key ≡ trees.code t) }
+    {
+        let mut told = told;
+        told.tell_on(alloc, loaded, &self.reductions, None, &mut self.key)?;
+        Ok(())
+    }
 }
 
 impl<N: Naming> Choicepoint<N> {

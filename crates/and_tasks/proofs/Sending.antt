@@ -139,7 +139,10 @@ module _ (N : RattleType) (g : Ghosts N.Denot) (sent : IsSend N) where
           pass_send _ placed_send,
           (
             coded_send,
-            (Vec-send _ task_send, (search (sendable, branch_send) depth 20, (workspace_send, (number, tt)))),
+            (
+              Vec-send _ task_send,
+              (search (sendable, branch_send) depth 20, (search sendable depth 20, (workspace_send, (number, tt)))),
+            ),
           ),
         ),
       )

@@ -71,10 +71,10 @@ module _ (P : NamedProgram) (f g : Fork) (b : Held) (u t : Told) (is : IsChild P
       subst (λ (key : List ℕ). IsToldTo P.program b.reductions (left_of t) key) (whole ∙ sym key_told)
       (subst (λ (vs : List Visits.Visit). IsToldTo P.program b.reductions vs (take u.length f.longer)) (sym left) all)
 
-  module _ {N : Type 0} (l : Level N) (point : l.point ≡ f) (xs : List (Task N)) where
+  module _ {N : Type 0} (l : Level N) (point : l.point ≡ f) (common : ℕ) (xs : List (Task N)) where
     -- The last child goes on on the stack below the fork.
     pub last_served : KeepsBack f.parent b → AreServed (Some (forked l)) xs
-        → AreServed (Some (as_told {N = N} (record { branch = b; told = t }))) xs
+        → AreServed (Some (as_told {N = N} (record { branch = b; told = t; common = common }))) xs
     last_served keeps s =
         served_on (at_fork f) (record b { key = take t.length b.key }) (λ m x. record {
           back = back_keyed m.point.parent b (take t.length b.key) (keeps.again m.point.parent (back_unkeyed m.point.parent f.parent f.longer x.back));
@@ -83,7 +83,7 @@ module _ (P : NamedProgram) (f g : Fork) (b : Held) (u t : Told) (is : IsChild P
 
     -- Another one goes on above the fork, with those that come behind it.
     pub child_served : (m : Level N) → m.point ≡ g → GoesBack f.parent b → AreServed (Some (forked l)) xs
-        → AreServed (Some (as_told {N = N} (record { branch = b; told = t }))) (xs ++ Children m ∷ [])
+        → AreServed (Some (as_told {N = N} (record { branch = b; told = t; common = common }))) (xs ++ Children m ∷ [])
     child_served m next back s =
         let hand : Held = record b { key = take t.length b.key } in
         let parent : m.point.parent ≡ f.parent = ap (λ (h : Fork). h.parent) next ∙ is.parent in

@@ -1,9 +1,8 @@
 -- How a team goes on with one of its branches, by what the state of the branch is.
-use Rattle.std.proofs.Common.{ℕ, ◌+◌, ◌^◌, ◌≡◌, ◌<◌, ◌≤◌, Bool, true, false, true≢false, ◌||◌, List, [], ◌∷◌, ◌++◌, length, Vec}
+use Rattle.std.proofs.Common.{ℕ, ◌+◌, ◌^◌, ◌≡◌, ◌<◌, ◌≤◌, Bool, true, false, ◌||◌, List, [], ◌∷◌, ◌++◌, length, Vec}
 use Rattle.std.proofs.Common.{append-nil, refl, sym, ap, ◌∙◌, subst, arith}
 use Rattle.std.specs.declared.alloc.Global.{Global}
 use Rattle.std.specs.Prelude.{flat_map, Option, Some, Result, Ok, Err, OnOk, OnErr}
-use Rattle.std.specs.Result.{is_err}
 use Rattle.std.specs.Option.{option_or}
 use Rattle.std.proofs.Math.Bool.{or-false, or-true}
 use Rattle.std.proofs.lemmas.Result.{on_ok_weaker}
@@ -64,15 +63,6 @@ few_clauses P l same =
     let mapped = length-map l.clauses.items (entry_clause (shapes_of l.nodes.items)) in
     let few = l.kept.few_clauses in
     omega (arith, whole, mapped, few)
-
--- what a call ensures that went well
-pub went_well : {T E A : Type 0} (r : Result T E) → is_err r ≡ false → OnOk r A → A
-went_well (Ok t) e h = h
-went_well (Err x) e h = absurd (true≢false e)
-
-pub went_ill : {T E A : Type 0} (r : Result T E) → is_err r ≡ true → OnErr r A → A
-went_ill (Ok t) e h = absurd (true≢false (sym e))
-went_ill (Err x) e h = h
 
 module _ (P : NamedProgram) where
   -- The key of a branch that is split begins those of its children.

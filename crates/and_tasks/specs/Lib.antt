@@ -1,3 +1,4 @@
 pub mod Placed
 pub mod Working
 pub mod Copying
+pub mod Props

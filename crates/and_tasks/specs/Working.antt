@@ -11,7 +11,8 @@ use Rattle.and_code.specs.Telling.{IsTold}
 use Rattle.and_histories.specs.PlainTree.{Key, State, opening, children, left_of}
 use Rattle.and_histories.specs.Histories.{Carries, calls}
 use Rattle.and_tree.specs.Passes.{TreeId, PassSeen, tally_of}
-use Rattle.and_answers.specs.Kept.{listed}
+use Rattle.and_answers.specs.Kept.{last_code_or, listed}
+use Rattle.and_answers.specs.Tails.{BeginAlike}
 use Rattle.and_answers.specs.declared.found.Found.{Found}
 use Rattle.and_search_laws.specs.Found.{kept_count}
 use Rattle.and_search_laws.specs.Ended.{IsEndSoFar}
@@ -107,6 +108,19 @@ AreServed left (One b ∷ xs) = AreServed left xs
 AreServed left (Children l ∷ xs) = IsServed l (above left xs) × AreServed left xs
 AreServed left (Left b ∷ xs) = AreServed left xs
 
+-- ---- what the next answer has from the last one
+
+-- So many first clauses of a key are those of the code of the last entry.
+abbrev pub Shares : Found → ℕ → List ℕ → Type 0
+Shares found common key = BeginAlike (last_code_or [] (listed found)) key common
+
+-- So it is with the key of what is left of a branch, if anything is.
+abbrev pub LeftShares : Found → ℕ → Option Held → Type 0
+LeftShares found common None = Unit {0}
+LeftShares found common (Some b) = Shares found common b.key
+
+-- ---- a team at work
+
 -- The forks of the stack are served, on top of which stands what is left of a branch, if anything is.
 pub record IsAtWork {N : Type 0} (P : NamedProgram) (tree : TreeId) (pass : PassSeen) (found : Found)
     (stack : List (Task N)) (left : Option Held)
@@ -118,13 +132,15 @@ pub record IsAtWork {N : Type 0} (P : NamedProgram) (tree : TreeId) (pass : Pass
 abbrev pub as_told : {N : Type 0} → Hand N → Held
 as_told h = record h.branch { key = take h.told.length h.branch.key }
 
--- The branch in hand is to be explored next, and what is left of it will serve the stack.
+-- The branch in hand is to be explored next, and what is left of it will serve the stack. As much of its key as is told
+-- begins as the code of the last entry does.
 pub record IsReady {N : Type 0} (P : NamedProgram) (tree : TreeId) (pass : PassSeen) (found : Found)
     (stack : List (Task N)) (h : Hand N)
     : Type 0 where
   pub works : Works P tree pass found (One h.branch ∷ stack)
   pub told : IsTold P.program h.branch.reductions h.told h.branch.key
   pub served : AreServed (Some (as_told h)) stack
+  pub shares : Shares found h.common (as_told h).key
 
 -- At the end of what the pass has seen no key is left.
 pub record SeesNone (pass : PassSeen) : Type 0 where

@@ -22,11 +22,13 @@ use and_program::Loaded;
 use std::alloc::{AllocError, Global};
 use std::snapshot::Snapshot;
 
-/// A branch that is to be explored, and how far its key is told.
+/// A branch that is to be explored, how far its key is told, and how many clauses of that are the first of the last
+/// answer's code too, as far as the team knows.
 #[derive(Drop)]
 pub struct Hand<N: Naming> {
     pub branch: Branch<N>,
     pub told: Told,
+    pub common: usize,
 }
 
 /// A fork some of whose children are still to come. Each is made of what is left of a branch above it.

@@ -9,17 +9,20 @@ ghost use Rattle.and_model.specs.Listing.{Outcome, Ends};
 ghost use Rattle.and_cells.specs.Parts.{named};
 ghost use Rattle.and_clause_index.specs.Tables.{IsTableOf};
 ghost use Rattle.and_branch_laws.specs.States.{StateOf, fork};
-ghost use Rattle.and_branch.specs.Branches.{IsBranchOf};
+ghost use Rattle.and_model.specs.Prefixes.{IsPrefix};
+ghost use Rattle.and_branch.specs.Branches.{IsBranch, IsBranchOf};
 ghost use Rattle.and_branch.specs.Children.{AreChildren};
 ghost use Rattle.and_branch.specs.Ended.{HasEnded};
 ghost use Rattle.and_branch.specs.Origins.{GoesBack};
 ghost use Rattle.and_code.specs.Telling.{IsTold};
 ghost use Rattle.and_branch.specs.States.{IsState, IsAtRest, IsCutOf};
-ghost use Rattle.and_answers.specs.Kept.{SameEnd, listed};
+ghost use Rattle.and_answers.specs.Kept.{SameEnd, last_code_or, listed};
 ghost use Rattle.and_histories.specs.PlainTree.{Key, Owns, children};
 ghost use Rattle.and_search_laws.specs.Ended.{EndsSo};
 ghost use Rattle.and_team_laws.specs.Owed.{SameItems};
-ghost use Rattle.and_tasks.specs.Working.{AreServed, Has, IsAtWork, IsReady, Serves, Works, at_fork, forked};
+ghost use Rattle.and_tasks.specs.Working.{AreServed, Has, IsAtWork, IsReady, LeftShares, Serves, Shares, Works};
+ghost use Rattle.and_tasks.specs.Working.{as_told, at_fork, forked};
+ghost use Rattle.and_tasks.specs.Props.{left_shares-prop};
 ghost use Rattle.and_tasks.specs.declared.team.TheConstants.{MOST_TASKS};
 
 use crate::placed::{PlacedBranch, PlacedFork};
@@ -71,10 +74,13 @@ pub struct Team<N: Naming> {
     pub stack: Vec<Task<N>>,
     /// What is left of a branch that has ended: the next child of the fork on top of the stack is made of it.
     pub left: Option<Branch<N>>,
+    /// How many first clauses of its key are those of the last answer's code too, as far as the team knows.
+    pub common: usize,
     pub workspace: Workspace,
     /// How many words it set up since it last copied a row.
     pub(crate) worked: u32,
     ghost number_is: { pass.team ≡ number },
+    ghost left_shares: { LeftShares found common left } by { left_shares-prop found common left },
 }
 
 impl<N: Naming> Team<N> {
@@ -91,6 +97,7 @@ impl<N: Naming> Team<N> {
             found: Coded::new(alloc),
             stack: Vec::new(alloc),
             left: None,
+            common: 0,
             workspace: Workspace::new(alloc),
             worked: 0,
         }
@@ -106,6 +113,7 @@ impl<N: Naming> Team<N> {
             found,
             stack,
             left,
+            common: _,
             workspace,
             worked: _,
         } = self;
@@ -131,7 +139,11 @@ impl<N: Naming> Team<N> {
         ensures given_up { OnErr result (Has N.program shared.now.tree.now self.new.pass self.new.stack.items) }
         ensures same { self.new.number ≡ self.old.number }
     {
-        let Hand { branch, told } = hand;
+        let Hand {
+            branch,
+            told,
+            common: _,
+        } = hand;
         drop(told);
         if self.stack.len() == 0 {
             return Ok(branch);
@@ -163,7 +175,11 @@ impl<N: Naming> Team<N> {
             (IsAtWork N.program shared.now.tree.now self.new.pass self.new.found self.new.stack.items self.new.left) }
         ensures same { self.new.number ≡ self.old.number }
     {
-        let Hand { branch, told } = hand;
+        let Hand {
+            branch,
+            told,
+            common,
+        } = hand;
         let mut branch = branch;
         let before = branch.weight();
         let advanced = branch.advance_to_state(
@@ -174,7 +190,15 @@ impl<N: Naming> Team<N> {
         );
         self.note_work(before, branch.weight());
         match advanced {
-            Ok(state) => self.go_by(shared, Hand { branch, told }, state),
+            Ok(state) => self.go_by(
+                shared,
+                Hand {
+                    branch,
+                    told,
+                    common,
+                },
+                state,
+            ),
             Err(AllocError) => {
                 shared
                     .tree
@@ -232,6 +256,7 @@ impl<N: Naming> Team<N> {
             (Task.Children level ∷ self.old.stack.items) }
         requires left { Serves level left }
         requires served { AreServed (Some (forked level)) self.old.stack.items }
+        requires shares { Shares self.old.found self.old.common left.key }
         requires one { length level.point.clauses ≡ 1 }
         ensures ready { IfOk result
             (IsReady N.program shared.now.tree.now self.new.pass self.new.found self.new.stack.items) }
@@ -244,8 +269,13 @@ impl<N: Naming> Team<N> {
             longer,
         } = level;
         let clause = point.clause_left(0);
+        let common = lesser(self.common, told.length);
         match point.into_last(shared.loaded, left, &mut self.workspace) {
-            Ok(branch) => Ok(Hand { branch, told }),
+            Ok(branch) => Ok(Hand {
+                branch,
+                told,
+                common,
+            }),
             Err(AllocError) => {
                 shared.tree.give_up_child(&mut self.pass, &longer, clause);
                 drop(told);
@@ -266,6 +296,7 @@ impl<N: Naming> Team<N> {
             (Task.Children level ∷ self.old.stack.items) }
         requires left { Serves level left }
         requires served { AreServed (Some (forked level)) self.old.stack.items }
+        requires shares { Shares self.old.found self.old.common left.key }
         requires more { length level.point.clauses ≢ 1 }
         ensures ready { IfOk result
             (IsReady N.program shared.now.tree.now self.new.pass self.new.found self.new.stack.items) }
@@ -278,6 +309,7 @@ impl<N: Naming> Team<N> {
             drop(left);
             return Err(AllocError);
         };
+        let common = lesser(self.common, level.told.length);
         let mut level = level;
         let Ok(branch) = level.next(shared.loaded, left, &mut self.workspace) else {
             self.give_up_children(shared, &level);
@@ -286,7 +318,11 @@ impl<N: Naming> Team<N> {
             return Err(AllocError);
         };
         match self.put(shared, Task::Children(level)) {
-            Ok(()) => Ok(Hand { branch, told }),
+            Ok(()) => Ok(Hand {
+                branch,
+                told,
+                common,
+            }),
             Err(AllocError) => {
                 shared
                     .tree
@@ -320,19 +356,29 @@ impl<N: Naming> Team<N> {
             BranchState::Answer => self.tell(shared, hand, false),
             BranchState::Floundered => self.tell(shared, hand, true),
             BranchState::Failed => {
-                let Hand { branch, told } = hand;
+                let Hand {
+                    branch,
+                    told,
+                    common,
+                } = hand;
                 drop(told);
                 self.found.count_failed();
                 shared.tree.retire(&mut self.pass, branch.key());
                 self.left = Some(branch);
+                self.common = common;
                 Ok(())
             }
             BranchState::OverLimit(cut) => {
-                let Hand { branch, told } = hand;
+                let Hand {
+                    branch,
+                    told,
+                    common,
+                } = hand;
                 drop(told);
                 self.found.keep_cut(Some(cut));
                 shared.tree.retire(&mut self.pass, branch.key());
                 self.left = Some(branch);
+                self.common = common;
                 Ok(())
             }
         }
@@ -356,7 +402,11 @@ impl<N: Naming> Team<N> {
             (IsAtWork N.program shared.now.tree.now self.new.pass self.new.found self.new.stack.items self.new.left) }
         ensures same { self.new.number ≡ self.old.number }
     {
-        let Hand { branch, told } = hand;
+        let Hand {
+            branch,
+            told,
+            common,
+        } = hand;
         let key = Snapshot::of(branch.key());
         if self.stack.len() >= MOST_TASKS {
             shared.tree.give_up(&mut self.pass, &key);
@@ -369,7 +419,7 @@ impl<N: Naming> Team<N> {
         let mut told = told;
         match branch.fork(shared.alloc, shared.loaded, goal, clauses, &mut told) {
             Ok(forked) => {
-                self.replace(shared, forked, told, cut)?;
+                self.replace(shared, forked, told, cut, common)?;
                 self.hand_on(shared, words)
             }
             Err(AllocError) => {
@@ -387,6 +437,7 @@ impl<N: Naming> Team<N> {
         forked: Forked<N>,
         told: Told,
         cut: Option<Cut>,
+        common: usize,
     ) -> Result<(), AllocError>
         requires program { N.program ≡ named shared.now.loaded.now }
         requires works { Works N.program shared.now.tree.now self.old.pass self.old.found
@@ -401,6 +452,7 @@ impl<N: Naming> Team<N> {
         requires left { GoesBack forked.choicepoint.parent forked.left }
         requires key { forked.left.key ≡ forked.choicepoint.longer }
         requires served { AreServed (Some (at_fork forked.choicepoint)) self.old.stack.items }
+        requires shares { Shares self.old.found common forked.left.key }
         ensures has { Has N.program shared.now.tree.now self.new.pass self.new.stack.items }
         ensures at_work { OnOk result
             (IsAtWork N.program shared.now.tree.now self.new.pass self.new.found self.new.stack.items self.new.left) }
@@ -415,6 +467,7 @@ impl<N: Naming> Team<N> {
         let PlacedFork { point } = placed;
         let level = Level::new(point, told, longer);
         self.left = Some(left);
+        self.common = common;
         self.put(shared, Task::Children(level))
     }
 
@@ -435,42 +488,49 @@ impl<N: Naming> Team<N> {
             (IsAtWork N.program shared.now.tree.now self.new.pass self.new.found self.new.stack.items self.new.left) }
         ensures same { self.new.number ≡ self.old.number }
     {
-        let Hand { branch, told } = hand;
-        if self.add(shared, &branch, told, floundered).is_err() {
-            shared
-                .tree
-                .give_up(&mut self.pass, &Snapshot::of(branch.key()));
-            drop(branch);
-            return Err(AllocError);
-        }
-        shared.tree.answer(&mut self.pass, branch.key());
+        shared.tree.answer(&mut self.pass, hand.branch.key());
+        self.left = None;
+        let branch = self.add(shared, hand, floundered)?;
         shared.gate.found(self.number);
+        self.common = branch.key().len();
         self.left = Some(branch);
         Ok(())
     }
 
-    /// Adds the entry of a branch. An error is want of memory.
+    /// Adds the entry of a branch, whose key is then the code: what is left of it. An error is want of memory.
     fn add<G: Gate>(
         &mut self,
         shared: &Shared<N, G>,
-        branch: &Branch<N>,
-        told: Told,
+        hand: Hand<N>,
         floundered: bool,
-    ) -> Result<(), AllocError>
+    ) -> Result<Branch<N>, AllocError>
         requires program { N.program ≡ named shared.now.loaded.now }
-        requires told { IsTold N.program.program branch.now.reductions told branch.now.key }
-        requires ended { HasEnded N.program branch.now }
-        ensures entries { OnOk result ((t : QueryTree N.program.program) → IsBranchOf N.program branch.now t
-            → EndsSo N.program branch.now t floundered → (outcome : Outcome) × Ends t outcome
+        requires branch { IsBranch N.program hand.branch }
+        requires told { IsTold N.program.program hand.branch.reductions hand.told hand.branch.key }
+        requires ended { HasEnded N.program hand.branch }
+        requires shares { Shares self.old.found hand.common (as_told hand).key }
+        requires none { self.old.left ≡ None }
+        ensures entries { OnOk result ((t : QueryTree N.program.program) → IsBranchOf N.program hand.branch t
+            → EndsSo N.program hand.branch t floundered → (outcome : Outcome) × Ends t outcome
             × (listed self.new.found ≡ listed self.old.found
             ++ record { code = trees.code t; outcome = outcome } ∷ [])) }
         ensures end { SameEnd self.old.found self.new.found }
+        ensures left { IfOk result (λ left. (left ≡ record hand.branch { key = left.key })
+            × IsPrefix (as_told hand).key left.key) }
+        ensures last { IfOk result (λ left. last_code_or [] (listed self.new.found) ≡ left.key) }
         ensures same { (self.new.number ≡ self.old.number) × (self.new.pass ≡ self.old.pass)
-            × (self.new.stack ≡ self.old.stack) × (self.new.left ≡ self.old.left) }
+            × (self.new.stack ≡ self.old.stack) × (self.new.left ≡ None) }
     {
-        let code = branch.code_of(shared.alloc, shared.loaded, told)?;
+        let Hand {
+            branch,
+            told,
+            common,
+        } = hand;
         let line = branch.line(shared.alloc, shared.loaded)?;
-        self.found.add(code, line, floundered)
+        let mut branch = branch;
+        branch.tell_code(shared.alloc, shared.loaded, told)?;
+        self.found.add(common, branch.key(), line, floundered)?;
+        Ok(branch)
     }
 
     // ---- want of memory
@@ -552,4 +612,12 @@ impl<N: Naming> Team<N> {
             );
         }
     }
+}
+
+/// The lesser of two numbers.
+fn lesser(one: usize, other: usize) -> usize
+    ensures first { result ≤ one }
+    ensures second { result ≤ other }
+{
+    if one < other { one } else { other }
 }

@@ -18,7 +18,7 @@ fn add(alloc: Global, found: &mut Coded, clause: u16, line: &[u8]) -> Result<(),
     let mut code = Code::new(alloc);
     code.push(ClauseNo(clause))?;
     let line = Text::of(alloc, line)?;
-    found.add(code, line, false)
+    found.add(0, &code, line, false)
 }
 
 /// What was found in two parts and merged, out of order.

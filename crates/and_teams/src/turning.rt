@@ -34,7 +34,17 @@ pub(crate) fn turn<N: Naming + Send + Sync, R: Threads + Sync, G: Gate>(
     match team.stack.pop() {
         Some(Task::One(branch)) => {
             let told = untold(shared.alloc, shared.loaded);
-            advance(rt, shared, team, pace, Hand { branch, told })?;
+            advance(
+                rt,
+                shared,
+                team,
+                pace,
+                Hand {
+                    branch,
+                    told,
+                    common: 0,
+                },
+            )?;
             Ok(true)
         }
         Some(Task::Children(level)) => {
@@ -44,6 +54,7 @@ pub(crate) fn turn<N: Naming + Send + Sync, R: Threads + Sync, G: Gate>(
         }
         Some(Task::Left(branch)) => {
             team.left = Some(branch);
+            team.common = 0;
             Ok(true)
         }
         None => Ok(false),
@@ -107,7 +118,15 @@ fn send_off<N: Naming + Send + Sync, R: Threads + Sync, G: Gate>(
         Ok(done) => {
             let Advanced { branch, state } = done;
             let told = untold(shared.alloc, shared.loaded);
-            team.go_by(shared, Hand { branch, told }, state)
+            team.go_by(
+                shared,
+                Hand {
+                    branch,
+                    told,
+                    common: 0,
+                },
+                state,
+            )
         }
         Err(refused) => {
             shared

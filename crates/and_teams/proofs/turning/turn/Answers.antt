@@ -1,6 +1,7 @@
 use Rattle.std.proofs.Common.{◌∙◌, ◌∷◌, ◌++◌, [], List, ap, sym, subst}
 use Rattle.and_cells.specs.Ranges.{NamedProgram}
 use Rattle.and_code.specs.Telling.{IsTold}
+use Rattle.and_answers.proofs.AlikeLemmas.{none_alike}
 use Rattle.and_tasks.specs.Working.{IsAtWork}
 use Rattle.and_tasks.specs.declared.stack.Task.{Task}
 use Rattle.and_tasks.proofs.Ready.{ready_popped, left_popped}
@@ -31,3 +32,8 @@ returns-in-Some-Left-clause-at_work g c =
 
 pub returns-in-Some-Left-clause-has : goal.returns-in-Some-Left-clause-has
 returns-in-Some-Left-clause-has g c = (returns-in-Some-Left-clause-at_work g c).works.has
+
+pub invariant_of-team-in-Some-Left : goal.invariant_of-team-in-Some-Left
+invariant_of-team-in-Some-Left g c =
+    let s = c.args.team.now in
+    record { number_is = s.number_is; left_shares = none_alike _ _ }

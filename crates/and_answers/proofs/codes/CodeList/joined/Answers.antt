@@ -1,7 +1,7 @@
 use Rattle.std.proofs.Common.{[], ◌≡◌, ◌≢◌, ◌++◌, List, length, ◌∙◌, ap, sym, subst, arith}
-use Rattle.and_answers.specs.Pieces.{codes_from, last_from, AreInPlace}
+use Rattle.and_answers.specs.Pieces.{codes_from, AreInPlace}
 use Rattle.and_answers.specs.declared.piece.Piece.{Piece}
-use Rattle.and_answers.proofs.PieceLemmas.{codes_joined, last_joined, places_joined}
+use Rattle.and_answers.proofs.PieceLemmas.{codes_joined, last_of_both, places_joined}
 use Rattle.and_answers.proofs.codes.CodeList.joined.Goals as goal
 
 pub invariant_of-result-2 : goal.invariant_of-result-2
@@ -13,7 +13,7 @@ invariant_of-result-2 c =
     let is : c.len.result ≡ 0 = omega (arith, long, c.len.ensures, c.other.inside.pieces.ok.0) in
     c.if-len-eq0.false is) in
     let items = c.in_ok-append.ensures.items in (
-      c.other.invariant.0 ∙ sym (last_joined [] ps qs c.other.invariant.1 some) ∙ ap (last_from []) (sym items),
+      last_of_both c.other.inside.last ps qs c.append.new.self.items items c.other.invariant.1 some c.other.invariant.0,
       subst (λ l. AreInPlace [] l) (sym items) (places_joined [] ps qs c.self.invariant.1 c.other.invariant.1),
     )
 

@@ -12,7 +12,7 @@ use Rattle.and_tasks.specs.declared.stack.Level.{Level}
 use Rattle.and_tasks.specs.declared.stack.Task.{Task}
 use Rattle.and_tasks.specs.declared.stack.Task.TheVariants.{One, Children}
 use Rattle.and_tasks.proofs.Having.{all_keys, children_there, key_there, has_ended_under, has_swapped}
-use Rattle.and_tasks.proofs.Ready.{another_parted, another_ready}
+use Rattle.and_tasks.proofs.Ready.{another_parted, another_ready, child_shares}
 use Rattle.and_tasks.proofs.team.Team.another_child.Goals as goal
 
 pub next-requires-clause-children : goal.next-requires-clause-children
@@ -57,9 +57,13 @@ returns-in-Ok-put-clause-ready g c =
     let m : Level g.row.N.Denot = c.next.new.self in
     let b : Held = c.in-Ok-next.branch in
     let t = c.put.new.self in
-    another_ready P tree s.pass s.found t.pass t.found c.args.level m b c.in-Ok.told s.stack.items t.stack.items c.requires.works
+    let common = c.lesser-common in
+    another_ready P tree s.pass s.found t.pass t.found c.args.level m b c.in-Ok.told common.result s.stack.items t.stack.items c.requires.works
     c.in-Ok-next.ensures.child c.requires.more c.next.ensures.same c.in-Ok.ensures.length c.in-Ok.ensures.left c.in-Ok-next.ensures.back
-    c.requires.served c.put.ensures.same.1 c.in-Ok-put.ensures.put
+    c.requires.served
+    (child_shares P tree s.pass s.found c.args.level c.args.left s.stack.items s.common common.result c.requires.works c.requires.left
+    c.requires.shares common.ensures.first common.ensures.second)
+    c.put.ensures.same.1 c.in-Ok-put.ensures.put
 
 pub give_up-requires-clause-tree : goal.give_up-requires-clause-tree
 give_up-requires-clause-tree g c =

@@ -6,7 +6,7 @@ use Rattle.and_tasks.proofs.team.Team.claim.Goals as goal
 pub invariant_of-self : goal.invariant_of-self
 invariant_of-self g c =
     let same = claimed_team _ _ c.args.cell c.in-Open.serial c.look.new.pass c.claim.new.pass c.claim.result c.claim.ensures.taken c.claim.ensures.moved in
-    record { number_is = same ∙ c.look.ensures.team ∙ c.args.self.now.number_is }
+    record { number_is = same ∙ c.look.ensures.team ∙ c.args.self.now.number_is; left_shares = c.args.self.now.left_shares }
 
 pub returns-in-Taken-clause-some : goal.returns-in-Taken-clause-some
 returns-in-Taken-clause-some g c =

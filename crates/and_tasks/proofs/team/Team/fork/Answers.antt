@@ -3,7 +3,7 @@ use Rattle.and_histories.specs.PlainTree as plain
 use Rattle.and_branch.specs.States.{numbers}
 use Rattle.and_tree.specs.Replies.{is_last}
 use Rattle.and_tasks.proofs.Having.{key_there, has_ended_under}
-use Rattle.and_tasks.proofs.Ready.{forked_served, told_fork, back_fork}
+use Rattle.and_tasks.proofs.Ready.{forked_served, forked_shares, told_fork, back_fork}
 use Rattle.and_tasks.proofs.Turns.{fork_there, split_there, works_split}
 use Rattle.and_tasks.proofs.team.Team.fork.Goals as goal
 
@@ -49,6 +49,12 @@ pub replace-requires-clause-served : goal.replace-requires-clause-served
 replace-requires-clause-served g c κs within =
     let s = c.args.self.now in
     forked_served c.args.hand c.in-Ok.forked.choicepoint s.stack.items c.in-Ok.ensures.fork.parent c.in-Ok.ensures.begins c.requires.ready.served
+
+pub replace-requires-clause-shares : goal.replace-requires-clause-shares
+replace-requires-clause-shares g c κs within =
+    let s = c.args.self.now in
+    forked_shares s.found c.args.hand c.in-Ok.forked.choicepoint c.in-Ok.forked.left c.in-Ok.ensures.key c.in-Ok.ensures.begins
+    c.requires.ready.shares
 
 pub give_up-requires-in-Err-clause-hand : goal.give_up-requires-in-Err-clause-hand
 give_up-requires-in-Err-clause-hand g c =

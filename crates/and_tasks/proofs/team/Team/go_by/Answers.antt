@@ -1,10 +1,10 @@
-use Rattle.std.proofs.Common.{refl}
+use Rattle.std.proofs.Common.{◌∙◌, refl}
 use Rattle.and_cells.specs.Ranges.{NamedProgram}
 use Rattle.and_branch.specs.declared.state.BranchState.TheVariants as told
 use Rattle.and_tree.specs.Replies.{is_last}
 use Rattle.and_search_laws.proofs.Telling.{state_told, has_floundered, has_answered}
 use Rattle.and_tasks.proofs.Having.{key_there}
-use Rattle.and_tasks.proofs.Ready.{left_at_work}
+use Rattle.and_tasks.proofs.Ready.{ended_shares, left_at_work}
 use Rattle.and_tasks.proofs.Turns.{failed_works, cut_works}
 use Rattle.and_tasks.proofs.team.Team.go_by.Goals as goal
 
@@ -78,3 +78,21 @@ tell-requires-clause-ended g c κs within =
     let stands = c.requires.ready.works.has.tasks_are.0 in
     let state = state_told P b c.args.state told.Answer c.in-Answer.is c.requires.state in
     has_answered P b c.args.state stands.tree stands.branch c.in-Answer.is (state stands.tree stands.branch) c.requires.at_rest
+
+pub invariant_of-self : goal.invariant_of-self
+invariant_of-self g c =
+    let s = c.args.self.now in
+    let n = c.count_failed in
+    record {
+      number_is = c.retire.ensures.team ∙ s.number_is;
+      left_shares = ended_shares s.found n.new.self c.args.hand n.ensures.rest.1 c.requires.ready.shares;
+    }
+
+pub invariant_of-self-in-OverLimit : goal.invariant_of-self-in-OverLimit
+invariant_of-self-in-OverLimit g c =
+    let s = c.args.self.now in
+    let n = c.keep_cut in
+    record {
+      number_is = c.retire-in-OverLimit.ensures.team ∙ s.number_is;
+      left_shares = ended_shares s.found n.new.self c.args.hand n.ensures.rest c.requires.ready.shares;
+    }

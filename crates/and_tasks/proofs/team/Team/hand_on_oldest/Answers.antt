@@ -47,7 +47,7 @@ invariant_of-self g c =
     let told = c.publish.ensures in
     let same = published_team (λ (x : PlacedBranch g.row.N.Denot). x.branch.key) c.args.cell (record { branch = c.in-Some.branch }) t.pass
     c.publish.new.pass c.publish.result told.done told.not_free told.spent in
-    record { number_is = same ∙ t.number_is }
+    record { number_is = same ∙ t.number_is; left_shares = t.left_shares }
 
 pub returns-in-Done-clause-at_work : goal.returns-in-Done-clause-at_work
 returns-in-Done-clause-at_work g c =

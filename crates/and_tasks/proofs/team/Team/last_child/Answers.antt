@@ -4,7 +4,7 @@ use Rattle.and_cells.specs.Ranges.{NamedProgram}
 use Rattle.and_histories.specs.PlainTree.{Key}
 use Rattle.and_tree.specs.Replies.{is_last}
 use Rattle.and_tasks.proofs.Having.{all_keys, children_there, child_in_hand, has_last_given_up}
-use Rattle.and_tasks.proofs.Ready.{last_ready}
+use Rattle.and_tasks.proofs.Ready.{child_shares, last_ready}
 use Rattle.and_tasks.proofs.team.Team.last_child.Goals as goal
 
 pub into_last-requires-clause-children : goal.into_last-requires-clause-children
@@ -25,8 +25,13 @@ pub returns-in-Ok-clause-ready : goal.returns-in-Ok-clause-ready
 returns-in-Ok-clause-ready g c =
     let s = c.args.self.now in
     let (rest, child) = c.in-Ok.ensures.child in
-    last_ready g.N.Naming.program c.args.shared.now.tree.now s.pass s.found c.args.level rest c.in-Ok.branch s.stack.items c.requires.works child
+    let P : NamedProgram = g.N.Naming.program in
+    let tree = c.args.shared.now.tree.now in
+    let common = c.lesser-common in
+    last_ready P tree s.pass s.found c.args.level rest c.in-Ok.branch s.stack.items common.result c.requires.works child
     c.requires.one c.in-Ok.ensures.back c.requires.served
+    (child_shares P tree s.pass s.found c.args.level c.args.left s.stack.items s.common common.result c.requires.works c.requires.left
+    c.requires.shares common.ensures.first common.ensures.second)
 
 pub give_up_child-requires-clause-hand : goal.give_up_child-requires-clause-hand
 give_up_child-requires-clause-hand g c =

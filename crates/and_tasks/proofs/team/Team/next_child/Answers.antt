@@ -1,4 +1,6 @@
-use Rattle.std.proofs.Common.{◌∙◌, ◌++◌, ◌∷◌, [], refl, sym}
+use Rattle.std.proofs.Common.{◌∙◌, ◌++◌, ◌∷◌, [], Option, refl, sym, subst}
+use Rattle.and_branch.specs.Branches.{Held}
+use Rattle.and_tasks.specs.Working.{LeftShares}
 use Rattle.and_tasks.specs.declared.stack.Task.TheVariants.{Children}
 use Rattle.and_tasks.proofs.Serving.{none_served, served_off, served_top}
 use Rattle.and_tasks.proofs.Turns.{works_popped}
@@ -40,3 +42,13 @@ pub another_child-requires-clause-served : goal.another_child-requires-clause-se
 another_child-requires-clause-served g c κs within =
     let s = c.args.self.now in
     (served_off s.left s.stack.items (Children c.args.level) c.requires.at_work.served).0
+
+pub last_child-requires-clause-shares : goal.last_child-requires-clause-shares
+last_child-requires-clause-shares g c κs within =
+    let s = c.args.self.now in
+    subst (λ (o : Option Held). LeftShares s.found s.common o) (sym c.take.ensures.value ∙ c.in-Some.is) s.left_shares
+
+pub another_child-requires-clause-shares : goal.another_child-requires-clause-shares
+another_child-requires-clause-shares g c κs within =
+    let s = c.args.self.now in
+    subst (λ (o : Option Held). LeftShares s.found s.common o) (sym c.take.ensures.value ∙ c.in-Some.is) s.left_shares
