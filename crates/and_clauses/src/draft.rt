@@ -255,6 +255,7 @@ impl ClauseDraft {
 
 /// Adds a part, to which the finished terms from `start` on belong, as the last finished term. An
 /// error is want of memory, and leaves both lists as they were.
+#[inline(always)]
 fn add_part(
     parts: &mut Vec<DraftPart>,
     finished: &mut Vec<u32>,
@@ -270,15 +271,13 @@ fn add_part(
     ensures finished_kept { OnErr result (finished.new.items ≡ finished.old.items) }
 {
     let number = parts.len() as u32;
-    parts.push(part)?;
+    parts.reserve(1)?;
     if start < finished.len() {
         finished[start] = number;
         finished.truncate(start + 1);
-        return Ok(());
+    } else {
+        finished.push(number)?;
     }
-    if finished.push(number).is_err() {
-        parts.pop();
-        return Err(AllocError);
-    }
+    parts.push_reserved(part);
     Ok(())
 }

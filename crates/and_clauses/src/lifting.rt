@@ -72,7 +72,7 @@ pub(crate) fn lifted_items(
     ensures there { IfOk result (λ items. AllThere (shapes_of nodes.new.items) 0 (map node_item items.items)) }
     ensures few { IfOk result (λ items. length items.items ≤ MAX_NODES + 1) }
 {
-    let mut items = Vec::new(lifting.alloc);
+    let mut items = Vec::with_capacity(lifting.alloc, pieces.len())?;
     let mut pairs = 0;
     for piece in pieces {
         let item = lifted_item(lifting, nodes, lists, scope, piece, pairs)?;
@@ -299,6 +299,7 @@ pub(crate) fn lifted_head(
 }
 
 /// Adds a node, and answers its number.
+#[inline(always)]
 fn push_node(nodes: &mut Vec<Node>, node: Node) -> Result<NodeNo, AllocError>
     requires { length nodes.old.items < 2 ^ 32 }
     ensures number { IfOk result (λ n. n.0 ≡ length (shapes_of nodes.old.items)) }
@@ -306,7 +307,8 @@ fn push_node(nodes: &mut Vec<Node>, node: Node) -> Result<NodeNo, AllocError>
     ensures kept { OnErr result (shapes_of nodes.new.items ≡ shapes_of nodes.old.items) }
 {
     let number = NodeNo(nodes.len() as u32);
-    nodes.push(node)?;
+    nodes.reserve(1)?;
+    nodes.push_reserved(node);
     Ok(number)
 }
 
@@ -451,7 +453,7 @@ pub(crate) fn names_in(
 ) -> Result<Vec<Text>, AllocError>
     ensures { IfOk result (λ names. names.items ≡ map (λ v. get_or written.now v []) variables.now) }
 {
-    let mut names = Vec::new(alloc);
+    let mut names = Vec::with_capacity(alloc, variables.len())?;
     for variable in variables {
         let name = written_name(written, *variable);
         names.push(Text::of(alloc, name)?)?;

@@ -276,7 +276,15 @@ fn made_of(
         disjunctions: &disjunctions,
         numbers: &numbers,
     };
-    let (entry, alternatives) = entries(lifting, nodes, copying, &outlines, head, draft.line)?;
+    let (entry, alternatives) = entries(
+        lifting,
+        nodes,
+        copying,
+        &outlines,
+        head,
+        draft.line,
+        draft.variable_count(),
+    )?;
     Ok(Made {
         entry,
         alternatives,
@@ -285,7 +293,8 @@ fn made_of(
     })
 }
 
-/// The clauses of these outlines, the first of which is the clause itself.
+/// The clauses of these outlines, the first of which is the clause itself. (So many variables are expected, of which
+/// nothing has to be true.)
 fn entries(
     lifting: Lifting<'_>,
     nodes: &mut Vec<Node>,
@@ -293,6 +302,7 @@ fn entries(
     outlines: &[Outline],
     head: Option<u32>,
     line: u32,
+    variables: usize,
 ) -> Result<(ClauseEntry, Vec<ClauseEntry>), AllocError>
     requires lifting { IsLifting lifting }
     requires numbered { AllNumbered [] lifting.parts.now }
@@ -317,7 +327,7 @@ fn entries(
 {
     let head = head_node(lifting, nodes, lists, head)?;
     let items = lifted_items(lifting, nodes, lists, None, outlines[0].pieces.as_slice())?;
-    let written = written_names(lifting.alloc, lifting.parts)?;
+    let written = written_names(lifting.alloc, lifting.parts, variables)?;
     let alternatives = alternatives(lifting, nodes, lists, &written, &outlines[1..], line)?;
     Ok((ClauseEntry::new(head, items, written, line), alternatives))
 }

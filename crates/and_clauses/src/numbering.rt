@@ -181,13 +181,18 @@ pub(crate) fn push_reversed(pending: &mut Vec<u32>, numbers: &[u32]) -> Result<(
     Ok(())
 }
 
-/// The written names of the variables of a draft with these parts, by their numbers. An error is want of memory.
-pub(crate) fn written_names(alloc: Global, parts: &[DraftPart]) -> Result<Vec<Text>, AllocError>
+/// The written names of the variables of a draft with these parts, by their numbers. So many are expected, of which
+/// nothing has to be true. An error is want of memory.
+pub(crate) fn written_names(
+    alloc: Global,
+    parts: &[DraftPart],
+    expected: usize,
+) -> Result<Vec<Text>, AllocError>
     requires numbered { AllNumbered [] parts.now }
     requires room { length parts.now < 2 ^ 32 }
     ensures { IfOk result (λ names. names.items ≡ met_by [] (part_shapes parts.now)) }
 {
-    let mut names = Vec::new(alloc);
+    let mut names = Vec::with_capacity(alloc, expected)?;
     for part in parts {
         note_variable(alloc, &mut names, part)?;
     }

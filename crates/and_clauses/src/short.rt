@@ -1,6 +1,7 @@
 //! Names that mostly need no memory.
 
-ghost use Rattle.std.specs.Prelude.{◌≡◌, ℕ, List, take, IfOk};
+ghost use Rattle.std.specs.Prelude.{◌≡◌, ◌≤◌, ℕ, List, length, take, IfOk};
+ghost use Rattle.and_clauses.specs.declared.short.TheConstants.{SHORT};
 ghost use Rattle.and_clauses.specs.Short.{held_bytes};
 
 use std::alloc::{AllocError, Global};
@@ -38,11 +39,9 @@ impl ShortText {
             let held = Held::Long(Vec::from_slice(alloc, bytes)?);
             return Ok(ShortText { held });
         }
-        let mut short = [0; SHORT];
-        short[..length].copy_from_slice(bytes);
         Ok(ShortText {
             held: Held::Short {
-                bytes: short,
+                bytes: filled(bytes),
                 length: length as u8,
             },
         })
@@ -57,6 +56,23 @@ impl ShortText {
             Held::Long(bytes) => bytes,
         }
     }
+}
+
+/// An array that begins with these bytes. (Most names have one byte or two, which are set in fewer steps than copied.)
+fn filled(bytes: &[u8]) -> [u8; SHORT]
+    requires { length bytes.now ≤ SHORT }
+    ensures { take (length bytes.now) result ≡ bytes.now }
+{
+    let mut short = [0; SHORT];
+    match bytes {
+        [byte] => short[0] = *byte,
+        [byte, other] => {
+            short[0] = *byte;
+            short[1] = *other;
+        }
+        _ => short[..bytes.len()].copy_from_slice(bytes),
+    }
+    short
 }
 
 /// The first of these bytes, or all where they are fewer.

@@ -1,5 +1,5 @@
 -- Terms at the end of a draft, and copies of terms.
-use Rattle.std.proofs.Common.{ℕ, zero, suc, ◌+◌, ◌-◌, ◌*◌, ◌<◌, ◌≤◌, ◌≡◌, Bool, true, false, cond, List, [], ◌∷◌, ◌++◌, length, map, take, drop, get_or}
+use Rattle.std.proofs.Common.{ℕ, zero, suc, ◌+◌, ◌-◌, ◌<◌, ◌≤◌, ◌≡◌, Bool, true, false, cond, List, [], ◌∷◌, ◌++◌, length, map, take, drop, get_or}
 use Rattle.std.proofs.Common.{reverse, Option, Some, None, codes, refl, sym, ap, ◌∙◌, arith, subst, Result, Ok, Err, OnOk}
 use Rattle.std.proofs.lemmas.List.{append_assoc, append-nil, length-append, length-map, reverse-append, take-append-drop, length-take-le, length-drop}
 use Rattle.std.proofs.lemmas.List.{drop_more, map_push, take_more}
@@ -11,14 +11,13 @@ use Rattle.and_syntax.specs.Written as written
 use Rattle.and_program.specs.Skeletons.{Falls}
 use Rattle.and_translation.specs.Bodies.{elements}
 use Rattle.and_translation.specs.Translation.{list_before, with_states, joined}
-use Rattle.and_clauses.specs.Parts.{PartShape, many}
-use Rattle.and_clauses.specs.Parts as shapes
-use Rattle.and_clauses.specs.Drafts.{Draft, draft_of, shapes_of}
+use Rattle.and_clauses.specs.Parts.{many}
+use Rattle.and_clauses.specs.Drafts.{Draft, draft_of}
 use Rattle.and_clauses.specs.declared.draft.ClauseDraft.{ClauseDraft}
 use Rattle.and_grammar.specs.declared.copying.Copy.{Copy}
 use Rattle.and_grammar.specs.declared.copying.Copy.TheVariants.{Term, Name}
 use Rattle.and_grammar.specs.Views.{term_at, arguments_at, Becomes, Adds, is_nil}
-use Rattle.and_grammar.specs.Copies.{name_at, taken, copied, AreEnough, IsWithin, AreWithin, chain, are_terms, work, Copies}
+use Rattle.and_grammar.specs.Copies.{name_at, taken, copied, AreEnough, AreWithin, chain, are_terms, work, Copies}
 
 -- a draft that is told whole has its line and its terms
 pub becomes : (old new : ClauseDraft) (ws : List Written) (n : ℕ) → draft_of new ≡ record { line = (draft_of old).line; finished = ws; parts = n }

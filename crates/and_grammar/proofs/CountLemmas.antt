@@ -1,5 +1,5 @@
 -- Tasks and what they make of the states of a body.
-use Rattle.std.proofs.Common.{ℕ, suc, ◌+◌, ◌≡◌, Bool, true, false, cond, List, [], ◌∷◌, refl, sym, ap, ◌∙◌, arith, subst}
+use Rattle.std.proofs.Common.{ℕ, suc, ◌≡◌, Bool, true, false, cond, List, [], ◌∷◌, refl, sym, ap, ◌∙◌, arith, subst}
 use Rattle.and_syntax.specs.Written.{Written}
 use Rattle.and_translation.specs.Bodies.{Body, Alternatives, nothing, terminals, either, or, behind_first, alternatives}
 use Rattle.and_translation.specs.Translation.{walk}

@@ -9,15 +9,13 @@ use Rattle.and_model.specs.Lines.{Bytes}
 use Rattle.and_clauses.specs.Parts.{many}
 use Rattle.and_syntax.specs.Written as written
 use Rattle.and_syntax.specs.Written.{Written, compound, nodes_of}
-use Rattle.and_program.specs.Skeletons.{Falls}
-use Rattle.and_translation.specs.Bodies.{Body, Alternatives, nothing, terminals, goals, nonterminal, both, either, impure, last, or, alternatives, has_impure}
+use Rattle.and_translation.specs.Bodies.{Body, nothing, terminals, goals, nonterminal, both, either, impure, alternatives, has_impure}
 use Rattle.and_translation.specs.Bodies.{has_impure_alternative, has_wide, has_wide_alternative, is_wide_head, is_head, count}
-use Rattle.and_clauses.specs.Drafts.{draft_of}
 use Rattle.and_clauses.specs.declared.draft.ClauseDraft.{ClauseDraft}
 use Rattle.and_grammar.specs.declared.checking.Found.{Found}
-use Rattle.and_grammar.specs.declared.bodies.BodyPart.TheVariants.{Nothing, Terminals, Goals, Nonterminal, Both, Either, Impure}
-use Rattle.and_grammar.specs.Views.{term_at, body_at, Holds, IsBody, IsCall, IsList}
-use Rattle.and_grammar.specs.Checked.{are_impure, are_wide, sizes, LooksAt, head_part}
+use Rattle.and_grammar.specs.declared.bodies.BodyPart.TheVariants.{Both, Either}
+use Rattle.and_grammar.specs.Views.{term_at, body_at, Holds, IsBody, IsCall}
+use Rattle.and_grammar.specs.Checked.{are_impure, are_wide, LooksAt, head_part}
 
 impure_behind : (b : Body) → has_impure_alternative (alternatives b) ≡ has_impure b
 impure_behind nothing = refl

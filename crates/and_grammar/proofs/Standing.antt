@@ -1,11 +1,10 @@
 -- What acts make of a body as far as it is translated.
-use Rattle.std.proofs.Common.{ℕ, zero, suc, ◌+◌, ◌-◌, ◌<◌, ◌≤◌, ◌≡◌, Bool, true, false, cond, List, [], ◌∷◌, ◌++◌, length, map, take, drop, reverse, codes}
-use Rattle.std.proofs.Common.{refl, sym, ap, ◌∙◌, arith, subst}
-use Rattle.std.proofs.lemmas.List.{append_assoc, append-nil, reverse-append, length-append, take-append-drop, length-take-le, length-drop, take-append-le}
-use Rattle.std.proofs.lemmas.List.{drop-append-le}
-use Rattle.std.proofs.Math.Seq.{take-append_seam, drop-append_seam, take-length}
+use Rattle.std.proofs.Common.{ℕ, suc, ◌+◌, ◌-◌, ◌≤◌, ◌≡◌, List, [], ◌∷◌, ◌++◌, length, take, drop, reverse, codes}
+use Rattle.std.proofs.Common.{refl, ap, ◌∙◌, arith}
+use Rattle.std.proofs.lemmas.List.{append_assoc, append-nil, reverse-append, length-append, length-take-le}
+use Rattle.std.proofs.Math.Seq.{take-append_seam, drop-append_seam}
 use Rattle.and_syntax.specs.Written.{Written, compound, none, more}
-use Rattle.and_translation.specs.Bodies.{Body, Alternatives, last, or, both, either, behind_first, alternatives}
+use Rattle.and_translation.specs.Bodies.{Body, Alternatives, or, both, either}
 use Rattle.and_translation.specs.Translation.{Walk, Choice, state, equation, joined, ended, walk, choose}
 use Rattle.and_grammar.specs.Acts.{Act, body, others, ends, join, resume, Stand, whole, done, all_done, two_joined, AreBelow}
 

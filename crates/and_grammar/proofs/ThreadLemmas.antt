@@ -1,12 +1,12 @@
 -- Tasks and what they make of a body of the code.
-use Rattle.std.proofs.Common.{ℕ, zero, suc, ◌+◌, ◌-◌, ◌*◌, ◌<◌, ◌≤◌, ◌≡◌, Bool, true, false, cond, List, [], ◌∷◌, ◌++◌, length, map, take, drop, reverse}
+use Rattle.std.proofs.Common.{ℕ, suc, ◌+◌, ◌-◌, ◌<◌, ◌≤◌, ◌≡◌, Bool, true, false, cond, List, [], ◌∷◌, ◌++◌, length, take, drop, reverse}
 use Rattle.std.proofs.Common.{codes, refl, sym, ap, ◌∙◌, arith, subst}
-use Rattle.std.proofs.lemmas.List.{append_assoc, append-nil, reverse-append, length-append, take-append-drop, length-take-le, length-drop, take-append-le}
+use Rattle.std.proofs.lemmas.List.{append-nil, reverse-append, length-append, take-append-drop, length-take-le, length-drop, take-append-le}
 use Rattle.std.proofs.lemmas.List.{drop-append-le}
-use Rattle.std.proofs.Math.Seq.{take-append_seam, drop-append_seam, take-length}
-use Rattle.and_syntax.specs.Written.{Written, compound, nodes_of}
-use Rattle.and_translation.specs.Bodies.{Body, Alternatives, nothing, terminals, goals, nonterminal, both, either, impure, last, or, behind_first, alternatives}
-use Rattle.and_translation.specs.Translation.{Walk, state, equation, list_before, joined, walk}
+use Rattle.std.proofs.Math.Seq.{take-length}
+use Rattle.and_syntax.specs.Written.{Written, compound}
+use Rattle.and_translation.specs.Bodies.{Body, Alternatives, nothing, terminals, goals, both, either, last, or, behind_first, alternatives}
+use Rattle.and_translation.specs.Translation.{Walk, state, equation, list_before, walk}
 use Rattle.and_clauses.specs.Parts.{many}
 use Rattle.and_clauses.specs.Drafts.{Draft, draft_of}
 use Rattle.and_clauses.specs.declared.draft.ClauseDraft.{ClauseDraft}
@@ -14,9 +14,9 @@ use Rattle.and_grammar.specs.declared.bodies.BodyPart.TheVariants.{Both, Either}
 use Rattle.and_grammar.specs.declared.threading.Task.{Task}
 use Rattle.and_grammar.specs.declared.threading.Task.TheVariants as tasks
 use Rattle.and_grammar.specs.declared.threading.Threaded.{Threaded}
-use Rattle.and_grammar.specs.Views.{term_at, body_at, Holds, IsBody, Adds, Becomes}
+use Rattle.and_grammar.specs.Views.{body_at, IsBody, Becomes}
 use Rattle.and_grammar.specs.Acts.{Act, body, others, ends, join, resume, act_of, acts_of, Stand, whole, done, all_done, two_joined, AreBelow, stand_of}
-use Rattle.and_grammar.specs.Acts.{IsTaskWithin, AreTasksWithin, effort, efforts, Makes, Steps, Splits}
+use Rattle.and_grammar.specs.Acts.{effort, Makes, Steps, Splits}
 use Rattle.and_grammar.proofs.Standing.{two_joined-is, stand, stand_same, disjunction_done, others_done, both_done, enough_below, below_done}
 use Rattle.and_grammar.proofs.Looking.{nodes_some}
 use Rattle.and_grammar.proofs.CopyLemmas.{split_there}

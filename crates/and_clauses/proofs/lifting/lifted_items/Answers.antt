@@ -21,7 +21,7 @@ loop-piece-init c =
     let old = shapes_of c.args.nodes.now.items in record {
       lifted = none_so_far ss ds (numbering_at c.args.scope) (length (names_under c.args.lifting)) old
           (length old + pieces_size ds (map (piece_in ss) c.args.pieces.now))
-          c.args.pieces.now c.new-items.result.items c.new-items.ensures.items c.requires.room refl;
+          c.args.pieces.now c.in_ok-items.items.items c.in_ok-items.ensures.items c.requires.room refl;
     }
 
 pub lifted_item-requires-clause-there : goal.lifted_item-requires-clause-there

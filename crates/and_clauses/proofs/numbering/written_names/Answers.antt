@@ -9,8 +9,8 @@ use Rattle.and_clauses.proofs.numbering.written_names.Goals as goal
 
 pub loop-part-init : goal.loop-part-init
 loop-part-init c = record {
-  met = ap (λ ms. met_by ms (part_shapes c.args.parts.now)) c.new-names.ensures.items;
-  numbered = subst (λ ms. AllNumbered ms c.args.parts.now) (sym c.new-names.ensures.items) c.requires.numbered;
+  met = ap (λ ms. met_by ms (part_shapes c.args.parts.now)) c.in_ok-names.ensures.items;
+  numbered = subst (λ ms. AllNumbered ms c.args.parts.now) (sym c.in_ok-names.ensures.items) c.requires.numbered;
 }
 
 pub note_variable-requires : goal.note_variable-requires

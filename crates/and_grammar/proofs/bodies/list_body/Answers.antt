@@ -1,7 +1,6 @@
-use Rattle.std.proofs.Common.{◌≡◌, Bool, cond, List, [], Option, Some, None, ap, sym, ◌∙◌, refl, arith, subst}
+use Rattle.std.proofs.Common.{Bool, cond, List, [], Option, Some, None, ap, sym, ◌∙◌, arith, subst}
 use Rattle.and_syntax.specs.Written.{Written}
 use Rattle.and_translation.specs.Bodies.{elements}
-use Rattle.and_grammar.specs.declared.bodies.Cell.{Cell}
 use Rattle.and_grammar.specs.Views.{term_at, list_part, IsCell, IsCellOf}
 use Rattle.and_grammar.proofs.Viewing.{list_part_same}
 use Rattle.and_grammar.proofs.bodies.list_body.Goals as goal

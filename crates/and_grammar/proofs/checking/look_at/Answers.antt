@@ -1,4 +1,4 @@
-use Rattle.std.proofs.Common.{ℕ, List, [], ◌∷◌, ◌||◌, reverse, refl, ap, sym, ◌∙◌, ◌≡◌}
+use Rattle.std.proofs.Common.{ℕ, List, ◌∷◌, ◌||◌, reverse, refl, ap, ◌∙◌, ◌≡◌}
 use Rattle.and_translation.specs.Bodies.{nothing, terminals, goals}
 use Rattle.and_grammar.specs.Views.{term_at}
 use Rattle.and_grammar.specs.Checked.{LooksAt}

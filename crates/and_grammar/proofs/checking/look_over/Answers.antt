@@ -1,4 +1,4 @@
-use Rattle.std.proofs.Common.{rules, ◌+◌, ℕ, List, [], ◌∷◌, ◌||◌, ◌≡◌, reverse, ap, sym, ◌∙◌, arith, subst}
+use Rattle.std.proofs.Common.{rules, ℕ, List, [], ◌∷◌, ◌||◌, ◌≡◌, reverse, ap, sym, ◌∙◌, arith, subst}
 use Rattle.and_program.specs.Skeletons.{Falls}
 use Rattle.and_translation.specs.Bodies.{has_impure, has_wide}
 use Rattle.and_clauses.specs.Drafts.{draft_of}

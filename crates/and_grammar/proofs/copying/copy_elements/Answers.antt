@@ -1,4 +1,4 @@
-use Rattle.std.proofs.Common.{rules, ◌+◌, ◌≤◌, ◌≡◌, ap, arith, subst, length, [], ◌∷◌}
+use Rattle.std.proofs.Common.{rules, ◌+◌, ◌≡◌, ap, arith, subst, length, [], ◌∷◌}
 use Rattle.std.proofs.lemmas.List.{length-append}
 use Rattle.and_translation.specs.Bodies.{elements}
 use Rattle.and_clauses.specs.Drafts.{draft_of}

@@ -1,7 +1,7 @@
-use Rattle.std.proofs.Common.{List, ◌∷◌, reverse, refl, length, OnOk, subst, sym, ap, ◌≤◌, Result}
+use Rattle.std.proofs.Common.{List, ◌∷◌, reverse, refl, length, OnOk, subst, sym}
 use Rattle.and_clauses.specs.Drafts.{draft_of}
 use Rattle.and_grammar.specs.declared.copying.Copy.{Copy}
-use Rattle.and_grammar.specs.declared.copying.Copy.TheVariants.{Term, Name}
+use Rattle.and_grammar.specs.declared.copying.Copy.TheVariants.{Name}
 use Rattle.and_grammar.specs.Views.{Becomes, arguments_at}
 use Rattle.and_grammar.specs.Copies.{Copies, AreEnough, IsWithin, taken, name_at}
 use Rattle.and_grammar.proofs.CopyLemmas.{on_ok, name_copied}

@@ -3,11 +3,10 @@ use Rattle.std.proofs.lemmas.Int.{ints, to_z-of_z}
 use Rattle.std.proofs.Common.{rules, ℤ, to_z, of_z, w64, List, [], ◌∷◌, ◌++◌, reverse, refl, ap, sym, ◌∙◌, ◌≡◌}
 use Rattle.and_syntax.specs.Written.{variable, integer}
 use Rattle.and_clauses.specs.Drafts.{read_part}
-use Rattle.and_clauses.specs.Parts
 use Rattle.and_clauses.proofs.Telling.{variable_read, integer_read, compound_read, arguments_fall}
 use Rattle.and_grammar.specs.declared.copying.Copy.{Copy}
 use Rattle.and_grammar.specs.declared.copying.Copy.TheVariants.{Term, Name}
-use Rattle.and_grammar.specs.Views.{Adds, arguments_at}
+use Rattle.and_grammar.specs.Views.{Adds}
 use Rattle.and_grammar.specs.Copies.{Copies, are_terms, name_of}
 use Rattle.and_grammar.proofs.CopyLemmas.{on_ok, leaf_copied, opened}
 use Rattle.and_grammar.proofs.copying.copy_part.Goals as goal

@@ -1,4 +1,4 @@
-use Rattle.std.proofs.Common.{◌≡◌, ◌-◌, ◌++◌, drop, length, reverse, refl, arith}
+use Rattle.std.proofs.Common.{◌-◌, length, reverse, refl, arith}
 use Rattle.and_grammar.proofs.CopyLemmas.{terms_first, terms_next, terms_last}
 use Rattle.and_grammar.proofs.copying.push_terms.Goals as goal
 

@@ -1,8 +1,7 @@
-use Rattle.std.proofs.Common.{ℕ, List, [], ◌∷◌, ◌++◌, ◌-◌, length, take, drop, get_or, refl, ap, sym, ◌∙◌, ◌≡◌, ◌≤◌, arith, subst, OnOk}
+use Rattle.std.proofs.Common.{ℕ, List, ◌-◌, length, take, drop, ap, sym, ◌∙◌, ◌≡◌, ◌≤◌, arith, subst, OnOk}
 use Rattle.and_model.specs.Lines.{Bytes}
-use Rattle.and_syntax.specs.Written.{Written, compound}
+use Rattle.and_syntax.specs.Written.{Written}
 use Rattle.and_clauses.specs.Drafts.{draft_of, read_part}
-use Rattle.and_clauses.specs.Parts.{many}
 use Rattle.and_clauses.proofs.Telling.{compound_read}
 use Rattle.and_grammar.specs.Views.{Becomes, arguments_at}
 use Rattle.and_grammar.specs.Copies.{taken, name_at, name_of}

@@ -1,4 +1,4 @@
-use Rattle.std.proofs.Common.{ℕ, ◌≡◌, ◌<◌, Option, Some, None, IfSome, sym, ap, ◌∙◌, arith, subst, rules, true}
+use Rattle.std.proofs.Common.{ℕ, Option, IfSome, arith, subst, true}
 use Rattle.and_grammar.specs.declared.bodies.BodyPart.{BodyPart}
 use Rattle.and_grammar.specs.declared.bodies.BodyPart.TheVariants.{Both}
 use Rattle.and_grammar.specs.Views.{body_at, IsBody}

@@ -1,7 +1,7 @@
-use Rattle.std.proofs.Common.{ℕ, suc, ◌+◌, ◌≡◌, Bool, true, false, cond, refl, sym, ap, ◌∙◌, arith, subst}
-use Rattle.and_translation.specs.Bodies.{Body, nothing, terminals, goals, nonterminal}
+use Rattle.std.proofs.Common.{true, false, sym, ◌∙◌, subst}
+use Rattle.and_translation.specs.Bodies.{Body, goals}
 use Rattle.and_grammar.specs.declared.bodies.BodyPart.{BodyPart}
-use Rattle.and_grammar.specs.declared.bodies.BodyPart.TheVariants.{Nothing, Terminals, Goals, Nonterminal}
+use Rattle.and_grammar.specs.declared.bodies.BodyPart.TheVariants.{Terminals, Goals, Nonterminal}
 use Rattle.and_grammar.specs.Views.{term_at, body_at, IsBody}
 use Rattle.and_grammar.specs.Plain.{Advances}
 use Rattle.and_grammar.proofs.PlainLemmas.{nothing_stays, goals_stay, first_stay, others_advance, call_advances, if_some}

@@ -1,6 +1,6 @@
-use Rattle.std.proofs.Common.{List, [], ◌∷◌, ◌++◌, ◌≡◌, ◌+◌, reverse, false, true, refl, ap, sym, ◌∙◌, OnOk}
+use Rattle.std.proofs.Common.{List, [], ◌∷◌, ◌++◌, ◌+◌, reverse, false, ap, ◌∙◌}
 use Rattle.and_grammar.specs.declared.threading.Task.{Task}
-use Rattle.and_grammar.specs.declared.threading.Task.TheVariants.{Body, Others, EndAlternative, Join, EndDisjunction}
+use Rattle.and_grammar.specs.declared.threading.Task.TheVariants.{Body, EndAlternative}
 use Rattle.and_grammar.proofs.Standing.{two_last}
 use Rattle.and_grammar.proofs.threading.push_alternative.Goals as goal
 

@@ -1,4 +1,4 @@
-use Rattle.std.proofs.Common.{List, [], ◌∷◌, ◌≡◌, reverse, false, refl}
+use Rattle.std.proofs.Common.{List, ◌∷◌, ◌≡◌, reverse, false, refl}
 use Rattle.and_translation.specs.Bodies.{nothing, terminals, goals, nonterminal, both, impure}
 use Rattle.and_grammar.specs.declared.threading.Task.{Task}
 use Rattle.and_grammar.specs.declared.threading.Task.TheVariants.{Body, Others, EndAlternative, Join}

@@ -1,11 +1,9 @@
-use Rattle.std.proofs.Common.{arith, ◌≡◌, List, [], ◌∷◌, ◌++◌, length, map, ap, sym, ◌∙◌, subst, OnOk}
-use Rattle.std.proofs.lemmas.List.{length-append, length-map}
-use Rattle.and_syntax.specs.Written.{Written, compound}
-use Rattle.and_clauses.specs.Drafts.{draft_of}
-use Rattle.and_clauses.specs.Parts.{many}
+use Rattle.std.proofs.Common.{length, map, ap, sym, ◌∙◌}
+use Rattle.std.proofs.lemmas.List.{length-map}
+use Rattle.and_syntax.specs.Written.{compound}
 use Rattle.and_translation.specs.Translation.{state}
-use Rattle.and_grammar.specs.Views.{term_at, arguments_at, Adds, Becomes}
-use Rattle.and_grammar.proofs.CopyLemmas.{adds_more, wider_put, three_there}
+use Rattle.and_grammar.specs.Views.{term_at, arguments_at}
+use Rattle.and_grammar.proofs.CopyLemmas.{wider_put, three_there}
 use Rattle.and_grammar.proofs.Viewing.{arguments_are}
 use Rattle.and_grammar.proofs.threading.put_name_between.Goals as goal
 

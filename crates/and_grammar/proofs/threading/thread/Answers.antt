@@ -1,4 +1,4 @@
-use Rattle.std.proofs.Common.{◌≡◌, List, [], ◌∷◌, ◌++◌, rules, true, length, reverse, refl, sym, ap, ◌∙◌, arith, subst}
+use Rattle.std.proofs.Common.{◌≡◌, List, [], ◌∷◌, rules, true, length, reverse, refl, sym, ap, ◌∙◌, arith, subst}
 use Rattle.and_translation.specs.Bodies.{behind_first}
 use Rattle.and_translation.specs.Translation.{walk}
 use Rattle.and_syntax.specs.Written.{Written}

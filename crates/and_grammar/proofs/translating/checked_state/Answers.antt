@@ -1,6 +1,5 @@
-use Rattle.std.proofs.Common.{ℕ, true, sym, Option, IfSome, subst}
+use Rattle.std.proofs.Common.{true, sym}
 use Rattle.and_grammar.specs.Views.{term_at, body_at}
-use Rattle.and_grammar.specs.Plain.{Advances}
 use Rattle.and_grammar.proofs.TranslateLemmas.{no_fault}
 use Rattle.and_grammar.proofs.translating.checked_state.Goals as goal
 

@@ -1,4 +1,4 @@
-use Rattle.std.proofs.Common.{arith, ◌≡◌, List, [], ap, sym, ◌∙◌, subst, Some}
+use Rattle.std.proofs.Common.{arith, ◌≡◌, List, ap, sym, ◌∙◌, subst, Some}
 use Rattle.and_syntax.specs.Written.{Written}
 use Rattle.and_translation.specs.Bodies.{first_terminals, elements}
 use Rattle.and_grammar.specs.Views.{term_at}

@@ -1,7 +1,6 @@
-use Rattle.std.proofs.Common.{arith, ◌≡◌, List, [], ◌∷◌, ◌++◌, length, map, ap, sym, ◌∙◌, subst, OnOk}
+use Rattle.std.proofs.Common.{[], ◌∷◌, length, map, ap, sym, ◌∙◌, subst, OnOk}
 use Rattle.std.proofs.lemmas.List.{length-map}
 use Rattle.and_syntax.specs.Written.{Written, compound}
-use Rattle.and_clauses.specs.Drafts.{draft_of}
 use Rattle.and_translation.specs.Bodies.{first_terminals}
 use Rattle.and_translation.specs.Translation.{state, list_before, head_between}
 use Rattle.and_grammar.specs.Views.{term_at, body_at, arguments_at, Adds}

@@ -1,4 +1,3 @@
-use Rattle.std.proofs.Common.{refl}
 use Rattle.and_grammar.specs.Views.{term_at, body_at}
 use Rattle.and_grammar.proofs.TranslateLemmas.{has_head, sound_sides}
 use Rattle.and_grammar.proofs.translating.translate_sides.Goals as goal

@@ -1,4 +1,4 @@
-use Rattle.std.proofs.Common.{ℕ, refl, sym, subst, reverse, List, ◌∷◌, OnOk}
+use Rattle.std.proofs.Common.{refl, sym, subst, reverse, List, ◌∷◌, OnOk}
 use Rattle.and_grammar.specs.declared.threading.Task.{Task}
 use Rattle.and_grammar.specs.declared.threading.Task.TheVariants as tasks
 use Rattle.and_grammar.specs.Acts.{IsTaskWithin}

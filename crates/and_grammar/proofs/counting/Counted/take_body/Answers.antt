@@ -1,4 +1,4 @@
-use Rattle.std.proofs.Common.{suc, ◌+◌, ◌≡◌, ◌∙◌, arith, refl, reverse, List, ◌∷◌, cond}
+use Rattle.std.proofs.Common.{arith, refl, reverse, List, ◌∷◌, cond}
 use Rattle.and_translation.specs.Bodies.{Body, nothing, terminals, goals, nonterminal, impure}
 use Rattle.and_grammar.specs.declared.threading.Task.{Task}
 use Rattle.and_grammar.specs.declared.threading.Task.TheVariants as tasks

@@ -1,4 +1,4 @@
-use Rattle.std.proofs.Common.{ℕ, Bool, ◌≡◌, cond, refl, sym, subst, OnOk}
+use Rattle.std.proofs.Common.{Bool, ◌≡◌, cond, refl, sym, subst, OnOk}
 use Rattle.and_translation.specs.Bodies.{nothing, terminals}
 use Rattle.and_translation.specs.Translation.{walk}
 use Rattle.and_grammar.proofs.counting.Counted.take_terminals.Goals as goal

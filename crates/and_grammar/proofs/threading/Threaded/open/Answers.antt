@@ -1,4 +1,4 @@
-use Rattle.std.proofs.Common.{arith, refl, false, List, ◌∷◌, ◌++◌, [], ◌∙◌, ap, reverse}
+use Rattle.std.proofs.Common.{refl, false, List, ◌∷◌, ◌∙◌, ap}
 use Rattle.and_grammar.specs.declared.threading.Task.{Task}
 use Rattle.and_grammar.specs.declared.threading.Task.TheVariants.{Body, Others, EndAlternative, Join, EndDisjunction}
 use Rattle.and_grammar.proofs.ThreadLemmas.{last_task}

@@ -1,5 +1,4 @@
-use Rattle.std.proofs.Common.{ℕ, ◌≤◌, ◌≡◌, arith, refl, sym, subst, reverse, length, List, [], ◌∷◌, OnOk}
-use Rattle.and_clauses.specs.Drafts.{draft_of}
+use Rattle.std.proofs.Common.{ℕ, arith, refl, sym, subst, reverse, length, List, ◌∷◌, OnOk}
 use Rattle.and_grammar.specs.declared.threading.Task.{Task}
 use Rattle.and_grammar.specs.declared.threading.Task.TheVariants as tasks
 use Rattle.and_grammar.specs.Acts.{Steps, IsTaskWithin, AreBelow, acts_of, stand_of}

@@ -1,9 +1,8 @@
-use Rattle.std.proofs.Common.{ap, sym, subst, reverse, length, List, [], ◌∷◌, ◌++◌, ◌≡◌, ◌∙◌, false, refl, arith}
+use Rattle.std.proofs.Common.{ap, sym, subst, reverse, length, List, [], ◌∷◌, ◌≡◌, ◌∙◌, false, refl, arith}
 use Rattle.std.proofs.lemmas.List.{reverse-append}
 use Rattle.and_grammar.specs.declared.bodies.BodyPart.TheVariants.{Both}
 use Rattle.and_grammar.specs.declared.threading.Task.{Task}
 use Rattle.and_grammar.specs.declared.threading.Task.TheVariants as tasks
-use Rattle.and_grammar.specs.Views.{IsBody, body_at}
 use Rattle.and_grammar.specs.Acts.{acts_of, stand_of, AreBelow, Steps}
 use Rattle.and_grammar.proofs.CopyLemmas.{on_ok}
 use Rattle.and_grammar.proofs.Viewing.{known}

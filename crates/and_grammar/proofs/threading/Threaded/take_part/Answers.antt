@@ -1,13 +1,12 @@
-use Rattle.std.proofs.Common.{◌+◌, ◌≡◌, ap, arith, refl, reverse, List, [], ◌∷◌, false}
-use Rattle.and_translation.specs.Bodies.{Body, nothing, terminals, goals, nonterminal, impure}
+use Rattle.std.proofs.Common.{ap, arith, refl, reverse, List, ◌∷◌}
+use Rattle.and_translation.specs.Bodies.{Body, nothing, goals, nonterminal, impure}
 use Rattle.and_clauses.specs.Drafts.{Draft, draft_of}
 use Rattle.and_grammar.specs.declared.threading.Task.{Task}
 use Rattle.and_grammar.specs.declared.threading.Task.TheVariants as tasks
 use Rattle.and_grammar.specs.declared.threading.Threaded.{Threaded}
 use Rattle.and_grammar.specs.declared.bodies.BodyPart.TheVariants.{Nothing, Terminals, Goals, Nonterminal, Both, Either, Impure}
-use Rattle.and_grammar.specs.Views.{term_at, body_at}
-use Rattle.and_grammar.specs.Acts as acts
-use Rattle.and_grammar.specs.Acts.{Makes, Steps, done, stand_of}
+use Rattle.and_grammar.specs.Views.{term_at}
+use Rattle.and_grammar.specs.Acts.{Steps}
 use Rattle.and_grammar.proofs.CopyLemmas.{on_ok, on_ok_two}
 use Rattle.and_grammar.proofs.Viewing.{known}
 use Rattle.and_grammar.proofs.ThreadLemmas.{nothing_made, body_done, terminals_done, both_opened, either_opened, all_below}
