@@ -44,6 +44,14 @@ numbers_joined ds es all taken ns is more joined =
 pub took_begun : (v : Share) (ds : List DoneSeen) → ds ≡ [] → TookThese v v ds
 took_begun v ds none = took_none v ∙ ap (λ es. share v.parts v.put (v.taken ++ numbers_of es)) (sym none)
 
+-- a worker that does nothing
+pub took_nothing : (w : Share) (ds : List DoneSeen) → w ≡ share 1 [] [] → ds ≡ [] → TookThese (share 1 [] []) w ds
+took_nothing w ds fresh none = subst (λ es. TookThese (share 1 [] []) w es) (sym none) fresh
+
+-- who began with all that was put, and with no number taken
+pub taken_by : (parts : ℕ) (put : List ℕ) (w : Share) (ds : List DoneSeen) → TookThese (share parts put []) w ds → w.taken ≡ numbers_of ds
+taken_by parts put w ds took = ap (λ (s : Share). s.taken) took
+
 -- ---- what holds of each
 
 pub all_more : {X : Type 0} (P : X → Type 0) (xs ys : List X) (x : X) → All P xs → P x → ys ≡ xs ++ x ∷ [] → All P ys

@@ -24,6 +24,12 @@ abbrev pub IsWorked : {Q A : Type 0} → Slotted (Option ℕ) (Doing ℕ Share) 
 IsWorked q due result = IfOk result
     (λ w. IsPassOf q w.pass × TookThese (share 1 [] []) (view w.pass) w.dones.items × AreDue due w.dones.items)
 
+-- What the worker hands on that leads and began with that right: the same, and its tools.
+abbrev pub IsLed : {Q A D : Type 0} → Slotted (Option ℕ) (Doing ℕ Share) Q A → (ℕ → List ℕ → Type 0) → (D → Type 0)
+    → Share → Worked × D → Type 0
+IsLed q due fit v w = IsPassOf q w.0.pass × TookThese v (view w.0.pass) w.0.dones.items
+    × AreDue due w.0.dones.items × fit w.1
+
 -- the job of each of the numbers was done once, and no other
 abbrev pub IsEachOnce : (numbers : List ℕ) → List DoneSeen → Type 0
 IsEachOnce numbers ds = (weight : ℕ → ℕ) → weigh weight numbers ≡ weigh weight (numbers_of ds)

@@ -1,6 +1,6 @@
 //! Jobs, the tickets by which they are done, and what comes of them.
 
-ghost use Rattle.std.specs.Prelude.{◌≡◌, ℕ, List, IfOk};
+ghost use Rattle.std.specs.Prelude.{◌≡◌, ℕ, List, IfOk, IfErr, OnOk};
 ghost use Rattle.and_batch.specs.Dones.{done};
 
 use and_model::Text;
@@ -89,10 +89,14 @@ pub trait Job: Sync {
         ensures due { IfOk result (λ d. due self.now d.number d.text) };
 }
 
-/// Numbered jobs that each worker does with tools of its own, which it hands on from one job to the next.
+/// Numbered jobs that each worker does with tools of its own, which it hands on from one job to the next. One worker
+/// leads: it finds whether the jobs are to be done at all, while the others get their tools ready.
 pub trait Trade: Sync {
     /// What a worker has at hand.
     type Tools;
+
+    /// Why the jobs are not to be done.
+    type Refusal;
 
     /// The text may come of the job of that number.
     ghost due: { Self → ℕ → List ℕ → Type 0 };
@@ -100,9 +104,21 @@ pub trait Trade: Sync {
     /// The tools are fit for the next job.
     ghost fit: { Self → Self.Tools → Type 0 };
 
-    /// The tools with which a worker begins. Takes no memory.
-    fn begin(&self) -> Self::Tools
-        ensures { fit self.now result };
+    /// The jobs are to be done.
+    ghost wanted: { Self → Type 0 };
+
+    /// The jobs are not to be done, for this.
+    ghost refused: { Self → Self.Refusal → Type 0 };
+
+    /// The tools with which the one who leads begins, or why the jobs are not to be done. An error is want of memory.
+    fn lead(&self) -> Result<Result<Self::Tools, Self::Refusal>, AllocError>
+        ensures fit { IfOk result (λ led. IfOk led (fit self.now)) }
+        ensures wanted { IfOk result (λ led. OnOk led (wanted self.now)) }
+        ensures refused { IfOk result (λ led. IfErr led (refused self.now)) };
+
+    /// The tools with which another worker begins. An error is want of memory.
+    fn begin(&self) -> Result<Self::Tools, AllocError>
+        ensures { IfOk result (fit self.now) };
 
     /// Does the job of the ticket's number. It may wait, as a [`Job`] may. An error is want of memory.
     fn run(&self, tools: Self::Tools, ticket: Ticket) -> Result<(Done, Self::Tools), AllocError>
@@ -115,7 +131,7 @@ pub trait Trade: Sync {
     fn end(&self, tools: Self::Tools);
 }
 
-/// Jobs that need no tools.
+/// Jobs that need no tools, and are always to be done.
 #[derive(Drop)]
 pub(crate) struct Plain<'a, J> {
     pub(crate) job: &'a J,
@@ -124,11 +140,23 @@ pub(crate) struct Plain<'a, J> {
 impl<J: Job> Trade for Plain<'_, J> {
     type Tools = ();
 
+    type Refusal = ();
+
     ghost due = { λ p number text. J.due p.job.now number text };
 
     ghost fit = { λ p tools. Unit {0} };
 
-    fn begin(&self) {}
+    ghost wanted = { λ p. Unit {0} };
+
+    ghost refused = { λ p why. ⊥ };
+
+    fn lead(&self) -> Result<Result<(), ()>, AllocError> {
+        Ok(Ok(()))
+    }
+
+    fn begin(&self) -> Result<(), AllocError> {
+        Ok(())
+    }
 
     fn run(&self, tools: (), ticket: Ticket) -> Result<(Done, ()), AllocError> {
         let done = self.job.run(ticket)?;

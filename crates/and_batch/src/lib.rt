@@ -7,6 +7,7 @@ mod numbers;
 mod placing;
 mod running;
 mod share;
+mod signal;
 mod working;
 
 pub use job::{Done, Job, Ticket, Trade};

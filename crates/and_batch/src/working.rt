@@ -40,32 +40,33 @@ fn do_next<T: Trade>(
     }
 }
 
-/// Does the jobs whose numbers are left, one after another, until none is. An error is want of memory.
+/// Does the jobs whose numbers are left, one after another, until none is. The tools are handed on. An error is want of
+/// memory.
 pub fn work<R: Wait, T: Trade>(
     rt: &R,
     alloc: Global,
     trade: &T,
     numbers: &Numbers,
     mut pass: NumbersPass,
-) -> Result<Worked, AllocError>
+    tools: T::Tools,
+) -> Result<(Worked, T::Tools), AllocError>
     requires pass { IsPassOf numbers.now pass }
     requires part { 0 < (view pass).parts }
-    ensures pass { IfOk result (λ w. IsPassOf numbers.now w.pass) }
-    ensures took { IfOk result (λ w. TookThese (view pass) (view w.pass) w.dones.items) }
-    ensures due { IfOk result (λ w. AreDue (T.due trade.now) w.dones.items) }
-    ensures none_left { IfOk result (λ w. HasLeft (view w.pass) []) }
+    requires fit { T.fit trade.now tools }
+    ensures pass { IfOk result (λ w. IsPassOf numbers.now w.0.pass) }
+    ensures took { IfOk result (λ w. TookThese (view pass) (view w.0.pass) w.0.dones.items) }
+    ensures due { IfOk result (λ w. AreDue (T.due trade.now) w.0.dones.items) }
+    ensures none_left { IfOk result (λ w. HasLeft (view w.0.pass) []) }
+    ensures fit { IfOk result (λ w. T.fit trade.now w.1) }
 {
     let mut dones = Vec::new(alloc);
-    let mut tools = trade.begin();
+    let mut tools = tools;
     'working: for _ in rt.forever() {
         match numbers.pop_as::<Takes, R>(rt, &mut pass) {
             Some(number) => {
                 tools = do_next(trade, tools, number, &mut dones)?;
             }
-            None => {
-                trade.end(tools);
-                return Ok(Worked { pass, dones });
-            }
+            None => return Ok((Worked { pass, dones }, tools)),
         }
     }
     trade.end(tools);

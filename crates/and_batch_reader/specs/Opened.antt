@@ -1,9 +1,10 @@
 -- What is told of a text of several queries before any is answered (this project's own).
-use Rattle.std.specs.Prelude.{ℕ, ◌≡◌, ◌<◌, List, [], ◌∷◌, length, Option, Some, None, IfSome}
+use Rattle.std.specs.Prelude.{ℕ, ◌≡◌, ◌<◌, ◌≤◌, List, [], ◌∷◌, length, Option, Some, None, IfSome}
 use Rattle.and_model.specs.Lines.{Bytes}
 use Rattle.and_source.specs.Source.{SourceProgram}
 use Rattle.and_language.specs.Refusals.{Refusal, IsRefused, Reads}
-use Rattle.and_batch_text.specs.Queries.{Span}
+use Rattle.and_model.specs.declared.limits.TheConstants.{MAX_BYTES}
+use Rattle.and_batch_text.specs.Queries.{Span, HasQueries}
 use Rattle.and_batch_text.specs.Refused.{AreRead, IsBatch, IsBatchRefused}
 use Rattle.and_batch_text.specs.Singles.{single}
 use Rattle.and_batch_text.specs.Views.{spans_of}
@@ -11,7 +12,9 @@ use Rattle.and_reader.specs.Beginning.{IsBeginning}
 use Rattle.and_reader.specs.Causes.{refusal_of}
 use Rattle.and_reader.specs.declared.refusal.ReadRefusal.{ReadRefusal}
 use Rattle.and_batch_reader.specs.declared.opening.Opened.{Opened}
-use Rattle.and_batch_reader.specs.declared.opening.Opened.TheVariants.{Queries, Refused}
+use Rattle.and_batch_reader.specs.declared.opening.Opened.TheVariants as opened
+use Rattle.and_batch_reader.specs.declared.opening.Sought.{Sought}
+use Rattle.and_batch_reader.specs.declared.opening.Sought.TheVariants as sought
 
 -- the refusal is not want of memory, and this holds of it
 abbrev pub IsRefusedAs : (Refusal → Type 0) → ReadRefusal → Type 0
@@ -37,7 +40,23 @@ abbrev pub IsJudgedWhole : Bytes → List Span → Option ReadRefusal → Type 0
 IsJudgedWhole bytes [] refusal = IsJudged bytes refusal
 IsJudgedWhole bytes (s ∷ ss) refusal = AreJudged bytes (s ∷ ss) refusal
 
--- the text has queries, each that of a program by itself, or it is refused
-abbrev pub IsOpened : Bytes → Opened → Type 0
-IsOpened bytes (Queries spans beginning) = IsBatch bytes (spans_of spans.items) × IfSome beginning IsBeginning
-IsOpened bytes (Refused refusal) = IsRefusedAs (IsBatchRefused bytes) refusal
+-- These are the text's queries, which is not too long, and they are not too many.
+pub record AreFew (bytes : Bytes) (spans : List Span) : Type 0 where
+  pub size : length bytes ≤ MAX_BYTES
+  pub queries : HasQueries bytes spans
+  pub few : length spans ≤ 256
+
+-- the text has these queries, or it is refused
+abbrev pub IsSought : Bytes → Sought → Type 0
+IsSought bytes (sought.Queries spans) = AreFew bytes (spans_of spans.items)
+IsSought bytes (sought.Refused refusal) = IsRefusedAs (IsBatchRefused bytes) refusal
+
+-- each of the queries is that of a program by itself, or the text is refused
+abbrev pub IsOpened : Bytes → List Span → Opened → Type 0
+IsOpened bytes spans (opened.Read beginning) = IsBatch bytes spans
+IsOpened bytes spans (opened.Refused refusal) = IsRefusedAs (IsBatchRefused bytes) refusal
+
+-- what is read of the beginning, where it is, is that of all texts with these first bytes
+abbrev pub IsBegun : Opened → Type 0
+IsBegun (opened.Read beginning) = IfSome beginning IsBeginning
+IsBegun (opened.Refused refusal) = Unit {0}

@@ -3,4 +3,4 @@
 
 mod opening;
 
-pub use opening::{Opened, beginning_of, open};
+pub use opening::{Opened, Sought, beginning_of, open, seek};

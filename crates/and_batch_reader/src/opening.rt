@@ -1,7 +1,8 @@
 //! What is done with a text of several queries before any is answered.
 
 ghost use Rattle.std.specs.Prelude.{◌≡◌, ◌≤◌, ◌<◌, length, IfOk, IfSome};
-ghost use Rattle.and_batch_reader.specs.Opened.{AreJudged, IsJudged, IsJudgedWhole, IsOpened, IsRefusedAs};
+ghost use Rattle.and_batch_reader.specs.Opened.{AreFew, AreJudged, IsBegun, IsJudged, IsJudgedWhole, IsOpened, IsRefusedAs};
+ghost use Rattle.and_batch_reader.specs.Opened.{IsSought};
 ghost use Rattle.and_batch_text.specs.Queries.{HasQueries};
 ghost use Rattle.and_batch_text.specs.Singles.{single};
 ghost use Rattle.and_batch_text.specs.Refused.{IsBatchRefused};
@@ -17,14 +18,20 @@ use std::alloc::{AllocError, Global};
 /// The most queries of a text.
 const MAX_QUERIES: usize = 256;
 
-/// Where the queries of a text stand, or why it is refused.
+/// Where the queries of a text stand, or why it is refused before any of them is read.
+#[derive(Drop)]
+pub enum Sought {
+    /// They stand there.
+    Queries(Vec<Span>),
+    /// The text is refused.
+    Refused(ReadRefusal),
+}
+
+/// What comes of reading each of a text's queries by itself.
 #[derive(Drop)]
 pub enum Opened {
-    /// They stand there, and each is, by itself, that of a program. Their texts begin so, where that is read.
-    Queries {
-        spans: Vec<Span>,
-        beginning: Option<Beginning>,
-    },
+    /// Each is that of a program, and their texts begin so, where that is read.
+    Read(Option<Beginning>),
     /// The text is refused.
     Refused(ReadRefusal),
 }
@@ -174,20 +181,28 @@ fn too_many(bytes: &[u8], spans: &[Span]) -> ReadRefusal
     }
 }
 
-/// Finds the queries of a text, and reads each of them by itself. An error is want of memory.
-pub fn open(alloc: Global, bytes: &[u8]) -> Result<Opened, AllocError>
-    ensures { IfOk result (IsOpened bytes.now) }
+/// Finds the queries of a text. An error is want of memory.
+pub fn seek(alloc: Global, bytes: &[u8]) -> Result<Sought, AllocError>
+    ensures { IfOk result (IsSought bytes.now) }
 {
     if bytes.len() > MAX_BYTES {
-        return Ok(Opened::Refused(too_large(bytes)));
+        return Ok(Sought::Refused(too_large(bytes)));
     }
     let spans = queries(alloc, bytes)?;
     if spans.len() > MAX_QUERIES {
-        return Ok(Opened::Refused(too_many(bytes, spans.as_slice())));
+        return Ok(Sought::Refused(too_many(bytes, spans.as_slice())));
     }
-    let Verdict { refusal, beginning } = refusal_of_queries(alloc, bytes, spans.as_slice())?;
+    Ok(Sought::Queries(spans))
+}
+
+/// Reads each of a text's queries by itself. An error is want of memory.
+pub fn open(alloc: Global, bytes: &[u8], spans: &[Span]) -> Result<Opened, AllocError>
+    ensures opened { AreFew bytes.now (spans_of spans.now) → IfOk result (IsOpened bytes.now (spans_of spans.now)) }
+    ensures begun { IfOk result IsBegun }
+{
+    let Verdict { refusal, beginning } = refusal_of_queries(alloc, bytes, spans)?;
     match refusal {
         Some(refusal) => Ok(Opened::Refused(refusal)),
-        None => Ok(Opened::Queries { spans, beginning }),
+        None => Ok(Opened::Read(beginning)),
     }
 }

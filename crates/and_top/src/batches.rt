@@ -3,7 +3,8 @@
 ghost use Rattle.std.specs.Prelude.{◌≡◌, ◌≤◌, ◌<◌, ◌++◌, ◌||◌, ◌^◌, ℕ, true, false, nat_eq, length, drop};
 ghost use Rattle.std.specs.Prelude.{IfOk, IfSome, OnOk, All};
 ghost use Rattle.and_batch.specs.Working.{IsDueAtEach};
-ghost use Rattle.and_batch_text.specs.Refused.{IsBatch};
+ghost use Rattle.and_batch_reader.specs.Opened.{AreFew, IsRefusedAs};
+ghost use Rattle.and_batch_text.specs.Refused.{IsBatch, IsBatchRefused};
 ghost use Rattle.and_batch_text.specs.Views.{spans_of};
 ghost use Rattle.and_cells.specs.Parts.{named};
 ghost use Rattle.and_clause_index.specs.Tables.{IsTableOf};
@@ -21,13 +22,13 @@ use crate::parts::{Kept, Part, kept_of, part_of};
 use crate::status::Status;
 use and_answers::Found;
 use and_batch::{Done, TextList, Ticket, Trade, run_trade};
-use and_batch_reader::{Opened, beginning_of, open};
+use and_batch_reader::{Opened, Sought, beginning_of, open, seek};
 use and_batch_text::Span;
 use and_clause_index::Determinacy;
 use and_gate::Quiet;
 use and_model::Text;
 use and_program::Loaded;
-use and_reader::Beginning;
+use and_reader::{Beginning, ReadRefusal};
 use and_walk::walk_watched;
 use std::alloc::{AllocError, Global};
 use std::sync::Wait;
@@ -63,7 +64,8 @@ fn one_by_one<F: Fn(&Loaded, &Determinacy, u32) -> Result<Found, AllocError>>(
     Ok(texts)
 }
 
-/// The trade of answering queries, each on the thread that it is done on.
+/// The trade of answering queries, each on the thread that it is done on. What a worker has at hand is what is kept of
+/// the beginning that the texts of all queries have.
 #[derive(Drop)]
 struct QueryJob<'a> {
     alloc: Global,
@@ -73,37 +75,15 @@ struct QueryJob<'a> {
     ghost limited: { limit ≤ MAX_LIMIT },
 }
 
-/// What a worker has at hand: what is kept of the beginning that the texts of all queries have, and whether that was
-/// read.
-#[derive(Drop)]
-struct Desk {
-    is_read: bool,
-    kept: Option<Kept>,
-}
-
 impl QueryJob<'_> {
-    /// What is kept of the beginning, which is read where it was not. An error is want of memory.
-    fn kept_at(&self, desk: Desk) -> Result<Option<Kept>, AllocError>
-        requires { IfSome desk.kept IsKept }
-        ensures { IfOk result (λ kept. IfSome kept IsKept) }
-    {
-        let Desk { is_read, kept } = desk;
-        if is_read {
-            return Ok(kept);
-        }
-        let beginning = beginning_of(self.alloc, self.bytes, self.spans)?;
-        Ok(kept_of(beginning))
-    }
-
     /// What the query with that number is answered with, as it is handed on. An error is want of memory.
-    fn answer(&self, desk: Desk, number: usize) -> Result<Part, AllocError>
-        requires { IfSome desk.kept IsKept }
+    fn answer(&self, kept: Option<Kept>, number: usize) -> Result<Part, AllocError>
+        requires { IfSome kept IsKept }
         ensures due { IfOk result (λ part.
             IsDue (IsRunOf self.now.limit) self.now.bytes.now (spans_of self.now.spans.now) number part.handed) }
         ensures kept { IfOk result (λ part. IfSome part.kept IsKept) }
     {
         let alloc = self.alloc;
-        let kept = self.kept_at(desk)?;
         if number >= self.spans.len() {
             return Ok(Part {
                 handed: Text::new(alloc),
@@ -121,61 +101,39 @@ impl QueryJob<'_> {
 }
 
 impl Trade for QueryJob<'_> {
-    type Tools = Desk;
+    type Tools = Option<Kept>;
+
+    type Refusal = ReadRefusal;
 
     ghost due = { λ job number text.
         IsDue (IsRunOf job.limit) job.bytes.now (spans_of job.spans.now) number text };
 
-    ghost fit = { λ job desk. IfSome desk.kept IsKept };
+    ghost fit = { λ job kept. IfSome kept IsKept };
 
-    fn begin(&self) -> Desk {
-        Desk {
-            is_read: false,
-            kept: None,
+    ghost wanted = { λ job. AreFew job.bytes.now (spans_of job.spans.now)
+        → IsBatch job.bytes.now (spans_of job.spans.now) };
+
+    ghost refused = { λ job refusal. AreFew job.bytes.now (spans_of job.spans.now)
+        → IsRefusedAs (IsBatchRefused job.bytes.now) refusal };
+
+    fn lead(&self) -> Result<Result<Option<Kept>, ReadRefusal>, AllocError> {
+        match open(self.alloc, self.bytes, self.spans)? {
+            Opened::Read(beginning) => Ok(Ok(kept_of(beginning))),
+            Opened::Refused(refusal) => Ok(Err(refusal)),
         }
     }
 
-    fn run(&self, tools: Desk, ticket: Ticket) -> Result<(Done, Desk), AllocError> {
+    fn begin(&self) -> Result<Option<Kept>, AllocError> {
+        let beginning = beginning_of(self.alloc, self.bytes, self.spans)?;
+        Ok(kept_of(beginning))
+    }
+
+    fn run(&self, tools: Option<Kept>, ticket: Ticket) -> Result<(Done, Option<Kept>), AllocError> {
         let Part { handed, kept } = self.answer(tools, ticket.number() as usize)?;
-        Ok((
-            ticket.done(handed),
-            Desk {
-                is_read: true,
-                kept,
-            },
-        ))
+        Ok((ticket.done(handed), kept))
     }
 
-    fn end(&self, tools: Desk) {
-        let Desk {
-            is_read: _,
-            kept: _,
-        } = tools;
-    }
-}
-
-/// The answers to all queries, so many at the same time. An error is want of memory.
-fn side_by_side<R: Threads + Wait + Sync>(
-    rt: &R,
-    alloc: Global,
-    jobs: u32,
-    limit: u32,
-    bytes: &[u8],
-    spans: &[Span],
-) -> Result<TextList, AllocError>
-    requires jobs { (0 < jobs) × (jobs ≤ 8) }
-    requires limited { limit ≤ MAX_LIMIT }
-    requires batch { IsBatch bytes.now (spans_of spans.now) }
-    ensures len { IfOk result (λ texts. length texts ≡ length spans.now) }
-    ensures due { IfOk result (IsDueAtEach (IsDue (IsRunOf limit) bytes.now (spans_of spans.now))) }
-{
-    let job = QueryJob {
-        alloc,
-        bytes,
-        spans,
-        limit,
-    };
-    run_trade(rt, alloc, &job, spans.len() as u32, jobs)
+    fn end(&self, _tools: Option<Kept>) {}
 }
 
 /// Which statuses parts have had.
@@ -262,6 +220,31 @@ fn reply_of(alloc: Global, texts: &TextList) -> Result<Reply, AllocError>
     })
 }
 
+/// The answer to a text that has these queries, by this search. An error is want of memory.
+fn batched_alone<F: Fn(&Loaded, &Determinacy, u32) -> Result<Found, AllocError>>(
+    search: &F,
+    alloc: Global,
+    limit: u32,
+    bytes: &[u8],
+    spans: &[Span],
+) -> Result<Reply, AllocError>
+    requires few { AreFew bytes.now (spans_of spans.now) }
+    requires limited { limit ≤ MAX_LIMIT }
+    requires callable { (l : _) (t : _) (n : ℕ) → IsTableOf (named l.now) t.now → n ≤ MAX_LIMIT
+        → F.pre search.now l t n }
+    requires finds { (l : _) (t : _) (n : ℕ) (found : _) → IsTableOf (named l.now) t.now → n ≤ MAX_LIMIT
+        → F.post search.now l t n found → IfOk found (IsFound (program_of l.now) n) }
+    ensures { IfOk result (λ reply. WasBatched (IsRunOf limit) reply.status bytes.now reply.text) }
+{
+    match open(alloc, bytes, spans)? {
+        Opened::Refused(refusal) => refused(alloc, refusal),
+        Opened::Read(beginning) => {
+            let texts = one_by_one(search, alloc, limit, bytes, spans, beginning)?;
+            reply_of(alloc, &texts)
+        }
+    }
+}
+
 /// The answer to a text of several queries, by this search. An error is want of memory.
 pub fn batched<F: Fn(&Loaded, &Determinacy, u32) -> Result<Found, AllocError>>(
     search: &F,
@@ -276,13 +259,36 @@ pub fn batched<F: Fn(&Loaded, &Determinacy, u32) -> Result<Found, AllocError>>(
         → F.post search.now l t n found → IfOk found (IsFound (program_of l.now) n) }
     ensures { IfOk result (λ reply. WasBatched (IsRunOf limit) reply.status bytes.now reply.text) }
 {
-    match open(alloc, bytes)? {
-        Opened::Refused(refusal) => refused(alloc, refusal),
-        Opened::Queries { spans, beginning } => {
-            let spans = spans.as_slice();
-            let texts = one_by_one(search, alloc, limit, bytes, spans, beginning)?;
-            reply_of(alloc, &texts)
-        }
+    match seek(alloc, bytes)? {
+        Sought::Refused(refusal) => refused(alloc, refusal),
+        Sought::Queries(spans) => batched_alone(search, alloc, limit, bytes, spans.as_slice()),
+    }
+}
+
+/// The answer to a text that has these queries, of which so many are answered at the same time. An error is want of
+/// memory.
+fn side_by_side<R: Threads + Wait + Sync>(
+    rt: &R,
+    alloc: Global,
+    jobs: u32,
+    limit: u32,
+    bytes: &[u8],
+    spans: &[Span],
+) -> Result<Reply, AllocError>
+    requires jobs { (0 < jobs) × (jobs ≤ 8) }
+    requires limited { limit ≤ MAX_LIMIT }
+    requires few { AreFew bytes.now (spans_of spans.now) }
+    ensures { IfOk result (λ reply. WasBatched (IsRunOf limit) reply.status bytes.now reply.text) }
+{
+    let job = QueryJob {
+        alloc,
+        bytes,
+        spans,
+        limit,
+    };
+    match run_trade(rt, alloc, &job, spans.len() as u32, jobs)? {
+        Ok(texts) => reply_of(alloc, &texts),
+        Err(refusal) => refused(alloc, refusal),
     }
 }
 
@@ -298,13 +304,8 @@ pub fn batched_by<R: Threads + Wait + Sync>(
     requires limited { limit ≤ MAX_LIMIT }
     ensures { IfOk result (λ reply. WasBatched (IsRunOf limit) reply.status bytes.now reply.text) }
 {
-    match open(alloc, bytes)? {
-        Opened::Refused(refusal) => refused(alloc, refusal),
-        Opened::Queries { spans, beginning } => {
-            // Each worker reads a beginning of its own.
-            drop(beginning);
-            let texts = side_by_side(rt, alloc, jobs, limit, bytes, spans.as_slice())?;
-            reply_of(alloc, &texts)
-        }
+    match seek(alloc, bytes)? {
+        Sought::Refused(refusal) => refused(alloc, refusal),
+        Sought::Queries(spans) => side_by_side(rt, alloc, jobs, limit, bytes, spans.as_slice()),
     }
 }

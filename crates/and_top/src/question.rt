@@ -11,7 +11,7 @@ use and_model::limits::MAX_BYTES;
 pub const MAX_DOCUMENT: usize = 16_777_216;
 
 /// What the text of a program is asked for.
-#[derive(Clone, Copy, Debug, PartialEq, Eq)]
+#[derive(Clone, Copy)]
 pub enum Question {
     /// Its answers.
     Run {
@@ -70,7 +70,7 @@ impl Question {
 }
 
 /// What the bytes of a source are, and what they are asked for.
-#[derive(Clone, Copy, Debug, PartialEq, Eq)]
+#[derive(Clone, Copy)]
 pub enum Request {
     /// They are the text of a program, of which this is asked.
     Text(Question),

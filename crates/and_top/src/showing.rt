@@ -11,7 +11,7 @@ use and_model::Text;
 use std::alloc::{AllocError, Global};
 
 /// What is written of what a run found.
-#[derive(Clone, Copy, Debug, PartialEq, Eq)]
+#[derive(Clone, Copy)]
 pub enum Show {
     /// All lines, and how the run ended.
     Whole {

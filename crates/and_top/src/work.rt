@@ -7,7 +7,7 @@ use crate::question::{Question, Request};
 use and_command::{Command, Settings};
 
 /// What is to be done.
-#[derive(Clone, Copy, Debug, PartialEq, Eq)]
+#[derive(Clone, Copy)]
 pub enum Work {
     /// The bytes of the source are answered.
     Source(Request),

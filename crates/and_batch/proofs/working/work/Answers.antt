@@ -15,7 +15,7 @@ working-init g c = record {
   pass = c.requires.pass;
   took = took_begun (view c.args.pass) c.new-dones.result.items c.new-dones.ensures.items;
   due = due_none (g.T.Trade.due c.args.trade.now) c.new-dones.result.items c.new-dones.ensures.items;
-  fit = c.begin-tools.ensures;
+  fit = c.requires.fit;
 }
 
 pub working-preserved : goal.working-preserved

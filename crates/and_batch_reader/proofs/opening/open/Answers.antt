@@ -1,22 +1,23 @@
 use Rattle.std.proofs.Common.{arith, subst}
 use Rattle.and_batch_text.specs.Views.{spans_of}
 use Rattle.and_batch_reader.specs.Opened.{IsJudgedWhole}
-use Rattle.and_batch_reader.proofs.Judged.{as_batch, as_refused}
+use Rattle.and_batch_reader.proofs.Judged.{as_batch, as_refused, spans_long}
 use Rattle.and_batch_reader.proofs.opening.open.Goals as goal
 
-pub returns-in-Some : goal.returns-in-Some
-returns-in-Some c =
+pub returns-in-Some-clause-opened : goal.returns-in-Some-clause-opened
+returns-in-Some-clause-opened c = λ few.
     let bytes = c.args.bytes.now in
-    let items = c.in_ok-spans.spans.items in
-    let judged = rw c.as_slice-2.ensures.value at c.in_ok-refusal.ensures.judged in
-    as_refused bytes items c.in-Some.refusal (omega (arith, c.if-bytes-gt-MAX_BYTES.false)) c.in_ok-spans.ensures
-    (omega (arith, c.if-len-gt-MAX_QUERIES.false, c.len.ensures)) (subst (IsJudgedWhole bytes (spans_of items)) c.in-Some.is judged)
+    let ss = c.args.spans.now in
+    let most = few.few in
+    let long = spans_long ss in
+    as_refused bytes ss c.in-Some.refusal few.size few.queries (omega (arith, most, long))
+    (subst (IsJudgedWhole bytes (spans_of ss)) c.in-Some.is c.in_ok-refusal.ensures.judged)
 
-pub returns-in-None : goal.returns-in-None
-returns-in-None c =
+pub returns-in-None-clause-opened : goal.returns-in-None-clause-opened
+returns-in-None-clause-opened c = λ few.
     let bytes = c.args.bytes.now in
-    let items = c.in_ok-spans.spans.items in
-    let judged = rw c.as_slice-2.ensures.value at c.in_ok-refusal.ensures.judged in
-    let batch = as_batch bytes items (omega (arith, c.if-bytes-gt-MAX_BYTES.false)) c.in_ok-spans.ensures
-    (omega (arith, c.if-len-gt-MAX_QUERIES.false, c.len.ensures)) (subst (IsJudgedWhole bytes (spans_of items)) c.in-None.is judged) in
-    (batch, c.in_ok-refusal.ensures.beginning)
+    let ss = c.args.spans.now in
+    let most = few.few in
+    let long = spans_long ss in
+    as_batch bytes ss few.size few.queries (omega (arith, most, long))
+    (subst (IsJudgedWhole bytes (spans_of ss)) c.in-None.is c.in_ok-refusal.ensures.judged)

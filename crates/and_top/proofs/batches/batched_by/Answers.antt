@@ -1,13 +1,9 @@
-use Rattle.std.proofs.Common.{subst}
-use Rattle.and_batch_reader.specs.Opened.{IsOpened}
-use Rattle.and_top.specs.Top.{IsRunOf}
-use Rattle.and_top.proofs.BatchLemmas.{joined_opened}
+use Rattle.std.proofs.Common.{sym, subst}
+use Rattle.and_batch_text.specs.Views.{spans_of}
+use Rattle.and_batch_reader.specs.Opened.{AreFew, IsSought}
 use Rattle.and_top.proofs.batches.batched_by.Goals as goal
 
-pub returns-in_ok-texts-in-Queries : goal.returns-in_ok-texts-in-Queries
-returns-in_ok-texts-in-Queries g c =
+pub side_by_side-requires-clause-few : goal.side_by_side-requires-clause-few
+side_by_side-requires-clause-few g c κs within =
     let bytes = c.args.bytes.now in
-    let texts = c.in_ok-texts-in-Queries in
-    let batch = subst (IsOpened bytes) c.in-Queries.is c.in_ok-refusal.ensures in
-    joined_opened (IsRunOf c.args.limit) c.reply_of.result bytes c.in-Queries.spans.items c.as_slice.result.now texts.texts c.as_slice.ensures.value batch.0
-    texts.ensures.len texts.ensures.due c.reply_of.ensures.text c.reply_of.ensures.status
+    subst (λ ss. AreFew bytes (spans_of ss)) (sym c.as_slice.ensures.value) (subst (IsSought bytes) c.in-Queries.is c.in_ok-refusal.ensures)

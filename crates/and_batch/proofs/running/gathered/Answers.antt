@@ -4,12 +4,12 @@ use Rattle.crossbeam_queue.specs.Passes.{view}
 use Rattle.and_batch.specs.declared.share.Share.{Share}
 use Rattle.and_batch.specs.Working.{IsWorked}
 use Rattle.and_batch.proofs.Taking.{due_joined, numbers_joined}
-use Rattle.and_batch.proofs.running.finish.Goals as goal
+use Rattle.and_batch.proofs.running.gathered.Goals as goal
 
 pub loop-worked-preserved : goal.loop-worked-preserved
 loop-worked-preserved g c =
     let i = c.loop-worked.invariant in
-    let due = g.T.Trade.due c.args.trade.now in
+    let due = g.T.Trade.due c.args._trade.now in
     let popped = All-pop (IsWorked c.args.numbers.now due) c.loop-worked.all.items c.pop.new.self.items (Some c.in-Some.worked)
     c.in-Some.ensures.items i.each in
     let worked = c.in_ok-worked.field-0 in
