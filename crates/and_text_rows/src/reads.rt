@@ -6,8 +6,8 @@ ghost use Rattle.and_io.specs.Memory.{most};
 use crate::parts::text;
 use and_io::{MemorySource, ReadAll, ReadStop, Source, StdSource, SureSource, read_all};
 use and_model::{CallList, Text};
-use and_rows::Untold;
-use std::alloc::{AllocError, Global};
+use and_rows::{Desk, Numbers, Untold, answers, line, read_numbers};
+use std::alloc::Global;
 use std::io;
 use std::io::Read;
 
@@ -32,153 +32,115 @@ impl Read for Torn {
     }
 }
 
-/// Bytes as text, and of many bytes how many there are and whether all are the same.
-fn shown(alloc: Global, bytes: &[u8]) -> Result<String, AllocError> {
-    if bytes.len() < 100 {
-        return String::from_utf8_lossy(alloc, bytes);
-    }
-    let first = bytes[0];
-    let are_same = bytes.iter().all(|byte| *byte == first);
-    format!(in alloc; "{} bytes, all the same: {are_same}", bytes.len())
+/// How many bytes there are, and what stands there behind any number of `x`.
+fn shown(alloc: Global, how: &str, bytes: &[u8]) -> Result<String, Untold> {
+    let text = String::from_utf8_lossy(alloc, bytes)?;
+    line(
+        alloc,
+        &(how, bytes.len(), text.as_str().trim_start_matches('x')),
+    )
 }
 
 /// What one read of so many bytes at most answers.
-fn read<S: Source>(alloc: Global, source: &mut S, most: usize) -> Result<String, AllocError> {
+fn read<S: Source>(alloc: Global, source: &mut S, most: u32) -> Result<String, Untold> {
     let mut into = [0u8; 64];
-    let most = most.min(64);
+    let most = most.min(64) as usize;
     match source.read(&mut into[..most]) {
-        Ok(n) => {
-            let bytes = shown(alloc, &into[..n])?;
-            format!(in alloc; "{n} {bytes}\n")
-        }
-        Err(_) => String::from_str(alloc, "failed\n"),
+        Ok(n) => shown(alloc, "read", &into[..n]),
+        Err(_) => line(alloc, &"failed"),
     }
 }
 
 /// What reading to the end answers, up to a limit.
-fn read_to_limit<S: Source>(
-    alloc: Global,
-    source: &mut S,
-    limit: usize,
-) -> Result<String, AllocError> {
-    match read_all(alloc, source, limit.min(1_000_000)) {
-        Ok(ReadAll::Whole(text)) => {
-            let bytes = shown(alloc, text.bytes())?;
-            format!(in alloc; "whole {bytes}\n")
-        }
-        Ok(ReadAll::Over(text)) => {
-            let bytes = shown(alloc, text.bytes())?;
-            format!(in alloc; "over {bytes}\n")
-        }
-        Err(ReadStop::Failed) => String::from_str(alloc, "failed\n"),
-        Err(ReadStop::Memory) => Err(AllocError),
+fn read_to_limit<S: Source>(alloc: Global, source: &mut S, limit: u32) -> Result<String, Untold> {
+    match read_all(alloc, source, limit.min(1_000_000) as usize) {
+        Ok(ReadAll::Whole(text)) => shown(alloc, "whole", text.bytes()),
+        Ok(ReadAll::Over(text)) => shown(alloc, "over", text.bytes()),
+        Err(ReadStop::Failed) => line(alloc, &"failed"),
+        Err(ReadStop::Memory) => Err(Untold::Memory),
     }
 }
 
-/// What a call answers: `read N` or `all LIMIT`.
-fn call<S: Source>(alloc: Global, source: &mut S, line: &str) -> Result<String, Untold> {
-    let (name, number) = line.split_once(' ').unwrap_or((line, ""));
-    let Ok(number) = number.parse::<usize>() else {
-        return Err(Untold::Malformed);
-    };
-    match name {
-        "read" => Ok(read(alloc, source, number)?),
-        "all" => Ok(read_to_limit(alloc, source, number)?),
-        _ => Err(Untold::Malformed),
-    }
+/// A source that is read.
+#[derive(Drop)]
+struct Reading<S: Source> {
+    source: S,
 }
 
-/// What these calls answer, one after the other.
-fn calls<S: Source>(alloc: Global, source: &mut S, lines: &str) -> Result<String, Untold> {
-    let mut out = String::new(alloc);
-    for line in lines.lines() {
-        let told = call(alloc, source, line)?;
-        out.push_str(&told)?;
+impl<S: Source> Desk for Reading<S> {
+    fn call(&mut self, alloc: Global, name: &str, words: &str) -> Result<String, Untold> {
+        let n = read_numbers(words)?;
+        match name {
+            "read" => read(alloc, &mut self.source, n.first),
+            "all" => read_to_limit(alloc, &mut self.source, n.first),
+            _ => Err(Untold::Malformed),
+        }
     }
-    Ok(out)
 }
 
 /// Puts the number of a call behind others.
-fn push_call(calls: &mut CallList, word: &str) -> Result<(), Untold>
+fn push_call(calls: &mut CallList, number: u32) -> Result<(), Untold>
     requires { All (λ call. call ≢ most) calls.old }
     ensures { OnOk result (All (λ call. call ≢ most) calls.new) }
 {
-    let Ok(number) = word.parse::<u8>() else {
-        return Err(Untold::Malformed);
-    };
     match calls.push(u64::from(number)) {
         Ok(()) => Ok(()),
         Err(_) => Err(Untold::Memory),
     }
 }
 
-/// A source in memory that fails in the calls of these numbers.
-fn memory_source(
-    alloc: Global,
-    bytes: &str,
-    piece: usize,
-    fails: &str,
-) -> Result<MemorySource, Untold> {
+/// A source in memory that gives so many bytes a call, and fails in the calls of two numbers.
+fn memory_source(alloc: Global, bytes: &str, n: Numbers) -> Result<MemorySource, Untold> {
     let mut calls = CallList::new(alloc);
-    for word in fails.split_whitespace() {
-        push_call(&mut calls, word)?;
-    }
-    if piece == 0 {
+    push_call(&mut calls, n.second)?;
+    push_call(&mut calls, n.third)?;
+    if n.first == 0 {
         return Err(Untold::Malformed);
     }
     let text = Text::of(alloc, bytes.as_bytes())?;
-    Ok(MemorySource::new(text, piece, calls))
+    Ok(MemorySource::new(text, n.first as usize, calls))
 }
 
 /// What calls of a source in memory answer, and how many it took.
-fn of_memory(
-    alloc: Global,
-    bytes: &str,
-    piece: usize,
-    fails: &str,
-    lines: &str,
-) -> Result<String, Untold> {
-    let mut source = memory_source(alloc, bytes, piece, fails)?;
-    let told = calls(alloc, &mut source, lines)?;
-    Ok(format!(in alloc; "{told}{} calls\n", source.calls())?)
+fn of_memory(alloc: Global, bytes: &str, n: Numbers, lines: &str) -> Result<String, Untold> {
+    let source = memory_source(alloc, bytes, n)?;
+    let mut reading = Reading { source };
+    let told = answers(alloc, &mut reading, lines)?;
+    Ok(format!(in alloc; "{told}{} calls\n", reading.source.calls())?)
 }
 
 /// What calls of a source that never fails answer.
-fn of_sure(alloc: Global, bytes: &str, piece: usize, lines: &str) -> Result<String, Untold> {
+fn of_sure(alloc: Global, bytes: &str, piece: u32, lines: &str) -> Result<String, Untold> {
     if piece == 0 {
         return Err(Untold::Malformed);
     }
-    let text = Text::of(alloc, bytes.as_bytes())?;
-    calls(alloc, &mut SureSource::new(text, piece), lines)
+    let source = SureSource::new(Text::of(alloc, bytes.as_bytes())?, piece as usize);
+    answers(alloc, &mut Reading { source }, lines)
 }
 
-/// What calls of the source of these words answer: `memory PIECE FAILS..`, `sure PIECE`, `std` or `torn`.
-fn tell_of(alloc: Global, words: &str, bytes: &str, lines: &str) -> Result<String, Untold> {
-    match words {
-        "std" => return calls(alloc, &mut StdSource::new(bytes.as_bytes()), lines),
-        "torn" => return calls(alloc, &mut StdSource::new(Torn { calls: 0 }), lines),
-        _ => {}
-    }
-    let (name, numbers) = words.split_once(' ').unwrap_or((words, ""));
-    let (piece, fails) = numbers.split_once(' ').unwrap_or((numbers, ""));
-    let Ok(piece) = piece.parse::<usize>() else {
-        return Err(Untold::Malformed);
-    };
+/// What calls of a source over a reader answer.
+fn of_reader<I: Read + Drop>(alloc: Global, reader: I, lines: &str) -> Result<String, Untold> {
+    let source = StdSource::new(reader);
+    answers(alloc, &mut Reading { source }, lines)
+}
+
+/// What calls of a source of these bytes answer: `memory PIECE FAILS FAILS`, `sure PIECE`, `std` or `torn`.
+fn of_source(alloc: Global, words: &str, bytes: &str, lines: &str) -> Result<String, Untold> {
+    let (name, rest) = words.split_once(' ').unwrap_or((words, ""));
+    let n = read_numbers(rest)?;
     match name {
-        "memory" => of_memory(alloc, bytes, piece, fails, lines),
-        "sure" => of_sure(alloc, bytes, piece, lines),
+        "memory" => of_memory(alloc, bytes, n, lines),
+        "sure" => of_sure(alloc, bytes, n.first, lines),
+        "std" => of_reader(alloc, bytes.as_bytes(), lines),
+        "torn" => of_reader(alloc, Torn { calls: 0 }, lines),
         _ => Err(Untold::Malformed),
     }
 }
 
 /// What the calls answer whose lines stand behind that of a source and that of its bytes.
 pub(crate) fn tell(alloc: Global, lines: &str) -> Result<String, Untold> {
-    let Some((words, rest)) = lines.split_once('\n') else {
-        return Err(Untold::Malformed);
-    };
-    let Some((bytes, lines)) = rest.split_once('\n') else {
-        return Err(Untold::Malformed);
-    };
+    let (words, rest) = lines.split_once('\n').unwrap_or((lines, ""));
+    let (bytes, calls) = rest.split_once('\n').unwrap_or((rest, ""));
     let bytes = text(alloc, bytes)?;
-    tell_of(alloc, words, &bytes, lines)
+    of_source(alloc, words, &bytes, calls)
 }

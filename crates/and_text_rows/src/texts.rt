@@ -1,34 +1,62 @@
-//! Texts and what they are refused for.
+//! Texts and what they are refused for, names as they are written, lists of words, and generated texts.
 
+use and_command::command_of;
+use and_gen::layered;
+use and_model::Text;
+use and_quoting::write_name;
 use and_reader::{read_program, refusal_text};
-use and_rows::Untold;
-use std::alloc::{AllocError, Global};
+use and_rows::{Untold, line};
+use std::alloc::Global;
 
-/// The line of how many clauses a text's program has, or of why it is none.
-fn line(alloc: Global, text: &[u8]) -> Result<String, AllocError> {
+/// Bytes as text.
+fn shown(alloc: Global, bytes: &[u8]) -> Result<String, Untold> {
+    Ok(String::from_utf8_lossy(alloc, bytes)?)
+}
+
+/// How many clauses a text's program has, or why it is none.
+pub(crate) fn text(alloc: Global, text: &[u8]) -> Result<String, Untold> {
     match read_program(alloc, text) {
-        Ok(loaded) => format!(in alloc; "{} clauses\n", loaded.clause_count()),
+        Ok(loaded) => line(alloc, &loaded.clause_count()),
         Err(refusal) => {
             if refusal.is_memory() {
-                return Err(AllocError);
+                return Err(Untold::Memory);
             }
-            let text = refusal_text(alloc, &refusal)?;
-            String::from_utf8_lossy(alloc, text.bytes())
+            shown(alloc, refusal_text(alloc, &refusal)?.bytes())
         }
     }
 }
 
-/// What is told of a text.
-pub(crate) fn of_bytes(alloc: Global, text: &[u8]) -> Result<String, Untold> {
-    Ok(line(alloc, text)?)
+/// A name as it is written.
+pub(crate) fn name(alloc: Global, name: &[u8]) -> Result<String, Untold> {
+    let mut text = Text::new(alloc);
+    write_name(&mut text, name)?;
+    text.append(b"\n")?;
+    shown(alloc, text.bytes())
 }
 
-/// What is told of each line, as a text of its own.
-pub(crate) fn of_lines(alloc: Global, lines: &str) -> Result<String, Untold> {
-    let mut out = String::new(alloc);
-    for text in lines.lines() {
-        let told = line(alloc, text.as_bytes())?;
-        out.push_str(&told)?;
+/// The command of words with blanks between.
+pub(crate) fn command(alloc: Global, typed: &str) -> Result<String, Untold> {
+    let mut words = Vec::new(alloc);
+    for word in typed.split_whitespace() {
+        words.push(String::from_str(alloc, word)?)?;
     }
-    Ok(out)
+    line(alloc, &command_of(alloc, &words)?)
+}
+
+/// The generated text of a number, or why there is none.
+pub(crate) fn generated(alloc: Global, number: &str) -> Result<String, Untold> {
+    let Ok(number) = number.parse::<u32>() else {
+        return Err(Untold::Malformed);
+    };
+    match layered(alloc, number) {
+        Ok(text) => shown(alloc, text.bytes()),
+        Err(fault) => line(alloc, &fault),
+    }
+}
+
+/// How many lines the generated text of a number has, and the last of them.
+pub(crate) fn last_generated(alloc: Global, number: &str) -> Result<String, Untold> {
+    let text = generated(alloc, number)?;
+    let last = text.lines().last().unwrap_or("");
+    line(alloc, &(text.lines().count(), last))
 }
