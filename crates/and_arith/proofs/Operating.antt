@@ -3,20 +3,14 @@ use Rattle.std.proofs.Common.{ℕ, ℤ, ◌≡◌, ◌≢◌, ◌≤◌, ◌-◌
 use Rattle.std.proofs.Common.{◌∙◌, arith}
 use Rattle.std.proofs.lemmas.Bool.Decides.{nat_tests}
 use Rattle.std.proofs.lemmas.List.{reverse-append, reverse-reverse, length-reverse, length-drop, take-append-drop}
-use Rattle.and_model.specs.Arithmetic.{of_one, of_two, operated}
+use Rattle.and_model.specs.Arithmetic.{of_two, operated}
 use Rattle.and_model.specs.declared.builtins.TheConstants.{PLUS, MINUS, TIMES, DIVIDE, MODULO, REMAINDER, LEAST, GREATEST}
 use Rattle.and_arith.specs.Operators.{name_of}
 use Rattle.and_arith.specs.declared.operations.Operator.{Operator}
 use Rattle.and_arith.specs.declared.operations.Operator.TheVariants.{Add, Subtract, Times, Divide, Modulo, Remainder, Least, Greatest}
 
-differs : (c k : ℕ) → (c ≡ k → ⊥) → nat_eq c k ≡ false
+pub differs : (c k : ℕ) → (c ≡ k → ⊥) → nat_eq c k ≡ false
 differs c k apart = grind (arith, nat_tests, apart)
-
--- only the minus is of one number
-pub none_of_one : (c : ℕ) (v : Option ℤ) → (c ≡ MINUS → ⊥) → operated c (v ∷ []) ≡ None
-unfolding of_one
-none_of_one c None apart = refl
-none_of_one c (Some a) apart = rw (differs c MINUS apart) refl
 
 -- a name that is no operation gives nothing
 none_of_two : (c : ℕ) (a b : ℤ) → ((o : Operator) → c ≡ name_of o → ⊥) → of_two c a b ≡ None

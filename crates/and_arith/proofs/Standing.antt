@@ -48,10 +48,6 @@ pub record Stands (P : NamedProgram) (first : Seen) (root : Ref) (settings : Lis
   pub covered : (k : Setting) → Contains settings k → Covered P now tasks (cells_of taken) k.value
   pub later : (t : Seen) (more : Extends now t) → Stays P t more.once root tasks values taken
 
--- how many cells are taken
-pub taken_length : (settings : List Setting) (taken : Listed) → places settings ≡ cells_of taken → length settings ≡ length taken
-taken_length settings taken e = sym (length-map settings (λ (k : Setting). k.place)) ∙ ap length e ∙ length-map taken (λ (x : ℕ × Option ℤ). x.0)
-
 -- a cell among those that were taken has an entry, and the other way round
 pub entry_of_cell : (taken : Listed) (cell : ℕ) → Contains (cells_of taken) cell → IsNew taken cell → ⊥
 entry_of_cell taken cell c new =

@@ -1,6 +1,6 @@
 -- Steps of a walk: references without parts, structures, and what becomes of them.
 use Rattle.std.proofs.Common.{ℕ, ℤ, pos, ◌≡◌, ◌≤◌, ◌<◌, ◌++◌, List, [], ◌∷◌, length, reverse, Result, Ok, Err, Option, Some, None, FitsSigned, w64, to_z}
-use Rattle.std.proofs.Common.{of_z, refl, ap, sym, ◌∙◌, subst, arith}
+use Rattle.std.proofs.Common.{of_z, refl, ap, sym, ◌∙◌, subst}
 use Rattle.std.specs.Prelude.{OnOk, OnErr, ◌^◌}
 use Rattle.std.proofs.lemmas.Int.{to_z-of_z}
 use Rattle.std.proofs.lemmas.Option.{slice_get-get_or}
@@ -19,9 +19,9 @@ use Rattle.and_cells.specs.Ranges.{NamedProgram, IsInRange, IsInRangeOrHalf}
 use Rattle.and_cells.specs.Seen.{Seen, ReadsNumber}
 use Rattle.and_cells.specs.Numbers.{number_of}
 use Rattle.and_arith.specs.Taken.{Listed, IsNew}
-use Rattle.and_arith.specs.Turns.{IsEnd, of_pair, of_literal, IsStructureAt, Undone, Comes, ends, opens, takes, tasks_of, AreCounted}
+use Rattle.and_arith.specs.Turns.{IsEnd, of_pair, of_literal, IsStructureAt, Undone, Comes, ends, opens, takes, tasks_of}
 use Rattle.and_arith.specs.declared.walk.Task.{Task}
-use Rattle.and_arith.specs.declared.walk.Task.TheVariants.{Leave, Keep}
+use Rattle.and_arith.specs.declared.walk.Task.TheVariants.{Keep}
 use Rattle.and_arith.specs.declared.walk.Turn.{Turn}
 use Rattle.and_arith.specs.declared.walk.Turn.TheVariants.{Again, Over}
 use Rattle.and_arith.specs.declared.values.Valued.TheVariants as valued
@@ -88,20 +88,6 @@ in_range_under N P words place at same is fits = subst (λ (Q : NamedProgram). I
 -- the task that was taken out came first
 pub next_task : (old new : List Task) (t u : Task) → old ≡ new ++ t ∷ [] → t ≡ u → reverse old ≡ u ∷ reverse new
 next_task old new t u is same = ap reverse is ∙ reverse-append new (t ∷ []) ∙ ap (λ x. x ∷ reverse new) same
-
--- there are values for what is to be left next
-pub counted_next : (name : NameNo) (count : ℕ) (tasks rest : List Task) (n : ℕ) → tasks ≡ Leave name count ∷ rest → AreCounted tasks n → count ≤ n
-counted_next name count tasks rest n is counted =
-    let c : AreCounted (Leave name count ∷ rest) n = subst (λ ts. AreCounted ts n) is counted in
-    omega (arith, c.1)
-
--- and one for what is to be kept next
-pub kept_next : (cell : ℕ) (tasks rest : List Task) (n : ℕ) → tasks ≡ Keep cell ∷ rest → AreCounted tasks n → 0 < n
-kept_next cell tasks rest n is counted = let c : AreCounted (Keep cell ∷ rest) n = subst (λ ts. AreCounted ts n) is counted in c.0
-
--- and one where nothing is left
-pub counted_last : (tasks : List Task) (n : ℕ) → tasks ≡ [] → AreCounted tasks n → n ≡ 1
-counted_last tasks n is counted = subst (λ ts. AreCounted ts n) is counted
 
 -- a structure that no cell leads to was opened
 pub opened_comes : {T E : Type 0} (r : Result T E) (P : NamedProgram) (node : NodeNo) (base : ℕ) (name : NameNo) (count : ℕ) (old new : Undone)

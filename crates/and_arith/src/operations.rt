@@ -93,6 +93,17 @@ pub fn negate(value: i64) -> Option<i64>
     value.checked_neg()
 }
 
+/// What the operation of a name gives for one number; `None` where it is of none, and where it gives no number of 64
+/// bits. Takes no memory.
+pub(crate) fn apply_to_one(name: u32, value: i64) -> Option<i64>
+    ensures { result ≡ of_one name value }
+{
+    match name {
+        MINUS => negate(value),
+        _ => None,
+    }
+}
+
 /// Whether two numbers stand in a relation. Takes no memory.
 pub fn compare(by: Relation, left: i64, right: i64) -> bool
     ensures { result ≡ related (relation by) left right }

@@ -15,11 +15,10 @@ ghost use Rattle.and_arith.specs.declared.values.Valued.{Valued};
 ghost use Rattle.and_arith.specs.declared.walk.Task.{Task};
 
 use crate::chains::{Followed, follow};
-use crate::operations::{apply, negate, operator_of};
+use crate::operations::{apply, apply_to_one, operator_of};
 use crate::taken::Lookup;
 use crate::values::{Valued, WorkList};
 use and_cells::Cells;
-use and_model::builtins::MINUS;
 use and_model::{NameNo, NodeNo, Ref};
 use and_program::{Loaded, NodeKind};
 use std::alloc::AllocError;
@@ -326,10 +325,7 @@ fn last(values: &mut Vec<Option<i64>>) -> Option<i64>
 fn of_one(name: NameNo, value: Option<i64>) -> Option<i64>
     ensures { result ≡ operated name.0 (value ∷ []) }
 {
-    if name.0 != MINUS {
-        return None;
-    }
-    negate(value?)
+    apply_to_one(name.0, value?)
 }
 
 /// What the operation of that name gives for two values.

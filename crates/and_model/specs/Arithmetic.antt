@@ -2,9 +2,10 @@
 -- there is no value).
 use Rattle.std.specs.Prelude.{ℕ, ◌-◌, ◌/◌, ◌^◌, suc, ℤ, pos, negsuc, ◌+ℤ◌, ◌-ℤ◌, ◌*ℤ◌, neg_ℤ, int_div, int_le, int_lt}
 use Rattle.std.specs.Prelude.{Bool, false, not, ◌&&◌, List, [], ◌∷◌, Option, Some, None, nat_eq, if◌then◌else◌}
+use Rattle.std.specs.List.{list_any}
 use Rattle.and_model.specs.Terms.{Term, Terms, variable, number, compound, none, more}
 use Rattle.and_model.specs.declared.builtins.TheConstants.{PLUS, MINUS, TIMES, DIVIDE, MODULO, REMAINDER, LEAST}
-use Rattle.and_model.specs.declared.builtins.TheConstants.{GREATEST}
+use Rattle.and_model.specs.declared.builtins.TheConstants.{GREATEST, OPERATIONS}
 
 -- a number of 64 bits with a sign, else none
 abbrev pub in_range : ℤ → Option ℤ
@@ -23,6 +24,10 @@ floor_quotient a (negsuc m) = floor_by (neg_ℤ a) (suc m)
 abbrev pub is_zero : ℤ → Bool
 is_zero (pos n) = nat_eq n 0
 is_zero (negsuc n) = false
+
+-- the name is an operation of so many numbers
+abbrev pub is_operation : (name count : ℕ) → Bool
+is_operation c n = list_any (λ (o : ℕ × ℕ). nat_eq n o.1 && nat_eq c o.0) OPERATIONS
 
 -- The table of the operations on two numbers. (`int_div` is the quotient, truncated toward zero.)
 unfoldable pub of_two : ℕ → ℤ → ℤ → Option ℤ

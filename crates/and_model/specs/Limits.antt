@@ -1,9 +1,12 @@
--- Where the limit on the weight of a tree keeps an exploration from going on (this project's own).
-use Rattle.std.specs.Prelude.{ℕ, ◌+◌, ◌<◌, ◌≡◌, ◌⊎◌, List}
+-- Where the limit on the weight of a tree keeps an exploration from going on, and how many may explore (this project's
+-- own).
+use Rattle.std.specs.Prelude.{ℕ, ◌+◌, ◌<◌, ◌≤◌, ◌≡◌, ◌⊎◌, List}
 use Rattle.and_model.specs.Solutions.{Equation}
 use Rattle.and_model.specs.Programs.{Program, Arithmetic, clause_at, clause_weight}
 use Rattle.and_model.specs.Trees.{QueryTree, Open, IsLeftmost, Closed, weight}
 use Rattle.and_model.specs.Reached.{CandidateOf, Shut, Dead, Reached}
+use Rattle.and_model.specs.declared.limits.Hands.{Hands}
+use Rattle.and_model.specs.declared.limits.TheConstants.{MAX_TEAMS, MAX_WORKERS}
 
 -- What does not fit: the query by itself, or a partial tree with a clause for one of its open goals.
 pub data Cut (P : Program) : Type 0 where
@@ -26,3 +29,7 @@ OverLimit P limit (at_goal t o c) =
     × CandidateOf t es o c × (((d : ℕ) → CandidateOf t es o d → d ≡ c) ⊎ (Shut t × IsLeftmost t o))
     × (limit < weight t + clause_weight (clause_at P c))
     × NoneAloneFits P limit t es
+
+-- There is a team at least, each has a worker at least, and there are not more than there may be.
+abbrev pub AreInRange : Hands → Type 0
+AreInRange hands = (0 < hands.teams) × (hands.teams ≤ MAX_TEAMS) × (0 < hands.workers) × (hands.workers ≤ MAX_WORKERS)

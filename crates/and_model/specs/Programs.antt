@@ -1,47 +1,17 @@
 -- Programs of pure clauses, and what they weigh (Lloyd, section 2; the weights are this project's own).
 use Rattle.std.specs.Prelude.{ℕ, suc, ◌+◌, ◌≡◌, Bool, true, false, List, [], ◌∷◌, get_or, length, nat_eq, leb, ltb}
-use Rattle.std.specs.Prelude.{◌&&◌, codes, map}
+use Rattle.std.specs.Prelude.{◌&&◌, map}
 use Rattle.and_model.specs.Terms.{Path, Term, Terms, variable, number, compound, none, more, framed}
 use Rattle.and_model.specs.Arithmetic.{Relation}
-use Rattle.and_model.specs.declared.builtins.TheConstants.{TRUE, FAIL, CONJUNCTION, EQUAL, IS, LESS, GREATER, AT_MOST}
-use Rattle.and_model.specs.declared.builtins.TheConstants.{AT_LEAST, SAME, DIFFERS, PLUS, MINUS, TIMES, DIVIDE}
-use Rattle.and_model.specs.declared.builtins.TheConstants.{MODULO, REMAINDER, LEAST, GREATEST, POINT, NIL}
-use Rattle.and_model.specs.declared.builtins.TheConstants.{DISJUNCTION, IF_THEN, NOT_PROVABLE, CUT, NECK, QUERY}
+use Rattle.and_model.specs.declared.builtins.TheConstants.{BUILT_IN}
 
--- The names that every table of names begins with, each with its number, which is its place there.
-abbrev pub numbered_names : List (ℕ × List ℕ)
-numbered_names =
-    (TRUE, codes "true")
-    ∷ (FAIL, codes "fail")
-    ∷ (CONJUNCTION, codes ",")
-    ∷ (EQUAL, codes "=")
-    ∷ (IS, codes "is")
-    ∷ (LESS, codes "<")
-    ∷ (GREATER, codes ">")
-    ∷ (AT_MOST, codes "=<")
-    ∷ (AT_LEAST, codes ">=")
-    ∷ (SAME, codes "=:=")
-    ∷ (DIFFERS, codes "=\\=")
-    ∷ (PLUS, codes "+")
-    ∷ (MINUS, codes "-")
-    ∷ (TIMES, codes "*")
-    ∷ (DIVIDE, codes "//")
-    ∷ (MODULO, codes "mod")
-    ∷ (REMAINDER, codes "rem")
-    ∷ (LEAST, codes "min")
-    ∷ (GREATEST, codes "max")
-    ∷ (POINT, codes ".")
-    ∷ (NIL, codes "[]")
-    ∷ (DISJUNCTION, codes ";")
-    ∷ (IF_THEN, codes "->")
-    ∷ (NOT_PROVABLE, codes "\\+")
-    ∷ (CUT, codes "!")
-    ∷ (NECK, codes ":-")
-    ∷ (QUERY, codes "?-")
-    ∷ []
-
+-- the names that every table of names begins with
 abbrev pub builtin_names : List (List ℕ)
-builtin_names = map (λ (n : ℕ × List ℕ). n.1) numbered_names
+builtin_names = map (λ name. name.1.now) BUILT_IN
+
+-- the number of the name that stands k behind the first of a program's own names
+abbrev pub own_name : ℕ → ℕ
+own_name k = length builtin_names + k
 
 -- A goal of arithmetic: `left is right`, or a comparison of two terms.
 pub data Arithmetic : Type 0 where

@@ -1,7 +1,8 @@
 //! The numbers of the names that every table of names begins with.
 
-ghost use Rattle.std.specs.Prelude.{ℕ, ◌≡◌, List, [], ◌∷◌, map};
-ghost use Rattle.and_model.specs.Programs.{numbered_names};
+ghost use Rattle.std.specs.Prelude.{ℕ, ℤ, ◌≡◌, List, [], ◌∷◌, Option, None, false, length, map};
+ghost use Rattle.and_model.specs.Arithmetic.{is_operation, operated};
+ghost use Rattle.and_model.specs.declared.builtins.TheConstants.{BUILT_IN};
 
 /// `true`, the empty body, and the head of a query.
 pub const TRUE: u32 = 0;
@@ -58,9 +59,59 @@ pub const NECK: u32 = 25;
 /// `?-`, before a query.
 pub const QUERY: u32 = 26;
 
+/// The names that every table of names begins with, each with its number, which is its place there.
+pub const BUILT_IN: [(u32, &[u8]); 27] = [
+    (TRUE, b"true"),
+    (FAIL, b"fail"),
+    (CONJUNCTION, b","),
+    (EQUAL, b"="),
+    (IS, b"is"),
+    (LESS, b"<"),
+    (GREATER, b">"),
+    (AT_MOST, b"=<"),
+    (AT_LEAST, b">="),
+    (SAME, b"=:="),
+    (DIFFERS, b"=\\="),
+    (PLUS, b"+"),
+    (MINUS, b"-"),
+    (TIMES, b"*"),
+    (DIVIDE, b"//"),
+    (MODULO, b"mod"),
+    (REMAINDER, b"rem"),
+    (LEAST, b"min"),
+    (GREATEST, b"max"),
+    (POINT, b"."),
+    (NIL, b"[]"),
+    (DISJUNCTION, b";"),
+    (IF_THEN, b"->"),
+    (NOT_PROVABLE, b"\\+"),
+    (CUT, b"!"),
+    (NECK, b":-"),
+    (QUERY, b"?-"),
+];
+
+/// The operations of arithmetic: each name with how many numbers it is of.
+pub const OPERATIONS: [(u32, u8); 9] = [
+    (PLUS, 2),
+    (MINUS, 2),
+    (TIMES, 2),
+    (DIVIDE, 2),
+    (MODULO, 2),
+    (REMAINDER, 2),
+    (LEAST, 2),
+    (GREATEST, 2),
+    (MINUS, 1),
+];
+
 /// Each of these numbers is the place of its name in every table.
 pub fn numbers_of_names_are_places()
-    ensures { map (λ (n : ℕ × List ℕ). n.0) numbered_names
+    ensures { map (λ name. name.0) BUILT_IN
         ≡ 0 ∷ 1 ∷ 2 ∷ 3 ∷ 4 ∷ 5 ∷ 6 ∷ 7 ∷ 8 ∷ 9 ∷ 10 ∷ 11 ∷ 12 ∷ 13 ∷ 14 ∷ 15 ∷ 16 ∷ 17 ∷ 18 ∷ 19 ∷ 20 ∷ 21 ∷ 22 ∷ 23
         ∷ 24 ∷ 25 ∷ 26 ∷ [] }
+{}
+
+/// A name that is no operation of so many numbers gives no value for them.
+pub fn what_is_no_operation_has_no_value()
+    ensures { (name : ℕ) (values : List (Option ℤ)) → is_operation name (length values) ≡ false
+        → operated name values ≡ None }
 {}

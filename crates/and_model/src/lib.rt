@@ -15,7 +15,7 @@ pub mod text;
 
 ghost use Rattle.and_model.specs.Output.{Output};
 
-pub use builtins::numbers_of_names_are_places;
+pub use builtins::{numbers_of_names_are_places, what_is_no_operation_has_no_value};
 pub use code::{Code, codes_are_in_total_order};
 pub use goal::{CallList, ClauseList, Cut, Frame, Goal, GoalList, Reduction, ReductionList};
 pub use laws_of_stores::{a_word_has_one_winner, what_is_known_stays};

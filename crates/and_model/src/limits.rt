@@ -1,4 +1,4 @@
-//! The limits on programs, and on what a search of their answers may take.
+//! The limits on programs, and on what a search of their answers may take; and who searches.
 
 /// The most bytes of a program's text.
 pub const MAX_BYTES: usize = 1_048_576;
@@ -19,3 +19,16 @@ pub const MAX_LIMIT: u32 = 4_194_304;
 /// The most words of a row: a tree has no more than it weighs, and the variables of a clause that is
 /// tried stand behind them.
 pub const MAX_WORDS: u32 = MAX_LIMIT + 256;
+/// The most teams of a search.
+pub const MAX_TEAMS: u32 = 16;
+/// The most workers of a team.
+pub const MAX_WORKERS: u32 = 8;
+
+/// Who searches: so many teams of so many workers.
+#[derive(Clone, Copy, Debug, PartialEq, Eq)]
+pub struct Hands {
+    /// How many teams explore.
+    pub teams: u32,
+    /// How many workers a team has.
+    pub workers: u32,
+}
