@@ -21,7 +21,7 @@ use std::alloc::{AllocError, Global};
 struct Predicate {
     /// Its clauses, in textual order.
     clauses: Vec<ClauseNo>,
-    /// Those of them that serve a first argument, if a table of them stays small.
+    /// Those of them that serve a first argument, if a table of them pays.
     by_first: Option<FirstArguments>,
 }
 
@@ -185,16 +185,17 @@ fn serves_all(addition: Addition) -> bool {
     }
 }
 
-/// Whether a table of these clauses stays small: there are few of them, or of those without a key.
-fn stays_small(additions: &[Addition]) -> bool {
+/// Whether a table of these clauses pays: some have keys, and it stays small, since there are few of them, or of those
+/// without a key.
+fn pays(additions: &[Addition]) -> bool {
     let shared = additions
         .iter()
         .filter(|addition| serves_all(**addition))
         .count();
-    shared.saturating_mul(additions.len()) <= MOST_LISTED
+    shared < additions.len() && shared.saturating_mul(additions.len()) <= MOST_LISTED
 }
 
-/// The table of these clauses by first arguments, if it stays small. An error is want of memory.
+/// The table of these clauses by first arguments, if it pays. An error is want of memory.
 fn table_of(
     alloc: Global,
     loaded: &Loaded,
@@ -204,7 +205,7 @@ fn table_of(
     ensures { IfOk result (IsTableFor (additions_of (program_of loaded.now) clauses.now)) }
 {
     let additions = additions_for(alloc, loaded, clauses)?;
-    if !stays_small(&additions) {
+    if !pays(&additions) {
         return Ok(None);
     }
     Ok(Some(FirstArguments::of(alloc, &additions)?))

@@ -1,6 +1,6 @@
 -- One step of the copying of a term.
 use Rattle.std.proofs.Common.{ℕ, zero, suc, ◌+◌, ◌-◌, ◌≡◌, ◌<◌, ◌≤◌, List, [], ◌∷◌, ◌++◌, length, get_or, map, take, drop, All, refl, ap, sym, ◌∙◌}
-use Rattle.std.proofs.Common.{true, reverse, arith, subst}
+use Rattle.std.proofs.Common.{true, reverse, arith, subst, inl, inr}
 use Rattle.std.proofs.lemmas.List.Elements.{All-nil, All-cons, All-head, All-append}
 use Rattle.std.proofs.lemmas.List.{length-append, length-map, map_push, take-append-drop, take-take, take-map, drop-map, append-nil, length-drop}
 use Rattle.std.proofs.lemmas.List.{length-take-le}
@@ -22,7 +22,7 @@ use Rattle.and_clauses.specs.Parts.{part_shape, part_shapes, PartsFall, AllNarro
 use Rattle.and_clauses.specs.Sorts.{shapes_under}
 use Rattle.and_clauses.specs.Outlined.{size_of}
 use Rattle.and_clauses.specs.Copied.{Task, term, name, finish, Fits, tasks_size, tasks_work, tasks_variables, AreTasks, Grown}
-use Rattle.and_clauses.specs.Copies.{Copies, IsNode, task_in, tasks_in, numbers_in}
+use Rattle.and_clauses.specs.Copies.{Copies, IsNode, IsPut, task_in, tasks_in, numbers_in}
 use Rattle.and_clauses.specs.Lifts.{IsNamed, AllNamed}
 use Rattle.and_clauses.specs.declared.lifting.Copying.{Copying}
 use Rattle.and_model.specs.declared.numbers.NodeNo.{NodeNo}
@@ -33,7 +33,8 @@ use Rattle.and_clauses.proofs.Drafting.{Falls-more}
 use Rattle.and_clauses.proofs.Noting.{Falls-append, part_falls}
 use Rattle.and_clauses.proofs.Meeting.{few_arguments}
 use Rattle.and_clauses.proofs.ConjunctLemmas.{first_part, part_of}
-use Rattle.and_clauses.proofs.Copying.{name_next, Fits-name, name_size, name_work, name_variables, name_there, grown_push, pushed_term, terms_stay, take-le}
+use Rattle.and_clauses.proofs.Copying.{name_next, Fits-name, name_size, name_work, name_variables, name_there, grown_push, pushed_term, found_term}
+use Rattle.and_clauses.proofs.Copying.{terms_stay, take-le}
 
 pub grown_again : (m : ℕ) (old mid new : List Shape) (a b : ℕ) → Grown m old mid a → Grown m mid new b → Grown m old new b
 grown_again m old mid new a b g h = record {
@@ -86,6 +87,25 @@ leaf_copied ss new parts names old us vs most fs gs n ts whole s c made pushed f
       small = All-back (IsSmall new) (variables_of (node_term ss n)) (tasks_variables ss ts) c.small;
       grown = grown_push names old us vs s most c.grown made falls within (omega (arith, c.room, one));
       room = omega (arith, c.room, one, longer);
+    }
+
+-- a variable whose node was there
+leaf_found : (ss : List Shape) (new : Numbering) (parts names : ℕ) (old us : List Shape) (most : ℕ) (fs gs : List ℕ) (n m : ℕ) (ts : List Task)
+    (whole : Term)
+    → IsCopying ss new parts names old us most fs (term n ∷ ts) whole → gs ≡ fs ++ m ∷ [] → m < length us → size_of (node_term ss n) ≡ 1
+    → node_term us m ≡ renumbered new (node_term ss n) → IsCopying ss new parts names old us most gs ts whole
+leaf_found ss new parts names old us most fs gs n m ts whole c pushed lt one same =
+    let more : length gs ≡ suc (length fs) = omega (arith, ap length pushed, length-append fs (m ∷ [])) in
+    let e : map (node_term us) gs ≡ map (node_term us) fs ++ renumbered new (node_term ss n) ∷ [] =
+    ap (map (node_term us)) pushed ∙ map_push (node_term us) fs m ∙ ap (λ t. map (node_term us) fs ++ t ∷ []) same in
+    record {
+      done = ap (finish ss new ts) e ∙ c.done;
+      fits = subst (Fits ts) (sym more) c.fits;
+      there = subst (Falls (length us)) (sym pushed) (Falls-append (length us) fs (m ∷ []) c.there (lt, tt));
+      are = c.are.1;
+      small = All-back (IsSmall new) (variables_of (node_term ss n)) (tasks_variables ss ts) c.small;
+      grown = c.grown;
+      room = omega (arith, c.room, one);
     }
 
 -- a name: its arguments come next, and then it
@@ -215,13 +235,28 @@ module _ (names : List Bytes) (parts : List DraftPart) (new : Numbering) (falls 
           copying = leaf_copied ss new (length parts) (length names) old us vs most fs gs n ts whole s c made pushed f w one is;
         })
 
+    -- a variable, whose node is a new one or one that was there
+    variable_copied : (m k : ℕ) → IsPut us vs (Skeletons.variable k) m → gs ≡ fs ++ m ∷ [] → rs ≡ ts → k < 255
+        → size_of (node_term ss n) ≡ 1 → Terms.variable [] k ≡ renumbered new (node_term ss n)
+        → Copied ss new (length parts) (length names) old us vs most gs (term n ∷ ts) rs whole
+    variable_copied m k (inl put) pushed same small one is =
+        leaf (Skeletons.variable k) put.0 (pushed ∙ ap (λ j. fs ++ j ∷ []) put.1) same tt small one is
+    variable_copied m k (inr found) pushed same small one is =
+        let there = found_term us m k found.1 in
+        let done : Copied ss new (length parts) (length names) old us us most gs (term n ∷ ts) ts whole = record {
+          less = omega (arith, one);
+          copying = leaf_found ss new (length parts) (length names) old us most fs gs n m ts whole c pushed there.0 one (there.1 ∙ is);
+        } in
+        subst (λ xs. Copied ss new (length parts) (length names) old us xs most gs (term n ∷ ts) rs whole) (sym found.0)
+        (subst (λ xs. Copied ss new (length parts) (length names) old us us most gs (term n ∷ ts) xs whole) (sym same) done)
+
     pub part_copied : (p : DraftPart) → p ≡ get_or parts n p → Copies names new p us vs fs gs ts rs
         → Copied ss new (length parts) (length names) old us vs most gs (term n ∷ ts) rs whole
     part_copied (Variable x k) at h =
         let is : node_term ss n ≡ Terms.variable [] k = part_term names parts n (Variable x k) falls lt at in
         let small : All (IsSmall new) (([], k) ∷ []) =
         subst (λ t. All (IsSmall new) (variables_of t)) is (All-front (IsSmall new) (variables_of (node_term ss n)) (tasks_variables ss ts) c.small) in
-        leaf (Skeletons.variable (new [] k)) h.0 h.1 h.2 tt (All-head (IsSmall new) ([], k) [] small) (ap size_of is) (sym (ap (renumbered new) is))
+        variable_copied h.0.node (new [] k) h.0.put h.0.last h.1 (All-head (IsSmall new) ([], k) [] small) (ap size_of is) (sym (ap (renumbered new) is))
     part_copied (Integer z) at h =
         let is : node_term ss n ≡ Terms.number z = part_term names parts n (Integer z) falls lt at in
         leaf (Skeletons.number z) h.0 h.1 h.2 tt tt (ap size_of is) (sym (ap (renumbered new) is))

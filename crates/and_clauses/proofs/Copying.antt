@@ -1,11 +1,13 @@
 -- A term is copied part by part.
 use Rattle.std.proofs.Common.{ℕ, zero, suc, ◌+◌, ◌*◌, ◌-◌, ◌≡◌, ◌<◌, ◌≤◌, List, [], ◌∷◌, ◌++◌, length, get_or, map, take, drop}
-use Rattle.std.proofs.Common.{refl, ap, sym, ◌∙◌, arith, subst}
+use Rattle.std.proofs.Common.{refl, ap, sym, ◌∙◌, arith, subst, slice_get, Some}
 use Rattle.std.proofs.lemmas.List.{append_assoc, append-nil, length-append, length-map}
+use Rattle.std.proofs.lemmas.Option.{slice_get_within, get_or_from_slice_get}
 use Rattle.std.proofs.Math.Seq.{take-append_seam, drop-append_seam}
 use Rattle.and_model.specs.Terms
 use Rattle.and_model.specs.Terms.{Path, Term, Terms, variables_of, variables_in, apply, apply_all}
 use Rattle.and_source.specs.Lifted.{Numbering, renumbered}
+use Rattle.and_program.specs.Skeletons
 use Rattle.and_program.specs.Skeletons.{Shape, node_term, shape_term, terms_behind, term_list, Falls, IsFalling, AllFall}
 use Rattle.and_program.specs.Kept.{IsWithin, AllWithin}
 use Rattle.and_program.proofs.NodeTerms.{node_term_front, node_term_at}
@@ -127,6 +129,13 @@ pushed_term us vs s e =
     ap (λ xs. node_term xs (length us)) e ∙ node_term_at (us ++ s ∷ []) (length us) s (omega arith)
     ∙ ap (λ xs. shape_term (terms_behind [] xs) (get_or (us ++ s ∷ []) (length us) s)) (take-append_seam us (s ∷ []))
     ∙ ap (shape_term (terms_behind [] us)) (get-last us [] s s)
+
+-- the term of a variable's node that is there
+pub found_term : (us : List Shape) (n k : ℕ) → slice_get us n ≡ Some (Skeletons.variable k) → (n < length us) × (node_term us n ≡ Terms.variable [] k)
+found_term us n k e =
+    let s : Shape = Skeletons.variable k in
+    let lt : n < length us = slice_get_within us n s e in
+    (lt, node_term_at us n s lt ∙ ap (shape_term (terms_behind [] (take n us))) (get_or_from_slice_get us n s s e))
 
 -- terms that were there stay
 pub terms_stay : (us vs : List Shape) (s : Shape) (ns : List ℕ) → vs ≡ us ++ s ∷ [] → Falls (length us) ns → map (node_term vs) ns ≡ map (node_term us) ns

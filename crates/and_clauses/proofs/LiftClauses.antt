@@ -25,13 +25,13 @@ use Rattle.and_model.specs.declared.numbers.NodeNo.{NodeNo}
 use Rattle.and_clauses.specs.Sorts.{own, locals_in, outline_in, outlines_in, AreNarrow}
 use Rattle.and_clauses.specs.Outlined.{Named, named_at, call_of, head_of, numbering_by, pieces_items, outline_clause, clause_in, outline_size, outlines_size}
 use Rattle.and_clauses.specs.Copied.{Grown}
-use Rattle.and_clauses.specs.Copies.{named_by, numbers_in, IsNode}
+use Rattle.and_clauses.specs.Copies.{named_by, numbers_in, IsNode, IsPut}
 use Rattle.and_source.specs.Lifted.{Numbering, renumbered, as_terms, numbered_variables}
 use Rattle.and_clauses.specs.Lifts.{HaveRoom, ArePiecesThere, IsScope, AreAlternatives, HaveOwn, AreLifted}
 use Rattle.and_clauses.specs.declared.sorting.Disjunction.{Disjunction}
 use Rattle.and_clauses.specs.declared.sorting.Outline.{Outline}
 use Rattle.and_clauses.proofs.CopySteps.{grown_again}
-use Rattle.and_clauses.proofs.Placing.{begins_all, begins_self, as_variables, IsRow, row_more, row_named, called_row, head_row, numbers_last, numbers-length}
+use Rattle.and_clauses.proofs.Placing.{begins_all, begins_self, as_variables, IsRow, row_put, row_named, called_row, head_row, numbers_last, numbers-length}
 use Rattle.and_clauses.proofs.LiftSteps.{grown_more}
 use Rattle.and_clauses.proofs.Altering.{variables_few}
 use Rattle.and_clauses.proofs.Keeping.{entries_front, are_entries_front, entries_append}
@@ -85,8 +85,8 @@ row_end (Ok n) m old us vs most c args ks t row named few room is number made =
 row_end (Err e) m old us vs most c args ks t row named few room is number made = (tt, tt)
 
 -- ---- A row of its variables, one after another.
-pushed_number : (old new : List NodeNo) (n : NodeNo) (k : ℕ) → new ≡ old ++ n ∷ [] → n.0 ≡ k → numbers_in new ≡ numbers_in old ++ k ∷ []
-pushed_number old new n k e is = ap numbers_in e ∙ map_push (λ (m : NodeNo). m.0) old n ∙ ap (λ j. numbers_in old ++ j ∷ []) is
+pub pushed_number : (old new : List NodeNo) (n : NodeNo) → new ≡ old ++ n ∷ [] → numbers_in new ≡ numbers_in old ++ n.0 ∷ []
+pushed_number old new n e = ap numbers_in e ∙ map_push (λ (m : NodeNo). m.0) old n
 
 small_at : (new : Numbering) (xs : List ℕ) (i : ℕ) → i < length xs
     → All (IsOwn 255) (variables_in (apply_all (λ q k. Terms.variable [] (new q k)) (as_terms (own xs)))) → new [] (get_or xs i 0) < 255
@@ -100,24 +100,24 @@ small_at new (x ∷ xs) (suc i) lt a =
 pub call_more : (new : Numbering) (m : ℕ) (old us vs : List Shape) (vars : List (Path × ℕ)) (xs : List ℕ) (i k : ℕ) (args more : List NodeNo) (n : NodeNo)
     → vars ≡ own xs → IsRow m old us (length old + suc (length xs)) (numbers_in args) (map (new []) (take i xs)) → i < length xs
     → All (IsOwn 255) (variables_in (apply_all (λ q j. Terms.variable [] (new q j)) (as_terms vars))) → k ≡ new [] (get_or xs i 0)
-    → vs ≡ us ++ Skeletons.variable k ∷ [] → n.0 ≡ length us → more ≡ args ++ n ∷ []
+    → IsPut us vs (Skeletons.variable k) n.0 → more ≡ args ++ n ∷ []
     → IsRow m old vs (length old + suc (length xs)) (numbers_in more) (map (new []) (take (i + 1) xs))
-call_more new m old us vs vars xs i k args more n are r lt small is made last pushed =
+call_more new m old us vs vars xs i k args more n are r lt small is made pushed =
     let h : new [] (get_or xs i 0) < 255 =
     small_at new xs i lt (subst (λ ys. All (IsOwn 255) (variables_in (apply_all (λ q j. Terms.variable [] (new q j)) (as_terms ys)))) are small) in
-    row_more m old us vs (length old + suc (length xs)) (numbers_in args) (numbers_in more) (map (new []) (take i xs)) (map (new []) (take (i + 1) xs)) k r made
-    (pushed_number args more n (length us) pushed last)
+    row_put m old us vs (length old + suc (length xs)) (numbers_in args) (numbers_in more) (map (new []) (take i xs)) (map (new []) (take (i + 1) xs)) n.0 k
+    r made (pushed_number args more n pushed)
     (map_more (new []) xs i 0 lt ∙ ap (λ j. map (new []) (take i xs) ++ j ∷ []) (sym is)) (omega (arith, is, h))
     (omega (arith, r.count, length-map (take i xs) (new []), length-take-le i xs (omega (arith, lt)), lt))
 
 pub head_more : (m : ℕ) (old us vs : List Shape) (count i : ℕ) (args more : List NodeNo) (n : NodeNo)
     → IsRow m old us (length old + suc count) (numbers_in args) (numbers_from 0 i) → i < count → count ≤ 255
-    → vs ≡ us ++ Skeletons.variable i ∷ [] → n.0 ≡ length us → more ≡ args ++ n ∷ []
+    → IsPut us vs (Skeletons.variable i) n.0 → more ≡ args ++ n ∷ []
     → IsRow m old vs (length old + suc count) (numbers_in more) (numbers_from 0 (i + 1))
-head_more m old us vs count i args more n r lt few made last pushed =
+head_more m old us vs count i args more n r lt few made pushed =
     let z : 0 + i ≡ i = omega arith in
-    row_more m old us vs (length old + suc count) (numbers_in args) (numbers_in more) (numbers_from 0 i) (numbers_from 0 (i + 1)) i r made
-    (pushed_number args more n (length us) pushed last)
+    row_put m old us vs (length old + suc count) (numbers_in args) (numbers_in more) (numbers_from 0 i) (numbers_from 0 (i + 1)) n.0 i r made
+    (pushed_number args more n pushed)
     (numbers_last 0 i ∙ ap (λ j. numbers_from 0 i ++ j ∷ []) z) (omega (arith, lt, few)) (omega (arith, r.count, numbers-length 0 i, lt))
 
 pub call_end : {E : Type 0} (r : Result NodeNo E) (new : Numbering) (m : ℕ) (old us vs : List Shape) (d : Named) (xs : List ℕ) (i c : ℕ) (args : List NodeNo)

@@ -1,8 +1,10 @@
 -- The place of a variable in a list, and rows of variables as arguments of a name.
 use Rattle.std.proofs.Common.{ℕ, zero, suc, ◌+◌, ◌≡◌, ◌<◌, ◌≤◌, Bool, true, false, nat_eq, cond, List, [], ◌∷◌, ◌++◌, length, get_or, map, take, drop, refl}
-use Rattle.std.proofs.Common.{ap, sym, ◌∙◌, arith, subst}
+use Rattle.std.proofs.Common.{ap, sym, ◌∙◌, arith, subst, slice_get, Some, inl, inr}
 use Rattle.std.proofs.lemmas.Bool.Decides.{nat_tests}
 use Rattle.std.proofs.lemmas.List.{length-append, map_push, drop_more, take-append-drop, take-take}
+use Rattle.std.proofs.lemmas.Option.{slice_get-map, slice_get_read}
+use Rattle.std.specs.Option.{option_map}
 use Rattle.and_model.specs.Lines.{place_of}
 use Rattle.and_model.specs.Terms
 use Rattle.and_model.specs.Terms.{Path, Term, Terms, apply_all}
@@ -11,10 +13,12 @@ use Rattle.and_source.specs.Source.{numbers_from}
 use Rattle.and_program.specs.Skeletons
 use Rattle.and_program.specs.Skeletons.{Shape, node_term, term_list, Falls, AllFall}
 use Rattle.and_program.specs.Kept.{AllWithin}
+use Rattle.and_program.specs.Nodes.{shape_of, shapes_of}
+use Rattle.and_program.specs.declared.node.Node.{Node}
 use Rattle.and_clauses.specs.Sorts.{own}
 use Rattle.and_clauses.specs.Copied.{Grown}
-use Rattle.and_clauses.specs.Copies.{IsNode, Begins}
-use Rattle.and_clauses.proofs.Copying.{grown_push, pushed_term, terms_stay, take-le}
+use Rattle.and_clauses.specs.Copies.{IsNode, IsPut, Begins}
+use Rattle.and_clauses.proofs.Copying.{grown_push, pushed_term, found_term, terms_stay, take-le}
 use Rattle.and_clauses.proofs.Drafting.{Falls-more}
 use Rattle.and_clauses.proofs.Noting.{Falls-append}
 
@@ -50,16 +54,22 @@ begins_same a b c e g = ap (take (length a)) e ∙ g
 pub begins_all : (a b : List Shape) → Begins a b → b ≡ a ++ drop (length a) b
 begins_all a b g = sym (take-append-drop (length a) b) ∙ ap (λ xs. xs ++ drop (length a) b) g
 
+-- a node that is a variable's, by its shape
+pub variable_there : (nodes : List Node) (n k : ℕ) (d : Node) → n < length nodes → d ≡ get_or nodes n d → shape_of d ≡ Skeletons.variable k
+    → slice_get (shapes_of nodes) n ≡ Some (Skeletons.variable k)
+variable_there nodes n k d lt at is =
+    slice_get-map shape_of nodes n ∙ ap (option_map shape_of) (slice_get_read nodes (length nodes) n d refl lt at) ∙ ap (λ (s : Shape). Some s) is
+
 -- ---- A row of variables.
 abbrev pub as_variables : List ℕ → List Term
 as_variables ks = map (λ k. Terms.variable [] k) ks
 
--- Nodes of variables of these numbers were added behind old ones.
+-- The nodes are those of variables of these numbers; some of them were added behind old ones.
 pub record IsRow (m : ℕ) (old us : List Shape) (most : ℕ) (args ks : List ℕ) : Type 0 where
   pub terms : map (node_term us) args ≡ as_variables ks
   pub there : Falls (length us) args
   pub grown : Grown m old us most
-  pub count : length us ≡ length old + length ks
+  pub count : length us ≤ length old + length ks
   pub same : length args ≡ length ks
 
 pub row_begun : (m : ℕ) (old : List Shape) (most : ℕ) (args ks : List ℕ) → args ≡ [] → ks ≡ [] → AllFall 0 old → AllWithin m old → length old ≤ most
@@ -69,11 +79,11 @@ row_begun m old most args ks a b falls within few =
       terms = refl;
       there = tt;
       grown = record { kept = begins_self old; falls = falls; within = within; few = few };
-      count = let z : length old ≡ length old + 0 = omega arith in z;
+      count = let z : length old ≤ length old + 0 = omega arith in z;
       same = refl;
     }))
 
-pub row_more : (m : ℕ) (old us vs : List Shape) (most : ℕ) (args more ks ls : List ℕ) (k : ℕ) → IsRow m old us most args ks
+row_more : (m : ℕ) (old us vs : List Shape) (most : ℕ) (args more ks ls : List ℕ) (k : ℕ) → IsRow m old us most args ks
     → vs ≡ us ++ Skeletons.variable k ∷ [] → more ≡ args ++ length us ∷ [] → ls ≡ ks ++ k ∷ [] → k < 255 → length us + 1 ≤ most
     → IsRow m old vs most more ls
 row_more m old us vs most args more ks ls k r made pushed next small few =
@@ -90,6 +100,26 @@ row_more m old us vs most args more ks ls k r made pushed next small few =
       count = let z : length ls ≡ length ks + 1 = ap length next ∙ length-append ks (k ∷ []) in omega (arith, longer, r.count, z);
       same = omega (arith, ap length pushed, length-append args (length us ∷ []), ap length next, length-append ks (k ∷ []), r.same);
     }
+
+-- and again where the node was there
+row_found : (m : ℕ) (old us : List Shape) (most : ℕ) (args more ks ls : List ℕ) (n k : ℕ) → IsRow m old us most args ks
+    → slice_get us n ≡ Some (Skeletons.variable k) → more ≡ args ++ n ∷ [] → ls ≡ ks ++ k ∷ [] → IsRow m old us most more ls
+row_found m old us most args more ks ls n k r found pushed next =
+    let is = found_term us n k found in record {
+      terms = ap (map (node_term us)) pushed ∙ map_push (node_term us) args n ∙ ap (λ xs. xs ++ node_term us n ∷ []) r.terms
+          ∙ ap (λ t. as_variables ks ++ t ∷ []) is.1 ∙ sym (map_push (λ j. Terms.variable [] j) ks k) ∙ ap as_variables (sym next);
+      there = subst (Falls (length us)) (sym pushed) (Falls-append (length us) args (n ∷ []) r.there (is.0, tt));
+      grown = r.grown;
+      count = let z : length ls ≡ length ks + 1 = ap length next ∙ length-append ks (k ∷ []) in omega (arith, r.count, z);
+      same = omega (arith, ap length pushed, length-append args (n ∷ []), ap length next, length-append ks (k ∷ []), r.same);
+    }
+
+pub row_put : (m : ℕ) (old us vs : List Shape) (most : ℕ) (args more ks ls : List ℕ) (n k : ℕ) → IsRow m old us most args ks
+    → IsPut us vs (Skeletons.variable k) n → more ≡ args ++ n ∷ [] → ls ≡ ks ++ k ∷ [] → k < 255 → length us + 1 ≤ most → IsRow m old vs most more ls
+row_put m old us vs most args more ks ls n k r (inl put) pushed next small few =
+    row_more m old us vs most args more ks ls k r put.0 (pushed ∙ ap (λ j. args ++ j ∷ []) put.1) next small few
+row_put m old us vs most args more ks ls n k r (inr found) pushed next small few =
+    subst (λ xs. IsRow m old xs most more ls) (sym found.0) (row_found m old us most args more ks ls n k r found.1 pushed next)
 
 -- and a name takes them
 pub row_named : (m : ℕ) (old us vs : List Shape) (most c : ℕ) (args ks : List ℕ) → IsRow m old us most args ks → vs ≡ us ++ Skeletons.compound c args ∷ []

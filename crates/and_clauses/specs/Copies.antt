@@ -1,6 +1,6 @@
 -- What the copying of terms works on.
 use Rattle.std.specs.Prelude.{ℕ, ◌≡◌, ◌<◌, List, [], ◌∷◌, ◌++◌, map, length, take, Option}
-use Rattle.std.specs.Prelude.{Some, None}
+use Rattle.std.specs.Prelude.{Some, None, slice_get, ◌⊎◌}
 use Rattle.std.specs.Borrow.{Bor}
 use Rattle.and_model.specs.Lines.{Bytes, place_of}
 use Rattle.and_model.specs.Terms.{Term}
@@ -40,11 +40,21 @@ named_by [] ns = []
 named_by (d ∷ ds) [] = []
 named_by (d ∷ ds) (n ∷ ns) = record { name = n.0; variables = own d.variables.items } ∷ named_by ds ns
 
--- What the copying of a part does: a node is added, or its arguments come next, and then its name.
+-- A node of that shape was put behind the others, or one of them is taken again.
+abbrev pub IsPut : (us vs : List Shape) → Shape → ℕ → Type 0
+IsPut us vs s n = ((vs ≡ us ++ s ∷ []) × (n ≡ length us)) ⊎ ((vs ≡ us) × (slice_get us n ≡ Some s))
+
+-- So it is, and its node is the last of those that were copied.
+pub record IsPutLast (us vs : List Shape) (s : Shape) (fs gs : List ℕ) : Type 0 where
+  pub node : ℕ
+  pub put : IsPut us vs s node
+  pub last : gs ≡ fs ++ node ∷ []
+
+-- What the copying of a part does: its node is there, or its arguments come next, and then its name.
 abbrev pub Copies : List Bytes → Numbering → DraftPart
     → (us vs : List Shape) (fs gs : List ℕ) (ts rs : List Task) → Type 0
 Copies names new (Variable x k) us vs fs gs ts rs =
-    (vs ≡ us ++ Skeletons.variable (new [] k) ∷ []) × (gs ≡ fs ++ length us ∷ []) × (rs ≡ ts)
+    IsPutLast us vs (Skeletons.variable (new [] k)) fs gs × (rs ≡ ts)
 Copies names new (Integer z) us vs fs gs ts rs =
     (vs ≡ us ++ Skeletons.number z ∷ []) × (gs ≡ fs ++ length us ∷ []) × (rs ≡ ts)
 Copies names new (Compound c ns) us vs fs gs ts rs =

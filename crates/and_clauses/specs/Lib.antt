@@ -1,4 +1,3 @@
-pub mod Short
 pub mod Parts
 pub mod Numbered
 pub mod Variables

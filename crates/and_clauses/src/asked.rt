@@ -9,15 +9,16 @@ ghost use Rattle.and_program.specs.Predicates.{Finds};
 ghost use Rattle.and_clauses.specs.Adds.{with_all};
 ghost use Rattle.and_clauses.specs.Kept.{IsKept, IsKept-prop};
 
+use crate::asking::{is_plain, set};
 use crate::data::{Added, Called};
+use crate::draft::ClauseDraft;
 use crate::judging::Used;
 use crate::making::{Lengths, Lists};
 use crate::scratch::Scratch;
-use and_program::{ClauseNumbers, Loaded};
-use std::alloc::Global;
+use and_program::{ClauseNumbers, Loaded, LoadedParts};
+use std::alloc::{AllocError, Global};
 
 /// The clauses of a table that has no query, with the numbers of each predicate's.
-#[derive(Drop)]
 pub struct Clauses {
     pub(crate) alloc: Global,
     pub(crate) lists: Lists,
@@ -32,8 +33,21 @@ pub struct Clauses {
     ghost found: { Finds numbers (map (entry_clause (shapes_of lists.nodes.items)) lists.clauses.items) } by { Prim.hlevel props },
 }
 
+// By hand, here and below, so that it is proved once, and not in each crate that lets go of one.
+impl Drop for Clauses {
+    fn drop(self) {
+        let Clauses {
+            alloc: _,
+            lists: _,
+            used: _,
+            numbers: _,
+            scratch: _,
+            added: _,
+        } = self;
+    }
+}
+
 /// A query that is put to clauses: a program, and what is wanted to take it back.
-#[derive(Drop)]
 pub struct Asked {
     pub(crate) alloc: Global,
     pub(crate) loaded: Loaded,
@@ -51,9 +65,133 @@ pub struct Asked {
     ghost all: { length (entries_in loaded) ≡ lengths.clauses } by { Prim.hlevel props },
 }
 
+impl Drop for Asked {
+    fn drop(self) {
+        let Asked {
+            alloc: _,
+            loaded: _,
+            calls: _,
+            used: _,
+            added: _,
+            lengths: _,
+            scratch: _,
+        } = self;
+    }
+}
+
 /// What comes of putting a query to clauses: it is put, or they are as they were.
 #[derive(Drop)]
 pub enum Asking {
     Put(Asked),
     Left(Clauses),
+}
+
+impl Clauses {
+    ghost use Rattle.std.specs.Prelude.{IfOk, IsTrue};
+    ghost use Rattle.and_clauses.specs.Asking.{clauses_table, ground_of, IsAsking, IsOnGround};
+    ghost use Rattle.and_clauses.specs.Drafts.{draft_of};
+    ghost use Rattle.and_clauses.specs.Views.{is_query};
+
+    /// Puts the query of a draft, the one argument of a compound `?-`, to the clauses, where it is not refused, has no
+    /// disjunction, and each call has clauses. An error is want of memory.
+    pub fn ask(self, draft: &ClauseDraft) -> Result<Asking, AllocError>
+        requires { IsTrue (is_query (draft_of draft.now).finished) }
+        ensures asked { IfOk result (IsAsking (clauses_table self) (draft_of draft.now)) }
+        ensures ground { IfOk result (IsOnGround (ground_of self)) }
+    {
+        let Clauses {
+            alloc,
+            mut lists,
+            used,
+            numbers,
+            mut scratch,
+            added,
+        } = self;
+        let lengths = lists.lengths();
+        if let Some(query) = set(alloc, &mut lists, &mut scratch, draft, used)? {
+            if is_plain(&lists, lengths, &numbers) {
+                let Lists {
+                    names,
+                    nodes,
+                    clauses,
+                    calls,
+                } = lists;
+                let loaded = Loaded::of_parts(LoadedParts {
+                    nodes,
+                    clauses,
+                    query,
+                    names,
+                    numbers,
+                });
+                return Ok(Asking::Put(Asked {
+                    alloc,
+                    loaded,
+                    calls,
+                    used,
+                    added,
+                    lengths,
+                    scratch,
+                }));
+            }
+        }
+        lists.cut(lengths);
+        Ok(Asking::Left(Clauses {
+            alloc,
+            lists,
+            used,
+            numbers,
+            scratch,
+            added,
+        }))
+    }
+}
+
+impl Asked {
+    ghost use Rattle.and_clauses.specs.Asking.{asked_ground, asked_table, clauses_table, ground_of, StandsOn};
+
+    /// The program of the clauses and the query.
+    pub fn loaded(&self) -> &Loaded
+        ensures program { result.now ≡ self.now.loaded }
+        ensures stands { StandsOn (asked_ground self.now) result.now }
+    {
+        &self.loaded
+    }
+
+    /// Takes the query back: the clauses to which it was put.
+    pub fn into_clauses(self) -> Clauses
+        ensures table { clauses_table result ≡ asked_table self }
+        ensures ground { ground_of result ≡ asked_ground self }
+    {
+        let Asked {
+            alloc,
+            loaded,
+            calls,
+            used,
+            added,
+            lengths,
+            scratch,
+        } = self;
+        let LoadedParts {
+            nodes,
+            clauses,
+            query: _,
+            names,
+            numbers,
+        } = loaded.into_parts();
+        let mut lists = Lists {
+            names,
+            nodes,
+            clauses,
+            calls,
+        };
+        lists.cut(lengths);
+        Clauses {
+            alloc,
+            lists,
+            used,
+            numbers,
+            scratch,
+            added,
+        }
+    }
 }

@@ -6,8 +6,8 @@ ghost use Rattle.and_clauses.specs.Parts.{IsFormed, AllNarrow, AllNarrow-prop, p
 ghost use Rattle.and_clauses.specs.Numbered.{met_by};
 ghost use Rattle.and_clauses.specs.Variables.{HasMet, AllNumbered, AllNumbered-prop};
 
-use crate::short::ShortText;
 use crate::variables::Variables;
+use and_program::ShortText;
 use smallvec::SmallVec;
 use std::alloc::{AllocError, Global};
 

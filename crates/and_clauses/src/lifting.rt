@@ -9,6 +9,7 @@ ghost use Rattle.and_model.specs.OwnVariables.{AreOwn, HasOwnVariables, terms_of
 ghost use Rattle.and_source.specs.Source.{SourceItems, SourceClause};
 ghost use Rattle.and_source.specs.Lifted.{renumbered, renumbered_item};
 ghost use Rattle.and_program.specs.Skeletons.{Shape, node_term, item_of, IsThere, AllThere, compound};
+ghost use Rattle.and_program.specs.Skeletons.{variable as variable_shape};
 ghost use Rattle.and_program.specs.Items.{node_item, pairs as pairs_in};
 ghost use Rattle.and_program.specs.Nodes.{shapes_of, shape_of, names_of, entry_clause};
 ghost use Rattle.and_program.specs.Kept.{IsEntry};
@@ -18,6 +19,7 @@ ghost use Rattle.and_clauses.specs.Outlined.{call_of, head_of, piece_item, piece
 ghost use Rattle.and_clauses.specs.Outlined.{named_at};
 ghost use Rattle.and_clauses.specs.Copied.{Grown, term as term_task};
 ghost use Rattle.and_clauses.specs.Copies.{numbering_at, tasks_in, numbers_in, Copies, IsNode, Begins};
+ghost use Rattle.and_clauses.specs.Copies.{IsPut, IsPutLast};
 ghost use Rattle.and_clauses.specs.Lifts.{names_under, nodes_under, named_under, IsLifting, HaveRoom};
 ghost use Rattle.and_clauses.specs.Lifts.{IsPieceThere, ArePiecesThere, IsScope, AreAlternatives, HaveOwn, AreLifted};
 ghost use Rattle.and_clauses.specs.declared.draft.DraftPart.{DraftPart};
@@ -25,11 +27,12 @@ ghost use Rattle.and_model.specs.declared.limits.TheConstants.{MAX_NODES, MAX_VA
 
 use crate::draft::DraftPart;
 use crate::guesses::Guesses;
+use crate::known::VariableNodes;
 use crate::numbering::number_of;
 use crate::scratch::CopyLists;
 use crate::sorting::{Disjunction, Outline, Piece};
-use and_model::{NameNo, NodeNo, Text};
-use and_program::{ClauseEntry, ItemNode, Node};
+use and_model::{NameNo, NodeNo};
+use and_program::{ClauseEntry, ItemNode, Node, ShortText};
 use indexmap::IndexSet;
 use std::alloc::{AllocError, Global};
 
@@ -132,7 +135,7 @@ fn lifted_item(
     match piece {
         Piece::Item(item) => copied_item(lifting, nodes, lists, scope, item, pairs),
         Piece::Disjunction(number) => {
-            let goal = lifted_call(lifting, nodes, scope, *number)?;
+            let goal = lifted_call(lifting, nodes, &mut lists.variables, scope, *number)?;
             Ok(ItemNode::Call { goal })
         }
     }
@@ -235,6 +238,7 @@ fn place_in(variables: &[u32], variable: u32) -> u32
 fn lifted_call(
     lifting: Lifting<'_>,
     nodes: &mut Vec<Node>,
+    known: &mut VariableNodes,
     scope: Option<&[u32]>,
     disjunction: usize,
 ) -> Result<NodeNo, AllocError>
@@ -255,8 +259,8 @@ fn lifted_call(
     let variables = lifting.disjunctions[disjunction].variables.as_slice();
     let mut arguments = Vec::new(lifting.alloc);
     for variable in variables {
-        let node = Node::Variable(number_in(scope, *variable));
-        arguments.push(push_node(nodes, node)?)?;
+        let number = number_in(scope, *variable);
+        arguments.push(variable_node(nodes, known, number)?)?;
     }
     let name = name_of(lifting, disjunction);
     push_node(nodes, Node::Compound { name, arguments })
@@ -276,6 +280,7 @@ fn name_of(lifting: Lifting<'_>, disjunction: usize) -> NameNo
 pub(crate) fn lifted_head(
     lifting: Lifting<'_>,
     nodes: &mut Vec<Node>,
+    known: &mut VariableNodes,
     disjunction: usize,
 ) -> Result<NodeNo, AllocError>
     requires lifting { IsLifting lifting }
@@ -292,7 +297,7 @@ pub(crate) fn lifted_head(
     let count = lifting.disjunctions[disjunction].variables.len();
     let mut arguments = Vec::new(lifting.alloc);
     for number in 0..count {
-        arguments.push(push_node(nodes, Node::Variable(number as u32))?)?;
+        arguments.push(variable_node(nodes, known, number as u32)?)?;
     }
     let name = name_of(lifting, disjunction);
     push_node(nodes, Node::Compound { name, arguments })
@@ -310,6 +315,41 @@ fn push_node(nodes: &mut Vec<Node>, node: Node) -> Result<NodeNo, AllocError>
     nodes.reserve(1)?;
     nodes.push_reserved(node);
     Ok(number)
+}
+
+/// The node of a variable: one that is there, or a new one. An error is want of memory; the node may then have been
+/// added.
+fn variable_node(
+    nodes: &mut Vec<Node>,
+    known: &mut VariableNodes,
+    variable: u32,
+) -> Result<NodeNo, AllocError>
+    requires { length nodes.old.items < 2 ^ 32 }
+    ensures put { IfOk result (λ n. IsPut (shapes_of nodes.old.items) (shapes_of nodes.new.items)
+        (variable_shape variable) n.0) }
+    ensures kept { Begins (shapes_of nodes.old.items) (shapes_of nodes.new.items) }
+{
+    match known.of(nodes.as_slice(), variable) {
+        Some(node) => Ok(node),
+        None => new_variable(nodes, known, variable),
+    }
+}
+
+/// Adds the node of a variable, and notes it for the next time. An error is want of memory; the node may then have been
+/// added.
+fn new_variable(
+    nodes: &mut Vec<Node>,
+    known: &mut VariableNodes,
+    variable: u32,
+) -> Result<NodeNo, AllocError>
+    requires { length nodes.old.items < 2 ^ 32 }
+    ensures put { IfOk result (λ n. IsPut (shapes_of nodes.old.items) (shapes_of nodes.new.items)
+        (variable_shape variable) n.0) }
+    ensures kept { Begins (shapes_of nodes.old.items) (shapes_of nodes.new.items) }
+{
+    let node = push_node(nodes, Node::Variable(variable))?;
+    known.note(variable, node)?;
+    Ok(node)
 }
 
 /// What comes next of a term that is copied.
@@ -352,6 +392,7 @@ pub(crate) fn copied(
                 copy_part(
                     lifting,
                     nodes,
+                    &mut lists.variables,
                     scope,
                     part,
                     &mut lists.pending,
@@ -396,6 +437,7 @@ fn finish_name(
 fn copy_part(
     lifting: Lifting<'_>,
     nodes: &mut Vec<Node>,
+    known: &mut VariableNodes,
     scope: Option<&[u32]>,
     part: u32,
     pending: &mut Vec<Copying>,
@@ -414,8 +456,7 @@ fn copy_part(
 {
     match &lifting.parts[part as usize] {
         DraftPart::Variable(_, number) => {
-            let node = Node::Variable(number_in(scope, *number));
-            finished.push(push_node(nodes, node)?)?;
+            copy_variable(nodes, known, scope, *number, finished)?;
         }
         DraftPart::Integer(value) => {
             finished.push(push_node(nodes, Node::Number(*value))?)?;
@@ -429,6 +470,27 @@ fn copy_part(
             push_terms(pending, arguments.as_slice())?;
         }
     }
+    Ok(())
+}
+
+/// Makes the node of a variable the last one that was copied.
+fn copy_variable(
+    nodes: &mut Vec<Node>,
+    known: &mut VariableNodes,
+    scope: Option<&[u32]>,
+    variable: u32,
+    finished: &mut Vec<NodeNo>,
+) -> Result<(), AllocError>
+    requires few { IfSome scope (λ vs. length vs.now ≤ MAX_VARIABLES) }
+    requires room { length nodes.old.items < 2 ^ 32 }
+    ensures copied { OnOk result (IsPutLast (shapes_of nodes.old.items) (shapes_of nodes.new.items)
+        (variable_shape (numbering_at scope.entry [] variable))
+        (numbers_in finished.old.items) (numbers_in finished.new.items)) }
+    ensures kept { Begins (shapes_of nodes.old.items) (shapes_of nodes.new.items) }
+{
+    let number = number_in(scope, variable);
+    let node = variable_node(nodes, known, number)?;
+    finished.push(node)?;
     Ok(())
 }
 
@@ -448,21 +510,21 @@ fn push_terms(pending: &mut Vec<Copying>, arguments: &[u32]) -> Result<(), Alloc
 /// The written names of the variables of an alternative, which are those of a disjunction.
 pub(crate) fn names_in(
     alloc: Global,
-    written: &[Text],
+    written: &[ShortText],
     variables: &[u32],
-) -> Result<Vec<Text>, AllocError>
+) -> Result<Vec<ShortText>, AllocError>
     ensures { IfOk result (λ names. names.items ≡ map (λ v. get_or written.now v []) variables.now) }
 {
     let mut names = Vec::with_capacity(alloc, variables.len())?;
     for variable in variables {
         let name = written_name(written, *variable);
-        names.push(Text::of(alloc, name)?)?;
+        names.push(ShortText::of(alloc, name)?)?;
     }
     Ok(names)
 }
 
 /// The written name of a variable, and nothing where there is none.
-fn written_name(written: &[Text], variable: u32) -> &[u8]
+fn written_name(written: &[ShortText], variable: u32) -> &[u8]
     ensures { result.now ≡ get_or written.now variable [] }
 {
     match written.get(variable as usize) {
@@ -476,7 +538,7 @@ pub(crate) fn alternative(
     lifting: Lifting<'_>,
     nodes: &mut Vec<Node>,
     lists: &mut CopyLists,
-    written: &[Text],
+    written: &[ShortText],
     outline: &Outline,
     line: u32,
 ) -> Result<ClauseEntry, AllocError>
@@ -498,7 +560,7 @@ pub(crate) fn alternative(
 {
     let disjunction = scope_of(outline);
     let variables = lifting.disjunctions[disjunction].variables.as_slice();
-    let head = lifted_head(lifting, nodes, disjunction)?;
+    let head = lifted_head(lifting, nodes, &mut lists.variables, disjunction)?;
     let items = lifted_items(
         lifting,
         nodes,
@@ -526,7 +588,7 @@ pub(crate) fn alternatives(
     lifting: Lifting<'_>,
     nodes: &mut Vec<Node>,
     lists: &mut CopyLists,
-    written: &[Text],
+    written: &[ShortText],
     outlines: &[Outline],
     line: u32,
 ) -> Result<Vec<ClauseEntry>, AllocError>

@@ -12,7 +12,8 @@ ghost use Rattle.and_clauses.specs.Numbered.{bytes_of, including_all, named_by, 
 
 use crate::draft::DraftPart;
 use crate::guesses::Guesses;
-use and_model::{NameNo, Text, builtins};
+use and_model::{NameNo, builtins};
+use and_program::ShortText;
 use indexmap::IndexSet;
 use std::alloc::{AllocError, Global};
 
@@ -187,7 +188,7 @@ pub(crate) fn written_names(
     alloc: Global,
     parts: &[DraftPart],
     expected: usize,
-) -> Result<Vec<Text>, AllocError>
+) -> Result<Vec<ShortText>, AllocError>
     requires numbered { AllNumbered [] parts.now }
     requires room { length parts.now < 2 ^ 32 }
     ensures { IfOk result (λ names. names.items ≡ met_by [] (part_shapes parts.now)) }
@@ -200,14 +201,18 @@ pub(crate) fn written_names(
 }
 
 /// Adds the name of a part's variable, where it is the next one.
-fn note_variable(alloc: Global, names: &mut Vec<Text>, part: &DraftPart) -> Result<(), AllocError>
+fn note_variable(
+    alloc: Global,
+    names: &mut Vec<ShortText>,
+    part: &DraftPart,
+) -> Result<(), AllocError>
     requires { IsNumbered names.old.items part.now }
     ensures { OnOk result (names.new.items ≡ met_with names.old.items (part_shape part.now)) }
 {
     match part {
         DraftPart::Variable(name, number) => {
             if *number as usize == names.len() {
-                names.push(Text::of(alloc, name.bytes())?)?;
+                names.push(ShortText::of(alloc, name.bytes())?)?;
             }
             Ok(())
         }

@@ -1,6 +1,7 @@
 //! Lists that are used again for each clause.
 
 use crate::guesses::Guesses;
+use crate::known::VariableNodes;
 use crate::lifting::Copying;
 use and_model::NodeNo;
 use std::alloc::Global;
@@ -14,11 +15,13 @@ pub(crate) struct Scratch {
     pub(crate) copying: CopyLists,
 }
 
-/// What comes next of a term that is copied, and the terms that are.
+/// What comes next of a term that is copied, and the terms that are; and the nodes of variables that may be taken
+/// again.
 #[derive(Drop)]
 pub(crate) struct CopyLists {
     pub(crate) pending: Vec<Copying>,
     pub(crate) finished: Vec<NodeNo>,
+    pub(crate) variables: VariableNodes,
 }
 
 impl Scratch {
@@ -30,6 +33,7 @@ impl Scratch {
             copying: CopyLists {
                 pending: Vec::new(alloc),
                 finished: Vec::new(alloc),
+                variables: VariableNodes::new(alloc),
             },
         }
     }

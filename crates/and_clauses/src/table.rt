@@ -11,6 +11,7 @@ ghost use Rattle.and_clauses.specs.Drafts.{draft_of};
 ghost use Rattle.and_clauses.specs.Kept.{IsKept, IsKept-prop};
 ghost use Rattle.and_clauses.specs.Makes.{Keeps, HasRoom, Grows};
 
+use crate::asked::Clauses;
 use crate::data::{Added, SealFault, TableFault};
 use crate::draft::ClauseDraft;
 use crate::judging::Used;
@@ -24,7 +25,6 @@ use std::alloc::{AllocError, Global};
 use std::snapshot::Snapshot;
 
 /// The clauses of a text as far as it was read, and its query.
-#[derive(Drop)]
 pub struct ClauseTable {
     pub(crate) alloc: Global,
     pub(crate) lists: Lists,
@@ -39,8 +39,23 @@ pub struct ClauseTable {
             lists.calls.items (names_of lists.names.keys) used (with_all empty added.items) },
 }
 
+// By hand, so that it is proved here once, and not in each crate that lets go of a table.
+impl Drop for ClauseTable {
+    fn drop(self) {
+        let ClauseTable {
+            alloc: _,
+            lists: _,
+            query: _,
+            used: _,
+            scratch: _,
+            added: _,
+        } = self;
+    }
+}
+
 impl ClauseTable {
-    ghost use Rattle.std.specs.Prelude.{IfErr, IsTrue};
+    ghost use Rattle.std.specs.Prelude.{IfErr, IfSome, IsTrue};
+    ghost use Rattle.and_clauses.specs.Asking.{clauses_table};
     ghost use Rattle.and_clauses.specs.Added.{AddsClause, SetsQuery};
     ghost use Rattle.and_clauses.specs.Views.{table_of, is_query};
     ghost use Rattle.and_program.specs.Loaded.{program_of};
@@ -141,6 +156,32 @@ impl ClauseTable {
         }
     }
 
+    /// The clauses of the table, where it has no query. An error is want of memory.
+    pub fn into_clauses(self) -> Result<Option<Clauses>, AllocError>
+        ensures { IfOk result (λ o. IfSome o (λ clauses. clauses_table clauses ≡ table_of self)) }
+    {
+        let ClauseTable {
+            alloc,
+            lists,
+            query,
+            used,
+            scratch,
+            added,
+        } = self;
+        if query.is_some() {
+            return Ok(None);
+        }
+        let numbers = clause_numbers(alloc, &lists.nodes, &lists.clauses)?;
+        Ok(Some(Clauses {
+            alloc,
+            lists,
+            used,
+            numbers,
+            scratch,
+            added,
+        }))
+    }
+
     /// The program of the table, whose query is there and whose calls all have clauses. Each
     /// disjunction was lifted to a predicate of its own.
     pub fn seal(self) -> Result<Loaded, SealFault>
@@ -151,7 +192,9 @@ impl ClauseTable {
             alloc,
             lists,
             query,
-            ..
+            used: _used,
+            scratch: _scratch,
+            added: _added,
         } = self;
         let Lists {
             names,

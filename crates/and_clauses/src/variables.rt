@@ -4,7 +4,7 @@ ghost use Rattle.std.specs.Prelude.{◌≡◌, ◌<◌, ◌-◌, ◌^◌, ◌++�
 ghost use Rattle.std.specs.Prelude.{true, None, Some, OnOk, OnErr, if◌then◌else◌, take, length};
 ghost use Rattle.and_clauses.specs.Variables.{number_among};
 
-use crate::short::ShortText;
+use and_program::ShortText;
 use indexmap::IndexMap;
 use std::alloc::{AllocError, Global};
 

@@ -1,3 +1,4 @@
+pub mod Short
 pub mod Skeletons
 pub mod Items
 pub mod Nodes

@@ -5,7 +5,8 @@ ghost use Rattle.and_program.specs.Items.{node_item, pairs, guard_length};
 ghost use Rattle.and_model.specs.declared.limits.TheConstants.{MAX_NODES, MAX_VARIABLES};
 
 use crate::item::ItemNode;
-use and_model::{NodeNo, Text};
+use crate::short::ShortText;
+use and_model::NodeNo;
 
 /// A clause or the query.
 #[derive(Drop)]
@@ -13,7 +14,7 @@ pub struct ClauseEntry {
     pub head: NodeNo,
     pub items: Vec<ItemNode>,
     /// The names of its variables as they were written, by their numbers.
-    pub variables: Vec<Text>,
+    pub variables: Vec<ShortText>,
     /// The line of its first token.
     pub line: u32,
     /// 1, its variables, and 2 for each `is` goal.
@@ -28,7 +29,12 @@ pub struct ClauseEntry {
 
 impl ClauseEntry {
     /// An entry of this head and these items, whose variables have these names. Takes no memory.
-    pub fn new(head: NodeNo, items: Vec<ItemNode>, variables: Vec<Text>, line: u32) -> ClauseEntry
+    pub fn new(
+        head: NodeNo,
+        items: Vec<ItemNode>,
+        variables: Vec<ShortText>,
+        line: u32,
+    ) -> ClauseEntry
         requires few_variables { vec_len variables ≤ MAX_VARIABLES }
         requires few_items { vec_len items ≤ MAX_NODES + 1 }
         ensures head { result.head ≡ head }

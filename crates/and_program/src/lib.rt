@@ -10,6 +10,7 @@ pub mod loaded;
 mod names;
 pub mod node;
 pub mod predicates;
+mod short;
 
 pub use entry::ClauseEntry;
 pub use item::ItemNode;
@@ -17,3 +18,4 @@ pub use loaded::{Loaded, LoadedParts};
 pub use names::name_at;
 pub use node::{Node, NodeKind};
 pub use predicates::{ClauseNumbers, Predicate, clause_numbers, clauses_at, predicate_at};
+pub use short::ShortText;

@@ -9,8 +9,6 @@ ghost use Rattle.and_program.specs.Predicates.{Finds};
 ghost use Rattle.and_program.specs.Shown.{truth, shown, count_of, shown_term, argument_of, clauses_with, resolved};
 ghost use Rattle.and_model.specs.declared.limits.TheConstants.{MAX_CLAUSES, MAX_NODES};
 
-mod parts;
-
 use crate::entry::ClauseEntry;
 use crate::item::ItemNode;
 use crate::names::name_at;
@@ -18,11 +16,9 @@ use crate::node::{Node, NodeKind};
 use crate::predicates::{ClauseNumbers, Predicate, clauses_at};
 use and_model::{ClauseNo, NameNo, NodeNo, Ref};
 use indexmap::IndexSet;
-pub use parts::LoadedParts;
 
 /// A program. Contracts speak of the program that it stands for, and of the skeleton, whose nodes
 /// have the terms of the program's clauses. Reading it takes no memory.
-#[derive(Drop)]
 pub struct Loaded {
     nodes: Vec<Node>,
     clauses: Vec<ClauseEntry>,
@@ -32,6 +28,30 @@ pub struct Loaded {
     numbers: ClauseNumbers,
     ghost kept: { IsProgram (shapes_of nodes.items) query clauses.items (names_of names.keys) } by { IsProgram-prop (shapes_of nodes.items) query clauses.items (names_of names.keys) },
     ghost found: { Finds numbers (map (entry_clause (shapes_of nodes.items)) clauses.items) } by { Prim.hlevel props },
+}
+
+// By hand, so that it is proved here once, and not in each crate that lets go of a program.
+impl Drop for Loaded {
+    fn drop(self) {
+        let Loaded {
+            nodes: _,
+            clauses: _,
+            query: _,
+            names: _,
+            numbers: _,
+        } = self;
+    }
+}
+
+/// What a program is made of.
+#[derive(Drop)]
+pub struct LoadedParts {
+    pub nodes: Vec<Node>,
+    pub clauses: Vec<ClauseEntry>,
+    pub query: ClauseEntry,
+    pub names: IndexSet<Vec<u8>>,
+    /// The clauses of each predicate.
+    pub numbers: ClauseNumbers,
 }
 
 impl Loaded {
@@ -231,6 +251,60 @@ impl Loaded {
             &self.query
         } else {
             &self.clauses[no.0 as usize - 1]
+        }
+    }
+}
+
+// What a program is made of, put together and taken apart again.
+impl Loaded {
+    ghost use Rattle.and_program.specs.Loaded.{nodes_in, entries_in, names_in, program_in, program_of};
+
+    /// The program of these parts, which fit each other. Takes no memory.
+    pub fn of_parts(parts: LoadedParts) -> Loaded
+        requires kept { IsProgram (shapes_of parts.nodes.items) parts.query parts.clauses.items (names_of parts.names.keys) }
+        requires found { Finds parts.numbers (map (entry_clause (shapes_of parts.nodes.items)) parts.clauses.items) }
+        ensures program { program_of result
+            ≡ program_in (shapes_of parts.nodes.items) parts.query parts.clauses.items (names_of parts.names.keys) }
+        ensures nodes { nodes_in result ≡ shapes_of parts.nodes.items }
+        ensures entries { entries_in result ≡ parts.clauses.items }
+        ensures names { names_in result ≡ names_of parts.names.keys }
+    {
+        let LoadedParts {
+            nodes,
+            clauses,
+            query,
+            names,
+            numbers,
+        } = parts;
+        Loaded {
+            nodes,
+            clauses,
+            query,
+            names,
+            numbers,
+        }
+    }
+
+    /// The parts of the program. Takes no memory.
+    pub fn into_parts(self) -> LoadedParts
+        ensures nodes { shapes_of result.nodes.items ≡ nodes_in self }
+        ensures entries { result.clauses.items ≡ entries_in self }
+        ensures names { names_of result.names.keys ≡ names_in self }
+        ensures found { Finds result.numbers (map (entry_clause (nodes_in self)) (entries_in self)) }
+    {
+        let Loaded {
+            nodes,
+            clauses,
+            query,
+            names,
+            numbers,
+        } = self;
+        LoadedParts {
+            nodes,
+            clauses,
+            query,
+            names,
+            numbers,
         }
     }
 }

@@ -11,20 +11,18 @@ ghost use Rattle.and_language.specs.Refusals.{HasWords};
 ghost use Rattle.and_beginnings.specs.Beginnings.{IsValidTo};
 ghost use Rattle.and_clauses.specs.Drafts.{draft_of};
 ghost use Rattle.and_clauses.specs.Views.{is_query};
-ghost use Rattle.and_reader.specs.Beginning.{IsReadTo, IsQueryOf, IsBeginning, IsBeginningOf, IsGoneOn, IsPutOn};
-ghost use Rattle.and_reader.specs.Beginning.{had_of};
-ghost use Rattle.and_reader.specs.Beginning.{beginning_ground, whole_ground, StaysOn};
-ghost use Rattle.and_clauses.specs.Asking.{StandsOn};
+ghost use Rattle.and_reader.specs.Beginning.{IsReadTo, IsQueryOf, IsBeginning, IsGoneOn};
+ghost use Rattle.and_reader.specs.Beginning.{beginning_ground, StaysOn};
 ghost use Rattle.and_reader.specs.Reading.{IsRead};
 
-use crate::kept::{Beginning, GoneOn, Whole};
+use crate::kept::{Beginning, GoneOn};
 use crate::lines::{Cursor, line_at};
 use crate::parser::Parser;
 use crate::reading::{Begun, Reader, memory};
 use crate::refusal::{Cause, ReadRefusal};
 use crate::state::{Next, Sort};
 use crate::words::word_of;
-use and_clauses::{Asking, ClauseDraft, ClauseTable, Loaded};
+use and_clauses::{ClauseDraft, ClauseTable};
 use and_lex::{LexFault, Lexer, Token};
 use and_model::limits::MAX_BYTES;
 use std::alloc::{AllocError, Global};
@@ -320,63 +318,6 @@ impl Beginning {
         match read_query(alloc, text, self.end, cursor)? {
             Some(draft) => self.put(&draft),
             None => Ok(GoneOn::Left(self)),
-        }
-    }
-
-    /// Puts a query to the clauses. An error is want of memory.
-    fn put(self, query: &ClauseDraft) -> Result<GoneOn, AllocError>
-        requires { IsTrue (is_query (draft_of query.now).finished) }
-        ensures put { IfOk result (IsPutOn (had_of self) (draft_of query.now)) }
-        ensures ground { IfOk result (StaysOn (beginning_ground self)) }
-    {
-        let Beginning {
-            front,
-            end,
-            line,
-            clauses,
-        } = self;
-        match clauses.ask(query)? {
-            Asking::Put(asked) => Ok(GoneOn::Whole(Whole {
-                front,
-                end,
-                line,
-                asked,
-            })),
-            Asking::Left(clauses) => Ok(GoneOn::Left(Beginning {
-                front,
-                end,
-                line,
-                clauses,
-            })),
-        }
-    }
-}
-
-impl Whole {
-    /// The program of the text.
-    pub fn loaded(&self) -> &Loaded
-        ensures program { result.now ≡ self.now.asked.loaded }
-        ensures stands { StandsOn (whole_ground self.now) result.now }
-    {
-        self.asked.loaded()
-    }
-
-    /// The beginning again.
-    pub fn into_beginning(self) -> Beginning
-        ensures beginning { IsBeginningOf self → IsBeginning result }
-        ensures ground { beginning_ground result ≡ whole_ground self }
-    {
-        let Whole {
-            front,
-            end,
-            line,
-            asked,
-        } = self;
-        Beginning {
-            front,
-            end,
-            line,
-            clauses: asked.into_clauses(),
         }
     }
 }

@@ -15,8 +15,8 @@ overflow_cast-number c =
       c.loop-number-test.true,
     )
 
-pub push_node-requires : goal.push_node-requires
-push_node-requires c =
+pub variable_node-requires : goal.variable_node-requires
+variable_node-requires c =
     let few = few_read c.args.lifting.disjunctions.now c.args.disjunction c.index-lifting-disjunction.result c.requires.there c.requires.lifting.few in
     omega (
       arith,
@@ -31,19 +31,18 @@ pub loop-number-preserved : goal.loop-number-preserved
 loop-number-preserved c =
     let few = few_read c.args.lifting.disjunctions.now c.args.disjunction c.index-lifting-disjunction.result c.requires.there c.requires.lifting.few in record {
       row = head_more (length (names_under c.args.lifting)) (shapes_of c.args.nodes.now.items) (shapes_of c.loop-number.nodes.items)
-          (shapes_of c.push_node.new.nodes.items)
-          c.len-count.result c.loop-number.number c.loop-number.arguments.items c.push.new.self.items c.in_ok-push_node.field-0 c.loop-number.invariant.row
+          (shapes_of c.variable_node.new.nodes.items)
+          c.len-count.result c.loop-number.number c.loop-number.arguments.items c.push.new.self.items c.in_ok-variable_node.field-0 c.loop-number.invariant.row
           c.loop-number-test.true (omega (
             arith,
             few,
             c.len-count.ensures.value,
-          )) c.in_ok-push_node.ensures.nodes
-          c.in_ok-push_node.ensures.number
+          )) c.in_ok-variable_node.ensures.put
           c.in_ok-push.ensures.items;
     }
 
-pub push_node-requires-2 : goal.push_node-requires-2
-push_node-requires-2 c =
+pub push_node-requires : goal.push_node-requires
+push_node-requires c =
     let few = few_read c.args.lifting.disjunctions.now c.args.disjunction c.index-lifting-disjunction.result c.requires.there c.requires.lifting.few in
     omega (
       arith,
@@ -64,13 +63,13 @@ returns-clause-grown c =
           c.requires.lifting.numbered,
       c.len-count.ensures.value,
     ) in
-    (head_end c.push_node-2.result (length (names_under c.args.lifting)) (shapes_of c.args.nodes.now.items) (shapes_of c.loop-number.nodes.items)
-    (shapes_of c.push_node-2.new.nodes.items)
+    (head_end c.push_node.result (length (names_under c.args.lifting)) (shapes_of c.args.nodes.now.items) (shapes_of c.loop-number.nodes.items)
+    (shapes_of c.push_node.new.nodes.items)
     (named_at (named_under c.args.lifting) c.args.disjunction) c.len-count.result c.loop-number.number c.name_of-name.result.0 c.loop-number.arguments.items
     c.name_of-name.ensures.name count c.loop-number.invariant.row (omega (arith, c.loop-number-test.false, c.loop-number.auto.number-end))
     c.name_of-name.ensures.within
     (omega (arith, few, c.len-count.ensures.value))
-    c.push_node-2.ensures.number c.push_node-2.ensures.nodes).0
+    c.push_node.ensures.number c.push_node.ensures.nodes).0
 
 pub returns-clause-head : goal.returns-clause-head
 returns-clause-head c =
@@ -82,10 +81,10 @@ returns-clause-head c =
           c.requires.lifting.numbered,
       c.len-count.ensures.value,
     ) in
-    (head_end c.push_node-2.result (length (names_under c.args.lifting)) (shapes_of c.args.nodes.now.items) (shapes_of c.loop-number.nodes.items)
-    (shapes_of c.push_node-2.new.nodes.items)
+    (head_end c.push_node.result (length (names_under c.args.lifting)) (shapes_of c.args.nodes.now.items) (shapes_of c.loop-number.nodes.items)
+    (shapes_of c.push_node.new.nodes.items)
     (named_at (named_under c.args.lifting) c.args.disjunction) c.len-count.result c.loop-number.number c.name_of-name.result.0 c.loop-number.arguments.items
     c.name_of-name.ensures.name count c.loop-number.invariant.row (omega (arith, c.loop-number-test.false, c.loop-number.auto.number-end))
     c.name_of-name.ensures.within
     (omega (arith, few, c.len-count.ensures.value))
-    c.push_node-2.ensures.number c.push_node-2.ensures.nodes).1
+    c.push_node.ensures.number c.push_node.ensures.nodes).1

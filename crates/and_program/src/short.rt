@@ -1,8 +1,8 @@
 //! Names that mostly need no memory.
 
 ghost use Rattle.std.specs.Prelude.{◌≡◌, ◌≤◌, ℕ, List, length, take, IfOk};
-ghost use Rattle.and_clauses.specs.declared.short.TheConstants.{SHORT};
-ghost use Rattle.and_clauses.specs.Short.{held_bytes};
+ghost use Rattle.and_program.specs.declared.short.TheConstants.{SHORT};
+ghost use Rattle.and_program.specs.Short.{held_bytes};
 
 use std::alloc::{AllocError, Global};
 use std::marker::Model;
@@ -11,9 +11,15 @@ use std::marker::Model;
 const SHORT: usize = 15;
 
 /// A name, which stands in the value itself where it has at most 15 bytes.
-#[derive(Drop)]
-pub(crate) struct ShortText {
+pub struct ShortText {
     held: Held,
+}
+
+// By hand, so that it is proved here once, and not in each crate that lets go of a name.
+impl Drop for ShortText {
+    fn drop(self) {
+        let ShortText { held: _ } = self;
+    }
 }
 
 /// What holds the bytes of a name: the first of an array, or a list.
@@ -31,7 +37,7 @@ impl Model for ShortText {
 
 impl ShortText {
     /// A name of these bytes. An error is want of memory.
-    pub(crate) fn of(alloc: Global, bytes: &[u8]) -> Result<ShortText, AllocError>
+    pub fn of(alloc: Global, bytes: &[u8]) -> Result<ShortText, AllocError>
         ensures { IfOk result (λ t. t ≡ bytes.now) }
     {
         let length = bytes.len();
@@ -48,7 +54,7 @@ impl ShortText {
     }
 
     /// Its bytes. Takes no memory.
-    pub(crate) fn bytes(&self) -> &[u8]
+    pub fn bytes(&self) -> &[u8]
         ensures { result.now ≡ self.now }
     {
         match &self.held {

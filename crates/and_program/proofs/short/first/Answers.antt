@@ -1,6 +1,6 @@
 use Rattle.std.proofs.Common.{rules, ◌≡◌, ℕ, min, length, take, ap, ◌∙◌}
 use Rattle.std.proofs.lemmas.List.{take_min}
-use Rattle.and_clauses.proofs.short.first.Goals as goal
+use Rattle.and_program.proofs.short.first.Goals as goal
 
 pub returns : goal.returns
 returns c =

@@ -1,5 +1,5 @@
 use Rattle.std.proofs.Common.{rules, ◌≡◌, take, sym, ◌∙◌}
-use Rattle.and_clauses.proofs.short.ShortText.bytes.Goals as goal
+use Rattle.and_program.proofs.short.ShortText.bytes.Goals as goal
 
 pub returns-in-Short : goal.returns-in-Short
 returns-in-Short c =

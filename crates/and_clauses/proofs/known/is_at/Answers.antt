@@ -1,0 +1,7 @@
+use Rattle.and_clauses.proofs.Placing.{variable_there}
+use Rattle.and_clauses.proofs.known.is_at.Goals as goal
+
+pub returns-in-Some : goal.returns-in-Some
+returns-in-Some c = λ same.
+    variable_there c.args.nodes.now c.args.node.0 c.args.variable c.in-Some.found.now c.in-Some.ensures.lookup.3.0 c.in-Some.ensures.lookup.1
+    (c.is_variable.ensures same)
