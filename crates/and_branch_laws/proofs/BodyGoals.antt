@@ -42,11 +42,11 @@ body_goals_once c n q i (arithmetic a ∷ items) =
 body_goals_once c n q i (fail ∷ items) = body_goals_once c n q (suc i) items
 
 -- They are the body's tasks.
-shift : (body items : List Item) (i : ℕ) (x : Item) → ((j : ℕ) → get_or body (i + j) fail ≡ get_or (x ∷ items) j fail) → (j : ℕ)
+pub shift : (body items : List Item) (i : ℕ) (x : Item) → ((j : ℕ) → get_or body (i + j) fail ≡ get_or (x ∷ items) j fail) → (j : ℕ)
     → get_or body (suc i + j) fail ≡ get_or items j fail
 shift body items i x h j = let e : suc i + j ≡ i + suc j = omega arith in ap (λ (k : ℕ). get_or body k fail) e ∙ h (suc j)
 
-here_is : (body items : List Item) (i : ℕ) (x : Item) → ((j : ℕ) → get_or body (i + j) fail ≡ get_or (x ∷ items) j fail)
+pub here_is : (body items : List Item) (i : ℕ) (x : Item) → ((j : ℕ) → get_or body (i + j) fail ≡ get_or (x ∷ items) j fail)
     → get_or body i fail ≡ x
 here_is body items i x h = let e : i ≡ i + 0 = omega arith in ap (λ (k : ℕ). get_or body k fail) e ∙ h 0
 

@@ -29,3 +29,9 @@ pub mod PairEquations
 pub mod Asking
 pub mod SomeState
 pub mod Visiting
+pub mod Resolved
+pub mod Readings
+pub mod Widening
+pub mod Valuing
+pub mod Nodes
+pub mod Comparing

@@ -33,7 +33,7 @@ use Rattle.and_branch_laws.proofs.Reading.{query_speaks, tree_solution, solved_g
 use Rattle.and_branch_laws.proofs.Judging.{closed_is, solved_solvable, tree_whole}
 
 -- a goal of arithmetic as a term speaks of its variables
-goal_term_speaks : (V : Path × ℕ → Type 0) (a : Arithmetic) → ArithmeticSpeaksOf V a → SpeaksOf V (goal_term a)
+pub goal_term_speaks : (V : Path × ℕ → Type 0) (a : Arithmetic) → ArithmeticSpeaksOf V a → SpeaksOf V (goal_term a)
 goal_term_speaks V (is l r) s v c = elim (Contains-append_cases (variables_of l) (variables_in (more r none)) v c) [
   | inl i ↦ s.0 v i
   | inr i ↦ elim (Contains-append_cases (variables_of r) [] v i) [ inl j ↦ s.1 v j | inr j ↦ absurd (contains_none v j) ]
@@ -44,7 +44,7 @@ goal_term_speaks V (compare o l r) s v c = elim (Contains-append_cases (variable
 ]
 
 -- so do those among tasks that speak of them
-among_speaks : (V : Path × ℕ → Type 0) (ts : List Task) → TasksSpeakOf V ts → (a : Arithmetic) → Contains (arithmetic_among ts) a
+pub among_speaks : (V : Path × ℕ → Type 0) (ts : List Task) → TasksSpeakOf V ts → (a : Arithmetic) → Contains (arithmetic_among ts) a
     → ArithmeticSpeaksOf V a
 among_speaks V [] s a h = absurd (contains_none a h)
 among_speaks V (take q g ∷ ts) s a h = among_speaks V ts s.1 a h

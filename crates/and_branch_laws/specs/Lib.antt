@@ -10,3 +10,5 @@ pub mod States
 pub mod Judging
 pub mod Lines
 pub mod Visits
+pub mod Goals
+pub mod Sides

@@ -17,7 +17,7 @@ use Rattle.and_cells.proofs.OneTerm.{one_term}
 use Rattle.and_cell_laws.proofs.TermsOfRows.{term_of_set, cell_is_below}
 use Rattle.and_branch_laws.specs.Running.{IsRead}
 use Rattle.and_branch_laws.proofs.Speaking.{variables_applied}
-use Rattle.and_guards.proofs.Valuing.{has_no_variable}
+use Rattle.and_branch_laws.proofs.Valuing.{has_no_variable}
 
 -- What is put for a variable of a term has its variables in what becomes of the term.
 mutual

@@ -1,3 +1,5 @@
+pub use Rattle.and_branch_laws.proofs.Valuing
+pub use Rattle.and_branch_laws.proofs.Widening
 pub mod Held
 pub mod Listed
 pub mod Moving
@@ -6,5 +8,3 @@ pub mod Reading
 pub mod Refuting
 pub mod Resolved
 pub mod SideAnswers
-pub mod Valuing
-pub mod Widening

@@ -14,7 +14,7 @@ use Rattle.and_cells.proofs.OneTerm.{apply_agree}
 use Rattle.and_branch_laws.specs.Variables.{SpeaksOf, cells_from, placed}
 use Rattle.and_branch_laws.specs.Judging.{outside}
 use Rattle.and_branch_laws.proofs.Speaking.{speaks_agree}
-use Rattle.and_guards.proofs.Widening.{AgreeBelow, solved_alike}
+use Rattle.and_branch_laws.proofs.Widening.{AgreeBelow, solved_alike}
 
 -- the variable is a cell below this one
 abbrev pub IsLow : (words : ℕ) → Path × ℕ → Type 0

@@ -18,7 +18,7 @@ use Rattle.and_branch_laws.specs.Variables.{SpeaksOf}
 use Rattle.and_branch_laws.specs.Judging.{outside}
 use Rattle.and_guards.specs.Guards.{CanBeRead, GuardCanBeRead, IsFalseIn, IsGuardFalse}
 use Rattle.and_guards.proofs.Moving.{IsLow, Outside, Inside, known_inside, known_outside}
-use Rattle.and_guards.proofs.Reading.{AreWhole, read_known, known_read}
+use Rattle.and_branch_laws.proofs.Readings.{AreWhole, read_known, known_read}
 
 pub not_true : (b : Bool) → not b ≡ true → b ≡ false
 not_true true e = absurd (true≢false (sym e))

@@ -1,19 +1,12 @@
 -- What the comparisons of a clause's guard come to in the cells of a frame.
-use Rattle.std.specs.Prelude.{ℕ, ◌+◌, ◌≡◌, true, false, List, [], ◌∷◌, ◌⊎◌, length, Contains}
-use Rattle.and_model.specs.Terms.{Path, Term, variables_of, is_ground}
+use Rattle.std.specs.Prelude.{ℕ, ◌≡◌, true, false, List, [], ◌∷◌, ◌⊎◌}
+use Rattle.and_model.specs.Terms.{Term, is_ground}
 use Rattle.and_model.specs.Arithmetic.{Relation, holds}
-use Rattle.and_model.specs.Store.{is_half}
 use Rattle.and_model.specs.declared.reference.Ref.{Ref}
 use Rattle.and_program.specs.Skeletons.{NodeItem, call, equal, is, compare, fail, node_term}
-use Rattle.and_cells.specs.Ranges.{NamedProgram, IsNodeInRange}
-use Rattle.and_cells.specs.Seen.{word_at}
+use Rattle.and_cells.specs.Ranges.{NamedProgram}
 use Rattle.and_branch_laws.specs.Running.{IsRead}
-
--- The node can be read in the frame at the base: it is in range, and no cell of its variables is a word of a pair.
-pub record CanBeRead (P : NamedProgram) (row : List Ref) (base node : ℕ) : Type 0 where
-  pub in_range : IsNodeInRange P (length row) node base
-  pub whole : (v : Path × ℕ) → Contains (variables_of (node_term P.skeleton.nodes node)) v
-      → is_half (word_at row (base + 1 + v.1)) ≡ false
+pub use Rattle.and_branch_laws.specs.Goals.{CanBeRead}
 
 -- So it is with each node of the guard with which these items begin.
 abbrev pub GuardCanBeRead : NamedProgram → (row : List Ref) → (base : ℕ) → List NodeItem → Type 0

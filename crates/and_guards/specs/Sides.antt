@@ -1,20 +1,17 @@
 -- What is known of the sides of a comparison, and what that says of it.
-use Rattle.std.specs.Prelude.{ℕ, ◌≡◌, Bool, true, false, not, List, [], ◌∷◌, Some, None}
-use Rattle.and_model.specs.Terms.{Term, is_ground}
-use Rattle.and_model.specs.Arithmetic.{Relation, related, value}
+use Rattle.std.specs.Prelude.{ℕ, Bool, true, false, not, List, [], ◌∷◌, Some, None}
+use Rattle.and_model.specs.Terms.{Term}
+use Rattle.and_model.specs.Arithmetic.{Relation, related}
 use Rattle.and_model.specs.declared.reference.Ref.{Ref}
 use Rattle.and_cells.specs.Ranges.{NamedProgram}
 use Rattle.and_cells.specs.Rows.{IsSound}
-use Rattle.and_branch_laws.specs.Running.{IsRead}
+pub use Rattle.and_branch_laws.specs.Sides.{IsOpen}
+use Rattle.and_branch_laws.specs.Sides.{ComesTo}
 use Rattle.and_cells.specs.Seen.{Grows, AreFree}
 use Rattle.and_guards.specs.declared.guards.Side.{Side}
 use Rattle.and_guards.specs.declared.guards.Side.TheVariants.{Waits, NoValue, Number}
 
--- The term does not read as a ground one in the frame at the base.
-abbrev pub IsOpen : NamedProgram → List Ref → (base : ℕ) → Term → Type 0
-IsOpen P row base t = (u : Term) → IsRead P row base t u → is_ground u ≡ true → ⊥
-
--- Nor does it in whatever row this one grows to while the cell is free.
+-- The term does not read as a ground one in whatever row this one grows to while the cell is free.
 abbrev pub IsOpenBy : NamedProgram → List Ref → (base : ℕ) → Term → (cell : ℕ) → Type 0
 IsOpenBy P row base t cell = (later : List Ref) → Grows row later → IsSound P later → AreFree later (cell ∷ [])
     → IsOpen P later base t
@@ -22,8 +19,8 @@ IsOpenBy P row base t cell = (later : List Ref) → Grows row later → IsSound 
 -- This is what a term comes to in the frame at the base.
 abbrev pub IsSide : NamedProgram → List Ref → (base : ℕ) → Term → Side → Type 0
 IsSide P row base t (Waits cell) = IsOpen P row base t × IsOpenBy P row base t cell
-IsSide P row base t NoValue = (u : Term) × IsRead P row base t u × (is_ground u ≡ true) × (value u ≡ None)
-IsSide P row base t (Number z) = (u : Term) × IsRead P row base t u × (is_ground u ≡ true) × (value u ≡ Some z)
+IsSide P row base t NoValue = ComesTo P row base t None
+IsSide P row base t (Number z) = ComesTo P row base t (Some z)
 
 abbrev pub is_waiting : Side → Bool
 is_waiting (Waits cell) = true

@@ -6,7 +6,7 @@ use Rattle.and_model.specs.declared.reference.Ref.{Ref}
 use Rattle.and_cells.specs.Ranges.{NamedProgram}
 use Rattle.and_branch_laws.specs.Kept.{Kept}
 use Rattle.and_proof.specs.Proofs.{HasProof, all_replaced}
-use Rattle.and_proof.specs.Rounds.{HasNone}
+use Rattle.and_proof.specs.Rounds.{KeepsWhole, HasNone}
 use Rattle.and_proof.specs.Stacks.{in_order}
 use Rattle.and_proof.specs.Unfolding.{ahead_of, AreTaken, IsUnfolding, IsWholeIn, AllWait, IsProved}
 use Rattle.and_proof.specs.declared.goals.Goals.{Goals}
@@ -27,7 +27,7 @@ module _ (P : NamedProgram) (row : List Ref) (goals : Goals) (cs : List ℕ) (x 
       }
 
   -- Where the arithmetic waits it is a proof.
-  pub proved_of : (new : List Ref) (waiting : List Goal) (taken : List Taken) → IsWholeIn P x.reductions new waiting x.tree → AllWait P new waiting
+  proved_of : (new : List Ref) (waiting : List Goal) (taken : List Taken) → IsWholeIn P x.reductions new waiting x.tree → AllWait P new waiting
       → taken ≡ goals.taken.items → IsProved P new waiting taken cs
   proved_of new waiting taken whole waits same =
       let k = x.keeps in
@@ -43,6 +43,16 @@ module _ (P : NamedProgram) (row : List Ref) (goals : Goals) (cs : List ℕ) (x 
         replaced = subst (λ (n : ℕ). AreTaken P x.reductions n taken (all_replaced x.tree)) long
             (subst (λ es. AreTaken P x.reductions (length row) es (all_replaced x.tree)) (sym same) x.taken);
       }
+
+  -- So it is once the arithmetic was run, over whatever program this is.
+  pub run_proved : (Q : NamedProgram) → P ≡ Q → (new : List Ref) (w now : Waiting) (left : List Goal) (taken : List Taken)
+      → in_order w ≡ goals.passed.items → KeepsWhole P row new w now → AllWait P new (in_order now) → left ≡ in_order now
+      → taken ≡ goals.taken.items → IsProved Q new left taken cs
+  run_proved Q same new w now left taken start keeps waits all there =
+      let whole = keeps x.reductions x.tree (whole_of (in_order w) start) in
+      subst (λ (R : NamedProgram). IsProved R new left taken cs) same
+      (proved_of new left taken (subst (λ (l : List Goal). IsWholeIn P x.reductions new l x.tree) (sym all) whole)
+      (subst (λ (l : List Goal). AllWait P new l) (sym all) waits) there)
 
   -- Where the goals leave no outcome the code has no proof.
   pub none_proved : (w : Waiting) → in_order w ≡ goals.passed.items → HasNone P row w → HasProof P.program cs → ⊥

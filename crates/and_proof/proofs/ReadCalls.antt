@@ -7,7 +7,6 @@ use Rattle.and_model.specs.declared.reference.Ref.{Ref}
 use Rattle.and_program.specs.Loaded.{program_of, skeleton_of, nodes_at, shape_at}
 use Rattle.and_program.specs.Shown.{resolved}
 use Rattle.and_program.specs.Skeletons
-use Rattle.and_program.specs.Skeletons.{node_term}
 use Rattle.and_program.specs.declared.loaded.Loaded.{Loaded}
 use Rattle.and_cells.specs.Parts.{named}
 use Rattle.and_cells.specs.Ranges.{IsNodeInRange}
@@ -19,7 +18,7 @@ use Rattle.and_print.proofs.Parting.{node_resolved}
 use Rattle.and_proof.specs.Proofs.{Replaced}
 use Rattle.and_proof.specs.Written.{IsCallRead}
 use Rattle.and_proof.specs.declared.goals.Taken.{Taken}
-use Rattle.and_proof.proofs.RunGoals.{call_node, call_term, call_range}
+use Rattle.and_branch_laws.proofs.Nodes.{call_node, call_term, call_range}
 
 module _ (l : Loaded) (loaded : IsLoaded (named l)) (row : List Ref) (e : Taken) (r : Replaced) (x : IsCallRead (named l) row e r) where
   pub clause_there : e.call.clause.0 ≤ length (program_of l).clauses

@@ -35,7 +35,7 @@ use Rattle.and_branch_laws.proofs.Places.{frame_within}
 use Rattle.and_branch_laws.proofs.Reading
 use Rattle.and_branch_laws.proofs.Stepping
 use Rattle.and_branch_laws.proofs.Tasks
-use Rattle.and_proof.specs.Calls.{CanBeTaken}
+use Rattle.and_branch_laws.specs.Goals.{CanBeJudged}
 use Rattle.and_proof.specs.Proofs.{Replaced, all_replaced, HasProof}
 use Rattle.and_proof.specs.Stacks.{at_depth}
 use Rattle.and_proof.specs.Unfolding.{ahead_of, IsGoal, IsTaken, AreTaken, IsUnfolding}
@@ -153,11 +153,11 @@ module _ (P : NamedProgram) (loaded : IsLoaded P) (row : List Ref) (goals : Goal
   f_called = called P.program f term (ap (λ (g : Goal). item_at P.program g) goal_is ∙ item)
 
   -- The next goal can be taken.
-  pub next_can : CanBeTaken P row next.goal
+  pub next_can : CanBeJudged P row next.goal
   next_can =
       let k = keeps in
       let n = at_next in
-      subst (λ (g : Goal). CanBeTaken P row g) goal_is (record {
+      subst (λ (g : Goal). CanBeJudged P row g) goal_is (record {
         in_range = All-contains (λ (h : Framed). IsGoalInRange P (length row) h.goal) (x.front ++ f ∷ n.rest) f k.in_range f_kept;
         term = term;
         is_call = ap (λ (g : Goal). item_at P.program g) goal_is ∙ item;

@@ -11,7 +11,7 @@ use Rattle.and_laws.proofs.Ordered.{contains_first, contains_more, contains_case
 use Rattle.and_cells.specs.Ranges.{NamedProgram}
 use Rattle.and_branch_laws.specs.OwnVariables.{IsLoaded}
 use Rattle.and_proof.specs.Rounds.{KeepsWhole, HasNone, IsRound}
-use Rattle.and_proof.specs.Runs.{IsWaiting, CanBeRun, HasRun, CannotHold}
+use Rattle.and_step_laws.specs.Runs.{IsWaiting, CanBeRun, HasRun, CannotHold}
 use Rattle.and_proof.specs.Stacks.{in_order, goals_before, goals_behind, NoneBehind, NoneBefore}
 use Rattle.and_proof.specs.Unfolding.{IsWholeIn, AllWait}
 use Rattle.and_proof.specs.declared.waiting.Round.{Round}

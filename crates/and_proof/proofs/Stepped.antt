@@ -27,6 +27,7 @@ use Rattle.and_branch_laws.specs.Settling.{Settled}
 use Rattle.and_branch_laws.specs.Judging.{NoCall}
 use Rattle.and_branch_laws.specs.Kept.{item_at, task_in, task_of, is_call, IsCall, calls_kept, goal_of, Kept}
 use Rattle.and_branch_laws.proofs.Rooting
+use Rattle.and_branch_laws.proofs.BodyGoals.{shift, here_is}
 use Rattle.and_proof.specs.Proofs.{all_replaced, HasProof}
 use Rattle.and_proof.specs.Stacks.{at_depth}
 use Rattle.and_proof.specs.Unfolding.{ahead_of, IsGoal, AreTaken, IsUnfolding, IsAtCall}
@@ -88,14 +89,6 @@ calls_behind P (f ∷ front) back n = elim (bool_cases (is_call (task_of P.progr
 ]
 
 -- The items of a body that are goals are calls and arithmetic.
-shift : (body items : List Item) (i : ℕ) (x : Item) → ((j : ℕ) → get_or body (i + j) fail ≡ get_or (x ∷ items) j fail) → (j : ℕ)
-    → get_or body (suc i + j) fail ≡ get_or items j fail
-shift body items i x h j = let e : suc i + j ≡ i + suc j = omega arith in ap (λ (k : ℕ). get_or body k fail) e ∙ h (suc j)
-
-here_is : (body items : List Item) (i : ℕ) (x : Item) → ((j : ℕ) → get_or body (i + j) fail ≡ get_or (x ∷ items) j fail)
-    → get_or body i fail ≡ x
-here_is body items i x h = let e : i ≡ i + 0 = omega arith in ap (λ (k : ℕ). get_or body k fail) e ∙ h 0
-
 body_kinds : (P : NamedProgram) (c n : ℕ) (q : Path) (i : ℕ) (items : List Item)
     → ((j : ℕ) → get_or (clause_at P.program c).body (i + j) fail ≡ get_or items j fail) → All (IsGoal P) (body_goals c n q i items)
 body_kinds P c n q i [] h = All-nil (IsGoal P)

@@ -2,10 +2,10 @@
 use Rattle.std.proofs.Common.{ℕ, ◌≡◌, ◌+◌, not, Bool, true, false, cond, List, [], ◌∷◌, length, map, refl, sym, ap, ◌∙◌}
 use Rattle.std.proofs.Common.{subst, inl, inr, arith, Contains}
 use Rattle.std.specs.Prelude.{All}
-use Rattle.std.proofs.lemmas.List.Elements.{All-map, Contains-append_cases}
-use Rattle.and_model.specs.Terms.{Path, Term, variable, none, more, framed, variables_of, variables_in, Substitution, apply}
+use Rattle.std.proofs.lemmas.List.Elements.{All-map}
+use Rattle.and_model.specs.Terms.{Path, Term, variable, framed, variables_of, Substitution, apply}
 use Rattle.and_model.specs.Solutions.{MostGeneral}
-use Rattle.and_model.specs.Programs.{Arithmetic, is, compare}
+use Rattle.and_model.specs.Programs.{Arithmetic}
 use Rattle.and_model.specs.Trees.{QueryTree, equations, arithmetics}
 use Rattle.and_model.specs.Reductions.{Reduction, query}
 use Rattle.and_model.specs.Stands.{Framed, in_tree, term_of}
@@ -14,7 +14,7 @@ use Rattle.and_model.specs.declared.goal.Goal.{Goal}
 use Rattle.and_model.specs.declared.reference.Ref.{Ref}
 use Rattle.and_model.specs.declared.reference.Ref.TheVariants.{Cell}
 use Rattle.and_laws.proofs.Deciding.{closes_total}
-use Rattle.and_laws.proofs.Ordered.{contains_first, contains_more, contains_cases, contains_none}
+use Rattle.and_laws.proofs.Ordered.{contains_first, contains_more}
 use Rattle.and_laws.proofs.Printing.{Twins}
 use Rattle.and_laws.proofs.Substitutions.{then, apply_then}
 use Rattle.and_laws.proofs.Unifying.{unify}
@@ -22,11 +22,10 @@ use Rattle.and_cells.specs.Ranges.{NamedProgram, IsGoalInRange}
 use Rattle.and_cells.specs.Meaning.{StandsFor}
 use Rattle.and_cell_laws.proofs.Images.{contains_image}
 use Rattle.and_branch_laws.specs.OwnVariables.{IsLoaded}
-use Rattle.and_branch_laws.specs.Variables.{SpeaksOf, ArithmeticSpeaksOf, IsVariable}
-use Rattle.and_branch_laws.specs.Tasks.{Task, take, run, arithmetic_among}
+use Rattle.and_branch_laws.specs.Variables.{SpeaksOf, IsVariable}
+use Rattle.and_branch_laws.specs.Tasks.{arithmetic_among}
 use Rattle.and_branch_laws.specs.Judging.{NoneIsGround, NoCall}
 use Rattle.and_branch_laws.specs.Kept.{task_of, is_call, goal_of, arithmetic_kept, Kept}
-use Rattle.and_branch_laws.proofs.Growing.{TasksSpeakOf}
 use Rattle.and_branch_laws.proofs.Judging.{closed_is, solved_solvable, tree_whole}
 use Rattle.and_branch_laws.proofs.Keeping
 use Rattle.and_branch_laws.proofs.Lists.{all_of}
@@ -34,6 +33,7 @@ use Rattle.and_branch_laws.proofs.Owning.{term_speaks}
 use Rattle.and_branch_laws.proofs.Reading.{row_solution, row_reading, cell_read, goal_read, query_read, query_speaks, tree_solution, solved_general}
 use Rattle.and_branch_laws.proofs.Reading.{to_tree_term, to_row_term, arithmetic_are}
 use Rattle.and_branch_laws.proofs.Speaking.{speaks_applied, speaks_variable}
+use Rattle.and_branch_laws.proofs.Lining.{goal_term_speaks, among_speaks}
 use Rattle.and_print.specs.Given.{Given, GivesGoal}
 use Rattle.and_proof.specs.Proofs.{Replaced, all_replaced, solved_by, proof_of, ProofText}
 use Rattle.and_proof.specs.Unfolding.{IsTaken, AreTaken, IsWholeIn, AllWait, IsProved}
@@ -43,26 +43,6 @@ use Rattle.and_proof.proofs.OneText.{general_one}
 use Rattle.and_proof.proofs.Variants.{AreAlike, one_proof}
 
 -- ---- What goals and calls speak of
-
-goal_term_speaks : (V : Path × ℕ → Type 0) (a : Arithmetic) → ArithmeticSpeaksOf V a → SpeaksOf V (goal_term a)
-goal_term_speaks V (is l r) s v c = elim (Contains-append_cases (variables_of l) (variables_in (more r none)) v c) [
-  | inl i ↦ s.0 v i
-  | inr i ↦ elim (Contains-append_cases (variables_of r) [] v i) [ inl j ↦ s.1 v j | inr j ↦ absurd (contains_none v j) ]
-]
-goal_term_speaks V (compare o l r) s v c = elim (Contains-append_cases (variables_of l) (variables_in (more r none)) v c) [
-  | inl i ↦ s.0 v i
-  | inr i ↦ elim (Contains-append_cases (variables_of r) [] v i) [ inl j ↦ s.1 v j | inr j ↦ absurd (contains_none v j) ]
-]
-
--- so do those among tasks that speak of them
-among_speaks : (V : Path × ℕ → Type 0) (ts : List Task) → TasksSpeakOf V ts → (a : Arithmetic) → Contains (arithmetic_among ts) a
-    → ArithmeticSpeaksOf V a
-among_speaks V [] s a h = absurd (contains_none a h)
-among_speaks V (take q g ∷ ts) s a h = among_speaks V ts s.1 a h
-among_speaks V (run b ∷ ts) s a h = elim (contains_cases b a (arithmetic_among ts) h) [
-  | inl e ↦ subst (λ (x : Arithmetic). ArithmeticSpeaksOf V x) (sym e) s.0
-  | inr i ↦ among_speaks V ts s.1 a i
-]
 
 -- where no kept goal is a call, all are arithmetic
 pub all_arithmetic : (P : NamedProgram) (kept : List Framed) → NoCall P kept → arithmetic_kept P.program kept ≡ kept

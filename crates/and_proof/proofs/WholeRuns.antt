@@ -18,10 +18,10 @@ use Rattle.and_branch_laws.specs.OwnVariables.{IsLoaded}
 use Rattle.and_branch_laws.specs.Judging.{NoCall}
 use Rattle.and_branch_laws.specs.Kept.{goal_of, Kept}
 use Rattle.and_branch_laws.proofs.Asking
-use Rattle.and_proof.specs.Runs.{CanBeRun, IsWaiting, HasRun, CannotHold, compared, assigned}
-use Rattle.and_proof.specs.Runs as runs
+use Rattle.and_step_laws.specs.Runs.{CanBeRun, IsWaiting, HasRun, CannotHold, compared, assigned}
+use Rattle.and_step_laws.specs.Runs as runs
 use Rattle.and_proof.specs.Unfolding.{IsWholeIn, AllWait}
-use Rattle.and_proof.proofs.KeptGoals.{kept_can_be_run}
+use Rattle.and_step_laws.proofs.KeptGoals.{kept_can_be_run}
 use Rattle.and_proof.proofs.Stepped.{is_arithmetic}
 
 -- ---- Lists that a map makes of two parts

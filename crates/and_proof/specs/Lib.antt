@@ -1,11 +1,6 @@
 pub mod Documents
 pub mod Proofs
 pub mod Sides
-pub mod Calls
-pub mod Asking
-pub mod Assigning
-pub mod Frames
-pub mod Runs
 pub mod Unfolding
 pub mod Stacks
 pub mod Predicates

@@ -1,29 +1,23 @@
--- What the sides of a goal of arithmetic come to in the cells of a frame.
-use Rattle.std.specs.Prelude.{ℕ, ◌+◌, ◌≡◌, Bool, true, false, List, Some, None, length, Contains}
-use Rattle.and_model.specs.Terms.{Path, Term, Terms, none, more, variables_of, is_ground, are_ground}
-use Rattle.and_model.specs.Arithmetic.{Relation, related, value, holds}
-use Rattle.and_model.specs.Store.{is_half}
+-- What the sides of a goal of arithmetic come to in the cells of a frame, and what running it comes to.
+use Rattle.std.specs.Prelude.{ℕ, ℤ, ◌≡◌, Bool, true, false, List, Some, None}
+use Rattle.and_model.specs.Terms.{Term, none, more}
+use Rattle.and_model.specs.Arithmetic.{Relation, related}
+use Rattle.and_model.specs.declared.goal.Goal.{Goal}
 use Rattle.and_model.specs.declared.reference.Ref.{Ref}
-use Rattle.and_program.specs.Skeletons.{node_term}
-use Rattle.and_cells.specs.Ranges.{NamedProgram, IsNodeInRange}
-use Rattle.and_cells.specs.Seen.{word_at}
-use Rattle.and_branch_laws.specs.Running.{IsRead, AreRead}
+use Rattle.and_cells.specs.Ranges.{NamedProgram}
+use Rattle.and_branch_laws.specs.Sides.{IsOpen, ComesTo, AreOpen, AreCompared}
+use Rattle.and_step_laws.specs.Assigning.{IsAssigned, IsRefused}
+use Rattle.and_step_laws.specs.Runs.{IsWaiting, HasRun, CannotHold}
 use Rattle.and_proof.specs.declared.running.Ran.{Ran}
 use Rattle.and_proof.specs.declared.running.Ran.TheVariants as run
 use Rattle.and_proof.specs.declared.sides.Side.{Side}
 use Rattle.and_proof.specs.declared.sides.Side.TheVariants.{Waits, NoValue, Number}
 
--- The node can be read in the frame at the base: it is in range, and no cell of its variables is a word of a pair.
-pub record CanBeRead (P : NamedProgram) (row : List Ref) (base node : ℕ) : Type 0 where
-  pub in_range : IsNodeInRange P (length row) node base
-  pub whole : (v : Path × ℕ) → Contains (variables_of (node_term P.skeleton.nodes node)) v
-      → is_half (word_at row (base + 1 + v.1)) ≡ false
-
 -- This is what a term comes to in the frame at the base.
 abbrev pub IsSide : NamedProgram → List Ref → (base : ℕ) → Term → Side → Type 0
-IsSide P row base t Waits = (u : Term) → IsRead P row base t u → is_ground u ≡ true → ⊥
-IsSide P row base t NoValue = (u : Term) × IsRead P row base t u × (is_ground u ≡ true) × (value u ≡ None)
-IsSide P row base t (Number z) = (u : Term) × IsRead P row base t u × (is_ground u ≡ true) × (value u ≡ Some z)
+IsSide P row base t Waits = IsOpen P row base t
+IsSide P row base t NoValue = ComesTo P row base t None
+IsSide P row base t (Number z) = ComesTo P row base t (Some z)
 
 -- a comparison that came to this, where both sides are ground
 abbrev pub compared : Bool → Ran
@@ -40,23 +34,20 @@ compared_with o (Number a) Waits = run.Waits
 compared_with o (Number a) NoValue = run.False
 compared_with o (Number a) (Number b) = compared (related o a b)
 
--- Both terms read as ground terms, of which the comparison holds or not.
-pub record AreCompared (P : NamedProgram) (row : List Ref) (base : ℕ) (o : Relation) (a b : Term)
-    (outcome : Bool) : Type 0 where
-  pub left : Term
-  pub right : Term
-  pub left_read : IsRead P row base a left
-  pub right_read : IsRead P row base b right
-  pub left_ground : is_ground left ≡ true
-  pub right_ground : is_ground right ≡ true
-  pub outcome_is : holds o left right ≡ outcome
-
--- The terms do not all read as ground ones in the frame at the base.
-abbrev pub AreOpen : NamedProgram → List Ref → (base : ℕ) → Terms → Type 0
-AreOpen P row base ts = (us : Terms) → AreRead P row base ts us → are_ground us ≡ true → ⊥
-
 -- This is what a comparison of two terms comes to in the frame at the base.
 abbrev pub IsComparison : NamedProgram → List Ref → (base : ℕ) → Relation → (a b : Term) → Ran → Type 0
 IsComparison P row base o a b run.Waits = AreOpen P row base (more a (more b none))
 IsComparison P row base o a b run.Done = AreCompared P row base o a b true
 IsComparison P row base o a b run.False = AreCompared P row base o a b false
+
+-- This is what writing a number into a pair of words and settling a node with it comes to. It does not wait.
+abbrev pub AssignsTo : NamedProgram → (old new : List Ref) → (base node pair : ℕ) → ℤ → Ran → Type 0
+AssignsTo P old new base node pair z run.Waits = ⊥
+AssignsTo P old new base node pair z run.Done = IsAssigned P old new base node pair z
+AssignsTo P old new base node pair z run.False = IsRefused P old base node pair z
+
+-- This is what running the goal comes to, and where it waits the cells are as before.
+abbrev pub RunsTo : NamedProgram → (old new : List Ref) → Goal → Ran → Type 0
+RunsTo P old new g run.Waits = IsWaiting P old g × (new ≡ old)
+RunsTo P old new g run.Done = HasRun P old new g
+RunsTo P old new g run.False = CannotHold P old g

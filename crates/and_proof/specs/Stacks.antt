@@ -17,14 +17,6 @@ is_goal_item (Skeletons.is n m pair) = true
 is_goal_item (Skeletons.compare r n m) = true
 is_goal_item Skeletons.fail = false
 
--- It is a call.
-abbrev pub is_call_node : NodeItem → Bool
-is_call_node (Skeletons.call n) = true
-is_call_node (Skeletons.equal n m) = false
-is_call_node (Skeletons.is n m pair) = false
-is_call_node (Skeletons.compare r n m) = false
-is_call_node Skeletons.fail = false
-
 -- a goal ahead, at that depth
 abbrev pub at_depth : ℕ → Framed → Ahead
 at_depth depth f = record { goal = f.goal; depth = depth }

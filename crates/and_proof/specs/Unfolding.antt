@@ -1,5 +1,6 @@
 -- What the unfolding of a code keeps in a row of cells.
-use Rattle.std.specs.Prelude.{ℕ, suc, ◌+◌, ◌≡◌, ◌⊎◌, ◌≤◌, true, List, [], ◌∷◌, ◌++◌, map, length, reverse, Some, All}
+use Rattle.std.specs.Prelude.{ℕ, suc, ◌+◌, ◌≡◌, ◌⊎◌, ◌≤◌, Bool, true, false, List, [], ◌∷◌, ◌++◌, map, length}
+use Rattle.std.specs.Prelude.{reverse, Some, All}
 use Rattle.std.specs.Prelude.{Contains}
 use Rattle.and_model.specs.Terms.{Term}
 use Rattle.and_model.specs.Programs.{call, arithmetic, Arithmetic, clause_at, clause_weight, is_of}
@@ -12,8 +13,8 @@ use Rattle.and_model.specs.declared.reference.Ref.{Ref}
 use Rattle.and_cells.specs.Ranges.{NamedProgram, IsGoalInRange}
 use Rattle.and_branch_laws.specs.Judging.{NoCall}
 use Rattle.and_branch_laws.specs.Kept.{Kept, item_at, goal_of}
-use Rattle.and_proof.specs.Proofs.{Replaced, all_replaced}
-use Rattle.and_proof.specs.Runs.{IsWaiting}
+use Rattle.and_proof.specs.Proofs.{Replaced, all_replaced, HasProof}
+use Rattle.and_step_laws.specs.Runs.{IsWaiting}
 use Rattle.and_proof.specs.declared.goals.Ahead.{Ahead}
 use Rattle.and_proof.specs.declared.goals.Goals.{Goals}
 use Rattle.and_proof.specs.declared.goals.Taken.{Taken}
@@ -94,9 +95,8 @@ pub record IsProved (P : NamedProgram) (row : List Ref) (waiting : List Goal) (t
   pub waits : AllWait P row waiting
   pub replaced : AreTaken P reductions (length row) taken (all_replaced tree)
 
--- The code was unfolded up to this call, which was taken off, and the clause is of its predicate and fits.
-pub record Enters (P : NamedProgram) (row : List Ref) (goals : Goals) (next : Ahead) (clause : ℕ)
-    (cs : List ℕ) : Type 0 where
+-- The code was unfolded up to this call, which was taken off.
+pub record IsCalled (P : NamedProgram) (row : List Ref) (goals : Goals) (next : Ahead) (cs : List ℕ) : Type 0 where
   pub before : Goals
   pub unfolded : IsUnfolding P row before cs
   pub ahead : before.ahead.items ≡ goals.ahead.items ++ next ∷ []
@@ -104,5 +104,16 @@ pub record Enters (P : NamedProgram) (row : List Ref) (goals : Goals) (next : Ah
   pub taken : before.taken.items ≡ goals.taken.items
   pub term : Term
   pub is_call : item_at P.program next.goal ≡ call term
+
+-- It was, and the clause is of the call's predicate and fits.
+pub record Enters (P : NamedProgram) (row : List Ref) (goals : Goals) (next : Ahead) (clause : ℕ)
+    (cs : List ℕ) : Type 0 where
+  pub called : IsCalled P row goals next cs
   pub of_it : is_of P.program (term_of P.program next.goal) clause ≡ true
   pub fits : length row + clause_weight (clause_at P.program clause) ≤ MAX_LIMIT
+
+-- This is what replacing the next call of an unfolded code by the clause comes to: the code with the clause behind it
+-- is unfolded, or no code that begins with it has a proof.
+abbrev pub ReplacesTo : NamedProgram → (new : List Ref) → Goals → (clause : ℕ) → (cs : List ℕ) → Bool → Type 0
+ReplacesTo P new goals clause cs true = IsUnfolding P new goals (cs ++ clause ∷ [])
+ReplacesTo P new goals clause cs false = (rest : List ℕ) → HasProof P.program (cs ++ clause ∷ rest) → ⊥

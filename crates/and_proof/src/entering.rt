@@ -13,9 +13,9 @@ ghost use Rattle.and_unify.specs.Pairs.{equations_of_pairs};
 ghost use Rattle.and_branch_laws.specs.Reducing.{body_equations, reduction_in_cells};
 ghost use Rattle.and_branch_laws.specs.Settling.{Settled, widened};
 ghost use Rattle.and_branch_laws.specs.Variables.{placed};
-ghost use Rattle.and_proof.specs.Asking.{AreReady};
-ghost use Rattle.and_proof.specs.Calls.{CanBeTaken};
-ghost use Rattle.and_proof.specs.Frames.{IsFrame};
+ghost use Rattle.and_step_laws.specs.Asking.{AreReady};
+ghost use Rattle.and_branch_laws.specs.Goals.{CanBeJudged};
+ghost use Rattle.and_step_laws.specs.Frames.{IsFrame};
 
 use crate::asking::{ask_call, ask_items};
 use and_arith::WorkList;
@@ -88,7 +88,7 @@ pub(crate) fn take<N: Naming>(
 ) -> Result<Entered, AllocError>
     requires program { N.program ≡ named loaded.now }
     requires settled { IsSettled N.program cells.old }
-    requires goal { CanBeTaken N.program cells.old goal }
+    requires goal { CanBeJudged N.program cells.old goal }
     requires clause { clause.0 ≤ length N.program.program.clauses }
     requires fits { length cells.old + clause_weight (clause_at N.program.program clause.0) ≤ MAX_LIMIT }
     ensures solved { result ≡ Ok Entered.Solved

@@ -7,9 +7,9 @@ ghost use Rattle.and_cells.specs.Ranges.{IsGoalInRange};
 ghost use Rattle.and_cells.specs.Parts.{named};
 ghost use Rattle.and_program.specs.Loaded.{program_of};
 ghost use Rattle.and_program.specs.Items.{node_item};
-ghost use Rattle.and_branch_laws.specs.Kept.{goal_of, item_at};
+ghost use Rattle.and_branch_laws.specs.Kept.{item_at};
 ghost use Rattle.and_branch_laws.specs.Reducing.{body_goals};
-ghost use Rattle.and_proof.specs.Stacks.{is_goal_item, is_call_node, at_depth};
+ghost use Rattle.and_proof.specs.Stacks.{is_goal_item, at_depth};
 
 use and_model::{ClauseNo, Goal};
 use and_program::{ItemNode, Loaded};
@@ -144,18 +144,5 @@ pub(crate) fn is_call(loaded: &Loaded, goal: Goal) -> bool
     ensures call { result ≡ true → (term : Term) × (item_at (program_of loaded.now) goal ≡ call term) }
     ensures arithmetic { result ≡ false → (a : Arithmetic) × (item_at (program_of loaded.now) goal ≡ arithmetic a) }
 {
-    is_call_item(loaded.items(goal.clause)[goal.item as usize])
-}
-
-/// Whether the item is a call. Takes no memory.
-fn is_call_item(item: ItemNode) -> bool
-    ensures { result ≡ is_call_node (node_item item) }
-{
-    match item {
-        ItemNode::Call { .. } => true,
-        ItemNode::Equal { .. } => false,
-        ItemNode::Is { .. } => false,
-        ItemNode::Compare { .. } => false,
-        ItemNode::Fail => false,
-    }
+    loaded.items(goal.clause)[goal.item as usize].is_call()
 }

@@ -1,19 +1,19 @@
 //! Goals of arithmetic that are run.
 
-ghost use Rattle.std.specs.Prelude.{◌≡◌, ◌≢◌, ◌≤◌, ◌<◌, ◌+◌, ℕ, length, slice_get, get_or, Some, Ok, IfOk};
+ghost use Rattle.std.specs.Prelude.{◌≡◌, ◌≤◌, ◌<◌, length, get_or, Ok, IfOk, OnOk};
 ghost use Rattle.and_model.specs.declared.limits.TheConstants.{MAX_LIMIT};
 ghost use Rattle.and_program.specs.Items.{node_item, relation};
 ghost use Rattle.and_program.specs.Loaded.{nodes_at, program_of, skeleton_of};
 ghost use Rattle.and_program.specs.Skeletons;
-ghost use Rattle.and_program.specs.Skeletons.{node_term};
 ghost use Rattle.and_cells.specs.Meaning.{IsSettled};
 ghost use Rattle.and_cells.specs.Parts.{named};
 ghost use Rattle.and_cells.specs.Ranges.{pair_of};
 ghost use Rattle.and_cells.specs.Rows.{IsSound};
 ghost use Rattle.and_branch_laws.specs.Settling.{IsWritten};
-ghost use Rattle.and_proof.specs.Runs.{CanBeRun, IsWaiting, HasRun, CannotHold};
-ghost use Rattle.and_proof.specs.Assigning.{CanBeAssigned, IsAssigned, IsFreePair, IsRefused};
-ghost use Rattle.and_proof.specs.Sides.{CanBeRead, IsComparison};
+ghost use Rattle.and_step_laws.specs.Assigning.{CanBeAssigned, IsFreePair};
+ghost use Rattle.and_step_laws.specs.Running.{Assigns, Compares, IsAskedFor, IsRunnable};
+ghost use Rattle.and_step_laws.specs.Runs.{CanBeRun};
+ghost use Rattle.and_proof.specs.Sides.{AssignsTo, RunsTo};
 
 use crate::entering::Tools;
 use crate::sides::{Side, compare_sides, evaluate};
@@ -21,7 +21,7 @@ use and_arith::WorkList;
 use and_cells::{Naming, PlainCells, halves};
 use and_model::{ClauseNo, Goal, NodeNo, Ref, Relation};
 use and_program::{ItemNode, Loaded};
-use and_unify::Settled as Answer;
+use and_unify::{PairList, Settled as Answer};
 use std::alloc::AllocError;
 
 /// What a goal of arithmetic comes to.
@@ -47,13 +47,9 @@ pub(crate) fn run<N: Naming>(
     requires settled { IsSettled N.program cells.old }
     requires short { length cells.old ≤ MAX_LIMIT }
     requires goal { CanBeRun N.program cells.old goal }
-    ensures waits { result ≡ Ok Ran.Waits → IsWaiting N.program cells.old goal }
-    ensures unchanged { result ≡ Ok Ran.Waits → cells.new ≡ cells.old }
-    ensures done { result ≡ Ok Ran.Done → HasRun N.program cells.old cells.new goal }
-    ensures fails { result ≡ Ok Ran.False → CannotHold N.program cells.old goal }
+    ensures { IfOk result (RunsTo N.program cells.old cells.new goal) }
 {
-    loaded.skeleton_is_of_the_program();
-    match item_in(loaded, goal.clause, goal.item) {
+    match runnable_item(loaded, cells, goal) {
         ItemNode::Compare {
             relation,
             left,
@@ -61,26 +57,29 @@ pub(crate) fn run<N: Naming>(
         } => run_comparison(
             loaded,
             cells,
-            goal.base,
+            goal,
             relation,
             left,
             right,
             &mut tools.values,
         ),
         ItemNode::Is { left, right, pair } => {
-            match evaluate(loaded, cells, goal.base, right, &mut tools.values)? {
-                Side::Waits => Ok(Ran::Waits),
-                Side::NoValue => Ok(Ran::False),
-                Side::Number(value) => {
-                    let first = pair_in(loaded, goal.clause, goal.base, pair);
-                    assign(loaded, cells, goal.base, left, first, value, tools)
-                }
-            }
+            run_assignment(loaded, cells, goal, left, right, pair, tools)
         }
         ItemNode::Call { goal: _ } => unreachable!(),
         ItemNode::Equal { left: _, right: _ } => unreachable!(),
         ItemNode::Fail => unreachable!(),
     }
+}
+
+/// The item of a goal of arithmetic.
+fn runnable_item<N: Naming>(loaded: &Loaded, cells: &PlainCells<N>, goal: Goal) -> ItemNode
+    requires program { N.program ≡ named loaded.now }
+    requires goal { CanBeRun N.program cells.now goal }
+    ensures { IsRunnable N.program cells.now goal (node_item result) }
+{
+    loaded.skeleton_is_of_the_program();
+    item_in(loaded, goal.clause, goal.item)
 }
 
 /// The item of a body at a place.
@@ -105,7 +104,7 @@ fn pair_in(loaded: &Loaded, clause: ClauseNo, base: u32, number: u32) -> u32
 fn run_comparison<N: Naming>(
     loaded: &Loaded,
     cells: &mut PlainCells<N>,
-    base: u32,
+    goal: Goal,
     by: Relation,
     left: NodeNo,
     right: NodeNo,
@@ -113,16 +112,40 @@ fn run_comparison<N: Naming>(
 ) -> Result<Ran, AllocError>
     requires program { N.program ≡ named loaded.now }
     requires settled { IsSettled N.program cells.old }
-    requires left { CanBeRead N.program cells.old base left.0 }
-    requires right { CanBeRead N.program cells.old base right.0 }
-    ensures compared { IfOk result
-        (IsComparison N.program cells.old base (relation by) (node_term N.program.skeleton.nodes left.0)
-        (node_term N.program.skeleton.nodes right.0)) }
+    requires item { Compares N.program cells.old goal (relation by) left.0 right.0 }
+    ensures ran { IfOk result (RunsTo N.program cells.old cells.new goal) }
     ensures unchanged { cells.new ≡ cells.old }
 {
-    let first = evaluate(loaded, cells, base, left, values)?;
-    let second = evaluate(loaded, cells, base, right, values)?;
+    let first = evaluate(loaded, cells, goal.base, left, values)?;
+    let second = evaluate(loaded, cells, goal.base, right, values)?;
     Ok(compare_sides(by, first, second))
+}
+
+/// Gives the left node of an `is` goal the value of the right one, where that is ground. An error is
+/// want of memory, and the cells are spent.
+fn run_assignment<N: Naming>(
+    loaded: &Loaded,
+    cells: &mut PlainCells<N>,
+    goal: Goal,
+    left: NodeNo,
+    right: NodeNo,
+    pair: u32,
+    tools: &mut Tools,
+) -> Result<Ran, AllocError>
+    requires program { N.program ≡ named loaded.now }
+    requires settled { IsSettled N.program cells.old }
+    requires short { length cells.old ≤ MAX_LIMIT }
+    requires item { Assigns N.program cells.old goal left.0 right.0 pair }
+    ensures ran { IfOk result (RunsTo N.program cells.old cells.new goal) }
+{
+    match evaluate(loaded, cells, goal.base, right, &mut tools.values)? {
+        Side::Waits => Ok(Ran::Waits),
+        Side::NoValue => Ok(Ran::False),
+        Side::Number(value) => {
+            let first = pair_in(loaded, goal.clause, goal.base, pair);
+            assign(loaded, cells, goal.base, left, first, value, tools)
+        }
+    }
 }
 
 /// Writes a number into a pair of words.
@@ -137,7 +160,32 @@ fn write<N: Naming>(cells: &mut PlainCells<N>, pair: u32, value: i64)
     let _words = cells.len();
 }
 
-/// Writes a number into a pair of words, and settles the node with it. An error is want of memory.
+/// Writes a number into a pair of words, and asks that the node be made one with it and nothing else. An
+/// error is want of memory.
+fn ask_number<N: Naming>(
+    loaded: &Loaded,
+    cells: &mut PlainCells<N>,
+    base: u32,
+    node: NodeNo,
+    pair: u32,
+    value: i64,
+    pairs: &mut PairList,
+) -> Result<(), AllocError>
+    requires program { N.program ≡ named loaded.now }
+    requires settled { IsSettled N.program cells.old }
+    requires goal { CanBeAssigned N.program cells.old base node.0 pair }
+    ensures { OnOk result (IsAskedFor N.program cells.old cells.new base node.0 pair value pairs.new) }
+{
+    loaded.skeleton_is_of_the_program();
+    let left = loaded.resolve(node, base);
+    write(cells, pair, value);
+    pairs.clear();
+    pairs.push(left, Ref::Number(pair))?;
+    Ok(())
+}
+
+/// Writes a number into a pair of words, and settles the node with it. An error is
+/// want of memory.
 fn assign<N: Naming>(
     loaded: &Loaded,
     cells: &mut PlainCells<N>,
@@ -150,16 +198,10 @@ fn assign<N: Naming>(
     requires program { N.program ≡ named loaded.now }
     requires settled { IsSettled N.program cells.old }
     requires goal { CanBeAssigned N.program cells.old base node.0 pair }
-    ensures waits { result ≢ Ok Ran.Waits }
-    ensures done { result ≡ Ok Ran.Done → IsAssigned N.program cells.old cells.new base node.0 pair value }
-    ensures fails { result ≡ Ok Ran.False → IsRefused N.program cells.old base node.0 pair value }
+    ensures { IfOk result (AssignsTo N.program cells.old cells.new base node.0 pair value) }
 {
-    loaded.skeleton_is_of_the_program();
-    let left = loaded.resolve(node, base);
-    write(cells, pair, value);
+    ask_number(loaded, cells, base, node, pair, value, &mut tools.pairs)?;
     let words = cells.len();
-    tools.pairs.clear();
-    tools.pairs.push(left, Ref::Number(pair))?;
     match tools
         .solver
         .settle_further(loaded, cells, words, &mut tools.pairs)

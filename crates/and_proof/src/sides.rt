@@ -5,7 +5,8 @@ ghost use Rattle.and_program.specs.Items.{relation};
 ghost use Rattle.and_program.specs.Skeletons.{node_term};
 ghost use Rattle.and_cells.specs.Meaning.{IsSettled};
 ghost use Rattle.and_cells.specs.Parts.{named};
-ghost use Rattle.and_proof.specs.Sides.{CanBeRead, IsSide, compared_with};
+ghost use Rattle.and_branch_laws.specs.Goals.{CanBeRead};
+ghost use Rattle.and_proof.specs.Sides.{IsSide, compared_with};
 
 use crate::running::Ran;
 use and_arith::{Valued, WorkList, compare, value_of};

@@ -1,6 +1,6 @@
 //! Codes that are unfolded: the leftmost calls are replaced by their clauses, one after another.
 
-ghost use Rattle.std.specs.Prelude.{◌≡◌, ◌++◌, ◌∷◌, [], ℕ, true, false, Ok, OnOk, List};
+ghost use Rattle.std.specs.Prelude.{◌≡◌, [], ℕ, true, false, Ok, IfOk, OnOk, List};
 ghost use Rattle.and_model.specs.Programs as programs;
 ghost use Rattle.and_model.specs.Programs.{is_of};
 ghost use Rattle.and_model.specs.Stands.{term_of};
@@ -11,7 +11,7 @@ ghost use Rattle.and_cells.specs.Ranges.{IsGoalInRange};
 ghost use Rattle.and_branch_laws.specs.Kept.{item_at};
 ghost use Rattle.and_proof.specs.Predicates.{named_alike, has_name};
 ghost use Rattle.and_proof.specs.Proofs.{HasProof};
-ghost use Rattle.and_proof.specs.Unfolding.{IsUnfolding, IsAtCall, Enters};
+ghost use Rattle.and_proof.specs.Unfolding.{IsUnfolding, IsAtCall, IsCalled, Enters, ReplacesTo};
 
 use crate::asking::call_at;
 use crate::entering::{Entered, Tools, begin, take};
@@ -116,16 +116,32 @@ fn replace_next<N: Naming>(
 ) -> Result<bool, AllocError>
     requires program { N.program ≡ named loaded.now }
     requires unfolding { (cs : List ℕ) × IsUnfolding N.program cells.old goals.old cs }
-    ensures replaced { result ≡ Ok true → (cs : List ℕ) → IsUnfolding N.program cells.old goals.old cs
-        → IsUnfolding N.program cells.new goals.new (cs ++ clause.0 ∷ []) }
-    ensures none { result ≡ Ok false → (cs rest : List ℕ) → IsUnfolding N.program cells.old goals.old cs
-        → HasProof N.program.program (cs ++ clause.0 ∷ rest) → ⊥ }
+    ensures { IfOk result (λ done. (cs : List ℕ) → IsUnfolding N.program cells.old goals.old cs
+        → ReplacesTo N.program cells.new goals.new clause.0 cs done) }
 {
-    loaded.skeleton_is_of_the_program();
     pass_arithmetic(loaded, cells, goals)?;
     let Some(next) = goals.ahead.pop() else {
         return Ok(false);
     };
+    replace(loaded, cells, goals, next, clause, tools)
+}
+
+/// Replaces a call that was taken off by the clause, and answers whether that could be done: the clause is of its
+/// predicate, it is not too heavy, and what it asks has a solution. An error is want of memory.
+fn replace<N: Naming>(
+    loaded: &Loaded,
+    cells: &mut PlainCells<N>,
+    goals: &mut Goals,
+    next: Ahead,
+    clause: ClauseNo,
+    tools: &mut Tools,
+) -> Result<bool, AllocError>
+    requires program { N.program ≡ named loaded.now }
+    requires called { (cs : List ℕ) × IsCalled N.program cells.old goals.old next cs }
+    ensures { IfOk result (λ done. (cs : List ℕ) → IsCalled N.program cells.old goals.old next cs
+        → ReplacesTo N.program cells.new goals.new clause.0 cs done) }
+{
+    loaded.skeleton_is_of_the_program();
     if !can_replace(loaded, next.goal, clause) {
         return Ok(false);
     }
@@ -147,10 +163,8 @@ fn enter<N: Naming>(
 ) -> Result<bool, AllocError>
     requires program { N.program ≡ named loaded.now }
     requires enters { (cs : List ℕ) × Enters N.program cells.old goals.old next clause.0 cs }
-    ensures entered { result ≡ Ok true → (cs : List ℕ) → Enters N.program cells.old goals.old next clause.0 cs
-        → IsUnfolding N.program cells.new goals.new (cs ++ clause.0 ∷ []) }
-    ensures none { result ≡ Ok false → (cs rest : List ℕ) → Enters N.program cells.old goals.old next clause.0 cs
-        → HasProof N.program.program (cs ++ clause.0 ∷ rest) → ⊥ }
+    ensures { IfOk result (λ done. (cs : List ℕ) → Enters N.program cells.old goals.old next clause.0 cs
+        → ReplacesTo N.program cells.new goals.new clause.0 cs done) }
 {
     loaded.skeleton_is_of_the_program();
     let node = cells.len();

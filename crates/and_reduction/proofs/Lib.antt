@@ -1,12 +1,6 @@
-pub mod ReadyPairs
-pub mod NewFrames
-pub mod Numbers
+pub use Rattle.and_step_laws.proofs.KeptGoals
 pub mod Goals
 pub mod Outcomes
-pub mod KeptGoals
-pub mod AskedPairs
-pub mod SettledPairs
-pub mod AskedNumbers
 pub mod Noting
 pub mod NotedSteps
 pub mod NumbersSet

@@ -16,11 +16,11 @@ use Rattle.and_unify.specs.declared.pairs.Pair.{Pair}
 use Rattle.and_unify.specs.declared.settling.Settled.{Settled as Answer}
 use Rattle.and_unify.specs.declared.settling.Settled.TheVariants.{Memory}
 use Rattle.and_guards.proofs.Listed.{among_or_not}
-use Rattle.and_guards.proofs.Widening.{widened_length}
-use Rattle.and_reduction.specs.Assigning.{IsFreePair}
+use Rattle.and_branch_laws.proofs.Widening.{widened_length}
+use Rattle.and_step_laws.specs.Assigning.{IsFreePair}
 use Rattle.and_reduction.specs.Trails.{Noted, KeepsNoted, AreNoted}
 use Rattle.and_reduction.proofs.Noting.{step_noted, none_noted, both_noted}
-use Rattle.and_reduction.proofs.Numbers.{one_of_pair}
+use Rattle.and_step_laws.proofs.Numbers.{one_of_pair}
 
 -- a frame was put behind the row
 frame_noted : (n : Noted) (row wide : List Ref) (by : ℕ) → wide ≡ widened row by → KeepsNoted n n row wide

@@ -1,157 +1,91 @@
--- What the sides of a goal of arithmetic say of it.
-use Rattle.std.proofs.Common.{ℕ, ℤ, ◌≡◌, Bool, true, false, List, Option, Some, None, refl, sym, ap, ◌∙◌, subst}
-use Rattle.and_model.specs.Terms.{Term, Terms, none, more, is_ground, are_ground}
-use Rattle.and_model.specs.Arithmetic.{Relation, related, both_related, value, holds}
+-- What the sides of a goal of arithmetic say of running it.
+use Rattle.std.proofs.Common.{ℕ, ℤ, ◌≡◌, Bool, true, false, List, Some, None, subst}
+use Rattle.and_model.specs.Terms.{Term}
+use Rattle.and_model.specs.Arithmetic.{Relation, related}
 use Rattle.and_model.specs.Programs
-use Rattle.and_model.specs.Programs.{Item, Arithmetic}
-use Rattle.and_model.specs.Closure.{needs}
 use Rattle.and_model.specs.declared.goal.Goal.{Goal}
 use Rattle.and_model.specs.declared.reference.Ref.{Ref}
-use Rattle.and_program.specs.Skeletons
-use Rattle.and_program.specs.Skeletons.{NodeItem, node_term, item_of}
-use Rattle.and_laws.proofs.Substitutions.{and_left, and_right}
+use Rattle.and_program.specs.Skeletons.{node_term}
 use Rattle.and_cells.specs.Ranges.{NamedProgram, pair_of}
-use Rattle.and_branch_laws.specs.Running.{IsRead, AreRead}
-use Rattle.and_branch_laws.specs.Kept.{item_at, node_item_at}
-use Rattle.and_reduction.specs.Assigning.{IsAssigned, IsRefused}
-use Rattle.and_reduction.specs.Runs.{CanBeRun, IsWaiting, WaitsFor, HasRun, CannotHold, compared, assigned, no_value}
-use Rattle.and_reduction.specs.Runs as runs
-use Rattle.and_guards.specs.Sides.{IsSide, IsOpen}
-use Rattle.and_reduction.specs.Sides.{AreCompared, IsComparison, AreOpen, compared_with}
+use Rattle.and_branch_laws.specs.Kept.{item_at}
+use Rattle.and_branch_laws.specs.Sides.{AreCompared}
+use Rattle.and_branch_laws.proofs.Comparing.{left_open, right_open, values_compared}
+use Rattle.and_step_laws.specs.Running.{Assigns}
+use Rattle.and_step_laws.proofs.Outcomes.{comparison_waits, comparison_done, comparison_fails, is_waits, is_valueless, is_assigned, is_refused}
+use Rattle.and_guards.specs.Sides.{IsSide}
 use Rattle.and_reduction.specs.Sides as sides
+use Rattle.and_reduction.specs.Sides.{IsComparison, AssignsTo, RunsTo, compared_with}
+use Rattle.and_reduction.specs.declared.running.Ran.{Ran}
 use Rattle.and_reduction.specs.declared.running.Ran.TheVariants as run
 use Rattle.and_guards.specs.declared.guards.Side.{Side}
 use Rattle.and_guards.specs.declared.guards.Side.TheVariants.{Waits, NoValue, Number}
 
-holds_by : (o : Relation) (u w : Term) (x y : Option ℤ) → value u ≡ x → value w ≡ y → holds o u w ≡ both_related o x y
-unfolding holds
-holds_by o u w x y one two = ap (λ (a : Option ℤ). both_related o a (value w)) one ∙ ap (λ (b : Option ℤ). both_related o x b) two
-
-none_left : (o : Relation) (y : Option ℤ) → both_related o None y ≡ false
-none_left o None = refl
-none_left o (Some b) = refl
-
 -- ---- A comparison
 
-module _ (P : NamedProgram) (row : List Ref) (base : ℕ) (a b : Term) where
-  left_waits : IsOpen P row base a → AreOpen P row base (more a (more b none))
-  left_waits side none read ground = elim read [ ]
-  left_waits side (more u none) read ground = elim read.1 [ ]
-  left_waits side (more u (more w us)) read ground = side u read.0 (and_left (is_ground u) (are_ground (more w us)) ground)
-
-  right_waits : IsOpen P row base b → AreOpen P row base (more a (more b none))
-  right_waits side none read ground = elim read [ ]
-  right_waits side (more u none) read ground = elim read.1 [ ]
-  right_waits side (more u (more w us)) read ground =
-      side w read.1.0 (and_left (is_ground w) (are_ground us) (and_right (is_ground u) (are_ground (more w us)) ground))
-
 module _ (P : NamedProgram) (row : List Ref) (base : ℕ) (o : Relation) (a b : Term) where
-  compare_ground : (u w : Term) (outcome : Bool) → IsRead P row base a u → IsRead P row base b w → is_ground u ≡ true → is_ground w ≡ true
-      → holds o u w ≡ outcome → AreCompared P row base o a b outcome
-  compare_ground u w outcome one other first second is = record {
-    left = u;
-    right = w;
-    left_read = one;
-    right_read = other;
-    left_ground = first;
-    right_ground = second;
-    outcome_is = is;
-  }
+  compared_so : (outcome : Bool) → AreCompared P row base o a b outcome → IsComparison P row base o a b (sides.compared outcome)
+  compared_so true is = is
+  compared_so false is = is
 
-  left_open : (cell : ℕ) → IsSide P row base a (Waits cell) → IsComparison P row base o a b (run.Waits cell)
-  left_open cell side = (
-    left_waits P row base a b side.0,
-    λ later grows sound free. left_waits P later base a b (side.1 later grows sound free),
+  open_left : (cell : ℕ) → IsSide P row base a (Waits cell) → IsComparison P row base o a b (run.Waits cell)
+  open_left cell side = (
+    left_open P row base a b side.0,
+    λ later grows sound free. left_open P later base a b (side.1 later grows sound free),
   )
 
-  right_open : (cell : ℕ) → IsSide P row base b (Waits cell) → IsComparison P row base o a b (run.Waits cell)
-  right_open cell side = (
-    right_waits P row base a b side.0,
-    λ later grows sound free. right_waits P later base a b (side.1 later grows sound free),
+  open_right : (cell : ℕ) → IsSide P row base b (Waits cell) → IsComparison P row base o a b (run.Waits cell)
+  open_right cell side = (
+    right_open P row base a b side.0,
+    λ later grows sound free. right_open P later base a b (side.1 later grows sound free),
   )
-
-  numbers_compare : (u w : Term) → IsRead P row base a u → IsRead P row base b w → is_ground u ≡ true → is_ground w ≡ true
-      → (outcome : Bool)
-      → holds o u w ≡ outcome → IsComparison P row base o a b (sides.compared outcome)
-  numbers_compare u w one other first second true is = compare_ground u w true one other first second is
-  numbers_compare u w one other first second false is = compare_ground u w false one other first second is
 
   pub sides_compare : (l r : Side) → IsSide P row base a l → IsSide P row base b r → IsComparison P row base o a b (compared_with o l r)
-  sides_compare (Waits cell) r one other = left_open cell one
-  sides_compare NoValue (Waits cell) one other = right_open cell other
-  sides_compare NoValue NoValue (u, read, ground, none_is) (w, read_too, ground_too, none_too) =
-      compare_ground u w false read read_too ground ground_too (holds_by o u w None None none_is none_too ∙ none_left o None)
-  sides_compare NoValue (Number y) (u, read, ground, none_is) (w, read_too, ground_too, some) =
-      compare_ground u w false read read_too ground ground_too (holds_by o u w None (Some y) none_is some ∙ none_left o (Some y))
-  sides_compare (Number x) (Waits cell) one other = right_open cell other
-  sides_compare (Number x) NoValue (u, read, ground, some) (w, read_too, ground_too, none_too) =
-      compare_ground u w false read read_too ground ground_too (holds_by o u w (Some x) None some none_too)
-  sides_compare (Number x) (Number y) (u, read, ground, some) (w, read_too, ground_too, some_too) =
-      numbers_compare u w read read_too ground ground_too (related o x y) (holds_by o u w (Some x) (Some y) some some_too)
+  sides_compare (Waits cell) r one other = open_left cell one
+  sides_compare NoValue (Waits cell) one other = open_right cell other
+  sides_compare NoValue NoValue one other = values_compared P row base o a b None None one other
+  sides_compare NoValue (Number y) one other = values_compared P row base o a b None (Some y) one other
+  sides_compare (Number x) (Waits cell) one other = open_right cell other
+  sides_compare (Number x) NoValue one other = values_compared P row base o a b (Some x) None one other
+  sides_compare (Number x) (Number y) one other =
+      compared_so (related o x y) (values_compared P row base o a b (Some x) (Some y) one other)
 
 -- ---- A goal
 
--- what one goal of arithmetic is, another that is the same item is
-same_arithmetic : (i : Item) (a b : Arithmetic) → i ≡ Programs.arithmetic a → i ≡ Programs.arithmetic b → b ≡ a
-same_arithmetic i a b one other = let both = sym other ∙ one in cc
+module _ (P : NamedProgram) (old new : List Ref) (g : Goal) where
+  pub comparison_runs : (o : Relation) (a b : Term) → item_at P.program g ≡ Programs.arithmetic (Programs.compare o a b) → new ≡ old
+      → (r : Ran) → IsComparison P old g.base o a b r → RunsTo P old new g r
+  comparison_runs o a b is same (run.Waits cell) c = (
+    comparison_waits P old g o a b is c.0,
+    λ later grows sound settled free. comparison_waits P later g o a b is (c.1 later grows sound free),
+    same,
+  )
+  comparison_runs o a b is same run.Done c = comparison_done P old g o a b is new same c
+  comparison_runs o a b is same run.False c = comparison_fails P old g o a b is c
 
-module _ (P : NamedProgram) (row : List Ref) (g : Goal) (a : Arithmetic) (is : item_at P.program g ≡ Programs.arithmetic a) where
-  -- It waits where what it needs does not read as ground terms.
-  pub so_waits : ((us : Terms) → AreRead P row g.base (needs a) us → are_ground us ≡ true → ⊥) → IsWaiting P row g
-  so_waits never b us other read ground =
-      never us (subst (λ (x : Arithmetic). AreRead P row g.base (needs x) us) (same_arithmetic (item_at P.program g) a b is other) read)
-      ground
+  module _ (n m pair : ℕ) (a : Assigns P old g n m pair) where
+    pub waiting_runs : (cell : ℕ) → new ≡ old → IsSide P old g.base (node_term P.skeleton.nodes m) (Waits cell)
+        → RunsTo P old new g (run.Waits cell)
+    waiting_runs cell same side = (
+      is_waits P old g n m pair a.node a.item_is side.0,
+      λ later grows sound settled free. is_waits P later g n m pair a.node a.item_is (side.1 later grows sound free),
+      same,
+    )
 
--- the right side of an `is` goal waits
-side_waits : (P : NamedProgram) (row : List Ref) (base : ℕ) (r : Term) → IsOpen P row base r → AreOpen P row base (more r none)
-side_waits P row base r side none read ground = elim read [ ]
-side_waits P row base r side (more u us) read ground = side u read.0 (and_left (is_ground u) (are_ground us) ground)
+    pub valueless_runs : IsSide P old g.base (node_term P.skeleton.nodes m) NoValue → RunsTo P old new g run.False
+    valueless_runs side = is_valueless P old g n m pair a.node a.item_is side
 
-module _ (P : NamedProgram) (row new : List Ref) (g : Goal) where
-  pub comparison_waits : (cell : ℕ) (o : Relation) (a b : Term) → item_at P.program g ≡ Programs.arithmetic (Programs.compare o a b)
-      → IsComparison P row g.base o a b (run.Waits cell) → IsWaiting P row g
-  comparison_waits cell o a b is c = so_waits P row g (Programs.compare o a b) is c.0
+    number_runs : (z : ℤ) → IsSide P old g.base (node_term P.skeleton.nodes m) (Number z) → (r : Ran)
+        → AssignsTo P old new g.base n (pair_of P g.clause.0 g.base pair) z r → RunsTo P old new g r
+    number_runs z side (run.Waits cell) t = absurd t
+    number_runs z side run.Done t = is_assigned P old g n m pair a.node a.item_is new z side t
+    number_runs z side run.False t = is_refused P old g n m pair a.node a.item_is z side t
 
-  pub comparison_waits_for : (cell : ℕ) (o : Relation) (a b : Term)
-      → item_at P.program g ≡ Programs.arithmetic (Programs.compare o a b)
-      → IsComparison P row g.base o a b (run.Waits cell) → WaitsFor P row g cell
-  comparison_waits_for cell o a b is c later grows sound settled free =
-      so_waits P later g (Programs.compare o a b) is (c.1 later grows sound free)
-
-  pub comparison_done : (o : Relation) (a b : Term) → item_at P.program g ≡ Programs.arithmetic (Programs.compare o a b)
-      → new ≡ row → IsComparison P row g.base o a b run.Done → HasRun P row new g
-  comparison_done o a b is same c =
-      runs.HasRun.compared o a b c.left c.right is c.left_read c.right_read c.left_ground c.right_ground c.outcome_is same
-
-  pub comparison_fails : (o : Relation) (a b : Term) → item_at P.program g ≡ Programs.arithmetic (Programs.compare o a b)
-      → IsComparison P row g.base o a b run.False → CannotHold P row g
-  comparison_fails o a b is c =
-      runs.CannotHold.compared o a b c.left c.right is c.left_read c.right_read c.left_ground c.right_ground c.outcome_is
-
-  module _ (n m pair : ℕ) (node : node_item_at P g ≡ Skeletons.is n m pair)
-      (is : item_at P.program g ≡ Programs.arithmetic (Programs.is (node_term P.skeleton.nodes n) (node_term P.skeleton.nodes m))) where
-    pub is_waits : (cell : ℕ) → IsSide P row g.base (node_term P.skeleton.nodes m) (Waits cell) → IsWaiting P row g
-    is_waits cell side = so_waits P row g (Programs.is (node_term P.skeleton.nodes n) (node_term P.skeleton.nodes m)) is
-        (side_waits P row g.base (node_term P.skeleton.nodes m) side.0)
-
-    pub is_waits_for : (cell : ℕ) → IsSide P row g.base (node_term P.skeleton.nodes m) (Waits cell) → WaitsFor P row g cell
-    is_waits_for cell side later grows sound settled free =
-        so_waits P later g (Programs.is (node_term P.skeleton.nodes n) (node_term P.skeleton.nodes m)) is
-        (side_waits P later g.base (node_term P.skeleton.nodes m) (side.1 later grows sound free))
-
-    pub is_valueless : IsSide P row g.base (node_term P.skeleton.nodes m) NoValue → CannotHold P row g
-    is_valueless (u, read, ground, none_is) =
-        no_value (node_term P.skeleton.nodes n) (node_term P.skeleton.nodes m) u is read ground none_is
-
-    pub is_assigned : (z : ℤ) → IsSide P row g.base (node_term P.skeleton.nodes m) (Number z)
-        → IsAssigned P row new g.base n (pair_of P g.clause.0 g.base pair) z → HasRun P row new g
-    is_assigned z (u, read, ground, some) a =
-        runs.HasRun.assigned (node_term P.skeleton.nodes n) (node_term P.skeleton.nodes m) u z n m pair a.written is node read ground some
-        a.sound a.is_written a.settled
-
-    pub is_refused : (z : ℤ) → IsSide P row g.base (node_term P.skeleton.nodes m) (Number z)
-        → IsRefused P row g.base n (pair_of P g.clause.0 g.base pair) z → CannotHold P row g
-    is_refused z (u, read, ground, some) a =
-        runs.CannotHold.assigned (node_term P.skeleton.nodes n)
-        (node_term P.skeleton.nodes m) u z n m pair a.written is node read ground some
-        a.sound a.is_written a.unsolved
+    -- What assigning a number comes to, the goal does.
+    pub assignment_runs : (mid : List Ref) (first : ℕ) (y z : ℤ) → mid ≡ old → first ≡ pair_of P g.clause.0 g.base pair → y ≡ z
+        → IsSide P old g.base (node_term P.skeleton.nodes m) (Number z) → (r : Ran) → AssignsTo P mid new g.base n first y r
+        → RunsTo P old new g r
+    assignment_runs mid first y z same there is side r t =
+        number_runs z side r
+        (subst (λ w. AssignsTo P old new g.base n (pair_of P g.clause.0 g.base pair) w r) is
+        (subst (λ f. AssignsTo P old new g.base n f y r) there
+        (subst (λ rows. AssignsTo P rows new g.base n first y r) same t)))

@@ -1,7 +1,4 @@
+pub use Rattle.and_step_laws.specs.Runs
 pub mod Asked
-pub mod Asking
-pub mod Assigning
-pub mod Frames
-pub mod Runs
 pub mod Sides
 pub mod Trails

@@ -12,8 +12,8 @@ ghost use Rattle.and_cells.specs.Seen.{word_at};
 ghost use Rattle.and_unify.specs.Pairs.{equations_of_pairs};
 ghost use Rattle.and_branch_laws.specs.Reducing.{body_equations};
 ghost use Rattle.and_branch_laws.specs.Variables.{placed};
-ghost use Rattle.and_reduction.specs.Asking.{AreReady, Ask, CanBeAsked};
-ghost use Rattle.and_reduction.specs.Frames.{IsCallBelow, IsFrame};
+ghost use Rattle.and_step_laws.specs.Asking.{AreReady, Ask, CanBeAsked};
+ghost use Rattle.and_step_laws.specs.Frames.{IsCallBelow, IsFrame};
 
 use and_cells::{Naming, PlainCells};
 use and_model::{ClauseNo, Goal, NodeNo};

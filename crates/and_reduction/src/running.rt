@@ -1,20 +1,20 @@
 //! Goals of arithmetic that are run.
 
-ghost use Rattle.std.specs.Prelude.{◌≡◌, ◌≢◌, ◌≤◌, ◌<◌, ◌+◌, ℕ, length, slice_get, get_or, Some, Ok, IfOk, OnOk};
+ghost use Rattle.std.specs.Prelude.{◌≡◌, ◌≤◌, ◌<◌, ℕ, length, get_or, Ok, IfOk, OnOk};
 ghost use Rattle.and_model.specs.declared.limits.TheConstants.{MAX_LIMIT};
 ghost use Rattle.and_program.specs.Items.{node_item, relation};
 ghost use Rattle.and_program.specs.Loaded.{nodes_at, program_of, skeleton_of};
 ghost use Rattle.and_program.specs.Skeletons;
-ghost use Rattle.and_program.specs.Skeletons.{node_term};
 ghost use Rattle.and_cells.specs.Meaning.{IsSettled};
 ghost use Rattle.and_cells.specs.Parts.{named};
 ghost use Rattle.and_cells.specs.Ranges.{pair_of};
 ghost use Rattle.and_cells.specs.Rows.{IsSound};
-ghost use Rattle.and_guards.specs.Guards.{CanBeRead};
 ghost use Rattle.and_branch_laws.specs.Settling.{IsWritten};
-ghost use Rattle.and_reduction.specs.Runs.{CanBeRun, IsWaiting, WaitsFor, HasRun, CannotHold};
-ghost use Rattle.and_reduction.specs.Assigning.{CanBeAssigned, IsAssigned, IsFreePair, IsRefused};
-ghost use Rattle.and_reduction.specs.Sides.{IsComparison};
+ghost use Rattle.and_step_laws.specs.Assigning.{CanBeAssigned, IsFreePair};
+ghost use Rattle.and_step_laws.specs.Running.{Assigns, Compares, IsAskedFor, IsRunnable};
+ghost use Rattle.and_step_laws.specs.Runs.{CanBeRun, IsWaiting, WaitsFor, HasRun, CannotHold};
+ghost use Rattle.and_reduction.specs.Asked.{the_pair};
+ghost use Rattle.and_reduction.specs.Sides.{AssignsTo, RunsTo};
 ghost use Rattle.and_reduction.specs.Trails.{KeepsNoted};
 
 use crate::settling::settle_number;
@@ -26,7 +26,7 @@ use and_cells::{Naming, PlainCells, halves};
 use and_guards::{Side, evaluate};
 use and_model::{ClauseNo, Goal, NodeNo, Ref, Relation};
 use and_program::{ItemNode, Loaded};
-use and_unify::Settled as Answer;
+use and_unify::{PairList, Settled as Answer};
 use std::alloc::AllocError;
 
 /// What a goal of arithmetic comes to.
@@ -60,8 +60,26 @@ pub fn run<N: Naming>(
     ensures fails { result ≡ Ok Ran.False → CannotHold N.program cells.old goal }
     ensures noted { OnOk result (KeepsNoted trail.old trail.new cells.old cells.new) }
 {
-    loaded.skeleton_is_of_the_program();
-    match item_in(loaded, goal.clause, goal.item) {
+    run_item(loaded, cells, goal, trail, tools)
+}
+
+/// The same, as the goal's item has it.
+#[inline(always)]
+fn run_item<N: Naming>(
+    loaded: &Loaded,
+    cells: &mut PlainCells<N>,
+    goal: Goal,
+    trail: &mut Trail,
+    tools: &mut Tools,
+) -> Result<Ran, AllocError>
+    requires program { N.program ≡ named loaded.now }
+    requires settled { IsSettled N.program cells.old }
+    requires short { length cells.old ≤ MAX_LIMIT }
+    requires goal { CanBeRun N.program cells.old goal }
+    ensures ran { IfOk result (RunsTo N.program cells.old cells.new goal) }
+    ensures noted { OnOk result (KeepsNoted trail.old trail.new cells.old cells.new) }
+{
+    match runnable_item(loaded, cells, goal) {
         ItemNode::Compare {
             relation,
             left,
@@ -69,26 +87,29 @@ pub fn run<N: Naming>(
         } => run_comparison(
             loaded,
             cells,
-            goal.base,
+            goal,
             relation,
             left,
             right,
             &mut tools.values,
         ),
         ItemNode::Is { left, right, pair } => {
-            match evaluate(loaded, cells, goal.base, right, &mut tools.values)? {
-                Side::Waits { cell } => Ok(Ran::Waits { cell }),
-                Side::NoValue => Ok(Ran::False),
-                Side::Number(value) => {
-                    let first = pair_in(loaded, goal.clause, goal.base, pair);
-                    assign(loaded, cells, goal.base, left, first, value, trail, tools)
-                }
-            }
+            run_assignment(loaded, cells, goal, left, right, pair, trail, tools)
         }
         ItemNode::Call { goal: _ } => unreachable!(),
         ItemNode::Equal { left: _, right: _ } => unreachable!(),
         ItemNode::Fail => unreachable!(),
     }
+}
+
+/// The item of a goal of arithmetic.
+fn runnable_item<N: Naming>(loaded: &Loaded, cells: &PlainCells<N>, goal: Goal) -> ItemNode
+    requires program { N.program ≡ named loaded.now }
+    requires goal { CanBeRun N.program cells.now goal }
+    ensures { IsRunnable N.program cells.now goal (node_item result) }
+{
+    loaded.skeleton_is_of_the_program();
+    item_in(loaded, goal.clause, goal.item)
 }
 
 /// The item of a body at a place.
@@ -113,7 +134,7 @@ fn pair_in(loaded: &Loaded, clause: ClauseNo, base: u32, number: u32) -> u32
 fn run_comparison<N: Naming>(
     loaded: &Loaded,
     cells: &mut PlainCells<N>,
-    base: u32,
+    goal: Goal,
     by: Relation,
     left: NodeNo,
     right: NodeNo,
@@ -121,16 +142,42 @@ fn run_comparison<N: Naming>(
 ) -> Result<Ran, AllocError>
     requires program { N.program ≡ named loaded.now }
     requires settled { IsSettled N.program cells.old }
-    requires left { CanBeRead N.program cells.old base left.0 }
-    requires right { CanBeRead N.program cells.old base right.0 }
-    ensures compared { IfOk result
-        (IsComparison N.program cells.old base (relation by) (node_term N.program.skeleton.nodes left.0)
-        (node_term N.program.skeleton.nodes right.0)) }
+    requires item { Compares N.program cells.old goal (relation by) left.0 right.0 }
+    ensures ran { IfOk result (RunsTo N.program cells.old cells.new goal) }
     ensures unchanged { cells.new ≡ cells.old }
 {
-    let first = evaluate(loaded, cells, base, left, values)?;
-    let second = evaluate(loaded, cells, base, right, values)?;
+    let first = evaluate(loaded, cells, goal.base, left, values)?;
+    let second = evaluate(loaded, cells, goal.base, right, values)?;
     Ok(compare_sides(by, first, second))
+}
+
+/// Gives the left node of an `is` goal the value of the right one, where that is ground. What is set in the row is
+/// noted. An error is want of memory, and the cells are spent.
+fn run_assignment<N: Naming>(
+    loaded: &Loaded,
+    cells: &mut PlainCells<N>,
+    goal: Goal,
+    left: NodeNo,
+    right: NodeNo,
+    pair: u32,
+    trail: &mut Trail,
+    tools: &mut Tools,
+) -> Result<Ran, AllocError>
+    requires program { N.program ≡ named loaded.now }
+    requires settled { IsSettled N.program cells.old }
+    requires short { length cells.old ≤ MAX_LIMIT }
+    requires item { Assigns N.program cells.old goal left.0 right.0 pair }
+    ensures ran { IfOk result (RunsTo N.program cells.old cells.new goal) }
+    ensures noted { OnOk result (KeepsNoted trail.old trail.new cells.old cells.new) }
+{
+    match evaluate(loaded, cells, goal.base, right, &mut tools.values)? {
+        Side::Waits { cell } => Ok(Ran::Waits { cell }),
+        Side::NoValue => Ok(Ran::False),
+        Side::Number(value) => {
+            let first = pair_in(loaded, goal.clause, goal.base, pair);
+            assign(loaded, cells, goal.base, left, first, value, trail, tools)
+        }
+    }
 }
 
 /// Writes a number into a pair of words.
@@ -143,6 +190,31 @@ fn write<N: Naming>(cells: &mut PlainCells<N>, pair: u32, value: i64)
     cells.fill(pair, high);
     cells.fill(pair + 1, low);
     let _words = cells.len();
+}
+
+/// Writes a number into a pair of words, asks that the node be made one with it and nothing else, and
+/// answers where the node is found. An error is want of memory.
+fn ask_number<N: Naming>(
+    loaded: &Loaded,
+    cells: &mut PlainCells<N>,
+    base: u32,
+    node: NodeNo,
+    pair: u32,
+    value: i64,
+    pairs: &mut PairList,
+) -> Result<Ref, AllocError>
+    requires program { N.program ≡ named loaded.now }
+    requires settled { IsSettled N.program cells.old }
+    requires goal { CanBeAssigned N.program cells.old base node.0 pair }
+    ensures pair { IfOk result (λ left. pairs.new ≡ the_pair left (Ref.Number pair)) }
+    ensures asked { OnOk result (IsAskedFor N.program cells.old cells.new base node.0 pair value pairs.new) }
+{
+    loaded.skeleton_is_of_the_program();
+    let left = loaded.resolve(node, base);
+    write(cells, pair, value);
+    pairs.clear();
+    pairs.push(left, Ref::Number(pair))?;
+    Ok(left)
 }
 
 /// Writes a number into a pair of words, settles the node with it, and notes what is set. An error is
@@ -160,18 +232,12 @@ fn assign<N: Naming>(
     requires program { N.program ≡ named loaded.now }
     requires settled { IsSettled N.program cells.old }
     requires goal { CanBeAssigned N.program cells.old base node.0 pair }
-    ensures waits { (cell : ℕ) → result ≢ Ok (Ran.Waits cell) }
-    ensures done { result ≡ Ok Ran.Done → IsAssigned N.program cells.old cells.new base node.0 pair value }
-    ensures fails { result ≡ Ok Ran.False → IsRefused N.program cells.old base node.0 pair value }
+    ensures assigned { IfOk result (AssignsTo N.program cells.old cells.new base node.0 pair value) }
     ensures noted { OnOk result (KeepsNoted trail.old trail.new cells.old cells.new) }
 {
-    loaded.skeleton_is_of_the_program();
-    let left = loaded.resolve(node, base);
-    write(cells, pair, value);
+    let left = ask_number(loaded, cells, base, node, pair, value, &mut tools.pairs)?;
     let words = cells.len();
     trail.note(&[pair, pair + 1])?;
-    tools.pairs.clear();
-    tools.pairs.push(left, Ref::Number(pair))?;
     match settle_number(loaded, cells, left, pair, words, trail, tools) {
         Answer::Solved => {
             let _words = cells.len();

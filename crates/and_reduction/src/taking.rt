@@ -13,9 +13,9 @@ ghost use Rattle.and_unify.specs.Pairs.{equations_of_pairs};
 ghost use Rattle.and_branch_laws.specs.Reducing.{body_equations, reduction_in_cells};
 ghost use Rattle.and_branch_laws.specs.Settling.{Settled, widened};
 ghost use Rattle.and_branch_laws.specs.Variables.{placed};
-ghost use Rattle.and_guards.specs.Goals.{CanBeJudged};
-ghost use Rattle.and_reduction.specs.Asking.{AreReady};
-ghost use Rattle.and_reduction.specs.Frames.{IsFrame};
+ghost use Rattle.and_branch_laws.specs.Goals.{CanBeJudged};
+ghost use Rattle.and_step_laws.specs.Asking.{AreReady};
+ghost use Rattle.and_step_laws.specs.Frames.{IsFrame};
 ghost use Rattle.and_reduction.specs.Trails.{KeepsNoted};
 
 use crate::asking::{ask_call, ask_items};

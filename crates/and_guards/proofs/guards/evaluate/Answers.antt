@@ -9,8 +9,9 @@ use Rattle.and_cells.specs.Rows.{plain}
 use Rattle.and_cells.specs.Seen.{word_at}
 use Rattle.and_arith.specs.Values.{HasValue, LacksValue, IsFirstFree}
 use Rattle.and_guards.proofs.Held.{read_later}
-use Rattle.and_guards.proofs.Resolved.{part_in_range, resolved_is, falls_in}
-use Rattle.and_guards.proofs.Valuing.{number_side, no_value_side, waiting_side, waiting_variable}
+use Rattle.and_branch_laws.proofs.Resolved.{part_in_range}
+use Rattle.and_branch_laws.proofs.Loading.{resolved_is, falls_in}
+use Rattle.and_branch_laws.proofs.Valuing.{number_side, no_value_side, waiting_side, waiting_variable}
 use Rattle.and_guards.proofs.guards.evaluate.Goals as goal
 
 pub value_of-requires-clause-in_range : goal.value_of-requires-clause-in_range

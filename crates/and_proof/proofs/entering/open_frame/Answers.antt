@@ -3,8 +3,8 @@ use Rattle.and_model.specs.Programs.{clause_at, clause_weight}
 use Rattle.and_model.specs.declared.reference.Ref.TheVariants.{Free}
 use Rattle.and_cells.specs.Ranges.{NamedProgram}
 use Rattle.and_branch_laws.specs.Settling.{widened}
-use Rattle.and_proof.specs.Frames.{IsFrame}
-use Rattle.and_proof.proofs.NewFrames.{frame_opened}
+use Rattle.and_step_laws.specs.Frames.{IsFrame}
+use Rattle.and_step_laws.proofs.NewFrames.{frame_opened}
 use Rattle.and_proof.proofs.entering.open_frame.Goals as goal
 
 pub returns-clause-frame : goal.returns-clause-frame

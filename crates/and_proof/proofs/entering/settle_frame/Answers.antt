@@ -3,7 +3,7 @@ use Rattle.and_cells.specs.Meaning.{equations_of}
 use Rattle.and_cells.specs.Seen.{word_at}
 use Rattle.and_unify.specs.Pairs.{equations_of_pairs}
 use Rattle.and_branch_laws.specs.Variables.{placed}
-use Rattle.and_proof.proofs.NewFrames.{failing_unsolved}
+use Rattle.and_step_laws.proofs.NewFrames.{failing_unsolved}
 use Rattle.and_proof.proofs.entering.settle_frame.Goals as goal
 
 pub returns-then-not-branch-clause-unsolved : goal.returns-then-not-branch-clause-unsolved

@@ -1,9 +1,9 @@
 use Rattle.std.proofs.Common.{ℕ, sym, subst}
 use Rattle.and_model.specs.Programs.{clause_at, clause_weight}
-use Rattle.and_proof.specs.Frames.{IsCallBelow}
-use Rattle.and_proof.proofs.RunGoals.{call_cells}
+use Rattle.and_step_laws.specs.Frames.{IsCallBelow}
+use Rattle.and_branch_laws.proofs.Nodes.{call_cells}
 use Rattle.and_branch_laws.proofs.Loading.{loaded_is}
-use Rattle.and_proof.proofs.NewFrames.{call_below}
+use Rattle.and_step_laws.proofs.NewFrames.{call_below}
 use Rattle.and_proof.proofs.entering.take.Goals as goal
 
 pub ask_call-requires-clause-call : goal.ask_call-requires-clause-call

@@ -1,11 +1,11 @@
 use Rattle.std.proofs.Common.{◌≡◌, ◌++◌, [], List, reverse, append-nil, ap, sym, ◌∙◌, subst}
 use Rattle.and_model.specs.declared.goal.Goal.{Goal}
+use Rattle.and_cells.specs.Parts.{named}
 use Rattle.and_cells.specs.Ranges.{NamedProgram}
 use Rattle.and_proof.specs.Proofs.{HasProof}
 use Rattle.and_proof.specs.Stacks.{in_order}
-use Rattle.and_proof.specs.Unfolding.{IsProved, IsWholeIn, AllWait}
 use Rattle.and_proof.specs.declared.waiting.Waiting.{Waiting}
-use Rattle.and_proof.proofs.Proving.{whole_of, proved_of, none_proved}
+use Rattle.and_proof.proofs.Proving.{whole_of, run_proved, none_proved}
 use Rattle.and_proof.proofs.explaining.explain_named.Goals as goal
 
 -- the goals behind which work begins
@@ -53,40 +53,23 @@ returns-then-not-branch-2-clause-none g c = λ n has.
 
 pub text_of-requires-clause-proved : goal.text_of-requires-clause-proved
 text_of-requires-clause-proved g c =
-    let P = g.N.Naming.program in
-    let code = c.args.code.now in
-    let row = c.unfold.new.cells in
-    let goals = c.unfold.new.goals in
     let u = c.in_ok-unfold.ensures.unfolded (let t = c.if-not-branch.false in cc) in
-    let x = u.0 in
-    let w = c.behind-waiting.result in
-    let start : in_order w ≡ goals.passed.items = all_behind w goals.passed.items c.behind-waiting.ensures.left c.behind-waiting.ensures.right in
-    let whole = c.in_ok-run_arithmetic.ensures.run (let t = c.if-not-branch-2.false in cc) x.reductions x.tree
-    (whole_of P row goals code x u.1 (in_order w) start) in
-    let left = c.in_ok-left.left in
-    let all : left ≡ in_order c.run_arithmetic.new.waiting = c.in_ok-left.ensures in
-    let waits = c.in_ok-run_arithmetic.ensures.still (let t = c.if-not-branch-2.false in cc) in
-    let proved = proved_of P row goals code x u.1 c.run_arithmetic.new.cells left c.deref.result.now
-    (subst (λ (l : List Goal). IsWholeIn P x.reductions c.run_arithmetic.new.cells l x.tree) (sym all) whole)
-    (subst (λ (l : List Goal). AllWait P c.run_arithmetic.new.cells l) (sym all) waits) c.deref.ensures.value in
-    (code, subst (λ (Q : NamedProgram). IsProved Q c.run_arithmetic.new.cells left c.deref.result.now code) c.requires proved)
+    let w = c.behind-waiting.result in (
+      c.args.code.now,
+      run_proved g.N.Naming.program c.unfold.new.cells c.unfold.new.goals c.args.code.now u.0 u.1 (named c.args.loaded.now) c.requires
+          c.run_arithmetic.new.cells w c.run_arithmetic.new.waiting c.in_ok-left.left c.deref.result.now
+          (all_behind w c.unfold.new.goals.passed.items c.behind-waiting.ensures.left c.behind-waiting.ensures.right)
+          (c.in_ok-run_arithmetic.ensures.run (let t = c.if-not-branch-2.false in cc))
+          (c.in_ok-run_arithmetic.ensures.still (let t = c.if-not-branch-2.false in cc)) c.in_ok-left.ensures c.deref.ensures.value,
+    )
 
 pub returns-clause-some : goal.returns-clause-some
 returns-clause-some g c =
-    let P = g.N.Naming.program in
-    let code = c.args.code.now in
-    let row = c.unfold.new.cells in
-    let goals = c.unfold.new.goals in
     let u = c.in_ok-unfold.ensures.unfolded (let t = c.if-not-branch.false in cc) in
-    let x = u.0 in
     let w = c.behind-waiting.result in
-    let start : in_order w ≡ goals.passed.items = all_behind w goals.passed.items c.behind-waiting.ensures.left c.behind-waiting.ensures.right in
-    let whole = c.in_ok-run_arithmetic.ensures.run (let t = c.if-not-branch-2.false in cc) x.reductions x.tree
-    (whole_of P row goals code x u.1 (in_order w) start) in
-    let left = c.in_ok-left.left in
-    let all : left ≡ in_order c.run_arithmetic.new.waiting = c.in_ok-left.ensures in
-    let waits = c.in_ok-run_arithmetic.ensures.still (let t = c.if-not-branch-2.false in cc) in
-    let proved = proved_of P row goals code x u.1 c.run_arithmetic.new.cells left c.deref.result.now
-    (subst (λ (l : List Goal). IsWholeIn P x.reductions c.run_arithmetic.new.cells l x.tree) (sym all) whole)
-    (subst (λ (l : List Goal). AllWait P c.run_arithmetic.new.cells l) (sym all) waits) c.deref.ensures.value in
-    c.in_ok-text_of.ensures code (subst (λ (Q : NamedProgram). IsProved Q c.run_arithmetic.new.cells left c.deref.result.now code) c.requires proved)
+    c.in_ok-text_of.ensures c.args.code.now
+    (run_proved g.N.Naming.program c.unfold.new.cells c.unfold.new.goals c.args.code.now u.0 u.1 (named c.args.loaded.now) c.requires
+    c.run_arithmetic.new.cells w c.run_arithmetic.new.waiting c.in_ok-left.left c.deref.result.now
+    (all_behind w c.unfold.new.goals.passed.items c.behind-waiting.ensures.left c.behind-waiting.ensures.right)
+    (c.in_ok-run_arithmetic.ensures.run (let t = c.if-not-branch-2.false in cc))
+    (c.in_ok-run_arithmetic.ensures.still (let t = c.if-not-branch-2.false in cc)) c.in_ok-left.ensures c.deref.ensures.value)

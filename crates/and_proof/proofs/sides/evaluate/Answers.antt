@@ -4,8 +4,8 @@ use Rattle.std.proofs.lemmas.Int.{ints, to_z-of_z}
 use Rattle.and_cells.specs.Ranges.{IsInRange}
 use Rattle.and_cells.specs.Rows.{plain}
 use Rattle.and_arith.specs.Values.{HasValue, LacksValue, IsFirstFree}
-use Rattle.and_proof.proofs.Resolving.{part_in_range}
-use Rattle.and_proof.proofs.Valuing.{number_side, no_value_side, waiting_side}
+use Rattle.and_branch_laws.proofs.Resolved.{part_in_range}
+use Rattle.and_branch_laws.proofs.Valuing.{number_side, no_value_side, waiting_side}
 use Rattle.and_branch_laws.proofs.Loading.{resolved_is, falls_in}
 use Rattle.and_proof.proofs.sides.evaluate.Goals as goal
 

@@ -10,7 +10,7 @@ use Rattle.and_cells.specs.Parts.{named}
 use Rattle.and_branch_laws.proofs.Loading.{loaded_is}
 use Rattle.and_proof.specs.Predicates.{named_alike}
 use Rattle.and_proof.proofs.Predicates.{alike_is, of_head}
-use Rattle.and_proof.proofs.RunGoals.{call_node, call_term, call_range}
+use Rattle.and_branch_laws.proofs.Nodes.{call_node, call_term, call_range}
 use Rattle.and_proof.proofs.unfolding.can_replace.Goals as goal
 
 pub call_at-node-requires-clause-call : goal.call_at-node-requires-clause-call

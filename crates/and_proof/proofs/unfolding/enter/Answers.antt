@@ -10,7 +10,7 @@ use Rattle.and_proof.proofs.Replacing.{next_can, depth_fits, entered, reduced_de
 use Rattle.and_proof.proofs.unfolding.enter.Goals as goal
 
 pub take-requires-clause-settled : goal.take-requires-clause-settled
-take-requires-clause-settled g c = let x = c.requires.enters.1 in let u = x.unfolded in let k = u.keeps in k.settled
+take-requires-clause-settled g c = let x = c.requires.enters.1 in let u = x.called.unfolded in let k = u.keeps in k.settled
 
 pub take-requires-clause-goal : goal.take-requires-clause-goal
 take-requires-clause-goal g c =
@@ -18,7 +18,8 @@ take-requires-clause-goal g c =
     let facts = loaded_is P c.args.loaded.now c.requires.program c.skeleton_is_of_the_program.ensures.skeleton
     c.skeleton_is_of_the_program.ensures.own_variables c.skeleton_is_of_the_program.ensures.few in
     let (cs, x) = c.requires.enters in
-    next_can P facts c.args.cells.now x.before cs c.args.goals.now.ahead.items c.args.next x.term x.unfolded x.ahead x.is_call
+    next_can P facts c.args.cells.now x.called.before cs c.args.goals.now.ahead.items c.args.next x.called.term x.called.unfolded
+    x.called.ahead x.called.is_call
 
 pub take-requires-clause-clause : goal.take-requires-clause-clause
 take-requires-clause-clause g c =
@@ -29,16 +30,17 @@ take-requires-clause-clause g c =
 pub take-requires-clause-fits : goal.take-requires-clause-fits
 take-requires-clause-fits g c = let x = c.requires.enters.1 in x.fits
 
-pub returns-in-NoSolution-clause-none : goal.returns-in-NoSolution-clause-none
-returns-in-NoSolution-clause-none g c = λ e cs rest x has.
+pub returns-in-NoSolution : goal.returns-in-NoSolution
+returns-in-NoSolution g c = λ cs x rest has.
     let P = g.N.Naming.program in
     let facts = loaded_is P c.args.loaded.now c.requires.program c.skeleton_is_of_the_program.ensures.skeleton
     c.skeleton_is_of_the_program.ensures.own_variables c.skeleton_is_of_the_program.ensures.few in
-    reduced_dead P facts c.args.cells.now x.before cs c.args.goals.now.ahead.items c.args.next x.term x.unfolded x.ahead x.is_call c.args.clause.0
+    reduced_dead P facts c.args.cells.now x.called.before cs c.args.goals.now.ahead.items c.args.next x.called.term x.called.unfolded x.called.ahead
+    x.called.is_call c.args.clause.0
     x.of_it x.fits rest (c.in_ok-take.ensures.unsolved (let t = c.in-NoSolution.is in cc)) has
 
-pub returns-in_ok-push_body-in-Solved-clause-entered : goal.returns-in_ok-push_body-in-Solved-clause-entered
-returns-in_ok-push_body-in-Solved-clause-entered g c = λ e cs x.
+pub returns-in_ok-push_body-in-Solved : goal.returns-in_ok-push_body-in-Solved
+returns-in_ok-push_body-in-Solved g c = λ cs x.
     let P = g.N.Naming.program in
     let facts = loaded_is P c.args.loaded.now c.requires.program c.skeleton_is_of_the_program.ensures.skeleton
     c.skeleton_is_of_the_program.ensures.own_variables c.skeleton_is_of_the_program.ensures.few in
@@ -48,10 +50,11 @@ returns-in_ok-push_body-in-Solved-clause-entered g c = λ e cs x.
     let at_row = subst (λ (n : ℕ). c.push_body.new.ahead.items ≡ c.args.goals.now.ahead.items
     ++ reverse (map (at_depth (c.args.next.depth + 1)) (body_goals c.args.clause.0 n [] 0 (clause_at P.program c.args.clause.0).body)))
     c.len-node.ensures.value put in
-    entered P facts c.args.cells.now x.before cs c.args.goals.now.ahead.items c.args.next x.term x.unfolded x.ahead x.is_call c.args.clause.0
-    x.of_it x.fits c.take.new.cells _ (c.in_ok-take.ensures.solved (let t = c.in-Solved.is in cc)) at_row (sym x.passed)
+    entered P facts c.args.cells.now x.called.before cs c.args.goals.now.ahead.items c.args.next x.called.term x.called.unfolded x.called.ahead
+    x.called.is_call c.args.clause.0
+    x.of_it x.fits c.take.new.cells _ (c.in_ok-take.ensures.solved (let t = c.in-Solved.is in cc)) at_row (sym x.called.passed)
     (c.in_ok-push-in-Solved.ensures.items
-    ∙ ap (λ l. l ++ record { call = c.args.next.goal; clause = c.args.clause; depth = c.args.next.depth } ∷ []) (sym x.taken))
+    ∙ ap (λ l. l ++ record { call = c.args.next.goal; clause = c.args.clause; depth = c.args.next.depth } ∷ []) (sym x.called.taken))
 
 pub overflow_add-next : goal.overflow_add-next
 overflow_add-next g c =
@@ -59,5 +62,6 @@ overflow_add-next g c =
     let facts = loaded_is P c.args.loaded.now c.requires.program c.skeleton_is_of_the_program.ensures.skeleton
     c.skeleton_is_of_the_program.ensures.own_variables c.skeleton_is_of_the_program.ensures.few in
     let (cs, x) = c.requires.enters in
-    let low = depth_fits P facts c.args.cells.now x.before cs c.args.goals.now.ahead.items c.args.next x.term x.unfolded x.ahead x.is_call in
+    let low = depth_fits P facts c.args.cells.now x.called.before cs c.args.goals.now.ahead.items c.args.next x.called.term x.called.unfolded
+    x.called.ahead x.called.is_call in
     omega (arith, low)

@@ -2,7 +2,7 @@ use Rattle.std.proofs.Common.{ℕ, ◌≡◌, ◌+◌, List, take, drop, ap, sym
 use Rattle.std.specs.Prelude.{◌==◌}
 use Rattle.and_branch_laws.proofs.Loading.{loaded_is}
 use Rattle.and_proof.specs.Proofs.{HasProof}
-use Rattle.and_proof.specs.Unfolding.{IsUnfolding}
+use Rattle.and_proof.specs.Unfolding.{IsUnfolding, ReplacesTo}
 use Rattle.and_proof.proofs.Unfolded.{parts_at, take_whole, empty_is, some_is, none_whole}
 use Rattle.and_proof.proofs.unfolding.unfold.Goals as goal
 
@@ -21,7 +21,8 @@ returns-then-not-branch-2-clause-none g c = λ e has.
     let code = c.args.code.now in
     let n = c.places.place in
     let parts = parts_at code n c.at.result.now.0 c.at.ensures in
-    c.in_ok-replace_next.ensures.none (let t = c.if-not-branch-2.true in cc) (take n code) (drop (n + 1) code) c.places.invariant
+    subst (ReplacesTo P c.replace_next.new.cells c.replace_next.new.goals c.at.result.now.0 (take n code)) c.if-not-branch-2.true
+    (c.in_ok-replace_next.ensures (take n code) c.places.invariant) (drop (n + 1) code)
     (subst (λ (l : List ℕ). HasProof P.program l) parts.0 has)
 
 pub places-preserved : goal.places-preserved
@@ -31,7 +32,8 @@ places-preserved g c =
     let n = c.places.place in
     let parts = parts_at code n c.at.result.now.0 c.at.ensures in
     subst (λ (l : List ℕ). IsUnfolding P c.replace_next.new.cells c.replace_next.new.goals l) (sym parts.1)
-    (c.in_ok-replace_next.ensures.replaced (let t = c.if-not-branch-2.false in cc) (take n code) c.places.invariant)
+    (subst (ReplacesTo P c.replace_next.new.cells c.replace_next.new.goals c.at.result.now.0 (take n code)) c.if-not-branch-2.false
+    (c.in_ok-replace_next.ensures (take n code) c.places.invariant))
 
 pub pass_arithmetic-requires-clause-unfolding : goal.pass_arithmetic-requires-clause-unfolding
 pass_arithmetic-requires-clause-unfolding g c = (take c.places.place c.args.code.now, c.places.invariant)

@@ -1,27 +1,12 @@
-use Rattle.std.proofs.Common.{ℕ, ◌+◌, ◌≡◌, ◌<◌, ◌≤◌, List, length, Some, sym, subst}
+use Rattle.std.proofs.Common.{ℕ, ◌≡◌, ◌<◌, length, Some, sym, subst}
 use Rattle.std.specs.Prelude.{slice_get}
-use Rattle.and_model.specs.OwnVariables.{HaveOwnVariables}
-use Rattle.and_model.specs.declared.goal.Goal.{Goal}
-use Rattle.and_model.specs.declared.limits.TheConstants.{MAX_NODES}
-use Rattle.and_model.specs.declared.reference.Ref.{Ref}
-use Rattle.and_program.specs.Loaded.{nodes_at, program_of, skeleton_of}
-use Rattle.and_program.specs.Skeletons.{call, IsSkeleton}
-use Rattle.and_program.specs.declared.loaded.Loaded.{Loaded}
+use Rattle.and_program.specs.Loaded.{nodes_at}
+use Rattle.and_program.specs.Skeletons.{call}
 use Rattle.and_cells.specs.Ranges.{NamedProgram}
-use Rattle.and_cells.specs.Parts.{named}
-use Rattle.and_guards.specs.Goals.{CanBeJudged, IsNodeOf}
-use Rattle.and_reduction.proofs.AskedPairs.{call_asked}
-use Rattle.and_reduction.proofs.Goals.{has_node, node_is}
+use Rattle.and_step_laws.proofs.AskedPairs.{call_asked}
+use Rattle.and_branch_laws.proofs.Nodes.{has_node, found_node}
 use Rattle.and_branch_laws.proofs.Loading.{loaded_is, resolved_is}
 use Rattle.and_reduction.proofs.asking.ask_call.Goals as goal
-
--- the node of the call
-is_node : (P : NamedProgram) (l : Loaded) (row : List Ref) (goal : Goal) (n : ℕ) → P ≡ named l → IsSkeleton (skeleton_of l) (program_of l)
-    → HaveOwnVariables (program_of l) → length (skeleton_of l).nodes ≤ MAX_NODES + 1 → CanBeJudged P row goal
-    → slice_get (nodes_at (skeleton_of l) goal.clause.0).items goal.item ≡ Some (call n) → IsNodeOf P row goal n
-is_node P l row goal n same skeleton own few can there =
-    node_is P (loaded_is P l same skeleton own few) row goal can n
-    (subst (λ (Q : NamedProgram). slice_get (nodes_at Q.skeleton goal.clause.0).items goal.item ≡ Some (call n)) (sym same) there)
 
 pub call_at-requires-clause-call : goal.call_at-requires-clause-call
 call_at-requires-clause-call g c =
@@ -37,14 +22,14 @@ pub resolve-call-requires-clause-there : goal.resolve-call-requires-clause-there
 resolve-call-requires-clause-there g c =
     let P = g.N.Naming.program in
     let node = c.call_at.result.0 in
-    let r = (is_node g.N.Naming.program c.args.loaded.now c.args.cells.now c.args.goal node c.requires.program
+    let r = (found_node g.N.Naming.program c.args.loaded.now c.args.cells.now c.args.goal node c.requires.program
     c.skeleton_is_of_the_program.ensures.skeleton c.skeleton_is_of_the_program.ensures.own_variables
     c.skeleton_is_of_the_program.ensures.few c.requires.call.judged c.call_at.ensures).reads in
     subst (λ (Q : NamedProgram). node < length Q.skeleton.nodes) c.requires.program r.in_range.there
 
 pub resolve-call-requires-clause-base : goal.resolve-call-requires-clause-base
 resolve-call-requires-clause-base g c =
-    (is_node g.N.Naming.program c.args.loaded.now c.args.cells.now c.args.goal c.call_at.result.0 c.requires.program
+    (found_node g.N.Naming.program c.args.loaded.now c.args.cells.now c.args.goal c.call_at.result.0 c.requires.program
     c.skeleton_is_of_the_program.ensures.skeleton c.skeleton_is_of_the_program.ensures.own_variables
     c.skeleton_is_of_the_program.ensures.few c.requires.call.judged c.call_at.ensures).reads.in_range.base_below
 
@@ -56,7 +41,7 @@ returns g c =
     let node = c.call_at.result in
     let facts = loaded_is P loaded c.requires.program c.skeleton_is_of_the_program.ensures.skeleton
     c.skeleton_is_of_the_program.ensures.own_variables c.skeleton_is_of_the_program.ensures.few in
-    let is = is_node P loaded c.args.cells.now c.args.goal node.0 c.requires.program
+    let is = found_node P loaded c.args.cells.now c.args.goal node.0 c.requires.program
     c.skeleton_is_of_the_program.ensures.skeleton c.skeleton_is_of_the_program.ensures.own_variables
     c.skeleton_is_of_the_program.ensures.few c.requires.call.judged c.call_at.ensures in
     let head : c.head.result.0 ≡ (nodes_at P.skeleton clause).head =

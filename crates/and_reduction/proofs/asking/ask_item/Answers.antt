@@ -5,8 +5,8 @@ use Rattle.and_cells.specs.Seen.{word_at}
 use Rattle.and_unify.specs.Pairs.{equations_of_pairs}
 use Rattle.and_branch_laws.specs.Reducing.{body_equations}
 use Rattle.and_branch_laws.specs.Variables.{placed}
-use Rattle.and_reduction.specs.Asking.{Ask, CanBeAsked}
-use Rattle.and_reduction.proofs.AskedPairs.{sides_asked}
+use Rattle.and_step_laws.specs.Asking.{Ask, CanBeAsked}
+use Rattle.and_step_laws.proofs.AskedPairs.{sides_asked}
 use Rattle.and_branch_laws.proofs.Loading.{loaded_is, resolved_is}
 use Rattle.and_reduction.proofs.asking.ask_item.Goals as goal
 

@@ -4,10 +4,10 @@ use Rattle.and_program.specs.Items.{node_item}
 use Rattle.and_program.specs.Loaded.{nodes_at}
 use Rattle.and_program.specs.declared.item.ItemNode.TheVariants.{Call, Fail}
 use Rattle.and_cells.specs.Ranges.{NamedProgram}
-use Rattle.and_reduction.specs.Asking.{CanBeAsked}
-use Rattle.and_reduction.proofs.AskedPairs.{body_of, nth_node, has_fail}
+use Rattle.and_step_laws.specs.Asking.{CanBeAsked}
+use Rattle.and_step_laws.proofs.AskedPairs.{body_of, nth_node, has_fail}
 use Rattle.and_branch_laws.proofs.Loading.{loaded_is}
-use Rattle.and_reduction.proofs.NewFrames.{item_can_be_asked}
+use Rattle.and_step_laws.proofs.NewFrames.{item_can_be_asked}
 use Rattle.and_reduction.proofs.asking.ask_items.Goals as goal
 
 pub ask_item-requires-clause-item : goal.ask_item-requires-clause-item

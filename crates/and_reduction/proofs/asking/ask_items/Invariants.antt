@@ -3,8 +3,8 @@ use Rattle.and_cells.specs.Seen.{word_at}
 use Rattle.and_unify.specs.Pairs.{equations_of_pairs}
 use Rattle.and_branch_laws.specs.Reducing.{body_equations}
 use Rattle.and_branch_laws.specs.Variables.{placed}
-use Rattle.and_reduction.specs.Asking.{AreReady}
-use Rattle.and_reduction.proofs.AskedPairs.{body_of}
+use Rattle.and_step_laws.specs.Asking.{AreReady}
+use Rattle.and_step_laws.proofs.AskedPairs.{body_of}
 use Rattle.and_reduction.proofs.asking.ask_items.Given as goal
 
 abbrev pub invariant-loop-item : goal.invariant-loop-item

@@ -5,7 +5,7 @@ use Rattle.and_model.specs.declared.reference.Ref.TheVariants.{Number}
 use Rattle.and_cells.specs.Ranges.{IsInRange}
 use Rattle.and_cells.specs.Rows.{plain}
 use Rattle.and_cells.specs.Seen.{word_at}
-use Rattle.and_guards.proofs.Resolved.{falls_in}
+use Rattle.and_branch_laws.proofs.Loading.{falls_in}
 use Rattle.and_cells.specs.Meaning.{IsSettled}
 use Rattle.and_unify.specs.Pairs.{AreInRange, AreWritten, NameNoHalf}
 use Rattle.and_unify.specs.Settling.{AreNewFrom, Settles}

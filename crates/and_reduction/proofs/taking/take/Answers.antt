@@ -1,10 +1,10 @@
 use Rattle.std.proofs.Common.{ℕ, sym, subst}
 use Rattle.std.proofs.lemmas.Result.{on_ok_weaker}
 use Rattle.and_model.specs.Programs.{clause_at, clause_weight}
-use Rattle.and_reduction.specs.Frames.{IsCallBelow}
-use Rattle.and_reduction.proofs.Goals.{call_cells}
+use Rattle.and_step_laws.specs.Frames.{IsCallBelow}
+use Rattle.and_branch_laws.proofs.Nodes.{call_cells}
 use Rattle.and_branch_laws.proofs.Loading.{loaded_is}
-use Rattle.and_reduction.proofs.NewFrames.{call_below}
+use Rattle.and_step_laws.proofs.NewFrames.{call_below}
 use Rattle.and_reduction.proofs.NotedSteps.{framed_noted}
 use Rattle.and_reduction.proofs.taking.take.Goals as goal
 

@@ -1,0 +1,75 @@
+use Rattle.std.proofs.Common.{rules, ◌≡◌, ◌≤◌, length, sym, subst, arith, w64, to_z, of_z}
+use Rattle.std.specs.Prelude.{FitsSigned}
+use Rattle.std.proofs.lemmas.Int.{ints, to_z-of_z}
+use Rattle.std.proofs.lemmas.Result.{IfOk-weaker}
+use Rattle.and_model.specs.declared.limits.TheConstants.{MAX_LIMIT}
+use Rattle.and_program.specs.Skeletons.{node_term}
+use Rattle.and_cells.specs.Ranges.{NamedProgram, pair_of}
+use Rattle.and_step_laws.specs.Assigning.{CanBeAssigned}
+use Rattle.and_proof.specs.Sides.{IsSide}
+use Rattle.and_proof.specs.Sides.{AssignsTo, RunsTo}
+use Rattle.and_proof.proofs.Outcomes.{waiting_runs, valueless_runs, assignment_runs}
+use Rattle.and_proof.proofs.running.run_assignment.Goals as goal
+
+pub evaluate-requires-clause-node : goal.evaluate-requires-clause-node
+evaluate-requires-clause-node g c = c.requires.item.right
+
+pub pair_in-first-requires-clause-clause : goal.pair_in-first-requires-clause-clause
+pair_in-first-requires-clause-clause g c =
+    subst (λ (Q : NamedProgram). c.args.goal.clause.0 ≤ length Q.program.clauses) c.requires.program c.requires.item.there
+
+pub pair_in-first-requires-clause-short : goal.pair_in-first-requires-clause-short
+pair_in-first-requires-clause-short g c =
+    let P = g.N.Naming.program in
+    let goal = c.args.goal in
+    let low = c.requires.item.within in
+    let short = c.requires.short in
+    let fits : pair_of P goal.clause.0 goal.base c.args.pair ≤ MAX_LIMIT = omega arith in
+    subst (λ (Q : NamedProgram). pair_of Q goal.clause.0 goal.base c.args.pair ≤ MAX_LIMIT) c.requires.program fits
+
+pub assign-requires-clause-goal : goal.assign-requires-clause-goal
+assign-requires-clause-goal g c =
+    let P = g.N.Naming.program in
+    let goal = c.args.goal in
+    let first = subst (λ (Q : NamedProgram). c.pair_in-first.result ≡ pair_of Q goal.clause.0 goal.base c.args.pair)
+    (sym c.requires.program) c.pair_in-first.ensures in
+    subst (λ rows. CanBeAssigned P rows goal.base c.args.left.0 c.pair_in-first.result) (sym c.evaluate.ensures.unchanged)
+    (subst (CanBeAssigned P c.args.cells.now goal.base c.args.left.0) (sym first) c.requires.item.left)
+
+pub returns-in-Waits : goal.returns-in-Waits
+returns-in-Waits g c =
+    let P = g.N.Naming.program in
+    let row = c.args.cells.now in
+    let side = subst (IsSide P row c.args.goal.base (node_term P.skeleton.nodes c.args.right.0)) c.in-Waits.is c.in_ok-evaluate.ensures.side in
+    record {
+      ran = waiting_runs P row c.evaluate.new.cells c.args.goal c.args.left.0 c.args.right.0 c.args.pair c.requires.item
+          c.evaluate.ensures.unchanged side;
+    }
+
+pub returns-in-NoValue : goal.returns-in-NoValue
+returns-in-NoValue g c =
+    let P = g.N.Naming.program in
+    let row = c.args.cells.now in
+    let side = subst (IsSide P row c.args.goal.base (node_term P.skeleton.nodes c.args.right.0)) c.in-NoValue.is c.in_ok-evaluate.ensures.side in
+    record {
+      ran = valueless_runs P row c.evaluate.new.cells c.args.goal c.args.left.0 c.args.right.0 c.args.pair c.requires.item side;
+    }
+
+pub returns-in-Number : goal.returns-in-Number
+returns-in-Number g c =
+    let P = g.N.Naming.program in
+    let row = c.args.cells.now in
+    let goal = c.args.goal in
+    let side = subst (IsSide P row goal.base (node_term P.skeleton.nodes c.args.right.0)) c.in-Number.is c.in_ok-evaluate.ensures.side in
+    let first = subst (λ (Q : NamedProgram). c.pair_in-first.result ≡ pair_of Q goal.clause.0 goal.base c.args.pair)
+    (sym c.requires.program) c.pair_in-first.ensures in
+    let z = c.in-Number.value in
+    let fits : FitsSigned w64 z = search (rules, ints) in
+    record {
+      ran = IfOk-weaker c.assign.result
+          (AssignsTo P c.evaluate.new.cells c.assign.new.cells goal.base c.args.left.0 c.pair_in-first.result (to_z w64 (of_z w64 z)))
+          (RunsTo P row c.assign.new.cells goal)
+          (assignment_runs P row c.assign.new.cells goal c.args.left.0 c.args.right.0 c.args.pair c.requires.item c.evaluate.new.cells
+          c.pair_in-first.result (to_z w64 (of_z w64 z)) z c.evaluate.ensures.unchanged first (to_z-of_z w64 z fits) side)
+          c.assign.ensures;
+    }

@@ -1,0 +1,9 @@
+pub mod ReadyPairs
+pub mod NewFrames
+pub mod Numbers
+pub mod Goals
+pub mod Outcomes
+pub mod KeptGoals
+pub mod AskedPairs
+pub mod SettledPairs
+pub mod AskedNumbers

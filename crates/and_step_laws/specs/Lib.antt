@@ -1,0 +1,5 @@
+pub mod Runs
+pub mod Assigning
+pub mod Running
+pub mod Frames
+pub mod Asking
