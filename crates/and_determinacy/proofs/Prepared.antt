@@ -16,7 +16,7 @@ use Rattle.and_program.specs.Loaded.{nodes_at}
 use Rattle.and_laws.proofs.Equality.{bool_cases}
 use Rattle.and_laws.proofs.Substitutions.{and_left, and_right}
 use Rattle.and_cells.specs.Ranges.{NamedProgram, IsNodeInRange}
-use Rattle.and_cells.specs.Rows.{IsSound, plain}
+use Rattle.and_cells.specs.Rows.{IsSound, OnlySet, plain}
 use Rattle.and_cells.specs.Seen.{word_at, Keeps}
 use Rattle.and_cells.specs.Meaning.{IsSettled, equations_of}
 use Rattle.and_cells.specs.Parts.{part_at}
@@ -28,12 +28,15 @@ use Rattle.and_branch_laws.specs.Judging.{outside}
 use Rattle.and_branch_laws.proofs.Clauses.{clause_nodes}
 use Rattle.and_branch_laws.proofs.Growing.{BodyIsOwn, head_is_own, body_is_own}
 use Rattle.and_unify.specs.Pairs.{AreInRange, NameNoHalf}
-use Rattle.and_unify.specs.Settling.{AreNewFrom, equations_with}
+use Rattle.and_unify.specs.Setting.{HaveBeenSet}
+use Rattle.and_unify.specs.Settling.{AreNewFrom, Settles, equations_with}
+use Rattle.and_unify.specs.declared.settling.Settled.TheVariants.{Solved}
 use Rattle.and_unify.specs.declared.pairs.Pair.{Pair}
 use Rattle.and_clause_index.proofs.ClauseLists.{clause_there}
 use Rattle.and_guards.specs.Guards.{CanBeRead, GuardCanBeRead, IsGuardFalse}
 use Rattle.and_determinacy.specs.Trials.{IsPrepared}
 use Rattle.and_guards.proofs.Widening.{widened_length, free_behind, settled_still}
+use Rattle.and_determinacy.proofs.TakenBack.{only_these}
 use Rattle.and_determinacy.proofs.TriedClauses.{asked_in_range, asked_whole, asked_new, unsolved, solved, refuted}
 
 -- A call's clauses are those of what it is placed from.
@@ -202,3 +205,18 @@ module _ (P : NamedProgram) (loaded : IsLoaded P) (row : List Ref) (short : leng
       not_both : (x : Bool) → x ≡ true → not x ≡ true → ⊥
       not_both true e f = true≢false (sym f)
       not_both false e f = true≢false (sym e)
+
+  -- So it is one exactly where nothing was found that refutes it.
+  pub tried : (new : List Ref) → Settles P wide new pairs Solved → (items : List NodeItem) → items ≡ (nodes_at P.skeleton c).items → (found : Bool)
+      → (found ≡ true) ↔ IsGuardFalse P new floor items → (answer : Bool) → not found ≡ answer
+      → (answer ≡ true) ↔ Candidate P.program (equations_of P row) outside (placed b (node_term P.skeleton.nodes n)) c
+  tried new settles items own found told answer same =
+      subst (λ (x : Bool). (x ≡ true) ↔ Candidate P.program (equations_of P row) outside (placed b (node_term P.skeleton.nodes n)) c) same
+      (guard_tells new (settles.solved refl) (made_reads new settles.keeps settles.halves) found
+      (subst (λ (ns : List NodeItem). (found ≡ true) ↔ IsGuardFalse P new floor ns) own told))
+
+-- What was set there is told, and nothing else of the row was.
+pub only_tried : (P : NamedProgram) (row wide new now : List Ref) (pairs : List Pair) (n b c floor : ℕ) (set : List ℕ) → IsPrepared P row wide pairs n b c floor
+    → HaveBeenSet wide new set → now ≡ new → OnlySet set row now
+only_tried P row wide new now pairs n b c floor set made was same =
+    subst (OnlySet set row) (sym same) (only_these row wide new (1 + (clause_at P.program c).variables) set made.wide_is was)

@@ -265,8 +265,8 @@ fn narrowed_from(judged: Judged) -> Narrowed
 
 /// Tells whether a goal has no candidate, at most one, or more. A clause is tried only where a look at
 /// the goal leaves two or more, and the last that is left only where another one is a candidate, so that a call that is
-/// left one clause costs no unification. The cells are as before. An error is want of memory. Where it has two, [`Trials::told`] tells on which cells these
-/// rest.
+/// left one clause costs no unification. The cells are as before. An error is want of memory. Where it has two,
+/// [`Trials::told`] tells on which cells these rest.
 pub fn narrow<N: Naming>(
     table: &Determinacy,
     loaded: &Loaded,

@@ -22,8 +22,8 @@ use Rattle.and_unify.specs.Settling.{AreNewFrom, EndsFrom, Settles}
 use Rattle.and_unify.specs.Running.{Runs, BreaksOff}
 use Rattle.and_unify.specs.Unifying.{Unifies}
 use Rattle.and_unify.proofs.TurnAnswers.{sets_end}
-use Rattle.and_unify.proofs.DescentKept.{Held, IsOutOr, held_stopped, same_end, apart_met}
-use Rattle.and_unify.proofs.DescentRuns.{held_asked, held_first}
+use Rattle.and_unify.proofs.DescentKept.{Held, IsOutOr, same_end, apart_met}
+use Rattle.and_unify.proofs.DescentEnds.{left_held, broken_held, broken_now}
 use Rattle.and_unify.proofs.SettlingTerms.{Binds, binds}
 use Rattle.and_unify.proofs.SettlingSeen.{ends_above}
 use Rattle.and_unify.proofs.SettlingDone.{have_been_set, judged, settled_apart}
@@ -50,6 +50,11 @@ set_back old new cells listed words is all set =
     } in
     ap (λ (xs : List ℕ). taken_back new xs words) all ∙ ap (λ (n : ℕ). taken_back new cells n) is ∙ took_back old new cells only
 
+-- So the row is as it was.
+pub back : (old new now : List Ref) (cells listed : List ℕ) (words : ℕ) → words ≡ length old → listed ≡ cells → HaveBeenSet old new cells
+    → now ≡ taken_back new listed words → now ≡ old
+back old new now cells listed words is all set taken = taken ∙ set_back old new cells listed words is all set
+
 module _ (P : NamedProgram) (old new : List Ref) (asked : List Pair) (floor : ℕ) (began items : List ℕ) (none : began ≡ []) (fall : AllFall 0 P.skeleton.nodes)
     (sound : IsSound P old) (range : AreInRange P (length old) asked) (written : AreWritten (plain old) asked) where
   module _ (Todo : Pair → Type 0) (h : Held P (plain old) asked began (plain new) Todo items) where
@@ -62,40 +67,28 @@ module _ (P : NamedProgram) (old new : List Ref) (asked : List Pair) (floor : �
     bound_so : IsSettled P old → NameNoHalf P (word_at old) asked → AreNewFrom P old asked floor → Binds P old new asked floor items
     bound_so settled no_half is_new = binds P old new asked floor items fall sound range settled no_half is_new h.kept.keeps made
 
-  held_so : (left : List Pair) → Runs P (plain old) asked began (plain new) left items → Held P (plain old) asked began (plain new) (Contains left) items
-  held_so left runs = held_asked P (plain old) asked began (plain new) left items fall range written runs
-
   -- Whatever is left, the list has what was set.
   pub left_set : (left : List Pair) → Runs P (plain old) asked began (plain new) left items → HaveBeenSet old new items
-  left_set left runs = been_set (Contains left) (held_so left runs)
+  left_set left runs = been_set (Contains left) (left_held P (plain old) (plain new) asked began items fall range written left runs)
 
   -- Where two are apart too.
-  broken : (one other : Ref) (b : BreaksOff P (plain old) (plain new) asked began items one other)
-      → Held P (plain old) asked began b.mid (IsOutOr b.p b.rest) items
-  broken one other b =
-      held_first P (plain old) asked began b.mid items b.p b.rest (held_asked P (plain old) asked began b.mid (b.p ∷ b.rest) items fall range written b.runs)
-
-  broken_now : (one other : Ref) (b : BreaksOff P (plain old) (plain new) asked began items one other)
-      → Held P (plain old) asked began (plain new) (IsOutOr b.p b.rest) items
-  broken_now one other b =
-      held_stopped P (plain old) asked began b.mid (plain new) items items (IsOutOr b.p b.rest) (b.meets.lead.reads, refl) (broken one other b)
-
   pub broken_set : (one other : Ref) → BreaksOff P (plain old) (plain new) asked began items one other → HaveBeenSet old new items
-  broken_set one other b = been_set (IsOutOr b.p b.rest) (broken_now one other b)
+  broken_set one other b = been_set (IsOutOr b.p b.rest) (broken_now P (plain old) (plain new) asked began items fall range written one other b)
 
   module _ (settled : IsSettled P old) (no_half : NameNoHalf P (word_at old) asked) (is_new : AreNewFrom P old asked floor) where
     pub broken_apart : (one other : Ref) → BreaksOff P (plain old) (plain new) asked began items one other → Settles P old new asked NoSolution
     broken_apart one other b =
-        let h = broken_now one other b in
+        let h = broken_now P (plain old) (plain new) asked began items fall range written one other b in
         let u : Unifies P (plain old) (plain new) asked [] (unified.Apart one other) =
-        apart_met P (plain old) b.mid (plain new) asked began items b.rest [] b.p one other b.meets (broken one other b) in
+        apart_met P (plain old) b.mid (plain new) asked began items b.rest [] b.p one other b.meets
+        (broken_held P (plain old) (plain new) asked began items fall range written one other b) in
         settled_apart P old new asked floor items (bound_so (IsOutOr b.p b.rest) h settled no_half is_new) h.kept.keeps written u.follows
         (u.apart one other refl).1
 
     -- Where nothing is left, and all paths from what was set end, the row is settled with the pairs.
     pub all_solved : Runs P (plain old) asked began (plain new) [] items → IsSound P new → All (EndsFrom P new floor) items → Settles P old new asked Solved
     all_solved runs sound_now ends =
-        let h = held_so [] runs in
+        let h = left_held P (plain old) (plain new) asked began items fall range written [] runs in
         let u : Unifies P (plain old) (plain new) asked [] unified.Same =
         same_end P (plain old) (plain new) asked began items [] [] fall range (refl, refl) h in
         judged P old new asked floor items (bound_so (Contains []) h settled no_half is_new) h.kept.keeps written u.follows Solved

@@ -3,24 +3,26 @@ use Rattle.std.proofs.Common.{ℕ, ◌≡◌, ◌≢◌, List, [], ◌∷◌, �
 use Rattle.std.proofs.lemmas.List.Elements.{All-nil, All-cons}
 use Rattle.and_model.specs.Store.{is_half}
 use Rattle.and_model.specs.declared.reference.Ref.{Ref}
-use Rattle.and_program.specs.declared.node.NodeKind.{NodeKind}
 use Rattle.and_cells.specs.Ranges.{NamedProgram, IsInRange, IsInRangeOrHalf}
 use Rattle.and_cells.specs.Seen.{Seen, Sets, OnlyReads, IsWrittenIfNumber}
 use Rattle.and_cells.proofs.Chains.{reads_nothing}
 use Rattle.and_cells.specs.Parts.{parts_of}
 use Rattle.and_unify.specs.declared.pairs.Pair.{Pair}
+use Rattle.and_unify.specs.declared.heads.Head.{Head}
+use Rattle.and_unify.specs.Heads.{HasHead}
 use Rattle.and_unify.specs.Meeting.{AreOfOneShape, IsToBeSet, MeetStructures, MeetFree}
 use Rattle.and_unify.specs.Turns.{alike, sets, pairs_of}
 use Rattle.and_unify.specs.Descending.{StepsPlainly}
 use Rattle.and_unify.specs.Running.{arguments_of_both}
+use Rattle.and_unify.proofs.MeetingHeads.{heads_apart}
 use Rattle.and_unify.proofs.MeetingSteps.{lead_here, alike_here, free_left, free_right}
 use Rattle.and_unify.proofs.DescentKept.{plainly_joins}
 use Rattle.and_heads.specs.declared.parts.Part.{Part}
 use Rattle.and_heads.specs.declared.entering.Entered.{Entered}
 use Rattle.and_heads.specs.declared.entering.Entered.TheVariants.{Done, Apart, GivenUp}
-use Rattle.and_heads.specs.Parts.{HasKind, HasShape, Puts, arguments_in, arguments_of_parts, both_of, named_by}
+use Rattle.and_heads.specs.Parts.{HasShape, Puts, arguments_in, arguments_of_parts, both_of, named_by}
 use Rattle.and_heads.specs.Entering.{StepsToParts, Meets}
-use Rattle.and_heads.proofs.Begins.{kinds_apart, of_one_shape, alike_at_once}
+use Rattle.and_heads.proofs.Begins.{of_one_shape, alike_at_once}
 
 -- two references as a pair
 abbrev pub pair_of : (one other : Ref) → Pair
@@ -42,11 +44,11 @@ module _ (P : NamedProgram) (s : Seen) (one other : Ref) (parts longer : List Pa
   meets_one same whole stays = steps_alone P (pair_of one other) s s parts longer bound bound stays
       (λ list links. (links, alike (alike_here P one other s same whole) refl (append-nil list) refl))
 
-  module _ (a b : NodeKind) (first : HasKind P s one a) (second : HasKind P s other b) where
-    -- They begin with different kinds,
+  module _ (a b : Head) (first : HasHead P s one a) (second : HasHead P s other b) where
+    -- They begin differently,
     pub compared_apart : a ≢ b → Meets P (pair_of one other) s s parts longer bound bound Apart
     compared_apart differ =
-        ((one, other, record { lead = lead_here one other s s (reads_nothing s); apart = kinds_apart P s one other a b first second differ }), refl)
+        ((one, other, record { lead = lead_here one other s s (reads_nothing s); apart = heads_apart P s one other a b first second differ }), refl)
 
     module _ (same : a ≡ b) (left : IsInRange P s.words one) (right : IsInRange P s.words other) where
       -- or they begin alike, and have no arguments,

@@ -1,11 +1,9 @@
 -- What comes of pairs that lead to others, and of the first of pairs.
-use Rattle.std.proofs.Common.{ℕ, ◌≡◌, List, ◌∷◌, ◌++◌, false, sym, ap, subst, ◌∙◌, append_assoc, true≢false}
+use Rattle.std.proofs.Common.{ℕ, ◌≡◌, List, ◌∷◌, ◌++◌, sym, ap, subst, ◌∙◌, append_assoc}
 use Rattle.std.specs.Prelude.{All}
-use Rattle.and_model.specs.Store.{is_half}
 use Rattle.std.proofs.lemmas.List.Concat.{flat_map-append}
 use Rattle.and_model.specs.declared.reference.Ref.{Ref}
-use Rattle.and_model.specs.declared.reference.Ref.TheVariants.{Free, Cell, Node, Number, Half}
-use Rattle.and_cells.specs.Ranges.{NamedProgram, IsInRange, IsInRangeOrHalf}
+use Rattle.and_cells.specs.Ranges.{NamedProgram}
 use Rattle.and_cells.specs.Seen.{Seen}
 use Rattle.and_cells.proofs.Chains.{reads_more}
 use Rattle.and_unify.specs.declared.pairs.Pair.{Pair}
@@ -50,14 +48,6 @@ meets_led P left right one other old mid new parts longer bound further Done lea
 meets_led P left right one other old mid new parts longer bound further Apart lead meets =
     ((meets.0.0, meets.0.1, apart_on P left right one other meets.0.0 meets.0.1 old mid new lead meets.0.2), meets.1)
 meets_led P left right one other old mid new parts longer bound further GivenUp lead meets = (reads_more old mid new lead.reads meets.0, meets.1)
-
--- what is in range, and no half
-pub whole_fits : (P : NamedProgram) (words : ℕ) (r : Ref) → is_half r ≡ false → IsInRangeOrHalf P words r → IsInRange P words r
-whole_fits P words Free whole fits = absurd fits
-whole_fits P words (Cell cell) whole fits = fits
-whole_fits P words (Node node base) whole fits = fits
-whole_fits P words (Number pair) whole fits = fits
-whole_fits P words (Half bits) whole fits = absurd (true≢false whole)
 
 module _ (P : NamedProgram) (old mid new : Seen) (todo : List Pair) (began further last : List ℕ) (p : Pair) (ds : List Pair) (parts longer : List Part)
     (runs : Runs P old todo began mid (p ∷ (ds ++ arguments_of_parts P parts)) further) where

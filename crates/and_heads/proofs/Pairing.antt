@@ -6,12 +6,10 @@ use Rattle.std.proofs.lemmas.Option.{get_or_from_slice_get, slice_get_within}
 use Rattle.and_program.specs.Skeletons.{AllFall}
 use Rattle.and_cells.specs.Ranges.{NamedProgram}
 use Rattle.and_cells.specs.Seen.{Seen}
-use Rattle.and_laws.proofs.Ordered.{contains_first}
 use Rattle.and_unify.specs.declared.pairs.Pair.{Pair}
 use Rattle.and_unify.specs.Pairs.{AreInRange, AreWritten}
 use Rattle.and_unify.specs.Running.{Runs, start}
-use Rattle.and_unify.proofs.DescentRuns.{fit_from, runs_fit}
-use Rattle.and_unify.proofs.TurnPlaces.{IsFit}
+use Rattle.and_unify.proofs.DescentRuns.{PairTurn, asked_turn}
 use Rattle.and_heads.specs.declared.parts.Part.{Part}
 use Rattle.and_heads.specs.Parts.{arguments_of_parts}
 
@@ -27,18 +25,14 @@ module _ (P : NamedProgram) (old s : Seen) (asked : List Pair) (began bound : Li
 
   module _ (list : List Pair) (pair : Pair) (k : ℕ) (at : slice_get asked k ≡ Some pair)
       (runs : Runs P old asked began s (drop k asked ++ list) bound) where
-    -- The pair at a place is the first of those that are to do,
-    pub first_pair : Runs P old asked began s (pair ∷ (drop (k + 1) asked ++ list)) bound
-    first_pair =
+    -- A turn at a place: the pair there is the first of those that are to do, and it fits.
+    pub pair_turn : AllFall 0 P.skeleton.nodes → AreInRange P old.words asked → AreWritten old asked
+        → PairTurn P old s asked (drop (k + 1) asked ++ list) began bound pair
+    pair_turn fall range written =
         let next : suc k ≡ k + 1 = omega arith in
-        subst (λ xs. Runs P old asked began s (xs ++ list) bound)
+        asked_turn P old s asked (drop (k + 1) asked ++ list) began bound pair fall range written
+        (subst (λ xs. Runs P old asked began s (xs ++ list) bound)
         (drop-cons asked k pair (slice_get_within asked k pair at)
         ∙ ap (λ (p : Pair). p ∷ drop (suc k) asked) (get_or_from_slice_get asked k pair pair at)
         ∙ ap (λ (n : ℕ). pair ∷ drop n asked) next)
-        runs
-
-    -- and it fits.
-    pub pair_fits : AllFall 0 P.skeleton.nodes → AreInRange P old.words asked → AreWritten old asked → IsFit P s.words s pair
-    pair_fits fall range written =
-        let rest : List Pair = drop (k + 1) asked ++ list in
-        runs_fit P old asked began s (pair ∷ rest) bound fall first_pair (fit_from P old asked range written) pair (contains_first pair rest)
+        runs)

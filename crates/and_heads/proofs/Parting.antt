@@ -13,14 +13,14 @@ use Rattle.and_unify.specs.Meeting.{MeetStructures}
 use Rattle.and_unify.proofs.MeetingSteps.{lead_here}
 use Rattle.and_unify.proofs.DescentKept.{plainly_joins}
 use Rattle.and_unify.specs.Running.{Runs, sorted, arguments_of_both}
-use Rattle.and_unify.proofs.DescentRuns.{same_swapped}
+use Rattle.and_unify.proofs.DescentRuns.{same_swapped, runs_words}
 use Rattle.and_heads.specs.declared.parts.Part.{Part}
 use Rattle.and_heads.specs.Parts.{HasShape, both_of, arguments_of_parts}
 use Rattle.and_heads.specs.Entering.{StepsToParts}
 
 module _ (P : NamedProgram) (parts rest : List Part) (part : Part) (last : parts ≡ rest ++ part ∷ []) where
   -- The arguments of the last part come first,
-  pub last_first : (old s : Seen) (todo : List Pair) (began bound : List ℕ) → Runs P old todo began s (arguments_of_parts P parts) bound
+  last_first : (old s : Seen) (todo : List Pair) (began bound : List ℕ) → Runs P old todo began s (arguments_of_parts P parts) bound
       → Runs P old todo began s (arguments_of_both P (both_of part) ++ arguments_of_parts P rest) bound
   last_first old s todo began bound runs =
       let one : List Pair = arguments_of_both P (both_of part) in
@@ -32,7 +32,7 @@ module _ (P : NamedProgram) (parts rest : List Part) (part : Part) (last : parts
       sorted s (others ++ one) (one ++ others) bound (subst (λ xs. Runs P old todo began s xs bound) is runs) (same_swapped others one)
 
   -- and all are of one shape.
-  pub last_shape : (words : ℕ) → All (HasShape P words) parts → HasShape P words part × All (HasShape P words) rest
+  last_shape : (words : ℕ) → All (HasShape P words) parts → HasShape P words part × All (HasShape P words) rest
   last_shape words all =
       let each : All (HasShape P words) (rest ++ part ∷ []) = subst (All (HasShape P words)) last all in (
         All-contains (HasShape P words) (rest ++ part ∷ []) part each (Contains-append_right rest (part ∷ []) part (contains_first part [])),
@@ -40,6 +40,21 @@ module _ (P : NamedProgram) (parts rest : List Part) (part : Part) (last : parts
             (λ x at. All-contains (HasShape P words) (rest ++ part ∷ []) x each (Contains-append_left rest (part ∷ []) x at))
             rest (All-contains_itself rest),
       )
+
+-- A turn: a part and all others are of one shape, and the arguments of the part are the first that are to do.
+pub record PartTurn (P : NamedProgram) (old s : Seen) (todo : List Pair) (began bound : List ℕ) (part : Part) (rest : List Part) : Type 0 where
+  pub words : s.words ≡ old.words
+  pub shape : HasShape P s.words part
+  pub shapes : All (HasShape P s.words) rest
+  pub runs : Runs P old todo began s (arguments_of_both P (both_of part) ++ arguments_of_parts P rest) bound
+
+-- A turn at the last part of a list.
+pub part_turn : (P : NamedProgram) (parts rest : List Part) (part : Part) → parts ≡ rest ++ part ∷ [] → (old s : Seen) (todo : List Pair) (began bound : List ℕ)
+    → All (HasShape P old.words) parts → Runs P old todo began s (arguments_of_parts P parts) bound → PartTurn P old s todo began bound part rest
+part_turn P parts rest part last old s todo began bound shapes runs =
+    let words = runs_words P old todo began s (arguments_of_parts P parts) bound runs in
+    let each = last_shape P parts rest part last s.words (subst (λ n. All (HasShape P n) parts) (sym words) shapes) in
+    record { words = words; shape = each.0; shapes = each.1; runs = last_first P parts rest part last old s todo began bound runs }
 
 -- Two structures of one shape are put on the list of parts.
 pub whole_put : (P : NamedProgram) (s : Seen) (pair : Pair) (whole : Part) (parts longer : List Part) (bound : List ℕ) → both_of whole ≡ pair

@@ -1,34 +1,21 @@
--- Parts of a call and of a head, and what references begin with.
-use Rattle.std.specs.Prelude.{ℕ, ◌≡◌, ◌⊎◌, Some, List, [], ◌∷◌, ◌++◌, flat_map, false}
-use Rattle.and_model.specs.Terms.{number}
+-- Parts of a call and of a head.
+use Rattle.std.specs.Prelude.{ℕ, ◌≡◌, ◌⊎◌, List, [], ◌∷◌, ◌++◌, flat_map, false}
 use Rattle.and_model.specs.Store.{is_half}
 use Rattle.and_model.specs.declared.reference.Ref.{Ref}
 use Rattle.and_model.specs.declared.reference.Ref.TheVariants.{Node}
-use Rattle.and_program.specs.declared.node.NodeKind.{NodeKind}
-use Rattle.and_program.specs.declared.node.NodeKind.TheVariants.{Variable, Number, Compound}
 use Rattle.and_cells.specs.Ranges.{NamedProgram}
-use Rattle.and_cells.specs.Seen.{Seen}
-use Rattle.and_cells.specs.Meaning.{Words, shallow_term}
-use Rattle.and_cells.specs.Known.{HasKnown}
-use Rattle.and_cells.specs.Parts.{IsStructure}
 use Rattle.and_unify.specs.declared.pairs.Pair.{Pair}
+use Rattle.and_unify.specs.declared.heads.Head.{Head}
+use Rattle.and_unify.specs.declared.heads.Head.TheVariants.{Number, Name}
+use Rattle.and_unify.specs.declared.structures.Structure.{Structure}
 use Rattle.and_unify.specs.Meeting.{AreOfOneShape}
 use Rattle.and_unify.specs.Running.{arguments_of_both}
-use Rattle.and_heads.specs.declared.parts.Structure.{Structure}
 use Rattle.and_heads.specs.declared.parts.Part.{Part}
 
--- What the reference begins with in all words that have what is known: that number, or that name with so many
--- arguments.
-abbrev pub HasKind : NamedProgram → Seen → Ref → NodeKind → Type 0
-HasKind P s r (Variable k) = ⊥
-HasKind P s r (Number z) = (w : Words) → HasKnown s w → shallow_term P w r ≡ Some (number z)
-HasKind P s r (Compound name count) = IsStructure P r name.0 count
-
 -- how many arguments there are
-abbrev pub arguments_in : NodeKind → ℕ
-arguments_in (Variable k) = 0
+abbrev pub arguments_in : Head → ℕ
 arguments_in (Number z) = 0
-arguments_in (Compound name count) = count
+arguments_in (Name name count) = count
 
 -- the structure as a reference
 abbrev pub named_by : Structure → Ref

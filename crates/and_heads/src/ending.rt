@@ -14,11 +14,11 @@ ghost use Rattle.and_circles.specs.Following.{argument_part};
 ghost use Rattle.and_unify.specs.Settling.{EndsFrom};
 ghost use Rattle.and_heads.specs.Ending.{GoesOn};
 
-use crate::parts::argument_count;
 use and_cells::{Naming, PlainCells};
 use and_circles::ends_soon;
 use and_model::{NodeNo, Ref};
 use and_program::Loaded;
+use and_unify::structures::argument_count;
 
 /// So many places are followed at most where paths branch,
 const MOST_PLACES: u64 = 64;
@@ -124,8 +124,8 @@ fn behind_ends<N: Naming>(
     }
 }
 
-/// Follows the path from a reference that goes on by the last part of each structure, as far as all other parts end at a
-/// look: so the elements of a list are passed one by one. It tells that all paths end, or how far it has come.
+/// Follows the path from a reference that goes on by the last part of each structure, as far as all other parts end
+/// at a look: so the elements of a list are passed one by one. It tells that all paths end, or how far it has come.
 fn in_line<N: Naming>(loaded: &Loaded, cells: &PlainCells<N>, floor: u32, from: Ref) -> Followed
     requires program { N.program ≡ named loaded.now }
     requires falls { AllFall 0 N.program.skeleton.nodes }

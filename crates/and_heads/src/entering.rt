@@ -1,28 +1,25 @@
 //! A call and the head of a clause, met argument by argument.
 
-ghost use Rattle.std.specs.Prelude.{◌≡◌, ◌≢◌, ◌<◌, [], ◌∷◌, ◌++◌, ℕ, List, length, false, true, OnOk, All, IfSome};
-ghost use Rattle.std.specs.Prelude.{vec_len, vec_capacity};
-ghost use Rattle.and_model.specs.Store.{is_half};
+ghost use Rattle.std.specs.Prelude.{◌≡◌, ◌≢◌, ◌<◌, [], ◌∷◌, ◌++◌, ℕ, List, length, All, IfSome};
 ghost use Rattle.and_model.specs.declared.reference.Ref.{Ref};
 ghost use Rattle.and_program.specs.Skeletons.{AllFall};
 ghost use Rattle.and_cells.specs.Ranges.{IsInRange, IsInRangeOrHalf};
 ghost use Rattle.and_cells.specs.Rows.{plain};
 ghost use Rattle.and_cells.specs.Seen.{IsWrittenIfNumber, OnlyReads, Sets, word_at};
 ghost use Rattle.and_cells.specs.Parts.{named};
-ghost use Rattle.and_unify.specs.Meeting.{IsToBeSet};
 ghost use Rattle.and_unify.specs.Pairs.{AreInRange, AreWritten};
 ghost use Rattle.and_unify.specs.Running.{arguments_of_both};
 ghost use Rattle.and_heads.specs.Entering.{Meets, ComesToParts};
 ghost use Rattle.and_heads.specs.Parts.{HasShape, Puts, both_of, arguments_of_parts};
 
-use crate::parts::{
-    Part, Structure, argument_at, argument_count, arguments_of_both, end_of, kind_at,
-};
+use crate::parts::{Part, arguments_of_both, end_of, head_at};
 use and_cells::{Naming, PlainCells};
 use and_model::Ref;
 use and_program::Loaded;
+use and_unify::cases::{Case, case_of};
+use and_unify::noting::make_room;
+use and_unify::structures::{Structure, argument_at, argument_count};
 use and_unify::{Pair, PairList};
-use std::alloc::AllocError;
 
 /// So many parts are met at most.
 const MOST_PARTS: u32 = 64;
@@ -36,19 +33,6 @@ pub(crate) enum Entered {
     Apart,
     /// It is not told here.
     GivenUp,
-}
-
-/// What two references call for.
-#[derive(Clone, Copy, PartialEq, Eq, Debug)]
-enum Case {
-    /// They are one cell.
-    OneCell,
-    /// The left one is this cell, which is to be set to the right one.
-    SetLeft(u32),
-    /// The right one is this cell, which is to be set to the left one.
-    SetRight(u32),
-    /// Neither can be set to the other.
-    Compare,
 }
 
 /// Makes the sides of pairs the same, by so many parts at most. The cells that are set go on the list.
@@ -110,10 +94,9 @@ fn enter_pair<N: Naming>(
     parts: &mut Vec<Part>,
 ) -> Entered
     requires program { N.program ≡ named loaded.now }
-    requires left_in_range { IsInRange N.program (length cells.old) pair.left }
-    requires right_in_range { IsInRange N.program (length cells.old) pair.right }
-    requires left_written { IsWrittenIfNumber (plain cells.old) pair.left }
-    requires right_written { IsWrittenIfNumber (plain cells.old) pair.right }
+    requires in_range { IsInRange N.program (length cells.old) pair.left
+        × IsInRange N.program (length cells.old) pair.right }
+    requires written { IsWrittenIfNumber (plain cells.old) pair.left × IsWrittenIfNumber (plain cells.old) pair.right }
     ensures { Meets N.program pair (plain cells.old) (plain cells.new) parts.old.items parts.new.items
         bound.old.items bound.new.items result }
 {
@@ -136,10 +119,9 @@ fn enter_sides<N: Naming>(
     parts: &mut Vec<Part>,
 ) -> Entered
     requires program { N.program ≡ named loaded.now }
-    requires left_in_range { IsInRange N.program (length cells.old) pair.left }
-    requires right_in_range { IsInRange N.program (length cells.old) pair.right }
-    requires left_written { IsWrittenIfNumber (plain cells.old) pair.left }
-    requires right_written { IsWrittenIfNumber (plain cells.old) pair.right }
+    requires in_range { IsInRange N.program (length cells.old) pair.left
+        × IsInRange N.program (length cells.old) pair.right }
+    requires written { IsWrittenIfNumber (plain cells.old) pair.left × IsWrittenIfNumber (plain cells.old) pair.right }
     ensures { Meets N.program pair (plain cells.old) (plain cells.new) parts.old.items parts.new.items
         bound.old.items bound.new.items result }
 {
@@ -166,8 +148,8 @@ fn whole_of<N: Naming>(loaded: &Loaded, cells: &PlainCells<N>, one: Ref, other: 
     else {
         return None;
     };
-    let first = kind_at(loaded, cells, one)?;
-    let second = kind_at(loaded, cells, other)?;
+    let first = head_at(loaded, cells, one)?;
+    let second = head_at(loaded, cells, other)?;
     let count = arguments_of_both(first, second)?;
     if count == 0 {
         return None;
@@ -247,10 +229,9 @@ fn enter_argument<N: Naming>(
     parts: &mut Vec<Part>,
 ) -> Entered
     requires program { N.program ≡ named loaded.now }
-    requires left_in_range { IsInRange N.program (length cells.old) left }
-    requires right_in_range { IsInRange N.program (length cells.old) right }
-    requires left_written { IsWrittenIfNumber (plain cells.old) left }
-    requires right_written { IsWrittenIfNumber (plain cells.old) right }
+    requires in_range { IsInRange N.program (length cells.old) left
+        × IsInRange N.program (length cells.old) right }
+    requires written { IsWrittenIfNumber (plain cells.old) left × IsWrittenIfNumber (plain cells.old) right }
     ensures { Meets N.program (record { left = left; right = right }) (plain cells.old) (plain cells.new)
         parts.old.items parts.new.items bound.old.items bound.new.items result }
 {
@@ -279,66 +260,13 @@ fn meet<N: Naming>(
     ensures { Meets N.program (record { left = one; right = other }) (plain cells.old) (plain cells.new)
         parts.old.items parts.new.items bound.old.items bound.new.items result }
 {
-    match case_of(one, other) {
+    // Mostly the other one is a cell, so it is looked at first.
+    match case_of(other, one) {
+        Case::Half => Entered::GivenUp,
         Case::OneCell => Entered::Done,
-        Case::SetLeft(cell) => take(cells, bound, cell, other),
-        Case::SetRight(cell) => take(cells, bound, cell, one),
+        Case::SetLeft(cell) => take(cells, bound, cell, one),
+        Case::SetRight(cell) => take(cells, bound, cell, other),
         Case::Compare => compare(loaded, cells, one, other, parts),
-    }
-}
-
-/// What two references call for. Of two cells the one with the larger number is to be set.
-fn case_of(one: Ref, other: Ref) -> Case
-    ensures one_cell { result ≡ Case.OneCell → (one ≡ other) × (is_half one ≡ false) }
-    ensures left { (cell : ℕ) → result ≡ Case.SetLeft cell → IsToBeSet cell one other }
-    ensures right { (cell : ℕ) → result ≡ Case.SetRight cell → IsToBeSet cell other one }
-{
-    match other {
-        Ref::Cell(cell) => beside_cell(one, cell),
-        Ref::Node { .. } => beside_end(one, other),
-        Ref::Number(_) => beside_end(one, other),
-        Ref::Half(_) => Case::Compare,
-        Ref::Free => Case::Compare,
-    }
-}
-
-/// The same where the right one is a cell.
-fn beside_cell(one: Ref, cell: u32) -> Case
-    ensures one_cell { result ≡ Case.OneCell → (one ≡ Ref.Cell cell) × (is_half one ≡ false) }
-    ensures left { (set : ℕ) → result ≡ Case.SetLeft set → IsToBeSet set one (Ref.Cell cell) }
-    ensures right { (set : ℕ) → result ≡ Case.SetRight set → IsToBeSet set (Ref.Cell cell) one }
-{
-    match one {
-        Ref::Cell(there) => {
-            if there < cell {
-                Case::SetRight(cell)
-            } else if there == cell {
-                Case::OneCell
-            } else {
-                Case::SetLeft(there)
-            }
-        }
-        Ref::Node { .. } => Case::SetRight(cell),
-        Ref::Number(_) => Case::SetRight(cell),
-        Ref::Half(_) => Case::Compare,
-        Ref::Free => Case::Compare,
-    }
-}
-
-/// The same where the right one is a node or a number.
-fn beside_end(one: Ref, other: Ref) -> Case
-    requires whole { is_half other ≡ false }
-    requires no_cell { (cell : ℕ) → other ≢ Ref.Cell cell }
-    ensures one_cell { result ≢ Case.OneCell }
-    ensures left { (cell : ℕ) → result ≡ Case.SetLeft cell → IsToBeSet cell one other }
-    ensures right { (cell : ℕ) → result ≢ Case.SetRight cell }
-{
-    match one {
-        Ref::Cell(cell) => Case::SetLeft(cell),
-        Ref::Node { .. } => Case::Compare,
-        Ref::Number(_) => Case::Compare,
-        Ref::Half(_) => Case::Compare,
-        Ref::Free => Case::Compare,
     }
 }
 
@@ -365,17 +293,6 @@ fn take<N: Naming>(cells: &mut PlainCells<N>, bound: &mut Vec<u32>, cell: u32, t
     Entered::Done
 }
 
-/// Makes room for one cell more, where the list has none. An error is want of memory.
-fn make_room(bound: &mut Vec<u32>) -> Result<(), AllocError>
-    ensures items { bound.new.items ≡ bound.old.items }
-    ensures room { OnOk result (vec_len bound.new < vec_capacity bound.new) }
-{
-    if bound.len() == bound.capacity() {
-        bound.reserve(1)?;
-    }
-    Ok(())
-}
-
 /// Compares two references, of which structures of one shape go on the list of parts.
 #[inline(always)]
 fn compare<N: Naming>(
@@ -393,10 +310,10 @@ fn compare<N: Naming>(
     ensures { (bound : List ℕ) → Meets N.program (record { left = one; right = other }) (plain cells.now)
         (plain cells.now) parts.old.items parts.new.items bound bound result }
 {
-    let Some(first) = kind_at(loaded, cells, one) else {
+    let Some(first) = head_at(loaded, cells, one) else {
         return Entered::GivenUp;
     };
-    let Some(second) = kind_at(loaded, cells, other) else {
+    let Some(second) = head_at(loaded, cells, other) else {
         return Entered::GivenUp;
     };
     match arguments_of_both(first, second) {

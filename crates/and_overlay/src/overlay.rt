@@ -31,8 +31,8 @@ pub struct Overlay<'a, C: Cells> {
     ghost few: { below + frame < 2 ^ 32 },
     ghost room: { (below + frame ≤ scratch.now.places.room) × (below ≤ scratch.now.looked.room) },
     ghost kept: { IsOver C.program (C.seen cells.now) frame (own_in C.seen scratch.now.settings.items)
-        scratch.now.looked.listed } by { over_prop C.program (C.seen cells.now) frame (own_in C.seen scratch.now.settings.items)
-            scratch.now.looked.listed },
+        scratch.now.looked.listed } by { over_prop C.program (C.seen cells.now) frame
+            (own_in C.seen scratch.now.settings.items) scratch.now.looked.listed },
 }
 
 impl<'a, C: Cells> Overlay<'a, C> {
@@ -117,7 +117,8 @@ impl<'a, C: Cells> Overlay<'a, C> {
         requires fits { CanHold C.program (⟦<Overlay<'a, C> as Cells>⟧.seen self.old).words place value }
         requires written { IsWrittenIfNumber (⟦<Overlay<'a, C> as Cells>⟧.seen self.old) value }
         ensures grew { ⟦<Overlay<'a, C> as Cells>⟧.Grew self.old self.new }
-        ensures sets { Sets place value (⟦<Overlay<'a, C> as Cells>⟧.seen self.old) (⟦<Overlay<'a, C> as Cells>⟧.seen self.new) }
+        ensures sets { Sets place value (⟦<Overlay<'a, C> as Cells>⟧.seen self.old)
+            (⟦<Overlay<'a, C> as Cells>⟧.seen self.new) }
         ensures missed { (⟦<Overlay<'a, C> as Cells>⟧.seen self.new).missed
             ≡ (⟦<Overlay<'a, C> as Cells>⟧.seen self.old).missed }
     {
@@ -134,11 +135,14 @@ impl<'a, C: Cells> Overlay<'a, C> {
         requires place { place < (⟦<Overlay<'a, C> as Cells>⟧.seen self.old).words }
         requires other { Contains (map (λ s. s.place) self.old.scratch.now.settings.items) place → ⊥ }
         ensures grew { ⟦<Overlay<'a, C> as Cells>⟧.Grew self.old self.new }
-        ensures only_reads { OnlyReads (⟦<Overlay<'a, C> as Cells>⟧.seen self.old) (⟦<Overlay<'a, C> as Cells>⟧.seen self.new) }
+        ensures only_reads { OnlyReads (⟦<Overlay<'a, C> as Cells>⟧.seen self.old)
+            (⟦<Overlay<'a, C> as Cells>⟧.seen self.new) }
         ensures found { result ≢ Ref.Free
-            → Finds C.program place result (⟦<Overlay<'a, C> as Cells>⟧.seen self.old) (⟦<Overlay<'a, C> as Cells>⟧.seen self.new) }
+            → Finds C.program place result (⟦<Overlay<'a, C> as Cells>⟧.seen self.old)
+            (⟦<Overlay<'a, C> as Cells>⟧.seen self.new) }
         ensures free { result ≡ Ref.Free
-            → Misses self.old.below place (⟦<Overlay<'a, C> as Cells>⟧.seen self.old) (⟦<Overlay<'a, C> as Cells>⟧.seen self.new) }
+            → Misses self.old.below place (⟦<Overlay<'a, C> as Cells>⟧.seen self.old)
+            (⟦<Overlay<'a, C> as Cells>⟧.seen self.new) }
     {
         if place >= self.below {
             return Ref::Free;
@@ -154,7 +158,8 @@ impl<'a, C: Cells> Overlay<'a, C> {
         requires pair { IsPairInRange (⟦<Overlay<'a, C> as Cells>⟧.seen self.old).words pair }
         requires written { IsKnownWritten (⟦<Overlay<'a, C> as Cells>⟧.seen self.old) pair }
         ensures grew { ⟦<Overlay<'a, C> as Cells>⟧.Grew self.old self.new }
-        ensures only_reads { OnlyReads (⟦<Overlay<'a, C> as Cells>⟧.seen self.old) (⟦<Overlay<'a, C> as Cells>⟧.seen self.new) }
+        ensures only_reads { OnlyReads (⟦<Overlay<'a, C> as Cells>⟧.seen self.old)
+            (⟦<Overlay<'a, C> as Cells>⟧.seen self.new) }
         ensures known { Knows (⟦<Overlay<'a, C> as Cells>⟧.seen self.new) place result }
         ensures fits { CanHold C.program (⟦<Overlay<'a, C> as Cells>⟧.seen self.old).words place result }
         ensures only { (p : ℕ) (r : Ref) → Knows (⟦<Overlay<'a, C> as Cells>⟧.seen self.new) p r
@@ -172,7 +177,8 @@ impl<'a, C: Cells> Overlay<'a, C> {
         requires written { IsKnownWritten (⟦<Overlay<'a, C> as Cells>⟧.seen self.old) pair }
         requires unknown { IsUnknown (⟦<Overlay<'a, C> as Cells>⟧.seen self.old) place }
         ensures grew { ⟦<Overlay<'a, C> as Cells>⟧.Grew self.old self.new }
-        ensures only_reads { OnlyReads (⟦<Overlay<'a, C> as Cells>⟧.seen self.old) (⟦<Overlay<'a, C> as Cells>⟧.seen self.new) }
+        ensures only_reads { OnlyReads (⟦<Overlay<'a, C> as Cells>⟧.seen self.old)
+            (⟦<Overlay<'a, C> as Cells>⟧.seen self.new) }
         ensures known { Knows (⟦<Overlay<'a, C> as Cells>⟧.seen self.new) place result }
         ensures fits { CanHold C.program (⟦<Overlay<'a, C> as Cells>⟧.seen self.old).words place result }
         ensures only { (p : ℕ) (r : Ref) → Knows (⟦<Overlay<'a, C> as Cells>⟧.seen self.new) p r
@@ -187,7 +193,8 @@ impl<'a, C: Cells> Overlay<'a, C> {
         requires place { place < (⟦<Overlay<'a, C> as Cells>⟧.seen self.old).words }
         requires half { (bits : ℕ) × (half ≡ Ref.Half bits) }
         ensures grew { ⟦<Overlay<'a, C> as Cells>⟧.Grew self.old self.new }
-        ensures filled { Fills C.program place half result (⟦<Overlay<'a, C> as Cells>⟧.seen self.old) (⟦<Overlay<'a, C> as Cells>⟧.seen self.new) }
+        ensures filled { Fills C.program place half result (⟦<Overlay<'a, C> as Cells>⟧.seen self.old)
+            (⟦<Overlay<'a, C> as Cells>⟧.seen self.new) }
     {
         match self.look(place) {
             Ref::Free => {

@@ -1,52 +1,40 @@
 -- What two references that are no cells begin with, and what that says of their terms.
-use Rattle.std.proofs.Common.{ℕ, suc, ℤ, ◌≡◌, ◌≢◌, Bool, true, false, not, List, [], ◌∷◌, ◌++◌, length, Some, refl, sym, ap, subst, ◌∙◌, inl, inr, true≢false}
-use Rattle.std.proofs.Common.{eqb, rules, tests}
+use Rattle.std.proofs.Common.{ℕ, suc, ℤ, ◌+◌, ◌≡◌, ◌≢◌, List, [], ◌∷◌, ◌++◌, length, Some, refl, sym, ap, subst, ◌∙◌, inl, inr}
 use Rattle.std.specs.Prelude.{Contains}
-use Rattle.std.proofs.lemmas.Bool.Decides.{Decides-int_eq, Decides-eqb}
 use Rattle.std.proofs.lemmas.Option.{same_Some}
 use Rattle.std.proofs.lemmas.List.Elements.{Contains-append_cases}
-use Rattle.and_model.proofs.Tested.{first_true, second_true}
 use Rattle.and_model.specs.Terms.{Term, Terms, Substitution, apply, none, more, width}
 use Rattle.and_model.specs.Terms as terms
 use Rattle.and_model.specs.declared.numbers.NameNo.{NameNo}
 use Rattle.and_model.specs.declared.reference.Ref.{Ref}
-use Rattle.and_model.specs.declared.reference.Ref.TheVariants as reference
 use Rattle.and_program.specs.Skeletons.{AllFall}
 use Rattle.and_cells.specs.Ranges.{NamedProgram, IsInRange}
-use Rattle.and_cells.specs.Seen.{Seen, Knows, OnlyReads, ReadsNumber}
-use Rattle.and_cells.specs.Meaning.{Words}
+use Rattle.and_cells.specs.Seen.{Seen, Knows, OnlyReads}
+use Rattle.and_cells.specs.Meaning.{Words, cell_variable}
 use Rattle.and_cells.specs.Joined.{value}
 use Rattle.and_cells.specs.Parts.{IsStructure, parts_of}
 use Rattle.and_laws.proofs.Ordered.{contains_cases, contains_none}
-use Rattle.and_cells.proofs.Chains.{reads_more, written_later}
+use Rattle.and_cells.proofs.Chains.{written_later}
 use Rattle.and_cell_laws.proofs.Structures.{HaveValues, value_of_structure}
 use Rattle.and_unify.specs.Turns.{pairs_of}
 use Rattle.and_unify.specs.Meeting.{AreOfOneShape}
+use Rattle.and_unify.specs.Heads.{IsNumber, at_node, in_pair, HasHead}
+use Rattle.and_unify.specs.declared.heads.Head.{Head}
+use Rattle.and_unify.specs.declared.heads.Head.TheVariants.{Number, Name}
+use Rattle.and_unify.proofs.MeetingSteps.{Compared, both_read, first_later, structures_compared}
 use Rattle.and_unify.specs.declared.pairs.Pair.{Pair}
 use Rattle.and_unify.proofs.TurnParts.{parts_counted, parts_agree, part_in_range, part_written, sides_of_pairs}
 use Rattle.and_shared_determinacy.specs.Truths.{AreOne, AreTrue, CanFollow, CanFollowPairs, LeadsOn, AreNeverOne}
-use Rattle.and_shared_determinacy.specs.Matches.{BeginsWith}
-use Rattle.and_shared_determinacy.specs.contracts.heads.HeadPartialEq.TheImpl as derived
-use Rattle.and_shared_determinacy.specs.declared.heads.Head.{Head}
-use Rattle.and_shared_determinacy.specs.declared.heads.Head.TheVariants.{Number, Name}
-use Rattle.and_shared_determinacy.proofs.Truths.{number_is, true_before, reads_true}
+use Rattle.and_shared_determinacy.proofs.Truths.{number_is, reads_true}
 
 -- ---- What a reference begins with
 
--- a number that was read from a pair
-pub number_begins : (P : NamedProgram) (pair : ℕ) (r : Ref) (given result : ℤ) (old new : Seen) → r ≡ reference.Number pair → given ≡ result
-    → ReadsNumber P pair result old new
-    → BeginsWith P new r (Number given)
-number_begins P pair r given result old new is same reads w t are =
-    ap (value P w t) is
-    ∙ ap (λ (u : Term). Some (apply t u)) (number_is P w t new pair reads.high reads.low are reads.high_known reads.low_known)
-    ∙ ap (λ (z : ℤ). Some (terms.number z)) (sym reads.holds ∙ sym same)
-
--- What a reference begins with, it begins with later.
-pub begins_later : (P : NamedProgram) (old new : Seen) (r : Ref) (head : Head) → ((p : ℕ) (q : Ref) → Knows old p q → Knows new p q) → BeginsWith P old r head
-    → BeginsWith P new r head
-begins_later P old new r (Number z) keeps has = λ w t are. has w t (true_before P w t old new keeps are)
-begins_later P old new r (Name name count) keeps has = has
+-- A number has this value, where what is known is true.
+number_value : (P : NamedProgram) (w : Words) (t : Substitution) (s : Seen) (r : Ref) (z : ℤ) → IsNumber P s z r → AreTrue P w t s
+    → value P w t r ≡ Some (terms.number z)
+number_value P w t s r z (at_node node base is) are = ap (λ (u : Term). Some (apply t (apply (λ q k. cell_variable (base + 1 + k)) u))) is
+number_value P w t s r z (in_pair pair high low high_known low_known is) are =
+    ap (λ (u : Term). Some (apply t u)) (number_is P w t s pair high low are high_known low_known) ∙ ap (λ (x : ℤ). Some (terms.number x)) (sym is)
 
 -- values are as many as the references
 as_many_values : (P : NamedProgram) (w : Words) (t : Substitution) (rs : List Ref) (us : Terms) → HaveValues P w t rs us → length rs ≡ width us
@@ -73,66 +61,28 @@ number_of_term (terms.compound c ts) z = z
 number_no_compound : (z : ℤ) (c : ℕ) (ts : Terms) → terms.number z ≡ terms.compound c ts → ⊥
 number_no_compound z c ts e = cc
 
--- ---- The comparison of heads that the code uses
-
-abbrev is_same_head : Head → Head → Bool
-is_same_head = derived.eq-value.it
-
-same_head : (a b : Head) → is_same_head a b ≡ true → a ≡ b
-same_head (Number z) (Number y) e = ap Number ((Decides-int_eq z y).0 e)
-same_head (Name name count) (Name called many) e =
-    let names : name.0 ≡ called.0 = (Decides-eqb name.0 called.0).0 (first_true (eqb name.0 called.0) (eqb count many) e) in
-    let counts : count ≡ many = (Decides-eqb count many).0 (second_true (eqb name.0 called.0) (eqb count many) e) in
-    (λ i. Name (record { 0 = names i }) (counts i))
-same_head a b e = absurd (true≢false (sym e))
-
-same_head_itself : (a : Head) → is_same_head a a ≡ true
-same_head_itself (Number z) = (Decides-int_eq z z).1 refl
-same_head_itself (Name name count) = search (rules, tests)
-
-differ_head : (a b : Head) → is_same_head a b ≡ false → a ≢ b
-differ_head a b e is = true≢false (sym (same_head_itself a) ∙ ap (is_same_head a) is ∙ e)
-
-opposite : (b c : Bool) → c ≡ not b → b ≡ not c
-opposite true c e = sym (ap not e)
-opposite false c e = sym (ap not e)
-
--- what `!=` tells
-pub differ_told : (a b : Head) → true ≡ not (is_same_head a b) → a ≢ b
-differ_told a b e = differ_head a b (opposite (is_same_head a b) true e)
-
-pub same_told : (a b : Head) → false ≡ not (is_same_head a b) → a ≡ b
-same_told a b e = same_head a b (opposite (is_same_head a b) false e)
-
 -- ---- What both say
-
--- What was read of two references that are no cells.
-pub record Compared (P : NamedProgram) (one other : Ref) (left right : Head) (old mid new : Seen) : Type 0 where
-  pub first_reads : OnlyReads old mid
-  pub first : BeginsWith P mid one left
-  pub second_reads : OnlyReads mid new
-  pub second : BeginsWith P new other right
 
 module _ (P : NamedProgram) (fall : AllFall 0 P.skeleton.nodes) (one other : Ref) (left right : Head) (old mid new : Seen)
     (c : Compared P one other left right old mid new) where
-  pub both_read : OnlyReads old new
-  both_read = reads_more old mid new c.first_reads c.second_reads
-
-  first_later : BeginsWith P new one left
-  first_later = begins_later P mid new one left c.second_reads.keeps c.first
+  reads : OnlyReads old new
+  reads = both_read P one other left right old mid new c
 
   -- what begins with different heads has no one term
-  apart_by : (w : Words) (t : Substitution) → AreTrue P w t new → AreOne P w t one other → (a b : Head) → BeginsWith P new one a
-      → BeginsWith P new other b → a ≢ b → ⊥
+  apart_by : (w : Words) (t : Substitution) → AreTrue P w t new → AreOne P w t one other → (a b : Head) → HasHead P new one a
+      → HasHead P new other b → a ≢ b → ⊥
   apart_by w t are (u, x, y) (Number z) (Number v) first second differ =
-      let same : terms.number z ≡ terms.number v = same_Some (terms.number z) (terms.number v) (sym (first w t are) ∙ x.is ∙ sym y.is ∙ second w t are) in
+      let same : terms.number z ≡ terms.number v = same_Some (terms.number z) (terms.number v)
+      (sym (number_value P w t new one z first are) ∙ x.is ∙ sym y.is ∙ number_value P w t new other v second are) in
       differ (ap Number (ap (λ (k : Term). number_of_term k z) same))
   apart_by w t are (u, x, y) (Number z) (Name name count) first second differ =
       let (us, is, has) = value_of_structure P w t other name.0 count fall second in
-      number_no_compound z name.0 us (same_Some (terms.number z) (terms.compound name.0 us) (sym (first w t are) ∙ x.is ∙ sym y.is ∙ is))
+      number_no_compound z name.0 us (same_Some (terms.number z) (terms.compound name.0 us)
+      (sym (number_value P w t new one z first are) ∙ x.is ∙ sym y.is ∙ is))
   apart_by w t are (u, x, y) (Name name count) (Number v) first second differ =
       let (us, is, has) = value_of_structure P w t one name.0 count fall first in
-      number_no_compound v name.0 us (same_Some (terms.number v) (terms.compound name.0 us) (sym (second w t are) ∙ y.is ∙ sym x.is ∙ is))
+      number_no_compound v name.0 us (same_Some (terms.number v) (terms.compound name.0 us)
+      (sym (number_value P w t new other v second are) ∙ y.is ∙ sym x.is ∙ is))
   apart_by w t are (u, x, y) (Name name count) (Name called many) first second differ =
       let (us, is, has) = value_of_structure P w t one name.0 count fall first in
       let (vs, too, have) = value_of_structure P w t other called.0 many fall second in
@@ -146,34 +96,27 @@ module _ (P : NamedProgram) (fall : AllFall 0 P.skeleton.nodes) (one other : Ref
 
   pub heads_never_one : left ≢ right → AreNeverOne P one other old new
   heads_never_one differ w t are learnt alike =
-      apart_by w t (reads_true P w t old new both_read are learnt) alike left right first_later c.second differ
+      apart_by w t (reads_true P w t old new reads are learnt) alike left right (first_later P one other left right old mid new c) c.second differ
 
   -- two numbers that begin alike ask for no more
   pub numbers_lead_on : (pairs : List Pair) → LeadsOn P one other old new pairs pairs
-  numbers_lead_on pairs w t are learnt alike before = (reads_true P w t old new both_read are learnt, before)
+  numbers_lead_on pairs w t are learnt alike before = (reads_true P w t old new reads are learnt, before)
 
   module _ (name : NameNo) (count : ℕ) (left_is : left ≡ Name name count) (same : left ≡ right) where
     left_structure : IsStructure P one name.0 count
-    left_structure = subst (BeginsWith P new one) left_is first_later
+    left_structure = subst (HasHead P new one) left_is (first_later P one other left right old mid new c)
 
     right_structure : IsStructure P other name.0 count
-    right_structure = subst (BeginsWith P new other) (sym same ∙ left_is) c.second
+    right_structure = subst (HasHead P new other) (sym same ∙ left_is) c.second
 
     pub of_one_shape : IsInRange P old.words one → IsInRange P old.words other → AreOfOneShape P old.words one other
-    of_one_shape first second = record {
-      name = name.0;
-      count = count;
-      left_is = left_structure;
-      right_is = right_structure;
-      left_in_range = first;
-      right_in_range = second;
-    }
+    of_one_shape first second = (structures_compared P one other one other left right name count old mid new c same left_is refl refl first second).shape
 
     -- structures of one name ask for their arguments
     pub arguments_lead_on : (before after : List Pair) → after ≡ before ++ pairs_of (parts_of P one) (parts_of P other)
         → LeadsOn P one other old new before after
     arguments_lead_on before after is w t are learnt (u, x, y) true_before_it = (
-      reads_true P w t old new both_read are learnt,
+      reads_true P w t old new reads are learnt,
       λ p among. elim (Contains-append_cases before (pairs_of (parts_of P one) (parts_of P other)) p (subst (λ (ps : List Pair). Contains ps p) is among)) [
         | inl early ↦ true_before_it p early
         | inr late ↦ (

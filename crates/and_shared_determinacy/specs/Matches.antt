@@ -1,22 +1,12 @@
 -- Two terms that are made one over any cells.
-use Rattle.std.specs.Prelude.{◌≡◌, List, Some}
-use Rattle.and_model.specs.Terms.{Substitution, number}
+use Rattle.std.specs.Prelude.{List}
+use Rattle.and_model.specs.Terms.{Substitution}
 use Rattle.and_model.specs.declared.reference.Ref.{Ref}
 use Rattle.and_cells.specs.Ranges.{NamedProgram, IsInRangeOrHalf}
 use Rattle.and_cells.specs.Seen.{Seen, IsWrittenIfNumber}
 use Rattle.and_cells.specs.Meaning.{Words}
-use Rattle.and_cells.specs.Parts.{IsStructure}
-use Rattle.and_cells.specs.Joined.{value}
 use Rattle.and_unify.specs.declared.pairs.Pair.{Pair}
-use Rattle.and_shared_determinacy.specs.declared.heads.Head.{Head}
-use Rattle.and_shared_determinacy.specs.declared.heads.Head.TheVariants.{Number, Name}
 use Rattle.and_shared_determinacy.specs.Truths.{AreTrue, LearntAreTrue, ArePairsTrue}
-
--- The reference is that number wherever what is known is true, or it is a structure of that name and number of
--- arguments.
-abbrev pub BeginsWith : NamedProgram → Seen → Ref → Head → Type 0
-BeginsWith P s r (Number z) = (w : Words) (t : Substitution) → AreTrue P w t s → value P w t r ≡ Some (number z)
-BeginsWith P s r (Name name count) = IsStructure P r name.0 count
 
 -- What a chain ends at can be followed, but for a half.
 abbrev pub IsChainEnd : NamedProgram → Seen → Ref → Type 0

@@ -6,11 +6,11 @@ ghost use Rattle.and_cells.specs.Seen.{OnlyReads};
 ghost use Rattle.and_cells.specs.Parts.{named};
 ghost use Rattle.and_shared_determinacy.specs.Selecting.{CanBeTried, GoalWaitsOn, IsNoCell, NoneOfGoalWaits};
 
-use crate::heads::{Structure, argument_count, part};
 use crate::selecting::call_node;
 use and_cells::{Cells, deref};
 use and_model::{Goal, Ref};
 use and_program::Loaded;
+use and_unify::structures::{Structure, argument_at, argument_count};
 
 /// The cell at which the first argument of a goal ends that is a free variable. Takes no memory.
 pub fn waits_on<C: Cells>(loaded: &Loaded, cells: &mut C, goal: Goal) -> Option<u32>
@@ -28,7 +28,7 @@ pub fn waits_on<C: Cells>(loaded: &Loaded, cells: &mut C, goal: Goal) -> Option<
     let base = goal.base;
     let call = Structure { node, base };
     for place in 0..argument_count(loaded, node) {
-        let end = deref(cells, part(loaded, call, place));
+        let end = deref(cells, argument_at(loaded, call, place));
         match free_cell(end) {
             Some(cell) => return Some(cell),
             None => {}

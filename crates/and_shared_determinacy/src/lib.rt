@@ -5,7 +5,6 @@
 #![tactic(auto)]
 
 pub mod awaiting;
-mod heads;
 mod matching;
 pub mod selecting;
 mod weighing;

@@ -3,22 +3,22 @@
 //! A cell is set only where some pair leads to it, and to what it has to be. So what is set in cells over
 //! others holds of every row that has what is known below and in which the pairs have a solution.
 
-ghost use Rattle.std.specs.Prelude.{◌≡◌, ◌≢◌, ◌<◌, ◌≤◌, ◌⊎◌, ◌++◌, ◌∷◌, [], ℕ, true, false};
-ghost use Rattle.and_model.specs.Store.{is_half};
+ghost use Rattle.std.specs.Prelude.{◌≡◌, ◌≢◌, ◌<◌, ◌≤◌, ◌++◌, ◌∷◌, [], ℕ};
 ghost use Rattle.and_model.specs.declared.reference.Ref.{Ref};
-ghost use Rattle.and_cells.specs.Ranges.{IsInRange};
-ghost use Rattle.and_cells.specs.Seen.{Keeps, IsWrittenIfNumber};
+ghost use Rattle.and_cells.specs.Seen.{Keeps};
 ghost use Rattle.and_cells.specs.Parts.{named, parts_of};
 ghost use Rattle.and_unify.specs.Heads.{IsEnd};
-ghost use Rattle.and_unify.specs.Meeting.{AreOfOneShape, IsToBeSet};
+ghost use Rattle.and_unify.specs.Meeting.{AreOfOneShape};
 ghost use Rattle.and_unify.specs.Turns.{pairs_of};
 ghost use Rattle.and_shared_determinacy.specs.Truths.{CanFollow, CanFollowPairs, LeadsOn, AreNeverOne};
 ghost use Rattle.and_shared_determinacy.specs.Matches.{IsChainEnd, MatchesAll, NeverMatch};
 
-use crate::heads::{Head, head_of, push_arguments};
 use and_cells::{Bound, Cells, deref};
 use and_model::Ref;
 use and_program::Loaded;
+use and_unify::cases::{Case, case_of};
+use and_unify::heads::{Head, head_of};
+use and_unify::structures::push_arguments;
 use and_unify::{Pair, PairList};
 
 /// What became of pairs.
@@ -43,21 +43,6 @@ enum Met {
     Apart,
     /// Want of memory.
     Memory,
-}
-
-/// What two ends of chains call for.
-#[derive(Clone, Copy, PartialEq, Eq, Debug)]
-enum Case {
-    /// One of them is a word of a pair.
-    Half,
-    /// They are one cell.
-    OneCell,
-    /// The left one is this cell, which is to be set to the right one.
-    SetLeft(u32),
-    /// The right one is this cell, which is to be set to the left one.
-    SetRight(u32),
-    /// Neither is a cell or a word of a pair.
-    Compare,
 }
 
 /// Makes pairs equal, without looking for circles. Each pair that is taken from the list takes 1 of the
@@ -220,76 +205,5 @@ fn descend(loaded: &Loaded, one: Ref, other: Ref, pairs: &mut PairList) -> Met
     match push_arguments(loaded, one, other, pairs) {
         Ok(()) => Met::On,
         Err(_) => Met::Memory,
-    }
-}
-
-/// What two ends of chains call for. Of two cells the one with the larger number is to be set.
-fn case_of(one: Ref, other: Ref) -> Case
-    requires { (one ≢ Ref.Free) × (other ≢ Ref.Free) }
-    ensures half { result ≡ Case.Half → (is_half one ≡ true) ⊎ (is_half other ≡ true) }
-    ensures one_cell { result ≡ Case.OneCell → (one ≡ other) × (is_half one ≡ false) }
-    ensures left { (cell : ℕ) → result ≡ Case.SetLeft cell → IsToBeSet cell one other }
-    ensures right { (cell : ℕ) → result ≡ Case.SetRight cell → IsToBeSet cell other one }
-    ensures ends { result ≡ Case.Compare → IsEnd one × IsEnd other }
-{
-    match one {
-        Ref::Free => unreachable!(),
-        Ref::Cell(cell) => beside_cell(cell, other),
-        Ref::Node { .. } => beside_end(other),
-        Ref::Number(_) => beside_end(other),
-        Ref::Half(_) => Case::Half,
-    }
-}
-
-/// What a cell and the end of a chain call for.
-fn beside_cell(cell: u32, other: Ref) -> Case
-    requires { other ≢ Ref.Free }
-    ensures half { result ≡ Case.Half → is_half other ≡ true }
-    ensures one_cell { result ≡ Case.OneCell → other ≡ Ref.Cell cell }
-    ensures left { (set : ℕ) → result ≡ Case.SetLeft set → IsToBeSet set (Ref.Cell cell) other }
-    ensures right { (set : ℕ) → result ≡ Case.SetRight set → IsToBeSet set other (Ref.Cell cell) }
-    ensures ends { result ≢ Case.Compare }
-{
-    match other {
-        Ref::Free => unreachable!(),
-        Ref::Cell(there) => between_cells(cell, there),
-        Ref::Node { .. } => Case::SetLeft(cell),
-        Ref::Number(_) => Case::SetLeft(cell),
-        Ref::Half(_) => Case::Half,
-    }
-}
-
-/// What two cells call for.
-fn between_cells(left: u32, right: u32) -> Case
-    ensures half { result ≢ Case.Half }
-    ensures one_cell { result ≡ Case.OneCell → right ≡ left }
-    ensures left { (set : ℕ) → result ≡ Case.SetLeft set → IsToBeSet set (Ref.Cell left) (Ref.Cell right) }
-    ensures right { (set : ℕ) → result ≡ Case.SetRight set → IsToBeSet set (Ref.Cell right) (Ref.Cell left) }
-    ensures ends { result ≢ Case.Compare }
-{
-    if left == right {
-        Case::OneCell
-    } else if left < right {
-        Case::SetRight(right)
-    } else {
-        Case::SetLeft(left)
-    }
-}
-
-/// What a number or a structure and the end of a chain call for.
-fn beside_end(other: Ref) -> Case
-    requires { other ≢ Ref.Free }
-    ensures half { result ≡ Case.Half → is_half other ≡ true }
-    ensures one_cell { result ≢ Case.OneCell }
-    ensures left { (set : ℕ) → result ≢ Case.SetLeft set }
-    ensures right { (set : ℕ) → result ≡ Case.SetRight set → other ≡ Ref.Cell set }
-    ensures ends { result ≡ Case.Compare → IsEnd other }
-{
-    match other {
-        Ref::Free => unreachable!(),
-        Ref::Cell(cell) => Case::SetRight(cell),
-        Ref::Node { .. } => Case::Compare,
-        Ref::Number(_) => Case::Compare,
-        Ref::Half(_) => Case::Half,
     }
 }

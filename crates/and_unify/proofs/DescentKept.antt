@@ -12,9 +12,7 @@ use Rattle.and_cells.specs.Joined.{same}
 use Rattle.and_laws.proofs.Ordered.{contains_none}
 use Rattle.and_cell_laws.proofs.Images.{contains_image, contains_origin}
 use Rattle.and_unify.specs.declared.pairs.Pair.{Pair}
-use Rattle.and_unify.specs.declared.unifying.Unified.{Unified}
-use Rattle.and_unify.specs.declared.unifying.Unified.TheVariants.{Same, Apart, PutOff, Memory}
-use Rattle.and_unify.specs.declared.descending.Descended.TheVariants.{Over}
+use Rattle.and_unify.specs.declared.unifying.Unified.TheVariants.{Same, Apart, Memory}
 use Rattle.and_unify.specs.Pairs.{AreInRange, AreWritten, AreApart}
 use Rattle.and_unify.specs.Places.{left_sides, sides, IsPlace, root}
 use Rattle.and_unify.specs.Meeting.{MeetStructures, MeetApart}
@@ -102,14 +100,6 @@ side_is_place P s roots left r each at = elim (Contains-append_cases (left_sides
   | inl one ↦ let (p, among, is) = contains_origin (λ (p : Pair). p.left) left r one in subst (IsPlace P s roots) (sym is) (each p among).0
   | inr other ↦ let (p, among, is) = contains_origin (λ (p : Pair). p.right) left r other in subst (IsPlace P s roots) (sym is) (each p among).1
 ]
-
--- a descent that is over with one answer, by which nothing is put off, is over with this
-pub over_is : (P : NamedProgram) (old new : Seen) (asked left : List Pair) (answer unified : Unified) → answer ≢ PutOff → Over answer ≡ Over unified
-    → Unifies P old new asked left answer
-    → Unifies P old new asked left unified × (unified ≢ PutOff)
-over_is P old new asked left answer unified not_off e u =
-    let is : answer ≡ unified = cc in
-    (subst (Unifies P old new asked left) is u, λ off. not_off (is ∙ off))
 
 -- whether the row is told stays
 told_stays : (P : NamedProgram) (first : Seen) (asked : List Pair) (began : List ℕ) (s : Seen) (links : List (Ref × Ref)) (Todo : Pair

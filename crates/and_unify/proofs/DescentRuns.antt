@@ -299,7 +299,7 @@ contains_at : (rs : List Ref) (k : ℕ) (r : Ref) → slice_get rs k ≡ Some r 
 contains_at rs k r is = subst (Contains rs) (get_or_from_slice_get rs k r r is) (Contains-get_or rs k r (slice_get_within rs k r is))
 
 -- The pair of two arguments fits.
-pub argument_fits : (P : NamedProgram) (s : Seen) (both pair : Pair) (k : ℕ) → AllFall 0 P.skeleton.nodes → AreOfOneShape P s.words both.left both.right
+argument_fits : (P : NamedProgram) (s : Seen) (both pair : Pair) (k : ℕ) → AllFall 0 P.skeleton.nodes → AreOfOneShape P s.words both.left both.right
     → slice_get (parts_of P both.left) k ≡ Some pair.left → slice_get (parts_of P both.right) k ≡ Some pair.right → IsFit P s.words s pair
 argument_fits P s both pair k fall shape left right =
     let one : Contains (parts_of P both.left) pair.left = contains_at (parts_of P both.left) k pair.left left in
@@ -327,26 +327,68 @@ pairs_short (r ∷ rs) [] = omega arith
 pairs_short (r ∷ rs) (q ∷ qs) = let rest = pairs_short rs qs in omega arith
 
 -- At a place, the pair of the arguments there is the first of those that are to do,
-pub first_argument : (P : NamedProgram) (old s : Seen) (todo list : List Pair) (bound further : List ℕ) (both pair : Pair) (next : Option Pair) (k : ℕ)
+first_argument : (P : NamedProgram) (old s : Seen) (todo behind : List Pair) (bound further : List ℕ) (both pair : Pair) (k : ℕ)
     → slice_get (parts_of P both.left) k ≡ Some pair.left → slice_get (parts_of P both.right) k ≡ Some pair.right
-    → Runs P old todo bound s (drop k (arguments_of_both P both) ++ (waits P next ++ list)) further
-    → Runs P old todo bound s (pair ∷ (drop (k + 1) (arguments_of_both P both) ++ (waits P next ++ list))) further
-first_argument P old s todo list bound further both pair next k left right runs =
+    → Runs P old todo bound s (drop k (arguments_of_both P both) ++ behind) further
+    → Runs P old todo bound s (pair ∷ (drop (k + 1) (arguments_of_both P both) ++ behind)) further
+first_argument P old s todo behind bound further both pair k left right runs =
     let all = arguments_of_both P both in
     let later : suc k ≡ k + 1 = omega arith in
     let is : drop k all ≡ pair ∷ drop (k + 1) all = drop_pair (parts_of P both.left) (parts_of P both.right) k pair left right
     ∙ ap (λ n. pair ∷ drop n all) later in
-    subst (λ l. Runs P old todo bound s (l ++ (waits P next ++ list)) further) is runs
+    subst (λ l. Runs P old todo bound s (l ++ behind) further) is runs
 
 -- and at the end only what waits is left.
-pub last_argument : (P : NamedProgram) (old s : Seen) (todo list : List Pair) (bound further : List ℕ) (both : Pair) (next : Option Pair) (name count k : ℕ)
-    → IsStructure P both.left name count → count ≤ k → Runs P old todo bound s (drop k (arguments_of_both P both) ++ (waits P next ++ list)) further
-    → Runs P old todo bound s (waits P next ++ list) further
-last_argument P old s todo list bound further both next name count k structure past runs =
+pub last_argument : (P : NamedProgram) (old s : Seen) (todo behind : List Pair) (bound further : List ℕ) (both : Pair) (name count k : ℕ)
+    → IsStructure P both.left name count → count ≤ k → Runs P old todo bound s (drop k (arguments_of_both P both) ++ behind) further
+    → Runs P old todo bound s behind further
+last_argument P old s todo behind bound further both name count k structure past runs =
     let counted : length (parts_of P both.left) ≡ count = parts_counted P both.left name count structure in
     let short = pairs_short (parts_of P both.left) (parts_of P both.right) in
     let is : drop k (arguments_of_both P both) ≡ [] = drop_all k (arguments_of_both P both) (omega arith) in
-    subst (λ l. Runs P old todo bound s (l ++ (waits P next ++ list)) further) is runs
+    subst (λ l. Runs P old todo bound s (l ++ behind) further) is runs
+
+-- A turn: a pair fits, and is the first of those that are to do.
+pub record PairTurn (P : NamedProgram) (old s : Seen) (todo rest : List Pair) (bound further : List ℕ) (pair : Pair) : Type 0 where
+  pub words : s.words ≡ old.words
+  pub fit : IsFit P s.words s pair
+  pub runs : Runs P old todo bound s (pair ∷ rest) further
+
+-- So it is with the first of the pairs that are left of those that were asked for,
+pub asked_turn : (P : NamedProgram) (old s : Seen) (todo rest : List Pair) (bound further : List ℕ) (pair : Pair) → AllFall 0 P.skeleton.nodes
+    → AreInRange P old.words todo → AreWritten old todo → Runs P old todo bound s (pair ∷ rest) further → PairTurn P old s todo rest bound further pair
+asked_turn P old s todo rest bound further pair fall range written runs = record {
+  words = runs_words P old todo bound s (pair ∷ rest) further runs;
+  fit = runs_fit P old todo bound s (pair ∷ rest) further fall runs (fit_from P old todo range written) pair (contains_first pair rest);
+  runs = runs;
+}
+
+-- with the last of a list of them,
+pub listed_turn : (P : NamedProgram) (old s : Seen) (todo list rest : List Pair) (bound further : List ℕ) (pair : Pair) → AllFall 0 P.skeleton.nodes
+    → AreInRange P old.words todo → AreWritten old todo → list ≡ rest ++ pair ∷ [] → Runs P old todo bound s list further
+    → PairTurn P old s todo rest bound further pair
+listed_turn P old s todo list rest bound further pair fall range written last runs =
+    asked_turn P old s todo rest bound further pair fall range written (sorted s list (pair ∷ rest) further runs (same_before list rest pair last))
+
+-- and with the arguments of two structures.
+pub argument_turn : (P Q : NamedProgram) (old s : Seen) (todo behind : List Pair) (bound further : List ℕ) (both pair : Pair) (one other : Ref) (k : ℕ)
+    → P ≡ Q → AllFall 0 P.skeleton.nodes → AreOfOneShape P old.words both.left both.right → both.left ≡ one → both.right ≡ other
+    → slice_get (parts_of Q one) k ≡ Some pair.left → slice_get (parts_of Q other) k ≡ Some pair.right
+    → Runs P old todo bound s (drop k (arguments_of_both P both) ++ behind) further
+    → PairTurn P old s todo (drop (k + 1) (arguments_of_both P both) ++ behind) bound further pair
+argument_turn P Q old s todo behind bound further both pair one other k same fall shape is_one is_other first second runs =
+    let words = runs_words P old todo bound s (drop k (arguments_of_both P both) ++ behind) further runs in
+    let left : slice_get (parts_of P both.left) k ≡ Some pair.left =
+    subst (λ (p : NamedProgram). slice_get (parts_of p both.left) k ≡ Some pair.left) (sym same)
+    (subst (λ r. slice_get (parts_of Q r) k ≡ Some pair.left) (sym is_one) first) in
+    let right : slice_get (parts_of P both.right) k ≡ Some pair.right =
+    subst (λ (p : NamedProgram). slice_get (parts_of p both.right) k ≡ Some pair.right) (sym same)
+    (subst (λ r. slice_get (parts_of Q r) k ≡ Some pair.right) (sym is_other) second) in
+    record {
+      words = words;
+      fit = argument_fits P s both pair k fall (subst (λ n. AreOfOneShape P n both.left both.right) (sym words) shape) left right;
+      runs = first_argument P old s todo behind bound further both pair k left right runs;
+    }
 
 -- The first structures that arguments lead to are gone on with, and of later ones the pair is put on the list.
 pub put_by_runs : (P : NamedProgram) (old mid new : Seen) (todo ds list longer : List Pair) (bound further last : List ℕ) (p both kept : Pair)

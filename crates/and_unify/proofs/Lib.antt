@@ -16,6 +16,7 @@ pub mod TurnArguments
 pub mod TurnPicks
 pub mod DescentKept
 pub mod DescentRuns
+pub mod DescentEnds
 pub mod DescentThen
 pub mod SettlingEnds
 pub mod SettlingSeen

@@ -6,13 +6,16 @@ use Rattle.std.proofs.lemmas.Option.{slice_get_within, get_or_from_slice_get}
 use Rattle.std.proofs.lemmas.Bool.{cases_eq}
 use Rattle.std.proofs.lemmas.Bool.Decides.{Decides-int_eq, Decides-eqb}
 use Rattle.and_model.proofs.Tested.{first_true, second_true}
-use Rattle.and_model.specs.Terms.{Term, Terms, Substitution, number, compound, none, more, apply, apply_all}
+use Rattle.and_model.specs.Terms.{Term, Terms, Substitution, variable, number, compound, none, more, apply, apply_all}
 use Rattle.and_model.specs.declared.numbers.NameNo.{NameNo}
+use Rattle.and_model.specs.declared.numbers.NodeNo.{NodeNo}
 use Rattle.and_model.specs.declared.reference.Ref.{Ref}
 use Rattle.and_model.specs.declared.reference.Ref.TheVariants as reference
 use Rattle.and_model.specs.Terms.{width}
+use Rattle.and_program.specs.declared.node.NodeKind.TheVariants as kind
+use Rattle.and_program.specs.Shown.{shown_term}
 use Rattle.and_program.specs.Skeletons as skeletons
-use Rattle.and_program.specs.Skeletons.{Shape, term_list, nth, shape_term, terms_behind, node_term}
+use Rattle.and_program.specs.Skeletons.{term_list, nth, shape_term, terms_behind, node_term}
 use Rattle.and_program.proofs.NodeTerms.{node_term_at}
 use Rattle.and_program.proofs.PredicateLemmas.{width-term_list}
 use Rattle.and_cells.specs.Ranges.{NamedProgram}
@@ -22,27 +25,44 @@ use Rattle.and_cells.specs.Meaning.{Words, cell_variable, shallow_term}
 use Rattle.and_cells.specs.Parts.{IsStructure}
 use Rattle.and_cells.specs.Known.{HasKnown}
 use Rattle.and_unify.specs.Pairs.{DifferAtHeads, AreApart}
-use Rattle.and_unify.specs.Heads.{HasHead}
+use Rattle.and_unify.specs.Heads.{IsNumber, at_node, in_pair, HasHead}
 use Rattle.and_unify.specs.Meeting.{AreAlike}
 use Rattle.and_unify.specs.contracts.heads.HeadPartialEq.TheImpl as derived
 use Rattle.and_unify.specs.declared.heads.Head.{Head}
 use Rattle.and_unify.specs.declared.heads.Head.TheVariants.{Number, Name}
 
--- a number that was read from a pair is that of the pair in all words that have what is known
+-- a number that was read from a pair
 pub number_head : (P : NamedProgram) (pair : ℕ) (r : Ref) (value result : ℤ) (old new : Seen) → r ≡ reference.Number pair → value ≡ result
-    → ReadsNumber P pair result old new
-    → (w : Words) → HasKnown new w → shallow_term P w r ≡ Some (number value)
-number_head P pair r value result old new is same reads w has =
-    ap (shallow_term P w) is
-    ∙ ap (λ h. Some (number (number_of h (w (suc pair))))) (has pair reads.high reads.high_known)
-    ∙ ap (λ l. Some (number (number_of reads.high l))) (has (suc pair) reads.low reads.low_known)
-    ∙ ap (λ z. Some (number z)) (sym reads.holds ∙ sym same)
+    → ReadsNumber P pair result old new → HasHead P new r (Number value)
+number_head P pair r value result old new is same reads =
+    subst (IsNumber P new value) (sym is) (in_pair pair reads.high reads.low reads.high_known reads.low_known (same ∙ reads.holds))
+
+-- In words that have what is known, such a reference is that number.
+pub number_term : (P : NamedProgram) (s : Seen) (r : Ref) (z : ℤ) → IsNumber P s z r → (w : Words) → HasKnown s w → shallow_term P w r ≡ Some (number z)
+number_term P s r z (at_node node base is) w has = ap (λ t. Some (apply (λ q k. cell_variable (base + 1 + k)) t)) is
+number_term P s r z (in_pair pair high low high_known low_known is) w has =
+    ap (λ h. Some (number (number_of h (w (suc pair))))) (has pair high high_known)
+    ∙ ap (λ l. Some (number (number_of high l))) (has (suc pair) low low_known)
+    ∙ ap (λ x. Some (number x)) (sym is)
 
 -- what a reference begins with, it begins with later
 pub head_later : (P : NamedProgram) (old new : Seen) (r : Ref) (head : Head) → ((p : ℕ) (q : Ref) → Knows old p q → Knows new p q) → HasHead P old r head
     → HasHead P new r head
-head_later P old new r (Number z) keeps has = λ w known. has w (λ p q knows. known p q (keeps p q knows))
+head_later P old new r (Number z) keeps (at_node node base is) = at_node node base is
+head_later P old new r (Number z) keeps (in_pair pair high low high_known low_known is) =
+    in_pair pair high low (keeps pair high high_known) (keeps (suc pair) low low_known) is
 head_later P old new r (Name name count) keeps has = has
+
+-- the node of a number
+pub node_number : (P : NamedProgram) (s : Seen) (node : NodeNo) (base : ℕ) (given z : ℤ) → given ≡ z
+    → kind.Number z ≡ shown_term (node_term P.skeleton.nodes node.0) → IsNumber P s given (reference.Node node base)
+node_number P s node base given z same shown =
+    subst (λ (x : ℤ). IsNumber P s x (reference.Node node base)) (sym same) (at_node node base (by (node_term P.skeleton.nodes node.0) shown))
+  where
+    by : (t : Term) → kind.Number z ≡ shown_term t → t ≡ number z
+    by (variable q k) e = absurd (cc)
+    by (number y) e = let same : y ≡ z = cc in ap number same
+    by (compound c ts) e = absurd (cc)
 
 width_applied : (s : Substitution) (ts : Terms) → width (apply_all s ts) ≡ width ts
 width_applied s none = refl
@@ -89,13 +109,16 @@ names_differ name called count many differ = by (cases_eq name.0 called.0)
 pub heads_apart : (P : NamedProgram) (s : Seen) (one other : Ref) (left right : Head) → HasHead P s one left → HasHead P s other right → left ≢ right
     → AreApart P s one other
 heads_apart P s one other (Number z) (Number y) first second differ =
-    inr (inr (λ w has. differ_by _ _ (Some (number z)) (Some (number y)) (first w has) (second w has) (λ e. differ (ap Number e))))
+    inr (inr (λ w has. differ_by _ _ (Some (number z)) (Some (number y)) (number_term P s one z first w has) (number_term P s other y second w has)
+    (λ e. differ (ap Number e))))
 heads_apart P s one other (Number z) (Name name count) first second differ =
     inr (inr (λ w has. let b =
-    structured P w other name.0 count second in differ_by _ _ (Some (number z)) (Some (compound name.0 b.arguments)) (first w has) b.term tt))
+    structured P w other name.0 count second in differ_by _ _ (Some (number z)) (Some (compound name.0 b.arguments))
+    (number_term P s one z first w has) b.term tt))
 heads_apart P s one other (Name name count) (Number y) first second differ =
     inr (inr (λ w has. let a =
-    structured P w one name.0 count first in differ_by _ _ (Some (compound name.0 a.arguments)) (Some (number y)) a.term (second w has) tt))
+    structured P w one name.0 count first in differ_by _ _ (Some (compound name.0 a.arguments)) (Some (number y)) a.term
+    (number_term P s other y second w has) tt))
 heads_apart P s one other (Name name count) (Name called many) first second differ =
     inr (inr (λ w has.
     let a = structured P w one name.0 count first in
@@ -109,7 +132,7 @@ pub numbers_alike : (P : NamedProgram) (s : Seen) (one other : Ref) (left right 
 numbers_alike P s one other left right z is same first second =
     let a : HasHead P s one (Number z) = subst (HasHead P s one) is first in
     let b : HasHead P s other (Number z) = subst (HasHead P s other) same second in
-    inr (λ w has. (z, a w has, b w has))
+    inr (λ w has. (z, number_term P s one z a w has, number_term P s other z b w has))
 
 -- the comparison of heads that the code uses tells any two apart
 abbrev is_same_head : Head → Head → Bool

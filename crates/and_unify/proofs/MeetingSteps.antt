@@ -101,10 +101,10 @@ pub record Compared (P : NamedProgram) (one other : Ref) (left right : Head) (ol
   pub second_reads : OnlyReads mid new
   pub second : HasHead P new other right
 
-both_read : (P : NamedProgram) (one other : Ref) (left right : Head) (old mid new : Seen) → Compared P one other left right old mid new → OnlyReads old new
+pub both_read : (P : NamedProgram) (one other : Ref) (left right : Head) (old mid new : Seen) → Compared P one other left right old mid new → OnlyReads old new
 both_read P one other left right old mid new c = reads_more old mid new c.first_reads c.second_reads
 
-first_later : (P : NamedProgram) (one other : Ref) (left right : Head) (old mid new : Seen) → Compared P one other left right old mid new
+pub first_later : (P : NamedProgram) (one other : Ref) (left right : Head) (old mid new : Seen) → Compared P one other left right old mid new
     → HasHead P new one left
 first_later P one other left right old mid new c = head_later P mid new one left c.second_reads.keeps c.first
 
@@ -145,7 +145,7 @@ structures_compared P one other p q left right name count old mid new c same nam
     } in
     subst (MeetStructures P one other old new p) is_other (subst (λ r. MeetStructures P one other old new r other) is_one here)
 
-whole_in_range : (P : NamedProgram) (words : ℕ) (r : Ref) → is_half r ≡ false → IsInRangeOrHalf P words r → IsInRange P words r
+pub whole_in_range : (P : NamedProgram) (words : ℕ) (r : Ref) → is_half r ≡ false → IsInRangeOrHalf P words r → IsInRange P words r
 whole_in_range P words Free whole fits = absurd fits
 whole_in_range P words (Cell cell) whole fits = fits
 whole_in_range P words (Node node base) whole fits = fits

@@ -101,6 +101,13 @@ pub arguments_counted : (P : NamedProgram) (one : Ref) (node : NodeNo) (base nam
 arguments_counted P one node base name count is s =
     sym (length_map (part_at P base) (arguments_at P.skeleton node.0)) ∙ ap (λ r. length (parts_of P r)) (sym is) ∙ parts_counted P one name count s
 
+-- Structures of one shape have as many.
+pub as_many : (P Q : NamedProgram) (words : ℕ) (one other : Ref) (left right : NodeNo) (base by : ℕ) → P ≡ Q → AreOfOneShape P words one other
+    → one ≡ Node left base → other ≡ Node right by → length (arguments_at Q.skeleton left.0) ≡ length (arguments_at Q.skeleton right.0)
+as_many P Q words one other left right base by same shape is_one is_other =
+    let s : AreOfOneShape Q words one other = subst (λ (p : NamedProgram). AreOfOneShape p words one other) same shape in
+    arguments_counted Q one left base s.name s.count is_one s.left_is ∙ sym (arguments_counted Q other right by s.name s.count is_other s.right_is)
+
 -- Structures to which the sides of a pair led are of one shape.
 pub one_shape : (P Q : NamedProgram) (left right one other : Ref) (old new : Seen) → P ≡ Q → MeetStructures P left right old new one other
     → (words : ℕ) × AreOfOneShape Q words one other

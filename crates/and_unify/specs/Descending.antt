@@ -1,18 +1,24 @@
 -- What a plain descent does with pairs. It remembers nothing of what was made equal.
-use Rattle.std.specs.Prelude.{ℕ, ◌≡◌, ◌⊎◌, ◌↔◌, List, IfSome, IsNone, Contains, All}
+use Rattle.std.specs.Prelude.{ℕ, ◌≡◌, ◌≢◌, ◌⊎◌, ◌↔◌, List, IfSome, IsNone, Contains, All}
 use Rattle.and_model.specs.Terms.{Substitution}
 use Rattle.and_model.specs.Solutions.{Solves}
 use Rattle.and_model.specs.declared.reference.Ref.{Ref}
 use Rattle.and_cells.specs.Ranges.{NamedProgram}
-use Rattle.and_cells.specs.Seen.{Seen, Knows}
+use Rattle.and_cells.specs.Seen.{Seen, Knows, Keeps}
 use Rattle.and_cells.specs.Meaning.{Words}
 use Rattle.and_cells.specs.Joined.{value}
 use Rattle.and_cells.specs.Known.{HasKnown, SolvesKnown}
 use Rattle.and_unify.specs.declared.pairs.Pair.{Pair}
+use Rattle.and_unify.specs.declared.unifying.Unified.{Unified}
+use Rattle.and_unify.specs.declared.unifying.Unified.TheVariants.{PutOff}
+use Rattle.and_unify.specs.declared.descending.Descended.{Descended}
+use Rattle.and_unify.specs.declared.descending.Descended.TheVariants.{Over, Left}
 use Rattle.and_unify.specs.Pairs.{equations_of_pairs, AreInRange, AreWritten}
 use Rattle.and_unify.specs.Places.{left_sides, sides, IsPlace}
 use Rattle.and_unify.specs.Following.{Follows}
 use Rattle.and_unify.specs.Turns.{Steps}
+use Rattle.and_unify.specs.Setting.{Lists}
+use Rattle.and_unify.specs.Unifying.{Unifies}
 
 -- What becomes of a pair where links are not written down: a step, whatever links there were.
 abbrev pub StepsPlainly : NamedProgram → Pair → (old new : Seen) → (list list' : List Pair)
@@ -55,3 +61,12 @@ pub record Descends (P : NamedProgram) (old new : Seen) (asked left : List Pair)
   pub leads : LeadOnFrom P new left asked
   pub told_leads : IfSome old.told (λ row. LeadOnFrom P old left asked)
   pub lefts : (r : Ref) → Contains (left_sides left) r → IsPlace P new (left_sides asked) r
+
+-- What a plain descent came to. Some pairs are left, or it is over.
+pub record ComesDown (P : NamedProgram) (old new : Seen) (asked left : List Pair) (began last : List ℕ)
+    (answer : Descended) : Type 0 where
+  pub keeps : Keeps old new
+  pub over : (unified : Unified) → answer ≡ Over unified → Unifies P old new asked left unified × (unified ≢ PutOff)
+  pub not_over : answer ≡ Left → Descends P old new asked left
+  pub sets : IfSome old.told (λ row. SetPlaces P old new asked last)
+  pub lists : Lists old new began last

@@ -1,6 +1,6 @@
 //! A plain descent into pairs, which hashes nothing, before unification with classes.
 
-ghost use Rattle.std.specs.Prelude.{◌≡◌, ◌≢◌, ◌≤◌, ◌⊎◌, ◌∷◌, ◌++◌, [], ℕ, List, length, true, false, Some, None};
+ghost use Rattle.std.specs.Prelude.{◌≡◌, ◌≤◌, ◌⊎◌, ◌∷◌, ◌++◌, [], ℕ, length, true, false, Some, None};
 ghost use Rattle.std.specs.Prelude.{IfSome, IfOk};
 ghost use Rattle.and_model.specs.declared.reference.Ref.{Ref};
 ghost use Rattle.and_program.specs.Skeletons.{AllFall};
@@ -14,15 +14,14 @@ ghost use Rattle.and_unify.specs.Meeting.{AreOfOneShape, MeetFree};
 ghost use Rattle.and_unify.specs.Setting.{Lists};
 ghost use Rattle.and_unify.specs.Turns.{pairs_of};
 ghost use Rattle.and_unify.specs.Unifying.{Unifies, Spends};
-ghost use Rattle.and_unify.specs.Descending.{SetPlaces, Descends};
+ghost use Rattle.and_unify.specs.Descending.{SetPlaces, ComesDown};
 ghost use Rattle.and_unify.specs.Running.{MeetsPlainly, ComesTo};
 ghost use Rattle.and_unify.specs.declared.unifying.Unified.{Unified};
 
 use crate::meeting::{Met, may_hold, meet};
+use crate::noting::{make_room, note};
 use crate::pairs::{Pair, PairList};
-use crate::stepping::{
-    argument_count, argument_pair, as_structure, make_room, note, push_arguments,
-};
+use crate::structures::{argument_count, argument_pair, as_structure, push_arguments};
 use crate::unifying::{Unified, solve};
 use and_cells::{Bound, Cells, Naming, PlainCells, deref};
 use and_model::Ref;
@@ -139,15 +138,8 @@ fn descend<C: Cells>(
     requires written { AreWritten (C.seen cells.old) pairs.old }
     ensures over { C.over cells.new ≡ C.over cells.old }
     ensures grew { C.Grew cells.old cells.new }
-    ensures keeps { Keeps (C.seen cells.old) (C.seen cells.new) }
-    ensures ended { (unified : Unified) → result ≡ Descended.Over unified
-        → Unifies C.program (C.seen cells.old) (C.seen cells.new) pairs.old pairs.new unified
-        × (unified ≢ Unified.PutOff) }
-    ensures left { result ≡ Descended.Left
-        → Descends C.program (C.seen cells.old) (C.seen cells.new) pairs.old pairs.new }
-    ensures sets { IfSome (C.seen cells.old).told
-        (λ row. SetPlaces C.program (C.seen cells.old) (C.seen cells.new) pairs.old bound.new.items) }
-    ensures bound { Lists (C.seen cells.old) (C.seen cells.new) bound.old.items bound.new.items }
+    ensures comes { ComesDown C.program (C.seen cells.old) (C.seen cells.new) pairs.old pairs.new bound.old.items
+        bound.new.items result }
 {
     loaded.skeleton_is_of_the_program();
     match meet_all(loaded, cells, most, pairs, bound) {

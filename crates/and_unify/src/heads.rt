@@ -14,14 +14,14 @@ use and_program::{Loaded, NodeKind};
 
 /// What a term that is no variable begins with.
 #[derive(Clone, Copy, PartialEq, Eq, Debug)]
-pub(crate) enum Head {
+pub enum Head {
     Number(i64),
     /// A name with that many arguments.
     Name { name: NameNo, count: u8 },
 }
 
 /// What the term of a node or of a pair of words begins with. Takes no memory.
-pub(crate) fn head_of<C: Cells>(loaded: &Loaded, cells: &mut C, reference: Ref) -> Head
+pub fn head_of<C: Cells>(loaded: &Loaded, cells: &mut C, reference: Ref) -> Head
     requires program { C.program ≡ named loaded.now }
     requires end { IsEnd reference }
     requires in_range { IsInRange C.program (C.seen cells.old).words reference }
@@ -41,7 +41,7 @@ pub(crate) fn head_of<C: Cells>(loaded: &Loaded, cells: &mut C, reference: Ref) 
 }
 
 /// What the term of a node begins with.
-fn node_head(loaded: &Loaded, node: NodeNo) -> Head
+pub fn node_head(loaded: &Loaded, node: NodeNo) -> Head
     requires there { node.0 < length (skeleton_of loaded.now).nodes }
     requires no_variable { IsNoVariable (named loaded.now) node.0 }
     ensures head { (s : Seen) (base : ℕ) → HasHead (named loaded.now) s (Ref.Node node base) result }

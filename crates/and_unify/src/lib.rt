@@ -1,14 +1,17 @@
 //! Unification over rows of words, with lists of what is still to be done in place of recursion.
 #![tactic(auto)]
 
+pub mod cases;
 mod classes;
 mod descending;
-mod heads;
+pub mod heads;
 pub mod laws;
 mod meeting;
+pub mod noting;
 pub mod pairs;
 pub mod settling;
 mod stepping;
+pub mod structures;
 mod turning;
 pub mod unifying;
 

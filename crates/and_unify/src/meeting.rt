@@ -1,7 +1,6 @@
 //! One pair of references, followed to where they lead.
 
-ghost use Rattle.std.specs.Prelude.{◌≡◌, ◌≢◌, ◌⊎◌, ℕ, true, false};
-ghost use Rattle.and_model.specs.Store.{is_half};
+ghost use Rattle.std.specs.Prelude.{◌≡◌, ℕ, true};
 ghost use Rattle.and_model.specs.declared.reference.Ref.{Ref};
 ghost use Rattle.and_cells.specs.Ranges.{IsInRange, IsInRangeOrHalf};
 ghost use Rattle.and_cells.specs.Seen.{Keeps, OnlyReads, LeadsTo, IsWrittenIfNumber};
@@ -9,6 +8,7 @@ ghost use Rattle.and_cells.specs.Parts.{named};
 ghost use Rattle.and_unify.specs.Heads.{IsEnd};
 ghost use Rattle.and_unify.specs.Meeting.{IsToBeSet, GoesOn, MeetAlike, MeetFree, MeetStructures, MeetApart};
 
+use crate::cases::{Case, case_of};
 use crate::heads::{Head, head_of};
 use and_cells::{Bound, Cells, deref};
 use and_model::Ref;
@@ -25,21 +25,6 @@ pub(crate) enum Met {
     Structures { left: Ref, right: Ref },
     /// The sides are never the same.
     Apart { left: Ref, right: Ref },
-}
-
-/// What two references call for.
-#[derive(Clone, Copy, PartialEq, Eq, Debug)]
-enum Case {
-    /// One of them is a word of a pair.
-    Half,
-    /// They are one cell.
-    OneCell,
-    /// The left side is this cell, which is to be set to the right side.
-    SetLeft(u32),
-    /// The right side is this cell, which is to be set to the left side.
-    SetRight(u32),
-    /// Neither is a cell or a word of a pair.
-    Compare,
 }
 
 /// What became of one try at two references.
@@ -193,76 +178,5 @@ fn compare<C: Cells>(loaded: &Loaded, cells: &mut C, one: Ref, other: Ref) -> Me
             left: one,
             right: other,
         },
-    }
-}
-
-/// What two references call for. Of two cells the one with the larger number is to be set.
-fn case_of(one: Ref, other: Ref) -> Case
-    requires { (one ≢ Ref.Free) × (other ≢ Ref.Free) }
-    ensures half { result ≡ Case.Half → (is_half one ≡ true) ⊎ (is_half other ≡ true) }
-    ensures one_cell { result ≡ Case.OneCell → (one ≡ other) × (is_half one ≡ false) }
-    ensures left { (cell : ℕ) → result ≡ Case.SetLeft cell → IsToBeSet cell one other }
-    ensures right { (cell : ℕ) → result ≡ Case.SetRight cell → IsToBeSet cell other one }
-    ensures ends { result ≡ Case.Compare → IsEnd one × IsEnd other }
-{
-    match one {
-        Ref::Free => unreachable!(),
-        Ref::Cell(cell) => beside_cell(cell, other),
-        Ref::Node { .. } => beside_end(other),
-        Ref::Number(_) => beside_end(other),
-        Ref::Half(_) => Case::Half,
-    }
-}
-
-/// What a cell and a reference call for.
-fn beside_cell(cell: u32, other: Ref) -> Case
-    requires { other ≢ Ref.Free }
-    ensures half { result ≡ Case.Half → is_half other ≡ true }
-    ensures one_cell { result ≡ Case.OneCell → other ≡ Ref.Cell cell }
-    ensures left { (set : ℕ) → result ≡ Case.SetLeft set → IsToBeSet set (Ref.Cell cell) other }
-    ensures right { (set : ℕ) → result ≡ Case.SetRight set → IsToBeSet set other (Ref.Cell cell) }
-    ensures ends { result ≢ Case.Compare }
-{
-    match other {
-        Ref::Free => unreachable!(),
-        Ref::Cell(there) => between_cells(cell, there),
-        Ref::Node { .. } => Case::SetLeft(cell),
-        Ref::Number(_) => Case::SetLeft(cell),
-        Ref::Half(_) => Case::Half,
-    }
-}
-
-/// What two cells call for.
-fn between_cells(left: u32, right: u32) -> Case
-    ensures half { result ≢ Case.Half }
-    ensures one_cell { result ≡ Case.OneCell → right ≡ left }
-    ensures left { (set : ℕ) → result ≡ Case.SetLeft set → IsToBeSet set (Ref.Cell left) (Ref.Cell right) }
-    ensures right { (set : ℕ) → result ≡ Case.SetRight set → IsToBeSet set (Ref.Cell right) (Ref.Cell left) }
-    ensures ends { result ≢ Case.Compare }
-{
-    if left == right {
-        Case::OneCell
-    } else if left < right {
-        Case::SetRight(right)
-    } else {
-        Case::SetLeft(left)
-    }
-}
-
-/// What a number or a structure and a reference call for.
-fn beside_end(other: Ref) -> Case
-    requires { other ≢ Ref.Free }
-    ensures half { result ≡ Case.Half → is_half other ≡ true }
-    ensures one_cell { result ≢ Case.OneCell }
-    ensures left { (set : ℕ) → result ≢ Case.SetLeft set }
-    ensures right { (set : ℕ) → result ≡ Case.SetRight set → other ≡ Ref.Cell set }
-    ensures ends { result ≡ Case.Compare → IsEnd other }
-{
-    match other {
-        Ref::Free => unreachable!(),
-        Ref::Cell(cell) => Case::SetRight(cell),
-        Ref::Node { .. } => Case::Compare,
-        Ref::Number(_) => Case::Compare,
-        Ref::Half(_) => Case::Half,
     }
 }

@@ -170,9 +170,10 @@ impl Solver {
     /// to above the floor, and nothing else of the row. At first up to eight times as many places are followed as the
     /// row has words, and 64 more, and as the greatest node to which a cell that is followed is set has a
     /// number, the same place perhaps several times. What is left then is explored with marks, so that no
-    /// place is explored twice; and where that was so of late, fewer are followed at first. What was followed for long and is ground is known so to the cells from then on, and
-    /// is not followed again until a cell below it is made free. The cells that were set can be freed again, where
-    /// there is no solution and after want of memory too.
+    /// place is explored twice; and where that was so of late, fewer are followed at first. What was followed for
+    /// long and is ground is known so to the cells from then on, and is not followed again until a cell below it is
+    /// made free. The cells that were set can be freed again, where there is no solution and after want of memory
+    /// too.
     pub fn settle_further<N: Naming>(
         &mut self,
         loaded: &Loaded,

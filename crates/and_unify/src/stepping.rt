@@ -1,25 +1,22 @@
 //! One pair in its turn: it is met, and the arguments of structures that are made equal come to do.
 
-ghost use Rattle.std.specs.Prelude.{◌≡◌, ◌≢◌, ◌⊎◌, ◌<◌, ◌≤◌, ◌+◌, ◌^◌, [], ◌∷◌, ◌++◌, ℕ, length, slice_get, Some};
-ghost use Rattle.std.specs.Prelude.{OnOk, vec_len, vec_capacity};
+ghost use Rattle.std.specs.Prelude.{◌≡◌, ◌≢◌, ◌⊎◌, ◌≤◌, ◌++◌, ℕ};
 ghost use Rattle.and_model.specs.declared.reference.Ref.{Ref};
-ghost use Rattle.and_program.specs.Loaded.{skeleton_of, arguments_at};
 ghost use Rattle.and_cells.specs.Ranges.{IsInRange};
 ghost use Rattle.and_cells.specs.Seen.{IsWrittenIfNumber, OnlyReads};
 ghost use Rattle.and_cells.specs.Parts.{named, parts_of};
-ghost use Rattle.and_model.specs.declared.numbers.NodeNo.{NodeNo};
 ghost use Rattle.and_unify.specs.Classes.{InOneClass, Joins};
-ghost use Rattle.and_unify.specs.Meeting.{MeetApart};
-ghost use Rattle.and_unify.specs.Meeting.{AreOfOneShape};
+ghost use Rattle.and_unify.specs.Meeting.{AreOfOneShape, MeetApart};
 ghost use Rattle.and_unify.specs.Turns.{pairs_of, Steps, weight};
 
 use crate::classes::Classes;
 use crate::meeting::{Met, meet};
+use crate::noting::{make_room, note};
 use crate::pairs::{Pair, PairList};
+use crate::structures::push_arguments;
 use and_cells::Cells;
-use and_model::{NodeNo, Ref};
-use and_program::{Loaded, NodeKind};
-use std::alloc::AllocError;
+use and_model::Ref;
+use and_program::Loaded;
 
 /// What became of a pair in its turn.
 #[derive(Clone, Copy, PartialEq, Eq, Debug)]
@@ -30,13 +27,6 @@ pub(crate) enum Stepped {
     Apart { left: Ref, right: Ref },
     /// Want of memory.
     Memory,
-}
-
-/// A structure: its node, and where its frame begins.
-#[derive(Clone, Copy, PartialEq, Eq, Debug)]
-pub(crate) struct Structure {
-    pub(crate) node: NodeNo,
-    pub(crate) base: u32,
 }
 
 /// Meets the sides of a pair. A cell that is set goes on the list `bound`, and where structures of two
@@ -80,25 +70,6 @@ pub(crate) fn step<C: Cells>(
     }
 }
 
-/// Makes room for one cell more, where the list has none. An error is want of memory.
-pub(crate) fn make_room(bound: &mut Vec<u32>) -> Result<(), AllocError>
-    ensures items { bound.new.items ≡ bound.old.items }
-    ensures room { OnOk result (vec_len bound.new < vec_capacity bound.new) }
-{
-    if bound.len() == bound.capacity() {
-        bound.reserve(1)?;
-    }
-    Ok(())
-}
-
-/// Puts a cell on the list, which has room for it.
-pub(crate) fn note(bound: &mut Vec<u32>, cell: u32)
-    requires { vec_len bound.old < vec_capacity bound.old }
-    ensures { bound.new.items ≡ bound.old.items ++ cell ∷ [] }
-{
-    bound.push_reserved(cell);
-}
-
 /// Joins the classes of two structures of one shape, and where these were two, puts the pairs of their
 /// arguments on the list.
 fn descend(
@@ -125,77 +96,4 @@ fn descend(
         },
         Err(_) => Stepped::Memory,
     }
-}
-
-/// Puts the pairs of the arguments of two structures of one shape on the list. An error is want of
-/// memory.
-pub(crate) fn push_arguments(
-    loaded: &Loaded,
-    left: Ref,
-    right: Ref,
-    list: &mut PairList,
-) -> Result<(), AllocError>
-    requires { (words : ℕ) × AreOfOneShape (named loaded.now) words left right }
-    ensures ok { OnOk result (list.new ≡ list.old
-        ++ pairs_of (parts_of (named loaded.now) left) (parts_of (named loaded.now) right)) }
-    ensures few { length list.new ≤ length list.old + 255 }
-{
-    let left = as_structure(left);
-    let right = as_structure(right);
-    for place in 0..argument_count(loaded, left.node) {
-        list.push(part(loaded, left, place), part(loaded, right, place))?;
-    }
-    Ok(())
-}
-
-/// The pair of the arguments of two structures at a place.
-pub(crate) fn argument_pair(loaded: &Loaded, left: Structure, right: Structure, place: u8) -> Pair
-    requires left { left.node.0 < length (skeleton_of loaded.now).nodes }
-    requires right { right.node.0 < length (skeleton_of loaded.now).nodes }
-    requires bases { left.base < 2 ^ 23 × right.base < 2 ^ 23 }
-    requires left_place { place < length (arguments_at (skeleton_of loaded.now) left.node.0) }
-    requires right_place { place < length (arguments_at (skeleton_of loaded.now) right.node.0) }
-    ensures left { slice_get (parts_of (named loaded.now) (Ref.Node left.node left.base)) place ≡ Some result.left }
-    ensures right { slice_get (parts_of (named loaded.now) (Ref.Node right.node right.base)) place ≡ Some result.right }
-{
-    Pair {
-        left: part(loaded, left, place),
-        right: part(loaded, right, place),
-    }
-}
-
-/// The structure that a reference names.
-pub(crate) fn as_structure(reference: Ref) -> Structure
-    requires { (node : NodeNo) × (base : ℕ) × (reference ≡ Ref.Node node base) }
-    ensures { reference ≡ Ref.Node result.node result.base }
-{
-    match reference {
-        Ref::Node { node, base } => Structure { node, base },
-        Ref::Free => unreachable!(),
-        Ref::Cell(_) => unreachable!(),
-        Ref::Number(_) => unreachable!(),
-        Ref::Half(_) => unreachable!(),
-    }
-}
-
-/// How many arguments a node has.
-pub(crate) fn argument_count(loaded: &Loaded, node: NodeNo) -> u8
-    requires { node.0 < length (skeleton_of loaded.now).nodes }
-    ensures { result ≡ length (arguments_at (skeleton_of loaded.now) node.0) }
-{
-    match loaded.kind(node) {
-        NodeKind::Variable(_) => 0,
-        NodeKind::Number(_) => 0,
-        NodeKind::Compound { name: _, count } => count,
-    }
-}
-
-/// Where an argument of a structure is found.
-fn part(loaded: &Loaded, whole: Structure, place: u8) -> Ref
-    requires there { whole.node.0 < length (skeleton_of loaded.now).nodes }
-    requires base { whole.base < 2 ^ 23 }
-    requires place { place < length (arguments_at (skeleton_of loaded.now) whole.node.0) }
-    ensures { slice_get (parts_of (named loaded.now) (Ref.Node whole.node whole.base)) place ≡ Some result }
-{
-    loaded.resolve(loaded.argument(whole.node, place), whole.base)
 }

@@ -1,7 +1,7 @@
 use Rattle.std.proofs.Common.{◌≡◌, ◌<◌, length, sym, subst, false, inl, inr, arith}
 use Rattle.std.proofs.lemmas.Bool.{cases_lt}
 use Rattle.and_program.specs.Loaded.{arguments_at}
-use Rattle.and_cells.specs.Ranges.{NamedProgram, IsInRange}
+use Rattle.and_cells.specs.Ranges.{IsInRange}
 use Rattle.and_cells.specs.Ends.{Ends}
 use Rattle.and_circles.specs.Following.{argument_part}
 use Rattle.and_circles.proofs.Sufficing.{part_found, part_fits}

@@ -1,11 +1,10 @@
-use Rattle.std.proofs.Common.{◌+◌, ◌++◌, drop, sym, subst, arith}
+use Rattle.std.proofs.Common.{◌+◌, drop, sym, subst, arith}
 use Rattle.std.specs.Prelude.{All}
 use Rattle.std.proofs.lemmas.List.Elements.{All-nil}
 use Rattle.and_cells.specs.Rows.{plain}
-use Rattle.and_unify.proofs.DescentRuns.{runs_words}
 use Rattle.and_heads.specs.Parts.{HasShape, arguments_of_parts}
 use Rattle.and_heads.proofs.Meeting.{first_steps, first_breaks, first_given_up}
-use Rattle.and_heads.proofs.Pairing.{none_met, all_met, first_pair, pair_fits}
+use Rattle.and_heads.proofs.Pairing.{none_met, all_met, pair_turn}
 use Rattle.and_heads.proofs.Parting.{shapes_behind}
 use Rattle.and_heads.proofs.entering.enter_pairs.Goals as goal
 
@@ -18,79 +17,51 @@ loop-place-init g c =
       runs = none_met P old old c.args.pairs.now c.args.bound.now.items c.args.bound.now.items c.args.parts.now.items c.requires.none;
     }
 
-pub enter_pair-requires-clause-left_in_range : goal.enter_pair-requires-clause-left_in_range
-enter_pair-requires-clause-left_in_range g c =
-    let P = g.N.Naming.program in
-    (pair_fits P (plain c.args.cells.now) (plain c.loop-place.cells) c.args.pairs.now c.args.bound.now.items c.loop-place.bound.items
-    (arguments_of_parts P c.loop-place.parts.items) c.at.result.now c.loop-place.place c.at.ensures c.loop-place.invariant.runs c.requires.falls
-    c.requires.in_range c.requires.written).left_in_range
+pub enter_pair-requires-clause-in_range : goal.enter_pair-requires-clause-in_range
+enter_pair-requires-clause-in_range g c =
+    let t = pair_turn g.N.Naming.program (plain c.args.cells.now) (plain c.loop-place.cells) c.args.pairs.now c.args.bound.now.items c.loop-place.bound.items
+    (arguments_of_parts g.N.Naming.program c.loop-place.parts.items) c.at.result.now c.loop-place.place c.at.ensures c.loop-place.invariant.runs
+    c.requires.falls c.requires.in_range c.requires.written in
+    (t.fit.left_in_range, t.fit.right_in_range)
 
-pub enter_pair-requires-clause-right_in_range : goal.enter_pair-requires-clause-right_in_range
-enter_pair-requires-clause-right_in_range g c =
-    let P = g.N.Naming.program in
-    (pair_fits P (plain c.args.cells.now) (plain c.loop-place.cells) c.args.pairs.now c.args.bound.now.items c.loop-place.bound.items
-    (arguments_of_parts P c.loop-place.parts.items) c.at.result.now c.loop-place.place c.at.ensures c.loop-place.invariant.runs c.requires.falls
-    c.requires.in_range c.requires.written).right_in_range
-
-pub enter_pair-requires-clause-left_written : goal.enter_pair-requires-clause-left_written
-enter_pair-requires-clause-left_written g c =
-    let P = g.N.Naming.program in
-    (pair_fits P (plain c.args.cells.now) (plain c.loop-place.cells) c.args.pairs.now c.args.bound.now.items c.loop-place.bound.items
-    (arguments_of_parts P c.loop-place.parts.items) c.at.result.now c.loop-place.place c.at.ensures c.loop-place.invariant.runs c.requires.falls
-    c.requires.in_range c.requires.written).left_written
-
-pub enter_pair-requires-clause-right_written : goal.enter_pair-requires-clause-right_written
-enter_pair-requires-clause-right_written g c =
-    let P = g.N.Naming.program in
-    (pair_fits P (plain c.args.cells.now) (plain c.loop-place.cells) c.args.pairs.now c.args.bound.now.items c.loop-place.bound.items
-    (arguments_of_parts P c.loop-place.parts.items) c.at.result.now c.loop-place.place c.at.ensures c.loop-place.invariant.runs c.requires.falls
-    c.requires.in_range c.requires.written).right_written
+pub enter_pair-requires-clause-written : goal.enter_pair-requires-clause-written
+enter_pair-requires-clause-written g c =
+    let t = pair_turn g.N.Naming.program (plain c.args.cells.now) (plain c.loop-place.cells) c.args.pairs.now c.args.bound.now.items c.loop-place.bound.items
+    (arguments_of_parts g.N.Naming.program c.loop-place.parts.items) c.at.result.now c.loop-place.place c.at.ensures c.loop-place.invariant.runs
+    c.requires.falls c.requires.in_range c.requires.written in
+    (t.fit.left_written, t.fit.right_written)
 
 pub loop-place-preserved : goal.loop-place-preserved
 loop-place-preserved g c =
     let P = g.N.Naming.program in
     let old = plain c.args.cells.now in
-    let s = plain c.loop-place.cells in
-    let new = plain c.enter_pair.new.cells in
-    let todo = c.args.pairs.now in
-    let began = c.args.bound.now.items in
-    let further = c.loop-place.bound.items in
-    let parts = c.loop-place.parts.items in
     let longer = c.enter_pair.new.parts.items in
     let meets = c.in-Done.ensures in
-    let words = runs_words P old todo began s (drop c.loop-place.place todo ++ arguments_of_parts P parts) further c.loop-place.invariant.runs in
-    let runs = first_pair P old s todo began further (arguments_of_parts P parts) c.at.result.now c.loop-place.place c.at.ensures
-    c.loop-place.invariant.runs in
+    let t = pair_turn g.N.Naming.program (plain c.args.cells.now) (plain c.loop-place.cells) c.args.pairs.now c.args.bound.now.items c.loop-place.bound.items
+    (arguments_of_parts g.N.Naming.program c.loop-place.parts.items) c.at.result.now c.loop-place.place c.at.ensures c.loop-place.invariant.runs
+    c.requires.falls c.requires.in_range c.requires.written in
     record {
-      shapes = shapes_behind P old.words parts meets.more longer meets.gains c.loop-place.invariant.shapes
-          (subst (λ n. All (HasShape P n) meets.more) words meets.shapes);
-      runs = first_steps P old s new todo began further c.enter_pair.new.bound.items c.at.result.now (drop (c.loop-place.place + 1) todo) parts longer runs
-          meets;
+      shapes = shapes_behind P old.words c.loop-place.parts.items meets.more longer meets.gains c.loop-place.invariant.shapes
+          (subst (λ n. All (HasShape P n) meets.more) t.words meets.shapes);
+      runs = first_steps P old (plain c.loop-place.cells) (plain c.enter_pair.new.cells) _ _ _ _ c.at.result.now
+          (drop (c.loop-place.place + 1) c.args.pairs.now) c.loop-place.parts.items longer t.runs meets;
     }
 
 pub returns-in-Apart-clause-comes : goal.returns-in-Apart-clause-comes
 returns-in-Apart-clause-comes g c =
-    let P = g.N.Naming.program in
-    let old = plain c.args.cells.now in
-    let s = plain c.loop-place.cells in
-    let todo = c.args.pairs.now in
-    let parts = c.loop-place.parts.items in
-    let runs = first_pair P old s todo c.args.bound.now.items c.loop-place.bound.items (arguments_of_parts P parts) c.at.result.now c.loop-place.place
-    c.at.ensures c.loop-place.invariant.runs in
-    first_breaks P old s (plain c.enter_pair.new.cells) todo c.args.bound.now.items c.loop-place.bound.items c.enter_pair.new.bound.items c.at.result.now
-    (drop (c.loop-place.place + 1) todo) parts c.enter_pair.new.parts.items runs c.in-Apart.ensures
+    let t = pair_turn g.N.Naming.program (plain c.args.cells.now) (plain c.loop-place.cells) c.args.pairs.now c.args.bound.now.items c.loop-place.bound.items
+    (arguments_of_parts g.N.Naming.program c.loop-place.parts.items) c.at.result.now c.loop-place.place c.at.ensures c.loop-place.invariant.runs
+    c.requires.falls c.requires.in_range c.requires.written in
+    first_breaks g.N.Naming.program (plain c.args.cells.now) (plain c.loop-place.cells) (plain c.enter_pair.new.cells) _ _ _ _ c.at.result.now
+    (drop (c.loop-place.place + 1) c.args.pairs.now) c.loop-place.parts.items c.enter_pair.new.parts.items t.runs c.in-Apart.ensures
 
 pub returns-in-GivenUp-clause-comes : goal.returns-in-GivenUp-clause-comes
 returns-in-GivenUp-clause-comes g c =
-    let P = g.N.Naming.program in
-    let old = plain c.args.cells.now in
-    let s = plain c.loop-place.cells in
-    let todo = c.args.pairs.now in
-    let parts = c.loop-place.parts.items in
-    let runs = first_pair P old s todo c.args.bound.now.items c.loop-place.bound.items (arguments_of_parts P parts) c.at.result.now c.loop-place.place
-    c.at.ensures c.loop-place.invariant.runs in
-    first_given_up P old s (plain c.enter_pair.new.cells) todo c.args.bound.now.items c.loop-place.bound.items c.enter_pair.new.bound.items
-    c.at.result.now (drop (c.loop-place.place + 1) todo) parts c.enter_pair.new.parts.items runs c.in-GivenUp.ensures
+    let t = pair_turn g.N.Naming.program (plain c.args.cells.now) (plain c.loop-place.cells) c.args.pairs.now c.args.bound.now.items c.loop-place.bound.items
+    (arguments_of_parts g.N.Naming.program c.loop-place.parts.items) c.at.result.now c.loop-place.place c.at.ensures c.loop-place.invariant.runs
+    c.requires.falls c.requires.in_range c.requires.written in
+    first_given_up g.N.Naming.program (plain c.args.cells.now) (plain c.loop-place.cells) (plain c.enter_pair.new.cells) _ _ _ _ c.at.result.now
+    (drop (c.loop-place.place + 1) c.args.pairs.now) c.loop-place.parts.items c.enter_pair.new.parts.items t.runs c.in-GivenUp.ensures
 
 pub returns-clause-comes : goal.returns-clause-comes
 returns-clause-comes g c =

@@ -15,7 +15,7 @@ returns g c =
     let both = c.in_ok-count.ensures.same c.in_ok-count.count refl in
     let some : c.in_ok-count.count ≢ 0 = λ e. omega (arith, c.if-count-eq0.false, e) in (
       λ i. record { left = sym c.in-Node.is i; right = sym c.in-Node-other.is i },
-      of_one_shape P (plain row) (length row) one other c.in_ok-first.first c.in_ok-second.second c.in_ok-count.count c.in_ok-first.ensures.kind
-          c.in_ok-second.ensures.kind both.0 both.1 some (subst (IsInRange P (length row)) c.in-Node.is c.requires.one_in_range)
+      of_one_shape P (plain row) (length row) one other c.in_ok-first.first c.in_ok-second.second c.in_ok-count.count c.in_ok-first.ensures.head
+          c.in_ok-second.ensures.head both.0 both.1 some (subst (IsInRange P (length row)) c.in-Node.is c.requires.one_in_range)
           (subst (IsInRange P (length row)) c.in-Node-other.is c.requires.other_in_range),
     )

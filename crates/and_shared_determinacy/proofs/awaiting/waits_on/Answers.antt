@@ -32,8 +32,8 @@ loop-place-init g c = record {
   before = none_at_first g.C.Cells.program (g.C.Cells.seen c.args.cells.now) c.call_node-node.result c.args.goal.base;
 }
 
-pub part-requires-clause-base : goal.part-requires-clause-base
-part-requires-clause-base g c =
+pub argument_at-requires-clause-base : goal.argument_at-requires-clause-base
+argument_at-requires-clause-base g c =
     let P = g.C.Cells.program in
     let l = c.args.loaded.now in
     let old = g.C.Cells.seen c.args.cells.now in
@@ -51,8 +51,8 @@ deref-end-requires-clause-in_range g c =
     let i = c.loop-place.invariant in
     let mid = g.C.Cells.seen c.loop-place.cells in
     let fall = falls_in P l c.requires.program c.skeleton_is_of_the_program.ensures.skeleton.0 in
-    let there = argument_as_named P (named l) node c.args.goal.base c.loop-place.place c.part.result c.requires.program c.part.ensures in
-    let both = argument_follows P fall old.words mid node c.args.goal.base c.loop-place.place c.part.result i.reads.words over.in_range there in
+    let there = argument_as_named P (named l) node c.args.goal.base c.loop-place.place c.argument_at.result c.requires.program c.argument_at.ensures in
+    let both = argument_follows P fall old.words mid node c.args.goal.base c.loop-place.place c.argument_at.result i.reads.words over.in_range there in
     both.0
 
 pub deref-end-requires-clause-written : goal.deref-end-requires-clause-written
@@ -65,8 +65,8 @@ deref-end-requires-clause-written g c =
     let i = c.loop-place.invariant in
     let mid = g.C.Cells.seen c.loop-place.cells in
     let fall = falls_in P l c.requires.program c.skeleton_is_of_the_program.ensures.skeleton.0 in
-    let there = argument_as_named P (named l) node c.args.goal.base c.loop-place.place c.part.result c.requires.program c.part.ensures in
-    let both = argument_follows P fall old.words mid node c.args.goal.base c.loop-place.place c.part.result i.reads.words over.in_range there in
+    let there = argument_as_named P (named l) node c.args.goal.base c.loop-place.place c.argument_at.result c.requires.program c.argument_at.ensures in
+    let both = argument_follows P fall old.words mid node c.args.goal.base c.loop-place.place c.argument_at.result i.reads.words over.in_range there in
     both.1
 
 pub returns-in-Some-clause-over : goal.returns-in-Some-clause-over
@@ -91,7 +91,7 @@ returns-in-Some-clause-some g c = λ cell is.
     let i = c.loop-place.invariant in
     let mid = g.C.Cells.seen c.loop-place.cells in
     let fall = falls_in P l c.requires.program c.skeleton_is_of_the_program.ensures.skeleton.0 in
-    let there = argument_as_named P (named l) node c.args.goal.base c.loop-place.place c.part.result c.requires.program c.part.ensures in
+    let there = argument_as_named P (named l) node c.args.goal.base c.loop-place.place c.argument_at.result c.requires.program c.argument_at.ensures in
     let new = g.C.Cells.seen c.deref-end.new.cells in
     let base = c.args.goal.base in
     let found = c.in-Some.cell in
@@ -103,9 +103,9 @@ returns-in-Some-clause-some g c = λ cell is.
       over,
       record {
         place = c.loop-place.place;
-        argument = c.part.result;
+        argument = c.argument_at.result;
         there = there;
-        leads = subst (LeadsTo new c.part.result) end_is c.deref-end.ensures.leads;
+        leads = subst (LeadsTo new c.argument_at.result) end_is c.deref-end.ensures.leads;
         free = found_later shared found old mid new i.reads (free_end shared c.deref-end.result found mid new end_is ends);
         before = none_later P mid new node base c.loop-place.place c.deref-end.ensures.reads i.before;
       },
@@ -122,12 +122,12 @@ loop-place-preserved g c =
     let i = c.loop-place.invariant in
     let mid = g.C.Cells.seen c.loop-place.cells in
     let fall = falls_in P l c.requires.program c.skeleton_is_of_the_program.ensures.skeleton.0 in
-    let there = argument_as_named P (named l) node c.args.goal.base c.loop-place.place c.part.result c.requires.program c.part.ensures in
+    let there = argument_as_named P (named l) node c.args.goal.base c.loop-place.place c.argument_at.result c.requires.program c.argument_at.ensures in
     record {
       over = c.deref-end.ensures.over ∙ i.over;
       grew = g.met.C.Cells.grew_on c.args.cells.now c.loop-place.cells c.deref-end.new.cells i.grew c.deref-end.ensures.grew;
       reads = reads_more old mid (g.C.Cells.seen c.deref-end.new.cells) i.reads c.deref-end.ensures.reads;
-      before = none_more P mid (g.C.Cells.seen c.deref-end.new.cells) node c.args.goal.base c.loop-place.place c.part.result c.deref-end.result
+      before = none_more P mid (g.C.Cells.seen c.deref-end.new.cells) node c.args.goal.base c.loop-place.place c.argument_at.result c.deref-end.result
           c.deref-end.ensures.reads i.before there
           c.deref-end.ensures.leads (c.free_cell.ensures.none c.in-None.is);
     }

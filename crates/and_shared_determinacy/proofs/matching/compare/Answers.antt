@@ -1,7 +1,8 @@
 use Rattle.and_cells.specs.Parts.{named}
 use Rattle.and_cells.proofs.Chains.{reads_keeps, reads_more}
+use Rattle.and_unify.proofs.MeetingHeads.{differ_told, same_told}
 use Rattle.and_guards.proofs.Resolved.{falls_in}
-use Rattle.and_shared_determinacy.proofs.Comparing.{differ_told, same_told, heads_never_one, numbers_lead_on, of_one_shape, arguments_lead_on, follow_later}
+use Rattle.and_shared_determinacy.proofs.Comparing.{heads_never_one, numbers_lead_on, of_one_shape, arguments_lead_on, follow_later}
 use Rattle.and_shared_determinacy.proofs.Comparing.{follow_pairs_later, follow_arguments, list_as_named, shape_as_named}
 use Rattle.and_shared_determinacy.proofs.matching.compare.Goals as goal
 

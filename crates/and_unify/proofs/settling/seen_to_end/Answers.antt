@@ -14,6 +14,7 @@ loop-place-preserved g c =
       met = λ given. c.in_ok-is_seen_to_end.ensures.met (c.loop-place.invariant.met given);
       seen = All-more (EndsFrom P c.args.cells.now c.args.floor) c.args.bound.now c.loop-place.place 0 (omega arith) c.loop-place.invariant.seen (
         λ low. subst (λ n. Ends P c.args.cells.now n false (Cell (get_or c.args.bound.now c.loop-place.place 0))) (c.floor_beside-from.ensures.below low) ends,
-        λ high. subst (λ n. Ends P c.args.cells.now n false (Cell (get_or c.args.bound.now c.loop-place.place 0))) (c.floor_beside-from.ensures.above high) ends,
+        λ high. subst (λ n. Ends P c.args.cells.now n false (Cell (get_or c.args.bound.now c.loop-place.place 0)))
+            (c.floor_beside-from.ensures.above high) ends,
       );
     }

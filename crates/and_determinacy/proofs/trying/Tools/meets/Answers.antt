@@ -1,23 +1,19 @@
-use Rattle.std.proofs.Common.{ℕ, ◌+◌, ◌≡◌, true, false, true≢false, not, List, [], map, refl, sym, ap, ◌∙◌, subst}
-use Rattle.std.specs.Prelude.{◌↔◌, IfSome}
-use Rattle.and_model.specs.Candidates.{Candidate, guard}
+use Rattle.std.proofs.Common.{ℕ, ◌≡◌, true, false, true≢false, not, List, [], map, refl, sym, ap, ◌∙◌, subst}
+use Rattle.std.specs.Prelude.{IfSome}
+use Rattle.and_model.specs.Candidates.{guard}
 use Rattle.and_model.specs.declared.reference.Ref.{Ref}
 use Rattle.and_model.specs.Programs.{clause_at}
 use Rattle.and_program.specs.Skeletons.{node_term, NodeItem}
 use Rattle.and_program.specs.Loaded.{nodes_at}
 use Rattle.and_cells.specs.Ranges.{NamedProgram}
-use Rattle.and_cells.specs.Rows.{OnlySet}
 use Rattle.and_cells.specs.Parts.{named}
 use Rattle.and_program.specs.Items.{node_item}
-use Rattle.and_cells.specs.Meaning.{equations_of}
-use Rattle.and_branch_laws.specs.Judging.{outside}
-use Rattle.and_branch_laws.specs.Variables.{placed}
-use Rattle.and_guards.specs.Guards.{GuardCanBeRead, IsGuardFalse}
+use Rattle.and_guards.specs.Guards.{GuardCanBeRead}
 use Rattle.and_determinacy.specs.Watching.{HaveWhatWasSet, StaysWhile}
 use Rattle.and_guards.proofs.Nodes.{loaded_is}
-use Rattle.and_determinacy.proofs.Prepared.{made_in_range, made_settled, made_whole, made_new, made_reads, no_candidate, guard_tells}
+use Rattle.and_determinacy.proofs.Prepared.{made_in_range, made_settled, made_whole, made_new, made_reads, no_candidate, tried, only_tried}
 use Rattle.and_determinacy.proofs.Staying.{stays}
-use Rattle.and_determinacy.proofs.TakenBack.{only_these, nothing_set}
+use Rattle.and_determinacy.proofs.TakenBack.{nothing_set}
 use Rattle.and_determinacy.proofs.Told.{both_told}
 use Rattle.and_determinacy.proofs.trying.Tools.meets.Goals as goal
 
@@ -28,122 +24,74 @@ items_under N P c items same is = subst (λ (Q : NamedProgram). items ≡ (nodes
 
 pub settle_further-requires-clause-in_range : goal.settle_further-requires-clause-in_range
 settle_further-requires-clause-in_range g c =
-    let P = g.N.Naming.program in
-    let facts = loaded_is P c.args.loaded.now c.requires.program c.skeleton_is_of_the_program.ensures.skeleton
+    let facts = loaded_is g.N.Naming.program c.args.loaded.now c.requires.program c.skeleton_is_of_the_program.ensures.skeleton
     c.skeleton_is_of_the_program.ensures.own_variables c.skeleton_is_of_the_program.ensures.few in
-    made_in_range P facts c.args.cells.now c.requires.short c.args.node.0 c.args.base c.args.clause.0 c.requires.node c.requires.of
-    c.prepare.new.cells c.prepare.new.self.pairs c.in_ok-floor.floor c.in_ok-floor.ensures.prepared
+    made_in_range g.N.Naming.program facts c.args.cells.now c.requires.short c.args.node.0 c.args.base c.args.clause.0 c.requires.node c.requires.of _ _ _
+    c.in_ok-floor.ensures.prepared
 
 pub settle_further-requires-clause-settled : goal.settle_further-requires-clause-settled
 settle_further-requires-clause-settled g c =
-    let P = g.N.Naming.program in
-    let facts = loaded_is P c.args.loaded.now c.requires.program c.skeleton_is_of_the_program.ensures.skeleton
+    let facts = loaded_is g.N.Naming.program c.args.loaded.now c.requires.program c.skeleton_is_of_the_program.ensures.skeleton
     c.skeleton_is_of_the_program.ensures.own_variables c.skeleton_is_of_the_program.ensures.few in
-    made_settled P facts c.args.cells.now c.requires.short c.args.node.0 c.args.base c.args.clause.0 c.requires.node c.requires.of
-    c.prepare.new.cells c.prepare.new.self.pairs c.in_ok-floor.floor c.in_ok-floor.ensures.prepared c.requires.settled
+    made_settled g.N.Naming.program facts c.args.cells.now c.requires.short c.args.node.0 c.args.base c.args.clause.0 c.requires.node c.requires.of _ _ _
+    c.in_ok-floor.ensures.prepared c.requires.settled
 
 pub settle_further-requires-clause-no_half : goal.settle_further-requires-clause-no_half
 settle_further-requires-clause-no_half g c =
-    let P = g.N.Naming.program in
-    let facts = loaded_is P c.args.loaded.now c.requires.program c.skeleton_is_of_the_program.ensures.skeleton
+    let facts = loaded_is g.N.Naming.program c.args.loaded.now c.requires.program c.skeleton_is_of_the_program.ensures.skeleton
     c.skeleton_is_of_the_program.ensures.own_variables c.skeleton_is_of_the_program.ensures.few in
-    made_whole P facts c.args.cells.now c.requires.short c.args.node.0 c.args.base c.args.clause.0 c.requires.node c.requires.of
-    c.prepare.new.cells c.prepare.new.self.pairs c.in_ok-floor.floor c.in_ok-floor.ensures.prepared
+    made_whole g.N.Naming.program facts c.args.cells.now c.requires.short c.args.node.0 c.args.base c.args.clause.0 c.requires.node c.requires.of _ _ _
+    c.in_ok-floor.ensures.prepared
 
 pub settle_further-requires-clause-new : goal.settle_further-requires-clause-new
 settle_further-requires-clause-new g c =
-    let P = g.N.Naming.program in
-    let facts = loaded_is P c.args.loaded.now c.requires.program c.skeleton_is_of_the_program.ensures.skeleton
+    let facts = loaded_is g.N.Naming.program c.args.loaded.now c.requires.program c.skeleton_is_of_the_program.ensures.skeleton
     c.skeleton_is_of_the_program.ensures.own_variables c.skeleton_is_of_the_program.ensures.few in
-    made_new P facts c.args.cells.now c.requires.short c.args.node.0 c.args.base c.args.clause.0 c.requires.node c.requires.of
-    c.prepare.new.cells c.prepare.new.self.pairs c.in_ok-floor.floor c.in_ok-floor.ensures.prepared
+    made_new g.N.Naming.program facts c.args.cells.now c.requires.short c.args.node.0 c.args.base c.args.clause.0 c.requires.node c.requires.of _ _ _
+    c.in_ok-floor.ensures.prepared
 
 pub is_guard_false-requires-clause-readable : goal.is_guard_false-requires-clause-readable
 is_guard_false-requires-clause-readable g c =
-    let P = g.N.Naming.program in
-    let facts = loaded_is P c.args.loaded.now c.requires.program c.skeleton_is_of_the_program.ensures.skeleton
+    let facts = loaded_is g.N.Naming.program c.args.loaded.now c.requires.program c.skeleton_is_of_the_program.ensures.skeleton
     c.skeleton_is_of_the_program.ensures.own_variables c.skeleton_is_of_the_program.ensures.few in
-    let items = items_under P (named c.args.loaded.now) c.args.clause.0 (map node_item c.items-items.result.now) c.requires.program
+    let items = items_under g.N.Naming.program (named c.args.loaded.now) c.args.clause.0 (map node_item c.items-items.result.now) c.requires.program
     c.items-items.ensures.items in
     let settles = c.in-Solved.ensures.settles in
-    subst (λ is. GuardCanBeRead P c.settle_further.new.cells c.in_ok-floor.floor is) (sym items)
-    (made_reads P facts c.args.cells.now c.requires.short c.args.node.0 c.args.base c.args.clause.0 c.requires.node c.requires.of
-    c.prepare.new.cells c.prepare.new.self.pairs c.in_ok-floor.floor c.in_ok-floor.ensures.prepared
-    c.settle_further.new.cells settles.keeps settles.halves)
+    subst (GuardCanBeRead g.N.Naming.program c.settle_further.new.cells c.in_ok-floor.floor) (sym items)
+    (made_reads g.N.Naming.program facts c.args.cells.now c.requires.short c.args.node.0 c.args.base c.args.clause.0 c.requires.node c.requires.of _ _ _
+    c.in_ok-floor.ensures.prepared c.settle_further.new.cells settles.keeps settles.halves)
 
 pub returns-then-refuted-clause-fits : goal.returns-then-refuted-clause-fits
-returns-then-refuted-clause-fits g c =
-    let P = g.N.Naming.program in
-    let facts = loaded_is P c.args.loaded.now c.requires.program c.skeleton_is_of_the_program.ensures.skeleton
+returns-then-refuted-clause-fits g c = λ b e.
+    let facts = loaded_is g.N.Naming.program c.args.loaded.now c.requires.program c.skeleton_is_of_the_program.ensures.skeleton
     c.skeleton_is_of_the_program.ensures.own_variables c.skeleton_is_of_the_program.ensures.few in
-    let items = items_under P (named c.args.loaded.now) c.args.clause.0 (map node_item c.items-items.result.now) c.requires.program
+    let items = items_under g.N.Naming.program (named c.args.loaded.now) c.args.clause.0 (map node_item c.items-items.result.now) c.requires.program
     c.items-items.ensures.items in
-    let settles = c.in-Solved.ensures.settles in
-    let new = c.settle_further.new.cells in
-    let floor = c.in_ok-floor.floor in
-    let found = c.in_ok-refuted-in-Solved.refuted in
-    let told : (found ≡ true) ↔ IsGuardFalse P new floor (nodes_at P.skeleton c.args.clause.0).items =
-    subst (λ is. (found ≡ true) ↔ IsGuardFalse P new floor is) items (c.in_ok-refuted-in-Solved.ensures.judged found refl) in
-    let row = c.args.cells.now in
-    let wide = c.prepare.new.cells in
-    let pairs = c.prepare.new.self.pairs in
-    let made = c.in_ok-floor.ensures.prepared in
-    let reads = made_reads P facts row c.requires.short c.args.node.0 c.args.base c.args.clause.0 c.requires.node c.requires.of
-    wide pairs floor made new settles.keeps settles.halves in
-    let tells = guard_tells P facts row c.requires.short c.args.node.0 c.args.base c.args.clause.0 c.requires.node c.requires.of
-    wide pairs floor made new (settles.solved refl) reads found told in
-    λ b e. (let answer : false ≡ b = cc in
-    let same : not found ≡ b = ap not c.if-refuted.true ∙ answer in
-    subst (λ x. (x ≡ true) ↔ Candidate P.program (equations_of P c.args.cells.now) outside
-    (placed c.args.base (node_term P.skeleton.nodes c.args.node.0)) c.args.clause.0) same tells)
+    let answer : false ≡ b = cc in
+    tried g.N.Naming.program facts c.args.cells.now c.requires.short c.args.node.0 c.args.base c.args.clause.0 c.requires.node c.requires.of _ _ _
+    c.in_ok-floor.ensures.prepared c.settle_further.new.cells c.in-Solved.ensures.settles _ items c.in_ok-refuted-in-Solved.refuted
+    (c.in_ok-refuted-in-Solved.ensures.judged c.in_ok-refuted-in-Solved.refuted refl) b (ap not c.if-refuted.true ∙ answer)
 
 pub returns-then-refuted-clause-only_set : goal.returns-then-refuted-clause-only_set
 returns-then-refuted-clause-only_set g c =
-    let P = g.N.Naming.program in
-    let facts = loaded_is P c.args.loaded.now c.requires.program c.skeleton_is_of_the_program.ensures.skeleton
-    c.skeleton_is_of_the_program.ensures.own_variables c.skeleton_is_of_the_program.ensures.few in
-    let made = c.in_ok-floor.ensures.prepared in
-    let set = c.in-Solved.ensures.bound in
-    subst (OnlySet c.settle_further.new.self c.args.cells.now) (sym c.in_ok-refuted-in-Solved.ensures.unchanged)
-    (only_these c.args.cells.now c.prepare.new.cells c.settle_further.new.cells (1 + (clause_at P.program c.args.clause.0).variables)
-    c.settle_further.new.self made.wide_is set)
+    only_tried g.N.Naming.program c.args.cells.now c.prepare.new.cells c.settle_further.new.cells _ _ _ _ c.args.clause.0 _ _ c.in_ok-floor.ensures.prepared
+    c.in-Solved.ensures.bound c.in_ok-refuted-in-Solved.ensures.unchanged
 
 pub returns-in_ok-add-in-Solved-clause-fits : goal.returns-in_ok-add-in-Solved-clause-fits
-returns-in_ok-add-in-Solved-clause-fits g c =
-    let P = g.N.Naming.program in
-    let facts = loaded_is P c.args.loaded.now c.requires.program c.skeleton_is_of_the_program.ensures.skeleton
+returns-in_ok-add-in-Solved-clause-fits g c = λ b e.
+    let facts = loaded_is g.N.Naming.program c.args.loaded.now c.requires.program c.skeleton_is_of_the_program.ensures.skeleton
     c.skeleton_is_of_the_program.ensures.own_variables c.skeleton_is_of_the_program.ensures.few in
-    let items = items_under P (named c.args.loaded.now) c.args.clause.0 (map node_item c.items-items.result.now) c.requires.program
+    let items = items_under g.N.Naming.program (named c.args.loaded.now) c.args.clause.0 (map node_item c.items-items.result.now) c.requires.program
     c.items-items.ensures.items in
-    let settles = c.in-Solved.ensures.settles in
-    let new = c.settle_further.new.cells in
-    let floor = c.in_ok-floor.floor in
-    let found = c.in_ok-refuted-in-Solved.refuted in
-    let told : (found ≡ true) ↔ IsGuardFalse P new floor (nodes_at P.skeleton c.args.clause.0).items =
-    subst (λ is. (found ≡ true) ↔ IsGuardFalse P new floor is) items (c.in_ok-refuted-in-Solved.ensures.judged found refl) in
-    let row = c.args.cells.now in
-    let wide = c.prepare.new.cells in
-    let pairs = c.prepare.new.self.pairs in
-    let made = c.in_ok-floor.ensures.prepared in
-    let reads = made_reads P facts row c.requires.short c.args.node.0 c.args.base c.args.clause.0 c.requires.node c.requires.of
-    wide pairs floor made new settles.keeps settles.halves in
-    let tells = guard_tells P facts row c.requires.short c.args.node.0 c.args.base c.args.clause.0 c.requires.node c.requires.of
-    wide pairs floor made new (settles.solved refl) reads found told in
-    λ b e. (let answer : true ≡ b = cc in
-    let same : not found ≡ b = ap not c.if-refuted.false ∙ answer in
-    subst (λ x. (x ≡ true) ↔ Candidate P.program (equations_of P c.args.cells.now) outside
-    (placed c.args.base (node_term P.skeleton.nodes c.args.node.0)) c.args.clause.0) same tells)
+    let answer : true ≡ b = cc in
+    tried g.N.Naming.program facts c.args.cells.now c.requires.short c.args.node.0 c.args.base c.args.clause.0 c.requires.node c.requires.of _ _ _
+    c.in_ok-floor.ensures.prepared c.settle_further.new.cells c.in-Solved.ensures.settles _ items c.in_ok-refuted-in-Solved.refuted
+    (c.in_ok-refuted-in-Solved.ensures.judged c.in_ok-refuted-in-Solved.refuted refl) b (ap not c.if-refuted.false ∙ answer)
 
 pub returns-in_ok-add-in-Solved-clause-only_set : goal.returns-in_ok-add-in-Solved-clause-only_set
 returns-in_ok-add-in-Solved-clause-only_set g c =
-    let P = g.N.Naming.program in
-    let facts = loaded_is P c.args.loaded.now c.requires.program c.skeleton_is_of_the_program.ensures.skeleton
-    c.skeleton_is_of_the_program.ensures.own_variables c.skeleton_is_of_the_program.ensures.few in
-    let made = c.in_ok-floor.ensures.prepared in
-    let set = c.in-Solved.ensures.bound in
-    subst (OnlySet c.settle_further.new.self c.args.cells.now) (sym c.in_ok-refuted-in-Solved.ensures.unchanged)
-    (only_these c.args.cells.now c.prepare.new.cells c.settle_further.new.cells (1 + (clause_at P.program c.args.clause.0).variables)
-    c.settle_further.new.self made.wide_is set)
+    only_tried g.N.Naming.program c.args.cells.now c.prepare.new.cells c.settle_further.new.cells _ _ _ _ c.args.clause.0 _ _ c.in_ok-floor.ensures.prepared
+    c.in-Solved.ensures.bound c.in_ok-refuted-in-Solved.ensures.unchanged
 
 pub returns-in_ok-add-in-Solved-clause-stays : goal.returns-in_ok-add-in-Solved-clause-stays
 returns-in_ok-add-in-Solved-clause-stays g c = λ e.
@@ -172,26 +120,19 @@ returns-in_ok-add-in-Solved-clause-stays g c = λ e.
     c.in_ok-add-in-Solved.ensures.no_guard have
 
 pub returns-in-NoSolution-clause-fits : goal.returns-in-NoSolution-clause-fits
-returns-in-NoSolution-clause-fits g c =
-    let P = g.N.Naming.program in
-    let facts = loaded_is P c.args.loaded.now c.requires.program c.skeleton_is_of_the_program.ensures.skeleton
+returns-in-NoSolution-clause-fits g c = λ b e.
+    let facts = loaded_is g.N.Naming.program c.args.loaded.now c.requires.program c.skeleton_is_of_the_program.ensures.skeleton
     c.skeleton_is_of_the_program.ensures.own_variables c.skeleton_is_of_the_program.ensures.few in
-    let settles = c.in-NoSolution.ensures.settles in
-    let none_is = no_candidate P facts c.args.cells.now c.requires.short c.args.node.0 c.args.base c.args.clause.0 c.requires.node
-    c.requires.of c.prepare.new.cells c.prepare.new.self.pairs c.in_ok-floor.floor c.in_ok-floor.ensures.prepared
-    (settles.no_solution refl) in
-    λ b e. (let same : false ≡ b = cc in
-    ((λ is. absurd (true≢false (sym is ∙ sym same))), (λ k. absurd (none_is k))))
+    let same : false ≡ b = cc in
+    let none_is = no_candidate g.N.Naming.program facts c.args.cells.now c.requires.short c.args.node.0 c.args.base c.args.clause.0
+    c.requires.node c.requires.of _ _ _
+    c.in_ok-floor.ensures.prepared (c.in-NoSolution.ensures.settles.no_solution refl) in
+    ((λ is. absurd (true≢false (sym is ∙ sym same))), (λ k. absurd (none_is k)))
 
 pub returns-in-NoSolution-clause-only_set : goal.returns-in-NoSolution-clause-only_set
 returns-in-NoSolution-clause-only_set g c =
-    let P = g.N.Naming.program in
-    let facts = loaded_is P c.args.loaded.now c.requires.program c.skeleton_is_of_the_program.ensures.skeleton
-    c.skeleton_is_of_the_program.ensures.own_variables c.skeleton_is_of_the_program.ensures.few in
-    let made = c.in_ok-floor.ensures.prepared in
-    let set = c.in-NoSolution.ensures.bound in
-    only_these c.args.cells.now c.prepare.new.cells c.settle_further.new.cells (1 + (clause_at P.program c.args.clause.0).variables)
-    c.settle_further.new.self made.wide_is set
+    only_tried g.N.Naming.program c.args.cells.now c.prepare.new.cells c.settle_further.new.cells _ _ _ _ c.args.clause.0 _ _ c.in_ok-floor.ensures.prepared
+    c.in-NoSolution.ensures.bound refl
 
 pub returns-in_err-floor-clause-only_set : goal.returns-in_err-floor-clause-only_set
 returns-in_err-floor-clause-only_set g c =
@@ -200,26 +141,15 @@ returns-in_err-floor-clause-only_set g c =
 
 pub returns-in_err-refuted-in-Solved-clause-only_set : goal.returns-in_err-refuted-in-Solved-clause-only_set
 returns-in_err-refuted-in-Solved-clause-only_set g c =
-    let P = g.N.Naming.program in
-    let made = c.in_ok-floor.ensures.prepared in
-    let set = c.in-Solved.ensures.bound in
-    subst (OnlySet c.settle_further.new.self c.args.cells.now) (sym c.is_guard_false.ensures.unchanged)
-    (only_these c.args.cells.now c.prepare.new.cells c.settle_further.new.cells (1 + (clause_at P.program c.args.clause.0).variables)
-    c.settle_further.new.self made.wide_is set)
+    only_tried g.N.Naming.program c.args.cells.now c.prepare.new.cells c.settle_further.new.cells _ _ _ _ c.args.clause.0 _ _ c.in_ok-floor.ensures.prepared
+    c.in-Solved.ensures.bound c.is_guard_false.ensures.unchanged
 
 pub returns-in_err-add-in-Solved-clause-only_set : goal.returns-in_err-add-in-Solved-clause-only_set
 returns-in_err-add-in-Solved-clause-only_set g c =
-    let P = g.N.Naming.program in
-    let made = c.in_ok-floor.ensures.prepared in
-    let set = c.in-Solved.ensures.bound in
-    subst (OnlySet c.settle_further.new.self c.args.cells.now) (sym c.in_ok-refuted-in-Solved.ensures.unchanged)
-    (only_these c.args.cells.now c.prepare.new.cells c.settle_further.new.cells (1 + (clause_at P.program c.args.clause.0).variables)
-    c.settle_further.new.self made.wide_is set)
+    only_tried g.N.Naming.program c.args.cells.now c.prepare.new.cells c.settle_further.new.cells _ _ _ _ c.args.clause.0 _ _ c.in_ok-floor.ensures.prepared
+    c.in-Solved.ensures.bound c.in_ok-refuted-in-Solved.ensures.unchanged
 
 pub returns-in-Memory-clause-only_set : goal.returns-in-Memory-clause-only_set
 returns-in-Memory-clause-only_set g c =
-    let P = g.N.Naming.program in
-    let made = c.in_ok-floor.ensures.prepared in
-    let set = c.in-Memory.ensures.bound in
-    only_these c.args.cells.now c.prepare.new.cells c.settle_further.new.cells (1 + (clause_at P.program c.args.clause.0).variables)
-    c.settle_further.new.self made.wide_is set
+    only_tried g.N.Naming.program c.args.cells.now c.prepare.new.cells c.settle_further.new.cells _ _ _ _ c.args.clause.0 _ _ c.in_ok-floor.ensures.prepared
+    c.in-Memory.ensures.bound refl

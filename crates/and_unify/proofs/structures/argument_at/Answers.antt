@@ -1,6 +1,6 @@
 use Rattle.and_cells.specs.Parts.{named}
 use Rattle.and_unify.proofs.TurnArguments.{argument_found}
-use Rattle.and_heads.proofs.parts.argument_at.Goals as goal
+use Rattle.and_unify.proofs.structures.argument_at.Goals as goal
 
 pub returns : goal.returns
 returns c =

@@ -1,7 +1,7 @@
 use Rattle.std.proofs.Common.{◌≡◌, ◌++◌, take}
 use Rattle.and_cells.specs.Parts.{named, parts_of}
 use Rattle.and_unify.specs.Turns.{pairs_of}
-use Rattle.and_unify.proofs.stepping.push_arguments.Given as goal
+use Rattle.and_unify.proofs.structures.push_arguments.Given as goal
 
 abbrev pub invariant-loop-place : goal.invariant-loop-place
 invariant-loop-place l =

@@ -1,7 +1,7 @@
 use Rattle.std.proofs.Common.{arith, ◌<◌, ◌≤◌, ◌∙◌}
 use Rattle.and_cells.specs.Parts.{named, parts_of}
 use Rattle.and_unify.proofs.TurnArguments.{list_few, list_more, list_whole, argument_of_part, arguments_counted}
-use Rattle.and_unify.proofs.stepping.push_arguments.Goals as goal
+use Rattle.and_unify.proofs.structures.push_arguments.Goals as goal
 
 pub returns-in_err-push-clause-few : goal.returns-in_err-push-clause-few
 returns-in_err-push-clause-few c =
@@ -14,12 +14,12 @@ returns-in_err-push-clause-few c =
 pub loop-place-preserved : goal.loop-place-preserved
 loop-place-preserved c =
     let P = named c.args.loaded.now in
-    let left = argument_of_part P c.args.left c.part.result c.as_structure-left.result.node c.as_structure-left.result.base c.loop-place.place
-    c.as_structure-left.ensures c.part.ensures in
-    let right = argument_of_part P c.args.right c.part-in-loop-place.result c.as_structure-right.result.node c.as_structure-right.result.base
-    c.loop-place.place c.as_structure-right.ensures c.part-in-loop-place.ensures in
-    list_more c.args.list.now c.loop-place.list c.push.new.self (parts_of P c.args.left) (parts_of P c.args.right) c.loop-place.place c.part.result
-    c.part-in-loop-place.result left right
+    let left = argument_of_part P c.args.left c.argument_at.result c.as_structure-left.result.node c.as_structure-left.result.base c.loop-place.place
+    c.as_structure-left.ensures c.argument_at.ensures in
+    let right = argument_of_part P c.args.right c.argument_at-in-loop-place.result c.as_structure-right.result.node c.as_structure-right.result.base
+    c.loop-place.place c.as_structure-right.ensures c.argument_at-in-loop-place.ensures in
+    list_more c.args.list.now c.loop-place.list c.push.new.self (parts_of P c.args.left) (parts_of P c.args.right) c.loop-place.place c.argument_at.result
+    c.argument_at-in-loop-place.result left right
     c.loop-place.invariant c.in_ok-push.ensures.ok
 
 pub returns-clause-ok : goal.returns-clause-ok

@@ -6,19 +6,19 @@ use Rattle.and_cells.specs.Rows.{plain}
 use Rattle.and_cells.specs.Seen.{word_at}
 use Rattle.and_cells.proofs.PlainRows.{plain_reads_number}
 use Rattle.and_model.specs.declared.reference.Ref.{Ref}
+use Rattle.and_unify.specs.Heads.{HasHead}
 use Rattle.and_unify.proofs.MeetingHeads.{number_head}
-use Rattle.and_heads.specs.Parts.{HasKind}
-use Rattle.and_heads.proofs.parts.kind_at.Goals as goal
+use Rattle.and_heads.proofs.parts.head_at.Goals as goal
 
-pub returns-in-Node-clause-kind : goal.returns-in-Node-clause-kind
-returns-in-Node-clause-kind g c =
+pub returns-in-Node-clause-head : goal.returns-in-Node-clause-head
+returns-in-Node-clause-head g c =
     let s = plain c.args.cells.now in
-    let kind = c.node_kind.result in
-    subst (λ (P : NamedProgram). HasKind P s c.args.at kind) (sym c.requires.program)
-    (subst (λ (r : Ref). HasKind (named c.args.loaded.now) s r kind) (sym c.in-Node.is) (c.node_kind.ensures s c.in-Node.base))
+    let head = c.node_head.result in
+    subst (λ (P : NamedProgram). HasHead P s c.args.at head) (sym c.requires.program)
+    (subst (λ (r : Ref). HasHead (named c.args.loaded.now) s r head) (sym c.in-Node.is) (c.node_head.ensures.head s c.in-Node.base))
 
-pub returns-in-Number-clause-kind : goal.returns-in-Number-clause-kind
-returns-in-Number-clause-kind g c =
+pub returns-in-Number-clause-head : goal.returns-in-Number-clause-head
+returns-in-Number-clause-head g c =
     let row = c.args.cells.now in
     let s = plain row in
     let pair = c.in-Number.pair in
