@@ -1,11 +1,12 @@
 -- A branch that is forked: its children.
 use Rattle.std.proofs.Common.{ℕ, suc, ◌≡◌, ◌≢◌, ◌+◌, ◌≤◌, ◌<◌, add-one, drop, drop-cons, get_or, Some, List, [], ◌∷◌, ◌++◌, map, length}
-use Rattle.std.proofs.Common.{refl, ap, sym, ◌∙◌, subst, inl, inr, arith, Contains, Option}
+use Rattle.std.proofs.Common.{refl, ap, sym, ◌∙◌, subst, inl, inr, arith, take, Contains, Option}
 use Rattle.std.specs.Prelude.{slice_get}
 use Rattle.std.proofs.lemmas.Bool.{cases_lt}
 use Rattle.std.proofs.lemmas.List.{length-map, get_or-map, drop-drop, drop_all}
 use Rattle.std.proofs.lemmas.List.Elements.{Contains-append_right}
 use Rattle.std.proofs.lemmas.Option.{get_or_from_slice_get, slice_get_within}
+use Rattle.and_model.specs.Prefixes.{IsPrefix}
 use Rattle.and_model.specs.Programs.{Of}
 use Rattle.and_model.specs.Trees.{QueryTree, Open, call_of, reduce, decided}
 use Rattle.and_model.specs.Reached.{ReachedBy, Split}
@@ -26,7 +27,8 @@ use Rattle.and_branch_laws.proofs.OneState
 use Rattle.and_reduction.specs.Trails.{Noted}
 use Rattle.and_branch.specs.Branches.{Held, Lives, IsBranchOf, IsOpenGoal, SameKey}
 use Rattle.and_branch.specs.Children.{Fork, AreChildren, IsChild}
-use Rattle.and_branch.specs.Making.{CanBeMade, IsBegun, IsMade}
+use Rattle.and_branch.specs.Making.{CanBeMade, IsBegun, IsMade, IsAgain}
+use Rattle.and_branch.proofs.KeptOrigins.{key_again}
 use Rattle.and_branch.specs.States.{numbers}
 use Rattle.and_branch.specs.Next.{HasNextCall, IsReduced, IsMoved, IsSameItem, HasItem}
 use Rattle.and_branch.proofs.LivingGoals.{Found, found, is_framed}
@@ -172,13 +174,14 @@ child_made P f c key trail is mid new moved (g, rest, next, same) keys reduced =
 
 -- ---- Its beginning
 
-pub begun_is : (P : NamedProgram) (f : Fork) (c : ℕ) (goal : Goal) (key : List ℕ) (trail : Noted) (b : Held) → CanBeMade P f c → goal ≡ f.goal
-    → key ≡ f.longer ++ c ∷ [] → b ≡ record f.parent { key = key; trail = trail } → IsBegun P f c goal b
-begun_is P f c goal key trail b can of is e =
-    let noted : trail ≡ b.trail = sym (ap (λ (h : Held). h.trail) e) in record {
-      can = can;
-      goal_is = of;
-      branch = e ∙ ap (λ (k : List ℕ). record f.parent { key = k; trail = trail }) is
+pub begun_again : (P : NamedProgram) (f : Fork) (c : ℕ) (goal : Goal) (decided : ℕ) (b : Held) → IsAgain P f c goal decided b
+    → (keyed : Held) → keyed ≡ record b { key = take decided b.key ++ c ∷ [] } → IsBegun P f c goal keyed
+begun_again P f c goal decided b x keyed e =
+    let noted : b.trail ≡ keyed.trail = sym (ap (λ (h : Held). h.trail) e) in record {
+      can = x.can;
+      goal_is = x.goal_is;
+      branch = e ∙ ap (λ (h : Held). record h { key = take decided b.key ++ c ∷ [] }) x.branch
+          ∙ ap (λ (k : List ℕ). record f.parent { key = k ++ c ∷ []; trail = b.trail }) x.begins
           ∙ ap (λ (n : Noted). record f.parent { key = f.longer ++ c ∷ []; trail = n }) noted;
     }
 
@@ -248,6 +251,42 @@ child_is P f n c e b m = record {
   stands = λ t u k split. m.stands (drop (n + 1) f.clauses) t u (subst (λ (l : List ℕ). AreChildren P (record f { clauses = l }) t) e k)
       split;
 }
+
+-- ---- A choicepoint
+
+-- what it keeps of the fork
+abbrev pub kept_fork : (parent : Held) (goal : Goal) (longer : List ℕ) (clauses : List ClauseNo) → Fork
+kept_fork parent goal longer clauses = record { parent = parent; goal = goal; longer = longer; clauses = numbers clauses }
+
+-- Contracts see it from the clause on that comes next.
+module _ (P : NamedProgram) (parent : Held) (goal : Goal) (longer : List ℕ) (clauses : List ClauseNo) (made : ℕ) (seen : Fork)
+    (view_is : record (kept_fork parent goal longer clauses) { clauses = drop made (numbers clauses) } ≡ seen) (c : ClauseNo)
+    (at : slice_get clauses made ≡ Some c) where
+  -- The branch that was forked is there again,
+  pub again_by : (t : QueryTree P.program) × AreChildren P seen t → (decided : ℕ) → length longer ≡ decided → (old : Held)
+      → IsPrefix seen.longer old.key → (trail : Noted) (b : Held) → b ≡ record parent { key = old.key; trail = trail }
+      → IsAgain P (kept_fork parent goal longer clauses) c.0 goal decided b
+  again_by children decided long old begins trail b e =
+      let f : Fork = kept_fork parent goal longer clauses in
+      let key : b.key ≡ old.key = ap (λ (h : Held). h.key) e in
+      let noted : trail ≡ b.trail = sym (ap (λ (h : Held). h.trail) e) in
+      let here : IsPrefix longer old.key = subst (λ (h : Fork). IsPrefix h.longer old.key) (sym view_is) begins in
+      record {
+        can = can_be_made P f made c.0 (next_clause clauses f.clauses made c refl at)
+            (subst (λ (h : Fork). (t : QueryTree P.program) × AreChildren P h t) (sym view_is) children);
+        goal_is = refl;
+        begins = ap (λ (k : List ℕ). take decided k) key ∙ key_again longer old.key decided here long;
+        branch = e ∙ ap (λ (k : List ℕ). record parent { key = k; trail = trail }) (sym key)
+            ∙ ap (λ (n : Noted). record parent { key = b.key; trail = n }) noted;
+      }
+
+  -- and becomes the child.
+  pub child_by : (b : Held) → IsMade P (kept_fork parent goal longer clauses) c.0 b
+      → IsChild P seen (record (kept_fork parent goal longer clauses) { clauses = drop (made + 1) (numbers clauses) }) b
+  child_by b x =
+      let f : Fork = kept_fork parent goal longer clauses in
+      let new : Fork = record f { clauses = drop (made + 1) f.clauses } in
+      subst (λ (h : Fork). IsChild P h new b) view_is (child_is P f made c.0 (next_clause clauses f.clauses made c refl at) b x)
 
 -- ---- The fork
 

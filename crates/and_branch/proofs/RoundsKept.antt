@@ -19,7 +19,7 @@ use Rattle.and_branch.specs.Rounds.{IsIdle, StepsOn, goal_count, HasProgressed, 
 use Rattle.and_branch.specs.Watching.{Sleeps}
 use Rattle.and_branch.specs.declared.advancing.Round.{Round}
 use Rattle.and_branch.specs.declared.advancing.Round.TheVariants as round
-use Rattle.and_branch.specs.declared.finding.Found.{Found}
+use Rattle.and_branch.specs.declared.finding.RoundSoFar.{RoundSoFar}
 use Rattle.and_branch.specs.declared.finding.HeavyCall.{HeavyCall}
 use Rattle.and_branch.specs.declared.finding.Seen.{Seen}
 use Rattle.and_branch.proofs.ArithmeticRuns.{all_seen}
@@ -202,7 +202,7 @@ pub past_idle : (P : NamedProgram) (start now : Held) (changed : Bool) (budget :
 past_idle P start now changed budget heavy x live unchanged =
     let since = x.alike unchanged in x.idle unchanged (sym since.failed ∙ live)
 
-pub still_found : (P : NamedProgram) (b : Held) (f : Found) → b.right ≡ [] → b.is_failed ≡ false → LeftIsIdle P b
+pub still_found : (P : NamedProgram) (b : Held) (f : RoundSoFar) → b.right ≡ [] → b.is_failed ≡ false → LeftIsIdle P b
     → HasFound P b.limit b.row b.left f → IsStillWith P b f
 still_found P b f over live idle has = record {
   still = λ g h. idle g (subst (λ (l : List Goal). Contains l g) (ap (λ (l : List Goal). b.left ++ l) over ∙ append-nil b.left) h);
@@ -211,8 +211,8 @@ still_found P b f over live idle has = record {
   live = live;
 }
 
-pub same_still : (P : NamedProgram) (b : Held) (f h : Found) → round.Still f ≡ round.Still h → IsStillWith P b f → IsStillWith P b h
-same_still P b f h e x = let same : f ≡ h = cc in subst (λ (k : Found). IsStillWith P b k) same x
+pub same_still : (P : NamedProgram) (b : Held) (f h : RoundSoFar) → round.Still f ≡ round.Still h → IsStillWith P b f → IsStillWith P b h
+same_still P b f h e x = let same : f ≡ h = cc in subst (λ (k : RoundSoFar). IsStillWith P b k) same x
 
 -- Where all goals sleep, nothing is to be done for any, and each call has two candidates.
 pub idle_asleep : (P : NamedProgram) → IsLoaded P → (b : Held) → IsBranch P b → b.is_failed ≡ false
@@ -235,7 +235,7 @@ left_in_range P loaded b branch live =
 
 pub round_ended : (P : NamedProgram) (old start now : Held) (changed : Bool) (budget : ℕ) (heavy : Option HeavyCall) (r : Round)
     → IsMoved old start → RoundStands P start now changed budget heavy → (r ≡ round.Changed → changed ≡ true)
-    → ((f : Found) → r ≡ round.Still f → IsStillWith P now f) → (r ≡ round.Failed → ⊥) → RoundIs P old now r
+    → ((f : RoundSoFar) → r ≡ round.Still f → IsStillWith P now f) → (r ≡ round.Failed → ⊥) → RoundIs P old now r
 round_ended P old start now changed budget heavy round.Changed moved x was still never =
     alike_then old start now (moved_alike old start moved) (x.progress (was refl))
 round_ended P old start now changed budget heavy (round.Still f) moved x was still never = still f refl

@@ -14,8 +14,8 @@ use Rattle.and_reduction.specs.Runs.{HasUnnamedPair}
 use Rattle.and_branch.specs.Branches.{is_arithmetic, IsArithmeticGoal}
 use Rattle.and_branch.specs.Watching.{HasTwo}
 use Rattle.and_branch.specs.declared.finding.HeavyCall.{HeavyCall}
-use Rattle.and_branch.specs.declared.finding.Found.{Found}
-use Rattle.and_branch.specs.declared.finding.Found.TheVariants.{NoCall, Several, Heavy}
+use Rattle.and_branch.specs.declared.finding.RoundSoFar.{RoundSoFar}
+use Rattle.and_branch.specs.declared.finding.RoundSoFar.TheVariants.{NoCall, Several, Heavy}
 use Rattle.and_branch.specs.declared.finding.Seen.{Seen}
 use Rattle.and_branch.specs.declared.finding.Seen.TheVariants as seen
 
@@ -81,7 +81,7 @@ pub record IsHeavy (P : NamedProgram) (limit : ℕ) (row : List Ref) (gs : List 
   pub none : AllCalls P (HasNoFitting P limit row) gs
 
 -- That was found of these goals.
-abbrev pub HasFound : NamedProgram → ℕ → List Ref → List Goal → Found → Type 0
+abbrev pub HasFound : NamedProgram → ℕ → List Ref → List Goal → RoundSoFar → Type 0
 HasFound P limit row gs NoCall = AllCalls P (λ g. ⊥) gs
 HasFound P limit row gs (Several goal) = IsSeveral P row gs goal
 HasFound P limit row gs (Heavy goal clause) = IsHeavy P limit row gs goal clause.0

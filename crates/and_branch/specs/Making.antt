@@ -1,5 +1,5 @@
 -- How the children of a fork are made.
-use Rattle.std.specs.Prelude.{ℕ, ◌≡◌, List, [], ◌∷◌, ◌++◌, length, None, Some}
+use Rattle.std.specs.Prelude.{ℕ, ◌≡◌, List, [], ◌∷◌, ◌++◌, length, take, None, Some}
 use Rattle.and_model.specs.Trees.{QueryTree}
 use Rattle.and_model.specs.Reached.{Split}
 use Rattle.and_model.specs.declared.goal.Goal.{Goal}
@@ -40,3 +40,11 @@ pub record IsBegun (P : NamedProgram) (f : Fork) (clause : ℕ) (goal : Goal) (b
   pub can : CanBeMade P f clause
   pub goal_is : goal ≡ f.goal
   pub branch : b ≡ record f.parent { key = f.longer ++ clause ∷ []; trail = b.trail }
+
+-- The branch is the one that was forked again, but for the key, which begins with what was decided in that: so many
+-- clauses. A child by this clause can come next, where this goal is to be taken. What is noted is of no account.
+pub record IsAgain (P : NamedProgram) (f : Fork) (clause : ℕ) (goal : Goal) (decided : ℕ) (b : Held) : Type 0 where
+  pub can : CanBeMade P f clause
+  pub goal_is : goal ≡ f.goal
+  pub begins : take decided b.key ≡ f.longer
+  pub branch : b ≡ record f.parent { key = b.key; trail = b.trail }

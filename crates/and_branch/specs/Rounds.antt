@@ -21,7 +21,7 @@ use Rattle.and_branch.specs.declared.advancing.Looked.{Looked}
 use Rattle.and_branch.specs.declared.advancing.Looked.TheVariants.{Ended, Passed, Ran, Reduced, Failed}
 use Rattle.and_branch.specs.declared.advancing.Round.{Round}
 use Rattle.and_branch.specs.declared.advancing.Round.TheVariants as round
-use Rattle.and_branch.specs.declared.finding.Found.{Found}
+use Rattle.and_branch.specs.declared.finding.RoundSoFar.{RoundSoFar}
 use Rattle.and_branch.specs.declared.finding.Seen.{Seen}
 
 -- The clause is one of the call's predicate, and no other one is a candidate.
@@ -105,14 +105,14 @@ LookIs P may old new Reduced = HasProgressed old new × (may ≡ true) × (old.u
 LookIs P may old new Failed = new.is_failed ≡ true
 
 -- The branch is at work behind its goals, for none of which anything is to be done, and this was found of them.
-pub record IsStillWith (P : NamedProgram) (b : Held) (found : Found) : Type 0 where
+pub record IsStillWith (P : NamedProgram) (b : Held) (found : RoundSoFar) : Type 0 where
   pub still : IsStill P b
   pub rests : IsResting P b
   pub has : HasFound P b.limit b.row b.left found
   pub live : b.is_failed ≡ false
 
 -- So it is where that was found; else the branch is marked failed.
-abbrev pub HasStilled : NamedProgram → Held → Option Found → Type 0
+abbrev pub HasStilled : NamedProgram → Held → Option RoundSoFar → Type 0
 HasStilled P b None = b.is_failed ≡ true
 HasStilled P b (Some found) = IsStillWith P b found
 

@@ -20,10 +20,10 @@ ghost use Rattle.and_branch.specs.Finding.{HasFound, HasHeavy};
 ghost use Rattle.and_branch.specs.Origins.{KeepsBack};
 ghost use Rattle.and_branch.specs.Rounds.{StepsOn, AreFew, IsAtMost, IsStill, LeftIsIdle, IsDropped, IsStillWith};
 ghost use Rattle.and_branch.specs.Rounds.{LookIs, RoundIs, HasProgressed, HasStilled, IsAt};
-ghost use Rattle.and_branch.specs.declared.finding.Found.{Found};
+ghost use Rattle.and_branch.specs.declared.finding.RoundSoFar.{RoundSoFar};
 
 use crate::branch::Branch;
-use crate::finding::{Found, HeavyCall, Seen, first_call};
+use crate::finding::{HeavyCall, RoundSoFar, Seen, first_call};
 use crate::goals::is_call;
 use crate::ways::{Share, Way, turns_back};
 use crate::workspace::Workspace;
@@ -75,7 +75,7 @@ pub(crate) enum Round {
     /// Some goal was run or reduced, and for some there may be more to do.
     Changed,
     /// For none is anything to be done, and this was found of them.
-    Still(Found),
+    Still(RoundSoFar),
     /// The tree is dead.
     Failed,
 }
@@ -119,7 +119,7 @@ impl<N: Naming> Branch<N> {
         gate: &G,
         first: u32,
         workspace: &mut Workspace,
-    ) -> Result<Option<Found>, AllocError>
+    ) -> Result<Option<RoundSoFar>, AllocError>
         requires program { N.program ≡ named loaded.now }
         requires table { IsTableOf N.program table.now }
         requires branch { IsBranch N.program self.old }
@@ -486,7 +486,7 @@ impl<N: Naming> Branch<N> {
         requires seen { changed ≡ false → LeftIsIdle N.program self.now
             × HasHeavy N.program self.now.limit self.now.row self.now.left heavy }
         ensures changed { result ≡ Round.Changed → changed ≡ true }
-        ensures still { (f : Found) → result ≡ Round.Still f → IsStillWith N.program self.now f }
+        ensures still { (f : RoundSoFar) → result ≡ Round.Still f → IsStillWith N.program self.now f }
         ensures never { result ≢ Round.Failed }
     {
         loaded.skeleton_is_of_the_program();
@@ -501,7 +501,7 @@ impl<N: Naming> Branch<N> {
 
     /// What is found of goals for none of which anything is to be done, of which this was seen. Takes no
     /// memory.
-    fn found_with(&self, loaded: &Loaded, heavy: Option<HeavyCall>) -> Found
+    fn found_with(&self, loaded: &Loaded, heavy: Option<HeavyCall>) -> RoundSoFar
         requires program { N.program ≡ named loaded.now }
         requires branch { IsBranch N.program self.now }
         requires live { self.now.is_failed ≡ false }
@@ -511,13 +511,13 @@ impl<N: Naming> Branch<N> {
     {
         loaded.skeleton_is_of_the_program();
         match heavy {
-            Some(first) => Found::Heavy {
+            Some(first) => RoundSoFar::Heavy {
                 goal: first.goal,
                 clause: first.clause,
             },
             None => match first_call(loaded, &self.cells, &self.goals) {
-                Some(goal) => Found::Several { goal },
-                None => Found::NoCall,
+                Some(goal) => RoundSoFar::Several { goal },
+                None => RoundSoFar::NoCall,
             },
         }
     }

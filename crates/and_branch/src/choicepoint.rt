@@ -102,12 +102,40 @@ impl<N: Naming> Branch<N> {
             IsTold N.program.program self.reductions told.new forked.choicepoint.longer) }
         ensures length { IfOk result (λ forked. told.new.length ≡ length forked.choicepoint.longer) }
     {
-        let parent = Snapshot::of(&self);
-        let mut branch = self;
-        branch.decide(alloc, loaded, goal, told)?;
-        let longer = Snapshot::of(branch.key());
-        let decided = branch.key().len();
-        let (outline, left) = branch.into_outline(alloc);
+        let mut left = self;
+        let choicepoint = left.fork_in_place(alloc, loaded, goal, clauses, told)?;
+        Ok(Forked { choicepoint, left })
+    }
+
+    /// The same, where the branch becomes what is left of it. An error is want of memory, and the branch is spent.
+    pub fn fork_in_place(
+        &mut self,
+        alloc: Global,
+        loaded: &Loaded,
+        goal: Goal,
+        clauses: ClauseList,
+        told: &mut Told,
+    ) -> Result<Choicepoint<N>, AllocError>
+        requires program { N.program ≡ named loaded.now }
+        requires told { IsTold N.program.program self.old.reductions told.old self.old.key }
+        requires fork { (t : QueryTree N.program.program) × (o : Open t) × (cut : Option ℕ)
+            × IsBranchOf N.program self.old t
+            × IsOpenGoal N.program self.old.reductions t o goal
+            × StateOf N.program.program self.old.limit t (fork o (numbers clauses) cut) }
+        ensures fork { IfOk result (IsForkOf self.old goal (numbers clauses)) }
+        ensures children { IfOk result (λ point. (t : QueryTree N.program.program) → IsBranchOf N.program self.old t
+            → AreChildren N.program point t) }
+        ensures back { OnOk result (GoesBack self.old self.new) }
+        ensures key { IfOk result (λ point. self.new.key ≡ point.longer) }
+        ensures begins { IfOk result (λ point. IsPrefix (take told.old.length self.old.key) point.longer) }
+        ensures told { IfOk result (λ point. IsTold N.program.program self.old.reductions told.new point.longer) }
+        ensures length { IfOk result (λ point. told.new.length ≡ length point.longer) }
+    {
+        let parent = Snapshot::of(&*self);
+        self.decide(alloc, loaded, goal, told)?;
+        let longer = Snapshot::of(self.key());
+        let decided = self.key().len();
+        let outline = self.give_outline(alloc);
         let choicepoint = Choicepoint {
             parent,
             outline,
@@ -117,7 +145,7 @@ impl<N: Naming> Branch<N> {
             clauses,
             made: 0,
         };
-        Ok(Forked { choicepoint, left })
+        Ok(choicepoint)
     }
 
     /// Tells its key on to an open goal, so that it is what was decided. An error is want of memory.
@@ -245,14 +273,35 @@ impl<N: Naming> Choicepoint<N> {
         ensures back { IfOk result (GoesBack self.old.parent) }
         ensures unchanged { OnErr result (self.new ≡ self.old) }
     {
+        let mut branch = left;
+        self.next_in_place(loaded, &mut branch, workspace)?;
+        Ok(branch)
+    }
+
+    /// The same, where the branch of which it is made becomes the child. An error is want of memory, and the branch is
+    /// spent.
+    pub fn next_in_place(
+        &mut self,
+        loaded: &Loaded,
+        branch: &mut Branch<N>,
+        workspace: &mut Workspace,
+    ) -> Result<(), AllocError>
+        requires program { N.program ≡ named loaded.now }
+        requires children { (t : QueryTree N.program.program) × AreChildren N.program self.old t }
+        requires key { IsPrefix self.old.longer branch.old.key }
+        requires some { self.old.clauses ≢ [] }
+        requires back { GoesBack self.old.parent branch.old }
+        ensures child { OnOk result (IsChild N.program self.old self.new branch.new) }
+        ensures back { OnOk result (GoesBack self.old.parent branch.new) }
+        ensures unchanged { OnErr result (self.new ≡ self.old) }
+    {
         let clause = *self.clauses.at(self.made);
         // (So many fit a word. This says so to what follows.)
         let _all = self.clauses.len();
-        let begun = left.again_by(&self.parent, &self.outline)?;
-        let keyed = begun.keyed(self.decided, clause)?;
-        let child = keyed.taking(loaded, self.goal, clause, workspace)?;
+        branch.become_again(&self.parent, &self.outline)?;
+        branch.become_child(loaded, self.goal, self.decided, clause, workspace)?;
         self.made += 1;
-        Ok(child)
+        Ok(())
     }
 
     /// The last child, which is made in the same way. An error is want of memory.
@@ -270,6 +319,27 @@ impl<N: Naming> Choicepoint<N> {
         ensures child { IfOk result (λ b. (rest : Fork) × IsChild N.program self rest b) }
         ensures back { IfOk result (KeepsBack self.parent) }
     {
+        let mut branch = left;
+        self.last_in_place(loaded, &mut branch, workspace)?;
+        Ok(branch)
+    }
+
+    /// The same, where the branch of which it is made becomes the child. An error is want of memory, and the branch is
+    /// spent.
+    pub fn last_in_place(
+        self,
+        loaded: &Loaded,
+        branch: &mut Branch<N>,
+        workspace: &mut Workspace,
+    ) -> Result<(), AllocError>
+        requires program { N.program ≡ named loaded.now }
+        requires children { (t : QueryTree N.program.program) × AreChildren N.program self t }
+        requires key { IsPrefix self.longer branch.old.key }
+        requires some { self.clauses ≢ [] }
+        requires back { GoesBack self.parent branch.old }
+        ensures child { OnOk result ((rest : Fork) × IsChild N.program self rest branch.new) }
+        ensures back { OnOk result (KeepsBack self.parent branch.new) }
+    {
         let Choicepoint {
             parent,
             outline,
@@ -280,8 +350,8 @@ impl<N: Naming> Choicepoint<N> {
             made,
         } = self;
         let clause = *clauses.at(made);
-        let begun = left.into_first(&parent, outline);
-        let keyed = begun.keyed(decided, clause)?;
-        keyed.taking(loaded, goal, clause, workspace)
+        branch.become_first(&parent, outline);
+        branch.become_child(loaded, goal, decided, clause, workspace)?;
+        Ok(())
     }
 }

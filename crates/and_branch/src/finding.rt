@@ -19,7 +19,7 @@ use std::alloc::AllocError;
 
 /// What was found of goals, from left to right.
 #[derive(Clone, Copy)]
-pub(crate) enum Found {
+pub(crate) enum RoundSoFar {
     /// None is a call.
     NoCall,
     /// Each call has two candidates or more; the leftmost.

@@ -1,11 +1,11 @@
 //! How the children of a fork are made, each of what is left of a branch.
 
-ghost use Rattle.std.specs.Prelude.{◌≡◌, length, take, IfOk};
+ghost use Rattle.std.specs.Prelude.{◌≡◌, length, take, OnOk};
 ghost use Rattle.and_cells.specs.Parts.{named};
 ghost use Rattle.and_cells.specs.Rows.{IsSound};
 ghost use Rattle.and_branch.specs.Children.{Fork};
 ghost use Rattle.and_branch.specs.Origins.{GoesBack, KeepsBack};
-ghost use Rattle.and_branch.specs.Making.{IsBegun, IsMade, noted_from};
+ghost use Rattle.and_branch.specs.Making.{IsAgain, IsMade, noted_from};
 
 use crate::branch::Branch;
 use crate::workspace::Workspace;
@@ -34,25 +34,26 @@ impl<N: Naming> Branch<N> {
         cut_off(&mut self.reductions, count);
     }
 
-    /// The child of a fork, of which this is the beginning: the goal is taken by the clause. An error is
-    /// want of memory.
-    pub(crate) fn taking(
-        self,
+    /// Becomes the child of a fork by this clause, where it is the branch that was forked again: behind so many clauses
+    /// of its key comes this one, and the goal is taken by it. An error is want of memory, and the branch is spent.
+    pub(crate) fn become_child(
+        &mut self,
         loaded: &Loaded,
         goal: Goal,
+        decided: usize,
         clause: ClauseNo,
         workspace: &mut Workspace,
-    ) -> Result<Branch<N>, AllocError>
+    ) -> Result<(), AllocError>
         requires program { N.program ≡ named loaded.now }
-        requires begun { (f : Fork) × IsBegun N.program f clause.0 goal self }
-        ensures made { IfOk result (λ b. (f : Fork) → IsBegun N.program f clause.0 goal self
-            → IsMade N.program f clause.0 b) }
-        ensures back { IfOk result (KeepsBack self) }
+        requires again { (f : Fork) × IsAgain N.program f clause.0 goal decided self.old }
+        ensures made { OnOk result ((f : Fork) → IsAgain N.program f clause.0 goal decided self.old
+            → IsMade N.program f clause.0 self.new) }
+        ensures back { OnOk result (KeepsBack self.old self.new) }
     {
-        let mut child = self;
-        child.seek(goal)?;
-        child.reduce_next(loaded, clause, workspace)?;
-        Ok(child)
+        self.end_key(decided, clause)?;
+        self.seek(goal)?;
+        self.reduce_next(loaded, clause, workspace)?;
+        Ok(())
     }
 }
 

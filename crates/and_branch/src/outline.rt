@@ -1,6 +1,6 @@
 //! Outlines of branches, whose rows others have.
 
-ghost use Rattle.std.specs.Prelude.{◌≡◌, ◌++◌, ◌∷◌, [], take, OnOk, IfOk};
+ghost use Rattle.std.specs.Prelude.{◌≡◌, ◌++◌, ◌∷◌, [], take, OnOk};
 ghost use Rattle.and_cells.specs.Rows.{IsSound};
 ghost use Rattle.and_branch.specs.Making.{noted_from};
 ghost use Rattle.and_branch.specs.Origins.{GoesBack};
@@ -12,6 +12,7 @@ use and_model::ClauseNo;
 use and_pending::PendingGoals;
 use and_reduction::Trail;
 use std::alloc::{AllocError, Global};
+use std::mem::replace;
 use std::snapshot::Snapshot;
 
 /// A branch without its row: all of it but its key, and of its row and its reductions how many they are.
@@ -29,89 +30,67 @@ pub(crate) struct Outline {
 }
 
 impl<N: Naming> Branch<N> {
-    /// The outline of the branch, and a branch of which it can be had again. Takes no memory.
-    pub(crate) fn into_outline(self, alloc: Global) -> (Outline, Branch<N>)
-        ensures outline { IsOutlineOf self result.0 }
-        ensures back { GoesBack self result.1 }
-        ensures key { result.1.key ≡ self.key }
+    /// Gives its outline, and becomes a branch of which it can be had again. Takes no memory.
+    pub(crate) fn give_outline(&mut self, alloc: Global) -> Outline
+        ensures outline { IsOutlineOf self.old result }
+        ensures back { GoesBack self.old self.new }
+        ensures key { self.new.key ≡ self.old.key }
     {
-        let Branch {
-            key,
-            limit,
-            cells,
-            reductions,
+        let words = self.cells.len();
+        let count = self.reductions.len();
+        let goals = replace(&mut self.goals, PendingGoals::new(alloc));
+        let trail = replace(&mut self.trail, Trail::begun(alloc, words));
+        Outline {
+            limit: self.limit,
             goals,
-            used,
-            is_failed,
-            trail,
-        } = self;
-        let words = cells.len();
-        let count = reductions.len();
-        let left = Branch {
-            key,
-            limit,
-            cells,
-            reductions,
-            goals: PendingGoals::new(alloc),
-            used,
-            is_failed,
-            trail: Trail::begun(alloc, words),
-        };
-        let outline = Outline {
-            limit,
-            goals,
-            used,
-            is_failed,
+            used: self.used,
+            is_failed: self.is_failed,
             trail,
             words,
             count,
-        };
-        (outline, left)
+        }
     }
 
-    /// The first branch, but for the key, made of this one, which keeps its own. What is set of its row from here on is
-    /// noted. An error is want of memory.
-    pub(crate) fn again_by(
-        self,
+    /// Becomes the first branch again, but for the key: it keeps its own. What is set of its row from here on is noted.
+    /// An error is want of memory, and the branch is spent.
+    pub(crate) fn become_again(
+        &mut self,
         first: &Snapshot<Branch<N>>,
         outline: &Outline,
-    ) -> Result<Branch<N>, AllocError>
+    ) -> Result<(), AllocError>
         requires outline { IsOutlineOf first.now.value outline.now }
         requires sound { IsSound N.program first.now.value.row }
-        requires back { GoesBack first.now.value self }
-        ensures { IfOk result (λ b. b ≡ record first.now.value {
-          key = self.key;
+        requires back { GoesBack first.now.value self.old }
+        ensures { OnOk result (self.new ≡ record first.now.value {
+          key = self.old.key;
           trail = noted_from first.now.value.row;
         }) }
     {
-        let mut branch = self;
-        branch.go_back_by(first, outline.words, outline.count);
-        branch.fill_by(outline)?;
-        Ok(branch)
+        self.go_back_by(first, outline.words, outline.count);
+        self.fill_by(outline)?;
+        Ok(())
     }
 
-    /// The first branch, but for the key, made of this one, which keeps its own. What was noted of its row still is.
-    /// Takes no memory.
-    pub(crate) fn into_first(self, first: &Snapshot<Branch<N>>, outline: Outline) -> Branch<N>
+    /// Becomes the first branch again, but for the key: it keeps its own. What was noted of its row still is. Takes no
+    /// memory.
+    pub(crate) fn become_first(&mut self, first: &Snapshot<Branch<N>>, outline: Outline)
         requires outline { IsOutlineOf first.now.value outline }
         requires sound { IsSound N.program first.now.value.row }
-        requires back { GoesBack first.now.value self }
-        ensures { result ≡ record first.now.value { key = self.key } }
+        requires back { GoesBack first.now.value self.old }
+        ensures { self.new ≡ record first.now.value { key = self.old.key } }
     {
-        let mut branch = self;
-        branch.go_back_by(first, outline.words, outline.count);
-        branch.take_outline(outline);
-        branch
+        self.go_back_by(first, outline.words, outline.count);
+        self.take_outline(outline);
     }
 
-    /// The same branch with the first clauses of its key, and then this one, for its key. An error is want of memory.
-    pub(crate) fn keyed(self, length: usize, clause: ClauseNo) -> Result<Branch<N>, AllocError>
-        ensures { IfOk result (λ b. b ≡ record self { key = take length self.key ++ clause.0 ∷ [] }) }
+    /// Has the first clauses of its key, and then this one, for its key. An error is want of memory, and the branch is
+    /// spent.
+    pub(crate) fn end_key(&mut self, length: usize, clause: ClauseNo) -> Result<(), AllocError>
+        ensures { OnOk result (self.new ≡ record self.old { key = take length self.old.key ++ clause.0 ∷ [] }) }
     {
-        let mut branch = self;
-        branch.key.truncate(length);
-        branch.key.push(clause)?;
-        Ok(branch)
+        self.key.truncate(length);
+        self.key.push(clause)?;
+        Ok(())
     }
 
     /// Takes over what stands in the outline, but for the trail. An error is want of memory, and the branch is spent.

@@ -17,7 +17,7 @@ ghost use Rattle.and_branch.specs.States.{IsState, IsAtRest};
 
 use crate::advancing::FIRST_ROUND;
 use crate::branch::Branch;
-use crate::finding::Found;
+use crate::finding::RoundSoFar;
 use crate::forking::part;
 use crate::workspace::Workspace;
 use and_cells::Naming;
@@ -115,7 +115,7 @@ impl<N: Naming> Branch<N> {
         &mut self,
         loaded: &Loaded,
         table: &Determinacy,
-        found: Found,
+        found: RoundSoFar,
         workspace: &mut Workspace,
     ) -> Result<BranchState, AllocError>
         requires program { N.program ≡ named loaded.now }
@@ -131,9 +131,9 @@ impl<N: Naming> Branch<N> {
     {
         loaded.skeleton_is_of_the_program();
         match found {
-            Found::NoCall => Ok(self.ended(loaded)),
-            Found::Several { goal } => self.forked(loaded, table, goal, workspace),
-            Found::Heavy { goal, clause } => {
+            RoundSoFar::NoCall => Ok(self.ended(loaded)),
+            RoundSoFar::Several { goal } => self.forked(loaded, table, goal, workspace),
+            RoundSoFar::Heavy { goal, clause } => {
                 let cut = self.cut(goal, clause)?;
                 Ok(BranchState::OverLimit(cut))
             }

@@ -3,3 +3,4 @@ pub mod Told
 pub mod Owing
 pub mod Splitting
 pub mod Going
+pub mod Topped

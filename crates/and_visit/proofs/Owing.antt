@@ -13,7 +13,7 @@ use Rattle.and_cells.specs.Ranges.{NamedProgram}
 use Rattle.and_branch.specs.Branches.{Held, IsBranchOf, SameKey}
 use Rattle.and_search_laws.proofs.Splitting.{split_weighs, candidate_splits}
 use Rattle.and_traces.specs.Traces
-use Rattle.and_traces.specs.Traces.{Report, TracesQuery, CutsMeet, MeetsLimit}
+use Rattle.and_traces.specs.Traces.{Report, TracesQuery, CutsMeet}
 use Rattle.and_traces.proofs.Existing.{traces_before, some_trace, splits_traced}
 use Rattle.and_visit.specs.Walking.{Place, One, Children, Owes}
 

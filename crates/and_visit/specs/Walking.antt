@@ -1,7 +1,7 @@
 -- How far a walk was told, and what is still to be walked (this project's own).
 use Rattle.std.specs.Prelude.{ℕ, zero, suc, ◌+◌, ◌-◌, ◌*◌, ◌^◌, ◌≤◌, ◌<◌, ◌≡◌, ◌≢◌, List, [], ◌∷◌, ◌++◌, length, map}
 use Rattle.std.specs.Prelude.{take}
-use Rattle.std.specs.Prelude.{Option, Some, None}
+use Rattle.std.specs.Prelude.{Bool, true, false}
 use Rattle.and_model.specs.Prefixes.{IsPrefix}
 use Rattle.and_model.specs.Trees.{QueryTree}
 use Rattle.and_cells.specs.Ranges.{NamedProgram}
@@ -25,6 +25,11 @@ places_of ls = map (λ l. Children l.depth l.point) ls
 -- and the branches that were forked
 abbrev pub parents_of : {N : Type 0} → List (Level N) → List Held
 parents_of ls = map (λ l. l.point.parent) ls
+
+-- How many children of the fork on top are still to come.
+abbrev pub left_on_top : {N : Type 0} → List (Level N) → ℕ
+left_on_top [] = 0
+left_on_top (l ∷ ls) = length l.point.clauses
 
 -- The key is told as far as it was decided in the branch that was forked.
 pub record IsToldOf {N : Type 0} (P : NamedProgram) (l : Level N) : Type 0 where
@@ -113,10 +118,15 @@ abbrev pub IsAfter : {N : Type 0} → NamedProgram → (limit bound : ℕ) → (
 IsAfter P limit bound HasSeen stack left =
     IsLeft P limit HasSeen stack left × (turns limit (places_of stack) < bound)
 
--- There is a branch to be walked next, and there are fewer turns than so many; or nothing is left to be walked.
-abbrev pub HasTurned : {N : Type 0} → NamedProgram → (limit bound : ℕ) → (List Report → Type 0) → List (Level N)
-    → Option (Hand N)
+-- The branch in hand is to be walked next, and there are fewer turns than so many;
+abbrev pub HasNext : {N : Type 0} → NamedProgram → (limit bound : ℕ) → (List Report → Type 0) → List (Level N) → Hand N
     → Type 0
-HasTurned P limit bound HasSeen stack (Some h) =
+HasNext P limit bound HasSeen stack h =
     IsReady P limit HasSeen stack h × (turns limit (One h.depth h.branch ∷ places_of stack) < bound)
-HasTurned P limit bound HasSeen stack None = Telling P limit HasSeen []
+
+-- or nothing is left to be walked.
+abbrev pub HasTurned : {N : Type 0} → NamedProgram → (limit bound : ℕ) → (List Report → Type 0) → List (Level N) → Hand N
+    → Bool
+    → Type 0
+HasTurned P limit bound HasSeen stack h true = HasNext P limit bound HasSeen stack h
+HasTurned P limit bound HasSeen stack h false = Telling P limit HasSeen []

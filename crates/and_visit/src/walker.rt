@@ -1,6 +1,6 @@
 //! A walk, as far as it has come.
 
-ghost use Rattle.std.specs.Prelude.{◌≡◌, ◌≤◌, ◌<◌, ◌∷◌, [], reverse, false, IfOk, IfNone, IfSome};
+ghost use Rattle.std.specs.Prelude.{◌≡◌, ◌≤◌, ◌<◌, ◌∷◌, [], length, reverse, false, IfOk, OnOk};
 ghost use Rattle.and_model.specs.Trees.{QueryTree};
 ghost use Rattle.and_model.specs.Reached.{Dead};
 ghost use Rattle.and_model.specs.declared.limits.TheConstants.{MAX_LIMIT};
@@ -12,12 +12,13 @@ ghost use Rattle.and_branch.specs.States.{IsState, IsAtRest};
 ghost use Rattle.and_branch.specs.declared.state.BranchState.TheVariants.{OverLimit};
 ghost use Rattle.and_search_laws.specs.Ended.{EndsSo};
 ghost use Rattle.and_visit.specs.Searched.{IsSearched};
-ghost use Rattle.and_visit.specs.Walking.{One, IsReady, IsLeft, IsAfter, HasTurned, places_of, turns};
+ghost use Rattle.and_visit.specs.Walking.{One, IsReady, IsLeft, IsAfter, HasNext, HasTurned, places_of};
+ghost use Rattle.and_visit.specs.Walking.{left_on_top, turns};
 
 use crate::seeing::{Coded, code_if};
-use crate::stack::{Hand, Level, put, take_top};
+use crate::stack::{Hand, Level, left_on_top, put, take_top};
 use crate::visitor::Visitor;
-use and_branch::{Branch, BranchState, Forked, Rooted, Workspace};
+use and_branch::{Branch, BranchState, Rooted, Workspace};
 use and_cells::Naming;
 use and_clause_index::Determinacy;
 use and_code::Told;
@@ -25,6 +26,7 @@ use and_gate::Gate;
 use and_model::{ClauseList, Cut, Goal};
 use and_program::Loaded;
 use std::alloc::{AllocError, Global};
+use std::mem::replace;
 
 /// A walk, as far as it has come.
 #[derive(Drop)]
@@ -106,143 +108,163 @@ impl<N: Naming, V: Visitor> Walker<N, V> {
             IsSearched N.program.program self.limit (V.has_seen v) (V.has_enough v)) }
         ensures asks { IfOk result (λ v. V.asks v ≡ V.asks self.visitor) }
     {
-        let mut next = first;
+        let mut hand = first;
+        self.walk(alloc, loaded, table, gate, &mut hand)?;
+        Ok(self.visitor)
+    }
+
+    /// The same, with the branch in a hand in which each branch comes to be in its turn.
+    fn walk<G: Gate>(
+        &mut self,
+        alloc: Global,
+        loaded: &Loaded,
+        table: &Determinacy,
+        gate: &G,
+        hand: &mut Hand<N>,
+    ) -> Result<(), AllocError>
+        requires program { N.program ≡ named loaded.now }
+        requires table { IsTableOf N.program table.now }
+        requires ready { IsReady N.program self.old.limit (V.has_seen self.old.visitor)
+            (reverse self.old.stack.items) hand.old }
+        ensures searched { OnOk result (IsSearched N.program.program self.old.limit
+            (V.has_seen self.new.visitor) (V.has_enough self.new.visitor)) }
+        ensures asks { OnOk result (V.asks self.new.visitor ≡ V.asks self.old.visitor) }
+    {
         'walking: loop {
             if self.visitor.is_done() {
-                return Ok(self.visitor);
+                return Ok(());
             }
-            let left = self.explore(alloc, loaded, table, gate, next)?;
-            let after = self.next_child(alloc, loaded, left)?;
-            match after {
-                Some(child) => next = child,
-                None => return Ok(self.visitor),
+            self.explore(alloc, loaded, table, gate, hand)?;
+            let is_there = self.next_child(alloc, loaded, hand)?;
+            if !is_there {
+                return Ok(());
             }
         }
     }
 
-    /// The next child of the innermost fork, if there is one, made of what is left of a branch.
+    /// Has the next child of the innermost fork in hand, made of what is left of a branch there. Answers whether there
+    /// is one.
     fn next_child(
         &mut self,
         alloc: Global,
         loaded: &Loaded,
-        left: Branch<N>,
-    ) -> Result<Option<Hand<N>>, AllocError>
+        hand: &mut Hand<N>,
+    ) -> Result<bool, AllocError>
         requires program { N.program ≡ named loaded.now }
         requires left { IsLeft N.program self.old.limit (V.has_seen self.old.visitor)
-            (reverse self.old.stack.items) left }
+            (reverse self.old.stack.items) hand.old.branch }
         ensures turned { IfOk result (HasTurned N.program self.old.limit
             (turns self.old.limit (places_of (reverse self.old.stack.items)))
-            (V.has_seen self.old.visitor) (reverse self.new.stack.items)) }
+            (V.has_seen self.old.visitor) (reverse self.new.stack.items) hand.new) }
         ensures limit { self.new.limit ≡ self.old.limit }
         ensures visitor { self.new.visitor ≡ self.old.visitor }
     {
+        let left = left_on_top(&self.stack);
+        if left > 1 {
+            self.next_on_top(alloc, loaded, hand)?;
+            return Ok(true);
+        }
         match take_top(&mut self.stack) {
             Some(level) => {
-                let child = self.child_of(alloc, loaded, level, left)?;
-                Ok(Some(child))
+                self.last_of(loaded, level, hand)?;
+                Ok(true)
             }
-            None => Ok(None),
+            None => Ok(false),
         }
     }
 
-    /// The next child of the fork that was on top.
-    fn child_of(
+    /// Has the next child of the fork on top in hand, which is not the last.
+    fn next_on_top(
         &mut self,
         alloc: Global,
         loaded: &Loaded,
-        level: Level<N>,
-        left: Branch<N>,
-    ) -> Result<Hand<N>, AllocError>
+        hand: &mut Hand<N>,
+    ) -> Result<(), AllocError>
         requires program { N.program ≡ named loaded.now }
         requires left { IsLeft N.program self.old.limit (V.has_seen self.old.visitor)
-            (level ∷ reverse self.old.stack.items) left }
-        ensures ready { IfOk result (IsReady N.program self.old.limit (V.has_seen self.old.visitor)
-            (reverse self.new.stack.items)) }
-        ensures fewer { IfOk result (λ h. turns self.old.limit
-            (One h.depth h.branch ∷ places_of (reverse self.new.stack.items))
-            < turns self.old.limit (places_of (level ∷ reverse self.old.stack.items))) }
+            (reverse self.old.stack.items) hand.old.branch }
+        requires many { 1 < left_on_top (reverse self.old.stack.items) }
+        ensures next { OnOk result (HasNext N.program self.old.limit
+            (turns self.old.limit (places_of (reverse self.old.stack.items)))
+            (V.has_seen self.old.visitor) (reverse self.new.stack.items) hand.new) }
+        ensures limit { self.new.limit ≡ self.old.limit }
+        ensures visitor { self.new.visitor ≡ self.old.visitor }
+    {
+        let last = self.stack.len() - 1;
+        self.stack[last].next(alloc, loaded, hand, &mut self.workspace)?;
+        Ok(())
+    }
+
+    /// Has the last child of the fork that was on top in hand.
+    fn last_of(
+        &mut self,
+        loaded: &Loaded,
+        level: Level<N>,
+        hand: &mut Hand<N>,
+    ) -> Result<(), AllocError>
+        requires program { N.program ≡ named loaded.now }
+        requires left { IsLeft N.program self.old.limit (V.has_seen self.old.visitor)
+            (level ∷ reverse self.old.stack.items) hand.old.branch }
+        requires few { length level.point.clauses ≤ 1 }
+        ensures next { OnOk result (HasNext N.program self.old.limit
+            (turns self.old.limit (places_of (level ∷ reverse self.old.stack.items)))
+            (V.has_seen self.old.visitor) (reverse self.new.stack.items) hand.new) }
         ensures limit { self.new.limit ≡ self.old.limit }
         ensures visitor { self.new.visitor ≡ self.old.visitor }
     {
         let Level { point, told, depth } = level;
-        if point.left() <= 1 {
-            let last = point.into_last(loaded, left, &mut self.workspace)?;
-            return Ok(Hand {
-                branch: last,
-                told,
-                depth,
-            });
-        }
-        let mut point = point;
-        let child = point.next(loaded, left, &mut self.workspace)?;
-        let own = told.copy(alloc)?;
-        put(&mut self.stack, Level { point, told, depth })?;
-        Ok(Hand {
-            branch: child,
-            told: own,
-            depth,
-        })
+        point.last_in_place(loaded, &mut hand.branch, &mut self.workspace)?;
+        hand.told = told;
+        hand.depth = depth;
+        Ok(())
     }
 
-    /// Goes on with a branch: reduces its determinate goals, and then by its state. Answers what is left of it.
+    /// Goes on with the branch in hand: reduces its determinate goals, and then by its state. What is left of it is in
+    /// hand then.
     fn explore<G: Gate>(
         &mut self,
         alloc: Global,
         loaded: &Loaded,
         table: &Determinacy,
         gate: &G,
-        hand: Hand<N>,
-    ) -> Result<Branch<N>, AllocError>
+        hand: &mut Hand<N>,
+    ) -> Result<(), AllocError>
         requires program { N.program ≡ named loaded.now }
         requires table { IsTableOf N.program table.now }
         requires going { V.has_enough self.old.visitor ≡ false }
         requires ready { IsReady N.program self.old.limit (V.has_seen self.old.visitor)
-            (reverse self.old.stack.items) hand }
-        ensures after { IfOk result (IsAfter N.program self.old.limit
-            (turns self.old.limit (One hand.depth hand.branch ∷ places_of (reverse self.old.stack.items)))
-            (V.has_seen self.new.visitor) (reverse self.new.stack.items)) }
+            (reverse self.old.stack.items) hand.old }
+        ensures after { OnOk result (IsAfter N.program self.old.limit
+            (turns self.old.limit (One hand.old.depth hand.old.branch ∷ places_of (reverse self.old.stack.items)))
+            (V.has_seen self.new.visitor) (reverse self.new.stack.items) hand.new.branch) }
         ensures limit { self.new.limit ≡ self.old.limit }
         ensures asks { V.asks self.new.visitor ≡ V.asks self.old.visitor }
     {
-        let Hand {
-            branch,
-            told,
-            depth,
-        } = hand;
-        let mut branch = branch;
-        let state = branch.advance_to_state(loaded, table, gate, &mut self.workspace)?;
-        self.go_by(
-            alloc,
-            loaded,
-            gate,
-            Hand {
-                branch,
-                told,
-                depth,
-            },
-            state,
-        )
+        let state = hand
+            .branch
+            .advance_to_state(loaded, table, gate, &mut self.workspace)?;
+        self.go_by(alloc, loaded, gate, hand, state)
     }
 
-    /// Goes on with a branch by its state. Answers what is left of it.
+    /// Goes on with the branch in hand by its state. What is left of it is in hand then.
     fn go_by<G: Gate>(
         &mut self,
         alloc: Global,
         loaded: &Loaded,
         gate: &G,
-        hand: Hand<N>,
+        hand: &mut Hand<N>,
         state: BranchState,
-    ) -> Result<Branch<N>, AllocError>
+    ) -> Result<(), AllocError>
         requires program { N.program ≡ named loaded.now }
         requires going { V.has_enough self.old.visitor ≡ false }
         requires ready { IsReady N.program self.old.limit (V.has_seen self.old.visitor)
-            (reverse self.old.stack.items) hand }
-        requires state { (t : QueryTree N.program.program) → IsBranchOf N.program hand.branch t
-            → IsState N.program hand.branch t state }
-        requires at_rest { IsAtRest N.program hand.branch state }
-        ensures after { IfOk result (IsAfter N.program self.old.limit
-            (turns self.old.limit (One hand.depth hand.branch ∷ places_of (reverse self.old.stack.items)))
-            (V.has_seen self.new.visitor) (reverse self.new.stack.items)) }
+            (reverse self.old.stack.items) hand.old }
+        requires state { (t : QueryTree N.program.program) → IsBranchOf N.program hand.old.branch t
+            → IsState N.program hand.old.branch t state }
+        requires at_rest { IsAtRest N.program hand.old.branch state }
+        ensures after { OnOk result (IsAfter N.program self.old.limit
+            (turns self.old.limit (One hand.old.depth hand.old.branch ∷ places_of (reverse self.old.stack.items)))
+            (V.has_seen self.new.visitor) (reverse self.new.stack.items) hand.new.branch) }
         ensures limit { self.new.limit ≡ self.old.limit }
         ensures asks { V.asks self.new.visitor ≡ V.asks self.old.visitor }
     {
@@ -252,122 +274,108 @@ impl<N: Naming, V: Visitor> Walker<N, V> {
             }
             BranchState::Answer => self.end(alloc, loaded, gate, hand, false),
             BranchState::Floundered => self.end(alloc, loaded, gate, hand, true),
-            BranchState::Failed => self.fail(hand),
-            BranchState::OverLimit(cut) => self.over(hand, cut),
+            BranchState::Failed => self.fail(&*hand),
+            BranchState::OverLimit(cut) => self.over(&*hand, cut),
         }
     }
 
-    /// Forks a branch, whose state is a fork so: its children are on top then. Answers what is left of it.
+    /// Forks the branch in hand, whose state is a fork so: its children are on top then.
     fn fork(
         &mut self,
         alloc: Global,
         loaded: &Loaded,
-        hand: Hand<N>,
+        hand: &mut Hand<N>,
         goal: Goal,
         clauses: ClauseList,
         cut: Option<Cut>,
-    ) -> Result<Branch<N>, AllocError>
+    ) -> Result<(), AllocError>
         requires program { N.program ≡ named loaded.now }
         requires going { V.has_enough self.old.visitor ≡ false }
         requires ready { IsReady N.program self.old.limit (V.has_seen self.old.visitor)
-            (reverse self.old.stack.items) hand }
-        requires state { (t : QueryTree N.program.program) → IsBranchOf N.program hand.branch t
-            → IsState N.program hand.branch t (BranchState.Fork goal clauses cut) }
-        ensures after { IfOk result (IsAfter N.program self.old.limit
-            (turns self.old.limit (One hand.depth hand.branch ∷ places_of (reverse self.old.stack.items)))
-            (V.has_seen self.new.visitor) (reverse self.new.stack.items)) }
+            (reverse self.old.stack.items) hand.old }
+        requires state { (t : QueryTree N.program.program) → IsBranchOf N.program hand.old.branch t
+            → IsState N.program hand.old.branch t (BranchState.Fork goal clauses cut) }
+        ensures after { OnOk result (IsAfter N.program self.old.limit
+            (turns self.old.limit (One hand.old.depth hand.old.branch ∷ places_of (reverse self.old.stack.items)))
+            (V.has_seen self.new.visitor) (reverse self.new.stack.items) hand.new.branch) }
         ensures limit { self.new.limit ≡ self.old.limit }
         ensures asks { V.asks self.new.visitor ≡ V.asks self.old.visitor }
     {
-        let Hand {
-            branch,
-            told,
-            depth,
-        } = hand;
-        self.visitor.see_fork(depth, &clauses, cut)?;
-        let below = depth + 1;
+        self.visitor.see_fork(hand.depth, &clauses, cut)?;
+        let depth = hand.depth + 1;
         // (So many fit a word. This says so to what follows.)
         let _all = clauses.len();
-        let mut told = told;
-        let forked = branch.fork(alloc, loaded, goal, clauses, &mut told)?;
-        let Forked { choicepoint, left } = forked;
-        put(
-            &mut self.stack,
-            Level {
-                point: choicepoint,
-                told,
-                depth: below,
-            },
-        )?;
-        Ok(left)
+        let point = hand
+            .branch
+            .fork_in_place(alloc, loaded, goal, clauses, &mut hand.told)?;
+        let told = replace(&mut hand.told, Told::begun(alloc, loaded));
+        put(&mut self.stack, Level { point, told, depth })?;
+        Ok(())
     }
 
-    /// Tells of a branch that failed.
-    fn fail(&mut self, hand: Hand<N>) -> Result<Branch<N>, AllocError>
+    /// Tells of a branch in hand that failed.
+    fn fail(&mut self, hand: &Hand<N>) -> Result<(), AllocError>
         requires going { V.has_enough self.old.visitor ≡ false }
         requires ready { IsReady N.program self.old.limit (V.has_seen self.old.visitor)
-            (reverse self.old.stack.items) hand }
-        requires dead { (t : QueryTree N.program.program) → IsBranchOf N.program hand.branch t → Dead t }
-        ensures after { IfOk result (IsAfter N.program self.old.limit
-            (turns self.old.limit (One hand.depth hand.branch ∷ places_of (reverse self.old.stack.items)))
-            (V.has_seen self.new.visitor) (reverse self.new.stack.items)) }
+            (reverse self.old.stack.items) hand.now }
+        requires dead { (t : QueryTree N.program.program) → IsBranchOf N.program hand.now.branch t → Dead t }
+        ensures after { OnOk result (IsAfter N.program self.old.limit
+            (turns self.old.limit (One hand.now.depth hand.now.branch ∷ places_of (reverse self.old.stack.items)))
+            (V.has_seen self.new.visitor) (reverse self.new.stack.items) hand.now.branch) }
         ensures limit { self.new.limit ≡ self.old.limit }
         ensures asks { V.asks self.new.visitor ≡ V.asks self.old.visitor }
     {
         self.visitor.see_failed(hand.depth)?;
-        Ok(hand.branch)
+        Ok(())
     }
 
-    /// Tells of a branch that the limit keeps from going on.
-    fn over(&mut self, hand: Hand<N>, cut: Cut) -> Result<Branch<N>, AllocError>
+    /// Tells of a branch in hand that the limit keeps from going on.
+    fn over(&mut self, hand: &Hand<N>, cut: Cut) -> Result<(), AllocError>
         requires going { V.has_enough self.old.visitor ≡ false }
         requires ready { IsReady N.program self.old.limit (V.has_seen self.old.visitor)
-            (reverse self.old.stack.items) hand }
-        requires state { (t : QueryTree N.program.program) → IsBranchOf N.program hand.branch t
-            → IsState N.program hand.branch t (OverLimit cut) }
-        ensures after { IfOk result (IsAfter N.program self.old.limit
-            (turns self.old.limit (One hand.depth hand.branch ∷ places_of (reverse self.old.stack.items)))
-            (V.has_seen self.new.visitor) (reverse self.new.stack.items)) }
+            (reverse self.old.stack.items) hand.now }
+        requires state { (t : QueryTree N.program.program) → IsBranchOf N.program hand.now.branch t
+            → IsState N.program hand.now.branch t (OverLimit cut) }
+        ensures after { OnOk result (IsAfter N.program self.old.limit
+            (turns self.old.limit (One hand.now.depth hand.now.branch ∷ places_of (reverse self.old.stack.items)))
+            (V.has_seen self.new.visitor) (reverse self.new.stack.items) hand.now.branch) }
         ensures limit { self.new.limit ≡ self.old.limit }
         ensures asks { V.asks self.new.visitor ≡ V.asks self.old.visitor }
     {
         self.visitor.see_cut(hand.depth, cut)?;
-        Ok(hand.branch)
+        Ok(())
     }
 
-    /// Tells of a branch that ended, and tells the gate of it.
+    /// Tells of a branch in hand that ended, and tells the gate of it.
     fn end<G: Gate>(
         &mut self,
         alloc: Global,
         loaded: &Loaded,
         gate: &G,
-        hand: Hand<N>,
+        hand: &mut Hand<N>,
         floundered: bool,
-    ) -> Result<Branch<N>, AllocError>
+    ) -> Result<(), AllocError>
         requires program { N.program ≡ named loaded.now }
         requires going { V.has_enough self.old.visitor ≡ false }
         requires ready { IsReady N.program self.old.limit (V.has_seen self.old.visitor)
-            (reverse self.old.stack.items) hand }
-        requires ended { HasEnded N.program hand.branch }
-        requires state { (t : QueryTree N.program.program) → IsBranchOf N.program hand.branch t
-            → EndsSo N.program hand.branch t floundered }
-        ensures after { IfOk result (IsAfter N.program self.old.limit
-            (turns self.old.limit (One hand.depth hand.branch ∷ places_of (reverse self.old.stack.items)))
-            (V.has_seen self.new.visitor) (reverse self.new.stack.items)) }
+            (reverse self.old.stack.items) hand.old }
+        requires ended { HasEnded N.program hand.old.branch }
+        requires state { (t : QueryTree N.program.program) → IsBranchOf N.program hand.old.branch t
+            → EndsSo N.program hand.old.branch t floundered }
+        ensures after { OnOk result (IsAfter N.program self.old.limit
+            (turns self.old.limit (One hand.old.depth hand.old.branch ∷ places_of (reverse self.old.stack.items)))
+            (V.has_seen self.new.visitor) (reverse self.new.stack.items) hand.new.branch) }
         ensures limit { self.new.limit ≡ self.old.limit }
         ensures asks { V.asks self.new.visitor ≡ V.asks self.old.visitor }
     {
-        let Hand {
-            branch,
-            told,
-            depth,
-        } = hand;
         let wanted = self.visitor.wants_code();
-        let coded = code_if(alloc, loaded, &branch, told, wanted)?;
-        let line = branch.line(alloc, loaded)?;
+        let told = replace(&mut hand.told, Told::begun(alloc, loaded));
+        let coded = code_if(alloc, loaded, &hand.branch, told, wanted)?;
+        let line = hand.branch.line(alloc, loaded)?;
         let Coded { named, code } = coded;
-        self.visitor.see_end(depth, named, code, line, floundered)?;
+        self.visitor
+            .see_end(hand.depth, named, code, line, floundered)?;
         gate.found(0);
-        Ok(branch)
+        Ok(())
     }
 }

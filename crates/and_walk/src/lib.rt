@@ -15,26 +15,10 @@ mod finder;
 use crate::finder::{Coder, Finder};
 use and_answers::{Found, Latest};
 use and_clause_index::Determinacy;
-use and_gate::{Gate, Quiet};
+use and_gate::Gate;
 use and_program::Loaded;
 use and_visit::search;
 use std::alloc::{AllocError, Global};
-
-/// All answers of a program within a limit, in the order of their codes, and how the search ended. An
-/// error is want of memory.
-pub fn walk(
-    alloc: Global,
-    loaded: &Loaded,
-    table: &Determinacy,
-    limit: u32,
-) -> Result<Found, AllocError>
-    requires table { IsTableOf (named loaded.now) table.now }
-    requires limit { limit ≤ MAX_LIMIT }
-    ensures found { IfOk result (IsFound (program_of loaded.now) limit) }
-    ensures walked { IfOk result (WasWalked (program_of loaded.now) limit) }
-{
-    walk_watched(alloc, loaded, table, limit, &Quiet)
-}
 
 /// All answers of a program within a limit, in the order of their codes, and how the search ended. A gate is told
 /// of each reduction before it is made, and of each answer. An error is want of memory.

@@ -1,6 +1,6 @@
 use Rattle.std.proofs.Common.{subst}
 use Rattle.and_branch.specs.Finding.{HasFound}
-use Rattle.and_branch.specs.declared.finding.Found.{Found}
+use Rattle.and_branch.specs.declared.finding.RoundSoFar.{RoundSoFar}
 use Rattle.and_branch.proofs.LoadedPrograms.{is_loaded}
 use Rattle.and_branch.proofs.StatesFound.{told_heavy}
 use Rattle.and_branch.proofs.branch.Branch.told.Goals as goal
@@ -11,7 +11,7 @@ returns-in_ok-cut-in-Heavy-clause-judged g c = λ t x.
     let b = c.args.self.now in
     let says = c.skeleton_is_of_the_program.ensures in
     let loaded = is_loaded P c.args.loaded.now c.requires.program says.skeleton says.own_variables says.few in
-    let found = subst (λ (f : Found). HasFound P b.limit b.row b.left f) c.in-Heavy.is c.requires.found in
+    let found = subst (λ (f : RoundSoFar). HasFound P b.limit b.row b.left f) c.in-Heavy.is c.requires.found in
     let cut = c.in_ok-cut-in-Heavy.ensures in
     told_heavy P loaded b t x c.requires.live c.requires.rests c.in-Heavy.goal c.in-Heavy.clause found c.in_ok-cut-in-Heavy.cut cut.partial
     cut.goal cut.clause

@@ -1,6 +1,8 @@
-use Rattle.std.proofs.Common.{ℕ, List, [], ◌∷◌, reverse, refl}
+use Rattle.std.proofs.Common.{ℕ, List, [], ◌∷◌, reverse, refl, sym, subst}
 use Rattle.and_model.specs.Listing.{Outcome}
 use Rattle.and_cells.specs.Ranges.{NamedProgram}
+use Rattle.and_code.specs.Telling.{IsTold}
+use Rattle.and_code.specs.declared.telling.Told.{Told}
 use Rattle.and_answers.specs.Kept.{outcome_with}
 use Rattle.and_search_laws.proofs.Telling.{told_ends}
 use Rattle.and_traces.specs.Traces.{Report, ended}
@@ -8,11 +10,17 @@ use Rattle.and_visit.proofs.Going.{after_told, not_cut}
 use Rattle.and_visit.proofs.Owing.{end_trace}
 use Rattle.and_visit.proofs.walker.Walker.end.Goals as goal
 
+pub code_if-requires-clause-told : goal.code_if-requires-clause-told
+code_if-requires-clause-told g c =
+    let h = c.args.hand.now in
+    subst (λ (t : Told). IsTold g.N.Naming.program.program h.branch.reductions t h.branch.key) (sym c.replace-told.ensures.value)
+    c.requires.ready.told
+
 pub returns-clause-after : goal.returns-clause-after
 returns-clause-after g c =
     let P : NamedProgram = g.N.Naming.program in
     let s = c.args.self.now in
-    let h = c.args.hand in
+    let h = c.args.hand.now in
     let cs : List ℕ = c.in_ok-coded.coded.named.value in
     let o : Outcome = outcome_with c.args.floundered c.in_ok-line.line in
     let r : Report = record { depth = h.depth; event = ended cs o } in

@@ -9,7 +9,7 @@ pub returns-clause-after : goal.returns-clause-after
 returns-clause-after g c =
     let P : NamedProgram = g.N.Naming.program in
     let s = c.args.self.now in
-    let h = c.args.hand in
+    let h = c.args.hand.now in
     let r : Report = record { depth = h.depth; event = failed } in
     after_told P s.limit (g.V.Visitor.has_seen s.visitor) (g.V.Visitor.has_seen c.see_failed.new.self) (reverse s.stack.items) h (r ∷ [])
     c.requires.ready (λ t branch limited. dead_trace P s.limit h.branch h.depth t branch limited (c.requires.dead t branch))

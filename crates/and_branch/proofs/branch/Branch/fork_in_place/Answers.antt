@@ -5,7 +5,7 @@ use Rattle.and_branch.specs.Outlines.{IsOutlineOf}
 use Rattle.and_branch.specs.States.{numbers}
 use Rattle.and_branch.proofs.ForkReduced.{are_children}
 use Rattle.and_branch.proofs.KeptOrigins.{back_by_key, outline_by_key}
-use Rattle.and_branch.proofs.branch.Branch.fork.Goals as goal
+use Rattle.and_branch.proofs.branch.Branch.fork_in_place.Goals as goal
 
 pub decide-requires-clause-goal : goal.decide-requires-clause-goal
 decide-requires-clause-goal g c = let (u, o, cut, y, is_open, state) = c.requires.fork in (u, o, y, is_open)
@@ -14,7 +14,7 @@ pub returns-clause-children : goal.returns-clause-children
 returns-clause-children g c = λ t x.
     let P = g.N.Naming.program in
     let code = c.decide.new.self.key in
-    let children = are_children P c.args.self c.args.goal code (numbers c.args.clauses) c.in_ok-decide.ensures.decided c.requires.fork t x in
+    let children = are_children P c.args.self.now c.args.goal code (numbers c.args.clauses) c.in_ok-decide.ensures.decided c.requires.fork t x in
     subst (λ (longer : List ℕ). AreChildren P (record {
       parent = c.of-parent.result.value;
       goal = c.args.goal;
@@ -26,11 +26,12 @@ returns-clause-children g c = λ t x.
 
 pub returns-clause-back : goal.returns-clause-back
 returns-clause-back g c =
-    back_by_key c.args.self c.decide.new.self c.in_ok-decide.ensures.same _ c.into_outline-outline.ensures.back
+    back_by_key c.args.self.now c.decide.new.self c.in_ok-decide.ensures.same c.give_outline-outline.new.self c.give_outline-outline.ensures.back
 
 pub invariant_of-choicepoint : goal.invariant_of-choicepoint
 invariant_of-choicepoint g c = (
-  subst (λ (b : Held). IsOutlineOf b c.into_outline-outline.result.0) (sym c.of-parent.ensures)
-      (outline_by_key c.args.self c.decide.new.self c.in_ok-decide.ensures.same c.into_outline-outline.result.0 c.into_outline-outline.ensures.outline),
+  subst (λ (b : Held). IsOutlineOf b c.give_outline-outline.result) (sym c.of-parent.ensures)
+      (outline_by_key c.args.self.now c.decide.new.self c.in_ok-decide.ensures.same c.give_outline-outline.result
+      c.give_outline-outline.ensures.outline),
   ap (λ (l : List ℕ). length l) (c.of-longer.ensures ∙ c.key.ensures ∙ sym c.key-2.ensures) ∙ sym c.len-decided.ensures,
 )

@@ -1,7 +1,0 @@
-use Rattle.and_branch.proofs.KeptOrigins.{outlined_first}
-use Rattle.and_branch.proofs.branch.Branch.into_first.Goals as goal
-
-pub returns : goal.returns
-returns g c =
-    outlined_first c.args.first.now.value c.args.outline c.requires.outline c.args.self c.go_back_by.new.self c.take_outline.new.self
-    c.go_back_by.ensures c.take_outline.ensures

@@ -1,0 +1,55 @@
+use Rattle.std.proofs.Common.{[], ◌+◌, ◌≢◌, drop, ap, sym, subst}
+use Rattle.and_cells.specs.Rows.{IsSound}
+use Rattle.and_branch.specs.Branches.{Held}
+use Rattle.and_branch.specs.Children.{Fork}
+use Rattle.and_branch.specs.Origins.{GoesBack, KeepsBack}
+use Rattle.and_branch.proofs.ForkReduced.{again_by, child_by, kept_fork, parent_sound, some_left}
+use Rattle.and_branch.proofs.KeptOrigins.{kept_same, kept_then}
+use Rattle.and_branch.proofs.choicepoint.Choicepoint.last_in_place.Goals as goal
+
+pub at-clause-requires : goal.at-clause-requires
+at-clause-requires g c =
+    some_left c.self.inside.clauses c.self.inside.made (subst (λ (h : Fork). h.clauses ≢ []) (sym c.self.view_is) c.requires.some)
+
+pub become_first-requires-clause-sound : goal.become_first-requires-clause-sound
+become_first-requires-clause-sound g c =
+    let P = g.N.Naming.program in
+    let (t, k) = c.requires.children in
+    subst (λ (h : Fork). IsSound P h.parent.row) (sym c.self.view_is) (parent_sound P c.args.self t k)
+
+pub become_first-requires-clause-back : goal.become_first-requires-clause-back
+become_first-requires-clause-back g c =
+    subst (λ (h : Fork). GoesBack h.parent c.args.branch.now) (sym c.self.view_is) c.requires.back
+
+pub become_child-requires-clause-again : goal.become_child-requires-clause-again
+become_child-requires-clause-again g c =
+    let i = c.self.inside in
+    let parent = i.parent.value in (
+      kept_fork parent i.goal i.longer.value i.clauses,
+      again_by g.N.Naming.program parent i.goal i.longer.value i.clauses i.made c.args.self c.self.view_is c.at-clause.result.now
+          c.at-clause.ensures c.requires.children i.decided c.self.invariant.1 c.args.branch.now c.requires.key parent.trail
+          c.become_first.new.self c.become_first.ensures,
+    )
+
+pub returns-clause-child : goal.returns-clause-child
+returns-clause-child g c =
+    let P = g.N.Naming.program in
+    let i = c.self.inside in
+    let parent = i.parent.value in
+    let f : Fork = kept_fork parent i.goal i.longer.value i.clauses in
+    let again = again_by P parent i.goal i.longer.value i.clauses i.made c.args.self c.self.view_is c.at-clause.result.now c.at-clause.ensures
+    c.requires.children i.decided c.self.invariant.1 c.args.branch.now c.requires.key parent.trail c.become_first.new.self
+    c.become_first.ensures in (
+      record f { clauses = drop (i.made + 1) f.clauses },
+      child_by P parent i.goal i.longer.value i.clauses i.made c.args.self c.self.view_is c.at-clause.result.now c.at-clause.ensures
+          c.become_child.new.self (c.in_ok-become_child.ensures.made f again),
+    )
+
+pub returns-clause-back : goal.returns-clause-back
+returns-clause-back g c =
+    let parent = c.self.inside.parent.value in
+    let first = c.become_first.new.self in
+    let is = c.become_first.ensures in
+    let same = kept_same parent first (ap (λ (h : Held). h.row) is) (ap (λ (h : Held). h.reductions) is) (ap (λ (h : Held). h.trail) is) in
+    subst (λ (h : Fork). KeepsBack h.parent c.become_child.new.self) c.self.view_is
+    (kept_then parent first c.become_child.new.self same c.in_ok-become_child.ensures.back)
