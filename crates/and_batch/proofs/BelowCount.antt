@@ -3,11 +3,13 @@ use Rattle.std.proofs.Common.{◌≡◌, ℕ, zero, suc, ◌+◌, ◌<◌, ◌�
 use Rattle.std.specs.Prelude.{All, Contains}
 use Rattle.std.proofs.lemmas.Bool.{cases_lt}
 use Rattle.std.proofs.lemmas.List.Elements.{All-cons, Contains-append_right}
-use Rattle.and_batch.specs.declared.share.Share.{Share}
-use Rattle.and_batch.specs.Balance.{weigh, below, HasLeft}
+use Rattle.and_shares.specs.declared.share.Share.{Share}
+use Rattle.and_shares.specs.Balance.{HasLeft}
+use Rattle.and_shares.specs.Bags.{weigh}
+use Rattle.and_batch.specs.Balance.{below}
 use Rattle.and_batch.specs.Dones.{DoneSeen, numbers_of}
 use Rattle.and_batch.specs.Working.{IsEachOnce}
-use Rattle.and_batch.proofs.Totals.{weigh-append, weigh-one}
+use Rattle.and_shares.proofs.Totals.{weigh-append, weigh-one}
 
 pub length-below : (n : ℕ) → length (below n) ≡ n
 length-below zero = refl
@@ -17,7 +19,7 @@ pub below-next : (n : ℕ) → below (n + 1) ≡ below n ++ n ∷ []
 below-next n = let e : n + 1 ≡ suc n = omega arith in ap below e
 
 -- where nothing was taken, as many numbers are left as were put
-pub as_many : (v : Share) (numbers : List ℕ) → v.parts ≡ 9 → v.taken ≡ [] → HasLeft v numbers → length v.put ≡ length numbers
+pub as_many : (v : Share ℕ) (numbers : List ℕ) → v.parts ≡ 9 → v.taken ≡ [] → HasLeft 9 v numbers → length v.put ≡ length numbers
 as_many v numbers all none left =
     let same = left all (λ n. 1) in
     let a = weigh-one v.put in

@@ -1,4 +1,3 @@
-mod Totals
 mod Moves
 mod BelowCount
 mod Called

@@ -5,9 +5,10 @@ use Rattle.std.specs.declared.alloc.AllocError.{AllocError}
 use Rattle.crossbeam_queue.specs.declared.array_queue.Doing.{Doing}
 use Rattle.crossbeam_queue.specs.declared.array_queue.Slotted.{Slotted}
 use Rattle.crossbeam_queue.specs.Passes.{view, IsPassOf}
-use Rattle.and_batch.specs.declared.share.Share.{Share}
+use Rattle.and_shares.specs.declared.share.Share.{Share}
 use Rattle.and_batch.specs.declared.working.Worked.{Worked}
-use Rattle.and_batch.specs.Balance.{share, weigh}
+use Rattle.and_shares.specs.Balance.{share}
+use Rattle.and_shares.specs.Bags.{weigh}
 use Rattle.and_batch.specs.Dones.{DoneSeen, done, numbers_of}
 
 -- each text is due for its number
@@ -15,18 +16,18 @@ abbrev pub AreDue : (ℕ → List ℕ → Type 0) → List DoneSeen → Type 0
 AreDue due ds = All (λ (d : DoneSeen). due d.number d.text) ds
 
 -- the jobs that were done are those whose numbers were taken since
-abbrev pub TookThese : (v w : Share) → List DoneSeen → Type 0
+abbrev pub TookThese : (v w : Share ℕ) → List DoneSeen → Type 0
 TookThese v w ds = w ≡ share v.parts v.put (v.taken ++ numbers_of ds)
 
 -- What a worker hands on that began with one part of the right to know the queue, and with no number taken.
-abbrev pub IsWorked : {Q A : Type 0} → Slotted (Option ℕ) (Doing ℕ Share) Q A → (ℕ → List ℕ → Type 0)
+abbrev pub IsWorked : {Q A : Type 0} → Slotted (Option ℕ) (Doing ℕ (Share ℕ)) Q A → (ℕ → List ℕ → Type 0)
     → Result Worked AllocError → Type 0
 IsWorked q due result = IfOk result
     (λ w. IsPassOf q w.pass × TookThese (share 1 [] []) (view w.pass) w.dones.items × AreDue due w.dones.items)
 
 -- What the worker hands on that leads and began with that right: the same, and its tools.
-abbrev pub IsLed : {Q A D : Type 0} → Slotted (Option ℕ) (Doing ℕ Share) Q A → (ℕ → List ℕ → Type 0) → (D → Type 0)
-    → Share → Worked × D → Type 0
+abbrev pub IsLed : {Q A D : Type 0} → Slotted (Option ℕ) (Doing ℕ (Share ℕ)) Q A → (ℕ → List ℕ → Type 0) → (D → Type 0)
+    → Share ℕ → Worked × D → Type 0
 IsLed q due fit v w = IsPassOf q w.0.pass × TookThese v (view w.0.pass) w.0.dones.items
     × AreDue due w.0.dones.items × fit w.1
 

@@ -6,7 +6,6 @@ mod list;
 mod numbers;
 mod placing;
 mod running;
-mod share;
 mod signal;
 mod working;
 

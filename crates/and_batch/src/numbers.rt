@@ -2,9 +2,10 @@
 
 ghost use Rattle.std.specs.Prelude.{◌≡◌, ◌+◌, ◌-◌, ◌<◌, ◌≤◌, ◌++◌, ◌∷◌, [], length, All, IfOk, OnOk};
 ghost use Rattle.crossbeam_queue.specs.Passes.{view, IsPassOf, ruled_capacity};
-ghost use Rattle.and_batch.specs.Balance.{share, Balanced, HasLeft, below};
+ghost use Rattle.and_shares.specs.Balance.{share, HasLeft};
+ghost use Rattle.and_batch.specs.Balance.{IsBalanced, below};
 
-use crate::share::Share;
+use and_shares::Share;
 use crossbeam_queue::protocol::{Join, Lesson, Outcome, Protocol, Split};
 use crossbeam_queue::{Pass, RuledArrayQueue};
 use std::alloc::{AllocError, Global};
@@ -13,8 +14,8 @@ use std::sync::Wait;
 /// The rule.
 pub struct Fair;
 
-impl Protocol<u32, Share> for Fair {
-    ghost holds = { Balanced };
+impl Protocol<u32, Share<u32>> for Fair {
+    ghost holds = { IsBalanced };
 
     ghost first = { share 9 [] [] };
 }
@@ -22,45 +23,45 @@ impl Protocol<u32, Share> for Fair {
 /// A number is put.
 pub struct Puts;
 
-impl Outcome<u32, Share> for Puts {
+impl Outcome<u32, Share<u32>> for Puts {
     ghost then = { λ v x w. w ≡ share v.parts (v.put ++ x ∷ []) v.taken };
 }
 
-impl Lesson<u32, Share> for Puts {
-    ghost fact = { HasLeft };
+impl Lesson<u32, Share<u32>> for Puts {
+    ghost fact = { HasLeft 9 };
 }
 
 /// A number is taken, or the queue is found empty.
 pub struct Takes;
 
-impl Outcome<u32, Share> for Takes {
+impl Outcome<u32, Share<u32>> for Takes {
     ghost then = { λ v x w. w ≡ share v.parts v.put (v.taken ++ x ∷ []) };
 }
 
-impl Lesson<u32, Share> for Takes {
-    ghost fact = { HasLeft };
+impl Lesson<u32, Share<u32>> for Takes {
+    ghost fact = { HasLeft 9 };
 }
 
 /// How passes are made of one another, and put together again.
 pub struct Cut;
 
-impl Split<Share> for Cut {
+impl Split<Share<u32>> for Cut {
     ghost left = { λ v. share (v.parts - 1) v.put v.taken };
 
     ghost right = { λ v. share 1 [] [] };
 }
 
-impl Join<Share> for Cut {
+impl Join<Share<u32>> for Cut {
     ghost both = { λ v w. share (v.parts + w.parts) (v.put ++ w.put) (v.taken ++ w.taken) };
 
     ghost spent = { share 0 [] [] };
 }
 
 /// The numbers of jobs that nobody has taken yet.
-pub type Numbers = RuledArrayQueue<u32, Share, Fair>;
+pub type Numbers = RuledArrayQueue<u32, Share<u32>, Fair>;
 
 /// What one thread may do with them.
-pub type NumbersPass = Pass<u32, Share>;
+pub type NumbersPass = Pass<u32, Share<u32>>;
 
 /// Puts a number that nobody has taken yet. Who does so has all parts of the right to know the queue, which has room.
 fn put<R: Wait>(rt: &R, numbers: &Numbers, pass: &mut NumbersPass, number: u32)

@@ -3,7 +3,8 @@
 ghost use Rattle.std.specs.Prelude.{◌≡◌, ◌+◌, ◌<◌, ◌≤◌, ◌++◌, [], length, All, IfOk, IfErr, OnOk};
 ghost use Rattle.std.specs.Thread.{IsSync};
 ghost use Rattle.crossbeam_queue.specs.Passes.{view, IsPassOf};
-ghost use Rattle.and_batch.specs.Balance.{share, below};
+ghost use Rattle.and_shares.specs.Balance.{share};
+ghost use Rattle.and_batch.specs.Balance.{below};
 ghost use Rattle.and_batch.specs.Dones.{numbers_of};
 ghost use Rattle.and_batch.specs.Working.{AreDue, IsWorked, IsLed, TookThese, IsEachOnce, IsDueAtEach};
 

@@ -2,7 +2,7 @@
 
 ghost use Rattle.std.specs.Prelude.{◌≡◌, ◌<◌, [], ◌∷◌, ◌++◌, IfOk, OnOk};
 ghost use Rattle.crossbeam_queue.specs.Passes.{view, IsPassOf};
-ghost use Rattle.and_batch.specs.Balance.{HasLeft};
+ghost use Rattle.and_shares.specs.Balance.{HasLeft};
 ghost use Rattle.and_batch.specs.Dones.{DoneSeen};
 ghost use Rattle.and_batch.specs.Working.{AreDue, TookThese};
 
@@ -56,7 +56,7 @@ pub fn work<R: Wait, T: Trade>(
     ensures pass { IfOk result (λ w. IsPassOf numbers.now w.0.pass) }
     ensures took { IfOk result (λ w. TookThese (view pass) (view w.0.pass) w.0.dones.items) }
     ensures due { IfOk result (λ w. AreDue (T.due trade.now) w.0.dones.items) }
-    ensures none_left { IfOk result (λ w. HasLeft (view w.0.pass) []) }
+    ensures none_left { IfOk result (λ w. HasLeft 9 (view w.0.pass) []) }
     ensures fit { IfOk result (λ w. T.fit trade.now w.1) }
 {
     let mut dones = Vec::new(alloc);

@@ -17,7 +17,7 @@ use Rattle.and_store_laws.proofs.Lists.{contains_more, contains_map, map_contain
 use Rattle.and_store_laws.proofs.Pairwise.{all_first}
 use Rattle.and_handed.specs.Handed.{IsSole}
 use Rattle.and_handed.specs.declared.told.Reduced.{Reduced}
-use Rattle.and_handed.specs.declared.told.Told.{Told}
+use Rattle.and_handed.specs.declared.told.HandedOn.{HandedOn}
 use Rattle.and_gathering.specs.Gathering.{IsGathered, goal_taken}
 use Rattle.and_gathering.specs.declared.gathering.Gathered.{Gathered}
 use Rattle.and_gathering.specs.declared.links.Taken.TheVariants as variants
@@ -33,7 +33,7 @@ use Rattle.and_closing_laws.proofs.Meeting.{made_met, met_made, met_step, step_m
 use Rattle.and_closing_laws.proofs.Journals.{journal_behind, acts_numbered}
 use Rattle.and_closing_laws.proofs.Taking.{made_act, act_made}
 
-module _ (P : NamedProgram) (first row : List Ref) (tolds : List Told) (h : HasPhased P first row tolds) (goals : List Goal) (used limit : ℕ) (g : Gathered)
+module _ (P : NamedProgram) (first row : List Ref) (tolds : List HandedOn) (h : HasPhased P first row tolds) (goals : List Goal) (used limit : ℕ) (g : Gathered)
     (q : IsGathered P.program goals used limit tolds g) (long : length first ≡ used) (acts : List Act)
     (are : AreActsOf P (word_at row) (all_ended tolds h.passes) (reverse h.journal) acts) where
   abbrev ended : List Ended
@@ -55,7 +55,7 @@ module _ (P : NamedProgram) (first row : List Ref) (tolds : List Told) (h : HasP
   was_done k s c =
       let m = met_made P.program goals used limit tolds g q k s c in
       let who = ended_of_told P tolds h.passes h.hand_on m.0 m.2 in
-      let among : Contains who.0.0.made.items m.1 = subst (λ (t : Told). Contains t.made.items m.1) (sym who.2) m.3 in
+      let among : Contains who.0.0.made.items m.1 = subst (λ (t : HandedOn). Contains t.made.items m.1) (sym who.2) m.3 in
       let done = made_act P first row tolds h q.unspoilt goals used limit g q acts are who.0 m.1 who.1 among in (
         who.0.1.pass.number,
         subst (λ (r : declared.Reduction). Contains acts (takes who.0.1.pass.number k (written r))) m.5

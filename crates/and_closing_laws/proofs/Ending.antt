@@ -16,7 +16,7 @@ use Rattle.and_branch_laws.specs.Kept.{Kept, Unsettled, goal_of}
 use Rattle.and_worker_laws.specs.Facts.{IsDone}
 use Rattle.and_worker_laws.specs.Leavings.{AreReady, IsLeftIn}
 use Rattle.and_worker_laws.proofs.Phase.{workers_end}
-use Rattle.and_handed.specs.declared.told.Told.{Told}
+use Rattle.and_handed.specs.declared.told.HandedOn.{HandedOn}
 use Rattle.and_gathering.specs.declared.gathering.Gathered.{Gathered}
 use Rattle.and_gathering.specs.Gathering.{IsGathered}
 use Rattle.and_whole.specs.Places.{all_frames, IsWhole, ArePairsWhole}
@@ -25,7 +25,7 @@ use Rattle.and_closing_laws.proofs.Structure.{Structure, structure}
 use Rattle.and_closing_laws.proofs.Facts
 
 module _ (P : NamedProgram) (own : OwnVariables P) (old : List declared.Reduction) (first row : List Ref) (kept : List Framed)
-    (t : QueryTree P.program) (tolds : List Told) (limit : ℕ) (g : Gathered) (k : Kept P (all_written old) first kept t)
+    (t : QueryTree P.program) (tolds : List HandedOn) (limit : ℕ) (g : Gathered) (k : Kept P (all_written old) first kept t)
     (h : HasPhased P first row tolds) (q : IsGathered P.program (map goal_of kept) (weight t) limit tolds g) (long : length row ≡ g.end)
     (whole : IsWhole P (all_frames (old ++ g.made)) row) where
   abbrev made : Structure P first row (map goal_of kept) (weight t) tolds g h

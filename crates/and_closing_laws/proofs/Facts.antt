@@ -16,7 +16,7 @@ use Rattle.and_branch_laws.specs.Kept.{Kept, goal_of, item_at}
 use Rattle.and_worker_laws.specs.Acts.{Act, RunInCells, arithmetic_at}
 use Rattle.and_worker_laws.specs.Facts.{Fact, known_by}
 use Rattle.and_worker_laws.specs.Leavings.{IsLeftIn}
-use Rattle.and_handed.specs.declared.told.Told.{Told}
+use Rattle.and_handed.specs.declared.told.HandedOn.{HandedOn}
 use Rattle.and_gathering.specs.declared.gathering.Gathered.{Gathered}
 use Rattle.and_gathering.specs.Gathering.{IsGathered}
 use Rattle.and_whole.specs.Places.{all_frames, IsWhole, ArePairsWhole}
@@ -29,7 +29,7 @@ use Rattle.and_closing_laws.proofs.Making.{phase}
 use Rattle.and_closing_laws.proofs.Structure.{Structure}
 
 module _ (P : NamedProgram) (own : OwnVariables P) (old : List declared.Reduction.Reduction) (first row : List Ref) (kept : List Framed)
-    (t : QueryTree P.program) (tolds : List Told) (limit : ℕ) (g : Gathered) (k : Kept P (all_written old) first kept t)
+    (t : QueryTree P.program) (tolds : List HandedOn) (limit : ℕ) (g : Gathered) (k : Kept P (all_written old) first kept t)
     (h : HasPhased P first row tolds) (gathered : IsGathered P.program (map goal_of kept) (weight t) limit tolds g) (long : length row ≡ g.end)
     (whole : IsWhole P (all_frames (old ++ g.made)) row) (s : Structure P first row (map goal_of kept) (weight t) tolds g h) where
   pub facts : (front before : List Act) (a : Act) → s.acts ≡ front ++ a ∷ before

@@ -20,7 +20,7 @@ use Rattle.and_handed.specs.Handed.{EndsBy, WasRun, HasFrame, frame_of}
 use Rattle.and_handed.specs.declared.told.Cause.{Cause}
 use Rattle.and_handed.specs.declared.told.Cause.TheVariants.{NoCandidate}
 use Rattle.and_handed.specs.declared.told.Ran.{Ran}
-use Rattle.and_handed.specs.declared.told.Told.{Told}
+use Rattle.and_handed.specs.declared.told.HandedOn.{HandedOn}
 use Rattle.and_gathering.specs.Gathering as gathering
 use Rattle.and_gathering.specs.Gathering.{IsGathered, Walks, over, stays}
 use Rattle.and_gathering.specs.declared.gathering.Gathered.{Gathered}
@@ -74,13 +74,13 @@ walks_unfold P (gathering.reduced g r gs left met behind named w) =
     Unfolding.reduces g (written r) gs left (goals_run met) (calls_taken met) (walks_unfold P w)
 
 -- A worker that knows why the tree is dead has called `fail`.
-called_fail : (P : NamedProgram) (told : Told) (p : PassSeen) (c : Option Cause) → c ≢ None → EndsBy P told p c
+called_fail : (P : NamedProgram) (told : HandedOn) (p : PassSeen) (c : Option Cause) → c ≢ None → EndsBy P told p c
     → Contains p.pass.seen (entry p.pass.number fails)
 called_fail P told p None some ends = absurd (some refl)
 called_fail P told p (Some cause) some ends =
     subst (λ (l : List JournalEntry). Contains l (entry p.pass.number fails)) (sym ends.2.1) (contains_there ends.2.0 [] (entry p.pass.number fails))
 
-module _ (P : NamedProgram) (first row : List Ref) (tolds : List Told) (h : HasPhased P first row tolds) (goals : List Goal) (used limit : ℕ) (g : Gathered)
+module _ (P : NamedProgram) (first row : List Ref) (tolds : List HandedOn) (h : HasPhased P first row tolds) (goals : List Goal) (used limit : ℕ) (g : Gathered)
     (q : IsGathered P.program goals used limit tolds g) (long : length first ≡ used) (acts : List Act)
     (are : AreActsOf P (word_at row) (all_ended tolds h.passes) (reverse h.journal) acts) where
   abbrev ended : List Ended
@@ -170,7 +170,7 @@ module _ (P : NamedProgram) (first row : List Ref) (tolds : List Told) (h : HasP
       let has = has_ended P first row tolds h q.unspoilt who one in
       let ends : EndsBy P who.0 who.1 (Some (NoCandidate k)) = subst (EndsBy P who.0 who.1) cause has.ends in
       let can = ends.0.0 in
-      elim (All-contains (λ (t : Told). (x : Goal) → t.cause ≡ Some (NoCandidate x) → gathering.IsThere goals g.made x) tolds who.0 q.there
+      elim (All-contains (λ (t : HandedOn). (x : Goal) → t.cause ≡ Some (NoCandidate x) → gathering.IsThere goals g.made x) tolds who.0 q.there
       (told_of_ended tolds h.passes who one) k cause) [
         | inl at_opening ↦ inl at_opening
         | inr s ↦ (let item : get_or (clause_at P.program s.0.clause.0).body k.item fail ≡ call can.term =
@@ -193,7 +193,7 @@ module _ (P : NamedProgram) (first row : List Ref) (tolds : List Told) (h : HasP
       let t = q.failed dead in
       let who = ended_of_told P tolds h.passes h.hand_on t.0 t.1 in
       let has = has_ended P first row tolds h q.unspoilt who.0 who.1 in
-      let some : who.0.0.cause ≢ None = subst (λ (x : Told). x.cause ≢ None) (sym who.2) t.2 in
+      let some : who.0.0.cause ≢ None = subst (λ (x : HandedOn). x.cause ≢ None) (sym who.2) t.2 in
       let seen = called_fail P who.0.0 who.0.1 who.0.0.cause some has.ends in
       let e : JournalEntry = entry who.0.1.pass.number fails in
       let there : Contains h.journal e =

@@ -31,7 +31,7 @@ use Rattle.and_worker_laws.specs.Facts.{known_by}
 use Rattle.and_worker_laws.specs.Leavings.{IsCellOf, IsLeftIn}
 use Rattle.and_handed.specs.Handed.{SolvesAll, SolvesAsked, PairsLeft, EndsBy}
 use Rattle.and_handed.specs.declared.told.Cause.{Cause}
-use Rattle.and_handed.specs.declared.told.Told.{Told}
+use Rattle.and_handed.specs.declared.told.HandedOn.{HandedOn}
 use Rattle.and_gathering.specs.Gathering.{IsGathered}
 use Rattle.and_gathering.specs.declared.gathering.Gathered.{Gathered}
 use Rattle.and_whole.specs.Places.{all_frames, IsWhole, IsVariableCell, IsSideWhole, ArePairsWhole}
@@ -133,7 +133,7 @@ module _ (P : NamedProgram) (opening : List Goal) (first row : List Ref) (journa
 -- ---- Cells
 
 module _ (P : NamedProgram) (old : List declared.Reduction.Reduction) (first row : List Ref) (kept : List Framed)
-    (t : QueryTree P.program) (tolds : List Told) (limit : ℕ) (g : Gathered) (k : Kept P (all_written old) first kept t)
+    (t : QueryTree P.program) (tolds : List HandedOn) (limit : ℕ) (g : Gathered) (k : Kept P (all_written old) first kept t)
     (h : HasPhased P first row tolds) (gathered : IsGathered P.program (map goal_of kept) (weight t) limit tolds g)
     (whole : IsWhole P (all_frames (old ++ g.made)) row) (s : Structure P first row (map goal_of kept) (weight t) tolds g h) where
   abbrev rs : List Reduction
@@ -193,8 +193,8 @@ module _ (P : NamedProgram) (old : List declared.Reduction.Reduction) (first row
       let known : List Equation = known_by (equations_of P first) s.acts in
       let frames : List Frame = all_frames (old ++ g.made) in
       let between : Pair → List Equation = λ (p : Pair). equations_between P (word_at row) p.left p.right in
-      let alive : (told : Told) → Contains tolds told → told.cause ≡ None =
-      λ told one. All-contains (λ (t : Told). t.cause ≡ None) tolds told (gathered.lives lives) one in
+      let alive : (told : HandedOn) → Contains tolds told → told.cause ≡ None =
+      λ told one. All-contains (λ (t : HandedOn). t.cause ≡ None) tolds told (gathered.lives lives) one in
       record {
         long = long ∙ sym s.ends;
         sound = whole.sound;
@@ -214,12 +214,12 @@ module _ (P : NamedProgram) (old : List declared.Reduction.Reduction) (first row
             let knows : Solves u known = solves_back u (asked P.program s.acts ++ all_added s.runs) known solves in
             let asks : Solves u (asked P.program s.acts ++ all_added s.runs) = solves_front u (asked P.program s.acts ++ all_added s.runs) known solves in
             solves_flat u between g.pairs (λ p among.
-            let (told, one, its) = flat_contains (λ (t : Told). t.pairs) p tolds (subst (λ l. Contains l p) gathered.pairs among) in
+            let (told, one, its) = flat_contains (λ (t : HandedOn). t.pairs) p tolds (subst (λ l. Contains l p) gathered.pairs among) in
             let (who, there, same) = ended_of_told P tolds h.passes h.hand_on told one in
             flat_solves u between who.0.pairs
             (pairs_follow P opening first row h.journal h.about.words ended s.acts s.runs f who there u knows
-            (ap (λ (t : Told). t.cause) same ∙ alive told one) (solves_front u (asked P.program s.acts) (all_added s.runs) asks)
-            (solves_back u (asked P.program s.acts) (all_added s.runs) asks)) p (subst (λ (t : Told). Contains t.pairs p) (sym same) its));
+            (ap (λ (t : HandedOn). t.cause) same ∙ alive told one) (solves_front u (asked P.program s.acts) (all_added s.runs) asks)
+            (solves_back u (asked P.program s.acts) (all_added s.runs) asks)) p (subst (λ (t : HandedOn). Contains t.pairs p) (sym same) its));
         all = λ u solves.
             let pairs_solved : Solves u (equations_of_pairs P (word_at row) g.pairs) =
             solves_front u (equations_of_pairs P (word_at row) g.pairs) known solves in
@@ -228,7 +228,7 @@ module _ (P : NamedProgram) (old : List declared.Reduction.Reduction) (first row
             let one : Contains tolds who.0 = told_of_ended tolds h.passes who there in
             pairs_ask P opening first row h.journal h.about.words ended s.acts s.runs f who there u knows (alive who.0 one)
             (solves_flat u between who.0.pairs (λ p among. flat_solves u between g.pairs pairs_solved p
-            (subst (λ l. Contains l p) (sym gathered.pairs) (contains_flat (λ (t : Told). t.pairs) who.0 p tolds one among)))) in
+            (subst (λ l. Contains l p) (sym gathered.pairs) (contains_flat (λ (t : HandedOn). t.pairs) who.0 p tolds one among)))) in
             solves_join u (asked P.program s.acts) (all_added s.runs)
             (all_asked P opening first row h.journal h.about.words ended s.acts s.runs f u each)
             (all_ran P opening first row h.journal h.about.words ended s.acts s.runs f u each);

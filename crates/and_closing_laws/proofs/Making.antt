@@ -27,7 +27,7 @@ use Rattle.and_handed.specs.Handed.{EndsBy, IsWholeFrame, settings_from}
 use Rattle.and_handed.specs.declared.told.Cause.TheVariants.{NoCandidate}
 use Rattle.and_handed.specs.declared.told.Ran as run
 use Rattle.and_handed.specs.declared.told.Reduced as making
-use Rattle.and_handed.specs.declared.told.Told.{Told}
+use Rattle.and_handed.specs.declared.told.HandedOn.{HandedOn}
 use Rattle.and_gathering.specs.Gathering as gathering
 use Rattle.and_gathering.specs.Gathering.{IsGathered, all_made, all_ran, made_by, ran_by}
 use Rattle.and_gathering.specs.declared.gathering.Gathered.{Gathered}
@@ -56,7 +56,7 @@ seated_is first words p begins wide i = seated (begins i) (wide i) p
 -- ---- The phase
 
 module _ (P : NamedProgram) (old : List declared.Reduction.Reduction) (first row : List Ref) (kept : List Framed)
-    (t : QueryTree P.program) (tolds : List Told) (limit : ℕ) (g : Gathered) (k : Kept P (all_written old) first kept t)
+    (t : QueryTree P.program) (tolds : List HandedOn) (limit : ℕ) (g : Gathered) (k : Kept P (all_written old) first kept t)
     (h : HasPhased P first row tolds) (gathered : IsGathered P.program (map goal_of kept) (weight t) limit tolds g)
     (whole : IsWhole P (all_frames (old ++ g.made)) row) (s : Structure P first row (map goal_of kept) (weight t) tolds g h) where
   abbrev frames : List framing.Frame
@@ -91,7 +91,7 @@ module _ (P : NamedProgram) (old : List declared.Reduction.Reduction) (first row
       goal_whole (gathering.goal_taken x)
       (met_has_frame P.program (old ++ g.made) (map goal_of kept) g.goals.items gathered.met gathered.walks opening_has_frame met_made x among)
 
-  made_whole : (told : Told) → Contains tolds told → (m : making.Reduced) → Contains told.made.items m
+  made_whole : (told : HandedOn) → Contains tolds told → (m : making.Reduced) → Contains told.made.items m
       → IsWholeFrame P (word_at row) m.goal.clause.0 m.goal.base × IsWholeFrame P (word_at row) m.reduction.clause.0 m.reduction.node
   made_whole told one m among =
       let met = made_met P.program (map goal_of kept) (weight t) limit tolds g gathered told m one among in (
@@ -101,7 +101,7 @@ module _ (P : NamedProgram) (old : List declared.Reduction.Reduction) (first row
             (contains_map Places.frame_of m.reduction (old ++ g.made) (met_made m.goal m.reduction met))),
       )
 
-  ran_whole : (told : Told) → Contains tolds told → (r : run.Ran) → Contains told.ran.items r → IsWholeFrame P (word_at row) r.goal.clause.0 r.goal.base
+  ran_whole : (told : HandedOn) → Contains tolds told → (r : run.Ran) → Contains told.ran.items r → IsWholeFrame P (word_at row) r.goal.clause.0 r.goal.base
   ran_whole told one r among = met_whole (Ran r.goal) (ran_met P.program (map goal_of kept) (weight t) limit tolds g gathered told r one among)
 
   -- ---- Workers
@@ -137,9 +137,9 @@ module _ (P : NamedProgram) (old : List declared.Reduction.Reduction) (first row
       let more = clause_weighs_more (clause_at P.program taking.made.reduction.clause.0) in
       omega arith
 
-  stuck_frame : (told : Told) → Contains tolds told → (goal : Goal) → told.cause ≡ Some (NoCandidate goal) → HasFrame frames goal
+  stuck_frame : (told : HandedOn) → Contains tolds told → (goal : Goal) → told.cause ≡ Some (NoCandidate goal) → HasFrame frames goal
   stuck_frame told one goal cause =
-      elim (All-contains (λ (t : Told). (goal : Goal) → t.cause ≡ Some (NoCandidate goal) → gathering.IsThere (map goal_of kept) g.made goal) tolds told
+      elim (All-contains (λ (t : HandedOn). (goal : Goal) → t.cause ≡ Some (NoCandidate goal) → gathering.IsThere (map goal_of kept) g.made goal) tolds told
       gathered.there one goal cause) [
         | inl opening ↦ opening_has_frame goal opening
         | inr (r, there, node, clause, base) ↦

@@ -17,7 +17,7 @@ use Rattle.and_store_laws.proofs.Lists.{all_of, contains_split}
 use Rattle.and_store_laws.proofs.Pairwise.{all_pairs_none, all_pairs_first, all_pairs_rest}
 use Rattle.and_handed.specs.declared.told.Ran as run
 use Rattle.and_handed.specs.declared.told.Reduced as making
-use Rattle.and_handed.specs.declared.told.Told.{Told}
+use Rattle.and_handed.specs.declared.told.HandedOn.{HandedOn}
 use Rattle.and_gathering.specs.Gathering.{AreOf, AreTiled, IsGathered, goal_taken, all_made, all_ran, made_by, ran_by}
 use Rattle.and_gathering.specs.declared.gathering.Gathered.{Gathered}
 use Rattle.and_gathering.specs.declared.links.Taken.{Taken}
@@ -40,7 +40,7 @@ sum_zero f (x ∷ xs) none =
     let c = sum_by-cons f x xs in let a = none x (contains_first x xs) in let b = sum_zero f xs (λ y h. none y (contains_more x y xs h)) in omega arith
 
 -- What all workers ran is arithmetic.
-ran_is : (tolds : List Told) (t : Taken) → Contains (all_ran tolds) t → (g : Goal) × (t ≡ Ran g)
+ran_is : (tolds : List HandedOn) (t : Taken) → Contains (all_ran tolds) t → (g : Goal) × (t ≡ Ran g)
 ran_is tolds t h =
     let told = flat_contains ran_by t tolds h in let r = map_contains (λ (x : run.Ran). Ran x.goal) t told.0.ran.items told.2 in (r.0.goal, sym r.2)
 
@@ -203,9 +203,9 @@ steps_run_nothing (Reduced k q ∷ steps) (p ∷ rs) of = steps_run_nothing step
 
 -- ---- what was met
 
-module _ (P : Program) (goals : List Goal) (used limit : ℕ) (tolds : List Told) (g : Gathered) (q : IsGathered P goals used limit tolds g) where
+module _ (P : Program) (goals : List Goal) (used limit : ℕ) (tolds : List HandedOn) (g : Gathered) (q : IsGathered P goals used limit tolds g) where
   -- What a worker did was met.
-  pub made_met : (t : Told) (m : making.Reduced) → Contains tolds t → Contains t.made.items m → Contains q.met (Reduced m.goal m.reduction)
+  pub made_met : (t : HandedOn) (m : making.Reduced) → Contains tolds t → Contains t.made.items m → Contains q.met (Reduced m.goal m.reduction)
   made_met t m told made =
       let one : Taken = Reduced m.goal m.reduction in
       let among : Contains (all_made tolds) one =
@@ -213,7 +213,7 @@ module _ (P : Program) (goals : List Goal) (used limit : ℕ) (tolds : List Told
       Contains-permutation (q.steps ++ all_ran tolds) q.met one q.all
       (Contains-append_left q.steps (all_ran tolds) one (Contains-permutation (all_made tolds) q.steps one q.made among))
 
-  pub ran_met : (t : Told) (r : run.Ran) → Contains tolds t → Contains t.ran.items r → Contains q.met (Ran r.goal)
+  pub ran_met : (t : HandedOn) (r : run.Ran) → Contains tolds t → Contains t.ran.items r → Contains q.met (Ran r.goal)
   ran_met t r told ran =
       Contains-permutation (q.steps ++ all_ran tolds) q.met (Ran r.goal) q.all
       (Contains-append_right q.steps (all_ran tolds) (Ran r.goal)
@@ -232,7 +232,7 @@ module _ (P : Program) (goals : List Goal) (used limit : ℕ) (tolds : List Told
 
   -- and some worker's.
   pub met_made : (k : Goal) (r : Reduction) → Contains q.met (Reduced k r)
-      → (t : Told) × (m : making.Reduced) × Contains tolds t × Contains t.made.items m × (m.goal ≡ k) × (m.reduction ≡ r)
+      → (t : HandedOn) × (m : making.Reduced) × Contains tolds t × Contains t.made.items m × (m.goal ≡ k) × (m.reduction ≡ r)
   met_made k r h =
       let step = Contains-permutation q.steps (all_made tolds) (Reduced k r) (IsPermutation-sym (all_made tolds) q.steps q.made) (met_step k r h) in
       let t = flat_contains made_by (Reduced k r) tolds step in

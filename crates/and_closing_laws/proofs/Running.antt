@@ -13,7 +13,7 @@ use Rattle.and_store_laws.proofs.Lists.{contains_first, contains_more, contains_
 use Rattle.and_handed.specs.Handed.{WasRun, IsKnownRun, EndsBy}
 use Rattle.and_handed.specs.declared.told.Cause.{Cause}
 use Rattle.and_handed.specs.declared.told.Ran.{Ran}
-use Rattle.and_handed.specs.declared.told.Told.{Told}
+use Rattle.and_handed.specs.declared.told.HandedOn.{HandedOn}
 use Rattle.and_gathering.specs.Gathering.{all_ran, ran_by}
 use Rattle.and_gathering.specs.declared.links.Taken.TheVariants as variants
 use Rattle.and_worker_laws.specs.Acts.{RunInCells}
@@ -24,8 +24,8 @@ use Rattle.and_closing_laws.proofs.Meeting.{goals_run, goals_run_append}
 
 -- ---- there are runs
 
-module _ (P : NamedProgram) (first row : List Ref) (tolds : List Told) (h : HasPhased P first row tolds)
-    (clean : All (λ (t : Told). t.is_spoilt ≡ false) tolds) where
+module _ (P : NamedProgram) (first row : List Ref) (tolds : List HandedOn) (h : HasPhased P first row tolds)
+    (clean : All (λ (t : HandedOn). t.is_spoilt ≡ false) tolds) where
   pub was_run : (who : Ended) (r : Ran) → Contains (all_ended tolds h.passes) who → Contains who.0.ran.items r → WasRun P first who.0 who.1 r
   was_run who r one among =
       let has = has_ended P first row tolds h clean who one in
@@ -78,7 +78,7 @@ goals_of_one : (rs : List Ran) → goals_run (map (λ (r : Ran). variants.Ran r.
 goals_of_one [] = refl
 goals_of_one (r ∷ rs) = ap (λ (l : List Goal). r.goal ∷ l) (goals_of_one rs)
 
-goals_of_all : (P : NamedProgram) (tolds : List Told) (passes : List PassSeen) → AllHandOn P tolds passes
+goals_of_all : (P : NamedProgram) (tolds : List HandedOn) (passes : List PassSeen) → AllHandOn P tolds passes
     → flat_map (λ (who : Ended). map (λ (r : Ran). r.goal) who.0.ran.items) (all_ended tolds passes) ≡ goals_run (all_ran tolds)
 goals_of_all P [] [] hand = refl
 goals_of_all P [] (p ∷ ps) hand = absurd hand
@@ -87,7 +87,7 @@ goals_of_all P (t ∷ ts) (p ∷ ps) hand =
     ap (λ (l : List Goal). map (λ (r : Ran). r.goal) t.ran.items ++ l) (goals_of_all P ts ps hand.1)
     ∙ ap (λ (l : List Goal). l ++ goals_run (all_ran ts)) (sym (goals_of_one t.ran.items)) ∙ sym (goals_run_append (ran_by t) (all_ran ts))
 
-pub goals_of_runs : (P : NamedProgram) (first row : List Ref) (tolds : List Told) (h : HasPhased P first row tolds) (runs : List RunInCells)
+pub goals_of_runs : (P : NamedProgram) (first row : List Ref) (tolds : List HandedOn) (h : HasPhased P first row tolds) (runs : List RunInCells)
     → AreAllRuns P first (all_ended tolds h.passes) runs → map (λ (x : RunInCells). x.goal) runs ≡ goals_run (all_ran tolds)
 goals_of_runs P first row tolds h runs are = run_goals P first (all_ended tolds h.passes) runs are ∙ goals_of_all P tolds h.passes h.hand_on
 
@@ -102,7 +102,7 @@ pub record IsCut (seen judged : List JournalEntry) (c : Option Cause) (e : Journ
   pub has : Contains front e
 
 -- An entry that gave a frame by then is in it.
-pub cut_at : (P : NamedProgram) (told : Told) (p : PassSeen) (c : Option Cause) → EndsBy P told p c → (judged after : List JournalEntry)
+pub cut_at : (P : NamedProgram) (told : HandedOn) (p : PassSeen) (c : Option Cause) → EndsBy P told p c → (judged after : List JournalEntry)
     → p.pass.seen ≡ judged ++ after → (n : ℕ) (f : Frame) → Contains judged (entry n (gives f)) → IsCut p.pass.seen judged c (entry n (gives f))
 cut_at P told p None ends judged after is n f has =
     let long = length-append judged after in let same : length p.pass.seen ≡ length (judged ++ after) = ap (λ (l : List JournalEntry). length l) is in

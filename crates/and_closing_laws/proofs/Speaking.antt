@@ -16,7 +16,7 @@ use Rattle.and_cell_laws.proofs.Images.{contains_image}
 use Rattle.and_branch_laws.specs.Variables.{SpeaksOf, EquationsSpeakOf}
 use Rattle.and_branch_laws.proofs.Lists.{filter_contains}
 use Rattle.and_branch_laws.proofs.Speaking.{speaks_variable, speaks_applied, equations_speak_join}
-use Rattle.and_rebuild_laws.specs.Opening.{IsCell}
+use Rattle.and_worker_laws.specs.PhaseCells.{IsCell}
 use Rattle.and_store_laws.proofs.Lists.{contains_first, contains_more, contains_none}
 
 module _ (V : Path × ℕ → Type 0) (P : NamedProgram) (w : Words) where

@@ -11,7 +11,7 @@ use Rattle.and_model.specs.declared.goal.Frame.{Frame}
 use Rattle.and_branch_laws.specs.Kept.{Kept, goal_of}
 use Rattle.and_code.specs.Written.{all_written}
 use Rattle.and_handed.specs.declared.told.Cause.TheVariants.{NoCandidate}
-use Rattle.and_handed.specs.declared.told.Told.{Told}
+use Rattle.and_handed.specs.declared.told.HandedOn.{HandedOn}
 use Rattle.and_gathering.specs.Gathering.{IsGathered}
 use Rattle.and_gathering.specs.declared.gathering.Gathered.{Gathered}
 use Rattle.and_whole.specs.Places.{IsWhole}
@@ -27,7 +27,7 @@ use Rattle.and_closing_laws.proofs.Running.{runs_are}
 use Rattle.and_closing_laws.proofs.Leaving
 
 -- Structure P first row goals used tolds g h: the acts and the runs of a phase that opened with these goals and was used so far.
-pub record Structure (P : NamedProgram) (first row : List Ref) (goals : List Goal) (used : ℕ) (tolds : List Told) (g : Gathered)
+pub record Structure (P : NamedProgram) (first row : List Ref) (goals : List Goal) (used : ℕ) (tolds : List HandedOn) (g : Gathered)
     (h : HasPhased P first row tolds) : Type 0 where
   pub acts : List Act
   pub runs : List RunInCells
@@ -45,7 +45,7 @@ pub record Structure (P : NamedProgram) (first row : List Ref) (goals : List Goa
   pub failed : g.failed ≡ true → HasFailed acts
 
 -- Each phase of a branch has such a structure.
-pub structure : (P : NamedProgram) (rs : List Reduction) (first row : List Ref) (kept : List Framed) (t : QueryTree P.program) (tolds : List Told)
+pub structure : (P : NamedProgram) (rs : List Reduction) (first row : List Ref) (kept : List Framed) (t : QueryTree P.program) (tolds : List HandedOn)
     (limit : ℕ) (g : Gathered) (frames : List Frame) → Kept P rs first kept t → (h : HasPhased P first row tolds)
     → IsGathered P.program (map goal_of kept) (weight t) limit tolds g → IsWhole P frames row
     → Structure P first row (map goal_of kept) (weight t) tolds g h

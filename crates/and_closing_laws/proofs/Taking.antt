@@ -18,7 +18,7 @@ use Rattle.and_store_laws.proofs.Journal.{made_settings, entries_of, made_in, ma
 use Rattle.and_store_laws.proofs.Going.{made_frames}
 use Rattle.and_handed.specs.Handed.{frame_of}
 use Rattle.and_handed.specs.declared.told.Reduced.{Reduced}
-use Rattle.and_handed.specs.declared.told.Told.{Told}
+use Rattle.and_handed.specs.declared.told.HandedOn.{HandedOn}
 use Rattle.and_gathering.specs.Gathering.{IsGathered}
 use Rattle.and_gathering.specs.declared.gathering.Gathered.{Gathered}
 use Rattle.and_whole.specs.Places.{IsWhole}
@@ -34,8 +34,8 @@ use Rattle.and_closing_laws.proofs.Lists.{in_reverse, of_reverse}
 use Rattle.and_closing_laws.proofs.Standing.{made_gives, entry_gives}
 use Rattle.and_closing_laws.proofs.Settings.{setting_acts}
 
-module _ (P : NamedProgram) (first row : List Ref) (tolds : List Told) (h : HasPhased P first row tolds)
-    (clean : All (λ (t : Told). t.is_spoilt ≡ false) tolds) where
+module _ (P : NamedProgram) (first row : List Ref) (tolds : List HandedOn) (h : HasPhased P first row tolds)
+    (clean : All (λ (t : HandedOn). t.is_spoilt ≡ false) tolds) where
   abbrev ended : List Ended
   ended = all_ended tolds h.passes
 
@@ -129,7 +129,7 @@ module _ (P : NamedProgram) (first row : List Ref) (tolds : List Told) (h : HasP
         (given_act (reverse h.journal) acts are e.0 (in_reverse h.journal e.0 e.1) who m one among e.2)
 
 -- A reduction among acts is some worker's.
-pub act_made : (P : NamedProgram) (first row : List Ref) (tolds : List Told) (h : HasPhased P first row tolds) (acts : List Act)
+pub act_made : (P : NamedProgram) (first row : List Ref) (tolds : List HandedOn) (h : HasPhased P first row tolds) (acts : List Act)
     → AreActsOf P (word_at row) (all_ended tolds h.passes) (reverse h.journal) acts → (v : ℕ) (k : Goal) (r : Reduction) → Contains acts (takes v k r)
     → (who : Ended) × (m : Reduced) × Contains (all_ended tolds h.passes) who × Contains who.0.made.items m × (m.goal ≡ k) × (written m.reduction ≡ r)
 act_made P first row tolds h acts are v k r c =

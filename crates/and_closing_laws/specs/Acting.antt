@@ -13,17 +13,17 @@ use Rattle.and_store.specs.Passes.{PassSeen}
 use Rattle.and_handed.specs.Handed.{HasTerms, frame_of}
 use Rattle.and_handed.specs.declared.told.Ran.{Ran}
 use Rattle.and_handed.specs.declared.told.Reduced.{Reduced}
-use Rattle.and_handed.specs.declared.told.Told.{Told}
+use Rattle.and_handed.specs.declared.told.HandedOn.{HandedOn}
 use Rattle.and_handed.specs.declared.told.Cause.{Cause}
 use Rattle.and_worker_laws.specs.Acts
 use Rattle.and_worker_laws.specs.Acts.{Act, RunInCells}
 
 -- a worker that has ended: what it told, and its pass
 abbrev pub Ended : Type 0
-Ended = Told × PassSeen
+Ended = HandedOn × PassSeen
 
 -- the workers, by what they told and by their passes
-abbrev pub all_ended : List Told → List PassSeen → List Ended
+abbrev pub all_ended : List HandedOn → List PassSeen → List Ended
 all_ended [] ps = []
 all_ended (t ∷ ts) [] = []
 all_ended (t ∷ ts) (p ∷ ps) = (t, p) ∷ all_ended ts ps

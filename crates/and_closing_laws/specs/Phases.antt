@@ -8,10 +8,10 @@ use Rattle.and_store.specs.Ended.{Closes, passes_of}
 use Rattle.and_store.specs.Passes.{PassSeen}
 use Rattle.and_store.specs.Sight.{About}
 use Rattle.and_handed.specs.Handed.{HandsOn}
-use Rattle.and_handed.specs.declared.told.Told.{Told}
+use Rattle.and_handed.specs.declared.told.HandedOn.{HandedOn}
 
 -- each worker hands on what it may, of its own pass
-abbrev pub AllHandOn : NamedProgram → List Told → List PassSeen → Type 0
+abbrev pub AllHandOn : NamedProgram → List HandedOn → List PassSeen → Type 0
 AllHandOn P [] [] = Unit {0}
 AllHandOn P [] (p ∷ ps) = ⊥
 AllHandOn P (t ∷ ts) [] = ⊥
@@ -19,7 +19,7 @@ AllHandOn P (t ∷ ts) (p ∷ ps) = HandsOn P t p × AllHandOn P ts ps
 
 -- HasPhased P opening row tolds: workers went over a store that began with these cells. They left this row, and hand
 -- this on.
-pub record HasPhased (P : NamedProgram) (opening row : List Ref) (tolds : List Told) : Type 0 where
+pub record HasPhased (P : NamedProgram) (opening row : List Ref) (tolds : List HandedOn) : Type 0 where
   pub about : About
   pub first : about.first ≡ opening
   pub short : about.words ≤ MAX_LIMIT

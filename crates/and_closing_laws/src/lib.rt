@@ -20,7 +20,7 @@ ghost use Rattle.and_code.specs.Written.{all_written};
 ghost use Rattle.and_branch_laws.specs.OwnVariables.{OwnVariables};
 ghost use Rattle.and_branch_laws.specs.Kept.{Kept, Unsettled, goal_of};
 ghost use Rattle.and_worker_laws.specs.Leavings.{AreReady};
-ghost use Rattle.and_handed.specs.declared.told.Told.{Told};
+ghost use Rattle.and_handed.specs.declared.told.HandedOn.{HandedOn};
 ghost use Rattle.and_gathering.specs.declared.gathering.Gathered.{Gathered};
 ghost use Rattle.and_gathering.specs.Gathering.{IsGathered};
 ghost use Rattle.and_whole.specs.Places.{all_frames, IsWhole, ArePairsWhole};
@@ -32,7 +32,7 @@ ghost use Rattle.and_closing_laws.specs.Phases.{HasPhased};
 pub fn phases_leave_branches()
     ensures { (P : NamedProgram) → OwnVariables P
         → (old : List declared.Reduction) (first row : List Ref) (kept : List Framed)
-        (t : QueryTree P.program) (tolds : List Told) (limit : ℕ) (g : Gathered)
+        (t : QueryTree P.program) (tolds : List HandedOn) (limit : ℕ) (g : Gathered)
         → Kept P (all_written old) first kept t
         → HasPhased P first row tolds → IsGathered P.program (map goal_of kept) (weight t) limit tolds g
         → length row ≡ g.end → IsWhole P (all_frames (old ++ g.made)) row

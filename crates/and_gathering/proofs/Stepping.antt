@@ -13,7 +13,7 @@ use Rattle.and_gathering.specs.Gathering.{AreOf, AreTiled, all_made, made_by}
 use Rattle.and_gathering.specs.declared.links.Taken.{Taken}
 use Rattle.and_gathering.specs.declared.links.Taken.TheVariants.{Reduced, Ran}
 use Rattle.and_handed.specs.declared.told.Reduced as making
-use Rattle.and_handed.specs.declared.told.Told.{Told}
+use Rattle.and_handed.specs.declared.told.HandedOn.{HandedOn}
 
 -- A reduction stands behind the others, where the last frame ends.
 pub tiled_on : (P : Program) (node : ℕ) (rs : List Reduction) (till : ℕ) (r : Reduction) → AreTiled P node rs till → r.node ≡ till
@@ -37,13 +37,13 @@ of_long (Reduced h q ∷ steps) (p ∷ rs) are = ap suc (of_long steps rs are.1)
 of_long (Ran h ∷ steps) rs are = absurd are
 
 -- what the workers made from these places on
-abbrev pub made_from : List ℕ → List Told → List Taken
+abbrev pub made_from : List ℕ → List HandedOn → List Taken
 made_from [] tolds = []
 made_from (p ∷ ps) [] = []
 made_from (p ∷ ps) (t ∷ tolds) = drop p (made_by t) ++ made_from ps tolds
 
 -- from the first places on: all
-pub made_at_first : (tolds : List Told) → made_from (replicate (length tolds) 0) tolds ≡ all_made tolds
+pub made_at_first : (tolds : List HandedOn) → made_from (replicate (length tolds) 0) tolds ≡ all_made tolds
 made_at_first [] = refl
 made_at_first (t ∷ tolds) = ap (λ (l : List Taken). made_by t ++ l) (made_at_first tolds)
 
@@ -53,7 +53,7 @@ dropped (y ∷ xs) zero x is = let same : Some y ≡ Some x = is in let here : y
 dropped (y ∷ xs) (suc place) x is = dropped xs place x is
 
 -- The next one of a worker comes out first.
-pub made_next : (places : List ℕ) (tolds : List Told) (worker : ℕ) (told : Told) (place : ℕ) (x : Taken) → slice_get tolds worker ≡ Some told
+pub made_next : (places : List ℕ) (tolds : List HandedOn) (worker : ℕ) (told : HandedOn) (place : ℕ) (x : Taken) → slice_get tolds worker ≡ Some told
     → slice_get places worker ≡ Some place → slice_get (made_by told) place ≡ Some x
     → IsPermutation (made_from places tolds) (x ∷ made_from (set places worker (place + 1)) tolds)
 made_next [] tolds worker told place x who from step = absurd (let none : None ≡ Some place = from in cc)
@@ -63,7 +63,7 @@ made_next (p ∷ ps) (t ∷ tolds) zero told place x who from step =
     let same_place : Some p ≡ Some place = from in
     let t_is : told ≡ t = cc in
     let p_is : place ≡ p = cc in
-    let there : slice_get (made_by t) p ≡ Some x = subst (λ (u : Told). slice_get (made_by u) p ≡ Some x) t_is
+    let there : slice_get (made_by t) p ≡ Some x = subst (λ (u : HandedOn). slice_get (made_by u) p ≡ Some x) t_is
     (subst (λ (n : ℕ). slice_get (made_by told) n ≡ Some x) p_is step) in
     let on : suc p ≡ place + 1 = omega (arith, p_is) in
     let out : drop p (made_by t) ≡ x ∷ drop (place + 1) (made_by t) =
@@ -95,7 +95,7 @@ nothing_left all done (x ∷ left) are few =
     let sum = length-append done (x ∷ left) in absurd (omega (arith, long, sum, few))
 
 -- The step of a worker at a place.
-pub step_is : (told : Told) (place : ℕ) (r q : making.Reduced) → place < length told.made.items → r ≡ get_or told.made.items place r
+pub step_is : (told : HandedOn) (place : ℕ) (r q : making.Reduced) → place < length told.made.items → r ≡ get_or told.made.items place r
     → q ≡ get_or told.made.items place q → slice_get (made_by told) place ≡ Some (Reduced r.goal q.reduction)
 step_is told place r q below first second =
     let f : making.Reduced → Taken = λ (m : making.Reduced). Reduced m.goal m.reduction in
@@ -105,7 +105,7 @@ step_is told place r q below first second =
     ∙ ap (λ (m : making.Reduced). Some (Reduced r.goal m.reduction)) same
 
 -- A step's place is one of the worker's.
-pub place_within : (told : Told) (place : ℕ) (x : Taken) → slice_get (made_by told) place ≡ Some x → place < length told.made.items
+pub place_within : (told : HandedOn) (place : ℕ) (x : Taken) → slice_get (made_by told) place ≡ Some x → place < length told.made.items
 place_within told place x is =
     let within = slice_get_within (made_by told) place x is in
     let long = length-map told.made.items (λ (m : making.Reduced). Reduced m.goal m.reduction) in omega (arith, within, long)
@@ -117,7 +117,7 @@ begun_tiled P node rs none = subst (λ (l : List Reduction). AreTiled P node l n
 pub begun_of : (steps : List Taken) (rs : List Reduction) → steps ≡ [] → rs ≡ [] → AreOf steps rs
 begun_of steps rs none no_more = subst (λ (l : List Taken). AreOf l rs) (sym none) no_more
 
-pub begun_made : (tolds : List Told) (steps : List Taken) (places : List ℕ) → steps ≡ [] → places ≡ replicate (length tolds) 0
+pub begun_made : (tolds : List HandedOn) (steps : List Taken) (places : List ℕ) → steps ≡ [] → places ≡ replicate (length tolds) 0
     → IsPermutation (all_made tolds) (steps ++ made_from places tolds)
 begun_made tolds steps places none first =
     subst (λ (l : List Taken). IsPermutation (all_made tolds) (l ++ made_from places tolds)) (sym none)

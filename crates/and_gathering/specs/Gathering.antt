@@ -15,25 +15,25 @@ use Rattle.and_gathering.specs.declared.gathering.Walk.{Walk}
 use Rattle.and_handed.specs.declared.told.Cause.TheVariants.{NoCandidate}
 use Rattle.and_handed.specs.declared.told.Ran as run
 use Rattle.and_handed.specs.declared.told.Reduced as making
-use Rattle.and_handed.specs.declared.told.Told.{Told}
+use Rattle.and_handed.specs.declared.told.HandedOn.{HandedOn}
 
 abbrev pub goal_taken : Taken → Goal
 goal_taken (Reduced goal reduction) = goal
 goal_taken (Ran goal) = goal
 
 -- what a worker took: the calls that it reduced,
-abbrev pub made_by : Told → List Taken
+abbrev pub made_by : HandedOn → List Taken
 made_by told = map (λ (m : making.Reduced). Reduced m.goal m.reduction) told.made.items
 
 -- and the arithmetic that it ran
-abbrev pub ran_by : Told → List Taken
+abbrev pub ran_by : HandedOn → List Taken
 ran_by told = map (λ (r : run.Ran). Ran r.goal) told.ran.items
 
 -- the calls that all workers reduced
-abbrev pub all_made : List Told → List Taken
+abbrev pub all_made : List HandedOn → List Taken
 all_made tolds = flat_map made_by tolds
 
-abbrev pub all_ran : List Told → List Taken
+abbrev pub all_ran : List HandedOn → List Taken
 all_ran tolds = flat_map ran_by tolds
 
 -- AreTiled P node rs end: the first reduction stands at the node, each other one where the frame of the one before it
@@ -70,7 +70,7 @@ AreOf (Ran g ∷ taken) rs = ⊥
 
 -- IsGathered P goals used limit tolds g: what the workers did on a tree of that weight, with these goals. Each
 -- reduction that a worker made is one of the steps, and each step and all arithmetic was met in the tree, once.
-pub record IsGathered (P : Program) (goals : List Goal) (used limit : ℕ) (tolds : List Told)
+pub record IsGathered (P : Program) (goals : List Goal) (used limit : ℕ) (tolds : List HandedOn)
     (g : Gathered) : Type 0 where
   pub tiled : AreTiled P used g.made g.end
   pub fits : g.end ≤ limit
@@ -80,11 +80,12 @@ pub record IsGathered (P : Program) (goals : List Goal) (used limit : ℕ) (told
   pub met : List Taken
   pub walks : Walks P goals g.goals.items met
   pub all : IsPermutation (steps ++ all_ran tolds) met
-  pub pairs : g.pairs ≡ flat_map (λ (t : Told). t.pairs) tolds
-  pub failed : g.failed ≡ true → (t : Told) × Contains tolds t × (t.cause ≢ None)
-  pub lives : g.failed ≡ false → All (λ (t : Told). t.cause ≡ None) tolds
-  pub there : All (λ (t : Told). (goal : Goal) → t.cause ≡ Some (NoCandidate goal) → IsThere goals g.made goal) tolds
-  pub unspoilt : All (λ (t : Told). t.is_spoilt ≡ false) tolds
+  pub pairs : g.pairs ≡ flat_map (λ (t : HandedOn). t.pairs) tolds
+  pub failed : g.failed ≡ true → (t : HandedOn) × Contains tolds t × (t.cause ≢ None)
+  pub lives : g.failed ≡ false → All (λ (t : HandedOn). t.cause ≡ None) tolds
+  pub there : All (λ (t : HandedOn). (goal : Goal) → t.cause ≡ Some (NoCandidate goal)
+      → IsThere goals g.made goal) tolds
+  pub unspoilt : All (λ (t : HandedOn). t.is_spoilt ≡ false) tolds
 
 -- an item of a body as a goal, if it is a call or arithmetic
 abbrev pub goals_of_item : (clause node place : ℕ) → Item → List Goal
@@ -101,8 +102,8 @@ abbrev pub unmet : Links → List Taken
 unmet links = present links.taken.items
 
 -- The reduction is the next one of the worker, and stands at the node.
-pub record IsNext (tolds : List Told) (places : List ℕ) (node : ℕ) (next : Next) : Type 0 where
-  pub told : Told
+pub record IsNext (tolds : List HandedOn) (places : List ℕ) (node : ℕ) (next : Next) : Type 0 where
+  pub told : HandedOn
   pub place : ℕ
   pub who : slice_get tolds next.worker ≡ Some told
   pub from : slice_get places next.worker ≡ Some place

@@ -14,13 +14,13 @@ ghost use Rattle.and_gathering.specs.declared.links.Taken.{Taken};
 ghost use Rattle.and_gathering.specs.declared.links.Taken.TheVariants as variants;
 ghost use Rattle.and_handed.specs.declared.told.Cause.TheVariants.{NoCandidate};
 ghost use Rattle.and_handed.specs.declared.told.Ran as run;
-ghost use Rattle.and_handed.specs.declared.told.Told.{Told};
+ghost use Rattle.and_handed.specs.declared.told.HandedOn.{HandedOn};
 ghost use Rattle.and_gathering.specs.Gathering.{AreOf, AreTiled, IsGathered, IsMet, IsFollowed, IsNext, IsThere};
 ghost use Rattle.and_gathering.specs.Gathering.{Walks, all_made, all_ran, unmet};
 
 use crate::bodies::push_body;
 use crate::links::{Links, Taken};
-use and_handed::{Cause, Ran, Told};
+use and_handed::{Cause, HandedOn, Ran};
 use and_model::{Goal, Reduction, ReductionList};
 use and_program::Loaded;
 use and_unify::PairList;
@@ -55,7 +55,7 @@ pub fn gather(
     goals: &[Goal],
     used: u32,
     limit: u32,
-    tolds: &[Told],
+    tolds: &[HandedOn],
 ) -> Result<Option<Gathered>, AllocError>
     requires { (used ≤ limit) × (limit ≤ MAX_LIMIT) }
     ensures { IfOk result (λ r. IfSome r (IsGathered (program_of loaded.now) goals.now used limit tolds.now)) }
@@ -86,7 +86,7 @@ pub fn gather(
 }
 
 /// Whether the workers made no more than so many reductions.
-fn are_all(count: usize, tolds: &[Told]) -> bool
+fn are_all(count: usize, tolds: &[HandedOn]) -> bool
     ensures { result ≡ true → length (all_made tolds.now) ≤ count }
 {
     let mut left = count;
@@ -100,8 +100,8 @@ fn are_all(count: usize, tolds: &[Told]) -> bool
 }
 
 /// Whether some worker came upon what should not be.
-fn is_spoilt(tolds: &[Told]) -> bool
-    ensures { result ≡ false → All (λ (t : Told). t.is_spoilt ≡ false) tolds.now }
+fn is_spoilt(tolds: &[HandedOn]) -> bool
+    ensures { result ≡ false → All (λ (t : HandedOn). t.is_spoilt ≡ false) tolds.now }
 {
     for told in tolds {
         if told.is_spoilt {
@@ -112,9 +112,9 @@ fn is_spoilt(tolds: &[Told]) -> bool
 }
 
 /// Whether some worker found the tree dead.
-fn has_failed(tolds: &[Told]) -> bool
-    ensures failed { result ≡ true → (t : Told) × Contains tolds.now t × (t.cause ≢ None) }
-    ensures lives { result ≡ false → All (λ (t : Told). t.cause ≡ None) tolds.now }
+fn has_failed(tolds: &[HandedOn]) -> bool
+    ensures failed { result ≡ true → (t : HandedOn) × Contains tolds.now t × (t.cause ≢ None) }
+    ensures lives { result ≡ false → All (λ (t : HandedOn). t.cause ≡ None) tolds.now }
 {
     for told in tolds {
         if told.cause.is_some() {
@@ -133,7 +133,7 @@ struct Next {
 }
 
 /// The next reduction that stands at the node.
-fn next_at(tolds: &[Told], places: &[usize], node: u32) -> Option<Next>
+fn next_at(tolds: &[HandedOn], places: &[usize], node: u32) -> Option<Next>
     ensures { IfSome result (λ next. IsNext tolds.now places.now node next) }
 {
     for worker in 0..tolds.len() {
@@ -145,7 +145,7 @@ fn next_at(tolds: &[Told], places: &[usize], node: u32) -> Option<Next>
 }
 
 /// The next reduction of a worker, if it stands at the node.
-fn next_of(tolds: &[Told], places: &[usize], worker: usize, node: u32) -> Option<Next>
+fn next_of(tolds: &[HandedOn], places: &[usize], worker: usize, node: u32) -> Option<Next>
     ensures { IfSome result (λ next. IsNext tolds.now places.now node next) }
 {
     if worker >= tolds.len() || worker >= places.len() {
@@ -176,7 +176,7 @@ fn in_order(
     loaded: &Loaded,
     used: u32,
     limit: u32,
-    tolds: &[Told],
+    tolds: &[HandedOn],
 ) -> Result<Row, AllocError>
     requires { (used ≤ limit) × (limit ≤ MAX_LIMIT) }
     ensures tiled { IfOk result (λ row. AreTiled (program_of loaded.now) used row.made row.end) }
@@ -235,8 +235,8 @@ impl Row {
 }
 
 /// Whether each call that had no candidate is a goal of the tree.
-fn are_there(goals: &[Goal], made: &ReductionList, tolds: &[Told]) -> bool
-    ensures { result ≡ true → All (λ (t : Told). (goal : Goal) → t.cause ≡ Some (NoCandidate goal)
+fn are_there(goals: &[Goal], made: &ReductionList, tolds: &[HandedOn]) -> bool
+    ensures { result ≡ true → All (λ (t : HandedOn). (goal : Goal) → t.cause ≡ Some (NoCandidate goal)
         → IsThere goals.now made.now goal) tolds.now }
 {
     for told in tolds {
@@ -284,7 +284,7 @@ fn link_all(links: &mut Links, taken: &[Taken]) -> Result<bool, AllocError>
 }
 
 /// The same with the arithmetic that the workers ran.
-fn link_ran(links: &mut Links, tolds: &[Told]) -> Result<bool, AllocError>
+fn link_ran(links: &mut Links, tolds: &[HandedOn]) -> Result<bool, AllocError>
     ensures { result ≡ Ok true → unmet links.new ≡ unmet links.old ++ all_ran tolds.now }
 {
     for told in tolds {
@@ -320,8 +320,8 @@ fn add_pairs(all: &mut PairList, pairs: &PairList) -> Result<(), AllocError>
 }
 
 /// The pairs that are left of all workers. An error is want of memory.
-fn all_pairs(alloc: Global, tolds: &[Told]) -> Result<PairList, AllocError>
-    ensures { IfOk result (λ pairs. pairs ≡ flat_map (λ (t : Told). t.pairs) tolds.now) }
+fn all_pairs(alloc: Global, tolds: &[HandedOn]) -> Result<PairList, AllocError>
+    ensures { IfOk result (λ pairs. pairs ≡ flat_map (λ (t : HandedOn). t.pairs) tolds.now) }
 {
     let mut pairs = PairList::new(alloc);
     for told in tolds {

@@ -1,4 +1,3 @@
-pub mod Totals
 pub mod Moves
 pub mod Seats
 mod Behind

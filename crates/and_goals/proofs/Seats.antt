@@ -4,11 +4,11 @@ use Rattle.std.proofs.Math.ListN.{get_or-map}
 use Rattle.std.proofs.lemmas.List.{length-map, map-append}
 use Rattle.std.specs.Prelude.{Option, Some, option_to_list}
 use Rattle.and_model.specs.declared.goal.Goal.{Goal}
-use Rattle.and_goals.specs.declared.account.Account.{Account}
-use Rattle.and_goals.specs.Bags.{weigh, SameBag}
-use Rattle.and_goals.specs.Balance.{account}
+use Rattle.and_shares.specs.declared.share.Share.{Share}
+use Rattle.and_shares.specs.Bags.{weigh, SameBag}
+use Rattle.and_shares.specs.Balance.{share}
 use Rattle.and_goals.specs.Hands.{IsFurther, OtherSeen, HandSeen, Seat, seat_of, deques_of, taken_from, taken_by, IsDealt, AreAllHands, HasTaken}
-use Rattle.and_goals.proofs.Totals.{weigh-append}
+use Rattle.and_shares.proofs.Totals.{weigh-append}
 
 seat_at : (hs ks : List HandSeen) → map seat_of ks ≡ map seat_of hs → (p : ℕ) (d : HandSeen) → seat_of (get_or ks p d) ≡ seat_of (get_or hs p d)
 seat_at hs ks same p d = sym (get_or-map seat_of ks p d) ∙ ap (λ (ss : List Seat). get_or ss p (seat_of d)) same ∙ get_or-map seat_of hs p d
@@ -55,12 +55,12 @@ pub same_seat : (old new : HandSeen) → new.deque ≡ old.deque → new.own.par
 same_seat old new deque parts others = cc
 
 -- a goal was taken of the hand's own deque
-pub has_taken_own : (goal : Goal) (old new : HandSeen) → new.own ≡ account old.own.parts old.own.put (old.own.taken ++ goal ∷ [])
+pub has_taken_own : (goal : Goal) (old new : HandSeen) → new.own ≡ share old.own.parts old.own.put (old.own.taken ++ goal ∷ [])
     → new.others ≡ old.others → HasTaken (Some goal) old new
 has_taken_own goal old new own others = (
-  ap (λ (v : Account). v.put) own,
+  ap (λ (v : Share Goal). v.put) own,
   λ w.
-      let now = ap (λ (v : Account). weigh w v.taken) own in
+      let now = ap (λ (v : Share Goal). weigh w v.taken) own in
       let same = ap (λ (os : List OtherSeen). weigh w (taken_from os)) others in
       let a = weigh-append w old.own.taken (goal ∷ []) in
       let b = weigh-append w old.own.taken (taken_from old.others) in
@@ -73,9 +73,9 @@ has_taken_own goal old new own others = (
 pub has_taken_besides : (found : Option Goal) (old new : HandSeen) → new.own ≡ old.own
     → SameBag (taken_from new.others) (taken_from old.others ++ option_to_list found) → HasTaken found old new
 has_taken_besides found old new own taken = (
-  ap (λ (v : Account). v.put) own,
+  ap (λ (v : Share Goal). v.put) own,
   λ w.
-      let now = ap (λ (v : Account). weigh w v.taken) own in
+      let now = ap (λ (v : Share Goal). weigh w v.taken) own in
       let more = taken w in
       let a = weigh-append w (taken_from old.others) (option_to_list found) in
       let b = weigh-append w old.own.taken (taken_from old.others) in

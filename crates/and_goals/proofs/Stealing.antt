@@ -3,11 +3,11 @@ use Rattle.std.proofs.Common.{◌≡◌, ◌∙◌, ℕ, zero, suc, ◌+◌, ◌
 use Rattle.std.proofs.Common.{Option, Some, None}
 use Rattle.std.specs.Prelude.{IfSome, IfNone, option_to_list}
 use Rattle.and_model.specs.declared.goal.Goal.{Goal}
-use Rattle.and_goals.specs.declared.account.Account.{Account}
-use Rattle.and_goals.specs.Bags.{weigh, SameBag}
+use Rattle.and_shares.specs.declared.share.Share.{Share}
+use Rattle.and_shares.specs.Bags.{weigh, SameBag}
 use Rattle.and_goals.specs.Hands.{OtherSeen, GivesOne, GivesNone, Steals, here, later, AllGiveNone, taken_from, deques_of}
 use Rattle.and_goals.proofs.Behind.{rest_of}
-use Rattle.and_goals.proofs.Totals.{weigh-append}
+use Rattle.and_shares.proofs.Totals.{weigh-append}
 
 pub steals_at : (goal : Goal) (os ps : List OtherSeen) (i : ℕ) (d new : OtherSeen) → length ps ≡ length os → AllGiveNone (take i os) (take i ps)
     → drop i ps ≡ drop i os → i < length os
@@ -45,14 +45,14 @@ none_deques (o ∷ os) (p ∷ ps) none = ap (λ d. d ∷ deques_of ps) none.0.de
 
 steals_weigh : (w : Goal → ℕ) (goal : Goal) (os ps : List OtherSeen) → Steals goal os ps → weigh w (taken_from ps) ≡ weigh w (taken_from os) + w goal
 steals_weigh w goal _ _ (here o p os gives) =
-    let now = ap (λ (v : Account). weigh w v.taken) gives.known in
+    let now = ap (λ (v : Share Goal). weigh w v.taken) gives.known in
     let a = weigh-append w o.known.taken (goal ∷ []) in
     let b = weigh-append w o.known.taken (taken_from os) in
     let c = weigh-append w p.known.taken (taken_from os) in
     omega arith
 steals_weigh w goal _ _ (later o p os ps none steals) =
     let r = steals_weigh w goal os ps steals in
-    let now = ap (λ (v : Account). weigh w v.taken) none.known in
+    let now = ap (λ (v : Share Goal). weigh w v.taken) none.known in
     let b = weigh-append w o.known.taken (taken_from os) in
     let c = weigh-append w p.known.taken (taken_from ps) in
     omega arith
@@ -61,7 +61,7 @@ none_taken : (os ps : List OtherSeen) → AllGiveNone os ps → taken_from ps �
 none_taken [] [] none = refl
 none_taken [] (p ∷ ps) none = absurd none
 none_taken (o ∷ os) [] none = absurd none
-none_taken (o ∷ os) (p ∷ ps) none = ap (λ (v : Account). v.taken ++ taken_from ps) none.0.known
+none_taken (o ∷ os) (p ∷ ps) none = ap (λ (v : Share Goal). v.taken ++ taken_from ps) none.0.known
     ∙ ap (λ gs. o.known.taken ++ gs) (none_taken os ps none.1)
 
 -- the ways that were tried lead to the same deques

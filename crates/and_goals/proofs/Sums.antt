@@ -4,10 +4,11 @@ use Rattle.std.proofs.Common.{append_assoc, append-nil, length-append}
 use Rattle.std.proofs.lemmas.List.{nil_from_length}
 use Rattle.std.specs.Prelude.{All}
 use Rattle.and_model.specs.declared.goal.Goal.{Goal}
-use Rattle.and_goals.specs.Bags.{weigh, SameBag}
-use Rattle.and_goals.specs.Balance.{account, MovesRest}
+use Rattle.and_shares.specs.Bags.{weigh, SameBag}
+use Rattle.and_shares.specs.Balance.{share}
+use Rattle.and_goals.specs.Balance.{MovesRest}
 use Rattle.and_goals.specs.Hands.{HandSeen, IsDealt, put_by, taken_by, taken_from, all_put, all_taken}
-use Rattle.and_goals.proofs.Totals.{weigh-append, same_length}
+use Rattle.and_shares.proofs.Totals.{weigh-append, same_length}
 
 put_more : (hs : List HandSeen) (i : ℕ) (d : HandSeen) → i < length hs
     → length (all_put (take (suc i) hs)) ≡ length (all_put (take i hs)) + length (put_by (get_or hs i d))
@@ -26,7 +27,7 @@ all_put_more hs i d below =
     subst (λ n. length (all_put (take n hs)) ≡ length (all_put (take i hs)) + length (put_by (get_or hs i d))) next (put_more hs i d below)
 
 abbrev pub IsStranger : HandSeen → Type 0
-IsStranger h = (h.own ≡ account 8 [] []) × (h.others ≡ [])
+IsStranger h = (h.own ≡ share 8 [] []) × (h.others ≡ [])
 
 pub strangers_dealt : (hs : List HandSeen) → All IsStranger hs → IsDealt 0 hs
 strangers_dealt hs all = record {

@@ -3,9 +3,9 @@ use Rattle.std.proofs.Common.{◌≡◌, ℕ, zero, suc, ◌+◌, ◌<◌, List,
 use Rattle.std.proofs.lemmas.List.{append-nil}
 use Rattle.std.proofs.lemmas.List.Elements.{All-set, All-get_or}
 use Rattle.and_model.specs.declared.goal.Goal.{Goal}
-use Rattle.and_goals.specs.Bags.{weigh, SameBag}
+use Rattle.and_shares.specs.Bags.{weigh, SameBag}
 use Rattle.and_goals.specs.Hands.{HandSeen, OtherSeen, put_by, taken_by, taken_from, all_put, all_taken, AreFresh}
-use Rattle.and_goals.proofs.Totals.{weigh-append}
+use Rattle.and_shares.proofs.Totals.{weigh-append}
 use Rattle.and_goals.proofs.Turns.{replaced, gives, gets, takes_in}
 
 put_set : (hs : List HandSeen) (i : ℕ) (g d : HandSeen) → i < length hs → g.own.put ≡ (get_or hs i d).own.put → all_put (set hs i g) ≡ all_put hs

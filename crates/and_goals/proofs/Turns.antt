@@ -5,7 +5,7 @@ use Rattle.std.proofs.Math.ListN.{get_or-append}
 use Rattle.std.proofs.Math.Seq.{get_or-append_seam}
 use Rattle.std.proofs.lemmas.Bool.{cases_eq, cases_lt}
 use Rattle.std.proofs.lemmas.List.{get_or_default}
-use Rattle.and_goals.specs.Balance.{account}
+use Rattle.and_shares.specs.Balance.{share}
 use Rattle.and_goals.specs.Hands.{HandSeen, OtherSeen, IsFurther}
 use Rattle.and_goals.proofs.Rounds.{Between, Turned, same_target}
 
@@ -53,7 +53,7 @@ apart n place further of few to_of is = elim to_of.1 [ inl a ↦ absurd (omega a
 
 -- a hand gives a way to its deque away
 abbrev pub gives : HandSeen → HandSeen
-gives h = record h { own = account (h.own.parts - 1) h.own.put h.own.taken }
+gives h = record h { own = share (h.own.parts - 1) h.own.put h.own.taken }
 
 -- and another hand gets it
 abbrev pub gets : OtherSeen → HandSeen → HandSeen
@@ -61,7 +61,7 @@ gets o h = record h { others = h.others ++ o ∷ [] }
 
 -- a hand takes in what another knew of its deque
 abbrev pub takes_in : OtherSeen → HandSeen → HandSeen
-takes_in o h = record h { own = account (h.own.parts + 1) h.own.put (h.own.taken ++ o.known.taken) }
+takes_in o h = record h { own = share (h.own.parts + 1) h.own.put (h.own.taken ++ o.known.taken) }
 
 pub dealt_turn : (n further place of : ℕ) (hs : List HandSeen) (x y g m : HandSeen) (o : OtherSeen)
     → place < n → suc further < n → n ≤ 8 → IsFurther n place further of → Between n further (suc further) further place hs

@@ -5,26 +5,27 @@ use Rattle.std.specs.declared.alloc.Global.{Global}
 use Rattle.atomic_blocks.specs.Lent.{RowsId}
 use Rattle.and_model.specs.declared.goal.Goal.{Goal}
 use Rattle.crossbeam_deque.specs.Handles.{Pass, view}
-use Rattle.and_goals.specs.declared.account.Account.{Account}
-use Rattle.and_goals.specs.Bags.{SameBag}
-use Rattle.and_goals.specs.Balance.{account, WasEmpty}
+use Rattle.and_shares.specs.declared.share.Share.{Share}
+use Rattle.and_shares.specs.Bags.{SameBag}
+use Rattle.and_shares.specs.Balance.{share}
+use Rattle.and_goals.specs.Balance.{WasEmpty}
 
 abbrev pub DequeId : Type 0
 DequeId = RowsId × Global
 
-abbrev pub known_by : Pass Goal Account Global → Account
+abbrev pub known_by : Pass Goal (Share Goal) Global → Share Goal
 known_by p = view p
 
 -- what a hand knows of the deque of another
 pub record OtherSeen : Type 0 where
   pub deque : DequeId
-  pub known : Account
+  pub known : Share Goal
   -- how many goals are known to have left it
   pub gone : ℕ
 
 pub record HandSeen : Type 0 where
   pub deque : DequeId
-  pub own : Account
+  pub own : Share Goal
   pub others : List OtherSeen
 
 -- what no put and no take changes: the hand's deque, its parts in the right to know it, and the deques of which it
@@ -84,12 +85,12 @@ AreFresh hands = All (λ (h : HandSeen). (put_by h ≡ []) × (taken_by h ≡ []
 
 -- a goal joins those that this hand has put
 abbrev pub putting : Goal → HandSeen → HandSeen
-putting goal h = record h { own = account h.own.parts (h.own.put ++ goal ∷ []) h.own.taken }
+putting goal h = record h { own = share h.own.parts (h.own.put ++ goal ∷ []) h.own.taken }
 
 -- a goal joins those that were taken of this deque
 pub record GivesOne (goal : Goal) (old new : OtherSeen) : Type 0 where
   pub deque : new.deque ≡ old.deque
-  pub known : new.known ≡ account old.known.parts old.known.put (old.known.taken ++ goal ∷ [])
+  pub known : new.known ≡ share old.known.parts old.known.put (old.known.taken ++ goal ∷ [])
 
 -- A steal gave no goal: at one moment the deque was empty, or some goal is known now to have left it.
 pub record GivesNone (old new : OtherSeen) : Type 0 where
@@ -106,7 +107,7 @@ pub data Steals (goal : Goal) : List OtherSeen → List OtherSeen → Type 0 whe
 -- other deque that gave one
 abbrev pub TakesOne : Goal → HandSeen → HandSeen → Type 0
 TakesOne goal old new =
-    (new ≡ record old { own = account old.own.parts old.own.put (old.own.taken ++ goal ∷ []) })
+    (new ≡ record old { own = share old.own.parts old.own.put (old.own.taken ++ goal ∷ []) })
     ⊎ ((new.deque ≡ old.deque) × (new.own ≡ old.own) × WasEmpty old.own × Steals goal old.others new.others)
 
 abbrev pub AllGiveNone : List OtherSeen → List OtherSeen → Type 0

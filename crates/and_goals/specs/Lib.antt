@@ -1,3 +1,2 @@
 pub mod Balance
 pub mod Hands
-pub mod Bags

@@ -2,10 +2,11 @@
 
 ghost use Rattle.std.specs.Prelude.{◌≡◌, ◌+◌, ◌-◌, ◌<◌, ◌≤◌, ◌++◌, [], length, vec_capacity};
 ghost use Rattle.crossbeam_deque.specs.Handles.{worker_view, worker_flavor, SameWorker};
-ghost use Rattle.and_goals.specs.Balance.{account, Balanced, WasEmpty, HasLeft, MovesOne, MovesRest};
+ghost use Rattle.and_shares.specs.Balance.{share, HasLeft};
+ghost use Rattle.and_goals.specs.Balance.{IsBalanced, WasEmpty, MovesOne, MovesRest};
 
-use crate::account::Account;
 use and_model::Goal;
+use and_shares::Share;
 use crossbeam_deque::protocol::{Join, Lesson, Outcome, Protocol, Split};
 use crossbeam_deque::{Pass, Stealer, Worker};
 use std::alloc::Global;
@@ -13,26 +14,26 @@ use std::alloc::Global;
 /// The rule.
 pub struct Fair;
 
-impl Protocol<Goal, Account> for Fair {
-    ghost holds = { Balanced };
+impl Protocol<Goal, Share<Goal>> for Fair {
+    ghost holds = { IsBalanced };
 
-    ghost first = { account 8 [] [] };
+    ghost first = { share 8 [] [] };
 
-    ghost guest = { account 0 [] [] };
+    ghost guest = { share 0 [] [] };
 }
 
 /// A goal is put.
 pub struct Puts;
 
-impl Outcome<Goal, Account> for Puts {
-    ghost then = { λ v xs w. w ≡ account v.parts (v.put ++ xs) v.taken };
+impl Outcome<Goal, Share<Goal>> for Puts {
+    ghost then = { λ v xs w. w ≡ share v.parts (v.put ++ xs) v.taken };
 }
 
 /// A goal is taken, or the deque is found empty.
 pub struct Takes;
 
-impl Outcome<Goal, Account> for Takes {
-    ghost then = { λ v xs w. w ≡ account v.parts v.put (v.taken ++ xs) };
+impl Outcome<Goal, Share<Goal>> for Takes {
+    ghost then = { λ v xs w. w ≡ share v.parts v.put (v.taken ++ xs) };
 
     ghost empty = { WasEmpty };
 }
@@ -40,33 +41,33 @@ impl Outcome<Goal, Account> for Takes {
 /// How passes are made of one another, and put together again.
 pub struct Cut;
 
-impl Split<Account> for Cut {
-    ghost left = { λ v. account (v.parts - 1) v.put v.taken };
+impl Split<Share<Goal>> for Cut {
+    ghost left = { λ v. share (v.parts - 1) v.put v.taken };
 
-    ghost right = { λ v. account 1 [] [] };
+    ghost right = { λ v. share 1 [] [] };
 }
 
-impl Join<Account> for Cut {
-    ghost both = { λ v w. account (v.parts + w.parts) (v.put ++ w.put) (v.taken ++ w.taken) };
+impl Join<Share<Goal>> for Cut {
+    ghost both = { λ v w. share (v.parts + w.parts) (v.put ++ w.put) (v.taken ++ w.taken) };
 
-    ghost spent = { account 0 [] [] };
+    ghost spent = { share 0 [] [] };
 }
 
 /// How many goals a deque holds, and what that says to who knows all of it.
 pub struct Count;
 
-impl Lesson<Goal, Account> for Count {
-    ghost fact = { HasLeft };
+impl Lesson<Goal, Share<Goal>> for Count {
+    ghost fact = { HasLeft 8 };
 }
 
 /// The end of a deque at which its own worker puts and takes.
-pub type Owner = Worker<Goal, Global, Account, Fair>;
+pub type Owner = Worker<Goal, Global, Share<Goal>, Fair>;
 
 /// The end of a deque at which others take.
-pub type Thief = Stealer<Goal, Global, Account, Fair>;
+pub type Thief = Stealer<Goal, Global, Share<Goal>, Fair>;
 
 /// The pass of such another.
-pub type Guest = Pass<Goal, Account, Global>;
+pub type Guest = Pass<Goal, Share<Goal>, Global>;
 
 /// Moves the first goal of a deque to the end of a list that has room for it, if there is one.
 fn move_one(owner: &mut Owner, goals: &mut Vec<Goal>)

@@ -2,7 +2,8 @@
 
 ghost use Rattle.std.specs.Prelude.{◌≡◌, ◌+◌, ◌-◌, ◌<◌, ◌++◌, ◌∷◌, ◌≢◌, List, [], length, IfSome, IfNone, IfOk, IfErr};
 ghost use Rattle.std.specs.Prelude.{OnOk, OnErr, slice_get, Some, ℕ, ◌≤◌, vec_capacity};
-ghost use Rattle.and_goals.specs.Balance.{account, MovesRest};
+ghost use Rattle.and_shares.specs.Balance.{share};
+ghost use Rattle.and_goals.specs.Balance.{MovesRest};
 ghost use Rattle.and_goals.specs.Hands.{OtherSeen, HandSeen, GivesOne, GivesNone, TakesOne, TakesNone, Steals};
 ghost use Rattle.and_goals.specs.Hands.{AllGiveNone, IsCountOf, HasTaken, putting, seat_of};
 
@@ -84,7 +85,7 @@ fn one_more(count: Option<u64>) -> Option<u64>
 impl Hand {
     /// A hand with an empty deque, which knows no other. An error is want of memory.
     pub(crate) fn alone(alloc: Global) -> Result<Hand, AllocError>
-        ensures own { IfOk result (λ hand. hand.own ≡ account 8 [] []) }
+        ensures own { IfOk result (λ hand. hand.own ≡ share 8 [] []) }
         ensures others { IfOk result (λ hand. hand.others ≡ []) }
     {
         Ok(Hand {
@@ -99,8 +100,8 @@ impl Hand {
         requires { 1 < self.old.own.parts }
         ensures hand { OnOk result
             (self.new ≡ record self.old
-            { own = account (self.old.own.parts - 1) self.old.own.put self.old.own.taken }) }
-        ensures guest { IfOk result (λ other. (other.deque ≡ self.old.deque) × (other.known ≡ account 1 [] [])) }
+            { own = share (self.old.own.parts - 1) self.old.own.put self.old.own.taken }) }
+        ensures guest { IfOk result (λ other. (other.deque ≡ self.old.deque) × (other.known ≡ share 1 [] [])) }
     {
         Ok(Other {
             thief: self.own.stealer()?,
@@ -133,7 +134,7 @@ impl Hand {
         requires { other.deque ≡ self.old.deque }
         ensures { self.new ≡ record self.old {
           own =
-              account (self.old.own.parts + 1) self.old.own.put (self.old.own.taken ++ other.known.taken);
+              share (self.old.own.parts + 1) self.old.own.put (self.old.own.taken ++ other.known.taken);
         } }
     {
         let Other { thief: _, pass } = other;

@@ -2,7 +2,7 @@
 
 ghost use Rattle.std.specs.Prelude.{◌≡◌, ◌+◌, ◌<◌, ◌≤◌, ◌++◌, List, length, IfOk, IfErr, IfSome, vec_capacity};
 ghost use Rattle.and_model.specs.declared.goal.Goal.{Goal};
-ghost use Rattle.and_goals.specs.Bags.{SameBag};
+ghost use Rattle.and_shares.specs.Bags.{SameBag};
 ghost use Rattle.and_goals.specs.Hands.{IsDealt, AreAllHands, all_put, all_taken};
 
 use crate::hand::{Hand, HandList};

@@ -2,7 +2,6 @@
 //! own has none.
 #![tactic(auto)]
 
-mod account;
 mod deque;
 mod hand;
 mod leaving;

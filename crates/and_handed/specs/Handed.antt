@@ -23,7 +23,7 @@ use Rattle.and_store.specs.Worked.{seen_by, shown}
 use Rattle.and_store_laws.specs.Steps.{entry}
 use Rattle.and_handed.specs.declared.told.Reduced.{Reduced}
 use Rattle.and_handed.specs.declared.told.Ran.{Ran}
-use Rattle.and_handed.specs.declared.told.Told.{Told}
+use Rattle.and_handed.specs.declared.told.HandedOn.{HandedOn}
 use Rattle.and_handed.specs.declared.told.Cause.{Cause}
 use Rattle.and_handed.specs.declared.told.Cause.TheVariants.{NoCandidate, NoSolution}
 
@@ -72,7 +72,8 @@ SolvesRun P first t r = (what : Arithmetic) (ts : Terms) → HasTerms P first r 
     → Solves t (added (arithmetic_at r.goal.base what) ts)
 
 -- what the worker asked by the time when the journal was so long
-pub record SolvesAsked (P : NamedProgram) (first : List Ref) (told : Told) (long : ℕ) (t : Substitution) : Type 0 where
+pub record SolvesAsked (P : NamedProgram) (first : List Ref) (told : HandedOn) (long : ℕ)
+    (t : Substitution) : Type 0 where
   pub made : (m : Reduced) → Contains told.made.items m → length m.judged.value.pass.seen ≤ long
       → Solves t (asked_by P.program m)
   pub ran : (r : Ran) → Contains told.ran.items r → length r.judged.value.pass.seen ≤ long → SolvesRun P first t r
@@ -84,7 +85,7 @@ abbrev pub IsWholeFrame : NamedProgram → Words → (clause base : ℕ) → Typ
 IsWholeFrame P w c base = (k : ℕ) → k < (clause_at P.program c).variables → is_half (w (base + 1 + k)) ≡ false
 
 -- Words that have all that a worker had seen, and in which the frames of what it took and made are whole.
-pub record FitsSeen (P : NamedProgram) (told : Told) (p : PassSeen) (w : Words) : Type 0 where
+pub record FitsSeen (P : NamedProgram) (told : HandedOn) (p : PassSeen) (w : Words) : Type 0 where
   pub has : HasAll w p.store.about.first p.pass.seen
   pub made : (m : Reduced) → Contains told.made.items m
       → IsWholeFrame P w m.goal.clause.0 m.goal.base × IsWholeFrame P w m.reduction.clause.0 m.reduction.node
@@ -109,7 +110,7 @@ pub record IsSole (P : NamedProgram) (p : PassSeen) (m : Reduced) : Type 0 where
       ++ entry p.pass.number (gives (frame_of P.program m)) ∷ after
 
 -- The frame of the goal is one that the worker had taken by then.
-pub record HasFrame (P : NamedProgram) (told : Told) (p : PassSeen) (r : Ran) : Type 0 where
+pub record HasFrame (P : NamedProgram) (told : HandedOn) (p : PassSeen) (r : Ran) : Type 0 where
   pub made : Reduced
   pub is : Contains told.made.items made
   pub base : made.reduction.node ≡ r.goal.base
@@ -117,14 +118,14 @@ pub record HasFrame (P : NamedProgram) (told : Told) (p : PassSeen) (r : Ran) : 
   pub before : Contains r.judged.value.pass.seen (entry p.pass.number (gives (frame_of P.program made)))
 
 -- Arithmetic: its terms were known by then; and its frame was there at the opening, or is one of those reductions.
-pub record WasRun (P : NamedProgram) (first : List Ref) (told : Told) (p : PassSeen) (r : Ran) : Type 0 where
+pub record WasRun (P : NamedProgram) (first : List Ref) (told : HandedOn) (p : PassSeen) (r : Ran) : Type 0 where
   pub placed : (r.goal.base < length first) ⊎ HasFrame P told p r
   pub known : IsKnownRun P first r
   pub after : List JournalEntry
   pub seen : p.pass.seen ≡ r.judged.value.pass.seen ++ after
 
 -- A setting of the worker's own follows from those before it and from what the worker had asked by then.
-abbrev pub SettingsFollow : NamedProgram → Told → PassSeen → Type 0
+abbrev pub SettingsFollow : NamedProgram → HandedOn → PassSeen → Type 0
 SettingsFollow P told p =
     (before after : List JournalEntry) (s : Setting) → p.pass.seen ≡ before ++ entry p.pass.number (sets s) ∷ after
     → is_half s.value ≡ false
@@ -132,7 +133,7 @@ SettingsFollow P told p =
     → SolvesAsked P p.store.about.first told (length before) t → Solves t (equations_between P w (Cell s.place) s.value)
 
 -- The pairs follow from what was asked, and all that was asked follows from them.
-pub record PairsLeft (P : NamedProgram) (told : Told) (pairs : List Pair) (p : PassSeen) : Type 0 where
+pub record PairsLeft (P : NamedProgram) (told : HandedOn) (pairs : List Pair) (p : PassSeen) : Type 0 where
   pub in_range : AreInRange P p.store.about.words pairs
   pub written : AreWritten (seen_by p) pairs
   pub asked : (w : Words) → FitsSeen P told p w → (t : Substitution) → SolvesAll P w p.store.about.first p.pass.seen t
@@ -141,28 +142,28 @@ pub record PairsLeft (P : NamedProgram) (told : Told) (pairs : List Pair) (p : P
       → Solves t (equations_of_pairs P w pairs) → SolvesAsked P p.store.about.first told (length p.pass.seen) t
 
 -- Why the tree is dead: no clause is left of a call, or what was asked has no solution with what is set.
-abbrev pub Kills : NamedProgram → Told → PassSeen → Cause → Type 0
+abbrev pub Kills : NamedProgram → HandedOn → PassSeen → Cause → Type 0
 Kills P told p (NoCandidate goal) = CanBeTried P p.store.about.words goal × AreLeft P (seen_by p) goal []
 Kills P told p NoSolution =
     (w : Words) → FitsSeen P told p w → (t : Substitution) → SolvesAll P w p.store.about.first p.pass.seen t
     → SolvesAsked P p.store.about.first told (length p.pass.seen) t → ⊥
 
 -- What holds of the frames that a worker took, of its reductions, of the arithmetic that it ran, and of its settings.
-pub record HasActed (P : NamedProgram) (told : Told) (p : PassSeen) : Type 0 where
+pub record HasActed (P : NamedProgram) (told : HandedOn) (p : PassSeen) : Type 0 where
   pub frames : p.pass.frames ≡ map (frame_of P.program) told.made.items
   pub made : All (IsSole P p) told.made.items
   pub ran : All (WasRun P p.store.about.first told p) told.ran.items
   pub settings : SettingsFollow P told p
 
 -- What holds of all that a worker did, where these pairs are left to do.
-pub record HasDone (P : NamedProgram) (told : Told) (pairs : List Pair) (p : PassSeen) : Type 0 where
+pub record HasDone (P : NamedProgram) (told : HandedOn) (pairs : List Pair) (p : PassSeen) : Type 0 where
   pub acted : HasActed P told p
   pub open acted use *
   pub pairs_left : PairsLeft P told pairs p
 
 -- Where a worker knows why the tree is dead it called `fail`, once and last, and then no pair need be left; else it
 -- never did.
-abbrev pub EndsBy : NamedProgram → Told → PassSeen → Option Cause → Type 0
+abbrev pub EndsBy : NamedProgram → HandedOn → PassSeen → Option Cause → Type 0
 EndsBy P told p None = (p.pass.fails ≡ []) × HasDone P told told.pairs p
 EndsBy P told p (Some cause) =
     Kills P told p cause × (p.pass.fails ≡ tt ∷ [])
@@ -170,5 +171,5 @@ EndsBy P told p (Some cause) =
     × HasActed P told p
 
 -- HandsOn P told p: what the worker with this pass hands on, unless it came upon what should not be.
-abbrev pub HandsOn : NamedProgram → Told → PassSeen → Type 0
+abbrev pub HandsOn : NamedProgram → HandedOn → PassSeen → Type 0
 HandsOn P told p = told.is_spoilt ≡ false → EndsBy P told p told.cause

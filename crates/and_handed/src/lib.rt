@@ -3,4 +3,4 @@
 
 mod told;
 
-pub use told::{Cause, Ended, Ran, Reduced, Told};
+pub use told::{Cause, Ended, HandedOn, Ran, Reduced};

@@ -37,7 +37,7 @@ pub enum Cause {
 
 /// What a worker hands on: what it did, and what of it is still to be done.
 #[derive(Drop)]
-pub struct Told {
+pub struct HandedOn {
     /// The reductions that it made, in order.
     pub made: Vec<Reduced>,
     /// The arithmetic that it ran, in order.
@@ -50,13 +50,13 @@ pub struct Told {
     pub is_spoilt: bool,
 }
 
-impl Told {
+impl HandedOn {
     /// Nothing was done. Takes no memory.
-    pub fn nothing(alloc: Global) -> Told
+    pub fn nothing(alloc: Global) -> HandedOn
         ensures { (result.made.items ≡ []) × (result.ran.items ≡ []) × (result.pairs ≡ []) × (result.cause ≡ None)
             × (result.is_spoilt ≡ false) }
     {
-        Told {
+        HandedOn {
             made: Vec::new(alloc),
             ran: Vec::new(alloc),
             pairs: PairList::new(alloc),
@@ -70,5 +70,5 @@ impl Told {
 #[derive(Drop)]
 pub struct Ended {
     pub pass: Pass,
-    pub told: Option<Told>,
+    pub told: Option<HandedOn>,
 }

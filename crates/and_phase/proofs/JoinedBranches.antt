@@ -19,7 +19,7 @@ use Rattle.and_code.specs.Written.{all_written}
 use Rattle.and_branch_laws.specs.OwnVariables.{OwnVariables}
 use Rattle.and_branch_laws.specs.Kept.{Kept, Unsettled, goal_of}
 use Rattle.and_worker_laws.specs.Leavings.{AreReady}
-use Rattle.and_handed.specs.declared.told.Told.{Told}
+use Rattle.and_handed.specs.declared.told.HandedOn.{HandedOn}
 use Rattle.and_gathering.specs.Gathering.{IsGathered}
 use Rattle.and_gathering.specs.declared.gathering.Gathered.{Gathered}
 use Rattle.and_whole.specs.Places.{all_frames, ArePairsWhole, IsSideWhole, IsWhole}
@@ -51,7 +51,7 @@ Leaves P old row t limit g =
 abbrev pub PhasesLeave : Type 0
 PhasesLeave =
     (P : NamedProgram) → OwnVariables P → (old : List declared.Reduction.Reduction) (first row : List Ref) (kept : List Framed)
-    (t : QueryTree P.program) (tolds : List Told) (limit : ℕ) (g : Gathered)
+    (t : QueryTree P.program) (tolds : List HandedOn) (limit : ℕ) (g : Gathered)
     → Kept P (all_written old) first kept t
     → HasPhased P first row tolds → IsGathered P.program (map goal_of kept) (weight t) limit tolds g
     → length row ≡ g.end → IsWhole P (all_frames (old ++ g.made)) row
@@ -138,7 +138,7 @@ steps_on P old parts w (Ok b) nothing stands worked = record {
 steps_on P old parts w (Err e) nothing stands worked = tt
 
 -- What was joined, as the parts have it.
-pub joined : {N : Type 0} (P Q : NamedProgram) → P ≡ Q → (parts : Parts N) (cells : List Ref) (tolds : List Told) (goals : List Goal)
+pub joined : {N : Type 0} (P Q : NamedProgram) → P ≡ Q → (parts : Parts N) (cells : List Ref) (tolds : List HandedOn) (goals : List Goal)
     → HasPhased P parts.cells cells tolds → goals ≡ parts.goals.items → (o : Option Joined) → IfSome o (λ j. j.cells ≡ cells)
     → IfSome o (λ j. IsGathered Q.program goals parts.used parts.limit tolds j.done)
     → IfSome o (λ j. LooksWhole Q parts.reductions cells j.done) → IfSome o (IsJoined P parts)

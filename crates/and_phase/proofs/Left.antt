@@ -14,12 +14,12 @@ use Rattle.and_store.specs.Sight.{About}
 use Rattle.and_store_laws.proofs.Words.{set_in_has}
 use Rattle.and_handed.specs.Handed.{EndsBy}
 use Rattle.and_handed.specs.declared.told.Cause.{Cause}
-use Rattle.and_handed.specs.declared.told.Told.{Told}
+use Rattle.and_handed.specs.declared.told.HandedOn.{HandedOn}
 use Rattle.and_gathering.specs.Gathering.{IsGathered}
 use Rattle.and_gathering.specs.declared.gathering.Gathered.{Gathered}
 use Rattle.and_closing_laws.specs.Phases.{HasPhased, AllHandOn}
 
-module _ (P : NamedProgram) (first row : List Ref) (tolds : List Told) (h : HasPhased P first row tolds) where
+module _ (P : NamedProgram) (first row : List Ref) (tolds : List HandedOn) (h : HasPhased P first row tolds) where
   held : (place : ℕ) (r : Ref) → word_at row place ≡ r → r ≢ Free → CanHold P h.about.words place r
   held place r is set = h.closes.fits (record { place = place; value = r }) (set_in_has row place r is set)
 
@@ -34,10 +34,10 @@ module _ (P : NamedProgram) (first row : List Ref) (tolds : List Told) (h : HasP
   pub fits_row : (words : ℕ) × ((place : ℕ) → CanHold P words place (word_at row place))
   fits_row = (h.about.words, λ place. held_by place (word_at row place) refl)
 
-abbrev Lives : Told → Type 0
+abbrev Lives : HandedOn → Type 0
 Lives t = t.cause ≡ None
 
-abbrev IsUnspoilt : Told → Type 0
+abbrev IsUnspoilt : HandedOn → Type 0
 IsUnspoilt t = t.is_spoilt ≡ false
 
 abbrev IsOver : About → PassSeen → Type 0
@@ -46,22 +46,22 @@ IsOver a p = p.store.about ≡ a
 abbrev IsPairInRange : NamedProgram → About → Pair → Type 0
 IsPairInRange P a p = IsInRange P a.words p.left × IsInRange P a.words p.right
 
-one_in_range : (P : NamedProgram) (a : About) (t : Told) (p : PassSeen) (cause : Option Cause) → EndsBy P t p cause → cause ≡ None → IsOver a p
+one_in_range : (P : NamedProgram) (a : About) (t : HandedOn) (p : PassSeen) (cause : Option Cause) → EndsBy P t p cause → cause ≡ None → IsOver a p
     → AreInRange P a.words t.pairs
 one_in_range P a t p cause ends lives over =
     let done = subst (EndsBy P t p) lives ends in subst (λ (b : About). AreInRange P b.words t.pairs) over done.1.pairs_left.in_range
 
-all_in_range : (P : NamedProgram) (a : About) (tolds : List Told) (passes : List PassSeen) → AllHandOn P tolds passes → All (IsOver a) passes
-    → All IsUnspoilt tolds → All Lives tolds → AreInRange P a.words (flat_map (λ (t : Told). t.pairs) tolds)
+all_in_range : (P : NamedProgram) (a : About) (tolds : List HandedOn) (passes : List PassSeen) → AllHandOn P tolds passes → All (IsOver a) passes
+    → All IsUnspoilt tolds → All Lives tolds → AreInRange P a.words (flat_map (λ (t : HandedOn). t.pairs) tolds)
 all_in_range P a [] passes hand over sound lives = All-nil (IsPairInRange P a)
 all_in_range P a (t ∷ tolds) [] hand over sound lives = absurd hand
 all_in_range P a (t ∷ tolds) (p ∷ passes) hand over sound lives =
-    All-append (IsPairInRange P a) t.pairs (flat_map (λ (u : Told). u.pairs) tolds)
+    All-append (IsPairInRange P a) t.pairs (flat_map (λ (u : HandedOn). u.pairs) tolds)
     (one_in_range P a t p t.cause (hand.0 (All-head IsUnspoilt t tolds sound)) (All-head Lives t tolds lives) (All-head (IsOver a) p passes over))
     (all_in_range P a tolds passes hand.1 (All-tail (IsOver a) p passes over) (All-tail IsUnspoilt t tolds sound) (All-tail Lives t tolds lives))
 
 -- Where no worker found the tree dead, all pairs are in range of the words that the store had.
-pub pairs_in_range : (P : NamedProgram) (first row : List Ref) (tolds : List Told) → HasPhased P first row tolds → (goals : List Goal) (used limit : ℕ)
+pub pairs_in_range : (P : NamedProgram) (first row : List Ref) (tolds : List HandedOn) → HasPhased P first row tolds → (goals : List Goal) (used limit : ℕ)
     (g : Gathered) → IsGathered P.program goals used limit tolds g → g.failed ≡ false → (words : ℕ) × AreInRange P words g.pairs
 pairs_in_range P first row tolds h goals used limit g gathered live = (
   h.about.words,

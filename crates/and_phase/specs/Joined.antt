@@ -8,7 +8,7 @@ use Rattle.and_branch.specs.declared.parts.Parts.{Parts}
 use Rattle.and_branch.specs.declared.rebuilding.Worked.{Worked}
 use Rattle.and_gathering.specs.Gathering.{IsGathered}
 use Rattle.and_gathering.specs.declared.gathering.Gathered.{Gathered}
-use Rattle.and_handed.specs.declared.told.Told.{Told}
+use Rattle.and_handed.specs.declared.told.HandedOn.{HandedOn}
 use Rattle.and_whole.specs.Places.{all_frames, IsWhole, ArePairsWhole}
 use Rattle.and_closing_laws.specs.Phases.{HasPhased}
 use Rattle.and_phase.specs.declared.joining.Joined.{Joined}
@@ -24,7 +24,7 @@ pub record LooksWhole (P : NamedProgram) (old : List Reduction) (row : List Ref)
 -- Workers went over a store that began with the cells of these parts; what they did was gathered, and looks found it
 -- whole.
 pub record IsJoined {N : Type 0} (P : NamedProgram) (parts : Parts N) (j : Joined) : Type 0 where
-  pub tolds : List Told
+  pub tolds : List HandedOn
   pub phased : HasPhased P parts.cells j.cells tolds
   pub gathered : IsGathered P.program parts.goals.items parts.used parts.limit tolds j.done
   pub whole : LooksWhole P parts.reductions j.cells j.done

@@ -5,8 +5,8 @@ use Rattle.and_cells.specs.Ranges.{NamedProgram}
 use Rattle.and_branch.specs.Branches.{Held, IsBranchOf}
 use Rattle.and_branch.specs.Origins.{KeepsWhatIsNoted}
 
--- The new branch stands for a tree to which Steps lead from the old one's. What could be had again of the old one can be
--- of the new, unless nothing is noted of its row any longer.
+-- The new branch stands for a tree to which Steps lead from the old one's. What could be had again of the old one can
+-- be of the new, unless nothing is noted of its row any longer.
 pub record LeadsOn (P : NamedProgram) (old new : Held) : Type 0 where
   pub each : (t : QueryTree P.program) → IsBranchOf P old t → (u : QueryTree P.program) × IsBranchOf P new u × Steps t u
   pub back : KeepsWhatIsNoted old new

@@ -7,10 +7,10 @@ ghost use Rattle.and_handed.specs.Handed.{HandsOn};
 ghost use Rattle.and_closing_laws.specs.Phases.{AllHandOn};
 
 use and_goals::{Hand, open_hands};
-use and_handed::{Ended, Told};
+use and_handed::{Ended, HandedOn};
 use and_model::Goal;
 use and_store::{Pass, PassList};
-use and_workers::Job;
+use and_workers::Beginning;
 use std::alloc::{AllocError, Global};
 
 /// The hands of so many workers, in order. An error is want of memory.
@@ -39,7 +39,7 @@ fn deal_goals(hands: &mut [Hand], goals: &[Goal])
 }
 
 /// The jobs of workers who have these hands and passes, the last one first. An error is want of memory, or of passes.
-fn jobs_of(alloc: Global, hands: Vec<Hand>, passes: PassList) -> Result<Vec<Job>, AllocError>
+fn jobs_of(alloc: Global, hands: Vec<Hand>, passes: PassList) -> Result<Vec<Beginning>, AllocError>
     requires { length hands.items ≤ 8 }
     ensures len { IfOk result (λ jobs. length jobs.items ≡ length hands.items) }
     ensures fresh { IfOk result (λ jobs. (store : StoreId) → passes ≡ fresh_from store 0 (length hands.items)
@@ -53,7 +53,7 @@ fn jobs_of(alloc: Global, hands: Vec<Hand>, passes: PassList) -> Result<Vec<Job>
             return Err(AllocError);
         };
         let number = hands.len() as u32;
-        jobs.push(Job { number, pass, hand })?;
+        jobs.push(Beginning { number, pass, hand })?;
     }
     Ok(jobs)
 }
@@ -64,7 +64,7 @@ pub(crate) fn deal(
     goals: &[Goal],
     passes: PassList,
     workers: u32,
-) -> Result<Vec<Job>, AllocError>
+) -> Result<Vec<Beginning>, AllocError>
     requires { (0 < workers) × (workers ≤ 8) }
     ensures { IfOk result (λ jobs. (store : StoreId) → passes ≡ fresh_from store 0 workers
         → (length jobs.items ≡ workers) × All (λ j. j.pass ≡ fresh store j.number) jobs.items) }
@@ -90,7 +90,7 @@ fn put_pass(passes: &mut PassList, pass: Pass) -> Result<(), AllocError>
 pub(crate) fn taken_in(
     alloc: Global,
     ended: Vec<Ended>,
-) -> Result<(PassList, Vec<Told>), AllocError>
+) -> Result<(PassList, Vec<HandedOn>), AllocError>
     ensures len { IfOk result (λ r. length r.0 ≡ length ended.items) }
     ensures store { IfOk result (λ r. (store : StoreId) → All (λ e. e.pass.store ≡ store) ended.items
         → All (λ p. p.store ≡ store) r.0) }

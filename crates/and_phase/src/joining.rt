@@ -20,7 +20,7 @@ use and_branch::{Branch, Parts, Worked};
 use and_cells::{LooseCells, Naming};
 use and_closing_laws::phases_leave_branches;
 use and_gathering::{Gathered, gather};
-use and_handed::Told;
+use and_handed::HandedOn;
 use and_model::{Goal, ReductionList};
 use and_program::Loaded;
 use and_whole::{are_pairs_whole, are_ready, frames_of, is_whole};
@@ -73,7 +73,7 @@ pub(crate) fn join(
     used: u32,
     limit: u32,
     cells: LooseCells,
-    tolds: &[Told],
+    tolds: &[HandedOn],
 ) -> Result<Option<Joined>, AllocError>
     requires limit { (used ≤ limit) × (limit ≤ MAX_LIMIT) }
     requires phased { (first : List Ref) × HasPhased (named loaded.now) first cells tolds.now }

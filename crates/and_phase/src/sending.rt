@@ -12,11 +12,11 @@ use crate::dealing::{deal, taken_in};
 use and_cells::{LooseCells, Naming, PlainCells};
 use and_clause_index::Determinacy;
 use and_gate::Gate;
-use and_handed::{Ended, Told};
+use and_handed::{Ended, HandedOn};
 use and_model::Goal;
 use and_program::Loaded;
 use and_store::Store;
-use and_workers::{Job, Shared, work};
+use and_workers::{Beginning, Shared, work};
 use std::alloc::{AllocError, Global};
 use std::thread;
 use std::thread::Threads;
@@ -36,7 +36,7 @@ pub(crate) fn reduce_all<N: Naming + Send + Sync, R: Threads + Sync, G: Gate>(
     words: u32,
     workers: u32,
     gate: &G,
-) -> Result<(LooseCells, Vec<Told>), AllocError>
+) -> Result<(LooseCells, Vec<HandedOn>), AllocError>
     requires program { N.program ≡ named loaded.now }
     requires table { IsTableOf N.program table.now }
     requires words { (length cells.now ≤ words) × (words ≤ MAX_LIMIT) }
@@ -73,7 +73,7 @@ fn send_off<N: Naming + Send + Sync, R: Threads + Sync, G: Gate>(
     gate: &G,
     opening: u32,
     words: u32,
-    jobs: Vec<Job>,
+    jobs: Vec<Beginning>,
 ) -> Result<Vec<Ended>, AllocError>
     requires program { N.program ≡ named loaded.now }
     requires table { IsTableOf N.program table.now }
@@ -97,7 +97,7 @@ fn send_off<N: Naming + Send + Sync, R: Threads + Sync, G: Gate>(
     thread::map_vec(
         rt,
         jobs,
-        &|job: Job| -> Ended
+        &|job: Beginning| -> Ended
             requires program { N.program ≡ named shared.loaded.now }
             requires table { IsTableOf N.program shared.table.now }
             requires fresh { job.pass ≡ fresh shared.store.now job.number }

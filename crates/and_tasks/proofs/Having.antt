@@ -362,6 +362,13 @@ module _ {N : Type 0} (P : NamedProgram) (tree : TreeId) where
       (child_stands P tree.about.limit l.point g b x.tree is x.children x.limited, h.tasks_are.1)
       (λ s. ap (λ keys. sum_by s (keys ++ all_keys xs)) (children_parted l.point g b is ∙ ap (λ cs. b.key ∷ children g.longer cs) none))
 
+  -- (those that are still to come behind it first)
+  pub rest_parted : (l m : Level N) (b : Held) (xs : List (Task N)) (pass : PassSeen) → IsChild P l.point m.point b
+      → m ≡ record l { point = m.point } → m.point.clauses ≢ [] → Has P tree pass (Children l ∷ xs) → Has P tree pass (Children m ∷ One b ∷ xs)
+  rest_parted l m b xs pass is same some h =
+      has_swapped pass (One b) (Children m) xs
+      (child_parted l m b xs pass is (ap (λ (k : Level N). k.told) same) (ap (λ (k : Level N). k.longer.value) same) some h)
+
   -- No child is left behind it.
   pub only_parted : (l m : Level N) (b : Held) (xs : List (Task N)) (pass : PassSeen) → IsChild P l.point m.point b
       → length m.point.clauses ≡ 0 → Has P tree pass (Children l ∷ xs) → Has P tree pass (One b ∷ xs)

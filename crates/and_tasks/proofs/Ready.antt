@@ -16,15 +16,16 @@ use Rattle.and_answers.specs.Kept.{last_code_or, listed}
 use Rattle.and_answers.specs.Tails.{BeginAlike}
 use Rattle.and_model.specs.Listing.{Entry}
 use Rattle.and_answers.proofs.AlikeLemmas.{none_alike, whole_alike, longer_alike, shorter_alike}
-use Rattle.and_tasks.specs.Working.{AreToCome, Has, Works, AreServed, Serves, IsAtWork, IsReady, Shares, LeftShares, as_told, at_fork, forked}
+use Rattle.and_tasks.specs.Working.{AreToCome, Has, Works, AreServed, IsServed, Serves, IsAtWork, IsReady, Shares, LeftShares, as_told, at_fork, forked}
 use Rattle.and_tasks.specs.declared.stack.Hand.{Hand}
 use Rattle.and_tasks.specs.declared.stack.Level.{Level}
 use Rattle.and_tasks.specs.declared.stack.Task.{Task}
 use Rattle.and_tasks.specs.declared.stack.Task.TheVariants.{One, Children, Left}
 use Rattle.and_tasks.proofs.Serving.{back_keyed, back_unkeyed, served_off, served_put, served_alone, served_kept, served_keyed}
 use Rattle.and_tasks.proofs.ToldKeys.{told_anew, told_kept, begins_key, begins_same, child_told, key_told, last_served, child_served}
-use Rattle.and_tasks.proofs.Having.{has_unleft, has_pushed, child_parted, last_parted}
-use Rattle.and_tasks.proofs.Turns.{works_put, works_popped, works_stepped, works_kept, has_second_on_top}
+use Rattle.and_tasks.proofs.Having.{has_unleft, has_pushed, has_swapped, last_parted, rest_parted}
+use Rattle.and_tasks.proofs.Sharing.{works_put}
+use Rattle.and_tasks.proofs.Turns.{works_popped, works_stepped, works_kept, has_second_on_top}
 
 -- What could be had again can be, whatever the keys are.
 keeps_keyed : (b d : Held) (one two : List ℕ) → KeepsBack b d → KeepsBack (record b { key = one }) (record d { key = two })
@@ -207,10 +208,8 @@ module _ {N : Type 0} (P : NamedProgram) (tree : TreeId) (pass : PassSeen) (foun
 
   pub another_parted : (l m : Level N) (b : Held) (stack : List (Task N)) → Works P tree pass found (Children l ∷ stack)
       → IsChild P l.point m.point b → length l.point.clauses ≢ 1 → m ≡ record l { point = m.point }
-      → Has P tree pass (One b ∷ Children m ∷ stack)
-  another_parted l m b stack w is more same =
-      child_parted P tree l m b stack pass is (ap (λ (k : Level N). k.told) same) (ap (λ (k : Level N). k.longer.value) same)
-      (some_more l m b is more) w.has
+      → Has P tree pass (Children m ∷ One b ∷ stack)
+  another_parted l m b stack w is more same = rest_parted P tree l m b stack pass is same (some_more l m b is more) w.has
 
   -- and so does the next one, where others come behind it.
   pub another_ready : (q : PassSeen) (new : Found) (l m : Level N) (b : Held) (t : Told) (common : ℕ) (stack after : List (Task N))
@@ -221,7 +220,8 @@ module _ {N : Type 0} (P : NamedProgram) (tree : TreeId) (pass : PassSeen) (foun
   another_ready q new l m b t common stack after w is more same long left back s shares kept (same_pass, put) =
       let x : AreToCome P tree.about.limit l = w.has.tasks_are.0 in
       let has : Has P tree pass (One b ∷ after) =
-      has_second_on_top P tree pass (One b) (Children m) stack after (another_parted l m b stack w is more same) put in record {
+      has_second_on_top P tree pass (One b) (Children m) stack after
+      (has_swapped P tree pass (Children m) (One b) stack (another_parted l m b stack w is more same)) put in record {
         works = works_kept P tree pass q found new (Children l ∷ stack) (One b ∷ after) same_pass kept w
             (subst (λ (r : PassSeen). Has P tree r (One b ∷ after)) (sym same_pass) has);
         told = child_told P l.point m.point b l.told t is x.long long back.made left x.told back.reductions;
@@ -250,18 +250,11 @@ module _ {N : Type 0} (P : NamedProgram) (tree : TreeId) (pass : PassSeen) (foun
       )
 
   -- A fork was put on the stack, and what is left of the branch that was forked serves it.
-  pub fork_at_work : (q : PassSeen) (new : Found) (l k : Level N) (b : Held) (stack after : List (Task N)) (left : Option Held)
-      → Works P tree pass found (Children k ∷ stack) → k ≡ l → GoesBack l.point.parent b → b.key ≡ l.point.longer
-      → AreServed (Some (at_fork l.point)) stack → new ≡ found → left ≡ Some b → (q ≡ pass) × (after ≡ stack ++ Children k ∷ [])
-      → IsAtWork P tree q new after left
-  fork_at_work q new l k b stack after left w same back key below kept is (same_pass, put) =
-      let here : Serves l b = record { back = back; begins = begins_same l.point.longer b.key key } in
-      let served : AreServed (Some b) (stack ++ Children l ∷ []) = served_put (Some b) stack (Children l) below (here, tt) in
-      record {
-        works = works_put P tree q new (Children k) stack after
-            (works_kept P tree pass q found new (Children k ∷ stack) (Children k ∷ stack) same_pass kept w
-            (subst (λ (r : PassSeen). Has P tree r (Children k ∷ stack)) (sym same_pass) w.has)) put;
-        served = subst (λ (o : Option Held). AreServed o after) (sym is)
-            (subst (λ (ts : List (Task N)). AreServed (Some b) ts) (sym put)
-            (subst (λ (m : Level N). AreServed (Some b) (stack ++ Children m ∷ [])) (sym same) served));
-      }
+  pub fork_at_work : (q : PassSeen) (new : Found) (l : Level N) (left now : Option Held) (stack after : List (Task N))
+      → Works P tree pass found (Children l ∷ stack) → IsServed l left → AreServed (Some (forked l)) stack → new ≡ found → now ≡ left
+      → (q ≡ pass) × (after ≡ stack ++ Children l ∷ []) → IsAtWork P tree q new after now
+  fork_at_work q new l left now stack after w here below kept is put = record {
+    works = works_put P tree pass q found new (Children l) stack after w kept put;
+    served = subst (λ (o : Option Held). AreServed o after) (sym is)
+        (subst (λ (ts : List (Task N)). AreServed left ts) (sym put.1) (served_put left stack (Children l) below (here, tt)));
+  }

@@ -1,5 +1,6 @@
 -- What calls that share branches make of what a team keeps.
-use Rattle.std.proofs.Common.{ℕ, ◌≡◌, List, [], ◌∷◌, ◌++◌, refl, sym, ap, subst, ◌∙◌, Option, Result, Ok, Err}
+use Rattle.std.proofs.Common.{ℕ, ◌≡◌, List, [], ◌∷◌, ◌++◌, refl, sym, ap, subst, ◌∙◌, Option, Result, Ok, Err, Vec}
+use Rattle.std.specs.declared.alloc.Global.{Global}
 use Rattle.std.specs.Prelude.{OnOk, OnErr}
 use Rattle.and_cells.specs.Ranges.{NamedProgram}
 use Rattle.and_branch.specs.Branches.{Held}
@@ -60,6 +61,13 @@ pub published_team : {B : Type 0} (key_of : B → Key) (cell : ℕ) (branch : B)
 published_team key_of cell branch p q Done opens keeps ends = (opens refl).team
 published_team key_of cell branch p q (NotFree back s) opens keeps ends = (keeps back s refl).1.team
 published_team key_of cell branch p q (Spent back) opens keeps ends = (ends back refl).1.team
+
+-- The forks are served where neither the stack nor what stands on top was changed.
+pub served_still : {N : Type 0} (before now : Option Held) (stack after : Vec (Task N) Global) → AreServed before stack.items → after ≡ stack
+    → now ≡ before → AreServed now after.items
+served_still {N} before now stack after served same kept =
+    subst (λ (o : Option Held). AreServed o after.items) (sym kept)
+    (subst (λ (v : Vec (Task N) Global). AreServed before v.items) (sym same) served)
 
 module _ {N : Type 0} (P : NamedProgram) (tree : TreeId) where
   -- ---- calls that leave the hand as it is
@@ -160,6 +168,11 @@ module _ {N : Type 0} (P : NamedProgram) (tree : TreeId) where
   pub has_given : (p q : PassSeen) (x : Task N) (tasks after : List (Task N)) → Has P tree p (x ∷ tasks)
       → (after ≡ tasks) × ((others : List (Task N)) → Has P tree p (x ∷ others) → Has P tree q others) → Has P tree q after
   has_given p q x tasks after h (same, given) = subst (λ ts. Has P tree q ts) (sym same) (given tasks h)
+
+  -- The branch behind it is in hand still.
+  pub has_behind_given : (p q : PassSeen) (x y : Task N) (tasks after : List (Task N)) → Has P tree p (x ∷ y ∷ tasks)
+      → (after ≡ tasks) × ((others : List (Task N)) → Has P tree p (x ∷ others) → Has P tree q others) → Has P tree q (y ∷ after)
+  has_behind_given p q x y tasks after h (same, given) = subst (λ ts. Has P tree q (y ∷ ts)) (sym same) (given (y ∷ tasks) h)
 
   pub has_either : {A E : Type 0} (r : Result A E) (p q : PassSeen) (x : Task N) (tasks after : List (Task N)) → Has P tree p (x ∷ tasks)
       → OnOk r ((q ≡ p) × (after ≡ tasks ++ x ∷ []))

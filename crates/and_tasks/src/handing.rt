@@ -82,18 +82,40 @@ impl<N: Naming> Team<N> {
         let Some(branch) = taken else {
             return Ok(());
         };
+        match self.offer(shared, cell, branch) {
+            None => Ok(()),
+            Some(back) => self.put_branch(shared, back),
+        }
+    }
+
+    /// Publishes a branch in a cell that was found free. It comes back where the cell is free no more.
+    fn offer<G: Gate>(
+        &mut self,
+        shared: &Shared<N, G>,
+        cell: u32,
+        branch: Branch<N>,
+    ) -> Option<Branch<N>>
+        requires works { Works N.program shared.now.tree.now self.old.pass self.old.found
+            (Task.One branch ∷ self.old.stack.items) }
+        requires own { Owns self.old.number cell }
+        ensures none { IfNone result
+            (Works N.program shared.now.tree.now self.new.pass self.new.found (self.new.stack.items)) }
+        ensures some { IfSome result
+            (λ back. Works N.program shared.now.tree.now self.new.pass self.new.found
+            (Task.One back ∷ self.new.stack.items)) }
+        ensures same { (self.new.number ≡ self.old.number) × (self.new.stack ≡ self.old.stack)
+            × (self.new.left ≡ self.old.left) }
+    {
         match shared
             .tree
             .publish(&mut self.pass, cell, PlacedBranch { branch })
         {
             Published::Done => {
                 shared.gate.publish(self.number);
-                Ok(())
+                None
             }
-            Published::NotFree { branch, seen: _ } => {
-                self.put_below(shared, Task::One(branch.branch))
-            }
-            Published::Spent { branch } => self.put_below(shared, Task::One(branch.branch)),
+            Published::NotFree { branch, seen: _ } => Some(branch.branch),
+            Published::Spent { branch } => Some(branch.branch),
         }
     }
 
@@ -171,9 +193,7 @@ impl<N: Naming> Team<N> {
         match self.put_below(shared, Task::Children(level)) {
             Ok(()) => Ok(branch),
             Err(AllocError) => {
-                shared
-                    .tree
-                    .give_up(&mut self.pass, &Snapshot::of(branch.key()));
+                self.give_up_key(shared, &Snapshot::of(branch.key()));
                 drop(branch);
                 Err(AllocError)
             }
@@ -200,6 +220,23 @@ impl<N: Naming> Team<N> {
         }
     }
 
+    /// Puts a branch below all tasks, as the oldest. After want of memory it has been given up.
+    fn put_branch<G: Gate>(
+        &mut self,
+        shared: &Shared<N, G>,
+        branch: Branch<N>,
+    ) -> Result<(), AllocError>
+        requires works { Works N.program shared.now.tree.now self.old.pass self.old.found
+            (Task.One branch ∷ self.old.stack.items) }
+        requires served { AreServed self.old.left self.old.stack.items }
+        ensures has { Has N.program shared.now.tree.now self.new.pass self.new.stack.items }
+        ensures at_work { OnOk result
+            (IsAtWork N.program shared.now.tree.now self.new.pass self.new.found self.new.stack.items self.new.left) }
+        ensures same { self.new.number ≡ self.old.number }
+    {
+        self.put_below(shared, Task::One(branch))
+    }
+
     /// Looks at each cell once, and takes what is open in the first where it succeeds. Answers whether it
     /// did. After want of memory what it took has been given up.
     pub fn take_over<G: Gate>(&mut self, shared: &Shared<N, G>) -> Result<bool, AllocError>
@@ -216,7 +253,7 @@ impl<N: Naming> Team<N> {
             let cell = (first + turn) % cells;
             if let Some(branch) = self.claim(shared, cell) {
                 shared.gate.claim(self.number);
-                self.put_below(shared, Task::One(branch))?;
+                self.put_branch(shared, branch)?;
                 return Ok(true);
             }
         }

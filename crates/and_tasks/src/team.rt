@@ -10,7 +10,7 @@ ghost use Rattle.and_cells.specs.Parts.{named};
 ghost use Rattle.and_clause_index.specs.Tables.{IsTableOf};
 ghost use Rattle.and_branch_laws.specs.States.{StateOf, fork};
 ghost use Rattle.and_model.specs.Prefixes.{IsPrefix};
-ghost use Rattle.and_branch.specs.Branches.{IsBranch, IsBranchOf};
+ghost use Rattle.and_branch.specs.Branches.{Held, IsBranch, IsBranchOf};
 ghost use Rattle.and_branch.specs.Children.{AreChildren};
 ghost use Rattle.and_branch.specs.Ended.{HasEnded};
 ghost use Rattle.and_branch.specs.Origins.{GoesBack};
@@ -20,7 +20,8 @@ ghost use Rattle.and_answers.specs.Kept.{SameEnd, last_code_or, listed};
 ghost use Rattle.and_histories.specs.PlainTree.{Key, Owns, children};
 ghost use Rattle.and_search_laws.specs.Ended.{EndsSo};
 ghost use Rattle.and_team_laws.specs.Owed.{SameItems};
-ghost use Rattle.and_tasks.specs.Working.{AreServed, Has, IsAtWork, IsReady, LeftShares, Serves, Shares, Works};
+ghost use Rattle.and_tasks.specs.Working.{AreServed, Has, IsAtWork, IsReady, IsServed, LeftShares, Serves, Shares};
+ghost use Rattle.and_tasks.specs.Working.{Works};
 ghost use Rattle.and_tasks.specs.Working.{as_told, at_fork, forked};
 ghost use Rattle.and_tasks.specs.Props.{left_shares-prop};
 ghost use Rattle.and_tasks.specs.declared.team.TheConstants.{MOST_TASKS};
@@ -33,7 +34,7 @@ use and_cells::Naming;
 use and_clause_index::Determinacy;
 use and_code::Told;
 use and_gate::Gate;
-use and_model::{ClauseList, Cut, Goal};
+use and_model::{ClauseList, Code, Cut, Goal};
 use and_program::Loaded;
 use and_tree::{Tree, TreePass};
 use std::alloc::{AllocError, Global};
@@ -150,14 +151,14 @@ impl<N: Naming> Team<N> {
         }
         let key = Snapshot::of(branch.key());
         let Ok(own) = branch.copy(shared.alloc) else {
-            shared.tree.give_up(&mut self.pass, &key);
+            self.give_up_key(shared, &key);
             drop(branch);
             return Err(AllocError);
         };
         match self.stack.push(Task::Left(branch)) {
             Ok(()) => Ok(own),
             Err(refused) => {
-                shared.tree.give_up(&mut self.pass, &key);
+                self.give_up_key(shared, &key);
                 drop(refused);
                 drop(own);
                 Err(AllocError)
@@ -200,9 +201,7 @@ impl<N: Naming> Team<N> {
                 state,
             ),
             Err(AllocError) => {
-                shared
-                    .tree
-                    .give_up(&mut self.pass, &Snapshot::of(branch.key()));
+                self.give_up_key(shared, &Snapshot::of(branch.key()));
                 drop(told);
                 drop(branch);
                 Err(AllocError)
@@ -324,9 +323,7 @@ impl<N: Naming> Team<N> {
                 common,
             }),
             Err(AllocError) => {
-                shared
-                    .tree
-                    .give_up(&mut self.pass, &Snapshot::of(branch.key()));
+                self.give_up_key(shared, &Snapshot::of(branch.key()));
                 drop(told);
                 drop(branch);
                 Err(AllocError)
@@ -409,7 +406,7 @@ impl<N: Naming> Team<N> {
         } = hand;
         let key = Snapshot::of(branch.key());
         if self.stack.len() >= MOST_TASKS {
-            shared.tree.give_up(&mut self.pass, &key);
+            self.give_up_key(shared, &key);
             drop(clauses);
             drop(told);
             drop(branch);
@@ -423,7 +420,7 @@ impl<N: Naming> Team<N> {
                 self.hand_on(shared, words)
             }
             Err(AllocError) => {
-                shared.tree.give_up(&mut self.pass, &key);
+                self.give_up_key(shared, &key);
                 drop(told);
                 Err(AllocError)
             }
@@ -468,6 +465,25 @@ impl<N: Naming> Team<N> {
         let level = Level::new(point, told, longer);
         self.left = Some(left);
         self.common = common;
+        self.put_fork(shared, level)
+    }
+
+    /// Puts a fork on top of the stack, which what is left of a branch serves. After want of memory its children have
+    /// been given up.
+    fn put_fork<G: Gate>(
+        &mut self,
+        shared: &Shared<N, G>,
+        level: Level<N>,
+    ) -> Result<(), AllocError>
+        requires works { Works N.program shared.now.tree.now self.old.pass self.old.found
+            (Task.Children level ∷ self.old.stack.items) }
+        requires left { IsServed level self.old.left }
+        requires served { AreServed (Some (forked level)) self.old.stack.items }
+        ensures has { Has N.program shared.now.tree.now self.new.pass self.new.stack.items }
+        ensures at_work { OnOk result
+            (IsAtWork N.program shared.now.tree.now self.new.pass self.new.found self.new.stack.items self.new.left) }
+        ensures same { self.new.number ≡ self.old.number }
+    {
         self.put(shared, Task::Children(level))
     }
 
@@ -589,6 +605,17 @@ impl<N: Naming> Team<N> {
             }
             Task::Left(left) => drop(left),
         }
+    }
+
+    /// Gives up the branch in hand that has this key.
+    pub(crate) fn give_up_key<G: Gate>(&mut self, shared: &Shared<N, G>, key: &Snapshot<Code>)
+        requires has { (b : Held) × (key.now.value ≡ b.key)
+            × Has N.program shared.now.tree.now self.old.pass (Task.One b ∷ self.old.stack.items) }
+        ensures has { Has N.program shared.now.tree.now self.new.pass self.new.stack.items }
+        ensures same { (self.new.number ≡ self.old.number) × (self.new.found ≡ self.old.found)
+            × (self.new.stack ≡ self.old.stack) × (self.new.left ≡ self.old.left) }
+    {
+        shared.tree.give_up(&mut self.pass, key);
     }
 
     /// Gives up the children of a fork that are still to come.

@@ -21,7 +21,7 @@ use Rattle.and_phase_laws.proofs.Weaving.{of_length}
 use Rattle.and_phase_laws.proofs.Writing.{built_makes}
 use Rattle.and_branch_laws.specs.OwnVariables.{OwnVariables}
 use Rattle.and_branch_laws.specs.Kept.{goal_of, Kept}
-use Rattle.and_rebuild_laws.specs.Opening.{put_apart}
+use Rattle.and_worker_laws.specs.PhaseCells.{put_apart}
 use Rattle.and_worker_laws.specs.Acts.{Act, takes, sets, fails, reductions, weight_taken, IsTaken, AreTaken}
 use Rattle.and_worker_laws.specs.Reading.{AreReadAs}
 use Rattle.and_worker_laws.specs.Standing.{Stands}

@@ -19,8 +19,8 @@ use Rattle.and_branch_laws.specs.OwnVariables.{IsOwn, AreOwn}
 use Rattle.and_branch_laws.specs.Judging.{outside}
 use Rattle.and_branch_laws.proofs.Speaking.{then_under}
 use Rattle.and_branch_laws.proofs.Owning.{term_speaks}
-use Rattle.and_rebuild_laws.specs.Opening.{put_apart}
-use Rattle.and_rebuild_laws.proofs.Candidates.{candidate_in_cells}
+use Rattle.and_worker_laws.specs.PhaseCells.{put_apart}
+use Rattle.and_worker_laws.proofs.Candidates.{candidate_in_cells}
 use Rattle.and_worker_laws.specs.Acts.{Act, RunInCells}
 use Rattle.and_worker_laws.specs.Facts.{AreAmong, known_by}
 use Rattle.and_worker_laws.specs.Reading.{AreReadAs}

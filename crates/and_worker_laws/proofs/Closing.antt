@@ -33,8 +33,8 @@ use Rattle.and_branch_laws.proofs.Lists.{all_of}
 use Rattle.and_branch_laws.proofs.Naming.{variables_fit}
 use Rattle.and_branch_laws.proofs.Places.{frame_within}
 use Rattle.and_branch_laws.proofs.Speaking.{equations_speak_more, equations_speak_join, under_then, then_under}
-use Rattle.and_rebuild_laws.specs.Opening.{IsNamedCell, all_but, put_apart, cell_equations}
-use Rattle.and_rebuild_laws.proofs.Opening.{alike_cells}
+use Rattle.and_worker_laws.specs.PhaseCells.{IsNamedCell, all_but, put_apart, cell_equations}
+use Rattle.and_worker_laws.proofs.PhaseCells.{alike_cells}
 use Rattle.and_worker_laws.specs.Acts.{Act, RunInCells, weight_taken}
 use Rattle.and_worker_laws.specs.Facts.{known_by}
 use Rattle.and_worker_laws.specs.Leavings.{IsCellOf, IsLeftIn, AreReady}

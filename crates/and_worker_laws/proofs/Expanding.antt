@@ -6,7 +6,7 @@ use Rattle.and_model.specs.Trees.{Agenda, Tree, Open, path, Below, both_done, bo
 use Rattle.and_laws.specs.Paths.{At}
 use Rattle.and_branch_laws.specs.Tasks.{Task, take, run, tasks, body_tasks}
 use Rattle.and_branch_laws.proofs.Tasks.{fresh_tasks}
-use Rattle.and_rebuild_laws.specs.Leaving.{Leaves}
+use Rattle.and_worker_laws.specs.Leaving.{Leaves}
 
 -- Expands P By ts us: each call that a clause took, at its path, stands no more among the tasks; in its place stand those of the clause's body,
 -- which are expanded too. The others stay.

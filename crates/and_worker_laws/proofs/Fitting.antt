@@ -20,7 +20,7 @@ use Rattle.and_phase_laws.specs.Journals as Journals
 use Rattle.and_phase_laws.specs.Weaving.{Run, woven, RunsFit, EntriesFit}
 use Rattle.and_branch_laws.specs.Kept.{goal_of}
 use Rattle.and_branch_laws.proofs.Speaking.{then_under, under_then}
-use Rattle.and_rebuild_laws.specs.Opening.{put_apart}
+use Rattle.and_worker_laws.specs.PhaseCells.{put_apart}
 use Rattle.and_worker_laws.specs.Acts.{Act, takes, sets, fails, RunInCells, asked, all_added, HasFailed}
 use Rattle.and_worker_laws.specs.Facts.{Fact, IsStuck, known_by, told_by}
 use Rattle.and_worker_laws.specs.Reading.{IsReadAs, AreReadAs}

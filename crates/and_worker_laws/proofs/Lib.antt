@@ -23,3 +23,8 @@ pub mod Remaining
 pub mod Opening
 pub mod Closing
 pub mod Phase
+pub mod Branches
+pub mod Candidates
+pub mod Framing
+pub mod Leaving
+pub mod PhaseCells

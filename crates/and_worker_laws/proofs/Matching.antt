@@ -6,7 +6,7 @@ use Rattle.and_model.specs.Programs.{Program}
 use Rattle.and_model.specs.Reductions.{Reduction}
 use Rattle.and_laws.specs.Naming.{under}
 use Rattle.and_laws.proofs.Ordered.{contains_first, contains_more, contains_cases, contains_none}
-use Rattle.and_rebuild_laws.specs.Opening.{put_apart}
+use Rattle.and_worker_laws.specs.PhaseCells.{put_apart}
 use Rattle.and_phase_laws.specs.Journals.{Entry, Journal, settings}
 use Rattle.and_phase_laws.specs.Weaving.{Run}
 use Rattle.and_worker_laws.specs.Acts.{Act, takes, sets, fails, RunInCells, stated}

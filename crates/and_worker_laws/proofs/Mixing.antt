@@ -5,7 +5,7 @@ use Rattle.and_model.specs.Closure.{Without}
 use Rattle.and_phase_laws.specs.Journals.{frame, run, setting, failing, Journal, TakenOut, RunOut, goals_of_runs}
 use Rattle.and_branch_laws.specs.Tasks as among
 use Rattle.and_branch_laws.specs.Tasks.{Task, take, arithmetic_among}
-use Rattle.and_rebuild_laws.specs.Leaving.{Leaves}
+use Rattle.and_worker_laws.specs.Leaving.{Leaves}
 
 -- Mixes xs ys all: these are the goals of the one list and of the other, in whatever way they stand among each other.
 pub data Mixes : (xs ys all : List Arithmetic) → Type 0 where

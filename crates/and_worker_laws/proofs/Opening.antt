@@ -18,9 +18,9 @@ use Rattle.and_branch_laws.specs.Variables.{IsVariable, AreNames}
 use Rattle.and_branch_laws.specs.Tasks.{tasks}
 use Rattle.and_branch_laws.specs.Kept.{Kept, goal_of, task_of}
 use Rattle.and_branch_laws.proofs.Naming.{some_names}
-use Rattle.and_rebuild_laws.specs.Leaving.{Leaves}
-use Rattle.and_rebuild_laws.specs.Opening.{Cells, AreCells, all_but, put_apart, cell_equations}
-use Rattle.and_rebuild_laws.proofs.Framing.{variables_have_cells}
+use Rattle.and_worker_laws.specs.Leaving.{Leaves}
+use Rattle.and_worker_laws.specs.PhaseCells.{Cells, AreCells, all_but, put_apart, cell_equations}
+use Rattle.and_worker_laws.proofs.Framing.{variables_have_cells}
 use Rattle.and_worker_laws.specs.Acts.{Act, reductions, AreTaken}
 use Rattle.and_worker_laws.proofs.Building.{IsJournal, journal_of_acts}
 

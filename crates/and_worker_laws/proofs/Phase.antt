@@ -20,8 +20,8 @@ use Rattle.and_branch_laws.specs.OwnVariables.{OwnVariables}
 use Rattle.and_branch_laws.specs.Variables.{IsVariable}
 use Rattle.and_branch_laws.specs.Tasks.{arithmetic_among}
 use Rattle.and_branch_laws.specs.Kept.{goal_of, task_of, Kept, Unsettled}
-use Rattle.and_rebuild_laws.specs.Opening.{AreCells, all_but, put_apart, cell_equations}
-use Rattle.and_rebuild_laws.proofs.Branches.{branch_opens}
+use Rattle.and_worker_laws.specs.PhaseCells.{AreCells, all_but, put_apart, cell_equations}
+use Rattle.and_worker_laws.proofs.Branches.{branch_opens}
 use Rattle.and_worker_laws.specs.Acts.{Act, RunInCells, stated, reductions, weight_taken, HasFailed}
 use Rattle.and_worker_laws.specs.Facts.{known_by, IsDone}
 use Rattle.and_worker_laws.specs.Unfolding.{AreLeftOf}

@@ -17,7 +17,7 @@ use Rattle.and_phase_laws.specs.Weaving.{Run}
 use Rattle.and_branch_laws.specs.OwnVariables.{OwnVariables}
 use Rattle.and_branch_laws.specs.Variables.{IsVariable, AreNames}
 use Rattle.and_branch_laws.specs.Kept.{Kept, goal_of, item_at}
-use Rattle.and_rebuild_laws.specs.Opening.{Cells, AreCells, all_but, put_apart, cell_equations}
+use Rattle.and_worker_laws.specs.PhaseCells.{Cells, AreCells, all_but, put_apart, cell_equations}
 use Rattle.and_worker_laws.specs.Acts.{Act, takes, sets, fails, RunInCells, reductions, IsThere, AreTaken}
 use Rattle.and_worker_laws.specs.Facts.{IsRun, IsDone}
 use Rattle.and_worker_laws.specs.Reading.{AreReadAs, AreRunsReadAs}

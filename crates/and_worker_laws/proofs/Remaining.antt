@@ -25,8 +25,8 @@ use Rattle.and_branch_laws.specs.Kept.{item_at, task_of, goal_of, is_call, Kept}
 use Rattle.and_branch_laws.proofs.Keeping
 use Rattle.and_branch_laws.proofs.Places.{clause_more}
 use Rattle.and_branch_laws.proofs.Tasks.{tasks_arithmetic}
-use Rattle.and_rebuild_laws.specs.Leaving.{Leaves}
-use Rattle.and_rebuild_laws.proofs.Leaving.{ran_among}
+use Rattle.and_worker_laws.specs.Leaving.{Leaves}
+use Rattle.and_worker_laws.proofs.Leaving.{ran_among}
 use Rattle.and_worker_laws.specs.Acts.{Act, takes, RunInCells, reductions, weight_taken, AreTaken}
 use Rattle.and_worker_laws.specs.Reading.{AreReadAs, AreRunsReadAs}
 use Rattle.and_worker_laws.specs.Unfolding.{AreLeftOf}

@@ -18,8 +18,8 @@ use Rattle.and_branch_laws.specs.Reducing.{body_equations, reduction_in_cells}
 use Rattle.and_branch_laws.proofs.Speaking.{speaks_agree}
 use Rattle.and_branch_laws.proofs.Growing.{BodyIsOwn, head_is_own, body_is_own}
 use Rattle.and_branch_laws.proofs.Owning.{own_speaks, term_speaks}
-use Rattle.and_rebuild_laws.specs.Opening.{Cells, AreCells, put_apart, cell_equations}
-use Rattle.and_rebuild_laws.proofs.Opening.{cells_give}
+use Rattle.and_worker_laws.specs.PhaseCells.{Cells, AreCells, put_apart, cell_equations}
+use Rattle.and_worker_laws.proofs.PhaseCells.{cells_give}
 use Rattle.and_worker_laws.specs.Acts.{arithmetic_at}
 
 -- The one substitution makes of the first equations, one by one, what the other makes of the second.

@@ -24,7 +24,7 @@ use Rattle.and_branch_laws.specs.Kept.{goal_of, item_at}
 use Rattle.and_branch_laws.proofs.Speaking.{under_then}
 use Rattle.and_branch_laws.proofs.Growing.{body_is_own}
 use Rattle.and_branch_laws.proofs.Owning.{ItemSpeaksOf, item_speaks}
-use Rattle.and_rebuild_laws.specs.Opening.{put_apart, cell_equations}
+use Rattle.and_worker_laws.specs.PhaseCells.{put_apart, cell_equations}
 use Rattle.and_worker_laws.specs.Acts.{Act, takes, sets, fails, RunInCells, reductions, stated, asked, asked_by, arithmetic_at, added_by_run}
 use Rattle.and_worker_laws.specs.Acts.{all_added, added_by, IsThere}
 use Rattle.and_worker_laws.specs.Facts.{known_by, told_by}

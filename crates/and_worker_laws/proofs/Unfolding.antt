@@ -17,7 +17,7 @@ use Rattle.and_branch_laws.specs.Tasks.{Task, take, run, body_tasks}
 use Rattle.and_branch_laws.specs.Kept.{item_at, task_in, task_of, goal_of}
 use Rattle.and_branch_laws.specs.Reducing.{goal_at, body_goals}
 use Rattle.and_branch_laws.proofs.BodyGoals.{body_goals_all, body_goals_tasks}
-use Rattle.and_rebuild_laws.specs.Leaving.{Leaves}
+use Rattle.and_worker_laws.specs.Leaving.{Leaves}
 use Rattle.and_worker_laws.specs.Acts.{goals_of_body}
 use Rattle.and_worker_laws.specs.Unfolding.{Unfolds}
 use Rattle.and_worker_laws.proofs.Shuffling.{Pairwise}

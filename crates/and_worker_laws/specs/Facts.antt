@@ -11,7 +11,7 @@ use Rattle.and_cells.specs.Ranges.{NamedProgram}
 use Rattle.and_branch_laws.specs.Variables.{EquationsSpeakOf, placed}
 use Rattle.and_branch_laws.specs.Judging.{outside}
 use Rattle.and_branch_laws.specs.Kept.{item_at}
-use Rattle.and_rebuild_laws.specs.Opening.{IsCell}
+use Rattle.and_worker_laws.specs.PhaseCells.{IsCell}
 use Rattle.and_worker_laws.specs.Acts.{Act, takes, sets, fails, RunInCells, stated, asked_by, added_by, arithmetic_at}
 use Rattle.and_worker_laws.specs.Acts.{IsThere, AreTaken}
 

@@ -4,3 +4,5 @@ pub mod Unfolding
 pub mod Leavings
 pub mod Reading
 pub mod Standing
+pub mod Leaving
+pub mod PhaseCells

@@ -4,7 +4,7 @@ use Rattle.and_model.specs.Terms.{Path, apply, framed}
 use Rattle.and_model.specs.Programs.{Program, arithmetic_in}
 use Rattle.and_model.specs.Reductions.{Reduction, PlaceHas}
 use Rattle.and_model.specs.Stands.{term_of}
-use Rattle.and_rebuild_laws.specs.Opening.{put_apart}
+use Rattle.and_worker_laws.specs.PhaseCells.{put_apart}
 use Rattle.and_phase_laws.specs.Journals.{Entry, frame, setting, failing, Journal}
 use Rattle.and_phase_laws.specs.Weaving.{Run}
 use Rattle.and_worker_laws.specs.Acts.{Act, takes, sets, fails, RunInCells}

@@ -5,6 +5,8 @@
 //! lemmas stand in `proofs/`.
 #![tactic(auto)]
 
+pub mod rebuilding;
+
 ghost use Rattle.std.specs.Prelude.{◌+◌, ◌≡◌, List, ◌++◌, map};
 ghost use Rattle.and_model.specs.Solutions.{Equation};
 ghost use Rattle.and_model.specs.Trees.{QueryTree, weight};
@@ -21,6 +23,11 @@ ghost use Rattle.and_worker_laws.specs.Acts.{Act, RunInCells, reductions, weight
 ghost use Rattle.and_worker_laws.specs.Facts.{IsDone};
 ghost use Rattle.and_worker_laws.specs.Unfolding.{AreLeftOf};
 ghost use Rattle.and_worker_laws.specs.Leavings.{IsLeftIn, AreReady};
+
+pub use rebuilding::{
+    candidates_of_fewer_cells, kept_branches_open_phases, phases_close_in_cells,
+    tasks_tell_what_was_run, variables_have_cells, what_was_run_among_tasks,
+};
 
 /// Workers make Steps: what the workers of a phase did on a branch leads by Steps from its tree to another, which
 /// their reductions make with those of the branch. Where one of them called `fail`, that tree is dead. And what they

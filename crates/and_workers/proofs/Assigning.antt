@@ -27,7 +27,7 @@ use Rattle.and_branch_laws.specs.Variables.{placed}
 use Rattle.and_branch_laws.proofs.Growing.{body_is_own}
 use Rattle.and_branch_laws.proofs.Owning.{ItemSpeaksOf, item_speaks}
 use Rattle.and_branch_laws.proofs.PairEquations.{between_terms, part_term, part_cells}
-use Rattle.and_suspend.specs.Waiting.{Waiting}
+use Rattle.and_workers.specs.Waiting.{Waiting}
 use Rattle.and_store.specs.Passes.{PassSeen}
 use Rattle.and_store.specs.Worked.{seen_by}
 use Rattle.and_store_laws.proofs.Lists.{all_of, contains_none}
@@ -36,7 +36,7 @@ use Rattle.and_handed.specs.Handed.{HasAll, SolvesAll, HasTerms, SolvesRun, Fits
 use Rattle.and_workers.specs.Items.{IsItemOver}
 use Rattle.and_workers.specs.Running.{MayRun, NotesRun, HasNumber}
 use Rattle.and_handed.specs.declared.told.Ran.{Ran}
-use Rattle.and_handed.specs.declared.told.Told.{Told}
+use Rattle.and_handed.specs.declared.told.HandedOn.{HandedOn}
 use Rattle.and_workers.proofs.Runs.{solves_run, noting, noting_is, is_there, was_run, work_noted}
 use Rattle.and_workers.proofs.Values.{KnowsSeen, words_have_known}
 
@@ -127,7 +127,7 @@ module _ (P : NamedProgram) (loaded : IsLoaded P) (words : ℕ) (p : PassSeen) (
       (tried.part_written P (seen_by p) goal.base left, pair_is)
       (All-nil (λ (e : Pair). IsWrittenIfNumber (seen_by p) e.left × IsWrittenIfNumber (seen_by p) e.right))
 
-  module _ (told new : Told) (n : NotesRun goal p told new) (may : MayRun (length p.store.about.first) told.made.items goal) where
+  module _ (told new : HandedOn) (n : NotesRun goal p told new) (may : MayRun (length p.store.about.first) told.made.items goal) where
     known : HasTerms P p.store.about.first n.one what terms
     known = has_terms n.one n.goal_is n.judged_is
 
@@ -153,13 +153,13 @@ module _ (P : NamedProgram) (loaded : IsLoaded P) (words : ℕ) (p : PassSeen) (
     pub work_assigned : (waiting : List Waiting) → IsAtWork P told [] waiting p → IsAtWork P new (asked_pair ∷ []) waiting p
     work_assigned waiting work =
         let run = was_run P told new n.one n.ran p goal n.goal_is n.judged_is may work.done.acted (what, terms, known) in
-        subst (λ (t : Told). IsAtWork P t (asked_pair ∷ []) waiting p) (noting_is goal p told new n)
+        subst (λ (t : HandedOn). IsAtWork P t (asked_pair ∷ []) waiting p) (noting_is goal p told new n)
         (work_noted P told new n.one n.ran p n.judged_is (asked_pair ∷ []) asks alls waiting work run in_range is_written)
 
     -- No cell that is named is a word of a pair.
     pub whole_assigned : (w : Words) → FitsSeen P new p w → NameNoHalf P w (asked_pair ∷ [])
     whole_assigned w fits =
-        let frame = whole_frame w (subst (λ (t : Told). FitsSeen P t p w) (sym (noting_is goal p told new n)) fits) in
+        let frame = whole_frame w (subst (λ (t : HandedOn). FitsSeen P t p w) (sym (noting_is goal p told new n)) fits) in
         All-cons (λ (e : Pair). All (λ (cell : ℕ). is_half (w cell) ≡ false) (shallow_cells P e.left ++ shallow_cells P e.right)) asked_pair []
         (all_of (λ (cell : ℕ). is_half (w cell) ≡ false) (shallow_cells P (part_at P goal.base left) ++ []) (cells_whole w frame))
         (All-nil (λ (e : Pair). All (λ (cell : ℕ). is_half (w cell) ≡ false) (shallow_cells P e.left ++ shallow_cells P e.right)))

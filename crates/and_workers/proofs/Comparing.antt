@@ -16,7 +16,7 @@ use Rattle.and_cells.specs.Seen.{IsWrittenIfNumber}
 use Rattle.and_unify.specs.declared.pairs.Pair.{Pair}
 use Rattle.and_branch_laws.specs.Kept.{item_at}
 use Rattle.and_branch_laws.specs.Variables.{placed}
-use Rattle.and_suspend.specs.Waiting.{Waiting}
+use Rattle.and_workers.specs.Waiting.{Waiting}
 use Rattle.and_store.specs.Passes.{PassSeen}
 use Rattle.and_store.specs.Worked.{seen_by}
 use Rattle.and_workers.specs.AtWork.{IsAtWork}
@@ -25,7 +25,7 @@ use Rattle.and_workers.specs.Items.{IsItemOver}
 use Rattle.and_workers.specs.Running.{MayRun, NotesRun, IsDecided}
 use Rattle.and_handed.specs.declared.told.Cause.TheVariants.{NoSolution}
 use Rattle.and_handed.specs.declared.told.Ran.{Ran}
-use Rattle.and_handed.specs.declared.told.Told.{Told}
+use Rattle.and_handed.specs.declared.told.HandedOn.{HandedOn}
 use Rattle.and_workers.proofs.Runs.{solves_run, noting_is, is_there, by_now, was_run, acted_noted, work_noted}
 
 -- what holds where a result is no error holds of one that is none
@@ -79,7 +79,7 @@ module _ (P : NamedProgram) (words : _) (p : PassSeen) (goal : Goal) (relation :
   verdict : holds relation one_term other_term ≡ is_so
   verdict = holds_as_values relation one_term other_term decided.one decided.other decided.one_is.2 decided.other_is.2 ∙ sym decided.decides
 
-  module _ (told new : Told) (n : NotesRun goal p told new) (may : MayRun (Rattle.std.proofs.Common.length p.store.about.first) told.made.items goal) where
+  module _ (told new : HandedOn) (n : NotesRun goal p told new) (may : MayRun (Rattle.std.proofs.Common.length p.store.about.first) told.made.items goal) where
     known : HasTerms P p.store.about.first n.one what terms
     known = has_terms n.one n.goal_is n.judged_is
 
@@ -87,7 +87,7 @@ module _ (P : NamedProgram) (words : _) (p : PassSeen) (goal : Goal) (relation :
     pub work_compared : (waiting : List Waiting) → is_so ≡ true → IsAtWork P told [] waiting p → IsAtWork P new [] waiting p
     work_compared waiting so work =
         let run = was_run P told new n.one n.ran p goal n.goal_is n.judged_is may work.done.acted (what, terms, known) in
-        subst (λ (t : Told). IsAtWork P t [] waiting p) (noting_is goal p told new n)
+        subst (λ (t : HandedOn). IsAtWork P t [] waiting p) (noting_is goal p told new n)
         (work_noted P told new n.one n.ran p n.judged_is [] (λ w fits t solves run. tt)
         (λ w fits t solves solved. solves_run P p.store.about.first n.one what terms w t
         (subst (λ (q : PassSeen). HasAll w p.store.about.first q.pass.seen) (sym n.judged_is) fits.has)
@@ -99,12 +99,12 @@ module _ (P : NamedProgram) (words : _) (p : PassSeen) (goal : Goal) (relation :
     -- Where it does not hold, what was asked has no solution.
     pub acted_compared : (waiting : List Waiting) → IsAtWork P told [] waiting p → HasActed P new p
     acted_compared waiting work =
-        subst (λ (t : Told). HasActed P t p) (noting_is goal p told new n)
+        subst (λ (t : HandedOn). HasActed P t p) (noting_is goal p told new n)
         (acted_noted P told new n.one n.ran p work.done.acted (was_run P told new n.one n.ran p goal n.goal_is n.judged_is may work.done.acted
         (what, terms, known)))
 
     pub kills_compared : is_so ≡ false → Kills P new p NoSolution
-    kills_compared so = subst (λ (t : Told). Kills P t p NoSolution) (noting_is goal p told new n)
+    kills_compared so = subst (λ (t : HandedOn). Kills P t p NoSolution) (noting_is goal p told new n)
         (λ w fits t solves asked.
         let run = asked.ran n.one (is_there P told new n.one n.ran p) (by_now P told new n.one n.ran p n.judged_is) in
         unsolved t (subst (λ (b : Bool). Solves t (cond b [] (falsehood ∷ []))) (verdict ∙ so) (run what terms known)))

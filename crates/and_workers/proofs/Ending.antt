@@ -13,17 +13,17 @@ use Rattle.and_store_laws.specs.Steps.{entry}
 use Rattle.and_handed.specs.Handed.{HasActed, HandsOn, Kills, FitsSeen, SolvesAsked, WasRun}
 use Rattle.and_handed.specs.declared.told.Cause.{Cause}
 use Rattle.and_handed.specs.declared.told.Cause.TheVariants.{NoCandidate, NoSolution}
-use Rattle.and_handed.specs.declared.told.Told.{Told}
+use Rattle.and_handed.specs.declared.told.HandedOn.{HandedOn}
 use Rattle.and_handed.specs.declared.told.Ran.{Ran}
 use Rattle.and_workers.proofs.Quiet.{SawOnly, saw_acted, saw_none, hanging_sets_halves}
 use Rattle.and_workers.proofs.Learning.{others_hang}
 
 -- ---- The cause is told beside what was done
 
-abbrev causing : Told → Cause → Told
+abbrev causing : HandedOn → Cause → HandedOn
 causing told cause = record told { cause = Some cause }
 
-module _ (P : NamedProgram) (told : Told) (cause : Cause) (p : PassSeen) where
+module _ (P : NamedProgram) (told : HandedOn) (cause : Cause) (p : PassSeen) where
   fits_causing : (w : _) → FitsSeen P (causing told cause) p w → FitsSeen P told p w
   fits_causing w f = record { has = f.has; made = f.made; ran = f.ran }
 
@@ -83,13 +83,13 @@ failing_sees p q store f i = record {
   missed = (ap (λ (x : Pass). x.missed) f.becomes) i;
 }
 
-kills_still : (P : NamedProgram) (told : Told) (cause : Cause) (p q : PassSeen) → q.store ≡ p.store → Fails p.pass q.pass → Kills P told p cause
+kills_still : (P : NamedProgram) (told : HandedOn) (cause : Cause) (p q : PassSeen) → q.store ≡ p.store → Fails p.pass q.pass → Kills P told p cause
     → Kills P told q cause
 kills_still P told (NoCandidate goal) p q store f kills =
     (subst (λ s. CanBeTried P s.about.words goal) (sym store) kills.0, subst (λ s. AreLeft P s goal []) (sym (failing_sees p q store f)) kills.1)
 kills_still P told NoSolution p q store f kills = saw_none P told p q (saw_failing p q store f) kills
 
-pub gives_up : (P : NamedProgram) (told : Told) (cause : Cause) (p q : PassSeen) → q.store ≡ p.store → p.pass.fails ≡ [] → Fails p.pass q.pass
+pub gives_up : (P : NamedProgram) (told : HandedOn) (cause : Cause) (p q : PassSeen) → q.store ≡ p.store → p.pass.fails ≡ [] → Fails p.pass q.pass
     → HasActed P told p → Kills P told p cause → HandsOn P (record told { cause = Some cause }) q
 gives_up P told cause p q store live f done kills spoilt = (
   kills_causing P told cause q cause (kills_still P told cause p q store f kills),

@@ -12,5 +12,6 @@ mod Comparing
 mod Writing
 mod Assigning
 mod Reducing
-mod Beginning
+mod AtWork
 mod Waited
+mod Suspending

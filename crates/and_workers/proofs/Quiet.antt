@@ -12,7 +12,7 @@ use Rattle.and_cells.specs.Ranges.{NamedProgram}
 use Rattle.and_cells.specs.Seen.{Knows, IsWrittenIfNumber}
 use Rattle.and_cells.proofs.Chains.{written_later}
 use Rattle.and_overlay.specs.Overlaid.{IsKnownFit}
-use Rattle.and_suspend.specs.Waiting.{Waiting}
+use Rattle.and_workers.specs.Waiting.{Waiting}
 use Rattle.and_unify.specs.declared.pairs.Pair.{Pair}
 use Rattle.and_store.specs.Passes.{PassSeen}
 use Rattle.and_store.specs.Worked.{seen_by}
@@ -25,7 +25,7 @@ use Rattle.and_handed.specs.Handed.{Kills, frame_of}
 use Rattle.and_handed.specs.declared.told.Cause.TheVariants.{NoSolution}
 use Rattle.and_handed.specs.declared.told.Reduced.{Reduced}
 use Rattle.and_handed.specs.declared.told.Ran.{Ran}
-use Rattle.and_handed.specs.declared.told.Told.{Told}
+use Rattle.and_handed.specs.declared.told.HandedOn.{HandedOn}
 
 -- of these entries those of the pass with this number hung goals
 abbrev pub HangOnly : (number : ℕ) → List JournalEntry → Type 0
@@ -82,7 +82,7 @@ pub solves_less : (P : NamedProgram) (w : Words) (first : List Ref) (journal sin
     → SolvesAll P w first (journal ++ since) t → SolvesAll P w first journal t
 solves_less P w first journal since t solves s c = solves s (set_more first journal since s c)
 
-pub asked_less : (P : NamedProgram) (first : List Ref) (told : Told) (short long : ℕ) (t : Substitution) → short ≤ long
+pub asked_less : (P : NamedProgram) (first : List Ref) (told : HandedOn) (short long : ℕ) (t : Substitution) → short ≤ long
     → SolvesAsked P first told long t → SolvesAsked P first told short t
 asked_less P first told short long t below asked = record {
   made = λ m among before. asked.made m among (omega arith);
@@ -120,7 +120,7 @@ later p q kept since learnt = record {
   kept = kept;
 }
 
-module _ (P : NamedProgram) (told : Told) (p : PassSeen) (q : Pass) (kept : List ℕ) (since : List JournalEntry) (learnt : List Known) where
+module _ (P : NamedProgram) (told : HandedOn) (p : PassSeen) (q : Pass) (kept : List ℕ) (since : List JournalEntry) (learnt : List Known) where
   abbrev pub z : PassSeen
   z = later p q kept since learnt
 
@@ -233,16 +233,16 @@ later_is p q l i = record {
   kept = q.kept;
 }
 
-pub saw_acted : (P : NamedProgram) (told : Told) (p q : PassSeen) → SawOnly p q → HasActed P told p → HasActed P told q
+pub saw_acted : (P : NamedProgram) (told : HandedOn) (p q : PassSeen) → SawOnly p q → HasActed P told p → HasActed P told q
 saw_acted P told p q l done =
     subst (HasActed P told) (later_is p q l) (acted_later P told p q.pass q.kept l.since l.learnt l.sets_halves done)
 
-pub saw_done : (P : NamedProgram) (told : Told) (pairs : List Pair) (p q : PassSeen) → SawOnly p q → HasDone P told pairs p → HasDone P told pairs q
+pub saw_done : (P : NamedProgram) (told : HandedOn) (pairs : List Pair) (p q : PassSeen) → SawOnly p q → HasDone P told pairs p → HasDone P told pairs q
 saw_done P told pairs p q l done =
     subst (HasDone P told pairs) (later_is p q l) (done_later P told p q.pass q.kept l.since l.learnt pairs l.sets_halves done)
 
 -- What was asked has no solution, whatever is seen after.
-pub saw_none : (P : NamedProgram) (told : Told) (p q : PassSeen) → SawOnly p q → Kills P told p NoSolution → Kills P told q NoSolution
+pub saw_none : (P : NamedProgram) (told : HandedOn) (p q : PassSeen) → SawOnly p q → Kills P told p NoSolution → Kills P told q NoSolution
 saw_none P told p q l kills =
     subst (λ z. Kills P told z NoSolution) (later_is p q l) (none_later P told p q.pass q.kept l.since l.learnt kills)
 
@@ -258,7 +258,7 @@ learnt_saw p q l = record {
   known = l.learns.known;
 }
 
-pub stays_done : (P : NamedProgram) (told : Told) (pairs : List Pair) (p q : PassSeen) → OnlyLearnt p q → HasDone P told pairs p → HasDone P told pairs q
+pub stays_done : (P : NamedProgram) (told : HandedOn) (pairs : List Pair) (p q : PassSeen) → OnlyLearnt p q → HasDone P told pairs p → HasDone P told pairs q
 stays_done P told pairs p q l done = saw_done P told pairs p q (learnt_saw p q l) done
 
 stands_in_later : (p q : PassSeen) → OnlyLearnt p q → (known : List Known)
@@ -269,7 +269,8 @@ stands_in_later p q l known there =
     (subst (λ journal. All (λ (k : Known). Contains (settings_from p.store.about.first journal) k.setting) known) (sym l.learns.seen)
     (all_set_more p.store.about.first p.pass.seen l.learns.since known there))
 
-pub stays_at_work : (P : NamedProgram) (told : Told) (todo : List Pair) (waiting : List Waiting) (p q : PassSeen) → OnlyLearnt p q → IsKnownFit P (seen_by q)
+pub stays_at_work : (P : NamedProgram) (told : HandedOn) (todo : List Pair) (waiting : List Waiting) (p q : PassSeen) → OnlyLearnt p q
+    → IsKnownFit P (seen_by q)
     → IsAtWork P told todo waiting p → IsAtWork P told todo waiting q
 stays_at_work P told todo waiting p q l fit work = record {
   done = stays_done P told (told.pairs ++ todo) p q l work.done;

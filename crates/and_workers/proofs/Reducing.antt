@@ -1,7 +1,8 @@
 -- A reduction that a worker made: its frame was taken, and what it asks was noted.
 use Rattle.std.proofs.Common.{ℕ, ◌≡◌, ◌<◌, ◌≤◌, inl, inr, true, false, List, [], ◌∷◌, ◌++◌, map, length, refl, sym, ap, subst, ◌∙◌}
-use Rattle.std.proofs.Common.{append-nil, append_assoc, arith, All, Contains}
-use Rattle.std.specs.Prelude.{filter, nat_eq}
+use Rattle.std.proofs.Common.{append-nil, append_assoc, arith, All, Contains, Bool, Result, Ok, Err}
+use Rattle.std.specs.Prelude.{OnOk, filter, nat_eq}
+use Rattle.std.specs.declared.alloc.AllocError.{AllocError}
 use Rattle.std.proofs.lemmas.List.{map-append}
 use Rattle.std.proofs.lemmas.List.Elements.{All-nil, All-cons, All-head, All-weaker, All-append}
 use Rattle.std.proofs.lemmas.List.Elements.{Contains-append_left, Contains-append_right, Contains-append_cases}
@@ -18,6 +19,8 @@ use Rattle.and_model.specs.declared.reference.Ref.{Ref}
 use Rattle.and_program.specs.Skeletons
 use Rattle.and_program.specs.Skeletons.{node_term}
 use Rattle.and_program.specs.Loaded.{nodes_at}
+use Rattle.and_program.specs.declared.loaded.Loaded.{Loaded}
+use Rattle.and_cells.specs.Parts.{named}
 use Rattle.and_laws.proofs.Deciding.{of_bounds}
 use Rattle.and_branch_laws.proofs.Clauses.{goal_clause_there}
 use Rattle.and_branch_laws.specs.OwnVariables.{IsLoaded}
@@ -26,7 +29,7 @@ use Rattle.and_cells.specs.Ranges.{NamedProgram, IsInRange}
 use Rattle.and_cells.specs.Seen.{Seen, IsWrittenIfNumber}
 use Rattle.and_cells.specs.Meaning.{Words}
 use Rattle.and_shared_determinacy.specs.Selecting.{CanBeTried, AreLeft}
-use Rattle.and_suspend.specs.Waiting.{Waiting}
+use Rattle.and_workers.specs.Waiting.{Waiting}
 use Rattle.and_unify.specs.declared.pairs.Pair.{Pair}
 use Rattle.and_unify.specs.Pairs.{equations_of_pairs, NameNoHalf}
 use Rattle.and_store.specs.Calls.{TakesFrame, GetsNone}
@@ -35,14 +38,14 @@ use Rattle.and_store.specs.Worked.{seen_by, shown}
 use Rattle.and_store_laws.proofs.Lists.{contains_first, contains_cases, contains_none}
 use Rattle.and_store_laws.specs.Steps.{entry}
 use Rattle.and_workers.specs.Asking.{Notes, call_pair, item_pairs, has_fail}
-use Rattle.and_workers.specs.AtWork.{IsAtWork}
+use Rattle.and_workers.specs.AtWork.{IsAtWork, IsNoted}
 use Rattle.and_workers.specs.Items.{IsItemOver}
 use Rattle.and_handed.specs.Handed.{SolvesAsked, IsKnownRun, FitsSeen, IsWholeFrame, asked_by, frame_of}
 use Rattle.and_handed.specs.Handed.{IsSole, WasRun, PairsLeft, HasActed, HasDone, Kills}
 use Rattle.and_handed.specs.declared.told.Cause.TheVariants.{NoSolution}
 use Rattle.and_handed.specs.declared.told.Reduced.{Reduced}
 use Rattle.and_handed.specs.declared.told.Ran.{Ran}
-use Rattle.and_handed.specs.declared.told.Told.{Told}
+use Rattle.and_handed.specs.declared.told.HandedOn.{HandedOn}
 use Rattle.and_workers.proofs.Asked.{Asks, reduction_asked, failing_reduction}
 use Rattle.and_workers.proofs.Learning.{others_hang, fits_same}
 use Rattle.and_workers.proofs.Quiet.{SawOnly, SetHalves, saw_done, front_is_short, all_set_more, hanging_sets_halves}
@@ -81,7 +84,7 @@ saw_taking words base weight p q store f = record {
 
 -- ---- What was noted
 
-module _ (P : NamedProgram) (told now : Told) (goal : Goal) (clause : ClauseNo) (words floor weight : ℕ) (p q : PassSeen)
+module _ (P : NamedProgram) (told now : HandedOn) (goal : Goal) (clause : ClauseNo) (words floor weight : ℕ) (p q : PassSeen)
     (notes : Notes goal clause floor p told now) (store : q.store ≡ p.store)
     (takes : TakesFrame words floor weight p.pass q.pass)
     (weighs : weight ≡ clause_weight (clause_at P.program clause.0)) where
@@ -272,7 +275,7 @@ call_can_be_tried P words g n over = record {
   is_call = sym over.is_item;
 }
 
-module _ (P : NamedProgram) (loaded : IsLoaded P) (told now : Told) (goal : Goal) (n : ℕ) (clause : ClauseNo) (words floor weight : ℕ) (p q : PassSeen)
+module _ (P : NamedProgram) (loaded : IsLoaded P) (told now : HandedOn) (goal : Goal) (n : ℕ) (clause : ClauseNo) (words floor weight : ℕ) (p q : PassSeen)
     (notes : Notes goal clause floor p told now) (store : q.store ≡ p.store) (words_are : p.store.about.words ≡ words)
     (takes : TakesFrame words floor weight p.pass q.pass) (weighs : weight ≡ clause_weight (clause_at P.program clause.0)) (short : words ≤ MAX_LIMIT)
     (over : IsItemOver P words goal (Skeletons.call n)) (sole : AreLeft P (seen_by p) goal (clause ∷ [])) (waiting : List Waiting)
@@ -335,3 +338,54 @@ sole_is_there P s g clause sole = (of_bounds P.program (term_of P.program g) cla
 pub refused_known : (words weight : ℕ) (p q : Pass) → GetsNone words weight p q → q.known ≡ p.known
 refused_known words weight p q (inl same) = ap (λ (x : Pass). x.known) same.1
 refused_known words weight p q (inr r) = ap (λ (x : Pass). x.known) r.1.becomes
+
+-- ---- What came of noting it
+
+module _ (P : NamedProgram) (l : Loaded) (program : P ≡ named l) (loaded : IsLoaded P) (told now : HandedOn) (goal : Goal) (n : ℕ) (clause : ClauseNo)
+    (row words floor weight : ℕ) (p q judged : PassSeen) (waiting : List Waiting) (pairs : List Pair) (row_is : row ≡ words)
+    (taken : (judged ≡ p) × TakesFrame words floor weight p.pass q.pass) (store : q.store ≡ p.store) (words_are : p.store.about.words ≡ words)
+    (weighs : weight ≡ clause_weight (clause_at (named l).program clause.0)) (short : row ≤ MAX_LIMIT)
+    (over : IsItemOver P row goal (Skeletons.call n)) (sole : AreLeft P (seen_by p) goal (clause ∷ []))
+    (work : IsAtWork P told [] waiting p) where
+  its_notes : Notes goal clause floor judged told now → Notes goal clause floor p told now
+  its_notes noted = subst (λ (j : PassSeen). Notes goal clause floor j told now) taken.0 noted
+
+  its_weight : weight ≡ clause_weight (clause_at P.program clause.0)
+  its_weight = subst (λ (Q : NamedProgram). weight ≡ clause_weight (clause_at Q.program clause.0)) (sym program) weighs
+
+  over_words : IsItemOver P words goal (Skeletons.call n)
+  over_words = subst (λ (k : ℕ). IsItemOver P k goal (Skeletons.call n)) row_is over
+
+  few_words : words ≤ MAX_LIMIT
+  few_words = subst (λ (k : ℕ). k ≤ MAX_LIMIT) row_is short
+
+  fails : (b : Bool) → has_fail (nodes_at (named l).skeleton clause.0).items ≡ b → has_fail (nodes_at P.skeleton clause.0).items ≡ b
+  fails b = subst (λ (Q : NamedProgram). has_fail (nodes_at Q.skeleton clause.0).items ≡ b) (sym program)
+
+  pairs_are : pairs ≡ call_pair (named l) goal.base n clause.0 floor ∷ item_pairs (named l) floor (nodes_at (named l).skeleton clause.0).items
+      → call_pair P goal.base n clause.0 floor ∷ item_pairs P floor (nodes_at P.skeleton clause.0).items ≡ pairs
+  pairs_are asked = sym (subst (λ (Q : NamedProgram). pairs ≡ call_pair Q goal.base n clause.0 floor
+      ∷ item_pairs Q floor (nodes_at Q.skeleton clause.0).items) (sym program) asked)
+
+  pub noted_so : (result : Result Bool AllocError) → OnOk result (Notes goal clause floor judged told now)
+      → (result ≡ Ok true → pairs ≡ call_pair (named l) goal.base n clause.0 floor
+      ∷ item_pairs (named l) floor (nodes_at (named l).skeleton clause.0).items)
+      → (result ≡ Ok true → has_fail (nodes_at (named l).skeleton clause.0).items ≡ false)
+      → (result ≡ Ok false → has_fail (nodes_at (named l).skeleton clause.0).items ≡ true) → IsNoted P now pairs waiting q result
+  noted_so (Ok true) noted asked none failing = (
+    subst (λ (ps : List Pair). IsAtWork P now ps waiting q) (pairs_are (asked refl))
+        (reduced_at_work P loaded told now goal n clause words floor weight p q (its_notes noted) store words_are taken.1 its_weight few_words over_words
+        sole waiting work (fails false (none refl))),
+    subst (λ (ps : List Pair). (w : Words) → FitsSeen P now q w → NameNoHalf P w ps) (pairs_are (asked refl))
+        (reduced_whole P loaded told now goal n clause words floor weight p q (its_notes noted) store words_are taken.1 its_weight few_words over_words
+        sole waiting work (fails false (none refl))),
+  )
+  noted_so (Ok false) noted asked none failing = (
+    (its_notes noted).cause ∙ work.live,
+    ap (λ (x : Pass). x.fails) taken.1.becomes ∙ work.no_fail,
+    reduced_acted P loaded told now goal n clause words floor weight p q (its_notes noted) store words_are taken.1 its_weight few_words over_words sole
+        waiting work,
+    reduced_kills P loaded told now goal n clause words floor weight p q (its_notes noted) store words_are taken.1 its_weight few_words over_words sole
+        waiting work (fails true (failing refl)),
+  )
+  noted_so (Err e) noted asked none failing = tt

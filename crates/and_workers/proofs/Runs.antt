@@ -17,7 +17,7 @@ use Rattle.and_cells.specs.Seen.{IsWrittenIfNumber}
 use Rattle.and_unify.specs.declared.pairs.Pair.{Pair}
 use Rattle.and_unify.specs.Pairs.{AreInRange, AreWritten, equations_of_pairs}
 use Rattle.and_branch_laws.specs.Variables.{cells_from}
-use Rattle.and_suspend.specs.Waiting.{Waiting}
+use Rattle.and_workers.specs.Waiting.{Waiting}
 use Rattle.and_store.specs.Passes.{PassSeen}
 use Rattle.and_store.specs.Worked.{seen_by}
 use Rattle.and_store_laws.proofs.Lists.{contains_first, contains_cases, contains_none, contains_there}
@@ -27,7 +27,7 @@ use Rattle.and_handed.specs.Handed.{HasAll, SolvesAll, HasTerms, IsKnownRun, Sol
 use Rattle.and_handed.specs.Handed.{arithmetic_at}
 use Rattle.and_workers.specs.Running.{MayRun, NotesRun}
 use Rattle.and_handed.specs.declared.told.Ran.{Ran}
-use Rattle.and_handed.specs.declared.told.Told.{Told}
+use Rattle.and_handed.specs.declared.told.HandedOn.{HandedOn}
 
 -- ---- What a run asks is told by any terms that are known
 
@@ -51,11 +51,11 @@ solves_run P first r what ts w t has solves known solved other us h =
 -- ---- One run more
 
 -- what is told, where the other lists are those of before
-abbrev pub noting : (old new : Told) → Told
+abbrev pub noting : (old new : HandedOn) → HandedOn
 noting old new = record new { made = old.made; pairs = old.pairs; cause = old.cause }
 
-module _ (P : NamedProgram) (told new : Told) (one : Ran) (more : new.ran.items ≡ told.ran.items ++ one ∷ []) (p : PassSeen) where
-  abbrev noted : Told
+module _ (P : NamedProgram) (told new : HandedOn) (one : Ran) (more : new.ran.items ≡ told.ran.items ++ one ∷ []) (p : PassSeen) where
+  abbrev noted : HandedOn
   noted = noting told new
 
   abbrev first : List Ref
@@ -175,5 +175,5 @@ module _ (P : NamedProgram) (told new : Told) (one : Ran) (more : new.ran.items 
     }
 
 -- what is told is just that
-pub noting_is : (goal : Goal) (p : PassSeen) (old new : Told) → NotesRun goal p old new → noting old new ≡ new
+pub noting_is : (goal : Goal) (p : PassSeen) (old new : HandedOn) → NotesRun goal p old new → noting old new ≡ new
 noting_is goal p old new n i = record new { made = sym n.made i; pairs = sym n.pairs i; cause = sym n.cause i }

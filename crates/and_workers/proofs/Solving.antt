@@ -14,7 +14,7 @@ use Rattle.and_cells.specs.Ranges.{NamedProgram, IsInRange}
 use Rattle.and_cells.specs.Seen.{Seen, IsWrittenIfNumber}
 use Rattle.and_cells.specs.Meaning.{Words, equations_between}
 use Rattle.and_cells.specs.Known.{HasKnown, SolvesKnown, SolvesSettings}
-use Rattle.and_suspend.specs.Waiting.{Waiting}
+use Rattle.and_workers.specs.Waiting.{Waiting}
 use Rattle.and_unify.specs.declared.pairs.Pair.{Pair}
 use Rattle.and_unify.specs.declared.unifying.Unified.{Unified}
 use Rattle.and_unify.specs.declared.unifying.Unified.TheVariants.{Same, Apart, PutOff}
@@ -28,7 +28,7 @@ use Rattle.and_store_laws.specs.Steps.{entry, setting}
 use Rattle.and_workers.specs.AtWork.{IsAtWork}
 use Rattle.and_handed.specs.Handed.{settings_from, HasAll, SolvesAll, SolvesAsked, FitsSeen, IsSole, WasRun, SettingsFollow, HasDone, Kills}
 use Rattle.and_handed.specs.declared.told.Cause.TheVariants.{NoSolution}
-use Rattle.and_handed.specs.declared.told.Told.{Told}
+use Rattle.and_handed.specs.declared.told.HandedOn.{HandedOn}
 use Rattle.and_handed.specs.declared.told.Ran.{Ran}
 use Rattle.and_workers.proofs.Quiet.{later, solves_less, asked_less, front_is_short, fits_before, sole_later, run_later, pairs_later}
 use Rattle.and_workers.proofs.Steps.{Works, AllStand, IsKnownAt, made_own, entry_splits, steps_work, fits_used}
@@ -82,7 +82,7 @@ solves_both_pairs P w t xs ys one other =
 
 -- ---- The worker's settings follow
 
-module _ (P : NamedProgram) (told : Told) (first_pairs todo : List Pair) (p : PassSeen) (q : Pass) (kept : List ℕ) (since : List JournalEntry)
+module _ (P : NamedProgram) (told : HandedOn) (first_pairs todo : List Pair) (p : PassSeen) (q : Pass) (kept : List ℕ) (since : List JournalEntry)
     (more : List Known) where
   abbrev pub y : PassSeen
   y = later p q kept since more
@@ -134,7 +134,7 @@ works_is p q store l i = record {
   kept = q.kept;
 }
 
-works_done : (P : NamedProgram) (told : Told) (first_pairs todo : List Pair) (p q : PassSeen) → q.store ≡ p.store → Works p.store.about.first p.pass q.pass
+works_done : (P : NamedProgram) (told : HandedOn) (first_pairs todo : List Pair) (p q : PassSeen) → q.store ≡ p.store → Works p.store.about.first p.pass q.pass
     → OwnFollow P todo (seen_by p) (seen_by q) → HasDone P told (first_pairs ++ todo) p → HasDone P told (first_pairs ++ todo) q
 works_done P told first_pairs todo p q store l follow done =
     let is = works_is p q store l in
@@ -145,7 +145,7 @@ works_done P told first_pairs todo p q store l follow done =
 
 -- ---- Other pairs that ask for the same
 
-pairs_replaced : (P : NamedProgram) (told : Told) (first_pairs todo left : List Pair) (q : PassSeen)
+pairs_replaced : (P : NamedProgram) (told : HandedOn) (first_pairs todo left : List Pair) (q : PassSeen)
     → AreInRange P q.store.about.words left → AreWritten (seen_by q) left
     → ((w : Words) → FitsSeen P told q w → (t : Substitution) → SolvesAll P w q.store.about.first q.pass.seen t
     → Solves t (equations_of_pairs P w todo) → Solves t (equations_of_pairs P w left))
@@ -173,7 +173,7 @@ pairs_replaced P told first_pairs todo left q ranges written there back done = r
 
 -- ---- What unification came to
 
-module _ (P : NamedProgram) (told : Told) (todo left : List Pair) (waiting : List Waiting) (p q : PassSeen) (answer : Unified)
+module _ (P : NamedProgram) (told : HandedOn) (todo left : List Pair) (waiting : List Waiting) (p q : PassSeen) (answer : Unified)
     (work : IsAtWork P told todo waiting p) (used : IsUsed P p q) (u : Unifies P (seen_by p) (seen_by q) todo left answer) where
   works : Works p.store.about.first p.pass q.pass
   works = steps_work P p.store.about p q work.known used.steps
@@ -221,7 +221,7 @@ module _ (P : NamedProgram) (told : Told) (todo left : List Pair) (waiting : Lis
       (λ w fits t solves solved. u.equal (inr is) w (has_known w fits) (whole w (fits_old w fits)) t (knows_solved w t solves) solved) still_done
 
   -- The worker goes on with this told of it.
-  pub at_work : (now : Told) → now.cause ≡ told.cause → HasDone P now (now.pairs ++ []) q → IsAtWork P now [] waiting q
+  pub at_work : (now : HandedOn) → now.cause ≡ told.cause → HasDone P now (now.pairs ++ []) q → IsAtWork P now [] waiting q
   at_work now cause done = record {
     done = done;
     no_fail = never_failed;
@@ -233,9 +233,9 @@ module _ (P : NamedProgram) (told : Told) (todo left : List Pair) (waiting : Lis
 
 -- ---- Pairs that are told of as well
 
-module _ (P : NamedProgram) (told : Told) (pairs : List Pair) (p : PassSeen) where
+module _ (P : NamedProgram) (told : HandedOn) (pairs : List Pair) (p : PassSeen) where
   -- the same told, with these pairs
-  abbrev pub telling : Told
+  abbrev pub telling : HandedOn
   telling = record told { pairs = pairs }
 
   fits_telling : (w : Words) → FitsSeen P telling p w → FitsSeen P told p w

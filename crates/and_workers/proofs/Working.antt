@@ -6,7 +6,7 @@ use Rattle.std.proofs.lemmas.List.Sorted.{All-permutation}
 use Rattle.and_model.specs.declared.goal.Goal.{Goal}
 use Rattle.and_cells.specs.Ranges.{NamedProgram}
 use Rattle.and_cells.specs.Seen.{Seen, OnlyReads}
-use Rattle.and_suspend.specs.Waiting.{Waiting, waiting_for, Wakes}
+use Rattle.and_workers.specs.Waiting.{Waiting, waiting_for, Wakes}
 use Rattle.and_unify.specs.declared.pairs.Pair.{Pair}
 use Rattle.and_model.specs.Store.{Pass}
 use Rattle.and_model.specs.declared.reference.Ref.{Ref}
@@ -14,19 +14,19 @@ use Rattle.and_store.specs.Calls.{HangsGoal, MissesPlace, FindsSet, FindsFailed,
 use Rattle.and_store.specs.Passes.{PassSeen, StoreId}
 use Rattle.and_store.specs.Worked.{IsUsed, seen_by}
 use Rattle.and_workers.specs.AtWork.{IsAtWork}
-use Rattle.and_handed.specs.declared.told.Told.{Told}
+use Rattle.and_handed.specs.declared.told.HandedOn.{HandedOn}
 use Rattle.and_workers.proofs.Quiet.{stays_at_work}
 use Rattle.and_workers.proofs.Learning.{reads_learnt, fits_same, fits_looked, hung_learns, missed_learns, set_found_learns, failed_learns, hands_learns}
 use Rattle.and_workers.proofs.Steps.{fits_used}
 
-pub reads_at_work : (P : NamedProgram) (told : Told) (todo : List Pair) (waiting : List Waiting) (p q : PassSeen) → IsUsed P p q
+pub reads_at_work : (P : NamedProgram) (told : HandedOn) (todo : List Pair) (waiting : List Waiting) (p q : PassSeen) → IsUsed P p q
     → OnlyReads (seen_by p) (seen_by q)
     → IsAtWork P told todo waiting p → IsAtWork P told todo waiting q
 reads_at_work P told todo waiting p q used reads work =
     stays_at_work P told todo waiting p q (reads_learnt P p q used reads) (fits_used P p q used work.fit) work
 
 -- Fewer goals wait.
-pub waits_fewer : (P : NamedProgram) (told : Told) (todo : List Pair) (was is : List Waiting) (p : PassSeen)
+pub waits_fewer : (P : NamedProgram) (told : HandedOn) (todo : List Pair) (was is : List Waiting) (p : PassSeen)
     → (All (λ (w : Waiting). w.cell < p.store.about.words) was → All (λ (w : Waiting). w.cell < p.store.about.words) is)
     → IsAtWork P told todo was p → IsAtWork P told todo is p
 waits_fewer P told todo was is p fewer work = record {
@@ -49,20 +49,21 @@ woken_leaves Q P (Some goal) was is old new some none all =
 -- ---- A goal is to wait
 
 -- whatever became of the wish to hang it
-pub hung_at_work : (P : NamedProgram) (told : Told) (todo : List Pair) (waiting : List Waiting) (waiters cell : ℕ) (goal : Goal) (p q : PassSeen)
+pub hung_at_work : (P : NamedProgram) (told : HandedOn) (todo : List Pair) (waiting : List Waiting) (waiters cell : ℕ) (goal : Goal) (p q : PassSeen)
     → q.store ≡ p.store
     → HangsGoal waiters cell goal p.pass q.pass → IsAtWork P told todo waiting p → IsAtWork P told todo waiting q
 hung_at_work P told todo waiting waiters cell goal p q store f work =
     stays_at_work P told todo waiting p q (record { store = store; learns = hung_learns p.store.about.first waiters cell goal p.pass q.pass f })
     (fits_same P p q store (ap (λ (x : Pass). x.known) f.becomes) work.fit) work
 
-pub missed_at_work : (P : NamedProgram) (told : Told) (todo : List Pair) (waiting : List Waiting) (cell : ℕ) (place : _) (p q : PassSeen) → q.store ≡ p.store
+pub missed_at_work : (P : NamedProgram) (told : HandedOn) (todo : List Pair) (waiting : List Waiting) (cell : ℕ) (place : _) (p q : PassSeen)
+    → q.store ≡ p.store
     → MissesPlace cell place p.pass q.pass → IsAtWork P told todo waiting p → IsAtWork P told todo waiting q
 missed_at_work P told todo waiting cell place p q store f work =
     stays_at_work P told todo waiting p q (record { store = store; learns = missed_learns p.store.about.first cell place p.pass q.pass f })
     (fits_same P p q store (ap (λ (x : Pass). x.known) f.becomes) work.fit) work
 
-pub found_at_work : (P : NamedProgram) (told : Told) (todo : List Pair) (waiting : List Waiting) (s : StoreId) (cell : ℕ) (r : Ref)
+pub found_at_work : (P : NamedProgram) (told : HandedOn) (todo : List Pair) (waiting : List Waiting) (s : StoreId) (cell : ℕ) (r : Ref)
     (p q : PassSeen) → q.store ≡ s → p.store ≡ s
     → cell < s.about.words → FindsSet P s.about cell r p.pass q.pass → IsAtWork P told todo waiting p → IsAtWork P told todo waiting q
 found_at_work P told todo waiting s cell r p q of_s was_of_s below_words found work =
@@ -73,17 +74,17 @@ found_at_work P told todo waiting s cell r p q of_s was_of_s below_words found w
     stays_at_work P told todo waiting p q (record { store = store; learns = set_found_learns P p.store.about cell r p.pass q.pass f })
     (fits_looked P p.store.about cell r x q refl store below f.looks (fits_same P p x refl (ap (λ (x : Pass). x.known) f.misses.becomes) work.fit)) work
 
-pub same_at_work : (P : NamedProgram) (told : Told) (todo : List Pair) (waiting : List Waiting) (p q : PassSeen) → q ≡ p
+pub same_at_work : (P : NamedProgram) (told : HandedOn) (todo : List Pair) (waiting : List Waiting) (p q : PassSeen) → q ≡ p
     → IsAtWork P told todo waiting p → IsAtWork P told todo waiting q
 same_at_work P told todo waiting p q same = subst (IsAtWork P told todo waiting) (sym same)
 
-pub failed_at_work : (P : NamedProgram) (told : Told) (todo : List Pair) (waiting : List Waiting) (is_up : _) (p q : PassSeen) → q.store ≡ p.store
+pub failed_at_work : (P : NamedProgram) (told : HandedOn) (todo : List Pair) (waiting : List Waiting) (is_up : _) (p q : PassSeen) → q.store ≡ p.store
     → FindsFailed is_up p.pass q.pass → IsAtWork P told todo waiting p → IsAtWork P told todo waiting q
 failed_at_work P told todo waiting is_up p q store f work =
     stays_at_work P told todo waiting p q (record { store = store; learns = failed_learns p.store.about.first is_up p.pass q.pass f })
     (fits_same P p q store (ap (λ (x : Pass). x.known) f.becomes) work.fit) work
 
-pub handed_at_work : (P : NamedProgram) (told : Told) (todo : List Pair) (waiting : List Waiting) (words : ℕ) (goal : Goal) (p q : PassSeen)
+pub handed_at_work : (P : NamedProgram) (told : HandedOn) (todo : List Pair) (waiting : List Waiting) (words : ℕ) (goal : Goal) (p q : PassSeen)
     → q.store ≡ p.store
     → HandsOut P words goal p q → IsAtWork P told todo waiting p → IsAtWork P told todo waiting q
 handed_at_work P told todo waiting words goal p q store f work =
@@ -91,7 +92,7 @@ handed_at_work P told todo waiting words goal p q store f work =
     (fits_same P p q store (ap (λ (x : Pass). x.known) f.becomes) work.fit) work
 
 -- what is told and what waits is the same under other names
-pub at_work_also : (P : NamedProgram) (told told_also : Told) (todo : List Pair) (waiting waiting_also : List Waiting) (p : PassSeen)
+pub at_work_also : (P : NamedProgram) (told told_also : HandedOn) (todo : List Pair) (waiting waiting_also : List Waiting) (p : PassSeen)
     → told_also ≡ told → waiting_also ≡ waiting
     → IsAtWork P told todo waiting p → IsAtWork P told_also todo waiting_also p
 at_work_also P told told_also todo waiting waiting_also p e f work =

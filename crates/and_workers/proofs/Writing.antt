@@ -8,7 +8,7 @@ use Rattle.and_model.specs.declared.reference.Ref.{Ref}
 use Rattle.and_cells.specs.Numbers.{high_half, low_half}
 use Rattle.and_cells.specs.Ranges.{NamedProgram}
 use Rattle.and_cells.specs.Seen.{Seen, Gains, Fills, WritesNumber}
-use Rattle.and_suspend.specs.Waiting.{Waiting}
+use Rattle.and_workers.specs.Waiting.{Waiting}
 use Rattle.and_unify.specs.declared.pairs.Pair.{Pair}
 use Rattle.and_store.specs.Passes.{PassSeen}
 use Rattle.and_store.specs.Worked.{IsUsed, seen_by}
@@ -16,7 +16,7 @@ use Rattle.and_store_laws.proofs.Lists.{contains_cases, contains_none, contains_
 use Rattle.and_store_laws.specs.Steps.{entry}
 use Rattle.and_workers.specs.AtWork.{IsAtWork}
 use Rattle.and_handed.specs.Handed.{settings_from}
-use Rattle.and_handed.specs.declared.told.Told.{Told}
+use Rattle.and_handed.specs.declared.told.HandedOn.{HandedOn}
 use Rattle.and_workers.proofs.Quiet.{SawOnly, saw_done}
 use Rattle.and_workers.proofs.Steps.{Works, made_own, steps_work, fits_used}
 
@@ -85,7 +85,7 @@ module _ (P : NamedProgram) (p q : PassSeen) (pair : ℕ) (value result : ℤ) (
   }
 
   -- A number that was written follows from nothing, and states nothing.
-  pub written_at_work : (told : Told) (todo : List Pair) (waiting : List Waiting) → IsAtWork P told todo waiting p → IsAtWork P told todo waiting q
+  pub written_at_work : (told : HandedOn) (todo : List Pair) (waiting : List Waiting) → IsAtWork P told todo waiting p → IsAtWork P told todo waiting q
   written_at_work told todo waiting work = record {
     done = saw_done P told _ p q saw_written work.done;
     no_fail = works.fails ∙ work.no_fail;

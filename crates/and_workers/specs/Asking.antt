@@ -9,7 +9,7 @@ use Rattle.and_cells.specs.Parts.{part_at}
 use Rattle.and_unify.specs.declared.pairs.Pair.{Pair}
 use Rattle.and_store.specs.Passes.{PassSeen}
 use Rattle.and_handed.specs.declared.told.Reduced.{Reduced}
-use Rattle.and_handed.specs.declared.told.Told.{Told}
+use Rattle.and_handed.specs.declared.told.HandedOn.{HandedOn}
 
 -- two nodes, each in its frame
 abbrev pub nodes_pair : NamedProgram → (base node floor other : ℕ) → Pair
@@ -51,7 +51,7 @@ has_fail (item ∷ items) = cond (is_fail item) true (has_fail items)
 
 -- One reduction more is told: of the goal by the clause, in the frame that begins at the floor, and judged by this
 -- pass. All else stays.
-pub record Notes (goal : Goal) (clause : ClauseNo) (floor : ℕ) (judged : PassSeen) (old new : Told) : Type 0 where
+pub record Notes (goal : Goal) (clause : ClauseNo) (floor : ℕ) (judged : PassSeen) (old new : HandedOn) : Type 0 where
   pub one : Reduced
   pub made : new.made.items ≡ old.made.items ++ one ∷ []
   pub goal_is : one.goal ≡ goal

@@ -14,7 +14,7 @@ use Rattle.and_handed.specs.Handed.{HasAll, SolvesAll}
 use Rattle.and_store.specs.Passes.{PassSeen}
 use Rattle.and_handed.specs.declared.told.Reduced.{Reduced}
 use Rattle.and_handed.specs.declared.told.Ran.{Ran}
-use Rattle.and_handed.specs.declared.told.Told.{Told}
+use Rattle.and_handed.specs.declared.told.HandedOn.{HandedOn}
 
 -- One of these reductions took the frame at the base, for the clause.
 pub record HasMade (made : List Reduced) (base : ℕ) (clause : ClauseNo) : Type 0 where
@@ -49,7 +49,7 @@ pub record IsDecided (P : NamedProgram) (first : List Ref) (journal : List Journ
   pub decides : holds ≡ related relation one other
 
 -- One run more is told: of the goal, when the pass was this. All else stays.
-pub record NotesRun (goal : Goal) (judged : PassSeen) (old new : Told) : Type 0 where
+pub record NotesRun (goal : Goal) (judged : PassSeen) (old new : HandedOn) : Type 0 where
   pub one : Ran
   pub goal_is : one.goal ≡ goal
   pub judged_is : one.judged.value ≡ judged

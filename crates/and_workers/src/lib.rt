@@ -6,7 +6,8 @@ mod asking;
 mod calls;
 mod items;
 mod running;
+mod suspended;
 mod taking;
 mod worker;
 
-pub use worker::{Job, Shared, work};
+pub use worker::{Beginning, Shared, work};

@@ -10,7 +10,7 @@ ghost use Rattle.and_cells.specs.Meaning.{Words};
 ghost use Rattle.and_cells.specs.Parts.{named};
 ghost use Rattle.and_unify.specs.Pairs.{NameNoHalf};
 ghost use Rattle.and_clause_index.specs.Tables.{IsTableOf};
-ghost use Rattle.and_workers.specs.AtWork.{IsAtWork, IsTurned};
+ghost use Rattle.and_workers.specs.AtWork.{IsAtWork, IsNoted, IsTurned};
 ghost use Rattle.and_workers.specs.Asking.{Notes, call_pair, item_pairs, has_fail};
 ghost use Rattle.and_handed.specs.Handed.{FitsSeen};
 ghost use Rattle.and_workers.specs.Items.{IsItemOver};
@@ -145,7 +145,28 @@ impl<'a, N: Naming> Reducer<StoreCells<'a, N>> {
         let Some((floor, judged)) = frame else {
             return (cells, Ok(Turn::Worked));
         };
-        match self.note(shared.loaded, goal, node, clause, floor, judged) {
+        let noted = self.note(shared.loaded, goal, node, clause, floor, judged);
+        self.go_on(shared, cells, clause, floor, noted)
+    }
+
+    /// Goes on with a reduction that was noted: makes its pairs equal and puts its body, or gives up.
+    fn go_on<G: Gate>(
+        &mut self,
+        shared: &Shared<'a, N, G>,
+        cells: StoreCells<'a, N>,
+        clause: ClauseNo,
+        floor: u32,
+        noted: Result<bool, AllocError>,
+    ) -> Turned<'a, N>
+        requires program { N.program ≡ named shared.now.loaded.now }
+        requires table { IsTableOf N.program shared.now.table.now }
+        requires clause { clause.0 ≤ length (program_of shared.now.loaded.now).clauses }
+        requires store { cells.pass.store ≡ shared.now.store.now }
+        requires noted { IsNoted N.program self.old.told self.old.pairs self.old.suspended cells.pass noted }
+        ensures store { result.0.pass.store ≡ cells.entry.pass.store }
+        ensures turned { IsTurned N.program self.new.told self.new.suspended result.0.pass result.1 }
+    {
+        match noted {
             Err(_) => (cells, Err(AllocError)),
             Ok(false) => self.give_up(shared.store, cells, Cause::NoSolution),
             Ok(true) => {

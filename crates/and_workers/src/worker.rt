@@ -12,18 +12,18 @@ ghost use Rattle.and_handed.specs.Handed.{HandsOn, HasActed, Kills};
 
 use crate::calls::{fail, hang, has_failed, woken};
 use crate::items::item_over;
+use crate::suspended::Suspended;
 use and_arith::WorkList;
 use and_cells::{Cells, Naming};
 use and_clause_index::Determinacy;
 use and_gate::Gate;
 use and_goals::Hand;
-use and_handed::{Cause, Ended, Told};
+use and_handed::{Cause, Ended, HandedOn};
 use and_model::{ClauseList, Goal};
 use and_overlay::Scratch;
 use and_program::{ItemNode, Loaded};
 use and_shared_determinacy::Selector;
 use and_store::{Hung, Pass, Store, StoreCells};
-use and_suspend::Suspended;
 use and_unify::PairList;
 use std::alloc::{AllocError, Global};
 use std::hint::spin_loop;
@@ -46,7 +46,7 @@ pub struct Shared<'a, N: Naming, G: Gate> {
 
 /// What a worker begins with.
 #[derive(Drop)]
-pub struct Job {
+pub struct Beginning {
     pub number: u32,
     pub pass: Pass,
     pub hand: Hand,
@@ -60,7 +60,7 @@ pub(crate) struct Reducer<C: Cells> {
     /// Arithmetic of frames that this worker took, which no other may run.
     pub own: Vec<Goal>,
     pub suspended: Suspended,
-    pub told: Told,
+    pub told: HandedOn,
     pub clauses: ClauseList,
     pub pairs: PairList,
     pub scratch: Scratch<C>,
@@ -86,14 +86,14 @@ pub(crate) type Turned<'a, N> = (StoreCells<'a, N>, Result<Turn, AllocError>);
 const PATIENCE: u32 = 256;
 
 /// Does a job, until there is nothing more to do.
-pub fn work<'a, N: Naming, G: Gate>(shared: &Shared<'a, N, G>, job: Job) -> Ended
+pub fn work<'a, N: Naming, G: Gate>(shared: &Shared<'a, N, G>, job: Beginning) -> Ended
     requires program { N.program ≡ named shared.now.loaded.now }
     requires table { IsTableOf N.program shared.now.table.now }
     requires fresh { job.pass ≡ fresh shared.now.store.now job.number }
     ensures store { result.pass.store ≡ shared.now.store.now }
     ensures hands_on { IfSome result.told (λ told. HandsOn N.program told result.pass) }
 {
-    let Job { number, pass, hand } = job;
+    let Beginning { number, pass, hand } = job;
     let mut reducer = Reducer::new(shared.alloc, number, hand);
     let cells = StoreCells::new(shared.store, pass);
     let (cells, worked) = reducer.run(shared, cells);
@@ -152,7 +152,7 @@ impl<'a, N: Naming> Reducer<StoreCells<'a, N>> {
             hand,
             own: Vec::new(alloc),
             suspended: Suspended::new(alloc),
-            told: Told::nothing(alloc),
+            told: HandedOn::nothing(alloc),
             clauses: ClauseList::new(alloc),
             pairs: PairList::new(alloc),
             scratch: Scratch::new(alloc),

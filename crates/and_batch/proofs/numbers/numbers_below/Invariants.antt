@@ -1,6 +1,7 @@
 use Rattle.std.proofs.Common.{◌≡◌, ◌+◌, []}
 use Rattle.crossbeam_queue.specs.Passes.{view, IsPassOf, ruled_capacity}
-use Rattle.and_batch.specs.Balance.{share, below}
+use Rattle.and_shares.specs.Balance.{share}
+use Rattle.and_batch.specs.Balance.{below}
 use Rattle.and_batch.proofs.numbers.numbers_below.Given as goal
 
 abbrev pub invariant-loop-number : goal.invariant-loop-number

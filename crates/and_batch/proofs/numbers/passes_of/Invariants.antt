@@ -1,6 +1,6 @@
 use Rattle.std.proofs.Common.{◌≡◌, ◌-◌, [], length, All}
 use Rattle.crossbeam_queue.specs.Passes.{view, IsPassOf}
-use Rattle.and_batch.specs.Balance.{share}
+use Rattle.and_shares.specs.Balance.{share}
 use Rattle.and_batch.proofs.numbers.passes_of.Given as goal
 
 abbrev pub invariant-loop : goal.invariant-loop

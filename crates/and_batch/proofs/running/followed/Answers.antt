@@ -1,13 +1,12 @@
-use Rattle.std.proofs.Common.{[], arith, sym, subst, ap}
+use Rattle.std.proofs.Common.{ℕ, arith, ap, subst}
 use Rattle.crossbeam_queue.specs.Passes.{view}
-use Rattle.and_batch.specs.Balance.{share}
 use Rattle.and_batch.specs.Working.{TookThese}
-use Rattle.and_batch.specs.declared.share.Share.{Share}
+use Rattle.and_shares.specs.declared.share.Share.{Share}
 use Rattle.and_batch.proofs.Taking.{took_nothing, due_none}
 use Rattle.and_batch.proofs.running.followed.Goals as goal
 
 pub work-requires-clause-part : goal.work-requires-clause-part
-work-requires-clause-part g c = let parts = ap (λ (s : Share). s.parts) c.requires.pass.1 in omega (arith, parts)
+work-requires-clause-part g c = let parts = ap (λ (s : Share ℕ). s.parts) c.requires.pass.1 in omega (arith, parts)
 
 pub returns-then-not-wait : goal.returns-then-not-wait
 returns-then-not-wait g c =

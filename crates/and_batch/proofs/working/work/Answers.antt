@@ -1,13 +1,13 @@
-use Rattle.std.proofs.Common.{arith, ◌∙◌, ap}
+use Rattle.std.proofs.Common.{ℕ, arith, ◌∙◌, ap}
 use Rattle.crossbeam_queue.specs.Passes.{view}
-use Rattle.and_batch.specs.declared.share.Share.{Share}
+use Rattle.and_shares.specs.declared.share.Share.{Share}
 use Rattle.and_batch.proofs.Moves.{takes, learns}
 use Rattle.and_batch.proofs.Taking.{due_more, due_none, none_left, took_begun, took_one}
 use Rattle.and_batch.proofs.working.work.Goals as goal
 
 pub pop_as-requires-clause-rule : goal.pop_as-requires-clause-rule
 pop_as-requires-clause-rule g c =
-    let parts = ap (λ (s : Share). s.parts) c.working.invariant.took in
+    let parts = ap (λ (s : Share ℕ). s.parts) c.working.invariant.took in
     (takes _ _ (omega (arith, c.requires.part)), learns _ _)
 
 pub working-init : goal.working-init

@@ -1,5 +1,5 @@
 use Rattle.std.proofs.Common.{◌≡◌, None, rules, sym}
-use Rattle.and_handed.specs.declared.told.Told.{Told}
+use Rattle.and_handed.specs.declared.told.HandedOn.{HandedOn}
 use Rattle.and_gathering.proofs.Loops.{all_next, all_done}
 use Rattle.and_gathering.proofs.gathering.has_failed.Goals as goal
 
@@ -9,8 +9,8 @@ returns-then-is_some-clause-failed c = λ _.
 
 pub loop-told-preserved : goal.loop-told-preserved
 loop-told-preserved c =
-    all_next (λ (t : Told). t.cause ≡ None) c.args.tolds.now c.loop-told.told-index c.told-item.result c.loop-told.invariant
+    all_next (λ (t : HandedOn). t.cause ≡ None) c.args.tolds.now c.loop-told.told-index c.told-item.result c.loop-told.invariant
     c.loop-told-test.true c.told-item.is (search (rules, c.if-is_some.ensures))
 
 pub returns-clause-lives : goal.returns-clause-lives
-returns-clause-lives c = λ _. all_done (λ (t : Told). t.cause ≡ None) c.args.tolds.now c.loop-told.told-index c.loop-told.invariant c.loop-told-test.false
+returns-clause-lives c = λ _. all_done (λ (t : HandedOn). t.cause ≡ None) c.args.tolds.now c.loop-told.told-index c.loop-told.invariant c.loop-told-test.false

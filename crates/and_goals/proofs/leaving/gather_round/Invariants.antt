@@ -1,5 +1,5 @@
 use Rattle.std.proofs.Common.{◌≡◌, suc, length}
-use Rattle.and_goals.specs.Bags.{SameBag}
+use Rattle.and_shares.specs.Bags.{SameBag}
 use Rattle.and_goals.specs.Hands.{all_put, all_taken}
 use Rattle.and_goals.proofs.Rounds.{Between}
 use Rattle.and_goals.proofs.leaving.gather_round.Given as goal

@@ -1,7 +1,7 @@
 use Rattle.std.proofs.Common.{arith, ◌≡◌, ◌∙◌, ◌++◌, [], List, ap, subst}
 use Rattle.std.proofs.lemmas.List.{with_items_is}
 use Rattle.and_model.specs.declared.goal.Goal.{Goal}
-use Rattle.and_goals.specs.Bags.{SameBag}
+use Rattle.and_shares.specs.Bags.{SameBag}
 use Rattle.and_goals.specs.Hands.{HandSeen, all_put, all_taken}
 use Rattle.and_goals.proofs.Takings.{left_as_before}
 use Rattle.and_goals.proofs.leaving.rest.Goals as goal

@@ -1,6 +1,7 @@
 use Rattle.std.proofs.Common.{arith, ℕ, ◌≡◌, ◌+◌, ◌<◌, suc, [], length, ap, subst}
 use Rattle.and_goals.specs.Hands.{IsDealt, IsFurther}
-use Rattle.and_goals.specs.declared.account.Account.{Account}
+use Rattle.and_model.specs.declared.goal.Goal.{Goal}
+use Rattle.and_shares.specs.declared.share.Share.{Share}
 use Rattle.and_goals.proofs.Rounds.{round_goes_on, round_ends}
 use Rattle.and_goals.proofs.Takings.{fresh_turn}
 use Rattle.and_goals.proofs.Turns.{replaced, dealt_turn}
@@ -21,7 +22,7 @@ loop-place-preserved c =
     let b = c.loop-place.invariant.between in
     let few : suc further < n = omega arith in
     let to_of : IsFurther n place further of = subst (λ (l : ℕ). IsFurther l place further of) b.len c.place_further-of.ensures in
-    let taken : o.known.taken ≡ [] = ap (λ (a : Account). a.taken) c.in_ok-other.ensures.guest.1 in
+    let taken : o.known.taken ≡ [] = ap (λ (a : Share Goal). a.taken) c.in_ok-other.ensures.guest.1 in
     let turned = dealt_turn n further place of hs x y g m o c.loop-place-test.true few c.requires.few.1 to_of b c.in_ok-other.ensures.hand
     c.in_ok-other.ensures.guest.0 c.in_ok-meet.ensures in record {
       between = round_goes_on n further (suc further) further place of hs (replaced hs of g place m) c.loop-place-test.true few to_of b turned;

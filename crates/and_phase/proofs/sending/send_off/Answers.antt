@@ -2,7 +2,7 @@ use denote.Param.Send.{IsSend, sendable}
 use Rattle.std.proofs.Crossing.{crosses}
 use Rattle.atomic_table.proofs.shared.Seat.TheSendSync.{the_send as seat_send}
 use Rattle.and_store.specs.contracts.pass.Pass as pass
-use Rattle.and_handed.specs.contracts.told.Told as told
+use Rattle.and_handed.specs.contracts.told.HandedOn as told
 use Rattle.and_handed.specs.contracts.told.Reduced as reduced
 use Rattle.and_handed.specs.contracts.told.Ran as ran
 use Rattle.and_handed.specs.contracts.told.Ended as ended

@@ -1,5 +1,5 @@
 use Rattle.std.proofs.Common.{◌∙◌}
-use Rattle.and_workers.proofs.Beginning.{fresh_at_work}
+use Rattle.and_workers.proofs.AtWork.{fresh_at_work}
 use Rattle.and_workers.proofs.worker.work.Goals as goal
 
 pub run-cells-requires-clause-at_work : goal.run-cells-requires-clause-at_work

@@ -2,7 +2,7 @@ use Rattle.std.proofs.Common.{arith, ◌≡◌, ◌∙◌, ◌++◌, Some, List,
 use Rattle.std.proofs.lemmas.List.{with_items_is}
 use Rattle.std.specs.Prelude.{option_to_list}
 use Rattle.std.specs.Vec.{with_items}
-use Rattle.and_goals.specs.Bags.{SameBag}
+use Rattle.and_shares.specs.Bags.{SameBag}
 use Rattle.and_goals.specs.Hands.{HandSeen, OtherSeen, seat_of, deques_of, taken_from, HasTaken}
 use Rattle.and_goals.specs.contracts.hand.Hand.{the_view}
 use Rattle.and_goals.proofs.Moves.{takes}

@@ -1,18 +1,15 @@
-use Rattle.std.proofs.Common.{◌≡◌, ◌∙◌, ◌++◌, ◌∷◌, List, sym, subst}
+use Rattle.std.proofs.Common.{◌≡◌, ◌∙◌, ◌++◌, ◌∷◌, sym, subst}
 use Rattle.and_branch.specs.Branches.{Held}
 use Rattle.and_branch.specs.Children.{Fork}
 use Rattle.and_cells.specs.Ranges.{NamedProgram}
-use Rattle.and_histories.specs.PlainTree as plain
 use Rattle.and_histories.specs.PlainTree.{children}
 use Rattle.and_team_laws.specs.Owed.{SameItems}
 use Rattle.and_tree.specs.Passes.{TreeId}
-use Rattle.and_tree.specs.Replies.{is_last}
-use Rattle.and_tasks.specs.Working.{Has}
 use Rattle.and_tasks.specs.declared.stack.Level.{Level}
-use Rattle.and_tasks.specs.declared.stack.Task.{Task}
 use Rattle.and_tasks.specs.declared.stack.Task.TheVariants.{One, Children}
-use Rattle.and_tasks.proofs.Having.{all_keys, children_there, key_there, has_ended_under, has_swapped}
+use Rattle.and_tasks.proofs.Having.{all_keys, children_there}
 use Rattle.and_tasks.proofs.Ready.{another_parted, another_ready, child_shares}
+use Rattle.and_tasks.proofs.Sharing.{has_behind_given}
 use Rattle.and_tasks.proofs.team.Team.another_child.Goals as goal
 
 pub next-requires-clause-children : goal.next-requires-clause-children
@@ -40,14 +37,11 @@ give_up_children-requires-in_default-next-clause-hand g c κs within =
 
 pub put-requires-clause-has : goal.put-requires-clause-has
 put-requires-clause-has g c κs within =
-    let P : NamedProgram = g.N.Naming.program in
-    let tree : TreeId = c.args.shared.now.tree.now in
-    let s = c.args.self.now in
-    let m : Level g.row.N.Denot = c.next.new.self in
-    let b : Held = c.in-Ok-next.branch in
-    let parted = another_parted P tree s.pass s.found c.args.level m b s.stack.items c.requires.works c.in-Ok-next.ensures.child c.requires.more
-    c.next.ensures.same in
-    (One b ∷ s.stack.items, has_swapped P tree s.pass (One b) (Children m) s.stack.items parted)
+    let s = c.args.self.now in (
+      One c.in-Ok-next.branch ∷ s.stack.items,
+      another_parted g.N.Naming.program c.args.shared.now.tree.now s.pass s.found c.args.level c.next.new.self c.in-Ok-next.branch s.stack.items
+          c.requires.works c.in-Ok-next.ensures.child c.requires.more c.next.ensures.same,
+    )
 
 pub returns-in-Ok-put-clause-ready : goal.returns-in-Ok-put-clause-ready
 returns-in-Ok-put-clause-ready g c =
@@ -65,39 +59,17 @@ returns-in-Ok-put-clause-ready g c =
     c.requires.shares common.ensures.first common.ensures.second)
     c.put.ensures.same.1 c.in-Ok-put.ensures.put
 
-pub give_up-requires-clause-tree : goal.give_up-requires-clause-tree
-give_up-requires-clause-tree g c =
+pub give_up_key-requires-clause-has : goal.give_up_key-requires-clause-has
+give_up_key-requires-clause-has g c κs within =
     let P : NamedProgram = g.N.Naming.program in
     let tree : TreeId = c.args.shared.now.tree.now in
     let s = c.args.self.now in
+    let t = c.put.new.self in
     let m : Level g.row.N.Denot = c.next.new.self in
-    let b : Held = c.in-Ok-next.branch in
-    let parted = another_parted P tree s.pass s.found c.args.level m b s.stack.items c.requires.works c.in-Ok-next.ensures.child c.requires.more
-    c.next.ensures.same in
-    (c.in-Err.ensures.given_up.1 (One b ∷ s.stack.items) (has_swapped P tree s.pass (One b) (Children m) s.stack.items parted)).of_tree
-
-pub give_up-requires-clause-hand : goal.give_up-requires-clause-hand
-give_up-requires-clause-hand g c =
-    let P : NamedProgram = g.N.Naming.program in
-    let tree : TreeId = c.args.shared.now.tree.now in
-    let s = c.args.self.now in
-    let m : Level g.row.N.Denot = c.next.new.self in
-    let b : Held = c.in-Ok-next.branch in
-    let parted = another_parted P tree s.pass s.found c.args.level m b s.stack.items c.requires.works c.in-Ok-next.ensures.child c.requires.more
-    c.next.ensures.same in
-    key_there P tree c.put.new.self.pass b s.stack.items c.of.result.value (c.of.ensures ∙ c.key.ensures)
-    (c.in-Err.ensures.given_up.1 (One b ∷ s.stack.items) (has_swapped P tree s.pass (One b) (Children m) s.stack.items parted))
-
-pub returns-in-Err-clause-given_up : goal.returns-in-Err-clause-given_up
-returns-in-Err-clause-given_up g c =
-    let P : NamedProgram = g.N.Naming.program in
-    let tree : TreeId = c.args.shared.now.tree.now in
-    let s = c.args.self.now in
-    let m : Level g.row.N.Denot = c.next.new.self in
-    let b : Held = c.in-Ok-next.branch in
-    let parted = another_parted P tree s.pass s.found c.args.level m b s.stack.items c.requires.works c.in-Ok-next.ensures.child c.requires.more
-    c.next.ensures.same in
-    subst (λ (ts : List (Task g.row.N.Denot)). Has P tree c.give_up.new.pass ts) (sym c.in-Err.ensures.given_up.0)
-    (has_ended_under P tree c.of.result.value b s.stack.items plain.given_up (is_last c.give_up.result) c.put.new.self.pass c.give_up.new.pass
-    (c.of.ensures ∙ c.key.ensures) c.give_up.ensures
-    (c.in-Err.ensures.given_up.1 (One b ∷ s.stack.items) (has_swapped P tree s.pass (One b) (Children m) s.stack.items parted)))
+    let b : Held = c.in-Ok-next.branch in (
+      b,
+      c.of.ensures ∙ c.key.ensures,
+      has_behind_given P tree s.pass t.pass (Children m) (One b) s.stack.items t.stack.items
+          (another_parted P tree s.pass s.found c.args.level m b s.stack.items c.requires.works c.in-Ok-next.ensures.child c.requires.more
+          c.next.ensures.same) c.in-Err.ensures.given_up,
+    )

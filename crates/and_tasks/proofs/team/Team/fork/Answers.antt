@@ -1,23 +1,11 @@
 use Rattle.std.proofs.Common.{◌∙◌}
-use Rattle.and_histories.specs.PlainTree as plain
 use Rattle.and_branch.specs.States.{numbers}
-use Rattle.and_tree.specs.Replies.{is_last}
-use Rattle.and_tasks.proofs.Having.{key_there, has_ended_under}
 use Rattle.and_tasks.proofs.Ready.{forked_served, forked_shares, told_fork, back_fork}
 use Rattle.and_tasks.proofs.Turns.{fork_there, split_there, works_split}
 use Rattle.and_tasks.proofs.team.Team.fork.Goals as goal
 
-pub give_up-requires-clause-hand : goal.give_up-requires-clause-hand
-give_up-requires-clause-hand g c =
-    let s = c.args.self.now in
-    key_there g.N.Naming.program c.args.shared.now.tree.now s.pass c.args.hand.branch s.stack.items c.of-key.result.value
-    (c.of-key.ensures ∙ c.key.ensures) c.requires.ready.works.has
-
-pub returns-then-len-ge-MOST_TASKS-clause-has : goal.returns-then-len-ge-MOST_TASKS-clause-has
-returns-then-len-ge-MOST_TASKS-clause-has g c =
-    let s = c.args.self.now in
-    has_ended_under g.N.Naming.program c.args.shared.now.tree.now c.of-key.result.value c.args.hand.branch s.stack.items plain.given_up
-    (is_last c.give_up.result) s.pass c.give_up.new.pass (c.of-key.ensures ∙ c.key.ensures) c.give_up.ensures c.requires.ready.works.has
+pub give_up_key-requires-clause-has : goal.give_up_key-requires-clause-has
+give_up_key-requires-clause-has g c κs within = (c.args.hand.branch, c.of-key.ensures ∙ c.key.ensures, c.requires.ready.works.has)
 
 pub fork-requires-clause-fork : goal.fork-requires-clause-fork
 fork-requires-clause-fork g c =
@@ -56,15 +44,5 @@ replace-requires-clause-shares g c κs within =
     forked_shares s.found c.args.hand c.in-Ok.forked.choicepoint c.in-Ok.forked.left c.in-Ok.ensures.key c.in-Ok.ensures.begins
     c.requires.ready.shares
 
-pub give_up-requires-in-Err-clause-hand : goal.give_up-requires-in-Err-clause-hand
-give_up-requires-in-Err-clause-hand g c =
-    let s = c.args.self.now in
-    key_there g.N.Naming.program c.args.shared.now.tree.now s.pass c.args.hand.branch s.stack.items c.of-key.result.value
-    (c.of-key.ensures ∙ c.key.ensures) c.requires.ready.works.has
-
-pub returns-in-Err-clause-has : goal.returns-in-Err-clause-has
-returns-in-Err-clause-has g c =
-    let s = c.args.self.now in
-    has_ended_under g.N.Naming.program c.args.shared.now.tree.now c.of-key.result.value c.args.hand.branch s.stack.items plain.given_up
-    (is_last c.give_up-in-Err.result) s.pass c.give_up-in-Err.new.pass (c.of-key.ensures ∙ c.key.ensures) c.give_up-in-Err.ensures
-    c.requires.ready.works.has
+pub give_up_key-requires-in-Err-clause-has : goal.give_up_key-requires-in-Err-clause-has
+give_up_key-requires-in-Err-clause-has g c κs within = (c.args.hand.branch, c.of-key.ensures ∙ c.key.ensures, c.requires.ready.works.has)

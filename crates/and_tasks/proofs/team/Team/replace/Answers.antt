@@ -1,17 +1,15 @@
-use Rattle.std.proofs.Common.{◌∙◌, ◌∷◌, ap, sym, subst, refl}
+use Rattle.std.proofs.Common.{◌∙◌, ◌∷◌, Some, ap, sym, subst, refl}
 use Rattle.std.specs.Prelude.{Option}
 use Rattle.std.specs.Option.{option_or}
 use Rattle.and_model.specs.declared.goal.Cut.{Cut}
-use Rattle.std.proofs.lemmas.Result.{on_ok_weaker}
 use Rattle.and_cells.specs.Ranges.{NamedProgram}
 use Rattle.and_branch.specs.Children.{Fork}
 use Rattle.and_tree.specs.Passes.{TreeId}
-use Rattle.and_tasks.specs.Working.{Has, Works}
+use Rattle.and_tasks.specs.Working.{AreServed, Serves, Works, forked}
 use Rattle.and_tasks.specs.declared.stack.Level.{Level}
 use Rattle.and_tasks.specs.declared.stack.Task.TheVariants.{Children}
 use Rattle.and_tasks.proofs.Having.{key_there}
-use Rattle.and_tasks.proofs.Ready.{fork_at_work}
-use Rattle.and_tasks.proofs.Sharing.{has_either}
+use Rattle.and_tasks.proofs.ToldKeys.{begins_same}
 use Rattle.and_tasks.proofs.Turns.{begins_longer, few_children, few_in_hand, justified_fork, forked_works}
 use Rattle.and_tasks.proofs.team.Team.replace.Goals as goal
 
@@ -42,8 +40,8 @@ fork-requires-clause-few g c =
     few_in_hand P c.args.shared.now.tree.now s.pass f.parent s.stack.items f.clauses c.requires.works.has c.requires.few
     (few_children P c.args.shared.now.loaded.now f t o first c.requires.program state)
 
-pub put-requires-clause-has : goal.put-requires-clause-has
-put-requires-clause-has g c κs within =
+pub put_fork-requires-clause-works : goal.put_fork-requires-clause-works
+put_fork-requires-clause-works g c κs within =
     let P : NamedProgram = g.N.Naming.program in
     let tree : TreeId = c.args.shared.now.tree.now in
     let s = c.args.self.now in
@@ -52,52 +50,19 @@ put-requires-clause-has g c κs within =
     let (t, o, first, branch, are, is_cut, state) = c.requires.split in
     let counted = c.count_fork.ensures in
     let kept = c.keep_cut.ensures in
-    let forked = forked_works P tree s.pass c.fork.new.pass s.found c.keep_cut.new.self l s.stack.items t o first c.args.cut c.requires.works
+    subst (λ (m : Level g.row.N.Denot). Works P tree c.fork.new.pass c.keep_cut.new.self (Children m ∷ s.stack.items)) (sym c.new-level.ensures)
+    (forked_works P tree s.pass c.fork.new.pass s.found c.keep_cut.new.self l s.stack.items t o first c.args.cut c.requires.works
     branch are is_cut state (few_children P c.args.shared.now.loaded.now f t o first c.requires.program state) c.requires.told c.requires.length
     (c.of-longer.ensures ∙ c.key.ensures ∙ c.requires.key) (kept.rest ∙ counted.rest.1)
     (kept.counts.0 ∙ counted.forks) (kept.counts.1 ∙ counted.failed)
-    (kept.cut ∙ ap (λ (x : Option Cut). option_or x c.args.cut) counted.rest.0) c.fork.ensures in
-    (s.stack.items, subst (λ (k : Level g.row.N.Denot). Has P tree c.fork.new.pass (Children k ∷ s.stack.items)) (sym c.new-level.ensures) forked.has)
+    (kept.cut ∙ ap (λ (x : Option Cut). option_or x c.args.cut) counted.rest.0) c.fork.ensures)
 
-pub returns-clause-at_work : goal.returns-clause-at_work
-returns-clause-at_work g c =
-    let P : NamedProgram = g.N.Naming.program in
-    let tree : TreeId = c.args.shared.now.tree.now in
-    let s = c.args.self.now in
-    let f : Fork = c.args.forked.choicepoint in
-    let l : Level g.row.N.Denot = record { point = f; told = c.args.told; longer = c.of-longer.result } in
-    let (t, o, first, branch, are, is_cut, state) = c.requires.split in
-    let counted = c.count_fork.ensures in
-    let kept = c.keep_cut.ensures in
-    let forked = forked_works P tree s.pass c.fork.new.pass s.found c.keep_cut.new.self l s.stack.items t o first c.args.cut c.requires.works
-    branch are is_cut state (few_children P c.args.shared.now.loaded.now f t o first c.requires.program state) c.requires.told c.requires.length
-    (c.of-longer.ensures ∙ c.key.ensures ∙ c.requires.key) (kept.rest ∙ counted.rest.1)
-    (kept.counts.0 ∙ counted.forks) (kept.counts.1 ∙ counted.failed)
-    (kept.cut ∙ ap (λ (x : Option Cut). option_or x c.args.cut) counted.rest.0) c.fork.ensures in
-    let k : Level g.row.N.Denot = c.new-level.result in
-    let w = subst (λ (m : Level g.row.N.Denot). Works P tree c.fork.new.pass c.keep_cut.new.self (Children m ∷ s.stack.items))
-    (sym c.new-level.ensures) forked in
-    on_ok_weaker c.put.result
-    (fork_at_work P tree c.fork.new.pass c.keep_cut.new.self c.put.new.self.pass c.put.new.self.found l k c.args.forked.left s.stack.items
-    c.put.new.self.stack.items c.put.new.self.left w c.new-level.ensures c.requires.left c.requires.key c.requires.served c.put.ensures.same.1
-    c.put.ensures.same.2)
-    c.put.ensures.put
+pub put_fork-requires-clause-left : goal.put_fork-requires-clause-left
+put_fork-requires-clause-left g c κs within =
+    let left = c.args.forked.left in
+    subst (λ (m : Level g.row.N.Denot). Serves m left) (sym c.new-level.ensures)
+    (record { back = c.requires.left; begins = begins_same c.args.forked.choicepoint.longer left.key c.requires.key })
 
-pub returns-clause-has : goal.returns-clause-has
-returns-clause-has g c =
-    let P : NamedProgram = g.N.Naming.program in
-    let tree : TreeId = c.args.shared.now.tree.now in
-    let s = c.args.self.now in
-    let f : Fork = c.args.forked.choicepoint in
-    let l : Level g.row.N.Denot = record { point = f; told = c.args.told; longer = c.of-longer.result } in
-    let (t, o, first, branch, are, is_cut, state) = c.requires.split in
-    let counted = c.count_fork.ensures in
-    let kept = c.keep_cut.ensures in
-    let forked = forked_works P tree s.pass c.fork.new.pass s.found c.keep_cut.new.self l s.stack.items t o first c.args.cut c.requires.works
-    branch are is_cut state (few_children P c.args.shared.now.loaded.now f t o first c.requires.program state) c.requires.told c.requires.length
-    (c.of-longer.ensures ∙ c.key.ensures ∙ c.requires.key) (kept.rest ∙ counted.rest.1)
-    (kept.counts.0 ∙ counted.forks) (kept.counts.1 ∙ counted.failed)
-    (kept.cut ∙ ap (λ (x : Option Cut). option_or x c.args.cut) counted.rest.0) c.fork.ensures in
-    let w = subst (λ (k : Level g.row.N.Denot). Has P tree c.fork.new.pass (Children k ∷ s.stack.items)) (sym c.new-level.ensures) forked.has in
-    has_either P tree c.put.result c.fork.new.pass c.put.new.self.pass (Children c.new-level.result) s.stack.items c.put.new.self.stack.items w
-    c.put.ensures.put c.put.ensures.given_up
+pub put_fork-requires-clause-served : goal.put_fork-requires-clause-served
+put_fork-requires-clause-served g c κs within =
+    subst (λ (m : Level g.row.N.Denot). AreServed (Some (forked m)) c.args.self.now.stack.items) (sym c.new-level.ensures) c.requires.served

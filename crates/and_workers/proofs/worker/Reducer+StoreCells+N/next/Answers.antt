@@ -1,7 +1,7 @@
 use Rattle.std.proofs.Common.{◌<◌, List, [], subst, sym}
-use Rattle.and_suspend.specs.Waiting.{Waiting}
+use Rattle.and_workers.specs.Waiting.{Waiting}
 use Rattle.and_workers.specs.AtWork.{IsAtWork}
-use Rattle.and_handed.specs.declared.told.Told.{Told}
+use Rattle.and_handed.specs.declared.told.HandedOn.{HandedOn}
 use Rattle.and_workers.proofs.Working.{reads_at_work, waits_fewer, woken_leaves}
 use Rattle.and_store.specs.Worked.{seen_by}
 use Rattle.and_workers.proofs.worker.Reducer+StoreCells+N.next.Goals as goal
@@ -15,7 +15,7 @@ returns-in-None-clause-at_work g c =
     let told = c.take.new.self.told in
     let waiting = c.take.new.self.suspended in
     let work =
-    subst (λ (t : Told). IsAtWork P t [] waiting p) (sym c.take.ensures.0)
+    subst (λ (t : HandedOn). IsAtWork P t [] waiting p) (sym c.take.ensures.0)
     (subst (λ (ws : List Waiting). IsAtWork P c.args.self.now.told [] ws p) (sym c.take.ensures.1) c.requires) in
     waits_fewer P told [] waiting c.woken.new.self q
     (woken_leaves (λ (w : Waiting). w.cell < q.store.about.words) P c.woken.result waiting c.woken.new.self (seen_by p) (seen_by q) w.woken w.unchanged)

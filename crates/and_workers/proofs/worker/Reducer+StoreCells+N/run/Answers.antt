@@ -1,5 +1,5 @@
 use Rattle.std.proofs.Common.{refl, ◌∙◌}
-use Rattle.and_workers.proofs.Beginning.{work_is_handed_on, going_on, stopped}
+use Rattle.and_workers.proofs.AtWork.{work_is_handed_on, going_on, stopped}
 use Rattle.and_workers.proofs.worker.Reducer+StoreCells+N.run.Goals as goal
 
 pub loop-init : goal.loop-init

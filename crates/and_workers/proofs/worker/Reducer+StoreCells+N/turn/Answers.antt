@@ -1,5 +1,5 @@
 use Rattle.std.proofs.Common.{[], sym, ◌∙◌}
-use Rattle.and_workers.proofs.Beginning.{work_is_handed_on}
+use Rattle.and_workers.proofs.AtWork.{work_is_handed_on}
 use Rattle.and_workers.proofs.Working.{failed_at_work, handed_at_work, same_at_work, some_holds, none_holds}
 use Rattle.and_store.specs.Calls.{HandsOut}
 use Rattle.and_workers.proofs.worker.Reducer+StoreCells+N.turn.Goals as goal

@@ -1,5 +1,0 @@
-pub mod Leaving
-pub mod Opening
-pub mod Framing
-pub mod Branches
-pub mod Candidates

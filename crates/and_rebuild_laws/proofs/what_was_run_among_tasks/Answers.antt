@@ -1,5 +1,0 @@
-use Rattle.and_rebuild_laws.proofs.Leaving.{ran_among}
-use Rattle.and_rebuild_laws.proofs.what_was_run_among_tasks.Goals as goal
-
-pub returns : goal.returns
-returns c = λ es ds goals waits gone all left ran out l. ran_among es goals ds waits gone all left ran out l
