@@ -13,7 +13,7 @@ use std::alloc::{AllocError, Global};
 
 /// Where a token stands: at the beginning of a clause; within a clause that is no query; or within a query, which
 /// begins at that place.
-#[derive(Clone, Copy, PartialEq, Eq, Debug)]
+#[derive(Clone, Copy)]
 pub enum Place {
     Fresh,
     Inside,

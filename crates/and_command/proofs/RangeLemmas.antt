@@ -1,12 +1,12 @@
 -- What a command names is in its range.
-use Rattle.std.proofs.Common.{◌≡◌, ℕ, Bool, true, false, if◌then◌else◌, List, Option, Some, None, IfSome, refl, subst, arith}
+use Rattle.std.proofs.Common.{◌≡◌, ◌<◌, ℕ, Bool, true, false, if◌then◌else◌, List, Option, Some, None, IfSome, refl, subst, arith}
 use Rattle.std.specs.Prelude.{unwrap_or}
 use Rattle.std.specs.Option.{option_map}
 use Rattle.and_model.specs.Lines.{Bytes}
 use Rattle.and_command.specs.Options.{most_of, value_of}
 use Rattle.and_command.specs.Forms.{form_of, number_of}
 use Rattle.and_command.specs.Given.{nothing, first_given, with, with_value, with_number, with_stats, limit_of, jobs_of, hands_of, settings_of}
-use Rattle.and_command.specs.Commands.{Gives, ends, apart, joined, alone, flagged, IsCommand, IsWithin, AreInRange, IsInRange, made}
+use Rattle.and_command.specs.Commands.{Gives, ends, apart, joined, alone, flagged, IsCommand, IsWithin, AreBounded, IsInRange, made}
 use Rattle.and_command.specs.declared.options.Name.{Name}
 use Rattle.and_command.specs.declared.options.Name.TheVariants.{Limit, Jobs, Teams, Workers}
 use Rattle.and_command.specs.declared.forms.Form.{Form}
@@ -114,12 +114,13 @@ default_hands kinds.Batch = (omega arith, omega arith)
 default_hands kinds.First = (omega arith, omega arith)
 default_hands kinds.Lint = (omega arith, omega arith)
 
-settings_ranges : (form : Form) (g : Given) → IsWithin 1 8 (hands_of form) → HaveRanges form g → AreInRange (settings_of form g)
-settings_ranges form g hands have = (
-  or_else 1 4194304 262144 g.limit have.0 (omega arith, omega arith),
-  or_else 1 16 (hands_of form) g.teams have.2 (hands.0, omega (arith, hands.1)),
-  or_else 1 8 (hands_of form) g.workers have.3 hands,
-)
+settings_ranges : (form : Form) (g : Given) → IsWithin 1 8 (hands_of form) → HaveRanges form g → AreBounded (settings_of form g)
+settings_ranges form g hands have =
+    let teams = or_else 1 16 (hands_of form) g.teams have.2 (hands.0, omega (arith, hands.1)) in
+    let workers = or_else 1 8 (hands_of form) g.workers have.3 hands in
+    let some_team : 0 < unwrap_or g.teams (hands_of form) = omega (arith, teams.0) in
+    let some_worker : 0 < unwrap_or g.workers (hands_of form) = omega (arith, workers.0) in
+    (or_else 1 4194304 262144 g.limit have.0 (omega arith, omega arith), (some_team, teams.1, some_worker, workers.1))
 
 -- a command with a number
 pub numbered : (f : ℕ → Command) (o : Option ℕ) (command : Command) → option_map f o ≡ Some command

@@ -1,14 +1,11 @@
 -- The command of clap that is built is the one of specs/Values.
-use Rattle.std.proofs.Common.{◌≡◌, false, Some, ap, ◌∙◌}
+use Rattle.std.proofs.Common.{◌≡◌, Some, ap, ◌∙◌}
 use Rattle.std.specs.Borrow.{Bor}
 use Rattle.clap.specs.Walk.{Rule, Text, rule_of}
 use Rattle.clap.specs.declared.builder.action.ArgAction.{ArgAction}
 use Rattle.clap.specs.declared.builder.arg.Arg.{Arg}
 use Rattle.clap.specs.declared.builder.value_parser.ValueParser.{ValueParser}
-
--- the argument has this rule, and is not global
-abbrev pub IsArg : Arg → Rule → Type 0
-IsArg a r = (rule_of a ≡ r) × (a.global ≡ false)
+use Rattle.and_command.specs.Values.{IsArg}
 
 pub with_long : (a b : Arg) (r : Rule) (name : Bor Text) → b ≡ record a { long = Some name } → IsArg a r
     → IsArg b (record r { long = Some name.now })

@@ -1,6 +1,7 @@
 -- Which lists of words are commands, and with which values. All of it is this project's own.
 use Rattle.std.specs.Prelude.{ℕ, true, ◌≡◌, ◌≤◌, List, [], ◌∷◌, ◌++◌, Option, Some, codes}
 use Rattle.std.specs.Option.{option_map}
+use Rattle.and_model.specs.Limits.{AreInRange}
 use Rattle.and_model.specs.Lines.{Bytes}
 use Rattle.and_command.specs.Options.{name_text}
 use Rattle.and_command.specs.Forms.{kind_named, form_of, takes, number_of}
@@ -59,17 +60,18 @@ HasCommand words = (command : Command) × IsCommand words command
 abbrev pub IsWithin : ℕ → ℕ → ℕ → Type 0
 IsWithin least most n = (least ≤ n) × (n ≤ most)
 
-abbrev pub AreInRange : Settings → Type 0
-AreInRange s = IsWithin 1 4194304 s.limit × IsWithin 1 16 s.teams × IsWithin 1 8 s.workers
+-- the limit and who explores are in their ranges
+abbrev pub AreBounded : Settings → Type 0
+AreBounded s = IsWithin 1 4194304 s.limit × AreInRange s.hands
 
 -- what a command names is in its range
 abbrev pub IsInRange : Command → Type 0
-IsInRange (Run settings) = AreInRange settings
+IsInRange (Run settings) = AreBounded settings
 IsInRange Check = Unit {0}
-IsInRange (Demo n settings) = (n ≤ 64) × AreInRange settings
-IsInRange (Explain n settings) = IsWithin 1 1000000 n × AreInRange settings
+IsInRange (Demo n settings) = (n ≤ 64) × AreBounded settings
+IsInRange (Explain n settings) = IsWithin 1 1000000 n × AreBounded settings
 IsInRange Verify = Unit {0}
 IsInRange (Tree limit) = IsWithin 1 4194304 limit
-IsInRange (Batch jobs settings) = IsWithin 1 8 jobs × AreInRange settings
-IsInRange (First n settings) = IsWithin 1 1000000 n × AreInRange settings
+IsInRange (Batch jobs settings) = IsWithin 1 8 jobs × AreBounded settings
+IsInRange (First n settings) = IsWithin 1 1000000 n × AreBounded settings
 IsInRange Lint = Unit {0}

@@ -53,7 +53,6 @@ hands_of form = unwrap_or form.hands 1
 abbrev pub settings_of : Form → Given → Settings
 settings_of form g = record {
   limit = limit_of g;
-  teams = unwrap_or g.teams (hands_of form);
-  workers = unwrap_or g.workers (hands_of form);
+  hands = record { teams = unwrap_or g.teams (hands_of form); workers = unwrap_or g.workers (hands_of form) };
   stats = g.stats;
 }

@@ -1,11 +1,12 @@
 -- The values that clap finds in the words of a command. All of it is this project's own.
-use Rattle.std.specs.Prelude.{ℕ, ◌≡◌, ◌<◌, ◌^◌, true, List, ◌∷◌, length, Option, Some, None, codes, pos}
+use Rattle.std.specs.Prelude.{ℕ, ◌≡◌, ◌<◌, ◌^◌, true, false, List, ◌∷◌, length, Option, Some, None, codes, pos}
 use Rattle.std.specs.List.{list_all}
 use Rattle.std.specs.Char.{is_ascii_digit}
 use Rattle.std.specs.Str.Parse.{digits_value}
-use Rattle.clap.specs.Words.{App, Rule, new_app, new_rule, with_rule, one_text}
+use Rattle.clap.specs.Words.{App, Rule, new_app, new_rule, with_rule, rule_of, one_text}
 use Rattle.clap.specs.Values.{bool_text}
 use Rattle.clap.specs.declared.builder.action.ArgAction.TheVariants.{SetTrue}
+use Rattle.clap.specs.declared.builder.arg.Arg.{Arg}
 use Rattle.clap.specs.declared.builder.value_parser.ValueParser.{ValueParser}
 use Rattle.clap.specs.declared.builder.value_parser.ValueParser.TheVariants as parsers
 use Rattle.clap.specs.declared.parser.matches.Found.{Found}
@@ -31,8 +32,16 @@ id_of Jobs = codes "jobs"
 id_of Teams = codes "teams"
 id_of Workers = codes "workers"
 
+-- an option of that name, which has a number
+abbrev pub numbered : Bytes → Rule
+numbered id = record (new_rule id) { long = Some id; parser = Some any_number }
+
 abbrev pub option_rule : Name → Rule
-option_rule name = record (new_rule (id_of name)) { long = Some (id_of name); parser = Some any_number }
+option_rule name = numbered (id_of name)
+
+-- the argument has this rule, and is not global
+abbrev pub IsArg : Arg → Rule → Type 0
+IsArg arg rule = (rule_of arg ≡ rule) × (arg.global ≡ false)
 
 abbrev pub flag_rule : Rule
 flag_rule = record (new_rule (codes "stats")) { long = Some (codes "stats"); action = Some SetTrue }

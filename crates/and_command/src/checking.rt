@@ -7,7 +7,7 @@ use crate::forms::{Form, Kind, kind_named};
 use crate::options::{Name, value_of};
 
 /// What words have given so far, each at most once.
-#[derive(Clone, Copy, Debug, PartialEq, Eq)]
+#[derive(Clone, Copy)]
 pub struct Seen {
     /// A value of `--limit`.
     pub limit: bool,
@@ -24,7 +24,7 @@ pub struct Seen {
 }
 
 /// How far a check has come.
-#[derive(Clone, Copy, Debug, PartialEq, Eq)]
+#[derive(Clone, Copy)]
 pub struct Checked {
     /// What was seen so far.
     pub seen: Seen,

@@ -7,7 +7,7 @@ ghost use Rattle.and_command.specs.declared.forms.TheConstants.{USAGE};
 use crate::options::{Name, is_stats, name_of, number_in};
 
 /// What a command does.
-#[derive(Clone, Copy, Debug, PartialEq, Eq)]
+#[derive(Clone, Copy)]
 pub enum Kind {
     /// It answers a text.
     Run,
@@ -30,7 +30,7 @@ pub enum Kind {
 }
 
 /// A number that a command has.
-#[derive(Clone, Copy, Debug, PartialEq, Eq)]
+#[derive(Clone, Copy)]
 pub struct Number {
     /// What the usage line calls it.
     pub letter: char,
@@ -43,7 +43,7 @@ pub struct Number {
 }
 
 /// The words that a command may have behind its name.
-#[derive(Clone, Copy, Debug, PartialEq, Eq)]
+#[derive(Clone, Copy)]
 pub struct Form {
     /// The number that has to be there; `None` where there may be none.
     pub number: Option<Number>,

@@ -4,23 +4,21 @@ ghost use Rattle.std.specs.Prelude.{◌≡◌, None};
 ghost use Rattle.and_command.specs.Given as specs;
 
 use crate::forms::Form;
-use and_model::limits::DEFAULT_LIMIT;
+use and_model::limits::{DEFAULT_LIMIT, Hands};
 
 /// What bounds a run, and who works on it.
 #[derive(Clone, Copy, Debug, PartialEq, Eq)]
 pub struct Settings {
     /// The most that a proof may weigh.
     pub limit: u32,
-    /// How many teams explore.
-    pub teams: u32,
-    /// How many workers a team has.
-    pub workers: u32,
+    /// Who explores.
+    pub hands: Hands,
     /// Whether a run that is complete tells its counts.
     pub stats: bool,
 }
 
 /// What words give, each at most once.
-#[derive(Clone, Copy, Debug, PartialEq, Eq)]
+#[derive(Clone, Copy)]
 pub struct Given {
     /// The value of `--limit`.
     pub limit: Option<u32>,
@@ -55,11 +53,13 @@ impl Given {
     pub fn settings(self, form: Form) -> Settings
         ensures { result ≡ specs.settings_of form self }
     {
-        let hands = form.hands.unwrap_or(1);
+        let default = form.hands.unwrap_or(1);
         Settings {
-            limit: self.limit.unwrap_or(DEFAULT_LIMIT),
-            teams: self.teams.unwrap_or(hands),
-            workers: self.workers.unwrap_or(hands),
+            limit: self.limit(),
+            hands: Hands {
+                teams: self.teams.unwrap_or(default),
+                workers: self.workers.unwrap_or(default),
+            },
             stats: self.stats,
         }
     }

@@ -3,7 +3,7 @@
 ghost use Rattle.std.specs.Prelude.{◌≡◌, ℕ, Option, IfOk, map, string_bytes};
 ghost use Rattle.clap.specs.Words.{app_of, found_of, one_text};
 ghost use Rattle.and_command.specs.Values as specs;
-ghost use Rattle.and_command.specs.Values.{AreValues, Give, GiveSomething, IsTextOf};
+ghost use Rattle.and_command.specs.Values.{AreValues, Give, GiveSomething, IsArg, IsTextOf};
 
 use crate::forms::Kind;
 use crate::given::Given;
@@ -11,23 +11,24 @@ use clap::error::ErrorKind;
 use clap::{Arg, ArgAction, ArgMatches, value_parser};
 use std::alloc::{AllocError, Global};
 
+/// An option that has a number.
+fn option<'a>(alloc: Global, name: &'a str) -> Arg<'a>
+    ensures { IsArg result (specs.numbered name.entry.now) }
+{
+    Arg::new(alloc, name)
+        .long(name)
+        .value_parser(value_parser!(u32))
+}
+
 /// What reads the values of words that a command may have.
 fn reader<'a>(alloc: Global) -> Result<clap::Command<'a>, AllocError>
     ensures { IfOk result (λ reader. app_of reader ≡ specs.reader) }
 {
     let number = Arg::new(alloc, "number").value_parser(value_parser!(u32));
-    let limit = Arg::new(alloc, "limit")
-        .long("limit")
-        .value_parser(value_parser!(u32));
-    let jobs = Arg::new(alloc, "jobs")
-        .long("jobs")
-        .value_parser(value_parser!(u32));
-    let teams = Arg::new(alloc, "teams")
-        .long("teams")
-        .value_parser(value_parser!(u32));
-    let workers = Arg::new(alloc, "workers")
-        .long("workers")
-        .value_parser(value_parser!(u32));
+    let limit = option(alloc, "limit");
+    let jobs = option(alloc, "jobs");
+    let teams = option(alloc, "teams");
+    let workers = option(alloc, "workers");
     let stats = Arg::new(alloc, "stats")
         .long("stats")
         .action(ArgAction::SetTrue);

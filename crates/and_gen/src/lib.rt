@@ -1,13 +1,16 @@
 //! The generated text: a graph of three rails, and the question for all its paths.
 //!
 //! Its user calls [`layered`]. A path goes forward along a rail or across to the next one, so the
-//! text for n has (n + 1)(n + 2)/2 answers.
+//! text for n has (n + 1)(n + 2)/2 answers. That it is a text of the language is a law ([`laws`]).
 #![tactic(auto)]
 
 ghost use Rattle.std.specs.Prelude.{◌≡◌, ◌<◌, ◌≤◌, ◌↔◌, ◌++◌, Some, IfOk, OnOk, IsErrOf};
 ghost use Rattle.and_gen.specs.Layered as specs;
 
+pub mod laws;
+
 use and_model::Text;
+pub use laws::generated_texts_are_read;
 use std::alloc::{AllocError, Global};
 use std::fmt;
 

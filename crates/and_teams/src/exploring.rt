@@ -4,7 +4,7 @@ ghost use Rattle.std.specs.Prelude.{◌≡◌, ◌<◌, ◌≤◌, [], ◌∷◌
 ghost use Rattle.std.specs.Thread.{IsSync};
 ghost use Rattle.and_model.specs.declared.goal.Cut.{Cut};
 ghost use Rattle.and_model.specs.declared.limits.TheConstants.{MAX_LIMIT};
-ghost use Rattle.and_model.specs.Limits.{query_alone};
+ghost use Rattle.and_model.specs.Limits.{AreInRange, query_alone};
 ghost use Rattle.and_model.specs.Programs.{clause_weight};
 ghost use Rattle.and_program.specs.Loaded.{program_of};
 ghost use Rattle.and_cells.specs.Parts.{named};
@@ -25,6 +25,7 @@ use and_branch::{Branch, Rooted, Workspace};
 use and_cells::Naming;
 use and_clause_index::Determinacy;
 use and_gate::Gate;
+use and_model::limits::Hands;
 use and_program::Loaded;
 use and_tasks::{PlacedBranch, Shared, Team};
 use and_tree::{ClosedTree, Tree, TreePassList};
@@ -33,17 +34,6 @@ use std::marker::Brand;
 use std::sync::Wait;
 use std::thread;
 use std::thread::Threads;
-
-/// How a program is explored.
-#[derive(Clone, Copy, PartialEq, Eq, Debug)]
-pub struct Settings {
-    /// The most that a proof may weigh.
-    pub limit: u32,
-    /// How many teams there are.
-    pub teams: u32,
-    /// How many workers each team has.
-    pub workers: u32,
-}
 
 /// What a search found.
 #[derive(Drop)]
@@ -62,18 +52,18 @@ pub fn explore<R: Threads + Wait + Sync, G: Gate>(
     alloc: Global,
     loaded: &Loaded,
     table: &Determinacy,
-    settings: Settings,
+    limit: u32,
+    hands: Hands,
     gate: &G,
 ) -> Result<Explored, AllocError>
     requires table { IsTableOf (named loaded.now) table.now }
-    requires limit { settings.limit ≤ MAX_LIMIT }
-    requires teams { (0 < settings.teams) × (settings.teams ≤ 16) }
-    requires workers { (0 < settings.workers) × (settings.workers ≤ 8) }
-    ensures found { IfOk result (λ explored. IsFound (program_of loaded.now) settings.limit explored.found) }
+    requires limit { limit ≤ MAX_LIMIT }
+    requires hands { AreInRange hands }
+    ensures found { IfOk result (λ explored. IsFound (program_of loaded.now) limit explored.found) }
     ensures closed { IfOk result
-        (λ explored. IsRunOf (program_of loaded.now) settings.limit settings.teams explored.found explored.closed) }
+        (λ explored. IsRunOf (program_of loaded.now) limit hands.teams explored.found explored.closed) }
 {
-    explore_named::<Brand, R, G>(rt, alloc, loaded, table, settings, gate)
+    explore_named::<Brand, R, G>(rt, alloc, loaded, table, limit, hands, gate)
 }
 
 /// All answers of a program within a limit, by so many teams. An error is want of memory.
@@ -82,20 +72,22 @@ fn explore_named<N: Naming + Send + Sync, R: Threads + Wait + Sync, G: Gate>(
     alloc: Global,
     loaded: &Loaded,
     table: &Determinacy,
-    settings: Settings,
+    limit: u32,
+    hands: Hands,
     gate: &G,
 ) -> Result<Explored, AllocError>
     requires program { N.program ≡ named loaded.now }
     requires table { IsTableOf N.program table.now }
-    requires limit { settings.limit ≤ MAX_LIMIT }
-    requires teams { (0 < settings.teams) × (settings.teams ≤ 16) }
-    requires workers { (0 < settings.workers) × (settings.workers ≤ 8) }
-    ensures found { IfOk result (λ explored. IsFound N.program.program settings.limit explored.found) }
+    requires limit { limit ≤ MAX_LIMIT }
+    requires hands { AreInRange hands }
+    ensures found { IfOk result (λ explored. IsFound N.program.program limit explored.found) }
     ensures closed { IfOk result
-        (λ explored. IsRunOf N.program.program settings.limit settings.teams explored.found explored.closed) }
+        (λ explored. IsRunOf N.program.program limit hands.teams explored.found explored.closed) }
 {
-    match rooted::<N>(alloc, loaded, settings.limit) {
-        Rooted::Ready(branch) => { explore_root(rt, alloc, loaded, table, settings, gate, branch) }
+    match rooted::<N>(alloc, loaded, limit) {
+        Rooted::Ready(branch) => {
+            explore_root(rt, alloc, loaded, table, limit, hands, gate, branch)
+        }
         Rooted::TooHeavy(cut) => {
             let mut found = Found::new(alloc);
             found.cut = Some(cut);
@@ -131,26 +123,22 @@ fn explore_root<N: Naming + Send + Sync, R: Threads + Wait + Sync, G: Gate>(
     alloc: Global,
     loaded: &Loaded,
     table: &Determinacy,
-    settings: Settings,
+    limit: u32,
+    hands: Hands,
     gate: &G,
     branch: Branch<N>,
 ) -> Result<Explored, AllocError>
     requires program { N.program ≡ named loaded.now }
     requires table { IsTableOf N.program table.now }
-    requires limit { settings.limit ≤ MAX_LIMIT }
-    requires teams { (0 < settings.teams) × (settings.teams ≤ 16) }
-    requires workers { (0 < settings.workers) × (settings.workers ≤ 8) }
+    requires limit { limit ≤ MAX_LIMIT }
+    requires hands { AreInRange hands }
     requires root { IsBranchOf N.program branch (blank (query_agenda N.program.program)) }
-    requires plain { (branch.key ≡ []) × (branch.limit ≡ settings.limit) }
-    ensures found { IfOk result (λ explored. IsFound N.program.program settings.limit explored.found) }
+    requires plain { (branch.key ≡ []) × (branch.limit ≡ limit) }
+    ensures found { IfOk result (λ explored. IsFound N.program.program limit explored.found) }
     ensures closed { IfOk result
-        (λ explored. IsRunOf N.program.program settings.limit settings.teams explored.found explored.closed) }
+        (λ explored. IsRunOf N.program.program limit hands.teams explored.found explored.closed) }
 {
-    let Settings {
-        limit,
-        teams,
-        workers,
-    } = settings;
+    let Hands { teams, workers } = hands;
     let root = PlacedBranch { branch };
     let Ok((tree, passes)) = Tree::open(alloc, teams, limit, root) else {
         return Err(AllocError);

@@ -10,5 +10,5 @@ pub mod laws;
 mod turning;
 mod work;
 
-pub use exploring::{Explored, Settings, explore};
+pub use exploring::{Explored, explore};
 pub use laws::explorations_agree;

@@ -28,6 +28,7 @@ use and_modes::verdicts::Verdict;
 use and_program::Loaded;
 use and_reader::{ReadRefusal, read_program, refusal_text};
 use std::alloc::{AllocError, Global};
+use std::mem::forget;
 use std::snapshot::Snapshot;
 
 /// What a text is answered with, and the status of that.
@@ -223,6 +224,28 @@ fn reply_to<F: Fn(&Loaded, u32, Option<u32>) -> Result<Found, AllocError>, G: Ga
     }
 }
 
+/// What a program is answered with that is not wanted again. It is not let go of piece by piece: a process ends behind
+/// its reply, and gives back all at once.
+fn reply_at_last<F: Fn(&Loaded, u32, Option<u32>) -> Result<Found, AllocError>, G: Gate>(
+    search: &F,
+    gate: &G,
+    alloc: Global,
+    question: Question,
+    bytes: &[u8],
+    loaded: Loaded,
+) -> Result<Reply, AllocError>
+    requires bounded { IsBounded question }
+    requires callable { (l : _) (n : ℕ) (o : _) → n ≤ MAX_LIMIT → F.pre search.now l n o }
+    requires finds { (l : _) (n : ℕ) (o : _) (found : _) → n ≤ MAX_LIMIT → F.post search.now l n o found
+        → IfOk found (Finds (program_of l.now) n o) }
+    ensures { (program : _) → IsLifted program (program_of loaded)
+        → IfOk result (λ reply. IsReply question bytes.now program reply.status reply.text) }
+{
+    let reply = reply_to(search, gate, alloc, question, bytes, &loaded);
+    forget(loaded);
+    reply
+}
+
 /// The answer to bytes that are refused. An error is want of memory.
 pub fn refused(alloc: Global, refusal: ReadRefusal) -> Result<Reply, AllocError>
     ensures status { IfOk result (λ reply. reply.status ≡ Status.Refused) }
@@ -253,7 +276,7 @@ pub fn answer_to<F: Fn(&Loaded, u32, Option<u32>) -> Result<Found, AllocError>, 
     ensures { IfOk result (λ reply. WasAnswered question reply.status text.now reply.text) }
 {
     match read_program(alloc, text) {
-        Ok(loaded) => reply_to(search, gate, alloc, question, text, &loaded),
+        Ok(loaded) => reply_at_last(search, gate, alloc, question, text, loaded),
         Err(refusal) => refused(alloc, refusal),
     }
 }

@@ -137,7 +137,7 @@ impl Trade for QueryJob<'_> {
 }
 
 /// Which statuses parts have had.
-#[derive(Clone, Copy, Debug, PartialEq, Eq)]
+#[derive(Clone, Copy)]
 struct Seen {
     limit: bool,
     floundered: bool,

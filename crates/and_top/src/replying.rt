@@ -3,6 +3,7 @@
 ghost use Rattle.std.specs.Prelude.{◌≡◌, ◌≤◌, IfOk, IfSome};
 ghost use Rattle.and_cells.specs.Parts.{named};
 ghost use Rattle.and_clause_index.specs.Tables.{IsTableOf};
+ghost use Rattle.and_model.specs.Limits.{AreInRange};
 ghost use Rattle.and_model.specs.declared.limits.TheConstants.{MAX_LIMIT};
 ghost use Rattle.and_program.specs.Loaded.{program_of};
 ghost use Rattle.and_search_laws.specs.Found.{IsFound};
@@ -13,10 +14,11 @@ ghost use Rattle.and_top.specs.Top.{IsAllowed, IsAnswer, IsBounded, IsRunOf, Was
 use crate::answering::{Reply, answer_to};
 use crate::batches::{batched, batched_by};
 use crate::question::{Question, Request};
-use crate::searching::{Hands, explored_by, found_alone, found_by};
+use crate::searching::{explored_by, found_alone, found_by};
 use crate::verifying::verified;
 use and_clause_index::Determinacy;
 use and_gate::Gate;
+use and_model::limits::Hands;
 use and_program::Loaded;
 use and_walk::walk_watched;
 use std::alloc::{AllocError, Global};
@@ -84,11 +86,12 @@ fn text_together<R: Threads + Wait + Sync, G: Gate>(
     hands: Hands,
     gate: &G,
 ) -> Result<Reply, AllocError>
-    requires { IsBounded question }
+    requires question { IsBounded question }
+    requires hands { AreInRange hands }
     ensures { IfOk result (λ reply. WasAnswered question reply.status bytes.now reply.text) }
 {
     let together = |loaded: &Loaded, limit: u32, wanted: Option<u32>|
-        requires { limit ≤ MAX_LIMIT }
+        requires { (limit ≤ MAX_LIMIT) × AreInRange hands }
         ensures { IfOk result (Finds (program_of loaded.now) limit wanted) }
     { found_by(rt, alloc, loaded, limit, wanted, hands, gate) };
     answer_to(&together, gate, alloc, question, bytes)
@@ -104,11 +107,12 @@ fn batch_together<R: Threads + Wait + Sync, G: Gate>(
     hands: Hands,
     gate: &G,
 ) -> Result<Reply, AllocError>
-    requires { limit ≤ MAX_LIMIT }
+    requires limit { limit ≤ MAX_LIMIT }
+    requires hands { AreInRange hands }
     ensures { IfOk result (λ reply. WasBatched (IsRunOf limit) reply.status bytes.now reply.text) }
 {
     let together = |loaded: &Loaded, table: &Determinacy, limit: u32|
-        requires { IsTableOf (named loaded.now) table.now × (limit ≤ MAX_LIMIT) }
+        requires { IsTableOf (named loaded.now) table.now × (limit ≤ MAX_LIMIT) × AreInRange hands }
         ensures { IfOk result (IsFound (program_of loaded.now) limit) }
     { explored_by(rt, alloc, loaded, table, limit, hands, gate) };
     batched(&together, alloc, limit, bytes)
@@ -123,7 +127,8 @@ fn answered_together<R: Threads + Wait + Sync, G: Gate>(
     hands: Hands,
     gate: &G,
 ) -> Result<Reply, AllocError>
-    requires { IsAllowed request }
+    requires request { IsAllowed request }
+    requires hands { AreInRange hands }
     ensures { IfOk result (λ reply. IsAnswer request reply.status bytes.now reply.text) }
 {
     match request {
@@ -159,7 +164,8 @@ pub fn answered_by<R: Threads + Wait + Sync, G: Gate>(
     hands: Hands,
     gate: &G,
 ) -> Result<Reply, AllocError>
-    requires { IsAllowed request }
+    requires request { IsAllowed request }
+    requires hands { AreInRange hands }
     ensures { IfOk result (λ reply. IsAnswer request reply.status bytes.now reply.text) }
 {
     match jobs_in(request, hands) {

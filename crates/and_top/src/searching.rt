@@ -1,8 +1,9 @@
 //! Who searches a program for its answers.
 
-ghost use Rattle.std.specs.Prelude.{◌≤◌, ◌<◌, length, IfOk};
+ghost use Rattle.std.specs.Prelude.{◌≤◌, length, IfOk};
 ghost use Rattle.and_cells.specs.Parts.{named};
 ghost use Rattle.and_clause_index.specs.Tables.{IsTableOf};
+ghost use Rattle.and_model.specs.Limits.{AreInRange};
 ghost use Rattle.and_model.specs.declared.limits.TheConstants.{MAX_LIMIT};
 ghost use Rattle.and_program.specs.Loaded.{program_of};
 ghost use Rattle.and_answers.specs.Kept.{listed};
@@ -12,21 +13,13 @@ ghost use Rattle.and_top.specs.Finding.{Finds};
 use and_answers::{Found, Latest};
 use and_clause_index::{Determinacy, compile};
 use and_gate::Gate;
+use and_model::limits::Hands;
 use and_program::Loaded;
-use and_teams::{Explored, Settings, explore};
+use and_teams::{Explored, explore};
 use and_walk::{walk_first, walk_to, walk_watched};
 use std::alloc::{AllocError, Global};
 use std::sync::Wait;
 use std::thread::Threads;
-
-/// Several workers: so many teams of so many.
-#[derive(Clone, Copy)]
-pub struct Hands {
-    pub(crate) teams: u32,
-    pub(crate) workers: u32,
-    ghost few: { (0 < teams) × (teams ≤ 16) },
-    ghost few_workers: { (0 < workers) × (workers ≤ 8) },
-}
 
 /// All answers of a program within a limit, in the order of their codes, and how the search ended, by its table and
 /// these workers. An error is want of memory.
@@ -41,14 +34,10 @@ pub fn explored_by<R: Threads + Wait + Sync, G: Gate>(
 ) -> Result<Found, AllocError>
     requires table { IsTableOf (named loaded.now) table.now }
     requires limit { limit ≤ MAX_LIMIT }
+    requires hands { AreInRange hands }
     ensures { IfOk result (IsFound (program_of loaded.now) limit) }
 {
-    let settings = Settings {
-        limit,
-        teams: hands.teams,
-        workers: hands.workers,
-    };
-    let explored = explore(rt, alloc, loaded, table, settings, gate)?;
+    let explored = explore(rt, alloc, loaded, table, limit, hands, gate)?;
     let Explored { found, closed: _ } = explored;
     Ok(found)
 }
@@ -64,7 +53,8 @@ pub fn found_by<R: Threads + Wait + Sync, G: Gate>(
     hands: Hands,
     gate: &G,
 ) -> Result<Found, AllocError>
-    requires { limit ≤ MAX_LIMIT }
+    requires limit { limit ≤ MAX_LIMIT }
+    requires hands { AreInRange hands }
     ensures { IfOk result (Finds (program_of loaded.now) limit wanted) }
 {
     let table = compile(alloc, loaded)?;

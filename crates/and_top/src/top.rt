@@ -1,7 +1,8 @@
 //! The top call.
 
-ghost use Rattle.std.specs.Prelude.{◌≡◌, ◌≢◌, ◌↔◌, IfOk, IsNone, map, string_bytes};
-ghost use Rattle.and_command.specs.Commands.{AreInRange, IsInRange};
+ghost use Rattle.std.specs.Prelude.{◌≡◌, ◌≢◌, ◌↔◌, IfOk, IfSome, IsNone, map, string_bytes};
+ghost use Rattle.and_command.specs.Commands.{IsInRange};
+ghost use Rattle.and_model.specs.Limits.{AreInRange};
 ghost use Rattle.and_top.specs.Obeyed.{Blames, Does, IsWork, Obeys};
 ghost use Rattle.and_top.specs.Top.{IsAllowed, IsAnswer};
 
@@ -9,13 +10,13 @@ use crate::answering::Reply;
 use crate::asking::{ask, demo, finish};
 use crate::question::Request;
 use crate::replying::{answered_alone, answered_by};
-use crate::searching::Hands;
 use crate::status::Status;
 use crate::watching::Watcher;
 use crate::work::{Work, work_of};
-use and_command::{Command, Settings, USAGE, command_of};
+use and_command::{Command, USAGE, command_of};
 use and_gate::Gate;
 use and_io::{Sink, Source};
+use and_model::limits::Hands;
 use std::alloc::{AllocError, Global};
 use std::sync::Wait;
 use std::thread::Threads;
@@ -64,50 +65,46 @@ fn obey<A: Fn(Request, &[u8]) -> Result<Reply, AllocError>, W: Watcher, S: Sourc
     }
 }
 
-/// The workers that these settings ask for; `None` where one is enough.
-fn hands_for(settings: Settings) -> Option<Hands>
-    requires { AreInRange settings }
-    ensures { IsNone result ↔ ((settings.teams ≡ 1) × (settings.workers ≡ 1)) }
+/// These, where they are several; `None` where one worker is asked for.
+fn several(hands: Hands) -> Option<Hands>
+    requires { AreInRange hands }
+    ensures none { IsNone result ↔ ((hands.teams ≡ 1) × (hands.workers ≡ 1)) }
+    ensures in_range { IfSome result AreInRange }
 {
-    let teams = settings.teams;
-    let workers = settings.workers;
-    if teams == 1 && workers == 1 {
+    if hands.teams == 1 && hands.workers == 1 {
         return None;
     }
-    Some(Hands { teams, workers })
-}
-
-/// The workers that a batch of so many jobs asks for; `None` where one is enough.
-fn hands_for_batch(jobs: u32, settings: Settings) -> Option<Hands>
-    requires { AreInRange settings }
-{
-    if jobs == 1 {
-        return hands_for(settings);
-    }
-    let teams = settings.teams;
-    let workers = settings.workers;
-    Some(Hands { teams, workers })
+    Some(hands)
 }
 
 /// The workers that a command asks for; `None` where one is enough, or nothing is searched.
 fn hands_in(command: Command) -> Option<Hands>
     requires { IsInRange command }
+    ensures { IfSome result AreInRange }
 {
     match command {
-        Command::Run { settings } => hands_for(settings),
+        Command::Run { settings } => several(settings.hands),
         Command::Demo {
             number: _,
             settings,
-        } => hands_for(settings),
-        Command::Explain { place: _, settings } => hands_for(settings),
-        Command::First { count: _, settings } => hands_for(settings),
-        Command::Batch { jobs, settings } => hands_for_batch(jobs, settings),
+        } => several(settings.hands),
+        Command::Explain { place: _, settings } => several(settings.hands),
+        Command::First { count: _, settings } => several(settings.hands),
+        Command::Batch { jobs, settings } => {
+            if jobs == 1 {
+                return several(settings.hands);
+            }
+            // Several jobs are several workers, whatever the hands of each.
+            Some(settings.hands)
+        }
         Command::Check | Command::Verify | Command::Tree { limit: _ } | Command::Lint => None,
     }
 }
 
 /// The workers that these words ask for; `None` where one is enough, or nothing is searched.
-fn hands_of(alloc: Global, words: &[String]) -> Option<Hands> {
+fn hands_of(alloc: Global, words: &[String]) -> Option<Hands>
+    ensures { IfSome result AreInRange }
+{
     match command_of(alloc, words) {
         Ok(Some(command)) => hands_in(command),
         Ok(None) => None,
@@ -146,10 +143,11 @@ fn andorra_by<R: Threads + Wait + Sync, S: Source, K: Sink, G: Gate + Watcher>(
     sink: &mut K,
     gate: &G,
 ) -> Status
+    requires { AreInRange hands }
     ensures { Obeys S.Source K.Sink result source.old source.new sink.old sink.new (map string_bytes words.now) }
 {
     let together = |request: Request, bytes: &[u8]|
-        requires { IsAllowed request }
+        requires { IsAllowed request × AreInRange hands }
         ensures { IfOk result (λ reply. IsAnswer request reply.status bytes.now reply.text) }
     { answered_by(rt, alloc, request, bytes, hands, gate) };
     obey(&together, gate, alloc, words, source, sink)

@@ -9,7 +9,7 @@ use and_reader::{Cause, ReadRefusal, read_program, refusal_text};
 use std::alloc::{AllocError, Global};
 
 /// A piece of a text: its bytes stand from `start` up to `end`.
-#[derive(Clone, Copy, Debug, PartialEq, Eq)]
+#[derive(Clone, Copy)]
 pub struct Piece {
     pub start: usize,
     pub end: usize,

@@ -17,7 +17,7 @@ const PACE: u64 = 1024;
 const FIRST: u64 = 2;
 
 /// What is told of a run.
-#[derive(Clone, Copy, Debug, PartialEq, Eq)]
+#[derive(Clone, Copy)]
 pub struct Told {
     /// How long it has taken so far.
     pub time: Duration,

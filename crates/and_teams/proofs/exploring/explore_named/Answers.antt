@@ -13,7 +13,7 @@ explore_root-requires-clause-plain g c κs within = let plain = c.in-Ready.ensur
 pub returns-in-TooHeavy-clause-found : goal.returns-in-TooHeavy-clause-found
 returns-in-TooHeavy-clause-found g c =
     let cut = c.in-TooHeavy.cut in
-    alone g.N.Naming.program c.args.settings.limit _ cut c.new-found.ensures.entries refl (c.in-TooHeavy.ensures.heavy cut refl)
+    alone g.N.Naming.program c.args.limit _ cut c.new-found.ensures.entries refl (c.in-TooHeavy.ensures.heavy cut refl)
     (c.in-TooHeavy.ensures.cut cut refl)
 
 pub returns-in-TooHeavy-clause-closed : goal.returns-in-TooHeavy-clause-closed

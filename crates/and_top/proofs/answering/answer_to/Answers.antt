@@ -10,4 +10,4 @@ returns-in-Err g c =
 
 pub returns-in-Ok : goal.returns-in-Ok
 returns-in-Ok g c =
-    answered_by c.args.question (program_of c.in-Ok.loaded) c.reply_to.result c.args.text.now c.in-Ok.ensures.program c.reply_to.ensures
+    answered_by c.args.question (program_of c.in-Ok.loaded) c.reply_at_last.result c.args.text.now c.in-Ok.ensures.program c.reply_at_last.ensures

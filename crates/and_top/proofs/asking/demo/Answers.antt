@@ -1,5 +1,5 @@
 use Rattle.std.proofs.Common.{◌≡◌, ap, ◌∙◌, subst}
-use Rattle.and_gen_laws.proofs.Reading.{generated_is_read}
+use Rattle.and_gen.proofs.Reading.{generated_is_read}
 use Rattle.and_top.specs.declared.question.Question.TheVariants.{Run}
 use Rattle.and_top.specs.declared.question.Request.{Request}
 use Rattle.and_top.specs.declared.question.Request.TheVariants.{Text}

@@ -14,10 +14,10 @@ use Rattle.and_syntax.specs.Tables.{program_of}
 use Rattle.and_language.specs.Tokens as tokens
 use Rattle.and_language.specs.Refusals.{Reads}
 use Rattle.and_gen.specs.Layered as generated
-use Rattle.and_gen_laws.proofs.Pieces.{have_tokens, are_words, placed_of, tokens_of, no_gap, newline}
-use Rattle.and_gen_laws.proofs.Lines.{Edge, Line, edge, ends, goes_on, asks, line_text, IsSmall}
-use Rattle.and_gen_laws.proofs.Texts.{text, all_pieces, all_spelled, AllSmall, all_fit, statements, is_text}
-use Rattle.and_gen_laws.proofs.Taken.{lines_of, all_taken}
+use Rattle.and_gen.proofs.Pieces.{have_tokens, are_words, placed_of, tokens_of, no_gap, newline}
+use Rattle.and_gen.proofs.Lines.{Edge, Line, edge, ends, goes_on, asks, line_text, IsSmall}
+use Rattle.and_gen.proofs.Texts.{text, all_pieces, all_spelled, AllSmall, all_fit, statements, is_text}
+use Rattle.and_gen.proofs.Taken.{lines_of, all_taken}
 
 -- Bytes of a text are few, and ASCII.
 abbrev all_ascii : Bytes → Bool

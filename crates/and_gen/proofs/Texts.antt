@@ -4,8 +4,8 @@ use Rattle.and_model.specs.Lines.{Bytes}
 use Rattle.and_language.specs.Words.{Placed}
 use Rattle.and_language.specs.Grammar.{clause, query, Statement, IsText}
 use Rattle.and_automaton.proofs.Texts.{statement, joined, one_clause}
-use Rattle.and_gen_laws.proofs.Pieces.{Piece, text_of, AllFit, placed_of, after, text-append, placed-append, fit-append, IsGap, newline}
-use Rattle.and_gen_laws.proofs.Lines.{Line, edge, ends, goes_on, asks, line_text, pieces, IsSmall, spelled, fit, line_term, sort_in, runs}
+use Rattle.and_gen.proofs.Pieces.{Piece, text_of, AllFit, placed_of, after, text-append, placed-append, fit-append, IsGap, newline}
+use Rattle.and_gen.proofs.Lines.{Line, edge, ends, goes_on, asks, line_text, pieces, IsSmall, spelled, fit, line_term, sort_in, runs}
 
 -- the bytes of lines, each with a newline
 abbrev pub text : List Line → Bytes

@@ -7,9 +7,9 @@ use Rattle.and_syntax.specs.Written.{Written, Many}
 use Rattle.and_language.specs.Grammar.{Sort, clause, query}
 use Rattle.and_automaton.specs.Machine.{start, over, run, words_of}
 use Rattle.and_gen.specs.Layered as generated
-use Rattle.and_gen_laws.proofs.Pieces.{Piece, text_of, AllFit, placed_of, IsGap, no_gap, blank, named, signed, variable, number, opening, closing, open_list}
-use Rattle.and_gen_laws.proofs.Pieces.{close_list, comma, bar, stop, fits_name, fits_variable, fits_symbol, fits_number, fits_open, fits_close}
-use Rattle.and_gen_laws.proofs.Pieces.{fits_open_list, fits_close_list, fits_comma, fits_bar, fits_stop}
+use Rattle.and_gen.proofs.Pieces.{Piece, text_of, AllFit, placed_of, IsGap, no_gap, blank, named, signed, variable, number, opening, closing, open_list}
+use Rattle.and_gen.proofs.Pieces.{close_list, comma, bar, stop, fits_name, fits_variable, fits_symbol, fits_number, fits_open, fits_close}
+use Rattle.and_gen.proofs.Pieces.{fits_open_list, fits_close_list, fits_comma, fits_bar, fits_stop}
 
 -- an edge between two places
 pub record Edge : Type 0 where

@@ -1,9 +1,8 @@
 //! The law of the generated text: it is a text of the language, so that no reader refuses it.
 //!
-//! Each function here does nothing. Its contract is a law, and its proof stands in `proofs/`: the
+//! The function here does nothing. Its contract is a law, and its proof stands in `proofs/`: the
 //! text line by line as tokens (`Pieces`, `Lines`), as a text of the grammar (`Texts`), and as
 //! clauses that a table takes one after another (`Taken`).
-#![tactic(auto)]
 
 ghost use Rattle.std.specs.Prelude.{ℕ, ◌≤◌};
 ghost use Rattle.and_source.specs.Source.{SourceProgram};

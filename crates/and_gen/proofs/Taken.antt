@@ -15,9 +15,9 @@ use Rattle.and_language.specs.Grammar.{Statement}
 use Rattle.and_language.specs.Refusals.{Takes, statement_fault, with_statement}
 use Rattle.and_language.specs.Refusals as refusals
 use Rattle.and_model.specs.declared.limits.TheConstants.{MAX_CLAUSES, MAX_NODES}
-use Rattle.and_gen_laws.proofs.Pieces.{after}
-use Rattle.and_gen_laws.proofs.Lines.{Edge, Line, edge, ends, goes_on, asks, pieces, line_term, sort_in}
-use Rattle.and_gen_laws.proofs.Texts.{statements}
+use Rattle.and_gen.proofs.Pieces.{after}
+use Rattle.and_gen.proofs.Lines.{Edge, Line, edge, ends, goes_on, asks, pieces, line_term, sort_in}
+use Rattle.and_gen.proofs.Texts.{statements}
 
 -- edges, what a path is, and the question
 abbrev pub lines_of : List Edge → ℕ → List Line

@@ -7,7 +7,7 @@ use Rattle.std.proofs.lemmas.List.{drop-drop, take_all}
 use Rattle.std.proofs.Math.Seq.{drop-append_seam, take-append_seam}
 use Rattle.std.specs.Fmt.{decimal}
 use Rattle.and_model.specs.Lines.{Bytes, is_word, is_symbol, is_plain_name, begins_comment}
-use Rattle.and_gen_laws.proofs.Numbers.{numeral_of, numeral_separated}
+use Rattle.and_gen.proofs.Numbers.{numeral_of, numeral_separated}
 use Rattle.and_language.specs.Tokens.{Kind, Token, Answer, no_more, one, Separates, is_separated, is_some, IsToken, Next, finished, read, Comes, HasTokens}
 use Rattle.and_language.specs.Tokens.{no_token, token, begins, is_variable, is_digit, is_run, is_impure, goes_on, ends_clause}
 use Rattle.and_language.specs.Tokens as tokens

@@ -1,5 +1,0 @@
-use Rattle.and_gen_laws.proofs.Reading.{generated_is_read}
-use Rattle.and_gen_laws.proofs.generated_texts_are_read.Goals as goal
-
-pub returns : goal.returns
-returns c = generated_is_read
