@@ -1,5 +1,6 @@
 -- What the machine accepts, the grammar derives.
-use Rattle.std.proofs.Common.{ℕ, suc, ◌+◌, ◌≡◌, ◌<◌, Bool, true, false, true≢false, cond, ◌||◌, List, [], ◌∷◌, length, Option, Some, None, refl, ap, sym, ◌∙◌, subst, zero-add, arith}
+use Rattle.std.proofs.Common.{ℕ, suc, ◌+◌, ◌≡◌, ◌<◌, Bool, true, false, true≢false, cond, List, [], ◌∷◌, length, Option, Some, None, refl, ap, sym, ◌∙◌}
+use Rattle.std.proofs.Common.{subst, zero-add, arith}
 use Rattle.std.specs.Prelude.{leb, codes}
 use Rattle.std.specs.Str.{bytes_eq}
 use Rattle.std.proofs.lemmas.Bool.{leb-false}
@@ -7,10 +8,16 @@ use Rattle.std.proofs.lemmas.Slice.Eq.{bytes_eq-Decides}
 use Rattle.and_model.specs.Lines.{Bytes}
 use Rattle.and_syntax.specs.Written
 use Rattle.and_syntax.specs.Written.{Written, Many}
-use Rattle.and_language.specs.Words.{Word, products, sums, relations, is_one_of, is_reserved}
+use Rattle.and_language.specs.Words.{Word, products, relations, is_one_of, is_reserved}
 use Rattle.and_language.specs.Words as words
-use Rattle.and_language.specs.Grammar.{Sort, Neck, symbol_of, sort_of, term0, term200, term400, term500, term700, term1000, term1100, binary, unary, cell, nil, IsAtom, IsFunctor, IsSum, Reads, Arguments, Elements, IsClause}
-use Rattle.and_automaton.specs.Machine.{Half, Pending, nothing_pending, with_half, negated, at200, at400, at500, at700, Bracket, plain, braces, arguments, elements, tail, Frame, ClausePart, head, body, query, Outermost, wanted, numeral, operand, State, start, inside, opened_list, over, depth, conjunction, disjunction, at1100, many, list, role, take_operand, take_numeral, take_operator, take_name, take_sum, take_relation, take_neck, take_comma, take_semicolon, take_bar, take_close_bracket, take_close_brace, take_close_list, take_end, take_functor, begins_query, closes_list, operand_exceeds, operator_exceeds, comma_exceeds, go, exceeds, step, and_then, run}
+use Rattle.and_language.specs.Grammar.{Sort, Neck, symbol_of, sort_of, term0, term200, term400, term500, term700, term1000, term1100, binary, unary, cell}
+use Rattle.and_language.specs.Grammar.{nil, IsAtom, IsFunctor, IsSum, Reads, Arguments, Elements, IsClause}
+use Rattle.and_automaton.specs.Machine.{Half, Pending, nothing_pending, with_half, negated, at200, at400, at500, at700, Bracket, plain, braces, arguments}
+use Rattle.and_automaton.specs.Machine.{elements, tail, Frame, ClausePart, head, body, query, Outermost, wanted, numeral, operand, State, start, inside}
+use Rattle.and_automaton.specs.Machine.{opened_list, over, depth, conjunction, disjunction, at1100, many, list, role, take_operand, take_numeral}
+use Rattle.and_automaton.specs.Machine.{take_operator, take_name, take_sum, take_relation, take_neck, take_comma, take_semicolon, take_bar}
+use Rattle.and_automaton.specs.Machine.{take_close_bracket, take_close_brace, take_close_list, take_end, take_functor, begins_query, closes_list}
+use Rattle.and_automaton.specs.Machine.{operand_exceeds, operator_exceeds, comma_exceeds, go, exceeds, step, and_then, run}
 use Rattle.and_automaton.proofs.Steps.{step_tells, shallow_told, by_role}
 use Rattle.and_model.specs.declared.limits.TheConstants.{MAX_ARGUMENTS, MAX_NESTING}
 
@@ -32,7 +39,8 @@ module _ (limited : Bool) (whole : List Word) where
   Relates n None a b = a ≡ b
   Relates n (Some h) a b = Reads limited n term500 a (words.name h.operator ∷ b) h.left × (is_one_of relations h.operator ≡ true)
 
-  -- What is pending begins at one place, and the operand that it waits for at the other. Each priority's term begins at a place between them, and each tighter one completes it.
+  -- What is pending begins at one place, and the operand that it waits for at the other. Each priority's term begins
+  -- at a place between them, and each tighter one completes it.
   record Opened (n : ℕ) (p : Pending) (from at : List Word) : Type 0 where
     at_sum : List Word
     at_product : List Word
@@ -78,26 +86,34 @@ module _ (limited : Bool) (whole : List Word) where
   -- What stands in a bracket from one place on makes an operand that begins at the other. (Its last alternative begins between them.)
   abbrev Inside : ℕ → Bracket → List Written → List Word → List Word → Type 0
   Inside n (plain es) b at from =
-      (mid : List Word) × Conjoins (suc n) b mid from × ((rest : List Word) (w : Written) → Reads limited (suc n) term1100 mid (words.close_bracket ∷ rest) w → Reads limited n term0 at rest (disjunction es w))
+      (mid : List Word) × Conjoins (suc n) b mid from
+      × ((rest : List Word) (w : Written) → Reads limited (suc n) term1100 mid (words.close_bracket ∷ rest) w
+      → Reads limited n term0 at rest (disjunction es w))
   Inside n (braces es) b at from =
       (mid : List Word) × Conjoins (suc n) b mid from
-      × ((rest : List Word) (w : Written) → Reads limited (suc n) term1100 mid (words.close_brace ∷ rest) w → Reads limited n term0 at rest (unary (codes "{}") (disjunction es w)))
-  Inside n (arguments c) b at from = (rest : List Word) (ts : Many) → Arguments limited (suc n) (length b) from rest ts → Reads limited n term0 at rest (Written.compound c (many b ts))
+      × ((rest : List Word) (w : Written) → Reads limited (suc n) term1100 mid (words.close_brace ∷ rest) w
+      → Reads limited n term0 at rest (unary (codes "{}") (disjunction es w)))
+  Inside n (arguments c) b at from = (rest : List Word) (ts : Many) → Arguments limited (suc n) (length b) from rest ts
+      → Reads limited n term0 at rest (Written.compound c (many b ts))
   Inside n elements b at from = (rest : List Word) (w : Written) → Elements limited (suc n) from rest w → Reads limited n term0 at rest (list b w)
-  Inside n tail b at from = (rest : List Word) (w : Written) → Reads limited (suc n) term700 from (words.close_list ∷ rest) w → Reads limited n term0 at rest (list b w)
+  Inside n tail b at from = (rest : List Word) (w : Written) → Reads limited (suc n) term700 from (words.close_list ∷ rest) w
+      → Reads limited n term0 at rest (list b w)
 
   -- What stands outside of brackets makes the clause, where its last alternative begins at the place.
   abbrev Completes : ClausePart → List Written → List Word → Type 0
   Completes head es mid = (rest : List Word) (w : Written) → Reads limited 0 term1100 mid rest w → Reads limited 0 term1100 whole rest (disjunction es w)
-  Completes (body n h) es mid = (w : Written) → Reads limited 0 term1100 mid (words.end ∷ []) w → IsClause limited whole (sort_of n) (binary (symbol_of n) h (disjunction es w))
-  Completes query es mid = (w : Written) → Reads limited 0 term1100 mid (words.end ∷ []) w → IsClause limited whole Sort.query (unary (codes "?-") (disjunction es w))
+  Completes (body n h) es mid = (w : Written) → Reads limited 0 term1100 mid (words.end ∷ []) w
+      → IsClause limited whole (sort_of n) (binary (symbol_of n) h (disjunction es w))
+  Completes query es mid = (w : Written) → Reads limited 0 term1100 mid (words.end ∷ []) w
+      → IsClause limited whole Sort.query (unary (codes "?-") (disjunction es w))
 
   abbrev Outside : ClausePart → List Written → List Written → List Word → Type 0
   Outside k es b from = (mid : List Word) × Conjoins 0 b mid from × Completes k es mid
 
   abbrev Within : Outermost → List Frame → List Word → Type 0
   Within l [] from = Outside l.part l.alternatives l.before from
-  Within l (f ∷ fs) from = (outer at : List Word) × Within l fs outer × Opened (depth fs) f.outside outer at × Inside (f.outside.minuses + depth fs) f.bracket f.before at from
+  Within l (f ∷ fs) from = (outer at : List Word) × Within l fs outer × Opened (depth fs) f.outside outer at
+      × Inside (f.outside.minuses + depth fs) f.bracket f.before at from
 
   -- the word of a name that can be a compound's
   abbrev Named : Option Bytes → List Word → List Word → Type 0
@@ -111,7 +127,8 @@ module _ (limited : Bool) (whole : List Word) where
   Fits (inside l fs p numeral) here = (from : List Word) × Within l fs from × Opened (depth fs) p from (words.minus words.integer ∷ here)
   Fits (inside l fs p (operand w f)) here =
       (from at : List Word) × Within l fs from × Opened (depth fs) p from at × Reads limited (p.minuses + depth fs) term0 at here w × Named f at here
-  Fits (opened_list l fs p) here = (from : List Word) × Within l fs from × Opened (depth fs) p from (words.open_list ∷ here) × (limited ≡ true → p.minuses + depth fs < MAX_NESTING)
+  Fits (opened_list l fs p) here = (from : List Word) × Within l fs from × Opened (depth fs) p from (words.open_list ∷ here)
+      × (limited ≡ true → p.minuses + depth fs < MAX_NESTING)
   Fits (over q w) here = here ≡ [] → IsClause limited whole q w
 
   abbrev Keeps : Option State → List Word → Type 0
@@ -131,8 +148,14 @@ module _ (limited : Bool) (whole : List Word) where
       tested true e = tt
       tested false e =
           (from, words.name c ∷ here, i, o, Reads.atom (p.minuses + depth fs) (words.name c) c here (IsAtom.name c e), (words.name c, IsFunctor.name c e, refl))
-  operand_kept l fs p (words.quoted c) here from low i o =
-      (from, words.quoted c ∷ here, i, o, Reads.atom (p.minuses + depth fs) (words.quoted c) c here (IsAtom.quoted c), (words.quoted c, IsFunctor.quoted c, refl))
+  operand_kept l fs p (words.quoted c) here from low i o = (
+    from,
+    words.quoted c ∷ here,
+    i,
+    o,
+    Reads.atom (p.minuses + depth fs) (words.quoted c) c here (IsAtom.quoted c),
+    (words.quoted c, IsFunctor.quoted c, refl),
+  )
   operand_kept l fs p (words.minus words.integer) here from low i o = (from, i, o)
   operand_kept l fs p (words.minus words.bracket) here from low i o = tt
   operand_kept l fs p (words.minus words.stop) here from low i o =
@@ -147,7 +170,8 @@ module _ (limited : Bool) (whole : List Word) where
       relation = o.relation;
       sum = o.sum;
       product = o.product;
-      minuses = λ rest w d. o.minuses rest (unary (codes "-") w) (Reads.negated (p.minuses + depth fs) here rest w (shallow_told limited (p.minuses + depth fs) low)
+      minuses = λ rest w d. o.minuses rest (unary (codes "-") w)
+          (Reads.negated (p.minuses + depth fs) here rest w (shallow_told limited (p.minuses + depth fs) low)
           (subst (λ k. Reads limited k term200 here rest w) (suc_plus p.minuses (depth fs)) d));
     },
   )
@@ -155,11 +179,23 @@ module _ (limited : Bool) (whole : List Word) where
       suc_plus : (m n : ℕ) → suc m + n ≡ suc (m + n)
       suc_plus m n = omega arith
   operand_kept l fs p (words.open_bracket behind) here from low i o =
-      let n : ℕ = p.minuses + depth fs in
-      (here, (from, words.open_bracket behind ∷ here, i, o, (here, (λ rest w t. t), λ rest w d. Reads.bracketed n behind here rest w (shallow_told limited n low) d)), fresh (suc n) here)
+      let n : ℕ = p.minuses + depth fs in (
+        here,
+        (
+          from,
+          words.open_bracket behind ∷ here,
+          i,
+          o,
+          (here, (λ rest w t. t), λ rest w d. Reads.bracketed n behind here rest w (shallow_told limited n low) d),
+        ),
+        fresh (suc n) here,
+      )
   operand_kept l fs p words.open_brace here from low i o =
-      let n : ℕ = p.minuses + depth fs in
-      (here, (from, words.open_brace ∷ here, i, o, (here, (λ rest w t. t), λ rest w d. Reads.braced n here rest w (shallow_told limited n low) d)), fresh (suc n) here)
+      let n : ℕ = p.minuses + depth fs in (
+        here,
+        (from, words.open_brace ∷ here, i, o, (here, (λ rest w t. t), λ rest w d. Reads.braced n here rest w (shallow_told limited n low) d)),
+        fresh (suc n) here,
+      )
   operand_kept l fs p words.open_list here from low i o = (from, i, o, shallow_told limited (p.minuses + depth fs) low)
   operand_kept l fs p words.close_bracket here from low i o = tt
   operand_kept l fs p words.close_list here from low i o = tt
@@ -169,7 +205,8 @@ module _ (limited : Bool) (whole : List Word) where
   operand_kept l fs p words.bar here from low i o = tt
   operand_kept l fs p words.end here from low i o = tt
 
-  numeral_kept : (l : Outermost) (fs : List Frame) (p : Pending) (x : Word) (here from : List Word) → Within l fs from → Opened (depth fs) p from (words.minus words.integer ∷ x ∷ here)
+  numeral_kept : (l : Outermost) (fs : List Frame) (p : Pending) (x : Word) (here from : List Word) → Within l fs from
+      → Opened (depth fs) p from (words.minus words.integer ∷ x ∷ here)
       → Keeps (take_numeral l fs p x) here
   numeral_kept l fs p (words.integer z) here from i o =
       (from, words.minus words.integer ∷ words.integer z ∷ here, i, o, Reads.negative (p.minuses + depth fs) z here, tt)
@@ -189,7 +226,8 @@ module _ (limited : Bool) (whole : List Word) where
   numeral_kept l fs p words.end here from i o = tt
 
   -- the words behind a term of the priority 700
-  neck_kept : (l : Outermost) (fs : List Frame) (n : Neck) (a : Written) (here from : List Word) → Within l fs from → Reads limited (depth fs) term700 from (words.name (symbol_of n) ∷ here) a
+  neck_kept : (l : Outermost) (fs : List Frame) (n : Neck) (a : Written) (here from : List Word) → Within l fs from
+      → Reads limited (depth fs) term700 from (words.name (symbol_of n) ∷ here) a
       → Keeps (take_neck l fs n a) here
   neck_kept l (f ∷ fs) n a here from i d = tt
   neck_kept l [] n a here from i d = by_part l.part l.alternatives l.before i
@@ -197,13 +235,15 @@ module _ (limited : Bool) (whole : List Word) where
       next : List Word
       next = words.name (symbol_of n) ∷ here
 
-      by_part : (k : ClausePart) (es b : List Written) → Outside k es b from → Keeps (take_neck (record { part = k; alternatives = es; before = b }) [] n a) here
+      by_part : (k : ClausePart) (es b : List Written) → Outside k es b from
+          → Keeps (take_neck (record { part = k; alternatives = es; before = b }) [] n a) here
       by_part head es b (mid, joins, out) = (
         here,
         (
           here,
           (λ rest w t. t),
-          λ w t. IsClause.rule whole here n (at1100 es b a) w (out next (conjunction b a) (Reads.as1100 0 mid next (conjunction b a) (joins next a (Reads.as1000 0 from next a d)))) t,
+          λ w t. IsClause.rule whole here n (at1100 es b a) w
+              (out next (conjunction b a) (Reads.as1100 0 mid next (conjunction b a) (joins next a (Reads.as1000 0 from next a d)))) t,
         ),
         fresh 0 here,
       )
@@ -232,14 +272,20 @@ module _ (limited : Bool) (whole : List Word) where
           i,
           o,
           λ rest ts t. inner rest (Written.more a ts)
-              (Arguments.next_argument (suc (f.outside.minuses + depth fs)) (length b) from here rest a ts d (λ h. leb-false MAX_ARGUMENTS (suc (length b)) (few h)) t),
+              (Arguments.next_argument (suc (f.outside.minuses + depth fs)) (length b) from here rest a ts d
+              (λ h. leb-false MAX_ARGUMENTS (suc (length b)) (few h)) t),
         ),
         fresh (suc (f.outside.minuses + depth fs)) here,
       )
-      by_bracket elements b few inner = (here, (outer, at, i, o, λ rest w t. inner rest (cell a w) (Elements.next_element (suc (f.outside.minuses + depth fs)) from here rest a w d t)), fresh (suc (f.outside.minuses + depth fs)) here)
+      by_bracket elements b few inner = (
+        here,
+        (outer, at, i, o, λ rest w t. inner rest (cell a w) (Elements.next_element (suc (f.outside.minuses + depth fs)) from here rest a w d t)),
+        fresh (suc (f.outside.minuses + depth fs)) here,
+      )
       by_bracket tail b few inner = tt
 
-  semicolon_kept : (l : Outermost) (fs : List Frame) (a : Written) (here from : List Word) → Within l fs from → Reads limited (depth fs) term700 from (words.semicolon ∷ here) a
+  semicolon_kept : (l : Outermost) (fs : List Frame) (a : Written) (here from : List Word) → Within l fs from
+      → Reads limited (depth fs) term700 from (words.semicolon ∷ here) a
       → Keeps (take_semicolon l fs a) here
   semicolon_kept l [] a here from (mid, joins, out) d = (here, (here, (λ rest w t. t), by_part l.part l.alternatives out), fresh 0 here)
     where
@@ -258,51 +304,92 @@ module _ (limited : Bool) (whole : List Word) where
       n : ℕ
       n = suc (f.outside.minuses + depth fs)
 
-      by_bracket : (k : Bracket) (b : List Written) → Inside (f.outside.minuses + depth fs) k b at from → Keeps (take_semicolon l (record { bracket = k; before = b; outside = f.outside } ∷ fs) a) here
-      by_bracket (plain es) b (mid, joins, inner) =
-          let v : Written = conjunction b a in
-          let before : Reads limited (suc (f.outside.minuses + depth fs)) term1000 mid (words.semicolon ∷ here) v = joins (words.semicolon ∷ here) a (Reads.as1000 n from (words.semicolon ∷ here) a d) in
-          (here, (outer, at, i, o, (here, (λ rest w t. t), λ rest w t. inner rest (binary (codes ";") v w) (Reads.disjunction n mid here (words.close_bracket ∷ rest) v w before t))), fresh n here)
-      by_bracket (braces es) b (mid, joins, inner) =
-          let v : Written = conjunction b a in
-          let before : Reads limited (suc (f.outside.minuses + depth fs)) term1000 mid (words.semicolon ∷ here) v = joins (words.semicolon ∷ here) a (Reads.as1000 n from (words.semicolon ∷ here) a d) in
-          (here, (outer, at, i, o, (here, (λ rest w t. t), λ rest w t. inner rest (binary (codes ";") v w) (Reads.disjunction n mid here (words.close_brace ∷ rest) v w before t))), fresh n here)
+      -- what stands in the bracket so far, and what comes behind its semicolon
+      goes_on : (b : List Written) (mid : List Word) → Conjoins n b mid from → (rest : List Word) (w : Written) → Reads limited n term1100 here rest w
+          → Reads limited n term1100 mid rest (binary (codes ";") (conjunction b a) w)
+      goes_on b mid joins rest w t =
+          Reads.disjunction n mid here rest (conjunction b a) w (joins (words.semicolon ∷ here) a (Reads.as1000 n from (words.semicolon ∷ here) a d)) t
+
+      by_bracket : (k : Bracket) (b : List Written) → Inside (f.outside.minuses + depth fs) k b at from
+          → Keeps (take_semicolon l (record { bracket = k; before = b; outside = f.outside } ∷ fs) a) here
+      by_bracket (plain es) b (mid, joins, inner) = (
+        here,
+        (
+          outer,
+          at,
+          i,
+          o,
+          (
+            here,
+            (λ rest w t. t),
+            λ rest w t. inner rest (binary (codes ";") (conjunction b a) w) (goes_on b mid joins (words.close_bracket ∷ rest) w t),
+          ),
+        ),
+        fresh n here,
+      )
+      by_bracket (braces es) b (mid, joins, inner) = (
+        here,
+        (
+          outer,
+          at,
+          i,
+          o,
+          (
+            here,
+            (λ rest w t. t),
+            λ rest w t. inner rest (binary (codes ";") (conjunction b a) w) (goes_on b mid joins (words.close_brace ∷ rest) w t),
+          ),
+        ),
+        fresh n here,
+      )
       by_bracket (arguments c) b inner = tt
       by_bracket elements b inner = tt
       by_bracket tail b inner = tt
 
-  bar_kept : (l : Outermost) (fs : List Frame) (a : Written) (here from : List Word) → Within l fs from → Reads limited (depth fs) term700 from (words.bar ∷ here) a → Keeps (take_bar l fs a) here
+  bar_kept : (l : Outermost) (fs : List Frame) (a : Written) (here from : List Word) → Within l fs from
+      → Reads limited (depth fs) term700 from (words.bar ∷ here) a → Keeps (take_bar l fs a) here
   bar_kept l [] a here from i d = tt
   bar_kept l (f ∷ fs) a here from (outer, at, i, o, inner) d = by_bracket f.bracket f.before inner
     where
-      by_bracket : (k : Bracket) (b : List Written) → Inside (f.outside.minuses + depth fs) k b at from → Keeps (take_bar l (record { bracket = k; before = b; outside = f.outside } ∷ fs) a) here
+      by_bracket : (k : Bracket) (b : List Written) → Inside (f.outside.minuses + depth fs) k b at from
+          → Keeps (take_bar l (record { bracket = k; before = b; outside = f.outside } ∷ fs) a) here
       by_bracket (plain es) b inner = tt
       by_bracket (braces es) b inner = tt
       by_bracket (arguments c) b inner = tt
-      by_bracket elements b inner = (here, (outer, at, i, o, λ rest w t. inner rest (cell a w) (Elements.tail (suc (f.outside.minuses + depth fs)) from here rest a w d t)), fresh (suc (f.outside.minuses + depth fs)) here)
+      by_bracket elements b inner = (
+        here,
+        (outer, at, i, o, λ rest w t. inner rest (cell a w) (Elements.tail (suc (f.outside.minuses + depth fs)) from here rest a w d t)),
+        fresh (suc (f.outside.minuses + depth fs)) here,
+      )
       by_bracket tail b inner = tt
 
-  close_bracket_kept : (l : Outermost) (fs : List Frame) (a : Written) (here from : List Word) → Within l fs from → Reads limited (depth fs) term700 from (words.close_bracket ∷ here) a
+  close_bracket_kept : (l : Outermost) (fs : List Frame) (a : Written) (here from : List Word) → Within l fs from
+      → Reads limited (depth fs) term700 from (words.close_bracket ∷ here) a
       → Keeps (take_close_bracket l fs a) here
   close_bracket_kept l [] a here from i d = tt
   close_bracket_kept l (f ∷ fs) a here from (outer, at, i, o, inner) d = by_bracket f.bracket f.before inner
     where
-      by_bracket : (k : Bracket) (b : List Written) → Inside (f.outside.minuses + depth fs) k b at from → Keeps (take_close_bracket l (record { bracket = k; before = b; outside = f.outside } ∷ fs) a) here
+      by_bracket : (k : Bracket) (b : List Written) → Inside (f.outside.minuses + depth fs) k b at from
+          → Keeps (take_close_bracket l (record { bracket = k; before = b; outside = f.outside } ∷ fs) a) here
       by_bracket (plain es) b (mid, joins, inner) =
           let n : ℕ = suc (f.outside.minuses + depth fs) in
           let next : List Word = words.close_bracket ∷ here in
           (outer, at, i, o, inner here (conjunction b a) (Reads.as1100 n mid next (conjunction b a) (joins next a (Reads.as1000 n from next a d))), tt)
       by_bracket (braces es) b inner = tt
-      by_bracket (arguments c) b inner = (outer, at, i, o, inner here (Written.more a Written.none) (Arguments.last_argument (suc (f.outside.minuses + depth fs)) (length b) from here a d), tt)
+      by_bracket (arguments c) b inner =
+          let n : ℕ = suc (f.outside.minuses + depth fs) in
+          (outer, at, i, o, inner here (Written.more a Written.none) (Arguments.last_argument n (length b) from here a d), tt)
       by_bracket elements b inner = tt
       by_bracket tail b inner = tt
 
-  close_brace_kept : (l : Outermost) (fs : List Frame) (a : Written) (here from : List Word) → Within l fs from → Reads limited (depth fs) term700 from (words.close_brace ∷ here) a
+  close_brace_kept : (l : Outermost) (fs : List Frame) (a : Written) (here from : List Word) → Within l fs from
+      → Reads limited (depth fs) term700 from (words.close_brace ∷ here) a
       → Keeps (take_close_brace l fs a) here
   close_brace_kept l [] a here from i d = tt
   close_brace_kept l (f ∷ fs) a here from (outer, at, i, o, inner) d = by_bracket f.bracket f.before inner
     where
-      by_bracket : (k : Bracket) (b : List Written) → Inside (f.outside.minuses + depth fs) k b at from → Keeps (take_close_brace l (record { bracket = k; before = b; outside = f.outside } ∷ fs) a) here
+      by_bracket : (k : Bracket) (b : List Written) → Inside (f.outside.minuses + depth fs) k b at from
+          → Keeps (take_close_brace l (record { bracket = k; before = b; outside = f.outside } ∷ fs) a) here
       by_bracket (plain es) b inner = tt
       by_bracket (braces es) b (mid, joins, inner) =
           let n : ℕ = suc (f.outside.minuses + depth fs) in
@@ -312,19 +399,22 @@ module _ (limited : Bool) (whole : List Word) where
       by_bracket elements b inner = tt
       by_bracket tail b inner = tt
 
-  close_list_kept : (l : Outermost) (fs : List Frame) (a : Written) (here from : List Word) → Within l fs from → Reads limited (depth fs) term700 from (words.close_list ∷ here) a
+  close_list_kept : (l : Outermost) (fs : List Frame) (a : Written) (here from : List Word) → Within l fs from
+      → Reads limited (depth fs) term700 from (words.close_list ∷ here) a
       → Keeps (take_close_list l fs a) here
   close_list_kept l [] a here from i d = tt
   close_list_kept l (f ∷ fs) a here from (outer, at, i, o, inner) d = by_bracket f.bracket f.before inner
     where
-      by_bracket : (k : Bracket) (b : List Written) → Inside (f.outside.minuses + depth fs) k b at from → Keeps (take_close_list l (record { bracket = k; before = b; outside = f.outside } ∷ fs) a) here
+      by_bracket : (k : Bracket) (b : List Written) → Inside (f.outside.minuses + depth fs) k b at from
+          → Keeps (take_close_list l (record { bracket = k; before = b; outside = f.outside } ∷ fs) a) here
       by_bracket (plain es) b inner = tt
       by_bracket (braces es) b inner = tt
       by_bracket (arguments c) b inner = tt
       by_bracket elements b inner = (outer, at, i, o, inner here (cell a nil) (Elements.last_element (suc (f.outside.minuses + depth fs)) from here a d), tt)
       by_bracket tail b inner = (outer, at, i, o, inner here a d, tt)
 
-  end_kept : (l : Outermost) (fs : List Frame) (a : Written) (here from : List Word) → Within l fs from → Reads limited (depth fs) term700 from (words.end ∷ here) a → Keeps (take_end l fs a) here
+  end_kept : (l : Outermost) (fs : List Frame) (a : Written) (here from : List Word) → Within l fs from
+      → Reads limited (depth fs) term700 from (words.end ∷ here) a → Keeps (take_end l fs a) here
   end_kept l (f ∷ fs) a here from i d = tt
   end_kept l [] a here from i d = by_part l.part l.alternatives l.before i
     where
@@ -342,7 +432,8 @@ module _ (limited : Bool) (whole : List Word) where
   -- a word behind an operand
   module _ (l : Outermost) (fs : List Frame) (p : Pending) (w : Written) (from at : List Word) (i : Within l fs from) (o : Opened (depth fs) p from at) where
     product_kept : (c : Bytes) (here : List Word) → Reads limited (p.minuses + depth fs) term0 at (words.name c ∷ here) w → is_one_of products c ≡ true
-        → Fits (inside l fs (record { relation = p.relation; sum = p.sum; product = Some (record { left = at400 p w; operator = c }); minuses = 0 }) wanted) here
+        → Fits (inside l fs (record { relation = p.relation; sum = p.sum; product = Some (record { left = at400 p w; operator = c }); minuses = 0 }) wanted)
+        here
     product_kept c here d e = (
       from,
       i,
@@ -352,12 +443,14 @@ module _ (limited : Bool) (whole : List Word) where
         at_minuses = here;
         relation = o.relation;
         sum = o.sum;
-        product = λ rest b t. Reads.product (depth fs) o.at_product here rest c (at400 p w) b (complete400 (depth fs) p from at (words.name c ∷ here) w o d) e t;
+        product = λ rest b t. Reads.product (depth fs) o.at_product here rest c (at400 p w) b
+            (complete400 (depth fs) p from at (words.name c ∷ here) w o d) e t;
         minuses = no_minus (depth fs) here;
       },
     )
 
-    sum_kept : (x : Word) (c : Bytes) (here : List Word) → IsSum x c → Reads limited (p.minuses + depth fs) term0 at (x ∷ here) w → Fits (take_sum l fs p w c) here
+    sum_kept : (x : Word) (c : Bytes) (here : List Word) → IsSum x c → Reads limited (p.minuses + depth fs) term0 at (x ∷ here) w
+        → Fits (take_sum l fs p w c) here
     sum_kept x c here s d = (
       from,
       i,
@@ -372,7 +465,8 @@ module _ (limited : Bool) (whole : List Word) where
       },
     )
 
-    relation_kept : (c : Bytes) (here : List Word) → Reads limited (p.minuses + depth fs) term0 at (words.name c ∷ here) w → is_one_of relations c ≡ true → Keeps (take_relation l fs p w c) here
+    relation_kept : (c : Bytes) (here : List Word) → Reads limited (p.minuses + depth fs) term0 at (words.name c ∷ here) w → is_one_of relations c ≡ true
+        → Keeps (take_relation l fs p w c) here
     relation_kept c here d e = by_relation p.relation o.relation
       where
         by_relation : (r : Option Half) → Relates (depth fs) r from o.at_sum → Keeps (elim r [
@@ -387,19 +481,28 @@ module _ (limited : Bool) (whole : List Word) where
             at_sum = here;
             at_product = here;
             at_minuses = here;
-            relation = (subst (λ z. Reads limited (depth fs) term500 z (words.name c ∷ here) (at500 p w)) (sym same) (complete500 (depth fs) p from at (words.name c ∷ here) w o d), e);
+            relation = (
+              subst (λ z. Reads limited (depth fs) term500 z (words.name c ∷ here) (at500 p w)) (sym same)
+                  (complete500 (depth fs) p from at (words.name c ∷ here) w o d),
+              e,
+            );
             sum = λ rest b t. Reads.as500 (depth fs) here rest b t;
             product = λ rest b t. Reads.as400 (depth fs) here rest b t;
             minuses = no_minus (depth fs) here;
           },
         )
 
-    name_kept : (c : Bytes) (here : List Word) → Reads limited (p.minuses + depth fs) term0 at (words.name c ∷ here) w → Keeps (take_name l fs p w c (role c)) here
-    name_kept c here d = by_role c (λ r. Keeps (take_name l fs p w c r) here) (product_kept c here d) (λ e. sum_kept (words.name c) c here (IsSum.name c e) d) (relation_kept c here d)
-        (λ n e. neck_kept l fs n (at700 p w) here from i (subst (λ z. Reads limited (depth fs) term700 from (words.name z ∷ here) (at700 p w)) e (complete700 (depth fs) p from at (words.name c ∷ here) w o d)))
+    name_kept : (c : Bytes) (here : List Word) → Reads limited (p.minuses + depth fs) term0 at (words.name c ∷ here) w
+        → Keeps (take_name l fs p w c (role c)) here
+    name_kept c here d = by_role c (λ r. Keeps (take_name l fs p w c r) here) (product_kept c here d) (λ e. sum_kept (words.name c) c here (IsSum.name c e) d)
+        (relation_kept c here d)
+        (λ n e. neck_kept l fs n (at700 p w) here from i
+        (subst (λ z. Reads limited (depth fs) term700 from (words.name z ∷ here) (at700 p w)) e
+        (complete700 (depth fs) p from at (words.name c ∷ here) w o d)))
         tt
 
-    functor_kept : (f : Option Bytes) (here : List Word) → (limited ≡ true → leb MAX_NESTING (p.minuses + depth fs) ≡ false) → Named f at (words.open_bracket true ∷ here) → Keeps (take_functor l fs p f) here
+    functor_kept : (f : Option Bytes) (here : List Word) → (limited ≡ true → leb MAX_NESTING (p.minuses + depth fs) ≡ false)
+        → Named f at (words.open_bracket true ∷ here) → Keeps (take_functor l fs p f) here
     functor_kept None here low named = tt
     functor_kept (Some c) here low (a, is, same) =
         let n : ℕ = p.minuses + depth fs in (
@@ -421,10 +524,14 @@ module _ (limited : Bool) (whole : List Word) where
     operator_kept f (words.minus b) here low d named = sum_kept (words.minus b) (codes "-") here (IsSum.minus b) d
     operator_kept f (words.open_bracket true) here low d named = functor_kept f here low named
     operator_kept f (words.open_bracket false) here low d named = tt
-    operator_kept f words.close_bracket here low d named = close_bracket_kept l fs (at700 p w) here from i (complete700 (depth fs) p from at (words.close_bracket ∷ here) w o d)
-    operator_kept f words.close_list here low d named = close_list_kept l fs (at700 p w) here from i (complete700 (depth fs) p from at (words.close_list ∷ here) w o d)
-    operator_kept f words.close_brace here low d named = close_brace_kept l fs (at700 p w) here from i (complete700 (depth fs) p from at (words.close_brace ∷ here) w o d)
-    operator_kept f words.semicolon here low d named = semicolon_kept l fs (at700 p w) here from i (complete700 (depth fs) p from at (words.semicolon ∷ here) w o d)
+    operator_kept f words.close_bracket here low d named =
+        close_bracket_kept l fs (at700 p w) here from i (complete700 (depth fs) p from at (words.close_bracket ∷ here) w o d)
+    operator_kept f words.close_list here low d named =
+        close_list_kept l fs (at700 p w) here from i (complete700 (depth fs) p from at (words.close_list ∷ here) w o d)
+    operator_kept f words.close_brace here low d named =
+        close_brace_kept l fs (at700 p w) here from i (complete700 (depth fs) p from at (words.close_brace ∷ here) w o d)
+    operator_kept f words.semicolon here low d named =
+        semicolon_kept l fs (at700 p w) here from i (complete700 (depth fs) p from at (words.semicolon ∷ here) w o d)
     operator_kept f words.comma here low d named = comma_kept l fs (at700 p w) here from low i (complete700 (depth fs) p from at (words.comma ∷ here) w o d)
     operator_kept f words.bar here low d named = bar_kept l fs (at700 p w) here from i (complete700 (depth fs) p from at (words.bar ∷ here) w o d)
     operator_kept f words.end here low d named = end_kept l fs (at700 p w) here from i (complete700 (depth fs) p from at (words.end ∷ here) w o d)
@@ -438,25 +545,41 @@ module _ (limited : Bool) (whole : List Word) where
   start_kept x here low e = by_test (begins_query x) refl
     where
       by_test : (b : Bool) → begins_query x ≡ b
-          → Keeps (cond b (Some (inside (record { part = query; alternatives = []; before = [] }) [] nothing_pending wanted)) (take_operand (record { part = head; alternatives = []; before = [] }) [] nothing_pending x)) here
+          → Keeps (cond b (Some (inside (record { part = query; alternatives = []; before = [] }) [] nothing_pending wanted))
+          (take_operand (record { part = head; alternatives = []; before = [] }) [] nothing_pending x)) here
       by_test true is = (
         here,
-        (here, (λ rest w t. t), λ w d. subst (λ z. IsClause limited z Sort.query (unary (codes "?-") w)) (sym (e ∙ ap (λ y. y ∷ here) (query_word x is))) (IsClause.query here w d)),
+        (
+          here,
+          (λ rest w t. t),
+          λ w d. subst (λ z. IsClause limited z Sort.query (unary (codes "?-") w)) (sym (e ∙ ap (λ y. y ∷ here) (query_word x is)))
+              (IsClause.query here w d),
+        ),
         fresh 0 here,
       )
       by_test false is = operand_kept (record { part = head; alternatives = []; before = [] }) [] nothing_pending x here (x ∷ here) low
           (x ∷ here, (λ rest w t. t), λ rest w d. subst (λ z. Reads limited 0 term1100 z rest w) (sym e) d) (fresh 0 (x ∷ here))
 
   list_kept : (l : Outermost) (fs : List Frame) (p : Pending) (x : Word) (here from : List Word) → (limited ≡ true → exceeds (opened_list l fs p) x ≡ false)
-      → Within l fs from → Opened (depth fs) p from (words.open_list ∷ x ∷ here) → (limited ≡ true → p.minuses + depth fs < MAX_NESTING) → Keeps (go (opened_list l fs p) x) here
+      → Within l fs from → Opened (depth fs) p from (words.open_list ∷ x ∷ here) → (limited ≡ true → p.minuses + depth fs < MAX_NESTING)
+      → Keeps (go (opened_list l fs p) x) here
   list_kept l fs p x here from low i o few = by_test (closes_list x) refl
     where
       by_test : (b : Bool) → closes_list x ≡ b
-          → Keeps (cond b (Some (inside l fs p (operand nil None))) (take_operand l (record { bracket = elements; before = []; outside = p } ∷ fs) nothing_pending x)) here
-      by_test true is =
-          (from, words.open_list ∷ x ∷ here, i, o, subst (λ y. Reads limited (p.minuses + depth fs) term0 (words.open_list ∷ y ∷ here) here nil) (sym (closing_word x is)) (Reads.empty_list (p.minuses + depth fs) here few), tt)
+          → Keeps (cond b (Some (inside l fs p (operand nil None)))
+          (take_operand l (record { bracket = elements; before = []; outside = p } ∷ fs) nothing_pending x)) here
+      by_test true is = (
+        from,
+        words.open_list ∷ x ∷ here,
+        i,
+        o,
+        subst (λ y. Reads limited (p.minuses + depth fs) term0 (words.open_list ∷ y ∷ here) here nil) (sym (closing_word x is))
+            (Reads.empty_list (p.minuses + depth fs) here few),
+        tt,
+      )
       by_test false is = operand_kept l (record { bracket = elements; before = []; outside = p } ∷ fs) nothing_pending x here (x ∷ here) low
-          (from, words.open_list ∷ x ∷ here, i, o, λ rest w d. Reads.list (p.minuses + depth fs) (x ∷ here) rest w few d) (fresh (suc (p.minuses + depth fs)) (x ∷ here))
+          (from, words.open_list ∷ x ∷ here, i, o, λ rest w d. Reads.list (p.minuses + depth fs) (x ∷ here) rest w few d)
+          (fresh (suc (p.minuses + depth fs)) (x ∷ here))
 
   -- Each step keeps that the state fits,
   kept : (s : State) (x : Word) (here : List Word) → (limited ≡ true → exceeds s x ≡ false) → Fits s (x ∷ here) → Keeps (go s x) here

@@ -1,7 +1,6 @@
 -- A text as it is read: whole clauses, and then the beginning of one.
-use Rattle.std.proofs.Common.{ℕ, ◌≡◌, ◌⊎◌, inl, inr, Bool, true, false, true≢false, cond, ◌||◌, List, [], ◌∷◌, ◌++◌, Option, Some, None, refl, ap, sym, ◌∙◌, subst, append-nil}
-use Rattle.std.specs.Prelude.{codes}
-use Rattle.std.specs.Str.{bytes_eq}
+use Rattle.std.proofs.Common.{ℕ, ◌≡◌, ◌⊎◌, inl, inr, Bool, true, false, true≢false, cond, List, [], ◌∷◌, ◌++◌, Option, Some, None, refl, ap, sym, ◌∙◌}
+use Rattle.std.proofs.Common.{subst, append-nil}
 use Rattle.and_model.specs.Lines.{Bytes}
 use Rattle.and_syntax.specs.Written
 use Rattle.and_syntax.specs.Written.{Written}
@@ -9,7 +8,12 @@ use Rattle.and_language.specs.Words.{Word, Placed, is_reserved}
 use Rattle.and_language.specs.Words as words
 use Rattle.and_language.specs.Grammar.{nil, Statement, IsText, CanGoOn}
 use Rattle.and_language.specs.Refusals.{NoneEnds}
-use Rattle.and_automaton.specs.Machine.{Half, Pending, nothing_pending, at700, Bracket, plain, braces, arguments, elements, tail, Frame, ClausePart, head, body, query, Outermost, wanted, numeral, operand, State, start, inside, opened_list, over, is_over, Role, is_product, is_sum, is_relation, is_neck, is_none, role, take_operand, take_numeral, take_operator, take_name, take_relation, take_neck, take_comma, take_semicolon, take_bar, take_close_bracket, take_close_brace, take_close_list, take_functor, begins_query, closes_list, in_part, go, exceeds, step, and_then, run, Reading, between, at_state, take_word, take_words, words_of}
+use Rattle.and_automaton.specs.Machine.{Half, Pending, nothing_pending, at700, Bracket, plain, braces, arguments, elements, tail, Frame, ClausePart, head}
+use Rattle.and_automaton.specs.Machine.{body, query, Outermost, wanted, numeral, operand, State, start, inside, opened_list, over, is_over, Role, is_product}
+use Rattle.and_automaton.specs.Machine.{is_sum, is_relation, is_neck, is_none, role, take_operand, take_numeral, take_operator, take_name, take_relation}
+use Rattle.and_automaton.specs.Machine.{take_neck, take_comma, take_semicolon, take_bar, take_close_bracket, take_close_brace, take_close_list, take_functor}
+use Rattle.and_automaton.specs.Machine.{begins_query, closes_list, in_part, go, exceeds, step, and_then, run, Reading, between, at_state, take_word}
+use Rattle.and_automaton.specs.Machine.{take_words, words_of}
 use Rattle.and_automaton.proofs.Steps.{step_tells}
 use Rattle.and_automaton.proofs.Accepted.{and_then_tells}
 use Rattle.and_automaton.proofs.Texts.{read_both, text_taken, went_on, word_goes_on, run_free, text_free}
@@ -189,7 +193,8 @@ still_begun s t x open_still e = by_state t (subst (λ o. Ended x o) e (ended s 
 
 module _ (limited : Bool) where
   -- Words among which none ends a clause lead on in the clause that is begun,
-  words_run : (ss : List Statement) (n : ℕ) (s : State) (r : Reading) (ps : List Placed) → is_over s ≡ false → NoneEnds ps → take_words limited (at_state ss n s) ps ≡ Some r
+  words_run : (ss : List Statement) (n : ℕ) (s : State) (r : Reading) (ps : List Placed) → is_over s ≡ false → NoneEnds ps
+      → take_words limited (at_state ss n s) ps ≡ Some r
       → (t : State) × (run limited s (words_of ps) ≡ Some t) × (is_over t ≡ false) × (r ≡ at_state ss n t)
   words_run ss n s r [] begun none e = (s, refl, begun, (let same : at_state ss n s ≡ r = cc in sym same))
   words_run ss n s r (p ∷ ps) begun none e =
@@ -215,11 +220,14 @@ module _ (limited : Bool) where
       let (v, two, is) = and_then_tells (step limited start p.word) (λ z. Some (at_state ss p.place z)) u one in
       let told = (step_tells limited start p.word v two).1 in
       let same : u ≡ at_state ss p.place v = cc in
-      let (t, ran, on, at) = words_run ss p.place v r ps (still_begun start v p.word none.0 told) none.1 (subst (λ z. take_words limited z ps ≡ Some r) same more) in
+      let (t, ran, on, at) = words_run ss p.place v r ps (still_begun start v p.word none.0 told) none.1
+      (subst (λ z. take_words limited z ps ≡ Some r) same more) in
       (t, ap (λ o. and_then o (λ z. run limited z (words_of ps))) two ∙ ran, on, inl (p.place, at))
 
-  read_behind : (whole rest : List Placed) (ss : List Statement) → IsText limited whole ss → take_words limited (between []) (whole ++ rest) ≡ take_words limited (between ss) rest
-  read_behind whole rest ss text = read_both limited (between []) whole rest ∙ ap (λ o. and_then o (λ t. take_words limited t rest)) (text_taken limited whole ss text [])
+  read_behind : (whole rest : List Placed) (ss : List Statement) → IsText limited whole ss
+      → take_words limited (between []) (whole ++ rest) ≡ take_words limited (between ss) rest
+  read_behind whole rest ss text = read_both limited (between []) whole rest
+      ∙ ap (λ o. and_then o (λ t. take_words limited t rest)) (text_taken limited whole ss text [])
 
   pub goes_on_begun : (whole begun : List Placed) (ss : List Statement) → IsText limited whole ss → NoneEnds begun → CanGoOn limited (whole ++ begun)
       → (s : State) × (run limited start (words_of begun) ≡ Some s) × (is_over s ≡ false)
@@ -246,7 +254,8 @@ module _ (limited : Bool) where
       by_case t o (inr h) = h
 
 -- Of two fronts of a list, the one goes on to the other.
-fronts : {A : Type 0} (xs ys zs ws : List A) → xs ++ ys ≡ zs ++ ws → ((es : List A) × (zs ≡ xs ++ es) × (ys ≡ es ++ ws)) ⊎ ((es : List A) × (xs ≡ zs ++ es) × (ws ≡ es ++ ys))
+fronts : {A : Type 0} (xs ys zs ws : List A) → xs ++ ys ≡ zs ++ ws
+    → ((es : List A) × (zs ≡ xs ++ es) × (ys ≡ es ++ ws)) ⊎ ((es : List A) × (xs ≡ zs ++ es) × (ws ≡ es ++ ys))
 fronts [] ys zs ws e = inl (zs, refl, e)
 fronts (x ∷ xs) ys [] ws e = inr (x ∷ xs, refl, sym e)
 fronts {A} (x ∷ xs) ys (z ∷ zs) ws e =
@@ -264,11 +273,13 @@ none_before [] qs h = tt
 none_before (p ∷ ps) qs h = (h.0, none_before ps qs h.1)
 
 -- Words are in one way whole clauses and the beginning of one.
-pub one_split : (limited : Bool) (whole begun front back : List Placed) (ss ts : List Statement) → whole ++ begun ≡ front ++ back → IsText limited whole ss → IsText limited front ts
+pub one_split : (limited : Bool) (whole begun front back : List Placed) (ss ts : List Statement) → whole ++ begun ≡ front ++ back → IsText limited whole ss
+    → IsText limited front ts
     → NoneEnds begun → NoneEnds back → (whole ≡ front) × (begun ≡ back)
 one_split limited whole begun front back ss ts e a b none few = by_case (fronts whole begun front back e)
   where
-    by_case : ((es : List Placed) × (front ≡ whole ++ es) × (begun ≡ es ++ back)) ⊎ ((es : List Placed) × (whole ≡ front ++ es) × (back ≡ es ++ begun)) → (whole ≡ front) × (begun ≡ back)
+    by_case : ((es : List Placed) × (front ≡ whole ++ es) × (begun ≡ es ++ back)) ⊎ ((es : List Placed) × (whole ≡ front ++ es) × (back ≡ es ++ begun))
+        → (whole ≡ front) × (begun ≡ back)
     by_case (inl (es, f, g)) =
         let nil' : es ≡ [] = no_longer limited whole es ss ts a (subst (λ z. IsText limited z ts) f b) (none_before es back (subst NoneEnds g none)) in
         (sym (f ∙ ap (λ z. whole ++ z) nil' ∙ append-nil whole), g ∙ ap (λ z. z ++ back) nil')
@@ -277,13 +288,15 @@ one_split limited whole begun front back ss ts e a b none few = by_case (fronts 
         (f ∙ ap (λ z. front ++ z) nil' ∙ append-nil front, sym (g ∙ ap (λ z. z ++ begun) nil'))
 
 -- A word that the state does not take goes on to no text; one that it takes over a limit goes on to one without the limits alone.
-module _ (whole begun : List Placed) (p : Placed) (ss : List Statement) (s : State) (text : IsText true whole ss) (ran : run true start (words_of begun) ≡ Some s) (on : is_over s ≡ false) where
+module _ (whole begun : List Placed) (p : Placed) (ss : List Statement) (s : State) (text : IsText true whole ss)
+    (ran : run true start (words_of begun) ≡ Some s) (on : is_over s ≡ false) where
   pub refused_word : go s p.word ≡ None → CanGoOn false ((whole ++ begun) ++ p ∷ []) → ⊥
   refused_word e c =
       let (t, took) = (word_goes_on false whole begun p ss s (text_free whole ss text) (run_free start s (words_of begun) ran) on).0 c in
       cc
 
-  pub word_over_limit : (t : State) → go s p.word ≡ Some t → exceeds s p.word ≡ true → CanGoOn false ((whole ++ begun) ++ p ∷ []) × (CanGoOn true ((whole ++ begun) ++ p ∷ []) → ⊥)
+  pub word_over_limit : (t : State) → go s p.word ≡ Some t → exceeds s p.word ≡ true
+      → CanGoOn false ((whole ++ begun) ++ p ∷ []) × (CanGoOn true ((whole ++ begun) ++ p ∷ []) → ⊥)
   word_over_limit t e over' = (
     (word_goes_on false whole begun p ss s (text_free whole ss text) (run_free start s (words_of begun) ran) on).1 (t, e),
     λ c.

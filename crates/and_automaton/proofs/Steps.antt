@@ -20,7 +20,8 @@ stepped limited s x t low e = ap (λ b. cond b None (go s x)) (lowered limited (
     lowered false b h = refl
 
 -- and so does a run that begins with it.
-pub run_step : (limited : Bool) (s : State) (x : Word) (t : State) (xs : List Word) → (limited ≡ true → exceeds s x ≡ false) → go s x ≡ Some t → run limited s (x ∷ xs) ≡ run limited t xs
+pub run_step : (limited : Bool) (s : State) (x : Word) (t : State) (xs : List Word) → (limited ≡ true → exceeds s x ≡ false) → go s x ≡ Some t
+    → run limited s (x ∷ xs) ≡ run limited t xs
 run_step limited s x t xs low e = ap (λ o. and_then o (λ u. run limited u xs)) (stepped limited s x t low e)
 
 -- A step within limits is one without, and its word is within them.
@@ -66,7 +67,8 @@ neck_role turnstile = refl
 neck_role arrow = refl
 
 -- Whatever holds of a role where its test passes, holds of a name's role.
-pub by_role : (c : Bytes) (M : Role → Type 0) → (is_one_of products c ≡ true → M is_product) → (is_one_of sums c ≡ true → M is_sum) → (is_one_of relations c ≡ true → M is_relation)
+pub by_role : (c : Bytes) (M : Role → Type 0) → (is_one_of products c ≡ true → M is_product) → (is_one_of sums c ≡ true → M is_sum)
+    → (is_one_of relations c ≡ true → M is_relation)
     → ((n : Neck) → c ≡ symbol_of n → M (is_neck n)) → M is_none → M (role c)
 by_role c M p s r n o = one (is_one_of products c) refl
   where
@@ -78,20 +80,27 @@ by_role c M p s r n o = one (is_one_of products c) refl
     four true e = n turnstile ((bytes_eq-Decides c (codes ":-")).0 e)
     four false e = five (bytes_eq c (codes "-->")) refl
 
-    three : (b : Bool) → is_one_of relations c ≡ b → M (cond b is_relation (cond (bytes_eq c (codes ":-")) (is_neck turnstile) (cond (bytes_eq c (codes "-->")) (is_neck arrow) is_none)))
+    three : (b : Bool) → is_one_of relations c ≡ b
+        → M (cond b is_relation (cond (bytes_eq c (codes ":-")) (is_neck turnstile) (cond (bytes_eq c (codes "-->")) (is_neck arrow) is_none)))
     three true e = r e
     three false e = four (bytes_eq c (codes ":-")) refl
 
-    two : (b : Bool) → is_one_of sums c ≡ b → M (cond b is_sum (cond (is_one_of relations c) is_relation (cond (bytes_eq c (codes ":-")) (is_neck turnstile) (cond (bytes_eq c (codes "-->")) (is_neck arrow) is_none))))
+    two : (b : Bool) → is_one_of sums c ≡ b
+        → M (cond b is_sum (cond (is_one_of relations c) is_relation
+        (cond (bytes_eq c (codes ":-")) (is_neck turnstile) (cond (bytes_eq c (codes "-->")) (is_neck arrow) is_none))))
     two true e = s e
     two false e = three (is_one_of relations c) refl
 
-    one : (b : Bool) → is_one_of products c ≡ b → M (cond b is_product (cond (is_one_of sums c) is_sum (cond (is_one_of relations c) is_relation (cond (bytes_eq c (codes ":-")) (is_neck turnstile) (cond (bytes_eq c (codes "-->")) (is_neck arrow) is_none)))))
+    one : (b : Bool) → is_one_of products c ≡ b
+        → M (cond b is_product (cond (is_one_of sums c) is_sum
+        (cond (is_one_of relations c) is_relation
+        (cond (bytes_eq c (codes ":-")) (is_neck turnstile) (cond (bytes_eq c (codes "-->")) (is_neck arrow) is_none)))))
     one true e = p e
     one false e = two (is_one_of sums c) refl
 
 -- a run that goes on by one word
-pub run_more : (limited : Bool) (r : State) (ps : List Placed) (p : Placed) (s t : State) → run limited r (words_of ps) ≡ Some s → step limited s p.word ≡ Some t
+pub run_more : (limited : Bool) (r : State) (ps : List Placed) (p : Placed) (s t : State) → run limited r (words_of ps) ≡ Some s
+    → step limited s p.word ≡ Some t
     → run limited r (words_of (ps ++ p ∷ [])) ≡ Some t
 run_more limited r [] p s t e f =
     let same : r ≡ s = cc in

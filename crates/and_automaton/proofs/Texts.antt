@@ -1,12 +1,14 @@
 -- Texts are read clause by clause.
-use Rattle.std.proofs.Common.{ℕ, ◌≡◌, ◌⊎◌, inl, inr, ◌↔◌, Bool, true, false, true≢false, List, [], ◌∷◌, ◌++◌, Option, Some, None, refl, ap, sym, ◌∙◌, subst, append_assoc, append-nil}
+use Rattle.std.proofs.Common.{ℕ, ◌≡◌, ◌⊎◌, inl, inr, ◌↔◌, Bool, true, false, true≢false, List, [], ◌∷◌, ◌++◌, Option, Some, None, refl, ap, sym, ◌∙◌, subst}
+use Rattle.std.proofs.Common.{append_assoc, append-nil}
 use Rattle.std.specs.Prelude.{codes}
 use Rattle.and_syntax.specs.Written.{Written}
 use Rattle.and_language.specs.Words.{Word, Placed}
 use Rattle.and_language.specs.Words as words
 use Rattle.and_language.specs.Grammar.{binary, unary, Sort, symbol_of, sort_of, Statement, IsText, CanGoOn}
 use Rattle.and_language.specs.Refusals.{NoneEnds}
-use Rattle.and_automaton.specs.Machine.{ClausePart, head, body, query, wanted, numeral, operand, State, start, inside, opened_list, over, is_over, at700, at1100, go, step, and_then, run, Reading, between, within, at_state, take_word, take_words, words_of}
+use Rattle.and_automaton.specs.Machine.{ClausePart, head, body, query, wanted, numeral, operand, State, start, inside, opened_list, over, is_over, at700}
+use Rattle.and_automaton.specs.Machine.{at1100, go, step, and_then, run, Reading, between, within, at_state, take_word, take_words, words_of}
 use Rattle.and_automaton.proofs.Steps.{step_tells}
 use Rattle.and_automaton.proofs.Derived.{clause_taken}
 use Rattle.and_automaton.proofs.Accepted.{and_then_tells, clause_accepted}
@@ -20,23 +22,27 @@ module _ (limited : Bool) where
   nothing_behind q w x s e = let told = (step_tells limited (over q w) x s e).1 in cc
 
   -- A word that takes a clause on takes its text on,
-  pub word_read : (ss : List Statement) (n : ℕ) (s t : State) (p : Placed) → step limited s p.word ≡ Some t → take_word limited (at_state ss n s) p ≡ Some (at_state ss n t)
+  pub word_read : (ss : List Statement) (n : ℕ) (s t : State) (p : Placed) → step limited s p.word ≡ Some t
+      → take_word limited (at_state ss n s) p ≡ Some (at_state ss n t)
   word_read ss n start t p e = ap (λ o. and_then o (λ u. Some (at_state ss n u))) e
   word_read ss n (inside l fs q m) t p e = ap (λ o. and_then o (λ u. Some (at_state ss n u))) e
   word_read ss n (opened_list l fs q) t p e = ap (λ o. and_then o (λ u. Some (at_state ss n u))) e
   word_read ss n (over q w) t p e = absurd (nothing_behind q w p.word t e)
 
-  pub first_read : (ss : List Statement) (t : State) (p : Placed) → step limited start p.word ≡ Some t → take_word limited (between ss) p ≡ Some (at_state ss p.place t)
+  pub first_read : (ss : List Statement) (t : State) (p : Placed) → step limited start p.word ≡ Some t
+      → take_word limited (between ss) p ≡ Some (at_state ss p.place t)
   first_read ss t p e = ap (λ o. and_then o (λ u. Some (at_state ss p.place u))) e
 
   -- and so do words.
-  pub words_read : (ss : List Statement) (n : ℕ) (ps : List Placed) (s t : State) → run limited s (words_of ps) ≡ Some t → take_words limited (at_state ss n s) ps ≡ Some (at_state ss n t)
+  pub words_read : (ss : List Statement) (n : ℕ) (ps : List Placed) (s t : State) → run limited s (words_of ps) ≡ Some t
+      → take_words limited (at_state ss n s) ps ≡ Some (at_state ss n t)
   words_read ss n [] s t e = let same : s ≡ t = cc in ap (λ u. Some (at_state ss n u)) same
   words_read ss n (p ∷ ps) s t e =
       let (u, one, more) = and_then_tells (step limited s p.word) (λ z. run limited z (words_of ps)) t e in
       ap (λ o. and_then o (λ r. take_words limited r ps)) (word_read ss n s u p one) ∙ words_read ss n ps u t more
 
-  pub clause_read : (ss : List Statement) (p : Placed) (ps : List Placed) (t : State) → run limited start (words_of (p ∷ ps)) ≡ Some t → take_words limited (between ss) (p ∷ ps) ≡ Some (at_state ss p.place t)
+  pub clause_read : (ss : List Statement) (p : Placed) (ps : List Placed) (t : State) → run limited start (words_of (p ∷ ps)) ≡ Some t
+      → take_words limited (between ss) (p ∷ ps) ≡ Some (at_state ss p.place t)
   clause_read ss p ps t e =
       let (u, one, more) = and_then_tells (step limited start p.word) (λ z. run limited z (words_of ps)) t e in
       ap (λ o. and_then o (λ r. take_words limited r ps)) (first_read ss u p one) ∙ words_read ss p.place ps u t more
@@ -50,11 +56,13 @@ module _ (limited : Bool) where
       first None h = refl
       first (Some t) h = h t
 
-  pub read_through : (r t u : Reading) (ps qs : List Placed) → take_words limited r ps ≡ Some t → take_words limited t qs ≡ Some u → take_words limited r (ps ++ qs) ≡ Some u
+  pub read_through : (r t u : Reading) (ps qs : List Placed) → take_words limited r ps ≡ Some t → take_words limited t qs ≡ Some u
+      → take_words limited r (ps ++ qs) ≡ Some u
   read_through r t u ps qs e f = read_both r ps qs ∙ ap (λ o. and_then o (λ v. take_words limited v qs)) e ∙ f
 
   -- What the grammar derives as a text, the machine accepts.
-  pub text_taken : (ps : List Placed) (ss : List Statement) → IsText limited ps ss → (before : List Statement) → take_words limited (between before) ps ≡ Some (between (before ++ ss))
+  pub text_taken : (ps : List Placed) (ss : List Statement) → IsText limited ps ss → (before : List Statement)
+      → take_words limited (between before) ps ≡ Some (between (before ++ ss))
   text_taken ps ss IsText.nothing before = ap (λ l. Some (between l)) (sym (append-nil before))
   text_taken ps ss (IsText.statement first others rest whole q w more is clause text) before =
       let s : Statement = statement q w first.place in
@@ -65,21 +73,26 @@ module _ (limited : Bool) where
 
   -- What the machine accepts as a text, the grammar derives.
   abbrev FromBetween : List Placed → Type 0
-  FromBetween ps = (before all : List Statement) → take_words limited (between before) ps ≡ Some (between all) → (ss : List Statement) × IsText limited ps ss × (all ≡ before ++ ss)
+  FromBetween ps = (before all : List Statement) → take_words limited (between before) ps ≡ Some (between all)
+      → (ss : List Statement) × IsText limited ps ss × (all ≡ before ++ ss)
 
   abbrev FromState : List Placed → Type 0
   FromState ps = (s : State) (n : ℕ) (before all : List Statement) → take_words limited (at_state before n s) ps ≡ Some (between all)
-      → (others rest : List Placed) × (q : Sort) × (w : Written) × (ss : List Statement) × (ps ≡ others ++ rest) × (run limited s (words_of others) ≡ Some (over q w))
+      → (others rest : List Placed) × (q : Sort) × (w : Written) × (ss : List Statement) × (ps ≡ others ++ rest)
+      × (run limited s (words_of others) ≡ Some (over q w))
       × IsText limited rest ss × (all ≡ (before ++ statement q w n ∷ []) ++ ss)
 
-  from_over : (ps : List Placed) → FromBetween ps → (q : Sort) (w : Written) (n : ℕ) (before all : List Statement) → take_words limited (at_state before n (over q w)) ps ≡ Some (between all)
-      → (others rest : List Placed) × (v : Sort) × (u : Written) × (ss : List Statement) × (ps ≡ others ++ rest) × (run limited (over q w) (words_of others) ≡ Some (over v u))
+  from_over : (ps : List Placed) → FromBetween ps → (q : Sort) (w : Written) (n : ℕ) (before all : List Statement)
+      → take_words limited (at_state before n (over q w)) ps ≡ Some (between all)
+      → (others rest : List Placed) × (v : Sort) × (u : Written) × (ss : List Statement) × (ps ≡ others ++ rest)
+      × (run limited (over q w) (words_of others) ≡ Some (over v u))
       × IsText limited rest ss × (all ≡ (before ++ statement v u n ∷ []) ++ ss)
   from_over ps h q w n before all e = let (ss, text, is) = h (before ++ statement q w n ∷ []) all e in ([], ps, q, w, ss, refl, refl, text, is)
 
   from_word : (p : Placed) (ps : List Placed) → FromState ps → (s : State) (n : ℕ) (before all : List Statement)
       → and_then (and_then (step limited s p.word) (λ t. Some (at_state before n t))) (λ r. take_words limited r ps) ≡ Some (between all)
-      → (others rest : List Placed) × (q : Sort) × (w : Written) × (ss : List Statement) × (p ∷ ps ≡ (p ∷ others) ++ rest) × (run limited s (p.word ∷ words_of others) ≡ Some (over q w))
+      → (others rest : List Placed) × (q : Sort) × (w : Written) × (ss : List Statement) × (p ∷ ps ≡ (p ∷ others) ++ rest)
+      × (run limited s (p.word ∷ words_of others) ≡ Some (over q w))
       × IsText limited rest ss × (all ≡ (before ++ statement q w n ∷ []) ++ ss)
   from_word p ps h s n before all e =
       let (r, one, more) = and_then_tells (and_then (step limited s p.word) (λ t. Some (at_state before n t))) (λ r. take_words limited r ps) (between all) e in
@@ -111,7 +124,8 @@ module _ (limited : Bool) where
 
       again : FromState ps → (s : State) (n : ℕ) (before all : List Statement)
           → and_then (and_then (step limited s p.word) (λ t. Some (at_state before n t))) (λ r. take_words limited r ps) ≡ Some (between all)
-          → (others rest : List Placed) × (q : Sort) × (w : Written) × (ss : List Statement) × (p ∷ ps ≡ others ++ rest) × (run limited s (words_of others) ≡ Some (over q w))
+          → (others rest : List Placed) × (q : Sort) × (w : Written) × (ss : List Statement) × (p ∷ ps ≡ others ++ rest)
+          × (run limited s (words_of others) ≡ Some (over q w))
           × IsText limited rest ss × (all ≡ (before ++ statement q w n ∷ []) ++ ss)
       again h s n before all e =
           let (others, rest, q, w, ss, parted, ran, text, whole) = from_word p ps h s n before all e in
@@ -134,7 +148,8 @@ module _ (limited : Bool) where
   AtState r = (ss : List Statement) × (n : ℕ) × (s : State) × (r ≡ at_state ss n s)
 
   word_state : (r u : Reading) (p : Placed) → take_word limited r p ≡ Some u → AtState u
-  word_state (between ss) u p e = let (s, one, same) = and_then_tells (step limited start p.word) (λ z. Some (at_state ss p.place z)) u e in (ss, p.place, s, cc)
+  word_state (between ss) u p e = let (s, one, same) =
+      and_then_tells (step limited start p.word) (λ z. Some (at_state ss p.place z)) u e in (ss, p.place, s, cc)
   word_state (within ss n s) u p e = let (v, one, same) = and_then_tells (step limited s p.word) (λ z. Some (at_state ss n z)) u e in (ss, n, v, cc)
 
   words_state : (r u : Reading) (ps : List Placed) → AtState r → take_words limited r ps ≡ Some u → AtState u
@@ -173,17 +188,28 @@ module _ (limited : Bool) where
   -- Behind a whole text, and the beginning of a clause in the state s, the machine takes a word as s does.
   begun_reads : (whole begun : List Placed) (ss : List Statement) (s : State) → IsText limited whole ss → run limited start (words_of begun) ≡ Some s
       → (r : Reading) × (n : ℕ) × (take_words limited (between []) (whole ++ begun) ≡ Some r) × ((r ≡ at_state ss n s) ⊎ ((r ≡ between ss) × (s ≡ start)))
-  begun_reads whole [] ss s text e =
-      (between ss, 0, ap (take_words limited (between [])) (append-nil whole) ∙ text_taken whole ss text [], inr (refl, (let same : start ≡ s = cc in sym same)))
-  begun_reads whole (p ∷ ps) ss s text e =
-      (at_state ss p.place s, p.place, read_through (between []) (between ss) (at_state ss p.place s) whole (p ∷ ps) (text_taken whole ss text []) (clause_read ss p ps s e), inl refl)
+  begun_reads whole [] ss s text e = (
+    between ss,
+    0,
+    ap (take_words limited (between [])) (append-nil whole) ∙ text_taken whole ss text [],
+    inr (refl, (let same : start ≡ s = cc in sym same)),
+  )
+  begun_reads whole (p ∷ ps) ss s text e = (
+    at_state ss p.place s,
+    p.place,
+    read_through (between []) (between ss) (at_state ss p.place s) whole (p ∷ ps) (text_taken whole ss text []) (clause_read ss p ps s e),
+    inl refl,
+  )
 
-  pub begun_goes_on : (whole begun : List Placed) (ss : List Statement) (s : State) → IsText limited whole ss → run limited start (words_of begun) ≡ Some s → CanGoOn limited (whole ++ begun)
+  pub begun_goes_on : (whole begun : List Placed) (ss : List Statement) (s : State) → IsText limited whole ss → run limited start (words_of begun) ≡ Some s
+      → CanGoOn limited (whole ++ begun)
   begun_goes_on whole begun ss s text e = let (r, n, ran, is) = begun_reads whole begun ss s text e in goes_on (whole ++ begun) r ran
 
-  word_taken : (ss : List Statement) (n : ℕ) (s : State) (p : Placed) (r : Reading) → is_over s ≡ false → (r ≡ at_state ss n s) ⊎ ((r ≡ between ss) × (s ≡ start))
+  word_taken : (ss : List Statement) (n : ℕ) (s : State) (p : Placed) (r : Reading) → is_over s ≡ false
+      → (r ≡ at_state ss n s) ⊎ ((r ≡ between ss) × (s ≡ start))
       → (m : ℕ) × (take_word limited r p ≡ and_then (step limited s p.word) (λ t. Some (at_state ss m t)))
-  word_taken ss n s p r unended (inr (is, same)) = (p.place, ap (λ z. take_word limited z p) is ∙ ap (λ z. and_then (step limited z p.word) (λ t. Some (at_state ss p.place t))) (sym same))
+  word_taken ss n s p r unended (inr (is, same)) =
+      (p.place, ap (λ z. take_word limited z p) is ∙ ap (λ z. and_then (step limited z p.word) (λ t. Some (at_state ss p.place t))) (sym same))
   word_taken ss n s p r unended (inl is) = (n, ap (λ z. take_word limited z p) is ∙ by_state s unended)
     where
       by_state : (s : State) → is_over s ≡ false → take_word limited (at_state ss n s) p ≡ and_then (step limited s p.word) (λ t. Some (at_state ss n t))
@@ -192,14 +218,16 @@ module _ (limited : Bool) where
       by_state (opened_list l fs q) o = refl
       by_state (over q w) o = absurd (cc)
 
-  pub word_goes_on : (whole begun : List Placed) (p : Placed) (ss : List Statement) (s : State) → IsText limited whole ss → run limited start (words_of begun) ≡ Some s → is_over s ≡ false
+  pub word_goes_on : (whole begun : List Placed) (p : Placed) (ss : List Statement) (s : State) → IsText limited whole ss
+      → run limited start (words_of begun) ≡ Some s → is_over s ≡ false
       → CanGoOn limited ((whole ++ begun) ++ p ∷ []) ↔ ((t : State) × (step limited s p.word ≡ Some t))
   word_goes_on whole begun p ss s text e unended =
       let (r, n, ran, is) = begun_reads whole begun ss s text e in
       let (m, took) = word_taken ss n s p r unended is in
       let there : CanGoOn limited ((whole ++ begun) ++ p ∷ []) → (t : State) × (step limited s p.word ≡ Some t) = λ c.
       let (u, all) = went_on ((whole ++ begun) ++ p ∷ []) c in
-      let one : take_words limited r (p ∷ []) ≡ Some u = sym (ap (λ o. and_then o (λ z. take_words limited z (p ∷ []))) ran) ∙ sym (read_both (between []) (whole ++ begun) (p ∷ [])) ∙ all in
+      let one : take_words limited r (p ∷ []) ≡ Some u = sym (ap (λ o. and_then o (λ z. take_words limited z (p ∷ []))) ran)
+      ∙ sym (read_both (between []) (whole ++ begun) (p ∷ [])) ∙ all in
       let (v, two, rest) = and_then_tells (take_word limited r p) (λ z. Some z) u one in
       let (t, three, same) = and_then_tells (step limited s p.word) (λ t. Some (at_state ss m t)) v (sym took ∙ two) in
       (t, three) in
@@ -220,7 +248,8 @@ module _ (limited : Bool) where
   end_is_over (inside l (f ∷ fs) p (operand w g)) t e = absurd (cc)
   end_is_over (inside l [] p (operand w g)) t e = by_part l.part l.alternatives l.before e
     where
-      by_part : (k : ClausePart) (es b : List Written) → go (inside (record { part = k; alternatives = es; before = b }) [] p (operand w g)) words.end ≡ Some t → is_over t ≡ true
+      by_part : (k : ClausePart) (es b : List Written) → go (inside (record { part = k; alternatives = es; before = b }) [] p (operand w g)) words.end ≡ Some t
+          → is_over t ≡ true
       by_part head es b e = seen (over Sort.clause (at1100 es b (at700 p w))) t e refl
       by_part (body n h) es b e = seen (over (sort_of n) (binary (symbol_of n) h (at1100 es b (at700 p w)))) t e refl
       by_part query es b e = seen (over Sort.query (unary (codes "?-") (at1100 es b (at700 p w)))) t e refl
@@ -241,15 +270,18 @@ module _ (limited : Bool) where
   none_ends s t (p ∷ ps) e unended =
       let (u, one, more) = and_then_tells (step limited s p.word) (λ z. run limited z (words_of ps)) t e in
       let told = (step_tells limited s p.word u one).1 in (
-        (λ is. let ended : is_over t ≡ true = over_stays u t (words_of ps) (end_is_over s u (subst (λ x. go s x ≡ Some u) is told)) more in absurd (true≢false (sym ended ∙ unended))),
+        (λ is. let ended : is_over t ≡ true =
+            over_stays u t (words_of ps) (end_is_over s u (subst (λ x. go s x ≡ Some u) is told)) more in absurd (true≢false (sym ended ∙ unended))),
         none_ends u t ps more unended,
       )
 
   -- Two texts are one, a clause by itself is one, and a text has one list of clauses.
   pub joined : (ps qs : List Placed) (ss ts : List Statement) → IsText limited ps ss → IsText limited qs ts → IsText limited (ps ++ qs) (ss ++ ts)
-  joined ps qs ss ts a b = text_accepted (ps ++ qs) (ss ++ ts) (read_through (between []) (between ss) (between (ss ++ ts)) ps qs (text_taken ps ss a []) (text_taken qs ts b ss))
+  joined ps qs ss ts a b =
+      text_accepted (ps ++ qs) (ss ++ ts) (read_through (between []) (between ss) (between (ss ++ ts)) ps qs (text_taken ps ss a []) (text_taken qs ts b ss))
 
-  pub one_clause : (p : Placed) (ps : List Placed) (q : Sort) (w : Written) → run limited start (words_of (p ∷ ps)) ≡ Some (over q w) → IsText limited (p ∷ ps) (statement q w p.place ∷ [])
+  pub one_clause : (p : Placed) (ps : List Placed) (q : Sort) (w : Written) → run limited start (words_of (p ∷ ps)) ≡ Some (over q w)
+      → IsText limited (p ∷ ps) (statement q w p.place ∷ [])
   one_clause p ps q w e = text_accepted (p ∷ ps) (statement q w p.place ∷ []) (clause_read [] p ps (over q w) e)
 
   pub same_text : (ps : List Placed) (ss ts : List Statement) → IsText limited ps ss → IsText limited ps ts → ss ≡ ts

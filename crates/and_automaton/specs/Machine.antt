@@ -1,12 +1,15 @@
--- A machine that takes the words of a text one by one, and says at each whether a text of the grammar can go on with it.
-use Rattle.std.specs.Prelude.{ℕ, zero, suc, ◌+◌, pos, neg_ℤ, Bool, true, false, cond, ◌&&◌, ◌||◌, List, [], ◌∷◌, ◌++◌, length, map, Option, Some, None, leb, codes}
+-- A machine that takes the words of a text one by one, and says at each whether a text of the grammar can go on with
+-- it.
+use Rattle.std.specs.Prelude.{ℕ, zero, suc, ◌+◌, pos, neg_ℤ, Bool, true, false, cond, ◌&&◌, List, [], ◌∷◌, ◌++◌}
+use Rattle.std.specs.Prelude.{length, map, Option, Some, None, leb, codes}
 use Rattle.std.specs.Str.{bytes_eq}
 use Rattle.and_model.specs.Lines.{Bytes}
 use Rattle.and_syntax.specs.Written
 use Rattle.and_syntax.specs.Written.{Written, Many}
 use Rattle.and_language.specs.Words.{Word, Placed, products, sums, relations, is_one_of, is_reserved}
 use Rattle.and_language.specs.Words as words
-use Rattle.and_language.specs.Grammar.{binary, unary, cell, nil, Sort, Neck, turnstile, arrow, symbol_of, sort_of, Statement}
+use Rattle.and_language.specs.Grammar.{binary, unary, cell, nil, Sort, Neck, turnstile, symbol_of, sort_of}
+use Rattle.and_language.specs.Grammar.{arrow, Statement}
 use Rattle.and_model.specs.declared.limits.TheConstants.{MAX_ARGUMENTS, MAX_NESTING}
 
 -- an infix operator and its left operand, where the right one is to come
@@ -14,7 +17,8 @@ pub record Half : Type 0 where
   pub left : Written
   pub operator : Bytes
 
--- What waits for its operand since the last bracket, comma, semicolon or bar: at most one operator of each priority, and prefix minuses.
+-- What waits for its operand since the last bracket, comma, semicolon or bar: at most one operator of each priority,
+-- and prefix minuses.
 pub record Pending : Type 0 where
   pub relation : Option Half
   pub sum : Option Half
@@ -51,7 +55,8 @@ at500 p w = with_half p.sum (at400 p w)
 abbrev pub at700 : Pending → Written → Written
 at700 p w = with_half p.relation (at500 p w)
 
--- An open bracket: a plain one or a brace, with the alternatives before the last semicolon in it (the latest first); that of the arguments of a compound with that name, that of a list's elements, or that of a list behind its bar.
+-- An open bracket: a plain one or a brace, with the alternatives before the last semicolon in it (the latest first);
+-- that of the arguments of a compound with that name, that of a list's elements, or that of a list behind its bar.
 pub data Bracket : Type 0 where
   plain : List Written → Bracket
   braces : List Written → Bracket
@@ -59,7 +64,8 @@ pub data Bracket : Type 0 where
   elements : Bracket
   tail : Bracket
 
--- An open bracket, with the terms since the last semicolon and before the last comma or bar in it (the latest first), and what was pending before it.
+-- An open bracket, with the terms since the last semicolon and before the last comma or bar in it (the latest first),
+-- and what was pending before it.
 pub record Frame : Type 0 where
   pub bracket : Bracket
   pub before : List Written
@@ -71,19 +77,22 @@ pub data ClausePart : Type 0 where
   body : Neck → Written → ClausePart
   query : ClausePart
 
--- What stands outside of all brackets: the part of the clause, its alternatives before the last semicolon, and the terms since then and before the last comma (the latest first).
+-- What stands outside of all brackets: the part of the clause, its alternatives before the last semicolon, and the
+-- terms since then and before the last comma (the latest first).
 pub record Outermost : Type 0 where
   pub part : ClausePart
   pub alternatives : List Written
   pub before : List Written
 
--- What may come next: an operand; only the integer behind its minus; or what can follow that operand, which may be a name that a bracket makes a compound's.
+-- What may come next: an operand; only the integer behind its minus; or what can follow that operand, which may be a
+-- name that a bracket makes a compound's.
 pub data Mode : Type 0 where
   wanted : Mode
   numeral : Mode
   operand : Written → Option Bytes → Mode
 
--- Before the first word of a clause; inside a clause, where brackets are open (the innermost first); right behind the bracket of a list; and behind the end of a statement of that sort and with that term.
+-- Before the first word of a clause; inside a clause, where brackets are open (the innermost first); right behind the
+-- bracket of a list; and behind the end of a statement of that sort and with that term.
 pub data State : Type 0 where
   start : State
   inside : Outermost → List Frame → Pending → Mode → State
@@ -129,20 +138,27 @@ pub data Role : Type 0 where
 
 -- the role of a name: that of the one list of operators in which it stands
 abbrev pub role : Bytes → Role
-role c = cond (is_one_of products c) is_product (cond (is_one_of sums c) is_sum (cond (is_one_of relations c) is_relation (cond (bytes_eq c (codes ":-")) (is_neck turnstile) (cond (bytes_eq c (codes "-->")) (is_neck arrow) is_none))))
+role c = cond (is_one_of products c) is_product
+    (cond (is_one_of sums c) is_sum
+    (cond (is_one_of relations c) is_relation
+    (cond (bytes_eq c (codes ":-")) (is_neck turnstile) (cond (bytes_eq c (codes "-->")) (is_neck arrow) is_none))))
 
 -- a word where an operand is wanted: the state behind it, if it is one with which an operand begins
 abbrev pub take_operand : Outermost → List Frame → Pending → Word → Option State
 take_operand l fs p (words.variable x) = Some (inside l fs p (operand (Written.variable x) None))
 take_operand l fs p (words.integer z) = Some (inside l fs p (operand (Written.integer (pos z)) None))
-take_operand l fs p (words.name c) = cond (is_reserved c) None (Some (inside l fs p (operand (Written.compound c Written.none) (Some c))))
+take_operand l fs p (words.name c) =
+    cond (is_reserved c) None (Some (inside l fs p (operand (Written.compound c Written.none) (Some c))))
 take_operand l fs p (words.quoted c) = Some (inside l fs p (operand (Written.compound c Written.none) (Some c)))
 take_operand l fs p (words.minus words.integer) = Some (inside l fs p numeral)
 take_operand l fs p (words.minus words.bracket) = None
-take_operand l fs p (words.minus words.stop) = Some (inside l fs p (operand (Written.compound (codes "-") Written.none) None))
+take_operand l fs p (words.minus words.stop) =
+    Some (inside l fs p (operand (Written.compound (codes "-") Written.none) None))
 take_operand l fs p (words.minus words.operand) = Some (inside l fs (record p { minuses = suc p.minuses }) wanted)
-take_operand l fs p (words.open_bracket behind) = Some (inside l (record { bracket = plain []; before = []; outside = p } ∷ fs) nothing_pending wanted)
-take_operand l fs p words.open_brace = Some (inside l (record { bracket = braces []; before = []; outside = p } ∷ fs) nothing_pending wanted)
+take_operand l fs p (words.open_bracket behind) =
+    Some (inside l (record { bracket = plain []; before = []; outside = p } ∷ fs) nothing_pending wanted)
+take_operand l fs p words.open_brace =
+    Some (inside l (record { bracket = braces []; before = []; outside = p } ∷ fs) nothing_pending wanted)
 take_operand l fs p words.open_list = Some (opened_list l fs p)
 take_operand l fs p words.close_bracket = None
 take_operand l fs p words.close_list = None
@@ -154,38 +170,65 @@ take_operand l fs p words.end = None
 
 -- A product behind the operand w: its left operand is what w becomes up to 400.
 abbrev pub take_product : Outermost → List Frame → Pending → Written → Bytes → State
-take_product l fs p w c = inside l fs (record { relation = p.relation; sum = p.sum; product = Some (record { left = at400 p w; operator = c }); minuses = 0 }) wanted
+take_product l fs p w c =
+    inside l fs (record {
+      relation = p.relation;
+      sum = p.sum;
+      product = Some (record { left = at400 p w; operator = c });
+      minuses = 0;
+    }) wanted
 
 -- A sum behind w: its left operand is what w becomes up to 500.
 abbrev pub take_sum : Outermost → List Frame → Pending → Written → Bytes → State
-take_sum l fs p w c = inside l fs (record { relation = p.relation; sum = Some (record { left = at500 p w; operator = c }); product = None; minuses = 0 }) wanted
+take_sum l fs p w c = inside l fs
+    (record {
+      relation = p.relation;
+      sum = Some (record { left = at500 p w; operator = c });
+      product = None;
+      minuses = 0;
+    }) wanted
 
 -- A relation behind w, where none is pending: its left operand is what w becomes up to 500.
 abbrev pub take_relation : Outermost → List Frame → Pending → Written → Bytes → Option State
-take_relation l fs p w c = elim p.relation [ None ↦ Some (inside l fs (record { relation = Some (record { left = at500 p w; operator = c }); sum = None; product = None; minuses = 0 }) wanted) | Some h ↦ None ]
+take_relation l fs p w c = elim p.relation [
+  | None ↦ Some (inside l fs
+      (record { relation = Some (record { left = at500 p w; operator = c }); sum = None; product = None; minuses = 0 })
+      wanted)
+  | Some h ↦ None
+]
 
 -- the `:-` or `-->` behind the term a, where that ends the head
 abbrev pub take_neck : Outermost → List Frame → Neck → Written → Option State
 take_neck l (f ∷ fs) n a = None
 take_neck l [] n a = elim l.part [
-  | head ↦ Some (inside (record { part = body n (at1100 l.alternatives l.before a); alternatives = []; before = [] }) [] nothing_pending wanted)
+  | head ↦ Some (inside (record { part = body n (at1100 l.alternatives l.before a); alternatives = []; before = [] })
+      [] nothing_pending wanted)
   | body m h ↦ None
   | query ↦ None
 ]
 
 -- a comma behind the term a: another argument, element or term of a conjunction begins
 abbrev pub take_comma : Outermost → List Frame → Written → Option State
-take_comma l [] a = Some (inside (record { part = l.part; alternatives = l.alternatives; before = a ∷ l.before }) [] nothing_pending wanted)
+take_comma l [] a = Some
+    (inside (record { part = l.part; alternatives = l.alternatives; before = a ∷ l.before }) [] nothing_pending wanted)
 take_comma l (f ∷ fs) a =
-    let next : Option State = Some (inside l (record { bracket = f.bracket; before = a ∷ f.before; outside = f.outside } ∷ fs) nothing_pending wanted) in
+    let next : Option State =
+    Some (inside l (record { bracket = f.bracket; before = a ∷ f.before; outside = f.outside } ∷ fs)
+    nothing_pending wanted) in
     elim f.bracket [ plain es ↦ next | braces es ↦ next | arguments c ↦ next | elements ↦ next | tail ↦ None ]
 
 -- a semicolon behind the term a: another alternative begins
 abbrev pub take_semicolon : Outermost → List Frame → Written → Option State
-take_semicolon l [] a = Some (inside (record { part = l.part; alternatives = conjunction l.before a ∷ l.alternatives; before = [] }) [] nothing_pending wanted)
+take_semicolon l [] a = Some
+    (inside (record { part = l.part; alternatives = conjunction l.before a ∷ l.alternatives; before = [] }) []
+    nothing_pending wanted)
 take_semicolon l (f ∷ fs) a = elim f.bracket [
-  | plain es ↦ Some (inside l (record { bracket = plain (conjunction f.before a ∷ es); before = []; outside = f.outside } ∷ fs) nothing_pending wanted)
-  | braces es ↦ Some (inside l (record { bracket = braces (conjunction f.before a ∷ es); before = []; outside = f.outside } ∷ fs) nothing_pending wanted)
+  | plain es ↦ Some (inside l
+      (record { bracket = plain (conjunction f.before a ∷ es); before = []; outside = f.outside } ∷ fs)
+      nothing_pending wanted)
+  | braces es ↦ Some (inside l
+      (record { bracket = braces (conjunction f.before a ∷ es); before = []; outside = f.outside } ∷ fs)
+      nothing_pending wanted)
   | arguments c ↦ None
   | elements ↦ None
   | tail ↦ None
@@ -198,7 +241,8 @@ take_bar l (f ∷ fs) a = elim f.bracket [
   | plain es ↦ None
   | braces es ↦ None
   | arguments c ↦ None
-  | elements ↦ Some (inside l (record { bracket = tail; before = a ∷ f.before; outside = f.outside } ∷ fs) nothing_pending wanted)
+  | elements ↦ Some (inside l (record { bracket = tail; before = a ∷ f.before; outside = f.outside } ∷ fs)
+      nothing_pending wanted)
   | tail ↦ None
 ]
 
@@ -208,7 +252,8 @@ take_close_bracket l [] a = None
 take_close_bracket l (f ∷ fs) a = elim f.bracket [
   | plain es ↦ Some (inside l fs f.outside (operand (at1100 es f.before a) None))
   | braces es ↦ None
-  | arguments c ↦ Some (inside l fs f.outside (operand (Written.compound c (many f.before (Written.more a Written.none))) None))
+  | arguments c ↦ Some (inside l fs f.outside
+      (operand (Written.compound c (many f.before (Written.more a Written.none))) None))
   | elements ↦ None
   | tail ↦ None
 ]
@@ -255,7 +300,8 @@ take_name l fs p w c is_none = None
 -- a bracket behind an operand: it makes a name that of a compound
 abbrev pub take_functor : Outermost → List Frame → Pending → Option Bytes → Option State
 take_functor l fs p None = None
-take_functor l fs p (Some c) = Some (inside l (record { bracket = arguments c; before = []; outside = p } ∷ fs) nothing_pending wanted)
+take_functor l fs p (Some c) =
+    Some (inside l (record { bracket = arguments c; before = []; outside = p } ∷ fs) nothing_pending wanted)
 
 -- a word behind the operand w, which may be the name f
 abbrev pub take_operator : Outermost → List Frame → Pending → Written → Option Bytes → Word → Option State
@@ -310,7 +356,8 @@ in_part a = inside (record { part = a; alternatives = []; before = [] }) [] noth
 
 -- The state behind one more word, without limits; there is none where no clause goes on with it.
 abbrev pub go : State → Word → Option State
-go start x = cond (begins_query x) (Some (in_part query)) (take_operand (record { part = head; alternatives = []; before = [] }) [] nothing_pending x)
+go start x = cond (begins_query x) (Some (in_part query))
+    (take_operand (record { part = head; alternatives = []; before = [] }) [] nothing_pending x)
 go (inside l fs p wanted) x = take_operand l fs p x
 go (inside l fs p numeral) x = take_numeral l fs p x
 go (inside l fs p (operand w f)) x = take_operator l fs p w f x
@@ -319,7 +366,8 @@ go (opened_list l fs p) x =
     (take_operand l (record { bracket = elements; before = []; outside = p } ∷ fs) nothing_pending x)
 go (over q t) x = None
 
--- Where an operand is wanted, the word is over a limit: a numeral of 2 ^ 63 or more, or a bracket or prefix minus where 256 are open.
+-- Where an operand is wanted, the word is over a limit: a numeral of 2 ^ 63 or more, or a bracket or prefix minus
+-- where 256 are open.
 abbrev pub operand_exceeds : List Frame → Pending → Word → Bool
 operand_exceeds fs p (words.integer z) = leb 9223372036854775808 z
 operand_exceeds fs p (words.minus words.operand) = leb MAX_NESTING (p.minuses + depth fs)
@@ -331,7 +379,13 @@ operand_exceeds fs p x = false
 -- the comma is one behind a compound's 255th argument
 abbrev pub comma_exceeds : List Frame → Bool
 comma_exceeds [] = false
-comma_exceeds (f ∷ fs) = elim f.bracket [ plain es ↦ false | braces es ↦ false | arguments c ↦ leb MAX_ARGUMENTS (suc (length f.before)) | elements ↦ false | tail ↦ false ]
+comma_exceeds (f ∷ fs) = elim f.bracket [
+  | plain es ↦ false
+  | braces es ↦ false
+  | arguments c ↦ leb MAX_ARGUMENTS (suc (length f.before))
+  | elements ↦ false
+  | tail ↦ false
+]
 
 -- Behind an operand, the word is over a limit: a bracket where 256 are open, or a comma behind a 255th argument.
 abbrev pub operator_exceeds : List Frame → Pending → Word → Bool
@@ -345,7 +399,8 @@ exceeds start x = operand_exceeds [] nothing_pending x
 exceeds (inside l fs p wanted) x = operand_exceeds fs p x
 exceeds (inside l fs p numeral) x = false
 exceeds (inside l fs p (operand w f)) x = operator_exceeds fs p x
-exceeds (opened_list l fs p) x = operand_exceeds (record { bracket = elements; before = []; outside = p } ∷ fs) nothing_pending x
+exceeds (opened_list l fs p) x =
+    operand_exceeds (record { bracket = elements; before = []; outside = p } ∷ fs) nothing_pending x
 exceeds (over q t) x = false
 
 -- the state behind one more word; there is none where no clause goes on with it, within the limits if they are kept
@@ -362,7 +417,8 @@ abbrev pub run : Bool → State → List Word → Option State
 run limited s [] = Some s
 run limited s (x ∷ xs) = and_then (step limited s x) (λ t. run limited t xs)
 
--- How far a text is read: its clauses, queries and rules so far; and where one more is begun, the place of its first word and the state behind its last.
+-- How far a text is read: its clauses, queries and rules so far; and where one more is begun, the place of its first
+-- word and the state behind its last.
 pub data Reading : Type 0 where
   between : List Statement → Reading
   within : List Statement → ℕ → State → Reading

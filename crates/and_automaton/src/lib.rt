@@ -10,7 +10,8 @@ ghost use Rattle.and_syntax.specs.Written.{Written};
 ghost use Rattle.and_language.specs.Words.{Word, Placed};
 ghost use Rattle.and_language.specs.Grammar.{IsClause, IsText, CanGoOn, Sort, Statement};
 ghost use Rattle.and_language.specs.Refusals.{NoneEnds};
-ghost use Rattle.and_automaton.specs.Machine.{State, start, over, is_over, go, exceeds, step, run, Reading, between, take_words, words_of};
+ghost use Rattle.and_automaton.specs.Machine.{State, start, over, is_over, go, exceeds, step, run, Reading, between};
+ghost use Rattle.and_automaton.specs.Machine.{take_words, words_of};
 
 /// Accepted is derived: words over which the machine comes to the end of a clause or query are
 /// one, with that term; and a text that it takes is one of the grammar, with those statements.

@@ -1,6 +1,6 @@
 //! Rows of words that are not known to be cells yet.
 
-ghost use Rattle.std.specs.Prelude.{◌≡◌, ◌<◌, length, take};
+ghost use Rattle.std.specs.Prelude.{◌≡◌, ◌<◌, length};
 ghost use Rattle.and_cells.specs.Seen.{word_at};
 ghost use Rattle.and_cells.specs.Rows.{IsSound, AreWords, row_of};
 
@@ -10,8 +10,7 @@ use and_model::Ref;
 use std::marker::Model;
 
 /// A row of words, each of a reference or free. What its words name may lie beyond its end, as in a row
-/// that several threads have set and that is to be cut off where their last frame ends. It takes 8 bytes
-/// a word.
+/// that several threads have set. It takes 8 bytes a word.
 #[derive(Drop)]
 pub struct LooseCells {
     words: Vec<u64>,
@@ -54,13 +53,6 @@ impl LooseCells {
             Some(word) => word,
             None => unreachable!(),
         }
-    }
-
-    /// Cuts the row off behind so many words. Takes no memory.
-    pub fn shorten(&mut self, words: usize)
-        ensures { self.new ≡ take words self.old }
-    {
-        self.words.truncate(words);
     }
 
     /// The row as cells, once what its words name is known to be in range. Takes no memory.

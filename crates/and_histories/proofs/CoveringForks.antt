@@ -14,7 +14,7 @@ use Rattle.and_model.proofs.Tested.{first_true, second_true}
 use Rattle.and_histories.proofs.KeptKeys.{keys_are_kept, total_keys}
 
 -- a code that passes the test begins with the key
-begins_prefix : (code key : List ℕ) → begins code key ≡ true → IsPrefix key code
+pub begins_prefix : (code key : List ℕ) → begins code key ≡ true → IsPrefix key code
 begins_prefix code [] is = (code, refl)
 begins_prefix [] (k ∷ key) is = absurd (true≢false (sym is))
 begins_prefix (c ∷ code) (k ∷ key) is =

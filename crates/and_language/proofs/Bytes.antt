@@ -1,14 +1,14 @@
 -- The bytes of a text are no FF, so that its words have no name that begins with it.
-use Rattle.std.proofs.Common.{ℕ, suc, ◌≡◌, ◌+◌, ◌-◌, ◌/◌, ◌%◌, ◌<◌, ◌≤◌, ◌&&◌, ◌||◌, ◌⊎◌, inl, inr, Bool, true, false, not, cond, List, [], ◌∷◌, ◌++◌, length, take, drop, refl, ap, sym, ◌∙◌, arith, subst}
-use Rattle.std.specs.Prelude.{All, nat_eq, ltb, codes, IsUtf8}
-use Rattle.std.specs.Str.{IsValidUpTo}
+use Rattle.std.proofs.Common.{ℕ, ◌≡◌, ◌+◌, ◌-◌, ◌/◌, ◌%◌, ◌<◌, ◌≤◌, ◌&&◌, inl, inr, Bool, true, false, not, cond, List, [], ◌∷◌, ◌++◌, length}
+use Rattle.std.proofs.Common.{take, drop, refl, ap, arith, subst}
+use Rattle.std.specs.Prelude.{All, nat_eq, ltb, IsUtf8}
 use lib.Utf8.{scalar, scalars, encode, encodes, scalar_cases}
 use Rattle.std.proofs.lemmas.Bool.Decides.{nat_tests}
 use Rattle.std.proofs.lemmas.List.Elements.{All-nil, All-cons, All-head, All-tail, All-append, All-take, All-drop}
-use Rattle.and_model.proofs.OwnVariables.{All-front, All-back}
+use Rattle.and_model.proofs.OwnVariables.{All-front}
 use Rattle.and_model.specs.Lines.{Bytes}
 use Rattle.and_syntax.proofs.Names.{is_writable}
-use Rattle.and_language.specs.Tokens.{Kind, Token, Answer, no_more, one, none_for, Names, Quotes, Next, IsFront, Comes, HasTokens}
+use Rattle.and_language.specs.Tokens.{Kind, Token, Answer, no_more, one, Names, Next, IsFront, Comes, HasTokens}
 use Rattle.and_language.specs.Words.{Word, Placed, bytes_of, IsWord, AreWords, Before}
 use Rattle.and_language.specs.Words as words
 

@@ -1,20 +1,22 @@
 -- The program of a text has numbers and names as tables give them.
-use Rattle.std.proofs.Common.{ℕ, zero, suc, ◌≡◌, ◌≢◌, ◌+◌, ◌-◌, ◌*◌, ◌^◌, ◌<◌, ◌≤◌, Bool, true, false, cond, List, [], ◌∷◌, ◌++◌, length, get_or, map, refl, ap, sym, ◌∙◌, arith, subst, Option, Some, None}
-use Rattle.std.specs.Prelude.{All, AllPairs, Contains, ltb}
+use Rattle.std.proofs.Common.{ℕ, zero, suc, ◌≡◌, ◌+◌, ◌-◌, ◌*◌, ◌^◌, ◌<◌, ◌≤◌, Bool, true, false, cond, List, [], ◌∷◌, ◌++◌, length, get_or, map, refl}
+use Rattle.std.proofs.Common.{ap, sym, ◌∙◌, arith, subst, Option, Some, None}
+use Rattle.std.specs.Prelude.{All, Contains, ltb}
 use Rattle.std.proofs.lemmas.Bool.Decides.{nat_tests}
-use Rattle.std.proofs.lemmas.List.{map-append, append_assoc, append-nil, length-map, length-append, get_or-map}
+use Rattle.std.proofs.lemmas.List.{map-append, append_assoc, append-nil, length-map, get_or-map}
 use Rattle.std.proofs.lemmas.List.Elements.{All-nil, All-cons, All-append, All-contains, All-get_or, All-weaker}
 use Rattle.and_model.specs.Lines.{Bytes}
 use Rattle.and_model.specs.Terms.{Term}
 use Rattle.and_model.specs.declared.limits.TheConstants.{MAX_NODES}
-use Rattle.and_source.specs.Source.{SourceItems, Alternatives, SourceClause, SourceProgram, numbers_in_items, numbers_in_clauses, numbers_in, numbers_from}
+use Rattle.and_source.specs.Source.{Alternatives, SourceClause, SourceProgram, numbers_in_items, numbers_in_clauses, numbers_in, numbers_from}
 use Rattle.and_source.specs.Source.{disjunctions_in_items, disjunctions_in_clauses, disjunctions_in, calls_in_items, heads_and_calls_in, heads_and_calls}
 use Rattle.and_source.specs.Source.{distinct_variables, has_name, IsNumbered}
 use Rattle.and_syntax.specs.Written.{Written, has, place}
-use Rattle.and_syntax.specs.Clauses.{Parts, alternatives_of, disjunctions_of, numbered, head_of, body_of, asked_of}
-use Rattle.and_syntax.specs.Tables.{Fault, not_pure, Table, empty, names_with, term_with, disjunction_name, with_disjunctions, all_names_with, items_with, count_of}
+use Rattle.and_syntax.specs.Clauses.{Parts, alternatives_of, disjunctions_of, head_of, body_of, asked_of}
+use Rattle.and_syntax.specs.Tables.{Fault, not_pure, Table, empty, names_with, term_with, disjunction_name, all_names_with, items_with}
+use Rattle.and_syntax.specs.Tables.{count_of}
 use Rattle.and_syntax.specs.Tables.{lifted_nodes, nodes_with, first_of, clause_faults, clause_fault, query_faults, query_fault, next_clause, next_query}
-use Rattle.and_syntax.specs.Tables.{taken, placed, with_clause, with_query, program_of, is_asked}
+use Rattle.and_syntax.specs.Tables.{taken, with_clause, with_query, program_of, is_asked}
 use Rattle.and_syntax.proofs.Numbering.{from-append, length-from, items_numbers, items_names}
 use Rattle.and_syntax.proofs.Names.{Grows, grows-same, grows-trans, grows-named, grows-disjunctions, disjunctions-there, one-name, one-disjunction}
 use Rattle.and_syntax.proofs.Names.{AreWritable, HasWritten, term-written, written-grows, unlifted}
@@ -22,7 +24,7 @@ use Rattle.and_syntax.proofs.Calls.{head_written, body_calls, asked_calls}
 use Rattle.and_translation.specs.Translation.{translated}
 use Rattle.and_language.specs.Tokens.{line_at}
 use Rattle.and_language.specs.Grammar.{Sort, clause, query, grammar_rule, Statement}
-use Rattle.and_language.specs.Refusals.{Takes, statement_fault, with_statement, Reads}
+use Rattle.and_language.specs.Refusals.{Takes, with_statement, Reads}
 use Rattle.and_language.proofs.EachClause.{sort_fault, with_sort, rule_clause_sound}
 use Rattle.and_language.proofs.RuleNames.{translated-writable}
 use Rattle.and_language.proofs.Bytes.{text-bytes, words-writable}
@@ -127,7 +129,8 @@ more T U ns ds ts n m o g unasked number news count disjunct names many there ro
   few = omega (arith, o.few);
   small = small;
   written = subst (All (HasWritten U.names)) (sym term) (All-append (HasWritten U.names) (text terms_of calls_of T.earlier T.asked T.later) ts
-      (All-weaker (HasWritten T.names) (HasWritten U.names) (λ t h. written-grows T.names U.names t g h) (text terms_of calls_of T.earlier T.asked T.later) o.written) written);
+      (All-weaker (HasWritten T.names) (HasWritten U.names) (λ t h. written-grows T.names U.names t g h) (text terms_of calls_of T.earlier T.asked T.later)
+      o.written) written);
 }
   where
     here : (d : ℕ) → d < U.disjunctions → (b : Bool) → ltb d T.disjunctions ≡ b → has (disjunction_name d) U.names ≡ true
@@ -214,7 +217,8 @@ clause_ordered T w line o a e = by T.asked refl
     new_terms : All (HasWritten names) (terms_of k)
     new_terms =
         let h = written-grows (names_with T w) names t (all_grow T w ps) (term_names T w a) in
-        All-cons (HasWritten names) (head_of t) (calls_of k) (head_written names t h) (body_calls names (name_in names) (suc (suc T.numbers)) T.disjunctions t h)
+        All-cons (HasWritten names) (head_of t) (calls_of k) (head_written names t h)
+        (body_calls names (name_in names) (suc (suc T.numbers)) T.disjunctions t h)
 
     new_numbers : numbers_of k ≡ numbers_from (suc T.numbers) n
     new_numbers = ap (λ ns. suc T.numbers ∷ ns) (items_numbers (name_in names) (suc (suc T.numbers)) T.disjunctions ps)
@@ -327,7 +331,8 @@ nth-name names ds n i d e lt =
     sym (get_or-map number_in ds i d d.0 (omega arith)) ∙ ap (λ ks. get_or ks i d.0) e
     ∙ get_or-map (name_in names) (numbers_from 0 n) i 0 d.0 (omega arith) ∙ ap (name_in names) at
 
-contained-name : (names : List Bytes) (ds : List Disjunction) (c n : ℕ) (d : Disjunction) → map number_in ds ≡ map (name_in names) (numbers_from c n) → Contains ds d
+contained-name : (names : List Bytes) (ds : List Disjunction) (c n : ℕ) (d : Disjunction)
+    → map number_in ds ≡ map (name_in names) (numbers_from c n) → Contains ds d
     → (i : ℕ) × (i < c + n) × (d.0 ≡ name_in names i)
 contained-name names ds c n d e i =
     All-contains (λ (x : Disjunction). (i : ℕ) × (i < c + n) × (x.0 ≡ name_in names i)) ds d (all ds c n e) i
@@ -341,7 +346,8 @@ contained-name names ds c n d e i =
         let rest : map number_in ds ≡ map (name_in names) (numbers_from (suc c) n) = cc in
         let m : ℕ = c + suc n in
         All-cons (λ (y : Disjunction). (i : ℕ) × (i < m) × (y.0 ≡ name_in names i)) x ds (c, omega arith, here)
-        (All-weaker (λ (y : Disjunction). (i : ℕ) × (i < suc c + n) × (y.0 ≡ name_in names i)) (λ (y : Disjunction). (i : ℕ) × (i < m) × (y.0 ≡ name_in names i))
+        (All-weaker (λ (y : Disjunction). (i : ℕ) × (i < suc c + n) × (y.0 ≡ name_in names i)) (λ (y : Disjunction). (i : ℕ) × (i < m)
+        × (y.0 ≡ name_in names i))
         (λ y h. (h.0, omega (arith, h.1), h.2)) ds (all ds (suc c) n rest))
 
 pub numbered_text : (bytes : Bytes) (P : SourceProgram) → Reads bytes P → IsNumbered P
@@ -358,14 +364,18 @@ numbered_text bytes P r = subst IsNumbered r.program table_numbered
         let Q : SourceProgram = program_of T r.query in
         let asked : T.asked ≡ Some r.query = r.asked in
         let numbers : numbers_in Q ≡ numbers_from 1 T.numbers =
-        text_is numbers_of inner_numbers numbers_in_clauses numbers_are Q ∙ ap (λ q. text numbers_of inner_numbers T.earlier q T.later) (sym asked) ∙ o.numbers in
+        text_is numbers_of inner_numbers numbers_in_clauses numbers_are Q
+        ∙ ap (λ q. text numbers_of inner_numbers T.earlier q T.later) (sym asked) ∙ o.numbers in
         let names : map number_in (disjunctions_in Q) ≡ map (name_in T.names) (numbers_from 0 T.disjunctions) =
-        ap (map number_in) (text_is disjunctions disjunctions disjunctions_in_clauses disjunctions_are Q ∙ ap (λ q. text disjunctions disjunctions T.earlier q T.later) (sym asked)) ∙ o.names in
+        ap (map number_in) (text_is disjunctions disjunctions disjunctions_in_clauses disjunctions_are Q
+        ∙ ap (λ q. text disjunctions disjunctions T.earlier q T.later) (sym asked)) ∙ o.names in
         let terms : All (HasWritten T.names) (heads_and_calls Q) =
-        subst (All (HasWritten T.names)) (sym (text_is terms_of calls_of heads_and_calls_in terms_are Q ∙ ap (λ q. text terms_of calls_of T.earlier q T.later) (sym asked))) o.written in
+        subst (All (HasWritten T.names))
+        (sym (text_is terms_of calls_of heads_and_calls_in terms_are Q ∙ ap (λ q. text terms_of calls_of T.earlier q T.later) (sym asked))) o.written in
         let count : length (numbers_in Q) ≡ T.numbers = ap length numbers ∙ length-from 1 T.numbers in
         let size : length (disjunctions_in Q) ≡ T.disjunctions =
-        sym (length-map (disjunctions_in Q) number_in) ∙ ap length names ∙ length-map (numbers_from 0 T.disjunctions) (name_in T.names) ∙ length-from 0 T.disjunctions in
+        sym (length-map (disjunctions_in Q) number_in) ∙ ap length names ∙ length-map (numbers_from 0 T.disjunctions) (name_in T.names)
+        ∙ length-from 0 T.disjunctions in
         let few : T.disjunctions < 2 ^ 64 = omega (arith, o.few, o.small) in
         record {
           numbers = numbers ∙ ap (numbers_from 1) (sym count);
@@ -373,7 +383,8 @@ numbered_text bytes P r = subst IsNumbered r.program table_numbered
               let low : i < T.disjunctions = omega arith in
               let top : j < T.disjunctions = omega arith in
               let e : name_in T.names i ≡ name_in T.names j =
-              sym (nth-name T.names (disjunctions_in Q) T.disjunctions i d names low) ∙ same ∙ nth-name T.names (disjunctions_in Q) T.disjunctions j d names top in
+              sym (nth-name T.names (disjunctions_in Q) T.disjunctions i d names low) ∙ same
+              ∙ nth-name T.names (disjunctions_in Q) T.disjunctions j d names top in
               let f : i ≡ j = one-disjunction i j (omega arith) (omega arith)
               (one-name (disjunction_name i) (disjunction_name j) T.names (o.there i low) (o.there j top) e) in omega arith;
           unwritten = λ d t i j.

@@ -1,11 +1,12 @@
 -- The names of the terms that a text writes are among its words.
-use Rattle.std.proofs.Common.{ℕ, ◌≡◌, Bool, true, false, List, [], ◌∷◌, ◌++◌, map, refl, ap, sym, subst}
+use Rattle.std.proofs.Common.{ℕ, ◌≡◌, Bool, true, List, [], ◌∷◌, ◌++◌, map, refl, subst}
 use Rattle.and_model.specs.Lines.{Bytes}
 use Rattle.and_syntax.specs.Written.{Written, Many}
 use Rattle.and_syntax.proofs.Names.{is_writable, AreWritable, AllWritable}
 use Rattle.and_language.specs.Words.{Word, Placed}
 use Rattle.and_language.specs.Words as words
-use Rattle.and_language.specs.Grammar.{Sort, Neck, turnstile, arrow, symbol_of, Level, IsAtom, IsFunctor, IsSum, Reads, Arguments, Elements, IsClause, IsText, Statement}
+use Rattle.and_language.specs.Grammar.{Sort, Neck, turnstile, arrow, symbol_of, Level, IsAtom, IsFunctor, IsSum, Reads, Arguments, Elements, IsClause, IsText}
+use Rattle.and_language.specs.Grammar.{Statement}
 use Rattle.and_language.proofs.Bytes.{IsWritableWord, AreWritableWords}
 
 -- names among words without places

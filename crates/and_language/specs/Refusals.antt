@@ -4,13 +4,16 @@ use Rattle.and_model.specs.Lines.{Bytes}
 use Rattle.and_model.specs.Programs.{Program}
 use Rattle.and_source.specs.Source.{SourceClause, SourceProgram}
 use Rattle.and_source.specs.Lifted.{lift}
-use Rattle.and_syntax.specs.Tables.{What, source, arguments, nesting, Table, empty, clause_fault, query_fault, with_clause, with_query, unknown_of, program_of}
+use Rattle.and_syntax.specs.Tables.{What, source, arguments, nesting, Table, empty, clause_fault, query_fault}
+use Rattle.and_syntax.specs.Tables.{with_clause, with_query, unknown_of, program_of}
 use Rattle.and_syntax.specs.Tables as tables
 use Rattle.and_syntax.specs.Written.{Written}
 use Rattle.and_translation.specs.Translation.{translated, translation_fault}
-use Rattle.and_language.specs.Tokens.{line_at, Answer, no_more, one, none_for, Token}
+use Rattle.and_language.specs.Tokens.{line_at, Answer, no_more, none_for, Token}
 use Rattle.and_language.specs.Tokens as tokens
-use Rattle.and_language.specs.Words.{Word, Placed, AreWords, variable, integer, name, quoted, minus, open_bracket, close_bracket, open_list, close_list, open_brace, close_brace, comma, semicolon, bar, end}
+use Rattle.and_language.specs.Words.{Word, Placed, AreWords, variable, integer, name, quoted, minus, open_bracket}
+use Rattle.and_language.specs.Words.{close_bracket, open_list, close_list, open_brace, close_brace, comma, semicolon}
+use Rattle.and_language.specs.Words.{bar, end}
 use Rattle.and_language.specs.Grammar.{Sort, Statement, IsText, CanGoOn}
 use Rattle.and_model.specs.declared.limits.TheConstants.{MAX_BYTES}
 
@@ -59,7 +62,11 @@ rule_fault T w = first_fault (translation_fault w) (clause_fault T (translated w
 
 -- What a clause, query or rule is refused for, and the table with it. (With a rule it is that with the rule's clause.)
 abbrev pub statement_fault : Table → Statement → Option tables.Fault
-statement_fault T s = elim s.sort [ Sort.clause ↦ clause_fault T s.term | Sort.query ↦ query_fault T s.term | Sort.grammar_rule ↦ rule_fault T s.term ]
+statement_fault T s = elim s.sort [
+  | Sort.clause ↦ clause_fault T s.term
+  | Sort.query ↦ query_fault T s.term
+  | Sort.grammar_rule ↦ rule_fault T s.term
+]
 
 abbrev pub with_statement : Bytes → Table → Statement → Table
 with_statement bytes T s = elim s.sort [
@@ -71,7 +78,8 @@ with_statement bytes T s = elim s.sort [
 -- The clauses, queries and rules are taken one after another by the one table, which becomes the other.
 pub data Takes (bytes : Bytes) : Table → List Statement → Table → Type 0 where
   nothing : (T : Table) → Takes bytes T [] T
-  more : (T U : Table) (s : Statement) (ss : List Statement) → statement_fault T s ≡ None → Takes bytes (with_statement bytes T s) ss U → Takes bytes T (s ∷ ss) U
+  more : (T U : Table) (s : Statement) (ss : List Statement) → statement_fault T s ≡ None
+      → Takes bytes (with_statement bytes T s) ss U → Takes bytes T (s ∷ ss) U
 
 -- The text begins with these words, and a comes next.
 abbrev pub HasWords : Bytes → List Placed → Answer → Type 0
@@ -116,11 +124,13 @@ limit_of end = syntax
 abbrev pub IsDirective : List Placed → Word → Type 0
 IsDirective begun w = (w ≡ name (codes ":-")) × (begun ≡ [])
 
--- Behind the words ws, of which those begun are of no whole clause, a word is refused: the `:-` of a directive; what no text goes on with; what no text goes on with within the limits.
+-- Behind the words ws, of which those begun are of no whole clause, a word is refused: the `:-` of a directive; what
+-- no text goes on with; what no text goes on with within the limits.
 pub data IsRefusedWord (ws begun : List Placed) (p : Placed) : Cause → Type 0 where
   directive : IsDirective begun p.word → IsRefusedWord ws begun p not_pure
   no_grammar : (IsDirective begun p.word → ⊥) → (CanGoOn false (ws ++ p ∷ []) → ⊥) → IsRefusedWord ws begun p syntax
-  over_limit : CanGoOn false (ws ++ p ∷ []) → (CanGoOn true (ws ++ p ∷ []) → ⊥) → IsRefusedWord ws begun p (limit_of p.word)
+  over_limit : CanGoOn false (ws ++ p ∷ []) → (CanGoOn true (ws ++ p ∷ []) → ⊥)
+      → IsRefusedWord ws begun p (limit_of p.word)
 
 -- The text of these clauses, queries and rules becomes that table.
 pub record IsTaken (bytes : Bytes) (ws : List Placed) (T : Table) : Type 0 where
@@ -128,17 +138,25 @@ pub record IsTaken (bytes : Bytes) (ws : List Placed) (T : Table) : Type 0 where
   pub spelled : IsText true ws statements
   pub taken : Takes bytes empty statements T
 
--- The text is refused: for its size; else at the first word, clause or other place in order at which it is; else at its end.
+-- The text is refused: for its size; else at the first word, clause or other place in order at which it is; else at
+-- its end.
 pub data IsRefused (bytes : Bytes) : Refusal → Type 0 where
   too_long : MAX_BYTES < length bytes → IsRefused bytes (at bytes MAX_BYTES (too_big source))
-  at_word : (ws : List Placed) (p : Placed) (a : Answer) (c : Cause) → length bytes ≤ MAX_BYTES → HasWords bytes (ws ++ p ∷ []) a
+  at_word : (ws : List Placed) (p : Placed) (a : Answer) (c : Cause) → length bytes ≤ MAX_BYTES
+      → HasWords bytes (ws ++ p ∷ []) a
       → (passed : IsPassed bytes ws) → IsRefusedWord ws passed.begun p c → IsRefused bytes (at bytes p.place c)
-  at_clause : (ws us : List Placed) (a : Answer) (T : Table) (s : Statement) (f : tables.Fault) → length bytes ≤ MAX_BYTES → HasWords bytes (ws ++ us) a
-      → IsTaken bytes ws T → IsText true us (s ∷ []) → statement_fault T s ≡ Some f → IsRefused bytes (at bytes s.place (cause_of f))
-  at_token : (ws : List Placed) (f : tokens.Fault) → length bytes ≤ MAX_BYTES → HasWords bytes ws (none_for f) → IsPassed bytes ws → IsRefused bytes (fault_at bytes f)
-  unended : (ws : List Placed) → length bytes ≤ MAX_BYTES → HasWords bytes ws no_more → (passed : IsPassed bytes ws) → (passed.begun ≡ [] → ⊥) → IsRefused bytes (at bytes (length bytes) syntax)
-  without_query : (ws : List Placed) (T : Table) → length bytes ≤ MAX_BYTES → HasWords bytes ws no_more → IsTaken bytes ws T → T.asked ≡ None → IsRefused bytes (at bytes (length bytes) no_query)
-  with_unknown : (ws : List Placed) (T : Table) (q : SourceClause) (u : tables.Unknown) → length bytes ≤ MAX_BYTES → HasWords bytes ws no_more → IsTaken bytes ws T → T.asked ≡ Some q
+  at_clause : (ws us : List Placed) (a : Answer) (T : Table) (s : Statement) (f : tables.Fault)
+      → length bytes ≤ MAX_BYTES → HasWords bytes (ws ++ us) a
+      → IsTaken bytes ws T → IsText true us (s ∷ []) → statement_fault T s ≡ Some f
+      → IsRefused bytes (at bytes s.place (cause_of f))
+  at_token : (ws : List Placed) (f : tokens.Fault) → length bytes ≤ MAX_BYTES → HasWords bytes ws (none_for f)
+      → IsPassed bytes ws → IsRefused bytes (fault_at bytes f)
+  unended : (ws : List Placed) → length bytes ≤ MAX_BYTES → HasWords bytes ws no_more → (passed : IsPassed bytes ws)
+      → (passed.begun ≡ [] → ⊥) → IsRefused bytes (at bytes (length bytes) syntax)
+  without_query : (ws : List Placed) (T : Table) → length bytes ≤ MAX_BYTES → HasWords bytes ws no_more
+      → IsTaken bytes ws T → T.asked ≡ None → IsRefused bytes (at bytes (length bytes) no_query)
+  with_unknown : (ws : List Placed) (T : Table) (q : SourceClause) (u : tables.Unknown) → length bytes ≤ MAX_BYTES
+      → HasWords bytes ws no_more → IsTaken bytes ws T → T.asked ≡ Some q
       → unknown_of T q ≡ Some u → IsRefused bytes (record { cause = unknown u.name u.arity; line = u.line })
 
 -- The bytes are in the grammar, and stand for that program, whose bodies may hold disjunctions.

@@ -1,7 +1,10 @@
--- Tokens, and the places of a text at which none can be read (after ISO 13211-1, section 6.4; the choice is this project's own).
-use Rattle.std.specs.Prelude.{ℕ, suc, ◌+◌, ◌-◌, ◌*◌, ◌<◌, ◌≤◌, ◌≡◌, ◌⊎◌, Bool, true, false, not, cond, ltb, ◌||◌, ◌&&◌, List, [], ◌∷◌, ◌++◌, length, take, drop, nat_eq, codes, IsUtf8}
+-- Tokens, and the places of a text at which none can be read (after ISO 13211-1, section 6.4; the choice is this
+-- project's own).
+use Rattle.std.specs.Prelude.{ℕ, suc, ◌+◌, ◌-◌, ◌*◌, ◌<◌, ◌≤◌, ◌≡◌, ◌⊎◌, Bool, true, false, not, cond, ltb, ◌||◌}
+use Rattle.std.specs.Prelude.{◌&&◌, List, [], ◌∷◌, ◌++◌, length, take, drop, nat_eq, codes, IsUtf8}
 use Rattle.std.specs.Str.{IsValidUpTo, bytes_eq}
-use Rattle.and_model.specs.Lines.{Bytes, is_between, is_word, is_symbol, holds_of_all, holds_of_some, is_plain_name, begins_comment}
+use Rattle.and_model.specs.Lines.{Bytes, is_between, is_word, is_symbol, holds_of_all, holds_of_some, is_plain_name}
+use Rattle.and_model.specs.Lines.{begins_comment}
 
 pub data Kind : Type 0 where
   variable : Kind
@@ -110,7 +113,8 @@ is_solo b = holds_of_some (nat_eq b) (codes "()[]{},;|'")
 -- The written bytes between quotes, and the text that they name.
 pub data Names : Bytes → Bytes → Type 0 where
   nothing : Names [] []
-  plain : (b : ℕ) (c t : Bytes) → holds_of_some (nat_eq b) (39 ∷ 92 ∷ 10 ∷ []) ≡ false → Names c t → Names (b ∷ c) (b ∷ t)
+  plain : (b : ℕ) (c t : Bytes) → holds_of_some (nat_eq b) (39 ∷ 92 ∷ 10 ∷ []) ≡ false → Names c t
+      → Names (b ∷ c) (b ∷ t)
   doubled_quote : (c t : Bytes) → Names c t → Names (39 ∷ 39 ∷ c) (39 ∷ t)
   escaped_quote : (c t : Bytes) → Names c t → Names (92 ∷ 39 ∷ c) (39 ∷ t)
   escaped_backslash : (c t : Bytes) → Names c t → Names (92 ∷ 92 ∷ c) (92 ∷ t)
@@ -129,14 +133,17 @@ closes_comment (b ∷ bs) = (nat_eq b 42 && begins (nat_eq 47) bs) || closes_com
 pub data Separates : Bytes → Bytes → Type 0 where
   nothing : (rest : Bytes) → Separates [] rest
   layout : (b : ℕ) (gap rest : Bytes) → is_layout b ≡ true → Separates gap rest → Separates (b ∷ gap) rest
-  line_comment : (c gap rest whole : Bytes) → whole ≡ 37 ∷ c ++ gap → holds_of_some is_newline c ≡ false → gap ++ rest ≡ [] ⊎ begins is_newline (gap ++ rest) ≡ true
+  line_comment : (c gap rest whole : Bytes) → whole ≡ 37 ∷ c ++ gap → holds_of_some is_newline c ≡ false
+      → gap ++ rest ≡ [] ⊎ begins is_newline (gap ++ rest) ≡ true
       → Separates gap rest → Separates whole rest
-  comment : (c gap rest whole : Bytes) → whole ≡ 47 ∷ 42 ∷ c ++ 42 ∷ 47 ∷ gap → closes_comment (c ++ 42 ∷ []) ≡ false → Separates gap rest → Separates whole rest
+  comment : (c gap rest whole : Bytes) → whole ≡ 47 ∷ 42 ∷ c ++ 42 ∷ 47 ∷ gap → closes_comment (c ++ 42 ∷ []) ≡ false
+      → Separates gap rest → Separates whole rest
 
 -- no layout, and no comment that is closed, begins the bytes
 abbrev pub is_separated : Bytes → Bool
 is_separated [] = true
-is_separated (b ∷ bs) = not (is_layout b || nat_eq b 37 || (nat_eq b 47 && begins (nat_eq 42) bs && closes_comment (drop 1 bs)))
+is_separated (b ∷ bs) = not (is_layout b || nat_eq b 37
+    || (nat_eq b 47 && begins (nat_eq 42) bs && closes_comment (drop 1 bs)))
 
 abbrev pub is_some : Bytes → Bool
 is_some [] = false
@@ -155,8 +162,10 @@ module _ (cut : Bool) where
   IsToken name bs rest = (is_plain_name bs ≡ true) × (begins is_word rest ≡ false)
   IsToken quoted bs rest = ((t : Bytes) × Quotes bs t) × (begins (nat_eq 39) rest ≡ false)
   IsToken symbol bs rest =
-      (is_run bs ≡ true) × (begins is_symbol rest ≡ false) × (begins_comment bs ≡ false) × (is_impure bs ≡ false) × (bs ≡ codes "." → ends_clause rest ≡ false)
-  IsToken (integer z) bs rest = (is_numeral bs ≡ true) × (begins is_digit rest ≡ false) × (goes_on rest ≡ false) × (z ≡ number_of bs) × (z ≤ 9223372036854775808)
+      (is_run bs ≡ true) × (begins is_symbol rest ≡ false) × (begins_comment bs ≡ false) × (is_impure bs ≡ false)
+      × (bs ≡ codes "." → ends_clause rest ≡ false)
+  IsToken (integer z) bs rest = (is_numeral bs ≡ true) × (begins is_digit rest ≡ false) × (goes_on rest ≡ false)
+      × (z ≡ number_of bs) × (z ≤ 9223372036854775808)
   IsToken open_bracket bs rest = bs ≡ codes "("
   IsToken close_bracket bs rest = bs ≡ codes ")"
   IsToken open_list bs rest = bs ≡ codes "["
@@ -168,7 +177,8 @@ module _ (cut : Bool) where
   IsToken bar bs rest = bs ≡ codes "|"
   IsToken end_of_clause bs rest = (bs ≡ codes ".") × (ends_clause rest ≡ true)
 
-  -- The fault of what the text ends within: that it is not text, or syntax at the place where the token or comment begins.
+  -- The fault of what the text ends within: that it is not text, or syntax at the place where the token or comment
+  -- begins.
   abbrev pub broken : ℕ → ℕ → Fault
   broken start behind = cond cut (not_text behind) (syntax start)
 
@@ -180,21 +190,33 @@ module _ (cut : Bool) where
     open_escape : (c t : Bytes) → bs ≡ 39 ∷ c ++ 92 ∷ [] → Names c t → IsFault p bs (broken p (p + length bs))
     raw_newline : (c t rest : Bytes) → bs ≡ 39 ∷ c ++ 10 ∷ rest → Names c t → IsFault p bs (syntax p)
     escaped_raw_newline : (c t rest : Bytes) → bs ≡ 39 ∷ c ++ 92 ∷ 10 ∷ rest → Names c t → IsFault p bs (syntax p)
-    unknown_escape : (c t rest : Bytes) (b : ℕ) → bs ≡ 39 ∷ c ++ 92 ∷ b ∷ rest → Names c t → holds_of_some (nat_eq b) (39 ∷ 92 ∷ 110 ∷ 10 ∷ []) ≡ false
+    unknown_escape : (c t rest : Bytes) (b : ℕ) → bs ≡ 39 ∷ c ++ 92 ∷ b ∷ rest → Names c t
+        → holds_of_some (nat_eq b) (39 ∷ 92 ∷ 110 ∷ 10 ∷ []) ≡ false
         → IsFault p bs (not_pure (p + suc (length c)))
-    numeral_goes_on : (ds rest : Bytes) → bs ≡ ds ++ rest → is_numeral ds ≡ true → begins is_digit rest ≡ false → goes_on rest ≡ true → IsFault p bs (not_pure p)
-    wide_numeral : (ds rest : Bytes) → bs ≡ ds ++ rest → is_numeral ds ≡ true → begins is_digit rest ≡ false → goes_on rest ≡ false → 9223372036854775808 < number_of ds
+    numeral_goes_on : (ds rest : Bytes) → bs ≡ ds ++ rest → is_numeral ds ≡ true → begins is_digit rest ≡ false
+        → goes_on rest ≡ true → IsFault p bs (not_pure p)
+    wide_numeral : (ds rest : Bytes) → bs ≡ ds ++ rest → is_numeral ds ≡ true → begins is_digit rest ≡ false
+        → goes_on rest ≡ false → 9223372036854775808 < number_of ds
         → IsFault p bs (too_wide p)
-    impure_symbol : (s rest : Bytes) → bs ≡ s ++ rest → begins is_symbol rest ≡ false → is_impure s ≡ true → IsFault p bs (not_pure p)
+    impure_symbol : (s rest : Bytes) → bs ≡ s ++ rest → begins is_symbol rest ≡ false → is_impure s ≡ true
+        → IsFault p bs (not_pure p)
     impure_character : (b : ℕ) (rest : Bytes) → bs ≡ b ∷ rest → is_impure_character b ≡ true → IsFault p bs (not_pure p)
-    other_character : (b : ℕ) (rest : Bytes) → bs ≡ b ∷ rest → (is_word b || is_symbol b || is_solo b || is_impure_character b) ≡ false → IsFault p bs (syntax p)
+    other_character : (b : ℕ) (rest : Bytes) → bs ≡ b ∷ rest
+        → (is_word b || is_symbol b || is_solo b || is_impure_character b) ≡ false → IsFault p bs (syntax p)
 
   -- What comes next, where these bytes stand at the place p.
   pub data Next (p : ℕ) (bs : Bytes) : Answer → Type 0 where
     finished : Separates bs [] → cut ≡ false → Next p bs no_more
-    read : (gap t rest : Bytes) (k : Kind) → bs ≡ gap ++ (t ++ rest) → Separates gap (t ++ rest) → is_separated (t ++ rest) ≡ true → IsToken k t rest
-        → Next p bs (one (record { kind = k; start = p + length gap; end = p + length gap + length t; layout_before = is_some gap }))
-    stopped : (gap rest : Bytes) (f : Fault) → bs ≡ gap ++ rest → Separates gap rest → is_separated rest ≡ true → IsFault (p + length gap) rest f → Next p bs (none_for f)
+    read : (gap t rest : Bytes) (k : Kind) → bs ≡ gap ++ (t ++ rest) → Separates gap (t ++ rest)
+        → is_separated (t ++ rest) ≡ true → IsToken k t rest
+        → Next p bs (one (record {
+          kind = k;
+          start = p + length gap;
+          end = p + length gap + length t;
+          layout_before = is_some gap;
+        }))
+    stopped : (gap rest : Bytes) (f : Fault) → bs ≡ gap ++ rest → Separates gap rest → is_separated rest ≡ true
+        → IsFault (p + length gap) rest f → Next p bs (none_for f)
 
 -- The first n bytes are the longest front of the text that is UTF-8.
 abbrev pub IsFront : Bytes → ℕ → Type 0
@@ -207,7 +229,8 @@ Comes bytes p a = (n : ℕ) × IsFront bytes n × Next (ltb n (length bytes)) p 
 -- From the place p on the text has these tokens, in order, and then a comes next.
 pub data HasTokens (bytes : Bytes) (a : Answer) : ℕ → List Token → Type 0 where
   no_token : (p : ℕ) → Comes bytes p a → HasTokens bytes a p []
-  token : (p : ℕ) (t : Token) (ts : List Token) → Comes bytes p (one t) → HasTokens bytes a t.end ts → HasTokens bytes a p (t ∷ ts)
+  token : (p : ℕ) (t : Token) (ts : List Token) → Comes bytes p (one t) → HasTokens bytes a t.end ts
+      → HasTokens bytes a p (t ∷ ts)
 
 -- no token comes next: the text ends, or has a fault
 abbrev pub is_last : Answer → Bool

@@ -1,4 +1,5 @@
--- The words of a text, as its grammar sees them: tokens with their bytes, and with what a minus stands before (after ISO 13211-1, section 6.3.4).
+-- The words of a text, as its grammar sees them: tokens with their bytes, and with what a minus stands before (after
+-- ISO 13211-1, section 6.3.4).
 use Rattle.std.specs.Prelude.{ℕ, ◌-◌, ◌≡◌, Bool, true, false, not, cond, ◌||◌, List, [], ◌∷◌, take, drop, codes}
 use Rattle.std.specs.Str.{bytes_eq}
 use Rattle.std.specs.List.{list_any}
@@ -6,14 +7,16 @@ use Rattle.and_model.specs.Lines.{Bytes}
 use Rattle.and_language.specs.Tokens.{Kind, Token, Answer, no_more, one, none_for, Quotes}
 use Rattle.and_language.specs.Tokens as tokens
 
--- What a minus stands before: an integer or a bracket right behind it, something that no operand begins with, or an operand.
+-- What a minus stands before: an integer or a bracket right behind it, something that no operand begins with, or an
+-- operand.
 pub data Before : Type 0 where
   integer : Before
   bracket : Before
   stop : Before
   operand : Before
 
--- A word. A name is unquoted; a minus that no bracket stands right behind is a word of its own. An opening bracket tells whether it stands right behind the word before it.
+-- A word. A name is unquoted; a minus that no bracket stands right behind is a word of its own. An opening bracket
+-- tells whether it stands right behind the word before it.
 pub data Word : Type 0 where
   variable : Bytes → Word
   integer : ℕ → Word
@@ -58,7 +61,8 @@ is_reserved c = bytes_eq c (codes ":-") || bytes_eq c (codes "-->") || bytes_eq 
 
 -- an operator other than the minus
 abbrev pub is_operator : Bytes → Bool
-is_operator c = bytes_eq c (codes ":-") || bytes_eq c (codes "-->") || bytes_eq c (codes "+") || is_one_of products c || is_one_of relations c
+is_operator c = bytes_eq c (codes ":-") || bytes_eq c (codes "-->") || bytes_eq c (codes "+") || is_one_of products c
+    || is_one_of relations c
 
 abbrev pub if_operator : Bytes → Before
 if_operator c = cond (is_operator c) stop operand
@@ -96,9 +100,12 @@ pub data IsWord (bytes : Bytes) (t : Token) (b : Before) : Kind → Word → Typ
   variable_token : IsWord bytes t b tokens.variable (variable (bytes_of bytes t))
   integer_token : (z : ℕ) → IsWord bytes t b (tokens.integer z) (integer z)
   name_token : IsWord bytes t b tokens.name (name (bytes_of bytes t))
-  symbol_token : bytes_eq (bytes_of bytes t) (codes "-") ≡ false → IsWord bytes t b tokens.symbol (name (bytes_of bytes t))
-  minus_token : bytes_eq (bytes_of bytes t) (codes "-") ≡ true → (b ≡ bracket → ⊥) → IsWord bytes t b tokens.symbol (minus b)
-  functor_token : bytes_eq (bytes_of bytes t) (codes "-") ≡ true → b ≡ bracket → IsWord bytes t b tokens.symbol (name (bytes_of bytes t))
+  symbol_token : bytes_eq (bytes_of bytes t) (codes "-") ≡ false
+      → IsWord bytes t b tokens.symbol (name (bytes_of bytes t))
+  minus_token : bytes_eq (bytes_of bytes t) (codes "-") ≡ true → (b ≡ bracket → ⊥)
+      → IsWord bytes t b tokens.symbol (minus b)
+  functor_token : bytes_eq (bytes_of bytes t) (codes "-") ≡ true → b ≡ bracket
+      → IsWord bytes t b tokens.symbol (name (bytes_of bytes t))
   quoted_token : (text : Bytes) → Quotes (bytes_of bytes t) text → IsWord bytes t b tokens.quoted (quoted text)
   open_bracket_token : IsWord bytes t b tokens.open_bracket (open_bracket (not t.layout_before))
   close_bracket_token : IsWord bytes t b tokens.close_bracket close_bracket
@@ -114,5 +121,6 @@ pub data IsWord (bytes : Bytes) (t : Token) (b : Before) : Kind → Word → Typ
 -- The tokens, behind which a comes next, are these words.
 pub data AreWords (bytes : Bytes) (a : Answer) : List Token → List Placed → Type 0 where
   nothing : AreWords bytes a [] []
-  more : (t : Token) (ts : List Token) (w : Word) (ws : List Placed) → IsWord bytes t (before bytes ts a) t.kind w → AreWords bytes a ts ws
+  more : (t : Token) (ts : List Token) (w : Word) (ws : List Placed) → IsWord bytes t (before bytes ts a) t.kind w
+      → AreWords bytes a ts ws
       → AreWords bytes a (t ∷ ts) (record { word = w; place = t.start } ∷ ws)

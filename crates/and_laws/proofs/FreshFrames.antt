@@ -1,5 +1,5 @@
 -- A clause is tried in a frame that nothing speaks of; whichever that is, and whatever names the other variables have.
-use Rattle.std.proofs.Common.{ℕ, ◌≡◌, Bool, true, false, true≢false, not, ◌&&◌, ltb, leb, length, nat_eq, cond, List, [], ◌∷◌, map, refl, ap, sym, ◌∙◌, subst}
+use Rattle.std.proofs.Common.{ℕ, ◌≡◌, Bool, true, false, true≢false, ◌&&◌, ltb, leb, length, nat_eq, List, [], ◌∷◌, refl, ap, sym, ◌∙◌, subst}
 use Rattle.std.proofs.Common.{inl, inr}
 use Rattle.and_model.specs.Terms.{Path, Term, Terms, variable, number, compound, none, more, Substitution, apply, apply_all, framed}
 use Rattle.and_model.specs.Solutions.{Equation, Solves, falsehood}
@@ -7,12 +7,9 @@ use Rattle.and_model.specs.Arithmetic.{Relation}
 use Rattle.and_model.specs.Programs.{Program, Item, call, equal, arithmetic, fail, Arithmetic, is, compare, clause_at, head_in, same_count, same_predicate, Of}
 use Rattle.and_model.specs.Closure.{needs, refutes}
 use Rattle.and_model.specs.Candidates.{In, guard, Candidate}
-use Rattle.and_laws.specs.Naming.{Variables, IsOver, AreOver, EquationsOver, others, under}
+use Rattle.and_laws.specs.Naming.{Variables, IsOver, EquationsOver, others, Agree, under}
+use Rattle.and_laws.proofs.AgreeOn.{agree_term, agree_solves, patched, patched_agrees, patched_others, over_framed}
 use Rattle.and_laws.proofs.Substitutions.{then, apply_then, and_left, and_right}
-
--- the two substitutions give these variables the same terms
-abbrev Agree : Variables → Substitution → Substitution → Type 0
-Agree v s r = (q : Path) (k : ℕ) → v q k ≡ true → r q k ≡ s q k
 
 abbrev first_in : List Equation → Equation
 first_in [] = falsehood
@@ -21,48 +18,6 @@ first_in (e ∷ es) = e
 abbrev rest_in : List Equation → List Equation
 rest_in [] = []
 rest_in (e ∷ es) = es
-
-mutual
-  agree_term : (v : Variables) (s r : Substitution) → Agree v s r → (t : Term) → IsOver v t → apply r t ≡ apply s t
-  agree_term v s r h (variable q k) o = h q k o
-  agree_term v s r h (number z) o = refl
-  agree_term v s r h (compound c ts) o = ap (compound c) (agree_terms v s r h ts o)
-
-  agree_terms : (v : Variables) (s r : Substitution) → Agree v s r → (ts : Terms) → AreOver v ts → apply_all r ts ≡ apply_all s ts
-  agree_terms v s r h none o = refl
-  agree_terms v s r h (more t ts) o = ap (λ x. more x (apply_all r ts)) (agree_term v s r h t o.0) ∙ ap (λ xs. more (apply s t) xs) (agree_terms v s r h ts o.1)
-
-agree_solves : (v : Variables) (s r : Substitution) → Agree v s r → (es : List Equation) → EquationsOver v es → Solves s es → Solves r es
-agree_solves v s r h [] o p = tt
-agree_solves v s r h (e ∷ es) o p = (agree_term v s r h e.0 o.0 ∙ p.0 ∙ sym (agree_term v s r h e.1 o.1), agree_solves v s r h es o.2 p.1)
-
--- the first substitution on some variables, and the second on the others
-abbrev patched : Variables → Substitution → Substitution → Substitution
-patched f s r q k = cond (f q k) (s q k) (r q k)
-
-cond_true : (b : Bool) (x y : Term) → b ≡ true → cond b x y ≡ x
-cond_true true x y e = refl
-cond_true false x y e = absurd (true≢false (sym e))
-
-cond_not : (b : Bool) (x y : Term) → not b ≡ true → cond b x y ≡ y
-cond_not true x y e = absurd (true≢false (sym e))
-cond_not false x y e = refl
-
-patched_agrees : (f : Variables) (s r : Substitution) → Agree f s (patched f s r)
-patched_agrees f s r q k e = cond_true (f q k) (s q k) (r q k) e
-
-patched_others : (f : Variables) (s r : Substitution) → Agree (others f) r (patched f s r)
-patched_others f s r q k e = cond_not (f q k) (s q k) (r q k) e
-
-mutual
-  over_framed : (v : Variables) (q : Path) → ((k : ℕ) → v q k ≡ true) → (t : Term) → IsOver v (framed q t)
-  over_framed v q h (variable p k) = h k
-  over_framed v q h (number z) = tt
-  over_framed v q h (compound c ts) = all_over_framed v q h ts
-
-  all_over_framed : (v : Variables) (q : Path) → ((k : ℕ) → v q k ≡ true) → (ts : Terms) → AreOver v (apply_all (λ r k. variable q k) ts)
-  all_over_framed v q h none = tt
-  all_over_framed v q h (more t ts) = (over_framed v q h t, all_over_framed v q h ts)
 
 mutual
   same_framed : (s r : Substitution) (q p : Path) → ((k : ℕ) → r p k ≡ s q k) → (t : Term) → apply r (framed p t) ≡ apply s (framed q t)

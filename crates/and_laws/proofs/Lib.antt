@@ -28,4 +28,5 @@ pub mod Agreement
 pub mod Placing
 pub mod ForkOrder
 pub mod Running
+pub mod AgreeOn
 pub mod FreshFrames

@@ -76,7 +76,7 @@ pub picked : {P : Program} {ag : Agenda} {t u : Tree P ag} → Below P ag t u �
 picked {P} {ag} {t} {u} b w o = elim (picked_or b o) [ inl r ↦ r | inr p ↦ absurd (whole_has_none u w p.0) ]
 
 -- A comparison that is refuted adds the false equation,
-refuted_added : (a : Arithmetic) (ts : Terms) → refutes a ts ≡ true → added a ts ≡ falsehood ∷ []
+pub refuted_added : (a : Arithmetic) (ts : Terms) → refutes a ts ≡ true → added a ts ≡ falsehood ∷ []
 refuted_added (is l r) ts e = absurd (cc)
 refuted_added (compare r a b) none e = absurd (cc)
 refuted_added (compare r a b) (more x none) e = absurd (cc)
@@ -84,7 +84,7 @@ refuted_added (compare r a b) (more x (more y ts)) e =
     (elim (holds r x y) as (λ z. not z ≡ true → cond z [] (falsehood ∷ []) ≡ falsehood ∷ []) [ true ↦ λ n. absurd (cc) | false ↦ λ n. refl ]) e
 
 -- which nothing solves.
-no_falsehood : (s : Substitution) → Solves s (falsehood ∷ []) → ⊥
+pub no_falsehood : (s : Substitution) → Solves s (falsehood ∷ []) → ⊥
 no_falsehood s p = let e = p.0 in cc
 
 -- the closed equations have a solution

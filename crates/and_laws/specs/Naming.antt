@@ -27,6 +27,10 @@ EquationsOver v (e ∷ es) = IsOver v e.0 × IsOver v e.1 × EquationsOver v es
 abbrev pub others : Variables → Variables
 others v q k = not (v q k)
 
+-- the two substitutions give these variables the same terms
+abbrev pub Agree : Variables → Substitution → Substitution → Type 0
+Agree v s r = (q : Path) (k : ℕ) → v q k ≡ true → r q k ≡ s q k
+
 -- the equations under a substitution
 abbrev pub under : Substitution → List Equation → List Equation
 under r es = map (λ (e : Equation). (apply r e.0, apply r e.1)) es

@@ -3,7 +3,9 @@ use Rattle.std.proofs.Common.{ℕ, zero, suc, ◌+◌, ◌≡◌, ◌≤◌, ◌
 use Rattle.std.proofs.lemmas.List.{take-append-drop, append-nil, length-append, length-take, length-drop, drop_all}
 use Rattle.std.proofs.lemmas.Bool.{cases_lt}
 use Rattle.and_model.specs.Lines.{Bytes}
-use Rattle.and_language.specs.Tokens.{Kind, variable, name, quoted, symbol, integer, open_bracket, close_bracket, open_list, close_list, open_brace, close_brace, comma, semicolon, bar, end_of_clause, Separates, is_separated, is_some, Answer, no_more, one, none_for, Next, finished, read, stopped, IsFront, Comes, IsToken}
+use Rattle.and_language.specs.Tokens.{Kind, variable, name, quoted, symbol, integer, open_bracket, close_bracket, open_list, close_list, open_brace}
+use Rattle.and_language.specs.Tokens.{close_brace, comma, semicolon, bar, end_of_clause, Separates, is_separated, is_some, Answer, no_more, one, none_for}
+use Rattle.and_language.specs.Tokens.{Next, finished, read, stopped, IsFront, Comes, IsToken}
 use Rattle.and_language.specs.Tokens as tokens
 use Rattle.and_lex.specs.Scanning.{Found, end_of_text, one_token, one_fault, piece_len, found_at}
 use Rattle.and_lex.proofs.Separators.{gap_more, separated_where_none}
@@ -30,7 +32,8 @@ each_gap : (bs : Bytes) → Gap bs
 each_gap bs = gap_from bs (suc (length bs)) 0 (omega arith) (omega arith) (tokens.nothing bs)
 
 -- what comes where that is found behind a gap
-of_found : (cut : Bool) (p : ℕ) (g r bs : Bytes) → bs ≡ g ++ r → Separates g r → is_separated r ≡ true → (f : Found) → IsFound cut (p + length g) r f → (a : Answer) × Next cut p bs a
+of_found : (cut : Bool) (p : ℕ) (g r bs : Bytes) → bs ≡ g ++ r → Separates g r → is_separated r ≡ true → (f : Found) → IsFound cut (p + length g) r f
+    → (a : Answer) × Next cut p bs a
 of_found cut p g r bs e s sep end_of_text h =
     let whole : bs ≡ g = e ∙ ap (λ (x : Bytes). g ++ x) h.0 ∙ append-nil g in
     (no_more, finished (subst (λ (x : Bytes). Separates x []) (sym whole) (subst (Separates g) h.0 s)) h.1)
@@ -45,7 +48,8 @@ each_next : (cut : Bool) (p : ℕ) (bs : Bytes) → (a : Answer) × Next cut p b
 each_next cut p bs =
     let g = each_gap bs in
     let place = p + length (take g.0 bs) in
-    of_found cut p (take g.0 bs) (drop g.0 bs) bs (sym (take-append-drop g.0 bs)) g.1 g.2 (found_at cut place (drop g.0 bs)) (found_sound cut place (drop g.0 bs) g.2)
+    of_found cut p (take g.0 bs) (drop g.0 bs) bs (sym (take-append-drop g.0 bs)) g.1 g.2 (found_at cut place (drop g.0 bs))
+    (found_sound cut place (drop g.0 bs) g.2)
 
 -- a token has bytes
 some_bytes : (cut : Bool) (k : Kind) (t rest : Bytes) → IsToken cut k t rest → 0 < length t

@@ -1,5 +1,6 @@
 -- Quoted tokens: what the bytes behind the opening quote come to.
-use Rattle.std.proofs.Common.{ℕ, suc, ◌+◌, ◌-◌, ◌≡◌, ◌≤◌, Bool, true, false, cond, ◌||◌, [], ◌∷◌, ◌++◌, length, take, drop, refl, sym, ap, subst, ◌∙◌, arith, inl, inr, ◌⊎◌, append_assoc}
+use Rattle.std.proofs.Common.{ℕ, suc, ◌+◌, ◌-◌, ◌≡◌, ◌≤◌, Bool, true, false, cond, ◌||◌, [], ◌∷◌, ◌++◌, length, take, drop, refl, sym, ap, subst, ◌∙◌, arith}
+use Rattle.std.proofs.Common.{inl, inr, ◌⊎◌, append_assoc}
 use Rattle.std.specs.Prelude.{nat_eq}
 use Rattle.std.proofs.lemmas.Bool.Decides.{nat_tests}
 use Rattle.std.proofs.lemmas.List.{append-nil, length-append, drop_all, take_at}
@@ -23,12 +24,21 @@ abbrev pub IsEnd : ℕ → Bytes → QuoteEnd → Type 0
 IsEnd n bs (Closed m) = (c : Bytes) × (t : Bytes) × (rest : Bytes) × (bs ≡ c ++ 39 ∷ rest) × (m ≡ n + length c) × Names c t × (begins (nat_eq 39) rest ≡ false)
 IsEnd n bs Open = ((t : Bytes) × Names bs t) ⊎ ((c : Bytes) × (t : Bytes) × (bs ≡ c ++ 92 ∷ []) × Names c t)
 IsEnd n bs Newline = (c : Bytes) × (t : Bytes) × (rest : Bytes) × Names c t × ((bs ≡ c ++ 10 ∷ rest) ⊎ (bs ≡ c ++ 92 ∷ 10 ∷ rest))
-IsEnd n bs (Unknown m) = (c : Bytes) × (t : Bytes) × (rest : Bytes) × (b : ℕ) × (bs ≡ c ++ 92 ∷ b ∷ rest) × (m ≡ n + length c) × Names c t × (is_known b ≡ false)
+IsEnd n bs (Unknown m) = (c : Bytes) × (t : Bytes) × (rest : Bytes) × (b : ℕ) × (bs ≡ c ++ 92 ∷ b ∷ rest) × (m ≡ n + length c) × Names c t
+    × (is_known b ≡ false)
 
 -- bytes that name one byte stand before them
-further : (pre : Bytes) (x n m : ℕ) (bs : Bytes) → m ≡ n + length pre → ((c t : Bytes) → Names c t → Names (pre ++ c) (x ∷ t)) → (e : QuoteEnd) → IsEnd m bs e → IsEnd n (pre ++ bs) e
-further pre x n m bs k more (Closed i) h =
-    (pre ++ h.0, x ∷ h.1, h.2, ap (λ (y : Bytes). pre ++ y) h.3 ∙ sym (append_assoc pre h.0 (39 ∷ h.2)), omega (arith, h.4, k, length-append pre h.0), more h.0 h.1 h.5, h.6)
+further : (pre : Bytes) (x n m : ℕ) (bs : Bytes) → m ≡ n + length pre → ((c t : Bytes) → Names c t → Names (pre ++ c) (x ∷ t)) → (e : QuoteEnd) → IsEnd m bs e
+    → IsEnd n (pre ++ bs) e
+further pre x n m bs k more (Closed i) h = (
+  pre ++ h.0,
+  x ∷ h.1,
+  h.2,
+  ap (λ (y : Bytes). pre ++ y) h.3 ∙ sym (append_assoc pre h.0 (39 ∷ h.2)),
+  omega (arith, h.4, k, length-append pre h.0),
+  more h.0 h.1 h.5,
+  h.6,
+)
 further pre x n m bs k more Open (inl h) = inl (x ∷ h.0, more bs h.0 h.1)
 further pre x n m bs k more Open (inr h) = inr (pre ++ h.0, x ∷ h.1, ap (λ (y : Bytes). pre ++ y) h.2 ∙ sym (append_assoc pre h.0 (92 ∷ [])), more h.0 h.1 h.3)
 further pre x n m bs k more Newline h = (pre ++ h.0, x ∷ h.1, h.2, more h.0 h.1 h.3, either h.4)
@@ -36,8 +46,16 @@ further pre x n m bs k more Newline h = (pre ++ h.0, x ∷ h.1, h.2, more h.0 h.
     either : (bs ≡ h.0 ++ 10 ∷ h.2) ⊎ (bs ≡ h.0 ++ 92 ∷ 10 ∷ h.2) → (pre ++ bs ≡ (pre ++ h.0) ++ 10 ∷ h.2) ⊎ (pre ++ bs ≡ (pre ++ h.0) ++ 92 ∷ 10 ∷ h.2)
     either (inl e) = inl (ap (λ (y : Bytes). pre ++ y) e ∙ sym (append_assoc pre h.0 (10 ∷ h.2)))
     either (inr e) = inr (ap (λ (y : Bytes). pre ++ y) e ∙ sym (append_assoc pre h.0 (92 ∷ 10 ∷ h.2)))
-further pre x n m bs k more (Unknown i) h =
-    (pre ++ h.0, x ∷ h.1, h.2, h.3, ap (λ (y : Bytes). pre ++ y) h.4 ∙ sym (append_assoc pre h.0 (92 ∷ h.3 ∷ h.2)), omega (arith, h.5, k, length-append pre h.0), more h.0 h.1 h.6, h.7)
+further pre x n m bs k more (Unknown i) h = (
+  pre ++ h.0,
+  x ∷ h.1,
+  h.2,
+  h.3,
+  ap (λ (y : Bytes). pre ++ y) h.4 ∙ sym (append_assoc pre h.0 (92 ∷ h.3 ∷ h.2)),
+  omega (arith, h.5, k, length-append pre h.0),
+  more h.0 h.1 h.6,
+  h.7,
+)
 
 -- two bytes that name one
 abbrev Escapes : ℕ → ℕ → ℕ → Type 0
@@ -123,7 +141,8 @@ pub names_passed : {c t : Bytes} → Names c t → (n : ℕ) (rest : Bytes) → 
 names_passed nothing n rest = ap (λ (k : ℕ). quote_end k rest) (omega arith)
 names_passed (plain b c t e h) n rest =
     let k = no_escape b e in
-    second_choice (nat_eq b 39) _ _ k.0 ∙ second_choice (nat_eq b 92) _ _ k.1 ∙ second_choice (nat_eq b 10) _ _ k.2 ∙ names_passed h (suc n) rest ∙ past_one n (length c) rest
+    second_choice (nat_eq b 39) _ _ k.0 ∙ second_choice (nat_eq b 92) _ _ k.1 ∙ second_choice (nat_eq b 10) _ _ k.2 ∙ names_passed h (suc n) rest
+    ∙ past_one n (length c) rest
 names_passed (doubled_quote c t h) n rest = names_passed h (suc (suc n)) rest ∙ past_two n (length c) rest
 names_passed (escaped_quote c t h) n rest = names_passed h (suc (suc n)) rest ∙ past_two n (length c) rest
 names_passed (escaped_backslash c t h) n rest = names_passed h (suc (suc n)) rest ∙ past_two n (length c) rest
@@ -143,11 +162,13 @@ unknown_there n b rest e =
     second_choice (is_escaped b) _ _ f ∙ second_choice (nat_eq b 10) _ _ g
 
 -- the text behind the last byte
-pub text_done : (text items : Bytes) (escaped : Bool) (i : ℕ) → length items ≤ i → text ++ cond escaped (text_behind_escape (drop i items)) (text_between (drop i items)) ≡ text_between items → text ≡ text_between items
+pub text_done : (text items : Bytes) (escaped : Bool) (i : ℕ) → length items ≤ i
+    → text ++ cond escaped (text_behind_escape (drop i items)) (text_between (drop i items)) ≡ text_between items → text ≡ text_between items
 text_done text items escaped i past e =
     let none : drop i items ≡ [] = drop_all i items past in
     let empty : cond escaped (text_behind_escape (drop i items)) (text_between (drop i items)) ≡ [] =
-    either_way (λ (x : Bytes). x ≡ []) escaped (text_behind_escape (drop i items)) (text_between (drop i items)) (λ _. ap text_behind_escape none) (λ _. ap text_between none) in
+    either_way (λ (x : Bytes). x ≡ []) escaped (text_behind_escape (drop i items)) (text_between (drop i items)) (λ _. ap text_behind_escape none)
+    (λ _. ap text_between none) in
     sym (append-nil text) ∙ ap (λ (x : Bytes). text ++ x) (sym empty) ∙ e
 
 -- the bytes between the quotes

@@ -1,5 +1,6 @@
 -- Layout and comments in front of a token.
-use Rattle.std.proofs.Common.{ℕ, zero, suc, ◌+◌, ◌≡◌, ◌≤◌, ◌<◌, Bool, true, false, not, cond, ◌&&◌, ◌||◌, [], ◌∷◌, ◌++◌, length, take, drop, get_or, Option, Some, None, refl, sym, ap, subst, ◌∙◌, arith, inl, inr, ◌⊎◌, append_assoc}
+use Rattle.std.proofs.Common.{ℕ, zero, suc, ◌+◌, ◌≡◌, ◌≤◌, ◌<◌, Bool, true, false, not, cond, ◌&&◌, ◌||◌, [], ◌∷◌, ◌++◌, length, take, drop, get_or, Option}
+use Rattle.std.proofs.Common.{Some, None, refl, sym, ap, subst, ◌∙◌, arith, inl, inr, ◌⊎◌, append_assoc}
 use Rattle.std.specs.Prelude.{nat_eq}
 use Rattle.std.specs.List.{prefix_len}
 use Rattle.std.proofs.lemmas.List.{take-append-drop, append-nil, length-append, drop_more, take_at, drop-drop, append_cancel_left}
@@ -15,7 +16,8 @@ pub comment_more : (bs : Bytes) (i : ℕ) → i < length bs → ends_comment (dr
 comment_more bs i lt e =
     let opened : drop i bs ≡ get_or bs i 0 ∷ drop (i + 1) bs = drop_more bs i 0 lt in
     let next : suc i ≡ i + 1 = omega arith in
-    ap (comment_end i) opened ∙ second_choice (ends_comment (get_or bs i 0 ∷ drop (i + 1) bs)) _ _ (sym (ap ends_comment opened) ∙ e) ∙ ap (λ (n : ℕ). comment_end n (drop (i + 1) bs)) next
+    ap (comment_end i) opened ∙ second_choice (ends_comment (get_or bs i 0 ∷ drop (i + 1) bs)) _ _ (sym (ap ends_comment opened) ∙ e)
+    ∙ ap (λ (n : ℕ). comment_end n (drop (i + 1) bs)) next
 
 begins_same : (p : ℕ → Bool) (c x y : Bytes) → begins p (c ++ 42 ∷ x) ≡ begins p (c ++ 42 ∷ y)
 begins_same p [] x y = refl
@@ -24,7 +26,8 @@ begins_same p (b ∷ c) x y = refl
 -- A comment that is closed: its inner bytes, and what is behind it.
 abbrev IsClosed : ℕ → Bytes → Option ℕ → Type 0
 IsClosed n bs None = closes_comment bs ≡ false
-IsClosed n bs (Some m) = (c : Bytes) × (gap : Bytes) × (bs ≡ (c ++ 42 ∷ 47 ∷ []) ++ gap) × (m ≡ n + length (c ++ 42 ∷ 47 ∷ [])) × (closes_comment (c ++ 42 ∷ []) ≡ false)
+IsClosed n bs (Some m) = (c : Bytes) × (gap : Bytes) × (bs ≡ (c ++ 42 ∷ 47 ∷ []) ++ gap) × (m ≡ n + length (c ++ 42 ∷ 47 ∷ []))
+    × (closes_comment (c ++ 42 ∷ []) ≡ false)
 
 closed_now : (n b : ℕ) (bs : Bytes) → ends_comment (b ∷ bs) ≡ true → IsClosed n (b ∷ bs) (Some (suc (suc n)))
 closed_now n b [] e = absurd (cc ((and_true (nat_eq b 42) false e).1))
@@ -39,7 +42,8 @@ closed_later n b bs e None h = both_false (ends_comment (b ∷ bs)) (closes_comm
 closed_later n b bs e (Some m) h =
     let c = h.0 in
     let one : b ∷ bs ≡ ((b ∷ c) ++ 42 ∷ 47 ∷ []) ++ h.1 = ap (λ (x : Bytes). b ∷ x) h.2 in
-    let same : begins (nat_eq 47) (c ++ 42 ∷ []) ≡ begins (nat_eq 47) bs = begins_same (nat_eq 47) c [] (47 ∷ h.1) ∙ ap (begins (nat_eq 47)) (sym (h.2 ∙ append_assoc c (42 ∷ 47 ∷ []) h.1)) in
+    let same : begins (nat_eq 47) (c ++ 42 ∷ []) ≡ begins (nat_eq 47) bs =
+    begins_same (nat_eq 47) c [] (47 ∷ h.1) ∙ ap (begins (nat_eq 47)) (sym (h.2 ∙ append_assoc c (42 ∷ 47 ∷ []) h.1)) in
     let not_now : nat_eq b 42 && begins (nat_eq 47) (c ++ 42 ∷ []) ≡ false = ap (λ (x : Bool). nat_eq b 42 && x) same ∙ e in
     (b ∷ c, h.1, one, omega (arith, h.3), both_false (nat_eq b 42 && begins (nat_eq 47) (c ++ 42 ∷ [])) (closes_comment (c ++ 42 ∷ [])) not_now h.4)
 
@@ -73,7 +77,10 @@ line_sound [] = (refl, inl refl)
 line_sound (b ∷ bs) =
     either_way (IsLine (b ∷ bs)) (is_no_newline b) (1 + prefix_len is_no_newline bs) 0
     (λ e. let next : suc (prefix_len is_no_newline bs) ≡ 1 + prefix_len is_no_newline bs = omega arith in
-    subst (IsLine (b ∷ bs)) next (both_false (is_newline b) (holds_of_some is_newline (take (prefix_len is_no_newline bs) bs)) (not_true (is_newline b) e) (line_sound bs).0, (line_sound bs).1))
+    subst (IsLine (b ∷ bs)) next (
+      both_false (is_newline b) (holds_of_some is_newline (take (prefix_len is_no_newline bs) bs)) (not_true (is_newline b) e) (line_sound bs).0,
+      (line_sound bs).1,
+    ))
     (λ e. (refl, inr (not_false (is_newline b) e)))
   where
     not_false : (b : Bool) → not b ≡ false → b ≡ true
@@ -105,7 +112,8 @@ comment_piece b (d ∷ bs) e =
     of_end (Some m) h p q =
         let len : length (h.0 ++ 42 ∷ 47 ∷ []) ≡ m = omega (arith, h.3) in
         let taken : take m bs ≡ h.0 ++ 42 ∷ 47 ∷ [] = ap (take m) h.2 ∙ take_at (h.0 ++ 42 ∷ 47 ∷ []) h.1 m len in
-        let whole : b ∷ d ∷ take m bs ≡ 47 ∷ 42 ∷ (h.0 ++ 42 ∷ 47 ∷ []) = ap (λ (x : ℕ). x ∷ d ∷ take m bs) p ∙ ap (λ (x : ℕ). 47 ∷ x ∷ take m bs) (sym q) ∙ ap (λ (x : Bytes). 47 ∷ 42 ∷ x) taken in
+        let whole : b ∷ d ∷ take m bs ≡ 47 ∷ 42 ∷ (h.0 ++ 42 ∷ 47 ∷ []) =
+        ap (λ (x : ℕ). x ∷ d ∷ take m bs) p ∙ ap (λ (x : ℕ). 47 ∷ x ∷ take m bs) (sym q) ∙ ap (λ (x : Bytes). 47 ∷ 42 ∷ x) taken in
         comment h.0 [] (drop m bs) (b ∷ d ∷ take m bs) whole h.4 (nothing (drop m bs))
 
 piece_sound : (bs : Bytes) → IsPiece bs (piece_len bs)
@@ -114,9 +122,11 @@ piece_sound (b ∷ bs) =
     either_way (IsPiece (b ∷ bs)) (is_layout b) 1 _ (λ e. layout b [] bs e (nothing bs))
     (λ _. either_way (IsPiece (b ∷ bs)) (nat_eq b 37) (suc (prefix_len is_no_newline bs)) _
     (λ e. let n = prefix_len is_no_newline bs in
-    let whole : b ∷ take n bs ≡ 37 ∷ (take n bs ++ []) = ap (λ (x : ℕ). x ∷ take n bs) (eqb-true b 37 e) ∙ ap (λ (x : Bytes). 37 ∷ x) (sym (append-nil (take n bs))) in
+    let whole : b ∷ take n bs ≡ 37 ∷ (take n bs ++ []) = ap (λ (x : ℕ). x ∷ take n bs) (eqb-true b 37 e)
+    ∙ ap (λ (x : Bytes). 37 ∷ x) (sym (append-nil (take n bs))) in
     line_comment (take n bs) [] (drop n bs) (b ∷ take n bs) whole (line_sound bs).0 (line_sound bs).1 (nothing (drop n bs)))
-    (λ _. either_way (IsPiece (b ∷ bs)) (nat_eq b 47 && begins (nat_eq 42) bs) (comment_len (comment_end 0 (drop 1 bs))) 0 (comment_piece b bs) (λ _. nothing (b ∷ bs))))
+    (λ _. either_way (IsPiece (b ∷ bs)) (nat_eq b 47 && begins (nat_eq 42) bs) (comment_len (comment_end 0 (drop 1 bs))) 0 (comment_piece b bs)
+    (λ _. nothing (b ∷ bs))))
 
 -- ---- no piece
 
@@ -158,7 +168,8 @@ none_where_separated (b ∷ bs) e =
     let f = or_false (is_layout b || nat_eq b 37) (x && c) (not_true (is_layout b || nat_eq b 37 || (x && c)) e) in
     let k = or_false (is_layout b) (nat_eq b 37) f.0 in
     let last : cond x (comment_len (comment_end 0 (drop 1 bs))) 0 ≡ 0 =
-    either_way (λ (n : ℕ). n ≡ 0) x (comment_len (comment_end 0 (drop 1 bs))) 0 (λ t. ap comment_len (comment_open 0 (drop 1 bs) (then_false x c f.1 t))) (λ _. refl) in
+    either_way (λ (n : ℕ). n ≡ 0) x (comment_len (comment_end 0 (drop 1 bs))) 0
+    (λ t. ap comment_len (comment_open 0 (drop 1 bs) (then_false x c f.1 t))) (λ _. refl) in
     second_choice (is_layout b) _ _ k.0 ∙ second_choice (nat_eq b 37) _ _ k.1 ∙ last
 
 -- ---- a whole gap
@@ -174,7 +185,8 @@ joined (comment c gap r whole w k s) h rest e d =
     comment c (gap ++ h) rest (whole ++ h) (ap (λ (x : Bytes). x ++ h) w ∙ append_assoc (47 ∷ 42 ∷ c) (42 ∷ 47 ∷ gap) h) k (joined s h rest e d)
 
 -- one more piece behind the gap
-pub gap_more : (bs : Bytes) (i n : ℕ) → i ≤ length bs → n ≡ piece_len (drop i bs) → Separates (take i bs) (drop i bs) → Separates (take (i + n) bs) (drop (i + n) bs)
+pub gap_more : (bs : Bytes) (i n : ℕ) → i ≤ length bs → n ≡ piece_len (drop i bs) → Separates (take i bs) (drop i bs)
+    → Separates (take (i + n) bs) (drop (i + n) bs)
 gap_more bs i n small e s =
     let piece : Separates (take n (drop i bs)) (drop n (drop i bs)) = subst (IsPiece (drop i bs)) (sym e) (piece_sound (drop i bs)) in
     let behind : drop n (drop i bs) ≡ drop (i + n) bs = drop-drop n i bs in
@@ -189,7 +201,8 @@ gap_more bs i n small e s =
     take-add : (i n : ℕ) (bs : Bytes) → take (i + n) bs ≡ take i bs ++ take n (drop i bs)
     take-add zero n bs = ap (λ (k : ℕ). take k bs) (omega arith)
     take-add (suc i) n [] = take_nil (suc i + n) ∙ sym (take_nil n)
-    take-add (suc i) n (b ∷ bs) = let next : suc i + n ≡ suc (i + n) = omega arith in ap (λ (k : ℕ). take k (b ∷ bs)) next ∙ ap (λ (x : Bytes). b ∷ x) (take-add i n bs)
+    take-add (suc i) n (b ∷ bs) = let next : suc i + n ≡ suc (i + n) =
+        omega arith in ap (λ (k : ℕ). take k (b ∷ bs)) next ∙ ap (λ (x : Bytes). b ∷ x) (take-add i n bs)
 
 -- ---- there is one gap
 
@@ -205,7 +218,8 @@ piece_of (line_comment c gap rest whole w n o d) =
     inr (37 ∷ c, gap, w, sym (ap piece_len opened ∙ ap suc (line_is c (gap ++ rest) n o)), omega arith, d)
 piece_of (comment c gap rest whole w k d) =
     let opened : whole ++ rest ≡ 47 ∷ 42 ∷ (c ++ 42 ∷ 47 ∷ (gap ++ rest)) = ap (λ (x : Bytes). x ++ rest) w ∙ append_assoc (47 ∷ 42 ∷ c) (42 ∷ 47 ∷ gap) rest in
-    let counted : piece_len (whole ++ rest) ≡ suc (suc (suc (suc (0 + length c)))) = ap piece_len opened ∙ ap comment_len (comment_closed 0 c (gap ++ rest) k) in
+    let counted : piece_len (whole ++ rest) ≡ suc (suc (suc (suc (0 + length c)))) =
+    ap piece_len opened ∙ ap comment_len (comment_closed 0 c (gap ++ rest) k) in
     let split : whole ≡ (47 ∷ 42 ∷ (c ++ 42 ∷ 47 ∷ [])) ++ gap = w ∙ sym (append_assoc (47 ∷ 42 ∷ c) (42 ∷ 47 ∷ []) gap) in
     inr (47 ∷ 42 ∷ (c ++ 42 ∷ 47 ∷ []), gap, split, omega (arith, counted, length-append c (42 ∷ 47 ∷ [])), omega arith, d)
 
@@ -242,7 +256,9 @@ one_gap (line_comment c gap rest whole w n o k) h s d e p q =
 one_gap (comment c gap rest whole w k m) h s d e p q =
     let x : Bytes = 47 ∷ 42 ∷ (c ++ 42 ∷ 47 ∷ []) in
     let split : whole ≡ x ++ gap = w ∙ sym (append_assoc (47 ∷ 42 ∷ c) (42 ∷ 47 ∷ []) gap) in
-    let opened : (x ++ gap) ++ rest ≡ 47 ∷ 42 ∷ (c ++ 42 ∷ 47 ∷ (gap ++ rest)) = append_assoc x gap rest ∙ append_assoc (47 ∷ 42 ∷ c) (42 ∷ 47 ∷ []) (gap ++ rest) in
-    let counted : piece_len ((x ++ gap) ++ rest) ≡ suc (suc (suc (suc (0 + length c)))) = ap piece_len opened ∙ ap comment_len (comment_closed 0 c (gap ++ rest) k) in
+    let opened : (x ++ gap) ++ rest ≡ 47 ∷ 42 ∷ (c ++ 42 ∷ 47 ∷ (gap ++ rest)) =
+    append_assoc x gap rest ∙ append_assoc (47 ∷ 42 ∷ c) (42 ∷ 47 ∷ []) (gap ++ rest) in
+    let counted : piece_len ((x ++ gap) ++ rest) ≡ suc (suc (suc (suc (0 + length c)))) =
+    ap piece_len opened ∙ ap comment_len (comment_closed 0 c (gap ++ rest) k) in
     let len : length x ≡ piece_len ((x ++ gap) ++ rest) = omega (arith, counted, length-append c (42 ∷ 47 ∷ [])) in
     split ∙ gap_step x gap rest len (omega arith) (ap (λ (y : Bytes). y ++ rest) (sym split) ∙ e) q d (λ j v u. one_gap m j s v u p q)

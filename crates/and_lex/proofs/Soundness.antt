@@ -1,5 +1,6 @@
 -- What is found is what stands there.
-use Rattle.std.proofs.Common.{ℕ, suc, ◌+◌, ◌-◌, ◌≡◌, ◌≤◌, ◌<◌, Bool, true, false, ltb, ◌&&◌, [], ◌∷◌, ◌++◌, length, take, drop, refl, sym, ap, subst, ◌∙◌, arith, inl, inr, ◌⊎◌, append_assoc}
+use Rattle.std.proofs.Common.{ℕ, suc, ◌+◌, ◌-◌, ◌≡◌, ◌≤◌, ◌<◌, Bool, true, false, ltb, ◌&&◌, [], ◌∷◌, ◌++◌, length, take, drop, refl, sym, ap, subst, ◌∙◌}
+use Rattle.std.proofs.Common.{arith, inl, inr, ◌⊎◌, append_assoc}
 use Rattle.std.specs.Prelude.{codes, nat_eq, leb}
 use Rattle.std.specs.List.{prefix_len}
 use Rattle.std.specs.Str.{bytes_eq}
@@ -8,8 +9,14 @@ use Rattle.std.proofs.lemmas.List.{take-append-drop, append-nil, length-append, 
 use Rattle.std.proofs.lemmas.Bool.{eqb-true, leb-true}
 use Rattle.std.proofs.lemmas.Slice.Eq.{bytes_eq-Decides}
 use Rattle.and_model.specs.Lines.{Bytes, is_small, is_word, is_symbol, holds_of_all, is_plain_name, begins_comment}
-use Rattle.and_language.specs.Tokens.{Kind, variable, name, quoted, symbol, integer, open_bracket, close_bracket, open_list, close_list, open_brace, close_brace, comma, semicolon, bar, end_of_clause, syntax, too_wide, not_pure, is_capital, is_digit, is_impure, is_impure_character, is_variable, is_numeral, is_run, goes_on, ends_clause, number_of, broken, is_separated, closes_comment, Separates, is_some, Answer, no_more, one, none_for, Next, finished, read, stopped, IsFront, Comes, IsToken, IsFault, bytes_at_fault, open_comment, open_quote, open_escape, raw_newline, escaped_raw_newline, unknown_escape, numeral_goes_on, wide_numeral, impure_symbol, impure_character, other_character}
-use Rattle.and_lex.specs.Scanning.{Found, end_of_text, one_token, one_fault, numeral_found, symbol_found, quoted_found, found_at_quote_end, single_found, found_at, IsWithin}
+use Rattle.and_language.specs.Tokens.{Kind, variable, name, quoted, symbol, integer, open_bracket, close_bracket, open_list, close_list, open_brace}
+use Rattle.and_language.specs.Tokens.{close_brace, comma, semicolon, bar, end_of_clause, syntax, too_wide, not_pure, is_capital, is_digit, is_impure}
+use Rattle.and_language.specs.Tokens.{is_impure_character, is_variable, is_numeral, is_run, goes_on, ends_clause, number_of, broken, is_separated}
+use Rattle.and_language.specs.Tokens.{closes_comment, Separates, is_some, Answer, no_more, one, none_for, Next, finished, read, stopped, IsFront, Comes}
+use Rattle.and_language.specs.Tokens.{IsToken, IsFault, bytes_at_fault, open_comment, open_quote, open_escape, raw_newline, escaped_raw_newline}
+use Rattle.and_language.specs.Tokens.{unknown_escape, numeral_goes_on, wide_numeral, impure_symbol, impure_character, other_character}
+use Rattle.and_lex.specs.Scanning.{Found, end_of_text, one_token, one_fault, numeral_found, symbol_found, quoted_found, found_at_quote_end, single_found}
+use Rattle.and_lex.specs.Scanning.{found_at, IsWithin}
 use Rattle.and_lex.specs.declared.quotes.QuoteEnd.{QuoteEnd}
 use Rattle.and_lex.specs.declared.quotes.QuoteEnd.TheVariants.{Closed, Open, Newline, Unknown}
 use Rattle.and_lex.specs.Quoting.{quote_end}
@@ -24,7 +31,8 @@ IsFound cut p bs (one_token k n) = IsToken cut k (take n bs) (drop n bs)
 IsFound cut p bs (one_fault f) = IsFault cut p bs f
 
 -- a token of that length
-token_of_len : (cut : Bool) (p : ℕ) (bs : Bytes) (k : Kind) (t rest : Bytes) (n : ℕ) → bs ≡ t ++ rest → length t ≡ n → IsToken cut k t rest → IsFound cut p bs (one_token k n)
+token_of_len : (cut : Bool) (p : ℕ) (bs : Bytes) (k : Kind) (t rest : Bytes) (n : ℕ) → bs ≡ t ++ rest → length t ≡ n → IsToken cut k t rest
+    → IsFound cut p bs (one_token k n)
 token_of_len cut p bs k t rest n e len h =
     let taken : take n bs ≡ t = ap (take n) e ∙ take_at t rest n len in
     let dropped : drop n bs ≡ rest = ap (drop n) e ∙ drop_at t rest n len in
@@ -51,16 +59,24 @@ name_found cut p b bs e =
 above : (n m : ℕ) → leb n m ≡ false → m < n
 above n m e = grind (arith, nat_tests)
 
-integer_found : (cut : Bool) (p b : ℕ) (bs : Bytes) → is_digit b ≡ true → IsFound cut p (b ∷ bs) (numeral_found p (front is_digit (b ∷ bs)) (behind is_digit (b ∷ bs)))
+integer_found : (cut : Bool) (p b : ℕ) (bs : Bytes) → is_digit b ≡ true
+    → IsFound cut p (b ∷ bs) (numeral_found p (front is_digit (b ∷ bs)) (behind is_digit (b ∷ bs)))
 integer_found cut p b bs e =
     let ds = front is_digit (b ∷ bs) in
     let rest = behind is_digit (b ∷ bs) in
     let split : b ∷ bs ≡ ds ++ rest = parts is_digit (b ∷ bs) in
-    let form : is_numeral ds ≡ true = ap is_numeral (front_more is_digit b bs e) ∙ both_true (is_digit b) (holds_of_all is_digit (front is_digit bs)) e (all_front is_digit bs) in
+    let form : is_numeral ds ≡ true = ap is_numeral (front_more is_digit b bs e)
+    ∙ both_true (is_digit b) (holds_of_all is_digit (front is_digit bs)) e (all_front is_digit bs) in
     let last = none_behind is_digit (b ∷ bs) in
     either_way (IsFound cut p (b ∷ bs)) (goes_on rest) (one_fault (not_pure p)) _ (λ g. numeral_goes_on ds rest split form last g)
     (λ g. either_way (IsFound cut p (b ∷ bs)) (leb (number_of ds) 9223372036854775808) (one_token (integer (number_of ds)) (length ds)) (one_fault (too_wide p))
-    (λ l. token_of_len cut p (b ∷ bs) (integer (number_of ds)) ds rest (length ds) split refl (form, last, g, refl, leb-true (number_of ds) 9223372036854775808 l))
+    (λ l. token_of_len cut p (b ∷ bs) (integer (number_of ds)) ds rest (length ds) split refl (
+      form,
+      last,
+      g,
+      refl,
+      leb-true (number_of ds) 9223372036854775808 l,
+    ))
     (λ l. wide_numeral ds rest split form last g (above (number_of ds) 9223372036854775808 l)))
 
 -- ---- symbols
@@ -80,33 +96,43 @@ pub false_of : (b : Bool) → (b ≡ true → ⊥) → b ≡ false
 false_of true h = absurd (h refl)
 false_of false h = refl
 
-symbol_found_there : (cut : Bool) (p b : ℕ) (bs : Bytes) → is_symbol b ≡ true → is_separated (b ∷ bs) ≡ true → IsFound cut p (b ∷ bs) (symbol_found cut p (front is_symbol (b ∷ bs)) (behind is_symbol (b ∷ bs)))
+symbol_found_there : (cut : Bool) (p b : ℕ) (bs : Bytes) → is_symbol b ≡ true → is_separated (b ∷ bs) ≡ true
+    → IsFound cut p (b ∷ bs) (symbol_found cut p (front is_symbol (b ∷ bs)) (behind is_symbol (b ∷ bs)))
 symbol_found_there cut p b bs e sep =
     let run = front is_symbol (b ∷ bs) in
     let rest = behind is_symbol (b ∷ bs) in
     let split : b ∷ bs ≡ run ++ rest = parts is_symbol (b ∷ bs) in
-    let form : is_run run ≡ true = ap is_run (front_more is_symbol b bs e) ∙ both_true (is_symbol b) (holds_of_all is_symbol (front is_symbol bs)) e (all_front is_symbol bs) in
+    let form : is_run run ≡ true = ap is_run (front_more is_symbol b bs e)
+    ∙ both_true (is_symbol b) (holds_of_all is_symbol (front is_symbol bs)) e (all_front is_symbol bs) in
     let last = none_behind is_symbol (b ∷ bs) in
     let len : p + length run + length rest ≡ p + length (b ∷ bs) = omega (arith, ap length split, length-append run rest) in
     let P = IsFound cut p (b ∷ bs) in
     either_way P (begins_comment run) (one_fault (broken cut p (p + length run + length rest))) _
     (λ g. let k = comment_of_run run g in
     let whole : b ∷ bs ≡ 47 ∷ 42 ∷ (k.0 ++ rest) = split ∙ ap (λ (x : Bytes). x ++ rest) k.1 in
-    subst (λ (n : ℕ). IsFault cut p (b ∷ bs) (broken cut p n)) (sym len) (open_comment (k.0 ++ rest) whole (never_closed (k.0 ++ rest) (sym (ap is_separated whole) ∙ sep))))
+    subst (λ (n : ℕ). IsFault cut p (b ∷ bs) (broken cut p n)) (sym len)
+    (open_comment (k.0 ++ rest) whole (never_closed (k.0 ++ rest) (sym (ap is_separated whole) ∙ sep))))
     (λ g. either_way P (is_impure run) (one_fault (not_pure p)) _ (λ i. impure_symbol run rest split last i)
     (λ i. either_way P (bytes_eq run (codes ".") && ends_clause cut rest) (one_token end_of_clause 1) (one_token symbol (length run))
     (λ j. let a = and_true (bytes_eq run (codes ".")) (ends_clause cut rest) j in
     let point : run ≡ codes "." = (bytes_eq-Decides run (codes ".")).0 a.0 in
     token_of_len cut p (b ∷ bs) end_of_clause run rest 1 split (ap length point) (point, a.1))
-    (λ j. token_of_len cut p (b ∷ bs) symbol run rest (length run) split refl
-    (form, last, g, i, (λ point. false_of (ends_clause cut rest) (λ d. absurd (cc (sym j ∙ both_true (bytes_eq run (codes ".")) (ends_clause cut rest) ((bytes_eq-Decides run (codes ".")).1 point) d))))))))
+    (λ j. token_of_len cut p (b ∷ bs) symbol run rest (length run) split refl (
+      form,
+      last,
+      g,
+      i,
+      (λ point. false_of (ends_clause cut rest)
+          (λ d. absurd (cc (sym j ∙ both_true (bytes_eq run (codes ".")) (ends_clause cut rest) ((bytes_eq-Decides run (codes ".")).1 point) d)))),
+    ))))
 
 -- ---- single characters
 
 solo_found : (cut : Bool) (p b d : ℕ) (bs : Bytes) (k : Kind) → nat_eq b d ≡ true → IsToken cut k (d ∷ []) bs → IsFound cut p (b ∷ bs) (one_token k 1)
 solo_found cut p b d bs k e h = token_of_len cut p (b ∷ bs) k (d ∷ []) bs 1 (ap (λ (x : ℕ). x ∷ bs) (eqb-true b d e)) refl h
 
-single_found_there : (cut : Bool) (p b : ℕ) (bs : Bytes) → is_word b ≡ false → is_symbol b ≡ false → nat_eq b 39 ≡ false → IsFound cut p (b ∷ bs) (single_found p b)
+single_found_there : (cut : Bool) (p b : ℕ) (bs : Bytes) → is_word b ≡ false → is_symbol b ≡ false → nat_eq b 39 ≡ false
+    → IsFound cut p (b ∷ bs) (single_found p b)
 single_found_there cut p b bs w s q =
     let P = IsFound cut p (b ∷ bs) in
     either_way P (nat_eq b 40) (one_token open_bracket 1) _ (λ e. solo_found cut p b 40 bs open_bracket e refl) (λ n0.
@@ -170,10 +196,12 @@ pub some_is : (bs : Bytes) → is_some bs ≡ ltb 0 (length bs)
 some_is [] = refl
 some_is (b ∷ bs) = grind (arith, nat_tests)
 
-next_is : (cut : Bool) (p : ℕ) (g r : Bytes) (gap : ℕ) → length g ≡ gap → Separates g r → is_separated r ≡ true → (f : Found) → IsFound cut (p + gap) r f → IsWithin (length r) f
+next_is : (cut : Bool) (p : ℕ) (g r : Bytes) (gap : ℕ) → length g ≡ gap → Separates g r → is_separated r ≡ true → (f : Found) → IsFound cut (p + gap) r f
+    → IsWithin (length r) f
     → Next cut p (g ++ r) (answer_behind p gap f)
 next_is cut p g r gap len s sep end_of_text h w =
-    let all : Separates (g ++ r) [] = subst (λ (x : Bytes). Separates x []) (sym (append-nil g) ∙ ap (λ (x : Bytes). g ++ x) (sym h.0)) (subst (Separates g) h.0 s) in
+    let all : Separates (g ++ r) [] =
+    subst (λ (x : Bytes). Separates x []) (sym (append-nil g) ∙ ap (λ (x : Bytes). g ++ x) (sym h.0)) (subst (Separates g) h.0 s) in
     finished all h.1
 next_is cut p g r gap len s sep (one_token k n) h w =
     let split : r ≡ take n r ++ drop n r = sym (take-append-drop n r) in
@@ -181,20 +209,25 @@ next_is cut p g r gap len s sep (one_token k n) h w =
     let made : Next cut p (g ++ r) (one (record { kind = k; start = p + length g; end = p + length g + length (take n r); layout_before = is_some g })) =
     read g (take n r) (drop n r) k (ap (λ (x : Bytes). g ++ x) split) (subst (Separates g) split s) (sym (ap is_separated split) ∙ sep) h in
     let A : ℕ → ℕ → Bool → Type 0 = λ i j l. Next cut p (g ++ r) (one (record { kind = k; start = p + i; end = p + i + j; layout_before = l })) in
-    subst (λ (l : Bool). A gap n l) (some_is g ∙ ap (λ (i : ℕ). ltb 0 i) len) (subst (λ (j : ℕ). A gap j (is_some g)) size (subst (λ (i : ℕ). A i (length (take n r)) (is_some g)) len made))
+    subst (λ (l : Bool). A gap n l) (some_is g ∙ ap (λ (i : ℕ). ltb 0 i) len)
+    (subst (λ (j : ℕ). A gap j (is_some g)) size (subst (λ (i : ℕ). A i (length (take n r)) (is_some g)) len made))
 next_is cut p g r gap len s sep (one_fault f) h w = stopped g r f refl s sep (subst (λ (i : ℕ). IsFault cut (p + i) r f) (sym len) h)
 
-pub next_found : (cut : Bool) (p gap : ℕ) (bs rest : Bytes) → rest ≡ drop gap bs → gap ≤ length bs → Separates (take gap bs) (drop gap bs) → is_separated (drop gap bs) ≡ true
+pub next_found : (cut : Bool) (p gap : ℕ) (bs rest : Bytes) → rest ≡ drop gap bs → gap ≤ length bs → Separates (take gap bs) (drop gap bs)
+    → is_separated (drop gap bs) ≡ true
     → (f : Found) → f ≡ found_at cut (p + gap) rest → IsWithin (length rest) f → Next cut p bs (answer_behind p gap f)
 next_found cut p gap bs rest same small s sep f e w =
     let behind : Separates (take gap bs) rest = subst (Separates (take gap bs)) (sym same) s in
     let separated : is_separated rest ≡ true = ap is_separated same ∙ sep in
     let h : IsFound cut (p + gap) rest f = subst (IsFound cut (p + gap) rest) (sym e) (found_sound cut (p + gap) rest separated) in
     let whole : take gap bs ++ rest ≡ bs = ap (λ (x : Bytes). take gap bs ++ x) same ∙ take-append-drop gap bs in
-    subst (λ (x : Bytes). Next cut p x (answer_behind p gap f)) whole (next_is cut p (take gap bs) rest gap (length-take-le gap bs small) behind separated f h w)
+    subst (λ (x : Bytes). Next cut p x (answer_behind p gap f)) whole
+    (next_is cut p (take gap bs) rest gap (length-take-le gap bs small) behind separated f h w)
 
-pub comes_next : (text : Bytes) (valid place : ℕ) (a : Answer) → IsFront text valid → place ≤ valid → Next (ltb valid (length text)) place (take (valid - place) (drop place text)) a → Comes text place a
+pub comes_next : (text : Bytes) (valid place : ℕ) (a : Answer) → IsFront text valid → place ≤ valid
+    → Next (ltb valid (length text)) place (take (valid - place) (drop place text)) a → Comes text place a
 comes_next text valid place a front small next =
     let sum : place + (valid - place) ≡ valid = omega arith in
-    let same : take (valid - place) (drop place text) ≡ drop place (take valid text) = sym (drop-take place (valid - place) text) ∙ ap (λ (n : ℕ). drop place (take n text)) sum in
+    let same : take (valid - place) (drop place text) ≡ drop place (take valid text) =
+    sym (drop-take place (valid - place) text) ∙ ap (λ (n : ℕ). drop place (take n text)) sum in
     (valid, front, subst (λ (x : Bytes). Next (ltb valid (length text)) place x a) same next)

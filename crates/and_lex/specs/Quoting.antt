@@ -8,7 +8,8 @@ use Rattle.and_lex.specs.declared.quotes.QuoteEnd.TheVariants.{Closed, Open, New
 abbrev mutual
   pub quote_end : ℕ → Bytes → QuoteEnd
   quote_end n [] = Open
-  quote_end n (b ∷ bs) = cond (nat_eq b 39) (end_behind_quote n bs) (cond (nat_eq b 92) (end_behind_backslash n bs) (cond (nat_eq b 10) Newline (quote_end (suc n) bs)))
+  quote_end n (b ∷ bs) = cond (nat_eq b 39) (end_behind_quote n bs)
+      (cond (nat_eq b 92) (end_behind_backslash n bs) (cond (nat_eq b 10) Newline (quote_end (suc n) bs)))
 
   pub end_behind_quote : ℕ → Bytes → QuoteEnd
   end_behind_quote n [] = Closed n
@@ -16,7 +17,8 @@ abbrev mutual
 
   pub end_behind_backslash : ℕ → Bytes → QuoteEnd
   end_behind_backslash n [] = Open
-  end_behind_backslash n (b ∷ bs) = cond (holds_of_some (nat_eq b) (39 ∷ 92 ∷ 110 ∷ [])) (quote_end (suc (suc n)) bs) (cond (nat_eq b 10) Newline (Unknown n))
+  end_behind_backslash n (b ∷ bs) = cond (holds_of_some (nat_eq b) (39 ∷ 92 ∷ 110 ∷ [])) (quote_end (suc (suc n)) bs)
+      (cond (nat_eq b 10) Newline (Unknown n))
 
 -- it stands before so many bytes
 abbrev pub EndsWithin : ℕ → QuoteEnd → Type 0

@@ -1,9 +1,14 @@
 -- What a text begins with, computed plainly.
-use Rattle.std.specs.Prelude.{ℕ, suc, ◌+◌, ◌<◌, ◌≤◌, Bool, false, not, cond, ◌&&◌, [], ◌∷◌, length, take, drop, Option, Some, None, nat_eq, leb, codes}
+use Rattle.std.specs.Prelude.{ℕ, suc, ◌+◌, ◌<◌, ◌≤◌, Bool, false, not, cond, ◌&&◌, [], ◌∷◌, length, take, drop}
+use Rattle.std.specs.Prelude.{Option, Some, None, nat_eq, leb, codes}
 use Rattle.std.specs.List.{prefix_len}
 use Rattle.std.specs.Str.{bytes_eq}
 use Rattle.and_model.specs.Lines.{Bytes, is_small, is_word, is_symbol, begins_comment}
-use Rattle.and_language.specs.Tokens.{Kind, variable, name, quoted, symbol, integer, open_bracket, close_bracket, open_list, close_list, open_brace, close_brace, comma, semicolon, bar, end_of_clause, Fault, syntax, not_text, too_wide, not_pure, begins, is_layout, is_newline, is_capital, is_digit, is_impure, is_impure_character, goes_on, ends_clause, number_of, broken}
+use Rattle.and_language.specs.Tokens.{Kind, variable, name, quoted, symbol, integer, open_bracket, close_bracket}
+use Rattle.and_language.specs.Tokens.{open_list, close_list, open_brace, close_brace, comma, semicolon, bar}
+use Rattle.and_language.specs.Tokens.{end_of_clause, Fault, syntax, not_text, too_wide, not_pure, begins, is_layout}
+use Rattle.and_language.specs.Tokens.{is_newline, is_capital, is_digit, is_impure, is_impure_character, goes_on}
+use Rattle.and_language.specs.Tokens.{ends_clause, number_of, broken}
 use Rattle.and_lex.specs.declared.quotes.QuoteEnd.{QuoteEnd}
 use Rattle.and_lex.specs.declared.quotes.QuoteEnd.TheVariants.{Closed, Open, Newline, Unknown}
 use Rattle.and_lex.specs.Quoting.{quote_end}
@@ -30,7 +35,8 @@ comment_len (Some n) = suc (suc n)
 abbrev pub piece_len : Bytes → ℕ
 piece_len [] = 0
 piece_len (b ∷ bs) =
-    cond (is_layout b) 1 (cond (nat_eq b 37) (suc (prefix_len is_no_newline bs)) (cond (nat_eq b 47 && begins (nat_eq 42) bs) (comment_len (comment_end 0 (drop 1 bs))) 0))
+    cond (is_layout b) 1 (cond (nat_eq b 37) (suc (prefix_len is_no_newline bs))
+    (cond (nat_eq b 47 && begins (nat_eq 42) bs) (comment_len (comment_end 0 (drop 1 bs))) 0))
 
 -- What bytes begin with: the end of the text, a token of a kind and a length, or a fault.
 pub data Found : Type 0 where
@@ -47,13 +53,17 @@ IsWithin len (one_fault f) = Unit {0}
 -- a numeral of these digits, with the rest behind it
 abbrev pub numeral_found : ℕ → Bytes → Bytes → Found
 numeral_found p ds rest =
-    cond (goes_on rest) (one_fault (not_pure p)) (cond (leb (number_of ds) 9223372036854775808) (one_token (integer (number_of ds)) (length ds)) (one_fault (too_wide p)))
+    cond (goes_on rest) (one_fault (not_pure p))
+    (cond (leb (number_of ds) 9223372036854775808) (one_token (integer (number_of ds)) (length ds))
+    (one_fault (too_wide p)))
 
 -- a run of symbol characters, with the rest behind it
 abbrev pub symbol_found : Bool → ℕ → Bytes → Bytes → Found
 symbol_found cut p run rest =
     cond (begins_comment run) (one_fault (broken cut p (p + length run + length rest)))
-    (cond (is_impure run) (one_fault (not_pure p)) (cond (bytes_eq run (codes ".") && ends_clause cut rest) (one_token end_of_clause 1) (one_token symbol (length run))))
+    (cond (is_impure run) (one_fault (not_pure p))
+    (cond (bytes_eq run (codes ".") && ends_clause cut rest) (one_token end_of_clause 1)
+    (one_token symbol (length run))))
 
 abbrev pub found_at_quote_end : Bool → ℕ → ℕ → QuoteEnd → Found
 found_at_quote_end cut p len (Closed n) = one_token quoted (suc (suc n))
@@ -68,9 +78,14 @@ quoted_found cut p bs = found_at_quote_end cut p (length bs) (quote_end 0 bs)
 -- a character that begins no longer token
 abbrev pub single_found : ℕ → ℕ → Found
 single_found p b =
-    cond (nat_eq b 40) (one_token open_bracket 1) (cond (nat_eq b 41) (one_token close_bracket 1) (cond (nat_eq b 91) (one_token open_list 1) (cond (nat_eq b 93) (one_token close_list 1)
-    (cond (nat_eq b 123) (one_token open_brace 1) (cond (nat_eq b 125) (one_token close_brace 1) (cond (nat_eq b 44) (one_token comma 1) (cond (nat_eq b 59) (one_token semicolon 1)
-    (cond (nat_eq b 124) (one_token bar 1) (cond (is_impure_character b) (one_fault (not_pure p)) (one_fault (syntax p)))))))))))
+    cond (nat_eq b 40) (one_token open_bracket 1)
+    (cond (nat_eq b 41) (one_token close_bracket 1)
+    (cond (nat_eq b 91) (one_token open_list 1) (cond (nat_eq b 93) (one_token close_list 1)
+    (cond (nat_eq b 123) (one_token open_brace 1)
+    (cond (nat_eq b 125) (one_token close_brace 1)
+    (cond (nat_eq b 44) (one_token comma 1) (cond (nat_eq b 59) (one_token semicolon 1)
+    (cond (nat_eq b 124) (one_token bar 1)
+    (cond (is_impure_character b) (one_fault (not_pure p)) (one_fault (syntax p)))))))))))
 
 -- What the bytes at the place p begin with, where no layout and no whole comment begins them.
 abbrev pub found_at : Bool → ℕ → Bytes → Found
@@ -79,5 +94,8 @@ found_at cut p (b ∷ bs) =
     let word = prefix_len is_word (b ∷ bs) in
     let digits = prefix_len is_digit (b ∷ bs) in
     let symbols = prefix_len is_symbol (b ∷ bs) in
-    cond (is_capital b) (one_token variable word) (cond (is_small b) (one_token name word) (cond (is_digit b) (numeral_found p (take digits (b ∷ bs)) (drop digits (b ∷ bs)))
-    (cond (is_symbol b) (symbol_found cut p (take symbols (b ∷ bs)) (drop symbols (b ∷ bs))) (cond (nat_eq b 39) (quoted_found cut p bs) (single_found p b)))))
+    cond (is_capital b) (one_token variable word)
+    (cond (is_small b) (one_token name word)
+    (cond (is_digit b) (numeral_found p (take digits (b ∷ bs)) (drop digits (b ∷ bs)))
+    (cond (is_symbol b) (symbol_found cut p (take symbols (b ∷ bs)) (drop symbols (b ∷ bs)))
+    (cond (nat_eq b 39) (quoted_found cut p bs) (single_found p b)))))

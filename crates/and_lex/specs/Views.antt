@@ -2,7 +2,9 @@
 use Rattle.std.specs.Prelude.{ℕ, ◌<◌, ◌≤◌, Option, Some, None, Result, Ok, Err}
 use Rattle.and_language.specs.Tokens
 use Rattle.and_lex.specs.declared.tokens.Kind.{Kind}
-use Rattle.and_lex.specs.declared.tokens.Kind.TheVariants.{Variable, Name, Quoted, Symbol, Integer, Open, Close, OpenList, CloseList, OpenBrace, CloseBrace, Comma, Semicolon, Bar, End}
+use Rattle.and_lex.specs.declared.tokens.Kind.TheVariants.{Variable, Name, Quoted, Symbol, Integer, Open, Close}
+use Rattle.and_lex.specs.declared.tokens.Kind.TheVariants.{OpenList, CloseList, OpenBrace, CloseBrace, Comma}
+use Rattle.and_lex.specs.declared.tokens.Kind.TheVariants.{Semicolon, Bar, End}
 use Rattle.and_lex.specs.declared.tokens.Token.{Token}
 use Rattle.and_lex.specs.declared.tokens.LexFault.{LexFault}
 use Rattle.and_lex.specs.declared.tokens.LexFault.TheVariants.{Syntax, NotText, TooWide, NotPure}

@@ -1,17 +1,17 @@
 -- The clauses of a lifted program name their own variables alone, if those of the program do.
-use Rattle.std.proofs.Common.{ℕ, zero, suc, ◌≡◌, ◌+◌, ◌<◌, ◌≤◌, ◌||◌, ◌&&◌, Bool, true, false, cond, List, [], ◌∷◌, ◌++◌, length, get_or, map}
-use Rattle.std.proofs.Common.{refl, ap, sym, ◌∙◌, arith}
+use Rattle.std.proofs.Common.{ℕ, zero, suc, ◌≡◌, ◌+◌, ◌<◌, ◌≤◌, ◌||◌, ◌&&◌, Bool, true, false, cond, List, [], ◌∷◌, ◌++◌, length, get_or}
+use Rattle.std.proofs.Common.{refl, ap, ◌∙◌, arith}
 use Rattle.std.specs.Prelude.{All, flat_map, nat_eq}
 use Rattle.std.proofs.lemmas.Bool.Decides.{nat_tests}
-use Rattle.std.proofs.lemmas.List.Elements.{All-nil, All-cons, All-head, All-tail, All-append, All-weaker}
-use Rattle.and_model.specs.Terms.{Path, Term, Terms, variable, number, compound, none, more, variables_of, variables_in, apply, apply_all}
-use Rattle.and_model.specs.Programs.{Item, call, equal, arithmetic, fail, is, compare, Clause, clause_at}
+use Rattle.std.proofs.lemmas.List.Elements.{All-nil, All-cons, All-head, All-tail, All-append}
+use Rattle.and_model.specs.Terms.{Path, Term, Terms, variable, number, compound, none, more, variables_of, variables_in, apply_all}
+use Rattle.and_model.specs.Programs.{call, equal, arithmetic, fail, is, compare, Clause}
 use Rattle.and_model.specs.OwnVariables.{terms_of_item, IsOwn, AreOwn, HasOwnVariables, HaveOwnVariables}
 use Rattle.and_model.specs.Lines.{same_path, same_variable, has, first_seen, place_of}
 use Rattle.and_model.proofs.OwnVariables.{All-front, All-back}
 use Rattle.and_source.specs.Source.{SourceItems, no_items, plain, either, Alternatives, no_alternatives, alternative, SourceClause, SourceProgram}
 use Rattle.and_source.specs.Source.{variables_of_items, variables_of_alternatives, distinct_variables, HasOwnSourceVariables}
-use Rattle.and_source.specs.Lifted.{Numbering, renumbered, renumbered_item, as_terms, lifted_call, lifted_items, lifted_clause, numbered_variables}
+use Rattle.and_source.specs.Lifted.{Numbering, renumbered, as_terms, lifted_call, lifted_items, lifted_clause, numbered_variables}
 use Rattle.and_source.specs.Lifted.{numbering_of, lifted_alternative, clauses_of_items, clauses_of_alternatives, clauses_of, lift}
 
 abbrev Variable : Type 0
@@ -212,7 +212,8 @@ lifted_own P earlier query later c =
     let q = clause_own P.query query in
     let inner = both (clauses_of_items P.query P.query.body) (clauses_of P.later) (of_items P.query P.query.body) (of_clauses P.later later) in
     let all : Each (lift P).clauses =
-    flat (clauses_of P.earlier) (clauses_of_items P.query P.query.body) (clauses_of P.later) (of_clauses P.earlier earlier) (of_items P.query P.query.body) (of_clauses P.later later) in
+    flat (clauses_of P.earlier) (clauses_of_items P.query P.query.body) (clauses_of P.later) (of_clauses P.earlier earlier) (of_items P.query P.query.body)
+    (of_clauses P.later later) in
     of_nth (lifted_clause P.query ∷ (lift P).clauses) (lifted_clause P.query) c (q, all) q
   where
     flat : (xs ys zs : List Clause) → Each xs → Each ys → Each zs → Each (xs ++ ys ++ zs)

@@ -1,5 +1,5 @@
 -- The heads and calls of a clause have the names that its term has.
-use Rattle.std.proofs.Common.{ℕ, suc, ◌+◌, Bool, true, false, cond, List, [], ◌∷◌, ◌++◌, Option, Some, None}
+use Rattle.std.proofs.Common.{ℕ, suc, ◌+◌, Bool, true, false, cond, List, Option, Some, None}
 use Rattle.std.specs.Prelude.{All, nat_eq}
 use Rattle.std.proofs.lemmas.List.Elements.{All-nil, All-cons, All-append}
 use Rattle.and_model.specs.Lines.{Bytes}
@@ -14,7 +14,7 @@ use Rattle.and_syntax.specs.Clauses.{Parts, no_parts, item, impure, Choices, no_
 use Rattle.and_syntax.specs.Clauses.{atom_parts, unary_part, binary_part, binary_reading, compare_or, relation_of, reading_of, parts_of}
 use Rattle.and_syntax.specs.Clauses.{alternatives_of, alternatives_in, disjunctions_of, disjunctions_within, numbered, numbered_in}
 use Rattle.and_syntax.specs.Clauses.{head_of, body_of, asked_of}
-use Rattle.and_syntax.proofs.Names.{HasWritten, AllWritten}
+use Rattle.and_syntax.proofs.Names.{HasWritten}
 
 -- a call has names of these
 abbrev IsWrittenItem : List Bytes → Item → Type 0
@@ -70,7 +70,8 @@ atom_written names c whole =
     let P : Parts → Type 0 = WrittenParts names in
     chosen P (nat_eq c TRUE) _ _ tt (chosen P (nat_eq c FAIL) _ _ (tt, tt) (chosen P (nat_eq c CUT) _ _ tt (whole, tt)))
 
-binary_reading_written : (names : List Bytes) (c : ℕ) (a b : Term) (x y : Reading) → HasWritten names (Terms.compound c (Terms.more a (Terms.more b Terms.none)))
+binary_reading_written : (names : List Bytes) (c : ℕ) (a b : Term) (x y : Reading)
+    → HasWritten names (Terms.compound c (Terms.more a (Terms.more b Terms.none)))
     → WrittenReading names x → WrittenReading names y → WrittenReading names (binary_reading c a b x y)
 binary_reading_written names c a b x y whole left right =
     let P : Reading → Type 0 = WrittenReading names in
@@ -117,7 +118,8 @@ asked_written names (Terms.compound c (Terms.more a (Terms.more b ts))) h = tt
 
 mutual
   -- the calls of the items
-  calls_written : (names : List Bytes) (name : ℕ → ℕ) (c d : ℕ) (ps : Parts) → WrittenParts names ps → All (HasWritten names) (calls_in_items (numbered name c d ps))
+  calls_written : (names : List Bytes) (name : ℕ → ℕ) (c d : ℕ) (ps : Parts) → WrittenParts names ps
+      → All (HasWritten names) (calls_in_items (numbered name c d ps))
   calls_written names name c d no_parts h = All-nil (HasWritten names)
   calls_written names name c d (item (call g) ps) h =
       All-cons (HasWritten names) g (calls_in_items (numbered name c d ps)) h.0 (calls_written names name c d ps h.1)
@@ -140,8 +142,10 @@ mutual
       All-append (HasWritten names) (calls_in_items (numbered name (suc c) d ps)) (calls_in_alternatives (numbered_in name m e cs))
       (calls_written names name (suc c) d ps h.0) (choices_written names name m e cs h.1)
 
-pub body_calls : (names : List Bytes) (name : ℕ → ℕ) (c d : ℕ) (t : Term) → HasWritten names t → All (HasWritten names) (calls_in_items (numbered name c d (body_of t)))
+pub body_calls : (names : List Bytes) (name : ℕ → ℕ) (c d : ℕ) (t : Term) → HasWritten names t
+    → All (HasWritten names) (calls_in_items (numbered name c d (body_of t)))
 body_calls names name c d t h = calls_written names name c d (body_of t) (body_written names t h)
 
-pub asked_calls : (names : List Bytes) (name : ℕ → ℕ) (c d : ℕ) (t : Term) → HasWritten names t → All (HasWritten names) (calls_in_items (numbered name c d (asked_of t)))
+pub asked_calls : (names : List Bytes) (name : ℕ → ℕ) (c d : ℕ) (t : Term) → HasWritten names t
+    → All (HasWritten names) (calls_in_items (numbered name c d (asked_of t)))
 asked_calls names name c d t h = calls_written names name c d (asked_of t) (asked_written names t h)

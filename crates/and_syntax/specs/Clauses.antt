@@ -6,7 +6,8 @@ use Rattle.and_model.specs.Arithmetic.{Relation, less, greater, at_most, at_leas
 use Rattle.and_model.specs.Programs.{Item, call, equal, arithmetic, fail, is, compare}
 use Rattle.and_source.specs.Source
 use Rattle.and_source.specs.Source.{SourceItems, no_items, plain, Alternatives, no_alternatives, alternative}
-use Rattle.and_model.specs.declared.builtins.TheConstants.{AT_LEAST, AT_MOST, CONJUNCTION, CUT, DIFFERS, DISJUNCTION, EQUAL, FAIL}
+use Rattle.and_model.specs.declared.builtins.TheConstants.{AT_LEAST, AT_MOST, CONJUNCTION, CUT, DIFFERS, DISJUNCTION}
+use Rattle.and_model.specs.declared.builtins.TheConstants.{EQUAL, FAIL}
 use Rattle.and_model.specs.declared.builtins.TheConstants.{GREATER, IF_THEN, IS, LESS, NECK, NOT_PROVABLE, SAME, TRUE}
 
 mutual
@@ -195,4 +196,6 @@ abbrev pub is_built_in : ℕ → ℕ → Bool
 is_built_in c n =
     cond (nat_eq n 0) (nat_eq c TRUE || nat_eq c FAIL || nat_eq c CUT)
     (cond (nat_eq n 1) (nat_eq c NOT_PROVABLE)
-    (cond (nat_eq n 2) (nat_eq c CONJUNCTION || nat_eq c EQUAL || nat_eq c IS || nat_eq c LESS || nat_eq c GREATER || nat_eq c AT_MOST || nat_eq c AT_LEAST || nat_eq c SAME || nat_eq c DIFFERS || nat_eq c DISJUNCTION || nat_eq c IF_THEN) false))
+    (cond (nat_eq n 2) (nat_eq c CONJUNCTION || nat_eq c EQUAL || nat_eq c IS || nat_eq c LESS || nat_eq c GREATER
+    || nat_eq c AT_MOST || nat_eq c AT_LEAST || nat_eq c SAME || nat_eq c DIFFERS || nat_eq c DISJUNCTION
+    || nat_eq c IF_THEN) false))

@@ -1,13 +1,15 @@
 -- Tables of clauses: what a clause or query adds, what is refused, and the program of a whole table (this project's own
 -- limits).
-use Rattle.std.specs.Prelude.{ℕ, zero, suc, ◌+◌, ◌*◌, Bool, true, false, not, cond, leb, ltb, ◌||◌, List, [], ◌∷◌, ◌++◌, length}
+use Rattle.std.specs.Prelude.{ℕ, zero, suc, ◌+◌, ◌*◌, Bool, true, false, not, cond, ltb, ◌||◌, List, [], ◌∷◌}
+use Rattle.std.specs.Prelude.{◌++◌, length}
 use Rattle.std.specs.Prelude.{get_or, Option, Some, None}
 use Rattle.std.specs.List.{list_any}
 use Rattle.std.specs.Fmt.{decimal}
 use Rattle.and_model.specs.Terms.{Term, compound, none}
 use Rattle.and_model.specs.Programs.{Clause, same_predicate, builtin_names}
 use Rattle.and_model.specs.Lines.{Bytes}
-use Rattle.and_source.specs.Source.{SourceItems, Alternatives, no_alternatives, alternative, SourceClause, SourceProgram}
+use Rattle.and_source.specs.Source.{SourceItems, Alternatives, no_alternatives, alternative, SourceClause}
+use Rattle.and_source.specs.Source.{SourceProgram}
 use Rattle.and_source.specs.Source.{distinct_variables, disjunctions_in_items, calls_in_items}
 use Rattle.and_source.specs.Lifted.{lift}
 use Rattle.and_syntax.specs.Written.{Written, nodes_of, named, place, including, met_after, term_in}
@@ -32,8 +34,8 @@ pub data Fault : Type 0 where
   redefines : Bytes → ℕ → Fault
   too_big : What → Fault
 
--- The clauses before the query and those behind it, and the query; the names; how many nodes there are, how many clauses
--- and alternatives, and how many disjunctions.
+-- The clauses before the query and those behind it, and the query; the names; how many nodes there are, how many
+-- clauses and alternatives, and how many disjunctions.
 pub record Table : Type 0 where
   pub earlier : List SourceClause
   pub asked : Option SourceClause

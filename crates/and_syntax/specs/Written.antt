@@ -1,4 +1,5 @@
--- Terms as they are written, and the terms of a clause that they stand for: variables and names by their numbers (this project's own).
+-- Terms as they are written, and the terms of a clause that they stand for: variables and names by their numbers
+-- (this project's own).
 use Rattle.std.specs.Prelude.{ℕ, suc, ◌+◌, ℤ, not, cond, ◌||◌, Bool, List, [], ◌∷◌, ◌++◌, length, codes}
 use Rattle.std.specs.Str.{bytes_eq}
 use Rattle.std.specs.List.{list_any, position_or_len}
@@ -7,7 +8,8 @@ use Rattle.and_model.specs.Terms.{Term, Terms}
 use Rattle.and_model.specs.Lines.{Bytes}
 
 mutual
-  -- A written term: a variable or a name as its bytes, or an integer. (What is written with an operator or as a list is a name with arguments too.)
+  -- A written term: a variable or a name as its bytes, or an integer. (What is written with an operator or as a list
+  -- is a name with arguments too.)
   pub data Written : Type 0 where
     variable : Bytes → Written
     integer : ℤ → Written

@@ -1,7 +1,6 @@
 -- A fork that did something leaves no code out.
 use Rattle.std.proofs.Common.{ℕ, ◌≡◌, ◌<◌, Bool, true, false, cond, ◌&&◌, List, [], ◌∷◌, ◌++◌, refl, sym, ap, ◌∙◌, subst, inl, inr}
-use Rattle.std.proofs.Common.{true≢false, arith, All, AllPairs, Contains}
-use Rattle.std.specs.Prelude.{nat_eq}
+use Rattle.std.proofs.Common.{arith, All, AllPairs, Contains}
 use Rattle.std.proofs.lemmas.Bool.Decides.{Decides-eqb}
 use Rattle.std.proofs.lemmas.List.Sums.{sum_by-cons}
 use Rattle.std.proofs.lemmas.List.Elements.{All-cons, All-contains}
@@ -10,7 +9,6 @@ use Rattle.and_model.specs.Programs.{Program}
 use Rattle.and_model.specs.Trees.{QueryTree, query_agenda, Below, decided}
 use Rattle.and_model.specs.Reached.{ReachedBy}
 use Rattle.and_model.specs.Listing.{Entry}
-use Rattle.and_model.proofs.Tested.{first_true, second_true}
 use Rattle.and_laws.proofs.Covering.{reached_covers}
 use Rattle.and_laws.proofs.Order.{below_weight}
 use Rattle.and_laws.proofs.Ordered.{contains_none, contains_cases}
@@ -20,18 +18,10 @@ use Rattle.and_laws.proofs.Splitting.{split_divides, split_code}
 use Rattle.and_histories.specs.PlainTree.{Key, Event, fork, publish, claim, clear, end, look, left, children}
 use Rattle.and_histories.specs.Histories.{HistoryEntry}
 use Rattle.and_histories.specs.Covering.{HasOutcomeWithin, begins, keys_begun, IsCovering, AreCovering}
+use Rattle.and_histories.proofs.CoveringForks.{begins_prefix}
 use Rattle.and_team_laws.specs.Done.{IsPassing, IsForkedBy, Did, DidAll}
 
--- The test finds prefixes,
-begins_prefix : (code key : List ℕ) → begins code key ≡ true → IsPrefix key code
-begins_prefix code [] is = (code, refl)
-begins_prefix [] (k ∷ key) is = absurd (true≢false (sym is))
-begins_prefix (c ∷ code) (k ∷ key) is =
-    let same : c ≡ k = (Decides-eqb c k).0 (first_true (nat_eq c k) (begins code key) is) in
-    let rest = begins_prefix code key (second_true (nat_eq c k) (begins code key) is) in
-    (rest.0, λ i. same i ∷ rest.1 i)
-
--- and all of them.
+-- The test finds all prefixes.
 prefix_begins : (code key : List ℕ) → IsPrefix key code → begins code key ≡ true
 prefix_begins code [] p = refl
 prefix_begins [] (k ∷ key) p = let e = p.1 in absurd (cc)

@@ -117,33 +117,25 @@ given_up_so answered key = []
 given_up_so retired key = []
 given_up_so given_up key = key ∷ []
 
+-- the key that an event ends, if it ended so; other events end none
+abbrev pub at_end : (Ending → Key → List Key) → Event → List Key
+at_end so (fork team key longer clauses) = []
+at_end so (publish team cell key) = []
+at_end so (claim team cell serial) = []
+at_end so (clear team cell) = []
+at_end so (end team key how) = so how key
+at_end so (look team cell) = []
+at_end so (left team) = []
+
 -- the key that an event answers, retires or gives up
 abbrev pub answered_in : Event → List Key
-answered_in (fork team key longer clauses) = []
-answered_in (publish team cell key) = []
-answered_in (claim team cell serial) = []
-answered_in (clear team cell) = []
-answered_in (end team key how) = answered_so how key
-answered_in (look team cell) = []
-answered_in (left team) = []
+answered_in event = at_end answered_so event
 
 abbrev pub retired_in : Event → List Key
-retired_in (fork team key longer clauses) = []
-retired_in (publish team cell key) = []
-retired_in (claim team cell serial) = []
-retired_in (clear team cell) = []
-retired_in (end team key how) = retired_so how key
-retired_in (look team cell) = []
-retired_in (left team) = []
+retired_in event = at_end retired_so event
 
 abbrev pub given_up_in : Event → List Key
-given_up_in (fork team key longer clauses) = []
-given_up_in (publish team cell key) = []
-given_up_in (claim team cell serial) = []
-given_up_in (clear team cell) = []
-given_up_in (end team key how) = given_up_so how key
-given_up_in (look team cell) = []
-given_up_in (left team) = []
+given_up_in event = at_end given_up_so event
 
 abbrev pub keys_answered : List HistoryEntry → List Key
 keys_answered history = flat_map (λ (e : HistoryEntry). answered_in e.event) history

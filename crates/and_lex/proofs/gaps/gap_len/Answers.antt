@@ -15,5 +15,8 @@ returns-then-step-eq0-clause-behind c =
 
 pub loop-gap-preserved : goal.loop-gap-preserved
 loop-gap-preserved c =
-    let rest = take_rest c.args.bytes.now c.loop-gap.gap in
-    (grind arith, gap_more c.args.bytes.now c.loop-gap.gap c.separator_len-step.result c.loop-gap.invariant.0 (c.separator_len-step.ensures.len ∙ ap piece_len rest) c.loop-gap.invariant.1)
+    let rest = take_rest c.args.bytes.now c.loop-gap.gap in (
+      grind arith,
+      gap_more c.args.bytes.now c.loop-gap.gap c.separator_len-step.result c.loop-gap.invariant.0 (c.separator_len-step.ensures.len
+          ∙ ap piece_len rest) c.loop-gap.invariant.1,
+    )
