@@ -1,13 +1,10 @@
 //! Runs whose first reduction is held until another one comes.
 
-use crate::replies::typed;
+use crate::runs::run;
 use and_gate::Gate;
-use and_io::{SureSink, SureSource};
-use and_model::Text;
 use and_reader::ReadRefusal;
 use and_rows::Untold;
 use and_top::Watcher;
-use and_top::top::andorra;
 use std::alloc::Global;
 use std::sync::{Condvar, CondvarTimeouts, Mutex, Wait};
 use std::thread::Threads;
@@ -102,13 +99,10 @@ pub(crate) fn tell<R: Threads + Wait + Clock + Sync>(
     text: &str,
 ) -> Result<String, Untold> {
     let gate = Holding::new(rt);
-    let words = typed(alloc, line)?;
-    let mut source = SureSource::new(Text::of(alloc, text.as_bytes())?, 7);
-    let mut sink = SureSink::new(alloc, 1000)?;
-    let status = andorra(rt, alloc, &words, &mut source, &mut sink, &gate);
+    let run = run(rt, alloc, &gate, line, text.as_bytes(), 0, 1000)?;
+    let written = String::from_utf8_lossy(alloc, run.sink.held())?;
     let is_joined = gate.told.lock(rt).is_joined;
     let is_shared = gate.told.lock(rt).is_shared;
-    let written = String::from_utf8_lossy(alloc, sink.held())?;
-    let status = status as u8;
+    let status = run.status as u8;
     Ok(format!(in alloc; "{written}= {status}\njoined: {is_joined}, shared: {is_shared}\n")?)
 }

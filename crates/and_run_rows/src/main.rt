@@ -6,6 +6,7 @@ mod fronts;
 mod holding;
 mod large;
 mod replies;
+mod runs;
 
 use and_rows::{Block, Untold, blocks};
 use std::alloc::{AllocError, Global};
@@ -22,7 +23,7 @@ fn tell<R: Threads + Wait + Clock + Sync>(
 ) -> Result<String, Untold> {
     let (words, text) = block.lines.split_once('\n').unwrap_or((&block.lines, ""));
     match block.kind.as_str() {
-        "run" => replies::tell(rt, alloc, words, text),
+        "run" => replies::tell(rt, alloc, words, text.as_bytes()),
         "bytes" => replies::tell_of_bytes(rt, alloc, words, text),
         "fronts" => fronts::tell(rt, alloc, words, text),
         "faults" => faults::tell(rt, alloc, words, text),

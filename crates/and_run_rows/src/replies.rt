@@ -1,22 +1,11 @@
-//! Runs over a source and a sink that never fail.
+//! Runs over a source that never fails, and a large sink.
 
+use crate::runs::run;
 use and_gate::Quiet;
-use and_io::{SureSink, SureSource};
-use and_model::Text;
 use and_rows::Untold;
-use and_top::top::andorra;
-use std::alloc::{AllocError, Global};
+use std::alloc::Global;
 use std::sync::Wait;
 use std::thread::Threads;
-
-/// The words of a line, by the blanks between them.
-pub(crate) fn typed(alloc: Global, line: &str) -> Result<Vec<String>, AllocError> {
-    let mut words = Vec::new(alloc);
-    for word in line.split_whitespace() {
-        words.push(String::from_str(alloc, word)?)?;
-    }
-    Ok(words)
-}
 
 /// What is written for a text with these words, and the status.
 pub(crate) fn reply<R: Threads + Wait + Sync>(
@@ -25,17 +14,14 @@ pub(crate) fn reply<R: Threads + Wait + Sync>(
     line: &str,
     text: &[u8],
 ) -> Result<String, Untold> {
-    let words = typed(alloc, line)?;
-    let mut source = SureSource::new(Text::of(alloc, text)?, 7);
-    let mut sink = SureSink::new(alloc, 100_000)?;
-    let status = andorra(rt, alloc, &words, &mut source, &mut sink, &Quiet);
-    let written = String::from_utf8_lossy(alloc, sink.held())?;
-    Ok(format!(in alloc; "{written}= {}\n", status as u8)?)
+    let run = run(rt, alloc, &Quiet, line, text, 0, 100_000)?;
+    let written = String::from_utf8_lossy(alloc, run.sink.held())?;
+    Ok(format!(in alloc; "{written}= {}\n", run.status as u8)?)
 }
 
 /// What is written for a text with the first of these words, and with which of the others something else is. There is
 /// a semicolon between words of two runs.
-fn replies<R: Threads + Wait + Sync>(
+pub(crate) fn tell<R: Threads + Wait + Sync>(
     rt: &R,
     alloc: Global,
     runs: &str,
@@ -54,16 +40,6 @@ fn replies<R: Threads + Wait + Sync>(
     Ok(out)
 }
 
-/// What is written for a text with these words.
-pub(crate) fn tell<R: Threads + Wait + Sync>(
-    rt: &R,
-    alloc: Global,
-    runs: &str,
-    text: &str,
-) -> Result<String, Untold> {
-    replies(rt, alloc, runs, text.as_bytes())
-}
-
 /// What is written for the bytes whose numbers stand there in base 16.
 pub(crate) fn tell_of_bytes<R: Threads + Wait + Sync>(
     rt: &R,
@@ -78,5 +54,5 @@ pub(crate) fn tell_of_bytes<R: Threads + Wait + Sync>(
             Err(_) => return Err(Untold::Malformed),
         }
     }
-    replies(rt, alloc, runs, &bytes)
+    tell(rt, alloc, runs, &bytes)
 }

@@ -1,6 +1,7 @@
-//! Rows of what workers and teams share: stores of cells, and choicepoint trees.
+//! Rows of what threads share: stores of cells, choicepoint trees, and the jobs of a batch.
 #![tactic(auto)]
 
+mod batches;
 mod leaves;
 mod plain;
 mod races;
@@ -13,6 +14,7 @@ mod trials;
 use and_rows::{Block, Untold, blocks};
 use std::alloc::{AllocError, Global};
 use std::io;
+use std::sync::Wait;
 use std::thread::Threads;
 
 /// What is told of trees.
@@ -28,18 +30,24 @@ fn tell_of_trees(alloc: Global, kind: &str) -> Result<String, Untold> {
 }
 
 /// What is told of a block, by its kind.
-fn tell<R: Threads + Sync>(rt: &R, alloc: Global, block: &Block) -> Result<String, Untold> {
+fn tell<R: Threads + Wait + Sync>(rt: &R, alloc: Global, block: &Block) -> Result<String, Untold> {
     let kind = block.kind.as_str();
     match kind {
         "store" => stores::tell(alloc, block.lines.as_str()),
         "store-race" => races::store_race(rt, alloc),
         "tree-race" => tree_races::tree_race(rt, alloc),
+        "batches" => batches::tell(rt, alloc, block.lines.as_str()),
+        "meeting" => batches::two_at_work(rt, alloc),
         _ => tell_of_trees(alloc, kind),
     }
 }
 
 /// What is told of a block behind its first line. An error is want of memory.
-fn told<R: Threads + Sync>(rt: &R, alloc: Global, block: &Block) -> Result<String, AllocError> {
+fn told<R: Threads + Wait + Sync>(
+    rt: &R,
+    alloc: Global,
+    block: &Block,
+) -> Result<String, AllocError> {
     match tell(rt, alloc, block) {
         Ok(text) => Ok(text),
         Err(Untold::Memory) => Err(AllocError),
@@ -49,7 +57,11 @@ fn told<R: Threads + Sync>(rt: &R, alloc: Global, block: &Block) -> Result<Strin
 
 /// What is told of all blocks of a text. It is no [`and_rows::Teller`], since threads are started with the runtime. An
 /// error is want of memory.
-fn tell_all<R: Threads + Sync>(rt: &R, alloc: Global, text: &str) -> Result<String, AllocError> {
+fn tell_all<R: Threads + Wait + Sync>(
+    rt: &R,
+    alloc: Global,
+    text: &str,
+) -> Result<String, AllocError> {
     let mut out = String::new(alloc);
     for block in blocks(alloc, text)? {
         let told = told(rt, alloc, &block)?;

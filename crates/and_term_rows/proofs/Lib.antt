@@ -1,2 +1,2 @@
-pub mod FlatRows
-pub mod Settling
+pub mod Glimpses
+pub mod Structures

@@ -4,12 +4,10 @@ ghost use Rattle.std.specs.Prelude.{◌≡◌};
 ghost use Rattle.and_cells.specs.Parts.{named};
 
 use crate::frames::set;
-use crate::numbers::Numbers;
-use crate::sides::{argument, first_head, right_side};
 use and_cells::{Cells, Naming, PlainCells, deref};
 use and_model::Ref;
 use and_program::Loaded;
-use and_rows::Untold;
+use and_rows::{Numbers, Untold, line};
 use std::alloc::Global;
 
 /// Another row of so many free cells.
@@ -32,7 +30,7 @@ pub(crate) fn grow<N: Naming>(
         return Err(Untold::Malformed);
     }
     cells.extend(by)?;
-    Ok(format!(in alloc; "{}\n", cells.len())?)
+    line(alloc, &cells.len())
 }
 
 /// Sets a cell to one before it.
@@ -45,11 +43,10 @@ pub(crate) fn bind<N: Naming>(
     if cell >= cells.len() || to >= cell {
         return Err(Untold::Malformed);
     }
-    let bound = cells.bind(cell, Ref::Cell(to));
-    Ok(format!(in alloc; "{bound:?}\n")?)
+    line(alloc, &cells.bind(cell, Ref::Cell(to)))
 }
 
-/// What the word of a cell is.
+/// What the word of a cell is, and where the cell leads.
 pub(crate) fn look<N: Naming>(
     alloc: Global,
     cells: &mut PlainCells<N>,
@@ -58,68 +55,31 @@ pub(crate) fn look<N: Naming>(
     if cell >= cells.len() {
         return Err(Untold::Malformed);
     }
-    let word = cells.look(cell);
-    Ok(format!(in alloc; "{word:?}\n")?)
+    let word = cells.word(cell);
+    line(alloc, &(word, deref(cells, Ref::Cell(cell))))
 }
 
-/// Where a cell leads.
-pub(crate) fn follow<N: Naming>(
-    alloc: Global,
-    cells: &mut PlainCells<N>,
-    cell: u32,
-) -> Result<String, Untold> {
-    if cell >= cells.len() {
-        return Err(Untold::Malformed);
-    }
-    let end = deref(cells, Ref::Cell(cell));
-    Ok(format!(in alloc; "{end:?}\n")?)
-}
-
-/// Writes a number into a pair of words, and tells what is written and read there then.
+/// Writes a number into a pair of words, and sets a cell to it: what is written, what is read there then, and what
+/// became of the cell.
 pub(crate) fn write<N: Naming>(
     alloc: Global,
     cells: &mut PlainCells<N>,
-    pair: u32,
-    value: i64,
+    n: Numbers,
 ) -> Result<String, Untold> {
-    if pair >= 1_000_000 || pair + 1 >= cells.len() {
-        return Err(Untold::Malformed);
-    }
-    let written = cells.write_number(pair, value);
-    let read = cells.number(pair);
-    Ok(format!(in alloc; "{written} {read}\n")?)
-}
-
-/// Writes a number into a pair of words, and sets a cell to it.
-pub(crate) fn number<N: Naming>(
-    alloc: Global,
-    cells: &mut PlainCells<N>,
-    cell: u32,
-    pair: u32,
-    value: i64,
-) -> Result<String, Untold> {
+    let cell = n.first;
+    let pair = n.second;
     if pair >= 1_000_000 || pair + 1 >= cells.len() || cell >= cells.len() {
         return Err(Untold::Malformed);
     }
-    cells.write_number(pair, value);
-    let bound = cells.bind(cell, Ref::Number(pair));
-    Ok(format!(in alloc; "{bound:?}\n")?)
+    let written = cells.write_number(pair, n.last);
+    let read = cells.held_number(pair);
+    line(alloc, &(written, read, cells.bind(cell, Ref::Number(pair))))
 }
 
-/// How many words a copy has, and the first of them.
-pub(crate) fn copy<N: Naming>(
-    alloc: Global,
-    cells: &PlainCells<N>,
-    count: u32,
-) -> Result<String, Untold> {
-    let copy = cells.copy()?;
-    let mut out = format!(in alloc; "{}", copy.len())?;
-    for cell in 0..count.min(copy.len()) {
-        let word = format!(in alloc; " {:?}", copy.word(cell))?;
-        out.push_str(&word)?;
-    }
-    out.push('\n')?;
-    Ok(out)
+/// Goes on with a copy of the row, and tells how many words it has.
+pub(crate) fn copy<N: Naming>(alloc: Global, cells: &mut PlainCells<N>) -> Result<String, Untold> {
+    *cells = cells.copy()?;
+    line(alloc, &cells.len())
 }
 
 /// Sets each cell of another row of 100,000 words to the one before it.
@@ -132,7 +92,7 @@ pub(crate) fn chain<N: Naming>(alloc: Global, cells: &mut PlainCells<N>) -> Resu
 }
 
 /// Sets a cell to the right side of an equation, in the frame at a base.
-pub(crate) fn set_side<N: Naming>(
+pub(crate) fn side<N: Naming>(
     alloc: Global,
     loaded: &Loaded,
     cells: &mut PlainCells<N>,
@@ -140,36 +100,6 @@ pub(crate) fn set_side<N: Naming>(
 ) -> Result<String, Untold>
     requires { N.program ≡ named loaded.now }
 {
-    let node = right_side(loaded, n.second)?;
-    let bound = set(loaded, cells, n.first, node, n.third)?;
-    Ok(format!(in alloc; "{bound:?}\n")?)
-}
-
-/// Sets a cell to the head of the first clause, in the frame at a base.
-pub(crate) fn set_head<N: Naming>(
-    alloc: Global,
-    loaded: &Loaded,
-    cells: &mut PlainCells<N>,
-    n: Numbers,
-) -> Result<String, Untold>
-    requires { N.program ≡ named loaded.now }
-{
-    let node = first_head(loaded)?;
-    let bound = set(loaded, cells, n.first, node, n.second)?;
-    Ok(format!(in alloc; "{bound:?}\n")?)
-}
-
-/// Sets a cell to an argument of that head, in the frame at a base.
-pub(crate) fn set_argument<N: Naming>(
-    alloc: Global,
-    loaded: &Loaded,
-    cells: &mut PlainCells<N>,
-    n: Numbers,
-) -> Result<String, Untold>
-    requires { N.program ≡ named loaded.now }
-{
-    let head = first_head(loaded)?;
-    let node = argument(loaded, head, n.second)?;
-    let bound = set(loaded, cells, n.first, node, n.third)?;
-    Ok(format!(in alloc; "{bound:?}\n")?)
+    let bound = set(loaded, cells, n.first, n.second, n.third)?;
+    line(alloc, &bound)
 }

@@ -1,23 +1,17 @@
 //! Rows of what runs and of terms: codes, lists and references, switches, modes, cells, trials over cells, values of
-//! expressions, circles, unification, printing.
+//! expressions, circles, unification.
 #![tactic(auto)]
 
 mod cells;
-mod circles;
 mod frames;
 mod late;
 mod modes;
-mod numbers;
 mod plain;
-mod printing;
-mod programs;
 mod references;
 mod script;
-mod sides;
 mod switches;
+mod terms;
 mod trials;
-mod unification;
-mod values;
 
 use and_rows::{Block, Teller, Untold, tell_all};
 use std::alloc::Global;
@@ -44,12 +38,13 @@ impl Teller for Rows {
         let lines = block.lines.as_str();
         match kind {
             "order" => references::order(alloc, lines),
-            "list" => references::list(alloc),
+            "list" => references::list(alloc, lines),
             "pairs" => references::pairs(alloc),
             "text" => references::text(alloc),
-            "words" => references::words(alloc, lines),
+            "word" => references::word(alloc, lines),
+            "switch" => switches::of_four(alloc, lines),
+            "table" => switches::of_table(alloc, lines),
             "modes" => modes::tell(alloc, lines),
-            "switch" => switches::tell(alloc, lines),
             _ => tell_of_cells(alloc, kind, lines),
         }
     }

@@ -5,7 +5,7 @@ ghost use Rattle.and_cells.specs.declared.cells.Bound.{Bound};
 
 use and_cells::{Bound, Cells, LooseCells, PlainCells};
 use and_model::Ref;
-use and_rows::Untold;
+use and_rows::{Untold, line};
 use std::alloc::Global;
 use std::marker::Brand;
 
@@ -36,26 +36,21 @@ pub(crate) fn taken_back(alloc: Global) -> Result<String, Untold> {
     let kept = cells.word(1);
     let freed = cells.word(2);
     let words = cells.len();
-    Ok(format!(in alloc; "{first:?} {second:?} {third:?}\n{words} {kept:?} {freed:?}\n")?)
+    line(alloc, &(words, kept, freed))
 }
 
-/// A row of three words that is cut and taken over as plain cells, and a number that is written there.
+/// A row of three words that is taken over as plain cells, and a number that is written there.
 pub(crate) fn taken_over(alloc: Global) -> Result<String, Untold> {
     let mut words = Vec::new(alloc);
     words.push(0)?;
     words.push(0)?;
     words.push(0)?;
-    let mut loose = LooseCells::of_words(words);
-    let long = loose.len();
+    let loose = LooseCells::of_words(words);
+    let count = loose.len();
     let last = loose.word(2);
-    loose.shorten(2);
-    let short = loose.len();
     let mut cells: Plain = loose.into_plain();
     let held = cells.held_number(0);
     let written = cells.write_number(0, i64::MIN);
     let read = cells.held_number(0);
-    Ok(format!(in alloc;
-        "{long} {last:?} {short} {}\n{held} {written} {read}\n",
-        cells.len()
-    )?)
+    line(alloc, &((count, last), cells.len(), (held, written, read)))
 }

@@ -1,13 +1,9 @@
 //! Codes, lists, texts, pairs and words of references.
 
-ghost use Rattle.std.specs.Prelude.{◌<◌, ◌^◌, IfOk};
-ghost use Rattle.and_model.specs.Words.{HasWord};
-
-use crate::numbers::read_numbers;
-use and_model::{ClauseNo, Code, Goal, GoalList, NodeNo, Ref, Text};
-use and_rows::Untold;
+use and_model::{ClauseNo, Code, Goal, GoalList, Ref, Text};
+use and_rows::{Untold, line};
 use and_unify::PairList;
-use std::alloc::{AllocError, Global};
+use std::alloc::Global;
 
 /// The code of these numbers.
 fn code_of(alloc: Global, words: &str) -> Result<Code, Untold> {
@@ -21,25 +17,13 @@ fn code_of(alloc: Global, words: &str) -> Result<Code, Untold> {
     Ok(code)
 }
 
-/// How the first code of a line stands to the second, which is behind a bar, and to a copy of itself.
-fn order_of(alloc: Global, line: &str) -> Result<String, Untold> {
-    let (one, other) = line.split_once('|').unwrap_or((line, ""));
+/// How the first code stands to the second, which is behind a bar, and to a copy of itself, and how long it is.
+pub(crate) fn order(alloc: Global, words: &str) -> Result<String, Untold> {
+    let (one, other) = words.split_once('|').unwrap_or((words, ""));
     let one = code_of(alloc, one)?;
     let other = code_of(alloc, other)?;
     let copy = one.copy()?;
-    let order = one.order(&other);
-    let same = copy.order(&one);
-    Ok(format!(in alloc; "{order:?} {same:?} {}\n", copy.len())?)
-}
-
-/// How codes stand in order.
-pub(crate) fn order(alloc: Global, lines: &str) -> Result<String, Untold> {
-    let mut out = String::new(alloc);
-    for line in lines.lines() {
-        let told = order_of(alloc, line)?;
-        out.push_str(&told)?;
-    }
-    Ok(out)
+    line(alloc, &(one.order(&other), copy.order(&one), copy.len()))
 }
 
 const FIRST: Goal = Goal {
@@ -56,32 +40,27 @@ const SECOND: Goal = Goal {
     base: 4,
 };
 
-/// The goals that are taken out of a list until it is empty, by their nodes.
-fn taken_out(alloc: Global, goals: &mut GoalList) -> Result<String, AllocError> {
-    let mut out = format!(in alloc; "{}", goals.len())?;
-    for _ in 0..3 {
-        let node = match goals.pop() {
-            Some(goal) => format!(in alloc; " {}", goal.node)?,
-            None => String::from_str(alloc, " none")?,
-        };
-        out.push_str(&node)?;
-    }
-    out.push('\n')?;
-    Ok(out)
+/// How many goals a list has, and what is taken out of it then.
+fn taken_out(alloc: Global, mut goals: GoalList) -> Result<String, Untold> {
+    let count = goals.len();
+    let first = goals.pop();
+    let second = goals.pop();
+    let third = goals.pop();
+    line(alloc, &(count, first, second, third))
 }
 
-/// What lists of two goals give back: one that grew, its copy, and one of a vector.
-pub(crate) fn list(alloc: Global) -> Result<String, Untold> {
-    let mut goals = GoalList::new(alloc);
-    if goals.push(FIRST).is_err() || goals.push(SECOND).is_err() {
+/// What a list of two goals gives back that grew, was copied, or was made of a vector.
+pub(crate) fn list(alloc: Global, origin: &str) -> Result<String, Untold> {
+    let mut grown = GoalList::new(alloc);
+    if grown.push(FIRST).is_err() || grown.push(SECOND).is_err() {
         return Err(Untold::Memory);
     }
-    let mut copied = goals.copy()?;
-    let mut made = GoalList::of_items(vec![in alloc; FIRST, SECOND]?);
-    let first = taken_out(alloc, &mut goals)?;
-    let second = taken_out(alloc, &mut copied)?;
-    let third = taken_out(alloc, &mut made)?;
-    Ok(format!(in alloc; "{first}{second}{third}")?)
+    match origin {
+        "grown" => taken_out(alloc, grown),
+        "copied" => taken_out(alloc, grown.copy()?),
+        "made" => taken_out(alloc, GoalList::of_items(vec![in alloc; FIRST, SECOND]?)),
+        _ => Err(Untold::Malformed),
+    }
 }
 
 /// How many pairs are in a list of two, and which is the last.
@@ -89,71 +68,23 @@ pub(crate) fn pairs(alloc: Global) -> Result<String, Untold> {
     let mut pairs = PairList::new(alloc);
     pairs.push(Ref::Cell(1), Ref::Cell(2))?;
     pairs.push(Ref::Cell(3), Ref::Cell(4))?;
-    let last = *pairs.at(1);
-    Ok(format!(in alloc; "{} {last:?}\n", pairs.len())?)
+    line(alloc, &(pairs.len(), *pairs.at(1)))
 }
 
 /// The bytes of a text, how many there are, and the third.
 pub(crate) fn text(alloc: Global) -> Result<String, Untold> {
     let mut text = Text::of(alloc, b"ab")?;
     text.append(b"c")?;
-    let bytes = text.bytes();
-    let third = *text.at(2);
-    Ok(format!(in alloc; "{bytes:?} {} {third}\n", text.len())?)
+    line(alloc, &(text.bytes(), text.len(), *text.at(2)))
 }
 
-/// The reference of a name and numbers that fit.
-fn fitting(name: &str, first: u32, second: u32) -> Result<Ref, Untold>
-    requires { (first < 2 ^ 23) × (second < 2 ^ 23) }
-    ensures { IfOk result HasWord }
-{
-    match name {
-        "free" => Ok(Ref::Free),
-        "cell" => Ok(Ref::Cell(first)),
-        "number" => Ok(Ref::Number(first)),
-        "node" if first < 1_048_576 => Ok(Ref::Node {
-            node: NodeNo(first),
-            base: second,
-        }),
-        _ => Err(Untold::Malformed),
-    }
-}
-
-/// The reference of a name and its numbers.
-fn reference(line: &str) -> Result<Ref, Untold>
-    ensures { IfOk result HasWord }
-{
-    let (name, rest) = line.split_once(' ').unwrap_or((line, ""));
-    let n = read_numbers(rest)?;
-    let first = n.first;
-    let second = n.second;
-    if name == "half" {
-        return Ok(Ref::Half(first));
-    }
-    if first >= 8_388_608 || second >= 8_388_608 {
+/// The reference that has a word, and whether that is its word.
+pub(crate) fn word(alloc: Global, number: &str) -> Result<String, Untold> {
+    let Ok(word) = number.parse::<u64>() else {
         return Err(Untold::Malformed);
+    };
+    match Ref::of_word(word) {
+        Some(read) => line(alloc, &(read, read.to_word() == word)),
+        None => line(alloc, &"none"),
     }
-    fitting(name, first, second)
-}
-
-/// What a word is read back as, or the word of a reference.
-fn word_of(alloc: Global, line: &str) -> Result<String, Untold> {
-    if let Ok(word) = line.parse::<u64>() {
-        let read = Ref::of_word(word);
-        return Ok(format!(in alloc; "{read:?}\n")?);
-    }
-    let reference = reference(line)?;
-    let read = Ref::of_word(reference.to_word());
-    let is_free = reference.to_word() == 0;
-    Ok(format!(in alloc; "{read:?} {is_free}\n")?)
-}
-
-/// What references are read back as from their words, with whether the word is 0, and what words are read as.
-pub(crate) fn words(alloc: Global, lines: &str) -> Result<String, Untold> {
-    let mut out = String::new(alloc);
-    for line in lines.lines() {
-        let told = word_of(alloc, line)?;
-        out.push_str(&told)?;
-    }
-    Ok(out)
 }

@@ -1,72 +1,24 @@
-//! Switches, the index and the choice among them.
+//! A switch with room for four keys, and the choice among tables of clauses.
 
-use and_first_argument::{Addition, FirstArguments, Key, KeyIndex, Switch, SwitchFault};
+use and_first_argument::{Addition, FirstArguments, Key, Switch};
 use and_model::{ClauseNo, NameNo};
-use and_rows::Untold;
-use std::alloc::{AllocError, Global};
-
-/// What clauses are added to, and picked from.
-trait Picking {
-    /// Adds a clause under a key, and answers `false` where there is no room for the key.
-    fn add(&mut self, key: Key, clause: ClauseNo) -> Result<bool, AllocError>;
-
-    /// Adds a clause under each key.
-    fn add_any(&mut self, clause: ClauseNo) -> Result<(), AllocError>;
-
-    /// The clauses under a key.
-    fn pick(&self, key: Key) -> &[ClauseNo];
-}
-
-impl<const W: usize> Picking for Switch<W> {
-    fn add(&mut self, key: Key, clause: ClauseNo) -> Result<bool, AllocError> {
-        match Switch::add(self, key, clause) {
-            Ok(()) => Ok(true),
-            Err(SwitchFault::Full { key: refused }) => Ok(refused != key),
-            Err(SwitchFault::Memory) => Err(AllocError),
-        }
-    }
-
-    fn add_any(&mut self, clause: ClauseNo) -> Result<(), AllocError> {
-        Switch::add_any(self, clause)
-    }
-
-    fn pick(&self, key: Key) -> &[ClauseNo] {
-        Switch::pick(self, key)
-    }
-}
-
-impl Picking for KeyIndex {
-    fn add(&mut self, key: Key, clause: ClauseNo) -> Result<bool, AllocError> {
-        KeyIndex::add(self, key, clause)?;
-        Ok(true)
-    }
-
-    fn add_any(&mut self, clause: ClauseNo) -> Result<(), AllocError> {
-        KeyIndex::add_any(self, clause)
-    }
-
-    fn pick(&self, key: Key) -> &[ClauseNo] {
-        KeyIndex::pick(self, key)
-    }
-}
+use and_rows::{Desk, Untold, answers, line};
+use std::alloc::Global;
 
 /// A key of a word: `7/2` is a name with so many arguments, and a number stands for itself.
 fn key_of(word: &str) -> Result<Key, Untold> {
-    if let Some((name, count)) = word.split_once('/') {
-        let Ok(name) = name.parse::<u32>() else {
-            return Err(Untold::Malformed);
+    let Some((name, count)) = word.split_once('/') else {
+        return match word.parse::<i64>() {
+            Ok(number) => Ok(Key::Number(number)),
+            Err(_) => Err(Untold::Malformed),
         };
-        let Ok(count) = count.parse::<u8>() else {
-            return Err(Untold::Malformed);
-        };
-        return Ok(Key::Name {
+    };
+    match (name.parse::<u32>(), count.parse::<u8>()) {
+        (Ok(name), Ok(count)) => Ok(Key::Name {
             name: NameNo(name),
             count,
-        });
-    }
-    match word.parse::<i64>() {
-        Ok(number) => Ok(Key::Number(number)),
-        Err(_) => Err(Untold::Malformed),
+        }),
+        _ => Err(Untold::Malformed),
     }
 }
 
@@ -78,71 +30,62 @@ fn clause_of(word: &str) -> Result<ClauseNo, Untold> {
     }
 }
 
-/// Adds the clauses 1, 2 and so on under the numbers from 0 on, so many.
-fn fill<P: Picking>(picking: &mut P, count: u16) -> Result<(), AllocError> {
-    for row in 0..count.min(1000) {
-        picking.add(Key::Number(i64::from(row)), ClauseNo(row + 1))?;
-    }
-    Ok(())
+/// The fact of a key, whose word stands before that of its clause.
+fn fact(words: &str) -> Result<(Key, ClauseNo), Untold> {
+    let (key, clause) = words.split_once(' ').unwrap_or((words, ""));
+    Ok((key_of(key)?, clause_of(clause)?))
 }
 
-/// What adding a clause answers.
-fn added<P: Picking>(
-    alloc: Global,
-    picking: &mut P,
-    key: &str,
-    clause: &str,
-) -> Result<String, Untold> {
-    let is_added = picking.add(key_of(key)?, clause_of(clause)?)?;
-    let told = if is_added { "" } else { "full\n" };
-    Ok(String::from_str(alloc, told)?)
+/// A switch with room for four keys.
+#[derive(Drop)]
+struct Four {
+    switch: Switch<4>,
 }
 
-/// What a call answers: `add KEY CLAUSE`, `any CLAUSE`, `fill COUNT` or `pick KEY`.
-fn call<P: Picking>(alloc: Global, picking: &mut P, line: &str) -> Result<String, Untold> {
-    let (name, rest) = line.split_once(' ').unwrap_or((line, ""));
-    let (first, second) = rest.split_once(' ').unwrap_or((rest, ""));
-    match name {
-        "add" => added(alloc, picking, first, second),
-        "any" => {
-            picking.add_any(clause_of(first)?)?;
-            Ok(String::new(alloc))
+/// Adds a fact to a switch.
+fn added(alloc: Global, switch: &mut Switch<4>, words: &str) -> Result<String, Untold> {
+    let (key, clause) = fact(words)?;
+    line(alloc, &switch.add(key, clause))
+}
+
+impl Desk for Four {
+    fn call(&mut self, alloc: Global, name: &str, words: &str) -> Result<String, Untold> {
+        match name {
+            "add" => added(alloc, &mut self.switch, words),
+            "any" => line(alloc, &self.switch.add_any(clause_of(words)?)),
+            "pick" => line(alloc, &self.switch.pick(key_of(words)?)),
+            _ => Err(Untold::Malformed),
         }
-        "fill" => {
-            fill(picking, clause_of(first)?.0)?;
-            Ok(String::new(alloc))
-        }
-        "pick" => Ok(format!(in alloc; "{:?}\n", picking.pick(key_of(first)?))?),
-        _ => Err(Untold::Malformed),
     }
 }
 
-/// What these calls answer.
-fn calls<P: Picking>(alloc: Global, mut picking: P, lines: &str) -> Result<String, Untold>
-where
-    P: Drop,
-{
-    let mut out = String::new(alloc);
-    for line in lines.lines() {
-        let told = call(alloc, &mut picking, line)?;
-        out.push_str(&told)?;
-    }
-    Ok(out)
+/// What calls of a switch with room for four keys answer: `add KEY CLAUSE`, `any CLAUSE` and `pick KEY`.
+pub(crate) fn of_four(alloc: Global, lines: &str) -> Result<String, Untold> {
+    let switch = Switch::new(alloc);
+    answers(alloc, &mut Four { switch }, lines)
 }
 
-/// Facts of the numbers below `keys`, and behind them a clause for every key.
-fn facts(alloc: Global, keys: u16) -> Result<Vec<Addition>, AllocError> {
-    let mut additions = Vec::new(alloc);
-    for number in 0..keys.min(1000) {
-        additions.push(Addition::Under {
+/// The clauses of a table.
+#[derive(Drop)]
+struct Table {
+    additions: Vec<Addition>,
+}
+
+/// Puts a clause behind the others.
+fn put(alloc: Global, table: &mut Table, addition: Addition) -> Result<String, Untold> {
+    table.additions.push(addition)?;
+    Ok(String::new(alloc))
+}
+
+/// Puts the facts of the numbers from 0 on behind the others, so many, with the clauses from 1 on.
+fn fill(alloc: Global, table: &mut Table, count: ClauseNo) -> Result<String, Untold> {
+    for number in 0..count.0.min(1000) {
+        table.additions.push(Addition::Under {
             key: Key::Number(i64::from(number)),
             clause: ClauseNo(number + 1),
         })?;
     }
-    additions.push(Addition::Any {
-        clause: ClauseNo(1000),
-    })?;
-    Ok(additions)
+    Ok(String::new(alloc))
 }
 
 /// How many keys the table has room for, where that is bounded.
@@ -155,40 +98,32 @@ fn room_of(table: &FirstArguments) -> Option<u8> {
     }
 }
 
-/// A line of the table of so many facts: its room, how many clauses the number 3 picks, and those that an atom picks.
-fn table_line(alloc: Global, keys: u16) -> Result<String, AllocError> {
-    let additions = facts(alloc, keys)?;
-    let table = FirstArguments::of(alloc, &additions)?;
-    let room = room_of(&table);
-    let threes = table.pick(Key::Number(3)).len();
-    let atom = Key::Name {
-        name: NameNo(7),
-        count: 0,
-    };
-    let atoms = table.pick(atom);
-    format!(in alloc; "{keys} in {room:?}: {threes} {atoms:?}\n")
+/// The room of the smallest table for these clauses, and those that a key picks there.
+fn picked(alloc: Global, additions: &[Addition], key: Key) -> Result<String, Untold> {
+    let table = FirstArguments::of(alloc, additions)?;
+    line(alloc, &(room_of(&table), table.pick(key)))
 }
 
-/// The lines of the tables of so many facts.
-fn tables(alloc: Global, counts: &str) -> Result<String, Untold> {
-    let mut out = String::new(alloc);
-    for count in counts.lines() {
-        let line = table_line(alloc, clause_of(count)?.0)?;
-        out.push_str(&line)?;
+impl Desk for Table {
+    fn call(&mut self, alloc: Global, name: &str, words: &str) -> Result<String, Untold> {
+        match name {
+            "add" => {
+                let (key, clause) = fact(words)?;
+                put(alloc, self, Addition::Under { key, clause })
+            }
+            "any" => {
+                let clause = clause_of(words)?;
+                put(alloc, self, Addition::Any { clause })
+            }
+            "fill" => fill(alloc, self, clause_of(words)?),
+            "pick" => picked(alloc, &self.additions, key_of(words)?),
+            _ => Err(Untold::Malformed),
+        }
     }
-    Ok(out)
 }
 
-/// What the calls answer that stand behind the name of a table: a switch with room for 4, 16 or 64 keys, or the index;
-/// or the tables of so many facts.
-pub(crate) fn tell(alloc: Global, lines: &str) -> Result<String, Untold> {
-    let (name, rest) = lines.split_once('\n').unwrap_or((lines, ""));
-    match name {
-        "4" => calls(alloc, Switch::<4>::new(alloc), rest),
-        "16" => calls(alloc, Switch::<16>::new(alloc), rest),
-        "64" => calls(alloc, Switch::<64>::new(alloc), rest),
-        "index" => calls(alloc, KeyIndex::new(alloc), rest),
-        "smallest" => tables(alloc, rest),
-        _ => Err(Untold::Malformed),
-    }
+/// What calls of a table answer: `add KEY CLAUSE`, `any CLAUSE`, `fill COUNT` and `pick KEY`.
+pub(crate) fn of_table(alloc: Global, lines: &str) -> Result<String, Untold> {
+    let additions = Vec::new(alloc);
+    answers(alloc, &mut Table { additions }, lines)
 }

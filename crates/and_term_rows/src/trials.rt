@@ -3,7 +3,7 @@
 use and_cells::{Cells, PlainCells};
 use and_model::Ref;
 use and_overlay::{Overlay, Scratch};
-use and_rows::Untold;
+use and_rows::{Untold, line};
 use std::alloc::Global;
 use std::marker::Brand;
 
@@ -34,8 +34,14 @@ pub(crate) fn kept_apart(alloc: Global) -> Result<String, Untold> {
     let second = trial.look(2);
     let again = first_two(trial.looked());
     let word = cells.word(1);
-    let told = format!(in alloc; "{framed:?} {below:?} {look:?} {bound:?} {looked:?}\n")?;
-    Ok(format!(in alloc; "{told}{first:?} {second:?} {again:?}\n{word:?}\n")?)
+    line(
+        alloc,
+        &(
+            (framed, below, look, bound, looked),
+            (first, second, again),
+            word,
+        ),
+    )
 }
 
 /// A trial that sets the cell 1, again after the cell 2 was set, and again after 1 was.
@@ -57,5 +63,5 @@ pub(crate) fn again(alloc: Global) -> Result<String, Untold> {
     let words = cells.len();
     let mut trial = Overlay::over(&mut cells, words, 0, &mut scratch);
     let third = trial.bind(1, Ref::Cell(0));
-    Ok(format!(in alloc; "{first:?} {looked:?}\n{other:?} {second:?}\n{own:?} {third:?}\n")?)
+    line(alloc, &((first, looked), (other, second), (own, third)))
 }

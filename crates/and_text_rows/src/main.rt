@@ -1,9 +1,10 @@
 //! Rows of the way from bytes to a program: tokens, whole texts, refusals, programs of texts, names in quotes,
-//! command words, generated texts, reading and writing.
+//! command words, generated texts, reading and writing, and the queries of a text that has several.
 #![tactic(auto)]
 
 mod parts;
 mod programs;
+mod queries;
 mod reads;
 mod texts;
 mod tokens;
@@ -22,6 +23,8 @@ fn tell_of_bytes(alloc: Global, kind: &str, bytes: &[u8]) -> Result<String, Unto
         "tokens" => tokens::tokens(alloc, bytes),
         "text" => texts::text(alloc, bytes),
         "name" => texts::name(alloc, bytes),
+        "queries" => queries::places(alloc, bytes),
+        "single-queries" => queries::singles(alloc, bytes),
         _ => Err(Untold::Malformed),
     }
 }
