@@ -147,24 +147,31 @@ def stacks(trial):
                 trial.broke(f"{name}, a stack of {size} KB", crowd, text, found)
 
 
-CHECKED = ["valgrind", "--quiet", "--error-exitcode=99", "--leak-check=full", "--show-leak-kinds=all", "--errors-for-leak-kinds=all",
-           "--soname-synonyms=somalloc=nouserintercepts"]
+CHECKED = ["valgrind", "--quiet", "--error-exitcode=99", "--soname-synonyms=somalloc=nouserintercepts"]
+GIVEN_BACK = [*CHECKED, "--leak-check=full", "--show-leak-kinds=all", "--errors-for-leak-kinds=all"]
 # allocations of the shell that begins valgrind, which are refused with the others
 OF_THE_SHELL = 60
 
 
+def as_batch(words):
+    """The words that answer the same text as a batch, by as many threads."""
+    threads = [it for place, it in enumerate(words) if {"--teams", "--workers"} & {it, words[place - 1]}]
+    return ["batch", *threads]
+
+
 def checked(trial):
-    """Memory as valgrind sees it: nothing read before it is written, nothing beyond its block, and each block given back; also where an
-    allocation is refused."""
+    """Memory as valgrind sees it: nothing read before it is written, nothing beyond its block, also where an allocation is refused. A program
+    that is read for one reply is not let go of, since the process ends; a batch gives each block back."""
     if not shutil.which("valgrind"):
         print("checked: not tried, since there is no valgrind", flush=True)
         return
     programs = list(crowded((3,)))
-    for name, words, text in programs[3::5] if trial.quick else programs:
-        due = trial.run(words, text)
-        many = trial.counts(words, text)[0]
-        for number in [None, *(trial.dice.randrange(OF_THE_SHELL, many) for _ in range(1 if trial.quick else 8))]:
-            more = {} if number is None else {"REFUSE_MEMORY": f"{number}+"}
-            found = trial.run(words, text, before=CHECKED, **more)
-            if found[:2] != due[:2] and (number is None or found[:2] != (7, b"")):
-                trial.broke(f"{name}, checked, allocation {number} refused", words, text, found)
+    for name, own, text in programs[3::5] if trial.quick else programs:
+        for words, before in (own, CHECKED), (as_batch(own), GIVEN_BACK):
+            due = trial.run(words, text)
+            many = trial.counts(words, text)[0]
+            for number in [None, *(trial.dice.randrange(OF_THE_SHELL, many) for _ in range(1 if trial.quick else 8))]:
+                more = {} if number is None else {"REFUSE_MEMORY": f"{number}+"}
+                found = trial.run(words, text, before=before, **more)
+                if found[:2] != due[:2] and (number is None or found[:2] != (7, b"")):
+                    trial.broke(f"{name}, checked, allocation {number} refused", words, text, found)
