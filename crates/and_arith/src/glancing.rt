@@ -41,7 +41,7 @@ pub(crate) fn glance<N: Naming>(
     ensures { IsTold N.program cells.now expression result }
 {
     let Some(operation) = operation_at(loaded, cells, expression) else {
-        return told_at(loaded, cells, end_of(cells, expression));
+        return glance_at_leaf(loaded, cells, expression);
     };
     if levels == 0 {
         return Valued::PutOff;
@@ -55,6 +55,45 @@ pub(crate) fn glance<N: Naming>(
         return right;
     };
     told_by_two(operation.name, first, second)
+}
+
+/// What a look at a leaf of an expression tells: a number, or a cell that leads to one or is free. Of a structure
+/// it tells nothing, which is `PutOff`. Takes no memory.
+#[inline(always)]
+pub(crate) fn glance_at_leaf<N: Naming>(loaded: &Loaded, cells: &PlainCells<N>, leaf: Ref) -> Valued
+    requires program { N.program ≡ named loaded.now }
+    requires in_range { IsInRange N.program (length cells.now) leaf }
+    requires written { IsWrittenIfNumber (plain cells.now) leaf }
+    ensures { IsTold N.program cells.now leaf result }
+{
+    told_at(loaded, cells, end_of(cells, leaf))
+}
+
+/// What a look at an operation on two leaves tells, as most operations are, or at a leaf. Takes no memory.
+#[inline(always)]
+pub(crate) fn glance_at_operation<N: Naming>(
+    loaded: &Loaded,
+    cells: &PlainCells<N>,
+    expression: Ref,
+) -> Valued
+    requires program { N.program ≡ named loaded.now }
+    requires falls { AllFall 0 N.program.skeleton.nodes }
+    requires in_range { IsInRange N.program (length cells.now) expression }
+    requires written { IsWrittenIfNumber (plain cells.now) expression }
+    ensures { IsTold N.program cells.now expression result }
+{
+    let Some(operation) = operation_at(loaded, cells, expression) else {
+        return glance_at_leaf(loaded, cells, expression);
+    };
+    let left = glance_at_leaf(loaded, cells, operation.one);
+    let Valued::Number(one) = left else {
+        return left;
+    };
+    let right = glance_at_leaf(loaded, cells, operation.other);
+    let Valued::Number(other) = right else {
+        return right;
+    };
+    told_by_two(operation.name, one, other)
 }
 
 /// The name of an expression and its two parts, if it is a structure with two.
@@ -95,6 +134,7 @@ fn told_by_two(name: NameNo, left: i64, right: i64) -> Valued
 }
 
 /// What the end of a chain of cells tells.
+#[inline(always)]
 fn told_at<N: Naming>(loaded: &Loaded, cells: &PlainCells<N>, end: Ref) -> Valued
     requires program { N.program ≡ named loaded.now }
     requires in_range { IsInRangeOrHalf N.program (length cells.now) end }
@@ -137,6 +177,7 @@ fn told_by_literal(loaded: &Loaded, node: NodeNo) -> Valued
 }
 
 /// What a reference leads to: a node, a number, a free cell, or a word of a pair.
+#[inline(always)]
 fn end_of<N: Naming>(cells: &PlainCells<N>, from: Ref) -> Ref
     requires in_range { IsInRange N.program (length cells.now) from }
     requires written { IsWrittenIfNumber (plain cells.now) from }

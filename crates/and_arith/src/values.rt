@@ -10,7 +10,7 @@ ghost use Rattle.and_arith.specs.Values.{Reaches, HasValue, LacksValue, IsFirstF
 ghost use Rattle.and_arith.specs.Sizes.{Spends};
 ghost use Rattle.and_arith.specs.declared.walk.Task.{Task};
 
-use crate::glancing::glance;
+use crate::glancing::{glance, glance_at_leaf, glance_at_operation};
 use crate::taken::Taken;
 use crate::walk::{Task, Turn, take_turn};
 use and_cells::{Cells, Naming, PlainCells};
@@ -116,7 +116,69 @@ pub fn value<C: Cells>(
 /// Where the cells are settled, and the expression leads to no word of a pair, it has a term. So it is
 /// `Number` or `NoValue` exactly where that term is ground, with a value or without one, and else
 /// `Waits` for the term's first variable.
+#[inline(always)]
 pub fn value_of<N: Naming>(
+    loaded: &Loaded,
+    cells: &mut PlainCells<N>,
+    expression: Ref,
+    work: &mut WorkList,
+) -> Valued
+    requires program { N.program ≡ named loaded.now }
+    requires in_range { IsInRange N.program (length cells.old) expression }
+    requires written { IsWrittenIfNumber (plain cells.old) expression }
+    ensures unchanged { cells.new ≡ cells.old }
+    ensures number { (z : ℤ) → result ≡ Valued.Number z → HasValue N.program (plain cells.old) expression z }
+    ensures no_value { result ≡ Valued.NoValue → LacksValue N.program (plain cells.old) expression }
+    ensures waits { (cell : ℕ) → result ≡ Valued.Waits cell
+        → (word_at cells.old cell ≡ Ref.Free)
+        × Reaches N.program (plain cells.old) expression (Ref.Cell cell)
+        × IsFirstFree N.program (plain cells.old) expression cell }
+    ensures not_put_off { result ≢ Valued.PutOff }
+{
+    let told = glance_at_leaf(loaded, cells, expression);
+    match told {
+        Valued::Number(_) => told,
+        Valued::Waits { cell: _ } => told,
+        Valued::NoValue => value_by_operation(loaded, cells, expression, work),
+        Valued::PutOff => value_by_operation(loaded, cells, expression, work),
+        Valued::Memory => value_by_operation(loaded, cells, expression, work),
+    }
+}
+
+/// The same, by a look at an operation.
+#[inline(never)]
+fn value_by_operation<N: Naming>(
+    loaded: &Loaded,
+    cells: &mut PlainCells<N>,
+    expression: Ref,
+    work: &mut WorkList,
+) -> Valued
+    requires program { N.program ≡ named loaded.now }
+    requires in_range { IsInRange N.program (length cells.old) expression }
+    requires written { IsWrittenIfNumber (plain cells.old) expression }
+    ensures unchanged { cells.new ≡ cells.old }
+    ensures number { (z : ℤ) → result ≡ Valued.Number z → HasValue N.program (plain cells.old) expression z }
+    ensures no_value { result ≡ Valued.NoValue → LacksValue N.program (plain cells.old) expression }
+    ensures waits { (cell : ℕ) → result ≡ Valued.Waits cell
+        → (word_at cells.old cell ≡ Ref.Free)
+        × Reaches N.program (plain cells.old) expression (Ref.Cell cell)
+        × IsFirstFree N.program (plain cells.old) expression cell }
+    ensures not_put_off { result ≢ Valued.PutOff }
+{
+    loaded.skeleton_is_of_the_program();
+    let told = glance_at_operation(loaded, cells, expression);
+    match told {
+        Valued::Number(_) => told,
+        Valued::Waits { cell: _ } => told,
+        Valued::NoValue => value_by_levels(loaded, cells, expression, work),
+        Valued::PutOff => value_by_levels(loaded, cells, expression, work),
+        Valued::Memory => value_by_levels(loaded, cells, expression, work),
+    }
+}
+
+/// The same, by a look at so many levels.
+#[inline(never)]
+fn value_by_levels<N: Naming>(
     loaded: &Loaded,
     cells: &mut PlainCells<N>,
     expression: Ref,

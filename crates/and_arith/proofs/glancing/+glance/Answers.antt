@@ -2,12 +2,8 @@ use Rattle.std.proofs.Common.{rules, ℤ, w64, to_z, of_z, FitsSigned, arith, sy
 use Rattle.std.proofs.lemmas.Int.{ints, to_z-of_z}
 use Rattle.and_model.specs.declared.reference.Ref.{Ref}
 use Rattle.and_arith.specs.Glances.{IsTold, IsGivenBy}
-use Rattle.and_arith.proofs.Telling.{chain_told, parts_fit, left_told, right_told, both_told}
+use Rattle.and_arith.proofs.Telling.{parts_fit, left_told, right_told, both_told}
 use Rattle.and_arith.proofs.glancing.+glance.Goals as goal
-
-pub returns-in_default : goal.returns-in_default
-returns-in_default g t c =
-    chain_told g.N.Naming.program c.args.cells.now c.args.expression c.end_of.result c.told_at.result c.end_of.ensures.leads c.told_at.ensures
 
 pub glance-left-requires : goal.glance-left-requires
 glance-left-requires g t c κs within =
