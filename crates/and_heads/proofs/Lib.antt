@@ -1,6 +1,7 @@
 mod Becoming
 mod Begins
 mod Comparing
+mod Filling
 mod Looking
 mod Meeting
 mod Pairing

@@ -6,7 +6,6 @@ ghost use Rattle.and_program.specs.Loaded.{arguments_at};
 ghost use Rattle.and_program.specs.Skeletons.{AllFall};
 ghost use Rattle.and_cells.specs.Ranges.{IsInRange};
 ghost use Rattle.and_cells.specs.Rows.{IsSound};
-ghost use Rattle.and_cells.specs.Seen.{word_at};
 ghost use Rattle.and_cells.specs.Parts.{named};
 ghost use Rattle.and_cells.specs.Ends.{Ends};
 ghost use Rattle.and_cells.specs.Ground.{EndsGround};
@@ -14,6 +13,7 @@ ghost use Rattle.and_circles.specs.Following.{argument_part};
 ghost use Rattle.and_unify.specs.Settling.{EndsFrom};
 ghost use Rattle.and_heads.specs.Ending.{GoesOn};
 
+use crate::parts::is_free;
 use and_cells::{Naming, PlainCells};
 use and_circles::ends_soon;
 use and_model::{NodeNo, Ref};
@@ -253,14 +253,6 @@ fn parts_end<N: Naming>(
         }
     }
     true
-}
-
-/// Whether a cell is free.
-fn is_free<N: Naming>(cells: &PlainCells<N>, cell: u32) -> bool
-    requires { cell < length cells.now }
-    ensures { result ≡ true → word_at cells.now cell ≡ Ref.Free }
-{
-    matches!(cells.word(cell), Ref::Free)
 }
 
 /// Whether each path from a reference ends at a look at it, or at the word of its cell.

@@ -12,6 +12,7 @@ ghost use Rattle.and_unify.specs.Running.{arguments_of_both};
 ghost use Rattle.and_heads.specs.Entering.{Meets, ComesToParts};
 ghost use Rattle.and_heads.specs.Parts.{HasShape, Puts, both_of, arguments_of_parts};
 
+use crate::arguments::enter_argument;
 use crate::parts::{Part, arguments_of_both, end_of, head_at};
 use and_cells::{Naming, PlainCells};
 use and_model::Ref;
@@ -101,31 +102,12 @@ fn enter_pair<N: Naming>(
         bound.old.items bound.new.items result }
 {
     let Some(whole) = whole_of(loaded, cells, pair.left, pair.right) else {
-        return enter_sides(loaded, cells, pair, bound, parts);
+        return enter_ends(loaded, cells, pair.left, pair.right, bound, parts);
     };
     match parts.push(whole) {
         Ok(()) => Entered::Done,
         Err(_) => Entered::GivenUp,
     }
-}
-
-/// Follows the sides of a pair, and meets what they lead to.
-#[inline(never)]
-fn enter_sides<N: Naming>(
-    loaded: &Loaded,
-    cells: &mut PlainCells<N>,
-    pair: Pair,
-    bound: &mut Vec<u32>,
-    parts: &mut Vec<Part>,
-) -> Entered
-    requires program { N.program ≡ named loaded.now }
-    requires in_range { IsInRange N.program (length cells.old) pair.left
-        × IsInRange N.program (length cells.old) pair.right }
-    requires written { IsWrittenIfNumber (plain cells.old) pair.left × IsWrittenIfNumber (plain cells.old) pair.right }
-    ensures { Meets N.program pair (plain cells.old) (plain cells.new) parts.old.items parts.new.items
-        bound.old.items bound.new.items result }
-{
-    enter_argument(loaded, cells, pair.left, pair.right, bound, parts)
 }
 
 /// Two references as a part, where they are structures of one name and number of arguments.
@@ -219,8 +201,8 @@ fn enter_arguments<N: Naming>(
 }
 
 /// Follows two references, and meets what they lead to.
-#[inline(always)]
-fn enter_argument<N: Naming>(
+#[inline(never)]
+pub(crate) fn enter_ends<N: Naming>(
     loaded: &Loaded,
     cells: &mut PlainCells<N>,
     left: Ref,
@@ -272,7 +254,12 @@ fn meet<N: Naming>(
 
 /// Sets a free cell, which goes on the list. Where there is no room on the list, nothing is set.
 #[inline(always)]
-fn take<N: Naming>(cells: &mut PlainCells<N>, bound: &mut Vec<u32>, cell: u32, to: Ref) -> Entered
+pub(crate) fn take<N: Naming>(
+    cells: &mut PlainCells<N>,
+    bound: &mut Vec<u32>,
+    cell: u32,
+    to: Ref,
+) -> Entered
     requires in_row { cell < length cells.old }
     requires free { word_at cells.old cell ≡ Ref.Free }
     requires in_range { IsInRange N.program (length cells.old) to }
@@ -295,7 +282,7 @@ fn take<N: Naming>(cells: &mut PlainCells<N>, bound: &mut Vec<u32>, cell: u32, t
 
 /// Compares two references, of which structures of one shape go on the list of parts.
 #[inline(always)]
-fn compare<N: Naming>(
+pub(crate) fn compare<N: Naming>(
     loaded: &Loaded,
     cells: &PlainCells<N>,
     one: Ref,

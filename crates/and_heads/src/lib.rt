@@ -2,6 +2,7 @@
 //! two, in less time.
 #![tactic(auto)]
 
+mod arguments;
 mod ending;
 mod entering;
 mod parts;

@@ -1,6 +1,6 @@
 //! Parts of a call that meet parts of a head, and where references lead.
 
-ghost use Rattle.std.specs.Prelude.{◌≡◌, ◌≢◌, ℕ, length, Some, None, IfSome, false};
+ghost use Rattle.std.specs.Prelude.{◌≡◌, ◌≢◌, ◌<◌, ℕ, length, Some, None, IfSome, true, false};
 ghost use Rattle.and_model.specs.Store.{is_half};
 ghost use Rattle.and_model.specs.declared.reference.Ref.{Ref};
 ghost use Rattle.and_cells.specs.Ranges.{IsInRange, IsInRangeOrHalf};
@@ -40,6 +40,14 @@ pub(crate) fn end_of<N: Naming>(cells: &PlainCells<N>, from: Ref) -> Ref
         }
     }
     at
+}
+
+/// Whether a cell is free.
+pub(crate) fn is_free<N: Naming>(cells: &PlainCells<N>, cell: u32) -> bool
+    requires { cell < length cells.now }
+    ensures { result ≡ true → word_at cells.now cell ≡ Ref.Free }
+{
+    matches!(cells.word(cell), Ref::Free)
 }
 
 /// What a reference begins with, if it is a node or a number.

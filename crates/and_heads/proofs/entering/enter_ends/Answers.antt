@@ -1,7 +1,7 @@
 use Rattle.and_cells.specs.Rows.{plain}
 use Rattle.and_cells.proofs.Chains.{reads_nothing}
 use Rattle.and_heads.proofs.Meeting.{meets_led}
-use Rattle.and_heads.proofs.entering.enter_argument.Goals as goal
+use Rattle.and_heads.proofs.entering.enter_ends.Goals as goal
 
 pub returns : goal.returns
 returns g c =
