@@ -92,7 +92,7 @@ fn push_goal(
 }
 
 /// Whether a goal, which is a call or arithmetic, is a call. Takes no memory.
-pub(crate) fn is_call(loaded: &Loaded, goal: Goal) -> bool
+pub fn is_call(loaded: &Loaded, goal: Goal) -> bool
     requires in_range { (words : ℕ) × IsGoalInRange (named loaded.now) words goal }
     requires kind { ((term : Term) × (item_at (program_of loaded.now) goal ≡ call term))
         ⊎ ((a : Arithmetic) × (item_at (program_of loaded.now) goal ≡ arithmetic a)) }

@@ -1,33 +1,19 @@
 //! Whether there is work for two workers.
 
-ghost use Rattle.std.specs.Prelude.{◌≡◌, ◌≤◌, ℕ, true, All, length};
-ghost use Rattle.and_model.specs.Programs.{call};
-ghost use Rattle.and_model.specs.Terms.{Term};
+ghost use Rattle.std.specs.Prelude.{◌≡◌, ◌≤◌, All, length};
 ghost use Rattle.and_model.specs.declared.limits.TheConstants.{MAX_LIMIT};
-ghost use Rattle.and_program.specs.Loaded.{program_of};
 ghost use Rattle.and_cells.specs.Meaning.{IsSettled};
 ghost use Rattle.and_cells.specs.Parts.{named};
-ghost use Rattle.and_cells.specs.Ranges.{IsGoalInRange};
-ghost use Rattle.and_branch_laws.specs.Kept.{item_at};
 ghost use Rattle.and_clause_index.specs.Tables.{IsTableOf};
 ghost use Rattle.and_branch.specs.Finding.{IsSeen};
 
-use and_branch::{Branch, Workspace};
+use and_branch::{Branch, Workspace, is_call};
 use and_cells::Naming;
 use and_clause_index::Determinacy;
 use and_determinacy::Narrowed;
 use and_model::Goal;
 use and_program::Loaded;
 use std::alloc::AllocError;
-
-/// Whether the goal is a call.
-fn is_call(loaded: &Loaded, goal: Goal) -> bool
-    requires { (words : ℕ) × IsGoalInRange (named loaded.now) words goal }
-    ensures { result ≡ true → (term : Term) × (item_at (program_of loaded.now) goal ≡ call term) }
-{
-    loaded.skeleton_is_of_the_program();
-    loaded.items(goal.clause)[goal.item as usize].is_call()
-}
 
 /// Whether no more than one clause can be a candidate of the goal, a call. The branch is as before. An error is want of
 /// memory.
