@@ -35,7 +35,7 @@ use Rattle.and_branch_laws.proofs.Visiting
 use Rattle.and_code.specs.Places.{IsMissing}
 use Rattle.and_code.specs.Telling.{IsTold}
 use Rattle.and_code.specs.Written.{written, all_written}
-use Rattle.and_code.specs.declared.telling.Told.{Told}
+use Rattle.and_code.specs.declared.telling.CodeSoFar.{CodeSoFar}
 use Rattle.and_branch.specs.Branches.{Held, is_arithmetic, Lives, IsBranch, IsBranchOf, IsOpenGoal}
 use Rattle.and_branch.specs.Ended.{HasEnded, IsLineOf}
 use Rattle.and_branch.specs.Finding.{IsSeen}
@@ -172,14 +172,14 @@ pub code_is : (P Q : NamedProgram) → P ≡ Q → (b : Held) (t : QueryTree P.p
 code_is P Q same b t x whole cs d = sym (decided_is P Q same b t x cs d) ∙ Visiting.whole_decided t whole
 
 -- What is told of a key, of the program by another name and of the branch as it is kept,
-pub told_there : (P Q : NamedProgram) → P ≡ Q → (b old : Held) → b ≡ old → (t : Told) → IsTold P.program old.reductions t old.key
+pub told_there : (P Q : NamedProgram) → P ≡ Q → (b old : Held) → b ≡ old → (t : CodeSoFar) → IsTold P.program old.reductions t old.key
     → IsTold Q.program b.reductions t b.key
 told_there P Q same b old is t x =
     subst (λ (R : NamedProgram). IsTold R.program b.reductions t b.key) same
     (subst (λ (h : Held). IsTold P.program h.reductions t h.key) (sym is) x)
 
 -- and of any code, back.
-pub told_here : (P Q : NamedProgram) → P ≡ Q → (b old : Held) → b ≡ old → (t : Told) (code : List ℕ) → IsTold Q.program b.reductions t code
+pub told_here : (P Q : NamedProgram) → P ≡ Q → (b old : Held) → b ≡ old → (t : CodeSoFar) (code : List ℕ) → IsTold Q.program b.reductions t code
     → IsTold P.program old.reductions t code
 told_here P Q same b old is t code x =
     subst (λ (h : Held). IsTold P.program h.reductions t code) is

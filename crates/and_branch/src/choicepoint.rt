@@ -23,7 +23,7 @@ use crate::branch::Branch;
 use crate::outline::Outline;
 use crate::workspace::Workspace;
 use and_cells::Naming;
-use and_code::Told;
+use and_code::CodeSoFar;
 use and_model::{ClauseList, ClauseNo, Code, Goal};
 use and_program::Loaded;
 use std::alloc::{AllocError, Global};
@@ -83,7 +83,7 @@ impl<N: Naming> Branch<N> {
         loaded: &Loaded,
         goal: Goal,
         clauses: ClauseList,
-        told: &mut Told,
+        told: &mut CodeSoFar,
     ) -> Result<Forked<N>, AllocError>
         requires program { N.program ≡ named loaded.now }
         requires told { IsTold N.program.program self.reductions told.old self.key }
@@ -114,7 +114,7 @@ impl<N: Naming> Branch<N> {
         loaded: &Loaded,
         goal: Goal,
         clauses: ClauseList,
-        told: &mut Told,
+        told: &mut CodeSoFar,
     ) -> Result<Choicepoint<N>, AllocError>
         requires program { N.program ≡ named loaded.now }
         requires told { IsTold N.program.program self.old.reductions told.old self.old.key }
@@ -154,7 +154,7 @@ impl<N: Naming> Branch<N> {
         alloc: Global,
         loaded: &Loaded,
         goal: Goal,
-        told: &mut Told,
+        told: &mut CodeSoFar,
     ) -> Result<(), AllocError>
         requires program { N.program ≡ named loaded.now }
         requires told { IsTold N.program.program self.old.reductions told.old self.old.key }
@@ -173,7 +173,12 @@ impl<N: Naming> Branch<N> {
 
     /// The code of a branch whose state is an answer, or floundered. Its key was told so far. An error is want of
     /// memory.
-    pub fn code_of(&self, alloc: Global, loaded: &Loaded, told: Told) -> Result<Code, AllocError>
+    pub fn code_of(
+        &self,
+        alloc: Global,
+        loaded: &Loaded,
+        told: CodeSoFar,
+    ) -> Result<Code, AllocError>
         requires program { N.program ≡ named loaded.now }
         requires branch { IsBranch N.program self.now }
         requires told { IsTold N.program.program self.now.reductions told self.now.key }
@@ -192,7 +197,7 @@ impl<N: Naming> Branch<N> {
         &mut self,
         alloc: Global,
         loaded: &Loaded,
-        told: Told,
+        told: CodeSoFar,
     ) -> Result<(), AllocError>
         requires program { N.program ≡ named loaded.now }
         requires branch { IsBranch N.program self.old }

@@ -5,10 +5,10 @@ use Rattle.and_model.specs.Reductions.{Reduction}
 use Rattle.and_branch_laws.specs.Visits
 use Rattle.and_branch_laws.specs.Visits.{Decides, at_query}
 use Rattle.and_code.specs.Visiting.{AreAtCalls, waiting}
-use Rattle.and_code.specs.declared.telling.Told.{Told}
+use Rattle.and_code.specs.declared.telling.CodeSoFar.{CodeSoFar}
 
 -- the bodies that are still to be gone through
-abbrev pub left_of : Told → List Visits.Visit
+abbrev pub left_of : CodeSoFar → List Visits.Visit
 left_of t = waiting t.visits.items t.next
 
 -- The clauses of the code were told: whatever reductions come behind these, what the bodies that are left decide comes
@@ -19,5 +19,5 @@ pub record IsToldTo (P : Program) (rs : List Reduction) (left : List Visits.Visi
       → Decides P (rs ++ more) (at_query ∷ []) (code ++ cs)
 
 -- So far the beginning of the code was told of these reductions.
-abbrev pub IsTold : Program → List Reduction → Told → (code : List ℕ) → Type 0
+abbrev pub IsTold : Program → List Reduction → CodeSoFar → (code : List ℕ) → Type 0
 IsTold P rs t code = IsToldTo P rs (left_of t) (take t.length code)

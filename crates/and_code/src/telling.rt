@@ -21,7 +21,7 @@ use std::alloc::{AllocError, Global};
 /// How far a code was told: how many of its clauses were, the call at which it goes on, if there is one, and the bodies
 /// that wait behind it.
 #[derive(Drop)]
-pub struct Told {
+pub struct CodeSoFar {
     pub length: usize,
     next: Option<Visit>,
     visits: Vec<Visit>,
@@ -35,12 +35,12 @@ const QUERY: Visit = Visit {
     from: 0,
 };
 
-impl Told {
+impl CodeSoFar {
     /// Nothing was told yet. Takes no memory.
-    pub fn begun(alloc: Global, loaded: &Loaded) -> Told
+    pub fn begun(alloc: Global, loaded: &Loaded) -> CodeSoFar
         ensures { IsTold (program_of loaded.now) [] result [] }
     {
-        Told {
+        CodeSoFar {
             length: 0,
             next: at_call(loaded, loaded.items(QUERY.clause), QUERY),
             visits: Vec::new(alloc),
@@ -82,12 +82,12 @@ impl Told {
     }
 
     /// The same, told as far. An error is want of memory.
-    pub fn copy(&self, alloc: Global) -> Result<Told, AllocError>
+    pub fn copy(&self, alloc: Global) -> Result<CodeSoFar, AllocError>
         ensures length { IfOk result (λ told. told.length ≡ self.now.length) }
         ensures left { IfOk result (λ told. left_of told ≡ left_of self.now) }
     {
         let visits = Vec::from_slice(alloc, &self.visits)?;
-        Ok(Told {
+        Ok(CodeSoFar {
             length: self.length,
             next: self.next,
             visits,

@@ -15,7 +15,7 @@ use Rattle.and_laws.proofs.Ordered.{contains_first}
 use Rattle.and_cells.specs.Ranges.{NamedProgram}
 use Rattle.and_branch_laws.specs.States.{StateOf, fork}
 use Rattle.and_code.specs.Telling.{IsTold}
-use Rattle.and_code.specs.declared.telling.Told.{Told}
+use Rattle.and_code.specs.declared.telling.CodeSoFar.{CodeSoFar}
 use Rattle.and_branch.specs.Branches.{Held, IsBranchOf, IsOpenGoal}
 use Rattle.and_branch.specs.Children.{Fork, AreChildren, IsChild}
 use Rattle.and_histories.specs.PlainTree as plain
@@ -123,10 +123,10 @@ module _ (P : NamedProgram) (limit : ℕ) where
         limited = ap (λ (d : Held). d.limit) is.parent ∙ x.limited;
         some = some;
         few = omega (arith, few, fewer);
-        told = subst (λ (u : Told). IsTold P.program m.point.parent.reductions u m.point.longer) (sym told)
+        told = subst (λ (u : CodeSoFar). IsTold P.program m.point.parent.reductions u m.point.longer) (sym told)
             (subst (λ (key : Key). IsTold P.program m.point.parent.reductions l.told key) (sym is.longer)
             (subst (λ (d : Held). IsTold P.program d.reductions l.told l.point.longer) (sym is.parent) x.told));
-        long = ap (λ (u : Told). u.length) told ∙ x.long ∙ ap (λ (key : Key). length key) (sym is.longer);
+        long = ap (λ (u : CodeSoFar). u.length) told ∙ x.long ∙ ap (λ (key : Key). length key) (sym is.longer);
         longer = longer ∙ x.longer ∙ sym is.longer;
       }
 

@@ -9,7 +9,7 @@ use Rattle.and_branch.specs.Children.{Fork, IsChild}
 use Rattle.and_branch.specs.Origins.{GoesBack, KeepsBack}
 use Rattle.and_code.specs.Telling.{IsTold, left_of}
 use Rattle.and_reduction.specs.Trails.{Noted}
-use Rattle.and_code.specs.declared.telling.Told.{Told}
+use Rattle.and_code.specs.declared.telling.CodeSoFar.{CodeSoFar}
 use Rattle.and_tree.specs.Passes.{TreeId, PassSeen}
 use Rattle.and_answers.specs.declared.found.Found.{Found}
 use Rattle.and_answers.specs.Kept.{last_code_or, listed}
@@ -90,7 +90,7 @@ forked_shares found h f left key begins s =
     subst (λ (k : List ℕ). Shares found h.common k) (sym key) (longer_alike _ (take h.told.length h.branch.key) f.longer h.common begins s)
 
 -- A fork is of the branch that was in hand.
-pub told_fork : (P : NamedProgram) (b : Held) (f : Fork) (t : Told) → f.parent ≡ b → IsTold P.program b.reductions t f.longer
+pub told_fork : (P : NamedProgram) (b : Held) (f : Fork) (t : CodeSoFar) → f.parent ≡ b → IsTold P.program b.reductions t f.longer
     → IsTold P.program f.parent.reductions t f.longer
 told_fork P b f t is told = subst (λ (d : Held). IsTold P.program d.reductions t f.longer) (sym is) told
 
@@ -129,7 +129,7 @@ module _ {N : Type 0} (P : NamedProgram) (tree : TreeId) (pass : PassSeen) (foun
       (record { of_tree = h.of_tree; hand = h.hand; tasks_are = (tt, h.tasks_are) }))
 
   -- A branch on top comes to hand, of whose key nothing is told.
-  pub ready_popped : (stack rest : List (Task N)) (left : Option Held) (b : Held) (t : Told) → IsAtWork P tree pass found stack left
+  pub ready_popped : (stack rest : List (Task N)) (left : Option Held) (b : Held) (t : CodeSoFar) → IsAtWork P tree pass found stack left
       → stack ≡ rest ++ One b ∷ [] → IsTold P.program [] t [] → t.length ≡ 0 → IsReady P tree pass found rest (record { branch = b; told = t; common = 0 })
   ready_popped stack rest left b t w is told none = record {
     works = works_popped P tree pass found (One b) rest stack w.works is;
@@ -170,7 +170,7 @@ module _ {N : Type 0} (P : NamedProgram) (tree : TreeId) (pass : PassSeen) (foun
       (subst (λ (w : Vec (Task N) Global). IsReady P tree pass found w.items h) (sym same) r))
 
   -- or one of a row of its own did.
-  pub ready_alone : (stack : List (Task N)) (b d : Held) (t : Told) → Works P tree pass found (One b ∷ stack) → AreServed None stack
+  pub ready_alone : (stack : List (Task N)) (b d : Held) (t : CodeSoFar) → Works P tree pass found (One b ∷ stack) → AreServed None stack
       → SameKey b d → ((u : QueryTree P.program) → IsBranchOf P b u → (v : QueryTree P.program) × IsBranchOf P d v)
       → IsTold P.program [] t [] → t.length ≡ 0 → IsReady P tree pass found stack (record { branch = d; told = t; common = 0 })
   ready_alone stack b d t w s same steps told none = record {
@@ -212,7 +212,7 @@ module _ {N : Type 0} (P : NamedProgram) (tree : TreeId) (pass : PassSeen) (foun
   another_parted l m b stack w is more same = rest_parted P tree l m b stack pass is same (some_more l m b is more) w.has
 
   -- and so does the next one, where others come behind it.
-  pub another_ready : (q : PassSeen) (new : Found) (l m : Level N) (b : Held) (t : Told) (common : ℕ) (stack after : List (Task N))
+  pub another_ready : (q : PassSeen) (new : Found) (l m : Level N) (b : Held) (t : CodeSoFar) (common : ℕ) (stack after : List (Task N))
       → Works P tree pass found (Children l ∷ stack) → IsChild P l.point m.point b → length l.point.clauses ≢ 1
       → m ≡ record l { point = m.point } → t.length ≡ l.told.length → left_of t ≡ left_of l.told → GoesBack l.point.parent b
       → AreServed (Some (forked l)) stack → Shares found common l.point.longer → new ≡ found

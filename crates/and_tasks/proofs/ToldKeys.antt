@@ -10,7 +10,7 @@ use Rattle.and_branch.specs.Branches.{Held, SameKey}
 use Rattle.and_branch.specs.Children.{Fork, IsChild}
 use Rattle.and_branch.specs.Origins.{GoesBack, KeepsBack}
 use Rattle.and_code.specs.Telling.{IsTold, IsToldTo, left_of}
-use Rattle.and_code.specs.declared.telling.Told.{Told}
+use Rattle.and_code.specs.declared.telling.CodeSoFar.{CodeSoFar}
 use Rattle.and_code.proofs.Turns.{told_on}
 use Rattle.and_tasks.specs.Working.{AreServed, Serves, as_told, at_fork, forked}
 use Rattle.and_tasks.specs.declared.stack.Level.{Level}
@@ -22,20 +22,20 @@ take_none : (n : ℕ) (key : List ℕ) → n ≡ 0 → take n key ≡ []
 take_none n key e = ap (λ k. take k key) e
 
 -- What was told of a branch is told of one that has its reductions and more.
-pub told_further : (P : NamedProgram) (rs more all : List Reduction) (t : Told) (key : List ℕ) → all ≡ rs ++ more
+pub told_further : (P : NamedProgram) (rs more all : List Reduction) (t : CodeSoFar) (key : List ℕ) → all ≡ rs ++ more
     → IsTold P.program rs t key → IsTold P.program all t key
 told_further P rs more all t key e x =
     subst (λ (l : List Reduction). IsTold P.program l t key) (sym e) (told_on P.program rs more (left_of t) (take t.length key) x)
 
 -- Where nothing was told, nothing was of any branch.
-pub told_anew : (P : NamedProgram) (rs : List Reduction) (t : Told) (key : List ℕ) → t.length ≡ 0 → IsTold P.program [] t []
+pub told_anew : (P : NamedProgram) (rs : List Reduction) (t : CodeSoFar) (key : List ℕ) → t.length ≡ 0 → IsTold P.program [] t []
     → IsTold P.program rs t key
 told_anew P rs t key none x =
     subst (λ (code : List ℕ). IsToldTo P.program rs (left_of t) code) (take_none t.length [] none ∙ sym (take_none t.length key none))
     (told_on P.program [] rs (left_of t) (take t.length []) x)
 
 -- A branch went on under its key.
-pub told_kept : (P : NamedProgram) (b d : Held) (t : Told) → SameKey b d → KeepsBack b d → IsTold P.program b.reductions t b.key
+pub told_kept : (P : NamedProgram) (b d : Held) (t : CodeSoFar) → SameKey b d → KeepsBack b d → IsTold P.program b.reductions t b.key
     → IsTold P.program d.reductions t d.key
 told_kept P b d t same keeps x =
     subst (λ (key : List ℕ). IsTold P.program d.reductions t key) (sym same.key)
@@ -56,7 +56,7 @@ take_told n longer key c long is =
 
 -- ---- a child
 
-module _ (P : NamedProgram) (f g : Fork) (b : Held) (u t : Told) (is : IsChild P f g b) (long : u.length ≡ length f.longer)
+module _ (P : NamedProgram) (f g : Fork) (b : Held) (u t : CodeSoFar) (is : IsChild P f g b) (long : u.length ≡ length f.longer)
     (same : t.length ≡ u.length) where
   pub key_told : take t.length b.key ≡ f.longer
   key_told = take_told t.length f.longer b.key is.clause (same ∙ long) is.key

@@ -16,7 +16,7 @@ ghost use Rattle.and_tasks.specs.Copying.{IsCopyAt};
 
 use and_branch::{Branch, Choicepoint, Workspace};
 use and_cells::Naming;
-use and_code::Told;
+use and_code::CodeSoFar;
 use and_model::Code;
 use and_program::Loaded;
 use std::alloc::{AllocError, Global};
@@ -27,7 +27,7 @@ use std::snapshot::Snapshot;
 #[derive(Drop)]
 pub struct Hand<N: Naming> {
     pub branch: Branch<N>,
-    pub told: Told,
+    pub told: CodeSoFar,
     pub common: usize,
 }
 
@@ -36,7 +36,7 @@ pub struct Hand<N: Naming> {
 pub struct Level<N: Naming> {
     pub point: Choicepoint<N>,
     /// How far the key of the branch that was forked is told: as far as it was decided.
-    pub told: Told,
+    pub told: CodeSoFar,
     /// What was decided in it: the keys of its children, but for their clauses. (For contracts alone.)
     pub longer: Snapshot<Code>,
 }
@@ -55,18 +55,18 @@ pub enum Task<N: Naming> {
 }
 
 /// Nothing of a key is told. Takes no memory.
-pub fn untold(alloc: Global, loaded: &Loaded) -> Told
+pub fn untold(alloc: Global, loaded: &Loaded) -> CodeSoFar
     ensures told { IsTold (program_of loaded.now) [] result [] }
     ensures length { result.length ≡ 0 }
 {
-    let mut told = Told::begun(alloc, loaded);
+    let mut told = CodeSoFar::begun(alloc, loaded);
     told.length = 0;
     told
 }
 
 impl<N: Naming> Level<N> {
     /// The children of a fork, of which none was made yet. Takes no memory.
-    pub fn new(point: Choicepoint<N>, told: Told, longer: Snapshot<Code>) -> Level<N>
+    pub fn new(point: Choicepoint<N>, told: CodeSoFar, longer: Snapshot<Code>) -> Level<N>
         ensures { result ≡ record { point = point; told = told; longer = longer } }
     {
         Level {

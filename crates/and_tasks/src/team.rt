@@ -32,7 +32,7 @@ use and_answers::Coded;
 use and_branch::{Branch, BranchState, Forked, Workspace};
 use and_cells::Naming;
 use and_clause_index::Determinacy;
-use and_code::Told;
+use and_code::CodeSoFar;
 use and_gate::Gate;
 use and_model::{ClauseList, Code, Cut, Goal};
 use and_program::Loaded;
@@ -432,7 +432,7 @@ impl<N: Naming> Team<N> {
         &mut self,
         shared: &Shared<N, G>,
         forked: Forked<N>,
-        told: Told,
+        told: CodeSoFar,
         cut: Option<Cut>,
         common: usize,
     ) -> Result<(), AllocError>

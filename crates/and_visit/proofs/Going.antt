@@ -16,7 +16,7 @@ use Rattle.and_laws.proofs.Ordered.{contains_none, contains_cases}
 use Rattle.and_cells.specs.Ranges.{NamedProgram}
 use Rattle.and_code.specs.Telling.{IsTold, left_of}
 use Rattle.and_code.specs.Written.{all_written}
-use Rattle.and_code.specs.declared.telling.Told.{Told}
+use Rattle.and_code.specs.declared.telling.CodeSoFar.{CodeSoFar}
 use Rattle.and_branch_laws.specs.States.{IsCut, StateOf, over_one, over_all, fork}
 use Rattle.and_branch_laws.proofs.Going.{over_one_cut, over_all_cut, fork_cut}
 use Rattle.and_branch.specs.Branches.{Held, IsBranchOf, IsOpenGoal, SameKey}
@@ -111,7 +111,7 @@ module _ (P : NamedProgram) (limit : ℕ) where
 
 module _ {N : Type 0} (P : NamedProgram) (limit : ℕ) where
   -- At first the query's branch is in hand.
-  pub ready_begun : (Seen : List Report → Type 0) (stack : List (Level N)) (b : Held) (t : Told) → stack ≡ [] → Seen []
+  pub ready_begun : (Seen : List Report → Type 0) (stack : List (Level N)) (b : Held) (t : CodeSoFar) → stack ≡ [] → Seen []
       → IsBranchOf P b (blank (query_agenda P.program)) → b.limit ≡ limit → IsTold P.program b.reductions t b.key
       → IsReady P limit Seen stack (record { branch = b; told = t; depth = 0 })
   ready_begun Seen stack b t empty has branch limited told =
@@ -206,7 +206,7 @@ module _ {N : Type 0} (P : NamedProgram) (limit : ℕ) where
 
   -- The branch in hand is forked: that is told, and its children are on top.
   pub after_fork : (Old New : List Report → Type 0) (stack after : List (Level N)) (h : Hand N) (g : Goal) (clauses : List ClauseNo)
-      (cut : Option Cut) (f : Fork) (t : Told) (left : Held) → IsReady P limit Old stack h
+      (cut : Option Cut) (f : Fork) (t : CodeSoFar) (left : Held) → IsReady P limit Old stack h
       → ((t : QueryTree P.program) → IsBranchOf P h.branch t → IsState P h.branch t (told.Fork g clauses cut))
       → IsForkOf h.branch g (numbers clauses) f → ((t : QueryTree P.program) → IsBranchOf P h.branch t → AreChildren P f t)
       → GoesBack h.branch left → IsTold P.program h.branch.reductions t f.longer → t.length ≡ length f.longer → left.key ≡ f.longer
@@ -259,7 +259,7 @@ module _ {N : Type 0} (P : NamedProgram) (limit : ℕ) where
     back_asked = x.back.0
 
     -- The next child is in hand, and below it those that are still to come;
-    pub next_ready : (after : List (Level N)) (g : Fork) (b : Held) (own : Told) → IsChild P level.point g b
+    pub next_ready : (after : List (Level N)) (g : Fork) (b : Held) (own : CodeSoFar) → IsChild P level.point g b
         → 1 < length level.point.clauses → GoesBack level.point.parent b → own.length ≡ level.told.length
         → left_of own ≡ left_of level.told
         → after ≡ record { point = g; told = level.told; depth = level.depth } ∷ stack

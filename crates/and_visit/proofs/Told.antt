@@ -13,7 +13,7 @@ use Rattle.and_branch.specs.Children.{Fork, IsChild, IsForkOf}
 use Rattle.and_branch.specs.Origins.{GoesBack, GoBackFrom, KeepsBack}
 use Rattle.and_branch.proofs.KeptOrigins.{go_back_on}
 use Rattle.and_code.specs.Telling.{IsTold, IsToldTo, left_of}
-use Rattle.and_code.specs.declared.telling.Told.{Told}
+use Rattle.and_code.specs.declared.telling.CodeSoFar.{CodeSoFar}
 use Rattle.and_code.proofs.Turns.{told_on}
 use Rattle.and_visit.specs.Walking.{IsToldOf, AreTold, parents_of}
 use Rattle.and_visit.specs.declared.stack.Level.{Level}
@@ -46,7 +46,7 @@ last_back left b f ls keeps (has, below) = go_back_on f.parent b (parents_of ls)
 -- ---- What is told
 
 -- What was told of a branch is told of one that has its reductions and more.
-pub told_further : (P : NamedProgram) (rs more all : List Reduction) (t : Told) (key : List ℕ) → all ≡ rs ++ more
+pub told_further : (P : NamedProgram) (rs more all : List Reduction) (t : CodeSoFar) (key : List ℕ) → all ≡ rs ++ more
     → IsTold P.program rs t key → IsTold P.program all t key
 told_further P rs more all t key e x =
     subst (λ (l : List Reduction). IsTold P.program l t key) (sym e) (told_on P.program rs more (left_of t) (take t.length key) x)
@@ -62,7 +62,7 @@ pub levels_left : {N : Type 0} (P : NamedProgram) (n : ℕ) (key : List ℕ) (ls
 levels_left P n key ls told = levels_longer P (take n key) key ls (drop n key, sym (take-append-drop n key)) told
 
 -- A branch was advanced, which has the same key.
-pub told_advanced : (P : NamedProgram) (b d : Held) (t : Told) → SameKey b d → KeepsBack b d → IsTold P.program b.reductions t b.key
+pub told_advanced : (P : NamedProgram) (b d : Held) (t : CodeSoFar) → SameKey b d → KeepsBack b d → IsTold P.program b.reductions t b.key
     → IsTold P.program d.reductions t d.key
 told_advanced P b d t same keeps x =
     subst (λ (key : List ℕ). IsTold P.program d.reductions t key) (sym same.key)
@@ -89,7 +89,7 @@ take_told : (n : ℕ) (longer key : List ℕ) (c : ℕ) → n ≡ length longer 
 take_told n longer key c long is =
     ap (λ k. take k key) long ∙ ap (take (length longer)) is ∙ take-append_seam longer (c ∷ [])
 
-module _ {N : Type 0} (P : NamedProgram) (l : Level N) (g : Fork) (b : Held) (t : Told) (here : IsToldOf P l) (is : IsChild P l.point g b)
+module _ {N : Type 0} (P : NamedProgram) (l : Level N) (g : Fork) (b : Held) (t : CodeSoFar) (here : IsToldOf P l) (is : IsChild P l.point g b)
     (same : t.length ≡ l.told.length) (left : left_of t ≡ left_of l.told) where
   key_told : take t.length b.key ≡ l.point.longer
   key_told = take_told t.length l.point.longer b.key is.clause (same ∙ here.long) is.key
@@ -117,10 +117,10 @@ module _ {N : Type 0} (P : NamedProgram) (l : Level N) (g : Fork) (b : Held) (t 
       let parent : m.point.parent ≡ l.point.parent = ap (λ (f : Fork). f.parent) point ∙ is.parent in
       subst (λ (xs : List (Level N)). AreTold P (take t.length b.key) xs) (sym top) (
         record {
-          told = subst (λ (u : Told). IsTold P.program m.point.parent.reductions u m.point.longer) (sym told)
+          told = subst (λ (u : CodeSoFar). IsTold P.program m.point.parent.reductions u m.point.longer) (sym told)
               (subst (λ (key : List ℕ). IsTold P.program m.point.parent.reductions l.told key) (sym longer)
               (subst (λ (h : Held). IsTold P.program h.reductions l.told l.point.longer) (sym parent) here.told));
-          long = ap (λ (u : Told). u.length) told ∙ here.long ∙ ap (λ (cs : List ℕ). length cs) (sym longer);
+          long = ap (λ (u : CodeSoFar). u.length) told ∙ here.long ∙ ap (λ (cs : List ℕ). length cs) (sym longer);
         },
         ([], key_told ∙ sym longer ∙ sym (append-nil m.point.longer)),
         subst (λ (key : List ℕ). AreTold P key ls) (sym longer) below,

@@ -9,7 +9,7 @@ ghost use Rattle.and_branch.specs.Branches.{IsBranch, IsBranchOf};
 
 use and_branch::Branch;
 use and_cells::Naming;
-use and_code::Told;
+use and_code::CodeSoFar;
 use and_model::Code;
 use and_program::Loaded;
 use std::alloc::{AllocError, Global};
@@ -36,7 +36,7 @@ pub fn code_if<N: Naming>(
     alloc: Global,
     loaded: &Loaded,
     branch: &Branch<N>,
-    told: Told,
+    told: CodeSoFar,
     wanted: bool,
 ) -> Result<Coded, AllocError>
     requires program { N.program ≡ named loaded.now }

@@ -11,7 +11,7 @@ ghost use Rattle.and_visit.specs.Walking.{left_on_top};
 
 use and_branch::{Branch, Choicepoint, Workspace};
 use and_cells::Naming;
-use and_code::Told;
+use and_code::CodeSoFar;
 use and_program::Loaded;
 use std::alloc::{AllocError, Global};
 
@@ -19,7 +19,7 @@ use std::alloc::{AllocError, Global};
 #[derive(Drop)]
 pub struct Hand<N: Naming> {
     pub branch: Branch<N>,
-    pub told: Told,
+    pub told: CodeSoFar,
     pub depth: u32,
 }
 
@@ -28,7 +28,7 @@ pub struct Hand<N: Naming> {
 #[derive(Drop)]
 pub struct Level<N: Naming> {
     pub point: Choicepoint<N>,
-    pub told: Told,
+    pub told: CodeSoFar,
     pub depth: u32,
 }
 

@@ -21,7 +21,7 @@ use crate::visitor::Visitor;
 use and_branch::{Branch, BranchState, Rooted, Workspace};
 use and_cells::Naming;
 use and_clause_index::Determinacy;
-use and_code::Told;
+use and_code::CodeSoFar;
 use and_gate::Gate;
 use and_model::{ClauseList, Cut, Goal};
 use and_program::Loaded;
@@ -66,7 +66,7 @@ pub fn search_named<N: Naming, V: Visitor, G: Gate>(
                 stack: Vec::new(alloc),
                 workspace,
             };
-            let told = Told::begun(alloc, loaded);
+            let told = CodeSoFar::begun(alloc, loaded);
             let depth = 0;
             walker.finish(
                 alloc,
@@ -308,7 +308,7 @@ impl<N: Naming, V: Visitor> Walker<N, V> {
         let point = hand
             .branch
             .fork_in_place(alloc, loaded, goal, clauses, &mut hand.told)?;
-        let told = replace(&mut hand.told, Told::begun(alloc, loaded));
+        let told = replace(&mut hand.told, CodeSoFar::begun(alloc, loaded));
         put(&mut self.stack, Level { point, told, depth })?;
         Ok(())
     }
@@ -369,7 +369,7 @@ impl<N: Naming, V: Visitor> Walker<N, V> {
         ensures asks { V.asks self.new.visitor ≡ V.asks self.old.visitor }
     {
         let wanted = self.visitor.wants_code();
-        let told = replace(&mut hand.told, Told::begun(alloc, loaded));
+        let told = replace(&mut hand.told, CodeSoFar::begun(alloc, loaded));
         let coded = code_if(alloc, loaded, &hand.branch, told, wanted)?;
         let line = hand.branch.line(alloc, loaded)?;
         let Coded { named, code } = coded;

@@ -2,7 +2,7 @@ use Rattle.std.proofs.Common.{ℕ, List, [], ◌∷◌, reverse, refl, sym, subs
 use Rattle.and_model.specs.Listing.{Outcome}
 use Rattle.and_cells.specs.Ranges.{NamedProgram}
 use Rattle.and_code.specs.Telling.{IsTold}
-use Rattle.and_code.specs.declared.telling.Told.{Told}
+use Rattle.and_code.specs.declared.telling.CodeSoFar.{CodeSoFar}
 use Rattle.and_answers.specs.Kept.{outcome_with}
 use Rattle.and_search_laws.proofs.Telling.{told_ends}
 use Rattle.and_traces.specs.Traces.{Report, ended}
@@ -13,7 +13,7 @@ use Rattle.and_visit.proofs.walker.Walker.end.Goals as goal
 pub code_if-requires-clause-told : goal.code_if-requires-clause-told
 code_if-requires-clause-told g c =
     let h = c.args.hand.now in
-    subst (λ (t : Told). IsTold g.N.Naming.program.program h.branch.reductions t h.branch.key) (sym c.replace-told.ensures.value)
+    subst (λ (t : CodeSoFar). IsTold g.N.Naming.program.program h.branch.reductions t h.branch.key) (sym c.replace-told.ensures.value)
     c.requires.ready.told
 
 pub returns-clause-after : goal.returns-clause-after

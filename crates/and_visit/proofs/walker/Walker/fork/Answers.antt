@@ -1,6 +1,6 @@
 use Rattle.std.proofs.Common.{reverse, arith, ap, ◌∙◌, ◌∷◌, ◌+◌}
 use Rattle.and_cells.specs.Ranges.{NamedProgram}
-use Rattle.and_code.specs.declared.telling.Told.{Told}
+use Rattle.and_code.specs.declared.telling.CodeSoFar.{CodeSoFar}
 use Rattle.and_visit.proofs.Going.{fork_asked, depth_below, after_fork}
 use Rattle.and_visit.proofs.walker.Walker.fork.Goals as goal
 
@@ -29,4 +29,4 @@ returns-clause-after g c =
     c.fork_in_place.new.self c.requires.ready c.requires.state forked.fork forked.children forked.back forked.told forked.length
     forked.key forked.begins c.in_ok-see_fork.ensures.told (let all = c.len-all.ensures in omega arith) in
     after (c.in_ok-put.ensures
-    ∙ ap (λ (t : Told). record { point = point; told = t; depth = hand.depth + 1 } ∷ reverse s.stack.items) c.replace-told.ensures.value)
+    ∙ ap (λ (t : CodeSoFar). record { point = point; told = t; depth = hand.depth + 1 } ∷ reverse s.stack.items) c.replace-told.ensures.value)

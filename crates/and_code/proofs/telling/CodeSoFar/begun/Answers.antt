@@ -1,7 +1,7 @@
 use Rattle.std.proofs.Common.{[], refl}
 use Rattle.and_program.specs.Loaded.{program_of}
 use Rattle.and_code.proofs.Turns.{begun, begun_at_calls}
-use Rattle.and_code.proofs.telling.Told.begun.Goals as goal
+use Rattle.and_code.proofs.telling.CodeSoFar.begun.Goals as goal
 
 pub returns : goal.returns
 returns c =

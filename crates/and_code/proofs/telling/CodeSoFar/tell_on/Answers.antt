@@ -1,7 +1,7 @@
 use Rattle.and_program.specs.Loaded.{program_of}
 use Rattle.and_code.specs.Written.{all_written}
 use Rattle.and_code.proofs.Turns.{all_told}
-use Rattle.and_code.proofs.telling.Told.tell_on.Goals as goal
+use Rattle.and_code.proofs.telling.CodeSoFar.tell_on.Goals as goal
 
 pub returns-clause-told : goal.returns-clause-told
 returns-clause-told c =
