@@ -1,7 +1,7 @@
 -- Example endless-loop: loop(X) :- loop(X). ?- loop(a).
 use Rattle.std.proofs.Common.{ℕ, zero, suc, [], ◌∷◌, ◌++◌, refl, sym, inl, inr, arith, true≢false}
 use Rattle.and_model.specs.Terms.{Path, Term, compound, none, Substitution, framed}
-use Rattle.and_model.specs.Programs.{clause_weight}
+use Rattle.and_model.specs.Programs.{clause_weight, own_name}
 use Rattle.and_model.specs.Closure.{Closes}
 use Rattle.and_model.specs.Trees.{Tree, QueryTree, goal, end, done, left, by, equations, IsWhole}
 use Rattle.and_model.specs.Listing.{Listing, Exhausted}
@@ -20,7 +20,7 @@ once = by 1 refl (left done)
 
 -- every variable is the atom a
 abbrev all_a : Substitution
-all_a r k = compound 28 none
+all_a r k = compound (own_name 1) none
 
 -- It weighs 3, and 5 with the clause once more.
 pub over : OverLeft endless_text 4 (1 ∷ []) 1
@@ -38,7 +38,7 @@ pub listing : (limit : ℕ) → Listing endless_text limit []
 listing limit =
     entries_listing endless_text limit [] (all_pairs_none Before) (λ e. (
       λ has. absurd (contains_none e has),
-      λ within. absurd (never_whole (0 ∷ []) (loop (compound 28 none)) within.0 within.2.0),
+      λ within. absurd (never_whole (0 ∷ []) (loop (compound (own_name 1) none)) within.0 within.2.0),
     ))
 
 pub exhausted : (limit : ℕ) → Exhausted endless_text limit

@@ -2,7 +2,7 @@
 use Rattle.std.proofs.Common.{ℕ, zero, suc, ◌≡◌, ◌≤◌, List, [], ◌∷◌, refl, inl, inr, arith, codes}
 use Rattle.and_model.specs.Terms.{Path, variable, compound, none, Substitution, apply}
 use Rattle.and_model.specs.Solutions.{Equation, Solves, MostGeneral}
-use Rattle.and_model.specs.Programs.{clause_weight}
+use Rattle.and_model.specs.Programs.{clause_weight, own_name}
 use Rattle.and_model.specs.Closure.{Closes}
 use Rattle.and_model.specs.Trees.{QueryTree, query_agenda, blank, done, by}
 use Rattle.and_model.specs.Listing.{Ends, answer, Entry, Listing, Exhausted, answered, calls, no_more, heavy, light, of_query}
@@ -21,12 +21,12 @@ abbrev second_tree : QueryTree equal_text
 second_tree = by 2 refl done
 
 abbrev x_is_a : Substitution
-x_is_a [] zero = compound 28 none
+x_is_a [] zero = compound (own_name 1) none
 x_is_a [] (suc k) = variable [] (suc k)
 x_is_a (i ∷ r) k = variable (i ∷ r) k
 
 abbrev taken : List Equation
-taken = (p (own 0), p (compound 28 none)) ∷ []
+taken = (p (own 0), p (compound (own_name 1) none)) ∷ []
 
 general : MostGeneral x_is_a taken
 general = ((refl, tt), through)

@@ -3,7 +3,7 @@ use Rattle.std.proofs.Common.{ℕ, zero, suc, ◌≡◌, ◌<◌, ◌≢◌, [],
 use Rattle.std.proofs.lemmas.List.Elements.{All-cons}
 use Rattle.std.proofs.lemmas.List.Kept.{AllPairs-cons}
 use Rattle.and_model.specs.Terms.{compound, none, Substitution}
-use Rattle.and_model.specs.Programs.{Of}
+use Rattle.and_model.specs.Programs.{Of, own_name}
 use Rattle.and_model.specs.Closure.{Closes}
 use Rattle.and_model.specs.Trees.{QueryTree, query_agenda, blank, Open, reduce, equations}
 use Rattle.and_model.specs.Reached.{CandidateOf, Shut, Split, Steps, SplitClauses, Forks, ForksOfSplits}
@@ -17,7 +17,7 @@ abbrev start : QueryTree equal_text
 start = blank (query_agenda equal_text)
 
 abbrev all_are_a : Substitution
-all_are_a = λ r k. compound 28 none
+all_are_a = λ r k. compound (own_name 1) none
 
 both_fit : (o : Open start) → (c : ℕ) × (d : ℕ) × (c ≢ d) × CandidateOf start [] o c × CandidateOf start [] o d
 both_fit (inl u) = (1, 2, (λ e. cc), (refl, (all_are_a, (refl, tt)), λ a i. elim i [ ]), (refl, (all_are_a, (refl, tt)), λ a i. elim i [ ]))

@@ -1,17 +1,17 @@
 -- Trials of the definitions.
-use Rattle.std.proofs.Common.{◌≡◌, [], ◌∷◌, refl, length, pos, negsuc}
+use Rattle.std.proofs.Common.{◌≡◌, [], ◌∷◌, ◌++◌, refl, pos, negsuc}
 use Rattle.std.specs.Prelude.{codes, get_or}
 use Rattle.std.specs.Fmt.{digits}
 use Rattle.and_model.specs.Terms.{variable, number, compound, none, more}
 use Rattle.and_model.specs.Arithmetic.{less}
-use Rattle.and_model.specs.Programs.{is, compare, builtin_names}
+use Rattle.and_model.specs.Programs.{is, compare, builtin_names, own_name}
 use Rattle.and_model.specs.Lines.{shown_name, line}
 use Rattle.and_model.specs.Output.{last_lines, limit_met}
 use Rattle.and_model.specs.declared.builtins.TheConstants.{DIFFERS, MINUS, PLUS, POINT}
 use Rattle.and_examples.specs.LineExamples.{asking, giving, cell_of, nil, f_of}
 
-pub names : length builtin_names ≡ 27
-names = refl
+pub own_names : get_or (builtin_names ++ codes "p" ∷ codes "q" ∷ []) (own_name 1) [] ≡ codes "q"
+own_names = refl
 
 pub name_differs : get_or builtin_names DIFFERS [] ≡ codes "=\\="
 name_differs = refl
@@ -35,13 +35,13 @@ open_list = refl
 
 -- X = [[],[a]], and a dot of three arguments
 pub lists_within : line (asking (codes "X" ∷ codes "Y" ∷ []))
-    (giving (cell_of nil (cell_of (cell_of (compound 28 none) nil) nil) ∷ compound POINT (more nil (more nil (more nil none))) ∷ [])) []
+    (giving (cell_of nil (cell_of (cell_of (compound (own_name 1) none) nil) nil) ∷ compound POINT (more nil (more nil (more nil none))) ∷ [])) []
     ≡ codes "X = [[],[a]], Y = '.'([],[],[])"
 lists_within = refl
 
 -- tails that are no lists: a number, a compound
 pub other_tails : line (asking (codes "X" ∷ codes "Y" ∷ []))
-    (giving (cell_of (number (pos 1)) (number (negsuc 2)) ∷ cell_of (compound 28 none) (compound 29 (more nil none)) ∷ [])) []
+    (giving (cell_of (number (pos 1)) (number (negsuc 2)) ∷ cell_of (compound (own_name 1) none) (compound (own_name 2) (more nil none)) ∷ [])) []
     ≡ codes "X = [1|-3], Y = [a|'it\\'s'([])]"
 unfolding digits
 other_tails = refl

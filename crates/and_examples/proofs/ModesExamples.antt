@@ -4,7 +4,7 @@ use Rattle.std.specs.Prelude.{Contains, cond, nat_eq}
 use Rattle.std.proofs.lemmas.List.Elements.{All-contains}
 use Rattle.and_model.proofs.Tested.{of_one}
 use Rattle.and_model.specs.Terms.{Terms, none, more}
-use Rattle.and_model.specs.Programs.{Program, Clause, Item, call, equal, arithmetic, fail, clause_at}
+use Rattle.and_model.specs.Programs.{Program, Clause, Item, call, equal, arithmetic, fail, clause_at, own_name}
 use Rattle.and_modes.specs.Modes.{rank, name_of, arguments_of, count_of, IsAtLeast, Assignment, Environment, HaveLevels, CallsHaveLevels}
 use Rattle.and_modes.specs.Modes.{at_entry, all_raised, after_item, after_items, WellModed, Greatest, WaitsFor, IsEarlier, IsSafe, WaitsFirst}
 use Rattle.and_modes.specs.declared.level.Level.{Level}
@@ -27,11 +27,12 @@ only : (k : Clause) → Contains (increment ∷ []) k → increment ≡ k
 only k c = All-contains (λ (k : Clause). increment ≡ k) (increment ∷ []) k (of_one (λ (k : Clause). increment ≡ k) increment refl) c
 
 -- Nothing is above it: the query calls with a free variable in the second place.
-above : (other : Assignment) → WellModed safe other → (place : ℕ) (side : Side) → place < 2 → IsAtLeast (given_first 27 2 place side) (other 27 2 place side)
-above other well zero Called below = top (other 27 2 0 Called)
-above other well zero Succeeded below = top (other 27 2 0 Succeeded)
+above : (other : Assignment) → WellModed safe other → (place : ℕ) (side : Side) → place < 2
+    → IsAtLeast (given_first (own_name 0) 2 place side) (other (own_name 0) 2 place side)
+above other well zero Called below = top (other (own_name 0) 2 0 Called)
+above other well zero Succeeded below = top (other (own_name 0) 2 0 Succeeded)
 above other well (suc zero) Called below = (well 0 (omega arith)).0.0.1.0
-above other well (suc zero) Succeeded below = top (other 27 2 1 Succeeded)
+above other well (suc zero) Succeeded below = top (other (own_name 0) 2 1 Succeeded)
 above other well (suc (suc place)) side below = absurd (omega arith)
 
 pub safe_greatest : Greatest safe given_first
@@ -39,7 +40,7 @@ safe_greatest = (
   safe_is_well_moded,
   λ other well name count place side has.
       let same = only has.0 has.1 in
-      let is_name : 27 ≡ name = ap (λ (k : Clause). name_of k.head) same ∙ has.2 in
+      let is_name : own_name 0 ≡ name = ap (λ (k : Clause). name_of k.head) same ∙ has.2 in
       let is_count : 2 ≡ count = ap (λ (k : Clause). count_of (arguments_of k.head)) same ∙ has.3 in
       rw (← is_name, ← is_count) (above other well place side (rw is_count has.4)),
 )
@@ -92,23 +93,25 @@ none_below Integer low = absurd (omega arith)
 abbrev after_body : (x y : Level) → Environment
 after_body x y = after_items lowest (all_raised (λ k. Any) (λ place. cond (nat_eq place 0) x y) 0 (arguments_of increment.head)) increment.body
 
-nothing_above : (other : Assignment) → WellModed waiting other → (place : ℕ) (side : Side) → place < 2 → IsAtLeast Any (other 27 2 place side)
+nothing_above : (other : Assignment) → WellModed waiting other → (place : ℕ) (side : Side) → place < 2 → IsAtLeast Any (other (own_name 0) 2 place side)
 nothing_above other well zero Called below = (well 0 (omega arith)).0.0.0
 nothing_above other well (suc zero) Called below = (well 0 (omega arith)).0.0.1.0
 nothing_above other well zero Succeeded below =
-    let x : other 27 2 0 Called ≡ Any = none_below (other 27 2 0 Called) (well 0 (omega arith)).0.0.0 in
-    let y : other 27 2 1 Called ≡ Any = none_below (other 27 2 1 Called) (well 0 (omega arith)).0.0.1.0 in
-    let after : IsAtLeast (after_body (other 27 2 0 Called) (other 27 2 1 Called) 0) (other 27 2 0 Succeeded) = (well 1 (omega arith)).1.0 in
-    let with_x : IsAtLeast (after_body Any (other 27 2 1 Called) 0) (other 27 2 0 Succeeded) =
-    subst (λ (l : Level). IsAtLeast (after_body l (other 27 2 1 Called) 0) (other 27 2 0 Succeeded)) x after in
-    subst (λ (l : Level). IsAtLeast (after_body Any l 0) (other 27 2 0 Succeeded)) y with_x
+    let x : other (own_name 0) 2 0 Called ≡ Any = none_below (other (own_name 0) 2 0 Called) (well 0 (omega arith)).0.0.0 in
+    let y : other (own_name 0) 2 1 Called ≡ Any = none_below (other (own_name 0) 2 1 Called) (well 0 (omega arith)).0.0.1.0 in
+    let after : IsAtLeast (after_body (other (own_name 0) 2 0 Called) (other (own_name 0) 2 1 Called) 0) (other (own_name 0) 2 0 Succeeded) =
+    (well 1 (omega arith)).1.0 in
+    let with_x : IsAtLeast (after_body Any (other (own_name 0) 2 1 Called) 0) (other (own_name 0) 2 0 Succeeded) =
+    subst (λ (l : Level). IsAtLeast (after_body l (other (own_name 0) 2 1 Called) 0) (other (own_name 0) 2 0 Succeeded)) x after in
+    subst (λ (l : Level). IsAtLeast (after_body Any l 0) (other (own_name 0) 2 0 Succeeded)) y with_x
 nothing_above other well (suc zero) Succeeded below =
-    let x : other 27 2 0 Called ≡ Any = none_below (other 27 2 0 Called) (well 0 (omega arith)).0.0.0 in
-    let y : other 27 2 1 Called ≡ Any = none_below (other 27 2 1 Called) (well 0 (omega arith)).0.0.1.0 in
-    let after : IsAtLeast (after_body (other 27 2 0 Called) (other 27 2 1 Called) 1) (other 27 2 1 Succeeded) = (well 1 (omega arith)).1.1.0 in
-    let with_x : IsAtLeast (after_body Any (other 27 2 1 Called) 1) (other 27 2 1 Succeeded) =
-    subst (λ (l : Level). IsAtLeast (after_body l (other 27 2 1 Called) 1) (other 27 2 1 Succeeded)) x after in
-    subst (λ (l : Level). IsAtLeast (after_body Any l 1) (other 27 2 1 Succeeded)) y with_x
+    let x : other (own_name 0) 2 0 Called ≡ Any = none_below (other (own_name 0) 2 0 Called) (well 0 (omega arith)).0.0.0 in
+    let y : other (own_name 0) 2 1 Called ≡ Any = none_below (other (own_name 0) 2 1 Called) (well 0 (omega arith)).0.0.1.0 in
+    let after : IsAtLeast (after_body (other (own_name 0) 2 0 Called) (other (own_name 0) 2 1 Called) 1) (other (own_name 0) 2 1 Succeeded) =
+    (well 1 (omega arith)).1.1.0 in
+    let with_x : IsAtLeast (after_body Any (other (own_name 0) 2 1 Called) 1) (other (own_name 0) 2 1 Succeeded) =
+    subst (λ (l : Level). IsAtLeast (after_body l (other (own_name 0) 2 1 Called) 1) (other (own_name 0) 2 1 Succeeded)) x after in
+    subst (λ (l : Level). IsAtLeast (after_body Any l 1) (other (own_name 0) 2 1 Succeeded)) y with_x
 nothing_above other well (suc (suc place)) side below = absurd (omega arith)
 
 pub lowest_greatest : Greatest waiting lowest
@@ -116,7 +119,7 @@ lowest_greatest = (
   lowest_is_well_moded waiting,
   λ other well name count place side has.
       let same = only has.0 has.1 in
-      let is_name : 27 ≡ name = ap (λ (k : Clause). name_of k.head) same ∙ has.2 in
+      let is_name : own_name 0 ≡ name = ap (λ (k : Clause). name_of k.head) same ∙ has.2 in
       let is_count : 2 ≡ count = ap (λ (k : Clause). count_of (arguments_of k.head)) same ∙ has.3 in
       rw (← is_name, ← is_count) (nothing_above other well place side (rw is_count has.4)),
 )

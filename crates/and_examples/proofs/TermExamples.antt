@@ -1,5 +1,6 @@
 -- Terms and substitutions, tried on small terms.
 use Rattle.std.proofs.Common.{ℕ, zero, suc, ◌≡◌, ◌<◌, true, false, [], ◌∷◌, refl, sym, None, arith}
+use Rattle.and_model.specs.Programs.{own_name}
 use Rattle.and_model.specs.Terms.{Path, variable, is_ground, Substitution, apply}
 use Rattle.and_model.specs.Solutions.{Solves, MostGeneral}
 use Rattle.and_model.specs.Arithmetic.{value, of_one}
@@ -7,10 +8,10 @@ use Rattle.and_model.specs.Stands.{AreVariants}
 use Rattle.and_examples.specs.Texts.{own, unary}
 use Rattle.and_examples.specs.TermExamples.{wrapped, f_of_atom, alike, to_second, to_third, three_values}
 
-pub once : apply wrapped (unary 27 (own 0)) ≡ unary 27 (unary 27 (own 0))
+pub once : apply wrapped (unary (own_name 0) (own 0)) ≡ unary (own_name 0) (unary (own_name 0) (own 0))
 once = refl
 
-pub ground : (is_ground f_of_atom ≡ true) × (value f_of_atom ≡ None) × (is_ground (unary 27 (own 0)) ≡ false)
+pub ground : (is_ground f_of_atom ≡ true) × (value f_of_atom ≡ None) × (is_ground (unary (own_name 0) (own 0)) ≡ false)
 unfolding of_one
 ground = (refl, refl, refl)
 

@@ -1,5 +1,6 @@
 -- Values of terms, worked out by hand.
 use Rattle.std.proofs.Common.{◌≡◌, ◌-◌, ◌^◌, refl, pos, negsuc, Some, None}
+use Rattle.and_model.specs.Programs.{own_name}
 use Rattle.and_model.specs.Terms.{number, compound, none}
 use Rattle.and_model.specs.Arithmetic.{value, of_two, of_one}
 use Rattle.and_model.specs.declared.builtins.TheConstants.{DIVIDE, GREATEST, LEAST, MINUS, MODULO, PLUS, REMAINDER, TIMES}
@@ -71,7 +72,8 @@ unfolding of_two of_one
 too_wide = (refl, refl)
 
 -- a variable, an atom, sums with these, a name with no place in the table, and a sum of one
-pub no_value : (value (own 0) ≡ None) × (value (compound 27 none) ≡ None) × (value (binary PLUS (whole 1) (own 0)) ≡ None)
-    × (value (binary PLUS (whole 1) (compound 27 none)) ≡ None) × (value (binary 27 (whole 1) (whole 2)) ≡ None) × (value (unary PLUS (whole 1)) ≡ None)
+pub no_value : (value (own 0) ≡ None) × (value (compound (own_name 0) none) ≡ None) × (value (binary PLUS (whole 1) (own 0)) ≡ None)
+    × (value (binary PLUS (whole 1) (compound (own_name 0) none)) ≡ None) × (value (binary (own_name 0) (whole 1) (whole 2)) ≡ None)
+    × (value (unary PLUS (whole 1)) ≡ None)
 unfolding of_two of_one
 no_value = (refl, refl, refl, refl, refl, refl)

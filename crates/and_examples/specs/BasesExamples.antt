@@ -4,7 +4,7 @@ use Rattle.std.proofs.Common.{inl}
 use Rattle.std.specs.Prelude.{ℕ, false, cond, nat_eq, List, [], ◌∷◌, refl, pos}
 use Rattle.and_model.specs.Terms.{Term, variable, number, compound, none, more}
 use Rattle.and_model.specs.Arithmetic.{less}
-use Rattle.and_model.specs.Programs.{Program, Clause, call, arithmetic, compare}
+use Rattle.and_model.specs.Programs.{Program, Clause, call, arithmetic, compare, own_name}
 use Rattle.and_model.specs.Trees.{QueryTree, query_agenda, blank, reduce}
 use Rattle.and_model.specs.Reductions.{Reduction}
 use Rattle.and_model.specs.Stands.{Branch}
@@ -15,10 +15,10 @@ abbrev pub v : ℕ → Term
 v k = variable [] k
 
 abbrev pub p : Term → Term
-p t = compound 27 (more t none)
+p t = compound (own_name 0) (more t none)
 
 abbrev pub q : Term → Term
-q t = compound 28 (more t none)
+q t = compound (own_name 1) (more t none)
 
 abbrev pub three : Term
 three = number (pos 3)

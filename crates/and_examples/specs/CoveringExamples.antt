@@ -1,11 +1,11 @@
 -- Covering forks, tried on p(1). p(2). ?- p(X).
 use Rattle.std.specs.Prelude.{ℕ, [], ◌∷◌, pos}
 use Rattle.and_model.specs.Terms.{Term, variable, number, compound, none, more}
-use Rattle.and_model.specs.Programs.{Program, Clause, call}
+use Rattle.and_model.specs.Programs.{Program, Clause, call, own_name}
 use Rattle.and_model.specs.declared.builtins.TheConstants.{TRUE}
 
 abbrev pub p : Term → Term
-p t = compound 27 (more t none)
+p t = compound (own_name 0) (more t none)
 
 abbrev pub fact : ℕ → Clause
 fact n = record { head = p (number (pos n)); body = []; variables = 0; written = []; line = 1 }

@@ -4,7 +4,7 @@ use Rattle.std.specs.Prelude.{ℕ, ◌++◌, List, [], ◌∷◌, refl, length, 
 use Rattle.and_model.specs.Terms.{Term, variable, compound, none, more}
 use Rattle.and_model.specs.Solutions.{Equation}
 use Rattle.and_model.specs.Arithmetic.{less, greater, at_least, differs}
-use Rattle.and_model.specs.Programs.{Program, Clause, Item, Arithmetic, call, equal, arithmetic, is, compare}
+use Rattle.and_model.specs.Programs.{Program, Clause, Item, Arithmetic, call, equal, arithmetic, is, compare, own_name}
 use Rattle.and_model.specs.Programs.{builtin_names, head_in}
 use Rattle.and_model.specs.Trees.{QueryTree, query_agenda, blank, reduce}
 use Rattle.and_examples.specs.Texts.{own, whole, p, asks}
@@ -19,7 +19,7 @@ inner k = variable (0 ∷ []) k
 
 -- ---- max(X,Y,X) :- X >= Y. max(X,Y,Y) :- X < Y. ?- max(3,5,M).
 abbrev pub greatest : Term → Term → Term → Term
-greatest a b c = compound 27 (more a (more b (more c none)))
+greatest a b c = compound (own_name 0) (more a (more b (more c none)))
 
 abbrev pub greatest_text : Program
 greatest_text = record {
@@ -71,7 +71,7 @@ all_kinds =
 
 -- ---- p(X) :- X > a. p(X) :- X =\= a. ?- p(5).
 abbrev pub atom : Term
-atom = compound 28 none
+atom = compound (own_name 1) none
 
 abbrev pub above_atom : Arithmetic
 above_atom = compare greater (own 0) atom

@@ -1,5 +1,6 @@
 -- What branches keep in their cells, tried on two small programs.
 use Rattle.std.specs.Prelude.{ℕ, false, pos, List, [], ◌∷◌}
+use Rattle.and_model.specs.Programs.{own_name}
 use Rattle.and_model.specs.Arithmetic.{less}
 use Rattle.and_model.specs.Trees.{QueryTree, query_agenda, blank}
 use Rattle.and_model.specs.Stands.{Framed}
@@ -29,9 +30,9 @@ of_query item = record { goal = item_of_query item; frame = [] }
 -- argument first.
 abbrev pub skeleton : Skeleton
 skeleton = record {
-  nodes = variable 0 ∷ compound 27 (0 ∷ []) ∷ variable 0 ∷ compound 28 (2 ∷ []) ∷ variable 0 ∷ number (pos 3)
-      ∷ number (pos 1) ∷ compound 28 (6 ∷ []) ∷ number (pos 2) ∷ compound 28 (8 ∷ [])
-      ∷ compound TRUE [] ∷ variable 0 ∷ compound 27 (11 ∷ []) ∷ [];
+  nodes = variable 0 ∷ compound (own_name 0) (0 ∷ []) ∷ variable 0 ∷ compound (own_name 1) (2 ∷ []) ∷ variable 0
+      ∷ number (pos 3) ∷ number (pos 1) ∷ compound (own_name 1) (6 ∷ []) ∷ number (pos 2) ∷ compound (own_name 1) (8 ∷ [])
+      ∷ compound TRUE [] ∷ variable 0 ∷ compound (own_name 0) (11 ∷ []) ∷ [];
   clauses = by_nodes 10 (call 12 ∷ []) ∷ by_nodes 1 (call 3 ∷ compare less 4 5 ∷ []) ∷ by_nodes 7 []
       ∷ by_nodes 9 [] ∷ [];
 }
@@ -78,9 +79,9 @@ view = record {
 -- ---- p(1). p(2). ?- Y is 1 + 2, p(X). The query's frame has cell 1 for Y, cell 2 for X, and the pair of the sum at 3.
 abbrev pub sum_skeleton : Skeleton
 sum_skeleton = record {
-  nodes = number (pos 1) ∷ compound 27 (0 ∷ []) ∷ number (pos 2) ∷ compound 27 (2 ∷ [])
+  nodes = number (pos 1) ∷ compound (own_name 0) (0 ∷ []) ∷ number (pos 2) ∷ compound (own_name 0) (2 ∷ [])
       ∷ compound TRUE [] ∷ variable 0 ∷ number (pos 1) ∷ number (pos 2) ∷ compound PLUS (6 ∷ 7 ∷ []) ∷ variable 1
-      ∷ compound 27 (9 ∷ []) ∷ [];
+      ∷ compound (own_name 0) (9 ∷ []) ∷ [];
   clauses = by_nodes 4 (is 5 8 0 ∷ call 10 ∷ []) ∷ by_nodes 1 [] ∷ by_nodes 3 [] ∷ [];
 }
 

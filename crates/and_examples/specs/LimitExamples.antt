@@ -2,20 +2,20 @@
 use Rattle.std.proofs.Common.{inl}
 use Rattle.std.specs.Prelude.{◌++◌, [], ◌∷◌, refl, codes}
 use Rattle.and_model.specs.Terms.{Term, compound, none, more}
-use Rattle.and_model.specs.Programs.{Program, call, builtin_names}
+use Rattle.and_model.specs.Programs.{Program, call, builtin_names, own_name}
 use Rattle.and_model.specs.Trees.{QueryTree, query_agenda, blank, reduce}
 use Rattle.and_examples.specs.ReachedExamples.{x, fact, asks}
 
 -- ---- nat-cut: nat(z). nat(s(N)) :- nat(N). ?- nat(X). With the limit 6, the tree of s(s(X)) weighs 6, and a clause
 -- more is too much.
 abbrev pub nat : Term → Term
-nat t = compound 27 (more t none)
+nat t = compound (own_name 0) (more t none)
 
 abbrev pub z : Term
-z = compound 28 none
+z = compound (own_name 1) none
 
 abbrev pub s : Term → Term
-s t = compound 29 (more t none)
+s t = compound (own_name 2) (more t none)
 
 abbrev pub naturals : Program
 naturals = record {

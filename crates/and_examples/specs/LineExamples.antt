@@ -1,7 +1,7 @@
 -- Trials of the definitions.
 use Rattle.std.specs.Prelude.{List, [], ◌∷◌, ◌++◌, length, codes, get_or}
 use Rattle.and_model.specs.Terms.{Term, variable, compound, none, more, Substitution}
-use Rattle.and_model.specs.Programs.{Program, builtin_names}
+use Rattle.and_model.specs.Programs.{Program, builtin_names, own_name}
 use Rattle.and_model.specs.Lines.{Bytes}
 use Rattle.and_model.specs.declared.builtins.TheConstants.{NIL, POINT, TRUE}
 
@@ -24,4 +24,4 @@ abbrev pub nil : Term
 nil = compound NIL none
 
 abbrev pub f_of : Term → Term → Term
-f_of t u = compound 27 (more t (more u none))
+f_of t u = compound (own_name 0) (more t (more u none))

@@ -2,7 +2,7 @@
 use Rattle.std.specs.Prelude.{ℕ, cond, List, [], ◌∷◌, pos, nat_eq}
 use Rattle.and_model.specs.Terms.{Term, variable, number, compound, none, more}
 use Rattle.and_model.specs.Arithmetic.{less}
-use Rattle.and_model.specs.Programs.{Program, Clause, Item, call, arithmetic, is, compare}
+use Rattle.and_model.specs.Programs.{Program, Clause, Item, call, arithmetic, is, compare, own_name}
 use Rattle.and_model.specs.declared.builtins.TheConstants.{PLUS, TRUE}
 use Rattle.and_modes.specs.Modes.{Assignment, Environment, Wait}
 use Rattle.and_modes.specs.declared.level.Level.{Level}
@@ -17,7 +17,7 @@ one = number (pos 1)
 
 -- the first name after those that every program has
 abbrev pub inc : Term → Term → Term
-inc a b = compound 27 (more a (more b none))
+inc a b = compound (own_name 0) (more a (more b none))
 
 abbrev pub next : Term → Term
 next a = compound PLUS (more a (more one none))
@@ -67,13 +67,13 @@ x_in_body = record { clause = 1; item = 0; variable = 0 }
 abbrev pub one_line : Program
 one_line = record {
   clauses = record {
-    head = compound 27 (more (v 0) none);
+    head = compound (own_name 0) (more (v 0) none);
     body = arithmetic (compare less (v 0) one) ∷ [];
     variables = 1;
     written = [];
     line = 1;
   } ∷ [];
-  query = asked (arithmetic (is (v 0) (v 1)) ∷ call (compound 27 (more (v 2) none)) ∷ []);
+  query = asked (arithmetic (is (v 0) (v 1)) ∷ call (compound (own_name 0) (more (v 2) none)) ∷ []);
   names = [];
 }
 
@@ -83,4 +83,4 @@ first_has l k = cond (nat_eq k 0) l Any
 
 -- a structure
 abbrev pub pair : Term → Term → Term
-pair a b = compound 28 (more a (more b none))
+pair a b = compound (own_name 1) (more a (more b none))

@@ -1,7 +1,7 @@
 -- Trials of the numbers of forks and failures. Expected values are worked out by hand.
 use Rattle.std.specs.Prelude.{ℕ, ◌++◌, [], ◌∷◌, pos, codes}
 use Rattle.and_model.specs.Terms.{Term, variable, number, compound, none, more}
-use Rattle.and_model.specs.Programs.{Program, call, builtin_names}
+use Rattle.and_model.specs.Programs.{Program, call, builtin_names, own_name}
 use Rattle.and_model.specs.Trees.{QueryTree, query_agenda, blank}
 use Rattle.and_model.specs.declared.builtins.TheConstants.{NIL, POINT}
 use Rattle.and_examples.specs.ReachedExamples.{p, q, x, y, one, two, fact, asks}
@@ -25,7 +25,7 @@ abbrev pub cell : Term → Term → Term
 cell h t = compound POINT (more h (more t none))
 
 abbrev pub app : Term → Term → Term → Term
-app a b c = compound 27 (more a (more b (more c none)))
+app a b c = compound (own_name 0) (more a (more b (more c none)))
 
 abbrev pub own : ℕ → Term
 own k = variable [] k

@@ -2,17 +2,17 @@
 use Rattle.std.proofs.Common.{inl, inr}
 use Rattle.std.specs.Prelude.{ℕ, ◌++◌, List, [], ◌∷◌, refl, pos, codes, length}
 use Rattle.and_model.specs.Terms.{Term, variable, number, compound, none, more}
-use Rattle.and_model.specs.Programs.{Program, Clause, Item, call, builtin_names}
+use Rattle.and_model.specs.Programs.{Program, Clause, Item, call, builtin_names, own_name}
 use Rattle.and_model.specs.Trees.{QueryTree, query_agenda, blank, reduce}
 use Rattle.and_model.specs.Reductions.{Reduction}
 use Rattle.and_model.specs.declared.builtins.TheConstants.{TRUE}
 
 -- Two names follow the ones that every program has, and X, Y are the query's variables.
 abbrev pub p : Term → Term
-p t = compound 27 (more t none)
+p t = compound (own_name 0) (more t none)
 
 abbrev pub q : Term → Term
-q t = compound 28 (more t none)
+q t = compound (own_name 1) (more t none)
 
 abbrev pub x : Term
 x = variable [] 0

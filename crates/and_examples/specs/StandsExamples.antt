@@ -2,18 +2,18 @@
 use Rattle.std.proofs.Common.{zero}
 use Rattle.std.specs.Prelude.{ℕ, suc, false, [], ◌∷◌}
 use Rattle.and_model.specs.Terms.{Term, variable, compound, none, more}
-use Rattle.and_model.specs.Programs.{Program, call, equal}
+use Rattle.and_model.specs.Programs.{Program, call, equal, own_name}
 use Rattle.and_model.specs.Stands.{Branch}
 use Rattle.and_model.specs.declared.builtins.TheConstants.{TRUE}
 
 abbrev pub a : Term
-a = compound 27 none
+a = compound (own_name 0) none
 
 abbrev pub b : Term
-b = compound 28 none
+b = compound (own_name 1) none
 
 abbrev pub p : Term → Term → Term
-p t u = compound 29 (more t (more u none))
+p t u = compound (own_name 2) (more t (more u none))
 
 abbrev pub v : ℕ → Term
 v k = variable [] k

@@ -1,16 +1,17 @@
 -- Terms and substitutions, tried on small terms.
 use Rattle.std.proofs.Common.{zero}
 use Rattle.std.specs.Prelude.{suc, List, [], ◌∷◌}
+use Rattle.and_model.specs.Programs.{own_name}
 use Rattle.and_model.specs.Terms.{Term, variable, compound, none, Substitution}
 use Rattle.and_model.specs.Solutions.{Equation}
 use Rattle.and_examples.specs.Texts.{own, unary}
 
 -- each variable becomes f of itself
 abbrev pub wrapped : Substitution
-wrapped q k = unary 27 (variable q k)
+wrapped q k = unary (own_name 0) (variable q k)
 
 abbrev pub f_of_atom : Term
-f_of_atom = unary 27 (compound 28 none)
+f_of_atom = unary (own_name 0) (compound (own_name 1) none)
 
 -- X = Y
 abbrev pub alike : List Equation

@@ -2,7 +2,7 @@
 use Rattle.std.specs.Prelude.{ℕ, ◌-◌, ◌^◌, pos, negsuc, List, [], ◌∷◌, ◌++◌, length, codes}
 use Rattle.and_model.specs.Terms.{Path, Term, variable, number, compound, none, more}
 use Rattle.and_model.specs.Arithmetic.{less}
-use Rattle.and_model.specs.Programs.{Program, Clause, Item, call, equal, arithmetic, Arithmetic, is, compare}
+use Rattle.and_model.specs.Programs.{Program, Clause, Item, call, equal, arithmetic, Arithmetic, is, compare, own_name}
 use Rattle.and_model.specs.Programs.{builtin_names}
 use Rattle.and_model.specs.declared.builtins.TheConstants.{DIVIDE, MODULO, PLUS, TRUE}
 
@@ -42,13 +42,13 @@ query_of items names = record { clauses = []; query = asks items names; names = 
 
 -- ---- append-cells: app(nil,L,L). app(c(H,T),L,c(H,R)) :- app(T,L,R). ?- app(X,Y,c(1,nil)).
 abbrev pub app : Term → Term → Term → Term
-app a b c = compound 27 (more a (more b (more c none)))
+app a b c = compound (own_name 0) (more a (more b (more c none)))
 
 abbrev pub nil : Term
-nil = compound 28 none
+nil = compound (own_name 1) none
 
 abbrev pub cell : Term → Term → Term
-cell h t = binary 29 h t
+cell h t = binary (own_name 2) h t
 
 abbrev pub append_text : Program
 append_text = record {
@@ -66,10 +66,10 @@ append_text = record {
 
 -- ---- two-forks: p(1). p(2). q(3). q(4). ?- p(X), q(Y).
 abbrev pub p : Term → Term
-p t = unary 27 t
+p t = unary (own_name 0) t
 
 abbrev pub q : Term → Term
-q t = unary 28 t
+q t = unary (own_name 1) t
 
 abbrev pub forks_text : Program
 forks_text = record {
@@ -100,14 +100,14 @@ not_below = query_of (equal (own 0) (whole 3) ∷ arithmetic x_below_3 ∷ []) (
 abbrev pub circle : Program
 circle = record {
   clauses = [];
-  query = asks (equal (own 0) (unary 27 (own 0)) ∷ []) (codes "X" ∷ []);
+  query = asks (equal (own 0) (unary (own_name 0) (own 0)) ∷ []) (codes "X" ∷ []);
   names = builtin_names ++ codes "f" ∷ [];
 }
 
 -- ---- equal-answers: p(a). p(a). ?- p(X).
 abbrev pub equal_text : Program
 equal_text = record {
-  clauses = fact (p (compound 28 none)) ∷ fact (p (compound 28 none)) ∷ [];
+  clauses = fact (p (compound (own_name 1) none)) ∷ fact (p (compound (own_name 1) none)) ∷ [];
   query = asks (call (p (own 0)) ∷ []) (codes "X" ∷ []);
   names = builtin_names ++ codes "p" ∷ codes "a" ∷ [];
 }
@@ -131,13 +131,13 @@ quotients = query_of (arithmetic x_is_quotient ∷ arithmetic y_is_modulus ∷ [
 
 -- ---- nat-cut: nat(z). nat(s(N)) :- nat(N). ?- nat(X).
 abbrev pub nat : Term → Term
-nat t = unary 27 t
+nat t = unary (own_name 0) t
 
 abbrev pub zed : Term
-zed = compound 28 none
+zed = compound (own_name 1) none
 
 abbrev pub successor : Term → Term
-successor t = unary 29 t
+successor t = unary (own_name 2) t
 
 abbrev pub naturals : Program
 naturals = record {
@@ -154,7 +154,7 @@ naturals = record {
 
 -- ---- endless-loop: loop(X) :- loop(X). ?- loop(a).
 abbrev pub loop : Term → Term
-loop t = unary 27 t
+loop t = unary (own_name 0) t
 
 abbrev pub endless_text : Program
 endless_text = record {
@@ -165,7 +165,7 @@ endless_text = record {
     written = codes "X" ∷ [];
     line = 1;
   } ∷ [];
-  query = asks (call (loop (compound 28 none)) ∷ []) [];
+  query = asks (call (loop (compound (own_name 1) none)) ∷ []) [];
   names = builtin_names ++ codes "loop" ∷ codes "a" ∷ [];
 }
 

@@ -1,5 +1,6 @@
 -- Branches as they are read in their cells, tried on two small programs.
 use Rattle.std.specs.Prelude.{ℕ, Bool, false, pos, List, [], ◌∷◌}
+use Rattle.and_model.specs.Programs.{own_name}
 use Rattle.and_model.specs.declared.builtins.TheConstants.{TRUE}
 use Rattle.and_model.specs.declared.goal.Goal.{Goal}
 use Rattle.and_model.specs.declared.reference.Ref.{Ref}
@@ -14,9 +15,10 @@ use Rattle.and_examples.specs.NumbersExamples.{fails}
 -- ---- p(1). p(2). q(2). q(3). ?- p(X), q(X).
 abbrev pub fails_skeleton : Skeleton
 fails_skeleton = record {
-  nodes = number (pos 1) ∷ compound 27 (0 ∷ []) ∷ number (pos 2) ∷ compound 27 (2 ∷ [])
-      ∷ number (pos 2) ∷ compound 28 (4 ∷ []) ∷ number (pos 3) ∷ compound 28 (6 ∷ [])
-      ∷ compound TRUE [] ∷ variable 0 ∷ compound 27 (9 ∷ []) ∷ variable 0 ∷ compound 28 (11 ∷ []) ∷ [];
+  nodes = number (pos 1) ∷ compound (own_name 0) (0 ∷ []) ∷ number (pos 2) ∷ compound (own_name 0) (2 ∷ [])
+      ∷ number (pos 2) ∷ compound (own_name 1) (4 ∷ []) ∷ number (pos 3) ∷ compound (own_name 1) (6 ∷ [])
+      ∷ compound TRUE [] ∷ variable 0 ∷ compound (own_name 0) (9 ∷ []) ∷ variable 0
+      ∷ compound (own_name 1) (11 ∷ []) ∷ [];
   clauses = by_nodes 8 (call 10 ∷ call 12 ∷ []) ∷ by_nodes 1 [] ∷ by_nodes 3 [] ∷ by_nodes 5 [] ∷ by_nodes 7 [] ∷ [];
 }
 

@@ -29,7 +29,7 @@ ghost use Rattle.std.specs.Prelude.{None, codes};
 ghost use Rattle.and_model.specs.Terms.{Path, Term, variable, number, compound, none};
 ghost use Rattle.and_model.specs.Solutions.{Equation, Solvable, falsehood};
 ghost use Rattle.and_model.specs.Arithmetic.{value};
-ghost use Rattle.and_model.specs.Programs.{Program, Arithmetic, clause_at, clause_weight};
+ghost use Rattle.and_model.specs.Programs.{Program, Arithmetic, clause_at, clause_weight, own_name};
 ghost use Rattle.and_model.specs.Closure.{Closes};
 ghost use Rattle.and_model.specs.Candidates.{Candidate};
 ghost use Rattle.and_model.specs.Trees.{QueryTree, Open, call_of, unfold_code, weight};
@@ -142,7 +142,7 @@ pub fn late_comparison()
 
 /// Example occurs-check: `?- X = f(X).` Terms are finite, and so nothing solves the equation.
 pub fn occurs_check()
-    ensures unsolved { Solvable ((own 0, unary 27 (own 0)) ∷ []) → ⊥ }
+    ensures unsolved { Solvable ((own 0, unary (own_name 0) (own 0)) ∷ []) → ⊥ }
     ensures no_end { (o : Outcome) → CodeEnds circle [] o → ⊥ }
     ensures listing { (limit : ℕ) → Listing circle limit [] }
 {}
@@ -198,10 +198,10 @@ pub fn values_of_terms()
         × (value (binary REMAINDER (whole 1) (whole 0)) ≡ None) }
     ensures too_wide { (value (binary PLUS (whole (2 ^ 63 - 1)) (whole 1)) ≡ None)
         × (value (binary MINUS (binary PLUS (whole (2 ^ 63 - 1)) (whole 1)) (whole 1)) ≡ None) }
-    ensures no_value { (value (own 0) ≡ None) × (value (compound 27 none) ≡ None)
+    ensures no_value { (value (own 0) ≡ None) × (value (compound (own_name 0) none) ≡ None)
         × (value (binary PLUS (whole 1) (own 0)) ≡ None)
-        × (value (binary PLUS (whole 1) (compound 27 none)) ≡ None)
-        × (value (binary 27 (whole 1) (whole 2)) ≡ None) × (value (unary PLUS (whole 1)) ≡ None) }
+        × (value (binary PLUS (whole 1) (compound (own_name 0) none)) ≡ None)
+        × (value (binary (own_name 0) (whole 1) (whole 2)) ≡ None) × (value (unary PLUS (whole 1)) ≡ None) }
 {}
 
 /// Example nat-cut: `nat(z). nat(s(N)) :- nat(N). ?- nat(X).` The query weighs 2, the first clause 1 and

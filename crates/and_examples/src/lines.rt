@@ -1,9 +1,9 @@
 //! What is written of answers and of names.
 
-ghost use Rattle.std.specs.Prelude.{◌≡◌, [], ◌∷◌, pos, negsuc, codes, length, get_or};
+ghost use Rattle.std.specs.Prelude.{◌≡◌, [], ◌∷◌, pos, negsuc, codes, ◌++◌, get_or};
 ghost use Rattle.and_model.specs.Terms.{variable, number, compound, none, more};
 ghost use Rattle.and_model.specs.Arithmetic.{less};
-ghost use Rattle.and_model.specs.Programs.{is, compare, builtin_names};
+ghost use Rattle.and_model.specs.Programs.{is, compare, builtin_names, own_name};
 ghost use Rattle.and_model.specs.Lines.{line, shown_name};
 ghost use Rattle.and_model.specs.declared.builtins.TheConstants.{DIFFERS, MINUS, PLUS, POINT};
 ghost use Rattle.and_examples.specs.LineExamples.{asking, giving, cell_of, nil, f_of};
@@ -20,12 +20,12 @@ pub fn answers_on_one_line()
         (giving (cell_of (number (pos 1)) (cell_of (number (pos 2)) (variable [] 1)) ∷ variable [] 1 ∷ [])) []
         ≡ codes "X = [1,2|_0], T = _0" }
     ensures lists_within { line (asking (codes "X" ∷ codes "Y" ∷ []))
-        (giving (cell_of nil (cell_of (cell_of (compound 28 none) nil) nil)
+        (giving (cell_of nil (cell_of (cell_of (compound (own_name 1) none) nil) nil)
         ∷ compound POINT (more nil (more nil (more nil none))) ∷ [])) []
         ≡ codes "X = [[],[a]], Y = '.'([],[],[])" }
     ensures other_tails { line (asking (codes "X" ∷ codes "Y" ∷ []))
         (giving (cell_of (number (pos 1)) (number (negsuc 2))
-        ∷ cell_of (compound 28 none) (compound 29 (more nil none)) ∷ [])) []
+        ∷ cell_of (compound (own_name 1) none) (compound (own_name 2) (more nil none)) ∷ [])) []
         ≡ codes "X = [1|-3], Y = [a|'it\\'s'([])]" }
     ensures minuses { line (asking (codes "X" ∷ codes "Y" ∷ codes "Z" ∷ []))
         (giving (compound MINUS (more (number (pos 1)) none) ∷ number (negsuc 0)
@@ -62,9 +62,9 @@ pub fn names_as_written()
     ensures escapes { shown_name (97 ∷ 92 ∷ 10 ∷ []) ≡ codes "'a\\\\\\n'" }
 {}
 
-/// Every table of names begins with the same 27.
+/// Every table of names begins with the same ones, and a program's own stand behind them.
 pub fn names_of_every_table()
-    ensures names { length builtin_names ≡ 27 }
+    ensures own_names { get_or (builtin_names ++ codes "p" ∷ codes "q" ∷ []) (own_name 1) [] ≡ codes "q" }
     ensures name_differs { get_or builtin_names DIFFERS [] ≡ codes "=\\=" }
     ensures ends { last_lines limit_met ≡ 37 ∷ 32 ∷ 108 ∷ 105 ∷ 109 ∷ 105 ∷ 116 ∷ 32 ∷ 109 ∷ 101 ∷ 116 ∷ 10 ∷ [] }
 {}

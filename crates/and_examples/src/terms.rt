@@ -1,6 +1,7 @@
 //! Terms and substitutions.
 
 ghost use Rattle.std.specs.Prelude.{◌≡◌, true, false, None};
+ghost use Rattle.and_model.specs.Programs.{own_name};
 ghost use Rattle.and_model.specs.Terms.{is_ground, apply};
 ghost use Rattle.and_model.specs.Solutions.{Solves, MostGeneral};
 ghost use Rattle.and_model.specs.Arithmetic.{value};
@@ -11,8 +12,9 @@ ghost use Rattle.and_examples.specs.TermExamples.{wrapped, f_of_atom, alike, to_
 /// A substitution is not applied again to what it put in: where each variable becomes f of itself, f(X) becomes
 /// f(f(X)). A term may be ground, as f(a), and have no value.
 pub fn terms_once_replaced()
-    ensures once { apply wrapped (unary 27 (own 0)) ≡ unary 27 (unary 27 (own 0)) }
-    ensures ground { (is_ground f_of_atom ≡ true) × (value f_of_atom ≡ None) × (is_ground (unary 27 (own 0)) ≡ false) }
+    ensures once { apply wrapped (unary (own_name 0) (own 0)) ≡ unary (own_name 0) (unary (own_name 0) (own 0)) }
+    ensures ground { (is_ground f_of_atom ≡ true) × (value f_of_atom ≡ None)
+        × (is_ground (unary (own_name 0) (own 0)) ≡ false) }
 {}
 
 /// Of X = Y the substitution of Y for X is a most general solution. One that puts Z for both, and Y for Z, solves

@@ -5,7 +5,7 @@ use Rattle.std.specs.List.{list_any}
 use Rattle.std.proofs.lemmas.List.Folds.{list_any-append}
 use Rattle.and_model.specs.Lines.{Bytes}
 use Rattle.and_model.specs.Terms.{Term, compound, none, more, variable, number}
-use Rattle.and_model.specs.Programs.{Clause, builtin_names, same_predicate}
+use Rattle.and_model.specs.Programs.{Clause, builtin_names, same_predicate, own_name}
 use Rattle.and_source.specs.Source.{SourceClause, no_items, calls_in_items}
 use Rattle.and_source.specs.Lifted.{clauses_of, clauses_of_items}
 use Rattle.and_language.specs.Tokens.{line_at}
@@ -36,10 +36,10 @@ table ns ks m c =
 
 -- the calls of the second clause about paths
 abbrev edge_call : Term
-edge_call = compound 27 (more (variable [] 0) (more (variable [] 3) none))
+edge_call = compound (own_name 0) (more (variable [] 0) (more (variable [] 3) none))
 
 abbrev path_call : Term
-path_call = compound 29 (more (variable [] 3) (more (variable [] 1) (more (variable [] 2) none)))
+path_call = compound (own_name 2) (more (variable [] 3) (more (variable [] 1) (more (variable [] 2) none)))
 
 -- the clauses are facts
 abbrev AreFacts : List SourceClause → Type 0
@@ -156,10 +156,10 @@ module _ (bytes : Bytes) where
     both = front ++ second ∷ []
 
     abbrev place_at : ℕ → ℕ → Term
-    place_at rail k = compound 28 (more (number (pos rail)) (more (number (pos k)) none))
+    place_at rail k = compound (own_name 1) (more (number (pos rail)) (more (number (pos k)) none))
 
     abbrev asked_call : Term
-    asked_call = compound 29 (more (place_at 0 0) (more (place_at 2 n) (more (variable [] 0) none)))
+    asked_call = compound (own_name 2) (more (place_at 0 0) (more (place_at 2 n) (more (variable [] 0) none)))
 
     abbrev asked : SourceClause
     asked = next_query (table all_names both (m + 6 + 15) (c + 1 + 1)) (line_term (asks n)) (line_at bytes r)

@@ -1,6 +1,7 @@
 -- p(X) :- ((q(X) ; r) ; X = Y). ?- (p(Z) ; true). q(1).
 use Rattle.std.proofs.Common.{ℕ, zero, suc, ◌≡◌, List, [], ◌∷◌, refl, codes}
 use Rattle.std.specs.Fmt.{digits}
+use Rattle.and_model.specs.Programs.{own_name}
 use Rattle.and_model.specs.Terms.{Path, Term, variable, compound, none, more, Substitution, apply}
 use Rattle.and_model.specs.Solutions.{Equation, Solves, MostGeneral}
 use Rattle.and_model.specs.Closure.{Closes}
@@ -17,7 +18,8 @@ abbrev proof : List ℕ
 proof = 6 ∷ 1 ∷ 2 ∷ 3 ∷ 8 ∷ []
 
 abbrev taken : List Equation
-taken = (compound 28 (more inner none), compound 28 (more (whole 1) none)) ∷ (compound 27 (more (own 0) none), compound 27 (more inner none)) ∷ []
+taken = (compound (own_name 1) (more inner none), compound (own_name 1) (more (whole 1) none))
+    ∷ (compound (own_name 0) (more (own 0) none), compound (own_name 0) (more inner none)) ∷ []
 
 abbrev both_one : Substitution
 both_one [] zero = whole 1

@@ -2,7 +2,7 @@
 use Rattle.std.specs.Prelude.{ℕ, pos, ◌≡◌, List, [], ◌∷◌, ◌++◌, length, codes, Some}
 use Rattle.and_model.specs.Terms.{Term, variable, number, compound, none, more}
 use Rattle.and_model.specs.Arithmetic.{less, at_least}
-use Rattle.and_model.specs.Programs.{Item, call, equal, arithmetic, compare, Clause, builtin_names}
+use Rattle.and_model.specs.Programs.{Item, call, equal, arithmetic, compare, Clause, builtin_names, own_name}
 use Rattle.and_model.specs.Listing.{Outcome, Entry}
 use Rattle.and_model.specs.declared.builtins.TheConstants.{TRUE}
 use Rattle.and_source.specs.Source.{SourceItems, no_items, plain, either, Alternatives, no_alternatives, alternative}
@@ -47,7 +47,8 @@ equates c a b others = alternative c (plain (equal a b) no_items) others
 abbrev pub answers_text : SourceProgram
 answers_text = record {
   earlier = [];
-  query = asks (either 27 (equates 1 (own 0) (whole 1) (equates 2 (own 0) (whole 2) no_alternatives)) no_items)
+  query = asks
+      (either (own_name 0) (equates 1 (own 0) (whole 1) (equates 2 (own 0) (whole 2) no_alternatives)) no_items)
       (codes "X" ∷ []);
   later = [];
   names = builtin_names ++ lifted_name (codes "0") ∷ [];
@@ -55,14 +56,14 @@ answers_text = record {
 
 -- ---- either-guards: m(X,Y,M) :- ( X >= Y, M = X ; X < Y, M = Y ). ?- m(3,5,M).
 abbrev pub largest : Term → Term → Term → Term
-largest a b c = compound 27 (more a (more b (more c none)))
+largest a b c = compound (own_name 0) (more a (more b (more c none)))
 
 abbrev pub guards_text : SourceProgram
 guards_text = record {
   earlier = record {
     number = 1;
     head = largest (own 0) (own 1) (own 2);
-    body = either 28
+    body = either (own_name 1)
         (alternative 2 (plain (arithmetic (compare at_least (own 0) (own 1))) (plain (equal (own 2) (own 0)) no_items))
         (alternative 3 (plain (arithmetic (compare less (own 0) (own 1)))
         (plain (equal (own 2) (own 1)) no_items)) no_alternatives)) no_items;
@@ -80,8 +81,8 @@ abbrev pub forks_text : SourceProgram
 forks_text = record {
   earlier = [];
   query = asks
-      (either 27 (equates 1 (own 0) (whole 1) (equates 2 (own 0) (whole 2) no_alternatives))
-      (either 28 (equates 3 (own 1) (whole 3) (equates 4 (own 1) (own 0) no_alternatives)) no_items))
+      (either (own_name 0) (equates 1 (own 0) (whole 1) (equates 2 (own 0) (whole 2) no_alternatives))
+      (either (own_name 1) (equates 3 (own 1) (whole 3) (equates 4 (own 1) (own 0) no_alternatives)) no_items))
       (codes "X" ∷ codes "Y" ∷ []);
   later = [];
   names = builtin_names ++ lifted_name (codes "0") ∷ lifted_name (codes "1") ∷ [];
@@ -93,21 +94,21 @@ abbrev pub nested_text : SourceProgram
 nested_text = record {
   earlier = record {
     number = 1;
-    head = compound 27 (more (own 0) none);
-    body = either 30
+    head = compound (own_name 0) (more (own 0) none);
+    body = either (own_name 3)
         (alternative 2
-        (either 31
-        (alternative 3 (plain (call (compound 28 (more (own 0) none))) no_items)
-        (alternative 4 (plain (call (atom 29)) no_items) no_alternatives)) no_items)
+        (either (own_name 4)
+        (alternative 3 (plain (call (compound (own_name 1) (more (own 0) none))) no_items)
+        (alternative 4 (plain (call (atom (own_name 2))) no_items) no_alternatives)) no_items)
         (alternative 5 (plain (equal (own 0) (own 1)) no_items) no_alternatives)) no_items;
     variables = 2;
     written = codes "X" ∷ codes "Y" ∷ [];
     line = 1;
   } ∷ [];
-  query = asks (either 32
-      (alternative 6 (plain (call (compound 27 (more (own 0) none))) no_items)
+  query = asks (either (own_name 5)
+      (alternative 6 (plain (call (compound (own_name 0) (more (own 0) none))) no_items)
       (alternative 7 no_items no_alternatives)) no_items) (codes "Z" ∷ []);
-  later = fact 8 (compound 28 (more (whole 1) none)) ∷ [];
+  later = fact 8 (compound (own_name 1) (more (whole 1) none)) ∷ [];
   names = builtin_names ++ codes "p" ∷ codes "q" ∷ codes "r"
       ∷ lifted_name (codes "0") ∷ lifted_name (codes "1") ∷ lifted_name (codes "2") ∷ [];
 }

@@ -2,7 +2,7 @@
 
 ghost use Rattle.std.specs.Prelude.{ℕ, ◌≡◌, ◌≤◌, List, [], ◌∷◌, ◌++◌, Some, None, codes};
 ghost use Rattle.and_model.specs.Terms.{none, more, compound};
-ghost use Rattle.and_model.specs.Programs.{clause_weight, call, equal, clause_at};
+ghost use Rattle.and_model.specs.Programs.{clause_weight, call, equal, clause_at, own_name};
 ghost use Rattle.and_model.specs.Listing.{answer};
 ghost use Rattle.and_source.specs.Source.{IsNumbered, source_weight, numbers_in};
 ghost use Rattle.and_source.specs.Unfolding.{source_unfold};
@@ -17,8 +17,8 @@ pub fn either_answers()
     ensures weights { (source_weight answers_text.query ≡ 2)
         × (clause_weight (clause_at (lift answers_text) 1) ≡ 2) }
     ensures lifted { (lift answers_text).clauses
-        ≡ lifted_rule (compound 27 (more (own 0) none)) (equal (own 0) (whole 1) ∷ []) (codes "X" ∷ [])
-        ∷ lifted_rule (compound 27 (more (own 0) none)) (equal (own 0) (whole 2) ∷ []) (codes "X" ∷ []) ∷ [] }
+        ≡ lifted_rule (compound (own_name 0) (more (own 0) none)) (equal (own 0) (whole 1) ∷ []) (codes "X" ∷ [])
+        ∷ lifted_rule (compound (own_name 0) (more (own 0) none)) (equal (own 0) (whole 2) ∷ []) (codes "X" ∷ []) ∷ [] }
     ensures no_unfolding { (source_unfold answers_text (3 ∷ []) ≡ None)
         × (source_unfold answers_text (1 ∷ 1 ∷ []) ≡ None) }
     ensures listing { (limit : ℕ) → 4 ≤ limit → SourceListing answers_text limit
@@ -40,9 +40,10 @@ pub fn either_guards()
 pub fn either_forks()
     ensures numbered { IsNumbered forks_text }
     ensures lifted { (lift forks_text).query.body
-        ≡ call (compound 27 (more (own 0) none)) ∷ call (compound 28 (more (own 1) (more (own 0) none))) ∷ [] }
+        ≡ call (compound (own_name 0) (more (own 0) none))
+        ∷ call (compound (own_name 1) (more (own 1) (more (own 0) none))) ∷ [] }
     ensures last_clause { clause_at (lift forks_text) 4
-        ≡ lifted_rule (compound 28 (more (own 0) (more (own 1) none))) (equal (own 0) (own 1) ∷ [])
+        ≡ lifted_rule (compound (own_name 1) (more (own 0) (more (own 1) none))) (equal (own 0) (own 1) ∷ [])
         (codes "Y" ∷ codes "X" ∷ []) }
     ensures listing { (limit : ℕ) → 8 ≤ limit → SourceListing forks_text limit
         (entry (1 ∷ 3 ∷ []) (answer (codes "X = 1, Y = 3"))
@@ -58,12 +59,13 @@ pub fn nested_disjunctions()
     ensures numbers { numbers_in nested_text ≡ 1 ∷ 2 ∷ 3 ∷ 4 ∷ 5 ∷ 6 ∷ 7 ∷ 8 ∷ [] }
     ensures numbered { IsNumbered nested_text }
     ensures outer { clause_at (lift nested_text) 2
-        ≡ lifted_rule (compound 30 (more (own 0) (more (own 1) none)))
-        (call (compound 31 (more (own 0) none)) ∷ []) (codes "X" ∷ codes "Y" ∷ []) }
+        ≡ lifted_rule (compound (own_name 3) (more (own 0) (more (own 1) none)))
+        (call (compound (own_name 4) (more (own 0) none)) ∷ []) (codes "X" ∷ codes "Y" ∷ []) }
     ensures inner { (clause_at (lift nested_text) 4
-        ≡ lifted_rule (compound 31 (more (own 0) none)) (call (atom 29) ∷ []) (codes "X" ∷ []))
-        × (clause_at (lift nested_text) 7 ≡ lifted_rule (compound 32 (more (own 0) none)) [] (codes "Z" ∷ [])) }
-    ensures last { clause_at (lift nested_text) 8 ≡ lifted_rule (compound 28 (more (whole 1) none)) [] [] }
+        ≡ lifted_rule (compound (own_name 4) (more (own 0) none)) (call (atom (own_name 2)) ∷ []) (codes "X" ∷ []))
+        × (clause_at (lift nested_text) 7
+        ≡ lifted_rule (compound (own_name 5) (more (own 0) none)) [] (codes "Z" ∷ [])) }
+    ensures last { clause_at (lift nested_text) 8 ≡ lifted_rule (compound (own_name 1) (more (whole 1) none)) [] [] }
     ensures ends { SourceCodeEnds nested_text (6 ∷ 1 ∷ 2 ∷ 3 ∷ 8 ∷ []) (answer (codes "Z = 1")) }
     ensures no_clause_of_another { source_unfold nested_text (6 ∷ 1 ∷ 3 ∷ []) ≡ None }
 {}

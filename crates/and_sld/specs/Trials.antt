@@ -1,18 +1,18 @@
 -- Small programs. Expected values are worked out by hand.
 use Rattle.std.specs.Prelude.{[], ◌∷◌, ◌++◌, codes, pos}
 use Rattle.and_model.specs.Terms.{Term, variable, number, compound, none, more}
-use Rattle.and_model.specs.Programs.{Program, call, equal, arithmetic, is, builtin_names}
+use Rattle.and_model.specs.Programs.{Program, call, equal, arithmetic, is, builtin_names, own_name}
 use Rattle.and_model.specs.declared.builtins.TheConstants.{TRUE, POINT, NIL}
 
--- the names 27 and 28, which follow those that every program has
+-- the first names of its own, which follow those that every program has
 abbrev pub p : Term
-p = compound 27 none
+p = compound (own_name 0) none
 
 abbrev pub p_of : Term → Term
-p_of t = compound 27 (more t none)
+p_of t = compound (own_name 0) (more t none)
 
 abbrev pub f_of : Term → Term
-f_of t = compound 28 (more t none)
+f_of t = compound (own_name 1) (more t none)
 
 -- ---- p(f(X)). ?- p(X).
 abbrev pub renames : Program
@@ -53,7 +53,7 @@ calls_variable = record {
 abbrev pub merges : Program
 merges = record {
   clauses = record {
-    head = compound 27 (more (variable (0 ∷ []) 0) (more (variable (1 ∷ []) 0) none));
+    head = compound (own_name 0) (more (variable (0 ∷ []) 0) (more (variable (1 ∷ []) 0) none));
     body = [];
     variables = 2;
     written = [];
@@ -100,7 +100,7 @@ abbrev pub cell : Term → Term → Term
 cell h t = compound POINT (more h (more t none))
 
 abbrev pub app : Term → Term → Term → Term
-app a b c = compound 27 (more a (more b (more c none)))
+app a b c = compound (own_name 0) (more a (more b (more c none)))
 
 abbrev pub append : Program
 append = record {

@@ -7,7 +7,7 @@
 ghost use Rattle.std.specs.Prelude.{ℕ, ◌≡◌, ◌≤◌, ◌↔◌, List, [], ◌∷◌, ◌++◌, Some, None, Contains, length, map, pos};
 ghost use Rattle.and_model.specs.Terms.{Path, Term, Substitution, variable, number, compound, none, more, apply};
 ghost use Rattle.and_model.specs.Solutions.{Equation, MostGeneral};
-ghost use Rattle.and_model.specs.Programs.{Program, Arithmetic, is, clause_at, head_in};
+ghost use Rattle.and_model.specs.Programs.{Program, Arithmetic, is, clause_at, head_in, own_name};
 ghost use Rattle.and_model.specs.OwnVariables.{HasOwnVariables, terms_of_clause};
 ghost use Rattle.and_model.specs.Simple.{IsSimple};
 ghost use Rattle.and_model.specs.Trees.{QueryTree, HasOutcome, Closed, unfold_code};
@@ -108,7 +108,7 @@ pub fn variables_are_not_called()
 /// it is a variant of the clause only where the clause's variables are its own.
 pub fn frames_merge_paths()
     ensures { head_in merges (5 ∷ []) 1
-        ≡ compound 27 (more (variable (5 ∷ []) 0) (more (variable (5 ∷ []) 0) none)) }
+        ≡ compound (own_name 0) (more (variable (5 ∷ []) 0) (more (variable (5 ∷ []) 0) none)) }
 {}
 
 /// Arithmetic is passed over until it can be selected: of `?- X is Y, Y = 2.` there is an answer.

@@ -1,8 +1,8 @@
 use Rattle.and_examples.proofs.LineExamples
 use Rattle.and_examples.proofs.lines.names_of_every_table.Goals as goal
 
-pub returns-clause-names : goal.returns-clause-names
-returns-clause-names c = LineExamples.names
+pub returns-clause-own_names : goal.returns-clause-names
+returns-clause-own_names c = LineExamples.own_names
 
 pub returns-clause-name_differs : goal.returns-clause-name_differs
 returns-clause-name_differs c = LineExamples.name_differs
