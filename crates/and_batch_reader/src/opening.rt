@@ -1,8 +1,8 @@
 //! What is done with a text of several queries before any is answered.
 
 ghost use Rattle.std.specs.Prelude.{◌≡◌, ◌≤◌, ◌<◌, length, IfOk, IfSome};
-ghost use Rattle.and_batch_reader.specs.Opened.{AreFew, AreJudged, IsBegun, IsJudged, IsJudgedWhole, IsOpened, IsRefusedAs};
-ghost use Rattle.and_batch_reader.specs.Opened.{IsSought};
+ghost use Rattle.and_batch_reader.specs.Opened.{AreFew, AreJudged, IsBegun, IsJudged, IsJudgedWhole, IsOpened};
+ghost use Rattle.and_batch_reader.specs.Opened.{IsRefusedAs, IsSought};
 ghost use Rattle.and_batch_text.specs.Queries.{HasQueries};
 ghost use Rattle.and_batch_text.specs.Singles.{single};
 ghost use Rattle.and_batch_text.specs.Refused.{IsBatchRefused};

@@ -4,7 +4,8 @@ use Rattle.and_model.specs.declared.numbers.ClauseNo.{ClauseNo}
 use Rattle.and_first_argument.specs.Tables.{under}
 use Rattle.and_first_argument.specs.declared.key.Key.{Key}
 use Rattle.and_first_argument.specs.declared.first_arguments.FirstArguments.{FirstArguments}
-use Rattle.and_first_argument.specs.declared.first_arguments.FirstArguments.TheVariants.{Four, Sixteen, SixtyFour, Indexed}
+use Rattle.and_first_argument.specs.declared.first_arguments.FirstArguments.TheVariants.{Four, Sixteen, SixtyFour}
+use Rattle.and_first_argument.specs.declared.first_arguments.FirstArguments.TheVariants.{Indexed}
 
 -- the clauses under a key
 abbrev pub clauses_under : FirstArguments → Key → List ClauseNo

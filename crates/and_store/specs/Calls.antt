@@ -2,7 +2,8 @@
 use Rattle.std.specs.Prelude.{ℕ, suc, ◌*◌, length, ℤ, Bool, cond, ◌↔◌, ◌+◌, ◌≡◌, ◌≢◌, ◌<◌, ◌≤◌, ◌⊎◌, true, List, []}
 use Rattle.std.specs.Prelude.{◌∷◌, ◌++◌, map, Option, Some, option_to_list, Contains}
 use Rattle.and_model.specs.Store.{Setting, Made, sets, gives, fails, hangs, fail_word, HungGoal, JournalEntry, Known}
-use Rattle.and_model.specs.Store.{Waiting, closed, occupied, Found, Pass, settings_of, fails_of, hung_of, set_in, entries_by}
+use Rattle.and_model.specs.Store.{Waiting, closed, occupied, Found, Pass, settings_of, fails_of, hung_of, set_in}
+use Rattle.and_model.specs.Store.{entries_by}
 use Rattle.and_model.specs.declared.goal.Goal.{Goal}
 use Rattle.and_model.specs.declared.reference.Ref.{Ref}
 use Rattle.and_model.specs.declared.reference.Ref.TheVariants.{Free}

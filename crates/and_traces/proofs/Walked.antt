@@ -110,7 +110,8 @@ module _ (P : Program) (limit : ℕ) where
     walk_of t depth rs (Traces.divided t' end e cs cuts ks comes shut o fit (CutOff.all_fit each) splits) =
         let x : AreWalksOf end cs ks = walks_of end cs (e + 1) ks splits in
         let w : Walks P limit end (entries_of ks) (1 + x.forks) (count_of is_failed ks) (false || has_cut ks) =
-        fork_walked end cs ks false shut o fit ((λ e. absurd (true≢false (sym e))), (λ s. let h = s.3 in let l = each s.0 s.1 s.2 in absurd (omega (arith, h, l)))) x in
+        fork_walked end cs ks false shut o fit
+        ((λ e. absurd (true≢false (sym e))), (λ s. let h = s.3 in let l = each s.0 s.1 s.2 in absurd (omega (arith, h, l)))) x in
         record {
           forks = 1 + x.forks;
           walks = alike t' (entries_of ks) (entries_of ks) (1 + x.forks) (1 + x.forks) (count_of is_failed ks) (0 + count_of is_failed ks)

@@ -56,7 +56,8 @@ impl<B: Keyed + Drop> Tree<B> {
     ) -> u64
         requires same { (seat.old.table_id ≡ self.now.table) × (seat.old.me.1 ≡ []) }
         requires can { CanCall self.now.about seat.old.me.0 C.event × ((mine_of seat.old.me.0).work ≡ at_rest) }
-        requires ends { C.event ≡ Event.end (mine_of seat.old.me.0).team (with_last longer.now.value last) (ending_of how) }
+        requires ends { C.event
+            ≡ Event.end (mine_of seat.old.me.0).team (with_last longer.now.value last) (ending_of how) }
         ensures same { seat.new.table_id ≡ seat.old.table_id }
         ensures told { CallTold C.event seat.old.me.0 result seat.new.me.0 × (seat.new.me.1 ≡ []) }
     {

@@ -125,8 +125,7 @@ HasNext P limit bound HasSeen stack h =
     IsReady P limit HasSeen stack h × (turns limit (One h.depth h.branch ∷ places_of stack) < bound)
 
 -- or nothing is left to be walked.
-abbrev pub HasTurned : {N : Type 0} → NamedProgram → (limit bound : ℕ) → (List Report → Type 0) → List (Level N) → Hand N
-    → Bool
-    → Type 0
+abbrev pub HasTurned : {N : Type 0} → NamedProgram → (limit bound : ℕ) → (List Report → Type 0) → List (Level N)
+    → Hand N → Bool → Type 0
 HasTurned P limit bound HasSeen stack h true = HasNext P limit bound HasSeen stack h
 HasTurned P limit bound HasSeen stack h false = Telling P limit HasSeen []
