@@ -5,7 +5,7 @@ use Rattle.std.proofs.Common.{sym, ◌∙◌, arith, subst}
 use Rattle.std.proofs.lemmas.List.{length-append, length-map}
 use Rattle.and_model.specs.Lines.{Bytes}
 use Rattle.and_model.specs.Programs as programs
-use Rattle.and_model.specs.Programs.{Clause}
+use Rattle.and_model.specs.Programs.{Clause, builtin_names}
 use Rattle.and_source.specs.Source.{SourceItems, Alternatives, SourceClause, calls_in_items, calls_in_alternatives}
 use Rattle.and_source.specs.Lifted.{lifted_clause, clauses_of_items, clauses_of_alternatives}
 use Rattle.and_syntax.specs.Written
@@ -139,7 +139,7 @@ module _ (ss vs : List Shape) (es fs gs : List ClauseEntry) (calls more : List C
   all : vs ≡ ss ++ us
   all = begins_all ss vs grown.kept
 
-  few_new : (query : Option ClauseEntry) → IsKept ss es query calls names used T → length new ≤ 27 + now.nodes
+  few_new : (query : Option ClauseEntry) → IsKept ss es query calls names used T → length new ≤ length builtin_names + now.nodes
   few_new query kept =
       omega (
         arith,

@@ -5,7 +5,7 @@ use Rattle.std.proofs.lemmas.List.{append_assoc, append-nil, length-append, map-
 use Rattle.and_model.specs.Lines.{Bytes}
 use Rattle.and_model.specs.Terms.{Term}
 use Rattle.and_model.specs.Programs as programs
-use Rattle.and_model.specs.Programs.{Clause, Item, Program}
+use Rattle.and_model.specs.Programs.{Clause, Item, Program, builtin_names}
 use Rattle.and_source.specs.Source.{SourceClause, calls_in_items}
 use Rattle.and_source.specs.Lifted.{lifted_clause, clauses_of, clauses_of_items, lift}
 use Rattle.and_syntax.specs.Tables.{Table, placed, program_of}
@@ -268,7 +268,8 @@ pub kept_clause : (ss us : List Shape) (es fs : List ClauseEntry) (query : Optio
     (used now : Used) (T : Table) (k : SourceClause)
     → IsKept ss es query calls names used T
     → AllFall 0 (ss ++ us) → AllWithin (length named) (ss ++ us) → AllEntries (ss ++ us) fs → map (entry_clause (ss ++ us)) fs ≡ clauses_with k
-    → length (ss ++ us) ≤ now.nodes + 1 → now.nodes ≤ 524288 → now.numbers ≤ 65535 → length named ≤ 27 + now.nodes → now.disjunctions ≤ now.nodes
+    → length (ss ++ us) ≤ now.nodes + 1 → now.nodes ≤ 524288 → now.numbers ≤ 65535 → length named ≤ length builtin_names + now.nodes
+    → now.disjunctions ≤ now.nodes
     → length es + length fs ≡ now.numbers
     → IsKept (ss ++ us) (es ++ fs) query (calls ++ calls_with k) named now (placed (sized_table T named now) k)
 kept_clause ss us es fs query calls names named used now T k kept falls within entries clauses nodes few_nodes few_numbers few_names few_disjunctions numbers =
@@ -304,7 +305,8 @@ pub kept_query : (ss us : List Shape) (es fs : List ClauseEntry) (e : ClauseEntr
     (T : Table) (q : SourceClause)
     → IsKept ss es None calls names used T → e.head.0 ≡ 0 → IsEntry (ss ++ us) e → entry_clause (ss ++ us) e ≡ lifted_clause q
     → AllFall 0 (ss ++ us) → AllWithin (length named) (ss ++ us) → AllEntries (ss ++ us) fs → map (entry_clause (ss ++ us)) fs ≡ clauses_of_items q q.body
-    → length (ss ++ us) ≤ now.nodes + 1 → now.nodes ≤ 524288 → now.numbers ≤ 65535 → length named ≤ 27 + now.nodes → now.disjunctions ≤ now.nodes
+    → length (ss ++ us) ≤ now.nodes + 1 → now.nodes ≤ 524288 → now.numbers ≤ 65535 → length named ≤ length builtin_names + now.nodes
+    → now.disjunctions ≤ now.nodes
     → length es + length fs ≡ now.numbers
     → IsKept (ss ++ us) (es ++ fs) (Some e) (calls ++ calls_with q) named now (record (sized_table T named now) { asked = Some q })
 kept_query ss us es fs e calls names named used now T q kept head there same falls within entries clauses nodes few_nodes few_numbers few_names

@@ -70,12 +70,12 @@ number_is x ks o r n at is few =
     ∙ place_items x ks
 
 -- one more of several that occur in turn
-pub including_more : (old new : List Bytes) (occurring : List (Bor Bytes)) (i : ℕ) (d : Bor Bytes) (total : List Bytes) → i < length occurring
-    → new ≡ including old (get_or occurring i d).now
-    → including_all old (bytes_of (drop i occurring)) ≡ total → including_all new (bytes_of (drop (i + 1) occurring)) ≡ total
-including_more old new occurring i d total lt e h =
-    ap (λ (ns : List Bytes). including_all ns (bytes_of (drop (i + 1) occurring))) e
-    ∙ sym (ap (λ (cs : List (Bor Bytes)). including_all old (bytes_of cs)) (drop_more occurring i d lt)) ∙ h
+pub including_more : (old new : List Bytes) (rows : List (ℕ × Bor Bytes)) (i : ℕ) (d : ℕ × Bor Bytes) (total : List Bytes) → i < length rows
+    → new ≡ including old (get_or rows i d).1.now
+    → including_all old (bytes_of (drop i rows)) ≡ total → including_all new (bytes_of (drop (i + 1) rows)) ≡ total
+including_more old new rows i d total lt e h =
+    ap (λ (ns : List Bytes). including_all ns (bytes_of (drop (i + 1) rows))) e
+    ∙ sym (ap (λ (cs : List (ℕ × Bor Bytes)). including_all old (bytes_of cs)) (drop_more rows i d lt)) ∙ h
 
 pub built_in : including_all [] builtin_names ≡ builtin_names
 built_in = refl

@@ -3,7 +3,7 @@ use Rattle.std.specs.Prelude.{ℕ, ◌+◌, ◌≤◌, ◌≡◌, true, List, []
 use Rattle.std.proofs.Props.{props}
 use Rattle.and_model.specs.Lines.{Bytes}
 use Rattle.and_model.specs.Terms.{Term}
-use Rattle.and_model.specs.Programs.{Clause}
+use Rattle.and_model.specs.Programs.{Clause, builtin_names}
 use Rattle.and_source.specs.Source.{SourceClause, calls_in_items}
 use Rattle.and_source.specs.Lifted.{lifted_clause, clauses_of, clauses_of_items}
 use Rattle.and_syntax.specs.Clauses.{name_of, arity_of}
@@ -69,7 +69,7 @@ pub record IsKept (ss : List Shape) (es : List ClauseEntry) (query : Option Clau
   pub few_nodes : length ss ≤ used.nodes + 1
   pub few_used : used.nodes ≤ MAX_NODES
   pub few_clauses : used.numbers ≤ MAX_CLAUSES
-  pub few_names : length names ≤ 27 + used.nodes
+  pub few_names : length names ≤ length builtin_names + used.nodes
   pub few_disjunctions : used.disjunctions ≤ used.nodes
 
 pub IsAsked-prop : (ss : List Shape) (e : Option ClauseEntry) (q : Option SourceClause) (later : ℕ)

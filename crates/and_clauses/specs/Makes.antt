@@ -1,6 +1,7 @@
 -- What the making of clauses says of the lists of a table.
 use Rattle.std.specs.Prelude.{ℕ, ◌+◌, ◌≤◌, ◌<◌, ◌≡◌, true, List, [], ◌∷◌, length, take, Option, Some, None}
 use Rattle.and_model.specs.Lines.{Bytes}
+use Rattle.and_model.specs.Programs.{builtin_names}
 use Rattle.and_source.specs.Source.{SourceClause}
 use Rattle.and_source.specs.Lifted.{lifted_clause, clauses_of_items}
 use Rattle.and_syntax.specs.Written.{Written, nodes_of, met_after}
@@ -40,7 +41,7 @@ pub record HasRoom (ss : List Shape) (names : List Bytes) (used : Used) : Type 0
   pub few_nodes : length ss ≤ used.nodes + 1
   pub few_used : used.nodes ≤ MAX_NODES
   pub few_clauses : used.numbers ≤ MAX_CLAUSES
-  pub few_names : length names ≤ 27 + used.nodes
+  pub few_names : length names ≤ length builtin_names + used.nodes
   pub few_disjunctions : used.disjunctions ≤ used.nodes
 
 -- The one lists are the others, and what was put at their ends.
@@ -91,7 +92,7 @@ pub record IsReady (T : Table) (w : Written) (ps : Parts) (c n : ℕ) (names : L
   pub within : AllWithin (length names) us
   pub first_is : first ≡ T.disjunctions
   pub few_nodes : length us ≤ T.nodes + 1
-  pub few_names : length names ≤ 27 + (T.nodes + nodes_of w)
+  pub few_names : length names ≤ length builtin_names + (T.nodes + nodes_of w)
   pub few_disjunctions : T.disjunctions ≤ T.nodes
 
 -- the source clause of what was judged

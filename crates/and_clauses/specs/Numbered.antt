@@ -7,9 +7,9 @@ use Rattle.and_program.specs.Skeletons
 use Rattle.and_program.specs.Skeletons.{Shape}
 use Rattle.and_clauses.specs.Parts.{PartShape, variable, integer, compound}
 
--- slices as the bytes that they are
-abbrev pub bytes_of : List (Bor Bytes) → List Bytes
-bytes_of ks = map (λ k. k.now) ks
+-- the names of the rows of a table
+abbrev pub bytes_of : List (ℕ × Bor Bytes) → List Bytes
+bytes_of rows = map (λ row. row.1.now) rows
 
 -- the names with several that occur in turn
 abbrev pub including_all : List Bytes → List Bytes → List Bytes

@@ -12,33 +12,27 @@ ghost use Rattle.and_clauses.specs.Numbered.{bytes_of, including_all, named_by, 
 
 use crate::draft::DraftPart;
 use crate::guesses::Guesses;
+use and_model::builtins::BUILT_IN;
 use and_model::{NameNo, builtins};
 use and_program::ShortText;
 use indexmap::IndexSet;
 use std::alloc::{AllocError, Global};
 
-/// The names that every table begins with.
-const BUILT_IN_NAMES: [&[u8]; 27] = [
-    b"true", b"fail", b",", b"=", b"is", b"<", b">", b"=<", b">=", b"=:=", b"=\\=", b"+", b"-",
-    b"*", b"//", b"mod", b"rem", b"min", b"max", b".", b"[]", b";", b"->", b"\\+", b"!", b":-",
-    b"?-",
-];
-
 /// The names that every table begins with, by their numbers.
 pub(crate) fn built_in_names(alloc: Global) -> Result<IndexSet<Vec<u8>>, AllocError>
     ensures { IfOk result (λ names. names_of names.keys ≡ builtin_names) }
 {
-    let built_in = BUILT_IN_NAMES;
+    let built_in = BUILT_IN;
     name_set(alloc, &built_in)
 }
 
-/// These names, numbered as they first occur.
-fn name_set(alloc: Global, occurring: &[&[u8]]) -> Result<IndexSet<Vec<u8>>, AllocError>
-    ensures { IfOk result (λ names. names_of names.keys ≡ including_all [] (bytes_of occurring.now)) }
+/// The names of the rows of a table, numbered as they first occur.
+fn name_set(alloc: Global, rows: &[(u32, &[u8])]) -> Result<IndexSet<Vec<u8>>, AllocError>
+    ensures { IfOk result (λ names. names_of names.keys ≡ including_all [] (bytes_of rows.now)) }
 {
     let mut names = IndexSet::new(alloc);
-    for name in occurring {
-        note_name(alloc, &mut names, name)?;
+    for row in rows {
+        note_name(alloc, &mut names, row.1)?;
     }
     Ok(names)
 }

@@ -3,5 +3,5 @@ use Rattle.and_program.specs.Nodes.{names_of}
 use Rattle.and_clauses.specs.Numbered.{bytes_of, including_all}
 use Rattle.and_clauses.proofs.numbering.name_set.Given as goal
 
-abbrev pub invariant-loop-name : goal.invariant-loop-name
-invariant-loop-name l = including_all (names_of l.names.keys) (bytes_of (drop l.name-index l.occurring)) ≡ including_all [] (bytes_of l.occurring)
+abbrev pub invariant-loop-row : goal.invariant-loop-row
+invariant-loop-row l = including_all (names_of l.names.keys) (bytes_of (drop l.row-index l.rows)) ≡ including_all [] (bytes_of l.rows)
