@@ -1,45 +1,13 @@
 -- A name or a structure that is no operator's, and a division by the numeral 0, have no value.
 use Rattle.std.proofs.Common.{ℕ, ℤ, suc, ◌≡◌, ◌&&◌, ◌||◌, not, true, false, eqb, List, [], ◌∷◌, length, Option, Some, None, pos, negsuc, arith}
 use Rattle.std.proofs.Common.{refl, sym, ap, ◌∙◌, ⊎_elim}
-use Rattle.std.proofs.lemmas.Bool.{and_parts, or_cases, or_parts, not-true, eqb-true, true≢false}
+use Rattle.std.proofs.lemmas.Bool.{and_parts, or_cases, not-true, eqb-true, true≢false}
 use Rattle.and_model.specs.Terms.{Term, Terms, variable, number, compound, none, more, width, Substitution, apply, apply_all}
-use Rattle.and_model.specs.Arithmetic.{is_zero, of_one, of_two, operated, value, values, in_range}
-use Rattle.and_model.specs.declared.builtins.TheConstants.{PLUS, MINUS, TIMES, DIVIDE, MODULO, REMAINDER, LEAST, GREATEST}
+use Rattle.and_model.specs.Arithmetic.{is_operation, is_zero, of_two, operated, value, values, in_range}
+use Rattle.and_model.specs.declared.builtins.TheConstants.{DIVIDE, MODULO, REMAINDER}
+use Rattle.and_model.proofs.Operations.{none_of_values}
 use Rattle.and_program.specs.Shown.{term_at}
-use Rattle.and_lint.specs.Subterms.{has_no_value, is_division, is_numeral_zero, is_operator}
-
-one_none : (c : ℕ) (a : ℤ) → eqb c MINUS ≡ false → of_one c a ≡ None
-unfolding of_one
-one_none c a e = rw e refl
-
--- the names of no operator of two arguments
-abbrev NoName : ℕ → Type 0
-NoName c = (eqb c PLUS || eqb c MINUS || eqb c TIMES || eqb c DIVIDE || eqb c MODULO || eqb c REMAINDER || eqb c LEAST || eqb c GREATEST) ≡ false
-
-two_none : (c : ℕ) (a b : ℤ) → NoName c → of_two c a b ≡ None
-unfolding of_two
-two_none c a b e =
-    let p8 = or_parts (eqb c PLUS || eqb c MINUS || eqb c TIMES || eqb c DIVIDE || eqb c MODULO || eqb c REMAINDER || eqb c LEAST) (eqb c GREATEST) e in
-    let p7 = or_parts (eqb c PLUS || eqb c MINUS || eqb c TIMES || eqb c DIVIDE || eqb c MODULO || eqb c REMAINDER) (eqb c LEAST) p8.0 in
-    let p6 = or_parts (eqb c PLUS || eqb c MINUS || eqb c TIMES || eqb c DIVIDE || eqb c MODULO) (eqb c REMAINDER) p7.0 in
-    let p5 = or_parts (eqb c PLUS || eqb c MINUS || eqb c TIMES || eqb c DIVIDE) (eqb c MODULO) p6.0 in
-    let p4 = or_parts (eqb c PLUS || eqb c MINUS || eqb c TIMES) (eqb c DIVIDE) p5.0 in
-    let p3 = or_parts (eqb c PLUS || eqb c MINUS) (eqb c TIMES) p4.0 in
-    let p2 = or_parts (eqb c PLUS) (eqb c MINUS) p3.0 in
-    rw (p2.0, p2.1, p3.1, p4.1, p5.1, p6.1, p7.1, p8.1) refl
-
-of_values : (c : ℕ) (vs : List (Option ℤ)) → is_operator c (length vs) ≡ false → operated c vs ≡ None
-of_values c [] e = refl
-of_values c (None ∷ []) e = refl
-of_values c (Some a ∷ []) e = one_none c a e
-of_values c (None ∷ None ∷ []) e = refl
-of_values c (None ∷ Some b ∷ []) e = refl
-of_values c (Some a ∷ None ∷ []) e = refl
-of_values c (Some a ∷ Some b ∷ []) e =
-    two_none c a b (or_parts (eqb c PLUS || eqb c MINUS || eqb c TIMES || eqb c DIVIDE || eqb c MODULO || eqb c REMAINDER || eqb c LEAST
-    || eqb c GREATEST) false e).0
-of_values c (None ∷ v ∷ w ∷ vs) e = refl
-of_values c (Some a ∷ v ∷ w ∷ vs) e = elim v as (λ u. operated c (Some a ∷ u ∷ w ∷ vs) ≡ None) [ None ↦ refl | Some b ↦ refl ]
+use Rattle.and_lint.specs.Subterms.{has_no_value, is_division, is_numeral_zero}
 
 by_zero : (c : ℕ) (a b : ℤ) → is_division c ≡ true → is_zero b ≡ true → of_two c a b ≡ None
 unfolding of_two
@@ -74,8 +42,8 @@ pub no_value : (t : Term) (s : Substitution) → has_no_value t ≡ true → val
 no_value (variable q k) s e = absurd (true≢false (sym e))
 no_value (number z) s e = absurd (true≢false (sym e))
 no_value (compound c ts) s e = ⊎_elim
-    (λ other. of_values c (values (apply_all s ts)) (ap (λ (n : ℕ). is_operator c n) (length-values s ts) ∙ not-true (is_operator c (width ts)) other))
+    (λ other. none_of_values c (values (apply_all s ts)) (ap (λ (n : ℕ). is_operation c n) (length-values s ts) ∙ not-true (is_operation c (width ts)) other))
     (λ all. let last = and_parts (eqb (width ts) 2 && is_division c) (is_numeral_zero (term_at ts 1)) all in
     let first = and_parts (eqb (width ts) 2) (is_division c) last.0 in
     division c s ts (eqb-true (width ts) 2 first.0) first.1 last.1)
-    (or_cases (not (is_operator c (width ts))) (eqb (width ts) 2 && is_division c && is_numeral_zero (term_at ts 1)) e)
+    (or_cases (not (is_operation c (width ts))) (eqb (width ts) 2 && is_division c && is_numeral_zero (term_at ts 1)) e)

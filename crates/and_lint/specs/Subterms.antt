@@ -3,11 +3,10 @@ use Rattle.std.specs.Prelude.{ℕ, Bool, true, false, not, ◌&&◌, ◌||◌, n
 use Rattle.std.specs.Prelude.{◌++◌}
 use Rattle.std.specs.List.{list_any}
 use Rattle.and_model.specs.Terms.{Term, Terms, variable, number, compound, none, more, width}
-use Rattle.and_model.specs.Arithmetic.{is_zero}
+use Rattle.and_model.specs.Arithmetic.{is_operation, is_zero}
 use Rattle.and_model.specs.Programs.{Item, call, equal, arithmetic, fail, is, compare}
 use Rattle.and_program.specs.Shown.{term_at}
-use Rattle.and_model.specs.declared.builtins.TheConstants.{PLUS, MINUS, TIMES, DIVIDE, MODULO, REMAINDER, LEAST}
-use Rattle.and_model.specs.declared.builtins.TheConstants.{GREATEST}
+use Rattle.and_model.specs.declared.builtins.TheConstants.{DIVIDE, MODULO, REMAINDER}
 
 abbrev mutual
   -- the subterms of a term, each where it occurs: the term, and then those of its arguments from left to right
@@ -36,13 +35,6 @@ expressions_of (arithmetic (is l r)) = r ∷ []
 expressions_of (arithmetic (compare o a b)) = a ∷ b ∷ []
 expressions_of fail = []
 
--- an operator of arithmetic: + - * // mod rem min max of two arguments, and - of one
-abbrev pub is_operator : (name count : ℕ) → Bool
-is_operator c n =
-    (nat_eq n 2 && (nat_eq c PLUS || nat_eq c MINUS || nat_eq c TIMES || nat_eq c DIVIDE || nat_eq c MODULO
-    || nat_eq c REMAINDER || nat_eq c LEAST || nat_eq c GREATEST))
-    || (nat_eq n 1 && nat_eq c MINUS)
-
 abbrev pub is_division : (name : ℕ) → Bool
 is_division c = nat_eq c DIVIDE || nat_eq c MODULO || nat_eq c REMAINDER
 
@@ -58,7 +50,7 @@ abbrev pub has_no_value : Term → Bool
 has_no_value (variable q k) = false
 has_no_value (number z) = false
 has_no_value (compound c ts) =
-    not (is_operator c (width ts)) || (nat_eq (width ts) 2 && is_division c && is_numeral_zero (term_at ts 1))
+    not (is_operation c (width ts)) || (nat_eq (width ts) 2 && is_division c && is_numeral_zero (term_at ts 1))
 
 -- a variable or a numeral
 abbrev pub is_leaf : Term → Bool
@@ -70,7 +62,7 @@ is_leaf (compound c ts) = false
 abbrev pub is_operators : Term → Bool
 is_operators (variable q k) = false
 is_operators (number z) = false
-is_operators (compound c ts) = is_operator c (width ts)
+is_operators (compound c ts) = is_operation c (width ts)
 
 -- an operator's term with a variable or a numeral in it: it looks as if it were to be worked out
 abbrev pub looks_worked_out : Term → Bool

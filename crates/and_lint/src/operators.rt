@@ -2,7 +2,7 @@
 
 ghost use Rattle.std.specs.Prelude.{◌≡◌, ◌<◌, ◌&&◌, ◌||◌, not, IfOk, length, nat_eq};
 ghost use Rattle.std.specs.List.{list_any};
-ghost use Rattle.and_model.specs.Arithmetic.{is_zero};
+ghost use Rattle.and_model.specs.Arithmetic.{is_operation, is_zero};
 ghost use Rattle.and_program.specs.Loaded.{arguments_at, skeleton_of};
 ghost use Rattle.and_program.specs.Shown.{argument_of};
 ghost use Rattle.and_program.specs.Skeletons.{node_term};
@@ -10,27 +10,10 @@ ghost use Rattle.and_lint.specs.Subterms as specs;
 ghost use Rattle.and_lint.specs.Subterms.{subterms};
 
 use crate::walking::next_subterm;
-use and_model::builtins::{DIVIDE, GREATEST, LEAST, MINUS, MODULO, PLUS, REMAINDER, TIMES};
+use and_model::builtins::{DIVIDE, MODULO, REMAINDER, is_operation};
 use and_model::{NameNo, NodeNo};
 use and_program::{Loaded, NodeKind};
 use std::alloc::{AllocError, Global};
-
-/// Whether a name with so many arguments is an operator of arithmetic.
-fn is_operator(name: NameNo, count: u8) -> bool
-    ensures { result ≡ specs.is_operator name.0 count }
-{
-    let NameNo(name) = name;
-    (count == 2
-        && (name == PLUS
-            || name == MINUS
-            || name == TIMES
-            || name == DIVIDE
-            || name == MODULO
-            || name == REMAINDER
-            || name == LEAST
-            || name == GREATEST))
-        || (count == 1 && name == MINUS)
-}
 
 fn is_division(name: NameNo) -> bool
     ensures { result ≡ specs.is_division name.0 }
@@ -80,10 +63,10 @@ fn is_division_by_zero(loaded: &Loaded, node: NodeNo, name: NameNo, count: u8) -
 fn has_structure_no_value(loaded: &Loaded, node: NodeNo, name: NameNo, count: u8) -> bool
     requires there { node.0 < length (skeleton_of loaded.now).nodes }
     requires count { count ≡ length (arguments_at (skeleton_of loaded.now) node.0) }
-    ensures { result ≡ (not (specs.is_operator name.0 count) || (nat_eq count 2 && specs.is_division name.0
+    ensures { result ≡ (not (is_operation name.0 count) || (nat_eq count 2 && specs.is_division name.0
         && specs.is_numeral_zero (argument_of (node_term (skeleton_of loaded.now).nodes node.0) 1))) }
 {
-    if is_operator(name, count) {
+    if is_operation(name.0, count) {
         return is_division_by_zero(loaded, node, name, count);
     }
     true
@@ -109,7 +92,7 @@ fn is_operators(loaded: &Loaded, node: NodeNo) -> bool
     match loaded.kind(node) {
         NodeKind::Variable(_) => false,
         NodeKind::Number(_) => false,
-        NodeKind::Compound { name, count } => is_operator(name, count),
+        NodeKind::Compound { name, count } => is_operation(name.0, count),
     }
 }
 

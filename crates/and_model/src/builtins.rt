@@ -1,6 +1,7 @@
 //! The numbers of the names that every table of names begins with.
 
-ghost use Rattle.std.specs.Prelude.{ℕ, ℤ, ◌≡◌, List, [], ◌∷◌, Option, None, false, length, map};
+ghost use Rattle.std.specs.Prelude.{ℕ, ℤ, ◌≡◌, List, Option, None, false, length, map};
+ghost use Rattle.std.specs.List.{range_with_len};
 ghost use Rattle.and_model.specs.Arithmetic.{is_operation, operated};
 ghost use Rattle.and_model.specs.declared.builtins.TheConstants.{BUILT_IN};
 
@@ -105,10 +106,18 @@ pub const OPERATIONS: [(u32, u8); 9] = [
 
 /// Each of these numbers is the place of its name in every table.
 pub fn numbers_of_names_are_places()
-    ensures { map (λ name. name.0) BUILT_IN
-        ≡ 0 ∷ 1 ∷ 2 ∷ 3 ∷ 4 ∷ 5 ∷ 6 ∷ 7 ∷ 8 ∷ 9 ∷ 10 ∷ 11 ∷ 12 ∷ 13 ∷ 14 ∷ 15 ∷ 16 ∷ 17 ∷ 18 ∷ 19 ∷ 20 ∷ 21 ∷ 22 ∷ 23
-        ∷ 24 ∷ 25 ∷ 26 ∷ [] }
+    ensures { map (λ name. name.0) BUILT_IN ≡ range_with_len 0 (length BUILT_IN) }
 {}
+
+/// Whether a name with so many arguments is an operation of arithmetic. Takes no memory.
+pub fn is_operation(name: u32, count: u8) -> bool
+    ensures { result ≡ is_operation name count }
+{
+    let operations = OPERATIONS;
+    operations
+        .iter()
+        .any(|operation| count == operation.1 && name == operation.0)
+}
 
 /// A name that is no operation of so many numbers gives no value for them.
 pub fn what_is_no_operation_has_no_value()

@@ -11,5 +11,5 @@ pub returns-in-Number : goal.returns-in-Number
 returns-in-Number c = ap operators_kind c.in-Number.ensures.term ∙ operators_shown (node_term (skeleton_of c.args.loaded.now).nodes c.args.node.0)
 
 pub returns-in-Compound : goal.returns-in-Compound
-returns-in-Compound c = c.is_operator.ensures ∙ ap operators_kind c.in-Compound.ensures.term
+returns-in-Compound c = c.is_operation.ensures ∙ ap operators_kind c.in-Compound.ensures.term
     ∙ operators_shown (node_term (skeleton_of c.args.loaded.now).nodes c.args.node.0)
