@@ -30,7 +30,8 @@ pub struct Clauses {
         (names_of lists.names.keys)
         used (with_all empty added.items) } by { IsKept-prop (shapes_of lists.nodes.items) lists.clauses.items None
             lists.calls.items (names_of lists.names.keys) used (with_all empty added.items) },
-    ghost found: { Finds numbers (map (entry_clause (shapes_of lists.nodes.items)) lists.clauses.items) } by { Prim.hlevel props },
+    ghost found: { Finds numbers (map (entry_clause (shapes_of lists.nodes.items))
+        lists.clauses.items) } by { Prim.hlevel props },
 }
 
 // By hand, here and below, so that it is proved once, and not in each crate that lets go of one.

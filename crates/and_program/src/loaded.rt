@@ -26,7 +26,8 @@ pub struct Loaded {
     names: IndexSet<Vec<u8>>,
     /// The clauses of each predicate.
     numbers: ClauseNumbers,
-    ghost kept: { IsProgram (shapes_of nodes.items) query clauses.items (names_of names.keys) } by { IsProgram-prop (shapes_of nodes.items) query clauses.items (names_of names.keys) },
+    ghost kept: { IsProgram (shapes_of nodes.items) query clauses.items (names_of names.keys) } by { IsProgram-prop
+        (shapes_of nodes.items) query clauses.items (names_of names.keys) },
     ghost found: { Finds numbers (map (entry_clause (shapes_of nodes.items)) clauses.items) } by { Prim.hlevel props },
 }
 
@@ -261,7 +262,8 @@ impl Loaded {
 
     /// The program of these parts, which fit each other. Takes no memory.
     pub fn of_parts(parts: LoadedParts) -> Loaded
-        requires kept { IsProgram (shapes_of parts.nodes.items) parts.query parts.clauses.items (names_of parts.names.keys) }
+        requires kept { IsProgram (shapes_of parts.nodes.items) parts.query parts.clauses.items
+            (names_of parts.names.keys) }
         requires found { Finds parts.numbers (map (entry_clause (shapes_of parts.nodes.items)) parts.clauses.items) }
         ensures program { program_of result
             ≡ program_in (shapes_of parts.nodes.items) parts.query parts.clauses.items (names_of parts.names.keys) }
