@@ -31,8 +31,8 @@ of_query item = record { goal = item_of_query item; frame = [] }
 abbrev pub skeleton : Skeleton
 skeleton = record {
   nodes = variable 0 ∷ compound (own_name 0) (0 ∷ []) ∷ variable 0 ∷ compound (own_name 1) (2 ∷ []) ∷ variable 0
-      ∷ number (pos 3) ∷ number (pos 1) ∷ compound (own_name 1) (6 ∷ []) ∷ number (pos 2) ∷ compound (own_name 1) (8 ∷ [])
-      ∷ compound TRUE [] ∷ variable 0 ∷ compound (own_name 0) (11 ∷ []) ∷ [];
+      ∷ number (pos 3) ∷ number (pos 1) ∷ compound (own_name 1) (6 ∷ []) ∷ number (pos 2)
+      ∷ compound (own_name 1) (8 ∷ []) ∷ compound TRUE [] ∷ variable 0 ∷ compound (own_name 0) (11 ∷ []) ∷ [];
   clauses = by_nodes 10 (call 12 ∷ []) ∷ by_nodes 1 (call 3 ∷ compare less 4 5 ∷ []) ∷ by_nodes 7 []
       ∷ by_nodes 9 [] ∷ [];
 }
