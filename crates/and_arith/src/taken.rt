@@ -27,11 +27,20 @@ pub(crate) enum Lookup {
 /// The cells that were taken, each once, as a sparse set (Briggs and Torczon, 1993): a cell's slot says
 /// where its entry would stand, and counts only where the entry there is the cell's. So no slot has to
 /// be undone where all cells are forgotten.
-#[derive(Drop)]
 pub(crate) struct Taken {
     entries: Vec<Entry>,
     /// By cell.
     slots: Vec<usize>,
+}
+
+// By hand, so that it is proved once, here.
+impl Drop for Taken {
+    fn drop(self) {
+        let Taken {
+            entries: _,
+            slots: _,
+        } = self;
+    }
 }
 
 impl Model for Taken {

@@ -38,7 +38,6 @@ pub enum Valued {
 
 /// What a caller lends to `value` to work on. It keeps its room from call to call, so that most calls
 /// take no memory.
-#[derive(Drop)]
 pub struct WorkList {
     /// What is still to be done. The next task is the last of them.
     pub(crate) tasks: Vec<Task>,
@@ -46,6 +45,17 @@ pub struct WorkList {
     pub(crate) values: Vec<Option<i64>>,
     /// The cells whose terms were come to.
     pub(crate) taken: Taken,
+}
+
+// By hand, so that it is proved once, here.
+impl Drop for WorkList {
+    fn drop(self) {
+        let WorkList {
+            tasks: _,
+            values: _,
+            taken: _,
+        } = self;
+    }
 }
 
 impl WorkList {

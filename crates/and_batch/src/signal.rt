@@ -3,10 +3,19 @@
 use std::sync::{Condvar, Mutex, Wait};
 
 /// Whether jobs are to be done, for those who wait to know it.
-#[derive(Drop)]
 pub struct Signal {
     told: Mutex<Option<bool>>,
     changed: Condvar,
+}
+
+// By hand, so that it is proved once, here.
+impl Drop for Signal {
+    fn drop(self) {
+        let Signal {
+            told: _,
+            changed: _,
+        } = self;
+    }
 }
 
 impl Signal {

@@ -14,13 +14,23 @@ const MOST_KNOWN: usize = 1 << 24;
 
 /// References, each of which stands behind all that it leads to. A cell is found at once, so that one that is
 /// made free again takes only those with it that stand behind it.
-#[derive(Drop)]
 pub(crate) struct Known {
     references: Vec<Ref>,
     /// The place of each cell that is among them.
     cells: Vec<u32>,
     /// Where a structure of a node may be among them.
     nodes: Vec<u32>,
+}
+
+// By hand, so that it is proved once, here.
+impl Drop for Known {
+    fn drop(self) {
+        let Known {
+            references: _,
+            cells: _,
+            nodes: _,
+        } = self;
+    }
 }
 
 impl Model for Known {

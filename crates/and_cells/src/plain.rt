@@ -26,12 +26,22 @@ use std::marker::{Model, PhantomData};
 /// A row of words that one thread alone sets, so that contracts see the row itself. It takes 8 bytes
 /// a word, and keeps the allocator that it was made with. References that were seen to be ground are known until
 /// a cell below them is made free again.
-#[derive(Drop)]
 pub struct PlainCells<N: Naming> {
     words: Vec<u64>,
     /// References whose terms are ground.
     known: Known,
     of: PhantomData<N>,
+}
+
+// By hand, so that it is proved once, here.
+impl<N: Naming> Drop for PlainCells<N> {
+    fn drop(self) {
+        let PlainCells {
+            words: _,
+            known: _,
+            of: _,
+        } = self;
+    }
 }
 
 impl<N: Naming> Model for PlainCells<N> {

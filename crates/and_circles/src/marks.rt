@@ -24,10 +24,19 @@ pub(crate) struct Stamp {
 }
 
 /// The marks of cells. All are taken away at once by beginning another round.
-#[derive(Drop)]
 pub(crate) struct Marks {
     stamps: Vec<Stamp>,
     round: u32,
+}
+
+// By hand, so that it is proved once, here.
+impl Drop for Marks {
+    fn drop(self) {
+        let Marks {
+            stamps: _,
+            round: _,
+        } = self;
+    }
 }
 
 impl Model for Marks {

@@ -51,7 +51,6 @@ impl Visit {
 }
 
 /// How far a row was walked.
-#[derive(Drop)]
 pub(crate) struct Walk {
     pub(crate) marks: Marks,
     /// Each path from them ends.
@@ -62,6 +61,19 @@ pub(crate) struct Walk {
     pub(crate) floor: u32,
     /// Whether words of pairs are ends like others.
     pub(crate) halves: bool,
+}
+
+// By hand, so that it is proved once, here.
+impl Drop for Walk {
+    fn drop(self) {
+        let Walk {
+            marks: _,
+            structures: _,
+            visits: _,
+            floor: _,
+            halves: _,
+        } = self;
+    }
 }
 
 impl Walk {

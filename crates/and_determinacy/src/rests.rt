@@ -17,11 +17,21 @@ use std::marker::Model;
 
 /// The cells on which clauses rest that were tried and fitted, where these are told: they are not where
 /// they are too many, or where a clause has a guard.
-#[derive(Drop)]
 pub(crate) struct Rests {
     cells: Vec<u32>,
     are_told: bool,
     visits: Vec<Ref>,
+}
+
+// By hand, so that it is proved once, here.
+impl Drop for Rests {
+    fn drop(self) {
+        let Rests {
+            cells: _,
+            are_told: _,
+            visits: _,
+        } = self;
+    }
 }
 
 impl Model for Rests {

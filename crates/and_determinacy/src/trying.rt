@@ -30,11 +30,21 @@ use and_unify::{PairList, Settled};
 use std::alloc::{AllocError, Global};
 
 /// What trials of clauses work with, kept by their caller and used again.
-#[derive(Drop)]
 pub struct Trials {
     pub(crate) look: Look,
     tools: Tools,
     pub(crate) rests: Rests,
+}
+
+// By hand, so that it is proved once, here.
+impl Drop for Trials {
+    fn drop(self) {
+        let Trials {
+            look: _,
+            tools: _,
+            rests: _,
+        } = self;
+    }
 }
 
 impl Trials {
@@ -145,11 +155,21 @@ impl Trials {
 }
 
 /// What clauses are tried with.
-#[derive(Drop)]
 struct Tools {
     solver: HeadSolver,
     pairs: PairList,
     values: WorkList,
+}
+
+// By hand, so that it is proved once, here.
+impl Drop for Tools {
+    fn drop(self) {
+        let Tools {
+            solver: _,
+            pairs: _,
+            values: _,
+        } = self;
+    }
 }
 
 impl Tools {

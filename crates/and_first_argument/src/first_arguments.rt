@@ -29,7 +29,6 @@ pub enum Addition {
 }
 
 /// The clauses of a predicate by keys, in the smallest table that holds them.
-#[derive(Drop)]
 pub enum FirstArguments {
     /// At most 4 keys.
     Four(Switch<4>),
@@ -39,6 +38,18 @@ pub enum FirstArguments {
     SixtyFour(Switch<64>),
     /// More keys.
     Indexed(KeyIndex),
+}
+
+// By hand, so that it is proved once, here.
+impl Drop for FirstArguments {
+    fn drop(self) {
+        match self {
+            FirstArguments::Four(_) => {}
+            FirstArguments::Sixteen(_) => {}
+            FirstArguments::SixtyFour(_) => {}
+            FirstArguments::Indexed(_) => {}
+        }
+    }
 }
 
 impl FirstArguments {

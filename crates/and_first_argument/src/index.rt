@@ -13,10 +13,16 @@ use std::marker::Model;
 /// Clauses by keys, of which there may be any number.
 ///
 /// Contracts see the keys that it has, in the order in which they came, and the lists of clauses.
-#[derive(Drop)]
 pub struct KeyIndex {
     keys: IndexSet<Key>,
     lists: ClauseLists,
+}
+
+// By hand, so that it is proved once, here.
+impl Drop for KeyIndex {
+    fn drop(self) {
+        let KeyIndex { keys: _, lists: _ } = self;
+    }
 }
 
 impl Model for KeyIndex {

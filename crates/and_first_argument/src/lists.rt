@@ -91,10 +91,16 @@ fn pop_each(rows: &mut [Row])
 }
 
 /// A list of clauses for each of some rows, and one for whatever has no row.
-#[derive(Drop)]
 pub(crate) struct ClauseLists {
     rows: Vec<Row>,
     others: Row,
+}
+
+// By hand, so that it is proved once, here.
+impl Drop for ClauseLists {
+    fn drop(self) {
+        let ClauseLists { rows: _, others: _ } = self;
+    }
 }
 
 impl Model for ClauseLists {

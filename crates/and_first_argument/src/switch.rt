@@ -12,10 +12,16 @@ use std::marker::Model;
 /// Clauses by at most `W` keys.
 ///
 /// Contracts see the keys that it has, in the order in which they came, and the lists of clauses.
-#[derive(Drop)]
 pub struct Switch<const W: usize> {
     keys: Vec<Key>,
     lists: ClauseLists,
+}
+
+// By hand, so that it is proved once, here.
+impl<const W: usize> Drop for Switch<W> {
+    fn drop(self) {
+        let Switch { keys: _, lists: _ } = self;
+    }
 }
 
 impl<const W: usize> Model for Switch<W> {

@@ -54,11 +54,21 @@ impl Other {
 
 /// A worker's goals. The worker puts goals at the back of its own deque and takes them from the front, and where
 /// there are none it takes those of the others. A hand belongs to one worker at a time, and takes no locks.
-#[derive(Drop)]
 pub struct Hand {
     own: Owner,
     others: Vec<Other>,
     puts: Option<u64>,
+}
+
+// By hand, so that it is proved once, here.
+impl Drop for Hand {
+    fn drop(self) {
+        let Hand {
+            own: _,
+            others: _,
+            puts: _,
+        } = self;
+    }
 }
 
 impl Model for Hand {

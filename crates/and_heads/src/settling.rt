@@ -25,7 +25,6 @@ use std::marker::Model;
 
 /// Settles calls with heads of clauses over cells that are settled, and tells which cells it set. It is kept by its
 /// caller and used again, so that its lists take memory once. Contracts see the cells that the last call set.
-#[derive(Drop)]
 pub struct HeadSolver {
     bound: Vec<u32>,
     /// Whether the solver set the cells.
@@ -37,6 +36,20 @@ pub struct HeadSolver {
     visits: Vec<Ref>,
     /// Places that were followed.
     met: Vec<Ref>,
+}
+
+// By hand, so that it is proved once, here.
+impl Drop for HeadSolver {
+    fn drop(self) {
+        let HeadSolver {
+            bound: _,
+            is_solved: _,
+            solver: _,
+            parts: _,
+            visits: _,
+            met: _,
+        } = self;
+    }
 }
 
 impl Model for HeadSolver {

@@ -31,12 +31,22 @@ fn next_token(is_cut: bool, place: usize, bytes: &[u8]) -> Result<Option<Token>,
 }
 
 /// A text, read up to a place.
-#[derive(Drop)]
 pub struct Lexer<'a> {
     text: &'a [u8],
     /// How long the longest front of the text is that is UTF-8.
     valid: usize,
     place: usize,
+}
+
+// By hand, so that it is proved once, here.
+impl<'a> Drop for Lexer<'a> {
+    fn drop(self) {
+        let Lexer {
+            text: _,
+            valid: _,
+            place: _,
+        } = self;
+    }
 }
 
 impl<'a> Model for Lexer<'a> {

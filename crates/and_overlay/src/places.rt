@@ -11,11 +11,20 @@ use std::marker::Model;
 /// Places of a row, each once, in the order in which they were put in. Whether a place is among them is
 /// known in one step, and taking all out takes no longer than to say so. A list takes 8 bytes for each
 /// place for which it has room.
-#[derive(Drop)]
 pub struct PlaceList {
     places: Vec<u32>,
     /// For each place of the row, where in the list it would stand: it is there only if it is found there.
     slots: Vec<u32>,
+}
+
+// By hand, so that it is proved once, here.
+impl Drop for PlaceList {
+    fn drop(self) {
+        let PlaceList {
+            places: _,
+            slots: _,
+        } = self;
+    }
 }
 
 impl Model for PlaceList {

@@ -13,7 +13,6 @@ use std::alloc::{AllocError, Global};
 use std::snapshot::Snapshot;
 
 /// What a cell was set to in an overlay.
-#[derive(Drop)]
 pub struct OwnSetting<C: Cells> {
     pub place: u32,
     pub value: Ref,
@@ -21,9 +20,19 @@ pub struct OwnSetting<C: Cells> {
     pub below: Snapshot<C>,
 }
 
+// By hand, so that it is proved once, here.
+impl<C: Cells> Drop for OwnSetting<C> {
+    fn drop(self) {
+        let OwnSetting {
+            place: _,
+            value: _,
+            below: _,
+        } = self;
+    }
+}
+
 /// The memory that an overlay needs, which the next one uses again: at most 32 bytes for each word of the
 /// row below and of the frame on it. It grows to that once.
-#[derive(Drop)]
 pub struct Scratch<C: Cells> {
     /// The places that were set,
     places: PlaceList,
@@ -33,6 +42,17 @@ pub struct Scratch<C: Cells> {
     looked: PlaceList,
     ghost settings_stand: { map (λ s. s.place) settings.items ≡ places.listed },
     ghost settings_room: { places.room ≤ vec_capacity settings },
+}
+
+// By hand, so that it is proved once, here.
+impl<C: Cells> Drop for Scratch<C> {
+    fn drop(self) {
+        let Scratch {
+            places: _,
+            settings: _,
+            looked: _,
+        } = self;
+    }
 }
 
 /// Puts a setting at the end of a list that has room for it.

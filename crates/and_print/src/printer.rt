@@ -31,10 +31,19 @@ use and_quoting::write_name;
 use std::alloc::{AllocError, Global};
 
 /// What terms, goals and lines are read from: the program, and the row of words.
-#[derive(Drop)]
 pub(crate) struct Printer<'p, N: Naming> {
     pub loaded: &'p Loaded,
     pub cells: &'p PlainCells<N>,
+}
+
+// By hand, so that it is proved once, here.
+impl<'p, N: Naming> Drop for Printer<'p, N> {
+    fn drop(self) {
+        let Printer {
+            loaded: _,
+            cells: _,
+        } = self;
+    }
 }
 
 impl<N: Naming> Printer<'_, N> {

@@ -9,7 +9,6 @@ use crate::short::ShortText;
 use and_model::NodeNo;
 
 /// A clause or the query.
-#[derive(Drop)]
 pub struct ClauseEntry {
     pub head: NodeNo,
     pub items: Vec<ItemNode>,
@@ -25,6 +24,20 @@ pub struct ClauseEntry {
     ghost weighed: { weight ≡ 1 + vec_len variables
         + (pairs (map node_item items.items) + pairs (map node_item items.items)) },
     ghost guarded: { guard ≡ guard_length (map node_item items.items) },
+}
+
+// By hand, so that it is proved once, here.
+impl Drop for ClauseEntry {
+    fn drop(self) {
+        let ClauseEntry {
+            head: _,
+            items: _,
+            variables: _,
+            line: _,
+            weight: _,
+            guard: _,
+        } = self;
+    }
 }
 
 impl ClauseEntry {

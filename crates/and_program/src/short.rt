@@ -23,10 +23,22 @@ impl Drop for ShortText {
 }
 
 /// What holds the bytes of a name: the first of an array, or a list.
-#[derive(Drop)]
 pub(crate) enum Held {
     Short { bytes: [u8; SHORT], length: u8 },
     Long(Vec<u8>),
+}
+
+// By hand, so that it is proved once, here.
+impl Drop for Held {
+    fn drop(self) {
+        match self {
+            Held::Short {
+                bytes: _,
+                length: _,
+            } => {}
+            Held::Long(_) => {}
+        }
+    }
 }
 
 impl Model for ShortText {

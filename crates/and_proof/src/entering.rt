@@ -26,11 +26,21 @@ use and_unify::{PairList, Settled as Answer, Solver};
 use std::alloc::{AllocError, Global};
 
 /// What steps work with, kept by their caller and used again.
-#[derive(Drop)]
 pub(crate) struct Tools {
     pub(crate) solver: Solver,
     pub(crate) pairs: PairList,
     pub(crate) values: WorkList,
+}
+
+// By hand, so that it is proved once, here.
+impl Drop for Tools {
+    fn drop(self) {
+        let Tools {
+            solver: _,
+            pairs: _,
+            values: _,
+        } = self;
+    }
 }
 
 impl Tools {

@@ -37,12 +37,18 @@ pub(crate) enum Round {
 }
 
 /// Goals of arithmetic in their order, in two stacks about a place of work.
-#[derive(Drop)]
 pub(crate) struct Waiting {
     /// Those before the place, the nearest last.
     left: Vec<Goal>,
     /// Those behind it, the nearest last.
     right: Vec<Goal>,
+}
+
+// By hand, so that it is proved once, here.
+impl Drop for Waiting {
+    fn drop(self) {
+        let Waiting { left: _, right: _ } = self;
+    }
 }
 
 impl Waiting {

@@ -31,12 +31,23 @@ use and_unify::{PairList, Settled as Answer};
 use std::alloc::{AllocError, Global};
 
 /// What steps work with, kept by their caller and used again.
-#[derive(Drop)]
 pub struct Tools {
     alloc: Global,
     pub(crate) solver: HeadSolver,
     pub(crate) pairs: PairList,
     pub(crate) values: WorkList,
+}
+
+// By hand, so that it is proved once, here.
+impl Drop for Tools {
+    fn drop(self) {
+        let Tools {
+            alloc: _,
+            solver: _,
+            pairs: _,
+            values: _,
+        } = self;
+    }
 }
 
 impl Tools {

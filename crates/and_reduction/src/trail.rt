@@ -7,11 +7,17 @@ use std::alloc::{AllocError, Global};
 use std::marker::Model;
 
 /// Which words of a row were set since it was so long, so that it can be had again as it was then.
-#[derive(Drop)]
 pub struct Trail {
     /// How many words the row had; `None` where nothing is noted.
     mark: Option<u32>,
     cells: Vec<u32>,
+}
+
+// By hand, so that it is proved once, here.
+impl Drop for Trail {
+    fn drop(self) {
+        let Trail { mark: _, cells: _ } = self;
+    }
 }
 
 impl Model for Trail {

@@ -12,12 +12,18 @@ use and_cells::{Bound, Cells, Naming};
 use and_model::Ref;
 
 /// The cells of one worker: a row that others set words of at the same time.
-#[derive(Drop)]
 pub struct StoreCells<'a, N: Naming> {
     store: &'a Store<N>,
     pass: Pass,
     ghost of: { pass.store ≡ store.now },
     ghost once: { IsOnce pass.pass.known },
+}
+
+// By hand, so that it is proved once, here.
+impl<'a, N: Naming> Drop for StoreCells<'a, N> {
+    fn drop(self) {
+        let StoreCells { store: _, pass: _ } = self;
+    }
 }
 
 impl<'a, N: Naming> StoreCells<'a, N> {

@@ -16,12 +16,18 @@ use std::alloc::Global;
 use std::snapshot::Snapshot;
 
 /// What a tree leaves.
-#[derive(Drop)]
 pub struct ClosedTree {
     /// How many forks were made, and how many keys ended in each way.
     pub counts: Counts,
     /// What the passes have seen. It takes no memory.
     pub(crate) last: Snapshot<Badge<View>>,
+}
+
+// By hand, so that it is proved once, here.
+impl Drop for ClosedTree {
+    fn drop(self) {
+        let ClosedTree { counts: _, last: _ } = self;
+    }
 }
 
 /// Drops what lies in the slots.

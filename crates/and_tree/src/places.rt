@@ -21,11 +21,21 @@ pub(crate) struct PlainCell<B> {
 }
 
 /// Where the keys of a tree are.
-#[derive(Drop)]
 pub(crate) struct Places<B: Keyed + Drop> {
     hands: Vec<Hand>,
     cells: Vec<PlainCell<B>>,
     limit: u32,
+}
+
+// By hand, so that it is proved once, here.
+impl<B: Keyed + Drop> Drop for Places<B> {
+    fn drop(self) {
+        let Places {
+            hands: _,
+            cells: _,
+            limit: _,
+        } = self;
+    }
 }
 
 impl<B: Keyed + Drop> Model for Places<B> {

@@ -20,13 +20,24 @@ use std::alloc::{AllocError, Global};
 use std::marker::Model;
 
 /// A choicepoint tree as one thread has it, which plays all teams.
-#[derive(Drop)]
 pub struct PlainTree<B: Keyed + Drop> {
     places: Places<B>,
     /// How many keys are in a hand or open.
     left: u64,
     counts: Counts,
     alloc: Global,
+}
+
+// By hand, so that it is proved once, here.
+impl<B: Keyed + Drop> Drop for PlainTree<B> {
+    fn drop(self) {
+        let PlainTree {
+            places: _,
+            left: _,
+            counts: _,
+            alloc: _,
+        } = self;
+    }
 }
 
 impl<B: Keyed + Drop> Model for PlainTree<B> {

@@ -9,10 +9,16 @@ use atomic_table::TableRule;
 use std::marker::{Model, PhantomData};
 
 /// What the table is told when it is made.
-#[derive(Drop)]
 pub struct Start {
     pub teams: u32,
     pub limit: u32,
+}
+
+// By hand, so that it is proved once, here.
+impl Drop for Start {
+    fn drop(self) {
+        let Start { teams: _, limit: _ } = self;
+    }
 }
 
 impl Model for Start {

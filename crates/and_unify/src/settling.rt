@@ -119,7 +119,6 @@ pub fn settle<N: Naming>(
 
 /// Settles pairs over cells that are settled, and tells which cells it set. It is kept by its caller and
 /// used again, so that its lists take memory once. Contracts see the cells that the last call set.
-#[derive(Drop)]
 pub struct Solver {
     bound: Vec<u32>,
     /// Where paths that are followed are still to be followed from.
@@ -127,6 +126,18 @@ pub struct Solver {
     /// Places that were followed.
     met: Vec<Ref>,
     patience: Patience,
+}
+
+// By hand, so that it is proved once, here.
+impl Drop for Solver {
+    fn drop(self) {
+        let Solver {
+            bound: _,
+            visits: _,
+            met: _,
+            patience: _,
+        } = self;
+    }
 }
 
 impl Model for Solver {

@@ -20,7 +20,6 @@ use indexmap::IndexSet;
 use std::alloc::{AllocError, Global};
 
 /// What unification keeps beside the pairs that it is to make equal.
-#[derive(Drop)]
 pub(crate) struct Work {
     /// Pairs to do that cost nothing: they stand below a place that was taken before.
     pub(crate) rights: PairList,
@@ -28,6 +27,17 @@ pub(crate) struct Work {
     pub(crate) taken: IndexSet<Ref>,
     /// What was made equal.
     pub(crate) classes: Classes,
+}
+
+// By hand, so that it is proved once, here.
+impl Drop for Work {
+    fn drop(self) {
+        let Work {
+            rights: _,
+            taken: _,
+            classes: _,
+        } = self;
+    }
 }
 
 /// Whether there is a turn after this one.
