@@ -69,6 +69,7 @@ impl<N: Naming> Printer<'_, N> {
     }
 
     /// What the term of a reference begins with. Takes no memory.
+    #[inline(always)]
     fn root(&self, term: Ref) -> Root
         requires program { N.program ≡ named self.now.loaded.now }
         requires means { (t : Term) × Means (named self.now.loaded.now) self.now.cells.now term t }
