@@ -260,6 +260,7 @@ impl Look {
     }
 
     /// Whether the print of a clause's head tells it apart from the call. Takes no memory.
+    #[inline(always)]
     pub fn is_apart(&self, table: &Determinacy, clause: ClauseNo) -> bool
         requires { clause.0 < length table.now.prints.items }
         ensures { result ≡ are_apart self.now.print (print_at table.now clause.0) }

@@ -86,6 +86,7 @@ impl Marks {
     }
 
     /// Whether two terms with these marks can't be made one.
+    #[inline(always)]
     fn is_apart(self, other: Marks) -> bool
         ensures { result ≡ marks_differ self other }
     {
@@ -109,6 +110,7 @@ impl Print {
     }
 
     /// Whether two terms with these prints can't be made one.
+    #[inline(always)]
     pub(crate) fn is_apart(self, other: Print) -> bool
         ensures { result ≡ are_apart self other }
     {

@@ -146,6 +146,7 @@ impl PendingGoals {
     }
 
     /// Goes past the next goal. An error is want of memory, and the goal is lost.
+    #[inline(always)]
     pub fn pass(&mut self) -> Result<(), AllocError>
         requires { (w : Watched) × (rest : List Watched) × (self.old.right ≡ w ∷ rest) }
         ensures { OnOk result ((w : Watched) (rest : List Watched) → self.old.right ≡ w ∷ rest
@@ -160,6 +161,7 @@ impl PendingGoals {
 
     /// Goes back before the last goal that was passed, if there is one, and answers whether there is. An error is
     /// want of memory, and the goal is lost.
+    #[inline(always)]
     pub fn go_back(&mut self) -> Result<bool, AllocError>
         ensures none { result ≡ Ok false → (self.old.left ≡ []) × (self.new ≡ self.old) }
         ensures back { result ≡ Ok true → (front : List Watched) × (w : Watched) × (self.old.left ≡ front ++ w ∷ [])
