@@ -135,7 +135,7 @@ impl<N: Naming> Branch<N> {
         self.decide(alloc, loaded, goal, told)?;
         let longer = Snapshot::of(self.key());
         let decided = self.key().len();
-        let outline = self.give_outline(alloc);
+        let outline = self.give_outline(alloc)?;
         let choicepoint = Choicepoint {
             parent,
             outline,

@@ -1,6 +1,6 @@
 //! Outlines of branches, whose rows others have.
 
-ghost use Rattle.std.specs.Prelude.{◌≡◌, ◌++◌, ◌∷◌, [], take, OnOk};
+ghost use Rattle.std.specs.Prelude.{◌≡◌, ◌++◌, ◌∷◌, [], take, IfOk, OnOk};
 ghost use Rattle.and_cells.specs.Rows.{IsSound};
 ghost use Rattle.and_branch.specs.Making.{noted_from};
 ghost use Rattle.and_branch.specs.Origins.{GoesBack};
@@ -30,17 +30,17 @@ pub(crate) struct Outline {
 }
 
 impl<N: Naming> Branch<N> {
-    /// Gives its outline, and becomes a branch of which it can be had again. Takes no memory.
-    pub(crate) fn give_outline(&mut self, alloc: Global) -> Outline
-        ensures outline { IsOutlineOf self.old result }
-        ensures back { GoesBack self.old self.new }
-        ensures key { self.new.key ≡ self.old.key }
+    /// Gives its outline, and becomes a branch of which it can be had again. An error is want of memory.
+    pub(crate) fn give_outline(&mut self, alloc: Global) -> Result<Outline, AllocError>
+        ensures outline { IfOk result (IsOutlineOf self.old) }
+        ensures back { OnOk result (GoesBack self.old self.new) }
+        ensures key { OnOk result (self.new.key ≡ self.old.key) }
     {
         let words = self.cells.len();
         let count = self.reductions.len();
-        let goals = replace(&mut self.goals, PendingGoals::new(alloc));
+        let goals = self.goals.copy(alloc)?;
         let trail = replace(&mut self.trail, Trail::begun(alloc, words));
-        Outline {
+        Ok(Outline {
             limit: self.limit,
             goals,
             used: self.used,
@@ -48,7 +48,7 @@ impl<N: Naming> Branch<N> {
             trail,
             words,
             count,
-        }
+        })
     }
 
     /// Becomes the first branch again, but for the key: it keeps its own. What is set of its row from here on is noted.

@@ -1,3 +1,4 @@
+mod CopiedGoals
 mod Passing
 mod Stacks
 mod WatchedGoals

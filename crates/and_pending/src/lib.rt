@@ -2,6 +2,7 @@
 //! nothing need be done for it as long as certain cells are free, and it is passed over at a look at these.
 #![tactic(auto)]
 
+mod copying;
 mod filling;
 mod pending;
 mod watch;

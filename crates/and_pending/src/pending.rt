@@ -6,8 +6,9 @@ ghost use Rattle.std.specs.Prelude.{OnOk, IfOk, IfSome, IsNone};
 ghost use Rattle.and_pending.specs.Pending.{Pending, Watched, HasPassedSleepers, HasGoneBack, Sleeps, goals_of};
 ghost use Rattle.and_pending.specs.Pending.{unwatched, watched_in, IsWithin};
 
+use crate::copying::{put_watched, total_width};
 use crate::filling::{fill, list_goals, list_reversed, move_all, put_goals, stop_watching};
-use crate::watch::{Range, all_free};
+use crate::watch::{Range, all_free, range_of};
 use and_cells::{Naming, PlainCells};
 use and_model::Goal;
 use std::alloc::{AllocError, Global};
@@ -294,15 +295,17 @@ impl PendingGoals {
         self.cells.clear();
     }
 
-    /// The same once more. An error is want of memory.
+    /// The same once more, with no more cells than its goals are watched by. An error is want of memory.
     pub fn copy(&self, alloc: Global) -> Result<PendingGoals, AllocError>
         ensures { IfOk result (λ goals. goals ≡ self.now) }
     {
-        Ok(PendingGoals {
-            left: Vec::from_slice(alloc, &self.left)?,
-            right: Vec::from_slice(alloc, &self.right)?,
-            cells: Vec::from_slice(alloc, &self.cells)?,
-        })
+        let width = total_width(&self.left).saturating_add(total_width(&self.right));
+        let mut left = Vec::with_capacity(alloc, self.left.len())?;
+        let mut right = Vec::with_capacity(alloc, self.right.len())?;
+        let mut cells = Vec::with_capacity(alloc, width)?;
+        put_watched(&mut left, &mut cells, &self.left, &self.cells)?;
+        put_watched(&mut right, &mut cells, &self.right, &self.cells)?;
+        Ok(PendingGoals { left, right, cells })
     }
 
     /// Becomes the same as other goals. An error is want of memory, and no goal is left.
@@ -339,14 +342,4 @@ fn all_sleep<N: Naming>(cells: &[u32], row: &PlainCells<N>, goals: &[PendingGoal
         }
     }
     true
-}
-
-/// The range between two places. An error is want of memory. (There is none for 2^32 cells.)
-fn range_of(first: usize, past: usize) -> Result<Range, AllocError>
-    ensures { IfOk result (λ range. range ≡ record { first = first; past = past }) }
-{
-    let (Ok(first), Ok(past)) = (u32::try_from(first), u32::try_from(past)) else {
-        return Err(AllocError);
-    };
-    Ok(Range { first, past })
 }

@@ -9,7 +9,7 @@ use Rattle.and_branch.proofs.branch.Branch.give_outline.Goals as goal
 
 pub returns-clause-outline : goal.returns-clause-outline
 returns-clause-outline g c =
-    let goals = sym c.replace-goals.ensures.value in
+    let goals = sym c.in_ok-goals.ensures in
     outline_is _ c.args.self.now _ c.self.view_is (record {
       left = ap (λ (p : Pending). goals_of p.left) goals;
       right = ap (λ (p : Pending). goals_of p.right) goals;
