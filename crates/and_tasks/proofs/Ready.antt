@@ -16,7 +16,8 @@ use Rattle.and_answers.specs.Kept.{last_code_or, listed}
 use Rattle.and_answers.specs.Tails.{BeginAlike}
 use Rattle.and_model.specs.Listing.{Entry}
 use Rattle.and_answers.proofs.AlikeLemmas.{none_alike, whole_alike, longer_alike, shorter_alike}
-use Rattle.and_tasks.specs.Working.{AreToCome, Has, Works, AreServed, IsServed, Serves, IsAtWork, IsReady, Shares, LeftShares, as_told, at_fork, forked}
+use Rattle.and_tasks.specs.Working.{AreToCome, Has, Works, AreServed, IsServed, Serves, IsAtWork, IsLeftInHand, IsReady, Shares, LeftShares}
+use Rattle.and_tasks.specs.Working.{as_told, at_fork, forked}
 use Rattle.and_tasks.specs.declared.stack.Hand.{Hand}
 use Rattle.and_tasks.specs.declared.stack.Level.{Level}
 use Rattle.and_tasks.specs.declared.stack.Task.{Task}
@@ -258,3 +259,12 @@ module _ {N : Type 0} (P : NamedProgram) (tree : TreeId) (pass : PassSeen) (foun
     served = subst (λ (o : Option Held). AreServed o after) (sym is)
         (subst (λ (ts : List (Task N)). AreServed left ts) (sym put.1) (served_put left stack (Children l) below (here, tt)));
   }
+
+  -- What is left in hand was put by.
+  pub at_work_by : (q : PassSeen) (new : Found) (u v : Vec (Task N) Global) (h : Hand N) (left : Option Held) → q ≡ pass → new ≡ found → v ≡ u
+      → left ≡ Some h.branch → IsLeftInHand P tree pass found u.items h → IsAtWork P tree q new v.items left
+  at_work_by q new u v h left same_pass kept same is x =
+      subst (λ (o : Option Held). IsAtWork P tree q new v.items o) (sym is)
+      (subst (λ (p : PassSeen). IsAtWork P tree p new v.items (Some h.branch)) (sym same_pass)
+      (subst (λ (f : Found). IsAtWork P tree pass f v.items (Some h.branch)) (sym kept)
+      (subst (λ (w : Vec (Task N) Global). IsAtWork P tree pass found w.items (Some h.branch)) (sym same) x.at_work)))

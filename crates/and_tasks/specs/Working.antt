@@ -142,6 +142,14 @@ pub record IsReady {N : Type 0} (P : NamedProgram) (tree : TreeId) (pass : PassS
   pub served : AreServed (Some (as_told h)) stack
   pub shares : Shares found h.common (as_told h).key
 
+-- What is left of the branch in hand serves the stack, and its key begins with so many first clauses of the last entry's
+-- code.
+pub record IsLeftInHand {N : Type 0} (P : NamedProgram) (tree : TreeId) (pass : PassSeen) (found : Found)
+    (stack : List (Task N)) (h : Hand N)
+    : Type 0 where
+  pub at_work : IsAtWork P tree pass found stack (Some h.branch)
+  pub shares : Shares found h.common h.branch.key
+
 -- At the end of what the pass has seen no key is left.
 pub record SeesNone (pass : PassSeen) : Type 0 where
   pub state : State

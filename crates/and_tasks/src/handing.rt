@@ -181,8 +181,10 @@ impl<N: Naming> Team<N> {
             drop(level);
             return Err(AllocError);
         };
-        let Ok(branch) = level.next(shared.loaded, left, &mut self.workspace) else {
+        let mut branch = left;
+        let Ok(()) = level.next(shared.loaded, &mut branch, &mut self.workspace) else {
             self.give_up_children(shared, &level);
+            drop(branch);
             drop(level);
             return Err(AllocError);
         };

@@ -2,7 +2,7 @@
 //!
 //! The forks of a stack have one row together, that of the branch at work on top of them.
 
-ghost use Rattle.std.specs.Prelude.{ℕ, ◌≡◌, ◌≢◌, ◌<◌, ◌≤◌, [], drop, length, Option, Some, slice_get, OnErr, IfOk};
+ghost use Rattle.std.specs.Prelude.{ℕ, ◌≡◌, ◌≢◌, ◌<◌, ◌≤◌, [], drop, length, Option, Some, slice_get, OnErr, OnOk, IfOk};
 ghost use Rattle.std.specs.Prelude.{IfSome};
 ghost use Rattle.and_program.specs.Loaded.{program_of};
 ghost use Rattle.and_model.specs.Trees.{QueryTree};
@@ -76,23 +76,23 @@ impl<N: Naming> Level<N> {
         }
     }
 
-    /// The next child. An error is want of memory.
+    /// What is left of a branch becomes the next child. An error is want of memory, and the branch is spent.
     pub fn next(
         &mut self,
         loaded: &Loaded,
-        left: Branch<N>,
+        branch: &mut Branch<N>,
         workspace: &mut Workspace,
-    ) -> Result<Branch<N>, AllocError>
+    ) -> Result<(), AllocError>
         requires program { N.program ≡ named loaded.now }
         requires children { (t : QueryTree N.program.program) × AreChildren N.program self.old.point t }
-        requires left { Serves self.old left }
+        requires left { Serves self.old branch.old }
         requires some { self.old.point.clauses ≢ [] }
-        ensures child { IfOk result (IsChild N.program self.old.point self.new.point) }
-        ensures back { IfOk result (GoesBack self.old.point.parent) }
+        ensures child { OnOk result (IsChild N.program self.old.point self.new.point branch.new) }
+        ensures back { OnOk result (GoesBack self.old.point.parent branch.new) }
         ensures unchanged { OnErr result (self.new.point ≡ self.old.point) }
         ensures same { self.new ≡ record self.old { point = self.new.point } }
     {
-        self.point.next(loaded, left, workspace)
+        self.point.next_in_place(loaded, branch, workspace)
     }
 }
 

@@ -20,24 +20,24 @@ ghost use Rattle.and_answers.specs.Kept.{SameEnd, last_code_or, listed};
 ghost use Rattle.and_histories.specs.PlainTree.{Key, Owns, children};
 ghost use Rattle.and_search_laws.specs.Ended.{EndsSo};
 ghost use Rattle.and_team_laws.specs.Owed.{SameItems};
-ghost use Rattle.and_tasks.specs.Working.{AreServed, Has, IsAtWork, IsReady, IsServed, LeftShares, Serves, Shares};
+ghost use Rattle.and_tasks.specs.Working.{AreServed, Has, IsAtWork, IsLeftInHand, IsReady, LeftShares, Serves, Shares};
 ghost use Rattle.and_tasks.specs.Working.{Works};
 ghost use Rattle.and_tasks.specs.Working.{as_told, at_fork, forked};
 ghost use Rattle.and_tasks.specs.Props.{left_shares-prop};
 ghost use Rattle.and_tasks.specs.declared.team.TheConstants.{MOST_TASKS};
 
 use crate::placed::{PlacedBranch, PlacedFork};
-use crate::stack::{Hand, Level, Task};
+use crate::stack::{Hand, Level, Task, untold};
 use and_answers::Coded;
-use and_branch::{Branch, BranchState, Forked, Workspace};
+use and_branch::{Branch, BranchState, Choicepoint, Workspace};
 use and_cells::Naming;
 use and_clause_index::Determinacy;
-use and_code::CodeSoFar;
 use and_gate::Gate;
 use and_model::{ClauseList, Code, Cut, Goal};
 use and_program::Loaded;
 use and_tree::{Tree, TreePass};
 use std::alloc::{AllocError, Global};
+use std::mem::replace;
 use std::snapshot::Snapshot;
 
 /// A team that has more tasks forks no more: so its hand has no more keys than a tree allows. No team comes
@@ -176,34 +176,20 @@ impl<N: Naming> Team<N> {
             (IsAtWork N.program shared.now.tree.now self.new.pass self.new.found self.new.stack.items self.new.left) }
         ensures same { self.new.number ≡ self.old.number }
     {
-        let Hand {
-            branch,
-            told,
-            common,
-        } = hand;
-        let mut branch = branch;
-        let before = branch.weight();
-        let advanced = branch.advance_to_state(
+        let mut hand = hand;
+        let before = hand.branch.weight();
+        let advanced = hand.branch.advance_to_state(
             shared.loaded,
             shared.table,
             shared.gate,
             &mut self.workspace,
         );
-        self.note_work(before, branch.weight());
+        self.note_work(before, hand.branch.weight());
         match advanced {
-            Ok(state) => self.go_by(
-                shared,
-                Hand {
-                    branch,
-                    told,
-                    common,
-                },
-                state,
-            ),
+            Ok(state) => self.go_by(shared, hand, state),
             Err(AllocError) => {
-                self.give_up_key(shared, &Snapshot::of(branch.key()));
-                drop(told);
-                drop(branch);
+                self.give_up_key(shared, &Snapshot::of(hand.branch.key()));
+                drop(hand);
                 Err(AllocError)
             }
         }
@@ -269,15 +255,16 @@ impl<N: Naming> Team<N> {
         } = level;
         let clause = point.clause_left(0);
         let common = lesser(self.common, told.length);
-        match point.into_last(shared.loaded, left, &mut self.workspace) {
-            Ok(branch) => Ok(Hand {
-                branch,
-                told,
-                common,
-            }),
+        let mut hand = Hand {
+            branch: left,
+            told,
+            common,
+        };
+        match point.last_in_place(shared.loaded, &mut hand.branch, &mut self.workspace) {
+            Ok(()) => Ok(hand),
             Err(AllocError) => {
                 shared.tree.give_up_child(&mut self.pass, &longer, clause);
-                drop(told);
+                drop(hand);
                 Err(AllocError)
             }
         }
@@ -309,23 +296,23 @@ impl<N: Naming> Team<N> {
             return Err(AllocError);
         };
         let common = lesser(self.common, level.told.length);
+        let mut hand = Hand {
+            branch: left,
+            told,
+            common,
+        };
         let mut level = level;
-        let Ok(branch) = level.next(shared.loaded, left, &mut self.workspace) else {
+        let Ok(()) = level.next(shared.loaded, &mut hand.branch, &mut self.workspace) else {
             self.give_up_children(shared, &level);
-            drop(told);
+            drop(hand);
             drop(level);
             return Err(AllocError);
         };
         match self.put(shared, Task::Children(level)) {
-            Ok(()) => Ok(Hand {
-                branch,
-                told,
-                common,
-            }),
+            Ok(()) => Ok(hand),
             Err(AllocError) => {
-                self.give_up_key(shared, &Snapshot::of(branch.key()));
-                drop(told);
-                drop(branch);
+                self.give_up_key(shared, &Snapshot::of(hand.branch.key()));
+                drop(hand);
                 Err(AllocError)
             }
         }
@@ -348,205 +335,231 @@ impl<N: Naming> Team<N> {
             (IsAtWork N.program shared.now.tree.now self.new.pass self.new.found self.new.stack.items self.new.left) }
         ensures same { self.new.number ≡ self.old.number }
     {
-        match state {
-            BranchState::Fork { goal, clauses, cut } => self.fork(shared, hand, goal, clauses, cut),
-            BranchState::Answer => self.tell(shared, hand, false),
-            BranchState::Floundered => self.tell(shared, hand, true),
-            BranchState::Failed => {
-                let Hand {
-                    branch,
-                    told,
-                    common,
-                } = hand;
-                drop(told);
-                self.found.count_failed();
-                shared.tree.retire(&mut self.pass, branch.key());
-                self.left = Some(branch);
-                self.common = common;
-                Ok(())
-            }
-            BranchState::OverLimit(cut) => {
-                let Hand {
-                    branch,
-                    told,
-                    common,
-                } = hand;
-                drop(told);
-                self.found.keep_cut(Some(cut));
-                shared.tree.retire(&mut self.pass, branch.key());
-                self.left = Some(branch);
-                self.common = common;
-                Ok(())
-            }
-        }
-    }
-
-    /// Forks a branch, whose children are to come then.
-    fn fork<G: Gate>(
-        &mut self,
-        shared: &Shared<N, G>,
-        hand: Hand<N>,
-        goal: Goal,
-        clauses: ClauseList,
-        cut: Option<Cut>,
-    ) -> Result<(), AllocError>
-        requires program { N.program ≡ named shared.now.loaded.now }
-        requires ready { IsReady N.program shared.now.tree.now self.old.pass self.old.found self.old.stack.items hand }
-        requires state { (t : QueryTree N.program.program) → IsBranchOf N.program hand.branch t
-            → IsState N.program hand.branch t (BranchState.Fork goal clauses cut) }
-        ensures has { Has N.program shared.now.tree.now self.new.pass self.new.stack.items }
-        ensures at_work { OnOk result
-            (IsAtWork N.program shared.now.tree.now self.new.pass self.new.found self.new.stack.items self.new.left) }
-        ensures same { self.new.number ≡ self.old.number }
-    {
-        let Hand {
-            branch,
-            told,
-            common,
-        } = hand;
-        let key = Snapshot::of(branch.key());
-        if self.stack.len() >= MOST_TASKS {
-            self.give_up_key(shared, &key);
-            drop(clauses);
-            drop(told);
-            drop(branch);
-            return Err(AllocError);
-        }
-        let words = branch.weight();
-        let mut told = told;
-        match branch.fork(shared.alloc, shared.loaded, goal, clauses, &mut told) {
-            Ok(forked) => {
-                self.replace(shared, forked, told, cut, common)?;
-                self.hand_on(shared, words)
+        let mut hand = hand;
+        let is_forked = forks(&state);
+        let words = hand.branch.weight();
+        self.left = None;
+        match self.go_on(shared, &mut hand, state) {
+            Ok(()) => {
+                self.put_by(hand);
+                if is_forked {
+                    self.hand_on(shared, words)
+                } else {
+                    Ok(())
+                }
             }
             Err(AllocError) => {
-                self.give_up_key(shared, &key);
-                drop(told);
+                drop(hand);
                 Err(AllocError)
             }
         }
     }
 
-    /// Puts the children of a fork in the place of the branch that is forked. What is left of it serves them.
-    fn replace<G: Gate>(
-        &mut self,
-        shared: &Shared<N, G>,
-        forked: Forked<N>,
-        told: CodeSoFar,
-        cut: Option<Cut>,
-        common: usize,
-    ) -> Result<(), AllocError>
-        requires program { N.program ≡ named shared.now.loaded.now }
-        requires works { Works N.program shared.now.tree.now self.old.pass self.old.found
-            (Task.One forked.choicepoint.parent ∷ self.old.stack.items) }
-        requires few { length self.old.stack.items < MOST_TASKS }
-        requires split { (t : QueryTree N.program.program) × (o : Open t) × (first : Option ℕ)
-            × IsBranchOf N.program forked.choicepoint.parent t
-            × AreChildren N.program forked.choicepoint t × IsCutOf N.program t o first cut
-            × StateOf N.program.program forked.choicepoint.parent.limit t (fork o forked.choicepoint.clauses first) }
-        requires told { IsTold N.program.program forked.choicepoint.parent.reductions told forked.choicepoint.longer }
-        requires length { told.length ≡ length forked.choicepoint.longer }
-        requires left { GoesBack forked.choicepoint.parent forked.left }
-        requires key { forked.left.key ≡ forked.choicepoint.longer }
-        requires served { AreServed (Some (at_fork forked.choicepoint)) self.old.stack.items }
-        requires shares { Shares self.old.found common forked.left.key }
-        ensures has { Has N.program shared.now.tree.now self.new.pass self.new.stack.items }
-        ensures at_work { OnOk result
-            (IsAtWork N.program shared.now.tree.now self.new.pass self.new.found self.new.stack.items self.new.left) }
-        ensures same { self.new.number ≡ self.old.number }
-    {
-        let Forked { choicepoint, left } = forked;
-        let longer = Snapshot::of(left.key());
-        let placed = PlacedFork { point: choicepoint };
-        shared.tree.fork(&mut self.pass, &placed);
-        self.found.count_fork();
-        self.found.keep_cut(cut);
-        let PlacedFork { point } = placed;
-        let level = Level::new(point, told, longer);
-        self.left = Some(left);
-        self.common = common;
-        self.put_fork(shared, level)
-    }
-
-    /// Puts a fork on top of the stack, which what is left of a branch serves. After want of memory its children have
-    /// been given up.
-    fn put_fork<G: Gate>(
-        &mut self,
-        shared: &Shared<N, G>,
-        level: Level<N>,
-    ) -> Result<(), AllocError>
-        requires works { Works N.program shared.now.tree.now self.old.pass self.old.found
-            (Task.Children level ∷ self.old.stack.items) }
-        requires left { IsServed level self.old.left }
-        requires served { AreServed (Some (forked level)) self.old.stack.items }
-        ensures has { Has N.program shared.now.tree.now self.new.pass self.new.stack.items }
-        ensures at_work { OnOk result
-            (IsAtWork N.program shared.now.tree.now self.new.pass self.new.found self.new.stack.items self.new.left) }
-        ensures same { self.new.number ≡ self.old.number }
-    {
-        self.put(shared, Task::Children(level))
-    }
-
-    /// Adds what a branch ended with.
-    fn tell<G: Gate>(
-        &mut self,
-        shared: &Shared<N, G>,
-        hand: Hand<N>,
-        floundered: bool,
-    ) -> Result<(), AllocError>
-        requires program { N.program ≡ named shared.now.loaded.now }
-        requires ready { IsReady N.program shared.now.tree.now self.old.pass self.old.found self.old.stack.items hand }
-        requires ended { HasEnded N.program hand.branch }
-        requires state { (t : QueryTree N.program.program) → IsBranchOf N.program hand.branch t
-            → EndsSo N.program hand.branch t floundered }
-        ensures has { Has N.program shared.now.tree.now self.new.pass self.new.stack.items }
-        ensures at_work { OnOk result
-            (IsAtWork N.program shared.now.tree.now self.new.pass self.new.found self.new.stack.items self.new.left) }
-        ensures same { self.new.number ≡ self.old.number }
-    {
-        shared.tree.answer(&mut self.pass, hand.branch.key());
-        self.left = None;
-        let branch = self.add(shared, hand, floundered)?;
-        shared.gate.found(self.number);
-        self.common = branch.key().len();
-        self.left = Some(branch);
-        Ok(())
-    }
-
-    /// Adds the entry of a branch, whose key is then the code: what is left of it. An error is want of memory.
-    fn add<G: Gate>(
-        &mut self,
-        shared: &Shared<N, G>,
-        hand: Hand<N>,
-        floundered: bool,
-    ) -> Result<Branch<N>, AllocError>
-        requires program { N.program ≡ named shared.now.loaded.now }
-        requires branch { IsBranch N.program hand.branch }
-        requires told { IsTold N.program.program hand.branch.reductions hand.told hand.branch.key }
-        requires ended { HasEnded N.program hand.branch }
-        requires shares { Shares self.old.found hand.common (as_told hand).key }
-        requires none { self.old.left ≡ None }
-        ensures entries { OnOk result ((t : QueryTree N.program.program) → IsBranchOf N.program hand.branch t
-            → EndsSo N.program hand.branch t floundered → (outcome : Outcome) × Ends t outcome
-            × (listed self.new.found ≡ listed self.old.found
-            ++ record { code = trees.code t; outcome = outcome } ∷ [])) }
-        ensures end { SameEnd self.old.found self.new.found }
-        ensures left { IfOk result (λ left. (left ≡ record hand.branch { key = left.key })
-            × IsPrefix (as_told hand).key left.key) }
-        ensures last { IfOk result (λ left. last_code_or [] (listed self.new.found) ≡ left.key) }
+    /// Puts by what is left of the branch in hand.
+    fn put_by(&mut self, hand: Hand<N>)
+        requires { Shares self.old.found hand.common hand.branch.key }
+        ensures left { self.new.left ≡ Some hand.branch }
         ensures same { (self.new.number ≡ self.old.number) × (self.new.pass ≡ self.old.pass)
-            × (self.new.stack ≡ self.old.stack) × (self.new.left ≡ None) }
+            × (self.new.found ≡ self.old.found) × (self.new.stack ≡ self.old.stack) }
     {
         let Hand {
             branch,
             told,
             common,
         } = hand;
-        let line = branch.line(shared.alloc, shared.loaded)?;
-        let mut branch = branch;
-        branch.tell_code(shared.alloc, shared.loaded, told)?;
-        self.found.add(common, branch.key(), line, floundered)?;
-        Ok(branch)
+        drop(told);
+        self.common = common;
+        self.left = Some(branch);
+    }
+
+    /// Goes on with the branch in hand by its state. What is left of it is in hand then.
+    fn go_on<G: Gate>(
+        &mut self,
+        shared: &Shared<N, G>,
+        hand: &mut Hand<N>,
+        state: BranchState,
+    ) -> Result<(), AllocError>
+        requires program { N.program ≡ named shared.now.loaded.now }
+        requires ready { IsReady N.program shared.now.tree.now self.old.pass self.old.found self.old.stack.items hand.old }
+        requires state { (t : QueryTree N.program.program) → IsBranchOf N.program hand.old.branch t
+            → IsState N.program hand.old.branch t state }
+        requires at_rest { IsAtRest N.program hand.old.branch state }
+        requires none { self.old.left ≡ None }
+        ensures has { Has N.program shared.now.tree.now self.new.pass self.new.stack.items }
+        ensures at_work { OnOk result (IsLeftInHand N.program shared.now.tree.now self.new.pass self.new.found
+            self.new.stack.items hand.new) }
+        ensures same { self.new.number ≡ self.old.number }
+    {
+        match state {
+            BranchState::Fork { goal, clauses, cut } => self.fork(shared, hand, goal, clauses, cut),
+            BranchState::Answer => self.tell(shared, hand, false),
+            BranchState::Floundered => self.tell(shared, hand, true),
+            BranchState::Failed => {
+                self.found.count_failed();
+                shared.tree.retire(&mut self.pass, hand.branch.key());
+                Ok(())
+            }
+            BranchState::OverLimit(cut) => {
+                self.found.keep_cut(Some(cut));
+                shared.tree.retire(&mut self.pass, hand.branch.key());
+                Ok(())
+            }
+        }
+    }
+
+    /// Forks the branch in hand, whose children are to come then. What is left of it serves them.
+    fn fork<G: Gate>(
+        &mut self,
+        shared: &Shared<N, G>,
+        hand: &mut Hand<N>,
+        goal: Goal,
+        clauses: ClauseList,
+        cut: Option<Cut>,
+    ) -> Result<(), AllocError>
+        requires program { N.program ≡ named shared.now.loaded.now }
+        requires ready { IsReady N.program shared.now.tree.now self.old.pass self.old.found self.old.stack.items hand.old }
+        requires state { (t : QueryTree N.program.program) → IsBranchOf N.program hand.old.branch t
+            → IsState N.program hand.old.branch t (BranchState.Fork goal clauses cut) }
+        requires none { self.old.left ≡ None }
+        ensures has { Has N.program shared.now.tree.now self.new.pass self.new.stack.items }
+        ensures at_work { OnOk result (IsLeftInHand N.program shared.now.tree.now self.new.pass self.new.found
+            self.new.stack.items hand.new) }
+        ensures same { self.new.number ≡ self.old.number }
+    {
+        let key = Snapshot::of(hand.branch.key());
+        if self.stack.len() >= MOST_TASKS {
+            self.give_up_key(shared, &key);
+            drop(clauses);
+            return Err(AllocError);
+        }
+        match hand
+            .branch
+            .fork_in_place(shared.alloc, shared.loaded, goal, clauses, &mut hand.told)
+        {
+            Ok(point) => self.put_children(shared, hand, point, cut),
+            Err(AllocError) => {
+                self.give_up_key(shared, &key);
+                Err(AllocError)
+            }
+        }
+    }
+
+    /// Puts the children of a fork in the place of the branch that is forked. What is left of it is in hand.
+    fn put_children<G: Gate>(
+        &mut self,
+        shared: &Shared<N, G>,
+        hand: &mut Hand<N>,
+        choicepoint: Choicepoint<N>,
+        cut: Option<Cut>,
+    ) -> Result<(), AllocError>
+        requires program { N.program ≡ named shared.now.loaded.now }
+        requires works { Works N.program shared.now.tree.now self.old.pass self.old.found
+            (Task.One choicepoint.parent ∷ self.old.stack.items) }
+        requires few { length self.old.stack.items < MOST_TASKS }
+        requires split { (t : QueryTree N.program.program) × (o : Open t) × (first : Option ℕ)
+            × IsBranchOf N.program choicepoint.parent t
+            × AreChildren N.program choicepoint t × IsCutOf N.program t o first cut
+            × StateOf N.program.program choicepoint.parent.limit t (fork o choicepoint.clauses first) }
+        requires told { IsTold N.program.program choicepoint.parent.reductions hand.old.told choicepoint.longer }
+        requires length { hand.old.told.length ≡ length choicepoint.longer }
+        requires left { GoesBack choicepoint.parent hand.old.branch }
+        requires key { hand.old.branch.key ≡ choicepoint.longer }
+        requires served { AreServed (Some (at_fork choicepoint)) self.old.stack.items }
+        requires shares { Shares self.old.found hand.old.common hand.old.branch.key }
+        requires none { self.old.left ≡ None }
+        ensures has { Has N.program shared.now.tree.now self.new.pass self.new.stack.items }
+        ensures at_work { OnOk result (IsLeftInHand N.program shared.now.tree.now self.new.pass self.new.found
+            self.new.stack.items hand.new) }
+        ensures same { self.new.number ≡ self.old.number }
+    {
+        let longer = Snapshot::of(hand.branch.key());
+        let placed = PlacedFork { point: choicepoint };
+        shared.tree.fork(&mut self.pass, &placed);
+        self.found.count_fork();
+        self.found.keep_cut(cut);
+        let PlacedFork { point } = placed;
+        let told = replace(&mut hand.told, untold(shared.alloc, shared.loaded));
+        let level = Level::new(point, told, longer);
+        self.put_fork(shared, &*hand, level)
+    }
+
+    /// Puts a fork on top of the stack, which what is left of the branch in hand serves. After want of memory its
+    /// children have been given up.
+    fn put_fork<G: Gate>(
+        &mut self,
+        shared: &Shared<N, G>,
+        hand: &Hand<N>,
+        level: Level<N>,
+    ) -> Result<(), AllocError>
+        requires works { Works N.program shared.now.tree.now self.old.pass self.old.found
+            (Task.Children level ∷ self.old.stack.items) }
+        requires left { Serves level hand.now.branch }
+        requires served { AreServed (Some (forked level)) self.old.stack.items }
+        requires shares { Shares self.old.found hand.now.common hand.now.branch.key }
+        ensures has { Has N.program shared.now.tree.now self.new.pass self.new.stack.items }
+        ensures at_work { OnOk result (IsLeftInHand N.program shared.now.tree.now self.new.pass self.new.found
+            self.new.stack.items hand.now) }
+        ensures same { self.new.number ≡ self.old.number }
+    {
+        self.put(shared, Task::Children(level))
+    }
+
+    /// Adds what the branch in hand ended with. What is left of it is in hand then.
+    fn tell<G: Gate>(
+        &mut self,
+        shared: &Shared<N, G>,
+        hand: &mut Hand<N>,
+        floundered: bool,
+    ) -> Result<(), AllocError>
+        requires program { N.program ≡ named shared.now.loaded.now }
+        requires ready { IsReady N.program shared.now.tree.now self.old.pass self.old.found self.old.stack.items hand.old }
+        requires ended { HasEnded N.program hand.old.branch }
+        requires state { (t : QueryTree N.program.program) → IsBranchOf N.program hand.old.branch t
+            → EndsSo N.program hand.old.branch t floundered }
+        requires none { self.old.left ≡ None }
+        ensures has { Has N.program shared.now.tree.now self.new.pass self.new.stack.items }
+        ensures at_work { OnOk result (IsLeftInHand N.program shared.now.tree.now self.new.pass self.new.found
+            self.new.stack.items hand.new) }
+        ensures same { self.new.number ≡ self.old.number }
+    {
+        shared.tree.answer(&mut self.pass, hand.branch.key());
+        self.add(shared, hand, floundered)?;
+        shared.gate.found(self.number);
+        let common = hand.branch.key().len();
+        hand.common = common;
+        Ok(())
+    }
+
+    /// Adds the entry of the branch in hand, whose key is then the code: what is left of it. An error is want of memory.
+    fn add<G: Gate>(
+        &mut self,
+        shared: &Shared<N, G>,
+        hand: &mut Hand<N>,
+        floundered: bool,
+    ) -> Result<(), AllocError>
+        requires program { N.program ≡ named shared.now.loaded.now }
+        requires branch { IsBranch N.program hand.old.branch }
+        requires told { IsTold N.program.program hand.old.branch.reductions hand.old.told hand.old.branch.key }
+        requires ended { HasEnded N.program hand.old.branch }
+        requires shares { Shares self.old.found hand.old.common (as_told hand.old).key }
+        requires none { self.old.left ≡ None }
+        ensures entries { OnOk result ((t : QueryTree N.program.program) → IsBranchOf N.program hand.old.branch t
+            → EndsSo N.program hand.old.branch t floundered → (outcome : Outcome) × Ends t outcome
+            × (listed self.new.found ≡ listed self.old.found
+            ++ record { code = trees.code t; outcome = outcome } ∷ [])) }
+        ensures end { SameEnd self.old.found self.new.found }
+        ensures left { OnOk result ((hand.new.branch ≡ record hand.old.branch { key = hand.new.branch.key })
+            × IsPrefix (as_told hand.old).key hand.new.branch.key) }
+        ensures last { OnOk result (last_code_or [] (listed self.new.found) ≡ hand.new.branch.key) }
+        ensures same { (self.new.number ≡ self.old.number) × (self.new.pass ≡ self.old.pass)
+            × (self.new.stack ≡ self.old.stack) × (self.new.left ≡ None) }
+    {
+        let told = replace(&mut hand.told, untold(shared.alloc, shared.loaded));
+        let line = hand.branch.line(shared.alloc, shared.loaded)?;
+        hand.branch.tell_code(shared.alloc, shared.loaded, told)?;
+        self.found
+            .add(hand.common, hand.branch.key(), line, floundered)?;
+        Ok(())
     }
 
     // ---- want of memory
@@ -647,4 +660,9 @@ fn lesser(one: usize, other: usize) -> usize
     ensures second { result ≤ other }
 {
     if one < other { one } else { other }
+}
+
+/// Whether a branch of this state is forked.
+fn forks(state: &BranchState) -> bool {
+    matches!(state, BranchState::Fork { .. })
 }

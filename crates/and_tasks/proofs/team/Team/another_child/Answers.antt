@@ -38,8 +38,8 @@ give_up_children-requires-in_default-next-clause-hand g c κs within =
 pub put-requires-clause-has : goal.put-requires-clause-has
 put-requires-clause-has g c κs within =
     let s = c.args.self.now in (
-      One c.in-Ok-next.branch ∷ s.stack.items,
-      another_parted g.N.Naming.program c.args.shared.now.tree.now s.pass s.found c.args.level c.next.new.self c.in-Ok-next.branch s.stack.items
+      One c.next.new.branch ∷ s.stack.items,
+      another_parted g.N.Naming.program c.args.shared.now.tree.now s.pass s.found c.args.level c.next.new.self c.next.new.branch s.stack.items
           c.requires.works c.in-Ok-next.ensures.child c.requires.more c.next.ensures.same,
     )
 
@@ -49,7 +49,7 @@ returns-in-Ok-put-clause-ready g c =
     let tree : TreeId = c.args.shared.now.tree.now in
     let s = c.args.self.now in
     let m : Level g.row.N.Denot = c.next.new.self in
-    let b : Held = c.in-Ok-next.branch in
+    let b : Held = c.next.new.branch in
     let t = c.put.new.self in
     let common = c.lesser-common in
     another_ready P tree s.pass s.found t.pass t.found c.args.level m b c.in-Ok.told common.result s.stack.items t.stack.items c.requires.works
@@ -66,7 +66,7 @@ give_up_key-requires-clause-has g c κs within =
     let s = c.args.self.now in
     let t = c.put.new.self in
     let m : Level g.row.N.Denot = c.next.new.self in
-    let b : Held = c.in-Ok-next.branch in (
+    let b : Held = c.next.new.branch in (
       b,
       c.of.ensures ∙ c.key.ensures,
       has_behind_given P tree s.pass t.pass (Children m) (One b) s.stack.items t.stack.items

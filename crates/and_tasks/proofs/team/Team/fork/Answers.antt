@@ -5,44 +5,44 @@ use Rattle.and_tasks.proofs.Turns.{fork_there, split_there, works_split}
 use Rattle.and_tasks.proofs.team.Team.fork.Goals as goal
 
 pub give_up_key-requires-clause-has : goal.give_up_key-requires-clause-has
-give_up_key-requires-clause-has g c κs within = (c.args.hand.branch, c.of-key.ensures ∙ c.key.ensures, c.requires.ready.works.has)
+give_up_key-requires-clause-has g c κs within = (c.args.hand.now.branch, c.of-key.ensures ∙ c.key.ensures, c.requires.ready.works.has)
 
-pub fork-requires-clause-fork : goal.fork-requires-clause-fork
-fork-requires-clause-fork g c =
+pub fork_in_place-requires-clause-fork : goal.fork_in_place-requires-clause-fork
+fork_in_place-requires-clause-fork g c =
     let s = c.args.self.now in
-    fork_there g.N.Naming.program c.args.shared.now.tree.now s.pass s.found c.args.hand.branch s.stack.items c.args.goal c.args.clauses c.args.cut
+    fork_there g.N.Naming.program c.args.shared.now.tree.now s.pass s.found c.args.hand.now.branch s.stack.items c.args.goal c.args.clauses c.args.cut
     c.requires.ready.works c.requires.state
 
-pub replace-requires-clause-works : goal.replace-requires-clause-works
-replace-requires-clause-works g c κs within =
+pub put_children-requires-clause-works : goal.put_children-requires-clause-works
+put_children-requires-clause-works g c κs within =
     let s = c.args.self.now in
-    works_split g.N.Naming.program c.args.shared.now.tree.now s.pass s.found c.args.hand.branch s.stack.items c.args.goal (numbers c.args.clauses)
-    c.in-Ok.forked.choicepoint c.requires.ready.works c.in-Ok.ensures.fork
+    works_split g.N.Naming.program c.args.shared.now.tree.now s.pass s.found c.args.hand.now.branch s.stack.items c.args.goal (numbers c.args.clauses)
+    c.in-Ok.point c.requires.ready.works c.in-Ok.ensures.fork
 
-pub replace-requires-clause-split : goal.replace-requires-clause-split
-replace-requires-clause-split g c κs within =
+pub put_children-requires-clause-split : goal.put_children-requires-clause-split
+put_children-requires-clause-split g c κs within =
     let s = c.args.self.now in
-    split_there g.N.Naming.program c.args.shared.now.tree.now s.pass s.found c.args.hand.branch s.stack.items c.args.goal c.args.clauses c.args.cut
-    c.in-Ok.forked.choicepoint c.requires.ready.works c.requires.state c.in-Ok.ensures.fork c.in-Ok.ensures.children
+    split_there g.N.Naming.program c.args.shared.now.tree.now s.pass s.found c.args.hand.now.branch s.stack.items c.args.goal c.args.clauses c.args.cut
+    c.in-Ok.point c.requires.ready.works c.requires.state c.in-Ok.ensures.fork c.in-Ok.ensures.children
 
-pub replace-requires-clause-told : goal.replace-requires-clause-told
-replace-requires-clause-told g c κs within =
-    told_fork g.N.Naming.program c.args.hand.branch c.in-Ok.forked.choicepoint c.fork.new.told c.in-Ok.ensures.fork.parent c.in-Ok.ensures.told
+pub put_children-requires-clause-told : goal.put_children-requires-clause-told
+put_children-requires-clause-told g c κs within =
+    told_fork g.N.Naming.program c.args.hand.now.branch c.in-Ok.point c.fork_in_place.new.told c.in-Ok.ensures.fork.parent c.in-Ok.ensures.told
 
-pub replace-requires-clause-left : goal.replace-requires-clause-left
-replace-requires-clause-left g c κs within =
-    back_fork c.args.hand.branch c.in-Ok.forked.left c.in-Ok.forked.choicepoint c.in-Ok.ensures.fork.parent c.in-Ok.ensures.back
+pub put_children-requires-clause-left : goal.put_children-requires-clause-left
+put_children-requires-clause-left g c κs within =
+    back_fork c.args.hand.now.branch c.fork_in_place.new.self c.in-Ok.point c.in-Ok.ensures.fork.parent c.in-Ok.ensures.back
 
-pub replace-requires-clause-served : goal.replace-requires-clause-served
-replace-requires-clause-served g c κs within =
+pub put_children-requires-clause-served : goal.put_children-requires-clause-served
+put_children-requires-clause-served g c κs within =
     let s = c.args.self.now in
-    forked_served c.args.hand c.in-Ok.forked.choicepoint s.stack.items c.in-Ok.ensures.fork.parent c.in-Ok.ensures.begins c.requires.ready.served
+    forked_served c.args.hand.now c.in-Ok.point s.stack.items c.in-Ok.ensures.fork.parent c.in-Ok.ensures.begins c.requires.ready.served
 
-pub replace-requires-clause-shares : goal.replace-requires-clause-shares
-replace-requires-clause-shares g c κs within =
+pub put_children-requires-clause-shares : goal.put_children-requires-clause-shares
+put_children-requires-clause-shares g c κs within =
     let s = c.args.self.now in
-    forked_shares s.found c.args.hand c.in-Ok.forked.choicepoint c.in-Ok.forked.left c.in-Ok.ensures.key c.in-Ok.ensures.begins
+    forked_shares s.found c.args.hand.now c.in-Ok.point c.fork_in_place.new.self c.in-Ok.ensures.key c.in-Ok.ensures.begins
     c.requires.ready.shares
 
 pub give_up_key-requires-in-Err-clause-has : goal.give_up_key-requires-in-Err-clause-has
-give_up_key-requires-in-Err-clause-has g c κs within = (c.args.hand.branch, c.of-key.ensures ∙ c.key.ensures, c.requires.ready.works.has)
+give_up_key-requires-in-Err-clause-has g c κs within = (c.args.hand.now.branch, c.of-key.ensures ∙ c.key.ensures, c.requires.ready.works.has)

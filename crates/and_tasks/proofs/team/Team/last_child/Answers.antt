@@ -7,19 +7,19 @@ use Rattle.and_tasks.proofs.Having.{all_keys, children_there, child_in_hand, has
 use Rattle.and_tasks.proofs.Ready.{child_shares, last_ready}
 use Rattle.and_tasks.proofs.team.Team.last_child.Goals as goal
 
-pub into_last-requires-clause-children : goal.into_last-requires-clause-children
-into_last-requires-clause-children g c =
+pub last_in_place-requires-clause-children : goal.last_in_place-requires-clause-children
+last_in_place-requires-clause-children g c =
     let s = c.args.self.now in
     children_there g.N.Naming.program c.args.shared.now.tree.now c.args.level s.stack.items s.pass c.requires.works.has
 
-pub into_last-requires-clause-key : goal.into_last-requires-clause-key
-into_last-requires-clause-key g c = c.requires.left.begins
+pub last_in_place-requires-clause-key : goal.last_in_place-requires-clause-key
+last_in_place-requires-clause-key g c = c.requires.left.begins
 
-pub into_last-requires-clause-some : goal.into_last-requires-clause-some
-into_last-requires-clause-some g c = c.requires.works.has.tasks_are.0.some
+pub last_in_place-requires-clause-some : goal.last_in_place-requires-clause-some
+last_in_place-requires-clause-some g c = c.requires.works.has.tasks_are.0.some
 
-pub into_last-requires-clause-back : goal.into_last-requires-clause-back
-into_last-requires-clause-back g c = c.requires.left.back
+pub last_in_place-requires-clause-back : goal.last_in_place-requires-clause-back
+last_in_place-requires-clause-back g c = c.requires.left.back
 
 pub returns-in-Ok-clause-ready : goal.returns-in-Ok-clause-ready
 returns-in-Ok-clause-ready g c =
@@ -28,7 +28,7 @@ returns-in-Ok-clause-ready g c =
     let P : NamedProgram = g.N.Naming.program in
     let tree = c.args.shared.now.tree.now in
     let common = c.lesser-common in
-    last_ready P tree s.pass s.found c.args.level rest c.in-Ok.branch s.stack.items common.result c.requires.works child
+    last_ready P tree s.pass s.found c.args.level rest c.last_in_place.new.branch s.stack.items common.result c.requires.works child
     c.requires.one c.in-Ok.ensures.back c.requires.served
     (child_shares P tree s.pass s.found c.args.level c.args.left s.stack.items s.common common.result c.requires.works c.requires.left
     c.requires.shares common.ensures.first common.ensures.second)

@@ -32,7 +32,7 @@ returns-then-left-eq0-clause-branch g c =
     let P : NamedProgram = g.N.Naming.program in
     let tree : TreeId = c.args.shared.now.tree.now in
     let s = c.args.self.now in
-    let b : Held = c.in-Ok.branch in
+    let b : Held = c.next.new.branch in
     let m : Level g.row.N.Denot = c.next.new.self in
     (refl, only_parted P tree c.args.level m b s.stack.items s.pass c.in-Ok.ensures.child (omega (arith, c.left.ensures, c.if-left-eq0.true)) c.requires.has)
 
@@ -41,8 +41,8 @@ put_below-requires-clause-has g c κs within =
     let s = c.args.self.now in
     let m : Level g.row.N.Denot = c.next.new.self in
     let some = some_left m.point.clauses (λ none. c.if-left-eq0.false (c.left.ensures ∙ none)) in (
-      One c.in-Ok.branch ∷ s.stack.items,
-      rest_parted g.N.Naming.program c.args.shared.now.tree.now c.args.level m c.in-Ok.branch s.stack.items s.pass c.in-Ok.ensures.child
+      One c.next.new.branch ∷ s.stack.items,
+      rest_parted g.N.Naming.program c.args.shared.now.tree.now c.args.level m c.next.new.branch s.stack.items s.pass c.in-Ok.ensures.child
           c.next.ensures.same some c.requires.has,
     )
 
@@ -53,7 +53,7 @@ give_up_key-requires-clause-has g c κs within =
     let s = c.args.self.now in
     let t = c.put_below.new.self in
     let m : Level g.row.N.Denot = c.next.new.self in
-    let b : Held = c.in-Ok.branch in
+    let b : Held = c.next.new.branch in
     let some = some_left m.point.clauses (λ none. c.if-left-eq0.false (c.left.ensures ∙ none)) in (
       b,
       c.of.ensures ∙ c.key.ensures,
@@ -69,7 +69,7 @@ returns-in-Ok-put_below-clause-branch g c =
     let s = c.args.self.now in
     let t = c.put_below.new.self in
     let m : Level g.row.N.Denot = c.next.new.self in
-    let b : Held = c.in-Ok.branch in
+    let b : Held = c.next.new.branch in
     let some = some_left m.point.clauses (λ none. c.if-left-eq0.false (c.left.ensures ∙ none)) in
     let put = c.in-Ok-put_below.ensures.put in (
       put.0,
@@ -86,4 +86,4 @@ returns-in-Ok-put_below-clause-served g c =
     let put = c.in-Ok-put_below.ensures.put in
     subst (λ o. AreServed o c.put_below.new.self.stack.items) (sym c.put_below.ensures.same.2)
     (subst (λ (ts : List (Task g.row.N.Denot)). AreServed s.left ts) (sym put.1)
-    (served_next g.N.Naming.program s.left c.args.level m c.in-Ok.branch s.stack.items c.in-Ok.ensures.child c.requires.served))
+    (served_next g.N.Naming.program s.left c.args.level m c.next.new.branch s.stack.items c.in-Ok.ensures.child c.requires.served))
