@@ -13,10 +13,16 @@ use std::snapshot::Snapshot;
 
 /// What a run found, as contracts see it, and the code of each entry beside it, so that the entries can be put in
 /// order. It keeps the allocator that it was made with.
-#[derive(Drop)]
 pub struct Coded {
     found: Found,
     codes: CodeList,
+}
+
+// By hand, so that it is proved once, here.
+impl Drop for Coded {
+    fn drop(self) {
+        let Coded { found: _, codes: _ } = self;
+    }
 }
 
 impl Model for Coded {

@@ -12,11 +12,17 @@ use std::marker::Model;
 
 /// Codes in the order in which they came. Each is kept as what it has behind the one before it, which is little
 /// where they come in their own order. It keeps the allocator that it was made with.
-#[derive(Drop)]
 pub struct CodeList {
     pieces: Vec<Piece>,
     /// The last code, and the empty one where there is none; `None` after want of memory.
     last: Option<Code>,
+}
+
+// By hand, so that it is proved once, here.
+impl Drop for CodeList {
+    fn drop(self) {
+        let CodeList { pieces: _, last: _ } = self;
+    }
 }
 
 impl Model for CodeList {

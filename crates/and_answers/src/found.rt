@@ -8,7 +8,6 @@ use std::alloc::{AllocError, Global};
 use std::snapshot::Snapshot;
 
 /// One proof of the query that has an outcome.
-#[derive(Drop)]
 pub struct Entry {
     /// The code of its tree. It is there for contracts alone.
     pub code: Snapshot<Code>,
@@ -16,6 +15,17 @@ pub struct Entry {
     pub line: Text,
     /// Whether some of its arithmetic waits forever, so that the line is no answer.
     pub floundered: bool,
+}
+
+// By hand, so that it is proved once, here.
+impl Drop for Entry {
+    fn drop(self) {
+        let Entry {
+            code: _,
+            line: _,
+            floundered: _,
+        } = self;
+    }
 }
 
 /// What a run found. It keeps the allocator that it was made with.

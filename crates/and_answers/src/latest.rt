@@ -9,10 +9,16 @@ use std::marker::Model;
 use std::snapshot::Snapshot;
 
 /// What a walk found, as contracts see it, and the code of the last entry, where there is one.
-#[derive(Drop)]
 pub struct Latest {
     found: Found,
     code: Option<Code>,
+}
+
+// By hand, so that it is proved once, here.
+impl Drop for Latest {
+    fn drop(self) {
+        let Latest { found: _, code: _ } = self;
+    }
 }
 
 impl Model for Latest {

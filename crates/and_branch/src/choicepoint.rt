@@ -32,7 +32,6 @@ use std::snapshot::Snapshot;
 
 /// A fork some of whose children are still to come, without the row of the branch that was forked. Each child is made
 /// when its turn comes, of what the one before it left.
-#[derive(Drop)]
 pub struct Choicepoint<N: Naming> {
     /// The branch that was forked. It is there for contracts alone.
     parent: Snapshot<Branch<N>>,
@@ -45,6 +44,21 @@ pub struct Choicepoint<N: Naming> {
     clauses: ClauseList,
     /// How many children were made.
     made: usize,
+}
+
+// By hand, so that it is proved once, here.
+impl<N: Naming> Drop for Choicepoint<N> {
+    fn drop(self) {
+        let Choicepoint {
+            parent: _,
+            outline: _,
+            goal: _,
+            longer: _,
+            decided: _,
+            clauses: _,
+            made: _,
+        } = self;
+    }
 }
 
 impl<N: Naming> Model for Choicepoint<N> {

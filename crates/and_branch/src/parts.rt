@@ -13,7 +13,6 @@ use and_reduction::Trail;
 use std::alloc::AllocError;
 
 /// What a branch is made of.
-#[derive(Drop)]
 pub struct Parts<N: Naming> {
     pub key: Code,
     pub limit: u32,
@@ -25,6 +24,21 @@ pub struct Parts<N: Naming> {
     pub used: u32,
     /// Whether its tree was found dead. Its cells and goals then say nothing.
     pub is_failed: bool,
+}
+
+// By hand, so that it is proved once, here.
+impl<N: Naming> Drop for Parts<N> {
+    fn drop(self) {
+        let Parts {
+            key: _,
+            limit: _,
+            cells: _,
+            reductions: _,
+            goals: _,
+            used: _,
+            is_failed: _,
+        } = self;
+    }
 }
 
 impl<N: Naming> Branch<N> {

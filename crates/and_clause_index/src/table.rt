@@ -17,12 +17,21 @@ use and_program::{ItemNode, Loaded, NodeKind};
 use std::alloc::{AllocError, Global};
 
 /// What is kept of a predicate.
-#[derive(Drop)]
 struct Predicate {
     /// Its clauses, in textual order.
     clauses: Vec<ClauseNo>,
     /// Those of them that serve a first argument, if a table of them pays.
     by_first: Option<FirstArguments>,
+}
+
+// By hand, so that it is proved once, here.
+impl Drop for Predicate {
+    fn drop(self) {
+        let Predicate {
+            clauses: _,
+            by_first: _,
+        } = self;
+    }
 }
 
 /// A program's table: for each call of a body, the clauses of its predicate, and for each clause the

@@ -17,10 +17,19 @@ pub(crate) struct Called {
 }
 
 /// What was added to a table, which contracts alone read.
-#[derive(Drop)]
 pub(crate) enum Added {
     Clause(Snapshot<ClauseDraft>),
     Query(Snapshot<ClauseDraft>),
+}
+
+// By hand, so that it is proved once, here.
+impl Drop for Added {
+    fn drop(self) {
+        match self {
+            Added::Clause(_) => {}
+            Added::Query(_) => {}
+        }
+    }
 }
 
 /// What there is too much of.

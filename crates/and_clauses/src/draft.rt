@@ -13,7 +13,6 @@ use std::alloc::{AllocError, Global};
 
 /// A part of a draft: an occurrence of a variable, a number, or a name with its arguments, which
 /// are parts with smaller numbers.
-#[derive(Drop)]
 pub(crate) enum DraftPart {
     /// Its name, and its number by first occurrence.
     Variable(ShortText, u32),
@@ -24,9 +23,22 @@ pub(crate) enum DraftPart {
     },
 }
 
+// By hand, so that it is proved once, here.
+impl Drop for DraftPart {
+    fn drop(self) {
+        match self {
+            DraftPart::Variable(_, _) => {}
+            DraftPart::Integer(_) => {}
+            DraftPart::Compound {
+                name: _,
+                arguments: _,
+            } => {}
+        }
+    }
+}
+
 /// One clause as a term that is given in postfix order: arguments first, then the name that takes
 /// them.
-#[derive(Drop)]
 pub struct ClauseDraft {
     alloc: Global,
     pub(crate) line: u32,
@@ -39,6 +51,19 @@ pub struct ClauseDraft {
     ghost narrow: { AllNarrow (part_shapes parts.items) } by { AllNarrow-prop (part_shapes parts.items) },
     ghost met: { HasMet variables (met_by [] (part_shapes parts.items)) } by { Prim.hlevel props },
     ghost numbered: { AllNumbered [] parts.items } by { AllNumbered-prop [] parts.items },
+}
+
+// By hand, so that it is proved once, here.
+impl Drop for ClauseDraft {
+    fn drop(self) {
+        let ClauseDraft {
+            alloc: _,
+            line: _,
+            parts: _,
+            finished: _,
+            variables: _,
+        } = self;
+    }
 }
 
 /// A part of a draft as it is read: an occurrence of a variable with its number, a number, or a

@@ -7,7 +7,6 @@ use and_model::NodeNo;
 use std::alloc::Global;
 
 /// Lists that are used again for each clause. What is in them between two clauses means nothing.
-#[derive(Drop)]
 pub(crate) struct Scratch {
     pub(crate) guesses: Guesses,
     /// Parts that come next.
@@ -15,13 +14,34 @@ pub(crate) struct Scratch {
     pub(crate) copying: CopyLists,
 }
 
+// By hand, so that it is proved once, here.
+impl Drop for Scratch {
+    fn drop(self) {
+        let Scratch {
+            guesses: _,
+            parts: _,
+            copying: _,
+        } = self;
+    }
+}
+
 /// What comes next of a term that is copied, and the terms that are; and the nodes of variables that may be taken
 /// again.
-#[derive(Drop)]
 pub(crate) struct CopyLists {
     pub(crate) pending: Vec<Copying>,
     pub(crate) finished: Vec<NodeNo>,
     pub(crate) variables: VariableNodes,
+}
+
+// By hand, so that it is proved once, here.
+impl Drop for CopyLists {
+    fn drop(self) {
+        let CopyLists {
+            pending: _,
+            finished: _,
+            variables: _,
+        } = self;
+    }
 }
 
 impl Scratch {

@@ -29,10 +29,19 @@ use std::alloc::{AllocError, Global};
 
 /// A disjunction: its distinct variables by first occurrence, which are numbered as in its clause, and how many
 /// alternatives it has.
-#[derive(Drop)]
 pub(crate) struct Disjunction {
     pub(crate) variables: SmallVec<u32, 6>,
     pub(crate) count: usize,
+}
+
+// By hand, so that it is proved once, here.
+impl Drop for Disjunction {
+    fn drop(self) {
+        let Disjunction {
+            variables: _,
+            count: _,
+        } = self;
+    }
 }
 
 /// An item of a clause that is to be made.
@@ -51,10 +60,19 @@ impl Default for Piece {
 }
 
 /// A clause that is to be made: the disjunction of which it is an alternative, if it is one, and its items.
-#[derive(Drop)]
 pub(crate) struct Outline {
     pub(crate) scope: Option<usize>,
     pub(crate) pieces: SmallVec<Piece, 2>,
+}
+
+// By hand, so that it is proved once, here.
+impl Drop for Outline {
+    fn drop(self) {
+        let Outline {
+            scope: _,
+            pieces: _,
+        } = self;
+    }
 }
 
 /// Where items are put: the number of an outline, and the disjunction in which it stands.

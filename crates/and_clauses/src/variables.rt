@@ -12,13 +12,23 @@ use std::alloc::{AllocError, Global};
 const FIRST: usize = 12;
 
 /// The variables that were met, numbered as they first occur. Each bare `_` is one of its own.
-#[derive(Drop)]
 pub(crate) struct Variables {
     /// The first of those that have a name, with their numbers.
     pub(crate) first: Vec<(ShortText, u32)>,
     /// Those behind them.
     pub(crate) named: IndexMap<Vec<u8>, u32>,
     pub(crate) count: u32,
+}
+
+// By hand, so that it is proved once, here.
+impl Drop for Variables {
+    fn drop(self) {
+        let Variables {
+            first: _,
+            named: _,
+            count: _,
+        } = self;
+    }
 }
 
 /// How many variables were met, and how many of these have a name.

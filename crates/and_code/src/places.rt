@@ -9,12 +9,18 @@ use std::alloc::{AllocError, Global};
 
 /// The reductions of a list, linked by the nodes at which they take calls. A link is the place just
 /// behind the reduction to which it leads, and 0 where it leads to none.
-#[derive(Drop)]
 pub(crate) struct Links {
     /// By node: to the last reduction that takes a call there.
     last: Vec<u32>,
     /// By the place of a reduction: to the one before it that takes a call at the same node.
     before: Vec<u32>,
+}
+
+// By hand, so that it is proved once, here.
+impl Drop for Links {
+    fn drop(self) {
+        let Links { last: _, before: _ } = self;
+    }
 }
 
 /// The larger of two numbers.

@@ -20,11 +20,21 @@ use std::alloc::{AllocError, Global};
 
 /// How far a code was told: how many of its clauses were, the call at which it goes on, if there is one, and the bodies
 /// that wait behind it.
-#[derive(Drop)]
 pub struct CodeSoFar {
     pub length: usize,
     next: Option<Visit>,
     visits: Vec<Visit>,
+}
+
+// By hand, so that it is proved once, here.
+impl Drop for CodeSoFar {
+    fn drop(self) {
+        let CodeSoFar {
+            length: _,
+            next: _,
+            visits: _,
+        } = self;
+    }
 }
 
 /// The query's whole body.

@@ -16,13 +16,26 @@ use itoa::Buffer;
 use std::alloc::{AllocError, Global};
 
 /// The text of the lines so far, and how many there are of each kind. Each number stays at its last value.
-#[derive(Drop, Debug)]
+#[derive(Debug)]
 pub struct Lines {
     pub text: Text,
     pub forks: u64,
     pub failed: u64,
     pub answers: u64,
     pub floundered: u64,
+}
+
+// By hand, so that it is proved once, here.
+impl Drop for Lines {
+    fn drop(self) {
+        let Lines {
+            text: _,
+            forks: _,
+            failed: _,
+            answers: _,
+            floundered: _,
+        } = self;
+    }
 }
 
 impl Lines {

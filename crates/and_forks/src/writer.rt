@@ -14,11 +14,17 @@ use std::alloc::{AllocError, Global};
 use std::snapshot::Snapshot;
 
 /// Writes a line for each branch that a walk comes to, until the limit is met.
-#[derive(Drop)]
 pub struct Writer {
     pub lines: Lines,
     /// Where the limit was met.
     pub met: Option<Cut>,
+}
+
+// By hand, so that it is proved once, here.
+impl Drop for Writer {
+    fn drop(self) {
+        let Writer { lines: _, met: _ } = self;
+    }
 }
 
 impl Writer {

@@ -31,7 +31,6 @@ impl Taken {
 
 /// What was taken and not met yet, linked by the nodes whose clauses have the goals. A link is the place just behind
 /// that to which it leads, and 0 where it leads to none.
-#[derive(Drop)]
 pub(crate) struct Links {
     /// By place; nothing where it was met.
     taken: Vec<Option<Taken>>,
@@ -39,6 +38,17 @@ pub(crate) struct Links {
     last: Vec<usize>,
     /// By place: to the one before it of the same node.
     before: Vec<usize>,
+}
+
+// By hand, so that it is proved once, here.
+impl Drop for Links {
+    fn drop(self) {
+        let Links {
+            taken: _,
+            last: _,
+            before: _,
+        } = self;
+    }
 }
 
 impl Links {

@@ -9,7 +9,6 @@ use std::alloc::Global;
 use std::snapshot::Snapshot;
 
 /// A reduction that a worker made.
-#[derive(Drop)]
 pub struct Reduced {
     pub reduction: Reduction,
     /// The call.
@@ -18,12 +17,29 @@ pub struct Reduced {
     pub judged: Snapshot<Pass>,
 }
 
+// By hand, so that it is proved once, here.
+impl Drop for Reduced {
+    fn drop(self) {
+        let Reduced {
+            reduction: _,
+            goal: _,
+            judged: _,
+        } = self;
+    }
+}
+
 /// Arithmetic that a worker ran.
-#[derive(Drop)]
 pub struct Ran {
     pub goal: Goal,
     /// The worker's pass, as it was when the value was known. Contracts alone see it.
     pub judged: Snapshot<Pass>,
+}
+
+// By hand, so that it is proved once, here.
+impl Drop for Ran {
+    fn drop(self) {
+        let Ran { goal: _, judged: _ } = self;
+    }
 }
 
 /// Why a worker found the tree dead.
@@ -36,7 +52,6 @@ pub enum Cause {
 }
 
 /// What a worker hands on: what it did, and what of it is still to be done.
-#[derive(Drop)]
 pub struct HandedOn {
     /// The reductions that it made, in order.
     pub made: Vec<Reduced>,
@@ -48,6 +63,19 @@ pub struct HandedOn {
     pub cause: Option<Cause>,
     /// Whether a word that should have been free was not. Nothing is then rested on what it did.
     pub is_spoilt: bool,
+}
+
+// By hand, so that it is proved once, here.
+impl Drop for HandedOn {
+    fn drop(self) {
+        let HandedOn {
+            made: _,
+            ran: _,
+            pairs: _,
+            cause: _,
+            is_spoilt: _,
+        } = self;
+    }
 }
 
 impl HandedOn {

@@ -12,11 +12,20 @@ use and_program::Loaded;
 use std::alloc::{AllocError, Global};
 
 /// The table of clauses, and what is wanted to make the calls of one query after another known in it.
-#[derive(Drop)]
 pub struct KeptTable {
     table: Determinacy,
     /// The numbers of the entries of predicates, by their first clauses.
     firsts: Vec<usize>,
+}
+
+// By hand, so that it is proved once, here.
+impl Drop for KeptTable {
+    fn drop(self) {
+        let KeptTable {
+            table: _,
+            firsts: _,
+        } = self;
+    }
 }
 
 impl KeptTable {

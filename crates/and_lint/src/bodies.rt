@@ -19,12 +19,21 @@ use and_program::{ItemNode, Loaded, NodeKind};
 use std::alloc::{AllocError, Global};
 
 /// What is written in the body of a clause.
-#[derive(Drop)]
 pub(crate) struct Body {
     /// Its items in the order of the text.
     pub(crate) items: Vec<ItemNode>,
     /// Its variables, each where it occurs.
     pub(crate) variables: Vec<u8>,
+}
+
+// By hand, so that it is proved once, here.
+impl Drop for Body {
+    fn drop(self) {
+        let Body {
+            items: _,
+            variables: _,
+        } = self;
+    }
 }
 
 impl Body {

@@ -24,10 +24,19 @@ pub struct Place {
 
 /// An assignment: a level for each argument place of each predicate, when it is called and when the
 /// call has succeeded. A place that was never noted has the highest level.
-#[derive(Drop)]
 pub struct Modes {
     called: HashMap<Place, Level>,
     succeeded: HashMap<Place, Level>,
+}
+
+// By hand, so that it is proved once, here.
+impl Drop for Modes {
+    fn drop(self) {
+        let Modes {
+            called: _,
+            succeeded: _,
+        } = self;
+    }
 }
 
 impl Modes {

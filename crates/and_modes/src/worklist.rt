@@ -24,11 +24,21 @@ struct Standing {
 
 /// Clauses to be looked at again, each once. Those with long bodies are kept apart, since to look at
 /// a long one again for each place that falls would take the square of its length.
-#[derive(Drop)]
 pub(crate) struct WorkList {
     short: Vec<ClauseNo>,
     long: Vec<ClauseNo>,
     standings: Vec<Standing>,
+}
+
+// By hand, so that it is proved once, here.
+impl Drop for WorkList {
+    fn drop(self) {
+        let WorkList {
+            short: _,
+            long: _,
+            standings: _,
+        } = self;
+    }
 }
 
 impl WorkList {

@@ -29,7 +29,6 @@ pub struct PendingGoal {
 }
 
 /// Goals that are left, in their order.
-#[derive(Drop)]
 pub struct PendingGoals {
     /// Those before the place of work,
     left: Vec<PendingGoal>,
@@ -37,6 +36,17 @@ pub struct PendingGoals {
     right: Vec<PendingGoal>,
     /// The cells by which they are watched, and by which goals were that are gone.
     cells: Vec<u32>,
+}
+
+// By hand, so that it is proved once, here.
+impl Drop for PendingGoals {
+    fn drop(self) {
+        let PendingGoals {
+            left: _,
+            right: _,
+            cells: _,
+        } = self;
+    }
 }
 
 impl Model for PendingGoals {

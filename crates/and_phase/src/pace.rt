@@ -17,7 +17,6 @@ const FIRST_ROOM: u32 = 1024;
 
 /// Which phases of a team its workers are tried in: the first, and then ever more rarely, since they cost more than
 /// they save today. And how much room the next one's store has for new frames: it grows with the work that is found.
-#[derive(Drop)]
 pub struct Pace {
     /// How many phases are still left to the leader.
     rest: u32,
@@ -25,6 +24,17 @@ pub struct Pace {
     next: u32,
     /// How many words the next store has for new frames.
     room: u32,
+}
+
+// By hand, so that it is proved once, here.
+impl Drop for Pace {
+    fn drop(self) {
+        let Pace {
+            rest: _,
+            next: _,
+            room: _,
+        } = self;
+    }
 }
 
 impl Pace {

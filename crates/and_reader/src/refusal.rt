@@ -53,10 +53,17 @@ impl From<AllocError> for Cause {
 }
 
 /// A cause, and the line that it stands on, from 1 on.
-#[derive(Drop, Debug)]
+#[derive(Debug)]
 pub struct ReadRefusal {
     pub line: u32,
     pub cause: Cause,
+}
+
+// By hand, so that it is proved once, here.
+impl Drop for ReadRefusal {
+    fn drop(self) {
+        let ReadRefusal { line: _, cause: _ } = self;
+    }
 }
 
 impl ReadRefusal {

@@ -18,10 +18,19 @@ use and_model::Text;
 use std::alloc::{AllocError, Global};
 
 /// A name: as it is written, or what a quoted token names.
-#[derive(Drop)]
 pub(crate) enum Name<'a> {
     Written(&'a [u8]),
     Quoted(Text),
+}
+
+// By hand, so that it is proved once, here.
+impl<'a> Drop for Name<'a> {
+    fn drop(self) {
+        match self {
+            Name::Written(_) => {}
+            Name::Quoted(_) => {}
+        }
+    }
 }
 
 impl Name<'_> {

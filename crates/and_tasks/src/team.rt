@@ -66,7 +66,6 @@ pub struct Shared<'a, N: Naming, G: Gate> {
 }
 
 /// A team.
-#[derive(Drop)]
 pub struct Team<N: Naming> {
     pub number: u32,
     pub pass: TreePass<PlacedBranch<N>>,
@@ -82,6 +81,22 @@ pub struct Team<N: Naming> {
     pub(crate) worked: u32,
     ghost number_is: { pass.team ≡ number },
     ghost left_shares: { LeftShares found common left } by { left_shares-prop found common left },
+}
+
+// By hand, so that it is proved once, here.
+impl<N: Naming> Drop for Team<N> {
+    fn drop(self) {
+        let Team {
+            number: _,
+            pass: _,
+            found: _,
+            stack: _,
+            left: _,
+            common: _,
+            workspace: _,
+            worked: _,
+        } = self;
+    }
 }
 
 impl<N: Naming> Team<N> {

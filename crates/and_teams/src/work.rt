@@ -18,10 +18,19 @@ use std::sync::Wait;
 use std::thread::Threads;
 
 /// A team that is done, and whether it met want of memory.
-#[derive(Drop)]
 pub struct Worked<N: Naming> {
     pub team: Team<N>,
     pub has_failed: bool,
+}
+
+// By hand, so that it is proved once, here.
+impl<N: Naming> Drop for Worked<N> {
+    fn drop(self) {
+        let Worked {
+            team: _,
+            has_failed: _,
+        } = self;
+    }
 }
 
 impl<N: Naming> Worked<N> {

@@ -66,13 +66,24 @@ fn one_by_one<F: Fn(&Loaded, &Determinacy, u32) -> Result<Found, AllocError>>(
 
 /// The trade of answering queries, each on the thread that it is done on. What a worker has at hand is what is kept of
 /// the beginning that the texts of all queries have.
-#[derive(Drop)]
 struct QueryJob<'a> {
     alloc: Global,
     bytes: &'a [u8],
     spans: &'a [Span],
     limit: u32,
     ghost limited: { limit ≤ MAX_LIMIT },
+}
+
+// By hand, so that it is proved once, here.
+impl<'a> Drop for QueryJob<'a> {
+    fn drop(self) {
+        let QueryJob {
+            alloc: _,
+            bytes: _,
+            spans: _,
+            limit: _,
+        } = self;
+    }
 }
 
 impl QueryJob<'_> {

@@ -16,11 +16,21 @@ use and_program::Loaded;
 use std::alloc::{AllocError, Global};
 
 /// A branch that is to be walked, how far its key is told, and how many forks it stands below.
-#[derive(Drop)]
 pub struct Hand<N: Naming> {
     pub branch: Branch<N>,
     pub told: CodeSoFar,
     pub depth: u32,
+}
+
+// By hand, so that it is proved once, here.
+impl<N: Naming> Drop for Hand<N> {
+    fn drop(self) {
+        let Hand {
+            branch: _,
+            told: _,
+            depth: _,
+        } = self;
+    }
 }
 
 /// A choicepoint, how far the key of the branch that was forked is told: as far as it was decided; and how many forks

@@ -97,12 +97,21 @@ fn larger(a: u32, b: u32) -> u32
 }
 
 /// The frames of a tree. Contracts see them as a list.
-#[derive(Drop)]
 pub struct Frames {
     frames: Vec<Frame>,
     /// For each cell how many frames the list has up to the one that the cell lies in; 0 where it lies in none.
     /// (Nothing rests on these.)
     homes: Vec<u32>,
+}
+
+// By hand, so that it is proved once, here.
+impl Drop for Frames {
+    fn drop(self) {
+        let Frames {
+            frames: _,
+            homes: _,
+        } = self;
+    }
 }
 
 impl Model for Frames {

@@ -55,7 +55,6 @@ impl Display for Told {
 
 /// A gate that counts what it is told, and writes it on standard error, at most once a second and each
 /// line over the one before it.
-#[derive(Drop)]
 pub struct Progress<R> {
     rt: R,
     start: Instant,
@@ -66,6 +65,21 @@ pub struct Progress<R> {
     due: AtomicU64,
     /// Whether a line stands on the screen.
     is_shown: AtomicBool,
+}
+
+// By hand, so that it is proved once, here.
+impl<R: Drop> Drop for Progress<R> {
+    fn drop(self) {
+        let Progress {
+            rt: _,
+            start: _,
+            reductions: _,
+            published: _,
+            answers: _,
+            due: _,
+            is_shown: _,
+        } = self;
+    }
 }
 
 impl<R: Clock + Eprint + Drop> Progress<R> {
@@ -142,10 +156,19 @@ impl<R: Clock + Eprint + Sync + Drop> Gate for Progress<R> {
 
 /// A gate that tells how far a run has come, if this was asked for, and gives hints. It is one gate in all cases, so
 /// that the search stands in the program once, and is compiled as one.
-#[derive(Drop)]
 pub struct Watch<R> {
     progress: Option<Progress<R>>,
     advice: Advice<R>,
+}
+
+// By hand, so that it is proved once, here.
+impl<R: Drop> Drop for Watch<R> {
+    fn drop(self) {
+        let Watch {
+            progress: _,
+            advice: _,
+        } = self;
+    }
 }
 
 /// What tells how far a run has come, where the environment asks for it by `ANDORRA_PROGRESS=1` and there is a
