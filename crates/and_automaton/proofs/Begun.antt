@@ -27,28 +27,13 @@ Ended x (Some (inside l fs p m)) = Unit {0}
 Ended x (Some (opened_list l fs p)) = Unit {0}
 
 operand_ended : (l : Outermost) (fs : List Frame) (p : Pending) (x : Word) → Ended x (take_operand l fs p x)
-operand_ended l fs p (words.variable x) = tt
-operand_ended l fs p (words.integer z) = tt
 operand_ended l fs p (words.name c) = by_test (is_reserved c)
   where
     by_test : (b : Bool) → Ended (words.name c) (cond b None (Some (inside l fs p (operand (Written.compound c Written.none) (Some c)))))
     by_test true = tt
     by_test false = tt
-operand_ended l fs p (words.quoted c) = tt
 operand_ended l fs p (words.minus words.integer) = tt
-operand_ended l fs p (words.minus words.bracket) = tt
-operand_ended l fs p (words.minus words.stop) = tt
-operand_ended l fs p (words.minus words.operand) = tt
-operand_ended l fs p (words.open_bracket b) = tt
-operand_ended l fs p words.close_bracket = tt
-operand_ended l fs p words.open_list = tt
-operand_ended l fs p words.close_list = tt
-operand_ended l fs p words.open_brace = tt
-operand_ended l fs p words.close_brace = tt
-operand_ended l fs p words.comma = tt
-operand_ended l fs p words.semicolon = tt
-operand_ended l fs p words.bar = tt
-operand_ended l fs p words.end = tt
+operand_ended l fs p _ = tt
 
 numeral_ended : (l : Outermost) (fs : List Frame) (p : Pending) (x : Word) → Ended x (take_numeral l fs p x)
 numeral_ended l fs p (words.integer z) = tt
@@ -71,71 +56,25 @@ name_ended l [] p w c (is_neck n) = by_part l.part
     by_part query = tt
 name_ended l fs p w c is_none = tt
 
-comma_ended : (l : Outermost) (fs : List Frame) (a : Written) → Ended words.comma (take_comma l fs a)
-comma_ended l [] a = tt
-comma_ended l (f ∷ fs) a = by_bracket f.bracket
-  where
-    by_bracket : (k : Bracket) → Ended words.comma (take_comma l (record f { bracket = k } ∷ fs) a)
-    by_bracket tail = tt
-    by_bracket (plain es) = tt
-    by_bracket (braces es) = tt
-    by_bracket (arguments c) = tt
-    by_bracket elements = tt
+-- So it is behind a term with each word that depends on the innermost bracket.
+record BehindTerm (l : Outermost) (fs : List Frame) (a : Written) : Type 0 where
+  comma : Ended words.comma (take_comma l fs a)
+  semicolon : Ended words.semicolon (take_semicolon l fs a)
+  bar : Ended words.bar (take_bar l fs a)
+  close_bracket : Ended words.close_bracket (take_close_bracket l fs a)
+  close_brace : Ended words.close_brace (take_close_brace l fs a)
+  close_list : Ended words.close_list (take_close_list l fs a)
 
-bar_ended : (l : Outermost) (fs : List Frame) (a : Written) → Ended words.bar (take_bar l fs a)
-bar_ended l [] a = tt
-bar_ended l (f ∷ fs) a = by_bracket f.bracket
+behind_term : (l : Outermost) (fs : List Frame) (a : Written) → BehindTerm l fs a
+behind_term l [] a = record { comma = tt; semicolon = tt; bar = tt; close_bracket = tt; close_brace = tt; close_list = tt }
+behind_term l (f ∷ fs) a = by_bracket f.bracket
   where
-    by_bracket : (k : Bracket) → Ended words.bar (take_bar l (record f { bracket = k } ∷ fs) a)
-    by_bracket tail = tt
-    by_bracket (plain es) = tt
-    by_bracket (braces es) = tt
-    by_bracket (arguments c) = tt
-    by_bracket elements = tt
-
-close_bracket_ended : (l : Outermost) (fs : List Frame) (a : Written) → Ended words.close_bracket (take_close_bracket l fs a)
-close_bracket_ended l [] a = tt
-close_bracket_ended l (f ∷ fs) a = by_bracket f.bracket
-  where
-    by_bracket : (k : Bracket) → Ended words.close_bracket (take_close_bracket l (record f { bracket = k } ∷ fs) a)
-    by_bracket tail = tt
-    by_bracket (plain es) = tt
-    by_bracket (braces es) = tt
-    by_bracket (arguments c) = tt
-    by_bracket elements = tt
-
-semicolon_ended : (l : Outermost) (fs : List Frame) (a : Written) → Ended words.semicolon (take_semicolon l fs a)
-semicolon_ended l [] a = tt
-semicolon_ended l (f ∷ fs) a = by_bracket f.bracket
-  where
-    by_bracket : (k : Bracket) → Ended words.semicolon (take_semicolon l (record f { bracket = k } ∷ fs) a)
-    by_bracket tail = tt
-    by_bracket (plain es) = tt
-    by_bracket (braces es) = tt
-    by_bracket (arguments c) = tt
-    by_bracket elements = tt
-
-close_brace_ended : (l : Outermost) (fs : List Frame) (a : Written) → Ended words.close_brace (take_close_brace l fs a)
-close_brace_ended l [] a = tt
-close_brace_ended l (f ∷ fs) a = by_bracket f.bracket
-  where
-    by_bracket : (k : Bracket) → Ended words.close_brace (take_close_brace l (record f { bracket = k } ∷ fs) a)
-    by_bracket tail = tt
-    by_bracket (plain es) = tt
-    by_bracket (braces es) = tt
-    by_bracket (arguments c) = tt
-    by_bracket elements = tt
-
-close_list_ended : (l : Outermost) (fs : List Frame) (a : Written) → Ended words.close_list (take_close_list l fs a)
-close_list_ended l [] a = tt
-close_list_ended l (f ∷ fs) a = by_bracket f.bracket
-  where
-    by_bracket : (k : Bracket) → Ended words.close_list (take_close_list l (record f { bracket = k } ∷ fs) a)
-    by_bracket tail = tt
-    by_bracket (plain es) = tt
-    by_bracket (braces es) = tt
-    by_bracket (arguments c) = tt
-    by_bracket elements = tt
+    by_bracket : (k : Bracket) → BehindTerm l (record f { bracket = k } ∷ fs) a
+    by_bracket tail = record { comma = tt; semicolon = tt; bar = tt; close_bracket = tt; close_brace = tt; close_list = tt }
+    by_bracket (plain es) = record { comma = tt; semicolon = tt; bar = tt; close_bracket = tt; close_brace = tt; close_list = tt }
+    by_bracket (braces es) = record { comma = tt; semicolon = tt; bar = tt; close_bracket = tt; close_brace = tt; close_list = tt }
+    by_bracket (arguments c) = record { comma = tt; semicolon = tt; bar = tt; close_bracket = tt; close_brace = tt; close_list = tt }
+    by_bracket elements = record { comma = tt; semicolon = tt; bar = tt; close_bracket = tt; close_brace = tt; close_list = tt }
 
 functor_ended : (l : Outermost) (fs : List Frame) (p : Pending) (f : Option Bytes) → Ended (words.open_bracket true) (take_functor l fs p f)
 functor_ended l fs p None = tt
@@ -151,21 +90,15 @@ end_ended (Some (opened_list l fs p)) = tt
 
 operator_ended : (l : Outermost) (fs : List Frame) (p : Pending) (w : Written) (f : Option Bytes) (x : Word) → Ended x (take_operator l fs p w f x)
 operator_ended l fs p w f (words.name c) = name_ended l fs p w c (role c)
-operator_ended l fs p w f (words.minus b) = tt
 operator_ended l fs p w f (words.open_bracket true) = functor_ended l fs p f
-operator_ended l fs p w f (words.open_bracket false) = tt
-operator_ended l fs p w f words.close_bracket = close_bracket_ended l fs (at700 p w)
-operator_ended l fs p w f words.close_list = close_list_ended l fs (at700 p w)
-operator_ended l fs p w f words.close_brace = close_brace_ended l fs (at700 p w)
-operator_ended l fs p w f words.comma = comma_ended l fs (at700 p w)
-operator_ended l fs p w f words.semicolon = semicolon_ended l fs (at700 p w)
-operator_ended l fs p w f words.bar = bar_ended l fs (at700 p w)
+operator_ended l fs p w f words.close_bracket = (behind_term l fs (at700 p w)).close_bracket
+operator_ended l fs p w f words.close_list = (behind_term l fs (at700 p w)).close_list
+operator_ended l fs p w f words.close_brace = (behind_term l fs (at700 p w)).close_brace
+operator_ended l fs p w f words.comma = (behind_term l fs (at700 p w)).comma
+operator_ended l fs p w f words.semicolon = (behind_term l fs (at700 p w)).semicolon
+operator_ended l fs p w f words.bar = (behind_term l fs (at700 p w)).bar
 operator_ended l fs p w f words.end = end_ended (take_operator l fs p w f words.end)
-operator_ended l fs p w f (words.variable x) = tt
-operator_ended l fs p w f (words.integer z) = tt
-operator_ended l fs p w f (words.quoted c) = tt
-operator_ended l fs p w f words.open_list = tt
-operator_ended l fs p w f words.open_brace = tt
+operator_ended l fs p w f _ = tt
 
 either : (x : Word) (b : Bool) (o p : Option State) → Ended x o → Ended x p → Ended x (cond b o p)
 either x true o p h k = h
