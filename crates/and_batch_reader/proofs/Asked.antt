@@ -1,27 +1,24 @@
 -- A text that is that of a program has a query, which is found among its tokens.
-use Rattle.std.proofs.Common.{ℕ, suc, ◌≡◌, Bool, true, false, true≢false, ◌&&◌, ◌⊎◌, inl, inr, cond, List, [], ◌∷◌, ◌++◌, map, Option, Some, None, refl, sym}
+use Rattle.std.proofs.Common.{ℕ, suc, ◌≡◌, Bool, true, false, true≢false, ◌&&◌, ◌⊎◌, inl, inr, cond, List, [], ◌∷◌, ◌++◌, Option, Some, None, refl, sym}
 use Rattle.std.proofs.Common.{ap, ◌∙◌, subst, append_assoc, append-nil}
 use Rattle.std.specs.Prelude.{codes}
 use Rattle.std.specs.Str.{bytes_eq}
 use Rattle.and_model.specs.Lines.{Bytes}
 use Rattle.and_source.specs.Source.{SourceClause, SourceProgram}
 use Rattle.and_syntax.specs.Written.{Written}
-use Rattle.and_syntax.specs.Tables.{Table, empty, taken, placed, with_clause, with_query, next_clause, term_with}
+use Rattle.and_syntax.specs.Tables.{Table, taken, placed, with_clause, next_clause, term_with}
 use Rattle.and_syntax.specs.Clauses.{body_of, alternatives_of}
 use Rattle.and_translation.specs.Translation.{translated}
 use Rattle.and_language.specs.Tokens.{Kind, Token, Answer, no_more, one, Comes, HasTokens, no_token, token, IsToken}
 use Rattle.and_language.specs.Tokens as tokens
-use Rattle.and_language.specs.Words.{Before, Word, Placed, bytes_of, before, IsWord, AreWords}
+use Rattle.and_language.specs.Words.{Before, Word, Placed, bytes_of, IsWord, AreWords}
 use Rattle.and_language.specs.Words as words
-use Rattle.and_language.specs.Grammar.{Sort, Neck, turnstile, arrow, sort_of, Statement, IsText, IsClause, CanGoOn}
-use Rattle.and_language.specs.Refusals.{Takes, Reads, NoneEnds, with_statement}
+use Rattle.and_language.specs.Grammar.{Sort, Neck, turnstile, arrow, sort_of, Statement, IsText, IsClause}
+use Rattle.and_language.specs.Refusals.{Takes, Reads, with_statement}
 use Rattle.and_language.specs.Refusals as refusals
-use Rattle.and_automaton.specs.Machine.{State, start, inside, opened_list, over, is_over, go, step, and_then, run, words_of}
-use Rattle.and_automaton.proofs.Steps.{step_tells}
-use Rattle.and_automaton.proofs.Accepted.{and_then_tells}
+use Rattle.and_automaton.specs.Machine.{start, inside, over, run, words_of}
 use Rattle.and_automaton.proofs.Derived.{clause_taken}
-use Rattle.and_automaton.proofs.Texts.{none_ends}
-use Rattle.and_automaton.proofs.Begun.{goes_on_begun}
+use Rattle.and_beginnings.proofs.Ends.{is_end, last_of, last_ends}
 use Rattle.and_lex.proofs.Completeness.{one_list}
 use Rattle.and_lex.proofs.Written.{written}
 use Rattle.and_batch_text.specs.Queries as queries
@@ -67,76 +64,6 @@ after_one bytes T s ss none later = by_sort s.sort refl
 asked_by : (bytes : Bytes) {T U : Table} {ss : List Statement} (q : SourceClause) → Takes bytes T ss U → T.asked ≡ None → U.asked ≡ Some q → HasQuery ss
 asked_by bytes q (refusals.nothing T) none some = absurd (none_some T.asked q none some)
 asked_by bytes q (refusals.more T U s ss no_fault rest) none some = after_one bytes T s ss none (λ still. asked_by bytes q rest still some)
-
--- ---- a clause ends with its End
-
-abbrev is_end : Word → Bool
-is_end (words.variable x) = false
-is_end (words.integer z) = false
-is_end (words.name c) = false
-is_end (words.quoted c) = false
-is_end (words.minus b) = false
-is_end (words.open_bracket b) = false
-is_end words.close_bracket = false
-is_end words.open_list = false
-is_end words.close_list = false
-is_end words.open_brace = false
-is_end words.close_brace = false
-is_end words.comma = false
-is_end words.semicolon = false
-is_end words.bar = false
-is_end words.end = true
-
-not_end : (x : Word) → is_end x ≡ false → x ≡ words.end → ⊥
-not_end x other is = true≢false (sym (ap is_end is) ∙ other)
-
--- the words before the last, and that
-last_of : (p : Placed) (ps : List Placed) → (front : List Placed) × (last : Placed) × (p ∷ ps ≡ front ++ last ∷ [])
-last_of p [] = ([], p, refl)
-last_of p (q ∷ ps) = let r = last_of q ps in (p ∷ r.0, r.1, (λ i. p ∷ r.2 i))
-
-some_same : (s t : State) → ◌≡◌ {A = Option State} (Some s) (Some t) → s ≡ t
-some_same s t e = cc
-
-run_last : (s t : State) (ps : List Placed) (p : Placed) → run true s (words_of (ps ++ p ∷ [])) ≡ Some t
-    → (u : State) × (run true s (words_of ps) ≡ Some u) × (step true u p.word ≡ Some t)
-run_last s t [] p e =
-    let (u, first, more) = and_then_tells (step true s p.word) (λ z. run true z []) t e in
-    let same : u ≡ t = some_same u t more in
-    (s, refl, first ∙ ap (λ z. Some z) same)
-run_last s t (q ∷ ps) p e =
-    let (u, first, more) = and_then_tells (step true s q.word) (λ z. run true z (words_of (ps ++ p ∷ []))) t e in
-    let r = run_last u t ps p more in
-    (r.0, ap (λ o. and_then o (λ z. run true z (words_of ps))) first ∙ r.1, r.2)
-
-over_stops : (s t : State) (x : Word) → step true s x ≡ Some t → is_over s ≡ false
-over_stops start t x e = refl
-over_stops (inside l fs p m) t x e = refl
-over_stops (opened_list l fs p) t x e = refl
-over_stops (over q w) t x e = absurd (let told = (step_tells true (over q w) x t e).1 in cc)
-
-none_more : (ps : List Placed) (p : Placed) → NoneEnds ps → (p.word ≡ words.end → ⊥) → NoneEnds (ps ++ p ∷ [])
-none_more [] p none other = (other, tt)
-none_more (q ∷ ps) p none other = (none.0, none_more ps p none.1 other)
-
-last_ends : (front : List Placed) (last : Placed) (q : Sort) (w : Written) (place : ℕ) → run true start (words_of (front ++ last ∷ [])) ≡ Some (over q w)
-    → IsText true (front ++ last ∷ []) (record { sort = q; term = w; place = place } ∷ []) → is_end last.word ≡ true
-last_ends front last q w place ran text = by (is_end last.word) refl
-  where
-    by : (b : Bool) → is_end last.word ≡ b → b ≡ true
-    by true e = refl
-    by false e =
-        let r = run_last start (over q w) front last ran in
-        let none = none_more front last (none_ends true start r.0 front r.1 (over_stops r.0 (over q w) last.word r.2)) (not_end last.word e) in
-        let goes : CanGoOn true (front ++ last ∷ []) = (
-          [],
-          record { sort = q; term = w; place = place } ∷ [],
-          subst (λ ps. IsText true ps (record { sort = q; term = w; place = place } ∷ []))
-              (sym (append-nil (front ++ last ∷ []))) text,
-        ) in
-        let still = goes_on_begun true [] (front ++ last ∷ []) [] IsText.nothing none goes in
-        let same = some_same still.0 (over q w) (sym still.1 ∙ ran) in
-        absurd (true≢false (ap is_over (sym same) ∙ still.2))
 
 -- ---- words and their tokens
 
