@@ -11,6 +11,7 @@ use Rattle.and_modes.specs.declared.verdicts.Verdict.TheVariants.{Safe}
 use Rattle.and_modes.proofs.Telling.{below, told_there, none_seen, one_more_seen, clauses_before, query_behind, all_seen, safe_verdict}
 use Rattle.and_modes.proofs.Telling.{waits_verdict}
 use Rattle.and_modes.proofs.waiting.verdict.Goals as goal
+use Rattle.and_modes.proofs.waiting.verdict.Goals.{After-and_clause-2}
 
 pub loop-number-init : goal.loop-number-init
 loop-number-init c = none_seen (program_of c.args.loaded.now) (assignment_of c.args.modes.now)
@@ -39,17 +40,22 @@ Last P m found v =
     (seen : ℕ → Bool) → IsVerdictAmong P m seen found → ((d : ℕ) → seen d ≡ true → query_last P d < query_last P 0)
     → IsVerdictAmong P m (λ d. seen d || nat_eq d 0) v
 
+-- All clauses were gone through.
+past : (c : After-and_clause-2) → suc (length (program_of c.args.loaded.now).clauses) ≤ c.loop-number.number
+past c = let counted = c.clause_count-number-end.ensures.count in let f = c.loop-number-test.false in omega arith
+
+few : (c : After-and_clause-2) → c.loop-number.number ≤ suc (length (program_of c.args.loaded.now).clauses)
+few c = let counted = c.clause_count-number-end.ensures.count in let f = c.loop-number.auto.number-end in omega arith
+
 pub returns-clause-safe : goal.returns-clause-safe
 returns-clause-safe c =
     let P : Program = program_of c.args.loaded.now in
     let m : Assignment = assignment_of c.args.modes.now in
     let n : ℕ = c.loop-number.number in
-    let counted = c.clause_count-number-end.ensures.count in
-    let past : suc (length P.clauses) ≤ n = let f = c.loop-number-test.false in omega arith in
-    let few : n ≤ suc (length P.clauses) = let f = c.loop-number.auto.number-end in omega arith in
+    let at = (goal.at.returns-clause-safe c).After-and_clause-2 in
     IfOk-weaker c.and_clause-2.result (λ (v : Verdict). Last P m c.loop-number.found v) (λ (v : Verdict). v ≡ Safe ↔ IsSafe P m)
-    (λ v last. safe_verdict P m (λ d. below n d || nat_eq d 0) v (all_seen P n past)
-    (last (below n) c.loop-number.invariant (λ d seen. query_behind P n d few seen)))
+    (λ v last. safe_verdict P m (λ d. below n d || nat_eq d 0) v (all_seen P n (past at))
+    (last (below n) c.loop-number.invariant (λ d seen. query_behind P n d (few at) seen)))
     c.and_clause-2.ensures
 
 pub returns-clause-waits : goal.returns-clause-waits
@@ -57,11 +63,9 @@ returns-clause-waits c =
     let P : Program = program_of c.args.loaded.now in
     let m : Assignment = assignment_of c.args.modes.now in
     let n : ℕ = c.loop-number.number in
-    let counted = c.clause_count-number-end.ensures.count in
-    let past : suc (length P.clauses) ≤ n = let f = c.loop-number-test.false in omega arith in
-    let few : n ≤ suc (length P.clauses) = let f = c.loop-number.auto.number-end in omega arith in
+    let at = (goal.at.returns-clause-waits c).After-and_clause-2 in
     IfOk-weaker c.and_clause-2.result (λ (v : Verdict). Last P m c.loop-number.found v)
     (λ (v : Verdict). (w : Wait) → v ≡ told w ↔ WaitsFirst P m w)
-    (λ v last. waits_verdict P m (λ d. below n d || nat_eq d 0) v (all_seen P n past)
-    (last (below n) c.loop-number.invariant (λ d seen. query_behind P n d few seen)))
+    (λ v last. waits_verdict P m (λ d. below n d || nat_eq d 0) v (all_seen P n (past at))
+    (last (below n) c.loop-number.invariant (λ d seen. query_behind P n d (few at) seen)))
     c.and_clause-2.ensures
