@@ -19,7 +19,7 @@ use Rattle.and_worker_laws.proofs.Phase.{workers_end}
 use Rattle.and_handed.specs.declared.told.HandedOn.{HandedOn}
 use Rattle.and_gathering.specs.declared.gathering.Gathered.{Gathered}
 use Rattle.and_gathering.specs.Gathering.{IsGathered}
-use Rattle.and_whole.specs.Places.{all_frames, IsWhole, ArePairsWhole}
+use Rattle.and_row_check.specs.Places.{all_frames, IsWhole, ArePairsWhole}
 use Rattle.and_closing_laws.specs.Phases.{HasPhased}
 use Rattle.and_closing_laws.proofs.Structure.{Structure, structure}
 use Rattle.and_closing_laws.proofs.Facts

@@ -19,7 +19,7 @@ use Rattle.and_worker_laws.specs.Leavings.{IsLeftIn}
 use Rattle.and_handed.specs.declared.told.HandedOn.{HandedOn}
 use Rattle.and_gathering.specs.declared.gathering.Gathered.{Gathered}
 use Rattle.and_gathering.specs.Gathering.{IsGathered}
-use Rattle.and_whole.specs.Places.{all_frames, IsWhole, ArePairsWhole}
+use Rattle.and_row_check.specs.Places.{all_frames, IsWhole, ArePairsWhole}
 use Rattle.and_closing_laws.specs.Phases.{HasPhased}
 use Rattle.and_closing_laws.specs.Acting.{all_ended}
 use Rattle.and_closing_laws.proofs.Cutting.{by_then, next}

@@ -18,8 +18,8 @@ use Rattle.and_gathering.specs.Gathering.{Walks, goal_taken, goals_of_body}
 use Rattle.and_gathering.specs.declared.links.Taken.{Taken}
 use Rattle.and_gathering.specs.declared.links.Taken.TheVariants.{Reduced, Ran}
 use Rattle.and_store_laws.proofs.Lists.{contains_first, contains_more, contains_cases, contains_none, contains_map, map_contains}
-use Rattle.and_whole.specs.Places
-use Rattle.and_whole.specs.Places.{all_frames, frame_of}
+use Rattle.and_row_check.specs.Places
+use Rattle.and_row_check.specs.Places.{all_frames, frame_of}
 use Rattle.and_handed.specs.Handed.{IsWholeFrame}
 
 abbrev pub frame_at : (base clause : ℕ) → Frame

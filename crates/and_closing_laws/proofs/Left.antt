@@ -34,7 +34,7 @@ use Rattle.and_handed.specs.declared.told.Cause.{Cause}
 use Rattle.and_handed.specs.declared.told.HandedOn.{HandedOn}
 use Rattle.and_gathering.specs.Gathering.{IsGathered}
 use Rattle.and_gathering.specs.declared.gathering.Gathered.{Gathered}
-use Rattle.and_whole.specs.Places.{all_frames, IsWhole, IsVariableCell, IsSideWhole, ArePairsWhole}
+use Rattle.and_row_check.specs.Places.{all_frames, IsWhole, IsVariableCell, IsSideWhole, ArePairsWhole}
 use Rattle.and_closing_laws.specs.Acting.{Ended, all_ended}
 use Rattle.and_closing_laws.specs.Phases.{HasPhased}
 use Rattle.and_closing_laws.proofs.Asked.{sole_of, run_of, reaches_all, asked_from}

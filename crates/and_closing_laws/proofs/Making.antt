@@ -33,8 +33,8 @@ use Rattle.and_gathering.specs.Gathering.{IsGathered, all_made, all_ran, made_by
 use Rattle.and_gathering.specs.declared.gathering.Gathered.{Gathered}
 use Rattle.and_gathering.specs.declared.links.Taken.{Taken}
 use Rattle.and_gathering.specs.declared.links.Taken.TheVariants.{Reduced, Ran}
-use Rattle.and_whole.specs.Places
-use Rattle.and_whole.specs.Places.{all_frames, IsWhole, IsVariableCell}
+use Rattle.and_row_check.specs.Places
+use Rattle.and_row_check.specs.Places.{all_frames, IsWhole, IsVariableCell}
 use Rattle.and_closing_laws.specs.Acting.{Ended, all_ended, IsTaking}
 use Rattle.and_closing_laws.specs.Phases.{HasPhased}
 use Rattle.and_closing_laws.proofs.Entries.{act_by, entry_act}

@@ -14,7 +14,7 @@ use Rattle.and_cells.proofs.SetWords.{set_in_is}
 use Rattle.and_cell_laws.proofs.Between.{set_is_below}
 use Rattle.and_branch_laws.proofs.PairEquations.{between_terms}
 use Rattle.and_store_laws.proofs.Lists.{contains_cases}
-use Rattle.and_whole.specs.Places.{IsWhole, IsWholeFrame, IsVariableCell}
+use Rattle.and_row_check.specs.Places.{IsWhole, IsWholeFrame, IsVariableCell}
 use Rattle.and_worker_laws.specs.Acts
 use Rattle.and_worker_laws.specs.Acts.{Act}
 use Rattle.and_model.specs.declared.goal.Frame.{Frame}

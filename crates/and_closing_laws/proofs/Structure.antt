@@ -14,7 +14,7 @@ use Rattle.and_handed.specs.declared.told.Cause.TheVariants.{NoCandidate}
 use Rattle.and_handed.specs.declared.told.HandedOn.{HandedOn}
 use Rattle.and_gathering.specs.Gathering.{IsGathered}
 use Rattle.and_gathering.specs.declared.gathering.Gathered.{Gathered}
-use Rattle.and_whole.specs.Places.{IsWhole}
+use Rattle.and_row_check.specs.Places.{IsWhole}
 use Rattle.and_worker_laws.specs.Acts
 use Rattle.and_worker_laws.specs.Acts.{Act, RunInCells, weight_taken, IsThere, AreTaken, HasFailed}
 use Rattle.and_worker_laws.specs.Unfolding.{AreLeftOf}

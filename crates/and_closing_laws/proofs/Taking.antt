@@ -21,7 +21,7 @@ use Rattle.and_handed.specs.declared.told.Reduced.{Reduced}
 use Rattle.and_handed.specs.declared.told.HandedOn.{HandedOn}
 use Rattle.and_gathering.specs.Gathering.{IsGathered}
 use Rattle.and_gathering.specs.declared.gathering.Gathered.{Gathered}
-use Rattle.and_whole.specs.Places.{IsWhole}
+use Rattle.and_row_check.specs.Places.{IsWhole}
 use Rattle.and_worker_laws.specs.Acts
 use Rattle.and_worker_laws.specs.Acts.{Act, takes, reductions, weight_taken, IsThere, IsTaken, AreTaken}
 use Rattle.and_closing_laws.specs.Phases.{HasPhased}

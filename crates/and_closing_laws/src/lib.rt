@@ -23,7 +23,7 @@ ghost use Rattle.and_worker_laws.specs.Leavings.{AreReady};
 ghost use Rattle.and_handed.specs.declared.told.HandedOn.{HandedOn};
 ghost use Rattle.and_gathering.specs.declared.gathering.Gathered.{Gathered};
 ghost use Rattle.and_gathering.specs.Gathering.{IsGathered};
-ghost use Rattle.and_whole.specs.Places.{all_frames, IsWhole, ArePairsWhole};
+ghost use Rattle.and_row_check.specs.Places.{all_frames, IsWhole, ArePairsWhole};
 ghost use Rattle.and_closing_laws.specs.Phases.{HasPhased};
 
 /// Phases leave branches: from the tree of a branch, what all workers made of it leads by Steps to the tree that

@@ -22,7 +22,7 @@ use Rattle.and_worker_laws.specs.Leavings.{AreReady}
 use Rattle.and_handed.specs.declared.told.HandedOn.{HandedOn}
 use Rattle.and_gathering.specs.Gathering.{IsGathered}
 use Rattle.and_gathering.specs.declared.gathering.Gathered.{Gathered}
-use Rattle.and_whole.specs.Places.{all_frames, ArePairsWhole, IsSideWhole, IsWhole}
+use Rattle.and_row_check.specs.Places.{all_frames, ArePairsWhole, IsSideWhole, IsWhole}
 use Rattle.and_closing_laws.specs.Phases.{HasPhased}
 use Rattle.and_branch.specs.Branches.{Held, Lives, IsBranchOf}
 use Rattle.and_branch.specs.Parts.{held_of}

@@ -9,7 +9,7 @@ use Rattle.and_branch.specs.declared.rebuilding.Worked.{Worked}
 use Rattle.and_gathering.specs.Gathering.{IsGathered}
 use Rattle.and_gathering.specs.declared.gathering.Gathered.{Gathered}
 use Rattle.and_handed.specs.declared.told.HandedOn.{HandedOn}
-use Rattle.and_whole.specs.Places.{all_frames, IsWhole, ArePairsWhole}
+use Rattle.and_row_check.specs.Places.{all_frames, IsWhole, ArePairsWhole}
 use Rattle.and_closing_laws.specs.Phases.{HasPhased}
 use Rattle.and_phase.specs.declared.joining.Joined.{Joined}
 

@@ -23,7 +23,7 @@ use and_gathering::{Gathered, gather};
 use and_handed::HandedOn;
 use and_model::{Goal, ReductionList};
 use and_program::Loaded;
-use and_whole::{are_pairs_whole, are_ready, frames_of, is_whole};
+use and_row_check::{are_pairs_whole, are_ready, frames_of, is_whole};
 use std::alloc::{AllocError, Global};
 
 /// What the workers of a phase made of a branch: the row that they leave, and what they did.

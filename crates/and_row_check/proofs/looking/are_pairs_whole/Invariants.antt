@@ -1,0 +1,11 @@
+use Rattle.std.proofs.Common.{take}
+use Rattle.and_cells.specs.Parts.{named}
+use Rattle.and_program.specs.Loaded.{skeleton_of}
+use Rattle.and_row_check.specs.Places.{ArePairsWhole, AreSpans}
+use Rattle.and_row_check.proofs.looking.are_pairs_whole.Given as goal
+
+abbrev pub invariant-loop-place : goal.invariant-loop-place
+invariant-loop-place l = record {
+  spans : AreSpans (skeleton_of l.loaded).nodes l.spans.spans.items;
+  whole : ArePairsWhole (named l.loaded) l.frames l.cells (take l.place l.pairs);
+}

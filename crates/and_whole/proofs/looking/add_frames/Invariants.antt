@@ -1,6 +1,0 @@
-use Rattle.std.proofs.Common.{◌≡◌, ◌++◌, map, take}
-use Rattle.and_whole.specs.Places.{frame_of}
-use Rattle.and_whole.proofs.looking.add_frames.Given as goal
-
-abbrev pub invariant-loop-place : goal.invariant-loop-place
-invariant-loop-place l = l.frames.items ≡ l.initial.frames.items ++ map frame_of (take l.place l.reductions)
