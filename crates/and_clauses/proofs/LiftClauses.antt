@@ -1,7 +1,7 @@
 -- The clauses of alternatives are lifted one by one.
 use Rattle.std.proofs.Common.{ℕ, zero, suc, ◌+◌, ◌≡◌, ◌<◌, ◌≤◌, List, [], ◌∷◌, ◌++◌, length, get_or, map, take, drop, Option, Some, None, refl, ap, sym, ◌∙◌}
 use Rattle.std.proofs.Common.{arith}
-use Rattle.std.proofs.Common.{subst, All}
+use Rattle.std.proofs.Common.{subst, All, inl, inr}
 use Rattle.std.specs.Prelude.{flat_map, Result, Ok, Err, IfOk, OnOk}
 use Rattle.std.proofs.lemmas.List.{length-map, map_push, drop_more, take_more, take_all, map_more, length-take-le, get_or_default}
 use Rattle.std.proofs.lemmas.List.Elements.{All-head, All-tail, All-weaker}
@@ -31,7 +31,7 @@ use Rattle.and_clauses.specs.Lifts.{HaveRoom, ArePiecesThere, IsScope, AreAltern
 use Rattle.and_clauses.specs.declared.sorting.Disjunction.{Disjunction}
 use Rattle.and_clauses.specs.declared.sorting.Outline.{Outline}
 use Rattle.and_clauses.proofs.CopySteps.{grown_again}
-use Rattle.and_clauses.proofs.Placing.{begins_all, begins_self, as_variables, IsRow, row_put, row_named, called_row, head_row, numbers_last, numbers-length}
+use Rattle.and_clauses.proofs.Placing.{begins_all, begins_self, as_variables, IsRow, row_put, row_named, row_taken, called_row, head_row, numbers_last, numbers-length}
 use Rattle.and_clauses.proofs.LiftSteps.{grown_more}
 use Rattle.and_clauses.proofs.Altering.{variables_few}
 use Rattle.and_clauses.proofs.Keeping.{entries_front, are_entries_front, entries_append}
@@ -77,12 +77,15 @@ module _ (ds : List Disjunction) (n : ℕ) (d : Disjunction) (lt : n < length ds
 -- The call or the head of a disjunction: a row of variables and its name.
 pub row_end : {E : Type 0} (r : Result NodeNo E) (m : ℕ) (old us vs : List Shape) (most c : ℕ) (args ks : List ℕ) (t : Term)
     → IsRow m old us most args ks → c < m → length ks ≤ 255 → length us + 1 ≤ most → t ≡ Terms.compound c (term_list (as_variables ks))
-    → IfOk r (λ n. n.0 ≡ length us) → OnOk r (vs ≡ us ++ compound c args ∷ [])
+    → IfOk r (λ n. IsPut us vs (compound c args) n.0)
     → OnOk r (Grown m old vs most) × IfOk r (λ n. IsNode vs n.0 t)
-row_end (Ok n) m old us vs most c args ks t row named few room is number made =
-    let done = row_named m old us vs most c args ks row made named few room in
-    (done.0, (omega (arith, number, done.1.0), ap (node_term vs) number ∙ done.1.1 ∙ sym is))
-row_end (Err e) m old us vs most c args ks t row named few room is number made = (tt, tt)
+row_end (Ok n) m old us vs most c args ks t row named few room is (inl put) =
+    let done = row_named m old us vs most c args ks row put.0 named few room in
+    (done.0, (omega (arith, put.1, done.1.0), ap (node_term vs) put.1 ∙ done.1.1 ∙ sym is))
+row_end (Ok n) m old us vs most c args ks t row named few room is (inr found) =
+    let there = row_taken m old us most c args ks n.0 row found.1 in
+    (subst (λ xs. Grown m old xs most) (sym found.0) row.grown, subst (λ xs. IsNode xs n.0 t) (sym found.0) (there.0, there.1 ∙ sym is))
+row_end (Err e) m old us vs most c args ks t row named few room is put = (tt, tt)
 
 -- ---- A row of its variables, one after another.
 pub pushed_number : (old new : List NodeNo) (n : NodeNo) → new ≡ old ++ n ∷ [] → numbers_in new ≡ numbers_in old ++ n.0 ∷ []
@@ -122,9 +125,9 @@ head_more m old us vs count i args more n r lt few made pushed =
 
 pub call_end : {E : Type 0} (r : Result NodeNo E) (new : Numbering) (m : ℕ) (old us vs : List Shape) (d : Named) (xs : List ℕ) (i c : ℕ) (args : List NodeNo)
     → d.name ≡ c → d.variables ≡ own xs → IsRow m old us (length old + suc (length xs)) (numbers_in args) (map (new []) (take i xs)) → length xs ≤ i → c < m
-    → length xs ≤ 255 → IfOk r (λ n. n.0 ≡ length us) → OnOk r (vs ≡ us ++ compound c (numbers_in args) ∷ [])
+    → length xs ≤ 255 → IfOk r (λ n. IsPut us vs (compound c (numbers_in args)) n.0)
     → OnOk r (Grown m old vs (length old + suc (length d.variables))) × IfOk r (λ n. IsNode vs n.0 (renumbered new (call_of d)))
-call_end r new m old us vs d xs i c args named are row done lt few number made =
+call_end r new m old us vs d xs i c args named are row done lt few put =
     let all : take i xs ≡ xs = take_all i xs done in
     let size : length d.variables ≡ length xs = ap length are ∙ length-map xs (λ j. let v : Path × ℕ = ([], j) in v) in
     let is : renumbered new (call_of d) ≡ Terms.compound c (term_list (as_variables (map (new []) (take i xs)))) =
@@ -134,20 +137,20 @@ call_end r new m old us vs d xs i c args named are row done lt few number made =
     let most : length old + suc (length xs) ≡ length old + suc (length d.variables) = omega (arith, size) in
     let end = row_end r m old us vs (length old + suc (length xs)) c (numbers_in args) (map (new []) (take i xs)) (renumbered new (call_of d)) row lt
     (omega (arith, length-map (take i xs) (new []), ap length (take_all i xs done), few))
-    (omega (arith, row.count, length-map (take i xs) (new []), ap length all)) is number made in
+    (omega (arith, row.count, length-map (take i xs) (new []), ap length all)) is put in
     (subst (λ n. OnOk r (Grown m old vs n)) most end.0, end.1)
 
 pub head_end : {E : Type 0} (r : Result NodeNo E) (m : ℕ) (old us vs : List Shape) (d : Named) (count i c : ℕ) (args : List NodeNo)
     → d.name ≡ c → length d.variables ≡ count → IsRow m old us (length old + suc count) (numbers_in args) (numbers_from 0 i) → i ≡ count → c < m
-    → count ≤ 255 → IfOk r (λ n. n.0 ≡ length us) → OnOk r (vs ≡ us ++ compound c (numbers_in args) ∷ [])
+    → count ≤ 255 → IfOk r (λ n. IsPut us vs (compound c (numbers_in args)) n.0)
     → OnOk r (Grown m old vs (length old + suc (length d.variables))) × IfOk r (λ n. IsNode vs n.0 (head_of d))
-head_end r m old us vs d count i c args named are row done lt few number made =
+head_end r m old us vs d count i c args named are row done lt few put =
     let is : head_of d ≡ Terms.compound c (term_list (as_variables (numbers_from 0 i))) =
     ap (λ n. Terms.compound n (numbered_variables 0 d.variables)) named
     ∙ ap (Terms.compound c) (head_row 0 d.variables ∙ ap (λ k. term_list (as_variables (numbers_from 0 k))) (are ∙ sym done)) in
     let most : length old + suc count ≡ length old + suc (length d.variables) = omega (arith, are) in
     let end = row_end r m old us vs (length old + suc count) c (numbers_in args) (numbers_from 0 i) (head_of d) row lt
-    (omega (arith, numbers-length 0 i, done, few)) (omega (arith, row.count, numbers-length 0 i, done)) is number made in
+    (omega (arith, numbers-length 0 i, done, few)) (omega (arith, row.count, numbers-length 0 i, done)) is put in
     (subst (λ n. OnOk r (Grown m old vs n)) most end.0, end.1)
 
 -- the written names of its variables

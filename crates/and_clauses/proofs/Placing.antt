@@ -3,7 +3,7 @@ use Rattle.std.proofs.Common.{ℕ, zero, suc, ◌+◌, ◌≡◌, ◌<◌, ◌�
 use Rattle.std.proofs.Common.{ap, sym, ◌∙◌, arith, subst, slice_get, Some, inl, inr}
 use Rattle.std.proofs.lemmas.Bool.Decides.{nat_tests}
 use Rattle.std.proofs.lemmas.List.{length-append, map_push, drop_more, take-append-drop, take-take}
-use Rattle.std.proofs.lemmas.Option.{slice_get-map, slice_get_read}
+use Rattle.std.proofs.lemmas.Option.{slice_get-map, slice_get_read, slice_get_within, get_or_from_slice_get}
 use Rattle.std.specs.Option.{option_map}
 use Rattle.and_model.specs.Lines.{place_of}
 use Rattle.and_model.specs.Terms
@@ -11,10 +11,11 @@ use Rattle.and_model.specs.Terms.{Path, Term, Terms, apply_all}
 use Rattle.and_source.specs.Lifted.{Numbering, as_terms, numbered_variables}
 use Rattle.and_source.specs.Source.{numbers_from}
 use Rattle.and_program.specs.Skeletons
-use Rattle.and_program.specs.Skeletons.{Shape, node_term, term_list, Falls, AllFall}
+use Rattle.and_program.specs.Skeletons.{Shape, node_term, shape_term, terms_behind, term_list, Falls, AllFall}
 use Rattle.and_program.specs.Kept.{AllWithin}
 use Rattle.and_program.specs.Nodes.{shape_of, shapes_of}
 use Rattle.and_program.specs.declared.node.Node.{Node}
+use Rattle.and_program.proofs.NodeTerms.{node_term_whole}
 use Rattle.and_clauses.specs.Sorts.{own}
 use Rattle.and_clauses.specs.Copied.{Grown}
 use Rattle.and_clauses.specs.Copies.{IsNode, IsPut, Begins}
@@ -54,11 +55,11 @@ begins_same a b c e g = ap (take (length a)) e ∙ g
 pub begins_all : (a b : List Shape) → Begins a b → b ≡ a ++ drop (length a) b
 begins_all a b g = sym (take-append-drop (length a) b) ∙ ap (λ xs. xs ++ drop (length a) b) g
 
--- a node that is a variable's, by its shape
-pub variable_there : (nodes : List Node) (n k : ℕ) (d : Node) → n < length nodes → d ≡ get_or nodes n d → shape_of d ≡ Skeletons.variable k
-    → slice_get (shapes_of nodes) n ≡ Some (Skeletons.variable k)
-variable_there nodes n k d lt at is =
-    slice_get-map shape_of nodes n ∙ ap (option_map shape_of) (slice_get_read nodes (length nodes) n d refl lt at) ∙ ap (λ (s : Shape). Some s) is
+-- a node, by its shape
+pub shape_there : (nodes : List Node) (n : ℕ) (s : Shape) (d : Node) → n < length nodes → d ≡ get_or nodes n d → shape_of d ≡ s
+    → slice_get (shapes_of nodes) n ≡ Some s
+shape_there nodes n s d lt at is =
+    slice_get-map shape_of nodes n ∙ ap (option_map shape_of) (slice_get_read nodes (length nodes) n d refl lt at) ∙ ap (λ (t : Shape). Some t) is
 
 -- ---- A row of variables.
 abbrev pub as_variables : List ℕ → List Term
@@ -129,6 +130,17 @@ row_named m old us vs most c args ks r made named few room =
     let longer : length vs ≡ length us + 1 = ap length made ∙ length-append us (s ∷ []) in (
       grown_push m old us vs s most r.grown made r.there (named, omega (arith, r.same)) room,
       (omega (arith, longer), pushed_term us vs s made ∙ ap (λ ts. Terms.compound c (term_list ts)) r.terms),
+    )
+
+-- or a node is there that has them with that name
+pub row_taken : (m : ℕ) (old us : List Shape) (most c : ℕ) (args ks : List ℕ) (n : ℕ) → IsRow m old us most args ks
+    → slice_get us n ≡ Some (Skeletons.compound c args) → IsNode us n (Terms.compound c (term_list (as_variables ks)))
+row_taken m old us most c args ks n r found =
+    let s : Shape = Skeletons.compound c args in
+    let lt : n < length us = slice_get_within us n s found in (
+      lt,
+      node_term_whole us n s r.grown.falls lt ∙ ap (shape_term (terms_behind [] us)) (get_or_from_slice_get us n s s found)
+          ∙ ap (λ ts. Terms.compound c (term_list ts)) r.terms,
     )
 
 -- the arguments of the call of a disjunction, renumbered

@@ -27,7 +27,7 @@ ghost use Rattle.and_model.specs.declared.limits.TheConstants.{MAX_NODES, MAX_VA
 
 use crate::draft::DraftPart;
 use crate::guesses::Guesses;
-use crate::known::VariableNodes;
+use crate::known::{CallNodes, VariableNodes};
 use crate::numbering::number_of;
 use crate::scratch::CopyLists;
 use crate::sorting::{Disjunction, Outline, Piece};
@@ -135,7 +135,7 @@ fn lifted_item(
     match piece {
         Piece::Item(item) => copied_item(lifting, nodes, lists, scope, item, pairs),
         Piece::Disjunction(number) => {
-            let goal = lifted_call(lifting, nodes, &mut lists.variables, scope, *number)?;
+            let goal = lifted_call(lifting, nodes, lists, scope, *number)?;
             Ok(ItemNode::Call { goal })
         }
     }
@@ -238,7 +238,7 @@ fn place_in(variables: &[u32], variable: u32) -> u32
 fn lifted_call(
     lifting: Lifting<'_>,
     nodes: &mut Vec<Node>,
-    known: &mut VariableNodes,
+    lists: &mut CopyLists,
     scope: Option<&[u32]>,
     disjunction: usize,
 ) -> Result<NodeNo, AllocError>
@@ -260,10 +260,10 @@ fn lifted_call(
     let mut arguments = Vec::new(lifting.alloc);
     for variable in variables {
         let number = number_in(scope, *variable);
-        arguments.push(variable_node(nodes, known, number)?)?;
+        arguments.push(variable_node(nodes, &mut lists.variables, number)?)?;
     }
     let name = name_of(lifting, disjunction);
-    push_node(nodes, Node::Compound { name, arguments })
+    call_node(nodes, &mut lists.calls, disjunction, name, arguments)
 }
 
 /// The number of the name of a disjunction's predicate.
@@ -280,7 +280,7 @@ fn name_of(lifting: Lifting<'_>, disjunction: usize) -> NameNo
 pub(crate) fn lifted_head(
     lifting: Lifting<'_>,
     nodes: &mut Vec<Node>,
-    known: &mut VariableNodes,
+    lists: &mut CopyLists,
     disjunction: usize,
 ) -> Result<NodeNo, AllocError>
     requires lifting { IsLifting lifting }
@@ -297,10 +297,49 @@ pub(crate) fn lifted_head(
     let count = lifting.disjunctions[disjunction].variables.len();
     let mut arguments = Vec::new(lifting.alloc);
     for number in 0..count {
-        arguments.push(variable_node(nodes, known, number as u32)?)?;
+        arguments.push(variable_node(nodes, &mut lists.variables, number as u32)?)?;
     }
     let name = name_of(lifting, disjunction);
-    push_node(nodes, Node::Compound { name, arguments })
+    call_node(nodes, &mut lists.calls, disjunction, name, arguments)
+}
+
+/// The node of the call of a disjunction: one that is there, or a new one. An error is want of memory; the node may then
+/// have been added.
+fn call_node(
+    nodes: &mut Vec<Node>,
+    known: &mut CallNodes,
+    disjunction: usize,
+    name: NameNo,
+    arguments: Vec<NodeNo>,
+) -> Result<NodeNo, AllocError>
+    requires { length nodes.old.items < 2 ^ 32 }
+    ensures put { IfOk result (λ n. IsPut (shapes_of nodes.old.items) (shapes_of nodes.new.items)
+        (compound name.0 (numbers_in arguments.items)) n.0) }
+    ensures kept { Begins (shapes_of nodes.old.items) (shapes_of nodes.new.items) }
+{
+    match known.of(nodes.as_slice(), disjunction, name, arguments.as_slice()) {
+        Some(node) => Ok(node),
+        None => new_call(nodes, known, disjunction, name, arguments),
+    }
+}
+
+/// Adds the node of the call of a disjunction, and notes it for the next time. An error is want of memory; the node may
+/// then have been added.
+fn new_call(
+    nodes: &mut Vec<Node>,
+    known: &mut CallNodes,
+    disjunction: usize,
+    name: NameNo,
+    arguments: Vec<NodeNo>,
+) -> Result<NodeNo, AllocError>
+    requires { length nodes.old.items < 2 ^ 32 }
+    ensures put { IfOk result (λ n. IsPut (shapes_of nodes.old.items) (shapes_of nodes.new.items)
+        (compound name.0 (numbers_in arguments.items)) n.0) }
+    ensures kept { Begins (shapes_of nodes.old.items) (shapes_of nodes.new.items) }
+{
+    let node = push_node(nodes, Node::Compound { name, arguments })?;
+    known.note(disjunction, node)?;
+    Ok(node)
 }
 
 /// Adds a node, and answers its number.
@@ -560,7 +599,7 @@ pub(crate) fn alternative(
 {
     let disjunction = scope_of(outline);
     let variables = lifting.disjunctions[disjunction].variables.as_slice();
-    let head = lifted_head(lifting, nodes, &mut lists.variables, disjunction)?;
+    let head = lifted_head(lifting, nodes, lists, disjunction)?;
     let items = lifted_items(
         lifting,
         nodes,

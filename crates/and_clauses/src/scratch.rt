@@ -1,7 +1,7 @@
 //! Lists that are used again for each clause.
 
 use crate::guesses::Guesses;
-use crate::known::VariableNodes;
+use crate::known::{CallNodes, VariableNodes};
 use crate::lifting::Copying;
 use and_model::NodeNo;
 use std::alloc::Global;
@@ -25,12 +25,13 @@ impl Drop for Scratch {
     }
 }
 
-/// What comes next of a term that is copied, and the terms that are; and the nodes of variables that may be taken
-/// again.
+/// What comes next of a term that is copied, and the terms that are; and the nodes of variables and of calls that may be
+/// taken again.
 pub(crate) struct CopyLists {
     pub(crate) pending: Vec<Copying>,
     pub(crate) finished: Vec<NodeNo>,
     pub(crate) variables: VariableNodes,
+    pub(crate) calls: CallNodes,
 }
 
 // By hand, so that it is proved once, here.
@@ -40,6 +41,7 @@ impl Drop for CopyLists {
             pending: _,
             finished: _,
             variables: _,
+            calls: _,
         } = self;
     }
 }
@@ -54,6 +56,7 @@ impl Scratch {
                 pending: Vec::new(alloc),
                 finished: Vec::new(alloc),
                 variables: VariableNodes::new(alloc),
+                calls: CallNodes::new(alloc),
             },
         }
     }

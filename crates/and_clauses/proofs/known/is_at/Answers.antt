@@ -1,7 +1,8 @@
-use Rattle.and_clauses.proofs.Placing.{variable_there}
+use Rattle.and_program.specs.Skeletons
+use Rattle.and_clauses.proofs.Placing.{shape_there}
 use Rattle.and_clauses.proofs.known.is_at.Goals as goal
 
 pub returns-in-Some : goal.returns-in-Some
 returns-in-Some c = λ same.
-    variable_there c.args.nodes.now c.args.node.0 c.args.variable c.in-Some.found.now c.in-Some.ensures.lookup.3.0 c.in-Some.ensures.lookup.1
+    shape_there c.args.nodes.now c.args.node.0 (Skeletons.variable c.args.variable) c.in-Some.found.now c.in-Some.ensures.lookup.3.0 c.in-Some.ensures.lookup.1
     (c.is_variable.ensures same)

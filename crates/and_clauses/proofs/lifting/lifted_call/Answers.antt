@@ -33,8 +33,8 @@ loop-variable-preserved c =
           c.requires.own c.number_in-number.ensures c.in_ok-variable_node.ensures.put c.in_ok-push.ensures.items;
     }
 
-pub push_node-requires : goal.push_node-requires
-push_node-requires c =
+pub call_node-requires : goal.call_node-requires
+call_node-requires c =
     let count = count_read c.args.lifting.disjunctions.now c.args.disjunction c.index-lifting-disjunction.result c.requires.there c.args.lifting.numbers.now
     c.requires.lifting.numbered in
     omega (
@@ -51,21 +51,21 @@ returns-clause-grown c =
     let vars = variables_read c.args.lifting.disjunctions.now c.args.disjunction c.index-lifting-disjunction.result c.requires.there c.args.lifting.numbers.now
     c.requires.lifting.numbered ∙ ap own (sym c.as_slice-variables.ensures) in
     let few = few_read c.args.lifting.disjunctions.now c.args.disjunction c.index-lifting-disjunction.result c.requires.there c.requires.lifting.few in
-    (call_end c.push_node.result (numbering_at c.args.scope) (length (names_under c.args.lifting)) (shapes_of c.args.nodes.now.items)
+    (call_end c.call_node.result (numbering_at c.args.scope) (length (names_under c.args.lifting)) (shapes_of c.args.nodes.now.items)
     (shapes_of c.loop-variable.nodes.items)
-    (shapes_of c.push_node.new.nodes.items) (named_at (named_under c.args.lifting) c.args.disjunction) c.as_slice-variables.result.now
+    (shapes_of c.call_node.new.nodes.items) (named_at (named_under c.args.lifting) c.args.disjunction) c.as_slice-variables.result.now
     c.loop-variable.variable-index c.name_of-name.result.0 c.loop-variable.arguments.items c.name_of-name.ensures.name vars c.loop-variable.invariant.row
     c.loop-variable-test.false c.name_of-name.ensures.within
-    (omega (arith, few, ap length c.as_slice-variables.ensures)) c.push_node.ensures.number c.push_node.ensures.nodes).0
+    (omega (arith, few, ap length c.as_slice-variables.ensures)) c.call_node.ensures.put).0
 
 pub returns-clause-call : goal.returns-clause-call
 returns-clause-call c =
     let vars = variables_read c.args.lifting.disjunctions.now c.args.disjunction c.index-lifting-disjunction.result c.requires.there c.args.lifting.numbers.now
     c.requires.lifting.numbered ∙ ap own (sym c.as_slice-variables.ensures) in
     let few = few_read c.args.lifting.disjunctions.now c.args.disjunction c.index-lifting-disjunction.result c.requires.there c.requires.lifting.few in
-    (call_end c.push_node.result (numbering_at c.args.scope) (length (names_under c.args.lifting)) (shapes_of c.args.nodes.now.items)
+    (call_end c.call_node.result (numbering_at c.args.scope) (length (names_under c.args.lifting)) (shapes_of c.args.nodes.now.items)
     (shapes_of c.loop-variable.nodes.items)
-    (shapes_of c.push_node.new.nodes.items) (named_at (named_under c.args.lifting) c.args.disjunction) c.as_slice-variables.result.now
+    (shapes_of c.call_node.new.nodes.items) (named_at (named_under c.args.lifting) c.args.disjunction) c.as_slice-variables.result.now
     c.loop-variable.variable-index c.name_of-name.result.0 c.loop-variable.arguments.items c.name_of-name.ensures.name vars c.loop-variable.invariant.row
     c.loop-variable-test.false c.name_of-name.ensures.within
-    (omega (arith, few, ap length c.as_slice-variables.ensures)) c.push_node.ensures.number c.push_node.ensures.nodes).1
+    (omega (arith, few, ap length c.as_slice-variables.ensures)) c.call_node.ensures.put).1

@@ -41,8 +41,8 @@ loop-number-preserved c =
           c.in_ok-push.ensures.items;
     }
 
-pub push_node-requires : goal.push_node-requires
-push_node-requires c =
+pub call_node-requires : goal.call_node-requires
+call_node-requires c =
     let few = few_read c.args.lifting.disjunctions.now c.args.disjunction c.index-lifting-disjunction.result c.requires.there c.requires.lifting.few in
     omega (
       arith,
@@ -63,13 +63,13 @@ returns-clause-grown c =
           c.requires.lifting.numbered,
       c.len-count.ensures.value,
     ) in
-    (head_end c.push_node.result (length (names_under c.args.lifting)) (shapes_of c.args.nodes.now.items) (shapes_of c.loop-number.nodes.items)
-    (shapes_of c.push_node.new.nodes.items)
+    (head_end c.call_node.result (length (names_under c.args.lifting)) (shapes_of c.args.nodes.now.items) (shapes_of c.loop-number.nodes.items)
+    (shapes_of c.call_node.new.nodes.items)
     (named_at (named_under c.args.lifting) c.args.disjunction) c.len-count.result c.loop-number.number c.name_of-name.result.0 c.loop-number.arguments.items
     c.name_of-name.ensures.name count c.loop-number.invariant.row (omega (arith, c.loop-number-test.false, c.loop-number.auto.number-end))
     c.name_of-name.ensures.within
     (omega (arith, few, c.len-count.ensures.value))
-    c.push_node.ensures.number c.push_node.ensures.nodes).0
+    c.call_node.ensures.put).0
 
 pub returns-clause-head : goal.returns-clause-head
 returns-clause-head c =
@@ -81,10 +81,10 @@ returns-clause-head c =
           c.requires.lifting.numbered,
       c.len-count.ensures.value,
     ) in
-    (head_end c.push_node.result (length (names_under c.args.lifting)) (shapes_of c.args.nodes.now.items) (shapes_of c.loop-number.nodes.items)
-    (shapes_of c.push_node.new.nodes.items)
+    (head_end c.call_node.result (length (names_under c.args.lifting)) (shapes_of c.args.nodes.now.items) (shapes_of c.loop-number.nodes.items)
+    (shapes_of c.call_node.new.nodes.items)
     (named_at (named_under c.args.lifting) c.args.disjunction) c.len-count.result c.loop-number.number c.name_of-name.result.0 c.loop-number.arguments.items
     c.name_of-name.ensures.name count c.loop-number.invariant.row (omega (arith, c.loop-number-test.false, c.loop-number.auto.number-end))
     c.name_of-name.ensures.within
     (omega (arith, few, c.len-count.ensures.value))
-    c.push_node.ensures.number c.push_node.ensures.nodes).1
+    c.call_node.ensures.put).1
