@@ -1,16 +1,16 @@
 #!/usr/bin/env python3
-"""What it costs to read a text: makes texts of one size and several kinds, and counts what `check` takes for each.
+"""What it costs to read a text: makes texts of one size and several kinds, and counts what `run` takes for each, whose
+query is true, or `check`, by which nothing is compiled.
 
-    yard/reading.py PROGRAM [--bytes N] [--times K] [--only KIND..] [--texts FOLDER]
+    yard/reading.py PROGRAM [--command run|check] [--bytes N] [--times K] [--only KIND..] [--texts FOLDER]
 
-For each kind a line with the instructions of the whole program (valgrind --tool=callgrind) in millions, and its
-processor time in milliseconds, the least of K runs; behind them the same as shares of those of clauses. With --texts
-the texts are written there and stay.
+For each kind a line with the instructions of the whole program (valgrind --tool=callgrind) in millions, its processor
+time in milliseconds, the least of K runs, and the pages that it touched; behind them the first two as shares of those of
+clauses. With --texts the texts are written there and stay.
 """
 import argparse
 import os
 import re
-import resource
 import subprocess
 import sys
 import tempfile
@@ -75,31 +75,31 @@ def text_of(kind, size):
     return ''.join(lines)
 
 
-def instructions(program, path):
-    """How many millions of instructions a check of that text takes."""
+def instructions(words, path):
+    """How many millions of instructions that command takes for that text."""
     with open(path) as text, tempfile.NamedTemporaryFile() as out:
-        told = subprocess.run(['valgrind', '--tool=callgrind', f'--callgrind-out-file={out.name}', program, 'check'],
+        told = subprocess.run(['valgrind', '--tool=callgrind', f'--callgrind-out-file={out.name}', *words],
                               stdin=text, stdout=subprocess.DEVNULL, stderr=subprocess.PIPE, text=True).stderr
     found = re.search(r'Collected : (\d+)', told)
     return int(found.group(1)) / 1e6 if found else float('nan')
 
 
-def milliseconds(program, path, times):
-    """The least processor time of so many checks of that text."""
+def times_and_pages(words, path, times):
+    """The least processor time of so many runs of that command for that text, in milliseconds, and the fewest pages."""
     least = None
     for _ in range(times):
-        before = resource.getrusage(resource.RUSAGE_CHILDREN)
         with open(path) as text:
-            subprocess.run([program, 'check'], stdin=text, stdout=subprocess.DEVNULL)
-        after = resource.getrusage(resource.RUSAGE_CHILDREN)
-        took = after.ru_utime + after.ru_stime - before.ru_utime - before.ru_stime
-        least = took if least is None else min(least, took)
-    return 1000 * least
+            child = subprocess.Popen(words, stdin=text, stdout=subprocess.DEVNULL)
+            usage = os.wait4(child.pid, 0)[2]
+        took = 1000 * (usage.ru_utime + usage.ru_stime), usage.ru_minflt
+        least = took if least is None else tuple(map(min, least, took))
+    return least
 
 
 def main():
     parser = argparse.ArgumentParser(description=__doc__, formatter_class=argparse.RawDescriptionHelpFormatter)
     parser.add_argument('program')
+    parser.add_argument('--command', choices=['run', 'check'], default='run')
     parser.add_argument('--bytes', type=int, default=251_000)
     parser.add_argument('--times', type=int, default=15)
     parser.add_argument('--only', nargs='*', choices=list(KINDS))
@@ -107,14 +107,17 @@ def main():
     args = parser.parse_args()
     folder = args.texts or tempfile.mkdtemp()
     os.makedirs(folder, exist_ok=True)
+    words = [args.program, args.command, *(['--teams', '1', '--workers', '1'] if args.command == 'run' else [])]
     first = None
     for kind in args.only or KINDS:
         path = os.path.join(folder, kind.replace(' ', '_') + '.pl')
         with open(path, 'w') as file:
             file.write(text_of(kind, args.bytes))
-        counted = instructions(args.program, path), milliseconds(args.program, path, args.times)
+        time, pages = times_and_pages(words, path, args.times)
+        counted = instructions(words, path), time
         first = first or counted
-        print(f'{kind:20}{counted[0]:8.0f}{counted[1]:8.1f} ms{counted[0] / first[0]:8.2f}{counted[1] / first[1]:6.2f}')
+        shares = [f'{this / that:.2f}' for this, that in zip(counted, first)]
+        print(f'{kind:20}{counted[0]:8.0f}{time:8.1f} ms{pages:8}{shares[0]:>8}{shares[1]:>6}')
         sys.stdout.flush()
 
 
