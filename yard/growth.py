@@ -4,12 +4,13 @@
     yard/growth.py [--only WORD] [--runs N] [--program FILE] [--skip-swi]
 
 Writes for each size the processor time (the least of the runs, without that of a query that is true at once) and the peak of memory, the
-exponent with which time grows from n to 4n (1 is linear in n; what is written grows as the column says), and SWI-Prolog's time.
-docs/figures.md has what was measured.
+exponent with which time grows from n to 4n (1 is linear in n; what is written grows as the column says), and SWI-Prolog's time. Behind that,
+for programs that find answers without an end, the peak of memory after so many seconds of a processor. docs/figures.md has what was measured.
 """
 import argparse
 import math
 import os
+import resource
 import shutil
 import subprocess
 import sys
@@ -75,6 +76,8 @@ def behind(n):
             f"?- list({n}, _L), len(_L, N).")
 
 
+BITS = "bits([]).\nbits([B|T]) :- bit(B), bits(T).\nbit(0).\nbit(1).\n?- bits(L)."
+
 # name, text by size, sizes, words by size, and whether arithmetic waits in SWI-Prolog (None: it is not asked)
 PROGRAMS = [
     ("member", member, (7_500, 15_000, 30_000), None, False),
@@ -90,13 +93,20 @@ PROGRAMS = [
     ("sums behind calls", behind, (4_000, 8_000, 16_000), None, True),
 ]
 
+# name, text and the seconds of a processor after which the search is stopped
+ENDLESS = [("bits", BITS, (5, 15, 60))]
 
-def measured(command, text):
-    """Seconds of a processor, megabytes, status."""
+
+def measured(command, text, most=None):
+    """Seconds of a processor, megabytes, status; of a run that is stopped after so many seconds, if a number is given."""
+    def bounded():
+        if most is not None:
+            resource.setrlimit(resource.RLIMIT_CPU, (most, most))
+
     with tempfile.TemporaryFile() as source, open(os.devnull, "wb") as nowhere:
         source.write(text.encode())
         source.seek(0)
-        process = subprocess.Popen(command, stdin=source, stdout=nowhere, stderr=subprocess.DEVNULL)
+        process = subprocess.Popen(command, stdin=source, stdout=nowhere, stderr=subprocess.DEVNULL, preexec_fn=bounded)
         _, status, used = os.wait4(process.pid, 0)
         process.returncode = os.waitstatus_to_exitcode(status)
     return used.ru_utime + used.ru_stime, used.ru_maxrss / 1024, process.returncode
@@ -148,6 +158,13 @@ def main():
             other = swi(text_of(size), waits, given.runs) if with_swi and waits is not None else None
             growth = f"{math.log(times[-1] / times[0], sizes[-1] / sizes[0]):.2f}" if size == sizes[-1] else ""
             print(f"| {name} | {size:,} | {' | '.join(cells)} | {growth} | {'' if other is None else f'{other:.2f}'} |", flush=True)
+    print("\n| Without an end | Seconds | One team, MB | Two teams, MB |\n|---|---:|---:|---:|")
+    for name, text, stops in ENDLESS:
+        if given.only not in name:
+            continue
+        for most in stops:
+            peaks = [measured([given.program, "run", "--teams", teams, "--workers", "1"], text, most)[1] for teams in ("1", "2")]
+            print(f"| {name} | {most} | {' | '.join(f'{peak:.0f}' for peak in peaks)} |", flush=True)
     return 0
 
 

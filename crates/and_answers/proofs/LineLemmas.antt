@@ -13,13 +13,13 @@ line_of-outcome_with false line = refl
 
 -- one line more
 pub lines_step : (entries : List Entry) (i : ℕ) (d : Entry) (text new total : Bytes) → i < length entries
-    → new ≡ text ++ (get_or entries i d).line ++ 10 ∷ []
+    → new ≡ text ++ (get_or entries i d).line.value ++ 10 ∷ []
     → text ++ lines_of (map entry_of (drop i entries)) ≡ total → new ++ lines_of (map entry_of (drop (i + 1) entries)) ≡ total
 lines_step entries i d text new total below is so_far =
     let entry : Entry = get_or entries i d in
     let rest : Bytes = lines_of (map entry_of (drop (i + 1) entries)) in
-    let first : lines_of (map entry_of (drop i entries)) ≡ entry.line ++ 10 ∷ rest =
+    let first : lines_of (map entry_of (drop i entries)) ≡ entry.line.value ++ 10 ∷ rest =
     ap (λ (es : List Entry). lines_of (map entry_of es)) (drop_more entries i d below)
-    ∙ ap (λ (line : Bytes). line ++ 10 ∷ rest) (line_of-outcome_with entry.floundered entry.line) in
-    ap (λ (bytes : Bytes). bytes ++ rest) is ∙ append_assoc (text ++ entry.line) (10 ∷ []) rest ∙ append_assoc text entry.line (10 ∷ rest)
+    ∙ ap (λ (line : Bytes). line ++ 10 ∷ rest) (line_of-outcome_with entry.floundered entry.line.value) in
+    ap (λ (bytes : Bytes). bytes ++ rest) is ∙ append_assoc (text ++ entry.line.value) (10 ∷ []) rest ∙ append_assoc text entry.line.value (10 ∷ rest)
     ∙ ap (λ (bytes : Bytes). text ++ bytes) (sym first) ∙ so_far

@@ -15,11 +15,11 @@ outcome_with floundered line = if floundered then Listing.floundered line else L
 
 -- the entry of a listing that an entry is
 abbrev pub entry_of : Entry → Listing.Entry
-entry_of entry = record { code = entry.code.value; outcome = outcome_with entry.floundered entry.line }
+entry_of entry = record { code = entry.code.value; outcome = outcome_with entry.floundered entry.line.value }
 
 -- what was found, as a listing
 abbrev pub listed : Found → List Listing.Entry
-listed found = map entry_of found.entries.items
+listed found = map entry_of found.entries
 
 -- The codes are those of the entries, in the same order.
 abbrev pub AreCodesOf : Found → List (List ℕ) → Type 0

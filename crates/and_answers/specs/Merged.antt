@@ -15,3 +15,10 @@ pub record IsPutBack (old : List Entry) (runs : List (List Tail)) (new : List En
   pub rises : Rises [] tails
   pub entries : new ≡ old ++ entries_of tails
   pub same : IsPermutation (all_entries runs) (entries_of tails)
+
+-- The same entries, in the order of their codes.
+pub record IsRisen (old new : List Entry) : Type 0 where
+  pub tails : List Tail
+  pub rises : Rises [] tails
+  pub entries : new ≡ entries_of tails
+  pub same : IsPermutation old (entries_of tails)

@@ -3,9 +3,7 @@
 ghost use Rattle.std.specs.Prelude.{◌≡◌, [], ◌∷◌, ◌++◌, None, OnOk, OnErr, IfOk};
 
 use crate::codes::CodeList;
-use crate::cutting::{put_back, runs_of};
-use crate::found::{Entry, Found};
-use crate::merging::as_one;
+use crate::found::Found;
 use and_model::{Code, Cut, Text};
 use std::alloc::{AllocError, Global};
 use std::marker::Model;
@@ -68,15 +66,20 @@ impl Coded {
         ensures end { SameEnd self.old self.new }
         ensures unchanged { OnErr result (listed self.new ≡ listed self.old) }
     {
-        let entry = Entry {
-            code: Snapshot::of(code),
-            line,
-            floundered,
-        };
-        self.found.entries.reserve(1)?;
-        self.codes.push(common, code)?;
-        self.found.entries.push(entry)?;
-        Ok(())
+        if self
+            .found
+            .add(Snapshot::of(code), line, floundered)
+            .is_err()
+        {
+            return Err(AllocError);
+        }
+        match self.codes.push(common, code) {
+            Ok(()) => Ok(()),
+            Err(AllocError) => {
+                self.found.entries.take_back();
+                Err(AllocError)
+            }
+        }
     }
 
     /// Counts one fork more.
@@ -130,10 +133,18 @@ impl Coded {
         requires { HasDistinctCodes (listed self) }
         ensures { IfOk result (λ found. InOrder (listed self) (listed found) × SameEnd self found) }
     {
-        let Coded { mut found, codes } = self;
-        let runs = runs_of(&mut found.entries, codes)?;
-        let one = as_one(runs)?;
-        put_back(&mut found.entries, one)?;
-        Ok(found)
+        let Coded { found, codes } = self;
+        let Found {
+            forks,
+            failed,
+            cut,
+            entries,
+        } = found;
+        Ok(Found {
+            forks,
+            failed,
+            cut,
+            entries: entries.in_order(codes)?,
+        })
     }
 }

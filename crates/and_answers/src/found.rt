@@ -1,8 +1,9 @@
 //! The answers of a run, and what is told of the run beside them.
 
-ghost use Rattle.std.specs.Prelude.{◌≡◌, [], ◌∷◌, ◌++◌, map, None, OnOk, OnErr, IfOk, IfErr};
+ghost use Rattle.std.specs.Prelude.{◌≡◌, ◌<◌, [], ◌∷◌, ◌++◌, length, map, take, get_or, None, OnOk, OnErr, IfOk, IfErr};
 
-use crate::printing::{write_counts, write_lines};
+use crate::entries::EntryList;
+use crate::printing::write_counts;
 use and_model::{Code, Cut, Text};
 use std::alloc::{AllocError, Global};
 use std::snapshot::Snapshot;
@@ -11,10 +12,12 @@ use std::snapshot::Snapshot;
 pub struct Entry {
     /// The code of its tree. It is there for contracts alone.
     pub code: Snapshot<Code>,
-    /// Its line, without a newline.
-    pub line: Text,
+    /// Its line, without a newline. It is there for contracts alone: what was found writes it.
+    pub line: Snapshot<Text>,
     /// Whether some of its arithmetic waits forever, so that the line is no answer.
     pub floundered: bool,
+    /// Where its line is kept.
+    pub(crate) place: usize,
 }
 
 // By hand, so that it is proved once, here.
@@ -24,6 +27,7 @@ impl Drop for Entry {
             code: _,
             line: _,
             floundered: _,
+            place: _,
         } = self;
     }
 }
@@ -37,12 +41,14 @@ pub struct Found {
     pub failed: u64,
     /// Where the search was cut off, if a branch outgrew the limit.
     pub cut: Option<Cut>,
-    pub(crate) entries: Vec<Entry>,
+    pub(crate) entries: EntryList,
 }
 
 impl Found {
     ghost use Rattle.and_model.specs.Output.{lines_of, last_lines};
-    ghost use Rattle.and_answers.specs.Kept.{entry_of, listed, finish_of, total, SameEnd, IsSame, Merges};
+    ghost use Rattle.and_model.specs.Listing.{line_of};
+    ghost use Rattle.and_answers.specs.Kept.{entry_of, listed, outcome_with, finish_of, total};
+    ghost use Rattle.and_answers.specs.Kept.{SameEnd, IsSame, Merges};
 
     /// Nothing was found yet. Takes no memory.
     pub fn new(alloc: Global) -> Found
@@ -53,25 +59,45 @@ impl Found {
             forks: 0,
             failed: 0,
             cut: None,
-            entries: Vec::new(alloc),
+            entries: EntryList::new(alloc),
         }
     }
 
-    /// Puts an entry behind the others. An error is want of memory, and hands the entry back.
-    pub fn add(&mut self, entry: Entry) -> Result<(), Entry>
-        ensures ok { OnOk result (listed self.new ≡ listed self.old ++ entry_of entry ∷ []) }
+    /// Puts an entry of this code, line and outcome behind the others. An error is want of memory, and hands the line
+    /// back.
+    pub fn add(&mut self, code: Snapshot<Code>, line: Text, floundered: bool) -> Result<(), Text>
+        ensures ok { OnOk result (listed self.new
+            ≡ listed self.old ++ record { code = code.value; outcome = outcome_with floundered line } ∷ []) }
         ensures end { SameEnd self.old self.new }
         ensures unchanged { OnErr result (listed self.new ≡ listed self.old) }
-        ensures given_back { IfErr result (λ back. back ≡ entry) }
+        ensures given_back { IfErr result (λ back. back ≡ line) }
     {
-        self.entries.push(entry).map_err(|refused| refused.value)
+        self.entries.push(code, line, floundered)
     }
 
     /// The entries. Takes no memory.
     pub fn entries(&self) -> &[Entry]
         ensures { map entry_of result.now ≡ listed self.now }
     {
-        &self.entries
+        self.entries.as_slice()
+    }
+
+    /// Writes the line of an entry, with a newline. After want of memory the text is spent.
+    pub fn write_line(&self, text: &mut Text, place: usize) -> Result<(), AllocError>
+        requires { place < length (listed self.now) }
+        ensures { OnOk result (text.new
+            ≡ text.old ++ get_or (map (λ e. line_of e.outcome) (listed self.now)) place [] ++ 10 ∷ []) }
+    {
+        self.entries.write_line(text, place)?;
+        Ok(())
+    }
+
+    /// Writes the lines of the first so many entries, or of all, each with a newline. After want of memory the text is
+    /// spent.
+    pub fn write_lines(&self, text: &mut Text, count: usize) -> Result<(), AllocError>
+        ensures { OnOk result (text.new ≡ text.old ++ lines_of (take count (listed self.now))) }
+    {
+        self.entries.write_lines(text, count)
     }
 
     /// Counts one fork more.
@@ -94,17 +120,44 @@ impl Found {
 
     /// What both found, the entries of `other` behind. An error is want of memory, and hands both
     /// back.
-    pub fn merge(mut self, mut other: Found) -> Result<Found, (Found, Found)>
+    pub fn merge(self, other: Found) -> Result<Found, (Found, Found)>
         ensures ok { IfOk result (Merges self other) }
         ensures given_back { IfErr result (λ back. IsSame self back.0 × IsSame other back.1) }
     {
-        if self.entries.append(&mut other.entries).is_err() {
-            return Err((self, other));
+        let Found {
+            forks,
+            failed,
+            cut,
+            entries,
+        } = self;
+        let Found {
+            forks: other_forks,
+            failed: other_failed,
+            cut: other_cut,
+            entries: others,
+        } = other;
+        match entries.merge(others) {
+            Ok(both) => Ok(Found {
+                forks: forks.saturating_add(other_forks),
+                failed: failed.saturating_add(other_failed),
+                cut: cut.or(other_cut),
+                entries: both,
+            }),
+            Err((entries, others)) => Err((
+                Found {
+                    forks,
+                    failed,
+                    cut,
+                    entries,
+                },
+                Found {
+                    forks: other_forks,
+                    failed: other_failed,
+                    cut: other_cut,
+                    entries: others,
+                },
+            )),
         }
-        self.forks = self.forks.saturating_add(other.forks);
-        self.failed = self.failed.saturating_add(other.failed);
-        self.cut = self.cut.or(other.cut);
-        Ok(self)
     }
 
     /// The whole text of the run: each line, and how the run ended, with the two counts where `stats`
@@ -112,8 +165,8 @@ impl Found {
     pub fn text(&self, stats: bool) -> Result<Text, AllocError>
         ensures { IfOk result (λ text. text ≡ lines_of (listed self.now) ++ last_lines (finish_of self.now stats)) }
     {
-        let mut text = Text::new(*self.entries.allocator());
-        write_lines(&mut text, &self.entries)?;
+        let mut text = Text::new(self.entries.allocator());
+        self.write_lines(&mut text, self.entries.as_slice().len())?;
         self.write_end(&mut text, stats)?;
         Ok(text)
     }

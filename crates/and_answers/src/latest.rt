@@ -55,12 +55,7 @@ impl Latest {
         ensures end { SameEnd self.old self.new }
         ensures unchanged { OnErr result (listed self.new ≡ listed self.old) }
     {
-        let entry = Entry {
-            code: Snapshot::of(&code),
-            line,
-            floundered,
-        };
-        match self.found.add(entry) {
+        match self.found.add(Snapshot::of(&code), line, floundered) {
             Ok(()) => {
                 self.code = Some(code);
                 Ok(())

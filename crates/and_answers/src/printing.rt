@@ -1,24 +1,11 @@
-//! The parts of the text of a run.
+//! The end of the text of a run.
 
-ghost use Rattle.std.specs.Prelude.{◌≡◌, ◌∷◌, [], ◌++◌, codes, map, OnOk};
-ghost use Rattle.and_model.specs.Output.{lines_of, counted};
-ghost use Rattle.and_answers.specs.Kept.{entry_of};
+ghost use Rattle.std.specs.Prelude.{◌≡◌, ◌∷◌, [], ◌++◌, codes, OnOk};
+ghost use Rattle.and_model.specs.Output.{counted};
 
-use crate::found::Entry;
 use and_model::Text;
 use itoa::Buffer;
 use std::alloc::AllocError;
-
-/// Writes each line, with a newline. After want of memory the text is spent.
-pub fn write_lines(text: &mut Text, entries: &[Entry]) -> Result<(), AllocError>
-    ensures { OnOk result (text.new ≡ text.old ++ lines_of (map entry_of entries.now)) }
-{
-    for entry in entries {
-        text.append(entry.line.bytes())?;
-        text.append(b"\n")?;
-    }
-    Ok(())
-}
 
 /// Writes the line of the counts. After want of memory the text is spent.
 pub(crate) fn write_counts(text: &mut Text, forks: u64, failed: u64) -> Result<(), AllocError>

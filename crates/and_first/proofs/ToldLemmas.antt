@@ -22,19 +22,19 @@ any_floundered : (es : List answers.Entry) → list_any (λ (e : answers.Entry).
     ≡ list_any (λ (e : Entry). is_floundered e.outcome) (map entry_of es)
 any_floundered [] = refl
 any_floundered (e ∷ es) =
-    ap (λ (b : Bool). b || list_any (λ (e : answers.Entry). e.floundered) es) (sym (floundered_with e.floundered e.line))
-    ∙ ap (λ (b : Bool). is_floundered (outcome_with e.floundered e.line) || b) (any_floundered es)
+    ap (λ (b : Bool). b || list_any (λ (e : answers.Entry). e.floundered) es) (sym (floundered_with e.floundered e.line.value))
+    ∙ ap (λ (b : Bool). is_floundered (outcome_with e.floundered e.line.value) || b) (any_floundered es)
 
 -- The first of the entries, as they were found.
 pub tells : (found : Found) (count : ℕ) (end : End) (all es : List answers.Entry) (first : First) → map entry_of all ≡ listed found
-    → es ≡ take count all → first.end ≡ end → first.text ≡ lines_of (map entry_of es) ++ last_line count end → first.lines ≡ length es
+    → es ≡ take count all → first.end ≡ end → first.text ≡ lines_of (first_entries found count) ++ last_line count end → first.lines ≡ length es
     → first.floundered ≡ list_any (λ (e : answers.Entry). e.floundered) es → Tells (first_entries found count) count end first
 tells found count end all es first is some end_is text lines floundered =
     let same : map entry_of es ≡ first_entries found count =
     ap (λ (xs : List answers.Entry). map entry_of xs) some ∙ sym (take-map entry_of count all) ∙ ap (λ (xs : List Entry). take count xs) is in
     record {
       end_is = end_is;
-      text = text ∙ ap (λ (xs : List Entry). lines_of xs ++ last_line count end) same;
+      text = text;
       lines = lines ∙ sym (length-map es entry_of) ∙ ap (λ (xs : List Entry). length xs) same;
       floundered = floundered ∙ any_floundered es ∙ ap (λ (xs : List Entry). list_any (λ (e : Entry). is_floundered e.outcome) xs) same;
     }

@@ -7,7 +7,7 @@ ghost use Rattle.and_first.specs.Steps.{first_entries};
 ghost use Rattle.and_first.specs.Telling.{Tells};
 
 use crate::first::{End, First};
-use and_answers::{Entry, Found, write_lines};
+use and_answers::{Entry, Found};
 use and_model::Text;
 use std::alloc::{AllocError, Global};
 
@@ -49,7 +49,7 @@ pub fn told(alloc: Global, found: &Found, end: End, count: usize) -> Result<Firs
 {
     let entries = first_of(found.entries(), count);
     let mut text = Text::new(alloc);
-    write_lines(&mut text, entries)?;
+    found.write_lines(&mut text, count)?;
     write_end(alloc, &mut text, end, count)?;
     Ok(First {
         text,

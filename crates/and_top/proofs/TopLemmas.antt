@@ -93,8 +93,8 @@ floundered_with false line = refl
 pub floundered_kept : (es : List answers.Entry) → list_any (λ (e : answers.Entry). e.floundered) es ≡ has_floundered (map entry_of es)
 floundered_kept [] = refl
 floundered_kept (e ∷ es) =
-    ap (λ (b : Bool). b || list_any (λ (e : answers.Entry). e.floundered) es) (sym (floundered_with e.floundered e.line))
-    ∙ ap (λ (b : Bool). is_floundered (outcome_with e.floundered e.line) || b) (floundered_kept es)
+    ap (λ (b : Bool). b || list_any (λ (e : answers.Entry). e.floundered) es) (sym (floundered_with e.floundered e.line.value))
+    ∙ ap (λ (b : Bool). is_floundered (outcome_with e.floundered e.line.value) || b) (floundered_kept es)
 
 -- the status of entries, as it is found by looks at them
 pub status_is : (cut : Option goal.Cut.Cut) (es : List answers.Entry) (ls : List Entry) (b : Bool) → is_some cut ≡ false → 0 < length es

@@ -1,12 +1,12 @@
 //! What is written of what a run found.
 
-ghost use Rattle.std.specs.Prelude.{◌≡◌, ◌++◌, ◌∷◌, [], false, map, length, OnOk, IfOk, codes};
+ghost use Rattle.std.specs.Prelude.{◌≡◌, ◌++◌, false, OnOk, IfOk, codes};
 ghost use Rattle.std.specs.Fmt.{decimal};
-ghost use Rattle.and_answers.specs.Kept.{listed, entry_of, finish_of};
+ghost use Rattle.and_answers.specs.Kept.{listed, finish_of};
 ghost use Rattle.and_model.specs.Output.{last_lines};
 ghost use Rattle.and_top.specs.Shown as specs;
 
-use and_answers::{Entry, Found};
+use and_answers::Found;
 use and_model::Text;
 use std::alloc::{AllocError, Global};
 
@@ -22,14 +22,6 @@ pub enum Show {
     Summary,
 }
 
-/// Puts a line and a newline at the end of the text.
-fn write_line(text: &mut Text, line: &Text) -> Result<(), AllocError>
-    ensures { OnOk result (text.new ≡ text.old ++ line.now ++ 10 ∷ []) }
-{
-    text.append(line.bytes())?;
-    text.append(b"\n")
-}
-
 /// Puts the number of lines at the end of the text.
 fn write_count(alloc: Global, text: &mut Text, count: usize) -> Result<(), AllocError>
     ensures { OnOk result (text.new ≡ text.old ++ codes "lines " ++ decimal count ++ codes "\n") }
@@ -39,17 +31,18 @@ fn write_count(alloc: Global, text: &mut Text, count: usize) -> Result<(), Alloc
 }
 
 /// Puts the first line and the last, where there are any, at the end of the text.
-fn write_first_and_last(text: &mut Text, entries: &[Entry]) -> Result<(), AllocError>
-    ensures { let lines = specs.entry_lines (map entry_of entries.now) in
+fn write_first_and_last(text: &mut Text, found: &Found) -> Result<(), AllocError>
+    ensures { let lines = specs.entry_lines (listed found.now) in
         OnOk result (text.new ≡ text.old ++ specs.first_and_last lines) }
 {
-    if entries.is_empty() {
+    let count = found.entries().len();
+    if count == 0 {
         return Ok(());
     }
     text.append(b"first ")?;
-    write_line(text, &entries[0].line)?;
+    found.write_line(text, 0)?;
     text.append(b"last ")?;
-    write_line(text, &entries[entries.len() - 1].line)?;
+    found.write_line(text, count - 1)?;
     Ok(())
 }
 
@@ -69,9 +62,8 @@ fn summary(alloc: Global, found: &Found) -> Result<Text, AllocError>
     ensures { IfOk result (λ text. text ≡ specs.shown Show.Summary (listed found.now) (finish_of found.now false)) }
 {
     let mut text = Text::new(alloc);
-    let entries = found.entries();
-    write_count(alloc, &mut text, entries.len())?;
-    write_first_and_last(&mut text, entries)?;
+    write_count(alloc, &mut text, found.entries().len())?;
+    write_first_and_last(&mut text, found)?;
     write_end(&mut text, found)?;
     Ok(text)
 }

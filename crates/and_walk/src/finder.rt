@@ -119,12 +119,7 @@ impl Visitor for Finder {
         line: Text,
         floundered: bool,
     ) -> Result<(), AllocError> {
-        let entry = Entry {
-            code: named,
-            line,
-            floundered,
-        };
-        match self.found.add(entry) {
+        match self.found.add(named, line, floundered) {
             Ok(()) => Ok(()),
             Err(_) => Err(AllocError),
         }
