@@ -4,7 +4,7 @@ use crate::runs::run;
 use and_gate::Gate;
 use and_reader::ReadRefusal;
 use and_rows::Untold;
-use and_top::Watcher;
+use and_status::Watcher;
 use std::alloc::Global;
 use std::sync::{Condvar, CondvarTimeouts, Mutex, Wait};
 use std::thread::Threads;

@@ -27,8 +27,8 @@ use Rattle.and_top.specs.Handed.{IsDue, IsHanded, handed, joined_texts, number_o
 use Rattle.and_top.specs.Top.{IsLineOf, WasAnswered, WasReplied}
 use Rattle.and_top.specs.declared.answering.Reply.{Reply}
 use Rattle.and_top.specs.declared.question.Question.{Question}
-use Rattle.and_top.specs.declared.status.Status.{Status}
-use Rattle.and_top.specs.declared.status.Status.TheVariants.{Answers, NoAnswer, Usage, Refused, ReadFault, WriteFault, Limit, Memory, Floundered}
+use Rattle.and_status.specs.declared.status.Status.{Status}
+use Rattle.and_status.specs.declared.status.Status.TheVariants.{Answers, NoAnswer, Usage, Refused, ReadFault, WriteFault, Limit, Memory, Floundered}
 
 -- ---- one part
 

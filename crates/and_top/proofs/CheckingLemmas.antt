@@ -8,7 +8,7 @@ use Rattle.and_modes.specs.declared.verdicts.Verdict.{Verdict}
 use Rattle.and_modes.specs.declared.verdicts.Verdict.TheVariants.{Safe, Waits}
 use Rattle.and_top.specs.Checked.{HasClause, IsVerdict, verdict_line, wait_of}
 use Rattle.and_top.specs.Top.{WasChecked, status_told}
-use Rattle.and_top.specs.declared.status.Status.{Status}
+use Rattle.and_status.specs.declared.status.Status.{Status}
 
 -- a verdict under the greatest modes
 judged_under : (P : Program) (m : Assignment) (v : Verdict) → Greatest P m → (v ≡ Safe ↔ IsSafe P m)

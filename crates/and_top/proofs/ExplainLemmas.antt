@@ -28,8 +28,8 @@ use Rattle.and_top.specs.Explained.{IsAt}
 use Rattle.and_top.specs.Lifted.{IsLifted}
 use Rattle.and_top.specs.Top.{Documents, WasExplained, lacking_status}
 use Rattle.and_top.specs.declared.answering.Reply.{Reply}
-use Rattle.and_top.specs.declared.status.Status.{Status}
-use Rattle.and_top.specs.declared.status.Status.TheVariants.{Answers}
+use Rattle.and_status.specs.declared.status.Status.{Status}
+use Rattle.and_status.specs.declared.status.Status.TheVariants.{Answers}
 
 -- what is listed has a proof
 listed_has_proof : (P : Program) (limit : ℕ) (ls : List Entry) (e : Entry) → Listing P limit ls → limit ≤ MAX_LIMIT → Contains ls e → HasProof P e.code

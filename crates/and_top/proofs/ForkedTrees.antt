@@ -9,8 +9,8 @@ use Rattle.and_model.specs.Trees.{blank, query_agenda}
 use Rattle.and_search_laws.specs.Found.{kept_count}
 use Rattle.and_forks.specs.Texts.{Line, TreeText, text_of, count_of, is_answer, is_floundered}
 use Rattle.and_top.specs.Forked.{WasForked, tree_status}
-use Rattle.and_top.specs.declared.status.Status.{Status}
-use Rattle.and_top.specs.declared.status.Status.TheVariants.{Answers, NoAnswer, Floundered}
+use Rattle.and_status.specs.declared.status.Status.{Status}
+use Rattle.and_status.specs.declared.status.Status.TheVariants.{Answers, NoAnswer, Floundered}
 
 none_of : (n : ℕ) → ltb 0 n ≡ false → n ≡ 0
 none_of n e = let few = ltb-false 0 n e in omega (arith, few)

@@ -10,8 +10,8 @@ use Rattle.and_command.specs.declared.reading.Command.{Command}
 use Rattle.and_command.specs.declared.reading.Command.TheVariants as commands
 use Rattle.and_top.specs.Obeyed.{Blames, Does, IsWork, Obeys, work_of}
 use Rattle.and_top.specs.Top.{Told}
-use Rattle.and_top.specs.declared.status.Status.{Status}
-use Rattle.and_top.specs.declared.status.Status.TheVariants.{Memory, Usage}
+use Rattle.and_status.specs.declared.status.Status.{Status}
+use Rattle.and_status.specs.declared.status.Status.TheVariants.{Memory, Usage}
 use Rattle.and_top.specs.declared.work.Work.{Work}
 use Rattle.and_top.specs.declared.work.Work.TheVariants.{Source, Demo}
 use Rattle.and_top.proofs.TopLemmas.{memory_incomplete}

@@ -26,7 +26,7 @@ use Rattle.and_top.specs.declared.answering.Reply.{Reply}
 use Rattle.and_top.specs.declared.parts.Kept.{Kept}
 use Rattle.and_top.specs.declared.parts.Part.{Part}
 use Rattle.and_top.specs.declared.question.Question.{Question}
-use Rattle.and_top.specs.declared.status.Status.{Status}
+use Rattle.and_status.specs.declared.status.Status.{Status}
 use Rattle.and_top.proofs.BatchLemmas.{part_given}
 use Rattle.and_top.proofs.TopLemmas.{answered_by}
 

@@ -34,8 +34,8 @@ use Rattle.and_first.specs.First.{IsFirstOf, IsTold, is_floundered}
 use Rattle.and_first.specs.declared.first.First as first_answers
 use Rattle.and_first.specs.declared.first.End.{End}
 use Rattle.and_first.specs.declared.first.End.TheVariants as ends
-use Rattle.and_top.specs.declared.status.Status.{Status}
-use Rattle.and_top.specs.declared.status.Status.TheVariants.{Answers, NoAnswer, Usage, Refused, ReadFault, WriteFault, Limit, Memory, Floundered}
+use Rattle.and_status.specs.declared.status.Status.{Status}
+use Rattle.and_status.specs.declared.status.Status.TheVariants.{Answers, NoAnswer, Usage, Refused, ReadFault, WriteFault, Limit, Memory, Floundered}
 use Rattle.and_reader.specs.RefusalLine.{refusal_line}
 use Rattle.and_reader.proofs.Judgement.{read_not_refused}
 use Rattle.and_top.specs.Finding.{Finds}

@@ -14,7 +14,7 @@ use Rattle.and_top.specs.Top.{IsLineOf}
 use Rattle.and_top.specs.Verified.{IsDivided, IsDocument, IsDocumentRefused, IsProved, WasVerified, by_program, line_of, program_part, status_of}
 use Rattle.and_top.specs.declared.answering.Reply.{Reply}
 use Rattle.and_top.specs.declared.question.TheConstants.{MAX_DOCUMENT}
-use Rattle.and_top.specs.declared.status.Status.TheVariants.{Refused}
+use Rattle.and_status.specs.declared.status.Status.TheVariants.{Refused}
 
 -- what was found is where the document is divided
 pub is_divided : (bytes : Bytes) (r : Option ℕ) → IfSome r (IsMark bytes) → IfSome r (λ place. (other : ℕ) → IsMark bytes other → other ≤ place)

@@ -9,9 +9,9 @@ use Rattle.and_reader.specs.RefusalLine.{refusal_line}
 use Rattle.and_batch_text.specs.Queries.{Span}
 use Rattle.and_batch_text.specs.Singles.{single}
 use Rattle.and_batch_text.specs.Refused.{IsBatch, IsBatchRefused}
-use Rattle.and_top.specs.declared.status.Status.{Status}
-use Rattle.and_top.specs.declared.status.Status.TheVariants.{Answers, NoAnswer, Usage, Refused, ReadFault, WriteFault}
-use Rattle.and_top.specs.declared.status.Status.TheVariants.{Limit, Memory, Floundered}
+use Rattle.and_status.specs.declared.status.Status.{Status}
+use Rattle.and_status.specs.declared.status.Status.TheVariants.{Answers, NoAnswer, Usage, Refused, ReadFault, WriteFault}
+use Rattle.and_status.specs.declared.status.Status.TheVariants.{Limit, Memory, Floundered}
 
 -- what one query is answered with, and the status of that
 pub record Part : Type 0 where

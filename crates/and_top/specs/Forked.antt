@@ -6,8 +6,8 @@ use Rattle.and_model.specs.Output.{complete, limit_met, last_lines}
 use Rattle.and_model.specs.Programs.{Program}
 use Rattle.and_model.specs.Trees.{blank, query_agenda}
 use Rattle.and_forks.specs.Texts.{Line, TreeText, text_of, count_of, is_answer, is_floundered}
-use Rattle.and_top.specs.declared.status.Status.{Status}
-use Rattle.and_top.specs.declared.status.Status.TheVariants.{Answers, NoAnswer, Limit, Floundered}
+use Rattle.and_status.specs.declared.status.Status.{Status}
+use Rattle.and_status.specs.declared.status.Status.TheVariants.{Answers, NoAnswer, Limit, Floundered}
 
 -- This is the text of the fork tree of the program's query, and then that it is whole.
 pub record DrawsAll (limit : ℕ) (fact : List Line → Type 0) (program : Program) (out : Bytes) : Type 0 where

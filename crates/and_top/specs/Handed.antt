@@ -5,9 +5,9 @@ use Rattle.and_model.specs.Lines.{Bytes}
 use Rattle.and_batch_text.specs.Queries.{Span}
 use Rattle.and_batch_text.specs.Refused.{IsBatch}
 use Rattle.and_top.specs.Batched.{Part, IsPart, query_line, status_by}
-use Rattle.and_top.specs.declared.status.Status.{Status}
-use Rattle.and_top.specs.declared.status.Status.TheVariants.{Answers, NoAnswer, Usage, Refused, ReadFault, WriteFault}
-use Rattle.and_top.specs.declared.status.Status.TheVariants.{Limit, Memory, Floundered}
+use Rattle.and_status.specs.declared.status.Status.{Status}
+use Rattle.and_status.specs.declared.status.Status.TheVariants.{Answers, NoAnswer, Usage, Refused, ReadFault, WriteFault}
+use Rattle.and_status.specs.declared.status.Status.TheVariants.{Limit, Memory, Floundered}
 
 -- the number of a status, with which the program exits
 abbrev pub number_of : Status → ℕ

@@ -3,8 +3,8 @@ use Rattle.std.specs.Prelude.{ℕ, ◌<◌, nat_eq, if◌then◌else◌}
 use Rattle.and_model.specs.Lines.{Bytes}
 use Rattle.and_model.specs.Programs.{Program}
 use Rattle.and_lint.specs.Findings.{IsLint}
-use Rattle.and_top.specs.declared.status.Status.{Status}
-use Rattle.and_top.specs.declared.status.Status.TheVariants.{Answers, NoAnswer}
+use Rattle.and_status.specs.declared.status.Status.{Status}
+use Rattle.and_status.specs.declared.status.Status.TheVariants.{Answers, NoAnswer}
 
 -- There are findings, and they are told.
 pub record HasFindings (program : Program) (out : Bytes) : Type 0 where

@@ -17,8 +17,8 @@ use Rattle.and_top.specs.declared.question.Request.TheVariants.{Text, Document, 
 use Rattle.and_top.specs.declared.work.Work.{Work}
 use Rattle.and_top.specs.declared.work.Work.TheVariants.{Source, Demo}
 use Rattle.and_top.specs.declared.showing.Show.TheVariants.{Whole, Summary}
-use Rattle.and_top.specs.declared.status.Status.{Status}
-use Rattle.and_top.specs.declared.status.Status.TheVariants.{Usage, Refused, ReadFault, WriteFault, Memory}
+use Rattle.and_status.specs.declared.status.Status.{Status}
+use Rattle.and_status.specs.declared.status.Status.TheVariants.{Usage, Refused, ReadFault, WriteFault, Memory}
 
 -- What a command asks for.
 abbrev pub work_of : Command → Work

@@ -41,9 +41,9 @@ use Rattle.and_top.specs.declared.question.Request.TheVariants.{Text, Document, 
 use Rattle.and_top.specs.declared.question.TheConstants.{MAX_DOCUMENT}
 use Rattle.and_top.specs.declared.showing.Show.{Show}
 use Rattle.and_top.specs.declared.showing.Show.TheVariants.{Whole}
-use Rattle.and_top.specs.declared.status.Status.{Status}
-use Rattle.and_top.specs.declared.status.Status.TheVariants.{Answers, NoAnswer, Usage, Refused, ReadFault, WriteFault}
-use Rattle.and_top.specs.declared.status.Status.TheVariants.{Limit, Memory, Floundered}
+use Rattle.and_status.specs.declared.status.Status.{Status}
+use Rattle.and_status.specs.declared.status.Status.TheVariants.{Answers, NoAnswer, Usage, Refused, ReadFault, WriteFault}
+use Rattle.and_status.specs.declared.status.Status.TheVariants.{Limit, Memory, Floundered}
 
 -- no command has these words
 abbrev pub IsUsage : List Bytes → Type 0

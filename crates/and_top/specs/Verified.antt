@@ -8,8 +8,8 @@ use Rattle.and_reader.specs.RefusalLine.{refusal_line}
 use Rattle.and_proof.specs.Documents.{IsMark}
 use Rattle.and_proof.specs.Proofs.{ProofText}
 use Rattle.and_top.specs.declared.question.TheConstants.{MAX_DOCUMENT}
-use Rattle.and_top.specs.declared.status.Status.{Status}
-use Rattle.and_top.specs.declared.status.Status.TheVariants.{Answers, NoAnswer, Refused}
+use Rattle.and_status.specs.declared.status.Status.{Status}
+use Rattle.and_status.specs.declared.status.Status.TheVariants.{Answers, NoAnswer, Refused}
 
 -- The proof part begins with the last line that is exactly the mark; where no line is, there is none.
 abbrev pub IsDivided : Bytes → Option ℕ → Type 0

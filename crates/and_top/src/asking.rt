@@ -10,12 +10,11 @@ ghost use Rattle.and_top.specs.Top.{most_of};
 use crate::answering::Reply;
 use crate::question::{Question, Request};
 use crate::showing::Show;
-use crate::status::Status;
-use crate::watching::Watcher;
 use and_command::Settings;
 use and_gen::layered;
 use and_io::{ReadAll, ReadStop, Sink, Source, read_all, write_all_counted};
 use and_model::Text;
+use and_status::{Status, Watcher};
 use std::alloc::{AllocError, Global};
 
 /// Writes what is due, and says what became of it.

@@ -19,7 +19,6 @@ ghost use Rattle.and_top.specs.Top.{IsRunOf};
 
 use crate::answering::{Reply, refused};
 use crate::parts::{Kept, Part, kept_of, part_of};
-use crate::status::Status;
 use and_answers::Found;
 use and_batch::{Done, TextList, Ticket, Trade, run_trade};
 use and_batch_reader::{Opened, Sought, beginning_of, open, seek};
@@ -29,6 +28,7 @@ use and_gate::Quiet;
 use and_model::Text;
 use and_program::Loaded;
 use and_reader::{Beginning, ReadRefusal};
+use and_status::Status;
 use and_walk::walk_watched;
 use std::alloc::{AllocError, Global};
 use std::sync::Wait;

@@ -12,11 +12,11 @@ ghost use Rattle.and_top.specs.Lifted.{IsLifted};
 ghost use Rattle.and_top.specs.Top.{Documents, WasExplained, lacking_status};
 
 use crate::answering::Reply;
-use crate::status::Status;
 use and_answers::{Found, Latest};
 use and_model::{Code, Text};
 use and_program::Loaded;
 use and_proof::proof_text;
+use and_status::Status;
 use std::alloc::{AllocError, Global};
 
 /// Whether bytes end with a newline.

@@ -6,12 +6,12 @@ ghost use Rattle.and_program.specs.Loaded.{program_of};
 ghost use Rattle.and_top.specs.Forked.{WasForked, tree_status};
 
 use crate::answering::Reply;
-use crate::status::Status;
 use and_clause_index::compile;
 use and_forks::{Walk, fork_tree};
 use and_gate::Gate;
 use and_model::Text;
 use and_program::Loaded;
+use and_status::Status;
 use std::alloc::{AllocError, Global};
 
 /// The status of a tree with so many answers and so many branches that floundered.

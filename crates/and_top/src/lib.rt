@@ -16,12 +16,8 @@ pub mod question;
 pub mod replying;
 pub mod searching;
 pub mod showing;
-pub mod status;
 pub mod top;
 pub mod verifying;
-pub mod watching;
 pub mod work;
 
-pub use status::Status;
 pub use top::{andorra, andorra_alone};
-pub use watching::Watcher;

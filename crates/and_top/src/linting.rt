@@ -5,9 +5,9 @@ ghost use Rattle.and_program.specs.Loaded.{program_of};
 ghost use Rattle.and_top.specs.Linted.{WasLinted, status_found};
 
 use crate::answering::Reply;
-use crate::status::Status;
 use and_lint::lint;
 use and_program::Loaded;
+use and_status::Status;
 use std::alloc::{AllocError, Global};
 
 /// The status of so many findings.

@@ -8,11 +8,11 @@ ghost use Rattle.and_top.specs.Verified.{IsDivided, IsDocumentRefused, IsProved,
 
 use crate::answering::{Reply, refused};
 use crate::question::MAX_DOCUMENT;
-use crate::status::Status;
 use and_model::Text;
 use and_program::Loaded;
 use and_proof::{check_proof, split_document};
 use and_reader::{Cause, ReadRefusal, What, line_at, read_program};
+use and_status::Status;
 use std::alloc::{AllocError, Global};
 
 /// The refusal of a document that is too large.

@@ -4,17 +4,12 @@
 //! generated program.
 #![tactic(auto)]
 
-mod advice;
-mod causes;
-mod hints;
-mod names;
-mod places;
-mod progress;
 mod words;
 
 use and_io::{StdSink, StdSource};
-use and_top::{Status, andorra};
-use progress::{AfterLine, Watch};
+use and_status::Status;
+use and_top::andorra;
+use and_watch::{AfterLine, Watch};
 use std::process::ExitCode;
 use words::words_of;
 

@@ -1,6 +1,6 @@
 use Rattle.std.proofs.Common.{Bool, if◌then◌else◌, sym, ap, ◌∙◌, arith}
 use Rattle.std.proofs.lemmas.Bool.Decides.{nat_tests}
-use Rattle.and_top.specs.declared.status.Status.TheVariants.{Answers, Floundered}
+use Rattle.and_status.specs.declared.status.Status.TheVariants.{Answers, Floundered}
 use Rattle.and_top.proofs.TopLemmas.{status_is}
 use Rattle.and_top.proofs.answering.status_of.Goals as goal
 

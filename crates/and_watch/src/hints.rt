@@ -6,7 +6,7 @@ use crate::places::{Piece, line_of, part, place_of};
 use and_command::{Command, command_of};
 use and_model::limits::{DEFAULT_LIMIT, MAX_LIMIT};
 use and_reader::{Cause, ReadRefusal};
-use and_top::Status;
+use and_status::Status;
 use std::alloc::{AllocError, Global};
 
 /// The most bytes that are shown of a line on each side of a token.
