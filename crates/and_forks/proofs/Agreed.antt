@@ -9,7 +9,7 @@ use Rattle.and_walk_laws.specs.Walks.{Walks}
 use Rattle.and_walk_laws.proofs.Numbering.{numbered}
 use Rattle.and_team_laws.specs.Runs.{WholeRun}
 use Rattle.and_team_laws.proofs.Walked.{history_walked}
-use Rattle.and_forks.specs.Texts.{Line, TreeText, is_fork, is_failed, count_of}
+use Rattle.and_fork_texts.specs.Texts.{Line, TreeText, is_fork, is_failed, count_of}
 use Rattle.and_forks.proofs.Counted.{text_numbers}
 
 pub walks_agree : (P : Program) (limit other depth : ℕ) (lines : List Line) (entries : List Entry) (forks failed : ℕ)

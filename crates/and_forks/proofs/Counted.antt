@@ -10,7 +10,7 @@ use Rattle.and_laws.proofs.Counting.{numbers_same, split_clauses_same}
 use Rattle.and_laws.proofs.Listings.{one_outcome}
 use Rattle.and_laws.proofs.Order.{whole_has_none}
 use Rattle.and_laws.proofs.Splitting.{split_same}
-use Rattle.and_forks.specs.Texts.{Node, Line, fork, failed, ended, TreeText, TextOfSplits, is_fork, is_failed, count_of}
+use Rattle.and_fork_texts.specs.Texts.{Node, Line, fork, failed, ended, TreeText, TextOfSplits, is_fork, is_failed, count_of}
 
 counted_more : (is : Node → Bool) (l : Line) (ls : List Line) → count_of is (l ∷ ls) ≡ cond (is l.node) 1 0 + count_of is ls
 counted_more is l ls = sum_by-cons (λ (x : Line). cond (is x.node) 1 0) l ls

@@ -13,7 +13,7 @@ use Rattle.and_traces.specs.Traces
 use Rattle.and_traces.specs.Traces.{Report, CutOff, TracesSplits, TracesQuery, MeetsLimit, has_cut, is_cut, cut_report}
 use Rattle.and_traces.proofs.Walked.{cut_both}
 use Rattle.and_visit.specs.Searched.{IsSearched}
-use Rattle.and_forks.specs.Texts.{Line, TreeText, TextOfSplits}
+use Rattle.and_fork_texts.specs.Texts.{Line, TreeText, TextOfSplits}
 use Rattle.and_forks.specs.Told.{node_of, lines_of, AreLinesOf}
 use Rattle.and_forks.specs.Written.{AreWritten}
 use Rattle.and_forks.specs.declared.lines.Lines.{Lines}

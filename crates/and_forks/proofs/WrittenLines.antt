@@ -9,7 +9,7 @@ use Rattle.std.proofs.lemmas.List.Sums.{sum_by-append}
 use Rattle.and_model.specs.Lines.{Bytes}
 use Rattle.and_model.specs.declared.numbers.ClauseNo.{ClauseNo}
 use Rattle.and_search_laws.specs.Found.{kept_count}
-use Rattle.and_forks.specs.Texts.{Node, Line, text_of, node_text, numbers_text, count_of, is_fork, is_failed, is_answer, is_floundered}
+use Rattle.and_fork_texts.specs.Texts.{Node, Line, text_of, node_text, numbers_text, count_of, is_fork, is_failed, is_answer, is_floundered}
 use Rattle.and_forks.specs.Written.{AreWritten}
 use Rattle.and_forks.specs.declared.lines.Lines.{Lines}
 

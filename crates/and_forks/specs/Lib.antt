@@ -1,4 +1,3 @@
-pub mod Texts
 pub mod Written
 pub mod Told
 pub mod Trees

@@ -3,7 +3,7 @@ use Rattle.std.specs.Prelude.{ℕ, ◌≡◌, Bool, false, List, [], ◌∷◌, 
 use Rattle.and_model.specs.declared.goal
 use Rattle.and_traces.specs.Traces as told
 use Rattle.and_traces.specs.Traces.{Event, Report, has_cut}
-use Rattle.and_forks.specs.Texts.{Node, Line, fork, failed, ended}
+use Rattle.and_fork_texts.specs.Texts.{Node, Line, fork, failed, ended}
 use Rattle.and_forks.specs.Written.{AreWritten}
 use Rattle.and_forks.specs.declared.lines.Lines.{Lines}
 use Rattle.and_forks.specs.declared.writer.Writer.{Writer}

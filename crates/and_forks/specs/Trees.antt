@@ -2,7 +2,7 @@
 use Rattle.std.specs.Prelude.{ℕ, List}
 use Rattle.and_model.specs.Programs.{Program}
 use Rattle.and_model.specs.Trees.{blank, query_agenda}
-use Rattle.and_forks.specs.Texts.{Line, TreeText}
+use Rattle.and_fork_texts.specs.Texts.{Line, TreeText}
 use Rattle.and_traces.specs.Traces.{MeetsLimit}
 use Rattle.and_forks.specs.Written.{AreWritten}
 use Rattle.and_forks.specs.declared.tree.Walk.{Walk}

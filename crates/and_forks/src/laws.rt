@@ -8,7 +8,7 @@ ghost use Rattle.and_model.specs.Listing.{Entry};
 ghost use Rattle.and_histories.specs.Histories.{HistoryEntry};
 ghost use Rattle.and_walk_laws.specs.Walks.{Walks};
 ghost use Rattle.and_team_laws.specs.Runs.{WholeRun};
-ghost use Rattle.and_forks.specs.Texts.{Line, TreeText, is_fork, is_failed, count_of};
+ghost use Rattle.and_fork_texts.specs.Texts.{Line, TreeText, is_fork, is_failed, count_of};
 
 /// A tree has at most one text, whatever the limits.
 pub fn one_text()

@@ -6,7 +6,7 @@ ghost use Rattle.and_model.specs.Listing.{answer, floundered};
 ghost use Rattle.and_model.specs.Programs.{Program};
 ghost use Rattle.and_model.specs.Trees.{query_agenda, blank};
 ghost use Rattle.and_answers.specs.Kept.{outcome_with};
-ghost use Rattle.and_forks.specs.Texts.{Line, fork, failed, ended, numbers_text, TreeText};
+ghost use Rattle.and_fork_texts.specs.Texts.{Line, fork, failed, ended, numbers_text, TreeText};
 ghost use Rattle.and_forks.specs.Trees.{IsForkTree};
 ghost use Rattle.and_forks.specs.Written.{AreWritten};
 

@@ -1,10 +1,1 @@
-pub mod BatchLemmas
-pub mod CheckingLemmas
-pub mod ExplainLemmas
 pub mod ForkedTrees
-pub mod LintLemmas
-pub mod ObeyLemmas
-pub mod PartLemmas
-pub mod ShowingLemmas
-pub mod TopLemmas
-pub mod VerifyLemmas

@@ -4,20 +4,11 @@
 //! return; it answers with the same bytes.
 #![tactic(auto)]
 
-pub mod answering;
-pub mod asking;
-pub mod batches;
-pub mod checking;
-pub mod explaining;
-pub mod forks;
-pub mod linting;
-pub mod parts;
-pub mod question;
-pub mod replying;
-pub mod searching;
-pub mod showing;
+mod forks;
+mod jobs;
+mod replying;
+mod searching;
+mod texts;
 pub mod top;
-pub mod verifying;
-pub mod work;
 
 pub use top::{andorra, andorra_alone};

@@ -8,7 +8,7 @@ ghost use Rattle.and_model.specs.declared.limits.TheConstants.{MAX_LIMIT};
 ghost use Rattle.and_program.specs.Loaded.{program_of};
 ghost use Rattle.and_answers.specs.Kept.{listed};
 ghost use Rattle.and_search_laws.specs.Found.{IsFound, FindsFirst};
-ghost use Rattle.and_top.specs.Finding.{Finds};
+ghost use Rattle.and_replies.specs.Finding.{Finds};
 
 use and_answers::{Found, Latest};
 use and_clause_index::{Determinacy, compile};

@@ -1,68 +1,21 @@
 //! The top call.
 
-ghost use Rattle.std.specs.Prelude.{◌≡◌, ◌≢◌, ◌↔◌, IfOk, IfSome, IsNone, map, string_bytes};
+ghost use Rattle.std.specs.Prelude.{◌≡◌, ◌↔◌, IfOk, IfSome, IsNone, map, string_bytes};
 ghost use Rattle.and_command.specs.Commands.{IsInRange};
 ghost use Rattle.and_model.specs.Limits.{AreInRange};
-ghost use Rattle.and_top.specs.Obeyed.{Blames, Does, IsWork, Obeys};
-ghost use Rattle.and_top.specs.Top.{IsAllowed, IsAnswer};
+ghost use Rattle.and_replies.specs.Obeyed.{Obeys};
+ghost use Rattle.and_replies.specs.Top.{IsAllowed, IsAnswer};
 
-use crate::answering::Reply;
-use crate::asking::{ask, demo, finish};
-use crate::question::Request;
 use crate::replying::{answered_alone, answered_by};
-use crate::work::{Work, work_of};
-use and_command::{Command, USAGE, command_of};
+use and_command::{Command, command_of};
 use and_gate::Gate;
 use and_io::{Sink, Source};
 use and_model::limits::Hands;
+use and_replies::{Request, obey};
 use and_status::{Status, Watcher};
 use std::alloc::{AllocError, Global};
 use std::sync::Wait;
 use std::thread::Threads;
-
-/// Does what is to be done, by this answer.
-fn perform<A: Fn(Request, &[u8]) -> Result<Reply, AllocError>, W: Watcher, S: Source, K: Sink>(
-    answer: &A,
-    watcher: &W,
-    alloc: Global,
-    work: Work,
-    source: &mut S,
-    sink: &mut K,
-) -> Status
-    requires work { IsWork work }
-    requires callable { (q : _) (b : _) → IsAllowed q → A.pre answer.now q b }
-    requires answers { (q : _) (b : _) (r : _) → IsAllowed q → A.post answer.now q b r
-        → IfOk r (λ reply. IsAnswer q reply.status b.now reply.text) }
-    ensures does { Does S.Source K.Sink result source.old source.new sink.old sink.new work }
-    ensures no_usage { result ≢ Status.Usage }
-    ensures blame { Blames S.Source K.Sink result source.old source.new sink.old sink.new }
-{
-    match work {
-        Work::Source(request) => ask(answer, watcher, alloc, request, source, sink),
-        Work::Demo { number, settings } => demo(answer, watcher, alloc, number, settings, sink),
-    }
-}
-
-/// Does what the words of the command line say, by this answer.
-fn obey<A: Fn(Request, &[u8]) -> Result<Reply, AllocError>, W: Watcher, S: Source, K: Sink>(
-    answer: &A,
-    watcher: &W,
-    alloc: Global,
-    words: &[String],
-    source: &mut S,
-    sink: &mut K,
-) -> Status
-    requires callable { (q : _) (b : _) → IsAllowed q → A.pre answer.now q b }
-    requires answers { (q : _) (b : _) (r : _) → IsAllowed q → A.post answer.now q b r
-        → IfOk r (λ reply. IsAnswer q reply.status b.now reply.text) }
-    ensures { Obeys S.Source K.Sink result source.old source.new sink.old sink.new (map string_bytes words.now) }
-{
-    match command_of(alloc, words) {
-        Ok(Some(command)) => perform(answer, watcher, alloc, work_of(command), source, sink),
-        Ok(None) => finish(sink, USAGE, Status::Usage),
-        Err(AllocError) => Status::Memory,
-    }
-}
 
 /// These, where they are several; `None` where one worker is asked for.
 fn several(hands: Hands) -> Option<Hands>

@@ -1,6 +1,6 @@
 use Rattle.std.proofs.Common.{◌≡◌, ◌++◌, map, drop}
 use Rattle.and_model.specs.declared.numbers.ClauseNo.{ClauseNo}
-use Rattle.and_forks.specs.Texts.{numbers_text}
+use Rattle.and_fork_texts.specs.Texts.{numbers_text}
 use Rattle.and_forks.proofs.lines.write_numbers.Given as goal
 
 abbrev pub invariant-loop-place : goal.invariant-loop-place

@@ -1,5 +1,5 @@
 use Rattle.and_program.specs.Loaded.{program_of}
-use Rattle.and_top.proofs.TopLemmas.{found_wanted}
+use Rattle.and_replies.proofs.TopLemmas.{found_wanted}
 use Rattle.and_top.proofs.searching.found_by.Goals as goal
 
 pub returns : goal.returns

@@ -2,7 +2,7 @@ use Rattle.std.proofs.Common.{◌++◌, ◌∙◌, ap, codes, refl}
 use Rattle.std.specs.Fmt.{decimal}
 use Rattle.and_model.specs.Lines.{Bytes}
 use Rattle.and_model.specs.Listing.{answer}
-use Rattle.and_forks.specs.Texts.{ended}
+use Rattle.and_fork_texts.specs.Texts.{ended}
 use Rattle.and_forks.proofs.WrittenLines.{two_parts, line_added}
 use Rattle.and_forks.proofs.lines.Lines.put_answer.Goals as goal
 

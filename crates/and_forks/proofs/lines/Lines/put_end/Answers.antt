@@ -1,7 +1,7 @@
 use Rattle.std.proofs.Common.{[], ◌∷◌, ◌++◌, sym, subst}
 use Rattle.std.specs.Prelude.{OnOk}
 use Rattle.and_answers.specs.Kept.{outcome_with}
-use Rattle.and_forks.specs.Texts.{ended}
+use Rattle.and_fork_texts.specs.Texts.{ended}
 use Rattle.and_forks.specs.Written.{AreWritten}
 use Rattle.and_forks.proofs.lines.Lines.put_end.Goals as goal
 

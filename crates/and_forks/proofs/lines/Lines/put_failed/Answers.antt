@@ -1,6 +1,6 @@
 use Rattle.std.proofs.Common.{codes, refl}
 use Rattle.std.specs.Fmt.{decimal}
-use Rattle.and_forks.specs.Texts.{failed}
+use Rattle.and_fork_texts.specs.Texts.{failed}
 use Rattle.and_forks.proofs.WrittenLines.{one_part, line_added}
 use Rattle.and_forks.proofs.lines.Lines.put_failed.Goals as goal
 

@@ -1,7 +1,7 @@
 use Rattle.std.proofs.Common.{codes, refl, map}
 use Rattle.std.specs.Fmt.{decimal}
 use Rattle.and_model.specs.declared.numbers.ClauseNo.{ClauseNo}
-use Rattle.and_forks.specs.Texts.{fork, numbers_text}
+use Rattle.and_fork_texts.specs.Texts.{fork, numbers_text}
 use Rattle.and_forks.proofs.WrittenLines.{two_parts, line_added}
 use Rattle.and_forks.proofs.lines.Lines.put_fork.Goals as goal
 
