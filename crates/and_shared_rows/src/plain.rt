@@ -76,6 +76,7 @@ pub(crate) fn calls(alloc: Global) -> Result<String, Untold> {
     tree.fork(0, &split.key, &split.longer, &split.clauses)?;
     say(alloc, &mut out, (branch.key.len(), tree.left(0)))?;
     say(alloc, &mut out, tree.retire(0, &key_of_one(alloc, 1)?))?;
+    say(alloc, &mut out, tree.answer(0, &key_of_one(alloc, 2)?))?;
     let counts = tree.close();
     say(
         alloc,
