@@ -15,7 +15,7 @@ use and_model::{NodeNo, Ref};
 use and_program::Loaded;
 
 /// Makes two references the same, at a look where that tells it, and else by what they lead to. Structures of one shape
-/// go on the list of parts.
+/// go on the list of parts. Arguments are cells and structures, so of others nothing is told.
 #[inline(always)]
 pub(crate) fn enter_argument<N: Naming>(
     loaded: &Loaded,
@@ -33,11 +33,11 @@ pub(crate) fn enter_argument<N: Naming>(
         parts.old.items parts.new.items bound.old.items bound.new.items result }
 {
     match right {
-        Ref::Cell(cell) => enter_variable(loaded, cells, left, right, cell, bound, parts),
+        Ref::Cell(cell) => enter_variable(loaded, cells, left, cell, bound, parts),
         Ref::Node { node, base } => {
-            enter_structure(loaded, cells, left, right, node, base, bound, parts)
+            enter_structure(loaded, cells, left, node, base, bound, parts)
         }
-        _ => enter_ends(loaded, cells, left, right, bound, parts),
+        _ => Entered::GivenUp,
     }
 }
 
@@ -47,109 +47,116 @@ fn enter_variable<N: Naming>(
     loaded: &Loaded,
     cells: &mut PlainCells<N>,
     left: Ref,
-    right: Ref,
     cell: u32,
     bound: &mut Vec<u32>,
     parts: &mut Vec<Part>,
 ) -> Entered
     requires program { N.program ≡ named loaded.now }
     requires in_range { IsInRange N.program (length cells.old) left
-        × IsInRange N.program (length cells.old) right }
-    requires written { IsWrittenIfNumber (plain cells.old) left × IsWrittenIfNumber (plain cells.old) right }
-    requires is { right ≡ Ref.Cell cell }
-    ensures { Meets N.program (record { left = left; right = right }) (plain cells.old) (plain cells.new)
+        × IsInRange N.program (length cells.old) (Ref.Cell cell) }
+    requires written { IsWrittenIfNumber (plain cells.old) left }
+    ensures { Meets N.program (record { left = left; right = Ref.Cell cell }) (plain cells.old) (plain cells.new)
         parts.old.items parts.new.items bound.old.items bound.new.items result }
 {
-    if is_free(cells, cell) {
-        fill(loaded, cells, left, right, cell, bound, parts)
-    } else {
-        enter_ends(loaded, cells, left, right, bound, parts)
+    match left {
+        Ref::Cell(from) => join(loaded, cells, from, cell, bound, parts),
+        Ref::Node { node, base } => fill(loaded, cells, node, base, cell, bound, parts),
+        _ => Entered::GivenUp,
     }
 }
 
-/// The same, where the right one is this cell, which is free.
+/// The same, where the left one is this structure.
 #[inline(always)]
 fn fill<N: Naming>(
     loaded: &Loaded,
     cells: &mut PlainCells<N>,
-    left: Ref,
-    right: Ref,
+    node: NodeNo,
+    base: u32,
     cell: u32,
     bound: &mut Vec<u32>,
     parts: &mut Vec<Part>,
 ) -> Entered
     requires program { N.program ≡ named loaded.now }
-    requires in_range { IsInRange N.program (length cells.old) left
-        × IsInRange N.program (length cells.old) right }
-    requires written { IsWrittenIfNumber (plain cells.old) left × IsWrittenIfNumber (plain cells.old) right }
-    requires is { right ≡ Ref.Cell cell }
-    requires free { word_at cells.old cell ≡ Ref.Free }
-    ensures { Meets N.program (record { left = left; right = right }) (plain cells.old) (plain cells.new)
-        parts.old.items parts.new.items bound.old.items bound.new.items result }
+    requires in_range { IsInRange N.program (length cells.old) (Ref.Node node base)
+        × IsInRange N.program (length cells.old) (Ref.Cell cell) }
+    ensures { Meets N.program (record { left = Ref.Node node base; right = Ref.Cell cell })
+        (plain cells.old) (plain cells.new) parts.old.items parts.new.items bound.old.items bound.new.items result }
 {
-    match left {
-        Ref::Cell(from) => fill_from(loaded, cells, left, right, cell, from, bound, parts),
-        Ref::Node { node, base } => take(cells, bound, cell, Ref::Node { node, base }),
-        _ => enter_ends(loaded, cells, left, right, bound, parts),
+    if !is_free(cells, cell) {
+        return ends_beside_cell(loaded, cells, node, base, cell, bound, parts);
+    }
+    take(cells, bound, cell, Ref::Node { node, base })
+}
+
+/// The same, where both are cells.
+#[inline(always)]
+fn join<N: Naming>(
+    loaded: &Loaded,
+    cells: &mut PlainCells<N>,
+    from: u32,
+    cell: u32,
+    bound: &mut Vec<u32>,
+    parts: &mut Vec<Part>,
+) -> Entered
+    requires program { N.program ≡ named loaded.now }
+    requires in_range { IsInRange N.program (length cells.old) (Ref.Cell from)
+        × IsInRange N.program (length cells.old) (Ref.Cell cell) }
+    ensures { Meets N.program (record { left = Ref.Cell from; right = Ref.Cell cell })
+        (plain cells.old) (plain cells.new) parts.old.items parts.new.items bound.old.items bound.new.items result }
+{
+    if is_free(cells, cell) {
+        fill_from(loaded, cells, from, cell, bound, parts)
+    } else {
+        ends_of_cells(loaded, cells, from, cell, bound, parts)
     }
 }
 
-/// The same, where the left one is a cell too.
+/// The same, where the right cell is free.
 #[inline(always)]
 fn fill_from<N: Naming>(
     loaded: &Loaded,
     cells: &mut PlainCells<N>,
-    left: Ref,
-    right: Ref,
-    cell: u32,
     from: u32,
+    cell: u32,
     bound: &mut Vec<u32>,
     parts: &mut Vec<Part>,
 ) -> Entered
     requires program { N.program ≡ named loaded.now }
-    requires in_range { IsInRange N.program (length cells.old) left
-        × IsInRange N.program (length cells.old) right }
-    requires written { IsWrittenIfNumber (plain cells.old) left × IsWrittenIfNumber (plain cells.old) right }
-    requires is { right ≡ Ref.Cell cell }
+    requires in_range { IsInRange N.program (length cells.old) (Ref.Cell from)
+        × IsInRange N.program (length cells.old) (Ref.Cell cell) }
     requires free { word_at cells.old cell ≡ Ref.Free }
-    requires from { left ≡ Ref.Cell from }
-    ensures { Meets N.program (record { left = left; right = right }) (plain cells.old) (plain cells.new)
-        parts.old.items parts.new.items bound.old.items bound.new.items result }
+    ensures { Meets N.program (record { left = Ref.Cell from; right = Ref.Cell cell })
+        (plain cells.old) (plain cells.new) parts.old.items parts.new.items bound.old.items bound.new.items result }
 {
     match cells.word(from) {
         Ref::Node { node, base } => take(cells, bound, cell, Ref::Node { node, base }),
         Ref::Number(pair) => take(cells, bound, cell, Ref::Number(pair)),
-        Ref::Free => link(loaded, cells, left, right, cell, from, bound, parts),
-        _ => enter_ends(loaded, cells, left, right, bound, parts),
+        Ref::Free => link(loaded, cells, from, cell, bound, parts),
+        _ => ends_of_cells(loaded, cells, from, cell, bound, parts),
     }
 }
 
-/// The same, where that is free too. Mostly it is the earlier one.
+/// The same, where the left one is free too. Mostly it is the earlier one.
 #[inline(always)]
 fn link<N: Naming>(
     loaded: &Loaded,
     cells: &mut PlainCells<N>,
-    left: Ref,
-    right: Ref,
-    cell: u32,
     from: u32,
+    cell: u32,
     bound: &mut Vec<u32>,
     parts: &mut Vec<Part>,
 ) -> Entered
     requires program { N.program ≡ named loaded.now }
-    requires in_range { IsInRange N.program (length cells.old) left
-        × IsInRange N.program (length cells.old) right }
-    requires written { IsWrittenIfNumber (plain cells.old) left × IsWrittenIfNumber (plain cells.old) right }
-    requires is { right ≡ Ref.Cell cell }
+    requires in_range { IsInRange N.program (length cells.old) (Ref.Cell from)
+        × IsInRange N.program (length cells.old) (Ref.Cell cell) }
     requires free { word_at cells.old cell ≡ Ref.Free }
-    requires from { left ≡ Ref.Cell from }
-    ensures { Meets N.program (record { left = left; right = right }) (plain cells.old) (plain cells.new)
-        parts.old.items parts.new.items bound.old.items bound.new.items result }
+    ensures { Meets N.program (record { left = Ref.Cell from; right = Ref.Cell cell })
+        (plain cells.old) (plain cells.new) parts.old.items parts.new.items bound.old.items bound.new.items result }
 {
     if from < cell {
         take(cells, bound, cell, Ref::Cell(from))
     } else {
-        enter_ends(loaded, cells, left, right, bound, parts)
+        ends_of_cells(loaded, cells, from, cell, bound, parts)
     }
 }
 
@@ -159,7 +166,6 @@ fn enter_structure<N: Naming>(
     loaded: &Loaded,
     cells: &mut PlainCells<N>,
     left: Ref,
-    right: Ref,
     node: NodeNo,
     base: u32,
     bound: &mut Vec<u32>,
@@ -167,15 +173,18 @@ fn enter_structure<N: Naming>(
 ) -> Entered
     requires program { N.program ≡ named loaded.now }
     requires in_range { IsInRange N.program (length cells.old) left
-        × IsInRange N.program (length cells.old) right }
-    requires written { IsWrittenIfNumber (plain cells.old) left × IsWrittenIfNumber (plain cells.old) right }
-    requires is { right ≡ Ref.Node node base }
-    ensures { Meets N.program (record { left = left; right = right }) (plain cells.old) (plain cells.new)
+        × IsInRange N.program (length cells.old) (Ref.Node node base) }
+    requires written { IsWrittenIfNumber (plain cells.old) left }
+    ensures { Meets N.program (record { left = left; right = Ref.Node node base }) (plain cells.old) (plain cells.new)
         parts.old.items parts.new.items bound.old.items bound.new.items result }
 {
     match left {
-        Ref::Cell(from) => enter_from(loaded, cells, left, right, node, base, from, bound, parts),
-        _ => enter_ends(loaded, cells, left, right, bound, parts),
+        Ref::Cell(from) => enter_from(loaded, cells, from, node, base, bound, parts),
+        Ref::Node {
+            node: there,
+            base: by,
+        } => { ends_of_structures(loaded, cells, there, by, node, base, bound, parts) }
+        _ => Entered::GivenUp,
     }
 }
 
@@ -184,22 +193,17 @@ fn enter_structure<N: Naming>(
 fn enter_from<N: Naming>(
     loaded: &Loaded,
     cells: &mut PlainCells<N>,
-    left: Ref,
-    right: Ref,
+    from: u32,
     node: NodeNo,
     base: u32,
-    from: u32,
     bound: &mut Vec<u32>,
     parts: &mut Vec<Part>,
 ) -> Entered
     requires program { N.program ≡ named loaded.now }
-    requires in_range { IsInRange N.program (length cells.old) left
-        × IsInRange N.program (length cells.old) right }
-    requires written { IsWrittenIfNumber (plain cells.old) left × IsWrittenIfNumber (plain cells.old) right }
-    requires is { right ≡ Ref.Node node base }
-    requires from { left ≡ Ref.Cell from }
-    ensures { Meets N.program (record { left = left; right = right }) (plain cells.old) (plain cells.new)
-        parts.old.items parts.new.items bound.old.items bound.new.items result }
+    requires in_range { IsInRange N.program (length cells.old) (Ref.Cell from)
+        × IsInRange N.program (length cells.old) (Ref.Node node base) }
+    ensures { Meets N.program (record { left = Ref.Cell from; right = Ref.Node node base })
+        (plain cells.old) (plain cells.new) parts.old.items parts.new.items bound.old.items bound.new.items result }
 {
     match cells.word(from) {
         Ref::Free => take(cells, bound, from, Ref::Node { node, base }),
@@ -213,9 +217,121 @@ fn enter_from<N: Naming>(
                 node: there,
                 base: by,
             },
-            right,
+            Ref::Node { node, base },
             parts,
         ),
-        _ => enter_ends(loaded, cells, left, right, bound, parts),
+        _ => ends_of_cell(loaded, cells, from, node, base, bound, parts),
     }
+}
+
+/// Follows two cells, and meets what they lead to. This stands in a call of its own, and so do the next three: callers
+/// that made the references for it would write them to memory on their other ways too.
+#[inline(never)]
+fn ends_of_cells<N: Naming>(
+    loaded: &Loaded,
+    cells: &mut PlainCells<N>,
+    from: u32,
+    cell: u32,
+    bound: &mut Vec<u32>,
+    parts: &mut Vec<Part>,
+) -> Entered
+    requires program { N.program ≡ named loaded.now }
+    requires in_range { IsInRange N.program (length cells.old) (Ref.Cell from)
+        × IsInRange N.program (length cells.old) (Ref.Cell cell) }
+    ensures { Meets N.program (record { left = Ref.Cell from; right = Ref.Cell cell })
+        (plain cells.old) (plain cells.new) parts.old.items parts.new.items bound.old.items bound.new.items result }
+{
+    enter_ends(
+        loaded,
+        cells,
+        Ref::Cell(from),
+        Ref::Cell(cell),
+        bound,
+        parts,
+    )
+}
+
+/// Follows a cell, and meets what it leads to and a structure.
+#[inline(never)]
+fn ends_of_cell<N: Naming>(
+    loaded: &Loaded,
+    cells: &mut PlainCells<N>,
+    from: u32,
+    node: NodeNo,
+    base: u32,
+    bound: &mut Vec<u32>,
+    parts: &mut Vec<Part>,
+) -> Entered
+    requires program { N.program ≡ named loaded.now }
+    requires in_range { IsInRange N.program (length cells.old) (Ref.Cell from)
+        × IsInRange N.program (length cells.old) (Ref.Node node base) }
+    ensures { Meets N.program (record { left = Ref.Cell from; right = Ref.Node node base })
+        (plain cells.old) (plain cells.new) parts.old.items parts.new.items bound.old.items bound.new.items result }
+{
+    enter_ends(
+        loaded,
+        cells,
+        Ref::Cell(from),
+        Ref::Node { node, base },
+        bound,
+        parts,
+    )
+}
+
+/// Follows a cell, and meets a structure and what it leads to.
+#[inline(never)]
+fn ends_beside_cell<N: Naming>(
+    loaded: &Loaded,
+    cells: &mut PlainCells<N>,
+    node: NodeNo,
+    base: u32,
+    cell: u32,
+    bound: &mut Vec<u32>,
+    parts: &mut Vec<Part>,
+) -> Entered
+    requires program { N.program ≡ named loaded.now }
+    requires in_range { IsInRange N.program (length cells.old) (Ref.Node node base)
+        × IsInRange N.program (length cells.old) (Ref.Cell cell) }
+    ensures { Meets N.program (record { left = Ref.Node node base; right = Ref.Cell cell })
+        (plain cells.old) (plain cells.new) parts.old.items parts.new.items bound.old.items bound.new.items result }
+{
+    enter_ends(
+        loaded,
+        cells,
+        Ref::Node { node, base },
+        Ref::Cell(cell),
+        bound,
+        parts,
+    )
+}
+
+/// Meets two structures.
+#[inline(never)]
+fn ends_of_structures<N: Naming>(
+    loaded: &Loaded,
+    cells: &mut PlainCells<N>,
+    there: NodeNo,
+    by: u32,
+    node: NodeNo,
+    base: u32,
+    bound: &mut Vec<u32>,
+    parts: &mut Vec<Part>,
+) -> Entered
+    requires program { N.program ≡ named loaded.now }
+    requires in_range { IsInRange N.program (length cells.old) (Ref.Node there by)
+        × IsInRange N.program (length cells.old) (Ref.Node node base) }
+    ensures { Meets N.program (record { left = Ref.Node there by; right = Ref.Node node base })
+        (plain cells.old) (plain cells.new) parts.old.items parts.new.items bound.old.items bound.new.items result }
+{
+    enter_ends(
+        loaded,
+        cells,
+        Ref::Node {
+            node: there,
+            base: by,
+        },
+        Ref::Node { node, base },
+        bound,
+        parts,
+    )
 }

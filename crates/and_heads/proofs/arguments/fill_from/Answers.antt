@@ -1,7 +1,7 @@
-use Rattle.std.proofs.Common.{◌≡◌, length, refl, sym, subst, ◌∙◌}
+use Rattle.std.proofs.Common.{length, refl, sym, subst, ◌∙◌}
 use Rattle.and_model.specs.declared.reference.Ref.{Ref}
-use Rattle.and_model.specs.declared.reference.Ref.TheVariants.{Node, Number}
-use Rattle.and_cells.specs.Ranges.{IsInRange, CanHold}
+use Rattle.and_model.specs.declared.reference.Ref.TheVariants.{Cell, Node, Number}
+use Rattle.and_cells.specs.Ranges.{CanHold}
 use Rattle.and_cells.specs.Rows.{plain}
 use Rattle.and_cells.specs.Seen.{IsSetTo}
 use Rattle.and_cells.proofs.Chains.{written_since_known}
@@ -9,10 +9,10 @@ use Rattle.and_heads.proofs.Filling.{set_leads, filled}
 use Rattle.and_heads.proofs.arguments.fill_from.Goals as goal
 
 pub word-requires : goal.word-requires
-word-requires g c = subst (IsInRange g.N.Naming.program (length c.args.cells.now)) c.requires.from c.requires.in_range.0
+word-requires g c = c.requires.in_range.0
 
 pub take-requires-clause-in_row : goal.take-requires-clause-in_row
-take-requires-clause-in_row g c = subst (IsInRange g.N.Naming.program (length c.args.cells.now)) c.requires.is c.requires.in_range.1
+take-requires-clause-in_row g c = c.requires.in_range.1
 
 pub take-requires-clause-in_range : goal.take-requires-clause-in_range
 take-requires-clause-in_range g c =
@@ -29,14 +29,14 @@ returns-in-Node g c =
     let P = g.N.Naming.program in
     let row = c.args.cells.now in
     let to : Ref = Node c.in-Node.node c.in-Node.base in
-    filled P (plain row) (plain c.take.new.cells) c.args.left c.args.right c.args.cell to c.args.parts.now.items c.args.bound.now.items c.take.new.bound.items
-    c.take.result c.take.ensures.apart c.take.ensures.given_up c.take.ensures.done c.requires.is
-    (set_leads row c.args.left c.word.result to c.args.from c.requires.from c.word.ensures.value c.in-Node.is (λ e. absurd (cc))) refl
-    (λ other e. absurd (cc)) (subst (IsInRange P (length row)) c.requires.is c.requires.in_range.1)
+    filled P (plain row) (plain c.take.new.cells) (Cell c.args.from) (Cell c.args.cell) c.args.cell to c.args.parts.now.items c.args.bound.now.items
+    c.take.new.bound.items c.take.result c.take.ensures.apart c.take.ensures.given_up c.take.ensures.done refl
+    (set_leads row (Cell c.args.from) c.word.result to c.args.from refl c.word.ensures.value c.in-Node.is (λ e. absurd (cc))) refl
+    (λ other e. absurd (cc)) c.requires.in_range.1
     (subst (CanHold P (length row) c.args.from) (sym c.word.ensures.value ∙ c.in-Node.is) (c.word.ensures.sound.fits c.args.from)) (λ pair e. absurd (cc))
 
 pub take-requires-in-Number-clause-in_row : goal.take-requires-in-Number-clause-in_row
-take-requires-in-Number-clause-in_row g c = subst (IsInRange g.N.Naming.program (length c.args.cells.now)) c.requires.is c.requires.in_range.1
+take-requires-in-Number-clause-in_row g c = c.requires.in_range.1
 
 pub take-requires-in-Number-clause-in_range : goal.take-requires-in-Number-clause-in_range
 take-requires-in-Number-clause-in_range g c =
@@ -58,9 +58,10 @@ returns-in-Number g c =
     let row = c.args.cells.now in
     let to : Ref = Number c.in-Number.pair in
     let knows : IsSetTo row c.args.from to = (sym c.word.ensures.value ∙ c.in-Number.is, λ e. absurd (cc)) in
-    filled P (plain row) (plain c.take-in-Number.new.cells) c.args.left c.args.right c.args.cell to c.args.parts.now.items c.args.bound.now.items
-    c.take-in-Number.new.bound.items c.take-in-Number.result c.take-in-Number.ensures.apart c.take-in-Number.ensures.given_up c.take-in-Number.ensures.done
-    c.requires.is (set_leads row c.args.left c.word.result to c.args.from c.requires.from c.word.ensures.value c.in-Number.is (λ e. absurd (cc))) refl
-    (λ other e. absurd (cc)) (subst (IsInRange P (length row)) c.requires.is c.requires.in_range.1)
+    filled P (plain row) (plain c.take-in-Number.new.cells) (Cell c.args.from) (Cell c.args.cell) c.args.cell to c.args.parts.now.items
+    c.args.bound.now.items c.take-in-Number.new.bound.items c.take-in-Number.result c.take-in-Number.ensures.apart c.take-in-Number.ensures.given_up
+    c.take-in-Number.ensures.done refl
+    (set_leads row (Cell c.args.from) c.word.result to c.args.from refl c.word.ensures.value c.in-Number.is (λ e. absurd (cc))) refl
+    (λ other e. absurd (cc)) c.requires.in_range.1
     (subst (CanHold P (length row) c.args.from) (sym c.word.ensures.value ∙ c.in-Number.is) (c.word.ensures.sound.fits c.args.from))
     (written_since_known (plain row) c.args.from to knows)
