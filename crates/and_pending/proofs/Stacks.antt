@@ -12,13 +12,14 @@ reverse_cons x xs = reverse-append (x ∷ []) xs
 pub top_popped : {X : Type 0} (xs rest : List X) (p : X) → xs ≡ rest ++ p ∷ [] → reverse xs ≡ p ∷ reverse rest
 top_popped {X} xs rest p is = ap (λ (ys : List X). reverse ys) is ∙ reverse-append rest (p ∷ [])
 
--- and so is the last item.
+-- and so is the last item,
+pub last_read : {X : Type 0} (xs : List X) (i : ℕ) (x : X) → i + 1 ≡ length xs → x ≡ get_or xs i x → xs ≡ take i xs ++ x ∷ []
+last_read {X} xs i x long read =
+    sym (take_all (i + 1) xs (omega arith)) ∙ take_more xs i x (omega arith) ∙ ap (λ (y : X). take i xs ++ y ∷ []) (sym read)
+
+-- which comes first then.
 pub top_read : {X : Type 0} (xs : List X) (i : ℕ) (x : X) → i + 1 ≡ length xs → x ≡ get_or xs i x → reverse xs ≡ x ∷ reverse (take i xs)
-top_read {X} xs i x long read =
-    top_popped xs (take i xs) x
-    (sym (take_all (i + 1) xs (omega arith))
-    ∙ take_more xs i x (omega arith)
-    ∙ ap (λ (y : X). take i xs ++ y ∷ []) (sym read))
+top_read xs i x long read = top_popped xs (take i xs) x (last_read xs i x long read)
 
 module _ {X : Type 0} (xs : List X) (i : ℕ) (p : X) (rest : List X) (long : i + 1 ≡ length xs) (is : reverse xs ≡ p ∷ rest) where
   from_top : xs ≡ reverse rest ++ p ∷ []

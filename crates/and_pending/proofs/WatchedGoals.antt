@@ -1,7 +1,7 @@
 -- Goals whose cells stand in a list.
 use Rattle.std.proofs.Common.{ℕ, ◌≡◌, ◌+◌, ◌-◌, ◌<◌, ◌≤◌, List, [], ◌∷◌, ◌++◌, map, length, get_or, set, take, drop, reverse, refl, sym, ap, ◌∙◌, subst, arith}
 use Rattle.std.specs.Prelude.{All, Option, Some, None, IfSome, slice_range}
-use Rattle.std.proofs.lemmas.List.{append-nil, length-append, length-map, length-take-le, map-append, drop-append-le, take-append-le}
+use Rattle.std.proofs.lemmas.List.{append-nil, length-append, length-map, length-reverse, length-take-le, map-append, drop-append-le, take-append-le}
 use Rattle.std.proofs.lemmas.List.{length-drop, take_more, take-append-drop, append_assoc}
 use Rattle.std.proofs.lemmas.List.Elements.{All-cons, All-append, All-head, All-tail, All-same, All-map, All-weaker}
 use Rattle.std.proofs.lemmas.Option.{IfSome_then}
@@ -87,6 +87,16 @@ module _ (cells : List ℕ) (left right : List PendingGoal) (each : All (IsWithi
       (All-tail (IsWithin cells) p (reverse rest)
       (All-same (IsWithin cells) (p ∷ reverse rest) (reverse right) (sym (top_popped right rest p popped)) right_within))
 
+  -- or is passed over,
+  pub one_passed_over : (new rest : List PendingGoal) (i : ℕ) (p : PendingGoal) → i + 1 ≡ length right → p ≡ get_or right i p
+      → new ≡ left ++ p ∷ [] → rest ≡ take i right → All (IsWithin cells) (new ++ reverse rest)
+  one_passed_over new rest i p long read passed kept =
+      All-same (IsWithin cells) (new ++ reverse rest) (left ++ reverse right)
+      (ap (λ (ps : List PendingGoal). ps ++ reverse rest) passed
+      ∙ append_assoc left (p ∷ []) (reverse rest)
+      ∙ ap (λ (ps : List PendingGoal). left ++ p ∷ reverse ps) kept
+      ∙ ap (λ (ps : List PendingGoal). left ++ ps) (sym (top_read right i p long read))) each
+
   -- or put there,
   pub one_more : (new : List PendingGoal) (p : PendingGoal) → new ≡ right ++ p ∷ [] → IsWithin cells p → All (IsWithin cells) (left ++ reverse new)
   one_more new p pushed its =
@@ -103,6 +113,15 @@ module _ (cells : List ℕ) (left right : List PendingGoal) (each : All (IsWithi
       (All-cons (IsWithin (cells ++ more)) q rest its
       (within_more cells more rest (All-tail (IsWithin cells) p rest
       (All-same (IsWithin cells) (p ∷ rest) (reverse right) (sym is) right_within)))))
+
+-- There is a last one, if there is any.
+pub last_of : (cells : List ℕ) (ps : List PendingGoal) (w : Watched) (rest : List Watched) (count : ℕ) → count ≡ length ps
+    → all_watched_in cells (reverse ps) ≡ w ∷ rest → count - 1 + 1 ≡ length ps
+last_of cells ps w rest count many is =
+    let long = length-reverse ps in
+    let mapped = length-map (reverse ps) (watched_in cells) in
+    let some = ap (λ (ws : List Watched). length ws) is in
+    omega arith
 
 -- The top stands there,
 pub top_within : (cells : List ℕ) (left right : List PendingGoal) → All (IsWithin cells) (left ++ reverse right) → (i : ℕ) (p : PendingGoal)

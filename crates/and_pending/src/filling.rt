@@ -18,9 +18,12 @@ pub(crate) fn move_all(
     ensures unchanged { OnErr result ((from.new.items ≡ from.old.items) × (to.new.items ≡ to.old.items)) }
 {
     to.reserve(from.len())?;
-    while let Some(pending) = from.pop() {
-        to.push_reserved(pending);
+    let mut place = from.len();
+    while place > 0 {
+        place -= 1;
+        to.push_reserved(from[place]);
     }
+    from.clear();
     Ok(())
 }
 

@@ -163,10 +163,9 @@ impl PendingGoals {
         ensures { OnOk result ((w : Watched) (rest : List Watched) → self.old.right ≡ w ∷ rest
             → self.new ≡ record { left = self.old.left ++ w ∷ []; right = rest }) }
     {
-        let Some(pending) = self.right.pop() else {
-            unreachable!()
-        };
-        self.left.push(pending)?;
+        let last = self.right.len() - 1;
+        self.left.push(self.right[last])?;
+        self.right.truncate(last);
         Ok(())
     }
 
@@ -178,10 +177,12 @@ impl PendingGoals {
         ensures back { result ≡ Ok true → (front : List Watched) × (w : Watched) × (self.old.left ≡ front ++ w ∷ [])
             × (self.new ≡ record { left = front; right = w ∷ self.old.right }) }
     {
-        let Some(pending) = self.left.pop() else {
+        let count = self.left.len();
+        if count == 0 {
             return Ok(false);
-        };
-        self.right.push(pending)?;
+        }
+        self.right.push(self.left[count - 1])?;
+        self.left.truncate(count - 1);
         Ok(true)
     }
 

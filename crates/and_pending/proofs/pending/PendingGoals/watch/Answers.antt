@@ -1,19 +1,8 @@
-use Rattle.std.proofs.Common.{ℕ, ◌≡◌, ◌+◌, ◌-◌, List, ◌∷◌, length, reverse, Some, ap, ◌∙◌, arith}
-use Rattle.std.proofs.lemmas.List.{length-reverse, length-map}
-use Rattle.and_pending.specs.Pending.{Watched, Pending, watched_in, all_watched_in}
+use Rattle.std.proofs.Common.{◌≡◌, ◌-◌, ◌∷◌, reverse, Some, ap, ◌∙◌}
+use Rattle.and_pending.specs.Pending.{Pending, all_watched_in}
 use Rattle.and_pending.specs.declared.watch.Range.{Range}
-use Rattle.and_pending.specs.declared.pending.PendingGoal.{PendingGoal}
-use Rattle.and_pending.proofs.WatchedGoals.{within_watched, view_watched, parted}
+use Rattle.and_pending.proofs.WatchedGoals.{last_of, within_watched, view_watched, parted}
 use Rattle.and_pending.proofs.pending.PendingGoals.watch.Goals as goal
-
--- There is a last one, if there is any.
-last_of : (cells : List ℕ) (ps : List PendingGoal) (w : Watched) (rest : List Watched) (count : ℕ) → count ≡ length ps
-    → all_watched_in cells (reverse ps) ≡ w ∷ rest → count - 1 + 1 ≡ length ps
-last_of cells ps w rest count many is =
-    let long = length-reverse ps in
-    let mapped = length-map (reverse ps) (watched_in cells) in
-    let some = ap (λ (ws : List Watched). length ws) is in
-    omega arith
 
 pub invariant_of-self-2 : goal.invariant_of-self-2
 invariant_of-self-2 c =
