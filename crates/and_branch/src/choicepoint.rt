@@ -80,48 +80,10 @@ impl<N: Naming> Model for Choicepoint<N> {
         IsOutlineOf point.parent.value point.outline × (length point.longer.value ≡ point.decided) };
 }
 
-/// What a branch becomes that is forked.
-#[derive(Drop)]
-pub struct Forked<N: Naming> {
-    pub choicepoint: Choicepoint<N>,
-    /// What is left of the branch: the first child is made of it.
-    pub left: Branch<N>,
-}
-
 impl<N: Naming> Branch<N> {
-    /// Forks the branch, whose state is a fork of this goal by these clauses. Its key is told on to that goal. An error
-    /// is want of memory.
-    pub fn fork(
-        self,
-        alloc: Global,
-        loaded: &Loaded,
-        goal: Goal,
-        clauses: ClauseList,
-        told: &mut CodeSoFar,
-    ) -> Result<Forked<N>, AllocError>
-        requires program { N.program ≡ named loaded.now }
-        requires told { IsTold N.program.program self.reductions told.old self.key }
-        requires fork { (t : QueryTree N.program.program) × (o : Open t) × (cut : Option ℕ)
-            × IsBranchOf N.program self t
-            × IsOpenGoal N.program self.reductions t o goal
-            × StateOf N.program.program self.limit t (fork o (numbers clauses) cut) }
-        ensures fork { IfOk result (λ forked. IsForkOf self goal (numbers clauses) forked.choicepoint) }
-        ensures children { IfOk result (λ forked. (t : QueryTree N.program.program) → IsBranchOf N.program self t
-            → AreChildren N.program forked.choicepoint t) }
-        ensures back { IfOk result (λ forked. GoesBack self forked.left) }
-        ensures key { IfOk result (λ forked. forked.left.key ≡ forked.choicepoint.longer) }
-        ensures begins { IfOk result (λ forked.
-            IsPrefix (take told.old.length self.key) forked.choicepoint.longer) }
-        ensures told { IfOk result (λ forked.
-            IsTold N.program.program self.reductions told.new forked.choicepoint.longer) }
-        ensures length { IfOk result (λ forked. told.new.length ≡ length forked.choicepoint.longer) }
-    {
-        let mut left = self;
-        let choicepoint = left.fork_in_place(alloc, loaded, goal, clauses, told)?;
-        Ok(Forked { choicepoint, left })
-    }
-
-    /// The same, where the branch becomes what is left of it. An error is want of memory, and the branch is spent.
+    /// Forks the branch, whose state is a fork of this goal by these clauses. The branch becomes what is left of it, of
+    /// which the first child is made, and its key is told on to that goal. An error is want of memory, and the branch is
+    /// spent.
     pub fn fork_in_place(
         &mut self,
         alloc: Global,
@@ -275,30 +237,8 @@ impl<N: Naming> Choicepoint<N> {
         self.clauses.len().saturating_sub(self.made)
     }
 
-    /// The next child, made of what is left of the branch that was forked, or of what came of its children. An error
-    /// is want of memory.
-    pub fn next(
-        &mut self,
-        loaded: &Loaded,
-        left: Branch<N>,
-        workspace: &mut Workspace,
-    ) -> Result<Branch<N>, AllocError>
-        requires program { N.program ≡ named loaded.now }
-        requires children { (t : QueryTree N.program.program) × AreChildren N.program self.old t }
-        requires key { IsPrefix self.old.longer left.key }
-        requires some { self.old.clauses ≢ [] }
-        requires back { GoesBack self.old.parent left }
-        ensures child { IfOk result (IsChild N.program self.old self.new) }
-        ensures back { IfOk result (GoesBack self.old.parent) }
-        ensures unchanged { OnErr result (self.new ≡ self.old) }
-    {
-        let mut branch = left;
-        self.next_in_place(loaded, &mut branch, workspace)?;
-        Ok(branch)
-    }
-
-    /// The same, where the branch of which it is made becomes the child. An error is want of memory, and the branch is
-    /// spent.
+    /// Makes the next child of what is left of the branch that was forked, or of what came of its children, which
+    /// becomes the child. An error is want of memory, and the branch is spent.
     pub fn next_in_place(
         &mut self,
         loaded: &Loaded,
@@ -323,28 +263,7 @@ impl<N: Naming> Choicepoint<N> {
         Ok(())
     }
 
-    /// The last child, which is made in the same way. An error is want of memory.
-    pub fn into_last(
-        self,
-        loaded: &Loaded,
-        left: Branch<N>,
-        workspace: &mut Workspace,
-    ) -> Result<Branch<N>, AllocError>
-        requires program { N.program ≡ named loaded.now }
-        requires children { (t : QueryTree N.program.program) × AreChildren N.program self t }
-        requires key { IsPrefix self.longer left.key }
-        requires some { self.clauses ≢ [] }
-        requires back { GoesBack self.parent left }
-        ensures child { IfOk result (λ b. (rest : Fork) × IsChild N.program self rest b) }
-        ensures back { IfOk result (KeepsBack self.parent) }
-    {
-        let mut branch = left;
-        self.last_in_place(loaded, &mut branch, workspace)?;
-        Ok(branch)
-    }
-
-    /// The same, where the branch of which it is made becomes the child. An error is want of memory, and the branch is
-    /// spent.
+    /// Makes the last child in the same way. An error is want of memory, and the branch is spent.
     pub fn last_in_place(
         self,
         loaded: &Loaded,

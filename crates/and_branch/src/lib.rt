@@ -25,7 +25,7 @@ pub mod workspace;
 
 pub use advancing::FIRST_ROUND;
 pub use branch::{Branch, Rooted};
-pub use choicepoint::{Choicepoint, Forked};
+pub use choicepoint::Choicepoint;
 pub use goals::is_call;
 pub use parts::Parts;
 pub use rebuilding::{NoRoom, Worked};
