@@ -142,8 +142,8 @@ pub record IsReady {N : Type 0} (P : NamedProgram) (tree : TreeId) (pass : PassS
   pub served : AreServed (Some (as_told h)) stack
   pub shares : Shares found h.common (as_told h).key
 
--- What is left of the branch in hand serves the stack, and its key begins with so many first clauses of the last entry's
--- code.
+-- What is left of the branch in hand serves the stack, and its key begins with so many first clauses of the code of the
+-- last entry.
 pub record IsLeftInHand {N : Type 0} (P : NamedProgram) (tree : TreeId) (pass : PassSeen) (found : Found)
     (stack : List (Task N)) (h : Hand N)
     : Type 0 where

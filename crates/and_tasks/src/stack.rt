@@ -2,7 +2,8 @@
 //!
 //! The forks of a stack have one row together, that of the branch at work on top of them.
 
-ghost use Rattle.std.specs.Prelude.{ℕ, ◌≡◌, ◌≢◌, ◌<◌, ◌≤◌, [], drop, length, Option, Some, slice_get, OnErr, OnOk, IfOk};
+ghost use Rattle.std.specs.Prelude.{ℕ, ◌≡◌, ◌≢◌, ◌<◌, ◌≤◌, [], drop, length, Option, Some, slice_get, OnErr, OnOk};
+ghost use Rattle.std.specs.Prelude.{IfOk};
 ghost use Rattle.std.specs.Prelude.{IfSome};
 ghost use Rattle.and_program.specs.Loaded.{program_of};
 ghost use Rattle.and_model.specs.Trees.{QueryTree};

@@ -395,7 +395,8 @@ impl<N: Naming> Team<N> {
         state: BranchState,
     ) -> Result<(), AllocError>
         requires program { N.program ≡ named shared.now.loaded.now }
-        requires ready { IsReady N.program shared.now.tree.now self.old.pass self.old.found self.old.stack.items hand.old }
+        requires ready { IsReady N.program shared.now.tree.now self.old.pass self.old.found self.old.stack.items
+            hand.old }
         requires state { (t : QueryTree N.program.program) → IsBranchOf N.program hand.old.branch t
             → IsState N.program hand.old.branch t state }
         requires at_rest { IsAtRest N.program hand.old.branch state }
@@ -432,7 +433,8 @@ impl<N: Naming> Team<N> {
         cut: Option<Cut>,
     ) -> Result<(), AllocError>
         requires program { N.program ≡ named shared.now.loaded.now }
-        requires ready { IsReady N.program shared.now.tree.now self.old.pass self.old.found self.old.stack.items hand.old }
+        requires ready { IsReady N.program shared.now.tree.now self.old.pass self.old.found self.old.stack.items
+            hand.old }
         requires state { (t : QueryTree N.program.program) → IsBranchOf N.program hand.old.branch t
             → IsState N.program hand.old.branch t (BranchState.Fork goal clauses cut) }
         requires none { self.old.left ≡ None }
@@ -527,7 +529,8 @@ impl<N: Naming> Team<N> {
         floundered: bool,
     ) -> Result<(), AllocError>
         requires program { N.program ≡ named shared.now.loaded.now }
-        requires ready { IsReady N.program shared.now.tree.now self.old.pass self.old.found self.old.stack.items hand.old }
+        requires ready { IsReady N.program shared.now.tree.now self.old.pass self.old.found self.old.stack.items
+            hand.old }
         requires ended { HasEnded N.program hand.old.branch }
         requires state { (t : QueryTree N.program.program) → IsBranchOf N.program hand.old.branch t
             → EndsSo N.program hand.old.branch t floundered }
@@ -545,7 +548,8 @@ impl<N: Naming> Team<N> {
         Ok(())
     }
 
-    /// Adds the entry of the branch in hand, whose key is then the code: what is left of it. An error is want of memory.
+    /// Adds the entry of the branch in hand, whose key is then the code: what is left of it. An error is want of
+    /// memory.
     fn add<G: Gate>(
         &mut self,
         shared: &Shared<N, G>,
