@@ -6,7 +6,7 @@ ghost use Rattle.and_model.specs.Programs.{clause_at, fail};
 ghost use Rattle.and_model.specs.Stands.{term_of};
 ghost use Rattle.and_program.specs.Items.{node_item};
 ghost use Rattle.and_program.specs.Loaded.{nodes_at, program_of, skeleton_of};
-ghost use Rattle.and_program.specs.Skeletons.{call, item_of};
+ghost use Rattle.and_program.specs.Skeletons.{call, equal, item_of};
 ghost use Rattle.and_cells.specs.Parts.{named};
 ghost use Rattle.and_cells.specs.Seen.{word_at};
 ghost use Rattle.and_unify.specs.Pairs.{equations_of_pairs};
@@ -47,6 +47,7 @@ fn call_at(loaded: &Loaded, clause: ClauseNo, item: u32) -> NodeNo
 
 /// Asks that the call be made one with the head of the clause in its frame, and nothing else. An error
 /// is want of memory.
+#[inline(always)]
 pub(crate) fn ask_call<N: Naming>(
     loaded: &Loaded,
     cells: &PlainCells<N>,
@@ -75,6 +76,7 @@ pub(crate) fn ask_call<N: Naming>(
 
 /// Asks for what the `=` items of the clause's body say in its frame, and answers whether no item is
 /// `fail`. An error is want of memory.
+#[inline(always)]
 pub(crate) fn ask_items<N: Naming>(
     loaded: &Loaded,
     cells: &PlainCells<N>,
@@ -102,6 +104,7 @@ pub(crate) fn ask_items<N: Naming>(
 
 /// Asks for what an item says, if it is `=`, and answers whether it is not `fail`. An error is want of
 /// memory.
+#[inline(always)]
 fn ask_item<N: Naming>(
     loaded: &Loaded,
     cells: &PlainCells<N>,
@@ -119,10 +122,7 @@ fn ask_item<N: Naming>(
 {
     match item {
         ItemNode::Equal { left, right } => {
-            loaded.skeleton_is_of_the_program();
-            let left = loaded.resolve(left, floor);
-            let right = loaded.resolve(right, floor);
-            pairs.push(left, right)?;
+            ask_equal(loaded, cells, floor, left, right, pairs)?;
             Ok(true)
         }
         ItemNode::Call { goal: _ } => Ok(true),
@@ -138,4 +138,29 @@ fn ask_item<N: Naming>(
         } => Ok(true),
         ItemNode::Fail => Ok(false),
     }
+}
+
+/// Asks that two nodes be made one in a frame. An error is want of memory. This stands in a call of its own, so that
+/// a body without `=` is passed over in a few steps.
+#[inline(never)]
+fn ask_equal<N: Naming>(
+    loaded: &Loaded,
+    cells: &PlainCells<N>,
+    floor: u32,
+    left: NodeNo,
+    right: NodeNo,
+    pairs: &mut PairList,
+) -> Result<(), AllocError>
+    requires program { N.program ≡ named loaded.now }
+    requires item { CanBeAsked N.program cells.now floor (equal left.0 right.0) }
+    requires ready { AreReady N.program cells.now floor pairs.old }
+    ensures { OnOk result (Ask N.program cells.now floor pairs.new
+        (equations_of_pairs N.program (word_at cells.now) pairs.old
+        ++ body_equations (placed floor) (item_of N.program.skeleton.nodes (equal left.0 right.0) ∷ []))) }
+{
+    loaded.skeleton_is_of_the_program();
+    let left = loaded.resolve(left, floor);
+    let right = loaded.resolve(right, floor);
+    pairs.push(left, right)?;
+    Ok(())
 }

@@ -22,6 +22,7 @@ use and_unify::Settled as Answer;
 
 /// Settles the pairs over cells that are settled, where the words from `floor` on are new, and notes
 /// which words were set.
+#[inline(always)]
 pub(crate) fn settle_noted<N: Naming>(
     loaded: &Loaded,
     cells: &mut PlainCells<N>,

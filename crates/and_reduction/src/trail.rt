@@ -87,6 +87,7 @@ impl Trail {
 }
 
 /// Puts those of the cells that lie below the mark at the end of a list. An error is want of memory.
+#[inline(never)]
 fn note_below(noted: &mut Vec<u32>, mark: u32, cells: &[u32]) -> Result<(), AllocError>
     ensures { OnOk result (AreNoted (record { mark = Some mark; cells = noted.old.items })
         (record { mark = Some mark; cells = noted.new.items }) cells.now) }
