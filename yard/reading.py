@@ -1,8 +1,9 @@
 #!/usr/bin/env python3
 """What it costs to read a text: makes texts of one size and several kinds, and counts what `run` takes for each, whose
-query is true, or `check`, by which nothing is compiled.
+query is true, or `check`, by which nothing is compiled; or with --alone what `run` takes to read each and refuse it,
+since its query calls a predicate that is not there, so that reading is all that is done.
 
-    yard/reading.py PROGRAM [--command run|check] [--bytes N] [--times K] [--only KIND..] [--texts FOLDER]
+    yard/reading.py PROGRAM [--command run|check] [--alone] [--bytes N] [--times K] [--only KIND..] [--texts FOLDER]
 
 For each kind a line with the instructions of the whole program (valgrind --tool=callgrind) in millions, its processor
 time in milliseconds, the least of K runs, and the pages that it touched; behind them the first two as shares of those of
@@ -61,8 +62,8 @@ KINDS = {
 }
 
 
-def text_of(kind, size):
-    """A text of about so many bytes."""
+def text_of(kind, size, query):
+    """A text of about so many bytes, with that query."""
     one, called = KINDS[kind]
     lines = [called]
     length = len(called)
@@ -71,7 +72,7 @@ def text_of(kind, size):
         lines.append(one(number))
         length += len(lines[-1])
         number += 1
-    lines.append('?- true.\n')
+    lines.append(f'?- {query}.\n')
     return ''.join(lines)
 
 
@@ -100,6 +101,7 @@ def main():
     parser = argparse.ArgumentParser(description=__doc__, formatter_class=argparse.RawDescriptionHelpFormatter)
     parser.add_argument('program')
     parser.add_argument('--command', choices=['run', 'check'], default='run')
+    parser.add_argument('--alone', action='store_true')
     parser.add_argument('--bytes', type=int, default=251_000)
     parser.add_argument('--times', type=int, default=15)
     parser.add_argument('--only', nargs='*', choices=list(KINDS))
@@ -112,7 +114,7 @@ def main():
     for kind in args.only or KINDS:
         path = os.path.join(folder, kind.replace(' ', '_') + '.pl')
         with open(path, 'w') as file:
-            file.write(text_of(kind, args.bytes))
+            file.write(text_of(kind, args.bytes, 'unheard_of' if args.alone else 'true'))
         time, pages = times_and_pages(words, path, args.times)
         counted = instructions(words, path), time
         first = first or counted
