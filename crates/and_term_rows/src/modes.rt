@@ -1,7 +1,11 @@
 //! Modes of programs.
 
+ghost use Rattle.std.specs.Prelude.{◌≡◌};
+ghost use Rattle.and_model.specs.Programs.{own_name};
+
 use crate::script::program;
 use and_model::NameNo;
+use and_model::builtins::BUILT_IN;
 use and_modes::{Modes, Side, infer, verdict};
 use and_rows::{Desk, Untold, answers, line, read_numbers};
 use std::alloc::Global;
@@ -17,10 +21,19 @@ fn byte(number: u32) -> u8 {
     u8::try_from(number).unwrap_or(u8::MAX)
 }
 
-/// The level of a place: the numbers are those of a name, of its arguments and of the place.
+/// The name at a place among the program's own, which are numbered behind the built-in ones.
+fn own_name(place: u8) -> NameNo
+    ensures { result.0 ≡ own_name place }
+{
+    let built_in = BUILT_IN;
+    NameNo(built_in.len() as u32 + u32::from(place))
+}
+
+/// The level of a place: the numbers are those of a name among the program's own, of its arguments and of the place.
 fn level(alloc: Global, modes: &Modes, words: &str, side: Side) -> Result<String, Untold> {
     let n = read_numbers(words)?;
-    let level = modes.level(NameNo(n.first), byte(n.second), byte(n.third), side);
+    let name = own_name(byte(n.first));
+    let level = modes.level(name, byte(n.second), byte(n.third), side);
     line(alloc, &level)
 }
 

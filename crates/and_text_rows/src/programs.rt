@@ -1,9 +1,11 @@
 //! What programs of texts hold.
 
-ghost use Rattle.std.specs.Prelude.{◌<◌, length, IfOk};
+ghost use Rattle.std.specs.Prelude.{◌≡◌, ◌<◌, length, IfOk};
+ghost use Rattle.and_model.specs.Programs.{own_name};
 ghost use Rattle.and_program.specs.Loaded.{skeleton_of};
 
-use and_model::{ClauseNo, NameNo, NodeNo, Ref};
+use and_model::builtins::BUILT_IN;
+use and_model::{ClauseNo, NameNo, NodeNo};
 use and_program::{Loaded, NodeKind};
 use and_reader::read_program;
 use and_rows::{Desk, Numbers, Untold, answers, line, read_numbers};
@@ -18,6 +20,14 @@ struct Parts {
 /// A small number as one of 8 bits.
 fn byte(number: u32) -> u8 {
     u8::try_from(number).unwrap_or(u8::MAX)
+}
+
+/// The name at a place among the program's own, which are numbered behind the built-in ones.
+fn own_name(place: u8) -> NameNo
+    ensures { result.0 ≡ own_name place }
+{
+    let built_in = BUILT_IN;
+    NameNo(built_in.len() as u32 + u32::from(place))
 }
 
 /// A clause of this number, or the query, as its line, head, weight, guard, number of variables and items.
@@ -43,10 +53,20 @@ fn variable(alloc: Global, loaded: &Loaded, number: u32, place: u8) -> Result<St
     line(alloc, &name)
 }
 
-/// The name of a number.
-fn name_of(alloc: Global, loaded: &Loaded, number: u32) -> Result<String, Untold> {
-    let name = String::from_utf8_lossy(alloc, loaded.name(NameNo(number)))?;
-    line(alloc, &name)
+/// The text of a name.
+fn name_text(alloc: Global, loaded: &Loaded, name: NameNo) -> Result<String, Untold> {
+    Ok(String::from_utf8_lossy(alloc, loaded.name(name))?)
+}
+
+/// The line of a name.
+fn name_line(alloc: Global, loaded: &Loaded, name: NameNo) -> Result<String, Untold> {
+    line(alloc, &name_text(alloc, loaded, name)?)
+}
+
+/// The clauses of a name among the program's own, with so many arguments.
+fn clauses_of(alloc: Global, loaded: &Loaded, n: Numbers) -> Result<String, Untold> {
+    let name = own_name(byte(n.first));
+    line(alloc, &loaded.clauses_of(name, byte(n.second)))
 }
 
 /// The node of an argument.
@@ -66,11 +86,19 @@ fn argument(loaded: &Loaded, node: NodeNo, place: u8) -> Result<NodeNo, Untold>
     }
 }
 
-/// What a node is, and what it leads to in a frame at base 10.
-fn seen(loaded: &Loaded, node: NodeNo) -> (NodeKind, Ref)
+/// What a node is, a compound term by its name and its number of arguments, and what the node leads to in a frame at
+/// base 10.
+fn seen(alloc: Global, loaded: &Loaded, node: NodeNo) -> Result<String, Untold>
     requires { node.0 < length (skeleton_of loaded.now).nodes }
 {
-    (loaded.kind(node), loaded.resolve(node, 10))
+    let end = loaded.resolve(node, 10);
+    match loaded.kind(node) {
+        NodeKind::Compound { name, count } => {
+            let name = name_text(alloc, loaded, name)?;
+            line(alloc, &(name, count, end))
+        }
+        kind => line(alloc, &(kind, end)),
+    }
 }
 
 /// The node of a clause's head, that of an argument of it, and that of an argument of the argument.
@@ -81,10 +109,10 @@ fn nodes(alloc: Global, loaded: &Loaded, n: Numbers) -> Result<String, Untold> {
     let head = loaded.head(ClauseNo(n.first as u16));
     let part = argument(loaded, head, byte(n.second))?;
     let end = argument(loaded, part, byte(n.third))?;
-    line(
-        alloc,
-        &(seen(loaded, head), seen(loaded, part), seen(loaded, end)),
-    )
+    let mut out = seen(alloc, loaded, head)?;
+    out.push_str(&seen(alloc, loaded, part)?)?;
+    out.push_str(&seen(alloc, loaded, end)?)?;
+    Ok(out)
 }
 
 impl Desk for Parts {
@@ -93,11 +121,9 @@ impl Desk for Parts {
         match name {
             "clause" => clause(alloc, &self.loaded, n.first),
             "variable" => variable(alloc, &self.loaded, n.first, byte(n.second)),
-            "name" => name_of(alloc, &self.loaded, n.first),
-            "clauses-of" => line(
-                alloc,
-                &self.loaded.clauses_of(NameNo(n.first), byte(n.second)),
-            ),
+            "built-in" => name_line(alloc, &self.loaded, NameNo(n.first)),
+            "name" => name_line(alloc, &self.loaded, own_name(byte(n.first))),
+            "clauses-of" => clauses_of(alloc, &self.loaded, n),
             "nodes" => nodes(alloc, &self.loaded, n),
             _ => Err(Untold::Malformed),
         }
