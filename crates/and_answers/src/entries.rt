@@ -1,6 +1,7 @@
 //! Entries, with their lines beside them.
 
-ghost use Rattle.std.specs.Prelude.{◌≡◌, ◌<◌, ◌+◌, [], ◌∷◌, ◌++◌, List, length, map, take, get_or, All, OnOk, OnErr, IfOk};
+ghost use Rattle.std.specs.Prelude.{◌≡◌, ◌<◌, ◌+◌, [], ◌∷◌, ◌++◌, List, length, map, take, get_or, All};
+ghost use Rattle.std.specs.Prelude.{OnOk, OnErr, IfOk};
 ghost use Rattle.std.specs.Prelude.{IfErr};
 ghost use Rattle.and_model.specs.Listing;
 ghost use Rattle.and_model.specs.Output.{lines_of};

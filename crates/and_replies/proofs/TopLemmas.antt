@@ -50,7 +50,8 @@ use Rattle.and_replies.specs.declared.question.Request.TheVariants.{Text, Docume
 use Rattle.and_replies.specs.declared.question.TheConstants.{MAX_DOCUMENT}
 use Rattle.and_replies.specs.declared.showing.Show.{Show}
 use Rattle.and_replies.specs.declared.showing.Show.TheVariants.{Whole, Summary}
-use Rattle.and_replies.specs.Top.{FindsAll, TellsFirst, first_status, status_seen, told_status, IsRefusedBy, WasRun, IsReply, WasReplied, WasAnswered, IsBounded}
+use Rattle.and_replies.specs.Top.{FindsAll, TellsFirst, first_status, status_seen, told_status}
+use Rattle.and_replies.specs.Top.{IsRefusedBy, WasRun, IsReply, WasReplied, WasAnswered, IsBounded}
 use Rattle.and_replies.specs.Top.{Answered, IsAllowed, IsAnswer, IsLineOf, IsRunOf, most_of}
 use Rattle.and_replies.specs.Verified.{IsDocumentRefused, WasVerified, too_long as document_too_long, by_program}
 use Rattle.and_replies.specs.Top.{GivesAnswer, FailsWriting, GivesPrefix, Told, Took, IsRead}

@@ -10,7 +10,8 @@ use Rattle.and_batch_text.specs.Queries.{Span}
 use Rattle.and_batch_text.specs.Singles.{single}
 use Rattle.and_batch_text.specs.Refused.{IsBatch, IsBatchRefused}
 use Rattle.and_status.specs.declared.status.Status.{Status}
-use Rattle.and_status.specs.declared.status.Status.TheVariants.{Answers, NoAnswer, Usage, Refused, ReadFault, WriteFault}
+use Rattle.and_status.specs.declared.status.Status.TheVariants.{Answers, NoAnswer, Usage, Refused}
+use Rattle.and_status.specs.declared.status.Status.TheVariants.{ReadFault, WriteFault}
 use Rattle.and_status.specs.declared.status.Status.TheVariants.{Limit, Memory, Floundered}
 
 -- what one query is answered with, and the status of that

@@ -6,7 +6,8 @@ use Rattle.and_batch_text.specs.Queries.{Span}
 use Rattle.and_batch_text.specs.Refused.{IsBatch}
 use Rattle.and_replies.specs.Batched.{Part, IsPart, query_line, status_by}
 use Rattle.and_status.specs.declared.status.Status.{Status}
-use Rattle.and_status.specs.declared.status.Status.TheVariants.{Answers, NoAnswer, Usage, Refused, ReadFault, WriteFault}
+use Rattle.and_status.specs.declared.status.Status.TheVariants.{Answers, NoAnswer, Usage, Refused}
+use Rattle.and_status.specs.declared.status.Status.TheVariants.{ReadFault, WriteFault}
 use Rattle.and_status.specs.declared.status.Status.TheVariants.{Limit, Memory, Floundered}
 
 -- the number of a status, with which the program exits

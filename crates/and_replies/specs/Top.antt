@@ -42,7 +42,8 @@ use Rattle.and_replies.specs.declared.question.TheConstants.{MAX_DOCUMENT}
 use Rattle.and_replies.specs.declared.showing.Show.{Show}
 use Rattle.and_replies.specs.declared.showing.Show.TheVariants.{Whole}
 use Rattle.and_status.specs.declared.status.Status.{Status}
-use Rattle.and_status.specs.declared.status.Status.TheVariants.{Answers, NoAnswer, Usage, Refused, ReadFault, WriteFault}
+use Rattle.and_status.specs.declared.status.Status.TheVariants.{Answers, NoAnswer, Usage, Refused}
+use Rattle.and_status.specs.declared.status.Status.TheVariants.{ReadFault, WriteFault}
 use Rattle.and_status.specs.declared.status.Status.TheVariants.{Limit, Memory, Floundered}
 
 -- no command has these words
