@@ -1,4 +1,5 @@
 mod Becoming
+mod Beginning
 mod Begins
 mod Comparing
 mod Filling
@@ -6,4 +7,5 @@ mod Looking
 mod Meeting
 mod Pairing
 mod Parting
+mod Placing
 pub mod Sending

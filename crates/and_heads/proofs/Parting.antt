@@ -77,3 +77,8 @@ whole_put P s pair whole parts longer bound is shape gains =
 pub shapes_behind : (P : NamedProgram) (words : ℕ) (parts more longer : List Part) → longer ≡ parts ++ more → All (HasShape P words) parts
     → All (HasShape P words) more → All (HasShape P words) longer
 shapes_behind P words parts more longer is one other = subst (All (HasShape P words)) (sym is) (All-append (HasShape P words) parts more one other)
+
+-- Where no part is left, nothing is.
+pub none_left : (P : NamedProgram) (old s : Seen) (todo : List Pair) (parts : List Part) (began bound : List ℕ) → parts ≡ []
+    → Runs P old todo began s (arguments_of_parts P parts) bound → Runs P old todo began s [] bound
+none_left P old s todo parts began bound none runs = subst (λ (xs : List Part). Runs P old todo began s (arguments_of_parts P xs) bound) none runs

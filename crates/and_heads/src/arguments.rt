@@ -1,11 +1,13 @@
 //! Two arguments that are met at a look, as most are: a cell is free, or both are structures.
 
-ghost use Rattle.std.specs.Prelude.{◌≡◌, length};
+ghost use Rattle.std.specs.Prelude.{◌≡◌, ◌<◌, ◌^◌, length, slice_get, Some};
 ghost use Rattle.and_model.specs.declared.reference.Ref.{Ref};
+ghost use Rattle.and_program.specs.Loaded.{skeleton_of, arguments_at};
 ghost use Rattle.and_cells.specs.Ranges.{IsInRange};
 ghost use Rattle.and_cells.specs.Rows.{plain};
 ghost use Rattle.and_cells.specs.Seen.{IsWrittenIfNumber, word_at};
-ghost use Rattle.and_cells.specs.Parts.{named};
+ghost use Rattle.and_cells.specs.Parts.{named, parts_of};
+ghost use Rattle.and_heads.specs.Parts.{named_by};
 ghost use Rattle.and_heads.specs.Entering.{Meets};
 
 use crate::entering::{Entered, compare, enter_ends, take};
@@ -13,29 +15,40 @@ use crate::parts::{Part, is_free};
 use and_cells::{Naming, PlainCells};
 use and_model::{NodeNo, Ref};
 use and_program::Loaded;
+use and_unify::structures::{Structure, argument_at};
 
-/// Makes two references the same, at a look where that tells it, and else by what they lead to. Structures of one shape
-/// go on the list of parts. Arguments are cells and structures, so of others nothing is told.
+/// Makes an argument of a structure and a reference the same, at a look where that tells it, and else by what they lead
+/// to. Structures of one shape go on the list of parts. Arguments are cells and structures, so of others nothing is
+/// told. The argument is read once it is known what it meets, so that each is looked at in one place.
 #[inline(always)]
 pub(crate) fn enter_argument<N: Naming>(
     loaded: &Loaded,
     cells: &mut PlainCells<N>,
-    left: Ref,
+    left: Structure,
+    place: u8,
     right: Ref,
     bound: &mut Vec<u32>,
     parts: &mut Vec<Part>,
 ) -> Entered
     requires program { N.program ≡ named loaded.now }
-    requires in_range { IsInRange N.program (length cells.old) left
-        × IsInRange N.program (length cells.old) right }
-    requires written { IsWrittenIfNumber (plain cells.old) left × IsWrittenIfNumber (plain cells.old) right }
-    ensures { Meets N.program (record { left = left; right = right }) (plain cells.old) (plain cells.new)
+    requires there { left.node.0 < length (skeleton_of loaded.now).nodes }
+    requires base { left.base < 2 ^ 23 }
+    requires place { place < length (arguments_at (skeleton_of loaded.now) left.node.0) }
+    requires left_fits { (from : Ref) → slice_get (parts_of (named loaded.now) (named_by left)) place ≡ Some from
+        → IsInRange N.program (length cells.old) from × IsWrittenIfNumber (plain cells.old) from }
+    requires right_fits { IsInRange N.program (length cells.old) right }
+    ensures { (from : Ref) × (slice_get (parts_of (named loaded.now) (named_by left)) place ≡ Some from)
+        × Meets N.program (record { left = from; right = right }) (plain cells.old) (plain cells.new)
         parts.old.items parts.new.items bound.old.items bound.new.items result }
 {
     match right {
-        Ref::Cell(cell) => enter_variable(loaded, cells, left, cell, bound, parts),
+        Ref::Cell(cell) => {
+            let from = argument_at(loaded, left, place);
+            enter_variable(loaded, cells, from, cell, bound, parts)
+        }
         Ref::Node { node, base } => {
-            enter_structure(loaded, cells, left, node, base, bound, parts)
+            let from = argument_at(loaded, left, place);
+            enter_structure(loaded, cells, from, node, base, bound, parts)
         }
         _ => Entered::GivenUp,
     }

@@ -61,12 +61,53 @@ pub(crate) fn all_end<N: Naming>(
     met.clear();
     for place in 0..bound.len() {
         let cell = bound[place];
-        let from = floor_beside(cell, floor);
-        if !ends(loaded, cells, from, cell, &mut most, visits, met) {
+        if !ends_from(loaded, cells, floor, cell, &mut most, visits, met) {
             return false;
         }
     }
     true
+}
+
+/// The same of one cell.
+#[inline(always)]
+fn ends_from<N: Naming>(
+    loaded: &Loaded,
+    cells: &PlainCells<N>,
+    floor: u32,
+    cell: u32,
+    most: &mut u64,
+    visits: &mut Vec<Ref>,
+    met: &mut Vec<Ref>,
+) -> bool
+    requires program { N.program ≡ named loaded.now }
+    requires falls { AllFall 0 N.program.skeleton.nodes }
+    requires in_row { cell < length cells.now }
+    ensures { result ≡ true → EndsFrom N.program cells.now floor cell }
+{
+    if ends_below(cells, floor, cell) {
+        return true;
+    }
+    let from = floor_beside(cell, floor);
+    ends(loaded, cells, from, cell, most, visits, met)
+}
+
+/// Whether a cell that is not below the floor is set to a number or to what is below it, as most cells are.
+#[inline(always)]
+fn ends_below<N: Naming>(cells: &PlainCells<N>, floor: u32, cell: u32) -> bool
+    requires in_row { cell < length cells.now }
+    ensures above { result ≡ true → floor ≤ cell }
+    ensures ends { result ≡ true → Ends N.program cells.now floor false (Ref.Cell cell) }
+{
+    if cell < floor {
+        return false;
+    }
+    match cells.word(cell) {
+        Ref::Node { base, .. } => base < floor,
+        Ref::Cell(other) => other < floor,
+        Ref::Number(_) => true,
+        Ref::Free => false,
+        Ref::Half(_) => false,
+    }
 }
 
 /// Where paths from a cell are at their end: below the floor, and nowhere where the cell is below it.
@@ -99,8 +140,51 @@ fn ends<N: Naming>(
     }
 }
 
-/// Whether each path from a reference is seen to end, by so many turns or places.
+/// Whether each path from a reference is seen to end, at a look at the parts of a structure, or by so many turns or
+/// places.
 fn behind_ends<N: Naming>(
+    loaded: &Loaded,
+    cells: &PlainCells<N>,
+    floor: u32,
+    from: Ref,
+    most: &mut u64,
+    visits: &mut Vec<Ref>,
+    met: &mut Vec<Ref>,
+) -> bool
+    requires program { N.program ≡ named loaded.now }
+    requires falls { AllFall 0 N.program.skeleton.nodes }
+    requires in_range { IsInRange N.program (length cells.now) from }
+    ensures { result ≡ true → Ends N.program cells.now floor false from }
+{
+    if all_parts_end(loaded, cells, floor, from) {
+        return true;
+    }
+    onward_ends(loaded, cells, floor, from, most, visits, met)
+}
+
+/// Whether a reference is a structure of which each path from each part ends at a look at the part.
+#[inline(always)]
+fn all_parts_end<N: Naming>(loaded: &Loaded, cells: &PlainCells<N>, floor: u32, from: Ref) -> bool
+    requires program { N.program ≡ named loaded.now }
+    requires falls { AllFall 0 N.program.skeleton.nodes }
+    requires in_range { IsInRange N.program (length cells.now) from }
+    ensures { result ≡ true → Ends N.program cells.now floor false from }
+{
+    match from {
+        Ref::Node { node, base } => {
+            let count = argument_count(loaded, node);
+            parts_end(loaded, cells, floor, node, base, count)
+        }
+        Ref::Cell(_) => false,
+        Ref::Number(_) => false,
+        Ref::Free => false,
+        Ref::Half(_) => false,
+    }
+}
+
+/// Whether each path from a reference is seen to end, by so many turns or places.
+#[inline(never)]
+fn onward_ends<N: Naming>(
     loaded: &Loaded,
     cells: &PlainCells<N>,
     floor: u32,

@@ -9,7 +9,7 @@ ghost use Rattle.and_cells.specs.Seen.{IsWrittenIfNumber, OnlyReads, Sets, word_
 ghost use Rattle.and_cells.specs.Parts.{named};
 ghost use Rattle.and_unify.specs.Pairs.{AreInRange, AreWritten};
 ghost use Rattle.and_unify.specs.Running.{arguments_of_both};
-ghost use Rattle.and_heads.specs.Entering.{Meets, ComesToParts};
+ghost use Rattle.and_heads.specs.Entering.{Meets, ComesToParts, Begins};
 ghost use Rattle.and_heads.specs.Parts.{HasShape, Puts, both_of, arguments_of_parts};
 
 use crate::arguments::enter_argument;
@@ -36,6 +36,15 @@ pub(crate) enum Entered {
     GivenUp,
 }
 
+/// How pairs begin that are to be made the same.
+#[derive(Clone, Copy, PartialEq, Eq, Debug)]
+pub(crate) enum Begun {
+    /// With this part, and those on the list.
+    At(Part),
+    /// All is told.
+    Ended(Entered),
+}
+
 /// Makes the sides of pairs the same, by so many parts at most. The cells that are set go on the list.
 pub(crate) fn enter<N: Naming>(
     loaded: &Loaded,
@@ -52,14 +61,70 @@ pub(crate) fn enter<N: Naming>(
         bound.new.items result }
 {
     parts.clear();
+    match begin(loaded, cells, pairs, bound, parts) {
+        Begun::At(part) => enter_parts(loaded, cells, part, bound, parts),
+        Begun::Ended(entered) => entered,
+    }
+}
+
+/// Finds the part with which to begin. Mostly there is one pair, which is that.
+#[inline(always)]
+fn begin<N: Naming>(
+    loaded: &Loaded,
+    cells: &mut PlainCells<N>,
+    pairs: &PairList,
+    bound: &mut Vec<u32>,
+    parts: &mut Vec<Part>,
+) -> Begun
+    requires program { N.program ≡ named loaded.now }
+    requires falls { AllFall 0 N.program.skeleton.nodes }
+    requires in_range { AreInRange N.program (length cells.old) pairs.now }
+    requires written { AreWritten (plain cells.old) pairs.now }
+    requires none { parts.old.items ≡ [] }
+    ensures { Begins N.program (plain cells.old) (plain cells.new) pairs.now parts.new.items bound.old.items
+        bound.new.items result }
+{
+    if let Some(part) = alone(loaded, cells, pairs) {
+        return Begun::At(part);
+    }
     match enter_pairs(loaded, cells, pairs, bound, parts) {
-        Entered::Done => enter_parts(loaded, cells, bound, parts),
-        Entered::Apart => Entered::Apart,
-        Entered::GivenUp => Entered::GivenUp,
+        Entered::Done => last_of(parts),
+        Entered::Apart => Begun::Ended(Entered::Apart),
+        Entered::GivenUp => Begun::Ended(Entered::GivenUp),
+    }
+}
+
+/// The one pair of a list as a part, where it is two structures of one name and number of arguments.
+#[inline(always)]
+fn alone<N: Naming>(loaded: &Loaded, cells: &PlainCells<N>, pairs: &PairList) -> Option<Part>
+    requires program { N.program ≡ named loaded.now }
+    requires falls { AllFall 0 N.program.skeleton.nodes }
+    requires in_range { AreInRange N.program (length cells.now) pairs.now }
+    requires written { AreWritten (plain cells.now) pairs.now }
+    ensures { IfSome result (λ part. (pairs.now ≡ both_of part ∷ []) × HasShape N.program (length cells.now) part) }
+{
+    if pairs.len() != 1 {
+        return None;
+    }
+    let pair = *pairs.at(0);
+    whole_of(loaded, cells, pair.left, pair.right)
+}
+
+/// Takes the last part from the list.
+#[inline(always)]
+fn last_of(parts: &mut Vec<Part>) -> Begun
+    ensures at { (part : Part) → result ≡ Begun.At part → parts.old.items ≡ parts.new.items ++ part ∷ [] }
+    ensures ended { (entered : Entered) → result ≡ Begun.Ended entered
+        → (entered ≡ Entered.Done) × (parts.old.items ≡ []) × (parts.new.items ≡ []) }
+{
+    match parts.pop() {
+        Some(part) => Begun::At(part),
+        None => Begun::Ended(Entered::Done),
     }
 }
 
 /// Meets the sides of pairs, and puts those that lead to structures on the list of parts.
+#[inline(never)]
 fn enter_pairs<N: Naming>(
     loaded: &Loaded,
     cells: &mut PlainCells<N>,
@@ -145,27 +210,33 @@ fn whole_of<N: Naming>(loaded: &Loaded, cells: &PlainCells<N>, one: Ref, other: 
     })
 }
 
-/// Meets the arguments of the structures on the list of parts, and of those that they put there.
+/// Meets the arguments of a part, of those on the list of parts, and of those that they put there.
+#[inline(always)]
 fn enter_parts<N: Naming>(
     loaded: &Loaded,
     cells: &mut PlainCells<N>,
+    first: Part,
     bound: &mut Vec<u32>,
     parts: &mut Vec<Part>,
 ) -> Entered
     requires program { N.program ≡ named loaded.now }
     requires falls { AllFall 0 N.program.skeleton.nodes }
+    requires shape { HasShape N.program (length cells.old) first }
     requires shapes { All (HasShape N.program (length cells.old)) parts.old.items }
     ensures { ComesToParts N.program (plain cells.old) (plain cells.new)
-        (arguments_of_parts N.program parts.old.items) [] bound.old.items bound.new.items result }
+        (arguments_of_both N.program (both_of first) ++ arguments_of_parts N.program parts.old.items) []
+        bound.old.items bound.new.items result }
 {
+    let mut part = first;
     for _turn in 0..MOST_PARTS {
-        let Some(part) = parts.pop() else {
-            return Entered::Done;
-        };
         match enter_arguments(loaded, cells, part, bound, parts) {
             Entered::Done => {}
             Entered::Apart => return Entered::Apart,
             Entered::GivenUp => return Entered::GivenUp,
+        }
+        match parts.pop() {
+            Some(next) => part = next,
+            None => return Entered::Done,
         }
     }
     Entered::GivenUp
@@ -189,9 +260,8 @@ fn enter_arguments<N: Naming>(
     ensures shapes { result ≡ Entered.Done → All (HasShape N.program (length cells.old)) parts.new.items }
 {
     for place in 0..argument_count(loaded, part.left.node) {
-        let left = argument_at(loaded, part.left, place);
         let right = argument_at(loaded, part.right, place);
-        match enter_argument(loaded, cells, left, right, bound, parts) {
+        match enter_argument(loaded, cells, part.left, place, right, bound, parts) {
             Entered::Done => {}
             Entered::Apart => return Entered::Apart,
             Entered::GivenUp => return Entered::GivenUp,
@@ -201,7 +271,7 @@ fn enter_arguments<N: Naming>(
 }
 
 /// Follows two references, and meets what they lead to.
-#[inline(never)]
+#[inline(always)]
 pub(crate) fn enter_ends<N: Naming>(
     loaded: &Loaded,
     cells: &mut PlainCells<N>,
@@ -311,6 +381,7 @@ pub(crate) fn compare<N: Naming>(
 }
 
 /// Puts two structures on the list of parts, unless they are one.
+#[inline(always)]
 fn put(one: Ref, other: Ref, parts: &mut Vec<Part>) -> Entered
     ensures done { result ≡ Entered.Done → Puts one other parts.old.items parts.new.items }
     ensures apart { result ≢ Entered.Apart }

@@ -137,8 +137,31 @@ impl HeadSolver {
         }
         cells.take_back(&self.bound, words);
         self.is_solved = true;
-        self.solver.settle_further(loaded, cells, floor, pairs)
+        settle_by_solver(&mut self.solver, loaded, cells, floor, pairs)
     }
+}
+
+/// The same by the solver, as is seldom needed: a call of its own, so that none of its code stands among what is done
+/// each time.
+#[inline(never)]
+fn settle_by_solver<N: Naming>(
+    solver: &mut Solver,
+    loaded: &Loaded,
+    cells: &mut PlainCells<N>,
+    floor: u32,
+    pairs: &mut PairList,
+) -> Settled
+    requires program { N.program ≡ named loaded.now }
+    requires in_range { AreInRange N.program (length cells.old) pairs.old }
+    requires written { AreWritten (plain cells.old) pairs.old }
+    requires settled { IsSettled N.program cells.old }
+    requires no_half { NameNoHalf N.program (word_at cells.old) pairs.old }
+    requires new { AreNewFrom N.program cells.old pairs.old floor }
+    ensures settles { Settles N.program cells.old cells.new pairs.old result }
+    ensures bound { HaveBeenSet cells.old cells.new solver.new }
+    ensures done { result ≡ Settled.Solved → pairs.new ≡ [] }
+{
+    solver.settle_further(loaded, cells, floor, pairs)
 }
 
 /// The same by arguments that are met one after the other, where that tells it.

@@ -13,8 +13,8 @@ enter_from-requires-clause-in_range g c =
 
 pub returns-in-Cell : goal.returns-in-Cell
 returns-in-Cell g c =
-    subst (λ r. Meets g.N.Naming.program (pair_of r (Node c.args.node c.args.base)) (plain c.args.cells.now) (plain c.enter_from.new.cells) c.args.parts.now.items
-    c.enter_from.new.parts.items c.args.bound.now.items c.enter_from.new.bound.items c.enter_from.result) (sym c.in-Cell.is) c.enter_from.ensures
+    subst (λ r. Meets g.N.Naming.program (pair_of r (Node c.args.node c.args.base)) (plain c.args.cells.now) (plain c.enter_from.new.cells)
+    c.args.parts.now.items c.enter_from.new.parts.items c.args.bound.now.items c.enter_from.new.bound.items c.enter_from.result) (sym c.in-Cell.is) c.enter_from.ensures
 
 pub ends_of_structures-requires-clause-in_range : goal.ends_of_structures-requires-clause-in_range
 ends_of_structures-requires-clause-in_range g c =
@@ -22,8 +22,9 @@ ends_of_structures-requires-clause-in_range g c =
 
 pub returns-in-Node : goal.returns-in-Node
 returns-in-Node g c =
-    subst (λ r. Meets g.N.Naming.program (pair_of r (Node c.args.node c.args.base)) (plain c.args.cells.now) (plain c.ends_of_structures.new.cells) c.args.parts.now.items
-    c.ends_of_structures.new.parts.items c.args.bound.now.items c.ends_of_structures.new.bound.items c.ends_of_structures.result) (sym c.in-Node.is) c.ends_of_structures.ensures
+    subst (λ r. Meets g.N.Naming.program (pair_of r (Node c.args.node c.args.base)) (plain c.args.cells.now) (plain c.ends_of_structures.new.cells)
+    c.args.parts.now.items c.ends_of_structures.new.parts.items c.args.bound.now.items c.ends_of_structures.new.bound.items
+    c.ends_of_structures.result) (sym c.in-Node.is) c.ends_of_structures.ensures
 
 pub returns-in_default : goal.returns-in_default
 returns-in_default g c = (reads_nothing (plain c.args.cells.now), refl)

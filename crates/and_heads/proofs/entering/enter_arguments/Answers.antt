@@ -10,6 +10,7 @@ use Rattle.and_heads.specs.Parts.{HasShape, both_of, named_by, arguments_of_part
 use Rattle.and_heads.proofs.Comparing.{pair_of}
 use Rattle.and_heads.proofs.Meeting.{first_steps, first_breaks, first_given_up}
 use Rattle.and_heads.proofs.Parting.{shapes_behind}
+use Rattle.and_heads.proofs.Placing.{part_there}
 use Rattle.and_heads.proofs.entering.enter_arguments.Goals as goal
 
 pub loop-place-init : goal.loop-place-init
@@ -24,56 +25,59 @@ argument_at-right-requires-clause-place g c =
     let below = c.loop-place-test.true in
     omega arith
 
-pub enter_argument-requires-clause-in_range : goal.enter_argument-requires-clause-in_range
-enter_argument-requires-clause-in_range g c =
+pub enter_argument-requires-clause-left_fits : goal.enter_argument-requires-clause-left_fits
+enter_argument-requires-clause-left_fits g c = λ from is.
     let t = argument_turn g.N.Naming.program (named c.args.loaded.now) (plain c.args.cells.now) (plain c.loop-place.cells) _ _ _ _ (both_of c.args.part)
-    (pair_of c.argument_at-left.result c.argument_at-right.result) (named_by c.args.part.left) (named_by c.args.part.right) c.loop-place.place
-    c.requires.program c.requires.falls c.requires.shape refl refl c.argument_at-left.ensures c.argument_at-right.ensures c.loop-place.invariant.runs in
-    (t.fit.left_in_range, t.fit.right_in_range)
+    (pair_of from c.argument_at-right.result) (named_by c.args.part.left) (named_by c.args.part.right) c.loop-place.place
+    c.requires.program c.requires.falls c.requires.shape refl refl is c.argument_at-right.ensures c.loop-place.invariant.runs in
+    (t.fit.left_in_range, t.fit.left_written)
 
-pub enter_argument-requires-clause-written : goal.enter_argument-requires-clause-written
-enter_argument-requires-clause-written g c =
+pub enter_argument-requires-clause-right_fits : goal.enter_argument-requires-clause-right_fits
+enter_argument-requires-clause-right_fits g c =
+    let below = c.loop-place-test.true in
+    let end = c.argument_count-place-end.ensures in
+    let there = part_there (named c.args.loaded.now) c.args.part.left c.loop-place.place (omega arith) in
     let t = argument_turn g.N.Naming.program (named c.args.loaded.now) (plain c.args.cells.now) (plain c.loop-place.cells) _ _ _ _ (both_of c.args.part)
-    (pair_of c.argument_at-left.result c.argument_at-right.result) (named_by c.args.part.left) (named_by c.args.part.right) c.loop-place.place
-    c.requires.program c.requires.falls c.requires.shape refl refl c.argument_at-left.ensures c.argument_at-right.ensures c.loop-place.invariant.runs in
-    (t.fit.left_written, t.fit.right_written)
+    (pair_of there.0 c.argument_at-right.result) (named_by c.args.part.left) (named_by c.args.part.right) c.loop-place.place
+    c.requires.program c.requires.falls c.requires.shape refl refl there.1 c.argument_at-right.ensures c.loop-place.invariant.runs in
+    t.fit.right_in_range
 
 pub loop-place-preserved : goal.loop-place-preserved
 loop-place-preserved g c =
     let P = g.N.Naming.program in
     let old = plain c.args.cells.now in
     let longer = c.enter_argument.new.parts.items in
-    let meets = c.in-Done.ensures in
+    let meets = c.in-Done.ensures.2 in
     let t = argument_turn g.N.Naming.program (named c.args.loaded.now) (plain c.args.cells.now) (plain c.loop-place.cells) _ _ _ _ (both_of c.args.part)
-    (pair_of c.argument_at-left.result c.argument_at-right.result) (named_by c.args.part.left) (named_by c.args.part.right) c.loop-place.place
-    c.requires.program c.requires.falls c.requires.shape refl refl c.argument_at-left.ensures c.argument_at-right.ensures c.loop-place.invariant.runs in
+    (pair_of c.in-Done.ensures.0 c.argument_at-right.result) (named_by c.args.part.left) (named_by c.args.part.right) c.loop-place.place
+    c.requires.program c.requires.falls c.requires.shape refl refl c.in-Done.ensures.1 c.argument_at-right.ensures c.loop-place.invariant.runs in
     record {
       shapes = shapes_behind P old.words c.loop-place.parts.items meets.more longer meets.gains c.loop-place.invariant.shapes
           (subst (λ n. All (HasShape P n) meets.more) t.words meets.shapes);
       runs = first_steps P old (plain c.loop-place.cells) (plain c.enter_argument.new.cells) _ _ _ _
-          (pair_of c.argument_at-left.result c.argument_at-right.result) (drop (c.loop-place.place + 1) (arguments_of_both P (both_of c.args.part)))
+          (pair_of c.in-Done.ensures.0 c.argument_at-right.result) (drop (c.loop-place.place + 1) (arguments_of_both P (both_of c.args.part)))
           c.loop-place.parts.items longer t.runs meets;
     }
 
 pub returns-in-Apart-clause-comes : goal.returns-in-Apart-clause-comes
 returns-in-Apart-clause-comes g c =
     let t = argument_turn g.N.Naming.program (named c.args.loaded.now) (plain c.args.cells.now) (plain c.loop-place.cells) _ _ _ _ (both_of c.args.part)
-    (pair_of c.argument_at-left.result c.argument_at-right.result) (named_by c.args.part.left) (named_by c.args.part.right) c.loop-place.place
-    c.requires.program c.requires.falls c.requires.shape refl refl c.argument_at-left.ensures c.argument_at-right.ensures c.loop-place.invariant.runs in
+    (pair_of c.in-Apart.ensures.0 c.argument_at-right.result) (named_by c.args.part.left) (named_by c.args.part.right) c.loop-place.place
+    c.requires.program c.requires.falls c.requires.shape refl refl c.in-Apart.ensures.1 c.argument_at-right.ensures c.loop-place.invariant.runs in
     first_breaks g.N.Naming.program (plain c.args.cells.now) (plain c.loop-place.cells) (plain c.enter_argument.new.cells) _ _ _ _
-    (pair_of c.argument_at-left.result c.argument_at-right.result)
+    (pair_of c.in-Apart.ensures.0 c.argument_at-right.result)
     (drop (c.loop-place.place + 1) (arguments_of_both g.N.Naming.program (both_of c.args.part))) c.loop-place.parts.items c.enter_argument.new.parts.items
-    t.runs c.in-Apart.ensures
+    t.runs c.in-Apart.ensures.2
 
 pub returns-in-GivenUp-clause-comes : goal.returns-in-GivenUp-clause-comes
 returns-in-GivenUp-clause-comes g c =
     let t = argument_turn g.N.Naming.program (named c.args.loaded.now) (plain c.args.cells.now) (plain c.loop-place.cells) _ _ _ _ (both_of c.args.part)
-    (pair_of c.argument_at-left.result c.argument_at-right.result) (named_by c.args.part.left) (named_by c.args.part.right) c.loop-place.place
-    c.requires.program c.requires.falls c.requires.shape refl refl c.argument_at-left.ensures c.argument_at-right.ensures c.loop-place.invariant.runs in
+    (pair_of c.in-GivenUp.ensures.0 c.argument_at-right.result) (named_by c.args.part.left) (named_by c.args.part.right) c.loop-place.place
+    c.requires.program c.requires.falls c.requires.shape refl refl c.in-GivenUp.ensures.1 c.argument_at-right.ensures c.loop-place.invariant.runs in
     first_given_up g.N.Naming.program (plain c.args.cells.now) (plain c.loop-place.cells) (plain c.enter_argument.new.cells) _ _ _ _
-    (pair_of c.argument_at-left.result c.argument_at-right.result)
+    (pair_of c.in-GivenUp.ensures.0 c.argument_at-right.result)
     (drop (c.loop-place.place + 1) (arguments_of_both g.N.Naming.program (both_of c.args.part))) c.loop-place.parts.items c.enter_argument.new.parts.items
-    t.runs c.in-GivenUp.ensures
+    t.runs c.in-GivenUp.ensures.2
 
 pub returns-clause-comes : goal.returns-clause-comes
 returns-clause-comes g c =
