@@ -95,15 +95,31 @@ two_seen P table is_of row node base look is clauses two are =
       behind = seen (two.second + 1) (length clauses) are.behind;
     }
 
--- The clauses that serve a node have prints.
-pub served_printed : (P : NamedProgram) (table : Determinacy) → IsTableOf P table → (row : List Ref) (node base : ℕ)
-    (clauses : List ClauseNo) → AreServed P row node base clauses → All (λ (c : ClauseNo). c.0 < length table.prints.items) clauses
-served_printed P table is_of row node base clauses served =
+-- Where there are two clauses at all, they are those two.
+pub two_alone : (Q : ClauseNo → Type 0) (clauses : List ClauseNo) → length clauses ≡ 2 → AreTwo Q clauses (record { first = 0; second = 1 })
+two_alone Q clauses long = record {
+  order = omega arith;
+  there = omega arith;
+  before = λ k c after low there is. omega arith;
+  between = λ k c after low there is. omega arith;
+  behind = λ k c after low there is. omega arith;
+}
+
+-- The clauses of a node's predicate have prints,
+pub of_printed : (P : NamedProgram) (table : Determinacy) → IsTableOf P table → (node : ℕ) (clauses : List ClauseNo)
+    → All (λ (c : ClauseNo). Of P.program (node_term P.skeleton.nodes node) c.0) clauses
+    → All (λ (c : ClauseNo). c.0 < length table.prints.items) clauses
+of_printed P table is_of node clauses all =
     all_of (λ (c : ClauseNo). c.0 < length table.prints.items) clauses (λ c i.
-    let of = All-contains (λ (c : ClauseNo). Of P.program (node_term P.skeleton.nodes node) c.0) clauses c served.of i in
+    let of = All-contains (λ (c : ClauseNo). Of P.program (node_term P.skeleton.nodes node) c.0) clauses c all i in
     let there = clause_there P.program (node_term P.skeleton.nodes node) c.0 of in
     let many = is_of.prints.many in
     omega arith)
+
+-- and so have those that serve it.
+pub served_printed : (P : NamedProgram) (table : Determinacy) → IsTableOf P table → (row : List Ref) (node base : ℕ)
+    (clauses : List ClauseNo) → AreServed P row node base clauses → All (λ (c : ClauseNo). c.0 < length table.prints.items) clauses
+served_printed P table is_of row node base clauses served = of_printed P table is_of node clauses served.of
 
 module _ (Q : ClauseNo → Type 0) (clauses : List ClauseNo) (from mid : ℕ) (before : NoneFrom Q clauses from mid) where
   pub none_joined : (to : ℕ) → NoneFrom Q clauses mid to → NoneFrom Q clauses from to

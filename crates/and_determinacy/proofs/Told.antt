@@ -2,7 +2,7 @@
 use Rattle.std.proofs.Common.{ℕ, ◌≡◌, ◌<◌, ◌≤◌, Bool, true, false, List, [], ◌∷◌, ◌++◌, append-nil, append_assoc, length, Option, Some, None}
 use Rattle.std.proofs.Common.{refl, sym, ap, ◌∙◌, subst, inl, inr, arith}
 use Rattle.std.specs.Prelude.{All, Contains, IfSome}
-use Rattle.std.proofs.lemmas.List.Elements.{All-nil, All-contains, All-push, All-weaker, Contains-append_left, Contains-append_cases, Contains-push}
+use Rattle.std.proofs.lemmas.List.Elements.{All-nil, All-append, All-contains, Contains-append_left, Contains-append_cases}
 use Rattle.and_model.specs.Terms.{Term}
 use Rattle.and_model.specs.Stands.{term_of}
 use Rattle.and_model.specs.declared.goal.Goal.{Goal}
@@ -13,13 +13,13 @@ use Rattle.and_program.specs.Skeletons.{node_term}
 use Rattle.and_laws.proofs.Ordered.{contains_cases, contains_none}
 use Rattle.and_cells.specs.Ranges.{NamedProgram, IsInRange}
 use Rattle.and_cells.specs.Seen.{word_at}
-use Rattle.and_branch_laws.proofs.Lists.{all_of}
+use Rattle.and_branch_laws.proofs.Lists.{all_of, all_left, all_right}
 use Rattle.and_guards.specs.Goals.{IsNodeOf}
 use Rattle.and_clause_index.specs.Served.{NodeHas, AreServed}
 use Rattle.and_determinacy.specs.Searches.{NodeKeeps, IsNextOf, IsCount}
 use Rattle.and_determinacy.specs.declared.judging.Found.{Found}
 use Rattle.and_determinacy.specs.declared.judging.Judged.TheVariants.{Several}
-use Rattle.and_determinacy.specs.Watching.{IsWatched, IsListed, StaysWhile, TwoStayWhile, HaveWhatWasSet, HadBefore, AreListed, told_if}
+use Rattle.and_determinacy.specs.Watching.{IsWatched, IsListed, IsFollowed, StaysWhile, TwoStayWhile, HaveWhatWasSet, HadBefore, AreListed, told_if}
 use Rattle.and_determinacy.proofs.Searching.{none_fewer, two_rise}
 
 -- What holds of the cells if they are told holds where they are.
@@ -33,73 +33,88 @@ pub both_told : (A B C : List ℕ → Type 0) (told : Option (List ℕ)) → ((h
 both_told A B C (Some has) follows a b = follows has a b
 both_told A B C None follows a b = tt
 
--- ---- What was set is put on two lists
+-- ---- What was set is put on a list, and what it leads to
 
-pub nothing_listed : (floor : ℕ) (visits : List Ref) (old : List ℕ) → visits ≡ [] → AreListed [] floor visits old old
-nothing_listed floor visits old none = record {
-  gained = [];
-  longer = sym (append-nil old);
-  only = subst (All (λ (r : Ref). (b : ℕ) × Contains [] b × (r ≡ Cell b))) (sym none) (All-nil (λ (r : Ref). (b : ℕ) × Contains [] b × (r ≡ Cell b)));
-  all = λ b c low. absurd (contains_none b c);
-}
+module _ (P : NamedProgram) (row : List Ref) (floor : ℕ) where
+  pub nothing_listed : (visits : List Ref) (old : List ℕ) → visits ≡ [] → AreListed P row [] floor visits old old
+  nothing_listed visits old none = record {
+    gained = [];
+    longer = sym (append-nil old);
+    here = λ b c low. absurd (contains_none b c);
+    suffices = record {
+      in_range = subst (All (IsInRange P (length row))) (sym none) (All-nil (IsInRange P (length row)));
+      owes = λ cells sub all b c low. absurd (contains_none b c);
+    };
+  }
 
-module _ (bound : List ℕ) (floor : ℕ) (visits : List Ref) (old new : List ℕ) (are : AreListed bound floor visits old new) (cell : ℕ) where
-  -- what is on the list of visits is from the longer list
-  only_more : All (λ (r : Ref). (b : ℕ) × Contains (bound ++ cell ∷ []) b × (r ≡ Cell b)) visits
-  only_more =
-      All-weaker (λ (r : Ref). (b : ℕ) × Contains bound b × (r ≡ Cell b)) (λ (r : Ref). (b : ℕ) × Contains (bound ++ cell ∷ []) b × (r ≡ Cell b))
-      (λ r is. (is.0, Contains-append_left bound (cell ∷ []) is.0 is.1, is.2)) visits are.only
-
-  pub past_listed : floor ≤ cell → AreListed (bound ++ cell ∷ []) floor visits old new
-  past_listed past = record {
-    gained = are.gained;
-    longer = are.longer;
-    only = only_more;
-    all = λ b c low. elim (Contains-append_cases bound (cell ∷ []) b c) [
-      | inl before ↦ are.all b before low
+  module _ (bound : List ℕ) (visits : List Ref) (old new : List ℕ) (are : AreListed P row bound floor visits old new) (cell : ℕ) where
+    -- a cell below the floor is none of those past it
+    was_there : floor ≤ cell → (b : ℕ) → Contains (bound ++ cell ∷ []) b → b < floor → Contains bound b
+    was_there past b c low = elim (Contains-append_cases bound (cell ∷ []) b c) [
+      | inl before ↦ before
       | inr last ↦ elim (contains_cases cell b [] last) [ inl e ↦ absurd (omega arith) | inr none ↦ absurd (contains_none b none) ]
-    ];
-  }
+    ]
 
-  pub one_listed : (newer : List ℕ) (more : List Ref) → IsListed cell 0 new newer → more ≡ visits ++ Cell cell ∷ []
-      → AreListed (bound ++ cell ∷ []) floor more old newer
-  one_listed newer more l put = record {
-    gained = are.gained ++ l.gained;
-    longer = l.longer ∙ ap (λ (xs : List ℕ). xs ++ l.gained) are.longer ∙ append_assoc old are.gained l.gained;
-    only = subst (All (λ (r : Ref). (b : ℕ) × Contains (bound ++ cell ∷ []) b × (r ≡ Cell b))) (sym put)
-        (All-push (λ (r : Ref). (b : ℕ) × Contains (bound ++ cell ∷ []) b × (r ≡ Cell b)) visits (Cell cell) only_more
-        (cell, Contains-push bound cell, refl));
-    all = λ b c low. elim (Contains-append_cases bound (cell ∷ []) b c) [
-      | inl before ↦ let both = are.all b before low in (
-        subst (λ (xs : List ℕ). Contains xs b) (sym l.longer) (Contains-append_left new l.gained b both.0),
-        subst (λ (rs : List Ref). Contains rs (Cell b)) (sym put) (Contains-append_left visits (Cell cell ∷ []) (Cell b) both.1),
-      )
-      | inr last ↦ elim (contains_cases cell b [] last) [
-        | inl e ↦ (
-          subst (λ (x : ℕ). Contains newer x) (sym e) l.there,
-          subst (λ (x : ℕ). Contains more (Cell x)) (sym e) (subst (λ (rs : List Ref). Contains rs (Cell cell)) (sym put) (Contains-push visits (Cell cell))),
-        )
-        | inr none ↦ absurd (contains_none b none)
-      ]
-    ];
-  }
+    pub past_listed : floor ≤ cell → AreListed P row (bound ++ cell ∷ []) floor visits old new
+    past_listed past = record {
+      gained = are.gained;
+      longer = are.longer;
+      here = λ b c low. are.here b (was_there past b c low) low;
+      suffices = record {
+        in_range = are.suffices.in_range;
+        owes = λ cells sub all b c low. are.suffices.owes cells sub all b (was_there past b c low) low;
+      };
+    }
+
+    module _ (mid newer : List ℕ) (more : List Ref) (l : IsListed cell 0 new mid) (f : IsFollowed P row floor 0 (Cell cell) visits more mid newer) where
+      -- what was on the list is on it still
+      was_kept : (x : ℕ) → Contains new x → Contains newer x
+      was_kept x c =
+          subst (λ (xs : List ℕ). Contains xs x) (sym f.listed) (Contains-append_left mid f.gained x
+          (subst (λ (xs : List ℕ). Contains xs x) (sym l.longer) (Contains-append_left new l.gained x c)))
+
+      pub one_listed : AreListed P row (bound ++ cell ∷ []) floor more old newer
+      one_listed = record {
+        gained = (are.gained ++ l.gained) ++ f.gained;
+        longer = f.listed ∙ ap (λ (xs : List ℕ). xs ++ f.gained)
+            (l.longer ∙ ap (λ (xs : List ℕ). xs ++ l.gained) are.longer ∙ append_assoc old are.gained l.gained)
+            ∙ append_assoc old (are.gained ++ l.gained) f.gained;
+        here = λ b c low. elim (Contains-append_cases bound (cell ∷ []) b c) [
+          | inl before ↦ was_kept b (are.here b before low)
+          | inr last ↦ elim (contains_cases cell b [] last) [
+            | inl e ↦ subst (λ (x : ℕ). Contains newer x) (sym e)
+                (subst (λ (xs : List ℕ). Contains xs cell) (sym f.listed) (Contains-append_left mid f.gained cell l.there))
+            | inr none ↦ absurd (contains_none b none)
+          ]
+        ];
+        suffices = record {
+          in_range = subst (All (IsInRange P (length row))) (sym f.put)
+              (All-append (IsInRange P (length row)) visits f.more are.suffices.in_range f.suffices.in_range);
+          owes = λ cells sub all b c low.
+              let both = subst (All (IsWatched P row floor cells)) f.put all in
+              elim (Contains-append_cases bound (cell ∷ []) b c) [
+                | inl before ↦
+                    are.suffices.owes cells (λ x i. sub x (was_kept x i)) (all_left (IsWatched P row floor cells) visits f.more both) b before low
+                | inr last ↦ elim (contains_cases cell b [] last) [
+                  | inl e ↦ subst (λ (x : ℕ). IsWatched P row floor cells (Cell x)) (sym e)
+                      (f.suffices.owes cells sub (all_right (IsWatched P row floor cells) visits f.more both))
+                  | inr none ↦ absurd (contains_none b none)
+                ]
+              ];
+        };
+      }
 
 -- ---- and what they hold is gathered
 
 module _ (P : NamedProgram) (row : List Ref) (floor : ℕ) (bound had listed : List ℕ) (visits : List Ref)
-    (are : AreListed bound floor visits had listed) where
-  pub listed_in_range : All (λ (cell : ℕ). cell < length row) bound → All (IsInRange P (length row)) visits
-  listed_in_range below =
-      all_of (IsInRange P (length row)) visits (λ r c.
-      let is = All-contains (λ (r : Ref). (b : ℕ) × Contains bound b × (r ≡ Cell b)) visits r are.only c in
-      subst (IsInRange P (length row)) (sym is.2) (All-contains (λ (cell : ℕ). cell < length row) bound is.0 below is.1))
-
+    (are : AreListed P row bound floor visits had listed) where
   module _ (cells gained : List ℕ) (longer : cells ≡ listed ++ gained) where
     pub set_gathered : All (IsWatched P row floor cells) visits → HaveWhatWasSet P row floor bound cells
     set_gathered all b c low =
-        let both = are.all b c low in (
-          subst (λ (xs : List ℕ). Contains xs b) (sym longer) (Contains-append_left listed gained b both.0),
-          λ v held free below. All-contains (IsWatched P row floor cells) visits (Cell b) all both.1 v held free below,
+        let sub : (x : ℕ) → Contains listed x → Contains cells x =
+        λ x i. subst (λ (xs : List ℕ). Contains xs x) (sym longer) (Contains-append_left listed gained x i) in (
+          sub b (are.here b c low),
+          λ v held free below. are.suffices.owes cells sub all b c low v held free below,
         )
 
     pub had_before : (told : Option (List ℕ)) → told ≡ Some had → HadBefore told cells

@@ -1,5 +1,5 @@
 -- The cells that are gathered from a term, place by place.
-use Rattle.std.proofs.Common.{ℕ, ◌+◌, ◌≡◌, ◌≢◌, ◌≤◌, ◌<◌, ◌⊎◌, false, true≢false, List, [], ◌∷◌, ◌++◌, append-nil, length, map, drop}
+use Rattle.std.proofs.Common.{ℕ, ◌+◌, ◌≡◌, ◌≢◌, ◌≤◌, ◌<◌, ◌⊎◌, false, true≢false, List, [], ◌∷◌, ◌++◌, append-nil, append_assoc, length, map, drop}
 use Rattle.std.proofs.Common.{refl, sym, ap, ◌∙◌, subst, inl, inr, arith}
 use Rattle.std.specs.Prelude.{All, Contains}
 use Rattle.std.proofs.lemmas.List.{drop-append-le}
@@ -25,9 +25,8 @@ use Rattle.and_cells.specs.Parts.{part_at, parts_of}
 use Rattle.and_cell_laws.proofs.Circles.{shape_is_no_variable}
 use Rattle.and_cell_laws.proofs.Images.{contains_image}
 use Rattle.and_cell_laws.proofs.Structures.{node_term_shape}
-use Rattle.and_unify.proofs.TurnParts.{part_in_range}
-use Rattle.and_branch_laws.proofs.Lists.{all_of, all_left, all_right}
-use Rattle.and_determinacy.specs.Watching.{IsWatched, Suffice, IsListed, IsFollowed}
+use Rattle.and_branch_laws.proofs.Lists.{all_left, all_right}
+use Rattle.and_determinacy.specs.Watching.{IsWatched, Suffice, IsListed, IsFollowed, AreFollowed, IsPutIfParted}
 
 -- ---- What a reference holds
 
@@ -228,19 +227,70 @@ module _ (P : NamedProgram) (row : List Ref) (floor begun : ℕ) where
     };
   }
 
-  -- and a structure where its parts are.
-  pub parts_followed : AllFall 0 P.skeleton.nodes → (node : NodeNo) (base : ℕ) (visits new : List Ref) (listed : List ℕ)
-      → IsInRange P (length row) (Node node base) → new ≡ visits ++ parts_of P (Node node base)
-      → IsFollowed P row floor begun (Node node base) visits new listed listed
-  parts_followed fall node base visits new listed fits put = record {
-    more = parts_of P (Node node base);
-    put = put;
+  module _ (fall : AllFall 0 P.skeleton.nodes) (node : NodeNo) (base : ℕ) (fits : IsInRange P (length row) (Node node base)) where
+    -- a structure where it is visited or has no parts,
+    pub structure_put : (visits new : List Ref) (listed : List ℕ) → IsPutIfParted P (Node node base) visits new
+        → IsFollowed P row floor begun (Node node base) visits new listed listed
+    structure_put visits new listed (inl put) = record {
+      more = Node node base ∷ [];
+      put = put;
+      gained = [];
+      listed = sym (append-nil listed);
+      suffices = record {
+        in_range = All-cons (IsInRange P (length row)) (Node node base) [] fits (All-nil (IsInRange P (length row)));
+        owes = λ cells sub all. All-head (IsWatched P row floor cells) (Node node base) [] all;
+      };
+    }
+    structure_put visits new listed (inr same) = record {
+      more = [];
+      put = same.0 ∙ sym (append-nil visits);
+      gained = [];
+      listed = sym (append-nil listed);
+      suffices = nothing_put listed (λ cells. IsWatched P row floor cells (Node node base)) (λ cells sub.
+          parts_watched P fall row floor cells (length row) node base fits
+          (subst (All (IsWatched P row floor cells)) (sym same.1) (All-nil (IsWatched P row floor cells))));
+    }
+
+    -- and one where its parts are followed.
+    pub structure_followed : (visits new : List Ref) (had has : List ℕ) → AreFollowed P row floor begun (parts_of P (Node node base)) visits new had has
+        → IsFollowed P row floor begun (Node node base) visits new had has
+    structure_followed visits new had has are = record {
+      more = are.more;
+      put = are.put;
+      gained = are.gained;
+      listed = are.listed;
+      suffices = record {
+        in_range = are.suffices.in_range;
+        owes = λ cells sub all. parts_watched P fall row floor cells (length row) node base fits (are.suffices.owes cells sub all);
+      };
+    }
+
+  -- Places are followed one after the other.
+  pub none_followed : (visits : List Ref) (listed : List ℕ) → AreFollowed P row floor begun [] visits visits listed listed
+  none_followed visits listed = record {
+    more = [];
+    put = sym (append-nil visits);
     gained = [];
     listed = sym (append-nil listed);
+    suffices = nothing_put listed (λ cells. All (IsWatched P row floor cells) []) (λ cells sub. All-nil (IsWatched P row floor cells));
+  }
+
+  pub one_followed : (places : List Ref) (at : Ref) (old mid new : List Ref) (had hid has : List ℕ) → begun ≤ length hid
+      → AreFollowed P row floor begun places old mid had hid → IsFollowed P row floor begun at mid new hid has
+      → AreFollowed P row floor begun (places ++ at ∷ []) old new had has
+  one_followed places at old mid new had hid has low are step = record {
+    more = are.more ++ step.more;
+    put = step.put ∙ ap (λ (rs : List Ref). rs ++ step.more) are.put ∙ append_assoc old are.more step.more;
+    gained = are.gained ++ step.gained;
+    listed = step.listed ∙ ap (λ (xs : List ℕ). xs ++ step.gained) are.listed ∙ append_assoc had are.gained step.gained;
     suffices = record {
-      in_range = all_of (IsInRange P (length row)) (parts_of P (Node node base))
-          (λ r c. part_in_range P (length row) (Node node base) r fall fits c);
-      owes = λ cells sub all. parts_watched P fall row floor cells (length row) node base fits all;
+      in_range = All-append (IsInRange P (length row)) are.more step.more are.suffices.in_range step.suffices.in_range;
+      owes = λ cells sub all.
+          All-push (IsWatched P row floor cells) places at
+          (are.suffices.owes cells (λ cell c. sub cell
+          (subst (λ (l : List ℕ). Contains (drop begun l) cell) (sym step.listed) (stays_listed begun hid step.gained cell c low)))
+          (all_left (IsWatched P row floor cells) are.more step.more all))
+          (step.suffices.owes cells sub (all_right (IsWatched P row floor cells) are.more step.more all));
     };
   }
 

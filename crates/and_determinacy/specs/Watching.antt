@@ -1,6 +1,6 @@
 -- What is judged of a goal while some cells are free.
-use Rattle.std.specs.Prelude.{ℕ, ◌≡◌, ◌≢◌, ◌<◌, ◌≤◌, ◌++◌, List, length, drop, All, Contains, Bool, true, false}
-use Rattle.std.specs.Prelude.{Option, Some, None}
+use Rattle.std.specs.Prelude.{ℕ, ◌≡◌, ◌≢◌, ◌<◌, ◌++◌, ◌⊎◌, ◌∷◌, [], List, length, drop, All, Contains}
+use Rattle.std.specs.Prelude.{Bool, true, false, Option, Some, None}
 use Rattle.and_model.specs.Terms.{Term}
 use Rattle.and_model.specs.Candidates.{Candidate}
 use Rattle.and_model.specs.Stands.{term_of}
@@ -8,6 +8,7 @@ use Rattle.and_model.specs.declared.goal.Goal.{Goal}
 use Rattle.and_model.specs.declared.reference.Ref.{Ref}
 use Rattle.and_model.specs.declared.reference.Ref.TheVariants.{Free, Cell}
 use Rattle.and_cells.specs.Ranges.{NamedProgram, IsInRange}
+use Rattle.and_cells.specs.Parts.{parts_of}
 use Rattle.and_cells.specs.Rows.{IsSound}
 use Rattle.and_cells.specs.Seen.{word_at, Grows, AreFree}
 use Rattle.and_cells.specs.Meaning.{IsSettled, Holds, equations_of}
@@ -63,6 +64,19 @@ pub record IsFollowed (P : NamedProgram) (row : List Ref) (floor begun : ℕ) (a
   pub listed : has ≡ had ++ gained
   pub suffices : Suffice P row floor begun has more (λ cells. IsWatched P row floor cells at)
 
+-- The same of what is to be watched at several places.
+pub record AreFollowed (P : NamedProgram) (row : List Ref) (floor begun : ℕ) (places old new : List Ref)
+    (had has : List ℕ) : Type 0 where
+  pub more : List Ref
+  pub put : new ≡ old ++ more
+  pub gained : List ℕ
+  pub listed : has ≡ had ++ gained
+  pub suffices : Suffice P row floor begun has more (λ cells. All (IsWatched P row floor cells) places)
+
+-- The structure was put on the list, or has no parts.
+abbrev pub IsPutIfParted : NamedProgram → Ref → (old new : List Ref) → Type 0
+IsPutIfParted P at old new = (new ≡ old ++ at ∷ []) ⊎ ((new ≡ old) × (parts_of P at ≡ []))
+
 -- ---- After a trial that fitted
 
 -- Among the cells are each below the floor that was set, and each free one below it that what it is set to holds.
@@ -80,9 +94,12 @@ told_if false cells = None
 abbrev pub HadBefore : Option (List ℕ) → List ℕ → Type 0
 HadBefore told cells = (had : List ℕ) × (told ≡ Some had) × ((cell : ℕ) → Contains had cell → Contains cells cell)
 
--- Each cell of a list below the floor is on both lists, of which one gained nothing else.
-pub record AreListed (bound : List ℕ) (floor : ℕ) (visits : List Ref) (old new : List ℕ) : Type 0 where
+-- Each cell of a list below the floor is on another list, and what is to be watched at it was put on that or on the
+-- list of visits, which had nothing.
+pub record AreListed (P : NamedProgram) (row : List Ref) (bound : List ℕ) (floor : ℕ) (visits : List Ref)
+    (old new : List ℕ) : Type 0 where
   pub gained : List ℕ
   pub longer : new ≡ old ++ gained
-  pub only : All (λ (r : Ref). (b : ℕ) × Contains bound b × (r ≡ Cell b)) visits
-  pub all : (b : ℕ) → Contains bound b → b < floor → Contains new b × Contains visits (Cell b)
+  pub here : (b : ℕ) → Contains bound b → b < floor → Contains new b
+  pub suffices : Suffice P row floor 0 new visits (λ cells. (b : ℕ) → Contains bound b → b < floor
+      → IsWatched P row floor cells (Cell b))

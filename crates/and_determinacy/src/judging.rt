@@ -146,8 +146,47 @@ fn next_candidate<N: Naming>(
     Ok(None)
 }
 
-/// Tells whether one or more of these clauses are candidates of a call. The first is given that is one, and a place
-/// before which no other is. It stops at the second that it finds. The cells are as before. An error is want of memory.
+/// The same, where the clause at the place was seen not to be told apart from the call.
+fn next_of_left<N: Naming>(
+    table: &Determinacy,
+    loaded: &Loaded,
+    cells: &mut PlainCells<N>,
+    node: NodeNo,
+    base: u32,
+    clauses: &[ClauseNo],
+    from: usize,
+    trials: &mut Trials,
+) -> Result<Option<Found>, AllocError>
+    requires program { N.program ≡ named loaded.now }
+    requires table { IsTableOf N.program table.now }
+    requires settled { IsSettled N.program cells.old }
+    requires short { length cells.old ≤ MAX_LIMIT }
+    requires node { CanBeRead N.program cells.old base node.0 }
+    requires clauses { All (λ (c : ClauseNo). Of N.program.program (node_term N.program.skeleton.nodes node.0) c.0)
+        clauses.now }
+    requires look { IsLook N.program cells.old node.0 base trials.old.look }
+    requires there { from < length clauses.now }
+    ensures some { (found : Found) → result ≡ Ok (Some found)
+        → IsNextOf (NodeHas N.program cells.old node.0 base) clauses.now from found }
+    ensures none { result ≡ Ok None
+        → NoneFrom (NodeHas N.program cells.old node.0 base) clauses.now from (length clauses.now) }
+    ensures unchanged { cells.new ≡ cells.old }
+    ensures look { trials.new.look ≡ trials.old.look }
+    ensures before { (found : Found) → result ≡ Ok (Some found) → IfSome trials.new.rests (HadBefore trials.old.rests) }
+    ensures stays { (found : Found) → result ≡ Ok (Some found) → IfSome trials.new.rests (λ has.
+        StaysWhile N.program cells.old base (node_term N.program.skeleton.nodes node.0) has found.clause.0) }
+{
+    let clause = clauses[from];
+    let behind = from + 1;
+    if trials.fits_left(loaded, cells, node, base, clause)? {
+        return Ok(Some(Found { clause, behind }));
+    }
+    next_candidate(table, loaded, cells, node, base, clauses, behind, trials)
+}
+
+/// Tells whether one or more of these clauses are candidates of a call. The first is given that is one, and the place
+/// of the next that a look leaves, before which no other is. It stops at the second that it finds. The cells are as
+/// before. An error is want of memory.
 fn judge_besides<N: Naming>(
     table: &Determinacy,
     loaded: &Loaded,
@@ -172,12 +211,13 @@ fn judge_besides<N: Naming>(
         StaysWhile N.program cells.old base (node_term N.program.skeleton.nodes node.0) has one.clause.0) }
     requires behind { one.behind ≤ from }
     requires between { NoneFrom (NodeHas N.program cells.old node.0 base) clauses.now one.behind from }
+    requires there { from < length clauses.now }
     ensures count { IfOk result (IsCount (NodeHas N.program cells.old node.0 base) clauses.now 0) }
     ensures stay { result ≡ Ok Judged.Several → IfSome trials.new.rests (λ has.
         IsCount (NodeKeeps N.program cells.old node.0 base has) clauses.now 0 Judged.Several) }
     ensures unchanged { cells.new ≡ cells.old }
 {
-    match next_candidate(table, loaded, cells, node, base, clauses, from, trials)? {
+    match next_of_left(table, loaded, cells, node, base, clauses, from, trials)? {
         None => Ok(Judged::One(one.clause)),
         Some(_) => Ok(Judged::Several),
     }
@@ -207,9 +247,12 @@ fn judge_all<N: Naming>(
 {
     match next_candidate(table, loaded, cells, node, base, clauses, 0, trials)? {
         None => Ok(Judged::Nothing),
-        Some(one) => judge_besides(
-            table, loaded, cells, node, base, clauses, one, one.behind, trials,
-        ),
+        Some(one) => match next_left(table, &trials.look, clauses, one.behind) {
+            None => Ok(Judged::One(one.clause)),
+            Some(next) => judge_besides(
+                table, loaded, cells, node, base, clauses, one, next, trials,
+            ),
+        },
     }
 }
 
@@ -307,6 +350,7 @@ fn narrowed_to(clauses: &[ClauseNo]) -> Narrowed
 }
 
 /// The same as [`narrow`] of a goal whose node and clauses are given.
+#[inline(never)]
 fn narrow_by_prints<N: Naming>(
     table: &Determinacy,
     loaded: &Loaded,
@@ -368,7 +412,7 @@ fn narrow_from<N: Naming>(
         match next_left(table, &trials.look, clauses, behind) {
             None => return Ok(Narrowed::AtMost(clause)),
             Some(next) => {
-                if trials.fits(table, loaded, cells, node, goal.base, clause)? {
+                if trials.fits_left(loaded, cells, node, goal.base, clause)? {
                     let one = Found { clause, behind };
                     let judged = judge_besides(
                         table, loaded, cells, node, goal.base, clauses, one, next, trials,
@@ -457,8 +501,8 @@ pub fn candidates_of<N: Naming>(
     pick(table, loaded, cells, goal, node, clauses, trials, out)
 }
 
-/// The same of a goal that was judged to have two candidates or more. Where a look at it leaves two
-/// clauses alone, they are these, and neither is tried again.
+/// The same of a goal that was judged to have two candidates or more. Where two clauses alone serve it, or a
+/// look at it leaves two, they are these, and neither is tried again.
 pub fn candidates_of_several<N: Naming>(
     table: &Determinacy,
     loaded: &Loaded,
@@ -478,8 +522,39 @@ pub fn candidates_of_several<N: Naming>(
 {
     clear(out);
     let node = node_of(loaded, cells, goal);
-    trials.look_at(table, loaded, cells, node, goal.base);
+    trials.look_at_first(loaded, cells, node, goal.base);
     let clauses = clauses_to_try(table, cells, &trials.look, node, goal.base);
+    if clauses.len() == 2 {
+        put(out, clauses[0])?;
+        return put(out, clauses[1]);
+    }
+    several_by_prints(table, loaded, cells, goal, node, clauses, trials, out)
+}
+
+/// The same, where the node and the clauses are given, and the list is empty.
+#[inline(never)]
+fn several_by_prints<N: Naming>(
+    table: &Determinacy,
+    loaded: &Loaded,
+    cells: &mut PlainCells<N>,
+    goal: Goal,
+    node: NodeNo,
+    clauses: &[ClauseNo],
+    trials: &mut Trials,
+    out: &mut ClauseList,
+) -> Result<(), AllocError>
+    requires program { N.program ≡ named loaded.now }
+    requires table { IsTableOf N.program table.now }
+    requires settled { IsSettled N.program cells.old }
+    requires short { length cells.old ≤ MAX_LIMIT }
+    requires node { IsNodeOf N.program cells.old goal node.0 }
+    requires served { AreServed N.program cells.old node.0 goal.base clauses.now }
+    requires several { IsJudged N.program cells.old goal Judged.Several }
+    requires empty { out.old ≡ [] }
+    ensures candidates { OnOk result (AreCandidates N.program cells.old goal out.new) }
+    ensures unchanged { cells.new ≡ cells.old }
+{
+    trials.look_at_all(loaded, cells, node, goal.base);
     match two_left(table, &trials.look, clauses) {
         Some(two) => {
             put(out, clauses[two.first])?;

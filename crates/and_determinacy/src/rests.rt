@@ -8,7 +8,7 @@ ghost use Rattle.and_program.specs.Skeletons.{AllFall};
 ghost use Rattle.and_cells.specs.Parts.{named};
 ghost use Rattle.and_determinacy.specs.Watching.{HaveWhatWasSet, HadBefore, AreListed};
 
-use crate::watching::{MOST_PLACES, gather, list_cell};
+use crate::watching::{MOST_PLACES, follow_cell, gather, list_cell};
 use and_cells::{Naming, PlainCells};
 use and_model::{ClauseNo, Ref};
 use and_program::Loaded;
@@ -109,27 +109,40 @@ impl Rests {
             return Ok(());
         }
         self.visits.clear();
-        list_below(bound, floor, &mut self.visits, &mut self.cells)?;
+        list_below(
+            loaded,
+            cells,
+            bound,
+            floor,
+            &mut self.visits,
+            &mut self.cells,
+        )?;
         self.are_told = gather(loaded, cells, floor, 0, &mut self.visits, &mut self.cells)?;
         Ok(())
     }
 }
 
-/// Puts those of these cells that are below the floor on two lists, on the one of which none stands
-/// twice. An error is want of memory.
-fn list_below(
+/// Puts those of these cells that are below the floor on a list, on which none stands twice, and what else they lead
+/// to on that of visits. An error is want of memory.
+#[inline(always)]
+fn list_below<N: Naming>(
+    loaded: &Loaded,
+    cells: &PlainCells<N>,
     bound: &[u32],
     floor: u32,
     visits: &mut Vec<Ref>,
     out: &mut Vec<u32>,
 ) -> Result<(), AllocError>
-    requires { visits.old.items ≡ [] }
-    ensures { OnOk result (AreListed bound.now floor visits.new.items out.old.items out.new.items) }
+    requires program { N.program ≡ named loaded.now }
+    requires falls { AllFall 0 N.program.skeleton.nodes }
+    requires in_row { All (λ (cell : ℕ). cell < length cells.now) bound.now }
+    requires empty { visits.old.items ≡ [] }
+    ensures { OnOk result (AreListed N.program cells.now bound.now floor visits.new.items out.old.items out.new.items) }
 {
     for cell in bound {
         if *cell < floor {
             list_cell(*cell, 0, out)?;
-            visits.push(Ref::Cell(*cell))?;
+            follow_cell(loaded, cells, *cell, floor, 0, visits, out)?;
         }
     }
     Ok(())

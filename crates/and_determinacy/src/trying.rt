@@ -152,6 +152,34 @@ impl Trials {
         self.tools
             .fits(loaded, cells, node, base, clause, &mut self.rests)
     }
+
+    /// The same of a clause that was seen not to be told apart, without another look at its print.
+    pub(crate) fn fits_left<N: Naming>(
+        &mut self,
+        loaded: &Loaded,
+        cells: &mut PlainCells<N>,
+        node: NodeNo,
+        base: u32,
+        clause: ClauseNo,
+    ) -> Result<bool, AllocError>
+        requires program { N.program ≡ named loaded.now }
+        requires settled { IsSettled N.program cells.old }
+        requires short { length cells.old ≤ MAX_LIMIT }
+        requires node { CanBeRead N.program cells.old base node.0 }
+        requires of { Of N.program.program (node_term N.program.skeleton.nodes node.0) clause.0 }
+        ensures fits { (b : Bool) → result ≡ Ok b
+            → (b ≡ true) ↔ Candidate N.program.program (equations_of N.program cells.old) outside
+            (placed base (node_term N.program.skeleton.nodes node.0)) clause.0 }
+        ensures unchanged { cells.new ≡ cells.old }
+        ensures look { self.new.look ≡ self.old.look }
+        ensures before { result ≡ Ok true → IfSome self.new.rests (HadBefore self.old.rests) }
+        ensures stays { result ≡ Ok true → IfSome self.new.rests (λ has.
+            StaysWhile N.program cells.old base (node_term N.program.skeleton.nodes node.0) has clause.0) }
+        ensures same { result ≡ Ok false → self.new.rests ≡ self.old.rests }
+    {
+        self.tools
+            .fits(loaded, cells, node, base, clause, &mut self.rests)
+    }
 }
 
 /// What clauses are tried with.
@@ -281,10 +309,11 @@ impl Tools {
     {
         let floor = cells.len();
         let call = loaded.resolve(node, base);
+        let variables = u32::from(loaded.variables(clause));
         let head = loaded.resolve(loaded.head(clause), floor);
         self.pairs.clear();
         self.pairs.push(call, head)?;
-        cells.extend(1 + u32::from(loaded.variables(clause)))?;
+        cells.extend(1 + variables)?;
         let _words = cells.len();
         Ok(floor)
     }

@@ -1,4 +1,4 @@
-use Rattle.std.proofs.Common.{ℕ, ◌≡◌, ◌<◌, ◌++◌, List, length, sym, ap, ◌∙◌, subst}
+use Rattle.std.proofs.Common.{ℕ, ◌≡◌, ◌<◌, List, length, sym, ap, ◌∙◌, subst}
 use Rattle.and_model.specs.Store.{is_half}
 use Rattle.and_model.specs.declared.numbers.NodeNo.{NodeNo}
 use Rattle.and_model.specs.declared.reference.Ref.{Ref}
@@ -6,9 +6,9 @@ use Rattle.and_model.specs.declared.reference.Ref.TheVariants.{Free, Cell, Node,
 use Rattle.and_cells.specs.Ranges.{NamedProgram, IsInRange, CanHold}
 use Rattle.and_cells.specs.Rows.{IsSound}
 use Rattle.and_cells.specs.Seen.{word_at}
-use Rattle.and_cells.specs.Parts.{parts_of}
+use Rattle.and_determinacy.specs.Watching.{IsPutIfParted}
 use Rattle.and_determinacy.proofs.Watched.{number_holds, half_holds, free_followed, past_followed, ended_followed, set_followed, through_followed}
-use Rattle.and_determinacy.proofs.Watched.{parts_followed}
+use Rattle.and_determinacy.proofs.Watched.{structure_put}
 use Rattle.and_determinacy.proofs.watching.follow_cell.Goals as goal
 
 -- a structure to which a cell is set is in range
@@ -32,34 +32,27 @@ returns-in_ok-push-in-Cell g c =
     c.push.new.self.items c.args.out.now.items c.requires.in_range (sym c.word-word.ensures.value)
     (λ e. let both : Cell c.in-Cell.field-0 ≡ Free = sym c.in-Cell.is ∙ e in cc) (ap is_half c.in-Cell.is) c.in_ok-push-in-Cell.ensures.items
 
-pub put_parts-requires-clause-there : goal.put_parts-requires-clause-there
-put_parts-requires-clause-there g c =
+pub put_structure-requires : goal.put_structure-requires
+put_structure-requires g c =
     let P = g.N.Naming.program in
     let fits = fits_at P c.args.cells.now c.args.cell c.word-word.result c.in-Node.node c.in-Node.base c.word-word.ensures.sound c.word-word.ensures.value
     c.in-Node.is in
     subst (λ (Q : NamedProgram). c.in-Node.node.0 < length Q.skeleton.nodes) c.requires.program fits.0.there
 
-pub put_parts-requires-clause-base : goal.put_parts-requires-clause-base
-put_parts-requires-clause-base g c =
-    let P = g.N.Naming.program in
-    let fits = fits_at P c.args.cells.now c.args.cell c.word-word.result c.in-Node.node c.in-Node.base c.word-word.ensures.sound c.word-word.ensures.value
-    c.in-Node.is in
-    fits.0.base_below
-
-pub returns-in_ok-put_parts-in-Node : goal.returns-in_ok-put_parts-in-Node
-returns-in_ok-put_parts-in-Node g c =
+pub returns-in_ok-put_structure-in-Node : goal.returns-in_ok-put_structure-in-Node
+returns-in_ok-put_structure-in-Node g c =
     let P = g.N.Naming.program in
     let row = c.args.cells.now in
     let visits = c.args.visits.now.items in
-    let new = c.put_parts.new.visits.items in
+    let new = c.put_structure.new.visits.items in
     let listed = c.args.out.now.items in
     let at = Node c.in-Node.node c.in-Node.base in
     let fits = fits_at P row c.args.cell c.word-word.result c.in-Node.node c.in-Node.base c.word-word.ensures.sound c.word-word.ensures.value c.in-Node.is in
-    let put : new ≡ visits ++ parts_of P at =
-    subst (λ (Q : NamedProgram). new ≡ visits ++ parts_of Q at) (sym c.requires.program) c.in_ok-put_parts-in-Node.ensures in
+    let put : IsPutIfParted P at visits new =
+    subst (λ (Q : NamedProgram). IsPutIfParted Q at visits new) (sym c.requires.program) c.in_ok-put_structure-in-Node.ensures in
     through_followed P row c.args.floor c.args.begun c.args.cell at visits new listed listed (sym c.word-word.ensures.value ∙ c.in-Node.is)
     (λ e. let both : at ≡ Free = e in cc)
-    (parts_followed P row c.args.floor c.args.begun c.requires.falls c.in-Node.node c.in-Node.base visits new listed fits put)
+    (structure_put P row c.args.floor c.args.begun c.requires.falls c.in-Node.node c.in-Node.base fits visits new listed put)
 
 pub returns-in-Number : goal.returns-in-Number
 returns-in-Number g c =

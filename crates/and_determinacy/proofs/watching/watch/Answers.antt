@@ -47,8 +47,8 @@ resolve-root-requires-clause-base g c =
     (sym c.requires.program) c.call_at.ensures) in
     node.reads.in_range.base_below
 
-pub gather-requires-clause-in_range : goal.gather-requires-clause-in_range
-gather-requires-clause-in_range g c =
+pub gather_apart-requires-clause-in_range : goal.gather_apart-requires-clause-in_range
+gather_apart-requires-clause-in_range g c =
     let P = g.N.Naming.program in
     let goal = c.args.goal in
     let row = c.args.cells.now in
@@ -78,7 +78,7 @@ returns-else-not-all-clause-all g c = λ e.
     let is = resolved_is P c.args.loaded.now c.call_at.result goal.base c.resolve-root.result c.requires.program c.resolve-root.ensures in
     let root = c.resolve-root.result in
     let visits = c.push.new.self.items in
-    let out = c.gather.new.out.items in
+    let out = c.gather_apart.new.out.items in
     let longer = c.in_ok-all.ensures.longer in
     let all = c.in_ok-all.ensures.all (cc) in
     let watched = root_watched P row c.len-words.result c.len-begun.result c.args.out.now.items longer.0 out root visits longer.1

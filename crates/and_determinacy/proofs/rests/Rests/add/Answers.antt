@@ -1,12 +1,10 @@
 use Rattle.std.proofs.Common.{◌≡◌, Ok, Some, sym, ap, ◌∙◌}
 use Rattle.and_determinacy.specs.Watching.{HaveWhatWasSet, HadBefore, told_if}
-use Rattle.and_determinacy.proofs.Told.{where_told, listed_in_range, set_gathered, had_before}
+use Rattle.and_determinacy.proofs.Told.{where_told, set_gathered, had_before}
 use Rattle.and_determinacy.proofs.rests.Rests.add.Goals as goal
 
 pub gather-requires-clause-in_range : goal.gather-requires-clause-in_range
-gather-requires-clause-in_range g c =
-    listed_in_range g.N.Naming.program c.args.cells.now c.args.floor c.args.bound.now c.self.inside.cells.items c.list_below.new.out.items
-    c.list_below.new.visits.items c.in_ok-list_below.ensures c.requires.in_row
+gather-requires-clause-in_range g c = c.in_ok-list_below.ensures.suffices.in_range
 
 pub returns-clause-before : goal.returns-clause-before
 returns-clause-before g c =
