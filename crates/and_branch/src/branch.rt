@@ -1,6 +1,6 @@
 //! A branch, and its root.
 
-ghost use Rattle.std.specs.Prelude.{◌≡◌, ◌<◌, ◌≤◌, [], true, false, IfOk};
+ghost use Rattle.std.specs.Prelude.{◌≡◌, ◌<◌, ◌≤◌, [], true, false, IfOk, IfErr};
 ghost use Rattle.and_model.specs.Programs.{clause_weight};
 ghost use Rattle.and_model.specs.Trees.{query_agenda, blank};
 ghost use Rattle.and_model.specs.Limits.{query_alone};
@@ -11,8 +11,11 @@ ghost use Rattle.and_branch_laws.specs.States.{IsCut};
 ghost use Rattle.and_branch_laws.specs.Views.{StandsIn};
 ghost use Rattle.and_code.specs.Written.{all_written};
 ghost use Rattle.and_branch.specs.Branches.{Held, IsBranch, IsBranchOf, view_of};
+ghost use Rattle.and_branch.specs.Next.{IsMoved};
+ghost use Rattle.and_branch.specs.Parts.{held_of, unnoted};
 
 use crate::goals::push_body;
+use crate::parts::Parts;
 use crate::workspace::Workspace;
 use and_cells::{Naming, PlainCells};
 use and_model::{ClauseNo, Code, Cut, Goal, ReductionList};
@@ -25,7 +28,6 @@ use std::marker::Model;
 /// A partial proof: a tree of reductions, with the cells of its variables and the goals that are left.
 ///
 /// Contracts see it as the parts that it keeps. `IsBranchOf` says which tree it stands for.
-#[derive(Drop)]
 pub struct Branch<N: Naming> {
     pub(crate) key: Code,
     pub(crate) limit: u32,
@@ -39,6 +41,22 @@ pub struct Branch<N: Naming> {
     /// Which words of the row were set since it was as the branch that this one was made of had it, if
     /// that is noted.
     pub(crate) trail: Trail,
+}
+
+// By hand, so that it is proved once, here.
+impl<N: Naming> Drop for Branch<N> {
+    fn drop(self) {
+        let Branch {
+            key: _,
+            limit: _,
+            cells: _,
+            reductions: _,
+            goals: _,
+            used: _,
+            is_failed: _,
+            trail: _,
+        } = self;
+    }
 }
 
 impl<N: Naming> Model for Branch<N> {
@@ -120,6 +138,35 @@ impl<N: Naming> Branch<N> {
             trail: _,
         } = self;
         key
+    }
+
+    /// Takes the branch apart. An error is want of memory, and hands the branch back.
+    pub fn parts(self) -> Result<Parts<N>, Branch<N>>
+        ensures parts { IfOk result (λ parts. IsMoved (unnoted self) (held_of parts)) }
+        ensures given_back { IfErr result (λ branch. branch ≡ self) }
+    {
+        let Ok(listed) = self.goals.all(self.goals.allocator()) else {
+            return Err(self);
+        };
+        let Branch {
+            key,
+            limit,
+            cells,
+            reductions,
+            goals: _,
+            used,
+            is_failed,
+            trail: _,
+        } = self;
+        Ok(Parts {
+            key,
+            limit,
+            cells,
+            reductions,
+            goals: listed,
+            used,
+            is_failed,
+        })
     }
 
     /// The weight of the branch's tree. Takes no memory.

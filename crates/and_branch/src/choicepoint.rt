@@ -82,8 +82,8 @@ impl<N: Naming> Model for Choicepoint<N> {
 
 impl<N: Naming> Branch<N> {
     /// Forks the branch, whose state is a fork of this goal by these clauses. The branch becomes what is left of it, of
-    /// which the first child is made, and its key is told on to that goal. An error is want of memory, and the branch is
-    /// spent.
+    /// which the first child is made, and its key is told on to that goal. An error is want of memory, and the branch
+    /// is spent.
     pub fn fork_in_place(
         &mut self,
         alloc: Global,
@@ -111,7 +111,7 @@ impl<N: Naming> Branch<N> {
         self.decide(alloc, loaded, goal, told)?;
         let longer = Snapshot::of(self.key());
         let decided = self.key().len();
-        let outline = self.give_outline(alloc)?;
+        let outline = self.give_outline(alloc);
         let choicepoint = Choicepoint {
             parent,
             outline,

@@ -1,6 +1,6 @@
 //! Outlines of branches, whose rows others have.
 
-ghost use Rattle.std.specs.Prelude.{◌≡◌, ◌++◌, ◌∷◌, [], take, IfOk, OnOk};
+ghost use Rattle.std.specs.Prelude.{◌≡◌, ◌++◌, ◌∷◌, [], take, OnOk};
 ghost use Rattle.and_cells.specs.Rows.{IsSound};
 ghost use Rattle.and_branch.specs.Making.{noted_from};
 ghost use Rattle.and_branch.specs.Origins.{GoesBack};
@@ -12,11 +12,9 @@ use and_model::ClauseNo;
 use and_pending::PendingGoals;
 use and_reduction::Trail;
 use std::alloc::{AllocError, Global};
-use std::mem::replace;
 use std::snapshot::Snapshot;
 
 /// A branch without its row: all of it but its key, and of its row and its reductions how many they are.
-#[derive(Drop)]
 pub(crate) struct Outline {
     pub limit: u32,
     pub goals: PendingGoals,
@@ -29,18 +27,55 @@ pub(crate) struct Outline {
     pub count: usize,
 }
 
+// By hand, so that it is proved once, here.
+impl Drop for Outline {
+    fn drop(self) {
+        let Outline {
+            limit: _,
+            goals: _,
+            used: _,
+            is_failed: _,
+            trail: _,
+            words: _,
+            count: _,
+        } = self;
+    }
+}
+
+impl Outline {
+    /// Puts what stands here into a branch, which puts its own lists by.
+    fn put_into<N: Naming>(self, branch: &mut Branch<N>)
+        ensures { branch.new ≡ record (outlined branch.old self) { trail = self.trail } }
+    {
+        let Outline {
+            limit,
+            goals,
+            used,
+            is_failed,
+            trail,
+            words: _,
+            count: _,
+        } = self;
+        branch.goals.take(goals);
+        branch.used = used;
+        branch.limit = limit;
+        branch.is_failed = is_failed;
+        branch.trail.take(trail);
+    }
+}
+
 impl<N: Naming> Branch<N> {
-    /// Gives its outline, and becomes a branch of which it can be had again. An error is want of memory.
-    pub(crate) fn give_outline(&mut self, alloc: Global) -> Result<Outline, AllocError>
-        ensures outline { IfOk result (IsOutlineOf self.old) }
-        ensures back { OnOk result (GoesBack self.old self.new) }
-        ensures key { OnOk result (self.new.key ≡ self.old.key) }
+    /// Gives its outline, and becomes a branch of which it can be had again, without goals. Takes no memory.
+    pub(crate) fn give_outline(&mut self, alloc: Global) -> Outline
+        ensures outline { IsOutlineOf self.old result }
+        ensures back { GoesBack self.old self.new }
+        ensures key { self.new.key ≡ self.old.key }
     {
         let words = self.cells.len();
         let count = self.reductions.len();
-        let goals = self.goals.copy(alloc)?;
-        let trail = replace(&mut self.trail, Trail::begun(alloc, words));
-        Ok(Outline {
+        let goals = self.goals.give(alloc);
+        let trail = self.trail.give(alloc, words);
+        Outline {
             limit: self.limit,
             goals,
             used: self.used,
@@ -48,7 +83,7 @@ impl<N: Naming> Branch<N> {
             trail,
             words,
             count,
-        })
+        }
     }
 
     /// Becomes the first branch again, but for the key: it keeps its own. What is set of its row from here on is noted.
@@ -80,7 +115,7 @@ impl<N: Naming> Branch<N> {
         ensures { self.new ≡ record first.now.value { key = self.old.key } }
     {
         self.go_back_by(first, outline.words, outline.count);
-        self.take_outline(outline);
+        outline.put_into(self);
     }
 
     /// Has the first clauses of its key, and then this one, for its key. An error is want of memory, and the branch is
@@ -102,25 +137,5 @@ impl<N: Naming> Branch<N> {
         self.limit = outline.limit;
         self.is_failed = outline.is_failed;
         Ok(())
-    }
-
-    /// Takes over what stands in the outline. Takes no memory.
-    fn take_outline(&mut self, outline: Outline)
-        ensures { self.new ≡ record (outlined self.old outline) { trail = outline.trail } }
-    {
-        let Outline {
-            limit,
-            goals,
-            used,
-            is_failed,
-            trail,
-            words: _,
-            count: _,
-        } = outline;
-        self.goals = goals;
-        self.used = used;
-        self.limit = limit;
-        self.is_failed = is_failed;
-        self.trail = trail;
     }
 }

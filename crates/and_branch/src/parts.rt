@@ -1,8 +1,7 @@
 //! Branches that are taken apart.
 
 ghost use Rattle.std.specs.Prelude.{◌≡◌, ◌++◌, IfOk, IfErr};
-ghost use Rattle.and_branch.specs.Parts.{held_of, unnoted};
-ghost use Rattle.and_branch.specs.Next.{IsMoved};
+ghost use Rattle.and_branch.specs.Parts.{held_of};
 
 use crate::branch::Branch;
 use crate::rebuilding::NoRoom;
@@ -47,35 +46,6 @@ impl<N: Naming> Branch<N> {
         ensures { IfOk result (λ goals. goals.items ≡ self.now.left ++ self.now.right) }
     {
         self.goals.all(self.goals.allocator())
-    }
-
-    /// Takes the branch apart. An error is want of memory, and hands the branch back.
-    pub fn parts(self) -> Result<Parts<N>, Branch<N>>
-        ensures parts { IfOk result (λ parts. IsMoved (unnoted self) (held_of parts)) }
-        ensures given_back { IfErr result (λ branch. branch ≡ self) }
-    {
-        let Ok(listed) = self.goals.all(self.goals.allocator()) else {
-            return Err(self);
-        };
-        let Branch {
-            key,
-            limit,
-            cells,
-            reductions,
-            goals: _,
-            used,
-            is_failed,
-            trail: _,
-        } = self;
-        Ok(Parts {
-            key,
-            limit,
-            cells,
-            reductions,
-            goals: listed,
-            used,
-            is_failed,
-        })
     }
 }
 

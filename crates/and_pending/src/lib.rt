@@ -5,6 +5,7 @@
 mod copying;
 mod filling;
 mod pending;
+mod spares;
 mod watch;
 
 pub use pending::{PendingGoal, PendingGoals};

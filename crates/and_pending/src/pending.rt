@@ -8,11 +8,13 @@ ghost use Rattle.and_pending.specs.Pending.{unwatched, watched_in, IsWithin};
 
 use crate::copying::{put_watched, total_width};
 use crate::filling::{fill, list_goals, list_reversed, move_all, put_goals, stop_watching};
+use crate::spares::{Spare, empty_lists, exchanged, given, have, put_by};
 use crate::watch::{Range, all_free, range_of};
 use and_cells::{Naming, PlainCells};
 use and_model::Goal;
 use std::alloc::{AllocError, Global};
 use std::marker::Model;
+use std::mem::replace;
 
 /// How many cells are listed at most before it is asked whether most are those of goals that are gone.
 const FEW: usize = 64;
@@ -20,6 +22,11 @@ const FEW: usize = 64;
 /// How many times as many cells as goals are listed then at most: as many as a goal that is left is watched by, so that
 /// its own never look like those of goals that are gone.
 const TIMES: usize = 128;
+
+/// So many cells for each goal that is given away, and so many more, are not many.
+const CELLS_OF_A_GOAL: usize = 4;
+
+const CELLS_OF_A_FORK: usize = 16;
 
 /// A goal that is left, and where its cells are listed, if it is watched.
 #[derive(Clone, Copy)]
@@ -36,6 +43,8 @@ pub struct PendingGoals {
     right: Vec<PendingGoal>,
     /// The cells by which they are watched, and by which goals were that are gone.
     cells: Vec<u32>,
+    /// Lists that are not in use.
+    spares: Vec<Spare>,
 }
 
 // By hand, so that it is proved once, here.
@@ -45,6 +54,7 @@ impl Drop for PendingGoals {
             left: _,
             right: _,
             cells: _,
+            spares: _,
         } = self;
     }
 }
@@ -72,6 +82,7 @@ impl PendingGoals {
             left: Vec::new(alloc),
             right: Vec::new(alloc),
             cells: Vec::new(alloc),
+            spares: Vec::new(alloc),
         }
     }
 
@@ -86,6 +97,7 @@ impl PendingGoals {
             left,
             right: Vec::new(alloc),
             cells: Vec::new(alloc),
+            spares: Vec::new(alloc),
         })
     }
 
@@ -156,7 +168,7 @@ impl PendingGoals {
         move_all(&mut self.left, &mut self.right)
     }
 
-    /// Goes past the next goal. An error is want of memory, and the goal is lost.
+    /// Goes past the next goal. An error is want of memory, and changes nothing.
     #[inline(always)]
     pub fn pass(&mut self) -> Result<(), AllocError>
         requires { (w : Watched) × (rest : List Watched) × (self.old.right ≡ w ∷ rest) }
@@ -170,7 +182,7 @@ impl PendingGoals {
     }
 
     /// Goes back before the last goal that was passed, if there is one, and answers whether there is. An error is
-    /// want of memory, and the goal is lost.
+    /// want of memory, and changes nothing.
     #[inline(always)]
     pub fn go_back(&mut self) -> Result<bool, AllocError>
         ensures none { result ≡ Ok false → (self.old.left ≡ []) × (self.new ≡ self.old) }
@@ -186,8 +198,8 @@ impl PendingGoals {
         Ok(true)
     }
 
-    /// Goes past the goals that sleep in a row, up to the next one that does not. An error is want of memory, and a
-    /// goal is lost.
+    /// Goes past the goals that sleep in a row, up to the next one that does not. An error is want of memory, and
+    /// some may be passed then.
     pub fn pass_sleepers<N: Naming>(&mut self, row: &PlainCells<N>) -> Result<(), AllocError>
         ensures { OnOk result (HasPassedSleepers row.now self.old self.new) }
     {
@@ -198,7 +210,7 @@ impl PendingGoals {
     }
 
     /// Goes back over the goals that sleep in a row, to before the last one that does not, and answers whether there
-    /// is one. An error is want of memory, and a goal is lost.
+    /// is one. An error is want of memory, and some may be gone back over then.
     pub fn go_back_over_sleepers<N: Naming>(
         &mut self,
         row: &PlainCells<N>,
@@ -216,7 +228,7 @@ impl PendingGoals {
     }
 
     /// Goes back before the goal that was passed last, if it is watched and does not sleep in a row. An error is want
-    /// of memory, and a goal is lost.
+    /// of memory, and changes nothing.
     pub fn go_back_to_woken<N: Naming>(&mut self, row: &PlainCells<N>) -> Result<(), AllocError>
         ensures moved { OnOk result (self.new.left ++ self.new.right ≡ self.old.left ++ self.old.right) }
         ensures near { OnOk result (length self.new.right ≤ length self.old.right + 1) }
@@ -316,7 +328,78 @@ impl PendingGoals {
         let mut cells = Vec::with_capacity(alloc, width)?;
         put_watched(&mut left, &mut cells, &self.left, &self.cells)?;
         put_watched(&mut right, &mut cells, &self.right, &self.cells)?;
-        Ok(PendingGoals { left, right, cells })
+        Ok(PendingGoals {
+            left,
+            right,
+            cells,
+            spares: Vec::new(alloc),
+        })
+    }
+
+    /// Gives all goals away, and keeps none. Its lists go with them, and those are used that were put by; but where many
+    /// cells are those of goals that are gone, short lists go, if there is memory for them.
+    pub fn give(&mut self, alloc: Global) -> PendingGoals
+        ensures given { result ≡ self.old }
+        ensures none { self.new ≡ record { left = []; right = [] } }
+    {
+        if self.has_many_cells() {
+            if let Ok(short) = self.copy(alloc) {
+                self.clear();
+                return short;
+            }
+        }
+        self.give_lists(alloc)
+    }
+
+    /// Whether there are many cells for so few goals. Takes no memory.
+    fn has_many_cells(&self) -> bool {
+        let goals = self.left.len().saturating_add(self.right.len());
+        self.cells.len()
+            > goals
+                .saturating_mul(CELLS_OF_A_GOAL)
+                .saturating_add(CELLS_OF_A_FORK)
+    }
+
+    /// Keeps no goal. Takes no memory.
+    fn clear(&mut self)
+        ensures { self.new ≡ record { left = []; right = [] } }
+    {
+        self.left.clear();
+        self.right.clear();
+        self.cells.clear();
+    }
+
+    /// Gives all goals away with their lists, and keeps none. Takes no memory.
+    fn give_lists(&mut self, alloc: Global) -> PendingGoals
+        ensures given { result ≡ self.old }
+        ensures none { self.new ≡ record { left = []; right = [] } }
+    {
+        let Spare { goals, cells } = empty_lists(&mut self.spares, alloc);
+        PendingGoals {
+            left: exchanged(&mut self.left, goals),
+            right: given(&mut self.right, alloc),
+            cells: replace(&mut self.cells, cells),
+            spares: Vec::new(alloc),
+        }
+    }
+
+    /// Has these goals in place of its own, with their lists, and puts its own lists by. Where memory is wanted for
+    /// that, they are let go of.
+    pub fn take(&mut self, others: PendingGoals)
+        ensures { self.new ≡ others }
+    {
+        let PendingGoals {
+            left,
+            right,
+            cells,
+            spares: _,
+        } = others;
+        let spare = Spare {
+            goals: replace(&mut self.left, left),
+            cells: replace(&mut self.cells, cells),
+        };
+        have(&mut self.right, right);
+        put_by(&mut self.spares, spare);
     }
 
     /// Becomes the same as other goals. An error is want of memory, and no goal is left.

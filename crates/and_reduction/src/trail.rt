@@ -5,18 +5,25 @@ ghost use Rattle.and_reduction.specs.Trails.{AreNoted};
 
 use std::alloc::{AllocError, Global};
 use std::marker::Model;
+use std::mem::replace;
 
 /// Which words of a row were set since it was so long, so that it can be had again as it was then.
 pub struct Trail {
     /// How many words the row had; `None` where nothing is noted.
     mark: Option<u32>,
     cells: Vec<u32>,
+    /// Lists that are not in use. What stands in them is of no account.
+    spares: Vec<Vec<u32>>,
 }
 
 // By hand, so that it is proved once, here.
 impl Drop for Trail {
     fn drop(self) {
-        let Trail { mark: _, cells: _ } = self;
+        let Trail {
+            mark: _,
+            cells: _,
+            spares: _,
+        } = self;
     }
 }
 
@@ -36,6 +43,7 @@ impl Trail {
         Trail {
             mark: None,
             cells: Vec::new(alloc),
+            spares: Vec::new(alloc),
         }
     }
 
@@ -46,6 +54,7 @@ impl Trail {
         Trail {
             mark: Some(words),
             cells: Vec::new(alloc),
+            spares: Vec::new(alloc),
         }
     }
 
@@ -56,6 +65,38 @@ impl Trail {
     {
         self.mark = Some(words);
         self.cells.clear();
+    }
+
+    /// Gives away what was noted. What is set from now on in a row of so many words is noted, in a list that was put by
+    /// where there is one. Takes no memory.
+    pub fn give(&mut self, alloc: Global, words: u32) -> Trail
+        ensures given { result ≡ self.old }
+        ensures begun { self.new ≡ record { mark = Some words; cells = [] } }
+    {
+        let mark = self.mark;
+        let empty = empty_list(&mut self.spares, alloc);
+        let cells = replace(&mut self.cells, empty);
+        self.mark = Some(words);
+        Trail {
+            mark,
+            cells,
+            spares: Vec::new(alloc),
+        }
+    }
+
+    /// Has what another one noted in place of its own, and puts its own list by. Where memory is wanted for that, it is
+    /// let go of.
+    pub fn take(&mut self, other: Trail)
+        ensures { self.new ≡ other }
+    {
+        let Trail {
+            mark,
+            cells,
+            spares: _,
+        } = other;
+        self.mark = mark;
+        let own = replace(&mut self.cells, cells);
+        let _kept = self.spares.push(own);
     }
 
     /// Nothing is noted from now on. Takes no memory.
@@ -84,6 +125,25 @@ impl Trail {
             None => Ok(()),
         }
     }
+}
+
+/// An empty list: the one that was put by last, where there is one. Takes no memory.
+fn empty_list(spares: &mut Vec<Vec<u32>>, alloc: Global) -> Vec<u32>
+    ensures { result.items ≡ [] }
+{
+    match spares.pop() {
+        Some(list) => emptied(list),
+        None => Vec::new(alloc),
+    }
+}
+
+/// The same list, with nothing in it. Takes no memory.
+fn emptied(list: Vec<u32>) -> Vec<u32>
+    ensures { result.items ≡ [] }
+{
+    let mut list = list;
+    list.clear();
+    list
 }
 
 /// Puts those of the cells that lie below the mark at the end of a list. An error is want of memory.

@@ -5,8 +5,8 @@ ghost use Rattle.and_model.specs.Prefixes.{IsPrefix};
 ghost use Rattle.and_model.specs.Trees.{QueryTree};
 ghost use Rattle.and_cells.specs.Parts.{named};
 ghost use Rattle.and_code.specs.Telling.{left_of};
-ghost use Rattle.and_branch.specs.Children.{AreChildren, IsChild};
-ghost use Rattle.and_branch.specs.Origins.{GoesBack};
+ghost use Rattle.and_branch.specs.Children.{AreChildren, Fork, IsChild};
+ghost use Rattle.and_branch.specs.Origins.{GoesBack, KeepsBack};
 ghost use Rattle.and_visit.specs.Walking.{left_on_top};
 
 use and_branch::{Branch, Choicepoint, Workspace};
@@ -35,11 +35,21 @@ impl<N: Naming> Drop for Hand<N> {
 
 /// A choicepoint, how far the key of the branch that was forked is told: as far as it was decided; and how many forks
 /// its children stand below.
-#[derive(Drop)]
 pub struct Level<N: Naming> {
     pub point: Choicepoint<N>,
     pub told: CodeSoFar,
     pub depth: u32,
+}
+
+// By hand, so that it is proved once, here.
+impl<N: Naming> Drop for Level<N> {
+    fn drop(self) {
+        let Level {
+            point: _,
+            told: _,
+            depth: _,
+        } = self;
+    }
 }
 
 /// Puts a choicepoint on top. An error is want of memory.
@@ -95,6 +105,30 @@ impl<N: Naming> Level<N> {
         let own = self.told.copy(alloc)?;
         hand.told = own;
         hand.depth = self.depth;
+        Ok(())
+    }
+
+    /// Has the last child in hand, made in the same way. An error is want of memory.
+    pub fn last(
+        self,
+        loaded: &Loaded,
+        hand: &mut Hand<N>,
+        workspace: &mut Workspace,
+    ) -> Result<(), AllocError>
+        requires program { N.program ≡ named loaded.now }
+        requires children { (t : QueryTree N.program.program) × AreChildren N.program self.point t }
+        requires key { IsPrefix self.point.longer hand.old.branch.key }
+        requires some { self.point.clauses ≢ [] }
+        requires back { GoesBack self.point.parent hand.old.branch }
+        ensures child { OnOk result ((rest : Fork) × IsChild N.program self.point rest hand.new.branch) }
+        ensures back { OnOk result (KeepsBack self.point.parent hand.new.branch) }
+        ensures placed { OnOk result (hand.new
+            ≡ record { branch = hand.new.branch; told = self.told; depth = self.depth }) }
+    {
+        let Level { point, told, depth } = self;
+        point.last_in_place(loaded, &mut hand.branch, workspace)?;
+        hand.told = told;
+        hand.depth = depth;
         Ok(())
     }
 }

@@ -29,7 +29,6 @@ use std::alloc::{AllocError, Global};
 use std::mem::replace;
 
 /// A walk, as far as it has come.
-#[derive(Drop)]
 struct Walker<N: Naming, V: Visitor> {
     /// The limit of every branch.
     limit: u32,
@@ -37,6 +36,18 @@ struct Walker<N: Naming, V: Visitor> {
     /// The forks some of whose children are still to come, the innermost last. Their row is that of the branch at hand.
     stack: Vec<Level<N>>,
     workspace: Workspace,
+}
+
+// By hand, so that it is proved once, here.
+impl<N: Naming, V: Visitor> Drop for Walker<N, V> {
+    fn drop(self) {
+        let Walker {
+            limit: _,
+            visitor: _,
+            stack: _,
+            workspace: _,
+        } = self;
+    }
 }
 
 /// Walks a program's query within a limit and tells a visitor what it comes to, until that has enough. An error is want
@@ -110,10 +121,25 @@ impl<N: Naming, V: Visitor> Walker<N, V> {
     {
         let mut hand = first;
         self.walk(alloc, loaded, table, gate, &mut hand)?;
-        Ok(self.visitor)
+        drop(hand);
+        Ok(self.into_visitor())
+    }
+
+    /// The visitor, when all is told. Takes no memory.
+    fn into_visitor(self) -> V
+        ensures { result ≡ self.visitor }
+    {
+        let Walker {
+            limit: _,
+            visitor,
+            stack: _,
+            workspace: _,
+        } = self;
+        visitor
     }
 
     /// The same, with the branch in a hand in which each branch comes to be in its turn.
+    #[inline(always)]
     fn walk<G: Gate>(
         &mut self,
         alloc: Global,
@@ -212,10 +238,7 @@ impl<N: Naming, V: Visitor> Walker<N, V> {
         ensures limit { self.new.limit ≡ self.old.limit }
         ensures visitor { self.new.visitor ≡ self.old.visitor }
     {
-        let Level { point, told, depth } = level;
-        point.last_in_place(loaded, &mut hand.branch, &mut self.workspace)?;
-        hand.told = told;
-        hand.depth = depth;
+        level.last(loaded, hand, &mut self.workspace)?;
         Ok(())
     }
 

@@ -3,5 +3,5 @@ use Rattle.and_branch.proofs.branch.Branch.become_first.Goals as goal
 
 pub returns : goal.returns
 returns g c =
-    outlined_first c.args.first.now.value c.args.outline c.requires.outline c.args.self.now c.go_back_by.new.self c.take_outline.new.self
-    c.go_back_by.ensures c.take_outline.ensures
+    outlined_first c.args.first.now.value c.args.outline c.requires.outline c.args.self.now c.go_back_by.new.self c.put_into.new.branch
+    c.go_back_by.ensures c.put_into.ensures

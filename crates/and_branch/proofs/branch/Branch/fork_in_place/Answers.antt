@@ -26,12 +26,12 @@ returns-clause-children g c = λ t x.
 
 pub returns-clause-back : goal.returns-clause-back
 returns-clause-back g c =
-    back_by_key c.args.self.now c.decide.new.self c.in_ok-decide.ensures.same c.give_outline.new.self c.in_ok-outline.ensures.back
+    back_by_key c.args.self.now c.decide.new.self c.in_ok-decide.ensures.same c.give_outline-outline.new.self c.give_outline-outline.ensures.back
 
 pub invariant_of-choicepoint : goal.invariant_of-choicepoint
 invariant_of-choicepoint g c = (
-  subst (λ (b : Held). IsOutlineOf b c.in_ok-outline.outline) (sym c.of-parent.ensures)
-      (outline_by_key c.args.self.now c.decide.new.self c.in_ok-decide.ensures.same c.in_ok-outline.outline
-      c.in_ok-outline.ensures.outline),
+  subst (λ (b : Held). IsOutlineOf b c.give_outline-outline.result) (sym c.of-parent.ensures)
+      (outline_by_key c.args.self.now c.decide.new.self c.in_ok-decide.ensures.same c.give_outline-outline.result
+      c.give_outline-outline.ensures.outline),
   ap (λ (l : List ℕ). length l) (c.of-longer.ensures ∙ c.key.ensures ∙ sym c.key-2.ensures) ∙ sym c.len-decided.ensures,
 )

@@ -9,7 +9,7 @@ use Rattle.and_branch.proofs.branch.Branch.give_outline.Goals as goal
 
 pub returns-clause-outline : goal.returns-clause-outline
 returns-clause-outline g c =
-    let goals = sym c.in_ok-goals.ensures in
+    let goals = sym c.give-goals.ensures.given in
     outline_is _ c.args.self.now _ c.self.view_is (record {
       left = ap (λ (p : Pending). goals_of p.left) goals;
       right = ap (λ (p : Pending). goals_of p.right) goals;
@@ -17,7 +17,7 @@ returns-clause-outline g c =
       used = refl;
       limit = refl;
       is_failed = refl;
-      trail = sym c.replace-trail.ensures.value;
+      trail = sym c.give-trail.ensures.given;
       words = sym c.len-words.ensures.value;
       count = length-map c.self.inside.reductions written ∙ sym c.len-count.ensures;
     })
@@ -25,7 +25,7 @@ returns-clause-outline g c =
 pub returns-clause-back : goal.returns-clause-back
 returns-clause-back g c =
     goes_nowhere c.args.self.now _ (ap (λ (h : Held). h.row) c.self.view_is) (ap (λ (h : Held). h.reductions) c.self.view_is)
-    (c.replace-trail.ensures.after ∙ c.begun.ensures ∙ ap (λ (n : ℕ). record { mark = Some n; cells = [] })
+    (c.give-trail.ensures.begun ∙ ap (λ (n : ℕ). record { mark = Some n; cells = [] })
     (c.len-words.ensures.value ∙ ap (λ (h : Held). length h.row) c.self.view_is))
 
 pub returns-clause-key : goal.returns-clause-key
