@@ -9,3 +9,4 @@ pub mod ToldKeys
 pub mod Ready
 pub mod Copied
 pub mod Sending
+pub mod Topped

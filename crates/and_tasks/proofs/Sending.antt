@@ -141,7 +141,7 @@ module _ (N : RattleType) (g : Ghosts N.Denot) (sent : IsSend N) where
             coded_send,
             (
               Vec-send _ task_send,
-              (search (sendable, branch_send) depth 20, (search sendable depth 20, (workspace_send, (number, tt)))),
+              (search (sendable, branch_send) depth 20, (search sendable depth 20, (workspace_send, (number, (number, tt))))),
             ),
           ),
         ),

@@ -5,9 +5,10 @@ use Rattle.and_model.specs.Programs.{Program}
 use Rattle.and_model.specs.Trees.{QueryTree}
 use Rattle.and_cells.specs.Ranges.{NamedProgram}
 use Rattle.and_branch.specs.Branches.{Held}
-use Rattle.and_branch.specs.Children.{AreChildren, Fork}
+use Rattle.and_branch.specs.Children.{AreChildren, Fork, IsChild}
 use Rattle.and_branch.specs.Origins.{GoesBack}
 use Rattle.and_code.specs.Telling.{IsTold}
+use Rattle.and_code.specs.Telling as telling
 use Rattle.and_histories.specs.PlainTree.{Key, State, opening, children, left_of}
 use Rattle.and_histories.specs.Histories.{Carries, calls}
 use Rattle.and_tree.specs.Passes.{TreeId, PassSeen, tally_of}
@@ -141,6 +142,17 @@ pub record IsReady {N : Type 0} (P : NamedProgram) (tree : TreeId) (pass : PassS
   pub told : IsTold P.program h.branch.reductions h.told h.branch.key
   pub served : AreServed (Some (as_told h)) stack
   pub shares : Shares found h.common (as_told h).key
+
+-- The next child of a fork is in hand: of the level that it was the other is left. It is told as far as the branch was
+-- that was forked, and it shares no more than what was in hand did.
+pub record HasNext {N : Type 0} (P : NamedProgram) (was now : Level N) (common : ℕ) (h : Hand N) : Type 0 where
+  pub child : IsChild P was.point now.point h.branch
+  pub back : GoesBack was.point.parent h.branch
+  pub long : h.told.length ≡ was.told.length
+  pub told : telling.left_of h.told ≡ telling.left_of was.told
+  pub less : h.common ≤ common
+  pub inside : h.common ≤ was.told.length
+  pub same : now ≡ record was { point = now.point }
 
 -- What is left of the branch in hand serves the stack, and its key begins with so many first clauses of the code of the
 -- last entry.

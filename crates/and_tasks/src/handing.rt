@@ -1,13 +1,15 @@
 //! What a team hands on to others, and takes over from them.
 
 ghost use Rattle.std.specs.Prelude.{◌≡◌, ◌≢◌, ◌<◌, ◌*◌, ◌∷◌, [], List, OnOk, OnErr, IfOk, IfSome, IfNone, true};
+ghost use Rattle.std.specs.Prelude.{Option, Some};
 ghost use Rattle.and_cells.specs.Parts.{named};
 ghost use Rattle.and_histories.specs.PlainTree.{Owns};
 ghost use Rattle.and_tasks.specs.Copying.{IsCopyOf};
-ghost use Rattle.and_tasks.specs.Working.{AreServed, Has, IsAtWork, Works};
+ghost use Rattle.and_branch.specs.Branches.{Held};
+ghost use Rattle.and_tasks.specs.Working.{AreServed, Has, IsAtWork, IsLeftInHand, Works};
 
 use crate::placed::PlacedBranch;
-use crate::stack::{Level, Task, copy_for_oldest};
+use crate::stack::{Hand, Level, Task, copy_for_oldest};
 use crate::team::{Shared, Team};
 use and_branch::Branch;
 use and_cells::Naming;
@@ -16,30 +18,28 @@ use and_tree::{CELLS_PER_TEAM, CellSeen, Claimed, Published};
 use std::alloc::AllocError;
 use std::snapshot::Snapshot;
 
-/// A row is copied once so many times the work was done that made it.
-const SHARE: u32 = 4;
-
 impl<N: Naming> Team<N> {
-    /// Publishes its oldest branch, if it has more than one, finds its cell free, and has done enough since it last
-    /// copied a row: this one has so many words.
+    /// Publishes its oldest branch, if it has more than one, finds its cell free, and has set up as many words since it
+    /// last copied a row as this one has. What is left of a branch is in hand.
     pub(crate) fn hand_on<G: Gate>(
         &mut self,
         shared: &Shared<N, G>,
+        hand: &Hand<N>,
         words: u32,
     ) -> Result<(), AllocError>
         requires program { N.program ≡ named shared.now.loaded.now }
-        requires at_work { IsAtWork N.program shared.now.tree.now self.old.pass self.old.found self.old.stack.items
-            self.old.left }
+        requires at_work { IsLeftInHand N.program shared.now.tree.now self.old.pass self.old.found self.old.stack.items
+            hand.now }
         ensures has { Has N.program shared.now.tree.now self.new.pass self.new.stack.items }
-        ensures at_work { OnOk result
-            (IsAtWork N.program shared.now.tree.now self.new.pass self.new.found self.new.stack.items self.new.left) }
-        ensures same { self.new.number ≡ self.old.number }
+        ensures at_work { OnOk result (IsLeftInHand N.program shared.now.tree.now self.new.pass self.new.found
+            self.new.stack.items hand.now) }
+        ensures same { (self.new.number ≡ self.old.number) × (self.new.left ≡ self.old.left) }
     {
         // (Each team's number is below that of the teams. This says so to what follows.)
         if shared.teams == 1 || self.number >= shared.teams {
             return Ok(());
         }
-        if self.worked < words / SHARE || !self.has_several() {
+        if self.worked < words || !self.has_several() {
             return Ok(());
         }
         let cell = self.number * CELLS_PER_TEAM;
@@ -47,7 +47,7 @@ impl<N: Naming> Team<N> {
             return Ok(());
         }
         self.worked = 0;
-        self.hand_on_oldest(shared, cell)
+        self.hand_on_oldest(shared, &hand.branch, cell)
     }
 
     /// Whether it has more than one branch, the oldest of which it can hand on.
@@ -62,29 +62,32 @@ impl<N: Naming> Team<N> {
         }
     }
 
-    /// Publishes its oldest branch in a cell that was found free.
+    /// Publishes its oldest branch in a cell that was found free. On top of the stack is what is left of a branch.
     fn hand_on_oldest<G: Gate>(
         &mut self,
         shared: &Shared<N, G>,
+        left: &Branch<N>,
         cell: u32,
     ) -> Result<(), AllocError>
         requires program { N.program ≡ named shared.now.loaded.now }
         requires at_work { IsAtWork N.program shared.now.tree.now self.old.pass self.old.found self.old.stack.items
-            self.old.left }
+            (Some left.now) }
         requires some { self.old.stack.items ≢ [] }
         requires own { Owns self.old.number cell }
         ensures has { Has N.program shared.now.tree.now self.new.pass self.new.stack.items }
         ensures at_work { OnOk result
-            (IsAtWork N.program shared.now.tree.now self.new.pass self.new.found self.new.stack.items self.new.left) }
-        ensures same { self.new.number ≡ self.old.number }
+            (IsAtWork N.program shared.now.tree.now self.new.pass self.new.found self.new.stack.items
+            (Some left.now)) }
+        ensures same { (self.new.number ≡ self.old.number) × (self.new.found ≡ self.old.found)
+            × (self.new.left ≡ self.old.left) }
     {
-        let taken = self.take_oldest(shared)?;
+        let taken = self.take_oldest(shared, left)?;
         let Some(branch) = taken else {
             return Ok(());
         };
         match self.offer(shared, cell, branch) {
             None => Ok(()),
-            Some(back) => self.put_branch(shared, back),
+            Some(back) => self.put_below(shared, Task::One(back)),
         }
     }
 
@@ -104,7 +107,7 @@ impl<N: Naming> Team<N> {
             (λ back. Works N.program shared.now.tree.now self.new.pass self.new.found
             (Task.One back ∷ self.new.stack.items)) }
         ensures same { (self.new.number ≡ self.old.number) × (self.new.stack ≡ self.old.stack)
-            × (self.new.left ≡ self.old.left) }
+            × (self.new.found ≡ self.old.found) × (self.new.left ≡ self.old.left) }
     {
         match shared
             .tree
@@ -125,21 +128,23 @@ impl<N: Naming> Team<N> {
     fn take_oldest<G: Gate>(
         &mut self,
         shared: &Shared<N, G>,
+        left: &Branch<N>,
     ) -> Result<Option<Branch<N>>, AllocError>
         requires program { N.program ≡ named shared.now.loaded.now }
         requires has { Has N.program shared.now.tree.now self.old.pass self.old.stack.items }
-        requires served { AreServed self.old.left self.old.stack.items }
+        requires served { AreServed (Some left.now) self.old.stack.items }
         requires some { self.old.stack.items ≢ [] }
-        ensures same { (self.new.number ≡ self.old.number) × (self.new.found ≡ self.old.found) }
+        ensures same { (self.new.number ≡ self.old.number) × (self.new.found ≡ self.old.found)
+            × (self.new.left ≡ self.old.left) }
         ensures pass { OnOk result (self.new.pass ≡ self.old.pass) }
         ensures branch { IfOk result (λ taken. IfSome taken
             (λ branch. Has N.program shared.now.tree.now self.new.pass (Task.One branch ∷ self.new.stack.items))) }
         ensures none { IfOk result (λ taken. IfNone taken
             (Has N.program shared.now.tree.now self.new.pass self.new.stack.items)) }
-        ensures served { OnOk result (AreServed self.new.left self.new.stack.items) }
+        ensures served { OnOk result (AreServed (Some left.now) self.new.stack.items) }
         ensures given_up { OnErr result (Has N.program shared.now.tree.now self.new.pass self.new.stack.items) }
     {
-        let copy = copy_for_oldest(shared.alloc, self.stack.as_slice(), &self.left)?;
+        let copy = copy_for_oldest(shared.alloc, self.stack.as_slice(), left)?;
         match self.stack.remove(0) {
             Task::One(branch) => {
                 drop(copy);
@@ -167,12 +172,14 @@ impl<N: Naming> Team<N> {
     ) -> Result<Branch<N>, AllocError>
         requires program { N.program ≡ named shared.now.loaded.now }
         requires has { Has N.program shared.now.tree.now self.old.pass (Task.Children level ∷ self.old.stack.items) }
-        requires served { AreServed self.old.left (Task.Children level ∷ self.old.stack.items) }
         requires copy { IfSome copy (IsCopyOf level) }
-        ensures same { (self.new.number ≡ self.old.number) × (self.new.found ≡ self.old.found) }
+        ensures same { (self.new.number ≡ self.old.number) × (self.new.found ≡ self.old.found)
+            × (self.new.left ≡ self.old.left) }
         ensures branch { IfOk result (λ branch. (self.new.pass ≡ self.old.pass)
             × Has N.program shared.now.tree.now self.new.pass (Task.One branch ∷ self.new.stack.items)) }
-        ensures served { OnOk result (AreServed self.new.left self.new.stack.items) }
+        ensures served { OnOk result ((on_top : Option Held)
+            → AreServed on_top (Task.Children level ∷ self.old.stack.items)
+            → AreServed on_top self.new.stack.items) }
         ensures given_up { OnErr result (Has N.program shared.now.tree.now self.new.pass self.new.stack.items) }
     {
         let mut level = level;

@@ -5,6 +5,7 @@
 #![tactic(auto)]
 
 mod handing;
+mod leading;
 mod placed;
 mod stack;
 mod team;

@@ -2,7 +2,8 @@
 //!
 //! The forks of a stack have one row together, that of the branch at work on top of them.
 
-ghost use Rattle.std.specs.Prelude.{ℕ, ◌≡◌, ◌≢◌, ◌<◌, ◌≤◌, [], drop, length, Option, Some, slice_get, OnErr, OnOk};
+ghost use Rattle.std.specs.Prelude.{ℕ, ◌≡◌, ◌≢◌, ◌<◌, ◌≤◌, ◌++◌, ◌∷◌, List, [], drop, length, slice_get, OnErr, OnOk};
+ghost use Rattle.std.specs.Prelude.{Option, Some};
 ghost use Rattle.std.specs.Prelude.{IfOk};
 ghost use Rattle.std.specs.Prelude.{IfSome};
 ghost use Rattle.and_program.specs.Loaded.{program_of};
@@ -12,7 +13,7 @@ ghost use Rattle.and_code.specs.Telling.{IsTold};
 ghost use Rattle.and_branch.specs.Branches.{Held};
 ghost use Rattle.and_branch.specs.Children.{AreChildren, IsChild};
 ghost use Rattle.and_branch.specs.Origins.{GoesBack};
-ghost use Rattle.and_tasks.specs.Working.{AreServed, AreTasks, Serves, above};
+ghost use Rattle.and_tasks.specs.Working.{AreServed, AreTasks, HasNext, Serves, above};
 ghost use Rattle.and_tasks.specs.Copying.{IsCopyAt};
 
 use and_branch::{Branch, Choicepoint, Workspace};
@@ -95,6 +96,64 @@ impl<N: Naming> Level<N> {
     {
         self.point.next_in_place(loaded, branch, workspace)
     }
+
+    /// Has the next child in hand, made of what is left of a branch there. An error is want of memory, and the branch
+    /// is spent.
+    pub fn next_in_hand(
+        &mut self,
+        alloc: Global,
+        loaded: &Loaded,
+        hand: &mut Hand<N>,
+        workspace: &mut Workspace,
+    ) -> Result<(), AllocError>
+        requires program { N.program ≡ named loaded.now }
+        requires children { (t : QueryTree N.program.program) × AreChildren N.program self.old.point t }
+        requires left { Serves self.old hand.old.branch }
+        requires some { self.old.point.clauses ≢ [] }
+        ensures next { OnOk result (HasNext N.program self.old self.new hand.old.common hand.new) }
+        ensures unchanged { OnErr result (self.new.point ≡ self.old.point) }
+        ensures same { self.new ≡ record self.old { point = self.new.point } }
+    {
+        let told = self.told.copy(alloc)?;
+        let common = lesser(hand.common, self.told.length);
+        hand.common = common;
+        hand.told = told;
+        self.next(loaded, &mut hand.branch, workspace)
+    }
+}
+
+impl<N: Naming> Task<N> {
+    /// Has the next child of the fork that it is in hand, made of what is left of a branch there. An error is want of
+    /// memory, and the branch is spent.
+    pub fn next_in_hand(
+        &mut self,
+        alloc: Global,
+        loaded: &Loaded,
+        hand: &mut Hand<N>,
+        workspace: &mut Workspace,
+    ) -> Result<(), AllocError>
+        requires program { N.program ≡ named loaded.now }
+        requires fork { (level : Level N) × (self.old ≡ Task.Children level) × (level.point.clauses ≢ [])
+            × Serves level hand.old.branch
+            × (t : QueryTree N.program.program) × AreChildren N.program level.point t }
+        ensures next { (level : Level N) → self.old ≡ Task.Children level → OnOk result ((now : Level N)
+            × (self.new ≡ Task.Children now) × HasNext N.program level now hand.old.common hand.new) }
+        ensures unchanged { OnErr result (self.new ≡ self.old) }
+    {
+        match self {
+            Task::Children(level) => level.next_in_hand(alloc, loaded, hand, workspace),
+            Task::One(_) => Err(AllocError),
+            Task::Left(_) => Err(AllocError),
+        }
+    }
+}
+
+/// The lesser of two numbers.
+pub fn lesser(one: usize, other: usize) -> usize
+    ensures first { result ≤ one }
+    ensures second { result ≤ other }
+{
+    if one < other { one } else { other }
 }
 
 /// The fork at a place of a stack, if one stands there. Takes no memory.
@@ -106,6 +165,21 @@ fn level_at<N: Naming>(stack: &[Task<N>], place: usize) -> Option<&Level<N>>
         Task::One(_) => None,
         Task::Children(level) => Some(level),
         Task::Left(_) => None,
+    }
+}
+
+/// How many children of the fork on top of a stack are still to come; none where no fork is on top. Takes no memory.
+pub fn left_on_top<N: Naming>(stack: &[Task<N>]) -> usize
+    ensures { result ≢ 0 → (level : Level N) × (below : List (Task N)) × (stack.now ≡ below ++ Task.Children level ∷ [])
+        × (result ≡ length level.point.clauses) }
+{
+    let count = stack.len();
+    if count == 0 {
+        return 0;
+    }
+    match level_at(stack, count - 1) {
+        Some(level) => level.point.left(),
+        None => 0,
     }
 }
 
@@ -121,18 +195,18 @@ fn forks_below<N: Naming>(stack: &[Task<N>]) -> usize
     stack.len()
 }
 
-/// What is left of a branch at a place of the stack, if anything is; behind its end what is left on top. Takes no
+/// What is left of a branch at a place of the stack, if anything is; behind its end what is left in hand. Takes no
 /// memory.
 fn left_at<'a, N: Naming>(
     stack: &'a [Task<N>],
     place: usize,
-    left: &'a Option<Branch<N>>,
+    left: &'a Branch<N>,
 ) -> Option<&'a Branch<N>>
     requires { place ≤ length stack.now }
-    ensures { IfSome result (λ b. above left.now (drop place stack.now) ≡ Some b.now) }
+    ensures { IfSome result (λ b. above (Some left.now) (drop place stack.now) ≡ Some b.now) }
 {
     if place >= stack.len() {
-        return left.as_ref();
+        return Some(left);
     }
     match &stack[place] {
         Task::One(_) => None,
@@ -146,10 +220,10 @@ fn left_at<'a, N: Naming>(
 pub fn copy_for_oldest<N: Naming>(
     alloc: Global,
     stack: &[Task<N>],
-    left: &Option<Branch<N>>,
+    left: &Branch<N>,
 ) -> Result<Option<Branch<N>>, AllocError>
     requires tasks { (limit : ℕ) × AreTasks N.program limit stack.now }
-    requires served { AreServed left.now stack.now }
+    requires served { AreServed (Some left.now) stack.now }
     ensures { IfOk result (λ copy. IfSome copy (IsCopyAt stack.now 0)) }
 {
     let forks = forks_below(stack);

@@ -27,7 +27,7 @@ ghost use Rattle.and_tasks.specs.Props.{left_shares-prop};
 ghost use Rattle.and_tasks.specs.declared.team.TheConstants.{MOST_TASKS};
 
 use crate::placed::{PlacedBranch, PlacedFork};
-use crate::stack::{Hand, Level, Task, untold};
+use crate::stack::{Hand, Level, Task, lesser, untold};
 use and_answers::Coded;
 use and_branch::{Branch, BranchState, Choicepoint, Workspace};
 use and_cells::Naming;
@@ -79,6 +79,8 @@ pub struct Team<N: Naming> {
     pub workspace: Workspace,
     /// How many words it set up since it last copied a row.
     pub(crate) worked: u32,
+    /// How many branches more are left to the leader alone, before the other workers may be tried again.
+    pub rests: u32,
     ghost number_is: { pass.team ≡ number },
     ghost left_shares: { LeftShares found common left } by { left_shares-prop found common left },
 }
@@ -95,6 +97,7 @@ impl<N: Naming> Drop for Team<N> {
             common: _,
             workspace: _,
             worked: _,
+            rests: _,
         } = self;
     }
 }
@@ -116,6 +119,7 @@ impl<N: Naming> Team<N> {
             common: 0,
             workspace: Workspace::new(alloc),
             worked: 0,
+            rests: 0,
         }
     }
 
@@ -132,6 +136,7 @@ impl<N: Naming> Team<N> {
             common: _,
             workspace,
             worked: _,
+            rests: _,
         } = self;
         drop(stack);
         drop(left);
@@ -181,37 +186,8 @@ impl<N: Naming> Team<N> {
         }
     }
 
-    /// Explores a branch by the leader alone.
-    pub fn lead<G: Gate>(&mut self, shared: &Shared<N, G>, hand: Hand<N>) -> Result<(), AllocError>
-        requires program { N.program ≡ named shared.now.loaded.now }
-        requires table { IsTableOf N.program shared.now.table.now }
-        requires ready { IsReady N.program shared.now.tree.now self.old.pass self.old.found self.old.stack.items hand }
-        ensures has { Has N.program shared.now.tree.now self.new.pass self.new.stack.items }
-        ensures at_work { OnOk result
-            (IsAtWork N.program shared.now.tree.now self.new.pass self.new.found self.new.stack.items self.new.left) }
-        ensures same { self.new.number ≡ self.old.number }
-    {
-        let mut hand = hand;
-        let before = hand.branch.weight();
-        let advanced = hand.branch.advance_to_state(
-            shared.loaded,
-            shared.table,
-            shared.gate,
-            &mut self.workspace,
-        );
-        self.note_work(before, hand.branch.weight());
-        match advanced {
-            Ok(state) => self.go_by(shared, hand, state),
-            Err(AllocError) => {
-                self.give_up_key(shared, &Snapshot::of(hand.branch.key()));
-                drop(hand);
-                Err(AllocError)
-            }
-        }
-    }
-
     /// Notes that a branch grew.
-    fn note_work(&mut self, before: u32, after: u32)
+    pub(crate) fn note_work(&mut self, before: u32, after: u32)
         ensures { (self.new.number ≡ self.old.number) × (self.new.pass ≡ self.old.pass)
             × (self.new.found ≡ self.old.found) × (self.new.stack ≡ self.old.stack) × (self.new.left ≡ self.old.left) }
     {
@@ -237,31 +213,64 @@ impl<N: Naming> Team<N> {
         let Some(left) = self.left.take() else {
             unreachable!()
         };
-        if level.point.left() == 1 {
-            self.last_child(shared, level, left)
-        } else {
-            self.another_child(shared, level, left)
+        let mut hand = Hand {
+            branch: left,
+            told: untold(shared.alloc, shared.loaded),
+            common: self.common,
+        };
+        match self.child_in_hand(shared, level, &mut hand) {
+            Ok(()) => Ok(hand),
+            Err(AllocError) => {
+                drop(hand);
+                Err(AllocError)
+            }
         }
     }
 
-    /// The last child of a fork.
+    /// Has the next child of a fork in hand, made of what is left of a branch there. The fork is on top of the stack
+    /// again then, if others are still to come. After want of memory all of them have been given up.
+    pub(crate) fn child_in_hand<G: Gate>(
+        &mut self,
+        shared: &Shared<N, G>,
+        level: Level<N>,
+        hand: &mut Hand<N>,
+    ) -> Result<(), AllocError>
+        requires program { N.program ≡ named shared.now.loaded.now }
+        requires works { Works N.program shared.now.tree.now self.old.pass self.old.found
+            (Task.Children level ∷ self.old.stack.items) }
+        requires left { Serves level hand.old.branch }
+        requires served { AreServed (Some (forked level)) self.old.stack.items }
+        requires shares { Shares self.old.found hand.old.common hand.old.branch.key }
+        ensures ready { OnOk result
+            (IsReady N.program shared.now.tree.now self.new.pass self.new.found self.new.stack.items hand.new) }
+        ensures given_up { OnErr result (Has N.program shared.now.tree.now self.new.pass self.new.stack.items) }
+        ensures same { (self.new.number ≡ self.old.number) × (self.new.left ≡ self.old.left) }
+    {
+        if level.point.left() == 1 {
+            self.last_child(shared, level, hand)
+        } else {
+            self.another_child(shared, level, hand)
+        }
+    }
+
+    /// Has the last child of a fork in hand.
     fn last_child<G: Gate>(
         &mut self,
         shared: &Shared<N, G>,
         level: Level<N>,
-        left: Branch<N>,
-    ) -> Result<Hand<N>, AllocError>
+        hand: &mut Hand<N>,
+    ) -> Result<(), AllocError>
         requires program { N.program ≡ named shared.now.loaded.now }
         requires works { Works N.program shared.now.tree.now self.old.pass self.old.found
             (Task.Children level ∷ self.old.stack.items) }
-        requires left { Serves level left }
+        requires left { Serves level hand.old.branch }
         requires served { AreServed (Some (forked level)) self.old.stack.items }
-        requires shares { Shares self.old.found self.old.common left.key }
+        requires shares { Shares self.old.found hand.old.common hand.old.branch.key }
         requires one { length level.point.clauses ≡ 1 }
-        ensures ready { IfOk result
-            (IsReady N.program shared.now.tree.now self.new.pass self.new.found self.new.stack.items) }
+        ensures ready { OnOk result
+            (IsReady N.program shared.now.tree.now self.new.pass self.new.found self.new.stack.items hand.new) }
         ensures given_up { OnErr result (Has N.program shared.now.tree.now self.new.pass self.new.stack.items) }
-        ensures same { self.new.number ≡ self.old.number }
+        ensures same { (self.new.number ≡ self.old.number) × (self.new.left ≡ self.old.left) }
     {
         let Level {
             point,
@@ -269,65 +278,48 @@ impl<N: Naming> Team<N> {
             longer,
         } = level;
         let clause = point.clause_left(0);
-        let common = lesser(self.common, told.length);
-        let mut hand = Hand {
-            branch: left,
-            told,
-            common,
-        };
+        let common = lesser(hand.common, told.length);
+        hand.common = common;
+        hand.told = told;
         match point.last_in_place(shared.loaded, &mut hand.branch, &mut self.workspace) {
-            Ok(()) => Ok(hand),
+            Ok(()) => Ok(()),
             Err(AllocError) => {
                 shared.tree.give_up_child(&mut self.pass, &longer, clause);
-                drop(hand);
                 Err(AllocError)
             }
         }
     }
 
-    /// The next child of a fork, behind which others come.
+    /// Has the next child of a fork in hand, behind which others come.
     fn another_child<G: Gate>(
         &mut self,
         shared: &Shared<N, G>,
         level: Level<N>,
-        left: Branch<N>,
-    ) -> Result<Hand<N>, AllocError>
+        hand: &mut Hand<N>,
+    ) -> Result<(), AllocError>
         requires program { N.program ≡ named shared.now.loaded.now }
         requires works { Works N.program shared.now.tree.now self.old.pass self.old.found
             (Task.Children level ∷ self.old.stack.items) }
-        requires left { Serves level left }
+        requires left { Serves level hand.old.branch }
         requires served { AreServed (Some (forked level)) self.old.stack.items }
-        requires shares { Shares self.old.found self.old.common left.key }
+        requires shares { Shares self.old.found hand.old.common hand.old.branch.key }
         requires more { length level.point.clauses ≢ 1 }
-        ensures ready { IfOk result
-            (IsReady N.program shared.now.tree.now self.new.pass self.new.found self.new.stack.items) }
+        ensures ready { OnOk result
+            (IsReady N.program shared.now.tree.now self.new.pass self.new.found self.new.stack.items hand.new) }
         ensures given_up { OnErr result (Has N.program shared.now.tree.now self.new.pass self.new.stack.items) }
-        ensures same { self.new.number ≡ self.old.number }
+        ensures same { (self.new.number ≡ self.old.number) × (self.new.left ≡ self.old.left) }
     {
-        let Ok(told) = level.told.copy(shared.alloc) else {
-            self.give_up_children(shared, &level);
-            drop(level);
-            drop(left);
-            return Err(AllocError);
-        };
-        let common = lesser(self.common, level.told.length);
-        let mut hand = Hand {
-            branch: left,
-            told,
-            common,
-        };
         let mut level = level;
-        let Ok(()) = level.next(shared.loaded, &mut hand.branch, &mut self.workspace) else {
+        let Ok(()) = level.next_in_hand(shared.alloc, shared.loaded, hand, &mut self.workspace)
+        else {
             self.give_up_children(shared, &level);
-            drop(hand);
             drop(level);
             return Err(AllocError);
         };
         match self.put(shared, Task::Children(level)) {
-            Ok(()) => Ok(hand),
+            Ok(()) => Ok(()),
             Err(AllocError) => {
                 self.give_up_key(shared, &Snapshot::of(hand.branch.key()));
-                drop(hand);
                 Err(AllocError)
             }
         }
@@ -351,17 +343,11 @@ impl<N: Naming> Team<N> {
         ensures same { self.new.number ≡ self.old.number }
     {
         let mut hand = hand;
-        let is_forked = forks(&state);
-        let words = hand.branch.weight();
         self.left = None;
-        match self.go_on(shared, &mut hand, state) {
+        match self.go_in_hand(shared, &mut hand, state) {
             Ok(()) => {
                 self.put_by(hand);
-                if is_forked {
-                    self.hand_on(shared, words)
-                } else {
-                    Ok(())
-                }
+                Ok(())
             }
             Err(AllocError) => {
                 drop(hand);
@@ -370,8 +356,38 @@ impl<N: Naming> Team<N> {
         }
     }
 
+    /// Goes on with the branch in hand by its state, and hands on what may be handed on then. What is left of the
+    /// branch is in hand.
+    pub(crate) fn go_in_hand<G: Gate>(
+        &mut self,
+        shared: &Shared<N, G>,
+        hand: &mut Hand<N>,
+        state: BranchState,
+    ) -> Result<(), AllocError>
+        requires program { N.program ≡ named shared.now.loaded.now }
+        requires ready { IsReady N.program shared.now.tree.now self.old.pass self.old.found self.old.stack.items
+            hand.old }
+        requires state { (t : QueryTree N.program.program) → IsBranchOf N.program hand.old.branch t
+            → IsState N.program hand.old.branch t state }
+        requires at_rest { IsAtRest N.program hand.old.branch state }
+        requires none { self.old.left ≡ None }
+        ensures has { Has N.program shared.now.tree.now self.new.pass self.new.stack.items }
+        ensures at_work { OnOk result (IsLeftInHand N.program shared.now.tree.now self.new.pass self.new.found
+            self.new.stack.items hand.new) }
+        ensures same { (self.new.number ≡ self.old.number) × (self.new.left ≡ None) }
+    {
+        let is_forked = forks(&state);
+        let words = hand.branch.weight();
+        self.go_on(shared, hand, state)?;
+        if is_forked {
+            self.hand_on(shared, &*hand, words)
+        } else {
+            Ok(())
+        }
+    }
+
     /// Puts by what is left of the branch in hand.
-    fn put_by(&mut self, hand: Hand<N>)
+    pub(crate) fn put_by(&mut self, hand: Hand<N>)
         requires { Shares self.old.found hand.common hand.branch.key }
         ensures left { self.new.left ≡ Some hand.branch }
         ensures same { (self.new.number ≡ self.old.number) × (self.new.pass ≡ self.old.pass)
@@ -404,7 +420,7 @@ impl<N: Naming> Team<N> {
         ensures has { Has N.program shared.now.tree.now self.new.pass self.new.stack.items }
         ensures at_work { OnOk result (IsLeftInHand N.program shared.now.tree.now self.new.pass self.new.found
             self.new.stack.items hand.new) }
-        ensures same { self.new.number ≡ self.old.number }
+        ensures same { (self.new.number ≡ self.old.number) × (self.new.left ≡ None) }
     {
         match state {
             BranchState::Fork { goal, clauses, cut } => self.fork(shared, hand, goal, clauses, cut),
@@ -441,7 +457,7 @@ impl<N: Naming> Team<N> {
         ensures has { Has N.program shared.now.tree.now self.new.pass self.new.stack.items }
         ensures at_work { OnOk result (IsLeftInHand N.program shared.now.tree.now self.new.pass self.new.found
             self.new.stack.items hand.new) }
-        ensures same { self.new.number ≡ self.old.number }
+        ensures same { (self.new.number ≡ self.old.number) × (self.new.left ≡ None) }
     {
         let key = Snapshot::of(hand.branch.key());
         if self.stack.len() >= MOST_TASKS {
@@ -487,7 +503,7 @@ impl<N: Naming> Team<N> {
         ensures has { Has N.program shared.now.tree.now self.new.pass self.new.stack.items }
         ensures at_work { OnOk result (IsLeftInHand N.program shared.now.tree.now self.new.pass self.new.found
             self.new.stack.items hand.new) }
-        ensures same { self.new.number ≡ self.old.number }
+        ensures same { (self.new.number ≡ self.old.number) × (self.new.left ≡ None) }
     {
         let longer = Snapshot::of(hand.branch.key());
         let placed = PlacedFork { point: choicepoint };
@@ -516,7 +532,7 @@ impl<N: Naming> Team<N> {
         ensures has { Has N.program shared.now.tree.now self.new.pass self.new.stack.items }
         ensures at_work { OnOk result (IsLeftInHand N.program shared.now.tree.now self.new.pass self.new.found
             self.new.stack.items hand.now) }
-        ensures same { self.new.number ≡ self.old.number }
+        ensures same { (self.new.number ≡ self.old.number) × (self.new.left ≡ self.old.left) }
     {
         self.put(shared, Task::Children(level))
     }
@@ -538,7 +554,7 @@ impl<N: Naming> Team<N> {
         ensures has { Has N.program shared.now.tree.now self.new.pass self.new.stack.items }
         ensures at_work { OnOk result (IsLeftInHand N.program shared.now.tree.now self.new.pass self.new.found
             self.new.stack.items hand.new) }
-        ensures same { self.new.number ≡ self.old.number }
+        ensures same { (self.new.number ≡ self.old.number) × (self.new.left ≡ None) }
     {
         shared.tree.answer(&mut self.pass, hand.branch.key());
         self.add(shared, hand, floundered)?;
@@ -584,6 +600,7 @@ impl<N: Naming> Team<N> {
     // ---- want of memory
 
     /// Puts a task on top of the stack. After want of memory it has been given up.
+    #[inline(always)]
     fn put<G: Gate>(&mut self, shared: &Shared<N, G>, task: Task<N>) -> Result<(), AllocError>
         requires has { (others : List (Task N)) × Has N.program shared.now.tree.now self.old.pass (task ∷ others) }
         ensures same { (self.new.number ≡ self.old.number) × (self.new.found ≡ self.old.found)
@@ -671,14 +688,6 @@ impl<N: Naming> Team<N> {
             );
         }
     }
-}
-
-/// The lesser of two numbers.
-fn lesser(one: usize, other: usize) -> usize
-    ensures first { result ≤ one }
-    ensures second { result ≤ other }
-{
-    if one < other { one } else { other }
 }
 
 /// Whether a branch of this state is forked.

@@ -14,6 +14,9 @@ use std::alloc::AllocError;
 use std::snapshot::Snapshot;
 use std::thread::Threads;
 
+/// As many branches as a pace leaves to the leader at most are handed to the team at once.
+const MOST_RESTS: u32 = 4096;
+
 /// Goes on with what is on top of the stack; `false` where nothing is there. After want of memory the task has been
 /// given up.
 pub(crate) fn turn<N: Naming + Send + Sync, R: Threads + Sync, G: Gate>(
@@ -78,11 +81,30 @@ fn advance<N: Naming + Send + Sync, R: Threads + Sync, G: Gate>(
         (IsAtWork N.program shared.now.tree.now team.new.pass team.new.found team.new.stack.items team.new.left) }
     ensures same { team.new.number ≡ team.old.number }
 {
-    if shared.workers < 2 || pace.rests() {
+    if shared.workers < 2 || is_led(team, pace) {
         return team.lead(shared, hand);
     }
     let own = team.own_row(shared, hand)?;
     send_off(rt, shared, team, pace, own)
+}
+
+/// Whether the next branch is left to the leader. It counts as one of those that are. The team knows of the others
+/// then, so that it may explore them in a row.
+fn is_led<N: Naming>(team: &mut Team<N>, pace: &mut Pace) -> bool
+    ensures { (team.new.number ≡ team.old.number) × (team.new.pass ≡ team.old.pass)
+        × (team.new.found ≡ team.old.found) × (team.new.stack ≡ team.old.stack) × (team.new.left ≡ team.old.left) }
+{
+    'resting: for _ in 0..MOST_RESTS {
+        if !pace.rests() {
+            break 'resting;
+        }
+        team.rests = team.rests.saturating_add(1);
+    }
+    if team.rests == 0 {
+        return false;
+    }
+    team.rests -= 1;
+    true
 }
 
 /// Explores a branch of a row of its own, by the workers of the team where that may pay.

@@ -15,7 +15,11 @@ use and_tree::TreePass;
 use crossbeam_utils::Backoff;
 use std::alloc::AllocError;
 use std::sync::Wait;
-use std::thread::Threads;
+use std::thread::{Parker, Threads};
+use std::time::Duration;
+
+/// So long a team sleeps for which nothing is to be done, before it looks again, in microseconds.
+const NAP: u64 = 50;
 
 /// A team that is done, and whether it met want of memory.
 pub struct Worked<N: Naming> {
@@ -125,6 +129,7 @@ fn wait<N: Naming, R: Wait, G: Gate>(
     ensures same { team.new.number ≡ team.old.number }
 {
     let backoff = Backoff::new();
+    let parker = Parker::new();
     'waiting: for _ in rt.forever() {
         if team.take_over(shared)? {
             return Ok(true);
@@ -132,7 +137,16 @@ fn wait<N: Naming, R: Wait, G: Gate>(
         if shared.tree.left(&mut team.pass) == 0 {
             return Ok(false);
         }
-        backoff.snooze();
+        rest(rt, &backoff, &parker);
     }
     unreachable!()
+}
+
+/// Leaves the processor to others: for moments at first, and then asleep, a nap at a time. Nobody has to wake it.
+fn rest<R: Wait>(rt: &R, backoff: &Backoff, parker: &Parker) {
+    if backoff.is_completed() {
+        parker.park_timeout(rt, Duration::from_micros(NAP));
+    } else {
+        backoff.snooze();
+    }
 }

@@ -30,7 +30,7 @@ returns-in-Ok-clause-ready g c =
     let common = c.lesser-common in
     last_ready P tree s.pass s.found c.args.level rest c.last_in_place.new.branch s.stack.items common.result c.requires.works child
     c.requires.one c.in-Ok.ensures.back c.requires.served
-    (child_shares P tree s.pass s.found c.args.level c.args.left s.stack.items s.common common.result c.requires.works c.requires.left
+    (child_shares P tree s.pass s.found c.args.level c.args.hand.now.branch s.stack.items c.args.hand.now.common common.result c.requires.works c.requires.left
     c.requires.shares common.ensures.first common.ensures.second)
 
 pub give_up_child-requires-clause-hand : goal.give_up_child-requires-clause-hand

@@ -80,10 +80,11 @@ returns-in-Ok-put_below-clause-branch g c =
     )
 
 pub returns-in-Ok-put_below-clause-served : goal.returns-in-Ok-put_below-clause-served
-returns-in-Ok-put_below-clause-served g c =
+returns-in-Ok-put_below-clause-served g c = λ on_top served.
     let s = c.args.self.now in
     let m : Level g.row.N.Denot = c.next.new.self in
-    let put = c.in-Ok-put_below.ensures.put in
-    subst (λ o. AreServed o c.put_below.new.self.stack.items) (sym c.put_below.ensures.same.2)
-    (subst (λ (ts : List (Task g.row.N.Denot)). AreServed s.left ts) (sym put.1)
-    (served_next g.N.Naming.program s.left c.args.level m c.next.new.branch s.stack.items c.in-Ok.ensures.child c.requires.served))
+    subst (λ (ts : List (Task g.row.N.Denot)). AreServed on_top ts) (sym c.in-Ok-put_below.ensures.put.1)
+    (served_next g.N.Naming.program on_top c.args.level m c.next.new.branch s.stack.items c.in-Ok.ensures.child served)
+
+pub returns-then-left-eq0-clause-served : goal.returns-then-left-eq0-clause-served
+returns-then-left-eq0-clause-served g c = λ on_top served. served.1
