@@ -3,7 +3,6 @@ pub mod Stacked
 pub mod Stepped
 pub mod NextCalls
 pub mod Replacing
-pub mod Outcomes
 pub mod WholeRuns
 pub mod Marks
 pub mod Variants

@@ -1,6 +1,5 @@
 pub mod Documents
 pub mod Proofs
-pub mod Sides
 pub mod Unfolding
 pub mod Stacks
 pub mod Predicates

@@ -17,12 +17,11 @@ ghost use Rattle.and_proof.specs.Proofs as specs;
 ghost use Rattle.and_proof.specs.Unfolding.{IsProved};
 ghost use Rattle.and_proof.specs.Written.{IsCallRead, AreCallsRead, named_if_shown};
 
-use crate::asking::call_at;
 use crate::documents::MARK;
-use crate::entering::Tools;
-use crate::goals::{Goals, Taken};
+use crate::goals::{Goals, Taken, call_at};
 use crate::unfolding::{QUERY, unfold};
 use crate::waiting::{Waiting, run_arithmetic};
+use crate::workspace::Workspace;
 use and_cells::{Naming, PlainCells};
 use and_model::{ClauseNo, Code, Goal, GoalList, NodeNo, Ref, Text};
 use and_print::{VariableNames, show_line, show_term};
@@ -56,8 +55,8 @@ fn explain_named<N: Naming>(
 {
     let mut cells = PlainCells::<N>::with(alloc, 0)?;
     let mut goals = Goals::new(alloc);
-    let mut tools = Tools::new(alloc);
-    if !unfold(loaded, code, &mut cells, &mut goals, &mut tools)? {
+    let mut workspace = Workspace::new(alloc);
+    if !unfold(loaded, code, &mut cells, &mut goals, &mut workspace)? {
         return Ok(None);
     }
     let Goals {
@@ -66,7 +65,7 @@ fn explain_named<N: Naming>(
         taken,
     } = goals;
     let mut waiting = Waiting::behind(alloc, passed);
-    if !run_arithmetic(loaded, &mut cells, &mut waiting, &mut tools)? {
+    if !run_arithmetic(loaded, &mut cells, &mut waiting, &mut workspace)? {
         return Ok(None);
     }
     let left = waiting.all(alloc)?;

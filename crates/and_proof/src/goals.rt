@@ -1,17 +1,19 @@
 //! The goals of an unfolding.
 
 ghost use Rattle.std.specs.Prelude.{◌≡◌, ◌≤◌, ◌⊎◌, ℕ, true, false, [], ◌∷◌, ◌++◌, map, reverse, length, OnOk};
+ghost use Rattle.std.specs.Prelude.{Some, slice_get};
 ghost use Rattle.and_model.specs.Terms.{Term};
 ghost use Rattle.and_model.specs.Programs.{call, arithmetic, Arithmetic, clause_at};
 ghost use Rattle.and_cells.specs.Ranges.{IsGoalInRange};
 ghost use Rattle.and_cells.specs.Parts.{named};
-ghost use Rattle.and_program.specs.Loaded.{program_of};
+ghost use Rattle.and_program.specs.Loaded.{nodes_at, program_of, skeleton_of};
+ghost use Rattle.and_program.specs.Skeletons;
 ghost use Rattle.and_program.specs.Items.{node_item};
 ghost use Rattle.and_branch_laws.specs.Kept.{item_at};
 ghost use Rattle.and_branch_laws.specs.Reducing.{body_goals};
 ghost use Rattle.and_proof.specs.Stacks.{is_goal_item, at_depth};
 
-use and_model::{ClauseNo, Goal};
+use and_model::{ClauseNo, Goal, NodeNo};
 use and_program::{ItemNode, Loaded};
 use std::alloc::{AllocError, Global};
 
@@ -145,4 +147,17 @@ pub(crate) fn is_call(loaded: &Loaded, goal: Goal) -> bool
     ensures arithmetic { result ≡ false → (a : Arithmetic) × (item_at (program_of loaded.now) goal ≡ arithmetic a) }
 {
     loaded.items(goal.clause)[goal.item as usize].is_call()
+}
+
+/// The node of a call, by its place in the body of a clause. Takes no memory.
+pub(crate) fn call_at(loaded: &Loaded, clause: ClauseNo, item: u32) -> NodeNo
+    requires clause { clause.0 ≤ length (program_of loaded.now).clauses }
+    requires call { (node : ℕ)
+        × (slice_get (nodes_at (skeleton_of loaded.now) clause.0).items item ≡ Some (Skeletons.call node)) }
+    ensures { slice_get (nodes_at (skeleton_of loaded.now) clause.0).items item ≡ Some (Skeletons.call result.0) }
+{
+    let ItemNode::Call { goal } = loaded.items(clause)[item as usize] else {
+        unreachable!()
+    };
+    goal
 }

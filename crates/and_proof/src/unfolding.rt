@@ -13,13 +13,13 @@ ghost use Rattle.and_proof.specs.Predicates.{named_alike, has_name};
 ghost use Rattle.and_proof.specs.Proofs.{HasProof};
 ghost use Rattle.and_proof.specs.Unfolding.{IsUnfolding, IsAtCall, IsCalled, Enters, ReplacesTo};
 
-use crate::asking::call_at;
-use crate::entering::{Entered, Tools, begin, take};
-use crate::goals::{Ahead, Goals, Taken, is_call, push_body};
+use crate::goals::{Ahead, Goals, Taken, call_at, is_call, push_body};
+use crate::workspace::Workspace;
 use and_cells::{Naming, PlainCells};
 use and_model::limits::MAX_LIMIT;
 use and_model::{ClauseNo, Code, Goal, NameNo, NodeNo};
 use and_program::{Loaded, NodeKind};
+use and_reduction::{Entered, begin, take};
 use std::alloc::AllocError;
 
 /// The number of the query among the clauses.
@@ -33,7 +33,7 @@ pub(crate) fn unfold<N: Naming>(
     code: &Code,
     cells: &mut PlainCells<N>,
     goals: &mut Goals,
-    tools: &mut Tools,
+    workspace: &mut Workspace,
 ) -> Result<bool, AllocError>
     requires program { N.program ≡ named loaded.now }
     requires empty { cells.old ≡ [] }
@@ -43,11 +43,11 @@ pub(crate) fn unfold<N: Naming>(
     ensures none { result ≡ Ok false → HasProof N.program.program code.now → ⊥ }
 {
     loaded.skeleton_is_of_the_program();
-    if !begin_query(loaded, cells, goals, tools)? {
+    if !begin_query(loaded, cells, goals, workspace)? {
         return Ok(false);
     }
     'places: for place in 0..code.len() {
-        if !replace_next(loaded, cells, goals, *code.at(place), tools)? {
+        if !replace_next(loaded, cells, goals, *code.at(place), workspace)? {
             return Ok(false);
         }
     }
@@ -61,7 +61,7 @@ fn begin_query<N: Naming>(
     loaded: &Loaded,
     cells: &mut PlainCells<N>,
     goals: &mut Goals,
-    tools: &mut Tools,
+    workspace: &mut Workspace,
 ) -> Result<bool, AllocError>
     requires program { N.program ≡ named loaded.now }
     requires empty { cells.old ≡ [] }
@@ -73,7 +73,7 @@ fn begin_query<N: Naming>(
     if loaded.weight(QUERY) > MAX_LIMIT {
         return Ok(false);
     }
-    match begin(loaded, cells, tools)? {
+    match begin(loaded, cells, &mut workspace.tools)? {
         Entered::NoSolution => Ok(false),
         Entered::Solved => {
             push_body(&mut goals.ahead, loaded, QUERY, 0, 1)?;
@@ -112,7 +112,7 @@ fn replace_next<N: Naming>(
     cells: &mut PlainCells<N>,
     goals: &mut Goals,
     clause: ClauseNo,
-    tools: &mut Tools,
+    workspace: &mut Workspace,
 ) -> Result<bool, AllocError>
     requires program { N.program ≡ named loaded.now }
     requires unfolding { (cs : List ℕ) × IsUnfolding N.program cells.old goals.old cs }
@@ -123,7 +123,7 @@ fn replace_next<N: Naming>(
     let Some(next) = goals.ahead.pop() else {
         return Ok(false);
     };
-    replace(loaded, cells, goals, next, clause, tools)
+    replace(loaded, cells, goals, next, clause, workspace)
 }
 
 /// Replaces a call that was taken off by the clause, and answers whether that could be done: the clause is of its
@@ -134,7 +134,7 @@ fn replace<N: Naming>(
     goals: &mut Goals,
     next: Ahead,
     clause: ClauseNo,
-    tools: &mut Tools,
+    workspace: &mut Workspace,
 ) -> Result<bool, AllocError>
     requires program { N.program ≡ named loaded.now }
     requires called { (cs : List ℕ) × IsCalled N.program cells.old goals.old next cs }
@@ -148,7 +148,7 @@ fn replace<N: Naming>(
     if loaded.weight(clause) > MAX_LIMIT - cells.len() {
         return Ok(false);
     }
-    enter(loaded, cells, goals, next, clause, tools)
+    enter(loaded, cells, goals, next, clause, workspace)
 }
 
 /// Replaces a call by a clause of its predicate that fits, and answers whether what it asks has a solution. An
@@ -159,7 +159,7 @@ fn enter<N: Naming>(
     goals: &mut Goals,
     next: Ahead,
     clause: ClauseNo,
-    tools: &mut Tools,
+    workspace: &mut Workspace,
 ) -> Result<bool, AllocError>
     requires program { N.program ≡ named loaded.now }
     requires enters { (cs : List ℕ) × Enters N.program cells.old goals.old next clause.0 cs }
@@ -168,7 +168,14 @@ fn enter<N: Naming>(
 {
     loaded.skeleton_is_of_the_program();
     let node = cells.len();
-    match take(loaded, cells, next.goal, clause, tools)? {
+    match take(
+        loaded,
+        cells,
+        next.goal,
+        clause,
+        &mut workspace.trail,
+        &mut workspace.tools,
+    )? {
         Entered::NoSolution => Ok(false),
         Entered::Solved => {
             goals.taken.push(Taken {

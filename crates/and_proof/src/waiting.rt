@@ -9,11 +9,11 @@ ghost use Rattle.and_proof.specs.Rounds.{KeepsWhole, HasNone, IsRound};
 ghost use Rattle.and_proof.specs.declared.waiting.Waiting.{Waiting};
 ghost use Rattle.and_proof.specs.Unfolding.{IsWholeIn, AllWait};
 
-use crate::entering::Tools;
-use crate::running::{Ran, run};
+use crate::workspace::Workspace;
 use and_cells::{Naming, PlainCells};
 use and_model::{Goal, GoalList};
 use and_program::Loaded;
+use and_reduction::{Ran, run};
 use std::alloc::{AllocError, Global};
 
 /// Which way a round goes through the goals.
@@ -120,7 +120,7 @@ pub(crate) fn run_arithmetic<N: Naming>(
     loaded: &Loaded,
     cells: &mut PlainCells<N>,
     waiting: &mut Waiting,
-    tools: &mut Tools,
+    workspace: &mut Workspace,
 ) -> Result<bool, AllocError>
     requires program { N.program ≡ named loaded.now }
     requires whole { (rs : List Reduction) × (t : QueryTree N.program.program)
@@ -132,7 +132,7 @@ pub(crate) fn run_arithmetic<N: Naming>(
 {
     let mut way = Way::Back;
     'rounds: loop {
-        match go_round(loaded, cells, waiting, way, tools)? {
+        match go_round(loaded, cells, waiting, way, workspace)? {
             Round::Still => return Ok(true),
             Round::Changed => {}
             Round::False => return Ok(false),
@@ -157,7 +157,7 @@ fn go_round<N: Naming>(
     cells: &mut PlainCells<N>,
     waiting: &mut Waiting,
     way: Way,
-    tools: &mut Tools,
+    workspace: &mut Workspace,
 ) -> Result<Round, AllocError>
     requires program { N.program ≡ named loaded.now }
     requires whole { (rs : List Reduction) × (t : QueryTree N.program.program)
@@ -171,8 +171,14 @@ fn go_round<N: Naming>(
         let Some(goal) = waiting.take(way) else {
             return Ok(round);
         };
-        match run(loaded, cells, goal, tools)? {
-            Ran::Waits => {
+        match run(
+            loaded,
+            cells,
+            goal,
+            &mut workspace.trail,
+            &mut workspace.tools,
+        )? {
+            Ran::Waits { cell: _ } => {
                 waiting.put(way, goal)?;
             }
             Ran::Done => round = Round::Changed,

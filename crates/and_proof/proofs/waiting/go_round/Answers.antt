@@ -2,7 +2,6 @@ use Rattle.std.proofs.Common.{◌∷◌, [], List, length, refl, ap, sym, ◌∙
 use Rattle.std.proofs.lemmas.List.{length-append}
 use Rattle.and_model.specs.declared.reference.Ref.{Ref}
 use Rattle.and_branch_laws.proofs.Loading.{loaded_is}
-use Rattle.and_proof.specs.Sides.{RunsTo}
 use Rattle.and_proof.specs.Stacks.{in_order, goals_before}
 use Rattle.and_proof.proofs.Rounds.{RoundSoFar, begun, next_can, waited, ran, none_holds, ended}
 use Rattle.and_proof.proofs.WholeRuns.{whole_settled}
@@ -35,10 +34,11 @@ run-requires-clause-goal g c =
 pub goals-preserved-in-Continue-branch-3 : goal.goals-preserved-in-Continue-branch-3
 goals-preserved-in-Continue-branch-3 g c =
     let P = g.N.Naming.program in
-    let came = subst (RunsTo P c.goals.cells c.run.new.cells c.in-Some.goal) c.in-Waits.is c.in_ok-run.ensures in
-    subst (λ (row : List Ref). RoundSoFar P c.args.cells.now row c.args.waiting.now c.put.new.self c.args.way c.goals.round) (sym came.1)
+    subst (λ (row : List Ref). RoundSoFar P c.args.cells.now row c.args.waiting.now c.put.new.self c.args.way c.goals.round)
+    (sym (c.in_ok-run.ensures.unchanged c.in-Waits.cell (let t = c.in-Waits.is in cc)))
     (waited P c.args.cells.now c.goals.cells c.args.waiting.now c.goals.waiting c.args.way c.goals.round c.goals.invariant c.take.new.self
-    c.in-Some.goal c.in-Some.ensures.some c.take.ensures.behind c.put.new.self c.in_ok-put-in-Waits.ensures.put c.put.ensures.before came.0)
+    c.in-Some.goal c.in-Some.ensures.some c.take.ensures.behind c.put.new.self c.in_ok-put-in-Waits.ensures.put c.put.ensures.before
+    (c.in_ok-run.ensures.waits c.in-Waits.cell (let t = c.in-Waits.is in cc)))
 
 pub goals-smaller-in-Continue-branch-3 : goal.goals-smaller-in-Continue-branch-3
 goals-smaller-in-Continue-branch-3 g c =
@@ -50,7 +50,7 @@ goals-preserved g c =
     let P = g.N.Naming.program in
     let k = c.skeleton_is_of_the_program.ensures in
     let facts = loaded_is P c.args.loaded.now c.requires.program k.skeleton k.own_variables k.few in
-    let has_run = subst (RunsTo P c.goals.cells c.run.new.cells c.in-Some.goal) c.in-Done.is c.in_ok-run.ensures in
+    let has_run = c.in_ok-run.ensures.done (let t = c.in-Done.is in cc) in
     ran P c.args.cells.now c.goals.cells c.args.waiting.now c.goals.waiting c.args.way c.goals.round c.goals.invariant c.take.new.self
     c.in-Some.goal c.in-Some.ensures.some c.take.ensures.behind facts c.run.new.cells has_run
 
@@ -64,7 +64,7 @@ returns-in-False g c =
     let P = g.N.Naming.program in
     let k = c.skeleton_is_of_the_program.ensures in
     let facts = loaded_is P c.args.loaded.now c.requires.program k.skeleton k.own_variables k.few in
-    let cannot = subst (RunsTo P c.goals.cells c.run.new.cells c.in-Some.goal) c.in-False.is c.in_ok-run.ensures in
+    let cannot = c.in_ok-run.ensures.fails (let t = c.in-False.is in cc) in
     none_holds P c.args.cells.now c.goals.cells c.args.waiting.now c.goals.waiting c.args.way c.goals.round c.goals.invariant c.take.new.self
     c.in-Some.goal c.in-Some.ensures.some c.take.ensures.behind facts cannot
 
