@@ -1,10 +1,9 @@
 -- Calls and clauses of one predicate.
-use Rattle.std.proofs.Common.{ℕ, ◌≡◌, ◌<◌, ◌≤◌, Bool, true, false, ◌&&◌, length, nat_eq, leb, ltb, refl, ap, ◌∙◌, inl, inr, arith}
+use Rattle.std.proofs.Common.{ℕ, ◌≡◌, ◌<◌, ◌≤◌, Bool, true, ◌&&◌, length, nat_eq, leb, ltb, refl, ap, ◌∙◌, inl, inr, arith}
 use Rattle.std.proofs.Math.Dec.{eqb-suc-zero, eqb-zero-suc, eqb-suc-suc}
 use Rattle.std.proofs.lemmas.Bool.{leb-false, ltb-false}
 use Rattle.and_model.specs.Terms.{Term, Terms, variable, number, compound, none, more, width}
 use Rattle.and_model.specs.Programs.{Program, is_of, clause_at, same_count, same_predicate}
-use Rattle.and_laws.proofs.Deciding.{of_bounds}
 use Rattle.and_laws.proofs.Equality.{bool_cases}
 use Rattle.and_program.specs.Shown.{shown_term}
 use Rattle.and_proof.specs.Predicates.{named_alike}
@@ -38,10 +37,3 @@ of_head P t c some low = both_true (ltb 0 c) (leb c (length P.clauses)) (same_pr
       | inl e ↦ e
       | inr e ↦ absurd (let past = leb-false c (length P.clauses) e in omega (arith, past, low))
     ]
-
--- and neither the query is, nor a number past them.
-pub none_of_it : (P : Program) (t : Term) (c : ℕ) → (0 < c → c ≤ length P.clauses → ⊥) → is_of P t c ≡ false
-none_of_it P t c out = elim (bool_cases (is_of P t c)) [
-  | inr e ↦ e
-  | inl e ↦ let within = of_bounds P t c e in absurd (out within.0 within.1)
-]

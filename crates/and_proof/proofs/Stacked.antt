@@ -1,5 +1,5 @@
 -- The goals of a body, put on a stack.
-use Rattle.std.proofs.Common.{ℕ, suc, ◌≡◌, ◌<◌, true, false, List, [], ◌∷◌, ◌++◌, length, map, reverse, append-nil, append_assoc}
+use Rattle.std.proofs.Common.{ℕ, suc, ◌≡◌, ◌<◌, true, false, List, [], ◌∷◌, ◌++◌, length, map, reverse, append_assoc}
 use Rattle.std.proofs.Common.{get_or, drop, refl, ap, sym, ◌∙◌, subst, inl, inr, arith, drop-cons}
 use Rattle.std.proofs.lemmas.Bool.{true≢false}
 use Rattle.std.proofs.lemmas.List.{length-map, get_or-map, reverse-append}
@@ -87,14 +87,6 @@ module _ (ss : List Shape) (xs : List ItemNode) (depth c n i : ℕ) (d : ItemNod
             ap (λ (l : List Item). goals_from depth c n i l) rest_is ∙ no_item ss depth c n i item tail other in
             subst (λ (gs : List Ahead). AreOn gs old new) (sym others) (same other ∙ behind)
       ]
-
--- Behind the last item no goal is left.
-dropped : (xs : List Item) → drop (length xs) xs ≡ []
-dropped [] = refl
-dropped (x ∷ xs) = dropped xs
-
-pub none_on : (depth c n : ℕ) (xs : List Item) (old : List Ahead) → AreOn (goals_from depth c n (length xs) (drop (length xs) xs)) old old
-none_on depth c n xs old = sym (ap (λ l. old ++ reverse (goals_from depth c n (length xs) l)) (dropped xs) ∙ append-nil old)
 
 -- The goals of a body in the frame of a path, with the depth of that.
 pub depths_are : (c n : ℕ) (q : Path) (i : ℕ) (items : List Item)

@@ -1,5 +1,5 @@
 -- The steps of an unfolding.
-use Rattle.std.proofs.Common.{ℕ, suc, ◌≡◌, ◌+◌, ◌≤◌, ◌<◌, ◌⊎◌, true, false, true≢false, Bool, List, [], ◌∷◌, ◌++◌, append_assoc, length, map}
+use Rattle.std.proofs.Common.{ℕ, suc, ◌≡◌, ◌+◌, ◌≤◌, ◌⊎◌, true, false, true≢false, Bool, List, [], ◌∷◌, ◌++◌, append_assoc, length, map}
 use Rattle.std.proofs.Common.{reverse, replicate, get_or, cond, refl, ap, sym, ◌∙◌, subst, inl, inr, arith, Contains}
 use Rattle.std.specs.Prelude.{All}
 use Rattle.std.proofs.lemmas.List.{map-append, reverse-append, reverse-reverse}
@@ -146,9 +146,6 @@ module _ (P : NamedProgram) (loaded : IsLoaded P) where
       → (cs : List ℕ) → HasProof P.program cs → ⊥
   begun_dead none_is cs (u, unfolds, outcome, fits) =
       Keeping.dead_has_none root u (blank_below u) outcome (Rooting.unsolved_root_is_dead P loaded none_is)
-
-  pub begun_heavy : MAX_LIMIT < clause_weight P.program.query → (cs : List ℕ) → HasProof P.program cs → ⊥
-  begun_heavy heavy cs (u, unfolds, outcome, fits) = absurd (omega (arith, heavy, fits))
 
 -- ---- Goals on a stack
 
