@@ -10,7 +10,8 @@ use Rattle.and_first_argument.specs.declared.key.Key.{Key}
 use Rattle.and_first_argument.specs.declared.first_arguments.Addition.{Addition}
 use Rattle.and_first_argument.specs.declared.first_arguments.FirstArguments.{FirstArguments}
 use Rattle.and_branch_laws.proofs.Lists.{all_of}
-use Rattle.and_clause_index.specs.Tables.{clauses_for, first_of, added, additions_of, picked_by, IsTableFor, IsEntryFor}
+use Rattle.and_clause_index.specs.Tables.{clauses_for, first_of, added, additions_of, picked_by, head_print, IsTableFor, IsEntryFor}
+use Rattle.and_clause_index.specs.Sieves.{IsSieveOf}
 use Rattle.and_clause_index.specs.declared.table.Predicate.{Predicate}
 use Rattle.and_clause_index.proofs.ClauseLists.{listed_of, clause_there}
 
@@ -35,8 +36,10 @@ under_table P all clauses same None is key = inr same
 under_table P all clauses same (Some table) is key = inl (is key)
 
 pub entry_for : (P : Program) (clauses : List ClauseNo) (predicate : Predicate) → predicate.clauses.items ≡ clauses
-    → IsTableFor (additions_of P clauses) predicate.by_first → IsEntryFor P clauses (Some predicate)
-entry_for P clauses predicate same is = record {
+    → IsTableFor (additions_of P clauses) predicate.by_first → IsSieveOf (head_print P) clauses predicate.sieve
+    → IsEntryFor P clauses (Some predicate)
+entry_for P clauses predicate same is sieve = record {
   all = same;
   under = under_table P predicate.clauses.items clauses same predicate.by_first is;
+  sieve = sieve;
 }

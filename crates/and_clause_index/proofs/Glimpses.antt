@@ -33,8 +33,9 @@ use Rattle.and_cell_laws.proofs.Structures.{node_term_shape, value_of_part}
 use Rattle.and_arith.proofs.Ranging.{among_node, argument_below}
 use Rattle.and_branch_laws.specs.Variables.{placed, cells_from}
 use Rattle.and_branch_laws.proofs.Lists.{all_of}
-use Rattle.and_clause_index.specs.Looks.{Fits, IsGlimpse, IsGlimpseAt, IsSeenIn, MayBe}
-use Rattle.and_clause_index.specs.Prints.{mark, argument_kind, no_marks, Tells}
+use Rattle.and_clause_index.specs.Looks.{Fits, Shows, IsGlimpse, IsGlimpseAt, IsSeenIn, MayBe}
+use Rattle.and_clause_index.specs.Prints.{mark, marks_at, argument_kind, no_marks, no_print, Tells, MarksTell}
+use Rattle.and_clause_index.specs.declared.prints.Marks.{Marks}
 use Rattle.and_clause_index.specs.declared.looking.Glimpse.{Glimpse}
 use Rattle.and_clause_index.proofs.Differing.{fits_later, fits_shown, argument_placed, count_later}
 use Rattle.and_clause_index.proofs.Printing.{argument_there}
@@ -89,6 +90,21 @@ pub nothing_told : (t : Term) (j : ℕ) → IsGlimpseAt (record { kind = Variabl
 nothing_told t j = record {
   kind = tt;
   marks = record { own = λ some. absurd (some refl); first = λ some. absurd (some refl); second = λ some. absurd (some refl) };
+}
+
+pub nothing_tells : (m : Marks) → MarksTell no_marks m
+nothing_tells m = record { own = λ some. absurd (some refl); first = λ some. absurd (some refl); second = λ some. absurd (some refl) }
+
+-- A first argument alone.
+pub first_shown : (k : NodeKind) (call : Term) → Fits k (argument_of call 0) → Shows (record { first = k; print = no_print }) call
+first_shown k call f = record {
+  first = f;
+  print = record {
+    first = nothing_tells (marks_at call 0);
+    second = nothing_tells (marks_at call 1);
+    third = λ some. absurd (some refl);
+    fourth = λ some. absurd (some refl);
+  };
 }
 
 -- ---- Nodes in frames

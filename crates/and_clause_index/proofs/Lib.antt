@@ -7,3 +7,4 @@ pub mod Glimpses
 pub mod Left
 pub mod Printing
 pub mod Serving
+pub mod Sifting

@@ -105,7 +105,7 @@ instance_tells s t = record {
 is_some : (a : ℕ) → nat_eq a 0 ≡ false → a ≢ 0
 is_some a e is = true≢false (sym (eq-eqb a 0 is) ∙ e)
 
-marks_meet : (a b r : ℕ) → Tells a r → Tells b r → differ a b ≡ false
+pub marks_meet : (a b r : ℕ) → Tells a r → Tells b r → differ a b ≡ false
 marks_meet a b r one other = elim (bool_cases (nat_eq a 0)) [
   | inl a_none ↦ rw a_none refl
   | inr a_is ↦ elim (bool_cases (nat_eq b 0)) [

@@ -1,4 +1,5 @@
 pub mod Looks
 pub mod Prints
 pub mod Served
+pub mod Sieves
 pub mod Tables

@@ -16,8 +16,10 @@ use Rattle.and_first_argument.specs.declared.key.Key.TheVariants as keys
 use Rattle.and_first_argument.specs.declared.first_arguments.FirstArguments.{FirstArguments}
 use Rattle.and_first_argument.specs.declared.first_arguments.Addition.{Addition}
 use Rattle.and_first_argument.specs.declared.first_arguments.Addition.TheVariants.{Under, Any}
-use Rattle.and_clause_index.specs.Prints.{ArePrints, no_print}
+use Rattle.and_clause_index.specs.Prints.{ArePrints, print_of, no_print}
+use Rattle.and_clause_index.specs.Sieves.{IsSieveOf, IsShorter}
 use Rattle.and_clause_index.specs.declared.prints.Print.{Print}
+use Rattle.and_clause_index.specs.declared.sieve.Sieve.{Sieve}
 use Rattle.and_clause_index.specs.declared.table.Predicate.{Predicate}
 use Rattle.and_clause_index.specs.declared.table.Determinacy.{Determinacy}
 
@@ -63,11 +65,29 @@ added (Compound c n) clause = Under (keys.Name c n) clause
 abbrev pub additions_of : Program → List ClauseNo → List Addition
 additions_of P clauses = map (λ (c : ClauseNo). added (first_of (clause_at P c.0).head) c) clauses
 
+-- the sieve of an entry, if it has one
+abbrev pub sieve_in : Option Predicate → Option Sieve
+sieve_in None = None
+sieve_in (Some predicate) = predicate.sieve
+
+-- the print of a clause's head
+abbrev pub head_print : Program → ClauseNo → Print
+head_print P c = print_of (clause_at P c.0).head
+
+-- They are the clauses, or those that the sieve of an entry has for the mark of a print.
+abbrev pub IsSiftedBy : Option Sieve → Print → (old new : List ClauseNo) → Type 0
+IsSiftedBy None print old new = new ≡ old
+IsSiftedBy (Some sieve) print old new = IsShorter sieve print old new
+
+abbrev pub IsSifted : Option Predicate → Print → (old new : List ClauseNo) → Type 0
+IsSifted entry print old new = IsSiftedBy (sieve_in entry) print old new
+
 -- The entry is that of a predicate with these clauses.
 pub record IsEntryFor (P : Program) (clauses : List ClauseNo) (entry : Option Predicate) : Type 0 where
   pub all : clauses_in entry ≡ clauses
   pub under : (key : Key) → (under_key entry key ≡ picked key (additions_of P clauses))
       ⊎ (under_key entry key ≡ clauses)
+  pub sieve : IsSieveOf (head_print P) clauses (sieve_in entry)
 
 -- the clauses of an entry that serve a first argument of which this is known
 abbrev pub tried : Option Predicate → NodeKind → List ClauseNo

@@ -7,8 +7,9 @@
 
 pub mod looking;
 mod prints;
+mod sieve;
 pub mod table;
 
-pub use looking::Look;
+pub use looking::{Look, clauses_by_first};
 pub use prints::count_in;
 pub use table::{Determinacy, compile};

@@ -1,20 +1,22 @@
 //! A look at a call, before its clauses are tried: most heads that it can't be made one with have
 //! another print, and need no trial.
 
-ghost use Rattle.std.specs.Prelude.{◌≡◌, ◌<◌, List, length};
+ghost use Rattle.std.specs.Prelude.{◌≡◌, ◌<◌, ℕ, List, length};
 ghost use Rattle.and_model.specs.Terms.{Term, Substitution, apply};
 ghost use Rattle.and_model.specs.Solutions.{Solves};
 ghost use Rattle.and_program.specs.Shown.{argument_of};
 ghost use Rattle.and_program.specs.Skeletons.{node_term};
 ghost use Rattle.and_model.specs.declared.reference.Ref.{Ref};
-ghost use Rattle.and_cells.specs.Ranges.{IsInRangeOrHalf, IsNodeInRange};
+ghost use Rattle.and_cells.specs.Ranges.{NamedProgram, IsInRangeOrHalf, IsNodeInRange};
 ghost use Rattle.and_cells.specs.Seen.{IsWrittenIfNumber, OnlyReads};
 ghost use Rattle.and_cells.specs.Meaning.{equations_of};
 ghost use Rattle.and_cells.specs.Parts.{named};
 ghost use Rattle.and_branch_laws.specs.Variables.{placed};
 ghost use Rattle.and_clause_index.specs.Looks.{Fits, MayBe, IsGlimpse, IsGlimpseAt, IsSeenIn, IsCertain, IsLookOver};
-ghost use Rattle.and_clause_index.specs.Prints.{Tells, mark, argument_kind, are_apart, no_print};
-ghost use Rattle.and_clause_index.specs.Tables.{print_at};
+ghost use Rattle.and_clause_index.specs.Looks.{IsLook};
+ghost use Rattle.and_clause_index.specs.Prints.{Tells, MarksTell, mark, marks_at, argument_kind, are_apart, no_print};
+ghost use Rattle.and_clause_index.specs.Served.{AreServed};
+ghost use Rattle.and_clause_index.specs.Tables.{print_at, IsKnown};
 
 use crate::prints::{Marks, Print, count_in, mark_of};
 use crate::table::Determinacy;
@@ -96,6 +98,7 @@ fn known_mark<C: Cells>(loaded: &Loaded, cells: &mut C, node: NodeNo, base: u32,
 }
 
 /// What is known of the first argument of a node in the frame at the base. A variable says nothing.
+#[inline(always)]
 fn known_first<C: Cells>(loaded: &Loaded, cells: &mut C, node: NodeNo, base: u32) -> NodeKind
     requires program { C.program ≡ named loaded.now }
     requires node { IsNodeInRange C.program (C.seen cells.old).words node.0 base }
@@ -174,6 +177,87 @@ fn argument_glimpse<C: Cells>(
     end_glimpse(loaded, cells, at)
 }
 
+/// What is known of an argument of a node in the frame at the base, and of its first two arguments, as far as marks are
+/// asked for.
+#[inline(always)]
+fn asked_marks<C: Cells>(
+    asked: Marks,
+    loaded: &Loaded,
+    cells: &mut C,
+    node: NodeNo,
+    base: u32,
+    place: u8,
+) -> Marks
+    requires program { C.program ≡ named loaded.now }
+    requires node { IsNodeInRange C.program (C.seen cells.old).words node.0 base }
+    ensures over { C.over cells.new ≡ C.over cells.old }
+    ensures grew { C.Grew cells.old cells.new }
+    ensures reads { OnlyReads (C.seen cells.old) (C.seen cells.new) }
+    ensures tells { IsCertain C.program (C.seen cells.new)
+        (λ s. MarksTell result (marks_at (apply s (placed base (node_term C.program.skeleton.nodes node.0))) place)) }
+{
+    if asked.first != 0 || asked.second != 0 {
+        return argument_glimpse(loaded, cells, node, base, place).marks;
+    }
+    let own = asked_mark(asked.own, loaded, cells, node, base, place);
+    Marks {
+        own,
+        first: 0,
+        second: 0,
+    }
+}
+
+/// The mark of what is known of an argument of a node in the frame at the base, if one is asked for.
+#[inline(always)]
+fn asked_mark<C: Cells>(
+    asked: u8,
+    loaded: &Loaded,
+    cells: &mut C,
+    node: NodeNo,
+    base: u32,
+    place: u8,
+) -> u8
+    requires program { C.program ≡ named loaded.now }
+    requires node { IsNodeInRange C.program (C.seen cells.old).words node.0 base }
+    ensures over { C.over cells.new ≡ C.over cells.old }
+    ensures grew { C.Grew cells.old cells.new }
+    ensures reads { OnlyReads (C.seen cells.old) (C.seen cells.new) }
+    ensures tells { IsCertain C.program (C.seen cells.new)
+        (λ s. Tells result (mark
+        (argument_kind (apply s (placed base (node_term C.program.skeleton.nodes node.0))) place))) }
+{
+    if asked == 0 {
+        return 0;
+    }
+    known_mark(loaded, cells, node, base, place)
+}
+
+/// The clauses that serve the first argument of a call, whose node is given, in the frame at the base. Where the
+/// clauses of its predicate are not told apart by it, it is not looked at. Takes no memory.
+#[inline(always)]
+pub fn clauses_by_first<'a, C: Cells>(
+    table: &'a Determinacy,
+    loaded: &Loaded,
+    cells: &mut C,
+    node: NodeNo,
+    base: u32,
+) -> &'a [ClauseNo]
+    requires program { C.program ≡ named loaded.now }
+    requires node { IsNodeInRange C.program (C.seen cells.old).words node.0 base }
+    requires known { IsKnown C.program table.now node.0 }
+    ensures over { C.over cells.new ≡ C.over cells.old }
+    ensures grew { C.Grew cells.old cells.new }
+    ensures reads { OnlyReads (C.seen cells.old) (C.seen cells.new) }
+    ensures served { (row : List Ref) → IsSeenIn (C.seen cells.new) row
+        → AreServed C.program row node.0 base result.now }
+{
+    if !table.has_keys(node) {
+        return table.clauses(node, NodeKind::Variable(0));
+    }
+    let first = known_first(loaded, cells, node, base);
+    table.clauses(node, first)
+}
+
 impl Look {
     /// Nothing was seen yet. Takes no memory.
     pub fn none() -> Look {
@@ -250,6 +334,54 @@ impl Look {
                 fourth,
             },
         }
+    }
+
+    /// Looks at what the prints of the heads of its predicate tell of a call, whose node is given, in the frame at the
+    /// base. Takes no memory.
+    pub fn at_asked<C: Cells>(
+        table: &Determinacy,
+        loaded: &Loaded,
+        cells: &mut C,
+        node: NodeNo,
+        base: u32,
+    ) -> Look
+        requires program { C.program ≡ named loaded.now }
+        requires node { IsNodeInRange C.program (C.seen cells.old).words node.0 base }
+        ensures over { C.over cells.new ≡ C.over cells.old }
+        ensures grew { C.Grew cells.old cells.new }
+        ensures reads { OnlyReads (C.seen cells.old) (C.seen cells.new) }
+        ensures look { IsLookOver C.program (C.seen cells.new) node.0 base result }
+    {
+        let asked = table.asked(node);
+        let first = asked_marks(asked.first, loaded, cells, node, base, 0);
+        let second = asked_marks(asked.second, loaded, cells, node, base, 1);
+        let third = asked_mark(asked.third, loaded, cells, node, base, 2);
+        let fourth = asked_mark(asked.fourth, loaded, cells, node, base, 3);
+        Look {
+            first: NodeKind::Variable(0),
+            print: Print {
+                first,
+                second,
+                third,
+                fourth,
+            },
+        }
+    }
+
+    /// These clauses, which serve a call that was looked at and whose node is given, or others that serve it, whichever
+    /// are fewer. Takes no memory.
+    #[inline(always)]
+    pub fn sift<'a>(
+        &self,
+        table: &'a Determinacy,
+        node: NodeNo,
+        clauses: &'a [ClauseNo],
+    ) -> &'a [ClauseNo]
+        ensures { (P : NamedProgram) (row : List Ref) (base : ℕ) → IsKnown P table.now node.0
+            → IsLook P row node.0 base self.now → AreServed P row node.0 base clauses.now
+            → AreServed P row node.0 base result.now }
+    {
+        table.sifted(node, self.print, clauses)
     }
 
     /// What the first argument of the call is. A variable stands for what is not known, and for none.

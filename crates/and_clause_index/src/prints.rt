@@ -1,7 +1,8 @@
 //! Prints of terms: a small number for each of a few places, by which most heads that a call can't be
 //! made one with are told apart from it in one step.
 
-ghost use Rattle.std.specs.Prelude.{◌≡◌, ◌<◌, ◌+◌, ◌*◌, ◌%◌, length, IfOk};
+ghost use Rattle.std.specs.Prelude.{◌≡◌, ◌<◌, ◌+◌, ◌*◌, ◌%◌, length, All, IfOk};
+ghost use Rattle.and_model.specs.declared.numbers.ClauseNo.{ClauseNo};
 ghost use Rattle.and_program.specs.Loaded.{program_of, skeleton_of};
 ghost use Rattle.and_program.specs.Shown.{count_of, shown_term};
 ghost use Rattle.and_program.specs.Skeletons.{node_term};
@@ -85,6 +86,15 @@ impl Marks {
         }
     }
 
+    /// At each place a mark, if one of the two has one there.
+    fn with(self, other: Marks) -> Marks {
+        Marks {
+            own: self.own | other.own,
+            first: self.first | other.first,
+            second: self.second | other.second,
+        }
+    }
+
     /// Whether two terms with these marks can't be made one.
     #[inline(always)]
     fn is_apart(self, other: Marks) -> bool
@@ -106,6 +116,16 @@ impl Print {
             second: Marks::none(),
             third: 0,
             fourth: 0,
+        }
+    }
+
+    /// At each place a mark, if one of the two has one there.
+    fn with(self, other: Print) -> Print {
+        Print {
+            first: self.first.with(other.first),
+            second: self.second.with(other.second),
+            third: self.third | other.third,
+            fourth: self.fourth | other.fourth,
         }
     }
 
@@ -183,4 +203,15 @@ pub(crate) fn prints_of(alloc: Global, loaded: &Loaded) -> Result<Vec<Print>, Al
         prints.push(node_print(loaded, loaded.head(ClauseNo(number as u16))))?;
     }
     Ok(prints)
+}
+
+/// The prints of the heads of these clauses put together: at each place a mark, if one of them has one there.
+pub(crate) fn joined(prints: &[Print], clauses: &[ClauseNo]) -> Print
+    requires { All (λ (c : ClauseNo). c.0 < length prints.now) clauses.now }
+{
+    let mut all = Print::none();
+    for clause in clauses {
+        all = all.with(prints[clause.0 as usize]);
+    }
+    all
 }

@@ -8,9 +8,11 @@ ghost use Rattle.and_program.specs.Skeletons.{call, node_term};
 ghost use Rattle.and_cells.specs.Parts.{named};
 ghost use Rattle.and_clause_index.specs.Tables.{clauses_for, first_of, added, additions_of, under_key, tried, entry_at};
 ghost use Rattle.and_clause_index.specs.Tables.{print_at, IsTableFor, IsEntryFor, IsKnown, IsTableOf, AreFirsts};
-ghost use Rattle.and_clause_index.specs.Tables.{IsLonger, IsMade, StaysKnown, KnowsCalls};
+ghost use Rattle.and_clause_index.specs.Tables.{IsLonger, IsMade, StaysKnown, KnowsCalls, IsSifted};
+ghost use Rattle.and_clause_index.specs.Prints.{ArePrints};
 
-use crate::prints::{Print, count_in, prints_of};
+use crate::prints::{Print, count_in, joined, prints_of};
+use crate::sieve::{Sieve, sieve_of};
 use and_first_argument::{Addition, FirstArguments, Key};
 use and_model::{ClauseNo, NodeNo};
 use and_program::{ItemNode, Loaded, NodeKind};
@@ -22,6 +24,10 @@ struct Predicate {
     clauses: Vec<ClauseNo>,
     /// Those of them that serve a first argument, if a table of them pays.
     by_first: Option<FirstArguments>,
+    /// Those that a look leaves by one place, if a table of them pays.
+    sieve: Option<Sieve>,
+    /// The prints of their heads put together: what is to be looked at in a call.
+    asked: Print,
 }
 
 // By hand, so that it is proved once, here.
@@ -30,6 +36,8 @@ impl Drop for Predicate {
         let Predicate {
             clauses: _,
             by_first: _,
+            sieve: _,
+            asked: _,
         } = self;
     }
 }
@@ -101,6 +109,17 @@ impl Predicate {
             NodeKind::Compound { name, count } => self.under(Key::Name { name, count }),
         }
     }
+
+    /// These clauses, or those that a print leaves at one place, whichever are fewer. Takes no memory.
+    #[inline(always)]
+    fn sifted<'a>(&'a self, print: Print, clauses: &'a [ClauseNo]) -> &'a [ClauseNo]
+        ensures { IsSifted (Some self.now) print clauses.now result.now }
+    {
+        match &self.sieve {
+            Some(sieve) => sieve.shorter(print, clauses),
+            None => clauses,
+        }
+    }
 }
 
 impl Determinacy {
@@ -115,6 +134,51 @@ impl Determinacy {
         {
             Some(predicate) => predicate.tried(first),
             None => &[],
+        }
+    }
+
+    /// Whether first arguments tell the clauses apart of the predicate that a node calls.
+    #[inline(always)]
+    pub(crate) fn has_keys(&self, node: NodeNo) -> bool {
+        match self
+            .predicates
+            .get(number_at(&self.numbers, node.0 as usize))
+        {
+            Some(predicate) => predicate.by_first.is_some(),
+            None => false,
+        }
+    }
+
+    /// What is to be looked at in a call, whose node is given: at each place a mark, if one of the heads of its
+    /// predicate has one there.
+    #[inline(always)]
+    pub(crate) fn asked(&self, node: NodeNo) -> Print {
+        match self
+            .predicates
+            .get(number_at(&self.numbers, node.0 as usize))
+        {
+            Some(predicate) => predicate.asked,
+            None => Print::none(),
+        }
+    }
+
+    /// These clauses, or those of the predicate that a node calls which a print leaves at one place, whichever are
+    /// fewer.
+    #[inline(always)]
+    pub(crate) fn sifted<'a>(
+        &'a self,
+        node: NodeNo,
+        print: Print,
+        clauses: &'a [ClauseNo],
+    ) -> &'a [ClauseNo]
+        ensures { IsSifted (entry_at self.now node.0) print clauses.now result.now }
+    {
+        match self
+            .predicates
+            .get(number_at(&self.numbers, node.0 as usize))
+        {
+            Some(predicate) => predicate.sifted(print, clauses),
+            None => clauses,
         }
     }
 
@@ -220,24 +284,39 @@ fn table_of(
     Ok(Some(FirstArguments::of(alloc, &additions)?))
 }
 
-/// What is kept of the predicate of these clauses. An error is want of memory.
-fn entry_of(alloc: Global, loaded: &Loaded, clauses: &[ClauseNo]) -> Result<Predicate, AllocError>
-    requires { All (λ (c : ClauseNo). c.0 ≤ length (program_of loaded.now).clauses) clauses.now }
+/// What is kept of the predicate of these clauses. The prints of all heads are given. An error is want of memory.
+fn entry_of(
+    alloc: Global,
+    loaded: &Loaded,
+    prints: &[Print],
+    clauses: &[ClauseNo],
+) -> Result<Predicate, AllocError>
+    requires prints { ArePrints (program_of loaded.now) prints.now }
+    requires clauses { All (λ (c : ClauseNo). c.0 ≤ length (program_of loaded.now).clauses) clauses.now }
     ensures { IfOk result (λ predicate. IsEntryFor (program_of loaded.now) clauses.now (Some predicate)) }
 {
     let by_first = table_of(alloc, loaded, clauses)?;
+    let sieve = sieve_of(alloc, prints, clauses)?;
+    let asked = joined(prints, clauses);
     let clauses = Vec::from_slice(alloc, clauses)?;
-    Ok(Predicate { clauses, by_first })
+    Ok(Predicate {
+        clauses,
+        by_first,
+        sieve,
+        asked,
+    })
 }
 
 /// The number of the predicate of a node, whose entry is made where there is none yet. `firsts` has
 /// the numbers of the entries by their first clauses. An error is want of memory.
 fn predicate_number(
     loaded: &Loaded,
+    prints: &[Print],
     node: NodeNo,
     predicates: &mut Vec<Predicate>,
     firsts: &mut Vec<usize>,
 ) -> Result<usize, AllocError>
+    requires prints { ArePrints (program_of loaded.now) prints.now }
     requires node { node.0 < length (skeleton_of loaded.now).nodes }
     requires firsts { AreFirsts (program_of loaded.now) predicates.old.items firsts.old.items }
     ensures firsts { OnOk result (AreFirsts (program_of loaded.now) predicates.new.items firsts.new.items) }
@@ -257,7 +336,7 @@ fn predicate_number(
     if known != 0 {
         return Ok(known);
     }
-    let entry = entry_of(*predicates.allocator(), loaded, clauses)?;
+    let entry = entry_of(*predicates.allocator(), loaded, prints, clauses)?;
     let number = predicates.len();
     predicates.push(entry)?;
     put_number(firsts, first, number)?;
@@ -269,12 +348,13 @@ impl Determinacy {
     pub fn empty(alloc: Global, loaded: &Loaded) -> Result<Determinacy, AllocError>
         ensures { IfOk result (λ table. IsMade (program_of loaded.now) table []) }
     {
+        let prints = prints_of(alloc, loaded)?;
         let mut predicates = Vec::new(alloc);
-        predicates.push(entry_of(alloc, loaded, &[])?)?;
+        predicates.push(entry_of(alloc, loaded, &prints, &[])?)?;
         Ok(Determinacy {
             numbers: Vec::new(alloc),
             predicates,
-            prints: prints_of(alloc, loaded)?,
+            prints,
         })
     }
 
@@ -291,7 +371,7 @@ impl Determinacy {
         ensures known { OnOk result (IsKnown (named loaded.now) self.new node.0) }
         ensures stays { OnOk result (StaysKnown (named loaded.now) self.old self.new) }
     {
-        let number = predicate_number(loaded, node, &mut self.predicates, firsts)?;
+        let number = predicate_number(loaded, &self.prints, node, &mut self.predicates, firsts)?;
         put_number(&mut self.numbers, node.0 as usize, number)
     }
 

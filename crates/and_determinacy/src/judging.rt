@@ -21,7 +21,7 @@ ghost use Rattle.and_clause_index.specs.Tables.{IsKnown, IsTableOf};
 
 use crate::trying::Trials;
 use and_cells::{Naming, PlainCells};
-use and_clause_index::{Determinacy, Look};
+use and_clause_index::{Determinacy, Look, clauses_by_first};
 use and_model::{ClauseList, ClauseNo, Goal, NodeNo};
 use and_program::{ItemNode, Loaded};
 use std::alloc::AllocError;
@@ -96,6 +96,43 @@ fn clauses_to_try<'a, N: Naming>(
     ensures { AreServed N.program cells.now node.0 base result.now }
 {
     table.clauses(node, look.first())
+}
+
+/// The same, without a look at the call before. The cells are as before.
+#[inline(always)]
+fn clauses_for<'a, N: Naming>(
+    table: &'a Determinacy,
+    loaded: &Loaded,
+    cells: &mut PlainCells<N>,
+    node: NodeNo,
+    base: u32,
+) -> &'a [ClauseNo]
+    requires program { N.program ≡ named loaded.now }
+    requires known { IsKnown N.program table.now node.0 }
+    requires node { CanBeRead N.program cells.old base node.0 }
+    ensures served { AreServed N.program cells.old node.0 base result.now }
+    ensures unchanged { cells.new ≡ cells.old }
+{
+    clauses_by_first(table, loaded, cells, node, base)
+}
+
+/// These clauses, which serve a call that was looked at, or others that serve it, whichever are fewer.
+#[inline(always)]
+fn sifted<'a, N: Naming>(
+    table: &'a Determinacy,
+    cells: &PlainCells<N>,
+    look: &Look,
+    goal: Goal,
+    node: NodeNo,
+    clauses: &'a [ClauseNo],
+) -> &'a [ClauseNo]
+    requires table { IsTableOf N.program table.now }
+    requires node { IsNodeOf N.program cells.now goal node.0 }
+    requires look { IsLook N.program cells.now node.0 goal.base look.now }
+    requires served { AreServed N.program cells.now node.0 goal.base clauses.now }
+    ensures { AreServed N.program cells.now node.0 goal.base result.now }
+{
+    look.sift(table, node, clauses)
 }
 
 /// A candidate that was found.
@@ -327,8 +364,7 @@ pub fn narrow<N: Naming>(
     ensures unchanged { cells.new ≡ cells.old }
 {
     let node = node_of(loaded, cells, goal);
-    trials.look_at_first(loaded, cells, node, goal.base);
-    let clauses = clauses_to_try(table, cells, &trials.look, node, goal.base);
+    let clauses = clauses_for(table, loaded, cells, node, goal.base);
     if clauses.len() < 2 {
         return Ok(narrowed_to(clauses));
     }
@@ -370,12 +406,13 @@ fn narrow_by_prints<N: Naming>(
     ensures told { result ≡ Ok Narrowed.Several → IfSome trials.new.rests (TwoStayWhile N.program cells.old goal) }
     ensures unchanged { cells.new ≡ cells.old }
 {
-    trials.look_at_all(loaded, cells, node, goal.base);
-    match next_left(table, &trials.look, clauses, 0) {
+    trials.look_at_asked(table, loaded, cells, node, goal.base);
+    let left = sifted(table, cells, &trials.look, goal, node, clauses);
+    match next_left(table, &trials.look, left, 0) {
         None => Ok(Narrowed::Nothing),
         Some(first) => {
             trials.rests.begin();
-            narrow_from(table, loaded, cells, goal, node, clauses, first, trials)
+            narrow_from(table, loaded, cells, goal, node, left, first, trials)
         }
     }
 }
@@ -522,8 +559,7 @@ pub fn candidates_of_several<N: Naming>(
 {
     clear(out);
     let node = node_of(loaded, cells, goal);
-    trials.look_at_first(loaded, cells, node, goal.base);
-    let clauses = clauses_to_try(table, cells, &trials.look, node, goal.base);
+    let clauses = clauses_for(table, loaded, cells, node, goal.base);
     if clauses.len() == 2 {
         put(out, clauses[0])?;
         return put(out, clauses[1]);
@@ -554,13 +590,14 @@ fn several_by_prints<N: Naming>(
     ensures candidates { OnOk result (AreCandidates N.program cells.old goal out.new) }
     ensures unchanged { cells.new ≡ cells.old }
 {
-    trials.look_at_all(loaded, cells, node, goal.base);
-    match two_left(table, &trials.look, clauses) {
+    trials.look_at_asked(table, loaded, cells, node, goal.base);
+    let left = sifted(table, cells, &trials.look, goal, node, clauses);
+    match two_left(table, &trials.look, left) {
         Some(two) => {
-            put(out, clauses[two.first])?;
-            put(out, clauses[two.second])
+            put(out, left[two.first])?;
+            put(out, left[two.second])
         }
-        None => pick(table, loaded, cells, goal, node, clauses, trials, out),
+        None => pick(table, loaded, cells, goal, node, left, trials, out),
     }
 }
 

@@ -84,9 +84,10 @@ impl Trials {
         self.look = Look::at(table, loaded, cells, node, base);
     }
 
-    /// The same of the first argument alone.
-    pub(crate) fn look_at_first<N: Naming>(
+    /// The same of what the prints of the heads of its predicate tell.
+    pub(crate) fn look_at_asked<N: Naming>(
         &mut self,
+        table: &Determinacy,
         loaded: &Loaded,
         cells: &mut PlainCells<N>,
         node: NodeNo,
@@ -98,24 +99,7 @@ impl Trials {
         ensures unchanged { cells.new ≡ cells.old }
     {
         self.rests.forget();
-        self.look = Look::at_first(loaded, cells, node, base);
-    }
-
-    /// The same of all that prints tell.
-    pub(crate) fn look_at_all<N: Naming>(
-        &mut self,
-        loaded: &Loaded,
-        cells: &mut PlainCells<N>,
-        node: NodeNo,
-        base: u32,
-    )
-        requires program { N.program ≡ named loaded.now }
-        requires node { CanBeRead N.program cells.old base node.0 }
-        ensures look { IsLook N.program cells.old node.0 base self.new.look }
-        ensures unchanged { cells.new ≡ cells.old }
-    {
-        self.rests.forget();
-        self.look = Look::at_all(loaded, cells, node, base);
+        self.look = Look::at_asked(table, loaded, cells, node, base);
     }
 
     /// Whether a clause is a candidate of the call that was looked at. The cells are as before. An error is

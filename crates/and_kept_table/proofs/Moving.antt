@@ -22,10 +22,12 @@ use Rattle.and_clauses.proofs.Questions.{clauses_stay}
 use Rattle.and_clauses.proofs.LiftSteps.{term_kept}
 use Rattle.and_first_argument.specs.Additions.{picked}
 use Rattle.and_clause_index.specs.Prints.{ArePrints, print_of}
-use Rattle.and_clause_index.specs.Tables.{clauses_for, first_of, added, additions_of, entry_at, IsEntryFor, IsKnown, AreFirsts, IsMade, KnowsCalls}
+use Rattle.and_clause_index.specs.Tables.{clauses_for, first_of, added, additions_of, entry_at, head_print, sieve_in, IsEntryFor, IsKnown, AreFirsts, IsMade}
+use Rattle.and_clause_index.specs.Tables.{KnowsCalls}
 use Rattle.and_clause_index.specs.declared.table.Determinacy.{Determinacy}
 use Rattle.and_clause_index.specs.declared.table.Predicate.{Predicate}
 use Rattle.and_clause_index.proofs.Entries.{call_there}
+use Rattle.and_clause_index.proofs.Sifting.{sieve_moves}
 use Rattle.and_kept_table.specs.KeptTables.{IsCompiled}
 use Rattle.and_kept_table.specs.declared.kept.KeptTable.{KeptTable}
 
@@ -64,6 +66,7 @@ module _ (P Q : Program) (alike : AreAlike P Q) where
           | inl picks ↦ inl (picks ∙ ap (picked key) (additions_alike ps))
           | inr whole ↦ inr whole
         ];
+        sieve = sieve_moves (head_print P) (head_print Q) ps (λ c i. ap print_of (heads_alike c.0)) (sieve_in entry) e.sieve;
       } in
       subst (λ cs. IsEntryFor Q cs entry) same here
 

@@ -58,7 +58,7 @@ returns-clause-entry c =
     (sym (last_is P c.args.predicates.now.items c.push.new.self.items entry c.in_ok-push.ensures.items c.len-number.result
     (omega (arith, c.len-number.ensures, c.args.predicates.now.ok.0)))) is
 
-pub entry_of-requires : goal.entry_of-requires
-entry_of-requires c =
+pub entry_of-requires-clause-clauses : goal.entry_of-requires-clause-clauses
+entry_of-requires-clause-clauses c =
     all_there (program_of c.args.loaded.now) (node_term (skeleton_of c.args.loaded.now).nodes c.args.node.0) c.clauses_of-clauses.result.now
     c.clauses_of-clauses.ensures

@@ -8,19 +8,20 @@ use Rattle.and_determinacy.specs.Watching.{TwoStayWhile}
 use Rattle.and_determinacy.proofs.Searching.{none_seen, served_printed, none_left}
 use Rattle.and_determinacy.proofs.judging.narrow_by_prints.Goals as goal
 
+pub sifted-left-requires-clause-node : goal.sifted-left-requires-clause-node
+sifted-left-requires-clause-node g c =
+    subst (λ r. IsNodeOf g.N.Naming.program r c.args.goal c.args.node.0) (sym c.look_at_asked.ensures.unchanged) c.requires.node
+
 pub returns-in-None-clause-narrowed : goal.returns-in-None-clause-narrowed
 returns-in-None-clause-narrowed g c =
     let P = g.N.Naming.program in
     let row = c.args.cells.now in
     let node = c.args.node.0 in
     let base = c.args.goal.base in
-    let clauses = c.args.clauses.now in
-    let served = c.requires.served in
-    let look = c.look_at_all.new.self.look in
-    let is_look = c.look_at_all.ensures.look in
-    let seen = none_seen P c.args.table.now c.requires.table row node base look is_look clauses in
-    none_left P row c.args.goal node c.requires.node clauses served
-    (seen 0 (length clauses) (c.next_left.ensures.none c.in-None.is))
+    let left = c.sifted-left.result.now in
+    let served = subst (λ r. AreServed P r node base left) c.look_at_asked.ensures.unchanged c.sifted-left.ensures in
+    let seen = none_seen P c.args.table.now c.requires.table row node base c.look_at_asked.new.self.look c.look_at_asked.ensures.look left in
+    none_left P row c.args.goal node c.requires.node left served (seen 0 (length left) (c.next_left.ensures.none c.in-None.is))
 
 pub narrow_from-requires-clause-before : goal.narrow_from-requires-clause-before
 narrow_from-requires-clause-before g c =
@@ -28,10 +29,10 @@ narrow_from-requires-clause-before g c =
     let row = c.args.cells.now in
     let node = c.args.node.0 in
     let base = c.args.goal.base in
-    let clauses = c.args.clauses.now in
+    let left = c.sifted-left.result.now in
     let first = c.in-Some.first in
-    subst (λ r. NoneFrom (NodeHas P r node base) clauses 0 first) (sym c.look_at_all.ensures.unchanged)
-    (none_seen P c.args.table.now c.requires.table row node base c.look_at_all.new.self.look c.look_at_all.ensures.look clauses 0 first
+    subst (λ r. NoneFrom (NodeHas P r node base) left 0 first) (sym c.look_at_asked.ensures.unchanged)
+    (none_seen P c.args.table.now c.requires.table row node base c.look_at_asked.new.self.look c.look_at_asked.ensures.look left 0 first
     (c.next_left.ensures.first first c.in-Some.is))
 
 pub narrow_from-requires-clause-there : goal.narrow_from-requires-clause-there
@@ -39,14 +40,19 @@ narrow_from-requires-clause-there g c = c.next_left.ensures.there c.in-Some.firs
 
 pub returns-in-Some-clause-narrowed : goal.returns-in-Some-clause-narrowed
 returns-in-Some-clause-narrowed g c =
-    subst (λ r. IfOk c.narrow_from.result (IsNarrowed g.N.Naming.program r c.args.goal)) c.look_at_all.ensures.unchanged
+    subst (λ r. IfOk c.narrow_from.result (IsNarrowed g.N.Naming.program r c.args.goal)) c.look_at_asked.ensures.unchanged
     c.narrow_from.ensures.narrowed
 
 pub returns-in-Some-clause-told : goal.returns-in-Some-clause-told
 returns-in-Some-clause-told g c = λ is.
-    subst (λ r. IfSome c.narrow_from.new.trials.rests (TwoStayWhile g.N.Naming.program r c.args.goal)) c.look_at_all.ensures.unchanged
+    subst (λ r. IfSome c.narrow_from.new.trials.rests (TwoStayWhile g.N.Naming.program r c.args.goal)) c.look_at_asked.ensures.unchanged
     (c.narrow_from.ensures.told is)
 
 pub next_left-requires : goal.next_left-requires
 next_left-requires g c =
-    served_printed g.N.Naming.program c.args.table.now c.requires.table c.args.cells.now c.args.node.0 c.args.goal.base c.args.clauses.now c.requires.served
+    let P = g.N.Naming.program in
+    let node = c.args.node.0 in
+    let base = c.args.goal.base in
+    let left = c.sifted-left.result.now in
+    served_printed P c.args.table.now c.requires.table c.args.cells.now node base left
+    (subst (λ r. AreServed P r node base left) c.look_at_asked.ensures.unchanged c.sifted-left.ensures)
