@@ -2,6 +2,7 @@ pub mod Chaining
 pub mod Parting
 pub mod Placing
 pub mod Owing
+pub mod Digits
 pub mod Doing
 pub mod Joining
 pub mod Reckoning

@@ -1,10 +1,10 @@
 -- What is owed while tasks are left on the stack.
-use Rattle.std.proofs.Common.{◌≡◌, cond, List, [], ◌∷◌, ◌++◌, refl, sym, ap, ◌∙◌, subst, append_assoc, append-nil}
+use Rattle.std.proofs.Common.{◌≡◌, ◌≤◌, cond, List, [], ◌∷◌, ◌++◌, length, refl, sym, ap, ◌∙◌, subst, arith, append_assoc, append-nil}
 use Rattle.and_model.specs.Lines.{Bytes, has, first_seen}
 use Rattle.and_model.specs.declared.reference.Ref.{Ref}
 use Rattle.and_cells.specs.Ranges.{NamedProgram}
 use Rattle.and_print.specs.Writing.{Variable, Named, Writes}
-use Rattle.and_print.specs.Tasks.{Piece, variables_there, piece_text, TaskMeans, AllMean, variables_ahead, text_ahead, Owes}
+use Rattle.and_print.specs.Tasks.{Piece, variables_there, piece_text, TaskMeans, AllMean, variables_ahead, text_ahead, Owes, Does}
 use Rattle.and_print.specs.declared.tasks.Task.{Task}
 
 pub seen_in_turn : (seen vs ws : List Variable) → first_seen seen (vs ++ ws) ≡ first_seen (first_seen seen vs) ws
@@ -59,6 +59,37 @@ pub owes_all : (names : List Bytes) (p : Piece) (seen : List Variable) (old : By
 owes_all names p seen old = record {
   seen_then = λ later. refl;
   written_then = λ later. ap (λ (bs : Bytes). old ++ bs) (append-nil (piece_text names p (first_seen seen (variables_there p ++ later))));
+}
+
+-- One piece is left, and nothing was put on the stack.
+pub record Leaves (names : List Bytes) (piece : Piece) (variables : List Variable) (text : Named) (seen now : List Variable) (old new : Bytes) : Type 0 where
+  pub owes : Owes names (piece ∷ []) variables text seen now old new
+  pub longer : length old ≤ length new
+
+pub leaves_all : (names : List Bytes) (p : Piece) (seen : List Variable) (old : Bytes)
+    → Leaves names p (variables_there p) (piece_text names p) seen seen old old
+leaves_all names p seen old = record { owes = owes_all names p seen old; longer = omega arith }
+
+pub leaves_on : (names : List Bytes) (p q : Piece) (variables : List Variable) (text : Named) (seen middle now : List Variable) (old between new : Bytes)
+    → Leaves names p variables text seen middle old between → Leaves names q (variables_there p) (piece_text names p) middle now between new
+    → Leaves names q variables text seen now old new
+leaves_on names p q variables text seen middle now old between new l k = record {
+  owes = owes_on names [] (q ∷ []) p variables text seen middle now old between new l.owes k.owes;
+  longer = omega (arith, l.longer, k.longer);
+}
+
+pub leaves_does : (P : NamedProgram) (row : List Ref) (p : Piece) (variables : List Variable) (text : Named) (seen middle now : List Variable)
+    (old between new : Bytes) (before after : List Task)
+    → Leaves P.program.names p variables text seen middle old between
+    → Does P row (variables_there p) (piece_text P.program.names p) middle now between new before after
+    → Does P row variables text seen now old new before after
+leaves_does P row p variables text seen middle now old between new before after l d = record {
+  tasks = d.tasks;
+  pieces = d.pieces;
+  pushed = d.pushed;
+  mean = d.mean;
+  owes = owes_on P.program.names [] d.pieces p variables text seen middle now old between new l.owes d.owes;
+  few = omega (arith, l.longer, d.few);
 }
 
 -- all is done

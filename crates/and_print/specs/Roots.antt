@@ -1,5 +1,5 @@
 -- What a term begins with, as it is found in a row of words.
-use Rattle.std.specs.Prelude.{ℕ, zero, suc, ◌+◌, ◌≡◌, Bool, false, List, length, Contains}
+use Rattle.std.specs.Prelude.{ℕ, zero, suc, ◌+◌, ◌≡◌, Bool, false, List, length, Contains, nat_eq}
 use Rattle.and_model.specs.Terms.{Path, Term, Terms, variable, number, compound, none, more, variables_in}
 use Rattle.and_model.specs.Terms.{Substitution, apply_all}
 use Rattle.and_model.specs.Lines.{is_cell, is_nil, point_name}
@@ -70,6 +70,12 @@ pub record IsListCell (P : NamedProgram) (row : List Ref) (head tail : Ref) (t :
   pub terms : Terms
   pub cell : t ≡ compound point_name terms
   pub pair : Pairs P row head tail terms
+
+-- what is named as a list cell is
+abbrev pub has_cell_name : Root → Bool
+has_cell_name (Variable cell) = false
+has_cell_name (Number z) = false
+has_cell_name (Compound name a) = nat_eq name.0 point_name
 
 abbrev pub is_list_cell : Term → Bool
 is_list_cell (variable q k) = false

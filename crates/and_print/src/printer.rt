@@ -1,6 +1,7 @@
 //! Writing what stands in a row of words: terms, goals that wait, and the parts of a line.
 
-ghost use Rattle.std.specs.Prelude.{◌≡◌, ◌++◌, List, [], false, codes, map, nat_eq, OnOk, MatchOption};
+ghost use Rattle.std.specs.Prelude.{◌≡◌, ◌++◌, List, [], ◌∷◌, false, codes, map, nat_eq, OnOk, IfOk};
+ghost use Rattle.std.specs.Prelude.{MatchOption};
 ghost use Rattle.and_model.specs.Terms.{Term, Terms, Substitution, compound, more, none, variables_of, variables_in};
 ghost use Rattle.and_model.specs.Terms.{apply};
 ghost use Rattle.and_model.specs.Lines.{is_cell, point_name, shown, shown_tail, shown_arguments, shown_rest};
@@ -15,13 +16,14 @@ ghost use Rattle.and_print.specs.Given.{GivesQuery};
 ghost use Rattle.and_print.specs.Goals.{ItemMeans, GoalMeans, GoalsMean};
 ghost use Rattle.and_print.specs.Roots.{Means, ArgumentsMean, RootMeans, Splits, Pairs, IsListCell, is_list_cell};
 ghost use Rattle.and_print.specs.Roots.{is_empty_list};
-ghost use Rattle.and_print.specs.Tasks.{Piece, TaskMeans, variables_there, piece_text, Does};
+ghost use Rattle.and_print.specs.Tasks.{Piece, TaskMeans, variables_there, piece_text, in_hand, tasks_left};
+ghost use Rattle.and_print.specs.Tasks.{Begins, Does};
 ghost use Rattle.and_print.specs.Writing.{Variable, Writes};
 
 use crate::lines::{QUERY, begins_underscore, separator};
 use crate::names::{EQUAL, FAIL, IS, comparison};
-use crate::roots::{Arguments, Root, end_of};
-use crate::tasks::{Task, push_both, write_number};
+use crate::roots::{Arguments, Root, end_of, may_be_cell};
+use crate::tasks::{Begun, Task, hand_over, next_of, write_number};
 use crate::variables::VariableNames;
 use and_cells::{Naming, PlainCells};
 use and_model::builtins::{NIL, POINT};
@@ -156,124 +158,279 @@ impl<N: Naming> Printer<'_, N> {
         }
     }
 
-    /// Writes arguments in round brackets, or nothing where there are none: as far as the first of
-    /// them, and leaves the others on the stack. After want of memory all are spent.
-    fn write_arguments(
+    /// Writes a term that is a variable, a number or a name without arguments. Of another one it
+    /// writes nothing, and says where that is. After want of memory all are spent.
+    #[inline(always)]
+    fn write_simple(
         &self,
+        names: &mut VariableNames,
         out: &mut Text,
-        work: &mut Vec<Task>,
-        arguments: Arguments,
-    ) -> Result<(), AllocError>
-        requires { (ts : Terms) × ArgumentsMean (named self.now.loaded.now) self.now.cells.now arguments ts }
-        ensures { (ts : Terms) → ArgumentsMean (named self.now.loaded.now) self.now.cells.now arguments ts → OnOk result
-            ((seen : List Variable) → Does (named self.now.loaded.now) self.now.cells.now (variables_in ts)
-            (λ vs. shown_arguments (named self.now.loaded.now).program.names vs ts) seen seen out.old out.new
-            work.old.items work.new.items) }
+        term: Ref,
+    ) -> Result<Option<Ref>, AllocError>
+        requires program { N.program ≡ named self.now.loaded.now }
+        requires means { (t : Term) × Means (named self.now.loaded.now) self.now.cells.now term t }
+        ensures { (t : Term) → Means (named self.now.loaded.now) self.now.cells.now term t → IfOk result (λ left.
+            MatchOption left
+            (Writes (variables_of t) (λ vs. shown (named self.now.loaded.now).program.names vs t) names.old names.new
+            out.old out.new)
+            (λ structure. Means (named self.now.loaded.now) self.now.cells.now structure t × (names.new ≡ names.old)
+            × (out.new ≡ out.old))) }
     {
-        if let Some((first, rest)) = self.split_first(arguments) {
-            out.append(b"(")?;
-            push_both(work, first, Task::Rest(rest))?;
-        }
-        Ok(())
-    }
-
-    /// Writes arguments after others, and the bracket. After want of memory all are spent.
-    fn write_rest(
-        &self,
-        out: &mut Text,
-        work: &mut Vec<Task>,
-        arguments: Arguments,
-    ) -> Result<(), AllocError>
-        requires { (ts : Terms) × ArgumentsMean (named self.now.loaded.now) self.now.cells.now arguments ts }
-        ensures { (ts : Terms) → ArgumentsMean (named self.now.loaded.now) self.now.cells.now arguments ts → OnOk result
-            ((seen : List Variable) → Does (named self.now.loaded.now) self.now.cells.now (variables_in ts)
-            (λ vs. shown_rest (named self.now.loaded.now).program.names vs ts) seen seen out.old out.new
-            work.old.items work.new.items) }
-    {
-        match self.split_first(arguments) {
-            None => out.append(b")")?,
-            Some((first, rest)) => {
-                out.append(b",")?;
-                push_both(work, first, Task::Rest(rest))?;
+        let end = end_of(self.cells, term);
+        match self.root(end) {
+            Root::Variable(cell) => {
+                names.write(out, cell)?;
+                Ok(None)
+            }
+            Root::Number(number) => {
+                write_number(out, number)?;
+                Ok(None)
+            }
+            Root::Compound { name, arguments } => {
+                if arguments.count > 0 {
+                    return Ok(Some(end));
+                }
+                write_name(out, self.loaded.name(name))?;
+                Ok(None)
             }
         }
-        Ok(())
     }
 
-    /// Writes a term of which it is known what it begins with. After want of memory all are spent.
+    /// Writes arguments in round brackets, or nothing where there are none: as far as the first that
+    /// is a structure. After want of memory all are spent.
+    fn write_arguments(
+        &self,
+        names: &mut VariableNames,
+        out: &mut Text,
+        arguments: Arguments,
+    ) -> Result<Option<Begun>, AllocError>
+        requires program { N.program ≡ named self.now.loaded.now }
+        requires means { (ts : Terms) × ArgumentsMean (named self.now.loaded.now) self.now.cells.now arguments ts }
+        ensures { (ts : Terms) → ArgumentsMean (named self.now.loaded.now) self.now.cells.now arguments ts
+            → IfOk result (λ left. Begins (named self.now.loaded.now) self.now.cells.now (variables_in ts)
+            (λ vs. shown_arguments (named self.now.loaded.now).program.names vs ts) names.old names.new out.old
+            out.new (tasks_left left) 0) }
+    {
+        let Some((first, rest)) = self.split_first(arguments) else {
+            return Ok(None);
+        };
+        out.append(b"(")?;
+        if let Some(structure) = self.write_simple(names, out, first)? {
+            return Ok(Some(Begun {
+                structure,
+                rest: Some(rest),
+            }));
+        }
+        self.write_rest(names, out, rest)
+    }
+
+    /// Writes arguments after others, and the bracket: as far as the first that is a structure. After
+    /// want of memory all are spent.
+    fn write_rest(
+        &self,
+        names: &mut VariableNames,
+        out: &mut Text,
+        arguments: Arguments,
+    ) -> Result<Option<Begun>, AllocError>
+        requires program { N.program ≡ named self.now.loaded.now }
+        requires means { (ts : Terms) × ArgumentsMean (named self.now.loaded.now) self.now.cells.now arguments ts }
+        ensures { (ts : Terms) → ArgumentsMean (named self.now.loaded.now) self.now.cells.now arguments ts
+            → IfOk result (λ left. Begins (named self.now.loaded.now) self.now.cells.now (variables_in ts)
+            (λ vs. shown_rest (named self.now.loaded.now).program.names vs ts) names.old names.new out.old
+            out.new (tasks_left left) 0) }
+    {
+        let mut ahead = arguments;
+        while let Some((first, rest)) = self.split_first(ahead) {
+            out.append(b",")?;
+            if let Some(structure) = self.write_simple(names, out, first)? {
+                return Ok(Some(Begun {
+                    structure,
+                    rest: Some(rest),
+                }));
+            }
+            ahead = rest;
+            // Each turn writes bytes, of which a text has fewer than 2^64.
+            let _length = out.len();
+        }
+        out.append(b")")?;
+        Ok(None)
+    }
+
+    /// Writes a term that is no list cell, of which it is known what it begins with: as far as the
+    /// first argument that is a structure. After want of memory all are spent.
+    #[inline(always)]
+    fn write_other(
+        &self,
+        names: &mut VariableNames,
+        out: &mut Text,
+        root: Root,
+    ) -> Result<Option<Begun>, AllocError>
+        requires program { N.program ≡ named self.now.loaded.now }
+        requires means { (t : Term) × RootMeans (named self.now.loaded.now) self.now.cells.now root t }
+        ensures { (t : Term) → RootMeans (named self.now.loaded.now) self.now.cells.now root t → is_list_cell t ≡ false
+            → IfOk result (λ left. Begins (named self.now.loaded.now) self.now.cells.now (variables_of t)
+            (λ vs. shown (named self.now.loaded.now).program.names vs t) names.old names.new out.old out.new
+            (tasks_left left) 0) }
+    {
+        match root {
+            Root::Variable(cell) => {
+                names.write(out, cell)?;
+                Ok(None)
+            }
+            Root::Number(number) => {
+                write_number(out, number)?;
+                Ok(None)
+            }
+            Root::Compound { name, arguments } => {
+                write_name(out, self.loaded.name(name))?;
+                self.write_arguments(names, out, arguments)
+            }
+        }
+    }
+
+    /// Writes a term as far as the first argument that is a structure, and nothing of what may be a
+    /// list cell. After want of memory all are spent.
+    fn write_flat(
+        &self,
+        names: &mut VariableNames,
+        out: &mut Text,
+        term: Ref,
+    ) -> Result<Option<Begun>, AllocError>
+        requires program { N.program ≡ named self.now.loaded.now }
+        requires means { (t : Term) × Means (named self.now.loaded.now) self.now.cells.now term t }
+        ensures { (t : Term) → Means (named self.now.loaded.now) self.now.cells.now term t
+            → IfOk result (λ left. Begins (named self.now.loaded.now) self.now.cells.now (variables_of t)
+            (λ vs. shown (named self.now.loaded.now).program.names vs t) names.old names.new out.old out.new
+            (tasks_left left) 1) }
+    {
+        let end = end_of(self.cells, term);
+        let root = self.root(end);
+        if may_be_cell(root) {
+            return Ok(Some(Begun {
+                structure: end,
+                rest: None,
+            }));
+        }
+        self.write_other(names, out, root)
+    }
+
+    /// Writes a term of which it is known what it begins with: of a list as far as the first element
+    /// that is not written at once, of another one as far as the first argument that is a structure.
+    /// That is handed back, and what is behind it left on the stack. After want of memory all are
+    /// spent.
     fn write_root(
         &self,
         names: &mut VariableNames,
         out: &mut Text,
         work: &mut Vec<Task>,
         root: Root,
-    ) -> Result<(), AllocError>
-        requires { (t : Term) × RootMeans (named self.now.loaded.now) self.now.cells.now root t }
-        ensures { (t : Term) → RootMeans (named self.now.loaded.now) self.now.cells.now root t → OnOk result
-            (Does (named self.now.loaded.now) self.now.cells.now (variables_of t)
+    ) -> Result<Option<Ref>, AllocError>
+        requires program { N.program ≡ named self.now.loaded.now }
+        requires means { (t : Term) × RootMeans (named self.now.loaded.now) self.now.cells.now root t }
+        ensures { (t : Term) → RootMeans (named self.now.loaded.now) self.now.cells.now root t
+            → IfOk result (λ hand. Does (named self.now.loaded.now) self.now.cells.now (variables_of t)
             (λ vs. shown (named self.now.loaded.now).program.names vs t) names.old names.new out.old out.new
-            work.old.items work.new.items) }
+            work.old.items (work.new.items ++ in_hand hand)) }
     {
-        if let Some((head, tail)) = self.list_cell(root) {
-            out.append(b"[")?;
-            work.push(Task::Close)?;
-            return push_both(work, head, Task::Tail(tail));
+        let Some((head, tail)) = self.list_cell(root) else {
+            let left = self.write_other(names, out, root)?;
+            return hand_over(work, left);
+        };
+        out.append(b"[")?;
+        if let Some(begun) = self.write_flat(names, out, head)? {
+            work.push(Task::Tail(tail))?;
+            return hand_over(work, Some(begun));
         }
-        match root {
-            Root::Variable(cell) => names.write(out, cell),
-            Root::Number(number) => write_number(out, number),
-            Root::Compound { name, arguments } => {
-                write_name(out, self.loaded.name(name))?;
-                self.write_arguments(out, work, arguments)
-            }
-        }
+        self.write_tail(names, out, work, tail)
     }
 
-    /// Writes the tail of a list after an element. After want of memory all are spent.
+    /// Writes the tail of a list after an element, and the bracket: as far as the first element that
+    /// is not written at once, of which what comes first is handed back. The rest is left on the
+    /// stack. After want of memory all are spent.
     fn write_tail(
         &self,
         names: &mut VariableNames,
         out: &mut Text,
         work: &mut Vec<Task>,
-        root: Root,
-    ) -> Result<(), AllocError>
-        requires { (t : Term) × RootMeans (named self.now.loaded.now) self.now.cells.now root t }
-        ensures { (t : Term) → RootMeans (named self.now.loaded.now) self.now.cells.now root t → OnOk result
-            (Does (named self.now.loaded.now) self.now.cells.now (variables_of t)
-            (λ vs. shown_tail (named self.now.loaded.now).program.names vs t) names.old names.new out.old out.new
-            work.old.items work.new.items) }
+        tail: Ref,
+    ) -> Result<Option<Ref>, AllocError>
+        requires program { N.program ≡ named self.now.loaded.now }
+        requires means { (t : Term) × Means (named self.now.loaded.now) self.now.cells.now tail t }
+        ensures { (t : Term) → Means (named self.now.loaded.now) self.now.cells.now tail t
+            → IfOk result (λ hand. Does (named self.now.loaded.now) self.now.cells.now (variables_of t)
+            (λ vs. shown_tail (named self.now.loaded.now).program.names vs t ++ 93 ∷ []) names.old names.new
+            out.old out.new work.old.items (work.new.items ++ in_hand hand)) }
     {
-        if let Some((head, tail)) = self.list_cell(root) {
+        let mut ahead = self.root(tail);
+        while let Some((head, rest)) = self.list_cell(ahead) {
             out.append(b",")?;
-            return push_both(work, head, Task::Tail(tail));
+            if let Some(begun) = self.write_flat(names, out, head)? {
+                work.push(Task::Tail(rest))?;
+                return hand_over(work, Some(begun));
+            }
+            ahead = self.root(rest);
+            // Each turn writes bytes, of which a text has fewer than 2^64.
+            let _length = out.len();
         }
-        if self.is_nil(root) {
-            return Ok(());
-        }
-        out.append(b"|")?;
-        self.write_root(names, out, work, root)
+        self.write_end(names, out, work, ahead)
     }
 
-    /// Does a task, and puts what it leaves on the stack. After want of memory all are spent.
+    /// Writes the end of a list, which is no list cell, and the bracket: as far as the first argument
+    /// that is a structure, which is handed back. The rest is left on the stack. After want of memory
+    /// all are spent.
+    #[inline(never)]
+    fn write_end(
+        &self,
+        names: &mut VariableNames,
+        out: &mut Text,
+        work: &mut Vec<Task>,
+        root: Root,
+    ) -> Result<Option<Ref>, AllocError>
+        requires program { N.program ≡ named self.now.loaded.now }
+        requires means { (t : Term) × RootMeans (named self.now.loaded.now) self.now.cells.now root t }
+        ensures { (t : Term) → RootMeans (named self.now.loaded.now) self.now.cells.now root t → is_list_cell t ≡ false
+            → IfOk result (λ hand. Does (named self.now.loaded.now) self.now.cells.now (variables_of t)
+            (λ vs. shown_tail (named self.now.loaded.now).program.names vs t ++ 93 ∷ []) names.old names.new
+            out.old out.new work.old.items (work.new.items ++ in_hand hand)) }
+    {
+        if self.is_nil(root) {
+            out.append(b"]")?;
+            return Ok(None);
+        }
+        out.append(b"|")?;
+        work.push(Task::Close)?;
+        let left = self.write_other(names, out, root)?;
+        hand_over(work, left)
+    }
+
+    /// Does a task, and puts what it leaves on the stack, but for a term, which is handed back. After
+    /// want of memory all are spent.
+    #[inline(always)]
     fn write_task(
         &self,
         names: &mut VariableNames,
         out: &mut Text,
         work: &mut Vec<Task>,
         task: Task,
-    ) -> Result<(), AllocError>
+    ) -> Result<Option<Ref>, AllocError>
         requires program { N.program ≡ named self.now.loaded.now }
         requires means { (p : Piece) × TaskMeans (named self.now.loaded.now) self.now.cells.now task p }
-        ensures { (p : Piece) → TaskMeans (named self.now.loaded.now) self.now.cells.now task p → OnOk result
-            (Does (named self.now.loaded.now) self.now.cells.now (variables_there p)
+        ensures { (p : Piece) → TaskMeans (named self.now.loaded.now) self.now.cells.now task p
+            → IfOk result (λ hand. Does (named self.now.loaded.now) self.now.cells.now (variables_there p)
             (piece_text (named self.now.loaded.now).program.names p) names.old names.new out.old out.new
-            work.old.items work.new.items) }
+            work.old.items (work.new.items ++ in_hand hand)) }
     {
         match task {
             Task::Whole(term) => self.write_root(names, out, work, self.root(term)),
-            Task::Tail(term) => self.write_tail(names, out, work, self.root(term)),
-            Task::Rest(arguments) => self.write_rest(out, work, arguments),
-            Task::Close => out.append(b"]"),
+            Task::Tail(term) => self.write_tail(names, out, work, term),
+            Task::Rest(arguments) => {
+                let left = self.write_rest(names, out, arguments)?;
+                hand_over(work, left)
+            }
+            Task::Close => {
+                out.append(b"]")?;
+                Ok(None)
+            }
         }
     }
 
@@ -293,9 +450,9 @@ impl<N: Naming> Printer<'_, N> {
             names.new out.old out.new) }
     {
         let mut work = Vec::new(alloc);
-        work.push(Task::Whole(term))?;
-        while let Some(task) = work.pop() {
-            self.write_task(names, out, &mut work, task)?;
+        let mut hand = Some(term);
+        while let Some(task) = next_of(&mut work, hand) {
+            hand = self.write_task(names, out, &mut work, task)?;
             // Tasks are only put on the stack beside bytes, of which a text has fewer than 2^64.
             let _length = out.len();
         }

@@ -1,12 +1,13 @@
 //! What terms begin with, and where their arguments are found.
 
-ghost use Rattle.std.specs.Prelude.{length};
+ghost use Rattle.std.specs.Prelude.{◌≡◌, length};
 ghost use Rattle.and_model.specs.Terms.{Term};
 ghost use Rattle.and_cells.specs.Ranges.{IsInRangeOrHalf};
 ghost use Rattle.and_cells.specs.Meaning.{StandsFor};
-ghost use Rattle.and_print.specs.Roots.{IsEnd};
+ghost use Rattle.and_print.specs.Roots.{IsEnd, has_cell_name};
 
 use and_cells::{Naming, PlainCells};
+use and_model::builtins::POINT;
 use and_model::{NameNo, NodeNo, Ref};
 
 /// The arguments of a structure, from a place on.
@@ -28,6 +29,17 @@ pub(crate) enum Root {
     Number(i64),
     /// A name with arguments.
     Compound { name: NameNo, arguments: Arguments },
+}
+
+/// Whether the term may be a list cell: it has the name of one. Takes no memory.
+pub(crate) fn may_be_cell(root: Root) -> bool
+    ensures { result ≡ has_cell_name root }
+{
+    match root {
+        Root::Variable(_) => false,
+        Root::Number(_) => false,
+        Root::Compound { name, .. } => name.0 == POINT,
+    }
 }
 
 /// Where the chain from a reference ends. Takes no memory.

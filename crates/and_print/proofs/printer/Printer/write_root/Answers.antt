@@ -1,47 +1,62 @@
-use Rattle.std.proofs.Common.{◌++◌, ◌∙◌, ap, subst, rules}
-use Rattle.std.specs.Prelude.{FitsSigned}
-use Rattle.std.specs.Int.{w64}
-use Rattle.std.proofs.lemmas.Int.{ints, to_z-of_z}
-use Rattle.std.proofs.lemmas.Result.{on_ok_weaker}
-use Rattle.and_model.specs.Lines.{shown_name}
+use Rattle.std.proofs.Common.{◌++◌}
+use Rattle.std.proofs.lemmas.Result.{IfOk-weaker}
+use Rattle.std.specs.Prelude.{Some}
+use Rattle.and_model.specs.Terms.{variables_of}
+use Rattle.and_model.specs.Lines.{shown}
 use Rattle.and_cells.specs.Parts.{named}
-use Rattle.and_print.specs.Roots.{RootMeans}
-use Rattle.and_print.specs.declared.roots.Root.{Root}
-use Rattle.and_print.proofs.Doing.{cell_begun, cell_done, number_done, named_begun}
+use Rattle.and_print.specs.Tasks.{tail, in_hand, tasks_left}
+use Rattle.and_print.proofs.Owing.{leaves_does}
+use Rattle.and_print.proofs.Doing.{begins_does, cell_begun, cell_left}
 use Rattle.and_print.proofs.printer.Printer.write_root.Goals as goal
 
-pub returns-in-Some : goal.returns-in-Some
-returns-in-Some g c = λ t m.
-    on_ok_weaker c.push_both.result
-    (cell_begun (named c.args.self.now.loaded.now) c.args.self.now.cells.now c.in-Some.head c.in-Some.tail t (c.in-Some.ensures t m) c.args.names.now
-    c.args.out.now c.append.new.self c.args.work.now.items
-    c.push.new.self.items c.push_both.new.work.items c.in_ok-append.ensures c.in_ok-push.ensures.items)
-    c.push_both.ensures
+pub write_other-requires-clause-means : goal.write_other-requires-clause-means
+write_other-requires-clause-means g c = c.requires.means
 
-pub returns-in-Variable : goal.returns-in-Variable
-returns-in-Variable g c = λ t m.
+pub returns-in_default : goal.returns-in_default
+returns-in_default g c = λ t m.
     let P = named c.args.self.now.loaded.now in
     let row = c.args.self.now.cells.now in
-    on_ok_weaker c.write.result (cell_done P row t c.in-Variable.cell _ _ _ _ _ (subst (λ (r : Root). RootMeans P row r t) c.in-Variable.is m)) c.write.ensures
+    let begun = c.in_ok-left.ensures t m (c.in_default.ensures t m) in
+    IfOk-weaker c.hand_over.result _ _
+    (λ hand e. begins_does P row (variables_of t) (λ vs. shown P.program.names vs t) c.args.names.now c.write_other.new.names c.args.out.now
+    c.write_other.new.out c.args.work.now.items (c.hand_over.new.work.items ++ in_hand hand) (tasks_left c.in_ok-left.left) begun e)
+    c.hand_over.ensures
 
-pub returns-in-Number : goal.returns-in-Number
-returns-in-Number g c = λ t m.
+pub write_flat-requires-clause-means : goal.write_flat-requires-clause-means
+write_flat-requires-clause-means g c =
+    let (t, m) = c.requires.means in
+    let i = c.in-Some.ensures t m in
+    (i.pair.one, i.pair.left_means)
+
+pub write_tail-requires-clause-means : goal.write_tail-requires-clause-means
+write_tail-requires-clause-means g c =
+    let (t, m) = c.requires.means in
+    let i = c.in-Some.ensures t m in
+    (i.pair.other, i.pair.right_means)
+
+pub returns-in-Some-2 : goal.returns-in-Some-2
+returns-in-Some-2 g c = λ t m.
     let P = named c.args.self.now.loaded.now in
     let row = c.args.self.now.cells.now in
-    let fits : FitsSigned w64 c.in-Number.number = search (rules, ints) in
-    on_ok_weaker c.write_number.result
-    (number_done P row t c.in-Number.number c.args.names.now c.args.out.now c.write_number.new.out c.args.work.now.items
-    (subst (λ (r : Root). RootMeans P row r t) c.in-Number.is m))
-    (rw to_z-of_z at c.write_number.ensures)
+    let i = c.in-Some.ensures t m in
+    let told = c.in_ok-begun.ensures i.pair.one i.pair.left_means in
+    let b = rw c.in-Some-2.is at told in
+    IfOk-weaker c.hand_over-in-Some-2.result _ _
+    (λ hand e. cell_begun P row c.in-Some.head c.in-Some.tail t i c.args.names.now c.write_flat.new.names c.args.out.now c.append.new.self c.write_flat.new.out
+    (tasks_left (Some c.in-Some-2.begun)) c.args.work.now.items c.push.new.self.items (c.hand_over-in-Some-2.new.work.items ++ in_hand hand)
+    c.in_ok-append.ensures c.in_ok-push.ensures.items e b)
+    c.hand_over-in-Some-2.ensures
 
-pub returns-in_ok-write_name-in-Compound : goal.returns-in_ok-write_name-in-Compound
-returns-in_ok-write_name-in-Compound g c = λ t m.
+pub returns : goal.returns
+returns g c = λ t m.
     let P = named c.args.self.now.loaded.now in
     let row = c.args.self.now.cells.now in
-    let (ts, is, means) = subst (λ (r : Root). RootMeans P row r t) c.in-Compound.is m in
-    let name = c.in_ok-write_name-in-Compound.ensures ∙ ap (λ n. c.args.out.now ++ shown_name n) c.name.ensures in
-    on_ok_weaker c.write_arguments.result
-    (λ d. named_begun P row t c.in-Compound.name.0 ts c.args.names.now c.args.out.now c.write_name.new.text c.write_arguments.new.out c.args.work.now.items
-    c.write_arguments.new.work.items is
-    (c.in_default.ensures t m) name (d c.args.names.now))
-    (c.write_arguments.ensures ts means)
+    let i = c.in-Some.ensures t m in
+    let told = c.in_ok-begun.ensures i.pair.one i.pair.left_means in
+    let b = rw c.in_default-2.is at told in
+    let l = cell_left P row c.in-Some.head c.in-Some.tail t i c.args.names.now c.write_flat.new.names c.args.out.now c.append.new.self c.write_flat.new.out
+    c.in_ok-append.ensures b in
+    IfOk-weaker c.write_tail.result _ _
+    (λ hand d. leaves_does P row (tail i.pair.other) (variables_of t) (λ vs. shown P.program.names vs t) c.args.names.now c.write_flat.new.names
+    c.write_tail.new.names c.args.out.now c.write_flat.new.out c.write_tail.new.out c.args.work.now.items (c.write_tail.new.work.items ++ in_hand hand) l d)
+    (c.write_tail.ensures i.pair.other i.pair.right_means)

@@ -1,5 +1,4 @@
-use Rattle.std.proofs.Common.{◌≡◌, ◌^◌, ◌<◌, ◌++◌, ◌∷◌, [], List, length, refl, sym, subst, arith}
-use Rattle.std.proofs.lemmas.List.{nil_from_length}
+use Rattle.std.proofs.Common.{◌≡◌, ◌^◌, ◌<◌, ◌++◌, ◌∷◌, [], List, length, refl, sym, ap, subst, arith}
 use Rattle.and_model.specs.Terms.{Term, variables_of}
 use Rattle.and_model.specs.Lines.{shown}
 use Rattle.and_cells.specs.Parts.{named}
@@ -17,8 +16,8 @@ loop-task-init g c =
     let P = named c.args.self.now.loaded.now in
     let row = c.args.self.now.cells.now in
     let (t, m) = c.requires.means in
-    let none : c.new-work.result.items ≡ [] = c.new-work.ensures.items in
-    let one : c.push.new.self.items ≡ Whole c.args.term ∷ [] = rw none at c.in_ok-push.ensures.items in
+    let one : c.new-work.result.items ++ Whole c.args.term ∷ [] ≡ Whole c.args.term ∷ [] =
+    ap (λ (ks : List Task). ks ++ Whole c.args.term ∷ []) c.new-work.ensures.items in
     record {
       value = t;
       means = m;
@@ -32,7 +31,8 @@ write_task-requires-clause-means g c =
     let P = named c.args.self.now.loaded.now in
     let row = c.args.self.now.cells.now in
     let i = c.loop-task.invariant in
-    let top = tops P row c.pop.new.self.items c.in-Some.task i.pieces (subst (λ (ks : List Task). AllMean P row ks i.pieces) c.in-Some.ensures.items i.mean) in
+    let mean = subst (λ (ks : List Task). AllMean P row ks i.pieces) c.in-Some.ensures.some i.mean in
+    let top = tops P row c.next_of.new.work.items c.in-Some.task i.pieces mean in
     (top.piece, top.top_means)
 
 pub loop-task-smaller : goal.loop-task-smaller
@@ -40,17 +40,19 @@ loop-task-smaller g c =
     let P = named c.args.self.now.loaded.now in
     let row = c.args.self.now.cells.now in
     let i = c.loop-task.invariant in
-    let top = tops P row c.pop.new.self.items c.in-Some.task i.pieces (subst (λ (ks : List Task). AllMean P row ks i.pieces) c.in-Some.ensures.items i.mean) in
+    let mean = subst (λ (ks : List Task). AllMean P row ks i.pieces) c.in-Some.ensures.some i.mean in
+    let top = tops P row c.next_of.new.work.items c.in-Some.task i.pieces mean in
     let short : length c.write_task.new.out < 2 ^ 64 = let e = c.len-length.ensures in omega arith in
-    less_left P row _ _ _ _ _ _ _ _ _ _ (c.in_ok-write_task.ensures top.piece top.top_means) c.in-Some.ensures.items short
+    less_left P row _ _ _ _ _ _ _ _ _ _ (c.in_ok-hand.ensures top.piece top.top_means) c.in-Some.ensures.some short
 
 pub loop-task-preserved : goal.loop-task-preserved
 loop-task-preserved g c =
     let P = named c.args.self.now.loaded.now in
     let row = c.args.self.now.cells.now in
     let i = c.loop-task.invariant in
-    let top = tops P row c.pop.new.self.items c.in-Some.task i.pieces (subst (λ (ks : List Task). AllMean P row ks i.pieces) c.in-Some.ensures.items i.mean) in
-    let d = c.in_ok-write_task.ensures top.piece top.top_means in
+    let mean = subst (λ (ks : List Task). AllMean P row ks i.pieces) c.in-Some.ensures.some i.mean in
+    let top = tops P row c.next_of.new.work.items c.in-Some.task i.pieces mean in
+    let d = c.in_ok-hand.ensures top.piece top.top_means in
     let owed = subst (λ (ps : List Piece). Owes P.program.names ps (variables_of i.value) (λ vs. shown P.program.names vs i.value) c.args.names.now
     c.loop-task.names c.args.out.now c.loop-task.out) top.are i.owes in
     record {
@@ -58,7 +60,7 @@ loop-task-preserved g c =
       means = i.means;
       pieces = top.others ++ d.pieces;
       mean = subst (λ (ks : List Task). AllMean P row ks (top.others ++ d.pieces)) (sym d.pushed)
-          (all_mean_append P row c.pop.new.self.items d.tasks top.others d.pieces top.below_mean d.mean);
+          (all_mean_append P row c.next_of.new.work.items d.tasks top.others d.pieces top.below_mean d.mean);
       owes = owes_on P.program.names top.others d.pieces top.piece _ _ _ _ _ _ _ _ owed d.owes;
     }
 
@@ -68,9 +70,7 @@ returns g c = λ t m.
     let row = c.args.self.now.cells.now in
     let i = c.loop-task.invariant in
     let same : i.value ≡ t = one_term P row c.args.term i.value t i.means.stands m.stands in
-    let empty : c.loop-task.work.items ≡ [] =
-    nil_from_length c.loop-task.work.items (let e = c.in_default.ensures.cases.0 in let f = c.loop-task.work.ok.0 in omega arith) in
-    let none = no_pieces P row i.pieces (subst (λ (ks : List Task). AllMean P row ks i.pieces) empty i.mean) in
+    let none = no_pieces P row i.pieces (subst (λ (ks : List Task). AllMean P row ks i.pieces) c.in_default.ensures.none i.mean) in
     let owed = subst (λ (ps : List Piece). Owes P.program.names ps (variables_of i.value) (λ vs. shown P.program.names vs i.value) c.args.names.now
     c.loop-task.names c.args.out.now c.loop-task.out) none i.owes in
     subst (λ (u : Term). Writes (variables_of u) (λ vs. shown P.program.names vs u) c.args.names.now c.loop-task.names c.args.out.now c.loop-task.out) same
