@@ -14,7 +14,7 @@ use Rattle.and_program.specs.Skeletons.{AllFall}
 use Rattle.and_cells.specs.Ranges.{NamedProgram, IsInRange}
 use Rattle.and_cells.specs.Seen.{Seen, Knows, IsAmong, LeadsTo, here, onward, FoundFree, Misses, IsWrittenIfNumber, IsCoherent}
 use Rattle.and_cells.proofs.Chains.{reads_nothing, reads_more}
-use Rattle.and_arith.specs.Values.{Reaches, whole, KnownAs, HasValue, IsGround, LacksValue, IsFirstFree}
+use Rattle.and_value_laws.specs.Values.{Reaches, whole, KnownAs, HasValue, IsGround, LacksValue, IsFirstFree}
 use Rattle.and_arith.specs.Sizes.{size_of, parts_with, AreOpened, AreAllOpened, IsSettledAnswer, Spends}
 use Rattle.and_arith.specs.Taken.{Listed, cells_of}
 use Rattle.and_arith.specs.Turns.{Stand, IsReady, Stops, PutsOff, Finishes}
@@ -23,7 +23,7 @@ use Rattle.and_arith.specs.declared.walk.Task.TheVariants.{Enter, Keep}
 use Rattle.and_arith.specs.declared.values.Valued.{Valued}
 use Rattle.and_arith.specs.declared.values.Valued.TheVariants as valued
 use Rattle.and_arith.proofs.Members.{none_in, first_in, first_or_later, image_in, from_image}
-use Rattle.and_arith.proofs.KnownTerms.{IsOnce, Extends, cell_cases}
+use Rattle.and_value_laws.proofs.KnownTerms.{IsOnce, Extends, cell_cases}
 use Rattle.and_arith.proofs.Yielding.{Yields, leads_same}
 use Rattle.and_arith.proofs.Owing.{Ahead, begins}
 use Rattle.and_arith.proofs.Covering.{Passed, on_chain, on_pair, on_half, on_literal, on_taken, Covered, waiting, covered_cell, covered_pair, all_covered}

@@ -10,7 +10,7 @@ use Rattle.and_program.specs.Loaded.{shape_at}
 use Rattle.and_cells.specs.Ranges.{NamedProgram}
 use Rattle.and_cells.specs.Seen.{Seen, Knows, LeadsTo, here, onward}
 use Rattle.and_cells.specs.Parts.{part_at, parts_of}
-use Rattle.and_arith.specs.Values.{Reaches, whole, set, part}
+use Rattle.and_value_laws.specs.Values.{Reaches, whole, set, part}
 use Rattle.and_arith.specs.Turns.{IsEnd, of_pair, of_half, of_literal}
 use Rattle.and_arith.specs.declared.walk.Task.{Task}
 use Rattle.and_arith.specs.declared.walk.Task.TheVariants.{Enter}

@@ -10,7 +10,7 @@ use Rattle.and_program.specs.Shown.{arguments_in}
 use Rattle.and_cells.specs.Ranges.{NamedProgram}
 use Rattle.and_cells.specs.Seen.{Seen, Knows, LeadsTo, here, onward}
 use Rattle.and_cells.specs.Parts.{part_at}
-use Rattle.and_arith.specs.Values.{whole, set, part, KnownAs, AllKnownAs, unbound, bound, integer, literal, structure, no_parts, more_parts, IsGround}
+use Rattle.and_value_laws.specs.Values.{whole, set, part, KnownAs, AllKnownAs, unbound, bound, integer, literal, structure, no_parts, more_parts, IsGround}
 use Rattle.and_arith.proofs.Members.{first_in, later_in}
 use Rattle.and_arith.proofs.Yielding.{AreSome, operated_some}
 use Rattle.and_arith.proofs.Solving.{ground_below}

@@ -6,7 +6,6 @@ pub mod Looking
 pub mod Opening
 pub mod Stepping
 pub mod Entering
-pub mod KnownTerms
 pub mod Yielding
 pub mod Owing
 pub mod Covering

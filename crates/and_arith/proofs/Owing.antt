@@ -12,14 +12,14 @@ use Rattle.and_model.specs.declared.reference.Ref.TheVariants.{Cell, Node}
 use Rattle.and_cells.specs.Ranges.{NamedProgram}
 use Rattle.and_cells.specs.Seen.{Seen}
 use Rattle.and_cells.specs.Parts.{parts_of}
-use Rattle.and_arith.specs.Values.{KnownAs, AllKnownAs, no_parts, more_parts}
+use Rattle.and_value_laws.specs.Values.{KnownAs, AllKnownAs, no_parts, more_parts}
 use Rattle.and_laws.specs.Sizes.{size}
 use Rattle.and_arith.specs.Taken.{Listed, Gives}
 use Rattle.and_arith.specs.Turns.{IsStructureAt, tasks_of}
 use Rattle.and_arith.specs.declared.walk.Task.{Task}
 use Rattle.and_arith.specs.declared.walk.Task.TheVariants.{Enter, Leave, Keep}
 use Rattle.and_arith.proofs.Members.{none_in, first_in, later_in, first_or_later}
-use Rattle.and_arith.proofs.KnownTerms.{IsOnce, one_known}
+use Rattle.and_value_laws.proofs.KnownTerms.{IsOnce, one_known}
 use Rattle.and_arith.proofs.Yielding.{Yields, AllYield, all_append, all_counted, structure_yields, AreSame, same_yields, nothing_yields, made_of_parts}
 use Rattle.and_arith.proofs.Yielding.{smaller, parts_are}
 

@@ -23,9 +23,9 @@ use Rattle.and_cells.specs.Solved.{HasTerm}
 use Rattle.and_cells.specs.Parts.{part_at, parts_of}
 use Rattle.and_cell_laws.proofs.Structures.{node_term_shape}
 use Rattle.and_cell_laws.proofs.TermsOfStructures.{structure_has_term}
-use Rattle.and_arith.specs.Values.{KnownAs, AllKnownAs, unbound, bound, integer, literal, structure, no_parts, more_parts}
+use Rattle.and_value_laws.specs.Values.{KnownAs, AllKnownAs, unbound, bound, integer, literal, structure, no_parts, more_parts}
 use Rattle.and_arith.proofs.Members.{none_in, first_in, later_in, first_or_later}
-use Rattle.and_arith.proofs.KnownTerms.{IsOnce, one_known}
+use Rattle.and_value_laws.proofs.KnownTerms.{IsOnce, one_known}
 use Rattle.and_arith.proofs.Ranging.{argument_below, part_in_range}
 
 -- a row has one word at a place

@@ -26,7 +26,7 @@ use Rattle.and_cells.specs.Parts.{IsStructure, part_at, parts_of}
 use Rattle.and_cells.proofs.Chains.{held_in_range}
 use Rattle.and_cell_laws.proofs.Between.{one_value, names_no_half}
 use Rattle.and_cell_laws.proofs.Structures.{node_term_shape, in_frame, value_of_node, HaveValues, value_of_structure}
-use Rattle.and_arith.specs.Values.{Reaches, whole, set, part, KnownAs, AllKnownAs, unbound, bound, integer, literal, structure, no_parts, more_parts, IsGround}
+use Rattle.and_value_laws.specs.Values.{Reaches, whole, set, part, KnownAs, AllKnownAs, unbound, bound, integer, literal, structure, no_parts, more_parts, IsGround}
 use Rattle.and_arith.proofs.Members.{first_in, later_in, image_in, from_image}
 use Rattle.and_arith.proofs.Covering.{reaches_on}
 use Rattle.and_arith.proofs.Counting.{size_some}

@@ -15,14 +15,14 @@ use Rattle.and_cells.specs.Ranges.{NamedProgram, IsInRange}
 use Rattle.and_cells.specs.Seen.{Seen, OnlyReads, LeadsTo, Knows, IsWrittenIfNumber}
 use Rattle.and_cells.specs.Parts.{part_at, parts_of}
 use Rattle.and_cells.proofs.Chains.{reads_more, written_later, leads_later}
-use Rattle.and_arith.specs.Values.{Reaches, set, part}
+use Rattle.and_value_laws.specs.Values.{Reaches, set, part}
 use Rattle.and_arith.specs.Sizes.{AreOpened}
 use Rattle.and_arith.specs.Taken.{Listed, cells_of, IsNew, Gives}
 use Rattle.and_arith.specs.Turns.{AreCounted, IsStructureAt, tasks_of}
 use Rattle.and_arith.specs.declared.walk.Task.{Task}
 use Rattle.and_arith.specs.declared.walk.Task.TheVariants.{Enter, Leave, Keep}
 use Rattle.and_arith.proofs.Members.{first_in, later_in, first_or_later, image_in, from_image}
-use Rattle.and_arith.proofs.KnownTerms.{IsOnce, Extends}
+use Rattle.and_value_laws.proofs.KnownTerms.{IsOnce, Extends}
 use Rattle.and_arith.proofs.Yielding.{set_same, leads_same, parts_are}
 use Rattle.and_arith.proofs.Listing.{any_default}
 use Rattle.and_arith.proofs.Owing.{Stays, keep_later, keep_behind, opened, taken_open, left, kept}

@@ -17,12 +17,12 @@ use Rattle.and_cells.specs.Seen.{Seen, LeadsTo, IsWrittenIfNumber, word_at}
 use Rattle.and_cells.specs.Numbers.{number_of}
 use Rattle.and_cells.specs.Parts.{part_at, parts_of}
 use Rattle.and_cells.proofs.PlainRows.{plain_reads_number}
-use Rattle.and_arith.specs.Values.{Reaches, whole, set, part, KnownAs, AllKnownAs, IsFirstFree, HasValue}
+use Rattle.and_value_laws.specs.Values.{Reaches, whole, set, part, KnownAs, AllKnownAs, IsFirstFree, HasValue}
 use Rattle.and_arith.specs.Glances.{IsNumber, IsTold, IsGivenBy, IsOfTwo}
 use Rattle.and_arith.specs.declared.values.Valued.{Valued}
 use Rattle.and_arith.specs.declared.values.Valued.TheVariants as valued
 use Rattle.and_arith.proofs.Members.{first_in, later_in}
-use Rattle.and_arith.proofs.KnownTerms.{IsOnce, cell_cases, all_first, all_none}
+use Rattle.and_value_laws.proofs.KnownTerms.{IsOnce, cell_cases, all_first, all_none}
 use Rattle.and_arith.proofs.Yielding.{Yields, AllYield, made_of_parts, structure_yields, same_yields, leads_same, end_yields}
 use Rattle.and_arith.proofs.Stepping.{literal_ends, pair_ends, structure_shown}
 use Rattle.and_arith.proofs.Covering.{reaches_on}

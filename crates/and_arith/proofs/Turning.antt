@@ -19,7 +19,7 @@ use Rattle.and_arith.specs.Turns.{Stand, IsStructureAt, IsEnd, of_pair, of_half,
 use Rattle.and_arith.specs.Turns.{Enters, Turns, enters, leaves, keeps}
 use Rattle.and_arith.specs.declared.walk.Task.{Task}
 use Rattle.and_arith.specs.declared.walk.Task.TheVariants.{Enter, Leave, Keep}
-use Rattle.and_arith.proofs.KnownTerms.{IsOnce}
+use Rattle.and_value_laws.proofs.KnownTerms.{IsOnce}
 use Rattle.and_arith.proofs.Yielding.{same_yields, come_same, come_later, leads_same, end_yields, end_later}
 use Rattle.and_arith.proofs.Owing.{passes, recalled}
 use Rattle.and_arith.proofs.Covering.{Covered, on_taken, chain_covered, end_covered, end_passed, leads_from_cell}

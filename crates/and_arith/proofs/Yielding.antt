@@ -13,11 +13,11 @@ use Rattle.and_cells.specs.Seen.{Seen, Knows, LeadsTo, here, onward}
 use Rattle.and_cells.specs.Numbers.{number_of}
 use Rattle.and_cells.specs.Parts.{part_at, parts_of}
 use Rattle.and_cells.proofs.Chains.{leads_later}
-use Rattle.and_arith.specs.Values.{KnownAs, AllKnownAs, bound, integer, literal, structure, no_parts, more_parts}
+use Rattle.and_value_laws.specs.Values.{KnownAs, AllKnownAs, bound, integer, literal, structure, no_parts, more_parts}
 use Rattle.and_laws.specs.Sizes.{size, sizes}
 use Rattle.and_arith.specs.Turns.{IsEnd, of_pair, of_half, of_literal, IsStructureAt, IsComeTo}
 use Rattle.and_arith.proofs.Members.{none_in, first_or_later}
-use Rattle.and_arith.proofs.KnownTerms.{IsOnce, node_cases, cell_cases, pair_cases, half_has_none, all_first, all_none}
+use Rattle.and_value_laws.proofs.KnownTerms.{IsOnce, node_cases, cell_cases, pair_cases, half_has_none, all_first, all_none}
 
 -- the parts of a structure, by its shape
 pub parts_are : (P : NamedProgram) (node : NodeNo) (base : ℕ) (is : IsStructureAt P node) → parts_of P (Node node base) ≡ map (part_at P base) is.arguments

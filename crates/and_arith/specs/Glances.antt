@@ -10,7 +10,7 @@ use Rattle.and_cells.specs.Rows.{plain}
 use Rattle.and_cells.specs.Seen.{Seen, word_at}
 use Rattle.and_cells.specs.Parts.{parts_of}
 use Rattle.and_arith.specs.Turns.{IsStructureAt}
-use Rattle.and_arith.specs.Values.{KnownAs, Reaches, IsFirstFree}
+use Rattle.and_value_laws.specs.Values.{KnownAs, Reaches, IsFirstFree}
 use Rattle.and_arith.specs.declared.values.Valued.{Valued}
 use Rattle.and_arith.specs.declared.values.Valued.TheVariants.{Number, NoValue, Waits, PutOff, Memory}
 

@@ -1,5 +1,4 @@
 pub mod Operators
-pub mod Values
 pub mod Glances
 pub mod Sizes
 pub mod Taken

@@ -10,7 +10,7 @@ use Rattle.and_cells.specs.Ranges.{NamedProgram}
 use Rattle.and_cells.specs.Seen.{Seen, Knows}
 use Rattle.and_arith.specs.declared.values.Valued.{Valued}
 use Rattle.and_arith.specs.declared.values.Valued.TheVariants.{Number, NoValue, Waits, PutOff, Memory}
-use Rattle.and_arith.specs.Values.{Reaches}
+use Rattle.and_value_laws.specs.Values.{Reaches}
 
 -- how many parts the term of a reference has where no chain is followed: a cell is one
 abbrev pub size_of : NamedProgram → Ref → ℕ

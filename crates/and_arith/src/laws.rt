@@ -12,7 +12,7 @@ ghost use Rattle.and_cells.specs.Seen.{Seen, Knows, IsWrittenIfNumber};
 ghost use Rattle.and_cells.specs.Meaning.{Words, StandsFor, shallow_cells};
 ghost use Rattle.and_cells.specs.Known.{HasKnown, SolvesKnown};
 ghost use Rattle.and_cells.specs.Joined.{value};
-ghost use Rattle.and_arith.specs.Values.{KnownAs, IsGround};
+ghost use Rattle.and_value_laws.specs.Values.{KnownAs, IsGround};
 
 /// Each solution of what is known gives a reference the value that it makes of its known term; so
 /// where that term is ground, all give it this one.

@@ -6,7 +6,7 @@ ghost use Rattle.and_cells.specs.Ranges.{IsInRange};
 ghost use Rattle.and_cells.specs.Seen.{IsWrittenIfNumber, OnlyReads, FoundFree, word_at};
 ghost use Rattle.and_cells.specs.Rows.{plain};
 ghost use Rattle.and_cells.specs.Parts.{named};
-ghost use Rattle.and_arith.specs.Values.{Reaches, HasValue, LacksValue, IsFirstFree};
+ghost use Rattle.and_value_laws.specs.Values.{Reaches, HasValue, LacksValue, IsFirstFree};
 ghost use Rattle.and_arith.specs.Sizes.{Spends};
 ghost use Rattle.and_arith.specs.declared.walk.Task.{Task};
 

@@ -31,3 +31,4 @@ pub mod WatchedGoals
 pub mod WaysGone
 pub mod PassedGoals
 pub mod WatchedLists
+pub mod StatesTold

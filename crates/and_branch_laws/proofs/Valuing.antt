@@ -25,9 +25,9 @@ use Rattle.and_cells.specs.Meaning as meaning
 use Rattle.and_cells.specs.Meaning.{StandsFor, IsSettled, equations_of}
 use Rattle.and_cells.specs.Parts.{part_at}
 use Rattle.and_cell_laws.proofs.Structures.{node_term_shape}
-use Rattle.and_arith.specs.Values.{Reaches, whole, set, part, KnownAs, AllKnownAs, unbound, bound, integer, literal, structure, no_parts, more_parts}
-use Rattle.and_arith.specs.Values.{IsGround, HasValue, LacksValue, IsFirstFree}
-use Rattle.and_arith.proofs.KnownTerms.{IsOnce, one_known}
+use Rattle.and_value_laws.specs.Values.{Reaches, whole, set, part, KnownAs, AllKnownAs, unbound, bound, integer, literal, structure, no_parts, more_parts}
+use Rattle.and_value_laws.specs.Values.{IsGround, HasValue, LacksValue, IsFirstFree}
+use Rattle.and_value_laws.proofs.KnownTerms.{IsOnce, one_known}
 use Rattle.and_branch_laws.specs.Running.{IsRead}
 use Rattle.and_branch_laws.specs.Goals.{CanBeRead}
 use Rattle.and_branch_laws.proofs.Readings.{read_term}

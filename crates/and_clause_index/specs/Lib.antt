@@ -3,3 +3,4 @@ pub mod Prints
 pub mod Served
 pub mod Sieves
 pub mod Tables
+pub mod Selecting

@@ -15,7 +15,7 @@ use Rattle.and_cells.specs.Ranges.{NamedProgram}
 use Rattle.and_cells.specs.Seen.{word_at, IsSetTo}
 use Rattle.and_cells.specs.Meaning.{Words, equations_of}
 use Rattle.and_cells.proofs.SetWords.{set_in_is}
-use Rattle.and_shared_determinacy.specs.Selecting.{AreLeft, HasSeen}
+use Rattle.and_clause_index.specs.Selecting.{AreLeft, HasSeen}
 use Rattle.and_store.specs.Worked.{shown}
 use Rattle.and_store_laws.proofs.Lists.{map_contains}
 use Rattle.and_store_laws.specs.Steps.{setting}

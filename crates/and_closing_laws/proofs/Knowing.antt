@@ -22,7 +22,7 @@ use Rattle.and_cells.specs.Ranges.{NamedProgram}
 use Rattle.and_cells.specs.Seen.{word_at}
 use Rattle.and_cells.specs.Meaning.{equations_of}
 use Rattle.and_code.specs.Written.{written}
-use Rattle.and_shared_determinacy.specs.Selecting.{AreLeft}
+use Rattle.and_clause_index.specs.Selecting.{AreLeft}
 use Rattle.and_store.specs.Worked.{shown}
 use Rattle.and_store_laws.specs.Steps.{entry}
 use Rattle.and_store_laws.proofs.Lists.{contains_there}

@@ -17,7 +17,7 @@ use Rattle.and_unify.specs.Pairs.{AreInRange, AreWritten, equations_of_pairs}
 use Rattle.and_branch_laws.specs.Kept.{item_at}
 use Rattle.and_branch_laws.specs.Reducing.{reduction_in_cells}
 use Rattle.and_branch_laws.specs.Variables.{placed, cells_from}
-use Rattle.and_shared_determinacy.specs.Selecting.{CanBeTried, AreLeft}
+use Rattle.and_clause_index.specs.Selecting.{CanBeTried, AreLeft}
 use Rattle.and_store.specs.Passes.{PassSeen}
 use Rattle.and_store.specs.Worked.{seen_by, shown}
 use Rattle.and_store_laws.specs.Steps.{entry}

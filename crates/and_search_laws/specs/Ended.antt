@@ -1,13 +1,10 @@
--- How a search has ended so far, and with what a branch ends (this project's own).
+-- How a search has ended so far (this project's own).
 use Rattle.std.specs.Prelude.{ℕ, ◌≡◌, Bool, true, false, Option, Some, None}
 use Rattle.and_model.specs.Limits.{Cut, OverLimit}
 use Rattle.and_model.specs.Programs.{Program}
-use Rattle.and_model.specs.Trees.{QueryTree}
 use Rattle.and_model.specs.declared.goal
-use Rattle.and_cells.specs.Ranges.{NamedProgram}
 use Rattle.and_code.specs.Written.{all_written}
-use Rattle.and_branch_laws.specs.States.{IsCut, StateOf, answer, floundered}
-use Rattle.and_branch.specs.Branches.{Held}
+use Rattle.and_branch_laws.specs.States.{IsCut}
 use Rattle.and_answers.specs.Kept.{listed}
 use Rattle.and_answers.specs.declared.found.Found.{Found}
 use Rattle.and_search_laws.specs.Found.{kept_count}
@@ -19,11 +16,6 @@ IsEndSoFar P limit found forks failed is_cut None =
 IsEndSoFar P limit found forks failed is_cut (Some cut) =
     (is_cut ≡ true) × (over : Cut P) × IsCut (all_written cut.partial) cut.goal cut.clause.0 over
     × OverLimit P limit over
-
--- The branch is floundered, or an answer.
-abbrev pub EndsSo : (P : NamedProgram) (b : Held) → QueryTree P.program → (is_floundered : Bool) → Type 0
-EndsSo P b t true = StateOf P.program b.limit t floundered
-EndsSo P b t false = StateOf P.program b.limit t answer
 
 -- All but the cut is the same.
 pub record SameButCut (old new : Found) : Type 0 where

@@ -25,8 +25,8 @@ use Rattle.and_cells.specs.Parts.{IsStructure, part_at, parts_of}
 use Rattle.and_cells.proofs.Frames.{no_variable}
 use Rattle.and_cell_laws.proofs.Images.{contains_origin}
 use Rattle.and_cell_laws.proofs.Structures.{node_term_shape, in_frame, value_of_node, value_of_part, HaveValues, value_of_structure}
-use Rattle.and_arith.specs.Values.{whole, part, KnownAs, AllKnownAs, unbound, bound, integer, literal, structure, no_parts, more_parts, IsGround, HasValue}
-use Rattle.and_arith.specs.Values.{LacksValue}
+use Rattle.and_value_laws.specs.Values.{whole, part, KnownAs, AllKnownAs, unbound, bound, integer, literal, structure, no_parts, more_parts, IsGround, HasValue}
+use Rattle.and_value_laws.specs.Values.{LacksValue}
 use Rattle.and_arith.specs.Sizes.{Spends}
 use Rattle.and_arith.specs.declared.values.Valued.{Valued}
 use Rattle.and_arith.specs.declared.values.Valued.TheVariants as valued

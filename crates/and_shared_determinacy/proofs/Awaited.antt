@@ -17,7 +17,7 @@ use Rattle.and_cells.proofs.Frames.{no_variable}
 use Rattle.and_cells.proofs.Chains.{leads_later, reads_more}
 use Rattle.and_unify.proofs.TurnParts.{length_map, part_in_range, part_written}
 use Rattle.and_unify.proofs.SettlingPairs.{contains_place}
-use Rattle.and_shared_determinacy.specs.Selecting.{IsNoCell, NoneWaits}
+use Rattle.and_clause_index.specs.Selecting.{IsNoCell, NoneWaits}
 
 -- What ended elsewhere still does.
 pub none_later : (P : NamedProgram) (old new : Seen) (node : NodeNo) (base count : ℕ) → OnlyReads old new → NoneWaits P old node base count

@@ -37,7 +37,7 @@ use Rattle.and_unify.specs.declared.pairs.Pair.{Pair}
 use Rattle.and_unify.proofs.TurnAgree.{agree_from_solves}
 use Rattle.and_shared_determinacy.specs.Truths.{Denotes, AreOne, AreTrue, ArePairsTrue}
 use Rattle.and_shared_determinacy.specs.Weighing.{NamesNoHalf, FailsOver, GuardFailsOver}
-use Rattle.and_shared_determinacy.specs.Selecting.{HasSeen, IsWholeAt, IsNoCandidate}
+use Rattle.and_clause_index.specs.Selecting.{HasSeen, IsWholeAt, IsNoCandidate}
 use Rattle.and_guards.proofs.Moving.{IsLow, low_same, moved_same, inward, inward_agrees, inward_moved}
 use Rattle.and_guards.proofs.Widening.{same_value}
 use Rattle.and_guards.proofs.Refuting.{both_ground}

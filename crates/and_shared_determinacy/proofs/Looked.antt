@@ -12,7 +12,7 @@ use Rattle.and_clause_index.specs.declared.looking.Look.{Look}
 use Rattle.and_clause_index.specs.declared.table.Determinacy.{Determinacy}
 use Rattle.and_clause_index.proofs.Glimpses.{seen_before}
 use Rattle.and_clause_index.proofs.Left.{candidate_left}
-use Rattle.and_shared_determinacy.specs.Selecting.{IsNoCandidate}
+use Rattle.and_clause_index.specs.Selecting.{IsNoCandidate}
 use Rattle.and_shared_determinacy.proofs.Truths.{reads_hold}
 use Rattle.and_shared_determinacy.proofs.Falling.{begun_hold, learnt_hold}
 use Rattle.and_shared_determinacy.proofs.TrialFalls.{IsTrial}

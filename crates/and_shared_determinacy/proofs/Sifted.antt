@@ -9,7 +9,7 @@ use Rattle.and_laws.proofs.Pairwise.{all_pairs_none, all_pairs_join}
 use Rattle.and_branch_laws.proofs.Lists.{all_of, pairs_left, pairs_across}
 use Rattle.and_cells.specs.Ranges.{NamedProgram}
 use Rattle.and_cells.specs.Seen.{Seen, OnlyReads}
-use Rattle.and_shared_determinacy.specs.Selecting.{IsNoCandidate}
+use Rattle.and_clause_index.specs.Selecting.{IsNoCandidate}
 use Rattle.and_shared_determinacy.specs.declared.selecting.Tried.{Tried}
 use Rattle.and_shared_determinacy.specs.declared.selecting.Tried.TheVariants.{Stays, Falls, Memory}
 use Rattle.and_shared_determinacy.specs.Sifting.{AreSifted, nothing, kept, dropped}

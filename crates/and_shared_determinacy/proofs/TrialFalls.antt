@@ -14,7 +14,7 @@ use Rattle.and_unify.specs.declared.pairs.Pair.{Pair}
 use Rattle.and_shared_determinacy.specs.Truths.{IsTrue, AreTrue, LearntAreTrue, ArePairsTrue}
 use Rattle.and_shared_determinacy.specs.Matches.{MatchesAll, NeverMatch}
 use Rattle.and_shared_determinacy.specs.Weighing.{GuardFailsOver}
-use Rattle.and_shared_determinacy.specs.Selecting.{IsNoCandidate}
+use Rattle.and_clause_index.specs.Selecting.{IsNoCandidate}
 use Rattle.and_shared_determinacy.proofs.Truths.{reads_true, learnt_before}
 use Rattle.and_shared_determinacy.proofs.Falling.{begun_hold, learnt_hold, falls_apart, falls_guarded}
 

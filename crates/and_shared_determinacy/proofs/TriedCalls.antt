@@ -26,7 +26,7 @@ use Rattle.and_clause_index.specs.Looks.{IsLookOver}
 use Rattle.and_clause_index.specs.Served.{NodeHas, AreServed}
 use Rattle.and_clause_index.specs.declared.looking.Look.{Look}
 use Rattle.and_clause_index.specs.declared.table.Determinacy.{Determinacy}
-use Rattle.and_shared_determinacy.specs.Selecting.{CanBeTried, IsNodeOver, HasSeen, IsWholeAt, IsNoCandidate, AreLeft}
+use Rattle.and_clause_index.specs.Selecting.{CanBeTried, IsNodeOver, HasSeen, IsWholeAt, IsNoCandidate, AreLeft}
 use Rattle.and_shared_determinacy.specs.Sifting.{AreSifted}
 use Rattle.and_clause_index.specs.Tables.{IsKnown, tried, entry_at}
 use Rattle.and_clause_index.proofs.ClauseLists.{IsEarlier}

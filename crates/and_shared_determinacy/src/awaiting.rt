@@ -4,7 +4,7 @@ ghost use Rattle.std.specs.Prelude.{◌≡◌, ◌≢◌, ℕ, Some, None};
 ghost use Rattle.and_model.specs.declared.reference.Ref.{Ref};
 ghost use Rattle.and_cells.specs.Seen.{OnlyReads};
 ghost use Rattle.and_cells.specs.Parts.{named};
-ghost use Rattle.and_shared_determinacy.specs.Selecting.{CanBeTried, GoalWaitsOn, IsNoCell, NoneOfGoalWaits};
+ghost use Rattle.and_clause_index.specs.Selecting.{CanBeTried, GoalWaitsOn, IsNoCell, NoneOfGoalWaits};
 
 use crate::selecting::call_node;
 use and_cells::{Cells, deref};

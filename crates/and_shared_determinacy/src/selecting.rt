@@ -10,7 +10,7 @@ ghost use Rattle.and_cells.specs.Ranges.{IsNodeInRange};
 ghost use Rattle.and_cells.specs.Seen.{OnlyReads};
 ghost use Rattle.and_cells.specs.Parts.{named};
 ghost use Rattle.and_overlay.specs.Overlaid.{IsKnownFit};
-ghost use Rattle.and_shared_determinacy.specs.Selecting.{CanBeTried, IsNodeOver, IsNoCandidate, AreLeft};
+ghost use Rattle.and_clause_index.specs.Selecting.{CanBeTried, IsNodeOver, IsNoCandidate, AreLeft};
 ghost use Rattle.and_shared_determinacy.specs.Sifting.{AreSifted};
 ghost use Rattle.and_clause_index.specs.Looks.{IsLookOver};
 ghost use Rattle.and_clause_index.specs.Tables.{IsTableOf};

@@ -30,9 +30,10 @@ use Rattle.and_answers.specs.Kept.{total, outcome_with}
 use Rattle.and_answers.specs.declared.found.Found.{Found}
 use Rattle.and_walk_laws.specs.Walks.{Walks, WalksSplits}
 use Rattle.and_walk_laws.proofs.Forking.{some_clauses}
-use Rattle.and_search_laws.specs.Ended.{EndsSo, IsEndSoFar}
+use Rattle.and_branch.specs.Ended.{EndsSo}
+use Rattle.and_search_laws.specs.Ended.{IsEndSoFar}
 use Rattle.and_search_laws.proofs.Ending.{one_counted, MeetsLimit, end_counted, end_cut}
-use Rattle.and_search_laws.proofs.Telling.{state_within}
+use Rattle.and_branch.proofs.StatesTold.{state_within}
 use Rattle.and_search_laws.proofs.Splitting.{too_heavy, split_weighs, candidate_splits, split_candidate}
 use Rattle.and_team_laws.specs.Done.{IsForkedBy, Did}
 

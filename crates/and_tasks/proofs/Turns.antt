@@ -38,7 +38,7 @@ use Rattle.and_answers.specs.declared.found.Found.{Found}
 use Rattle.and_search_laws.specs.Found.{kept_count}
 use Rattle.and_search_laws.specs.Ended.{IsEndSoFar, SameButCut}
 use Rattle.and_search_laws.proofs.Ending.{one_counted, end_counted, end_cut}
-use Rattle.and_search_laws.proofs.Telling.{state_within}
+use Rattle.and_branch.proofs.StatesTold.{state_within}
 use Rattle.and_team_laws.specs.Done.{Did}
 use Rattle.and_tasks.specs.Placed.{StandsWithin, IsForkWithin, fork_of}
 use Rattle.and_tasks.specs.Working.{keys_of, AreToCome, Has, Works, Tells}

@@ -18,7 +18,7 @@ ghost use Rattle.and_code.specs.Telling.{IsTold};
 ghost use Rattle.and_branch.specs.States.{IsState, IsAtRest, IsCutOf};
 ghost use Rattle.and_answers.specs.Kept.{SameEnd, last_code_or, listed};
 ghost use Rattle.and_histories.specs.PlainTree.{Key, Owns, children};
-ghost use Rattle.and_search_laws.specs.Ended.{EndsSo};
+ghost use Rattle.and_branch.specs.Ended.{EndsSo};
 ghost use Rattle.and_team_laws.specs.Owed.{SameItems};
 ghost use Rattle.and_tasks.specs.Working.{AreServed, Has, IsAtWork, IsLeftInHand, IsReady, LeftShares, Serves, Shares};
 ghost use Rattle.and_tasks.specs.Working.{Works};

@@ -25,7 +25,7 @@ use Rattle.and_branch.specs.declared.state.BranchState.TheVariants as told
 use Rattle.and_branch.specs.Children.{Fork, AreChildren, IsChild, IsForkOf}
 use Rattle.and_branch.specs.Origins.{GoesBack, KeepsBack}
 use Rattle.and_branch.proofs.KeptOrigins.{go_back_on}
-use Rattle.and_search_laws.proofs.Telling.{state_within}
+use Rattle.and_branch.proofs.StatesTold.{state_within}
 use Rattle.and_traces.specs.Traces
 use Rattle.and_traces.specs.Traces.{Event, Report, TracesQuery, CutsMeet, MeetsLimit, is_cut, cut_report}
 use Rattle.and_traces.proofs.Forked.{one_kept, all_kept}

@@ -4,3 +4,4 @@ pub mod Owing
 pub mod Splitting
 pub mod Going
 pub mod Topped
+pub mod EndsTold

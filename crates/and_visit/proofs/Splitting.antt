@@ -18,7 +18,7 @@ use Rattle.and_branch.specs.States.{numbers, IsState, IsCutOf}
 use Rattle.and_branch.specs.declared.state.BranchState.TheVariants as told
 use Rattle.and_branch.specs.Children.{Fork, AreChildren, IsChild, IsForkOf}
 use Rattle.and_search_laws.proofs.Splitting.{split_grows, candidate_splits}
-use Rattle.and_search_laws.proofs.Telling.{state_within}
+use Rattle.and_branch.proofs.StatesTold.{state_within}
 use Rattle.and_traces.specs.Traces
 use Rattle.and_traces.specs.Traces.{Report, CutOff, TracesSplits, cut_report}
 use Rattle.and_traces.proofs.Forked.{fork_fits, fork_whole, fork_heavy}

@@ -10,7 +10,7 @@ ghost use Rattle.and_branch.specs.Branches.{IsBranchOf};
 ghost use Rattle.and_branch.specs.Ended.{HasEnded};
 ghost use Rattle.and_branch.specs.States.{IsState, IsAtRest};
 ghost use Rattle.and_branch.specs.declared.state.BranchState.TheVariants.{OverLimit};
-ghost use Rattle.and_search_laws.specs.Ended.{EndsSo};
+ghost use Rattle.and_branch.specs.Ended.{EndsSo};
 ghost use Rattle.and_visit.specs.Searched.{IsSearched};
 ghost use Rattle.and_visit.specs.Walking.{One, IsReady, IsLeft, IsAfter, HasNext, HasTurned, places_of};
 ghost use Rattle.and_visit.specs.Walking.{left_on_top, turns};

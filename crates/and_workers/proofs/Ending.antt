@@ -4,7 +4,7 @@ use Rattle.std.proofs.lemmas.List.{append_assoc}
 use Rattle.std.proofs.lemmas.List.Elements.{All-weaker, Contains-append_cases}
 use Rattle.and_model.specs.Store.{JournalEntry, Pass, sets, fails}
 use Rattle.and_cells.specs.Ranges.{NamedProgram}
-use Rattle.and_shared_determinacy.specs.Selecting.{CanBeTried, AreLeft}
+use Rattle.and_clause_index.specs.Selecting.{CanBeTried, AreLeft}
 use Rattle.and_store.specs.Calls.{Fails}
 use Rattle.and_store.specs.Passes.{PassSeen}
 use Rattle.and_store.specs.Worked.{seen_by}

@@ -28,7 +28,7 @@ use Rattle.and_branch_laws.specs.Reducing.{reduction_in_cells}
 use Rattle.and_cells.specs.Ranges.{NamedProgram, IsInRange}
 use Rattle.and_cells.specs.Seen.{Seen, IsWrittenIfNumber}
 use Rattle.and_cells.specs.Meaning.{Words}
-use Rattle.and_shared_determinacy.specs.Selecting.{CanBeTried, AreLeft}
+use Rattle.and_clause_index.specs.Selecting.{CanBeTried, AreLeft}
 use Rattle.and_workers.specs.Waiting.{Waiting}
 use Rattle.and_unify.specs.declared.pairs.Pair.{Pair}
 use Rattle.and_unify.specs.Pairs.{equations_of_pairs, NameNoHalf}

@@ -15,7 +15,7 @@ use Rattle.and_cells.specs.Ranges.{NamedProgram, IsInRange, IsInRangeOrHalf}
 use Rattle.and_cells.specs.Seen.{Seen, Knows}
 use Rattle.and_cells.proofs.Chains.{held_in_range, or_half}
 use Rattle.and_cell_laws.proofs.Structures.{value_of_part}
-use Rattle.and_arith.specs.Values.{HasValue, Reaches, whole, set, part}
+use Rattle.and_value_laws.specs.Values.{HasValue, Reaches, whole, set, part}
 use Rattle.and_arith.proofs.Grounding.{value_ground}
 use Rattle.and_arith.proofs.Ranging.{part_in_range}
 use Rattle.and_arith.proofs.Solving.{known_solves}

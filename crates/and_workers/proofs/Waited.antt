@@ -9,7 +9,7 @@ use Rattle.and_program.specs.Skeletons.{AllFall}
 use Rattle.and_cells.specs.Ranges.{NamedProgram, CanHold, IsInRange}
 use Rattle.and_cells.specs.Seen.{Seen, OnlyReads, LeadsTo}
 use Rattle.and_overlay.specs.Overlaid.{IsKnownFit}
-use Rattle.and_shared_determinacy.specs.Selecting.{GoalWaitsOn}
+use Rattle.and_clause_index.specs.Selecting.{GoalWaitsOn}
 use Rattle.and_shared_determinacy.proofs.Awaited.{argument_follows}
 
 -- the only element of a list

@@ -4,7 +4,7 @@ ghost use Rattle.std.specs.Prelude.{◌≡◌, ◌<◌, ◌≤◌, ◌++◌, ◌
 ghost use Rattle.and_model.specs.Programs.{clause_at, clause_weight};
 ghost use Rattle.and_program.specs.Loaded.{nodes_at, program_of, skeleton_of};
 ghost use Rattle.and_program.specs.Skeletons;
-ghost use Rattle.and_shared_determinacy.specs.Selecting.{CanBeTried, AreLeft};
+ghost use Rattle.and_clause_index.specs.Selecting.{CanBeTried, AreLeft};
 ghost use Rattle.and_store.specs.Worked.{seen_by};
 ghost use Rattle.and_cells.specs.Meaning.{Words};
 ghost use Rattle.and_cells.specs.Parts.{named};

@@ -8,10 +8,10 @@ use Rattle.and_cells.specs.Ranges.{NamedProgram}
 use Rattle.and_cells.specs.Rows.{plain}
 use Rattle.and_cells.specs.Seen.{Seen, word_at}
 use Rattle.and_cells.specs.Parts.{named}
-use Rattle.and_arith.specs.Values.{HasValue, LacksValue, Reaches, IsFirstFree}
+use Rattle.and_value_laws.specs.Values.{HasValue, LacksValue, Reaches, IsFirstFree}
 use Rattle.and_arith.specs.Turns.{stand}
 use Rattle.and_arith.specs.declared.walk.Turn.TheVariants.{Over}
-use Rattle.and_arith.proofs.KnownTerms.{IsOnce}
+use Rattle.and_value_laws.proofs.KnownTerms.{IsOnce}
 use Rattle.and_arith.proofs.Turning.{turn_goes}
 use Rattle.and_arith.proofs.Concluding.{begins_with, is_ready, finished_value, finished_lacks, waits_reached, waits_free, waits_first, begun}
 use Rattle.and_arith.proofs.values.value_by_list.Goals as goal

@@ -7,7 +7,7 @@ use Rattle.and_program.specs.Skeletons.{node_term}
 use Rattle.and_cells.specs.Ranges.{IsInRange}
 use Rattle.and_cells.specs.Rows.{plain}
 use Rattle.and_cells.specs.Seen.{word_at}
-use Rattle.and_arith.specs.Values.{HasValue, LacksValue, IsFirstFree}
+use Rattle.and_value_laws.specs.Values.{HasValue, LacksValue, IsFirstFree}
 use Rattle.and_guards.proofs.Held.{read_later}
 use Rattle.and_branch_laws.proofs.Resolved.{part_in_range}
 use Rattle.and_branch_laws.proofs.Loading.{resolved_is, falls_in}

@@ -6,7 +6,7 @@ use Rattle.and_cells.specs.Seen.{LeadsTo, EndsAt}
 use Rattle.and_cells.specs.Parts.{named, parts_of}
 use Rattle.and_cells.specs.Ranges.{NamedProgram}
 use Rattle.and_cells.proofs.Chains.{reads_more, reads_nothing}
-use Rattle.and_shared_determinacy.specs.Selecting.{CanBeTried, GoalWaitsOn}
+use Rattle.and_clause_index.specs.Selecting.{CanBeTried, GoalWaitsOn}
 use Rattle.and_guards.proofs.Resolved.{falls_in}
 use Rattle.and_shared_determinacy.proofs.TriedCalls.{over_as_named}
 use Rattle.and_shared_determinacy.proofs.Awaited.{none_later, none_at_first, none_more, none_less, parts_many, found_later, argument_follows, argument_as_named}

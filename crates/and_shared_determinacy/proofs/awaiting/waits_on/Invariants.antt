@@ -1,6 +1,6 @@
 use Rattle.std.proofs.Common.{◌≡◌}
 use Rattle.and_cells.specs.Seen.{OnlyReads}
-use Rattle.and_shared_determinacy.specs.Selecting.{NoneWaits}
+use Rattle.and_clause_index.specs.Selecting.{NoneWaits}
 use Rattle.and_shared_determinacy.proofs.awaiting.waits_on.Given as goal
 
 abbrev pub invariant-loop-place : goal.invariant-loop-place

@@ -3,7 +3,7 @@ use Rattle.and_cells.specs.Parts.{named}
 use Rattle.and_cells.specs.Ranges.{NamedProgram, IsNodeInRange}
 use Rattle.and_cells.specs.Seen.{OnlyReads}
 use Rattle.and_cells.proofs.Chains.{reads_more}
-use Rattle.and_shared_determinacy.specs.Selecting.{CanBeTried, AreLeft}
+use Rattle.and_clause_index.specs.Selecting.{CanBeTried, AreLeft}
 use Rattle.and_clause_index.specs.Looks.{IsLookOver}
 use Rattle.and_clause_index.specs.Tables.{tried, entry_at}
 use Rattle.and_shared_determinacy.proofs.Looked.{look_later}

@@ -3,7 +3,7 @@ use Rattle.std.proofs.lemmas.List.{take_more}
 use Rattle.and_model.specs.declared.numbers.ClauseNo.{ClauseNo}
 use Rattle.and_arith.proofs.Concluding.{begun}
 use Rattle.and_cells.proofs.Chains.{reads_more, reads_nothing}
-use Rattle.and_shared_determinacy.specs.Selecting.{IsNoCandidate}
+use Rattle.and_clause_index.specs.Selecting.{IsNoCandidate}
 use Rattle.and_shared_determinacy.specs.Sifting.{AreSifted, nothing, kept, dropped}
 use Rattle.and_shared_determinacy.proofs.Looked.{look_later}
 use Rattle.and_shared_determinacy.proofs.Sifted.{sifted_later, no_candidate_later, stays_some, falls_some}

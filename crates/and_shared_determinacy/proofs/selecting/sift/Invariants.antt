@@ -1,6 +1,6 @@
 use Rattle.std.proofs.Common.{◌≡◌, ◌≤◌, take}
 use Rattle.and_cells.specs.Seen.{OnlyReads}
-use Rattle.and_shared_determinacy.specs.Selecting.{IsNoCandidate}
+use Rattle.and_clause_index.specs.Selecting.{IsNoCandidate}
 use Rattle.and_shared_determinacy.specs.Sifting.{AreSifted}
 use Rattle.and_shared_determinacy.proofs.selecting.sift.Given as goal
 

@@ -4,7 +4,7 @@ use Rattle.std.proofs.lemmas.Int.{ints, to_z-of_z}
 use Rattle.and_cells.specs.Ranges.{IsInRange}
 use Rattle.and_cells.specs.Seen.{IsWrittenIfNumber}
 use Rattle.and_cells.specs.Parts.{part_at}
-use Rattle.and_arith.specs.Values.{HasValue, LacksValue}
+use Rattle.and_value_laws.specs.Values.{HasValue, LacksValue}
 use Rattle.and_shared_determinacy.specs.Weighing.{Amounts}
 use Rattle.and_guards.proofs.Resolved.{part_in_range, part_written, resolved_is, falls_in}
 use Rattle.and_shared_determinacy.proofs.Amounting.{number_amounts, none_amounts}

@@ -2,7 +2,7 @@ use Rattle.std.proofs.Common.{◌∙◌, refl}
 use Rattle.and_cells.specs.Ranges.{NamedProgram}
 use Rattle.and_branch.specs.declared.state.BranchState.TheVariants as told
 use Rattle.and_tree.specs.Replies.{is_last}
-use Rattle.and_search_laws.proofs.Telling.{state_told, has_floundered, has_answered}
+use Rattle.and_branch.proofs.StatesTold.{state_told, has_floundered, has_answered}
 use Rattle.and_tasks.proofs.Having.{key_there}
 use Rattle.and_tasks.proofs.Ready.{ended_shares, left_at_work, none_shares}
 use Rattle.and_tasks.proofs.Turns.{failed_works, cut_works}

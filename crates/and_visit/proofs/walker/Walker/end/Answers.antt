@@ -4,7 +4,7 @@ use Rattle.and_cells.specs.Ranges.{NamedProgram}
 use Rattle.and_code.specs.Telling.{IsTold}
 use Rattle.and_code.specs.declared.telling.CodeSoFar.{CodeSoFar}
 use Rattle.and_answers.specs.Kept.{outcome_with}
-use Rattle.and_search_laws.proofs.Telling.{told_ends}
+use Rattle.and_visit.proofs.EndsTold.{told_ends}
 use Rattle.and_traces.specs.Traces.{Report, ended}
 use Rattle.and_visit.proofs.Going.{after_told, not_cut}
 use Rattle.and_visit.proofs.Owing.{end_trace}

@@ -1,7 +1,7 @@
 use Rattle.std.proofs.Common.{reverse}
 use Rattle.and_cells.specs.Ranges.{NamedProgram}
 use Rattle.and_branch.specs.declared.state.BranchState.TheVariants as told
-use Rattle.and_search_laws.proofs.Telling.{state_told, has_floundered, has_answered}
+use Rattle.and_branch.proofs.StatesTold.{state_told, has_floundered, has_answered}
 use Rattle.and_visit.proofs.Going.{tree_there}
 use Rattle.and_visit.proofs.walker.Walker.go_by.Goals as goal
 

@@ -4,7 +4,7 @@ use Rattle.and_model.specs.declared.reference.Ref.TheVariants.{Cell}
 use Rattle.and_program.specs.Skeletons.{AllFall}
 use Rattle.and_cells.specs.Parts.{part_at}
 use Rattle.and_cells.specs.Ranges.{IsInRange}
-use Rattle.and_arith.specs.Values.{HasValue, Reaches}
+use Rattle.and_value_laws.specs.Values.{HasValue, Reaches}
 use Rattle.and_guards.proofs.Resolved as tried
 use Rattle.and_branch_laws.proofs.Loading.{falls_in, resolved_is}
 use Rattle.and_store.specs.Worked.{seen_by}

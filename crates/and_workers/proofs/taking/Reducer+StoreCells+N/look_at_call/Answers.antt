@@ -1,5 +1,5 @@
 use Rattle.std.proofs.Common.{[], sym, ◌∙◌, subst}
-use Rattle.and_shared_determinacy.specs.Selecting.{AreLeft}
+use Rattle.and_clause_index.specs.Selecting.{AreLeft}
 use Rattle.and_store.specs.Worked.{seen_by}
 use Rattle.and_workers.proofs.Waited.{one_of}
 use Rattle.and_workers.proofs.Working.{reads_at_work}

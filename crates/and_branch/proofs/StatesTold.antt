@@ -1,17 +1,13 @@
--- What was told of a branch: its state, and with what it ended.
-use Rattle.std.proofs.Common.{ℕ, ◌≡◌, ◌∙◌, inl, inr, Bool, true, false, List, sym, subst}
-use Rattle.and_model.specs.Lines.{Bytes}
-use Rattle.and_model.specs.Listing.{Ends}
-use Rattle.and_model.specs.Trees.{QueryTree, IsWhole, code}
+-- What was told of a branch: its state.
+use Rattle.std.proofs.Common.{ℕ, ◌≡◌, ◌∙◌, inl, inr, sym, subst}
+use Rattle.and_model.specs.Trees.{QueryTree}
 use Rattle.and_cells.specs.Ranges.{NamedProgram}
 use Rattle.and_branch_laws.specs.States.{State, StateOf}
 use Rattle.and_branch.specs.Branches.{Held, IsBranchOf}
-use Rattle.and_branch.specs.Ended.{IsLineOf, HasEnded}
+use Rattle.and_branch.specs.Ended.{HasEnded}
 use Rattle.and_branch.specs.States.{IsState, IsAtRest}
 use Rattle.and_branch.specs.declared.state.BranchState.{BranchState}
 use Rattle.and_branch.specs.declared.state.BranchState.TheVariants as told
-use Rattle.and_answers.specs.Kept.{outcome_with}
-use Rattle.and_search_laws.specs.Ended.{EndsSo}
 
 -- The state is any but a failed one.
 abbrev IsUnfailed : BranchState → Type 0
@@ -42,19 +38,6 @@ has_answered P b s t branch is state at_rest = record {
 }
 
 module _ (P : NamedProgram) where
-  -- The line and the code of a branch are those with which its tree ends.
-  pub told_ends : (b : Held) (is_floundered : Bool) (cs : List ℕ) (text : Bytes)
-      → ((t : QueryTree P.program) → IsBranchOf P b t → IsWhole t → cs ≡ code t)
-      → ((t : QueryTree P.program) → IsBranchOf P b t → IsLineOf P b t text)
-      → ((t : QueryTree P.program) → IsBranchOf P b t → EndsSo P b t is_floundered)
-      → (t : QueryTree P.program) → IsBranchOf P b t → (code t ≡ cs) × Ends t (outcome_with is_floundered text)
-  told_ends b true cs text codes line state t branch =
-      let e = (line t branch).flounders (state t branch) in
-      (sym (codes t branch e.0), e)
-  told_ends b false cs text codes line state t branch =
-      let e = (line t branch).answers (state t branch) in
-      (sym (codes t branch e.0), e)
-
   -- the state of a branch, as it was told
   pub state_told : (b : Held) (s r : BranchState) → s ≡ r → ((t : QueryTree P.program) → IsBranchOf P b t → IsState P b t s)
       → (t : QueryTree P.program) → IsBranchOf P b t → IsState P b t r

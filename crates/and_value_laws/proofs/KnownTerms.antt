@@ -12,7 +12,7 @@ use Rattle.and_cells.specs.Seen.{Seen, Knows}
 use Rattle.and_cells.specs.Numbers.{number_of}
 use Rattle.and_cells.specs.Meaning.{cell_variable}
 use Rattle.and_cells.specs.Parts.{part_at}
-use Rattle.and_arith.specs.Values.{KnownAs, AllKnownAs, unbound, bound, integer, literal, structure, no_parts, more_parts}
+use Rattle.and_value_laws.specs.Values.{KnownAs, AllKnownAs, unbound, bound, integer, literal, structure, no_parts, more_parts}
 
 -- no place is known to be set to two words
 abbrev pub IsOnce : Seen → Type 0
