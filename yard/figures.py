@@ -1,7 +1,7 @@
 #!/usr/bin/env python3
 """Runs the programs of the yard on andorra and on SWI-Prolog with the occurs check, compares their answers line by line, and writes for each
-the processor time (the least of the runs; without that of a query that is true at once, and for SWI-Prolog without its start and its reading)
-and the peak of memory.
+the processor time (the least of the runs; without that of a query that is true at once) and the peak of memory; and for SWI-Prolog also what the search and
+the writing alone took, without the reading of the text.
 
     yard/figures.py [--runs N] [--only WORD] [--skip-swi] [--program FILE] [-- words for `andorra run`]
 
@@ -226,9 +226,10 @@ def least_on_andorra(words, text, runs):
 
 
 def least_on_swi(text, waits, runs):
+    """The lines, the processor time in milliseconds of the whole and of the search and the writing alone, and the peak of memory in MB."""
     with common.swi_words(text, waits) as words:
         results = [run(words, "") for _ in range(runs)]
-    return results[0][0], min(float(r[1].split()[-1]) for r in results), min(r[3] for r in results)
+    return results[0][0], min(r[2] for r in results), min(float(r[1].split()[-1]) for r in results), min(r[3] for r in results)
 
 
 def answers_of(lines):
@@ -290,7 +291,8 @@ def main():
     has_swi = shutil.which("swipl") is not None and not given.skip_swi
     andorra = [given.program, "run", "--limit", "4194304", *given.words]
     _, start, _ = least_on_andorra(andorra, EMPTY, given.runs)
-    print(f"{'program':34} {'andorra':>9} {'MB':>5} {'SWI':>9} {'MB':>5}  answers")
+    swi_start = least_on_swi(EMPTY, False, given.runs)[1] if has_swi else 0
+    print(f"{'program':34} {'andorra':>9} {'MB':>5} {'SWI':>9} {'search':>9} {'MB':>5}  answers")
     differ = False
     for name, text, waits in PROGRAMS:
         if given.only not in name:
@@ -300,8 +302,8 @@ def main():
         row = f"{name:34} {max(time - start, 0):7.0f}ms {megabytes(memory, floor):>5}"
         same = ""
         if has_swi:
-            theirs, swi_time, swi_memory = least_on_swi(text, waits, given.runs)
-            row += f" {swi_time:7.0f}ms {megabytes(swi_memory, floor):>5}"
+            theirs, swi_time, search, swi_memory = least_on_swi(text, waits, given.runs)
+            row += f" {max(swi_time - swi_start, 0):7.0f}ms {search:7.0f}ms {megabytes(swi_memory, floor):>5}"
             same = "the same" if answers_of(lines) == answers_of(theirs) else "DIFFERENT"
             differ = differ or same == "DIFFERENT"
         print(f"{row}  {len(answers_of(lines))} {same}", flush=True)
