@@ -5,6 +5,7 @@ mod Comparing
 mod Filling
 mod Looking
 mod Meeting
+mod Noting
 mod Pairing
 mod Parting
 mod Placing

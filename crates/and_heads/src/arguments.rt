@@ -9,8 +9,10 @@ ghost use Rattle.and_cells.specs.Seen.{IsWrittenIfNumber, word_at};
 ghost use Rattle.and_cells.specs.Parts.{named, parts_of};
 ghost use Rattle.and_heads.specs.Parts.{named_by};
 ghost use Rattle.and_heads.specs.Entering.{Meets};
+ghost use Rattle.and_heads.specs.Owing.{AreOwed};
 
 use crate::entering::{Entered, compare, enter_ends, take};
+use crate::owing::Owed;
 use crate::parts::{Part, is_free};
 use and_cells::{Naming, PlainCells};
 use and_model::{NodeNo, Ref};
@@ -27,7 +29,9 @@ pub(crate) fn enter_argument<N: Naming>(
     left: Structure,
     place: u8,
     right: Ref,
+    floor: u32,
     bound: &mut Vec<u32>,
+    owed: &mut Owed,
     parts: &mut Vec<Part>,
 ) -> Entered
     requires program { N.program ≡ named loaded.now }
@@ -37,18 +41,20 @@ pub(crate) fn enter_argument<N: Naming>(
     requires left_fits { (from : Ref) → slice_get (parts_of (named loaded.now) (named_by left)) place ≡ Some from
         → IsInRange N.program (length cells.old) from × IsWrittenIfNumber (plain cells.old) from }
     requires right_fits { IsInRange N.program (length cells.old) right }
-    ensures { (from : Ref) × (slice_get (parts_of (named loaded.now) (named_by left)) place ≡ Some from)
+    ensures meets { (from : Ref) × (slice_get (parts_of (named loaded.now) (named_by left)) place ≡ Some from)
         × Meets N.program (record { left = from; right = right }) (plain cells.old) (plain cells.new)
         parts.old.items parts.new.items bound.old.items bound.new.items result }
+    ensures owed { AreOwed N.program floor cells.old bound.old.items owed.old
+        → AreOwed N.program floor cells.new bound.new.items owed.new }
 {
     match right {
         Ref::Cell(cell) => {
             let from = argument_at(loaded, left, place);
-            enter_variable(loaded, cells, from, cell, bound, parts)
+            enter_variable(loaded, cells, from, cell, floor, bound, owed, parts)
         }
         Ref::Node { node, base } => {
             let from = argument_at(loaded, left, place);
-            enter_structure(loaded, cells, from, node, base, bound, parts)
+            enter_structure(loaded, cells, from, node, base, floor, bound, owed, parts)
         }
         _ => Entered::GivenUp,
     }
@@ -61,19 +67,25 @@ fn enter_variable<N: Naming>(
     cells: &mut PlainCells<N>,
     left: Ref,
     cell: u32,
+    floor: u32,
     bound: &mut Vec<u32>,
+    owed: &mut Owed,
     parts: &mut Vec<Part>,
 ) -> Entered
     requires program { N.program ≡ named loaded.now }
     requires in_range { IsInRange N.program (length cells.old) left
         × IsInRange N.program (length cells.old) (Ref.Cell cell) }
     requires written { IsWrittenIfNumber (plain cells.old) left }
-    ensures { Meets N.program (record { left = left; right = Ref.Cell cell }) (plain cells.old) (plain cells.new)
+    ensures meets { Meets N.program (record { left = left; right = Ref.Cell cell }) (plain cells.old) (plain cells.new)
         parts.old.items parts.new.items bound.old.items bound.new.items result }
+    ensures owed { AreOwed N.program floor cells.old bound.old.items owed.old
+        → AreOwed N.program floor cells.new bound.new.items owed.new }
 {
     match left {
-        Ref::Cell(from) => join(loaded, cells, from, cell, bound, parts),
-        Ref::Node { node, base } => fill(loaded, cells, node, base, cell, bound, parts),
+        Ref::Cell(from) => join(loaded, cells, from, cell, floor, bound, owed, parts),
+        Ref::Node { node, base } => fill(
+            loaded, cells, node, base, cell, floor, bound, owed, parts,
+        ),
         _ => Entered::GivenUp,
     }
 }
@@ -86,19 +98,31 @@ fn fill<N: Naming>(
     node: NodeNo,
     base: u32,
     cell: u32,
+    floor: u32,
     bound: &mut Vec<u32>,
+    owed: &mut Owed,
     parts: &mut Vec<Part>,
 ) -> Entered
     requires program { N.program ≡ named loaded.now }
     requires in_range { IsInRange N.program (length cells.old) (Ref.Node node base)
         × IsInRange N.program (length cells.old) (Ref.Cell cell) }
-    ensures { Meets N.program (record { left = Ref.Node node base; right = Ref.Cell cell })
+    ensures meets { Meets N.program (record { left = Ref.Node node base; right = Ref.Cell cell })
         (plain cells.old) (plain cells.new) parts.old.items parts.new.items bound.old.items bound.new.items result }
+    ensures owed { AreOwed N.program floor cells.old bound.old.items owed.old
+        → AreOwed N.program floor cells.new bound.new.items owed.new }
 {
     if !is_free(cells, cell) {
-        return ends_beside_cell(loaded, cells, node, base, cell, bound, parts);
+        return ends_beside_cell(loaded, cells, node, base, cell, floor, bound, owed, parts);
     }
-    take(cells, bound, cell, Ref::Node { node, base })
+    take(
+        loaded,
+        cells,
+        floor,
+        bound,
+        owed,
+        cell,
+        Ref::Node { node, base },
+    )
 }
 
 /// The same, where both are cells.
@@ -108,19 +132,23 @@ fn join<N: Naming>(
     cells: &mut PlainCells<N>,
     from: u32,
     cell: u32,
+    floor: u32,
     bound: &mut Vec<u32>,
+    owed: &mut Owed,
     parts: &mut Vec<Part>,
 ) -> Entered
     requires program { N.program ≡ named loaded.now }
     requires in_range { IsInRange N.program (length cells.old) (Ref.Cell from)
         × IsInRange N.program (length cells.old) (Ref.Cell cell) }
-    ensures { Meets N.program (record { left = Ref.Cell from; right = Ref.Cell cell })
+    ensures meets { Meets N.program (record { left = Ref.Cell from; right = Ref.Cell cell })
         (plain cells.old) (plain cells.new) parts.old.items parts.new.items bound.old.items bound.new.items result }
+    ensures owed { AreOwed N.program floor cells.old bound.old.items owed.old
+        → AreOwed N.program floor cells.new bound.new.items owed.new }
 {
     if is_free(cells, cell) {
-        fill_from(loaded, cells, from, cell, bound, parts)
+        fill_from(loaded, cells, from, cell, floor, bound, owed, parts)
     } else {
-        ends_of_cells(loaded, cells, from, cell, bound, parts)
+        ends_of_cells(loaded, cells, from, cell, floor, bound, owed, parts)
     }
 }
 
@@ -131,21 +159,33 @@ fn fill_from<N: Naming>(
     cells: &mut PlainCells<N>,
     from: u32,
     cell: u32,
+    floor: u32,
     bound: &mut Vec<u32>,
+    owed: &mut Owed,
     parts: &mut Vec<Part>,
 ) -> Entered
     requires program { N.program ≡ named loaded.now }
     requires in_range { IsInRange N.program (length cells.old) (Ref.Cell from)
         × IsInRange N.program (length cells.old) (Ref.Cell cell) }
     requires free { word_at cells.old cell ≡ Ref.Free }
-    ensures { Meets N.program (record { left = Ref.Cell from; right = Ref.Cell cell })
+    ensures meets { Meets N.program (record { left = Ref.Cell from; right = Ref.Cell cell })
         (plain cells.old) (plain cells.new) parts.old.items parts.new.items bound.old.items bound.new.items result }
+    ensures owed { AreOwed N.program floor cells.old bound.old.items owed.old
+        → AreOwed N.program floor cells.new bound.new.items owed.new }
 {
     match cells.word(from) {
-        Ref::Node { node, base } => take(cells, bound, cell, Ref::Node { node, base }),
-        Ref::Number(pair) => take(cells, bound, cell, Ref::Number(pair)),
-        Ref::Free => link(loaded, cells, from, cell, bound, parts),
-        _ => ends_of_cells(loaded, cells, from, cell, bound, parts),
+        Ref::Node { node, base } => take(
+            loaded,
+            cells,
+            floor,
+            bound,
+            owed,
+            cell,
+            Ref::Node { node, base },
+        ),
+        Ref::Number(pair) => take(loaded, cells, floor, bound, owed, cell, Ref::Number(pair)),
+        Ref::Free => link(loaded, cells, from, cell, floor, bound, owed, parts),
+        _ => ends_of_cells(loaded, cells, from, cell, floor, bound, owed, parts),
     }
 }
 
@@ -156,20 +196,24 @@ fn link<N: Naming>(
     cells: &mut PlainCells<N>,
     from: u32,
     cell: u32,
+    floor: u32,
     bound: &mut Vec<u32>,
+    owed: &mut Owed,
     parts: &mut Vec<Part>,
 ) -> Entered
     requires program { N.program ≡ named loaded.now }
     requires in_range { IsInRange N.program (length cells.old) (Ref.Cell from)
         × IsInRange N.program (length cells.old) (Ref.Cell cell) }
     requires free { word_at cells.old cell ≡ Ref.Free }
-    ensures { Meets N.program (record { left = Ref.Cell from; right = Ref.Cell cell })
+    ensures meets { Meets N.program (record { left = Ref.Cell from; right = Ref.Cell cell })
         (plain cells.old) (plain cells.new) parts.old.items parts.new.items bound.old.items bound.new.items result }
+    ensures owed { AreOwed N.program floor cells.old bound.old.items owed.old
+        → AreOwed N.program floor cells.new bound.new.items owed.new }
 {
     if from < cell {
-        take(cells, bound, cell, Ref::Cell(from))
+        take(loaded, cells, floor, bound, owed, cell, Ref::Cell(from))
     } else {
-        ends_of_cells(loaded, cells, from, cell, bound, parts)
+        ends_of_cells(loaded, cells, from, cell, floor, bound, owed, parts)
     }
 }
 
@@ -181,22 +225,30 @@ fn enter_structure<N: Naming>(
     left: Ref,
     node: NodeNo,
     base: u32,
+    floor: u32,
     bound: &mut Vec<u32>,
+    owed: &mut Owed,
     parts: &mut Vec<Part>,
 ) -> Entered
     requires program { N.program ≡ named loaded.now }
     requires in_range { IsInRange N.program (length cells.old) left
         × IsInRange N.program (length cells.old) (Ref.Node node base) }
     requires written { IsWrittenIfNumber (plain cells.old) left }
-    ensures { Meets N.program (record { left = left; right = Ref.Node node base }) (plain cells.old) (plain cells.new)
-        parts.old.items parts.new.items bound.old.items bound.new.items result }
+    ensures meets { Meets N.program (record { left = left; right = Ref.Node node base }) (plain cells.old)
+        (plain cells.new) parts.old.items parts.new.items bound.old.items bound.new.items result }
+    ensures owed { AreOwed N.program floor cells.old bound.old.items owed.old
+        → AreOwed N.program floor cells.new bound.new.items owed.new }
 {
     match left {
-        Ref::Cell(from) => enter_from(loaded, cells, from, node, base, bound, parts),
+        Ref::Cell(from) => enter_from(loaded, cells, from, node, base, floor, bound, owed, parts),
         Ref::Node {
             node: there,
             base: by,
-        } => { ends_of_structures(loaded, cells, there, by, node, base, bound, parts) }
+        } => {
+            ends_of_structures(
+                loaded, cells, there, by, node, base, floor, bound, owed, parts,
+            )
+        }
         _ => Entered::GivenUp,
     }
 }
@@ -209,17 +261,29 @@ fn enter_from<N: Naming>(
     from: u32,
     node: NodeNo,
     base: u32,
+    floor: u32,
     bound: &mut Vec<u32>,
+    owed: &mut Owed,
     parts: &mut Vec<Part>,
 ) -> Entered
     requires program { N.program ≡ named loaded.now }
     requires in_range { IsInRange N.program (length cells.old) (Ref.Cell from)
         × IsInRange N.program (length cells.old) (Ref.Node node base) }
-    ensures { Meets N.program (record { left = Ref.Cell from; right = Ref.Node node base })
+    ensures meets { Meets N.program (record { left = Ref.Cell from; right = Ref.Node node base })
         (plain cells.old) (plain cells.new) parts.old.items parts.new.items bound.old.items bound.new.items result }
+    ensures owed { AreOwed N.program floor cells.old bound.old.items owed.old
+        → AreOwed N.program floor cells.new bound.new.items owed.new }
 {
     match cells.word(from) {
-        Ref::Free => take(cells, bound, from, Ref::Node { node, base }),
+        Ref::Free => take(
+            loaded,
+            cells,
+            floor,
+            bound,
+            owed,
+            from,
+            Ref::Node { node, base },
+        ),
         Ref::Node {
             node: there,
             base: by,
@@ -233,38 +297,46 @@ fn enter_from<N: Naming>(
             Ref::Node { node, base },
             parts,
         ),
-        _ => ends_of_cell(loaded, cells, from, node, base, bound, parts),
+        _ => ends_of_cell(loaded, cells, from, node, base, floor, bound, owed, parts),
     }
 }
 
 /// Follows two cells, and meets what they lead to. This stands in a call of its own, and so do the next three: callers
 /// that made the references for it would write them to memory on their other ways too.
+#[cold]
 #[inline(never)]
 fn ends_of_cells<N: Naming>(
     loaded: &Loaded,
     cells: &mut PlainCells<N>,
     from: u32,
     cell: u32,
+    floor: u32,
     bound: &mut Vec<u32>,
+    owed: &mut Owed,
     parts: &mut Vec<Part>,
 ) -> Entered
     requires program { N.program ≡ named loaded.now }
     requires in_range { IsInRange N.program (length cells.old) (Ref.Cell from)
         × IsInRange N.program (length cells.old) (Ref.Cell cell) }
-    ensures { Meets N.program (record { left = Ref.Cell from; right = Ref.Cell cell })
+    ensures meets { Meets N.program (record { left = Ref.Cell from; right = Ref.Cell cell })
         (plain cells.old) (plain cells.new) parts.old.items parts.new.items bound.old.items bound.new.items result }
+    ensures owed { AreOwed N.program floor cells.old bound.old.items owed.old
+        → AreOwed N.program floor cells.new bound.new.items owed.new }
 {
     enter_ends(
         loaded,
         cells,
         Ref::Cell(from),
         Ref::Cell(cell),
+        floor,
         bound,
+        owed,
         parts,
     )
 }
 
 /// Follows a cell, and meets what it leads to and a structure.
+#[cold]
 #[inline(never)]
 fn ends_of_cell<N: Naming>(
     loaded: &Loaded,
@@ -272,26 +344,33 @@ fn ends_of_cell<N: Naming>(
     from: u32,
     node: NodeNo,
     base: u32,
+    floor: u32,
     bound: &mut Vec<u32>,
+    owed: &mut Owed,
     parts: &mut Vec<Part>,
 ) -> Entered
     requires program { N.program ≡ named loaded.now }
     requires in_range { IsInRange N.program (length cells.old) (Ref.Cell from)
         × IsInRange N.program (length cells.old) (Ref.Node node base) }
-    ensures { Meets N.program (record { left = Ref.Cell from; right = Ref.Node node base })
+    ensures meets { Meets N.program (record { left = Ref.Cell from; right = Ref.Node node base })
         (plain cells.old) (plain cells.new) parts.old.items parts.new.items bound.old.items bound.new.items result }
+    ensures owed { AreOwed N.program floor cells.old bound.old.items owed.old
+        → AreOwed N.program floor cells.new bound.new.items owed.new }
 {
     enter_ends(
         loaded,
         cells,
         Ref::Cell(from),
         Ref::Node { node, base },
+        floor,
         bound,
+        owed,
         parts,
     )
 }
 
 /// Follows a cell, and meets a structure and what it leads to.
+#[cold]
 #[inline(never)]
 fn ends_beside_cell<N: Naming>(
     loaded: &Loaded,
@@ -299,26 +378,33 @@ fn ends_beside_cell<N: Naming>(
     node: NodeNo,
     base: u32,
     cell: u32,
+    floor: u32,
     bound: &mut Vec<u32>,
+    owed: &mut Owed,
     parts: &mut Vec<Part>,
 ) -> Entered
     requires program { N.program ≡ named loaded.now }
     requires in_range { IsInRange N.program (length cells.old) (Ref.Node node base)
         × IsInRange N.program (length cells.old) (Ref.Cell cell) }
-    ensures { Meets N.program (record { left = Ref.Node node base; right = Ref.Cell cell })
+    ensures meets { Meets N.program (record { left = Ref.Node node base; right = Ref.Cell cell })
         (plain cells.old) (plain cells.new) parts.old.items parts.new.items bound.old.items bound.new.items result }
+    ensures owed { AreOwed N.program floor cells.old bound.old.items owed.old
+        → AreOwed N.program floor cells.new bound.new.items owed.new }
 {
     enter_ends(
         loaded,
         cells,
         Ref::Node { node, base },
         Ref::Cell(cell),
+        floor,
         bound,
+        owed,
         parts,
     )
 }
 
 /// Meets two structures.
+#[cold]
 #[inline(never)]
 fn ends_of_structures<N: Naming>(
     loaded: &Loaded,
@@ -327,14 +413,18 @@ fn ends_of_structures<N: Naming>(
     by: u32,
     node: NodeNo,
     base: u32,
+    floor: u32,
     bound: &mut Vec<u32>,
+    owed: &mut Owed,
     parts: &mut Vec<Part>,
 ) -> Entered
     requires program { N.program ≡ named loaded.now }
     requires in_range { IsInRange N.program (length cells.old) (Ref.Node there by)
         × IsInRange N.program (length cells.old) (Ref.Node node base) }
-    ensures { Meets N.program (record { left = Ref.Node there by; right = Ref.Node node base })
+    ensures meets { Meets N.program (record { left = Ref.Node there by; right = Ref.Node node base })
         (plain cells.old) (plain cells.new) parts.old.items parts.new.items bound.old.items bound.new.items result }
+    ensures owed { AreOwed N.program floor cells.old bound.old.items owed.old
+        → AreOwed N.program floor cells.new bound.new.items owed.new }
 {
     enter_ends(
         loaded,
@@ -344,7 +434,9 @@ fn ends_of_structures<N: Naming>(
             base: by,
         },
         Ref::Node { node, base },
+        floor,
         bound,
+        owed,
         parts,
     )
 }

@@ -12,7 +12,9 @@ ghost use Rattle.and_cells.specs.Ground.{EndsGround};
 ghost use Rattle.and_circles.specs.Following.{argument_part};
 ghost use Rattle.and_unify.specs.Settling.{EndsFrom};
 ghost use Rattle.and_heads.specs.Ending.{GoesOn};
+ghost use Rattle.and_heads.specs.Owing.{AreOwed};
 
+use crate::owing::Owed;
 use crate::parts::is_free;
 use and_cells::{Naming, PlainCells};
 use and_circles::ends_soon;
@@ -40,9 +42,62 @@ enum Followed {
     Unseen,
 }
 
+/// Whether each path from each cell that was set is seen to end, where those are owed that are still to be looked at.
+#[inline(always)]
+pub(crate) fn owed_end<N: Naming>(
+    loaded: &Loaded,
+    cells: &PlainCells<N>,
+    floor: u32,
+    owed: Owed,
+    bound: &[u32],
+    visits: &mut Vec<Ref>,
+    met: &mut Vec<Ref>,
+) -> bool
+    requires program { N.program ≡ named loaded.now }
+    requires falls { AllFall 0 N.program.skeleton.nodes }
+    requires in_row { All (λ (cell : ℕ). cell < length cells.now) bound.now }
+    requires owed { AreOwed N.program floor cells.now bound.now owed }
+    ensures ends { result ≡ true → All (EndsFrom N.program cells.now floor) bound.now }
+    ensures sound { IsSound N.program cells.now }
+{
+    let _words = cells.len();
+    match owed {
+        Owed::Nothing => true,
+        Owed::One(cell) => {
+            ends_at_look(loaded, cells, floor, cell)
+                || one_ends(loaded, cells, floor, cell, visits, met)
+        }
+        Owed::Several => all_end(loaded, cells, floor, bound, visits, met),
+    }
+}
+
+/// Whether each path from a cell is seen to end, by so many turns or places.
+#[cold]
+#[inline(never)]
+fn one_ends<N: Naming>(
+    loaded: &Loaded,
+    cells: &PlainCells<N>,
+    floor: u32,
+    cell: u32,
+    visits: &mut Vec<Ref>,
+    met: &mut Vec<Ref>,
+) -> bool
+    requires program { N.program ≡ named loaded.now }
+    requires falls { AllFall 0 N.program.skeleton.nodes }
+    requires in_row { cell < length cells.now }
+    ensures { result ≡ true → EndsFrom N.program cells.now floor cell }
+{
+    let mut most = MOST_PLACES;
+    met.clear();
+    let from = floor_beside(cell, floor);
+    ends(loaded, cells, from, cell, &mut most, visits, met)
+}
+
 /// Whether each path from each of these cells is seen to end: from one below the floor to any, and from others where it
 /// comes below the floor, if not before.
-pub(crate) fn all_end<N: Naming>(
+#[cold]
+#[inline(never)]
+fn all_end<N: Naming>(
     loaded: &Loaded,
     cells: &PlainCells<N>,
     floor: u32,
@@ -84,11 +139,46 @@ fn ends_from<N: Naming>(
     requires in_row { cell < length cells.now }
     ensures { result ≡ true → EndsFrom N.program cells.now floor cell }
 {
-    if ends_below(cells, floor, cell) {
+    if ends_at_look(loaded, cells, floor, cell) {
         return true;
     }
     let from = floor_beside(cell, floor);
     ends(loaded, cells, from, cell, most, visits, met)
+}
+
+/// The same at a look: at the cell's word, or at the arguments of the structure to which a cell below the floor is set.
+#[inline(always)]
+fn ends_at_look<N: Naming>(loaded: &Loaded, cells: &PlainCells<N>, floor: u32, cell: u32) -> bool
+    requires program { N.program ≡ named loaded.now }
+    requires falls { AllFall 0 N.program.skeleton.nodes }
+    requires in_row { cell < length cells.now }
+    ensures { result ≡ true → EndsFrom N.program cells.now floor cell }
+{
+    if cell < floor {
+        word_or_parts_end(loaded, cells, cell)
+    } else {
+        ends_below(cells, floor, cell)
+    }
+}
+
+/// Whether each path from a cell ends at its word, or at the arguments of the structure to which it is set.
+#[inline(always)]
+fn word_or_parts_end<N: Naming>(loaded: &Loaded, cells: &PlainCells<N>, cell: u32) -> bool
+    requires program { N.program ≡ named loaded.now }
+    requires falls { AllFall 0 N.program.skeleton.nodes }
+    requires in_row { cell < length cells.now }
+    ensures { result ≡ true → Ends N.program cells.now 0 false (Ref.Cell cell) }
+{
+    match cells.word(cell) {
+        Ref::Node { node, base } => {
+            let count = argument_count(loaded, node);
+            parts_end(loaded, cells, 0, node, base, count)
+        }
+        Ref::Cell(other) => is_free(cells, other),
+        Ref::Number(_) => true,
+        Ref::Free => false,
+        Ref::Half(_) => false,
+    }
 }
 
 /// Whether a cell that is not below the floor is set to a number or to what is below it, as most cells are.
@@ -119,6 +209,7 @@ fn floor_beside(cell: u32, floor: u32) -> u32
 }
 
 /// Whether each path from a cell is seen to end, at a look or by so many turns or places.
+#[inline(always)]
 fn ends<N: Naming>(
     loaded: &Loaded,
     cells: &PlainCells<N>,
@@ -135,54 +226,13 @@ fn ends<N: Naming>(
 {
     match beyond_cell(cells, floor, cell) {
         Followed::Ended => true,
-        Followed::Onward(next) => behind_ends(loaded, cells, floor, next, most, visits, met),
+        Followed::Onward(next) => onward_ends(loaded, cells, floor, next, most, visits, met),
         Followed::Unseen => false,
     }
 }
 
-/// Whether each path from a reference is seen to end, at a look at the parts of a structure, or by so many turns or
-/// places.
-fn behind_ends<N: Naming>(
-    loaded: &Loaded,
-    cells: &PlainCells<N>,
-    floor: u32,
-    from: Ref,
-    most: &mut u64,
-    visits: &mut Vec<Ref>,
-    met: &mut Vec<Ref>,
-) -> bool
-    requires program { N.program ≡ named loaded.now }
-    requires falls { AllFall 0 N.program.skeleton.nodes }
-    requires in_range { IsInRange N.program (length cells.now) from }
-    ensures { result ≡ true → Ends N.program cells.now floor false from }
-{
-    if all_parts_end(loaded, cells, floor, from) {
-        return true;
-    }
-    onward_ends(loaded, cells, floor, from, most, visits, met)
-}
-
-/// Whether a reference is a structure of which each path from each part ends at a look at the part.
-#[inline(always)]
-fn all_parts_end<N: Naming>(loaded: &Loaded, cells: &PlainCells<N>, floor: u32, from: Ref) -> bool
-    requires program { N.program ≡ named loaded.now }
-    requires falls { AllFall 0 N.program.skeleton.nodes }
-    requires in_range { IsInRange N.program (length cells.now) from }
-    ensures { result ≡ true → Ends N.program cells.now floor false from }
-{
-    match from {
-        Ref::Node { node, base } => {
-            let count = argument_count(loaded, node);
-            parts_end(loaded, cells, floor, node, base, count)
-        }
-        Ref::Cell(_) => false,
-        Ref::Number(_) => false,
-        Ref::Free => false,
-        Ref::Half(_) => false,
-    }
-}
-
 /// Whether each path from a reference is seen to end, by so many turns or places.
+#[cold]
 #[inline(never)]
 fn onward_ends<N: Naming>(
     loaded: &Loaded,
@@ -315,6 +365,7 @@ fn beyond_structure<N: Naming>(
 }
 
 /// Whether each path from each of so many parts of a structure ends at a look at the part.
+#[inline(always)]
 fn parts_end<N: Naming>(
     loaded: &Loaded,
     cells: &PlainCells<N>,
@@ -340,6 +391,7 @@ fn parts_end<N: Naming>(
 }
 
 /// Whether each path from a reference ends at a look at it, or at the word of its cell.
+#[inline(always)]
 fn part_ends<N: Naming>(loaded: &Loaded, cells: &PlainCells<N>, floor: u32, part: Ref) -> bool
     requires program { N.program ≡ named loaded.now }
     requires in_range { IsInRange N.program (length cells.now) part }
@@ -355,6 +407,7 @@ fn part_ends<N: Naming>(loaded: &Loaded, cells: &PlainCells<N>, floor: u32, part
 }
 
 /// Whether each path from a cell ends at its word, or in the free cell to which it is set.
+#[inline(always)]
 fn word_ends<N: Naming>(loaded: &Loaded, cells: &PlainCells<N>, floor: u32, cell: u32) -> bool
     requires program { N.program ≡ named loaded.now }
     requires in_row { cell < length cells.now }

@@ -10,9 +10,11 @@ ghost use Rattle.and_cells.specs.Parts.{named};
 ghost use Rattle.and_unify.specs.Pairs.{AreInRange, AreWritten};
 ghost use Rattle.and_unify.specs.Running.{arguments_of_both};
 ghost use Rattle.and_heads.specs.Entering.{Meets, ComesToParts, Begins};
+ghost use Rattle.and_heads.specs.Owing.{AreOwed};
 ghost use Rattle.and_heads.specs.Parts.{HasShape, Puts, both_of, arguments_of_parts};
 
 use crate::arguments::enter_argument;
+use crate::owing::{Owed, owe};
 use crate::parts::{Part, arguments_of_both, end_of, head_at};
 use and_cells::{Naming, PlainCells};
 use and_model::Ref;
@@ -50,7 +52,9 @@ pub(crate) fn enter<N: Naming>(
     loaded: &Loaded,
     cells: &mut PlainCells<N>,
     pairs: &PairList,
+    floor: u32,
     bound: &mut Vec<u32>,
+    owed: &mut Owed,
     parts: &mut Vec<Part>,
 ) -> Entered
     requires program { N.program ≡ named loaded.now }
@@ -59,10 +63,12 @@ pub(crate) fn enter<N: Naming>(
     requires written { AreWritten (plain cells.old) pairs.now }
     ensures comes { ComesToParts N.program (plain cells.old) (plain cells.new) pairs.now [] bound.old.items
         bound.new.items result }
+    ensures owed { AreOwed N.program floor cells.old bound.old.items owed.old
+        → AreOwed N.program floor cells.new bound.new.items owed.new }
 {
     parts.clear();
-    match begin(loaded, cells, pairs, bound, parts) {
-        Begun::At(part) => enter_parts(loaded, cells, part, bound, parts),
+    match begin(loaded, cells, pairs, floor, bound, owed, parts) {
+        Begun::At(part) => enter_parts(loaded, cells, part, floor, bound, owed, parts),
         Begun::Ended(entered) => entered,
     }
 }
@@ -73,7 +79,9 @@ fn begin<N: Naming>(
     loaded: &Loaded,
     cells: &mut PlainCells<N>,
     pairs: &PairList,
+    floor: u32,
     bound: &mut Vec<u32>,
+    owed: &mut Owed,
     parts: &mut Vec<Part>,
 ) -> Begun
     requires program { N.program ≡ named loaded.now }
@@ -81,13 +89,15 @@ fn begin<N: Naming>(
     requires in_range { AreInRange N.program (length cells.old) pairs.now }
     requires written { AreWritten (plain cells.old) pairs.now }
     requires none { parts.old.items ≡ [] }
-    ensures { Begins N.program (plain cells.old) (plain cells.new) pairs.now parts.new.items bound.old.items
+    ensures begins { Begins N.program (plain cells.old) (plain cells.new) pairs.now parts.new.items bound.old.items
         bound.new.items result }
+    ensures owed { AreOwed N.program floor cells.old bound.old.items owed.old
+        → AreOwed N.program floor cells.new bound.new.items owed.new }
 {
     if let Some(part) = alone(loaded, cells, pairs) {
         return Begun::At(part);
     }
-    match enter_pairs(loaded, cells, pairs, bound, parts) {
+    match enter_pairs(loaded, cells, pairs, floor, bound, owed, parts) {
         Entered::Done => last_of(parts),
         Entered::Apart => Begun::Ended(Entered::Apart),
         Entered::GivenUp => Begun::Ended(Entered::GivenUp),
@@ -124,12 +134,15 @@ fn last_of(parts: &mut Vec<Part>) -> Begun
 }
 
 /// Meets the sides of pairs, and puts those that lead to structures on the list of parts.
+#[cold]
 #[inline(never)]
 fn enter_pairs<N: Naming>(
     loaded: &Loaded,
     cells: &mut PlainCells<N>,
     pairs: &PairList,
+    floor: u32,
     bound: &mut Vec<u32>,
+    owed: &mut Owed,
     parts: &mut Vec<Part>,
 ) -> Entered
     requires program { N.program ≡ named loaded.now }
@@ -140,9 +153,11 @@ fn enter_pairs<N: Naming>(
     ensures comes { ComesToParts N.program (plain cells.old) (plain cells.new) pairs.now parts.new.items
         bound.old.items bound.new.items result }
     ensures shapes { result ≡ Entered.Done → All (HasShape N.program (length cells.old)) parts.new.items }
+    ensures owed { AreOwed N.program floor cells.old bound.old.items owed.old
+        → AreOwed N.program floor cells.new bound.new.items owed.new }
 {
     for place in 0..pairs.len() {
-        match enter_pair(loaded, cells, *pairs.at(place), bound, parts) {
+        match enter_pair(loaded, cells, *pairs.at(place), floor, bound, owed, parts) {
             Entered::Done => {}
             Entered::Apart => return Entered::Apart,
             Entered::GivenUp => return Entered::GivenUp,
@@ -156,18 +171,24 @@ fn enter_pair<N: Naming>(
     loaded: &Loaded,
     cells: &mut PlainCells<N>,
     pair: Pair,
+    floor: u32,
     bound: &mut Vec<u32>,
+    owed: &mut Owed,
     parts: &mut Vec<Part>,
 ) -> Entered
     requires program { N.program ≡ named loaded.now }
     requires in_range { IsInRange N.program (length cells.old) pair.left
         × IsInRange N.program (length cells.old) pair.right }
     requires written { IsWrittenIfNumber (plain cells.old) pair.left × IsWrittenIfNumber (plain cells.old) pair.right }
-    ensures { Meets N.program pair (plain cells.old) (plain cells.new) parts.old.items parts.new.items
+    ensures meets { Meets N.program pair (plain cells.old) (plain cells.new) parts.old.items parts.new.items
         bound.old.items bound.new.items result }
+    ensures owed { AreOwed N.program floor cells.old bound.old.items owed.old
+        → AreOwed N.program floor cells.new bound.new.items owed.new }
 {
     let Some(whole) = whole_of(loaded, cells, pair.left, pair.right) else {
-        return enter_ends(loaded, cells, pair.left, pair.right, bound, parts);
+        return enter_ends(
+            loaded, cells, pair.left, pair.right, floor, bound, owed, parts,
+        );
     };
     match parts.push(whole) {
         Ok(()) => Entered::Done,
@@ -216,20 +237,24 @@ fn enter_parts<N: Naming>(
     loaded: &Loaded,
     cells: &mut PlainCells<N>,
     first: Part,
+    floor: u32,
     bound: &mut Vec<u32>,
+    owed: &mut Owed,
     parts: &mut Vec<Part>,
 ) -> Entered
     requires program { N.program ≡ named loaded.now }
     requires falls { AllFall 0 N.program.skeleton.nodes }
     requires shape { HasShape N.program (length cells.old) first }
     requires shapes { All (HasShape N.program (length cells.old)) parts.old.items }
-    ensures { ComesToParts N.program (plain cells.old) (plain cells.new)
+    ensures comes { ComesToParts N.program (plain cells.old) (plain cells.new)
         (arguments_of_both N.program (both_of first) ++ arguments_of_parts N.program parts.old.items) []
         bound.old.items bound.new.items result }
+    ensures owed { AreOwed N.program floor cells.old bound.old.items owed.old
+        → AreOwed N.program floor cells.new bound.new.items owed.new }
 {
     let mut part = first;
     for _turn in 0..MOST_PARTS {
-        match enter_arguments(loaded, cells, part, bound, parts) {
+        match enter_arguments(loaded, cells, part, floor, bound, owed, parts) {
             Entered::Done => {}
             Entered::Apart => return Entered::Apart,
             Entered::GivenUp => return Entered::GivenUp,
@@ -247,7 +272,9 @@ fn enter_arguments<N: Naming>(
     loaded: &Loaded,
     cells: &mut PlainCells<N>,
     part: Part,
+    floor: u32,
     bound: &mut Vec<u32>,
+    owed: &mut Owed,
     parts: &mut Vec<Part>,
 ) -> Entered
     requires program { N.program ≡ named loaded.now }
@@ -258,10 +285,14 @@ fn enter_arguments<N: Naming>(
         (arguments_of_both N.program (both_of part) ++ arguments_of_parts N.program parts.old.items) parts.new.items
         bound.old.items bound.new.items result }
     ensures shapes { result ≡ Entered.Done → All (HasShape N.program (length cells.old)) parts.new.items }
+    ensures owed { AreOwed N.program floor cells.old bound.old.items owed.old
+        → AreOwed N.program floor cells.new bound.new.items owed.new }
 {
     for place in 0..argument_count(loaded, part.left.node) {
         let right = argument_at(loaded, part.right, place);
-        match enter_argument(loaded, cells, part.left, place, right, bound, parts) {
+        match enter_argument(
+            loaded, cells, part.left, place, right, floor, bound, owed, parts,
+        ) {
             Entered::Done => {}
             Entered::Apart => return Entered::Apart,
             Entered::GivenUp => return Entered::GivenUp,
@@ -277,19 +308,23 @@ pub(crate) fn enter_ends<N: Naming>(
     cells: &mut PlainCells<N>,
     left: Ref,
     right: Ref,
+    floor: u32,
     bound: &mut Vec<u32>,
+    owed: &mut Owed,
     parts: &mut Vec<Part>,
 ) -> Entered
     requires program { N.program ≡ named loaded.now }
     requires in_range { IsInRange N.program (length cells.old) left
         × IsInRange N.program (length cells.old) right }
     requires written { IsWrittenIfNumber (plain cells.old) left × IsWrittenIfNumber (plain cells.old) right }
-    ensures { Meets N.program (record { left = left; right = right }) (plain cells.old) (plain cells.new)
+    ensures meets { Meets N.program (record { left = left; right = right }) (plain cells.old) (plain cells.new)
         parts.old.items parts.new.items bound.old.items bound.new.items result }
+    ensures owed { AreOwed N.program floor cells.old bound.old.items owed.old
+        → AreOwed N.program floor cells.new bound.new.items owed.new }
 {
     let one = end_of(cells, left);
     let other = end_of(cells, right);
-    meet(loaded, cells, one, other, bound, parts)
+    meet(loaded, cells, one, other, floor, bound, owed, parts)
 }
 
 /// Sets one of two references to the other, or compares them.
@@ -299,7 +334,9 @@ fn meet<N: Naming>(
     cells: &mut PlainCells<N>,
     one: Ref,
     other: Ref,
+    floor: u32,
     bound: &mut Vec<u32>,
+    owed: &mut Owed,
     parts: &mut Vec<Part>,
 ) -> Entered
     requires program { N.program ≡ named loaded.now }
@@ -309,15 +346,17 @@ fn meet<N: Naming>(
     requires other_written { IsWrittenIfNumber (plain cells.old) other }
     requires one_free { (cell : ℕ) → one ≡ Ref.Cell cell → word_at cells.old cell ≡ Ref.Free }
     requires other_free { (cell : ℕ) → other ≡ Ref.Cell cell → word_at cells.old cell ≡ Ref.Free }
-    ensures { Meets N.program (record { left = one; right = other }) (plain cells.old) (plain cells.new)
+    ensures meets { Meets N.program (record { left = one; right = other }) (plain cells.old) (plain cells.new)
         parts.old.items parts.new.items bound.old.items bound.new.items result }
+    ensures owed { AreOwed N.program floor cells.old bound.old.items owed.old
+        → AreOwed N.program floor cells.new bound.new.items owed.new }
 {
     // Mostly the other one is a cell, so it is looked at first.
     match case_of(other, one) {
         Case::Half => Entered::GivenUp,
         Case::OneCell => Entered::Done,
-        Case::SetLeft(cell) => take(cells, bound, cell, one),
-        Case::SetRight(cell) => take(cells, bound, cell, other),
+        Case::SetLeft(cell) => take(loaded, cells, floor, bound, owed, cell, one),
+        Case::SetRight(cell) => take(loaded, cells, floor, bound, owed, cell, other),
         Case::Compare => compare(loaded, cells, one, other, parts),
     }
 }
@@ -325,11 +364,15 @@ fn meet<N: Naming>(
 /// Sets a free cell, which goes on the list. Where there is no room on the list, nothing is set.
 #[inline(always)]
 pub(crate) fn take<N: Naming>(
+    loaded: &Loaded,
     cells: &mut PlainCells<N>,
+    floor: u32,
     bound: &mut Vec<u32>,
+    owed: &mut Owed,
     cell: u32,
     to: Ref,
 ) -> Entered
+    requires program { N.program ≡ named loaded.now }
     requires in_row { cell < length cells.old }
     requires free { word_at cells.old cell ≡ Ref.Free }
     requires in_range { IsInRange N.program (length cells.old) to }
@@ -340,11 +383,14 @@ pub(crate) fn take<N: Naming>(
     ensures apart { result ≢ Entered.Apart }
     ensures given_up { result ≡ Entered.GivenUp → OnlyReads (plain cells.old) (plain cells.new)
         × (bound.new.items ≡ bound.old.items) }
+    ensures owed { AreOwed N.program floor cells.old bound.old.items owed.old
+        → AreOwed N.program floor cells.new bound.new.items owed.new }
 {
     if make_room(bound).is_err() {
         return Entered::GivenUp;
     }
     let _words = cells.len();
+    owe(loaded, floor, cell, to, owed);
     cells.set(cell, to);
     bound.push_reserved(cell);
     Entered::Done

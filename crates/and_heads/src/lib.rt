@@ -5,6 +5,7 @@
 mod arguments;
 mod ending;
 mod entering;
+mod owing;
 mod parts;
 pub mod settling;
 

@@ -13,8 +13,9 @@ ghost use Rattle.and_unify.specs.Setting.{HaveBeenSet};
 ghost use Rattle.and_unify.specs.Settling.{AreNewFrom, Settles};
 ghost use Rattle.and_unify.specs.declared.settling.Settled.{Settled};
 
-use crate::ending::all_end;
+use crate::ending::owed_end;
 use crate::entering::{Entered, enter};
+use crate::owing::Owed;
 use crate::parts::Part;
 use and_cells::{Naming, PlainCells};
 use and_model::Ref;
@@ -143,6 +144,7 @@ impl HeadSolver {
 
 /// The same by the solver, as is seldom needed: a call of its own, so that none of its code stands among what is done
 /// each time.
+#[cold]
 #[inline(never)]
 fn settle_by_solver<N: Naming>(
     solver: &mut Solver,
@@ -187,8 +189,9 @@ fn settle_directly<N: Naming>(
     ensures bound { HaveBeenSet cells.old cells.new bound.new.items }
 {
     laws_of_rows(loaded, cells);
-    match enter(loaded, cells, pairs, bound, parts) {
-        Entered::Done => ended(all_end(loaded, cells, floor, bound, visits, met)),
+    let mut owed = Owed::Nothing;
+    match enter(loaded, cells, pairs, floor, bound, &mut owed, parts) {
+        Entered::Done => ended(owed_end(loaded, cells, floor, owed, bound, visits, met)),
         Entered::Apart => Entered::Apart,
         Entered::GivenUp => Entered::GivenUp,
     }

@@ -17,13 +17,13 @@ enter_variable-requires-clause-in_range g c = (
 pub enter_variable-requires-clause-written : goal.enter_variable-requires-clause-written
 enter_variable-requires-clause-written g c = (c.requires.left_fits c.argument_at-from.result c.argument_at-from.ensures).1
 
-pub returns-in-Cell : goal.returns-in-Cell
-returns-in-Cell g c = (
+pub returns-in-Cell-clause-meets : goal.returns-in-Cell-clause-meets
+returns-in-Cell-clause-meets g c = (
   c.argument_at-from.result,
   c.argument_at-from.ensures,
   subst (λ r. Meets g.N.Naming.program (pair_of c.argument_at-from.result r) (plain c.args.cells.now) (plain c.enter_variable.new.cells)
       c.args.parts.now.items c.enter_variable.new.parts.items c.args.bound.now.items c.enter_variable.new.bound.items c.enter_variable.result)
-      (sym c.in-Cell.is) c.enter_variable.ensures,
+      (sym c.in-Cell.is) c.enter_variable.ensures.meets,
 )
 
 pub enter_structure-requires-clause-in_range : goal.enter_structure-requires-clause-in_range
@@ -35,16 +35,16 @@ enter_structure-requires-clause-in_range g c = (
 pub enter_structure-requires-clause-written : goal.enter_structure-requires-clause-written
 enter_structure-requires-clause-written g c = (c.requires.left_fits c.argument_at-from-in-Node.result c.argument_at-from-in-Node.ensures).1
 
-pub returns-in-Node : goal.returns-in-Node
-returns-in-Node g c = (
+pub returns-in-Node-clause-meets : goal.returns-in-Node-clause-meets
+returns-in-Node-clause-meets g c = (
   c.argument_at-from-in-Node.result,
   c.argument_at-from-in-Node.ensures,
   subst (λ r. Meets g.N.Naming.program (pair_of c.argument_at-from-in-Node.result r) (plain c.args.cells.now) (plain c.enter_structure.new.cells)
       c.args.parts.now.items c.enter_structure.new.parts.items c.args.bound.now.items c.enter_structure.new.bound.items c.enter_structure.result)
-      (sym c.in-Node.is) c.enter_structure.ensures,
+      (sym c.in-Node.is) c.enter_structure.ensures.meets,
 )
 
-pub returns-in_default : goal.returns-in_default
-returns-in_default g c =
+pub returns-in_default-clause-meets : goal.returns-in_default-clause-meets
+returns-in_default-clause-meets g c =
     let there = part_there (named c.args.loaded.now) c.args.left c.args.place c.requires.place in
     (there.0, there.1, (reads_nothing (plain c.args.cells.now), refl))

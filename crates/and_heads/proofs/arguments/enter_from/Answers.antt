@@ -24,8 +24,8 @@ take-requires-clause-falls g c = λ other e. absurd (cc)
 pub take-requires-clause-written : goal.take-requires-clause-written
 take-requires-clause-written g c = λ pair e. absurd (cc)
 
-pub returns-in-Free : goal.returns-in-Free
-returns-in-Free g c =
+pub returns-in-Free-clause-meets : goal.returns-in-Free-clause-meets
+returns-in-Free-clause-meets g c =
     let to : Ref = Node c.args.node c.args.base in
     filled_left g.N.Naming.program (plain c.args.cells.now) (plain c.take.new.cells) (Cell c.args.from) to c.args.from to c.args.parts.now.items
     c.args.bound.now.items c.take.new.bound.items c.take.result c.take.ensures.apart c.take.ensures.given_up c.take.ensures.done refl refl refl
@@ -44,8 +44,8 @@ compare-requires-clause-one_written g c = λ pair e. absurd (cc)
 pub compare-requires-clause-other_written : goal.compare-requires-clause-other_written
 compare-requires-clause-other_written g c = λ pair e. absurd (cc)
 
-pub returns-in-Node : goal.returns-in-Node
-returns-in-Node g c =
+pub returns-in-Node-clause-meets : goal.returns-in-Node-clause-meets
+returns-in-Node-clause-meets g c =
     let row = c.args.cells.now in
     let to : Ref = Node c.in-Node.there c.in-Node.by in
     compared_from g.N.Naming.program (plain row) (Cell c.args.from) (Node c.args.node c.args.base) to c.args.parts.now.items c.compare.new.parts.items

@@ -11,19 +11,19 @@ pub join-requires-clause-in_range : goal.join-requires-clause-in_range
 join-requires-clause-in_range g c =
     (subst (IsInRange g.N.Naming.program (length c.args.cells.now)) c.in-Cell.is c.requires.in_range.0, c.requires.in_range.1)
 
-pub returns-in-Cell : goal.returns-in-Cell
-returns-in-Cell g c =
+pub returns-in-Cell-clause-meets : goal.returns-in-Cell-clause-meets
+returns-in-Cell-clause-meets g c =
     subst (λ r. Meets g.N.Naming.program (pair_of r (Cell c.args.cell)) (plain c.args.cells.now) (plain c.join.new.cells) c.args.parts.now.items
-    c.join.new.parts.items c.args.bound.now.items c.join.new.bound.items c.join.result) (sym c.in-Cell.is) c.join.ensures
+    c.join.new.parts.items c.args.bound.now.items c.join.new.bound.items c.join.result) (sym c.in-Cell.is) c.join.ensures.meets
 
 pub fill-requires-clause-in_range : goal.fill-requires-clause-in_range
 fill-requires-clause-in_range g c =
     (subst (IsInRange g.N.Naming.program (length c.args.cells.now)) c.in-Node.is c.requires.in_range.0, c.requires.in_range.1)
 
-pub returns-in-Node : goal.returns-in-Node
-returns-in-Node g c =
+pub returns-in-Node-clause-meets : goal.returns-in-Node-clause-meets
+returns-in-Node-clause-meets g c =
     subst (λ r. Meets g.N.Naming.program (pair_of r (Cell c.args.cell)) (plain c.args.cells.now) (plain c.fill.new.cells) c.args.parts.now.items
-    c.fill.new.parts.items c.args.bound.now.items c.fill.new.bound.items c.fill.result) (sym c.in-Node.is) c.fill.ensures
+    c.fill.new.parts.items c.args.bound.now.items c.fill.new.bound.items c.fill.result) (sym c.in-Node.is) c.fill.ensures.meets
 
-pub returns-in_default : goal.returns-in_default
-returns-in_default g c = (reads_nothing (plain c.args.cells.now), refl)
+pub returns-in_default-clause-meets : goal.returns-in_default-clause-meets
+returns-in_default-clause-meets g c = (reads_nothing (plain c.args.cells.now), refl)

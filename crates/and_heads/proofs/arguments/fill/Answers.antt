@@ -20,8 +20,8 @@ take-requires-clause-falls g c = λ other e. absurd (cc)
 pub take-requires-clause-written : goal.take-requires-clause-written
 take-requires-clause-written g c = λ pair e. absurd (cc)
 
-pub returns : goal.returns
-returns g c =
+pub returns-clause-meets : goal.returns-clause-meets
+returns-clause-meets g c =
     let s = plain c.args.cells.now in
     let to : Ref = Node c.args.node c.args.base in
     filled g.N.Naming.program s (plain c.take.new.cells) to (Cell c.args.cell) c.args.cell to c.args.parts.now.items c.args.bound.now.items

@@ -24,8 +24,8 @@ take-requires-clause-falls g c = λ other e. absurd (cc)
 pub take-requires-clause-written : goal.take-requires-clause-written
 take-requires-clause-written g c = λ pair e. absurd (cc)
 
-pub returns-in-Node : goal.returns-in-Node
-returns-in-Node g c =
+pub returns-in-Node-clause-meets : goal.returns-in-Node-clause-meets
+returns-in-Node-clause-meets g c =
     let P = g.N.Naming.program in
     let row = c.args.cells.now in
     let to : Ref = Node c.in-Node.node c.in-Node.base in
@@ -52,8 +52,8 @@ take-requires-in-Number-clause-written g c =
     let knows : IsSetTo row c.args.from to = (sym c.word.ensures.value ∙ c.in-Number.is, λ e. absurd (cc)) in
     written_since_known (plain row) c.args.from to knows
 
-pub returns-in-Number : goal.returns-in-Number
-returns-in-Number g c =
+pub returns-in-Number-clause-meets : goal.returns-in-Number-clause-meets
+returns-in-Number-clause-meets g c =
     let P = g.N.Naming.program in
     let row = c.args.cells.now in
     let to : Ref = Number c.in-Number.pair in

@@ -21,8 +21,8 @@ take-requires-clause-falls g c = falls c.args.from c.args.cell c.if-from-cell.tr
 pub take-requires-clause-written : goal.take-requires-clause-written
 take-requires-clause-written g c = λ pair e. absurd (cc)
 
-pub returns-then-from-cell : goal.returns-then-from-cell
-returns-then-from-cell g c =
+pub returns-then-from-cell-clause-meets : goal.returns-then-from-cell-clause-meets
+returns-then-from-cell-clause-meets g c =
     let s = plain c.args.cells.now in
     let to : Ref = Cell c.args.from in
     filled g.N.Naming.program s (plain c.take.new.cells) to (Cell c.args.cell) c.args.cell to c.args.parts.now.items c.args.bound.now.items

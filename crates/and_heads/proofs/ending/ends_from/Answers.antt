@@ -1,13 +1,7 @@
-use Rattle.std.proofs.Common.{false, subst, arith}
+use Rattle.std.proofs.Common.{false, subst}
 use Rattle.and_model.specs.declared.reference.Ref.TheVariants.{Cell}
 use Rattle.and_cells.specs.Ends.{Ends}
 use Rattle.and_heads.proofs.ending.ends_from.Goals as goal
-
-pub returns-then-ends_below : goal.returns-then-ends_below
-returns-then-ends_below g c = λ _.
-    let seen = c.if-ends_below.true in
-    let above = c.ends_below.ensures.above seen in
-    (λ low. absurd (omega (arith, above, low)), λ _. c.ends_below.ensures.ends seen)
 
 pub returns : goal.returns
 returns g c = λ is.

@@ -14,7 +14,7 @@ use Rattle.and_heads.proofs.Placing.{part_there}
 use Rattle.and_heads.proofs.entering.enter_arguments.Goals as goal
 
 pub loop-place-init : goal.loop-place-init
-loop-place-init g c = record { shapes = c.requires.shapes; runs = start }
+loop-place-init g c = record { shapes = c.requires.shapes; runs = start; owed = λ owed. owed }
 
 pub argument_at-right-requires-clause-place : goal.argument_at-right-requires-clause-place
 argument_at-right-requires-clause-place g c =
@@ -47,37 +47,38 @@ loop-place-preserved g c =
     let P = g.N.Naming.program in
     let old = plain c.args.cells.now in
     let longer = c.enter_argument.new.parts.items in
-    let meets = c.in-Done.ensures.2 in
+    let meets = c.in-Done.ensures.meets.2 in
     let t = argument_turn g.N.Naming.program (named c.args.loaded.now) (plain c.args.cells.now) (plain c.loop-place.cells) _ _ _ _ (both_of c.args.part)
-    (pair_of c.in-Done.ensures.0 c.argument_at-right.result) (named_by c.args.part.left) (named_by c.args.part.right) c.loop-place.place
-    c.requires.program c.requires.falls c.requires.shape refl refl c.in-Done.ensures.1 c.argument_at-right.ensures c.loop-place.invariant.runs in
+    (pair_of c.in-Done.ensures.meets.0 c.argument_at-right.result) (named_by c.args.part.left) (named_by c.args.part.right) c.loop-place.place
+    c.requires.program c.requires.falls c.requires.shape refl refl c.in-Done.ensures.meets.1 c.argument_at-right.ensures c.loop-place.invariant.runs in
     record {
       shapes = shapes_behind P old.words c.loop-place.parts.items meets.more longer meets.gains c.loop-place.invariant.shapes
           (subst (λ n. All (HasShape P n) meets.more) t.words meets.shapes);
       runs = first_steps P old (plain c.loop-place.cells) (plain c.enter_argument.new.cells) _ _ _ _
-          (pair_of c.in-Done.ensures.0 c.argument_at-right.result) (drop (c.loop-place.place + 1) (arguments_of_both P (both_of c.args.part)))
+          (pair_of c.in-Done.ensures.meets.0 c.argument_at-right.result) (drop (c.loop-place.place + 1) (arguments_of_both P (both_of c.args.part)))
           c.loop-place.parts.items longer t.runs meets;
+      owed = λ owed. c.enter_argument.ensures.owed (c.loop-place.invariant.owed owed);
     }
 
 pub returns-in-Apart-clause-comes : goal.returns-in-Apart-clause-comes
 returns-in-Apart-clause-comes g c =
     let t = argument_turn g.N.Naming.program (named c.args.loaded.now) (plain c.args.cells.now) (plain c.loop-place.cells) _ _ _ _ (both_of c.args.part)
-    (pair_of c.in-Apart.ensures.0 c.argument_at-right.result) (named_by c.args.part.left) (named_by c.args.part.right) c.loop-place.place
-    c.requires.program c.requires.falls c.requires.shape refl refl c.in-Apart.ensures.1 c.argument_at-right.ensures c.loop-place.invariant.runs in
+    (pair_of c.in-Apart.ensures.meets.0 c.argument_at-right.result) (named_by c.args.part.left) (named_by c.args.part.right) c.loop-place.place
+    c.requires.program c.requires.falls c.requires.shape refl refl c.in-Apart.ensures.meets.1 c.argument_at-right.ensures c.loop-place.invariant.runs in
     first_breaks g.N.Naming.program (plain c.args.cells.now) (plain c.loop-place.cells) (plain c.enter_argument.new.cells) _ _ _ _
-    (pair_of c.in-Apart.ensures.0 c.argument_at-right.result)
+    (pair_of c.in-Apart.ensures.meets.0 c.argument_at-right.result)
     (drop (c.loop-place.place + 1) (arguments_of_both g.N.Naming.program (both_of c.args.part))) c.loop-place.parts.items c.enter_argument.new.parts.items
-    t.runs c.in-Apart.ensures.2
+    t.runs c.in-Apart.ensures.meets.2
 
 pub returns-in-GivenUp-clause-comes : goal.returns-in-GivenUp-clause-comes
 returns-in-GivenUp-clause-comes g c =
     let t = argument_turn g.N.Naming.program (named c.args.loaded.now) (plain c.args.cells.now) (plain c.loop-place.cells) _ _ _ _ (both_of c.args.part)
-    (pair_of c.in-GivenUp.ensures.0 c.argument_at-right.result) (named_by c.args.part.left) (named_by c.args.part.right) c.loop-place.place
-    c.requires.program c.requires.falls c.requires.shape refl refl c.in-GivenUp.ensures.1 c.argument_at-right.ensures c.loop-place.invariant.runs in
+    (pair_of c.in-GivenUp.ensures.meets.0 c.argument_at-right.result) (named_by c.args.part.left) (named_by c.args.part.right) c.loop-place.place
+    c.requires.program c.requires.falls c.requires.shape refl refl c.in-GivenUp.ensures.meets.1 c.argument_at-right.ensures c.loop-place.invariant.runs in
     first_given_up g.N.Naming.program (plain c.args.cells.now) (plain c.loop-place.cells) (plain c.enter_argument.new.cells) _ _ _ _
-    (pair_of c.in-GivenUp.ensures.0 c.argument_at-right.result)
+    (pair_of c.in-GivenUp.ensures.meets.0 c.argument_at-right.result)
     (drop (c.loop-place.place + 1) (arguments_of_both g.N.Naming.program (both_of c.args.part))) c.loop-place.parts.items c.enter_argument.new.parts.items
-    t.runs c.in-GivenUp.ensures.2
+    t.runs c.in-GivenUp.ensures.meets.2
 
 pub returns-clause-comes : goal.returns-clause-comes
 returns-clause-comes g c =
@@ -95,3 +96,12 @@ returns-clause-comes g c =
     last_argument P old s todo (arguments_of_parts P c.loop-place.parts.items) c.args.bound.now.items c.loop-place.bound.items both shape.name
     shape.count c.loop-place.place
     shape.left_is past c.loop-place.invariant.runs
+
+pub returns-in-Apart-clause-owed : goal.returns-in-Apart-clause-owed
+returns-in-Apart-clause-owed g c = λ owed. c.enter_argument.ensures.owed (c.loop-place.invariant.owed owed)
+
+pub returns-in-GivenUp-clause-owed : goal.returns-in-GivenUp-clause-owed
+returns-in-GivenUp-clause-owed g c = λ owed. c.enter_argument.ensures.owed (c.loop-place.invariant.owed owed)
+
+pub returns-clause-owed : goal.returns-clause-owed
+returns-clause-owed g c = c.loop-place.invariant.owed

@@ -1,6 +1,7 @@
 use Rattle.std.specs.Prelude.{◌++◌, drop, length, All}
 use Rattle.and_cells.specs.Rows.{plain}
 use Rattle.and_unify.specs.Running.{Runs, arguments_of_both}
+use Rattle.and_heads.specs.Owing.{AreOwed}
 use Rattle.and_heads.specs.Parts.{HasShape, both_of, arguments_of_parts}
 use Rattle.and_heads.proofs.entering.enter_arguments.Given as goal
 
@@ -10,4 +11,5 @@ invariant-loop-place g l = record {
   runs : Runs g.N.Naming.program (plain l.fn.cells)
       (arguments_of_both g.N.Naming.program (both_of l.fn.part) ++ arguments_of_parts g.N.Naming.program l.fn.parts.items) l.fn.bound.items (plain l.cells)
       (drop l.place (arguments_of_both g.N.Naming.program (both_of l.fn.part)) ++ arguments_of_parts g.N.Naming.program l.parts.items) l.bound.items;
+  owed : AreOwed g.N.Naming.program l.fn.floor l.fn.cells l.fn.bound.items l.fn.owed → AreOwed g.N.Naming.program l.floor l.cells l.bound.items l.owed;
 }

@@ -10,7 +10,7 @@ use Rattle.and_heads.proofs.Parting.{part_turn, none_left}
 use Rattle.and_heads.proofs.entering.enter_parts.Goals as goal
 
 pub loop-turn-init : goal.loop-turn-init
-loop-turn-init g c = record { shape = c.requires.shape; shapes = c.requires.shapes; runs = start }
+loop-turn-init g c = record { shape = c.requires.shape; shapes = c.requires.shapes; runs = start; owed = λ owed. owed }
 
 pub enter_arguments-requires-clause-shape : goal.enter_arguments-requires-clause-shape
 enter_arguments-requires-clause-shape g c = c.loop-turn.invariant.shape
@@ -31,10 +31,11 @@ loop-turn-preserved g c =
       runs = runs_then P (plain c.args.cells.now) mid _ _ _ _ now
           (arguments_of_both P (both_of c.in-Some.next) ++ arguments_of_parts P c.pop.new.self.items) c.enter_arguments.new.bound.items
           c.loop-turn.invariant.runs t.runs;
+      owed = λ owed. c.enter_arguments.ensures.owed (c.loop-turn.invariant.owed owed);
     }
 
-pub returns-in-None : goal.returns-in-None
-returns-in-None g c =
+pub returns-in-None-clause-comes : goal.returns-in-None-clause-comes
+returns-in-None-clause-comes g c =
     let P = g.N.Naming.program in
     let left = c.enter_arguments.new.parts in
     let none = nil_from_length left.items (omega (arith, left.ok.0, c.in-None.ensures.cases.0)) in
@@ -42,12 +43,21 @@ returns-in-None g c =
     c.enter_arguments.new.bound.items Done c.loop-turn.invariant.runs
     (none_left P (plain c.loop-turn.cells) (plain c.enter_arguments.new.cells) _ left.items _ _ none c.in-Done.ensures.comes)
 
-pub returns-in-Apart : goal.returns-in-Apart
-returns-in-Apart g c =
+pub returns-in-Apart-clause-comes : goal.returns-in-Apart-clause-comes
+returns-in-Apart-clause-comes g c =
     parts_after g.N.Naming.program (plain c.args.cells.now) (plain c.loop-turn.cells) (plain c.enter_arguments.new.cells) _ _ [] _ _
     c.enter_arguments.new.bound.items Apart c.loop-turn.invariant.runs c.in-Apart.ensures.comes
 
-pub returns-in-GivenUp : goal.returns-in-GivenUp
-returns-in-GivenUp g c =
+pub returns-in-GivenUp-clause-comes : goal.returns-in-GivenUp-clause-comes
+returns-in-GivenUp-clause-comes g c =
     parts_after g.N.Naming.program (plain c.args.cells.now) (plain c.loop-turn.cells) (plain c.enter_arguments.new.cells) _ _ [] _ _
     c.enter_arguments.new.bound.items GivenUp c.loop-turn.invariant.runs c.in-GivenUp.ensures.comes
+
+pub returns-in-Apart-clause-owed : goal.returns-in-Apart-clause-owed
+returns-in-Apart-clause-owed g c = λ owed. c.enter_arguments.ensures.owed (c.loop-turn.invariant.owed owed)
+
+pub returns-in-GivenUp-clause-owed : goal.returns-in-GivenUp-clause-owed
+returns-in-GivenUp-clause-owed g c = λ owed. c.enter_arguments.ensures.owed (c.loop-turn.invariant.owed owed)
+
+pub returns-in-None-clause-owed : goal.returns-in-None-clause-owed
+returns-in-None-clause-owed g c = λ owed. c.enter_arguments.ensures.owed (c.loop-turn.invariant.owed owed)

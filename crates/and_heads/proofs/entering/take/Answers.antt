@@ -1,8 +1,12 @@
-use Rattle.std.proofs.Common.{[], ◌∷◌, ◌++◌, length, sym, subst, ap, ◌∙◌}
+use Rattle.std.proofs.Common.{ℕ, ◌≡◌, List, [], ◌∷◌, ◌++◌, length, set, sym, subst, ap, ◌∙◌}
+use Rattle.and_model.specs.declared.reference.Ref.{Ref}
 use Rattle.and_cells.specs.Rows.{plain}
 use Rattle.and_cells.specs.Seen.{Sets}
 use Rattle.and_cells.proofs.Chains.{reads_nothing}
 use Rattle.and_cells.proofs.PlainRows.{has_word, can_hold, written_in_row, plain_sets, in_range_is_set}
+use Rattle.and_cells.specs.Ranges.{IsInRange}
+use Rattle.and_heads.specs.Owing.{Owes, AreOwed}
+use Rattle.and_heads.proofs.Noting.{one_more}
 use Rattle.and_heads.proofs.entering.take.Goals as goal
 
 pub returns-then-is_err-clause-given_up : goal.returns-then-is_err-clause-given_up
@@ -27,3 +31,25 @@ returns-clause-done g c = λ is. (
       (in_range_is_set g.N.Naming.program _ c.args.to c.requires.in_range)),
   c.push_reserved.ensures.items ∙ ap (λ xs. xs ++ c.args.cell ∷ []) c.make_room.ensures.items,
 )
+
+pub owe-requires : goal.owe-requires
+owe-requires g c =
+    record { in_range = (length c.args.cells.now, subst (λ P. IsInRange P (length c.args.cells.now) c.args.to) c.requires.program c.requires.in_range) }
+
+pub returns-then-is_err-clause-owed : goal.returns-then-is_err-clause-owed
+returns-then-is_err-clause-owed g c = λ owed.
+    subst (λ (xs : List ℕ). AreOwed g.N.Naming.program c.args.floor c.args.cells.now xs c.args.owed.now) (sym c.make_room.ensures.items) owed
+
+-- A list that was made room on, and is longer by one.
+one_longer : (xs ys zs : List ℕ) (cell : ℕ) → zs ≡ ys ++ cell ∷ [] → ys ≡ xs → zs ≡ xs ++ cell ∷ []
+one_longer xs ys zs cell put same = put ∙ ap (λ (ns : List ℕ). ns ++ cell ∷ []) same
+
+pub returns-clause-owed : goal.returns-clause-owed
+returns-clause-owed g c = λ owed.
+    let P = g.N.Naming.program in
+    let owes = subst (λ Q. Owes Q c.args.floor c.args.cell c.args.to c.args.owed.now c.owe.new.owed) (sym c.requires.program) c.owe.ensures in
+    let more = one_more P c.args.floor c.args.cells.now c.args.cell c.args.to c.requires.in_row c.requires.free c.args.bound.now.items c.args.owed.now
+    c.owe.new.owed owes owed in
+    let gained = one_longer c.args.bound.now.items _ _ c.args.cell c.push_reserved.ensures.items c.make_room.ensures.items in
+    subst (λ (row : List Ref). AreOwed P c.args.floor row c.push_reserved.new.self.items c.owe.new.owed) (sym c.set.ensures)
+    (subst (λ (xs : List ℕ). AreOwed P c.args.floor (set c.args.cells.now c.args.cell c.args.to) xs c.owe.new.owed) (sym gained) more)

@@ -1,11 +1,13 @@
-use Rattle.std.proofs.Common.{◌<◌, ℕ, [], length, sym, subst}
+use Rattle.std.proofs.Common.{◌<◌, ℕ, List, [], length, sym, subst}
 use Rattle.std.specs.Prelude.{All}
+use Rattle.std.proofs.lemmas.List.Elements.{All-nil}
 use Rattle.and_unify.specs.Settling.{EndsFrom}
+use Rattle.and_heads.specs.Owing.{EndsAtWord, AreOwed}
 use Rattle.and_heads.proofs.Becoming.{all_solved, broken_apart, left_set, broken_set}
 use Rattle.and_heads.proofs.settling.settle_directly.Goals as goal
 
-pub all_end-requires-clause-in_row : goal.all_end-requires-clause-in_row
-all_end-requires-clause-in_row g c =
+pub owed_end-requires-clause-in_row : goal.owed_end-requires-clause-in_row
+owed_end-requires-clause-in_row g c =
     let old = c.args.cells.now in
     let new = c.enter.new.cells in
     let items = c.enter.new.bound.items in
@@ -15,14 +17,21 @@ all_end-requires-clause-in_row g c =
     subst (All (λ (cell : ℕ). cell < length new)) (sym c.deref.ensures.value)
     (subst (λ n. All (λ (cell : ℕ). cell < n) items) (sym set.words) set.in_row)
 
+pub owed_end-requires-clause-owed : goal.owed_end-requires-clause-owed
+owed_end-requires-clause-owed g c =
+    let P = g.N.Naming.program in
+    let none : All (EndsAtWord P c.args.floor c.args.cells.now) c.args.bound.now.items =
+    subst (All (EndsAtWord P c.args.floor c.args.cells.now)) (sym c.requires.empty) (All-nil (EndsAtWord P c.args.floor c.args.cells.now)) in
+    subst (λ (xs : List ℕ). AreOwed P c.args.floor c.enter.new.cells xs c.enter.new.owed) (sym c.deref.ensures.value) (c.enter.ensures.owed none)
+
 pub returns-in-Done-clause-done : goal.returns-in-Done-clause-done
 returns-in-Done-clause-done g c = λ is.
     let P = g.N.Naming.program in
     let new = c.enter.new.cells in
     let laws = c.laws_of_rows.ensures in
     all_solved P c.args.cells.now new c.args.pairs.now c.args.floor c.args.bound.now.items c.enter.new.bound.items c.requires.empty laws.falls laws.sound
-    c.requires.in_range c.requires.written c.requires.settled c.requires.no_half c.requires.new c.in-Done.ensures.comes c.all_end.ensures.sound
-    (subst (All (EndsFrom P new c.args.floor)) c.deref.ensures.value (c.all_end.ensures.ends (c.ended.ensures.done is)))
+    c.requires.in_range c.requires.written c.requires.settled c.requires.no_half c.requires.new c.in-Done.ensures.comes c.owed_end.ensures.sound
+    (subst (All (EndsFrom P new c.args.floor)) c.deref.ensures.value (c.owed_end.ensures.ends (c.ended.ensures.done is)))
 
 pub returns-in-Done-clause-bound : goal.returns-in-Done-clause-bound
 returns-in-Done-clause-bound g c =
