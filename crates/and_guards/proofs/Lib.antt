@@ -1,6 +1,7 @@
 pub use Rattle.and_branch_laws.proofs.Valuing
 pub use Rattle.and_branch_laws.proofs.Widening
 pub mod Held
+pub mod KnownNumbers
 pub mod Listed
 pub mod Moving
 pub mod Nodes

@@ -1,6 +1,6 @@
 //! The guards of clauses, judged in the cells of a frame, and what the sides of a comparison come to.
 
-ghost use Rattle.std.specs.Prelude.{◌≡◌, ◌↔◌, Bool, true, map, length, Ok, IfOk};
+ghost use Rattle.std.specs.Prelude.{◌≡◌, ◌↔◌, Bool, true, map, length, Ok, IfOk, IfSome};
 ghost use Rattle.and_cells.specs.Meaning.{IsSettled};
 ghost use Rattle.and_cells.specs.Parts.{named};
 ghost use Rattle.and_program.specs.Items.{node_item, relation};
@@ -8,6 +8,7 @@ ghost use Rattle.and_program.specs.Skeletons.{node_term};
 ghost use Rattle.and_guards.specs.Guards.{CanBeRead, GuardCanBeRead, IsFalseIn, IsGuardFalse};
 ghost use Rattle.and_guards.specs.Sides.{IsSide, is_waiting, sides_fail};
 
+use crate::known::known_number;
 use and_arith::{Valued, WorkList, compare, value_of};
 use and_cells::{Naming, PlainCells};
 use and_model::{NodeNo, Relation};
@@ -90,6 +91,7 @@ fn is_false<N: Naming>(
 
 /// What is known of a side, whose node is given, in the frame at the base. The cells are as before. An
 /// error is want of memory.
+#[inline(never)]
 pub fn evaluate<N: Naming>(
     loaded: &Loaded,
     cells: &mut PlainCells<N>,
@@ -112,6 +114,26 @@ pub fn evaluate<N: Naming>(
         Valued::PutOff => unreachable!(),
         Valued::Memory => Err(AllocError),
     }
+}
+
+/// The number that a side comes to in the frame at the base, where a look tells it. `None` says nothing. Takes no
+/// memory.
+#[inline(always)]
+pub fn number_at_once<N: Naming>(
+    loaded: &Loaded,
+    cells: &PlainCells<N>,
+    base: u32,
+    node: NodeNo,
+) -> Option<i64>
+    requires program { N.program ≡ named loaded.now }
+    requires settled { IsSettled N.program cells.now }
+    requires node { CanBeRead N.program cells.now base node.0 }
+    ensures { IfSome result (λ z. IsSide N.program cells.now base (node_term N.program.skeleton.nodes node.0)
+        (Side.Number z)) }
+{
+    loaded.skeleton_is_of_the_program();
+    let _words = cells.len();
+    known_number(loaded, cells, loaded.resolve(node, base))
 }
 
 /// Whether a comparison of these sides is false.

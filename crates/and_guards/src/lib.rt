@@ -5,5 +5,6 @@
 #![tactic(auto)]
 
 pub mod guards;
+mod known;
 
-pub use guards::{Side, evaluate, fails, is_guard_false};
+pub use guards::{Side, evaluate, fails, is_guard_false, number_at_once};

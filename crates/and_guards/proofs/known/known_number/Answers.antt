@@ -1,0 +1,14 @@
+use Rattle.std.proofs.Common.{sym, subst}
+use Rattle.std.specs.Prelude.{IfSome}
+use Rattle.and_model.specs.declared.reference.Ref.{Ref}
+use Rattle.and_cells.specs.Rows.{plain}
+use Rattle.and_arith.specs.Glances.{IsNumber}
+use Rattle.and_guards.proofs.known.known_number.Goals as goal
+
+pub returns-in-Cell : goal.returns-in-Cell
+returns-in-Cell g c =
+    subst (λ (r : Ref). IfSome c.number_in_cell.result (IsNumber g.N.Naming.program (plain c.args.cells.now) r)) (sym c.in-Cell.is) c.number_in_cell.ensures
+
+pub returns-in-Node : goal.returns-in-Node
+returns-in-Node g c =
+    subst (λ (r : Ref). IfSome c.number_of_node.result (IsNumber g.N.Naming.program (plain c.args.cells.now) r)) (sym c.in-Node.is) c.number_of_node.ensures
