@@ -6,7 +6,8 @@ use Rattle.and_model.specs.declared.reference.Ref.{Ref}
 use Rattle.and_model.specs.declared.reference.Ref.TheVariants.{Free}
 use Rattle.and_laws.proofs.Ordered.{contains_first, contains_more, contains_cases, contains_none}
 use Rattle.and_cells.specs.Ranges.{NamedProgram}
-use Rattle.and_cells.specs.Rows.{OnlySet}
+use Rattle.and_cells.proofs.Chains.{reads_nothing}
+use Rattle.and_cells.specs.Rows.{OnlySet, plain}
 use Rattle.and_cells.specs.Seen.{word_at}
 use Rattle.and_branch_laws.specs.Settling.{IsWritten, widened}
 use Rattle.and_branch_laws.proofs.Rows.{widened_words}
@@ -91,3 +92,14 @@ settles_less P old new pairs answer s = record {
   keeps = s.keeps;
   halves = s.halves;
 }
+
+-- What comes to nothing for want of memory.
+pub nothing_settled : (P : NamedProgram) (row : List Ref) (pairs : List Pair) → Settles P row row pairs Memory
+nothing_settled P row pairs =
+    let reads = reads_nothing (plain row) in record {
+      solved = λ e. absurd (cc);
+      settled = λ e. absurd (cc);
+      no_solution = λ e. absurd (cc);
+      keeps = record { knows = reads.keeps; known = (reads.learnt, reads.gains); missed = reads.missed; words = reads.words };
+      halves = λ cell half. half;
+    }

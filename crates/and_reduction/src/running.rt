@@ -18,15 +18,15 @@ ghost use Rattle.and_reduction.specs.Sides.{AssignsTo, RunsTo};
 ghost use Rattle.and_reduction.specs.Trails.{KeepsNoted};
 
 use crate::settling::settle_number;
-use crate::sides::compare_sides;
+use crate::sides::{compare_numbers, compare_sides};
 use crate::taking::Tools;
 use crate::trail::Trail;
 use and_arith::WorkList;
 use and_cells::{Naming, PlainCells, halves};
-use and_guards::{Side, evaluate};
+use and_guards::{Side, evaluate, number_at_once};
 use and_model::{ClauseNo, Goal, NodeNo, Ref, Relation};
 use and_program::{ItemNode, Loaded};
-use and_unify::{PairList, Settled as Answer};
+use and_unify::Settled as Answer;
 use std::alloc::AllocError;
 
 /// What a goal of arithmetic comes to.
@@ -146,6 +146,31 @@ fn run_comparison<N: Naming>(
     ensures ran { IfOk result (RunsTo N.program cells.old cells.new goal) }
     ensures unchanged { cells.new ≡ cells.old }
 {
+    if let Some(first) = number_at_once(loaded, cells, goal.base, left) {
+        if let Some(second) = number_at_once(loaded, cells, goal.base, right) {
+            return Ok(compare_numbers(by, first, second));
+        }
+    }
+    compare_by_sides(loaded, cells, goal, by, left, right, values)
+}
+
+/// The same, by what is known of each side.
+#[inline(never)]
+fn compare_by_sides<N: Naming>(
+    loaded: &Loaded,
+    cells: &mut PlainCells<N>,
+    goal: Goal,
+    by: Relation,
+    left: NodeNo,
+    right: NodeNo,
+    values: &mut WorkList,
+) -> Result<Ran, AllocError>
+    requires program { N.program ≡ named loaded.now }
+    requires settled { IsSettled N.program cells.old }
+    requires item { Compares N.program cells.old goal (relation by) left.0 right.0 }
+    ensures ran { IfOk result (RunsTo N.program cells.old cells.new goal) }
+    ensures unchanged { cells.new ≡ cells.old }
+{
     let first = evaluate(loaded, cells, goal.base, left, values)?;
     let second = evaluate(loaded, cells, goal.base, right, values)?;
     Ok(compare_sides(by, first, second))
@@ -154,6 +179,32 @@ fn run_comparison<N: Naming>(
 /// Gives the left node of an `is` goal the value of the right one, where that is ground. What is set in the row is
 /// noted. An error is want of memory, and the cells are spent.
 fn run_assignment<N: Naming>(
+    loaded: &Loaded,
+    cells: &mut PlainCells<N>,
+    goal: Goal,
+    left: NodeNo,
+    right: NodeNo,
+    pair: u32,
+    trail: &mut Trail,
+    tools: &mut Tools,
+) -> Result<Ran, AllocError>
+    requires program { N.program ≡ named loaded.now }
+    requires settled { IsSettled N.program cells.old }
+    requires short { length cells.old ≤ MAX_LIMIT }
+    requires item { Assigns N.program cells.old goal left.0 right.0 pair }
+    ensures ran { IfOk result (RunsTo N.program cells.old cells.new goal) }
+    ensures noted { OnOk result (KeepsNoted trail.old trail.new cells.old cells.new) }
+{
+    if let Some(value) = number_at_once(loaded, cells, goal.base, right) {
+        let first = pair_in(loaded, goal.clause, goal.base, pair);
+        return assign(loaded, cells, goal.base, left, first, value, trail, tools);
+    }
+    assign_by_side(loaded, cells, goal, left, right, pair, trail, tools)
+}
+
+/// The same, by what is known of the right node.
+#[inline(never)]
+fn assign_by_side<N: Naming>(
     loaded: &Loaded,
     cells: &mut PlainCells<N>,
     goal: Goal,
@@ -186,14 +237,15 @@ fn write<N: Naming>(cells: &mut PlainCells<N>, pair: u32, value: i64)
     ensures written { IsWritten cells.old cells.new pair value }
     ensures sound { IsSound N.program cells.new }
 {
+    let _before = cells.len();
     let (high, low) = halves(value);
-    cells.fill(pair, high);
-    cells.fill(pair + 1, low);
+    cells.set(pair, high);
+    cells.set(pair + 1, low);
     let _words = cells.len();
 }
 
-/// Writes a number into a pair of words, asks that the node be made one with it and nothing else, and
-/// answers where the node is found. An error is want of memory.
+/// Writes a number into a pair of words, and answers where the node is found that is to be made one with it.
+#[inline(always)]
 fn ask_number<N: Naming>(
     loaded: &Loaded,
     cells: &mut PlainCells<N>,
@@ -201,24 +253,22 @@ fn ask_number<N: Naming>(
     node: NodeNo,
     pair: u32,
     value: i64,
-    pairs: &mut PairList,
-) -> Result<Ref, AllocError>
+) -> Ref
     requires program { N.program ≡ named loaded.now }
     requires settled { IsSettled N.program cells.old }
     requires goal { CanBeAssigned N.program cells.old base node.0 pair }
-    ensures pair { IfOk result (λ left. pairs.new ≡ the_pair left (Ref.Number pair)) }
-    ensures asked { OnOk result (IsAskedFor N.program cells.old cells.new base node.0 pair value pairs.new) }
+    ensures { IsAskedFor N.program cells.old cells.new base node.0 pair value
+        (the_pair result (Ref.Number pair)) }
 {
     loaded.skeleton_is_of_the_program();
     let left = loaded.resolve(node, base);
     write(cells, pair, value);
-    pairs.clear();
-    pairs.push(left, Ref::Number(pair))?;
-    Ok(left)
+    left
 }
 
 /// Writes a number into a pair of words, settles the node with it, and notes what is set. An error is
 /// want of memory.
+#[inline(always)]
 fn assign<N: Naming>(
     loaded: &Loaded,
     cells: &mut PlainCells<N>,
@@ -235,7 +285,7 @@ fn assign<N: Naming>(
     ensures assigned { IfOk result (AssignsTo N.program cells.old cells.new base node.0 pair value) }
     ensures noted { OnOk result (KeepsNoted trail.old trail.new cells.old cells.new) }
 {
-    let left = ask_number(loaded, cells, base, node, pair, value, &mut tools.pairs)?;
+    let left = ask_number(loaded, cells, base, node, pair, value);
     let words = cells.len();
     trail.note(&[pair, pair + 1])?;
     match settle_number(loaded, cells, left, pair, words, trail, tools) {

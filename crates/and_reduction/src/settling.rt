@@ -50,6 +50,7 @@ pub(crate) fn settle_noted<N: Naming>(
 
 /// The same of the one pair of a reference and the number that a pair of words holds. Where the reference leads to
 /// a free cell, this is set to the number.
+#[inline(always)]
 pub(crate) fn settle_number<N: Naming>(
     loaded: &Loaded,
     cells: &mut PlainCells<N>,
@@ -60,13 +61,12 @@ pub(crate) fn settle_number<N: Naming>(
     tools: &mut Tools,
 ) -> Answer
     requires program { N.program ≡ named loaded.now }
-    requires asked { tools.old.pairs ≡ the_pair left (Ref.Number pair) }
-    requires in_range { AreInRange N.program (length cells.old) tools.old.pairs }
-    requires written { AreWritten (plain cells.old) tools.old.pairs }
+    requires in_range { AreInRange N.program (length cells.old) (the_pair left (Ref.Number pair)) }
+    requires written { AreWritten (plain cells.old) (the_pair left (Ref.Number pair)) }
     requires settled { IsSettled N.program cells.old }
-    requires no_half { NameNoHalf N.program (word_at cells.old) tools.old.pairs }
-    requires new { AreNewFrom N.program cells.old tools.old.pairs floor }
-    ensures settles { Settles N.program cells.old cells.new tools.old.pairs result }
+    requires no_half { NameNoHalf N.program (word_at cells.old) (the_pair left (Ref.Number pair)) }
+    requires new { AreNewFrom N.program cells.old (the_pair left (Ref.Number pair)) floor }
+    ensures settles { Settles N.program cells.old cells.new (the_pair left (Ref.Number pair)) result }
     ensures noted { result ≢ Memory → KeepsNoted trail.old trail.new cells.old cells.new }
 {
     loaded.skeleton_is_of_the_program();
@@ -74,7 +74,35 @@ pub(crate) fn settle_number<N: Naming>(
     if let Ref::Cell(cell) = end_of(cells, left) {
         return set_to_number(cells, cell, pair, trail);
     }
-    settle_noted(loaded, cells, floor, trail, tools)
+    settle_pair(loaded, cells, left, pair, floor, trail, tools)
+}
+
+/// The same, by unification. This stands in a call of its own, so that a list of pairs is made only where it is
+/// wanted.
+#[inline(never)]
+fn settle_pair<N: Naming>(
+    loaded: &Loaded,
+    cells: &mut PlainCells<N>,
+    left: Ref,
+    pair: u32,
+    floor: u32,
+    trail: &mut Trail,
+    tools: &mut Tools,
+) -> Answer
+    requires program { N.program ≡ named loaded.now }
+    requires in_range { AreInRange N.program (length cells.old) (the_pair left (Ref.Number pair)) }
+    requires written { AreWritten (plain cells.old) (the_pair left (Ref.Number pair)) }
+    requires settled { IsSettled N.program cells.old }
+    requires no_half { NameNoHalf N.program (word_at cells.old) (the_pair left (Ref.Number pair)) }
+    requires new { AreNewFrom N.program cells.old (the_pair left (Ref.Number pair)) floor }
+    ensures settles { Settles N.program cells.old cells.new (the_pair left (Ref.Number pair)) result }
+    ensures noted { result ≢ Memory → KeepsNoted trail.old trail.new cells.old cells.new }
+{
+    tools.pairs.clear();
+    match tools.pairs.push(left, Ref::Number(pair)) {
+        Ok(()) => settle_noted(loaded, cells, floor, trail, tools),
+        Err(_) => Answer::Memory,
+    }
 }
 
 /// What a reference leads to: a node, a number, a free cell, or a word of a pair. The cells are as before.

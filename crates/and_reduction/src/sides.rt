@@ -29,7 +29,7 @@ pub(crate) fn compare_sides(by: Relation, left: Side, right: Side) -> Ran
 }
 
 /// What a comparison of these numbers comes to.
-fn compare_numbers(by: Relation, a: i64, b: i64) -> Ran
+pub(crate) fn compare_numbers(by: Relation, a: i64, b: i64) -> Ran
     ensures { result ≡ compared_with (relation by) (Side.Number a) (Side.Number b) }
 {
     if compare(by, a, b) {

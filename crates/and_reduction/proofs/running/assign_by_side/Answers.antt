@@ -11,7 +11,7 @@ use Rattle.and_reduction.specs.Sides.{AssignsTo, RunsTo}
 use Rattle.and_reduction.specs.Trails.{KeepsNoted}
 use Rattle.and_reduction.proofs.Noting.{unchanged_noted}
 use Rattle.and_reduction.proofs.Outcomes.{waiting_runs, valueless_runs, assignment_runs}
-use Rattle.and_reduction.proofs.running.run_assignment.Goals as goal
+use Rattle.and_reduction.proofs.running.assign_by_side.Goals as goal
 
 pub evaluate-requires-clause-node : goal.evaluate-requires-clause-node
 evaluate-requires-clause-node g c = c.requires.item.right

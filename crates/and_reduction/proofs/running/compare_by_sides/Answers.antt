@@ -4,7 +4,7 @@ use Rattle.and_program.specs.Skeletons.{node_term}
 use Rattle.and_guards.specs.Sides.{IsSide}
 use Rattle.and_reduction.specs.Sides.{RunsTo}
 use Rattle.and_reduction.proofs.Outcomes.{sides_compare, comparison_runs}
-use Rattle.and_reduction.proofs.running.run_comparison.Goals as goal
+use Rattle.and_reduction.proofs.running.compare_by_sides.Goals as goal
 
 pub returns-clause-ran : goal.returns-clause-ran
 returns-clause-ran g c =

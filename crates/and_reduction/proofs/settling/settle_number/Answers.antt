@@ -9,33 +9,26 @@ use Rattle.and_branch_laws.proofs.Loading.{falls_in}
 use Rattle.and_cells.specs.Meaning.{IsSettled}
 use Rattle.and_unify.specs.Pairs.{AreInRange, AreWritten, NameNoHalf}
 use Rattle.and_unify.specs.Settling.{AreNewFrom, Settles}
+use Rattle.and_reduction.specs.Asked.{the_pair}
 use Rattle.and_reduction.specs.Trails.{KeepsNoted}
 use Rattle.and_reduction.proofs.NumbersSet.{sides_in_range, sides_written, pair_written, number_settles, number_noted}
 use Rattle.and_reduction.proofs.settling.settle_number.Goals as goal
 
 pub end_of-requires-clause-in_range : goal.end_of-requires-clause-in_range
-end_of-requires-clause-in_range g c =
-    let row = c.args.cells.now in
-    (sides_in_range g.N.Naming.program row c.args.left c.args.pair
-    (subst (AreInRange g.N.Naming.program (length row)) c.requires.asked c.requires.in_range)).0
+end_of-requires-clause-in_range g c = (sides_in_range g.N.Naming.program c.args.cells.now c.args.left c.args.pair c.requires.in_range).0
 
 pub end_of-requires-clause-written : goal.end_of-requires-clause-written
-end_of-requires-clause-written g c =
-    let row = c.args.cells.now in
-    (sides_written g.N.Naming.program row c.args.left c.args.pair (subst (AreWritten (plain row)) c.requires.asked c.requires.written)).0
+end_of-requires-clause-written g c = (sides_written g.N.Naming.program c.args.cells.now c.args.left c.args.pair c.requires.written).0
 
 pub set_to_number-requires-clause-pair : goal.set_to_number-requires-clause-pair
 set_to_number-requires-clause-pair g c =
-    let row = c.args.cells.now in
     subst (λ r. IsInRange g.N.Naming.program (length r) (Number c.args.pair)) (sym c.end_of.ensures.unchanged)
-    (sides_in_range g.N.Naming.program row c.args.left c.args.pair
-    (subst (AreInRange g.N.Naming.program (length row)) c.requires.asked c.requires.in_range)).1
+    (sides_in_range g.N.Naming.program c.args.cells.now c.args.left c.args.pair c.requires.in_range).1
 
 pub set_to_number-requires-clause-written : goal.set_to_number-requires-clause-written
 set_to_number-requires-clause-written g c =
-    let row = c.args.cells.now in
-    pair_written g.N.Naming.program row c.args.left c.args.pair c.end_of.new.cells c.end_of.ensures.unchanged c.len-words.ensures.sound
-    (subst (AreWritten (plain row)) c.requires.asked c.requires.written)
+    pair_written g.N.Naming.program c.args.cells.now c.args.left c.args.pair c.end_of.new.cells c.end_of.ensures.unchanged c.len-words.ensures.sound
+    c.requires.written
 
 pub returns-in-Cell-clause-settles : goal.returns-in-Cell-clause-settles
 returns-in-Cell-clause-settles g c =
@@ -43,7 +36,7 @@ returns-in-Cell-clause-settles g c =
     let row = c.args.cells.now in
     let fall = falls_in P c.args.loaded.now c.requires.program c.skeleton_is_of_the_program.ensures.skeleton.0 in
     let is = c.set_to_number.ensures.set ∙ ap (λ r. set r c.in-Cell.cell (Number c.args.pair)) c.end_of.ensures.unchanged in
-    number_settles P row c.set_to_number.new.cells c.args.left c.in-Cell.cell c.args.pair c.args.floor c.args.tools.now.pairs c.requires.asked fall
+    number_settles P row c.set_to_number.new.cells c.args.left c.in-Cell.cell c.args.pair c.args.floor (the_pair c.args.left (Number c.args.pair)) refl fall
     c.len-words.ensures.sound c.requires.in_range c.requires.written c.in-Cell.ensures.leads c.in-Cell.ensures.in_range
     (c.in-Cell.ensures.free c.in-Cell.cell refl) is c.requires.settled c.requires.no_half c.requires.new c.set_to_number.ensures.sound
     c.set_to_number.result c.set_to_number.ensures.solved
@@ -54,36 +47,36 @@ returns-in-Cell-clause-noted g c = λ other.
     let row = c.args.cells.now in
     let fall = falls_in P c.args.loaded.now c.requires.program c.skeleton_is_of_the_program.ensures.skeleton.0 in
     let is = c.set_to_number.ensures.set ∙ ap (λ r. set r c.in-Cell.cell (Number c.args.pair)) c.end_of.ensures.unchanged in
-    number_noted P row c.set_to_number.new.cells c.args.left c.in-Cell.cell c.args.pair c.args.floor c.args.tools.now.pairs c.requires.asked fall
+    number_noted P row c.set_to_number.new.cells c.args.left c.in-Cell.cell c.args.pair c.args.floor (the_pair c.args.left (Number c.args.pair)) refl fall
     c.len-words.ensures.sound c.requires.in_range c.requires.written c.in-Cell.ensures.leads c.in-Cell.ensures.in_range
     (c.in-Cell.ensures.free c.in-Cell.cell refl) is c.args.trail.now c.set_to_number.new.trail (c.set_to_number.ensures.noted other)
 
-pub settle_noted-requires-clause-in_range : goal.settle_noted-requires-clause-in_range
-settle_noted-requires-clause-in_range g c =
-    subst (λ (r : List Ref). AreInRange g.N.Naming.program (length r) c.args.tools.now.pairs) (sym c.end_of.ensures.unchanged) c.requires.in_range
+pub settle_pair-requires-clause-in_range : goal.settle_pair-requires-clause-in_range
+settle_pair-requires-clause-in_range g c =
+    subst (λ (r : List Ref). AreInRange g.N.Naming.program (length r) (the_pair c.args.left (Number c.args.pair))) (sym c.end_of.ensures.unchanged) c.requires.in_range
 
-pub settle_noted-requires-clause-written : goal.settle_noted-requires-clause-written
-settle_noted-requires-clause-written g c =
-    subst (λ (r : List Ref). AreWritten (plain r) c.args.tools.now.pairs) (sym c.end_of.ensures.unchanged) c.requires.written
+pub settle_pair-requires-clause-written : goal.settle_pair-requires-clause-written
+settle_pair-requires-clause-written g c =
+    subst (λ (r : List Ref). AreWritten (plain r) (the_pair c.args.left (Number c.args.pair))) (sym c.end_of.ensures.unchanged) c.requires.written
 
-pub settle_noted-requires-clause-settled : goal.settle_noted-requires-clause-settled
-settle_noted-requires-clause-settled g c =
+pub settle_pair-requires-clause-settled : goal.settle_pair-requires-clause-settled
+settle_pair-requires-clause-settled g c =
     subst (λ (r : List Ref). IsSettled g.N.Naming.program r) (sym c.end_of.ensures.unchanged) c.requires.settled
 
-pub settle_noted-requires-clause-no_half : goal.settle_noted-requires-clause-no_half
-settle_noted-requires-clause-no_half g c =
-    subst (λ (r : List Ref). NameNoHalf g.N.Naming.program (word_at r) c.args.tools.now.pairs) (sym c.end_of.ensures.unchanged) c.requires.no_half
+pub settle_pair-requires-clause-no_half : goal.settle_pair-requires-clause-no_half
+settle_pair-requires-clause-no_half g c =
+    subst (λ (r : List Ref). NameNoHalf g.N.Naming.program (word_at r) (the_pair c.args.left (Number c.args.pair))) (sym c.end_of.ensures.unchanged) c.requires.no_half
 
-pub settle_noted-requires-clause-new : goal.settle_noted-requires-clause-new
-settle_noted-requires-clause-new g c =
-    subst (λ (r : List Ref). AreNewFrom g.N.Naming.program r c.args.tools.now.pairs c.args.floor) (sym c.end_of.ensures.unchanged) c.requires.new
+pub settle_pair-requires-clause-new : goal.settle_pair-requires-clause-new
+settle_pair-requires-clause-new g c =
+    subst (λ (r : List Ref). AreNewFrom g.N.Naming.program r (the_pair c.args.left (Number c.args.pair)) c.args.floor) (sym c.end_of.ensures.unchanged) c.requires.new
 
 pub returns-clause-settles : goal.returns-clause-settles
 returns-clause-settles g c =
-    subst (λ (r : List Ref). Settles g.N.Naming.program r c.settle_noted.new.cells c.args.tools.now.pairs c.settle_noted.result) c.end_of.ensures.unchanged
-    c.settle_noted.ensures.settles
+    subst (λ (r : List Ref). Settles g.N.Naming.program r c.settle_pair.new.cells (the_pair c.args.left (Number c.args.pair)) c.settle_pair.result)
+    c.end_of.ensures.unchanged c.settle_pair.ensures.settles
 
 pub returns-clause-noted : goal.returns-clause-noted
 returns-clause-noted g c = λ other.
-    subst (λ (r : List Ref). KeepsNoted c.args.trail.now c.settle_noted.new.trail r c.settle_noted.new.cells) c.end_of.ensures.unchanged
-    (c.settle_noted.ensures.noted other)
+    subst (λ (r : List Ref). KeepsNoted c.args.trail.now c.settle_pair.new.trail r c.settle_pair.new.cells) c.end_of.ensures.unchanged
+    (c.settle_pair.ensures.noted other)
