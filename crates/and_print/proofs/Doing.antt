@@ -1,5 +1,5 @@
 -- Tasks that are done, or begun and the rest of them put on the stack.
-use Rattle.std.proofs.Common.{ℕ, ℤ, ◌≡◌, ◌+◌, ◌-◌, ◌*◌, ◌^◌, ◌<◌, true, false, cond, List, [], ◌∷◌, ◌++◌, length, get_or, refl, sym, ap, ◌∙◌, subst}
+use Rattle.std.proofs.Common.{ℕ, ℤ, ◌≡◌, ◌+◌, ◌-◌, ◌*◌, ◌^◌, ◌<◌, ◌≤◌, true, false, cond, List, [], ◌∷◌, ◌++◌, length, get_or, refl, sym, ap, ◌∙◌, subst}
 use Rattle.std.proofs.Common.{arith, append_assoc, append-nil, length-append, nat_eq}
 use Rattle.std.specs.Fmt.{signed_decimal}
 use Rattle.and_model.specs.Terms.{Term, Terms, variable, number, compound, none, more, variables_of, variables_in}
@@ -7,8 +7,8 @@ use Rattle.and_model.specs.Lines.{Bytes, is_cell, point_name, first_seen, shown_
 use Rattle.and_model.specs.declared.reference.Ref.{Ref}
 use Rattle.and_cells.specs.Ranges.{NamedProgram}
 use Rattle.and_print.specs.Writing.{Variable, Named, Writes, shown_cell}
-use Rattle.and_print.specs.Roots.{Means, RootMeans, Splits, IsListCell, has_cell_name, is_list_cell, is_empty_list}
-use Rattle.and_print.specs.Tasks.{Piece, whole, tail, rest, close, variables_there, piece_text, TaskMeans, AllMean, variables_ahead, text_ahead, Owes}
+use Rattle.and_print.specs.Roots.{Means, ArgumentsMean, RootMeans, Splits, IsListCell, has_cell_name, is_list_cell, is_empty_list}
+use Rattle.and_print.specs.Tasks.{Piece, whole, tail, rest, close, variables_there, piece_text, TaskMeans, variables_ahead, text_ahead, Owes}
 use Rattle.and_print.specs.Tasks.{Begins, Does}
 use Rattle.and_print.specs.declared.roots.Arguments.{Arguments}
 use Rattle.and_print.specs.declared.tasks.Task.{Task}
@@ -137,17 +137,6 @@ module _ (P : NamedProgram) (row : List Ref) where
     few = omega (arith, b.few);
   }
 
-  pub leaves_begins : (p : Piece) (variables : List Variable) (text : Named) (seen middle now : List Variable) (old between new : Bytes) (tasks : List Task)
-      → Leaves P.program.names p variables text seen middle old between
-      → Begins P row (variables_there p) (piece_text P.program.names p) middle now between new tasks 0
-      → Begins P row variables text seen now old new tasks 0
-  leaves_begins p variables text seen middle now old between new tasks l b = record {
-    pieces = b.pieces;
-    mean = b.mean;
-    owes = owes_on P.program.names [] b.pieces p variables text seen middle now old between new l.owes b.owes;
-    few = omega (arith, l.longer, b.few);
-  }
-
   -- of two pieces the upper one was written
   pub leaves_written : (below top : Piece) (variables : List Variable) (text : Named) (seen now : List Variable) (old between new bytes : Bytes)
       → between ≡ old ++ bytes
@@ -169,59 +158,41 @@ module _ (P : NamedProgram) (row : List Ref) where
         → shown names vs s.term ++ shown_rest names vs s.terms ≡ text_ahead names vs (rest s.terms ∷ whole s.term ∷ []) []
     split_text names vs = ap (λ (bs : Bytes). shown names vs s.term ++ bs) (sym (append-nil (shown_rest names vs s.terms)))
 
-    arguments_owed : (seen : List Variable) (old new : Bytes) → new ≡ old ++ 40 ∷ []
-        → Owes P.program.names (rest s.terms ∷ whole s.term ∷ []) (variables_in ts) (λ vs. shown_arguments P.program.names vs ts) seen seen old new
-    arguments_owed seen old new e =
-        owes_begun (variables_in ts) (λ vs. shown_arguments P.program.names vs ts) seen old new (40 ∷ []) (rest s.terms ∷ whole s.term ∷ []) e split_ahead
-        (λ vs. ap (shown_arguments P.program.names vs) s.both ∙ ap (λ (bs : Bytes). 40 ∷ bs) (split_text P.program.names vs))
-
     rest_owed : (seen : List Variable) (old new : Bytes) → new ≡ old ++ 44 ∷ []
         → Owes P.program.names (rest s.terms ∷ whole s.term ∷ []) (variables_in ts) (λ vs. shown_rest P.program.names vs ts) seen seen old new
     rest_owed seen old new e =
         owes_begun (variables_in ts) (λ vs. shown_rest P.program.names vs ts) seen old new (44 ∷ []) (rest s.terms ∷ whole s.term ∷ []) e split_ahead
         (λ vs. ap (shown_rest P.program.names vs) s.both ∙ ap (λ (bs : Bytes). 44 ∷ bs) (split_text P.program.names vs))
 
-    -- the first of them was written
-    pub arguments_left : (seen now : List Variable) (old between new : Bytes) → between ≡ old ++ 40 ∷ []
-        → Writes (variables_of s.term) (λ vs. shown P.program.names vs s.term) seen now between new
-        → Leaves P.program.names (rest s.terms) (variables_in ts) (λ vs. shown_arguments P.program.names vs ts) seen now old new
-    arguments_left seen now old between new e w =
-        leaves_written (rest s.terms) (whole s.term) (variables_in ts) (λ vs. shown_arguments P.program.names vs ts) seen now old between new (40 ∷ []) e
-        (arguments_owed seen old between e) w
+    -- all of them were written as they are after a byte
+    after_byte : (text : Named) (seen now : List Variable) (old between new : Bytes) (tasks : List Task) (byte : ℕ) → between ≡ old ++ byte ∷ []
+        → ((vs : List Variable) → text vs ≡ byte ∷ (shown P.program.names vs s.term ++ shown_rest P.program.names vs s.terms))
+        → Begins P row (variables_of s.term ++ variables_in s.terms)
+        (λ vs. shown P.program.names vs s.term ++ shown_rest P.program.names vs s.terms) seen now between new tasks 2
+        → Begins P row (variables_in ts) text seen now old new tasks 0
+    after_byte text seen now old between new tasks byte e texts b =
+        let from : Named = λ vs. shown P.program.names vs s.term ++ shown_rest P.program.names vs s.terms in
+        let all = after_bytes (variables_of s.term ++ variables_in s.terms) text from seen now old between new (byte ∷ []) tasks 2 e texts b in
+        subst (λ (vs : List Variable). Begins P row vs text seen now old new tasks 0) (sym (ap variables_in s.both)) (record {
+          pieces = all.pieces;
+          mean = all.mean;
+          owes = all.owes;
+          few = omega (arith, b.few, ap length e, length-append old (byte ∷ []));
+        })
 
-    pub rest_left : (seen now : List Variable) (old between new : Bytes) → between ≡ old ++ 44 ∷ []
-        → Writes (variables_of s.term) (λ vs. shown P.program.names vs s.term) seen now between new
-        → Leaves P.program.names (rest s.terms) (variables_in ts) (λ vs. shown_rest P.program.names vs ts) seen now old new
-    rest_left seen now old between new e w =
-        leaves_written (rest s.terms) (whole s.term) (variables_in ts) (λ vs. shown_rest P.program.names vs ts) seen now old between new (44 ∷ []) e
-        (rest_owed seen old between e) w
+    pub arguments_begun : (seen now : List Variable) (old between new : Bytes) (tasks : List Task) → between ≡ old ++ 40 ∷ []
+        → Begins P row (variables_of s.term ++ variables_in s.terms)
+        (λ vs. shown P.program.names vs s.term ++ shown_rest P.program.names vs s.terms) seen now between new tasks 2
+        → Begins P row (variables_in ts) (λ vs. shown_arguments P.program.names vs ts) seen now old new tasks 0
+    arguments_begun seen now old between new tasks e b =
+        after_byte (λ vs. shown_arguments P.program.names vs ts) seen now old between new tasks 40 e (λ vs. ap (shown_arguments P.program.names vs) s.both) b
 
-    -- it is a structure, of which nothing was written
-    module _ (structure : Ref) (m : Means P row structure s.term) where
-      split_mean : AllMean P row (Rest others ∷ Whole structure ∷ []) (rest s.terms ∷ whole s.term ∷ [])
-      split_mean = ((s.terms, refl, s.rest_means), ((s.term, refl, m), tt))
-
-      pub arguments_begun : (seen now : List Variable) (old between new : Bytes) → between ≡ old ++ 40 ∷ [] → (now ≡ seen) × (new ≡ between)
-          → Begins P row (variables_in ts) (λ vs. shown_arguments P.program.names vs ts) seen now old new (Rest others ∷ Whole structure ∷ []) 0
-      arguments_begun seen now old between new e same =
-          subst (λ (vs : List Variable). Begins P row (variables_in ts) (λ vs. shown_arguments P.program.names vs ts) seen vs old new
-          (Rest others ∷ Whole structure ∷ []) 0) (sym same.0) (record {
-            pieces = rest s.terms ∷ whole s.term ∷ [];
-            mean = split_mean;
-            owes = arguments_owed seen old new (same.1 ∙ e);
-            few = omega (arith, ap length (same.1 ∙ e), length-append old (40 ∷ []));
-          })
-
-      pub rest_begun : (seen now : List Variable) (old between new : Bytes) → between ≡ old ++ 44 ∷ [] → (now ≡ seen) × (new ≡ between)
-          → Begins P row (variables_in ts) (λ vs. shown_rest P.program.names vs ts) seen now old new (Rest others ∷ Whole structure ∷ []) 0
-      rest_begun seen now old between new e same =
-          subst (λ (vs : List Variable). Begins P row (variables_in ts) (λ vs. shown_rest P.program.names vs ts) seen vs old new
-          (Rest others ∷ Whole structure ∷ []) 0) (sym same.0) (record {
-            pieces = rest s.terms ∷ whole s.term ∷ [];
-            mean = split_mean;
-            owes = rest_owed seen old new (same.1 ∙ e);
-            few = omega (arith, ap length (same.1 ∙ e), length-append old (44 ∷ []));
-          })
+    pub rest_begun : (seen now : List Variable) (old between new : Bytes) (tasks : List Task) → between ≡ old ++ 44 ∷ []
+        → Begins P row (variables_of s.term ++ variables_in s.terms)
+        (λ vs. shown P.program.names vs s.term ++ shown_rest P.program.names vs s.terms) seen now between new tasks 2
+        → Begins P row (variables_in ts) (λ vs. shown_rest P.program.names vs ts) seen now old new tasks 0
+    rest_begun seen now old between new tasks e b =
+        after_byte (λ vs. shown_rest P.program.names vs ts) seen now old between new tasks 44 e (λ vs. ap (shown_rest P.program.names vs) s.both) b
 
   -- bytes that no variable stands in
   pub bytes_written : (variables : List Variable) (text : Named) (seen : List Variable) (old new bytes : Bytes) → new ≡ old ++ bytes
@@ -234,6 +205,62 @@ module _ (P : NamedProgram) (row : List Ref) where
         (λ vs. texts vs ∙ sym (append-nil bytes));
     few = omega (arith, ap length e, length-append old bytes);
   }
+
+  -- no arguments are left
+  pub rest_closed : (ts : Terms) (seen : List Variable) (old new : Bytes) → ts ≡ none → new ≡ old ++ 41 ∷ []
+      → Begins P row (variables_in ts) (λ vs. shown_rest P.program.names vs ts) seen seen old new [] 0
+  rest_closed ts seen old new e f =
+      bytes_written (variables_in ts) (λ vs. shown_rest P.program.names vs ts) seen old new (41 ∷ []) f (ap variables_in e)
+      (λ vs. ap (shown_rest P.program.names vs) e)
+
+  -- an argument and those after it: nothing is done yet
+  pub from_all : (t : Term) (ts : Terms) (seen : List Variable) (old : Bytes)
+      → Owes P.program.names (rest ts ∷ whole t ∷ []) (variables_of t ++ variables_in ts)
+      (λ vs. shown P.program.names vs t ++ shown_rest P.program.names vs ts) seen seen old old
+  from_all t ts seen old =
+      owes_begun (variables_of t ++ variables_in ts) (λ vs. shown P.program.names vs t ++ shown_rest P.program.names vs ts) seen old old []
+      (rest ts ∷ whole t ∷ []) (sym (append-nil old)) (λ later. sym (append_assoc (variables_of t) (variables_in ts) later))
+      (λ vs. ap (λ (bs : Bytes). shown P.program.names vs t ++ bs) (sym (append-nil (shown_rest P.program.names vs ts))))
+
+  module _ (t : Term) (ts : Terms) (variables : List Variable) (text : Named) (seen middle : List Variable) (old between : Bytes)
+      (owed : Owes P.program.names (rest ts ∷ whole t ∷ []) variables text seen middle old between) (longer : length old ≤ length between) where
+    -- the argument is a structure
+    pub from_begun : (now : List Variable) (new : Bytes) (structure : Ref) (others : Arguments) → Means P row structure t → ArgumentsMean P row others ts
+        → (now ≡ middle) × (new ≡ between)
+        → Begins P row variables text seen now old new (Rest others ∷ Whole structure ∷ []) 2
+    from_begun now new structure others m n same = record {
+      pieces = rest ts ∷ whole t ∷ [];
+      mean = ((ts, refl, n), ((t, refl, m), tt));
+      owes = subst (λ (vs : List Variable). Owes P.program.names (rest ts ∷ whole t ∷ []) variables text seen vs old new) (sym same.0)
+          (subst (λ (bs : Bytes). Owes P.program.names (rest ts ∷ whole t ∷ []) variables text seen middle old bs) (sym same.1) owed);
+      few = omega (arith, longer, ap length same.1);
+    }
+
+    -- it was written
+    module _ (now : List Variable) (onward : Bytes) (w : Writes (variables_of t) (λ vs. shown P.program.names vs t) middle now between onward) where
+      rest_is_owed : Owes P.program.names (rest ts ∷ []) variables text seen now old onward
+      rest_is_owed =
+          owes_on P.program.names (rest ts ∷ []) [] (whole t) variables text seen middle now old between onward owed
+          (owes_written P.program.names (variables_of t) (λ vs. shown P.program.names vs t) middle now between onward w)
+
+      pub longer_onward : length between ≤ length onward
+      longer_onward = omega (arith, ap length (w.written []), length-append between (shown P.program.names now t))
+
+      pub from_closed : (new : Bytes) → ts ≡ none → new ≡ onward ++ 41 ∷ [] → Begins P row variables text seen now old new [] 2
+      from_closed new nothing e =
+          let b = rest_closed ts now onward new nothing e in
+          record {
+            pieces = b.pieces;
+            mean = b.mean;
+            owes = owes_on P.program.names [] b.pieces (rest ts) variables text seen now now old onward new rest_is_owed b.owes;
+            few = omega (arith, longer, longer_onward, ap length e, length-append onward (41 ∷ []));
+          }
+
+      pub from_on : (next : Ref) (others : Arguments) (s : Splits P row next others ts) (new : Bytes) → new ≡ onward ++ 44 ∷ []
+          → Owes P.program.names (rest s.terms ∷ whole s.term ∷ []) variables text seen now old new
+      from_on next others s new e =
+          owes_on P.program.names [] (rest s.terms ∷ whole s.term ∷ []) (rest ts) variables text seen now now old onward new rest_is_owed
+          (rest_owed next others ts s now onward new e)
 
   -- list cells
   module _ (head rest_of : Ref) (t : Term) (i : IsListCell P row head rest_of t) where
@@ -326,12 +353,6 @@ module _ (P : NamedProgram) (row : List Ref) where
   nothing_begun ts seen old e =
       bytes_written (variables_in ts) (λ vs. shown_arguments P.program.names vs ts) seen old old [] (sym (append-nil old)) (ap variables_in e)
       (λ vs. ap (shown_arguments P.program.names vs) e)
-
-  pub rest_closed : (ts : Terms) (seen : List Variable) (old new : Bytes) → ts ≡ none → new ≡ old ++ 41 ∷ []
-      → Begins P row (variables_in ts) (λ vs. shown_rest P.program.names vs ts) seen seen old new [] 0
-  rest_closed ts seen old new e f =
-      bytes_written (variables_in ts) (λ vs. shown_rest P.program.names vs ts) seen old new (41 ∷ []) f (ap variables_in e)
-      (λ vs. ap (shown_rest P.program.names vs) e)
 
   -- what is no list cell
   pub named_begun : (t : Term) (c : ℕ) (ts : Terms) (seen now : List Variable) (old middle new : Bytes) (tasks : List Task) → t ≡ compound c ts

@@ -198,6 +198,7 @@ impl<N: Naming> Printer<'_, N> {
 
     /// Writes arguments in round brackets, or nothing where there are none: as far as the first that
     /// is a structure. After want of memory all are spent.
+    #[inline(always)]
     fn write_arguments(
         &self,
         names: &mut VariableNames,
@@ -215,13 +216,7 @@ impl<N: Naming> Printer<'_, N> {
             return Ok(None);
         };
         out.append(b"(")?;
-        if let Some(structure) = self.write_simple(names, out, first)? {
-            return Ok(Some(Begun {
-                structure,
-                rest: Some(rest),
-            }));
-        }
-        self.write_rest(names, out, rest)
+        self.write_from(names, out, first, rest)
     }
 
     /// Writes arguments after others, and the bracket: as far as the first that is a structure. After
@@ -239,21 +234,53 @@ impl<N: Naming> Printer<'_, N> {
             (λ vs. shown_rest (named self.now.loaded.now).program.names vs ts) names.old names.new out.old
             out.new (tasks_left left) 0) }
     {
-        let mut ahead = arguments;
-        while let Some((first, rest)) = self.split_first(ahead) {
-            out.append(b",")?;
-            if let Some(structure) = self.write_simple(names, out, first)? {
+        let Some((first, rest)) = self.split_first(arguments) else {
+            out.append(b")")?;
+            return Ok(None);
+        };
+        out.append(b",")?;
+        self.write_from(names, out, first, rest)
+    }
+
+    /// Writes an argument and those after it, and the bracket: as far as the first that is a
+    /// structure. After want of memory all are spent.
+    #[inline(always)]
+    fn write_from(
+        &self,
+        names: &mut VariableNames,
+        out: &mut Text,
+        first: Ref,
+        rest: Arguments,
+    ) -> Result<Option<Begun>, AllocError>
+        requires program { N.program ≡ named self.now.loaded.now }
+        requires first { (t : Term) × Means (named self.now.loaded.now) self.now.cells.now first t }
+        requires rest { (ts : Terms) × ArgumentsMean (named self.now.loaded.now) self.now.cells.now rest ts }
+        ensures { (t : Term) → Means (named self.now.loaded.now) self.now.cells.now first t
+            → (ts : Terms) → ArgumentsMean (named self.now.loaded.now) self.now.cells.now rest ts
+            → IfOk result (λ left. Begins (named self.now.loaded.now) self.now.cells.now
+            (variables_of t ++ variables_in ts) (λ vs. shown (named self.now.loaded.now).program.names vs t
+            ++ shown_rest (named self.now.loaded.now).program.names vs ts) names.old names.new out.old
+            out.new (tasks_left left) 2) }
+    {
+        let mut ahead = first;
+        let mut behind = rest;
+        'writing: loop {
+            if let Some(structure) = self.write_simple(names, out, ahead)? {
                 return Ok(Some(Begun {
                     structure,
-                    rest: Some(rest),
+                    rest: Some(behind),
                 }));
             }
-            ahead = rest;
+            let Some((next, others)) = self.split_first(behind) else {
+                out.append(b")")?;
+                return Ok(None);
+            };
+            out.append(b",")?;
+            ahead = next;
+            behind = others;
             // Each turn writes bytes, of which a text has fewer than 2^64.
             let _length = out.len();
         }
-        out.append(b")")?;
-        Ok(None)
     }
 
     /// Writes a term that is no list cell, of which it is known what it begins with: as far as the
@@ -290,6 +317,7 @@ impl<N: Naming> Printer<'_, N> {
 
     /// Writes a term as far as the first argument that is a structure, and nothing of what may be a
     /// list cell. After want of memory all are spent.
+    #[inline(always)]
     fn write_flat(
         &self,
         names: &mut VariableNames,

@@ -31,6 +31,7 @@ pub(crate) struct Begun {
 }
 
 /// Writes a number. After want of memory the text is spent.
+#[inline(always)]
 pub(crate) fn write_number(out: &mut Text, number: i64) -> Result<(), AllocError>
     ensures { OnOk result (out.new ≡ out.old ++ signed_decimal number) }
 {
