@@ -301,6 +301,7 @@ impl Look {
     }
 
     /// Looks at the first argument of a call alone. Takes no memory.
+    #[inline(never)]
     pub fn at_first<C: Cells>(loaded: &Loaded, cells: &mut C, node: NodeNo, base: u32) -> Look
         requires program { C.program ≡ named loaded.now }
         requires node { IsNodeInRange C.program (C.seen cells.old).words node.0 base }
@@ -313,6 +314,7 @@ impl Look {
     }
 
     /// Looks at all that prints tell of a call. Takes no memory.
+    #[inline(never)]
     pub fn at_all<C: Cells>(loaded: &Loaded, cells: &mut C, node: NodeNo, base: u32) -> Look
         requires program { C.program ≡ named loaded.now }
         requires node { IsNodeInRange C.program (C.seen cells.old).words node.0 base }
