@@ -67,13 +67,41 @@ pub(crate) fn enter<N: Naming>(
         → AreOwed N.program floor cells.new bound.new.items owed.new }
 {
     parts.clear();
+    match alone(loaded, cells, pairs) {
+        Some(part) => enter_parts(loaded, cells, part, floor, bound, owed, parts),
+        None => enter_several(loaded, cells, pairs, floor, bound, owed, parts),
+    }
+}
+
+/// The same, where it is not one pair of structures. That is seldom, so it is a call of its own.
+#[cold]
+#[inline(never)]
+fn enter_several<N: Naming>(
+    loaded: &Loaded,
+    cells: &mut PlainCells<N>,
+    pairs: &PairList,
+    floor: u32,
+    bound: &mut Vec<u32>,
+    owed: &mut Owed,
+    parts: &mut Vec<Part>,
+) -> Entered
+    requires program { N.program ≡ named loaded.now }
+    requires falls { AllFall 0 N.program.skeleton.nodes }
+    requires in_range { AreInRange N.program (length cells.old) pairs.now }
+    requires written { AreWritten (plain cells.old) pairs.now }
+    requires none { parts.old.items ≡ [] }
+    ensures comes { ComesToParts N.program (plain cells.old) (plain cells.new) pairs.now [] bound.old.items
+        bound.new.items result }
+    ensures owed { AreOwed N.program floor cells.old bound.old.items owed.old
+        → AreOwed N.program floor cells.new bound.new.items owed.new }
+{
     match begin(loaded, cells, pairs, floor, bound, owed, parts) {
         Begun::At(part) => enter_parts(loaded, cells, part, floor, bound, owed, parts),
         Begun::Ended(entered) => entered,
     }
 }
 
-/// Finds the part with which to begin. Mostly there is one pair, which is that.
+/// Finds the part with which to begin: the last of those that stand on the list once the sides of all pairs have met.
 #[inline(always)]
 fn begin<N: Naming>(
     loaded: &Loaded,
@@ -94,9 +122,6 @@ fn begin<N: Naming>(
     ensures owed { AreOwed N.program floor cells.old bound.old.items owed.old
         → AreOwed N.program floor cells.new bound.new.items owed.new }
 {
-    if let Some(part) = alone(loaded, cells, pairs) {
-        return Begun::At(part);
-    }
     match enter_pairs(loaded, cells, pairs, floor, bound, owed, parts) {
         Entered::Done => last_of(parts),
         Entered::Apart => Begun::Ended(Entered::Apart),
@@ -268,6 +293,7 @@ fn enter_parts<N: Naming>(
 }
 
 /// Meets the arguments of two structures, and puts those that lead to structures on the list of parts.
+#[inline(always)]
 fn enter_arguments<N: Naming>(
     loaded: &Loaded,
     cells: &mut PlainCells<N>,

@@ -1,12 +1,6 @@
 use Rattle.and_cells.specs.Rows.{plain}
-use Rattle.and_heads.proofs.Beginning.{begins_alone, begins_last}
+use Rattle.and_heads.proofs.Beginning.{begins_last}
 use Rattle.and_heads.proofs.entering.begin.Goals as goal
-
-pub returns-in-Some-clause-begins : goal.returns-in-Some-clause-begins
-returns-in-Some-clause-begins g c =
-    let P = g.N.Naming.program in
-    begins_alone P (plain c.args.cells.now) c.args.pairs.now c.args.parts.now.items c.args.bound.now.items c.in-Some.part c.in-Some.ensures.0
-    c.requires.none c.in-Some.ensures.1
 
 pub returns-in-Done-clause-begins : goal.returns-in-Done-clause-begins
 returns-in-Done-clause-begins g c =
