@@ -122,25 +122,20 @@ fn number_in_cell<N: Naming>(loaded: &Loaded, cells: &PlainCells<N>, from: u32) 
     }
 }
 
-/// The number that a pair of words holds, which are halves, but that no contract says so.
+/// The number that a pair of words holds. Both are halves, though no contract says so.
 #[inline(always)]
 fn number_of_pair<N: Naming>(cells: &PlainCells<N>, pair: u32) -> i64
     requires { IsPairInRange (length cells.now) pair }
     ensures value { result ≡ number_of (word_at cells.now pair) (word_at cells.now (suc pair)) }
     ensures sound { IsSound N.program cells.now }
 {
-    let high = cells.word(pair);
-    let low = cells.word(pair + 1);
-    if is_half(high) && is_half(low) {
-        return joined(high, low);
-    }
-    cells.held_number(pair)
-}
-
-/// Whether a word is one half of a number.
-#[inline(always)]
-fn is_half(word: Ref) -> bool {
-    matches!(word, Ref::Half(_))
+    let Ref::Half(high) = cells.word(pair) else {
+        return cells.held_number(pair);
+    };
+    let Ref::Half(low) = cells.word(pair + 1) else {
+        return cells.held_number(pair);
+    };
+    joined(Ref::Half(high), Ref::Half(low))
 }
 
 /// The number that a node is.

@@ -5,16 +5,18 @@ ghost use Rattle.and_model.specs.declared.limits.TheConstants.{MAX_LIMIT};
 ghost use Rattle.and_program.specs.Items.{node_item, relation};
 ghost use Rattle.and_program.specs.Loaded.{nodes_at, program_of, skeleton_of};
 ghost use Rattle.and_program.specs.Skeletons;
+ghost use Rattle.and_program.specs.Skeletons.{node_term};
 ghost use Rattle.and_cells.specs.Meaning.{IsSettled};
-ghost use Rattle.and_cells.specs.Parts.{named};
+ghost use Rattle.and_cells.specs.Parts.{named, part_at};
 ghost use Rattle.and_cells.specs.Ranges.{pair_of};
 ghost use Rattle.and_cells.specs.Rows.{IsSound};
 ghost use Rattle.and_branch_laws.specs.Settling.{IsWritten};
+ghost use Rattle.and_branch_laws.specs.Goals.{CanBeRead};
 ghost use Rattle.and_step_laws.specs.Assigning.{CanBeAssigned, IsFreePair};
 ghost use Rattle.and_step_laws.specs.Running.{Assigns, Compares, IsAskedFor, IsRunnable};
 ghost use Rattle.and_step_laws.specs.Runs.{CanBeRun, IsWaiting, WaitsFor, HasRun, CannotHold};
 ghost use Rattle.and_reduction.specs.Asked.{the_pair};
-ghost use Rattle.and_reduction.specs.Sides.{AssignsTo, RunsTo};
+ghost use Rattle.and_reduction.specs.Sides.{AssignsTo, IsComparison, RunsTo};
 ghost use Rattle.and_reduction.specs.Trails.{KeepsNoted};
 
 use crate::settling::settle_number;
@@ -151,15 +153,16 @@ fn run_comparison<N: Naming>(
             return Ok(compare_numbers(by, first, second));
         }
     }
-    compare_by_sides(loaded, cells, goal, by, left, right, values)
+    compare_by_sides(loaded, cells, goal.base, by, left, right, values)
 }
 
-/// The same, by what is known of each side.
+/// The same of two nodes in the frame at the base, by what is known of each. This stands in a call of its own that
+/// takes numbers, so that no goal is written to memory where a look tells both.
 #[inline(never)]
 fn compare_by_sides<N: Naming>(
     loaded: &Loaded,
     cells: &mut PlainCells<N>,
-    goal: Goal,
+    base: u32,
     by: Relation,
     left: NodeNo,
     right: NodeNo,
@@ -167,12 +170,14 @@ fn compare_by_sides<N: Naming>(
 ) -> Result<Ran, AllocError>
     requires program { N.program ≡ named loaded.now }
     requires settled { IsSettled N.program cells.old }
-    requires item { Compares N.program cells.old goal (relation by) left.0 right.0 }
-    ensures ran { IfOk result (RunsTo N.program cells.old cells.new goal) }
+    requires left { CanBeRead N.program cells.old base left.0 }
+    requires right { CanBeRead N.program cells.old base right.0 }
+    ensures compared { IfOk result (IsComparison N.program cells.old base (relation by)
+        (node_term N.program.skeleton.nodes left.0) (node_term N.program.skeleton.nodes right.0)) }
     ensures unchanged { cells.new ≡ cells.old }
 {
-    let first = evaluate(loaded, cells, goal.base, left, values)?;
-    let second = evaluate(loaded, cells, goal.base, right, values)?;
+    let first = evaluate(loaded, cells, base, left, values)?;
+    let second = evaluate(loaded, cells, base, right, values)?;
     Ok(compare_sides(by, first, second))
 }
 
@@ -199,34 +204,12 @@ fn run_assignment<N: Naming>(
         let first = pair_in(loaded, goal.clause, goal.base, pair);
         return assign(loaded, cells, goal.base, left, first, value, trail, tools);
     }
-    assign_by_side(loaded, cells, goal, left, right, pair, trail, tools)
-}
-
-/// The same, by what is known of the right node.
-#[inline(never)]
-fn assign_by_side<N: Naming>(
-    loaded: &Loaded,
-    cells: &mut PlainCells<N>,
-    goal: Goal,
-    left: NodeNo,
-    right: NodeNo,
-    pair: u32,
-    trail: &mut Trail,
-    tools: &mut Tools,
-) -> Result<Ran, AllocError>
-    requires program { N.program ≡ named loaded.now }
-    requires settled { IsSettled N.program cells.old }
-    requires short { length cells.old ≤ MAX_LIMIT }
-    requires item { Assigns N.program cells.old goal left.0 right.0 pair }
-    ensures ran { IfOk result (RunsTo N.program cells.old cells.new goal) }
-    ensures noted { OnOk result (KeepsNoted trail.old trail.new cells.old cells.new) }
-{
     match evaluate(loaded, cells, goal.base, right, &mut tools.values)? {
         Side::Waits { cell } => Ok(Ran::Waits { cell }),
         Side::NoValue => Ok(Ran::False),
         Side::Number(value) => {
             let first = pair_in(loaded, goal.clause, goal.base, pair);
-            assign(loaded, cells, goal.base, left, first, value, trail, tools)
+            assign_seldom(loaded, cells, goal.base, left, first, value, trail, tools)
         }
     }
 }
@@ -244,7 +227,7 @@ fn write<N: Naming>(cells: &mut PlainCells<N>, pair: u32, value: i64)
     let _words = cells.len();
 }
 
-/// Writes a number into a pair of words, and answers where the node is found that is to be made one with it.
+/// Writes a number into a pair of words, with which the node is to be made one.
 #[inline(always)]
 fn ask_number<N: Naming>(
     loaded: &Loaded,
@@ -253,17 +236,15 @@ fn ask_number<N: Naming>(
     node: NodeNo,
     pair: u32,
     value: i64,
-) -> Ref
+)
     requires program { N.program ≡ named loaded.now }
     requires settled { IsSettled N.program cells.old }
     requires goal { CanBeAssigned N.program cells.old base node.0 pair }
     ensures { IsAskedFor N.program cells.old cells.new base node.0 pair value
-        (the_pair result (Ref.Number pair)) }
+        (the_pair (part_at N.program base node.0) (Ref.Number pair)) }
 {
     loaded.skeleton_is_of_the_program();
-    let left = loaded.resolve(node, base);
     write(cells, pair, value);
-    left
 }
 
 /// Writes a number into a pair of words, settles the node with it, and notes what is set. An error is
@@ -285,10 +266,10 @@ fn assign<N: Naming>(
     ensures assigned { IfOk result (AssignsTo N.program cells.old cells.new base node.0 pair value) }
     ensures noted { OnOk result (KeepsNoted trail.old trail.new cells.old cells.new) }
 {
-    let left = ask_number(loaded, cells, base, node, pair, value);
+    ask_number(loaded, cells, base, node, pair, value);
     let words = cells.len();
     trail.note(&[pair, pair + 1])?;
-    match settle_number(loaded, cells, left, pair, words, trail, tools) {
+    match settle_number(loaded, cells, base, node, pair, words, trail, tools) {
         Answer::Solved => {
             let _words = cells.len();
             Ok(Ran::Done)
@@ -296,4 +277,25 @@ fn assign<N: Naming>(
         Answer::NoSolution => Ok(Ran::False),
         Answer::Memory => Err(AllocError),
     }
+}
+
+/// The same, where no look told the number.
+#[inline(never)]
+fn assign_seldom<N: Naming>(
+    loaded: &Loaded,
+    cells: &mut PlainCells<N>,
+    base: u32,
+    node: NodeNo,
+    pair: u32,
+    value: i64,
+    trail: &mut Trail,
+    tools: &mut Tools,
+) -> Result<Ran, AllocError>
+    requires program { N.program ≡ named loaded.now }
+    requires settled { IsSettled N.program cells.old }
+    requires goal { CanBeAssigned N.program cells.old base node.0 pair }
+    ensures assigned { IfOk result (AssignsTo N.program cells.old cells.new base node.0 pair value) }
+    ensures noted { OnOk result (KeepsNoted trail.old trail.new cells.old cells.new) }
+{
+    assign(loaded, cells, base, node, pair, value, trail, tools)
 }

@@ -3,7 +3,8 @@
 ghost use Rattle.std.specs.Prelude.{◌≡◌, ◌≢◌, ◌<◌, ◌∷◌, [], ℕ, suc, length, slice_set};
 ghost use Rattle.and_model.specs.declared.reference.Ref.{Ref};
 ghost use Rattle.and_cells.specs.Meaning.{IsSettled};
-ghost use Rattle.and_cells.specs.Parts.{named};
+ghost use Rattle.and_cells.specs.Parts.{named, part_at};
+ghost use Rattle.and_branch_laws.specs.Goals.{CanBeRead};
 ghost use Rattle.and_cells.specs.Ranges.{IsInRange, IsInRangeOrHalf, IsPairInRange};
 ghost use Rattle.and_cells.specs.Rows.{plain, IsSound};
 ghost use Rattle.and_cells.specs.Seen.{word_at, IsWrittenIfNumber, LeadsTo};
@@ -16,7 +17,7 @@ ghost use Rattle.and_reduction.specs.Asked.{the_pair};
 use crate::taking::Tools;
 use crate::trail::Trail;
 use and_cells::{Naming, PlainCells, deref};
-use and_model::Ref;
+use and_model::{NodeNo, Ref};
 use and_program::Loaded;
 use and_unify::Settled as Answer;
 
@@ -48,56 +49,63 @@ pub(crate) fn settle_noted<N: Naming>(
     }
 }
 
-/// The same of the one pair of a reference and the number that a pair of words holds. Where the reference leads to
-/// a free cell, this is set to the number.
+/// The same of the one pair of a node in the frame at the base and the number that a pair of words holds. Where the
+/// node leads to a free cell, this is set to the number.
 #[inline(always)]
 pub(crate) fn settle_number<N: Naming>(
     loaded: &Loaded,
     cells: &mut PlainCells<N>,
-    left: Ref,
+    base: u32,
+    node: NodeNo,
     pair: u32,
     floor: u32,
     trail: &mut Trail,
     tools: &mut Tools,
 ) -> Answer
     requires program { N.program ≡ named loaded.now }
-    requires in_range { AreInRange N.program (length cells.old) (the_pair left (Ref.Number pair)) }
-    requires written { AreWritten (plain cells.old) (the_pair left (Ref.Number pair)) }
+    requires node { CanBeRead N.program cells.old base node.0 }
+    requires in_range { AreInRange N.program (length cells.old) (the_pair (part_at N.program base node.0) (Ref.Number pair)) }
+    requires written { AreWritten (plain cells.old) (the_pair (part_at N.program base node.0) (Ref.Number pair)) }
     requires settled { IsSettled N.program cells.old }
-    requires no_half { NameNoHalf N.program (word_at cells.old) (the_pair left (Ref.Number pair)) }
-    requires new { AreNewFrom N.program cells.old (the_pair left (Ref.Number pair)) floor }
-    ensures settles { Settles N.program cells.old cells.new (the_pair left (Ref.Number pair)) result }
+    requires no_half { NameNoHalf N.program (word_at cells.old) (the_pair (part_at N.program base node.0) (Ref.Number pair)) }
+    requires new { AreNewFrom N.program cells.old (the_pair (part_at N.program base node.0) (Ref.Number pair)) floor }
+    ensures settles { Settles N.program cells.old cells.new (the_pair (part_at N.program base node.0) (Ref.Number pair)) result }
     ensures noted { result ≢ Memory → KeepsNoted trail.old trail.new cells.old cells.new }
 {
     loaded.skeleton_is_of_the_program();
     let _words = cells.len();
+    let left = loaded.resolve(node, base);
     if let Ref::Cell(cell) = end_of(cells, left) {
         return set_to_number(cells, cell, pair, trail);
     }
-    settle_pair(loaded, cells, left, pair, floor, trail, tools)
+    settle_pair(loaded, cells, base, node, pair, floor, trail, tools)
 }
 
-/// The same, by unification. This stands in a call of its own, so that a list of pairs is made only where it is
-/// wanted.
+/// The same, by unification. This stands in a call of its own that takes numbers, so that neither a list of pairs
+/// nor a reference is written to memory where it is not wanted.
 #[inline(never)]
 fn settle_pair<N: Naming>(
     loaded: &Loaded,
     cells: &mut PlainCells<N>,
-    left: Ref,
+    base: u32,
+    node: NodeNo,
     pair: u32,
     floor: u32,
     trail: &mut Trail,
     tools: &mut Tools,
 ) -> Answer
     requires program { N.program ≡ named loaded.now }
-    requires in_range { AreInRange N.program (length cells.old) (the_pair left (Ref.Number pair)) }
-    requires written { AreWritten (plain cells.old) (the_pair left (Ref.Number pair)) }
+    requires node { CanBeRead N.program cells.old base node.0 }
+    requires in_range { AreInRange N.program (length cells.old) (the_pair (part_at N.program base node.0) (Ref.Number pair)) }
+    requires written { AreWritten (plain cells.old) (the_pair (part_at N.program base node.0) (Ref.Number pair)) }
     requires settled { IsSettled N.program cells.old }
-    requires no_half { NameNoHalf N.program (word_at cells.old) (the_pair left (Ref.Number pair)) }
-    requires new { AreNewFrom N.program cells.old (the_pair left (Ref.Number pair)) floor }
-    ensures settles { Settles N.program cells.old cells.new (the_pair left (Ref.Number pair)) result }
+    requires no_half { NameNoHalf N.program (word_at cells.old) (the_pair (part_at N.program base node.0) (Ref.Number pair)) }
+    requires new { AreNewFrom N.program cells.old (the_pair (part_at N.program base node.0) (Ref.Number pair)) floor }
+    ensures settles { Settles N.program cells.old cells.new (the_pair (part_at N.program base node.0) (Ref.Number pair)) result }
     ensures noted { result ≢ Memory → KeepsNoted trail.old trail.new cells.old cells.new }
 {
+    loaded.skeleton_is_of_the_program();
+    let left = loaded.resolve(node, base);
     tools.pairs.clear();
     match tools.pairs.push(left, Ref::Number(pair)) {
         Ok(()) => settle_noted(loaded, cells, floor, trail, tools),
