@@ -411,6 +411,7 @@ impl<N: Naming> Branch<N> {
 
     /// Narrows the candidates of a goal, a call. Where it has several, the trials tell cells on which two of
     /// them rest, or tell nothing. The branch is as before. An error is want of memory.
+    #[inline(always)]
     pub fn narrow_goal(
         &mut self,
         loaded: &Loaded,

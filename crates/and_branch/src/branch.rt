@@ -210,7 +210,7 @@ fn begun<N: Naming>(
     let mut cells = PlainCells::with(alloc, 0)?;
     let entered = begin(loaded, &mut cells, &mut workspace.tools)?;
     let mut goals = PendingGoals::new(alloc);
-    push_body(&mut goals, loaded, QUERY, 0)?;
+    push_body(&mut goals, loaded, loaded.items(QUERY), QUERY, 0)?;
     Ok(Branch {
         key: Code::new(alloc),
         limit,

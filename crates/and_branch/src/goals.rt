@@ -5,8 +5,9 @@ ghost use Rattle.and_model.specs.Terms.{Term};
 ghost use Rattle.and_model.specs.Programs.{call, arithmetic, Arithmetic, clause_at};
 ghost use Rattle.and_cells.specs.Ranges.{IsGoalInRange};
 ghost use Rattle.and_cells.specs.Parts.{named};
-ghost use Rattle.and_program.specs.Loaded.{program_of};
+ghost use Rattle.and_program.specs.Loaded.{program_of, skeleton_of};
 ghost use Rattle.and_program.specs.Items.{node_item};
+ghost use Rattle.and_program.specs.Skeletons.{item_of};
 ghost use Rattle.and_branch_laws.specs.Kept.{goal_of, item_at};
 ghost use Rattle.and_branch_laws.specs.Reducing.{goal_at, body_goals};
 ghost use Rattle.and_branch.specs.Next.{is_goal_item, HasPut};
@@ -16,20 +17,21 @@ use and_pending::PendingGoals;
 use and_program::{ItemNode, Loaded};
 use std::alloc::AllocError;
 
-/// Puts the calls and the arithmetic of a clause's body, whose frame begins at the node, at the place of
-/// work. An error is want of memory.
+/// Puts the calls and the arithmetic of a clause's body, which has these items and whose frame begins at the node, at
+/// the place of work. An error is want of memory.
 pub(crate) fn push_body(
     goals: &mut PendingGoals,
-    loaded: &Loaded,
+    _loaded: &Loaded,
+    items: &[ItemNode],
     clause: ClauseNo,
     node: u32,
 ) -> Result<(), AllocError>
-    requires { clause.0 ≤ length (program_of loaded.now).clauses }
+    requires { map (item_of (skeleton_of _loaded.now).nodes) (map node_item items.now)
+        ≡ (clause_at (program_of _loaded.now) clause.0).body }
     ensures { OnOk result (HasPut
-        (map goal_of (body_goals clause.0 node [] 0 (clause_at (program_of loaded.now) clause.0).body))
+        (map goal_of (body_goals clause.0 node [] 0 (clause_at (program_of _loaded.now) clause.0).body))
         goals.old goals.new) }
 {
-    let items = loaded.items(clause);
     let mut place = items.len();
     while place > 0 {
         place -= 1;

@@ -41,7 +41,10 @@ impl<N: Naming> Branch<N> {
             unreachable!()
         };
         let node = self.used;
-        self.used += loaded.weight(clause);
+        let weight = loaded.weight(clause);
+        let head = loaded.head(clause);
+        let items = loaded.items(clause);
+        self.used += weight;
         push_reduction(&mut self.reductions, goal, clause, node)?;
         let tools = &mut workspace.tools;
         match take(
@@ -49,10 +52,13 @@ impl<N: Naming> Branch<N> {
             &mut self.cells,
             goal,
             clause,
+            weight,
+            head,
+            items,
             &mut self.trail,
             tools,
         )? {
-            Entered::Solved => push_body(&mut self.goals, loaded, clause, node),
+            Entered::Solved => push_body(&mut self.goals, loaded, items, clause, node),
             Entered::NoSolution => {
                 self.is_failed = true;
                 Ok(())

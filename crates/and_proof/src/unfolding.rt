@@ -168,11 +168,17 @@ fn enter<N: Naming>(
 {
     loaded.skeleton_is_of_the_program();
     let node = cells.len();
+    let weight = loaded.weight(clause);
+    let head = loaded.head(clause);
+    let items = loaded.items(clause);
     match take(
         loaded,
         cells,
         next.goal,
         clause,
+        weight,
+        head,
+        items,
         &mut workspace.trail,
         &mut workspace.tools,
     )? {

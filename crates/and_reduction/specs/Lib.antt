@@ -1,4 +1,5 @@
 pub use Rattle.and_step_laws.specs.Runs
 pub mod Asked
+pub mod Items
 pub mod Sides
 pub mod Trails

@@ -14,6 +14,7 @@ ghost use Rattle.and_branch_laws.specs.Reducing.{body_equations};
 ghost use Rattle.and_branch_laws.specs.Variables.{placed};
 ghost use Rattle.and_step_laws.specs.Asking.{AreReady, Ask, CanBeAsked};
 ghost use Rattle.and_step_laws.specs.Frames.{IsCallBelow, IsFrame};
+ghost use Rattle.and_reduction.specs.Items.{AreItemsOf, IsHeadOf};
 
 use and_cells::{Naming, PlainCells};
 use and_model::{ClauseNo, Goal, NodeNo};
@@ -45,56 +46,60 @@ fn call_at(loaded: &Loaded, clause: ClauseNo, item: u32) -> NodeNo
     }
 }
 
-/// Asks that the call be made one with the head of the clause in its frame, and nothing else. An error
-/// is want of memory.
+/// Asks that the call be made one with the head of the clause, which is this node, in its frame, and nothing else. An
+/// error is want of memory.
 #[inline(always)]
 pub(crate) fn ask_call<N: Naming>(
     loaded: &Loaded,
     cells: &PlainCells<N>,
     goal: Goal,
-    clause: ClauseNo,
+    _clause: ClauseNo,
+    head: NodeNo,
     floor: u32,
     pairs: &mut PairList,
 ) -> Result<(), AllocError>
     requires program { N.program ≡ named loaded.now }
-    requires clause { clause.0 ≤ length N.program.program.clauses }
-    requires frame { IsFrame N.program cells.now clause.0 floor }
+    requires clause { _clause.0 ≤ length N.program.program.clauses }
+    requires head { IsHeadOf N.program _clause.0 head.0 }
+    requires frame { IsFrame N.program cells.now _clause.0 floor }
     requires call { IsCallBelow N.program cells.now floor goal }
     ensures { OnOk result (Ask N.program cells.now floor pairs.new
         ((
           placed goal.base (term_of N.program.program goal),
-          placed floor (clause_at N.program.program clause.0).head,
+          placed floor (clause_at N.program.program _clause.0).head,
         ) ∷ [])) }
 {
     loaded.skeleton_is_of_the_program();
     let call = loaded.resolve(call_at(loaded, goal.clause, goal.item), goal.base);
-    let head = loaded.resolve(loaded.head(clause), floor);
+    let head = loaded.resolve(head, floor);
     pairs.clear();
     pairs.push(call, head)?;
     Ok(())
 }
 
-/// Asks for what the `=` items of the clause's body say in its frame, and answers whether no item is
-/// `fail`. An error is want of memory.
+/// Asks for what the `=` items of the clause's body, which has these items, say in its frame, and answers whether no
+/// item is `fail`. An error is want of memory.
 #[inline(always)]
 pub(crate) fn ask_items<N: Naming>(
     loaded: &Loaded,
     cells: &PlainCells<N>,
-    clause: ClauseNo,
+    _clause: ClauseNo,
+    items: &[ItemNode],
     floor: u32,
     pairs: &mut PairList,
 ) -> Result<bool, AllocError>
     requires program { N.program ≡ named loaded.now }
-    requires clause { clause.0 ≤ length N.program.program.clauses }
-    requires frame { IsFrame N.program cells.now clause.0 floor }
+    requires clause { _clause.0 ≤ length N.program.program.clauses }
+    requires items { AreItemsOf N.program _clause.0 items.now }
+    requires frame { IsFrame N.program cells.now _clause.0 floor }
     requires ready { AreReady N.program cells.now floor pairs.old }
     ensures asked { result ≡ Ok true → Ask N.program cells.now floor pairs.new
         (equations_of_pairs N.program (word_at cells.now) pairs.old ++ body_equations (placed floor)
-        (clause_at N.program.program clause.0).body) }
-    ensures failing { result ≡ Ok false → Contains (clause_at N.program.program clause.0).body fail }
+        (clause_at N.program.program _clause.0).body) }
+    ensures failing { result ≡ Ok false → Contains (clause_at N.program.program _clause.0).body fail }
 {
     loaded.skeleton_is_of_the_program();
-    for item in loaded.items(clause) {
+    for item in items {
         if !ask_item(loaded, cells, floor, *item, pairs)? {
             return Ok(false);
         }

@@ -16,6 +16,7 @@ ghost use Rattle.and_branch_laws.specs.Variables.{placed};
 ghost use Rattle.and_branch_laws.specs.Goals.{CanBeJudged};
 ghost use Rattle.and_step_laws.specs.Asking.{AreReady};
 ghost use Rattle.and_step_laws.specs.Frames.{IsFrame};
+ghost use Rattle.and_reduction.specs.Items.{AreItemsOf, IsHeadOf};
 ghost use Rattle.and_reduction.specs.Trails.{KeepsNoted};
 
 use crate::asking::{ask_call, ask_items};
@@ -25,8 +26,8 @@ use and_arith::WorkList;
 use and_cells::{Naming, PlainCells};
 use and_heads::HeadSolver;
 use and_model::limits::MAX_LIMIT;
-use and_model::{ClauseNo, Goal};
-use and_program::Loaded;
+use and_model::{ClauseNo, Goal, NodeNo};
+use and_program::{ItemNode, Loaded};
 use and_unify::{PairList, Settled as Answer};
 use std::alloc::{AllocError, Global};
 
@@ -92,20 +93,31 @@ pub fn begin<N: Naming>(
     if loaded.weight(query) > MAX_LIMIT {
         return Err(AllocError);
     }
-    let floor = open_frame(loaded, cells, query)?;
+    let floor = open_frame(cells, query, loaded.weight(query))?;
     tools.pairs.clear();
     let mut nothing = Trail::none(tools.alloc);
-    settle_frame(loaded, cells, query, floor, &mut nothing, tools)
+    settle_frame(
+        loaded,
+        cells,
+        query,
+        loaded.items(query),
+        floor,
+        &mut nothing,
+        tools,
+    )
 }
 
-/// Puts the clause's frame behind the row, and settles in it what a reduction of the call by this
-/// clause asks: that the call is its head, and the `=` items of its body. What is set in the row is
-/// noted. An error is want of memory, and the cells are spent.
+/// Puts the frame of the clause, which has this weight, this head and these items, behind the row, and settles in it
+/// what a reduction of the call by this clause asks: that the call is its head, and the `=` items of its body. What is
+/// set in the row is noted. An error is want of memory, and the cells are spent.
 pub fn take<N: Naming>(
     loaded: &Loaded,
     cells: &mut PlainCells<N>,
     goal: Goal,
     clause: ClauseNo,
+    weight: u32,
+    head: NodeNo,
+    items: &[ItemNode],
     trail: &mut Trail,
     tools: &mut Tools,
 ) -> Result<Entered, AllocError>
@@ -113,6 +125,9 @@ pub fn take<N: Naming>(
     requires settled { IsSettled N.program cells.old }
     requires goal { CanBeJudged N.program cells.old goal }
     requires clause { clause.0 ≤ length N.program.program.clauses }
+    requires weight { weight ≡ clause_weight (clause_at N.program.program clause.0) }
+    requires head { IsHeadOf N.program clause.0 head.0 }
+    requires items { AreItemsOf N.program clause.0 items.now }
     requires fits { length cells.old + clause_weight (clause_at N.program.program clause.0) ≤ MAX_LIMIT }
     ensures solved { result ≡ Ok Entered.Solved
         → Settled N.program (widened cells.old (clause_weight (clause_at N.program.program clause.0))) cells.new
@@ -123,47 +138,49 @@ pub fn take<N: Naming>(
     ensures noted { OnOk result (KeepsNoted trail.old trail.new cells.old cells.new) }
 {
     loaded.skeleton_is_of_the_program();
-    let floor = open_frame(loaded, cells, clause)?;
-    ask_call(loaded, cells, goal, clause, floor, &mut tools.pairs)?;
-    settle_frame(loaded, cells, clause, floor, trail, tools)
+    let floor = open_frame(cells, clause, weight)?;
+    ask_call(loaded, cells, goal, clause, head, floor, &mut tools.pairs)?;
+    settle_frame(loaded, cells, clause, items, floor, trail, tools)
 }
 
-/// Puts a frame of the clause behind the row, and answers where it begins. An error is want of memory,
-/// and leaves the row as it was.
+/// Puts a frame of the clause, which has this weight, behind the row, and answers where it begins. An error is want of
+/// memory, and leaves the row as it was.
 fn open_frame<N: Naming>(
-    loaded: &Loaded,
     cells: &mut PlainCells<N>,
-    clause: ClauseNo,
+    _clause: ClauseNo,
+    weight: u32,
 ) -> Result<u32, AllocError>
-    requires program { N.program ≡ named loaded.now }
     requires settled { IsSettled N.program cells.old }
-    requires clause { clause.0 ≤ length N.program.program.clauses }
-    requires fits { length cells.old + clause_weight (clause_at N.program.program clause.0) ≤ MAX_LIMIT }
+    requires clause { _clause.0 ≤ length N.program.program.clauses }
+    requires weight { weight ≡ clause_weight (clause_at N.program.program _clause.0) }
+    requires fits { length cells.old + clause_weight (clause_at N.program.program _clause.0) ≤ MAX_LIMIT }
     ensures floor { IfOk result (λ floor. floor ≡ length cells.old) }
     ensures widened { OnOk result (cells.new
-        ≡ widened cells.old (clause_weight (clause_at N.program.program clause.0))) }
-    ensures frame { IfOk result (IsFrame N.program cells.new clause.0) }
+        ≡ widened cells.old (clause_weight (clause_at N.program.program _clause.0))) }
+    ensures frame { IfOk result (IsFrame N.program cells.new _clause.0) }
     ensures sound { IsSound N.program cells.old }
 {
     let floor = cells.len();
-    cells.extend(loaded.weight(clause))?;
+    cells.extend(weight)?;
     let _words = cells.len();
     Ok(floor)
 }
 
-/// Settles in a new frame of the clause what the pairs ask, and the `=` items of its body, and notes
-/// what is set. An error is want of memory, and the cells are spent.
+/// Settles in a new frame of the clause, which has these items, what the pairs ask, and the `=` items of its body, and
+/// notes what is set. An error is want of memory, and the cells are spent.
 #[inline(always)]
 fn settle_frame<N: Naming>(
     loaded: &Loaded,
     cells: &mut PlainCells<N>,
     clause: ClauseNo,
+    items: &[ItemNode],
     floor: u32,
     trail: &mut Trail,
     tools: &mut Tools,
 ) -> Result<Entered, AllocError>
     requires program { N.program ≡ named loaded.now }
     requires clause { clause.0 ≤ length N.program.program.clauses }
+    requires items { AreItemsOf N.program clause.0 items.now }
     requires frame { IsFrame N.program cells.old clause.0 floor }
     requires ready { AreReady N.program cells.old floor tools.old.pairs }
     ensures solved { result ≡ Ok Entered.Solved → Settled N.program cells.old cells.new
@@ -174,7 +191,7 @@ fn settle_frame<N: Naming>(
         (clause_at N.program.program clause.0).body)) → ⊥ }
     ensures noted { OnOk result (KeepsNoted trail.old trail.new cells.old cells.new) }
 {
-    if !ask_items(loaded, cells, clause, floor, &mut tools.pairs)? {
+    if !ask_items(loaded, cells, clause, items, floor, &mut tools.pairs)? {
         return Ok(Entered::NoSolution);
     }
     match settle_noted(loaded, cells, floor, trail, tools) {

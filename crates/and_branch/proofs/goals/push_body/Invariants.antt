@@ -7,7 +7,7 @@ use Rattle.and_branch.proofs.goals.push_body.Given as goal
 abbrev pub invariant-loop-place : goal.invariant-loop-place
 invariant-loop-place l = record {
   within : l.place ≤ length l.items;
-  stacked : HasPut (goals_from l.clause.0 l.node l.place (drop l.place (body_of (skeleton_of l.loaded).nodes l.items))) l.initial.goals l.goals;
+  stacked : HasPut (goals_from l.clause.0 l.node l.place (drop l.place (body_of (skeleton_of l._loaded).nodes l.items))) l.initial.goals l.goals;
 }
 
 abbrev pub decreases-loop-place : goal.decreases-loop-place

@@ -1,10 +1,11 @@
 use Rattle.std.proofs.Common.{ℕ, ◌≡◌, ◌+◌, ◌++◌, ◌∷◌, [], map, reverse, ap, sym, ◌∙◌, subst, arith}
-use Rattle.and_model.specs.Programs.{clause_at}
+use Rattle.and_model.specs.Programs.{clause_at, clause_weight}
 use Rattle.and_laws.proofs.Deciding.{of_bounds}
 use Rattle.and_cells.specs.Ranges.{NamedProgram}
 use Rattle.and_model.specs.Stands.{term_of}
 use Rattle.and_branch_laws.specs.Reducing.{body_goals}
 use Rattle.and_branch_laws.proofs.Loading.{loaded_is}
+use Rattle.and_reduction.specs.Items.{AreItemsOf, IsHeadOf}
 use Rattle.and_proof.specs.Stacks.{at_depth}
 use Rattle.and_proof.proofs.Replacing.{next_can, depth_fits, entered, reduced_dead}
 use Rattle.and_proof.proofs.unfolding.enter.Goals as goal
@@ -26,6 +27,20 @@ take-requires-clause-clause g c =
     let P = g.N.Naming.program in
     let (cs, x) = c.requires.enters in
     (of_bounds P.program (term_of P.program c.args.next.goal) c.args.clause.0 x.of_it).1
+
+pub take-requires-clause-weight : goal.take-requires-clause-weight
+take-requires-clause-weight g c =
+    c.weight-weight.ensures ∙ ap (λ (p : NamedProgram). clause_weight (clause_at p.program c.args.clause.0)) (sym c.requires.program)
+
+pub take-requires-clause-head : goal.take-requires-clause-head
+take-requires-clause-head g c =
+    subst (λ (p : NamedProgram). IsHeadOf p c.args.clause.0 c.head-head.result.0) (sym c.requires.program)
+    (c.head-head.ensures.node, c.head-head.ensures.there)
+
+pub take-requires-clause-items : goal.take-requires-clause-items
+take-requires-clause-items g c =
+    subst (λ (p : NamedProgram). AreItemsOf p c.args.clause.0 c.items-items.result.now) (sym c.requires.program)
+    (record { nodes = c.items-items.ensures.items; body = c.items-items.ensures.body })
 
 pub take-requires-clause-fits : goal.take-requires-clause-fits
 take-requires-clause-fits g c = let x = c.requires.enters.1 in x.fits

@@ -1,4 +1,4 @@
-use Rattle.std.proofs.Common.{ℕ, ◌≡◌, ◌<◌, length, Some, sym, subst}
+use Rattle.std.proofs.Common.{ℕ, ◌≡◌, ◌<◌, length, Some, subst}
 use Rattle.std.specs.Prelude.{slice_get}
 use Rattle.and_program.specs.Loaded.{nodes_at}
 use Rattle.and_program.specs.Skeletons.{call}
@@ -37,17 +37,19 @@ pub returns : goal.returns
 returns g c =
     let P = g.N.Naming.program in
     let loaded = c.args.loaded.now in
-    let clause = c.args.clause.0 in
+    let clause = c.args._clause.0 in
     let node = c.call_at.result in
     let facts = loaded_is P loaded c.requires.program c.skeleton_is_of_the_program.ensures.skeleton
     c.skeleton_is_of_the_program.ensures.own_variables c.skeleton_is_of_the_program.ensures.few in
     let is = found_node P loaded c.args.cells.now c.args.goal node.0 c.requires.program
     c.skeleton_is_of_the_program.ensures.skeleton c.skeleton_is_of_the_program.ensures.own_variables
     c.skeleton_is_of_the_program.ensures.few c.requires.call.judged c.call_at.ensures in
-    let head : c.head.result.0 ≡ (nodes_at P.skeleton clause).head =
-    subst (λ (Q : NamedProgram). c.head.result.0 ≡ (nodes_at Q.skeleton clause).head) (sym c.requires.program) c.head.ensures.node in
     call_asked P facts c.args.cells.now clause c.args.floor c.requires.clause c.requires.frame c.args.goal c.requires.call node.0 is
-    c.head.result.0 head c.resolve-call.result c.resolve-head.result
+    c.args.head.0 c.requires.head.0 c.resolve-call.result c.resolve-head.result
     (resolved_is P loaded node c.args.goal.base c.resolve-call.result c.requires.program c.resolve-call.ensures)
-    (resolved_is P loaded c.head.result c.args.floor c.resolve-head.result c.requires.program c.resolve-head.ensures)
+    (resolved_is P loaded c.args.head c.args.floor c.resolve-head.result c.requires.program c.resolve-head.ensures)
     c.clear.new.self c.push.new.self c.clear.ensures c.in_ok-push.ensures.ok
+
+pub resolve-head-requires-clause-there : goal.resolve-head-requires-clause-there
+resolve-head-requires-clause-there g c =
+    subst (λ (Q : NamedProgram). c.args.head.0 < length Q.skeleton.nodes) c.requires.program c.requires.head.1

@@ -11,7 +11,7 @@ abbrev pub invariant-loop-item : goal.invariant-loop-item
 invariant-loop-item g l = record {
   ready : AreReady g.N.Naming.program l.cells l.floor l.pairs;
   asks : equations_of_pairs g.N.Naming.program (word_at l.cells) l.pairs
-      ++ body_equations (placed l.floor) (body_of g.N.Naming.program.skeleton.nodes (drop l.item-index l.item-items))
+      ++ body_equations (placed l.floor) (body_of g.N.Naming.program.skeleton.nodes (drop l.item-index l.items))
       ≡ equations_of_pairs g.N.Naming.program (word_at l.cells) l.fn.pairs
-      ++ body_equations (placed l.floor) (body_of g.N.Naming.program.skeleton.nodes l.item-items);
+      ++ body_equations (placed l.floor) (body_of g.N.Naming.program.skeleton.nodes l.items);
 }

@@ -3,6 +3,7 @@ use Rattle.std.proofs.lemmas.Result.{on_ok_weaker}
 use Rattle.and_model.specs.Programs.{clause_at, clause_weight}
 use Rattle.and_cells.specs.Ranges.{NamedProgram}
 use Rattle.and_pending.specs.Pending.{goals_of}
+use Rattle.and_reduction.specs.Items.{AreItemsOf, IsHeadOf}
 use Rattle.and_branch_laws.specs.Kept.{goal_of}
 use Rattle.and_branch_laws.specs.Reducing.{body_goals}
 use Rattle.and_branch.specs.Branches.{Held}
@@ -23,6 +24,20 @@ take-requires-clause-goal g c =
     next_judged P loaded _ c.args.clause.0 c.in-Some.goal (goals_of rest) has
     (first_goal c.self.inside.goals.right rest w c.in-Some.goal next same)
 
+pub take-requires-clause-weight : goal.take-requires-clause-weight
+take-requires-clause-weight g c =
+    c.weight-weight.ensures ∙ ap (λ (p : NamedProgram). clause_weight (clause_at p.program c.args.clause.0)) (sym c.requires.program)
+
+pub take-requires-clause-head : goal.take-requires-clause-head
+take-requires-clause-head g c =
+    subst (λ (p : NamedProgram). IsHeadOf p c.args.clause.0 c.head-head.result.0) (sym c.requires.program)
+    (c.head-head.ensures.node, c.head-head.ensures.there)
+
+pub take-requires-clause-items : goal.take-requires-clause-items
+take-requires-clause-items g c =
+    subst (λ (p : NamedProgram). AreItemsOf p c.args.clause.0 c.items-items.result.now) (sym c.requires.program)
+    (record { nodes = c.items-items.ensures.items; body = c.items-items.ensures.body })
+
 pub returns-in-Solved-clause-reduced : goal.returns-in-Solved-clause-reduced
 returns-in-Solved-clause-reduced g c =
     let P = g.N.Naming.program in
@@ -30,7 +45,7 @@ returns-in-Solved-clause-reduced g c =
     let loaded = is_loaded P c.args.loaded.now c.requires.program says.skeleton says.own_variables says.few in
     let (w, rest, next, same, popped) = c.in-Some.ensures.some in
     let has = subst (λ (b : Held). HasNextCall P b c.args.clause.0) (sym c.self.view_is) c.requires.next in
-    let weight = c.weight.ensures ∙ ap (λ (p : NamedProgram). clause_weight (clause_at p.program c.args.clause.0))
+    let weight = c.weight-weight.ensures ∙ ap (λ (p : NamedProgram). clause_weight (clause_at p.program c.args.clause.0))
     (sym c.requires.program) in
     on_ok_weaker c.push_body.result (λ one.
     (let put = subst (λ (p : NamedProgram).
@@ -52,7 +67,7 @@ returns-in-NoSolution-clause-reduced g c =
     let loaded = is_loaded P c.args.loaded.now c.requires.program says.skeleton says.own_variables says.few in
     let (w, rest, next, same, popped) = c.in-Some.ensures.some in
     let has = subst (λ (b : Held). HasNextCall P b c.args.clause.0) (sym c.self.view_is) c.requires.next in
-    let weight = c.weight.ensures ∙ ap (λ (p : NamedProgram). clause_weight (clause_at p.program c.args.clause.0))
+    let weight = c.weight-weight.ensures ∙ ap (λ (p : NamedProgram). clause_weight (clause_at p.program c.args.clause.0))
     (sym c.requires.program) in
     next_dies P loaded _ _ _ c.self.view_is c.args.clause.0 c.in-Some.goal (goals_of rest) has
     (first_goal c.self.inside.goals.right rest w c.in-Some.goal next same)
