@@ -1,32 +1,36 @@
 -- Goals that are copied with their cells.
 use Rattle.std.proofs.Common.{ℕ, ◌≡◌, ◌+◌, ◌<◌, ◌≤◌, List, [], ◌∷◌, ◌++◌, length, get_or, take, reverse, refl, sym, ap, ◌∙◌, subst, arith}
-use Rattle.std.specs.Prelude.{All, Option, Some, None, IfSome, slice_range}
+use Rattle.std.specs.Prelude.{All, Option, Some, slice_range}
 use Rattle.std.proofs.lemmas.List.{append-nil, append_assoc, length-append, map-append, reverse-reverse, take_more, take_all}
 use Rattle.std.proofs.lemmas.List.Elements.{All-nil, All-push, All-append, All-same}
 use Rattle.and_pending.specs.Copies.{IsCopied, AreCopied}
-use Rattle.and_pending.specs.Pending.{Watched, IsWithin, cells_at, watched_in, all_watched_in}
+use Rattle.and_pending.specs.Pending.{Watched, IsWithin, StandIn, cells_at, watched_in, all_watched_in}
 use Rattle.and_pending.specs.declared.watch.Range.{Range}
+use Rattle.and_pending.specs.declared.watch.Watch.{Watch}
+use Rattle.and_pending.specs.declared.watch.Watch.TheVariants.{Listed}
 use Rattle.and_pending.specs.declared.pending.PendingGoal.{PendingGoal}
 use Rattle.and_pending.proofs.Stacks.{all_reverse, map_reverse}
-use Rattle.and_pending.proofs.WatchedGoals.{cells_gained, left_within, right_within, parted, parted_in, watched_more, with_range, within_more}
+use Rattle.and_pending.proofs.WatchedGoals.{cells_gained, left_within, right_within, parted, parted_in, watched_more, watched_so, within_more}
 
 -- ---- One goal
 
--- that is not watched,
-pub copied_unwatched : (from cells : List ℕ) (p : PendingGoal) → p.watch ≡ None → IsCopied from p cells cells p
-copied_unwatched from cells p none = record {
+-- of which no cells stand in a list,
+pub copied_alone : (from cells : List ℕ) (p : PendingGoal) (watch : Watch) → p.watch ≡ watch → ((l : List ℕ) → StandIn l watch)
+    → ((l m : List ℕ) → cells_at l watch ≡ cells_at m watch) → IsCopied from p cells cells p
+copied_alone from cells p watch is stand same = record {
   gained = [];
   cells = sym (append-nil cells);
-  within = subst (λ (o : Option Range). IfSome o (λ (range : Range). (range.first ≤ range.past) × (range.past ≤ length cells))) (sym none) tt;
-  same = ap (λ (o : Option Range). record { goal = p.goal; cells = cells_at cells o }) none
-      ∙ sym (ap (λ (o : Option Range). record { goal = p.goal; cells = cells_at from o }) none);
+  within = subst (λ (w : Watch). StandIn cells w) (sym is) (stand cells);
+  same = ap (λ (w : Watch). record { goal = p.goal; cells = cells_at cells w }) is
+      ∙ ap (λ (o : Option (List ℕ)). record { goal = p.goal; cells = o }) (same cells from)
+      ∙ sym (ap (λ (w : Watch). record { goal = p.goal; cells = cells_at from w }) is);
 }
 
--- or is.
-pub copied_watched : (from cells gained new : List ℕ) (p : PendingGoal) (range moved : Range) → p.watch ≡ Some range
+-- or of which some do.
+pub copied_listed : (from cells gained new : List ℕ) (p : PendingGoal) (range moved : Range) → p.watch ≡ Listed range
     → gained ≡ slice_range from range.first range.past → new ≡ cells ++ gained → moved.first ≡ length cells → moved.past ≡ length new
-    → IsCopied from p cells new (with_range p moved)
-copied_watched from cells gained new p range moved watch theirs grown first past =
+    → IsCopied from p cells new (watched_so p (Listed moved))
+copied_listed from cells gained new p range moved watch theirs grown first past =
     let both = length-append cells gained in
     let long : length new ≡ length (cells ++ gained) = ap (λ (l : List ℕ). length l) grown in
     record {
@@ -37,7 +41,7 @@ copied_watched from cells gained new p range moved watch theirs grown first past
           (ap (λ (l : List ℕ). slice_range l moved.first moved.past) grown
           ∙ cells_gained cells gained moved.first moved.past first (past ∙ long)
           ∙ theirs)
-          ∙ sym (ap (λ (o : Option Range). record { goal = p.goal; cells = cells_at from o }) watch);
+          ∙ sym (ap (λ (w : Watch). record { goal = p.goal; cells = cells_at from w }) watch);
     }
 
 -- ---- One after another

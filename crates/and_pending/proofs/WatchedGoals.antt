@@ -1,29 +1,29 @@
 -- Goals whose cells stand in a list.
 use Rattle.std.proofs.Common.{ℕ, ◌≡◌, ◌+◌, ◌-◌, ◌<◌, ◌≤◌, List, [], ◌∷◌, ◌++◌, map, length, get_or, set, take, drop, reverse, refl, sym, ap, ◌∙◌, subst, arith}
-use Rattle.std.specs.Prelude.{All, Option, Some, None, IfSome, slice_range}
+use Rattle.std.specs.Prelude.{All, Option, Some, slice_range}
 use Rattle.std.proofs.lemmas.List.{append-nil, length-append, length-map, length-reverse, length-take-le, map-append, drop-append-le, take-append-le}
 use Rattle.std.proofs.lemmas.List.{length-drop, take_more, take-append-drop, append_assoc}
 use Rattle.std.proofs.lemmas.List.Elements.{All-cons, All-append, All-head, All-tail, All-same, All-map, All-weaker}
-use Rattle.std.proofs.lemmas.Option.{IfSome_then}
 use Rattle.std.proofs.Math.Seq.{drop-append_seam, take-length}
 use Rattle.and_model.specs.declared.goal.Goal.{Goal}
 use Rattle.and_model.specs.declared.reference.Ref.{Ref}
-use Rattle.and_pending.specs.Pending.{Watched, Pending, Sleeps, IsWithin, goals_of, unwatched, cells_at, watched_in, all_watched_in}
-use Rattle.and_pending.specs.declared.watch.Range.{Range}
+use Rattle.and_pending.specs.Pending.{Watched, Pending, Sleeps, IsWithin, StandIn, Watches, goals_of, unwatched, cells_at, watched_in, all_watched_in}
+use Rattle.and_pending.specs.declared.watch.Watch.{Watch}
+use Rattle.and_pending.specs.declared.watch.Watch.TheVariants.{Unwatched, One, Two, Listed}
 use Rattle.and_pending.specs.declared.pending.PendingGoal.{PendingGoal}
 use Rattle.and_pending.proofs.Stacks.{top_popped, top_read, top_set, map_reverse, all_left, all_right, all_reverse}
 
--- a goal that has no range
+-- a goal that is not watched
 abbrev pub not_watched : Goal → PendingGoal
-not_watched g = record { goal = g; watch = None }
+not_watched g = record { goal = g; watch = Unwatched }
 
 -- the goal alone
 abbrev pub goal_of : PendingGoal → Goal
 goal_of p = p.goal
 
--- a goal without its range
+-- a goal that no longer is
 abbrev pub cleared : PendingGoal → PendingGoal
-cleared p = record { goal = p.goal; watch = None }
+cleared p = record { goal = p.goal; watch = Unwatched }
 
 -- The goal, whose cells stand in the list, sleeps in the row.
 abbrev pub SleepsIn : List ℕ → List Ref → PendingGoal → Type 0
@@ -37,10 +37,11 @@ range_more cells more from to ordered within =
     let long : to - from ≤ length (drop from cells) = let e = length-drop from cells in omega arith in
     ap (λ (l : List ℕ). take (to - from) l) (drop-append-le from cells more low) ∙ take-append-le (to - from) (drop from cells) more long
 
-cells_more : (cells more : List ℕ) (watch : Option Range) → IfSome watch (λ (range : Range). (range.first ≤ range.past) × (range.past ≤ length cells))
-    → cells_at (cells ++ more) watch ≡ cells_at cells watch
-cells_more cells more None within = refl
-cells_more cells more (Some range) within =
+cells_more : (cells more : List ℕ) (watch : Watch) → StandIn cells watch → cells_at (cells ++ more) watch ≡ cells_at cells watch
+cells_more cells more Unwatched within = refl
+cells_more cells more (One cell) within = refl
+cells_more cells more (Two one other) within = refl
+cells_more cells more (Listed range) within =
     ap (λ (l : List ℕ). Some l) (range_more cells more range.first range.past within.0 within.1)
 
 -- The goals are watched by the same cells,
@@ -54,11 +55,14 @@ watched_more cells more (p ∷ ps) each =
     ap (λ (w : Watched). w ∷ all_watched_in (cells ++ more) ps) here_is ∙ ap (λ (ws : List Watched). watched_in cells p ∷ ws) rest
 
 -- which stand there.
+stand_more : (cells more : List ℕ) (watch : Watch) → StandIn cells watch → StandIn (cells ++ more) watch
+stand_more cells more Unwatched within = within
+stand_more cells more (One cell) within = within
+stand_more cells more (Two one other) within = within
+stand_more cells more (Listed range) within = let long = length-append cells more in (within.0, let high = within.1 in omega arith)
+
 pub within_more : (cells more : List ℕ) (ps : List PendingGoal) → All (IsWithin cells) ps → All (IsWithin (cells ++ more)) ps
-within_more cells more ps each =
-    let long = length-append cells more in
-    All-weaker (IsWithin cells) (IsWithin (cells ++ more))
-    (λ p h. IfSome_then p.watch h (λ range within. (within.0, let high = within.1 in omega arith))) ps each
+within_more cells more ps each = All-weaker (IsWithin cells) (IsWithin (cells ++ more)) (λ p h. stand_more cells more p.watch h) ps each
 
 -- The cells at the end are those that were put there.
 pub cells_gained : (cells gained : List ℕ) (from to : ℕ) → from ≡ length cells → to ≡ length (cells ++ gained)
@@ -104,7 +108,7 @@ module _ (cells : List ℕ) (left right : List PendingGoal) (each : All (IsWithi
       (All-same (IsWithin cells) (reverse new) (p ∷ reverse right) (top_popped new right p pushed)
       (All-cons (IsWithin cells) p (reverse right) its right_within))
 
-  -- or gets a range.
+  -- or is watched otherwise.
   pub one_watched : (more : List ℕ) (i : ℕ) (p q : PendingGoal) (rest : List PendingGoal) → i + 1 ≡ length right → reverse right ≡ p ∷ rest
       → IsWithin (cells ++ more) q → All (IsWithin (cells ++ more)) (left ++ reverse (set right i q))
   one_watched more i p q rest long is its =
@@ -201,9 +205,9 @@ parted left right = record { left = left; right = right }
 abbrev pub parted_in : List ℕ → List PendingGoal → List PendingGoal → Pending
 parted_in cells left right = parted (all_watched_in cells left) (all_watched_in cells (reverse right))
 
--- a goal, with a range
-abbrev pub with_range : PendingGoal → Range → PendingGoal
-with_range p range = record { goal = p.goal; watch = Some range }
+-- a goal that is watched so
+abbrev pub watched_so : PendingGoal → Watch → PendingGoal
+watched_so p watch = record { goal = p.goal; watch = watch }
 
 -- All goals are listed.
 pub all_goals : (cells : List ℕ) (left right : List PendingGoal) (first second third : List Goal) → first ≡ [] → second ≡ first ++ map goal_of left
@@ -253,42 +257,39 @@ forgotten cells new left right left' right' first second =
     ∙ ap (λ (ws : List Watched). parted (map unwatched (goals_of (all_watched_in cells left))) ws) (reverse_cleared cells new right)
 
 module _ (cells gained all : List ℕ) (left right : List PendingGoal) (each : All (IsWithin cells) (left ++ reverse right)) (grown : all ≡ cells ++ gained)
-    (i : ℕ) (p : PendingGoal) (long : i + 1 ≡ length right) (read : p ≡ get_or right i p)
-    (range : Range) (first : range.first ≡ length cells) (past : range.past ≡ length all) where
-  longer : length all ≡ length cells + length gained
-  longer = ap (λ (l : List ℕ). length l) grown ∙ length-append cells gained
+  where
+    -- The list of cells has grown.
+    pub within_grown : All (IsWithin all) (left ++ reverse right)
+    within_grown =
+        subst (λ (l : List ℕ). All (IsWithin l) (left ++ reverse right)) (sym grown) (within_more cells gained (left ++ reverse right) each)
 
-  -- The goal that gets a range is within,
-  pub within_watched : All (IsWithin all) (left ++ reverse (set right i (with_range p range)))
-  within_watched =
-      let more = longer in
-      let same : length all ≡ length (cells ++ gained) = ap (λ (l : List ℕ). length l) grown in
-      subst (λ (l : List ℕ). All (IsWithin l) (left ++ reverse (set right i (with_range p range)))) (sym grown)
-      (one_watched cells left right each gained i p (with_range p range) (reverse (take i right)) long (top_read right i p long read)
-      (omega arith, omega arith))
+    module _ (i : ℕ) (p : PendingGoal) (long : i + 1 ≡ length right) (read : p ≡ get_or right i p) (watch : Watch) (its : List ℕ)
+        (watches : Watches all its watch) where
+      -- The goal that is watched is within,
+      pub within_watched : All (IsWithin all) (left ++ reverse (set right i (watched_so p watch)))
+      within_watched =
+          subst (λ (l : List ℕ). All (IsWithin l) (left ++ reverse (set right i (watched_so p watch)))) (sym grown)
+          (one_watched cells left right each gained i p (watched_so p watch) (reverse (take i right)) long (top_read right i p long read)
+          (subst (λ (l : List ℕ). StandIn l watch) grown watches.stand))
 
-  its_cells : slice_range all range.first range.past ≡ gained
-  its_cells =
-      ap (λ (l : List ℕ). slice_range l range.first range.past) grown
-      ∙ cells_gained cells gained range.first range.past first (past ∙ ap (λ (l : List ℕ). length l) grown)
+      others : (ps : List PendingGoal) → All (IsWithin cells) ps → all_watched_in all ps ≡ all_watched_in cells ps
+      others ps low = ap (λ (l : List ℕ). all_watched_in l ps) grown ∙ watched_more cells gained ps low
 
-  others : (ps : List PendingGoal) → All (IsWithin cells) ps → all_watched_in all ps ≡ all_watched_in cells ps
-  others ps low = ap (λ (l : List ℕ). all_watched_in l ps) grown ∙ watched_more cells gained ps low
-
-  -- and watched by these cells.
-  pub view_watched : (w : Watched) (rest : List Watched) → all_watched_in cells (reverse right) ≡ w ∷ rest
-      → parted_in all left (set right i (with_range p range)) ≡ parted (all_watched_in cells left) (record { goal = w.goal; cells = Some gained } ∷ rest)
-  view_watched w rest is =
-      let under = reverse (take i right) in
-      let top : reverse right ≡ p ∷ under = top_read right i p long read in
-      let low : All (IsWithin cells) under =
-      All-tail (IsWithin cells) p under (All-same (IsWithin cells) (p ∷ under) (reverse right) (sym top) (right_within cells left right each)) in
-      let both : w ∷ rest ≡ watched_in cells p ∷ all_watched_in cells under =
-      sym is ∙ ap (λ (ps : List PendingGoal). all_watched_in cells ps) top in
-      let its : w ≡ watched_in cells p = first_same w (watched_in cells p) rest (all_watched_in cells under) both in
-      let theirs : rest ≡ all_watched_in cells under = rest_same w (watched_in cells p) rest (all_watched_in cells under) both in
-      ap (λ (ws : List Watched). parted ws (all_watched_in all (reverse (set right i (with_range p range))))) (others left (left_within cells left right each))
-      ∙ ap (λ (ps : List PendingGoal). parted (all_watched_in cells left) (all_watched_in all ps)) (top_set right i p under long top (with_range p range))
-      ∙ ap (λ (l : List ℕ). parted (all_watched_in cells left) (record { goal = p.goal; cells = Some l } ∷ all_watched_in all under)) its_cells
-      ∙ ap (λ (ws : List Watched). parted (all_watched_in cells left) (record { goal = p.goal; cells = Some gained } ∷ ws)) (others under low ∙ sym theirs)
-      ∙ ap (λ (v : Watched). parted (all_watched_in cells left) (record { goal = v.goal; cells = Some gained } ∷ rest)) (sym its)
+      -- and watched by these cells.
+      pub view_watched : (w : Watched) (rest : List Watched) → all_watched_in cells (reverse right) ≡ w ∷ rest
+          → parted_in all left (set right i (watched_so p watch)) ≡ parted (all_watched_in cells left) (record { goal = w.goal; cells = Some its } ∷ rest)
+      view_watched w rest is =
+          let under = reverse (take i right) in
+          let top : reverse right ≡ p ∷ under = top_read right i p long read in
+          let low : All (IsWithin cells) under =
+          All-tail (IsWithin cells) p under (All-same (IsWithin cells) (p ∷ under) (reverse right) (sym top) (right_within cells left right each)) in
+          let both : w ∷ rest ≡ watched_in cells p ∷ all_watched_in cells under =
+          sym is ∙ ap (λ (ps : List PendingGoal). all_watched_in cells ps) top in
+          let one : w ≡ watched_in cells p = first_same w (watched_in cells p) rest (all_watched_in cells under) both in
+          let theirs : rest ≡ all_watched_in cells under = rest_same w (watched_in cells p) rest (all_watched_in cells under) both in
+          ap (λ (ws : List Watched). parted ws (all_watched_in all (reverse (set right i (watched_so p watch)))))
+          (others left (left_within cells left right each))
+          ∙ ap (λ (ps : List PendingGoal). parted (all_watched_in cells left) (all_watched_in all ps)) (top_set right i p under long top (watched_so p watch))
+          ∙ ap (λ (o : Option (List ℕ)). parted (all_watched_in cells left) (record { goal = p.goal; cells = o } ∷ all_watched_in all under)) watches.same
+          ∙ ap (λ (ws : List Watched). parted (all_watched_in cells left) (record { goal = p.goal; cells = Some its } ∷ ws)) (others under low ∙ sym theirs)
+          ∙ ap (λ (v : Watched). parted (all_watched_in cells left) (record { goal = v.goal; cells = Some its } ∷ rest)) (sym one)

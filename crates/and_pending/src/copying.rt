@@ -5,18 +5,20 @@ ghost use Rattle.and_pending.specs.Copies.{AreCopied, IsCopied};
 ghost use Rattle.and_pending.specs.Pending.{IsWithin};
 
 use crate::pending::PendingGoal;
-use crate::watch::range_of;
+use crate::watch::{Watch, range_of};
 use std::alloc::AllocError;
 
-/// How many cells a goal is watched by. Takes no memory.
+/// How many cells of a goal stand in a list. Takes no memory.
 fn width(pending: PendingGoal) -> usize {
     match pending.watch {
-        Some(range) => range.past.saturating_sub(range.first) as usize,
-        None => 0,
+        Watch::Listed { range } => range.past.saturating_sub(range.first) as usize,
+        Watch::Unwatched => 0,
+        Watch::One { cell: _ } => 0,
+        Watch::Two { one: _, other: _ } => 0,
     }
 }
 
-/// How many cells all of these goals are watched by. Takes no memory.
+/// How many cells of all of these goals stand in a list. Takes no memory.
 pub(crate) fn total_width(goals: &[PendingGoal]) -> usize {
     let mut total: usize = 0;
     for pending in goals {
@@ -52,14 +54,16 @@ fn with_cells(
     ensures { IfOk result (IsCopied from.now pending cells.old.items cells.new.items) }
 {
     match pending.watch {
-        None => Ok(pending),
-        Some(range) => {
+        Watch::Unwatched => Ok(pending),
+        Watch::One { cell: _ } => Ok(pending),
+        Watch::Two { one: _, other: _ } => Ok(pending),
+        Watch::Listed { range } => {
             let first = cells.len();
             cells.extend_from_slice(&from[range.first as usize..range.past as usize])?;
             let moved = range_of(first, cells.len())?;
             Ok(PendingGoal {
                 goal: pending.goal,
-                watch: Some(moved),
+                watch: Watch::Listed { range: moved },
             })
         }
     }

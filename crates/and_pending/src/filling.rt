@@ -3,8 +3,10 @@
 ghost use Rattle.std.specs.Prelude.{◌≡◌, ◌++◌, [], List, map, reverse, OnOk, OnErr};
 ghost use Rattle.and_model.specs.declared.goal.Goal.{Goal};
 ghost use Rattle.and_pending.specs.declared.pending.PendingGoal.{PendingGoal};
+ghost use Rattle.and_pending.specs.declared.watch.Watch.{Watch};
 
 use crate::pending::PendingGoal;
+use crate::watch::Watch;
 use and_model::Goal;
 use std::alloc::AllocError;
 
@@ -29,13 +31,14 @@ pub(crate) fn move_all(
 
 /// Puts goals at the end of a list, none of which is watched. An error is want of memory.
 pub(crate) fn put_goals(list: &mut Vec<PendingGoal>, goals: &[Goal]) -> Result<(), AllocError>
-    ensures { OnOk result (list.new.items ≡ list.old.items ++ map (λ g. record { goal = g; watch = None }) goals.now) }
+    ensures { OnOk result (list.new.items
+        ≡ list.old.items ++ map (λ g. record { goal = g; watch = Watch.Unwatched }) goals.now) }
 {
     list.reserve(goals.len())?;
     for goal in goals {
         list.push(PendingGoal {
             goal: *goal,
-            watch: None,
+            watch: Watch::Unwatched,
         })?;
     }
     Ok(())
@@ -85,9 +88,10 @@ pub(crate) fn fill(
 
 /// Watches none of these goals any longer. Takes no memory.
 pub(crate) fn stop_watching(list: &mut Vec<PendingGoal>)
-    ensures { list.new.items ≡ map (λ (p : PendingGoal). record { goal = p.goal; watch = None }) list.old.items }
+    ensures { list.new.items
+        ≡ map (λ (p : PendingGoal). record { goal = p.goal; watch = Watch.Unwatched }) list.old.items }
 {
     for place in 0..list.len() {
-        list[place].watch = None;
+        list[place].watch = Watch::Unwatched;
     }
 }

@@ -9,7 +9,7 @@ ghost use Rattle.and_pending.specs.Pending.{unwatched, watched_in, IsWithin};
 use crate::copying::{put_watched, total_width};
 use crate::filling::{fill, list_goals, list_reversed, move_all, put_goals, stop_watching};
 use crate::spares::{Spare, empty_lists, exchanged, given, have, put_by};
-use crate::watch::{Range, all_free, range_of};
+use crate::watch::{Watch, all_free, is_free, watch_by};
 use and_cells::{Naming, PlainCells};
 use and_model::Goal;
 use std::alloc::{AllocError, Global};
@@ -28,11 +28,11 @@ const CELLS_OF_A_GOAL: usize = 4;
 
 const CELLS_OF_A_FORK: usize = 16;
 
-/// A goal that is left, and where its cells are listed, if it is watched.
+/// A goal that is left, and by which cells it is watched, if it is.
 #[derive(Clone, Copy)]
 pub struct PendingGoal {
     pub goal: Goal,
-    pub(crate) watch: Option<Range>,
+    pub(crate) watch: Watch,
 }
 
 /// Goals that are left, in their order.
@@ -41,7 +41,7 @@ pub struct PendingGoals {
     left: Vec<PendingGoal>,
     /// and those from there on, the next one last.
     right: Vec<PendingGoal>,
-    /// The cells by which they are watched, and by which goals were that are gone.
+    /// The cells by which those are watched that are by more than two, and by which goals were that are gone.
     cells: Vec<u32>,
     /// Lists that are not in use.
     spares: Vec<Spare>,
@@ -250,6 +250,7 @@ impl PendingGoals {
     }
 
     /// Whether there is a next goal, which sleeps in a row. Takes no memory.
+    #[inline(always)]
     fn next_sleeps<N: Naming>(&self, row: &PlainCells<N>) -> bool
         ensures { result ≡ true → (w : Watched) × (rest : List Watched) × (self.now.right ≡ w ∷ rest)
             × Sleeps row.now w }
@@ -280,7 +281,10 @@ impl PendingGoals {
     pub fn push(&mut self, goal: Goal) -> Result<(), AllocError>
         ensures { OnOk result (self.new ≡ record { left = self.old.left; right = unwatched goal ∷ self.old.right }) }
     {
-        self.right.push(PendingGoal { goal, watch: None })?;
+        self.right.push(PendingGoal {
+            goal,
+            watch: Watch::Unwatched,
+        })?;
         Ok(())
     }
 
@@ -292,11 +296,9 @@ impl PendingGoals {
           right = record { goal = w.goal; cells = Some cells.now } ∷ rest;
         }) }
     {
-        let first = self.cells.len();
-        self.cells.extend_from_slice(cells)?;
-        let range = range_of(first, self.cells.len())?;
+        let watch = watch_by(&mut self.cells, cells)?;
         let last = self.right.len() - 1;
-        self.right[last].watch = Some(range);
+        self.right[last].watch = watch;
         Ok(())
     }
 
@@ -415,13 +417,18 @@ impl PendingGoals {
 }
 
 /// Whether a goal whose cells stand in a list sleeps in a row: it is watched, and they are free. Takes no memory.
+#[inline(always)]
 fn sleeps<N: Naming>(cells: &[u32], row: &PlainCells<N>, pending: PendingGoal) -> bool
     requires { IsWithin cells.now pending }
     ensures { result ≡ true → Sleeps row.now (watched_in cells.now pending) }
 {
     match pending.watch {
-        Some(range) => all_free(row, &cells[range.first as usize..range.past as usize]),
-        None => false,
+        Watch::Unwatched => false,
+        Watch::One { cell } => is_free(row, cell),
+        Watch::Two { one, other } => is_free(row, one) && is_free(row, other),
+        Watch::Listed { range } => {
+            all_free(row, &cells[range.first as usize..range.past as usize])
+        }
     }
 }
 
