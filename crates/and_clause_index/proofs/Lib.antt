@@ -2,6 +2,7 @@ pub mod Additions
 pub mod Calls
 pub mod ClauseLists
 pub mod Differing
+pub mod Doubled
 pub mod Entries
 pub mod Glimpses
 pub mod Left

@@ -117,7 +117,7 @@ marks_meet a b r one other = elim (bool_cases (nat_eq a 0)) [
 neither : (x y : Bool) → x ≡ false → y ≡ false → x || y ≡ false
 neither x y a b = rw (a, b) refl
 
-all_meet : (a b r : Marks) → MarksTell a r → MarksTell b r → marks_differ a b ≡ false
+pub all_meet : (a b r : Marks) → MarksTell a r → MarksTell b r → marks_differ a b ≡ false
 all_meet a b r one other =
     neither (differ a.own b.own || differ a.first b.first) (differ a.second b.second)
     (neither (differ a.own b.own) (differ a.first b.first) (marks_meet a.own b.own r.own one.own other.own)

@@ -1,11 +1,11 @@
 -- The print of a term: a mark for each of a few places, 0 where a variable or nothing stands there. Terms whose
 -- prints have two marks at one place have no instance in common (field-encoded words: Wise and Powers, 1984).
-use Rattle.std.specs.Prelude.{ℕ, zero, suc, ◌+◌, ◌-◌, ◌*◌, ◌%◌, ◌≡◌, ◌≢◌, ◌≤◌, Bool, not, ◌&&◌, ◌||◌, nat_eq, List}
+use Rattle.std.specs.Prelude.{ℕ, zero, suc, ◌+◌, ◌-◌, ◌*◌, ◌%◌, ◌≡◌, ◌≢◌, ◌<◌, ◌≤◌, Bool, not, ◌&&◌, ◌||◌, nat_eq, List}
 use Rattle.std.specs.Prelude.{length, get_or}
 use Rattle.std.specs.Int.RustNames.{unsigned_abs}
 use Rattle.and_model.specs.Terms.{Term, Terms, variable, number, compound, none, more}
 use Rattle.and_model.specs.Programs.{Program, clause_at}
-use Rattle.and_program.specs.Shown.{shown_term, argument_of}
+use Rattle.and_program.specs.Shown.{shown_term, argument_of, count_of}
 use Rattle.and_program.specs.declared.node.NodeKind.{NodeKind}
 use Rattle.and_program.specs.declared.node.NodeKind.TheVariants.{Variable, Number, Compound}
 use Rattle.and_clause_index.specs.declared.prints.Marks.{Marks}
@@ -68,6 +68,17 @@ are_apart p q =
 pub record ArePrints (P : Program) (prints : List Print) : Type 0 where
   pub many : length prints ≡ length P.clauses + 1
   pub each : (c : ℕ) → c ≤ length P.clauses → get_or prints c no_print ≡ print_of (clause_at P c).head
+
+-- ---- One variable twice
+
+-- Both are of one variable.
+abbrev pub AreOneVariable : NodeKind → NodeKind → Type 0
+AreOneVariable a b = (k : ℕ) × (a ≡ Variable k) × (b ≡ Variable k)
+
+-- The first two arguments of a term are the same.
+pub record IsDoubled (t : Term) : Type 0 where
+  pub there : 1 < count_of (shown_term t)
+  pub same : argument_of t 0 ≡ argument_of t 1
 
 -- ---- What is known of a print
 

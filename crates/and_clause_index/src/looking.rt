@@ -1,9 +1,10 @@
 //! A look at a call, before its clauses are tried: most heads that it can't be made one with have
 //! another print, and need no trial.
 
-ghost use Rattle.std.specs.Prelude.{◌≡◌, ◌<◌, ℕ, List, length};
+ghost use Rattle.std.specs.Prelude.{◌≡◌, ◌<◌, ◌≤◌, ℕ, true, List, length};
 ghost use Rattle.and_model.specs.Terms.{Term, Substitution, apply};
 ghost use Rattle.and_model.specs.Solutions.{Solves};
+ghost use Rattle.and_program.specs.Loaded.{program_of};
 ghost use Rattle.and_program.specs.Shown.{argument_of};
 ghost use Rattle.and_program.specs.Skeletons.{node_term};
 ghost use Rattle.and_model.specs.declared.reference.Ref.{Ref};
@@ -15,10 +16,10 @@ ghost use Rattle.and_branch_laws.specs.Variables.{placed};
 ghost use Rattle.and_clause_index.specs.Looks.{Fits, MayBe, IsGlimpse, IsGlimpseAt, IsSeenIn, IsCertain, IsLookOver};
 ghost use Rattle.and_clause_index.specs.Looks.{IsLook};
 ghost use Rattle.and_clause_index.specs.Prints.{Tells, MarksTell, mark, marks_at, argument_kind, are_apart, no_print};
-ghost use Rattle.and_clause_index.specs.Served.{AreServed};
+ghost use Rattle.and_clause_index.specs.Served.{NodeHas, AreServed};
 ghost use Rattle.and_clause_index.specs.Tables.{print_at, IsKnown};
 
-use crate::prints::{Marks, Print, count_in, mark_of};
+use crate::prints::{Marks, Print, count_in, is_doubled, mark_of};
 use crate::table::Determinacy;
 use and_cells::{Cells, deref};
 use and_model::{ClauseNo, NodeNo, Ref};
@@ -400,5 +401,19 @@ impl Look {
         ensures { result ≡ are_apart self.now.print (print_at table.now clause.0) }
     {
         self.print.is_apart(table.print(clause))
+    }
+
+    /// Whether the first two arguments of a clause's head are one variable, and those of the call can't be made one.
+    /// Takes no memory.
+    #[inline(always)]
+    pub fn is_doubled_apart(&self, loaded: &Loaded, clause: ClauseNo) -> bool
+        requires { clause.0 ≤ length (program_of loaded.now).clauses }
+        ensures { result ≡ true → (P : NamedProgram) (row : List Ref) (node base : ℕ) → P ≡ named loaded.now
+            → IsLook P row node base self.now → NodeHas P row node base clause → ⊥ }
+    {
+        if !self.print.first.is_apart(self.print.second) {
+            return false;
+        }
+        is_doubled(loaded, loaded.head(clause))
     }
 }

@@ -1,13 +1,13 @@
 //! Prints of terms: a small number for each of a few places, by which most heads that a call can't be
 //! made one with are told apart from it in one step.
 
-ghost use Rattle.std.specs.Prelude.{◌≡◌, ◌<◌, ◌+◌, ◌*◌, ◌%◌, length, All, IfOk};
+ghost use Rattle.std.specs.Prelude.{◌≡◌, ◌<◌, ◌≤◌, ◌+◌, ◌*◌, ◌%◌, true, length, All, IfOk};
 ghost use Rattle.and_model.specs.declared.numbers.ClauseNo.{ClauseNo};
 ghost use Rattle.and_program.specs.Loaded.{program_of, skeleton_of};
 ghost use Rattle.and_program.specs.Shown.{count_of, shown_term};
 ghost use Rattle.and_program.specs.Skeletons.{node_term};
 ghost use Rattle.and_clause_index.specs.Prints.{mark, argument_kind, marks_at, print_of, no_marks, no_print, differ};
-ghost use Rattle.and_clause_index.specs.Prints.{marks_differ, are_apart, ArePrints};
+ghost use Rattle.and_clause_index.specs.Prints.{marks_differ, are_apart, ArePrints, AreOneVariable, IsDoubled};
 
 use and_model::{ClauseNo, NodeNo};
 use and_program::{Loaded, NodeKind};
@@ -95,9 +95,18 @@ impl Marks {
         }
     }
 
+    /// Each is there.
+    fn each() -> Marks {
+        Marks {
+            own: 1,
+            first: 1,
+            second: 1,
+        }
+    }
+
     /// Whether two terms with these marks can't be made one.
     #[inline(always)]
-    fn is_apart(self, other: Marks) -> bool
+    pub(crate) fn is_apart(self, other: Marks) -> bool
         ensures { result ≡ marks_differ self other }
     {
         tells_apart(self.own, other.own)
@@ -116,6 +125,16 @@ impl Print {
             second: Marks::none(),
             third: 0,
             fourth: 0,
+        }
+    }
+
+    /// The same with marks of the first two arguments and of their arguments.
+    pub(crate) fn with_first_two(self) -> Print {
+        Print {
+            first: Marks::each(),
+            second: Marks::each(),
+            third: self.third,
+            fourth: self.fourth,
         }
     }
 
@@ -203,6 +222,55 @@ pub(crate) fn prints_of(alloc: Global, loaded: &Loaded) -> Result<Vec<Print>, Al
         prints.push(node_print(loaded, loaded.head(ClauseNo(number as u16))))?;
     }
     Ok(prints)
+}
+
+/// Whether a kind is that of a clause's variable with this number.
+fn is_variable(kind: NodeKind, number: u8) -> bool
+    ensures { result ≡ true → kind ≡ NodeKind.Variable number }
+{
+    match kind {
+        NodeKind::Variable(other) => other == number,
+        NodeKind::Number(_) => false,
+        NodeKind::Compound { name: _, count: _ } => false,
+    }
+}
+
+/// Whether two kinds are of one variable.
+fn are_one_variable(one: NodeKind, other: NodeKind) -> bool
+    ensures { result ≡ true → AreOneVariable one other }
+{
+    match one {
+        NodeKind::Variable(number) => is_variable(other, number),
+        NodeKind::Number(_) => false,
+        NodeKind::Compound { name: _, count: _ } => false,
+    }
+}
+
+/// Whether the first two arguments of a node are one variable. Takes no memory.
+pub(crate) fn is_doubled(loaded: &Loaded, node: NodeNo) -> bool
+    requires { node.0 < length (skeleton_of loaded.now).nodes }
+    ensures { result ≡ true → IsDoubled (node_term (skeleton_of loaded.now).nodes node.0) }
+{
+    loaded.skeleton_is_of_the_program();
+    let count = count_in(loaded.kind(node));
+    if count < 2 {
+        return false;
+    }
+    let first = loaded.argument(node, 0);
+    let second = loaded.argument(node, 1);
+    are_one_variable(loaded.kind(first), loaded.kind(second))
+}
+
+/// Whether the first two arguments of a head are one variable, among those of these clauses.
+pub(crate) fn has_doubled(loaded: &Loaded, clauses: &[ClauseNo]) -> bool
+    requires { All (λ (c : ClauseNo). c.0 ≤ length (program_of loaded.now).clauses) clauses.now }
+{
+    for clause in clauses {
+        if is_doubled(loaded, loaded.head(*clause)) {
+            return true;
+        }
+    }
+    false
 }
 
 /// The prints of the heads of these clauses put together: at each place a mark, if one of them has one there.

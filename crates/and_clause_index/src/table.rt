@@ -11,7 +11,7 @@ ghost use Rattle.and_clause_index.specs.Tables.{print_at, IsTableFor, IsEntryFor
 ghost use Rattle.and_clause_index.specs.Tables.{IsLonger, IsMade, StaysKnown, KnowsCalls, IsSifted};
 ghost use Rattle.and_clause_index.specs.Prints.{ArePrints};
 
-use crate::prints::{Print, count_in, joined, prints_of};
+use crate::prints::{Print, count_in, has_doubled, joined, prints_of};
 use crate::sieve::{Sieve, sieve_of};
 use and_first_argument::{Addition, FirstArguments, Key};
 use and_model::{ClauseNo, NodeNo};
@@ -284,6 +284,19 @@ fn table_of(
     Ok(Some(FirstArguments::of(alloc, &additions)?))
 }
 
+/// What is to be looked at in a call of these clauses: what the prints of their heads tell, and where the first two
+/// arguments of a head are one variable, these of the call. The prints of all heads are given.
+fn asked_of(loaded: &Loaded, prints: &[Print], clauses: &[ClauseNo]) -> Print
+    requires prints { All (λ (c : ClauseNo). c.0 < length prints.now) clauses.now }
+    requires clauses { All (λ (c : ClauseNo). c.0 ≤ length (program_of loaded.now).clauses) clauses.now }
+{
+    let asked = joined(prints, clauses);
+    if has_doubled(loaded, clauses) {
+        return asked.with_first_two();
+    }
+    asked
+}
+
 /// What is kept of the predicate of these clauses. The prints of all heads are given. An error is want of memory.
 fn entry_of(
     alloc: Global,
@@ -297,7 +310,7 @@ fn entry_of(
 {
     let by_first = table_of(alloc, loaded, clauses)?;
     let sieve = sieve_of(alloc, prints, clauses)?;
-    let asked = joined(prints, clauses);
+    let asked = asked_of(loaded, prints, clauses);
     let clauses = Vec::from_slice(alloc, clauses)?;
     Ok(Predicate {
         clauses,

@@ -133,8 +133,7 @@ impl Trials {
         if self.look.is_apart(table, clause) {
             return Ok(false);
         }
-        self.tools
-            .fits(loaded, cells, node, base, clause, &mut self.rests)
+        self.fits_left(loaded, cells, node, base, clause)
     }
 
     /// The same of a clause that was seen not to be told apart, without another look at its print.
@@ -151,6 +150,7 @@ impl Trials {
         requires short { length cells.old ≤ MAX_LIMIT }
         requires node { CanBeRead N.program cells.old base node.0 }
         requires of { Of N.program.program (node_term N.program.skeleton.nodes node.0) clause.0 }
+        requires look { IsLook N.program cells.old node.0 base self.old.look }
         ensures fits { (b : Bool) → result ≡ Ok b
             → (b ≡ true) ↔ Candidate N.program.program (equations_of N.program cells.old) outside
             (placed base (node_term N.program.skeleton.nodes node.0)) clause.0 }
@@ -161,6 +161,9 @@ impl Trials {
             StaysWhile N.program cells.old base (node_term N.program.skeleton.nodes node.0) has clause.0) }
         ensures same { result ≡ Ok false → self.new.rests ≡ self.old.rests }
     {
+        if self.look.is_doubled_apart(loaded, clause) {
+            return Ok(false);
+        }
         self.tools
             .fits(loaded, cells, node, base, clause, &mut self.rests)
     }

@@ -9,8 +9,8 @@ pub sieve_of-requires : goal.sieve_of-requires
 sieve_of-requires c =
     printed (program_of c.args.loaded.now) c.args.prints.now c.requires.prints c.args.clauses.now c.requires.clauses
 
-pub joined-asked-requires : goal.joined-asked-requires
-joined-asked-requires c =
+pub asked_of-asked-requires-clause-prints : goal.asked_of-asked-requires-clause-prints
+asked_of-asked-requires-clause-prints c =
     printed (program_of c.args.loaded.now) c.args.prints.now c.requires.prints c.args.clauses.now c.requires.clauses
 
 pub returns : goal.returns

@@ -1,0 +1,19 @@
+use Rattle.std.proofs.Common.{◌≡◌, ◌≤◌, false, true≢false, length, sym, subst, ◌∙◌}
+use Rattle.and_cells.specs.Ranges.{NamedProgram}
+use Rattle.and_clause_index.proofs.ClauseLists.{clause_there}
+use Rattle.and_program.specs.Skeletons.{node_term}
+use Rattle.and_determinacy.proofs.trying.Trials.fits_left.Goals as goal
+
+pub is_doubled_apart-requires : goal.is_doubled_apart-requires
+is_doubled_apart-requires g c =
+    let P = g.N.Naming.program in
+    let there = clause_there P.program (node_term P.skeleton.nodes c.args.node.0) c.args.clause.0 c.requires.of in
+    subst (λ (Q : NamedProgram). c.args.clause.0 ≤ length Q.program.clauses) c.requires.program there
+
+pub returns-then-is_doubled_apart-clause-fits : goal.returns-then-is_doubled_apart-clause-fits
+returns-then-is_doubled_apart-clause-fits g c = λ b e.
+    let same : false ≡ b = cc in (
+      (λ is. absurd (true≢false (sym is ∙ sym same))),
+      (λ has. absurd (c.is_doubled_apart.ensures c.if-is_doubled_apart.true g.N.Naming.program c.args.cells.now c.args.node.0 c.args.base
+          c.requires.program c.requires.look has)),
+    )
