@@ -84,6 +84,11 @@ fn is_false<N: Naming>(
         (node_term N.program.skeleton.nodes left.0) (node_term N.program.skeleton.nodes right.0) }
     ensures unchanged { cells.new ≡ cells.old }
 {
+    if let Some(first) = number_at_once(loaded, cells, base, left) {
+        if let Some(second) = number_at_once(loaded, cells, base, right) {
+            return Ok(numbers_fail(by, first, second));
+        }
+    }
     let first = evaluate(loaded, cells, base, left, values)?;
     let second = evaluate(loaded, cells, base, right, values)?;
     Ok(fails(by, first, second))
@@ -146,9 +151,16 @@ pub fn fails(by: Relation, left: Side, right: Side) -> bool
         Side::Number(a) => match right {
             Side::Waits { cell: _ } => false,
             Side::NoValue => true,
-            Side::Number(b) => !compare(by, a, b),
+            Side::Number(b) => numbers_fail(by, a, b),
         },
     }
+}
+
+/// Whether a comparison of these numbers is false.
+fn numbers_fail(by: Relation, a: i64, b: i64) -> bool
+    ensures { result ≡ sides_fail (relation by) (Side.Number a) (Side.Number b) }
+{
+    !compare(by, a, b)
 }
 
 /// Whether a side is not ground.

@@ -12,6 +12,7 @@ ghost use Rattle.and_cells.specs.Ranges.{pair_of};
 ghost use Rattle.and_cells.specs.Rows.{IsSound};
 ghost use Rattle.and_branch_laws.specs.Settling.{IsWritten};
 ghost use Rattle.and_branch_laws.specs.Goals.{CanBeRead};
+ghost use Rattle.and_guards.specs.Sides.{IsSide};
 ghost use Rattle.and_step_laws.specs.Assigning.{CanBeAssigned, IsFreePair};
 ghost use Rattle.and_step_laws.specs.Running.{Assigns, Compares, IsAskedFor, IsRunnable};
 ghost use Rattle.and_step_laws.specs.Runs.{CanBeRun, IsWaiting, WaitsFor, HasRun, CannotHold};
@@ -148,12 +149,37 @@ fn run_comparison<N: Naming>(
     ensures ran { IfOk result (RunsTo N.program cells.old cells.new goal) }
     ensures unchanged { cells.new ≡ cells.old }
 {
-    if let Some(first) = number_at_once(loaded, cells, goal.base, left) {
-        if let Some(second) = number_at_once(loaded, cells, goal.base, right) {
-            return Ok(compare_numbers(by, first, second));
-        }
-    }
-    compare_by_sides(loaded, cells, goal.base, by, left, right, values)
+    let Some(first) = number_at_once(loaded, cells, goal.base, left) else {
+        return compare_by_sides(loaded, cells, goal.base, by, left, right, values);
+    };
+    let Some(second) = number_at_once(loaded, cells, goal.base, right) else {
+        return compare_with_side(loaded, cells, goal.base, by, left, right, first, values);
+    };
+    Ok(compare_numbers(by, first, second))
+}
+
+/// The same of two nodes in the frame at the base, of which the left one comes to this number.
+#[inline(never)]
+fn compare_with_side<N: Naming>(
+    loaded: &Loaded,
+    cells: &mut PlainCells<N>,
+    base: u32,
+    by: Relation,
+    left: NodeNo,
+    right: NodeNo,
+    first: i64,
+    values: &mut WorkList,
+) -> Result<Ran, AllocError>
+    requires program { N.program ≡ named loaded.now }
+    requires settled { IsSettled N.program cells.old }
+    requires left { IsSide N.program cells.old base (node_term N.program.skeleton.nodes left.0) (Side.Number first) }
+    requires right { CanBeRead N.program cells.old base right.0 }
+    ensures compared { IfOk result (IsComparison N.program cells.old base (relation by)
+        (node_term N.program.skeleton.nodes left.0) (node_term N.program.skeleton.nodes right.0)) }
+    ensures unchanged { cells.new ≡ cells.old }
+{
+    let second = evaluate(loaded, cells, base, right, values)?;
+    Ok(compare_sides(by, Side::Number(first), second))
 }
 
 /// The same of two nodes in the frame at the base, by what is known of each. This stands in a call of its own that
