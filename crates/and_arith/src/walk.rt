@@ -329,6 +329,7 @@ fn of_one(name: NameNo, value: Option<i64>) -> Option<i64>
 }
 
 /// What the operation of that name gives for two values.
+#[inline(always)]
 pub(crate) fn of_two(name: NameNo, left: Option<i64>, right: Option<i64>) -> Option<i64>
     ensures { result ≡ operated name.0 (left ∷ right ∷ []) }
 {

@@ -42,6 +42,7 @@ pub struct Look {
 }
 
 /// What is known of the term of the end of a chain.
+#[inline(always)]
 fn kind_of<C: Cells>(loaded: &Loaded, cells: &mut C, at: Ref) -> NodeKind
     requires program { C.program ≡ named loaded.now }
     requires in_range { IsInRangeOrHalf C.program (C.seen cells.old).words at }

@@ -125,6 +125,7 @@ impl Predicate {
 impl Determinacy {
     /// The clauses of the predicate that a node calls which serve a first argument of which this is
     /// known.
+    #[inline(always)]
     pub fn clauses(&self, node: NodeNo, first: NodeKind) -> &[ClauseNo]
         ensures { result.now ≡ tried (entry_at self.now node.0) first }
     {

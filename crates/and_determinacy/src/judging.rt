@@ -84,6 +84,7 @@ fn node_of<N: Naming>(loaded: &Loaded, cells: &PlainCells<N>, goal: Goal) -> Nod
 
 /// Clauses of the predicate of the call that was looked at, in textual order, among which all its
 /// candidates are.
+#[inline(always)]
 fn clauses_to_try<'a, N: Naming>(
     table: &'a Determinacy,
     cells: &PlainCells<N>,

@@ -69,6 +69,7 @@ impl FirstArguments {
     }
 
     /// The clauses that serve this key, in order of adding. Takes no memory.
+    #[inline(always)]
     pub fn pick(&self, key: Key) -> &[ClauseNo]
         ensures { result.now ≡ clauses_under self.now key }
     {

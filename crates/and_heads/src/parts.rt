@@ -51,6 +51,7 @@ pub(crate) fn is_free<N: Naming>(cells: &PlainCells<N>, cell: u32) -> bool
 }
 
 /// What a reference begins with, if it is a node or a number.
+#[inline(always)]
 pub(crate) fn head_at<N: Naming>(loaded: &Loaded, cells: &PlainCells<N>, at: Ref) -> Option<Head>
     requires program { N.program ≡ named loaded.now }
     requires in_range { IsInRangeOrHalf N.program (length cells.now) at }
