@@ -271,7 +271,7 @@ impl<'a, N: Naming> Reducer<StoreCells<'a, N>> {
 }
 
 /// What became of a comparison.
-#[derive(Clone, Copy, PartialEq, Eq, Debug)]
+#[derive(Clone, Copy)]
 enum Compared {
     /// Both sides have values, and it holds of them or not.
     Made { holds: bool },

@@ -11,12 +11,22 @@ use std::alloc::Global;
 use std::marker::Model;
 
 /// Goals that wait, each for a cell.
-#[derive(Drop)]
 pub struct Suspended {
     goals: Vec<Goal>,
     cells: Vec<u32>,
     /// Looks go from here to the first place, and then from the last place to here.
     from: usize,
+}
+
+// By hand, so that it is proved once, here.
+impl Drop for Suspended {
+    fn drop(self) {
+        let Suspended {
+            goals: _,
+            cells: _,
+            from: _,
+        } = self;
+    }
 }
 
 impl Model for Suspended {

@@ -45,15 +45,34 @@ pub struct Shared<'a, N: Naming, G: Gate> {
 }
 
 /// What a worker begins with.
-#[derive(Drop)]
 pub struct Beginning {
     pub number: u32,
     pub pass: Pass,
     pub hand: Hand,
 }
 
+// By hand, so that it is proved once, here.
+impl Drop for Beginning {
+    fn drop(self) {
+        let Beginning {
+            number: _,
+            pass: _,
+            hand: _,
+        } = self;
+    }
+}
+
+impl Beginning {
+    /// The worker's number, its pass and its hand. Takes no memory.
+    fn into_parts(self) -> (u32, Pass, Hand)
+        ensures { (result.0 ≡ self.number) × (result.1 ≡ self.pass) }
+    {
+        let Beginning { number, pass, hand } = self;
+        (number, pass, hand)
+    }
+}
+
 /// A worker.
-#[derive(Drop)]
 pub(crate) struct Reducer<C: Cells> {
     pub number: u32,
     pub hand: Hand,
@@ -68,8 +87,55 @@ pub(crate) struct Reducer<C: Cells> {
     pub values: WorkList,
 }
 
+// By hand, so that it is proved once, here.
+impl<C: Cells> Drop for Reducer<C> {
+    fn drop(self) {
+        let Reducer {
+            number: _,
+            hand: _,
+            own: _,
+            suspended: _,
+            told: _,
+            clauses: _,
+            pairs: _,
+            scratch: _,
+            selector: _,
+            values: _,
+        } = self;
+    }
+}
+
+impl<C: Cells> Reducer<C> {
+    /// What it hands on. Takes no memory.
+    fn into_told(self) -> HandedOn
+        ensures { result ≡ self.told }
+    {
+        let Reducer {
+            number: _,
+            hand,
+            own,
+            suspended,
+            told,
+            clauses,
+            pairs,
+            scratch,
+            selector,
+            values,
+        } = self;
+        drop(hand);
+        drop(own);
+        drop(suspended);
+        drop(clauses);
+        drop(pairs);
+        drop(scratch);
+        drop(selector);
+        drop(values);
+        told
+    }
+}
+
 /// What a turn came to.
-#[derive(Clone, Copy, PartialEq, Eq, Debug)]
+#[derive(Clone, Copy)]
 pub(crate) enum Turn {
     /// Something was done for a goal.
     Worked,
@@ -93,24 +159,27 @@ pub fn work<'a, N: Naming, G: Gate>(shared: &Shared<'a, N, G>, job: Beginning) -
     ensures store { result.pass.store ≡ shared.now.store.now }
     ensures hands_on { IfSome result.told (λ told. HandsOn N.program told result.pass) }
 {
-    let Beginning { number, pass, hand } = job;
+    let (number, pass, hand) = job.into_parts();
     let mut reducer = Reducer::new(shared.alloc, number, hand);
     let cells = StoreCells::new(shared.store, pass);
     let (cells, worked) = reducer.run(shared, cells);
     match worked {
         Ok(()) => Ended {
             pass: cells.into_pass(),
-            told: Some(reducer.told),
+            told: Some(reducer.into_told()),
         },
-        Err(_) => Ended {
-            pass: cells.into_pass(),
-            told: None,
-        },
+        Err(_) => {
+            drop(reducer);
+            Ended {
+                pass: cells.into_pass(),
+                told: None,
+            }
+        }
     }
 }
 
 /// What a worker does after a turn.
-#[derive(Clone, Copy, PartialEq, Eq, Debug)]
+#[derive(Clone, Copy)]
 enum Going {
     On,
     Stop,

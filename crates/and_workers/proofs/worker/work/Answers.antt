@@ -7,4 +7,4 @@ run-cells-requires-clause-at_work g c κs within =
     let told = c.new-reducer.ensures.told in
     fresh_at_work g.N.Naming.program c.new-reducer.result.told c.new-reducer.result.suspended c.new-cells.result.pass c.args.shared.now.store.now
     c.args.job.number
-    (c.new-cells.ensures.1 ∙ c.requires.fresh) told.0 told.1 told.2 told.3 c.new-reducer.ensures.suspended
+    (c.new-cells.ensures.1 ∙ c.into_parts-number.ensures.1 ∙ c.requires.fresh) told.0 told.1 told.2 told.3 c.new-reducer.ensures.suspended
