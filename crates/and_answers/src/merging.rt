@@ -54,6 +54,8 @@ fn merged(run: Run, other: Run) -> Result<Run, AllocError>
     let Run { tails: mut one } = run;
     let Run { tails: mut other } = other;
     let mut tails = Vec::new(*one.allocator());
+    // Room for all of them at once, so that none is moved while others come.
+    tails.reserve(one.len().saturating_add(other.len()))?;
     while let Some(first) = next(&mut one, &mut other)? {
         tails.push(first)?;
     }
