@@ -17,6 +17,7 @@ use Rattle.and_cells.specs.declared.naming.Naming.{Ghosts}
 use Rattle.and_tasks.specs.Working.{Works, AreServed, IsAtWork}
 use Rattle.and_teams.specs.Ended.{IsFresh, AreFresh, IsWorked, AreDone}
 use Rattle.and_tasks.specs.declared.team.Team.{Team}
+use Rattle.and_teams.specs.declared.work.Beginning.{Beginning}
 use Rattle.and_teams.specs.declared.work.Worked.{Worked}
 use Rattle.and_teams.proofs.Gathering.{AreDoneDown}
 
@@ -79,93 +80,107 @@ last_team tree count passes rest pass are is =
 
 -- ---- a team with no task, that has done nothing
 
-fresh_works : {N : Type 0} {G : Ghosts N} (P : NamedProgram) (tree : TreeId) (number : ℕ) (t : Team N G) → IsFresh tree number t
+-- (of a team that was made with a fresh pass)
+abbrev pub IsNew : {N : Type 0} {G : Ghosts N} → PassSeen → Team N G → Type 0
+IsNew pass t =
+    (t.pass ≡ pass) × (listed t.found ≡ []) × (t.found.cut ≡ None) × (t.found.forks ≡ 0) × (t.found.failed ≡ 0) × (t.stack.items ≡ [])
+
+new_works : {N : Type 0} {G : Ghosts N} (P : NamedProgram) (tree : TreeId) (number : ℕ) (t : Team N G) → IsNew (fresh tree number) t
     → Works P tree t.pass t.found t.stack.items
-fresh_works P tree number t f =
-    subst (λ (p : PassSeen). Works P tree p t.found t.stack.items) (sym f.pass_is)
-    (subst (λ tasks. Works P tree (fresh tree number) t.found tasks) (sym f.stack) (record {
+new_works P tree number t new =
+    subst (λ (p : PassSeen). Works P tree p t.found t.stack.items) (sym new.0)
+    (subst (λ tasks. Works P tree (fresh tree number) t.found tasks) (sym new.5) (record {
       has = record { of_tree = refl; hand = λ g. refl; tasks_are = tt };
       tells = record {
         forks = 0;
         failed = 0;
         is_cut = false;
-        did = subst (λ es. DidAll P.program tree.about.limit [] es 0 0 false) (sym f.entries) DidAll.none;
-        counted = f.forks;
-        failed_are = f.failed;
-        end = subst (λ c. IsEndSoFar P.program tree.about.limit t.found 0 0 false c) (sym f.cut) (refl, f.forks, f.failed);
+        did = subst (λ es. DidAll P.program tree.about.limit [] es 0 0 false) (sym new.1) DidAll.none;
+        counted = new.3;
+        failed_are = new.4;
+        end = subst (λ c. IsEndSoFar P.program tree.about.limit t.found 0 0 false c) (sym new.2) (refl, new.3, new.4);
       };
     }))
 
-pub fresh_at_work : {N : Type 0} {G : Ghosts N} (P : NamedProgram) (tree : TreeId) (number : ℕ) (t : Team N G) → IsFresh tree number t
+pub new_at_work : {N : Type 0} {G : Ghosts N} (P : NamedProgram) (tree : TreeId) (number : ℕ) (t : Team N G) → IsNew (fresh tree number) t
     → IsAtWork P tree t.pass t.found t.stack.items t.left
-fresh_at_work P tree number t f = record {
-  works = fresh_works P tree number t f;
-  served = subst (λ tasks. AreServed t.left tasks) (sym f.stack) tt;
+new_at_work P tree number t new = record {
+  works = new_works P tree number t new;
+  served = subst (λ tasks. AreServed t.left tasks) (sym new.5) tt;
 }
 
--- One team more, in front of those that are made.
-pub begun_one : {N : Type 0} {G : Ghosts N} (tree : TreeId) (count : ℕ) (teams : List (Team N G)) (passes rest : List PassSeen)
-    (pass : PassSeen) (t : Team N G)
+-- The beginning of one team more, in front of those that are made.
+pub begun_one : {N : Type 0} {G : Ghosts N} (tree : TreeId) (count : ℕ) (teams : List (Beginning N G)) (passes rest : List PassSeen)
+    (pass : PassSeen) (t : Beginning N G)
     → passes ≡ fresh_from tree 0 count → passes ≡ rest ++ pass ∷ [] → AreFresh tree count (reverse teams)
-    → (t.pass ≡ pass) × (listed t.found ≡ []) × (t.found.cut ≡ None) × (t.found.forks ≡ 0) × (t.found.failed ≡ 0) × (t.stack.items ≡ [])
+    → t.pass ≡ pass
     → (less : ℕ) × (count ≡ suc less) × (rest ≡ fresh_from tree 0 less) × AreFresh tree less (reverse (teams ++ t ∷ []))
 begun_one tree count teams passes rest pass t are is others_fresh new =
     let (less, more, others, last) = last_fresh tree count rest pass (sym are ∙ is) in
-    let seen : t.pass ≡ fresh tree less = new.0 ∙ last in
+    let seen : t.pass ≡ fresh tree less = new ∙ last in
     let here : IsFresh tree less t = record {
       number_is = sym t.number_is ∙ ap (λ (p : PassSeen). p.team) seen;
       pass_is = seen;
-      entries = new.1;
-      cut = new.2;
-      forks = new.3;
-      failed = new.4;
-      stack = new.5;
     } in
     let all : AreFresh tree less (t ∷ reverse teams) = (here, subst (λ n. AreFresh tree n (reverse teams)) more others_fresh) in
     (less, more, others, subst (λ l. AreFresh tree less l) (sym (reverse-append teams (t ∷ []))) all)
 
 -- (of a list that is the same)
-pub fresh_items : {N : Type 0} {G : Ghosts N} (tree : TreeId) (count : ℕ) (teams others : List (Team N G)) → others ≡ teams
+pub fresh_items : {N : Type 0} {G : Ghosts N} (tree : TreeId) (count : ℕ) (teams others : List (Beginning N G)) → others ≡ teams
     → AreFresh tree count (reverse teams) → AreFresh tree count (reverse others)
 fresh_items tree count teams others same f = subst (λ l. AreFresh tree count (reverse l)) (sym same) f
+
+-- ---- teams that are done, the first first
+
+module _ {N : Type 0} (P : Program) (tree : TreeId) where
+  done_and_last : (n : ℕ) (ws : List (Worked N)) (w : Worked N) → AreDone P tree n ws → IsWorked P tree (n + length ws) w
+      → AreDone P tree n (ws ++ w ∷ [])
+  done_and_last n [] w d last = (subst (λ k. IsWorked P tree k w) (omega arith) last, tt)
+  done_and_last n (x ∷ ws) w d last = (d.0, done_and_last (suc n) ws w d.1 (subst (λ k. IsWorked P tree k w) (omega arith) last))
+
+  done_up : (ws : List (Worked N)) → AreDoneDown P tree ws → AreDone P tree 0 (reverse ws)
+  done_up [] d = tt
+  done_up (w ∷ ws) d =
+      subst (λ l. AreDone P tree 0 l) (sym (reverse-cons w ws))
+      (done_and_last 0 (reverse ws) w (done_up ws d.1) (subst (λ k. IsWorked P tree k w) (omega (arith, length-reverse ws)) d.0))
 
 -- ---- teams, the last first
 
 module _ {N : Type 0} {G : Ghosts N} (tree : TreeId) where
-  abbrev AreFreshDown : List (Team N G) → Type 0
+  abbrev AreFreshDown : List (Beginning N G) → Type 0
   AreFreshDown [] = Unit {0}
   AreFreshDown (t ∷ ts) = IsFresh tree (length ts) t × AreFreshDown ts
 
-  fresh_but_last : (n : ℕ) (ts : List (Team N G)) (t : Team N G) → AreFresh tree n (ts ++ t ∷ []) → AreFresh tree n ts × IsFresh tree (n + length ts) t
+  fresh_but_last : (n : ℕ) (ts : List (Beginning N G)) (t : Beginning N G) → AreFresh tree n (ts ++ t ∷ [])
+      → AreFresh tree n ts × IsFresh tree (n + length ts) t
   fresh_but_last n [] t f = (tt, subst (λ k. IsFresh tree k t) (omega arith) f.0)
   fresh_but_last n (x ∷ ts) t f =
       let (rest, last) = fresh_but_last (suc n) ts t f.1 in
       ((f.0, rest), subst (λ k. IsFresh tree k t) (omega arith) last)
 
-  fresh_down : (ts : List (Team N G)) → AreFresh tree 0 (reverse ts) → AreFreshDown ts
+  fresh_down : (ts : List (Beginning N G)) → AreFresh tree 0 (reverse ts) → AreFreshDown ts
   fresh_down [] f = tt
   fresh_down (t ∷ ts) f =
       let (rest, last) = fresh_but_last 0 (reverse ts) t (subst (λ l. AreFresh tree 0 l) (reverse-cons t ts) f) in
       (subst (λ k. IsFresh tree k t) (omega (arith, length-reverse ts)) last, fresh_down ts rest)
 
-  all_down : (P : NamedProgram) (ts : List (Team N G)) → AreFreshDown ts
-      → All (λ (t : Team N G). IsAtWork P tree t.pass t.found t.stack.items t.left) ts
-  all_down P [] f = all_none (λ (t : Team N G). IsAtWork P tree t.pass t.found t.stack.items t.left)
-  all_down P (t ∷ ts) f =
-      All-cons (λ (t : Team N G). IsAtWork P tree t.pass t.found t.stack.items t.left) t ts (fresh_at_work P tree (length ts) t f.0) (all_down P ts f.1)
+  all_down : (ts : List (Beginning N G)) → AreFreshDown ts → All (λ (t : Beginning N G). t.pass ≡ fresh tree t.number) ts
+  all_down [] f = all_none (λ (t : Beginning N G). t.pass ≡ fresh tree t.number)
+  all_down (t ∷ ts) f =
+      All-cons (λ (t : Beginning N G). t.pass ≡ fresh tree t.number) t ts (f.0.pass_is ∙ ap (fresh tree) (sym f.0.number_is)) (all_down ts f.1)
 
-  -- Each of them is at work.
-  pub all_at_work : (P : NamedProgram) (ts : List (Team N G)) → AreFresh tree 0 (reverse ts)
-      → All (λ (t : Team N G). IsAtWork P tree t.pass t.found t.stack.items t.left) ts
-  all_at_work P ts f = all_down P ts (fresh_down ts f)
+  -- Each of them has the fresh pass of its number.
+  pub all_fresh : (ts : List (Beginning N G)) → AreFresh tree 0 (reverse ts)
+      → All (λ (t : Beginning N G). t.pass ≡ fresh tree t.number) ts
+  all_fresh ts f = all_down ts (fresh_down ts f)
 
   module _ (P : Program) where
     -- what each team was when it had worked
-    abbrev HaveWorked : List (Team N G) → List (Worked N G) → Type 0
-    HaveWorked ts ws = (i : ℕ) (t : Team N G) (w : Worked N G) → i < length ts → t ≡ slice_index_or ts i t → w ≡ slice_index_or ws i w
+    abbrev HaveWorked : List (Beginning N G) → List (Worked N) → Type 0
+    HaveWorked ts ws = (i : ℕ) (t : Beginning N G) (w : Worked N) → i < length ts → t ≡ slice_index_or ts i t → w ≡ slice_index_or ws i w
         → IsWorked P tree t.number w
 
-    worked_down : (ts : List (Team N G)) (ws : List (Worked N G)) → length ws ≡ length ts → AreFreshDown ts → HaveWorked ts ws → AreDoneDown P tree ws
+    worked_down : (ts : List (Beginning N G)) (ws : List (Worked N)) → length ws ≡ length ts → AreFreshDown ts → HaveWorked ts ws → AreDoneDown P tree ws
     worked_down [] [] long f each = tt
     worked_down [] (w ∷ ws) long f each = absurd (omega (arith, long))
     worked_down (t ∷ ts) [] long f each = absurd (omega (arith, long))
@@ -175,18 +190,7 @@ module _ {N : Type 0} {G : Ghosts N} (tree : TreeId) where
           worked_down ts ws shorter f.1 (λ i x y within is at. each (suc i) x y (omega (arith, within)) is at),
         )
 
-    done_and_last : (n : ℕ) (ws : List (Worked N G)) (w : Worked N G) → AreDone P tree n ws → IsWorked P tree (n + length ws) w
-        → AreDone P tree n (ws ++ w ∷ [])
-    done_and_last n [] w d last = (subst (λ k. IsWorked P tree k w) (omega arith) last, tt)
-    done_and_last n (x ∷ ws) w d last = (d.0, done_and_last (suc n) ws w d.1 (subst (λ k. IsWorked P tree k w) (omega arith) last))
-
-    done_up : (ws : List (Worked N G)) → AreDoneDown P tree ws → AreDone P tree 0 (reverse ws)
-    done_up [] d = tt
-    done_up (w ∷ ws) d =
-        subst (λ l. AreDone P tree 0 l) (sym (reverse-cons w ws))
-        (done_and_last 0 (reverse ws) w (done_up ws d.1) (subst (λ k. IsWorked P tree k w) (omega (arith, length-reverse ws)) d.0))
-
     -- All of them are done when each has worked.
-    pub all_done : (ts : List (Team N G)) (ws : List (Worked N G)) → AreFresh tree 0 (reverse ts) → length ws ≡ length ts → HaveWorked ts ws
+    pub all_done : (ts : List (Beginning N G)) (ws : List (Worked N)) → AreFresh tree 0 (reverse ts) → length ws ≡ length ts → HaveWorked ts ws
         → AreDone P tree 0 (reverse ws)
-    all_done ts ws f long each = done_up ws (worked_down ts ws long (fresh_down ts f) each)
+    all_done ts ws f long each = done_up P tree ws (worked_down ts ws long (fresh_down ts f) each)

@@ -1,7 +1,6 @@
 -- All teams are done, and their tree is closed.
 use Rattle.std.proofs.Common.{ℕ, ◌≡◌, ◌<◌, List, reverse, length, sym, ap, subst, ◌∙◌, arith, All}
 use Rattle.and_model.specs.Programs.{Program}
-use Rattle.and_cells.specs.declared.naming.Naming.{Ghosts}
 use Rattle.and_histories.specs.Histories.{HistoryEntry}
 use Rattle.and_tree.specs.Sight.{About}
 use Rattle.and_tree.specs.Passes.{TreeId, PassSeen}
@@ -13,8 +12,8 @@ use Rattle.and_teams.specs.declared.work.Worked.{Worked}
 use Rattle.and_teams.proofs.Gathering.{done_down, Seats, seats}
 use Rattle.and_teams.proofs.Whole.{IsWhole, whole}
 
-module _ {N : Type 0} {G : Ghosts N} (P : Program) (limit teams : ℕ) (tree : TreeId) (about : tree.about ≡ record { teams = teams; limit = limit })
-    (ws : List (Worked N G)) (done : AreDone P tree 0 (reverse ws)) (many : length ws ≡ teams) (found : Found) (passes : List PassSeen)
+module _ {N : Type 0} (P : Program) (limit teams : ℕ) (tree : TreeId) (about : tree.about ≡ record { teams = teams; limit = limit })
+    (ws : List (Worked N)) (done : AreDone P tree 0 (reverse ws)) (many : length ws ≡ teams) (found : Found) (passes : List PassSeen)
     (all_found : AllFound ws found passes) where
   seats_are : Seats tree (length ws) passes
   seats_are = seats P tree ws found passes all_found (done_down P tree ws done)

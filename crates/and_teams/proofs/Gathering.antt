@@ -23,7 +23,6 @@ use Rattle.and_search_laws.specs.Ended.{IsEndSoFar}
 use Rattle.and_team_laws.specs.Done.{DidAll, Part, DidParts, all_parts}
 use Rattle.and_team_laws.proofs.Bools.{or_assoc, or_false}
 use Rattle.std.proofs.Math.Bool.{or-true}
-use Rattle.and_cells.specs.declared.naming.Naming.{Ghosts}
 use Rattle.and_tasks.specs.Working.{Tells, SeesNone}
 use Rattle.and_teams.specs.Ended.{IsWorked, AreDone, AllFound}
 use Rattle.and_teams.specs.declared.work.Worked.{Worked}
@@ -226,28 +225,28 @@ module _ (P : Program) (tree : TreeId) where
             ∙ ap kept_count (sym (failed_more r.parts part));
       }
 
-module _ {N : Type 0} {G : Ghosts N} (P : Program) (tree : TreeId) where
+module _ {N : Type 0} (P : Program) (tree : TreeId) where
   -- ---- the teams, the last first
 
   -- All teams below that number have worked, the last first.
-  abbrev pub AreDoneDown : List (Worked N G) → Type 0
+  abbrev pub AreDoneDown : List (Worked N) → Type 0
   AreDoneDown [] = Unit {0}
   AreDoneDown (w ∷ worked) = IsWorked P tree (length worked) w × AreDoneDown worked
 
-  done_but_last : (n : ℕ) (ws : List (Worked N G)) (w : Worked N G) → AreDone P tree n (ws ++ w ∷ [])
+  done_but_last : (n : ℕ) (ws : List (Worked N)) (w : Worked N) → AreDone P tree n (ws ++ w ∷ [])
       → AreDone P tree n ws × IsWorked P tree (n + length ws) w
   done_but_last n [] w d = (tt, subst (λ k. IsWorked P tree k w) (omega arith) d.0)
   done_but_last n (x ∷ ws) w d =
       let (rest, last) = done_but_last (suc n) ws w d.1 in
       ((d.0, rest), subst (λ k. IsWorked P tree k w) (omega arith) last)
 
-  pub done_down : (ws : List (Worked N G)) → AreDone P tree 0 (reverse ws) → AreDoneDown ws
+  pub done_down : (ws : List (Worked N)) → AreDone P tree 0 (reverse ws) → AreDoneDown ws
   done_down [] d = tt
   done_down (w ∷ ws) d =
       let (rest, last) = done_but_last 0 (reverse ws) w (subst (λ l. AreDone P tree 0 l) (reverse-cons w ws) d) in
       (subst (λ k. IsWorked P tree k w) (omega (arith, length-reverse ws)) last, done_down ws rest)
 
-  pub seats : (ws : List (Worked N G)) (found : Found) (passes : List PassSeen) → AllFound ws found passes → AreDoneDown ws → Seats tree (length ws) passes
+  pub seats : (ws : List (Worked N)) (found : Found) (passes : List PassSeen) → AllFound ws found passes → AreDoneDown ws → Seats tree (length ws) passes
   seats [] found passes a d = subst (λ l. Seats tree 0 l) (sym a.4) (record {
     of_tree = all_none (λ (p : PassSeen). p.tree ≡ tree);
     long = refl;
@@ -256,25 +255,25 @@ module _ {N : Type 0} {G : Ghosts N} (P : Program) (tree : TreeId) where
   })
   seats (w ∷ ws) found passes (failed, others, rest, a, merges, are) (worked, d) =
       subst (λ l. Seats tree (suc (length ws)) l) (sym are)
-      (seat_more tree (length ws) rest w.team.pass (seats ws others rest a d) worked.of_tree (w.team.number_is ∙ worked.number_is))
+      (seat_more tree (length ws) rest w.pass (seats ws others rest a d) worked.of_tree worked.number_is)
 
-  pub one_sees : (ws : List (Worked N G)) (found : Found) (passes : List PassSeen) → AllFound ws found passes → AreDoneDown ws → 0 < length ws
+  pub one_sees : (ws : List (Worked N)) (found : Found) (passes : List PassSeen) → AllFound ws found passes → AreDoneDown ws → 0 < length ws
       → OneSees passes
   one_sees [] found passes a d some = absurd (omega (arith, some))
   one_sees (w ∷ ws) found passes (failed, others, rest, a, merges, are) (worked, d) some = record {
-    pass = w.team.pass;
-    among = subst (λ l. Contains l w.team.pass) (sym are) (Contains-push rest w.team.pass);
+    pass = w.pass;
+    among = subst (λ l. Contains l w.pass) (sym are) (Contains-push rest w.pass);
     none = (worked.done failed).none_left;
   }
 
-  pub together : (history : List HistoryEntry) (ws : List (Worked N G)) (found : Found) (passes : List PassSeen) → AllFound ws found passes
+  pub together : (history : List HistoryEntry) (ws : List (Worked N)) (found : Found) (passes : List PassSeen) → AllFound ws found passes
       → AreDoneDown ws → Own history passes → Together P tree history (length ws) found passes
   together history [] found passes a d own = none_together P tree history found passes a.0 a.1 a.2 a.3 a.4
   together history (w ∷ ws) found passes (failed, others, rest, a, merges, are) (worked, d) own =
-      let pass : PassSeen = w.team.pass in
+      let pass : PassSeen = w.pass in
       let here : Own history (rest ++ pass ∷ []) = subst (Own history) are own in
       let done = worked.done failed in
       let before = together history ws others rest a d (all_front (λ (p : PassSeen). calls history p.team ≡ calls p.seen p.team) rest pass here) in
       subst (λ l. Together P tree history (suc (length ws)) found l) (sym are)
-      (one_together P tree history (length ws) others w.team.found found rest pass before done.tells merges (w.team.number_is ∙ worked.number_is)
+      (one_together P tree history (length ws) others w.found found rest pass before done.tells merges worked.number_is
       (all_last (λ (p : PassSeen). calls history p.team ≡ calls p.seen p.team) rest pass here))

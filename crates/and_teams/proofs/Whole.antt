@@ -36,7 +36,6 @@ use Rattle.and_team_laws.proofs.Listed.{any_order_once, any_order_listing}
 use Rattle.and_team_laws.proofs.Teams.{did_together}
 use Rattle.and_team_laws.proofs.Told.{history_answers, history_gives_none}
 use Rattle.and_team_laws.proofs.Walked.{history_walked}
-use Rattle.and_cells.specs.declared.naming.Naming.{Ghosts}
 use Rattle.and_teams.specs.Ended.{AreDone, AllFound, IsRun}
 use Rattle.and_teams.specs.declared.work.Worked.{Worked}
 use Rattle.and_teams.proofs.Counted.{history_tally}
@@ -76,8 +75,8 @@ module _ (P : Program) (limit teams : ℕ) (found : Found) (history : List Histo
     pub counted : counts ≡ tally_of history
     pub failed_are : found.failed ≡ kept_count failed
 
-module _ {N : Type 0} {G : Ghosts N} (P : Program) (tree : TreeId) where
-  pub whole : (ws : List (Worked N G)) (found : Found) (passes : List PassSeen) (history : List HistoryEntry) (counts : Tally)
+module _ {N : Type 0} (P : Program) (tree : TreeId) where
+  pub whole : (ws : List (Worked N)) (found : Found) (passes : List PassSeen) (history : List HistoryEntry) (counts : Tally)
       → AllFound ws found passes → AreDone P tree 0 (reverse ws) → length ws ≡ tree.about.teams → 0 < tree.about.teams
       → Closes tree.about passes history counts → IsWhole P tree.about.limit tree.about.teams found history counts
   whole ws found passes history counts all_found done many some closes =

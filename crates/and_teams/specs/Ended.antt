@@ -20,45 +20,40 @@ use Rattle.and_answers.specs.declared.found.Found.{Found}
 use Rattle.and_search_laws.specs.Found.{kept_count}
 use Rattle.and_cells.specs.declared.naming.Naming.{Ghosts}
 use Rattle.and_tasks.specs.Working.{IsDone}
-use Rattle.and_tasks.specs.declared.team.Team.{Team}
+use Rattle.and_teams.specs.declared.work.Beginning.{Beginning}
 use Rattle.and_teams.specs.declared.work.Worked.{Worked}
 
 -- The team of this number has done nothing.
-pub record IsFresh {N : Type 0} {G : Ghosts N} (tree : TreeId) (number : ℕ) (t : Team N G) : Type 0 where
+pub record IsFresh {N : Type 0} {G : Ghosts N} (tree : TreeId) (number : ℕ) (t : Beginning N G) : Type 0 where
   pub number_is : t.number ≡ number
   pub pass_is : t.pass ≡ fresh tree number
-  pub entries : listed t.found ≡ []
-  pub forks : t.found.forks ≡ 0
-  pub failed : t.found.failed ≡ 0
-  pub cut : t.found.cut ≡ None
-  pub stack : t.stack.items ≡ []
 
 -- So it is of all teams from this number on.
-abbrev pub AreFresh : {N : Type 0} {G : Ghosts N} → TreeId → (number : ℕ) → List (Team N G) → Type 0
+abbrev pub AreFresh : {N : Type 0} {G : Ghosts N} → TreeId → (number : ℕ) → List (Beginning N G) → Type 0
 AreFresh tree number [] = Unit {0}
 AreFresh tree number (t ∷ teams) = IsFresh tree number t × AreFresh tree (suc number) teams
 
 -- The team of this number has worked: it is done, or after want of memory no key is in its hand.
-pub record IsWorked {N : Type 0} {G : Ghosts N} (P : Program) (tree : TreeId) (number : ℕ)
-    (w : Worked N G) : Type 0 where
-  pub number_is : w.team.number ≡ number
-  pub of_tree : w.team.pass.tree ≡ tree
-  pub done : w.has_failed ≡ false → IsDone P tree w.team.pass w.team.found
-  pub given_up : w.has_failed ≡ true → w.team.pass.hand ≡ []
+pub record IsWorked {N : Type 0} (P : Program) (tree : TreeId) (number : ℕ)
+    (w : Worked N) : Type 0 where
+  pub number_is : w.pass.team ≡ number
+  pub of_tree : w.pass.tree ≡ tree
+  pub done : w.has_failed ≡ false → IsDone P tree w.pass w.found
+  pub given_up : w.has_failed ≡ true → w.pass.hand ≡ []
 
 -- So it is of all teams from this number on.
-abbrev pub AreDone : {N : Type 0} {G : Ghosts N} → Program → TreeId → (number : ℕ) → List (Worked N G) → Type 0
+abbrev pub AreDone : {N : Type 0} → Program → TreeId → (number : ℕ) → List (Worked N) → Type 0
 AreDone P tree number [] = Unit {0}
 AreDone P tree number (w ∷ worked) = IsWorked P tree number w × AreDone P tree (suc number) worked
 
 -- None met want of memory. What was found is what all found, those of the last in the list first, and these are their
 -- passes.
-abbrev pub AllFound : {N : Type 0} {G : Ghosts N} → List (Worked N G) → Found → List PassSeen → Type 0
+abbrev pub AllFound : {N : Type 0} → List (Worked N) → Found → List PassSeen → Type 0
 AllFound [] found passes = (listed found ≡ []) × (found.forks ≡ 0) × (found.failed ≡ 0)
     × (found.cut ≡ None) × (passes ≡ [])
 AllFound (w ∷ worked) found passes =
     (w.has_failed ≡ false) × (others : Found) × (rest : List PassSeen) × AllFound worked others rest
-    × Merges others w.team.found found × (passes ≡ rest ++ w.team.pass ∷ [])
+    × Merges others w.found found × (passes ≡ rest ++ w.pass ∷ [])
 
 -- The counts are those of what stands in the history.
 pub record IsTallyOf (history : List HistoryEntry) (counts : Tally) : Type 0 where

@@ -14,12 +14,11 @@ ghost use Rattle.and_answers.specs.Kept.{Merges};
 ghost use Rattle.and_branch_laws.specs.States.{IsCut};
 ghost use Rattle.and_code.specs.Written.{all_written};
 ghost use Rattle.and_branch.specs.Branches.{Held, IsBranchOf};
-ghost use Rattle.and_tree.specs.Passes.{fresh_from};
+ghost use Rattle.and_tree.specs.Passes.{fresh, fresh_from};
 ghost use Rattle.and_search_laws.specs.Found.{IsFound};
-ghost use Rattle.and_tasks.specs.Working.{IsAtWork};
 ghost use Rattle.and_teams.specs.Ended.{AreFresh, IsWorked, AreDone, AllFound, IsRunOf};
 
-use crate::work::{Worked, work};
+use crate::work::{Beginning, Worked, work};
 use and_answers::{Coded, Found};
 use and_branch::{Branch, Rooted, Workspace};
 use and_cells::Naming;
@@ -27,7 +26,7 @@ use and_clause_index::Determinacy;
 use and_gate::Gate;
 use and_model::limits::Hands;
 use and_program::Loaded;
-use and_tasks::{PlacedBranch, Shared, Team};
+use and_tasks::{PlacedBranch, Shared};
 use and_tree::{ClosedTree, Tree, TreePassList};
 use std::alloc::{AllocError, Global};
 use std::marker::Brand;
@@ -174,35 +173,33 @@ fn work_by_teams<N: Naming + Send + Sync, R: Threads + Wait + Sync, G: Gate>(
     ensures { IfOk result (λ all. AreDone N.program.program shared.now.tree.now 0 (reverse all.items)
         × (length all.items ≡ shared.now.teams)) }
 {
-    let teams = with_passes(shared, passes)?;
+    let beginnings = with_passes(shared, passes)?;
     thread::map_vec(
         rt,
-        teams,
-        &|team: Team<N>| -> Worked<N>
+        beginnings,
+        &|beginning: Beginning<N>| -> Worked<N>
             requires { IsSync R.row × (N.program ≡ named shared.now.loaded.now)
                 × IsTableOf N.program shared.now.table.now
-                × IsAtWork N.program shared.now.tree.now team.pass team.found team.stack.items
-                team.left }
-            ensures { IsWorked N.program.program shared.entry.now.tree.now team.number result }
-        { work(rt, shared, team) },
+                × (beginning.pass ≡ fresh shared.now.tree.now beginning.number) }
+            ensures { IsWorked N.program.program shared.entry.now.tree.now beginning.number result }
+        { work(rt, shared, beginning) },
     )
 }
 
-/// A team for each pass, the last first. An error is want of memory.
+/// What each team begins with, which has one of these passes, the last first. An error is want of memory.
 fn with_passes<N: Naming, G: Gate>(
     shared: &Shared<N, G>,
     mut passes: TreePassList<PlacedBranch<N>>,
-) -> Result<Vec<Team<N>>, AllocError>
+) -> Result<Vec<Beginning<N>>, AllocError>
     requires { passes ≡ fresh_from shared.now.tree.now 0 shared.now.teams }
     ensures fresh { IfOk result (λ teams. AreFresh shared.now.tree.now 0 (reverse teams.items)
         × (length teams.items ≡ shared.now.teams)) }
-    ensures at_work { IfOk result
-        (λ teams. All (λ t. IsAtWork N.program shared.now.tree.now t.pass t.found t.stack.items t.left) teams.items) }
+    ensures each { IfOk result (λ teams. All (λ t. t.pass ≡ fresh shared.now.tree.now t.number) teams.items) }
 {
     let mut teams = Vec::with_capacity(shared.alloc, passes.len())?;
     while let Some(pass) = passes.pop() {
         let number = passes.len() as u32;
-        teams.push(Team::new(shared.alloc, number, pass))?;
+        teams.push(Beginning::new(number, pass))?;
     }
     Ok(teams)
 }
@@ -230,8 +227,8 @@ fn joined<N: Naming>(
     passes: TreePassList<PlacedBranch<N>>,
     done: Worked<N>,
 ) -> Result<(Coded, TreePassList<PlacedBranch<N>>), AllocError>
-    ensures { IfOk result (λ r. (done.has_failed ≡ false) × Merges found done.team.found r.0
-        × (r.1 ≡ passes ++ done.team.pass ∷ [])) }
+    ensures { IfOk result (λ r. (done.has_failed ≡ false) × Merges found done.found r.0
+        × (r.1 ≡ passes ++ done.pass ∷ [])) }
 {
     let Some((part, pass)) = done.into_parts() else {
         drop(found);

@@ -1,6 +1,6 @@
 use Rattle.std.proofs.Common.{◌≡◌, ◌++◌, ◌∷◌, [], length, length-append, reverse, sym, ap, subst, ◌∙◌, arith}
 use Rattle.and_teams.specs.Ended.{AreFresh}
-use Rattle.and_teams.proofs.Beginning.{last_team, begun_one, fresh_long, fresh_items, all_at_work}
+use Rattle.and_teams.proofs.Beginning.{last_team, begun_one, fresh_long, fresh_items, all_fresh}
 use Rattle.and_teams.proofs.exploring.with_passes.Goals as goal
 
 pub overflow_cast-number : goal.overflow_cast-number
@@ -44,9 +44,9 @@ returns-clause-fresh g c =
     let none : i.0 ≡ 0 = sym (fresh_long tree 0 i.0) ∙ ap length (sym i.1 ∙ c.in_default.ensures.none.0) in
     (subst (λ n. AreFresh tree n (reverse c.loop-pass.teams.items)) none i.2, omega (arith, none, i.3))
 
-pub returns-clause-at_work : goal.returns-clause-at_work
-returns-clause-at_work g c =
+pub returns-clause-each : goal.returns-clause-each
+returns-clause-each g c =
     let i = c.loop-pass.invariant in
     let tree = c.args.shared.now.tree.now in
     let none : i.0 ≡ 0 = sym (fresh_long tree 0 i.0) ∙ ap length (sym i.1 ∙ c.in_default.ensures.none.0) in
-    all_at_work tree g.N.Naming.program c.loop-pass.teams.items (subst (λ n. AreFresh tree n (reverse c.loop-pass.teams.items)) none i.2)
+    all_fresh tree c.loop-pass.teams.items (subst (λ n. AreFresh tree n (reverse c.loop-pass.teams.items)) none i.2)

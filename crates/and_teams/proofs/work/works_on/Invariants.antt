@@ -1,6 +1,6 @@
 use Rattle.std.proofs.Common.{◌≡◌}
 use Rattle.and_tasks.specs.Working.{IsAtWork}
-use Rattle.and_teams.proofs.work.work.Given as goal
+use Rattle.and_teams.proofs.work.works_on.Given as goal
 
 abbrev pub invariant-working : goal.invariant-working
 invariant-working g l =
