@@ -358,6 +358,7 @@ impl<N: Naming> Branch<N> {
     }
 
     /// The same, where the next goal is this one, arithmetic.
+    #[inline(always)]
     fn look_at_arithmetic(
         &mut self,
         loaded: &Loaded,
@@ -455,6 +456,7 @@ impl<N: Naming> Branch<N> {
 
     /// Runs the next goal, arithmetic, and leaves it there. An error is want of memory, and the branch
     /// is spent.
+    #[inline(always)]
     fn run_next(
         &mut self,
         loaded: &Loaded,

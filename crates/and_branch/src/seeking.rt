@@ -98,6 +98,7 @@ impl<N: Naming> Branch<N> {
 
     /// Goes back before the goal that was passed last, if it was asleep and no longer is. An error is want of memory,
     /// and the branch is spent.
+    #[inline(always)]
     pub(crate) fn back_to_woken(&mut self) -> Result<(), AllocError>
         ensures same { SameKey self.old self.new }
         ensures moved { OnOk result (IsMoved self.old self.new) }

@@ -25,6 +25,7 @@ use std::alloc::AllocError;
 impl<N: Naming> Branch<N> {
     /// Passes over the goals that are asleep, up to the next that is not. An error is want of memory, and the
     /// branch is spent.
+    #[inline(always)]
     pub(crate) fn pass_sleepers(&mut self) -> Result<(), AllocError>
         requires branch { IsBranch N.program self.old }
         ensures same { SameKey self.old self.new }

@@ -100,6 +100,7 @@ impl<N: Naming> Branch<N> {
     /// Turns to a goal that waited for what was set just now, on the way onward, if it is the last that was passed (on
     /// the way back it comes next anyway): so goals that wake one another across the place of work need no round each.
     /// An error is want of memory, and the branch is spent.
+    #[inline(always)]
     pub(crate) fn turn_to_woken(&mut self, way: Way) -> Result<(), AllocError>
         ensures same { SameKey self.old self.new }
         ensures moved { OnOk result (IsMoved self.old self.new) }

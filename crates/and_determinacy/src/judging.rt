@@ -348,6 +348,7 @@ fn narrowed_from(judged: Judged) -> Narrowed
 /// the goal leaves two or more, and the last that is left only where another one is a candidate, so that a call that is
 /// left one clause costs no unification. The cells are as before. An error is want of memory. Where it has two,
 /// [`Trials::told`] tells on which cells these rest.
+#[inline(always)]
 pub fn narrow<N: Naming>(
     table: &Determinacy,
     loaded: &Loaded,

@@ -200,6 +200,7 @@ impl PendingGoals {
 
     /// Goes past the goals that sleep in a row, up to the next one that does not. An error is want of memory, and
     /// some may be passed then.
+    #[inline(always)]
     pub fn pass_sleepers<N: Naming>(&mut self, row: &PlainCells<N>) -> Result<(), AllocError>
         ensures { OnOk result (HasPassedSleepers row.now self.old self.new) }
     {
@@ -229,6 +230,7 @@ impl PendingGoals {
 
     /// Goes back before the goal that was passed last, if it is watched and does not sleep in a row. An error is want
     /// of memory, and changes nothing.
+    #[inline(always)]
     pub fn go_back_to_woken<N: Naming>(&mut self, row: &PlainCells<N>) -> Result<(), AllocError>
         ensures moved { OnOk result (self.new.left ++ self.new.right ≡ self.old.left ++ self.old.right) }
         ensures near { OnOk result (length self.new.right ≤ length self.old.right + 1) }

@@ -45,6 +45,7 @@ pub enum Ran {
 
 /// Runs a goal of arithmetic where what it needs is ground. What is set in the row is noted. An error is
 /// want of memory, and the cells are spent.
+#[inline(always)]
 pub fn run<N: Naming>(
     loaded: &Loaded,
     cells: &mut PlainCells<N>,
@@ -134,6 +135,7 @@ fn pair_in(loaded: &Loaded, clause: ClauseNo, base: u32, number: u32) -> u32
 }
 
 /// Compares two nodes. The cells are as before. An error is want of memory.
+#[inline(always)]
 fn run_comparison<N: Naming>(
     loaded: &Loaded,
     cells: &mut PlainCells<N>,
@@ -209,6 +211,7 @@ fn compare_by_sides<N: Naming>(
 
 /// Gives the left node of an `is` goal the value of the right one, where that is ground. What is set in the row is
 /// noted. An error is want of memory, and the cells are spent.
+#[inline(always)]
 fn run_assignment<N: Naming>(
     loaded: &Loaded,
     cells: &mut PlainCells<N>,
