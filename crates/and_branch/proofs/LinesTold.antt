@@ -18,7 +18,7 @@ use Rattle.and_model.specs.declared.goal.Goal.{Goal}
 use Rattle.and_laws.proofs.Order.{whole_has_none}
 use Rattle.and_laws.proofs.Ordered.{contains_first, contains_more}
 use Rattle.and_cells.specs.Ranges.{NamedProgram, IsGoalInRange}
-use Rattle.and_branch.proofs.SeenGoals.{contains_image}
+use Rattle.and_branch_parts.proofs.SeenGoals.{contains_image}
 use Rattle.and_print.specs.Given.{Given}
 use Rattle.and_branch_laws.specs.OwnVariables.{IsLoaded}
 use Rattle.and_branch_laws.specs.Judging.{NoneIsGround, NoCall}
@@ -36,10 +36,10 @@ use Rattle.and_code.specs.Places.{IsMissing}
 use Rattle.and_code.specs.Telling.{IsTold}
 use Rattle.and_code.specs.Written.{written, all_written}
 use Rattle.and_code.specs.declared.telling.CodeSoFar.{CodeSoFar}
-use Rattle.and_branch.specs.Branches.{Held, is_arithmetic, Lives, IsBranch, IsBranchOf, IsOpenGoal}
-use Rattle.and_branch.specs.Ended.{HasEnded, IsLineOf}
-use Rattle.and_branch.specs.Finding.{IsSeen}
-use Rattle.and_branch.proofs.ArithmeticRuns.{lives, all_seen}
+use Rattle.and_branch_parts.specs.Branches.{Held, is_arithmetic, Lives, IsBranch, IsBranchOf, IsOpenGoal}
+use Rattle.and_branch_parts.specs.Ended.{HasEnded, IsLineOf}
+use Rattle.and_branch_parts.specs.Finding.{IsSeen}
+use Rattle.and_branch_parts.proofs.ArithmeticRuns.{lives, all_seen}
 
 -- Where none passes, all others are kept.
 keep_one : {X : Type 0} (p : X → Bool) (x : X) (xs : List X) (b : Bool) → (b ≡ true → ⊥) → filter (λ y. not (p y)) xs ≡ xs

@@ -1,13 +1,10 @@
 -- Branches that are made again of what a phase left.
 use Rattle.std.proofs.Common.{ℕ, ◌≡◌, ◌+◌, ◌≤◌, true, false, List, [], ◌∷◌, ◌++◌}
-use Rattle.std.proofs.Common.{ap, sym, ◌∙◌, subst, inl, inr, arith, append-nil, append_assoc, length, suc, Contains}
-use Rattle.std.proofs.Common.{add-one, drop, drop-cons, slice_get, Some}
+use Rattle.std.proofs.Common.{ap, sym, ◌∙◌, subst, inl, inr, arith, append-nil, length, Contains}
 use Rattle.std.proofs.lemmas.List.{map-append}
-use Rattle.std.proofs.lemmas.List.Sums.{sum_by-append}
-use Rattle.std.proofs.lemmas.Option.{slice_get_within, get_or_from_slice_get}
 use Rattle.and_model.proofs.OwnVariables.{All-back}
 use Rattle.and_model.specs.Solutions.{Solvable}
-use Rattle.and_model.specs.Programs.{Program, clause_at, clause_weight}
+use Rattle.and_model.specs.Programs.{Program, clause_weight}
 use Rattle.and_model.specs.Trees.{QueryTree, query_agenda, weight}
 use Rattle.and_model.specs.Reached.{ReachedBy}
 use Rattle.and_model.specs.Reductions.{Reduction, Makes, none, one_more}
@@ -29,16 +26,15 @@ use Rattle.and_branch_laws.specs.OwnVariables.{IsLoaded}
 use Rattle.and_branch_laws.specs.Kept.{Kept}
 use Rattle.and_branch_laws.specs.Settling.{Settled}
 use Rattle.and_branch_laws.proofs.Settling as settling
-use Rattle.and_branch.specs.Branches.{Held, Lives, IsBranchOf}
-use Rattle.and_branch.specs.Watching.{Watched}
-use Rattle.and_branch.specs.Rebuilding.{IsLeft, IsWorked, reductions_of, weights_of}
+use Rattle.and_branch_parts.specs.Branches.{Held, Lives, IsBranchOf}
+use Rattle.and_branch_parts.specs.Watching.{Watched}
+use Rattle.and_branch_parts.specs.Weights.{weights_of}
+use Rattle.and_branch_parts.proofs.AddedReductions.{weights_join}
+use Rattle.and_branch.specs.Rebuilding.{IsLeft, IsWorked, reductions_of}
 use Rattle.and_branch.specs.declared.parts.Parts.{Parts}
 use Rattle.and_branch.specs.declared.rebuilding.Worked.{Worked}
 
 -- ---- Weights
-
-weights_join : (P : Program) (rs qs : List Reduction) → weights_of P (rs ++ qs) ≡ weights_of P rs + weights_of P qs
-weights_join P rs qs = sum_by-append (λ (r : Reduction). clause_weight (clause_at P r.clause)) rs qs
 
 -- A tree weighs what the query and the clauses of its reductions do.
 made_weighs : (P : Program) (rs : List Reduction) (t : QueryTree P) → Makes P rs t → weight t ≡ clause_weight P.query + weights_of P rs
@@ -51,34 +47,6 @@ made_weighs P rs t (one_more front back all u r o h made call number is_all) =
     let first = weights_join P (r ∷ []) back in
     let same = ap (weights_of P) is_all in
     omega arith
-
--- ---- Reductions that are put behind others
-
-module _ (made : List goal.Reduction.Reduction) (n : ℕ) (r : goal.Reduction.Reduction) (is : slice_get made n ≡ Some r) where
-  rest : drop n made ≡ r ∷ drop (n + 1) made
-  rest =
-      drop-cons made n r (slice_get_within made n r is)
-      ∙ ap (λ (x : goal.Reduction.Reduction). x ∷ drop (suc n) made) (get_or_from_slice_get made n r r is)
-      ∙ ap (λ (k : ℕ). r ∷ drop k made) (sym (add-one n))
-
-  -- What is written down so far and what is still to come stay the same,
-  pub one_added : (old new : List goal.Reduction.Reduction) (all : List Reduction) → new ≡ old ++ r ∷ []
-      → all_written old ++ all_written (drop n made) ≡ all → all_written new ++ all_written (drop (n + 1) made) ≡ all
-  one_added old new all e h =
-      let tail : List Reduction = all_written (drop (n + 1) made) in
-      ap (λ (l : List goal.Reduction.Reduction). all_written l ++ tail) e
-      ∙ ap (λ (l : List Reduction). l ++ tail) (map-append written old (r ∷ []))
-      ∙ append_assoc (all_written old) (written r ∷ []) tail
-      ∙ ap (λ (l : List goal.Reduction.Reduction). all_written old ++ all_written l) (sym rest)
-      ∙ h
-
-  -- and so does what the tree weighs with what is still to come.
-  pub one_weighed : (P : Program) (weight total : ℕ) → weight + weights_of P (all_written (drop n made)) ≡ total
-      → (weight + clause_weight (clause_at P r.clause.0)) + weights_of P (all_written (drop (n + 1) made)) ≡ total
-  one_weighed P weight total h =
-      let first = ap (λ (l : List goal.Reduction.Reduction). weights_of P (all_written l)) rest in
-      let apart = weights_join P (written r ∷ []) (all_written (drop (n + 1) made)) in
-      omega arith
 
 -- ---- The branch
 

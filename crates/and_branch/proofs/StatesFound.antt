@@ -15,7 +15,7 @@ use Rattle.and_laws.proofs.Deciding.{of_bounds}
 use Rattle.and_laws.proofs.Ordered.{contains_first, contains_none}
 use Rattle.and_branch_laws.proofs.Lists.{all_of}
 use Rattle.and_cells.specs.Ranges.{NamedProgram}
-use Rattle.and_branch.proofs.SeenGoals.{contains_image}
+use Rattle.and_branch_parts.proofs.SeenGoals.{contains_image}
 use Rattle.and_determinacy.specs.Candidates.{AreCandidates}
 use Rattle.and_guards.specs.Goals.{CanBeJudged}
 use Rattle.and_branch_laws.specs.OwnVariables.{IsLoaded}
@@ -26,17 +26,18 @@ use Rattle.and_branch_laws.specs.States as laws
 use Rattle.and_branch_laws.proofs.Judging
 use Rattle.and_branch_laws.proofs.Keeping
 use Rattle.and_code.specs.Written.{all_written}
-use Rattle.and_branch.specs.Branches.{Held, is_arithmetic, Lives, IsBranchOf, IsOpenGoal}
-use Rattle.and_branch.specs.States.{numbers, IsCutAt, IsCutOf, IsState}
+use Rattle.and_branch_parts.specs.Branches.{Held, is_arithmetic, Lives, IsBranchOf, IsOpenGoal}
+use Rattle.and_branch_parts.specs.Forking.{numbers}
+use Rattle.and_branch.specs.States.{IsCutAt, IsCutOf, IsState}
 use Rattle.and_branch.specs.declared.state.BranchState.{BranchState}
 use Rattle.and_branch.specs.declared.state.BranchState.TheVariants.{Fork, OverLimit}
-use Rattle.and_branch.specs.Watching.{HasTwo}
-use Rattle.and_branch.specs.Finding.{IsCallGoal, AllCalls, HasOne, HasNoSole, HasNoFitting, IsCallAmong, IsSeveral, IsHeavy, IsSeen}
-use Rattle.and_branch.specs.Forking.{fits_in, first_other, HasCutBy}
-use Rattle.and_branch.specs.Resting.{IsResting}
-use Rattle.and_branch.proofs.LivingGoals.{Parts, parted}
-use Rattle.and_branch.proofs.ArithmeticRuns.{called, calls, lives, all_seen, can_be_judged}
-use Rattle.and_branch.proofs.CandidatesParted.{fitting_are, fitting_rising, first_is, number_in}
+use Rattle.and_branch_parts.specs.Watching.{HasTwo}
+use Rattle.and_branch_parts.specs.Finding.{IsCallGoal, AllCalls, HasOne, HasNoSole, HasNoFitting, IsCallAmong, IsSeveral, IsHeavy, IsSeen}
+use Rattle.and_branch_parts.specs.Forking.{fits_in, first_other, HasCutBy}
+use Rattle.and_branch_parts.specs.Resting.{IsResting}
+use Rattle.and_branch_parts.proofs.LivingGoals.{Parts, parted}
+use Rattle.and_branch_parts.proofs.ArithmeticRuns.{called, calls, lives, all_seen, can_be_judged}
+use Rattle.and_branch_parts.proofs.CandidatesParted.{fitting_are, fitting_rising, first_is, number_in}
 
 -- what holds of the calls of a list of goals holds of kept goals that are these
 lifted : (P : NamedProgram) (Q : Goal → Type 0) (fs : List Framed) (gs : List Goal) → map goal_of fs ≡ gs → AllCalls P Q gs → (f : Framed)

@@ -3,8 +3,8 @@ use Rattle.std.proofs.Common.{ℕ, ◌≡◌, ◌∙◌, inl, inr, sym, subst}
 use Rattle.and_model.specs.Trees.{QueryTree}
 use Rattle.and_cells.specs.Ranges.{NamedProgram}
 use Rattle.and_branch_laws.specs.States.{State, StateOf}
-use Rattle.and_branch.specs.Branches.{Held, IsBranchOf}
-use Rattle.and_branch.specs.Ended.{HasEnded}
+use Rattle.and_branch_parts.specs.Branches.{Held, IsBranchOf}
+use Rattle.and_branch_parts.specs.Ended.{HasEnded}
 use Rattle.and_branch.specs.States.{IsState, IsAtRest}
 use Rattle.and_branch.specs.declared.state.BranchState.{BranchState}
 use Rattle.and_branch.specs.declared.state.BranchState.TheVariants as told

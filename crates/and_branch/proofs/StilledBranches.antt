@@ -6,8 +6,8 @@ use Rattle.std.proofs.lemmas.Result.{on_ok_weaker}
 use Rattle.and_model.specs.Trees.{QueryTree}
 use Rattle.and_model.specs.Reached.{Steps}
 use Rattle.and_cells.specs.Ranges.{NamedProgram}
-use Rattle.and_branch.specs.Branches.{Held, IsBranchOf}
-use Rattle.and_branch.specs.Rounds.{StepsOn, IsStill}
+use Rattle.and_branch_parts.specs.Branches.{Held, IsBranchOf}
+use Rattle.and_branch_parts.specs.Rounds.{StepsOn, IsStill}
 use Rattle.and_branch.specs.States.{IsState, IsAtRest}
 use Rattle.and_branch.specs.declared.state.BranchState.{BranchState}
 use Rattle.and_branch.specs.declared.state.BranchState.TheVariants.{Failed}

@@ -1,7 +1,7 @@
 -- What is kept of a branch whose row another one has.
 use Rattle.std.specs.Prelude.{◌≡◌, ◌++◌, length}
-use Rattle.and_branch.specs.Branches.{Held}
-use Rattle.and_branch.specs.Watching.{all_watched}
+use Rattle.and_branch_parts.specs.Branches.{Held}
+use Rattle.and_branch_parts.specs.Watching.{all_watched}
 use Rattle.and_branch.specs.declared.outline.Outline.{Outline}
 use Rattle.and_pending.specs.Pending.{goals_of}
 

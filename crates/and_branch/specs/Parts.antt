@@ -1,9 +1,8 @@
 -- Branches that are taken apart.
 use Rattle.std.specs.Prelude.{[]}
 use Rattle.and_code.specs.Written.{all_written}
-use Rattle.and_branch.specs.Branches.{Held}
-use Rattle.and_branch.specs.Branches.{Held}
-use Rattle.and_branch.specs.Making.{nothing_noted}
+use Rattle.and_branch_parts.specs.Branches.{Held}
+use Rattle.and_branch_parts.specs.Making.{nothing_noted}
 use Rattle.and_branch.specs.declared.parts.Parts.{Parts}
 
 -- the branch of these parts, at work behind its goals, of which none is watched, and of whose row nothing is noted

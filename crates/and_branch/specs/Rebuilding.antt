@@ -1,6 +1,5 @@
 -- What a phase leaves of a branch.
-use Rattle.std.specs.Prelude.{ℕ, ◌≤◌, ◌≡◌, true, false, List, ◌++◌, map, length, sum_by}
-use Rattle.and_model.specs.Programs.{Program, clause_at, clause_weight}
+use Rattle.std.specs.Prelude.{◌≤◌, ◌≡◌, true, false, List, ◌++◌, map, length}
 use Rattle.and_model.specs.Trees.{QueryTree, weight}
 use Rattle.and_model.specs.Reached.{Dead, Steps}
 use Rattle.and_model.specs.Reductions.{Reduction, Makes}
@@ -11,7 +10,7 @@ use Rattle.and_cells.specs.Seen.{word_at}
 use Rattle.and_unify.specs.Pairs.{AreInRange, AreWritten, equations_of_pairs}
 use Rattle.and_code.specs.Written.{all_written}
 use Rattle.and_branch_laws.specs.Kept.{Unsettled, goal_of}
-use Rattle.and_branch.specs.Branches.{IsBranchOf}
+use Rattle.and_branch_parts.specs.Branches.{IsBranchOf}
 use Rattle.and_branch.specs.Parts.{held_of}
 use Rattle.and_branch.specs.declared.parts.Parts.{Parts}
 use Rattle.and_branch.specs.declared.rebuilding.Worked.{Worked}
@@ -44,7 +43,3 @@ pub record IsWorked {N : Type 0} (P : NamedProgram) (parts : Parts N) (w : Worke
   pub fits : weight u ≤ parts.limit
   pub dead : w.failed ≡ true → Dead u
   pub left : w.failed ≡ false → IsLeft P parts w u
-
--- what the clauses of reductions weigh
-abbrev pub weights_of : Program → List Reduction → ℕ
-weights_of P rs = sum_by (λ (r : Reduction). clause_weight (clause_at P r.clause)) rs

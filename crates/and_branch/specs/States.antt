@@ -1,21 +1,18 @@
 -- What is told of the state of a branch.
-use Rattle.std.specs.Prelude.{ℕ, ◌≢◌, ◌⊎◌, List, ◌++◌, map, Contains, Option, Some, None}
+use Rattle.std.specs.Prelude.{ℕ, ◌≢◌, ◌⊎◌, ◌++◌, Contains, Option, Some, None}
 use Rattle.and_model.specs.Trees.{QueryTree, Open}
 use Rattle.and_model.specs.Limits.{at_goal}
 use Rattle.and_model.specs.declared.goal.Cut.{Cut}
 use Rattle.and_model.specs.declared.goal.Goal.{Goal}
-use Rattle.and_model.specs.declared.numbers.ClauseNo.{ClauseNo}
 use Rattle.and_cells.specs.Ranges.{NamedProgram}
 use Rattle.and_branch_laws.specs.States as laws
 use Rattle.and_branch_laws.specs.States.{StateOf, IsCut}
 use Rattle.and_reduction.specs.Runs.{IsWaiting}
 use Rattle.and_code.specs.Written.{all_written}
-use Rattle.and_branch.specs.Branches.{Held, IsOpenGoal, IsArithmeticGoal}
+pub use Rattle.and_branch_parts.specs.Forking.{numbers}
+use Rattle.and_branch_parts.specs.Branches.{Held, IsOpenGoal, IsArithmeticGoal}
 use Rattle.and_branch.specs.declared.state.BranchState.{BranchState}
 use Rattle.and_branch.specs.declared.state.BranchState.TheVariants.{Fork, Answer, Floundered, Failed, OverLimit}
-
-abbrev pub numbers : List ClauseNo → List ℕ
-numbers cs = map (λ (c : ClauseNo). c.0) cs
 
 -- The cut is that of the tree, this goal of it, and the clause.
 abbrev pub IsCutAt : (P : NamedProgram) (t : QueryTree P.program) → Open t → ℕ → Cut → Type 0

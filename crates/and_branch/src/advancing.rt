@@ -15,18 +15,18 @@ ghost use Rattle.and_determinacy.specs.Watching.{TwoStayWhile};
 ghost use Rattle.and_reduction.specs.Runs.{CanBeRun, IsWaiting, HasRun, CannotHold, WaitsFor};
 ghost use Rattle.and_branch_laws.specs.Judging.{CandidateInCells};
 ghost use Rattle.and_branch_laws.specs.Kept.{item_at};
-ghost use Rattle.and_branch.specs.Branches.{IsBranch, SameKey};
-ghost use Rattle.and_branch.specs.Finding.{HasFound, HasHeavy};
-ghost use Rattle.and_branch.specs.Origins.{KeepsBack};
-ghost use Rattle.and_branch.specs.Rounds.{StepsOn, AreFew, IsAtMost, IsStill, LeftIsIdle, IsDropped, IsStillWith};
-ghost use Rattle.and_branch.specs.Rounds.{LookIs, RoundIs, HasProgressed, HasStilled, IsAt};
-ghost use Rattle.and_branch.specs.declared.finding.RoundSoFar.{RoundSoFar};
+ghost use Rattle.and_branch_parts.specs.Branches.{IsBranch, SameKey};
+ghost use Rattle.and_branch_parts.specs.Finding.{HasFound, HasHeavy};
+ghost use Rattle.and_branch_parts.specs.Origins.{KeepsBack};
+ghost use Rattle.and_branch_parts.specs.Rounds.{StepsOn, AreFew, IsAtMost, IsStill, LeftIsIdle, IsDropped, IsStillWith};
+ghost use Rattle.and_branch_parts.specs.Rounds.{LookIs, RoundIs, HasProgressed, HasStilled, IsAt};
+ghost use Rattle.and_branch_parts.specs.declared.finding.RoundSoFar.{RoundSoFar};
 
 use crate::branch::Branch;
-use crate::finding::{HeavyCall, RoundSoFar, Seen, first_call};
-use crate::goals::is_call;
-use crate::ways::{Share, Way, turns_back};
 use crate::workspace::Workspace;
+use and_branch_parts::{
+    HeavyCall, Looked, Round, RoundSoFar, Seen, Share, Way, first_call, is_call, turns_back,
+};
 use and_cells::Naming;
 use and_clause_index::Determinacy;
 use and_determinacy::{Judged, Narrowed, judge, narrow};
@@ -43,21 +43,6 @@ pub const FIRST_ROUND: u32 = 64;
 /// The number under which a gate is told of these reductions: that of the first worker.
 const LEADER: u32 = 0;
 
-/// What a look at the next goal came to.
-#[derive(Clone, Copy)]
-pub(crate) enum Looked {
-    /// There is no next goal.
-    Ended,
-    /// The goal was passed over, and this was seen of it.
-    Passed { goal: Goal, seen: Seen },
-    /// It was arithmetic, and was run.
-    Ran,
-    /// It was a call, and was reduced.
-    Reduced,
-    /// The tree is dead.
-    Failed,
-}
-
 /// What comes next in a branch.
 #[derive(Clone, Copy)]
 enum Next {
@@ -67,17 +52,6 @@ enum Next {
     Nothing,
     /// This goal.
     Goal(Goal),
-}
-
-/// What a round over all goals came to.
-#[derive(Clone, Copy)]
-pub(crate) enum Round {
-    /// Some goal was run or reduced, and for some there may be more to do.
-    Changed,
-    /// For none is anything to be done, and this was found of them.
-    Still(RoundSoFar),
-    /// The tree is dead.
-    Failed,
 }
 
 impl<N: Naming> Branch<N> {

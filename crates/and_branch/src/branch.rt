@@ -10,13 +10,13 @@ ghost use Rattle.and_cells.specs.Parts.{named};
 ghost use Rattle.and_branch_laws.specs.States.{IsCut};
 ghost use Rattle.and_branch_laws.specs.Views.{StandsIn};
 ghost use Rattle.and_code.specs.Written.{all_written};
-ghost use Rattle.and_branch.specs.Branches.{Held, IsBranch, IsBranchOf, view_of};
-ghost use Rattle.and_branch.specs.Next.{IsMoved};
+ghost use Rattle.and_branch_parts.specs.Branches.{Held, IsBranch, IsBranchOf, view_of};
+ghost use Rattle.and_branch_parts.specs.Next.{IsMoved};
 ghost use Rattle.and_branch.specs.Parts.{held_of, unnoted};
 
-use crate::goals::push_body;
 use crate::parts::Parts;
 use crate::workspace::Workspace;
+use and_branch_parts::push_body;
 use and_cells::{Naming, PlainCells};
 use and_model::{ClauseNo, Code, Cut, Goal, ReductionList};
 use and_pending::PendingGoals;
@@ -62,9 +62,9 @@ impl<N: Naming> Drop for Branch<N> {
 impl<N: Naming> Model for Branch<N> {
     ghost use Rattle.std.specs.Prelude.{◌++◌};
     ghost use Rattle.and_pending.specs.Pending.{goals_of};
-    ghost use Rattle.and_branch.specs.Watching.{all_watched};
+    ghost use Rattle.and_branch_parts.specs.Watching.{all_watched};
     ghost use Rattle.and_code.specs.Written.{all_written};
-    ghost use Rattle.and_branch.specs.Branches.{Held};
+    ghost use Rattle.and_branch_parts.specs.Branches.{Held};
 
     ghost Value = { Held };
 

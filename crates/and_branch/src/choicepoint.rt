@@ -13,11 +13,11 @@ ghost use Rattle.and_model.specs.Trees.{IsWhole, decided};
 ghost use Rattle.and_cells.specs.Parts.{named};
 ghost use Rattle.and_code.specs.Telling.{IsTold};
 ghost use Rattle.and_branch_laws.specs.States.{StateOf, fork};
-ghost use Rattle.and_branch.specs.Branches.{IsBranch, IsBranchOf, IsOpenGoal};
-ghost use Rattle.and_branch.specs.States.{numbers};
-ghost use Rattle.and_branch.specs.Children.{Fork, AreChildren, IsChild, IsForkOf};
-ghost use Rattle.and_branch.specs.Copies.{IsBackAt};
-ghost use Rattle.and_branch.specs.Origins.{GoesBack, KeepsBack};
+ghost use Rattle.and_branch_parts.specs.Branches.{IsBranch, IsBranchOf, IsOpenGoal};
+ghost use Rattle.and_branch_parts.specs.Forking.{numbers};
+ghost use Rattle.and_branch_parts.specs.Children.{Fork, AreChildren, IsChild, IsForkOf};
+ghost use Rattle.and_branch_parts.specs.Copies.{IsBackAt};
+ghost use Rattle.and_branch_parts.specs.Origins.{GoesBack, KeepsBack};
 
 use crate::branch::Branch;
 use crate::outline::Outline;
@@ -63,8 +63,8 @@ impl<N: Naming> Drop for Choicepoint<N> {
 
 impl<N: Naming> Model for Choicepoint<N> {
     ghost use Rattle.std.specs.Prelude.{◌≡◌, drop, length};
-    ghost use Rattle.and_branch.specs.Children.{Fork};
-    ghost use Rattle.and_branch.specs.States.{numbers};
+    ghost use Rattle.and_branch_parts.specs.Children.{Fork};
+    ghost use Rattle.and_branch_parts.specs.Forking.{numbers};
     ghost use Rattle.and_branch.specs.Outlines.{IsOutlineOf};
 
     ghost Value = { Fork };

@@ -2,12 +2,12 @@
 
 ghost use Rattle.std.specs.Prelude.{◌≡◌, length, IfOk};
 ghost use Rattle.and_cells.specs.Rows.{IsSound};
-ghost use Rattle.and_branch.specs.Copies.{IsBackAt};
-ghost use Rattle.and_branch.specs.Making.{noted_from};
-ghost use Rattle.and_branch.specs.Origins.{GoesBack};
+ghost use Rattle.and_branch_parts.specs.Copies.{IsBackAt};
+ghost use Rattle.and_branch_parts.specs.Making.{noted_from};
+ghost use Rattle.and_branch_parts.specs.Origins.{GoesBack};
 
 use crate::branch::Branch;
-use crate::making::cut_off;
+use and_branch_parts::cut_off;
 use and_cells::Naming;
 use and_pending::PendingGoals;
 use and_reduction::Trail;

@@ -1,16 +1,17 @@
 //! How the children of a fork are made, each of what is left of a branch.
 
-ghost use Rattle.std.specs.Prelude.{◌≡◌, length, take, OnOk};
+ghost use Rattle.std.specs.Prelude.{◌≡◌, length, OnOk};
 ghost use Rattle.and_cells.specs.Parts.{named};
 ghost use Rattle.and_cells.specs.Rows.{IsSound};
-ghost use Rattle.and_branch.specs.Children.{Fork};
-ghost use Rattle.and_branch.specs.Origins.{GoesBack, KeepsBack};
-ghost use Rattle.and_branch.specs.Making.{IsAgain, IsMade, noted_from};
+ghost use Rattle.and_branch_parts.specs.Children.{Fork};
+ghost use Rattle.and_branch_parts.specs.Origins.{GoesBack, KeepsBack};
+ghost use Rattle.and_branch_parts.specs.Making.{IsAgain, IsMade, noted_from};
 
 use crate::branch::Branch;
 use crate::workspace::Workspace;
+use and_branch_parts::cut_off;
 use and_cells::Naming;
-use and_model::{ClauseNo, Goal, ReductionList};
+use and_model::{ClauseNo, Goal};
 use and_program::Loaded;
 use std::alloc::AllocError;
 use std::snapshot::Snapshot;
@@ -54,14 +55,5 @@ impl<N: Naming> Branch<N> {
         self.seek(goal)?;
         self.reduce_next(loaded, clause, workspace)?;
         Ok(())
-    }
-}
-
-/// Takes reductions out from the end, until there are so many. Takes no memory.
-pub(crate) fn cut_off(reductions: &mut ReductionList, count: usize)
-    ensures { reductions.new ≡ take count reductions.old }
-{
-    while reductions.len() > count {
-        reductions.pop();
     }
 }

@@ -2,8 +2,8 @@
 
 ghost use Rattle.std.specs.Prelude.{◌≡◌, ◌++◌, ◌∷◌, [], take, OnOk};
 ghost use Rattle.and_cells.specs.Rows.{IsSound};
-ghost use Rattle.and_branch.specs.Making.{noted_from};
-ghost use Rattle.and_branch.specs.Origins.{GoesBack};
+ghost use Rattle.and_branch_parts.specs.Making.{noted_from};
+ghost use Rattle.and_branch_parts.specs.Origins.{GoesBack};
 ghost use Rattle.and_branch.specs.Outlines.{IsOutlineOf, outlined};
 
 use crate::branch::Branch;

@@ -1,30 +1,21 @@
 //! Branches that are made again of what a phase left.
 
-ghost use Rattle.std.specs.Prelude.{◌≡◌, ◌≤◌, ◌+◌, ◌++◌, ◌∷◌, [], true, false, None, length, Ok, OnOk, IfOk};
-ghost use Rattle.and_model.specs.Solutions.{Solvable};
+ghost use Rattle.std.specs.Prelude.{◌≡◌, true, None, IfOk};
 ghost use Rattle.and_model.specs.Trees.{QueryTree};
-ghost use Rattle.and_model.specs.declared.limits.TheConstants.{MAX_LIMIT};
-ghost use Rattle.and_program.specs.Loaded.{program_of};
 ghost use Rattle.and_cells.specs.Parts.{named};
-ghost use Rattle.and_cells.specs.Rows.{plain};
-ghost use Rattle.and_cells.specs.Seen.{word_at};
-ghost use Rattle.and_code.specs.Visiting.{HaveClauses};
-ghost use Rattle.and_code.specs.Written.{all_written};
-ghost use Rattle.and_unify.specs.Pairs.{AreInRange, AreWritten, equations_of_pairs};
-ghost use Rattle.and_unify.specs.Settling.{equations_with};
-ghost use Rattle.and_branch_laws.specs.Settling.{Settled};
-ghost use Rattle.and_branch.specs.Branches.{IsBranchOf, SameKey};
+ghost use Rattle.and_branch_parts.specs.Branches.{IsBranchOf, SameKey};
 ghost use Rattle.and_branch.specs.Parts.{held_of};
-ghost use Rattle.and_branch.specs.Rebuilding.{IsWorked, reductions_of, weights_of};
+ghost use Rattle.and_branch.specs.Rebuilding.{IsWorked, reductions_of};
 
 use crate::branch::Branch;
 use crate::parts::Parts;
+use and_branch_parts::{add_all, is_dead};
 use and_cells::{Naming, PlainCells};
-use and_model::{Code, Goal, Reduction, ReductionList};
+use and_model::{Code, Goal, ReductionList};
 use and_pending::PendingGoals;
 use and_program::Loaded;
 use and_reduction::Trail;
-use and_unify::{PairList, Settled as Answer, settle};
+use and_unify::PairList;
 use std::alloc::{AllocError, Global};
 
 /// What a phase left of a branch that was taken apart.
@@ -92,65 +83,5 @@ impl<N: Naming> Branch<N> {
             is_failed,
             trail: Trail::none(alloc),
         })
-    }
-}
-
-/// Settles the pairs in the cells, unless the tree was found dead. Answers whether it is dead. An error
-/// is want of memory.
-fn is_dead<N: Naming>(
-    alloc: Global,
-    loaded: &Loaded,
-    cells: &mut PlainCells<N>,
-    pairs: &mut PairList,
-    failed: bool,
-) -> Result<bool, AllocError>
-    requires program { N.program ≡ named loaded.now }
-    requires in_range { failed ≡ false → AreInRange N.program (length cells.old) pairs.old }
-    requires written { failed ≡ false → AreWritten (plain cells.old) pairs.old }
-    ensures dead { result ≡ Ok true → failed ≡ false → Solvable (equations_with N.program cells.old pairs.old) → ⊥ }
-    ensures live { result ≡ Ok false → (failed ≡ false)
-        × Settled N.program cells.old cells.new (equations_of_pairs N.program (word_at cells.old) pairs.old) }
-{
-    if failed {
-        return Ok(true);
-    }
-    match settle(alloc, loaded, cells, pairs) {
-        Answer::Solved => {
-            let _words = cells.len();
-            Ok(false)
-        }
-        Answer::NoSolution => Ok(true),
-        Answer::Memory => Err(AllocError),
-    }
-}
-
-/// Puts reductions behind others, and answers what their tree weighs then. An error is want of memory.
-fn add_all(
-    loaded: &Loaded,
-    reductions: &mut ReductionList,
-    made: &ReductionList,
-    used: u32,
-) -> Result<u32, AllocError>
-    requires clauses { HaveClauses (program_of loaded.now) made.now }
-    requires fits { used + weights_of (program_of loaded.now) (all_written made.now) ≤ MAX_LIMIT }
-    ensures reductions { OnOk result (all_written reductions.new ≡ all_written reductions.old ++ all_written made.now) }
-    ensures weight { IfOk result (λ weight. weight ≡ used + weights_of (program_of loaded.now) (all_written made.now)) }
-{
-    let mut weight = used;
-    for place in 0..made.len() {
-        let reduction = *made.at(place);
-        weight += loaded.weight(reduction.clause);
-        add(reductions, reduction)?;
-    }
-    Ok(weight)
-}
-
-/// Puts a reduction behind the others. An error is want of memory.
-fn add(reductions: &mut ReductionList, reduction: Reduction) -> Result<(), AllocError>
-    ensures { OnOk result (reductions.new ≡ reductions.old ++ reduction ∷ []) }
-{
-    match reductions.push(reduction) {
-        Ok(()) => Ok(()),
-        Err(_) => Err(AllocError),
     }
 }

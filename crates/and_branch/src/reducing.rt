@@ -1,19 +1,17 @@
 //! The next goal, reduced.
 
-ghost use Rattle.std.specs.Prelude.{◌≡◌, ◌+◌, OnOk, OnErr, [], ◌∷◌, ◌++◌};
+ghost use Rattle.std.specs.Prelude.{◌≡◌, ◌+◌, OnOk};
 ghost use Rattle.and_model.specs.Programs.{clause_at, clause_weight};
 ghost use Rattle.and_cells.specs.Parts.{named};
-ghost use Rattle.and_branch_laws.specs.Reducing.{reduction_by};
-ghost use Rattle.and_code.specs.Written.{all_written};
-ghost use Rattle.and_branch.specs.Branches.{SameKey};
-ghost use Rattle.and_branch.specs.Next.{HasNextCall, IsReduced};
-ghost use Rattle.and_branch.specs.Origins.{KeepsBack};
+ghost use Rattle.and_branch_parts.specs.Branches.{SameKey};
+ghost use Rattle.and_branch_parts.specs.Next.{HasNextCall, IsReduced};
+ghost use Rattle.and_branch_parts.specs.Origins.{KeepsBack};
 
 use crate::branch::Branch;
-use crate::goals::push_body;
 use crate::workspace::Workspace;
+use and_branch_parts::{push_body, push_reduction};
 use and_cells::Naming;
-use and_model::{ClauseNo, Goal, Reduction, ReductionList};
+use and_model::ClauseNo;
 use and_program::Loaded;
 use and_reduction::{Entered, take};
 use std::alloc::AllocError;
@@ -64,28 +62,5 @@ impl<N: Naming> Branch<N> {
                 Ok(())
             }
         }
-    }
-}
-
-/// Writes down the reduction of a goal by a clause, which stands at the node. An error is want of
-/// memory.
-fn push_reduction(
-    reductions: &mut ReductionList,
-    goal: Goal,
-    clause: ClauseNo,
-    node: u32,
-) -> Result<(), AllocError>
-    ensures { OnOk result (all_written reductions.new
-        ≡ all_written reductions.old ++ reduction_by goal clause.0 node ∷ []) }
-{
-    let reduction = Reduction {
-        parent: goal.node,
-        item: goal.item,
-        clause,
-        node,
-    };
-    match reductions.push(reduction) {
-        Ok(()) => Ok(()),
-        Err(_) => Err(AllocError),
     }
 }

@@ -2,8 +2,8 @@
 
 ghost use Rattle.std.specs.Prelude.{◌≡◌, ◌<◌, ◌≤◌, ◌+◌, ◌++◌, ◌∷◌, [], List, OnOk, Ok, true, false, length};
 ghost use Rattle.and_model.specs.declared.goal.Goal.{Goal};
-ghost use Rattle.and_branch.specs.Branches.{SameKey};
-ghost use Rattle.and_branch.specs.Next.{IsMoved, IsSameItem, HasItem};
+ghost use Rattle.and_branch_parts.specs.Branches.{SameKey};
+ghost use Rattle.and_branch_parts.specs.Next.{IsMoved, IsSameItem, HasItem};
 
 use crate::branch::Branch;
 use and_cells::Naming;

@@ -9,10 +9,10 @@ ghost use Rattle.and_guards.specs.Goals.{CanBeJudged};
 ghost use Rattle.and_determinacy.specs.Watching.{TwoStayWhile};
 ghost use Rattle.and_branch_laws.specs.Kept.{item_at};
 ghost use Rattle.and_reduction.specs.Runs.{WaitsFor};
-ghost use Rattle.and_branch.specs.Branches.{SameKey, IsBranch};
-ghost use Rattle.and_branch.specs.Next.{IsMoved};
-ghost use Rattle.and_branch.specs.Rounds.{StepsOn, WatchesOn, HasPassedSleepers};
-ghost use Rattle.and_branch.specs.Watching.{HasTwo, IsAsleep};
+ghost use Rattle.and_branch_parts.specs.Branches.{SameKey, IsBranch};
+ghost use Rattle.and_branch_parts.specs.Next.{IsMoved};
+ghost use Rattle.and_branch_parts.specs.Rounds.{StepsOn, WatchesOn, HasPassedSleepers};
+ghost use Rattle.and_branch_parts.specs.Watching.{HasTwo, IsAsleep};
 
 use crate::branch::Branch;
 use crate::workspace::Workspace;

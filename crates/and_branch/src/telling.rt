@@ -1,14 +1,15 @@
 //! The line of a branch that has ended.
 
-ghost use Rattle.std.specs.Prelude.{◌≡◌, ◌++◌, ◌∷◌, [], IfOk, OnOk};
+ghost use Rattle.std.specs.Prelude.{◌≡◌, IfOk};
 ghost use Rattle.and_model.specs.Trees.{QueryTree};
 ghost use Rattle.and_cells.specs.Parts.{named};
-ghost use Rattle.and_branch.specs.Branches.{IsBranchOf};
-ghost use Rattle.and_branch.specs.Ended.{HasEnded, IsLineOf};
+ghost use Rattle.and_branch_parts.specs.Branches.{IsBranchOf};
+ghost use Rattle.and_branch_parts.specs.Ended.{HasEnded, IsLineOf};
 
 use crate::branch::Branch;
+use and_branch_parts::list_of;
 use and_cells::Naming;
-use and_model::{Goal, GoalList, Text};
+use and_model::Text;
 use and_print::show_line;
 use and_program::Loaded;
 use std::alloc::{AllocError, Global};
@@ -26,25 +27,4 @@ impl<N: Naming> Branch<N> {
         let waiting = list_of(alloc, &goals)?;
         show_line(alloc, loaded, &self.cells, &waiting)
     }
-}
-
-/// Puts a goal at the end. An error is want of memory.
-fn put(list: &mut GoalList, goal: Goal) -> Result<(), AllocError>
-    ensures { OnOk result (list.new ≡ list.old ++ goal ∷ []) }
-{
-    match list.push(goal) {
-        Ok(()) => Ok(()),
-        Err(_) => Err(AllocError),
-    }
-}
-
-/// A list of these goals. An error is want of memory.
-fn list_of(alloc: Global, goals: &[Goal]) -> Result<GoalList, AllocError>
-    ensures { IfOk result (λ list. list ≡ goals.now) }
-{
-    let mut list = GoalList::new(alloc);
-    for goal in goals {
-        put(&mut list, *goal)?;
-    }
-    Ok(list)
 }

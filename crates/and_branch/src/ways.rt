@@ -1,82 +1,18 @@
 //! The ways in which a round goes over the goals of a branch.
 
-ghost use Rattle.std.specs.Prelude.{◌≡◌, ◌<◌, ◌≤◌, ◌+◌, ◌++◌, ◌∷◌, [], List, true, OnOk, IfOk, length};
+ghost use Rattle.std.specs.Prelude.{◌≡◌, ◌≤◌, ◌+◌, ◌++◌, ◌∷◌, [], List, OnOk, IfOk, length};
 ghost use Rattle.and_model.specs.declared.goal.Goal.{Goal};
-ghost use Rattle.and_branch.specs.Branches.{IsBranch, SameKey};
-ghost use Rattle.and_branch.specs.Finding.{with_passed};
-ghost use Rattle.and_branch.specs.Next.{IsMoved};
-ghost use Rattle.and_branch.specs.Rounds.{StepsOn};
-ghost use Rattle.and_branch.specs.Ways.{HasCome, HasNoted};
-ghost use Rattle.and_branch.specs.declared.advancing.Round.{Round};
-ghost use Rattle.and_branch.specs.declared.ways.Way.{Way};
+ghost use Rattle.and_branch_parts.specs.Branches.{IsBranch, SameKey};
+ghost use Rattle.and_branch_parts.specs.Finding.{with_passed};
+ghost use Rattle.and_branch_parts.specs.Next.{IsMoved};
+ghost use Rattle.and_branch_parts.specs.Rounds.{StepsOn};
+ghost use Rattle.and_branch_parts.specs.Ways.{HasCome, HasNoted};
 
-use crate::advancing::Round;
 use crate::branch::Branch;
-use crate::finding::{HeavyCall, Seen, with_passed};
+use and_branch_parts::{HeavyCall, Seen, Way, with_passed};
 use and_cells::Naming;
 use and_model::Goal;
 use std::alloc::AllocError;
-
-/// Which way a round goes over the goals.
-#[derive(Clone, Copy)]
-pub(crate) enum Way {
-    /// From the first to the last, so that goals come to what others before them set.
-    Onward,
-    /// From the last to the first, so that goals come to what others behind them set.
-    Back,
-}
-
-/// How many reductions a round has: so many for each goal that stood at its beginning, with all that comes of it.
-#[derive(Clone, Copy)]
-pub(crate) struct Share {
-    /// How many each goal has.
-    pub most: u32,
-    /// How many are left for the goal whose turn it is.
-    pub left: u32,
-    /// How many goals there were from this one on when its turn began.
-    pub ahead: usize,
-}
-
-impl Share {
-    /// No goal has had its turn yet.
-    pub fn of(most: u32) -> Share
-        ensures most { result.most ≡ most }
-        ensures left { result.left ≡ most }
-    {
-        Share {
-            most,
-            left: most,
-            ahead: usize::MAX,
-        }
-    }
-
-    /// The same where there are so many goals from the place of work on. With fewer than there were it is past all
-    /// that came of the goal whose turn it was, and the next one's turn begins.
-    pub fn at(self, ahead: usize) -> Share
-        ensures next { ahead < self.ahead → result ≡ record { most = self.most; left = self.most; ahead = ahead } }
-        ensures same { self.ahead ≤ ahead → result ≡ self }
-    {
-        if ahead < self.ahead {
-            Share {
-                most: self.most,
-                left: self.most,
-                ahead,
-            }
-        } else {
-            self
-        }
-    }
-}
-
-/// Whether a round that came to this on its way goes back then: it changed something, and has not come to rest.
-pub(crate) fn turns_back(way: Way, round: Round) -> bool
-    ensures { result ≡ true → (way ≡ Way.Onward) × (round ≡ Round.Changed) }
-{
-    match (way, round) {
-        (Way::Onward, Round::Changed) => true,
-        _ => false,
-    }
-}
 
 impl<N: Naming> Branch<N> {
     /// Goes to the next goal on a round's way, past those that sleep. Answers whether there may be one. An error is

@@ -22,7 +22,7 @@ use Rattle.and_cells.specs.Solved.{HasTerm}
 use Rattle.and_cell_laws.proofs.Settling.{settled_rows_have_terms}
 use Rattle.and_branch_laws.specs.Tasks.{tasks, RanAmong}
 use Rattle.and_branch_laws.specs.Kept.{Kept, HasFreePair, node_item_at}
-use Rattle.and_branch.specs.Branches.{IsBranchOf, Lives}
+use Rattle.and_branch_parts.specs.Branches.{IsBranchOf, Lives}
 use Rattle.and_examples.specs.Texts.{whole}
 use Rattle.and_examples.specs.BasesExamples.{P, p, v, tree}
 use Rattle.and_examples.specs.BranchExamples.{item_of_query, taken_by}

@@ -4,8 +4,8 @@ use Rattle.std.specs.Prelude.{ℕ, Bool, false, List, [], ◌∷◌, refl}
 use Rattle.and_model.specs.Trees.{QueryTree, reduce}
 use Rattle.and_model.specs.declared.goal.Goal.{Goal}
 use Rattle.and_model.specs.declared.reference.Ref.{Ref}
-use Rattle.and_branch.specs.Branches.{Held}
-use Rattle.and_branch.specs.Making.{nothing_noted}
+use Rattle.and_branch_parts.specs.Branches.{Held}
+use Rattle.and_branch_parts.specs.Making.{nothing_noted}
 use Rattle.and_examples.specs.BasesExamples.{by_first}
 use Rattle.and_examples.specs.BranchExamples.{item_of_query, taken_by}
 use Rattle.and_examples.specs.KeptExamples.{row, item_of_first, summed}

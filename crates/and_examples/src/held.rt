@@ -1,7 +1,7 @@
 //! Branches as they are held, each with the tree that it stands for.
 
 ghost use Rattle.std.specs.Prelude.{[], ◌∷◌, true, false};
-ghost use Rattle.and_branch.specs.Branches.{IsBranchOf};
+ghost use Rattle.and_branch_parts.specs.Branches.{IsBranchOf};
 ghost use Rattle.and_examples.specs.BasesExamples.{tree};
 ghost use Rattle.and_examples.specs.BranchExamples.{item_of_query};
 ghost use Rattle.and_examples.specs.KeptExamples.{text, summing, sum_start};

@@ -4,10 +4,10 @@ use Rattle.and_cells.specs.Ranges.{NamedProgram}
 use Rattle.and_code.specs.Written.{all_written}
 use Rattle.and_branch_laws.specs.Kept.{goal_of}
 use Rattle.and_branch_laws.specs.Reducing.{body_goals}
-use Rattle.and_branch.specs.Next.{HasPut}
-use Rattle.and_branch.proofs.LoadedPrograms.{is_loaded}
-use Rattle.and_branch.proofs.PassedGoals.{first_left, first_right, first_watched}
-use Rattle.and_branch.proofs.RootedBranches.{rooted}
+use Rattle.and_branch_parts.specs.Next.{HasPut}
+use Rattle.and_branch_parts.proofs.LoadedPrograms.{is_loaded}
+use Rattle.and_branch_parts.proofs.PassedGoals.{first_left, first_right, first_watched}
+use Rattle.and_branch_parts.proofs.RootedBranches.{rooted}
 use Rattle.and_branch.proofs.branch.begun.Goals as goal
 
 pub returns-clause-branch : goal.returns-clause-branch

@@ -1,12 +1,12 @@
 use Rattle.std.proofs.Common.{Option, sym, subst}
 use Rattle.std.proofs.lemmas.Result.{on_ok_weaker}
-use Rattle.and_branch.specs.Branches.{Held}
-use Rattle.and_branch.specs.Rounds.{IsStill, HasStilled}
-use Rattle.and_branch.specs.declared.finding.RoundSoFar.{RoundSoFar}
-use Rattle.and_branch.proofs.KeptOrigins.{on_ok_kept}
-use Rattle.and_branch.proofs.LoadedPrograms.{is_loaded}
-use Rattle.and_branch.proofs.LookedGoals.{still_branch}
-use Rattle.and_branch.proofs.RoundsDone
+use Rattle.and_branch_parts.specs.Branches.{Held}
+use Rattle.and_branch_parts.specs.Rounds.{IsStill, HasStilled}
+use Rattle.and_branch_parts.specs.declared.finding.RoundSoFar.{RoundSoFar}
+use Rattle.and_branch_parts.proofs.KeptOrigins.{on_ok_kept}
+use Rattle.and_branch_parts.proofs.LoadedPrograms.{is_loaded}
+use Rattle.and_branch_parts.proofs.LookedGoals.{still_branch}
+use Rattle.and_branch_parts.proofs.RoundsDone
 use Rattle.and_branch.proofs.StilledBranches.{failed_state, told_steps, told_state, told_at_rest}
 use Rattle.and_branch.proofs.branch.Branch.advance_from.Goals as goal
 

@@ -2,9 +2,9 @@ use Rattle.std.proofs.Common.{length, refl, ap, arith}
 use Rattle.std.proofs.lemmas.List.{length-map}
 use Rattle.std.proofs.lemmas.Result.{on_ok_weaker}
 use Rattle.and_pending.specs.Pending.{Watched}
-use Rattle.and_branch.specs.Branches.{Held}
-use Rattle.and_branch.proofs.KeptOrigins.{noted_nothing}
-use Rattle.and_branch.proofs.PassedGoals.{goals_moved}
+use Rattle.and_branch_parts.specs.Branches.{Held}
+use Rattle.and_branch_parts.proofs.KeptOrigins.{noted_nothing}
+use Rattle.and_branch_parts.proofs.PassedGoals.{goals_moved}
 use Rattle.and_branch.proofs.branch.Branch.back_to_woken.Goals as goal
 
 pub returns-clause-moved : goal.returns-clause-moved

@@ -1,4 +1,4 @@
-use Rattle.and_branch.proofs.KeptOrigins.{outlined_again}
+use Rattle.and_branch.proofs.OutlinedBranches.{outlined_again}
 use Rattle.and_branch.proofs.branch.Branch.become_again.Goals as goal
 
 pub returns : goal.returns

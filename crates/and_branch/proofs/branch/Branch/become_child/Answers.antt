@@ -1,7 +1,7 @@
 use Rattle.std.proofs.Common.{ap}
-use Rattle.and_branch.specs.Branches.{Held}
-use Rattle.and_branch.proofs.ForkReduced.{begun_again, begun_has, begun_next, begun_made}
-use Rattle.and_branch.proofs.KeptOrigins.{kept_same, kept_then}
+use Rattle.and_branch_parts.specs.Branches.{Held}
+use Rattle.and_branch_parts.proofs.ForkReduced.{begun_again, begun_has, begun_next, begun_made}
+use Rattle.and_branch_parts.proofs.KeptOrigins.{kept_same, kept_then}
 use Rattle.and_branch.proofs.branch.Branch.become_child.Goals as goal
 
 pub seek-requires : goal.seek-requires

@@ -1,4 +1,4 @@
-use Rattle.and_branch.proofs.KeptOrigins.{outlined_first}
+use Rattle.and_branch.proofs.OutlinedBranches.{outlined_first}
 use Rattle.and_branch.proofs.branch.Branch.become_first.Goals as goal
 
 pub returns : goal.returns

@@ -1,5 +1,5 @@
 use Rattle.std.proofs.Common.{refl}
-use Rattle.and_branch.proofs.WatchedGoals.{goals_forgotten, left_forgotten}
+use Rattle.and_branch_parts.proofs.WatchedGoals.{goals_forgotten, left_forgotten}
 use Rattle.and_branch.proofs.branch.Branch.clear_out.Goals as goal
 
 pub returns-then-are_worn-clause-moved : goal.returns-then-are_worn-clause-moved

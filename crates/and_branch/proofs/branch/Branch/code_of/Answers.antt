@@ -2,7 +2,7 @@ use Rattle.std.proofs.Common.{List, ℕ, sym, subst}
 use Rattle.and_cells.specs.Parts.{named}
 use Rattle.and_code.specs.Telling.{IsTold}
 use Rattle.and_code.specs.Written.{all_written}
-use Rattle.and_branch.specs.Branches.{Held, IsBranch, IsBranchOf}
+use Rattle.and_branch_parts.specs.Branches.{Held, IsBranch, IsBranchOf}
 use Rattle.and_branch.proofs.LinesTold.{made_there, code_is, told_there}
 use Rattle.and_branch.proofs.branch.Branch.code_of.Goals as goal
 

@@ -1,5 +1,5 @@
 use Rattle.std.proofs.lemmas.Result.{on_ok_weaker}
-use Rattle.and_branch.proofs.LookedGoals.{moved_steps}
+use Rattle.and_branch_parts.proofs.LookedGoals.{moved_steps}
 use Rattle.and_branch.proofs.branch.Branch.come_to_next.Goals as goal
 
 pub returns-in-Back-clause-steps : goal.returns-in-Back-clause-steps

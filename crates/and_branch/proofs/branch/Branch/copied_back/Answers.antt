@@ -1,7 +1,7 @@
 use Rattle.std.proofs.Common.{ℕ, [], Some, refl, ap, sym, ◌∙◌}
 use Rattle.and_code.specs.Written.{all_written}
-use Rattle.and_branch.specs.Branches.{Held}
-use Rattle.and_branch.proofs.KeptOrigins.{row_again, row_sound, reductions_back}
+use Rattle.and_branch_parts.specs.Branches.{Held}
+use Rattle.and_branch_parts.proofs.KeptOrigins.{row_again, row_sound, reductions_back}
 use Rattle.and_branch.proofs.branch.Branch.copied_back.Goals as goal
 
 pub take_back-requires : goal.take_back-requires

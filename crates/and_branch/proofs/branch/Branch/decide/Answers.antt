@@ -1,6 +1,6 @@
 use Rattle.std.proofs.Common.{ap, sym, subst}
 use Rattle.and_cells.specs.Parts.{named}
-use Rattle.and_branch.specs.Branches.{Held, IsBranchOf}
+use Rattle.and_branch_parts.specs.Branches.{Held, IsBranchOf}
 use Rattle.and_branch.proofs.LinesTold.{made_there, decided_is, told_there, told_here, goal_missing}
 use Rattle.and_branch.proofs.branch.Branch.decide.Goals as goal
 

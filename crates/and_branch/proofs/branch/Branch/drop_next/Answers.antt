@@ -1,5 +1,5 @@
 use Rattle.std.proofs.Common.{refl}
-use Rattle.and_branch.proofs.WatchedGoals.{next_dropped}
+use Rattle.and_branch_parts.proofs.WatchedGoals.{next_dropped}
 use Rattle.and_branch.proofs.branch.Branch.drop_next.Goals as goal
 
 pub returns-clause-dropped : goal.returns-clause-dropped

@@ -1,5 +1,5 @@
 use Rattle.std.proofs.Common.{ℕ, List, [], ◌∷◌, ◌++◌, take, ap, ◌∙◌}
-use Rattle.and_branch.specs.Branches.{Held}
+use Rattle.and_branch_parts.specs.Branches.{Held}
 use Rattle.and_branch.proofs.branch.Branch.end_key.Goals as goal
 
 pub returns : goal.returns

@@ -2,12 +2,12 @@ use Rattle.std.proofs.Common.{◌≡◌, ◌≢◌, false, List, [], sym, ◌∙
 use Rattle.std.proofs.lemmas.List.{nil_from_length, length-map}
 use Rattle.and_model.specs.declared.goal.Goal.{Goal}
 use Rattle.and_pending.specs.Pending.{Watched, goals_of}
-use Rattle.and_branch.specs.Branches.{Held, IsBranchOf}
-use Rattle.and_branch.specs.Finding.{AllCalls}
-use Rattle.and_branch.specs.Resting.{IsResting}
+use Rattle.and_branch_parts.specs.Branches.{Held, IsBranchOf}
+use Rattle.and_branch_parts.specs.Finding.{AllCalls}
+use Rattle.and_branch_parts.specs.Resting.{IsResting}
 use Rattle.and_branch.specs.States.{IsState}
 use Rattle.and_branch.specs.declared.state.BranchState.TheVariants.{Answer, Floundered}
-use Rattle.and_branch.proofs.LoadedPrograms.{is_loaded}
+use Rattle.and_branch_parts.proofs.LoadedPrograms.{is_loaded}
 use Rattle.and_branch.proofs.StatesFound.{answer_is, floundered_is}
 use Rattle.and_branch.proofs.branch.Branch.ended.Goals as goal
 

@@ -1,10 +1,11 @@
 use Rattle.std.proofs.Common.{List, ℕ, length, ap, sym, subst, ◌∙◌}
-use Rattle.and_branch.specs.Branches.{Held}
-use Rattle.and_branch.specs.Children.{AreChildren}
+use Rattle.and_branch_parts.specs.Branches.{Held}
+use Rattle.and_branch_parts.specs.Children.{AreChildren}
 use Rattle.and_branch.specs.Outlines.{IsOutlineOf}
-use Rattle.and_branch.specs.States.{numbers}
-use Rattle.and_branch.proofs.ForkReduced.{are_children}
-use Rattle.and_branch.proofs.KeptOrigins.{back_by_key, outline_by_key}
+use Rattle.and_branch_parts.specs.Forking.{numbers}
+use Rattle.and_branch_parts.proofs.ForkReduced.{are_children}
+use Rattle.and_branch_parts.proofs.KeptOrigins.{back_by_key}
+use Rattle.and_branch.proofs.OutlinedBranches.{outline_by_key}
 use Rattle.and_branch.proofs.branch.Branch.fork_in_place.Goals as goal
 
 pub decide-requires-clause-goal : goal.decide-requires-clause-goal

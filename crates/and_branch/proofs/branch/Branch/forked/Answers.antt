@@ -2,13 +2,13 @@ use Rattle.std.specs.Prelude.{filter, IsSome}
 use Rattle.std.proofs.Common.{◌≡◌, ◌≤◌, false, List, sym, subst, refl, Option, length}
 use Rattle.and_model.specs.declared.goal.Cut.{Cut}
 use Rattle.and_model.specs.declared.reference.Ref.{Ref}
-use Rattle.and_branch.specs.Branches.{Held, IsBranch, IsBranchOf}
-use Rattle.and_branch.specs.Finding.{IsSeveral}
-use Rattle.and_branch.specs.Forking.{fits_in, first_other}
-use Rattle.and_branch.specs.Resting.{IsResting}
+use Rattle.and_branch_parts.specs.Branches.{Held, IsBranch, IsBranchOf}
+use Rattle.and_branch_parts.specs.Finding.{IsSeveral}
+use Rattle.and_branch_parts.specs.Forking.{fits_in, first_other}
+use Rattle.and_branch_parts.specs.Resting.{IsResting}
 use Rattle.and_branch.specs.States.{IsState}
-use Rattle.and_branch.proofs.LoadedPrograms.{is_loaded}
-use Rattle.and_branch.proofs.ArithmeticRuns.{row_short, row_fits}
+use Rattle.and_branch_parts.proofs.LoadedPrograms.{is_loaded}
+use Rattle.and_branch_parts.proofs.ArithmeticRuns.{row_short, row_fits}
 use Rattle.and_branch.proofs.StatesFound.{there_judged, two_there, candidates_there, some_cut, told_fork}
 use Rattle.and_branch.proofs.branch.Branch.forked.Goals as goal
 

@@ -1,12 +1,12 @@
 use Rattle.std.proofs.Common.{length, sym, subst}
 use Rattle.std.specs.Prelude.{All, Option}
 use Rattle.and_cells.specs.Ranges.{IsGoalInRange}
-use Rattle.and_branch.specs.Branches.{Held}
-use Rattle.and_branch.specs.Finding.{HasHeavy, IsFirstCall}
-use Rattle.and_branch.specs.declared.finding.HeavyCall.{HeavyCall}
-use Rattle.and_branch.proofs.HeavyCalls.{several_found}
-use Rattle.and_branch.proofs.LoadedPrograms.{is_loaded}
-use Rattle.and_branch.proofs.RoundsKept.{left_in_range}
+use Rattle.and_branch_parts.specs.Branches.{Held}
+use Rattle.and_branch_parts.specs.Finding.{HasHeavy, IsFirstCall}
+use Rattle.and_branch_parts.specs.declared.finding.HeavyCall.{HeavyCall}
+use Rattle.and_branch_parts.proofs.HeavyCalls.{several_found}
+use Rattle.and_branch_parts.proofs.LoadedPrograms.{is_loaded}
+use Rattle.and_branch_parts.proofs.RoundsKept.{left_in_range}
 use Rattle.and_branch.proofs.branch.Branch.found_with.Goals as goal
 
 pub first_call-requires-clause-in_range : goal.first_call-requires-clause-in_range

@@ -2,9 +2,10 @@ use Rattle.std.proofs.Common.{[], Some, ℕ, length, refl, ap, sym, ◌++◌, �
 use Rattle.std.proofs.lemmas.List.{length-map}
 use Rattle.and_pending.specs.Pending.{Pending, goals_of}
 use Rattle.and_code.specs.Written.{written}
-use Rattle.and_branch.specs.Branches.{Held}
-use Rattle.and_branch.specs.Watching.{all_watched}
-use Rattle.and_branch.proofs.KeptOrigins.{outline_is, goes_nowhere}
+use Rattle.and_branch_parts.specs.Branches.{Held}
+use Rattle.and_branch_parts.specs.Watching.{all_watched}
+use Rattle.and_branch_parts.proofs.KeptOrigins.{goes_nowhere}
+use Rattle.and_branch.proofs.OutlinedBranches.{outline_is}
 use Rattle.and_branch.proofs.branch.Branch.give_outline.Goals as goal
 
 pub returns-clause-outline : goal.returns-clause-outline

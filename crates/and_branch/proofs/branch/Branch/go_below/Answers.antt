@@ -1,7 +1,7 @@
 use Rattle.std.proofs.Common.{ℕ, [], Some, refl, ap, sym, ◌∙◌}
 use Rattle.and_code.specs.Written.{all_written}
 use Rattle.and_reduction.specs.Trails.{Noted}
-use Rattle.and_branch.proofs.CopiedBranches.{row_below, sound_below, reductions_below}
+use Rattle.and_branch_parts.proofs.CopiedBranches.{row_below, sound_below, reductions_below}
 use Rattle.and_branch.proofs.branch.Branch.go_below.Goals as goal
 
 pub take_back-requires : goal.take_back-requires

@@ -1,16 +1,16 @@
 use Rattle.std.proofs.Common.{◌≡◌, ◌-◌, nat_lt, true, false, ap, sym, refl, ◌∙◌, subst, arith, rules}
 use Rattle.std.proofs.lemmas.Bool.Decides.{nat_tests}
-use Rattle.and_branch.specs.Branches.{Held}
-use Rattle.and_branch.specs.Finding.{with_passed}
-use Rattle.and_branch.specs.Rounds.{LookIs}
-use Rattle.and_branch.specs.Ways.{HasCome}
-use Rattle.and_branch.specs.declared.advancing.Looked.{Looked}
-use Rattle.and_branch.proofs.GoalsRun.{branch_fits}
-use Rattle.and_branch.proofs.LoadedPrograms.{is_loaded}
-use Rattle.and_branch.proofs.LookedGoals.{moved_steps, steps_then, still_branch}
-use Rattle.and_branch.proofs.MovedBranches.{moved_twice}
-use Rattle.and_branch.proofs.RoundsKept.{RoundStands, round_begun, round_passed, round_changed, round_ended, past_idle, alike_then, moved_alike}
-use Rattle.and_branch.proofs.WaysGone.{has_come, share_at, over_back, has_noted, fewer_passed, fewer_ran, fewer_reduced, fewer_back, round_moved}
+use Rattle.and_branch_parts.specs.Branches.{Held}
+use Rattle.and_branch_parts.specs.Finding.{with_passed}
+use Rattle.and_branch_parts.specs.Rounds.{LookIs}
+use Rattle.and_branch_parts.specs.Ways.{HasCome}
+use Rattle.and_branch_parts.specs.declared.rounds.Looked.{Looked}
+use Rattle.and_branch_parts.proofs.GoalsRun.{branch_fits}
+use Rattle.and_branch_parts.proofs.LoadedPrograms.{is_loaded}
+use Rattle.and_branch_parts.proofs.LookedGoals.{moved_steps, steps_then, still_branch}
+use Rattle.and_branch_parts.proofs.MovedBranches.{moved_twice}
+use Rattle.and_branch_parts.proofs.RoundsKept.{RoundStands, round_begun, round_passed, round_changed, round_ended, past_idle, alike_then, moved_alike}
+use Rattle.and_branch_parts.proofs.WaysGone.{has_come, share_at, over_back, has_noted, fewer_passed, fewer_ran, fewer_reduced, fewer_back, round_moved}
 use Rattle.and_branch.proofs.branch.Branch.go_round.Goals as goal
 
 pub goals-init : goal.goals-init

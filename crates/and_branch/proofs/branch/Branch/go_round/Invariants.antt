@@ -1,4 +1,4 @@
-use Rattle.and_branch.proofs.WaysGone.{Goes, turns_left}
+use Rattle.and_branch_parts.proofs.WaysGone.{Goes, turns_left}
 use Rattle.and_branch.proofs.branch.Branch.go_round.Given as goal
 
 abbrev pub invariant-goals : goal.invariant-goals

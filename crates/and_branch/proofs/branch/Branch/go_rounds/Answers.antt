@@ -1,9 +1,9 @@
 use Rattle.std.proofs.Common.{refl, subst, arith}
-use Rattle.and_branch.specs.Rounds.{RoundIs}
-use Rattle.and_branch.specs.declared.advancing.Round.{Round}
-use Rattle.and_branch.proofs.LookedGoals.{no_steps, steps_then, still_branch}
-use Rattle.and_branch.proofs.GoalsRun.{branch_fits}
-use Rattle.and_branch.proofs.RoundsKept.{fewer_rounds, same_then}
+use Rattle.and_branch_parts.specs.Rounds.{RoundIs}
+use Rattle.and_branch_parts.specs.declared.rounds.Round.{Round}
+use Rattle.and_branch_parts.proofs.LookedGoals.{no_steps, steps_then, still_branch}
+use Rattle.and_branch_parts.proofs.GoalsRun.{branch_fits}
+use Rattle.and_branch_parts.proofs.RoundsKept.{fewer_rounds, same_then}
 use Rattle.and_branch.proofs.branch.Branch.go_rounds.Goals as goal
 
 pub rounds-init : goal.rounds-init

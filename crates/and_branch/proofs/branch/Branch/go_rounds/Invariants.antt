@@ -1,6 +1,6 @@
 use Rattle.std.proofs.Common.{◌+◌, ◌-◌, ◌*◌, ◌^◌, ◌≤◌}
-use Rattle.and_branch.specs.Branches.{IsBranch, SameKey}
-use Rattle.and_branch.specs.Rounds.{StepsOn, goal_count}
+use Rattle.and_branch_parts.specs.Branches.{IsBranch, SameKey}
+use Rattle.and_branch_parts.specs.Rounds.{StepsOn, goal_count}
 use Rattle.and_branch.proofs.branch.Branch.go_rounds.Given as goal
 
 abbrev pub invariant-rounds : goal.invariant-rounds

@@ -1,6 +1,6 @@
 use Rattle.std.proofs.Common.{sym, ◌∙◌, ap}
-use Rattle.and_branch.specs.Branches.{Held}
-use Rattle.and_branch.proofs.SoughtGoals.{next_there, none_next}
+use Rattle.and_branch_parts.specs.Branches.{Held}
+use Rattle.and_branch_parts.proofs.SoughtGoals.{next_there, none_next}
 use Rattle.and_branch.proofs.branch.Branch.has_next.Goals as goal
 
 pub returns-clause-next : goal.returns-clause-next

@@ -1,8 +1,8 @@
 use Rattle.std.proofs.Common.{sym, ◌∙◌, ap}
 use Rattle.std.proofs.lemmas.Bool.{eqb-true}
 use Rattle.and_pending.specs.Pending.{goals_of}
-use Rattle.and_branch.specs.Branches.{Held}
-use Rattle.and_branch.proofs.PassedGoals.{first_goal}
+use Rattle.and_branch_parts.specs.Branches.{Held}
+use Rattle.and_branch_parts.proofs.PassedGoals.{first_goal}
 use Rattle.and_branch.proofs.branch.Branch.is_next.Goals as goal
 
 pub returns-then-next-goal-clause-next : goal.returns-then-next-goal-clause-next

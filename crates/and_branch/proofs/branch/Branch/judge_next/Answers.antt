@@ -1,6 +1,6 @@
 use Rattle.std.proofs.Common.{IfOk, subst}
 use Rattle.and_determinacy.specs.Candidates.{IsJudged}
-use Rattle.and_branch.specs.Branches.{Held}
+use Rattle.and_branch_parts.specs.Branches.{Held}
 use Rattle.and_branch.proofs.branch.Branch.judge_next.Goals as goal
 
 pub returns-clause-judged : goal.returns-clause-judged

@@ -5,11 +5,11 @@ use Rattle.and_model.specs.Trees.{QueryTree}
 use Rattle.and_model.specs.declared.goal.Goal.{Goal}
 use Rattle.and_pending.specs.Pending.{goals_of}
 use Rattle.and_print.specs.Given.{Given}
-use Rattle.and_branch.specs.Branches.{Held, IsBranchOf}
-use Rattle.and_branch.specs.Ended.{HasEnded, IsLineOf}
-use Rattle.and_branch.proofs.LoadedPrograms.{is_loaded}
+use Rattle.and_branch_parts.specs.Branches.{Held, IsBranchOf}
+use Rattle.and_branch_parts.specs.Ended.{HasEnded, IsLineOf}
+use Rattle.and_branch_parts.proofs.LoadedPrograms.{is_loaded}
 use Rattle.and_branch.proofs.LinesTold.{ended_given, ended_in_range, line_told}
-use Rattle.and_branch.proofs.WatchedLists.{goals_append}
+use Rattle.and_branch_parts.proofs.WatchedLists.{goals_append}
 use Rattle.and_branch.proofs.branch.Branch.line.Goals as goal
 
 pub show_line-requires-clause-in_range : goal.show_line-requires-clause-in_range

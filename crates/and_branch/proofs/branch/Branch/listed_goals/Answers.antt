@@ -1,8 +1,8 @@
 use Rattle.std.proofs.Common.{List, ◌≡◌, ◌++◌, subst}
 use Rattle.std.specs.Prelude.{IfOk}
 use Rattle.and_model.specs.declared.goal.Goal.{Goal}
-use Rattle.and_branch.specs.Branches.{Held}
-use Rattle.and_branch.proofs.WatchedLists.{goals_append}
+use Rattle.and_branch_parts.specs.Branches.{Held}
+use Rattle.and_branch_parts.proofs.WatchedLists.{goals_append}
 use Rattle.and_branch.proofs.branch.Branch.listed_goals.Goals as goal
 
 pub returns : goal.returns

@@ -1,5 +1,5 @@
 use Rattle.std.proofs.Common.{refl}
-use Rattle.and_branch.proofs.LookedGoals.{no_steps}
+use Rattle.and_branch_parts.proofs.LookedGoals.{no_steps}
 use Rattle.and_branch.proofs.branch.Branch.look.Goals as goal
 
 pub look_at-requires-clause-at : goal.look_at-requires-clause-at

@@ -3,8 +3,8 @@ use Rattle.and_model.specs.Terms.{Term}
 use Rattle.and_model.specs.Programs.{call, arithmetic, Arithmetic}
 use Rattle.and_cells.specs.Ranges.{NamedProgram, IsGoalInRange}
 use Rattle.and_branch_laws.specs.Kept.{item_at}
-use Rattle.and_branch.proofs.LoadedPrograms.{is_loaded}
-use Rattle.and_branch.proofs.LookedGoals.{in_range, kind}
+use Rattle.and_branch_parts.proofs.LoadedPrograms.{is_loaded}
+use Rattle.and_branch_parts.proofs.LookedGoals.{in_range, kind}
 use Rattle.and_branch.proofs.branch.Branch.look_at.Goals as goal
 
 pub is_call-requires-clause-in_range : goal.is_call-requires-clause-in_range

@@ -1,9 +1,9 @@
 use Rattle.std.proofs.Common.{Ok, List, ap, sym, ◌∙◌, subst}
 use Rattle.and_model.specs.declared.reference.Ref.{Ref}
 use Rattle.and_reduction.specs.Runs.{IsWaiting, WaitsFor}
-use Rattle.and_branch.specs.declared.finding.Seen.TheVariants.{Arithmetic}
-use Rattle.and_branch.proofs.LoadedPrograms.{is_loaded}
-use Rattle.and_branch.proofs.LookedGoals.{is_short, run_ready, unmoved, at_unmoved, passed_unmoved, passed, next_still, idle_waiting, ran, cannot_hold}
+use Rattle.and_branch_parts.specs.declared.finding.Seen.TheVariants.{Arithmetic}
+use Rattle.and_branch_parts.proofs.LoadedPrograms.{is_loaded}
+use Rattle.and_branch_parts.proofs.LookedGoals.{is_short, run_ready, unmoved, at_unmoved, passed_unmoved, passed, next_still, idle_waiting, ran, cannot_hold}
 use Rattle.and_branch.proofs.branch.Branch.look_at_arithmetic.Goals as goal
 
 pub run_next-requires-clause-short : goal.run_next-requires-clause-short

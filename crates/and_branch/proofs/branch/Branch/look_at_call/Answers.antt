@@ -5,12 +5,12 @@ use Rattle.and_determinacy.specs.Candidates.{IsNarrowed}
 use Rattle.and_guards.specs.Goals.{CanBeJudged}
 use Rattle.and_determinacy.specs.declared.judging.Narrowed.{Narrowed}
 use Rattle.and_determinacy.specs.Watching.{TwoStayWhile}
-use Rattle.and_branch.specs.Branches.{Held}
-use Rattle.and_branch.specs.Rounds.{IsAtMost, WatchesOn}
-use Rattle.and_branch.specs.Watching.{HasTwo}
-use Rattle.and_branch.specs.declared.finding.Seen.TheVariants.{Several}
-use Rattle.and_branch.proofs.LoadedPrograms.{is_loaded}
-use Rattle.and_branch.proofs.LookedGoals.{is_settled, is_short, judge_ready, passed, next_still, idle_several, no_candidate}
+use Rattle.and_branch_parts.specs.Branches.{Held}
+use Rattle.and_branch_parts.specs.Rounds.{IsAtMost, WatchesOn}
+use Rattle.and_branch_parts.specs.Watching.{HasTwo}
+use Rattle.and_branch_parts.specs.declared.finding.Seen.TheVariants.{Several}
+use Rattle.and_branch_parts.proofs.LoadedPrograms.{is_loaded}
+use Rattle.and_branch_parts.proofs.LookedGoals.{is_settled, is_short, judge_ready, passed, next_still, idle_several, no_candidate}
 use Rattle.and_branch.proofs.branch.Branch.look_at_call.Goals as goal
 
 pub narrow_goal-requires-clause-short : goal.narrow_goal-requires-clause-short

@@ -1,10 +1,10 @@
 use Rattle.std.proofs.Common.{true, sym, subst, ◌∙◌}
 use Rattle.and_determinacy.specs.Candidates.{IsJudged}
 use Rattle.and_determinacy.specs.declared.judging.Judged.{Judged}
-use Rattle.and_branch.specs.declared.finding.Seen.TheVariants.{Heavy}
-use Rattle.and_branch.proofs.LoadedPrograms.{is_loaded}
-use Rattle.and_branch.proofs.LookedGoals.{is_short, judge_ready, passed, idle_heavy, no_candidate}
-use Rattle.and_branch.proofs.WatchedGoals.{watches_still}
+use Rattle.and_branch_parts.specs.declared.finding.Seen.TheVariants.{Heavy}
+use Rattle.and_branch_parts.proofs.LoadedPrograms.{is_loaded}
+use Rattle.and_branch_parts.proofs.LookedGoals.{is_short, judge_ready, passed, idle_heavy, no_candidate}
+use Rattle.and_branch_parts.proofs.WatchedGoals.{watches_still}
 use Rattle.and_branch.proofs.branch.Branch.look_at_heavy.Goals as goal
 
 pub judge_next-requires-clause-short : goal.judge_next-requires-clause-short

@@ -2,11 +2,11 @@ use Rattle.std.proofs.Common.{◌+◌, ◌≤◌, Bool, IfOk, refl, ap, sym, ◌
 use Rattle.std.proofs.lemmas.Bool.{true≢false}
 use Rattle.and_model.specs.Programs.{clause_at, clause_weight}
 use Rattle.and_cells.specs.Ranges.{NamedProgram}
-use Rattle.and_branch.specs.Rounds.{LookIs}
-use Rattle.and_branch.specs.declared.finding.Seen.TheVariants.{NotJudged}
-use Rattle.and_branch.proofs.LoadedPrograms.{is_loaded}
-use Rattle.and_branch.proofs.LookedGoals.{next_ready, passed, reduced_steps, reduced_more}
-use Rattle.and_branch.proofs.WatchedGoals.{watches_still}
+use Rattle.and_branch_parts.specs.Rounds.{LookIs}
+use Rattle.and_branch_parts.specs.declared.finding.Seen.TheVariants.{NotJudged}
+use Rattle.and_branch_parts.proofs.LoadedPrograms.{is_loaded}
+use Rattle.and_branch_parts.proofs.LookedGoals.{next_ready, passed, reduced_steps, reduced_more}
+use Rattle.and_branch_parts.proofs.WatchedGoals.{watches_still}
 use Rattle.and_branch.proofs.branch.Branch.look_at_last.Goals as goal
 
 pub look_at_heavy-requires-clause-no_room : goal.look_at_heavy-requires-clause-no_room

@@ -1,7 +1,7 @@
 use Rattle.std.proofs.Common.{◌≡◌, sym, ◌∙◌, ap}
 use Rattle.and_pending.specs.Pending.{goals_of}
-use Rattle.and_branch.specs.Branches.{Held}
-use Rattle.and_branch.proofs.PassedGoals.{first_goal}
+use Rattle.and_branch_parts.specs.Branches.{Held}
+use Rattle.and_branch_parts.proofs.PassedGoals.{first_goal}
 use Rattle.and_branch.proofs.branch.Branch.next_goal.Goals as goal
 
 pub returns-in-Some-clause-goal : goal.returns-in-Some-clause-goal

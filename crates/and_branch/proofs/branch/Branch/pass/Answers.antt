@@ -1,6 +1,6 @@
 use Rattle.std.proofs.Common.{refl, ◌∙◌, ap}
-use Rattle.and_branch.specs.Branches.{Held}
-use Rattle.and_branch.proofs.PassedGoals.{some_goal, passed_moved, passed_goals}
+use Rattle.and_branch_parts.specs.Branches.{Held}
+use Rattle.and_branch_parts.proofs.PassedGoals.{some_goal, passed_moved, passed_goals}
 use Rattle.and_branch.proofs.branch.Branch.pass.Goals as goal
 
 pub pass-requires : goal.pass-requires

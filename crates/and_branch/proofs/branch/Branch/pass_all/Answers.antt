@@ -1,6 +1,6 @@
 use Rattle.std.proofs.Common.{refl, ◌∙◌}
-use Rattle.and_branch.proofs.MovedBranches.{moved_twice, moved_nowhere}
-use Rattle.and_branch.proofs.SoughtGoals.{shorter}
+use Rattle.and_branch_parts.proofs.MovedBranches.{moved_twice, moved_nowhere}
+use Rattle.and_branch_parts.proofs.SoughtGoals.{shorter}
 use Rattle.and_branch.proofs.branch.Branch.pass_all.Goals as goal
 
 pub loop-self-init : goal.loop-self-init

@@ -1,6 +1,6 @@
 use Rattle.std.proofs.Common.{length}
-use Rattle.and_branch.specs.Branches.{SameKey}
-use Rattle.and_branch.specs.Next.{IsMoved}
+use Rattle.and_branch_parts.specs.Branches.{SameKey}
+use Rattle.and_branch_parts.specs.Next.{IsMoved}
 use Rattle.and_branch.proofs.branch.Branch.pass_all.Given as goal
 
 abbrev pub invariant-loop-self : goal.invariant-loop-self

@@ -1,7 +1,7 @@
 use Rattle.std.proofs.Common.{refl, ◌∷◌, ◌∙◌, ap, Ok}
-use Rattle.and_branch.specs.Branches.{Held}
-use Rattle.and_branch.proofs.PassedGoals.{one_back}
-use Rattle.and_branch.proofs.SoughtGoals.{goes_back}
+use Rattle.and_branch_parts.specs.Branches.{Held}
+use Rattle.and_branch_parts.proofs.PassedGoals.{one_back}
+use Rattle.and_branch_parts.proofs.SoughtGoals.{goes_back}
 use Rattle.and_branch.proofs.branch.Branch.pass_back.Goals as goal
 
 pub returns-clause-moved : goal.returns-clause-moved

@@ -1,6 +1,6 @@
 use Rattle.std.proofs.Common.{refl}
 use Rattle.std.proofs.lemmas.Result.{on_ok_weaker}
-use Rattle.and_branch.proofs.WatchedGoals.{sleepers_moved, sleepers_passed, on_ok_sleepers}
+use Rattle.and_branch_parts.proofs.WatchedGoals.{sleepers_moved, sleepers_passed, on_ok_sleepers}
 use Rattle.and_branch.proofs.branch.Branch.pass_sleepers.Goals as goal
 
 pub returns-clause-steps : goal.returns-clause-steps

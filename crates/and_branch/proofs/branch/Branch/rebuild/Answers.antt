@@ -4,9 +4,9 @@ use Rattle.and_model.specs.declared.limits.TheConstants.{MAX_LIMIT}
 use Rattle.and_cells.specs.Ranges.{NamedProgram}
 use Rattle.and_code.specs.Visiting.{HaveClauses}
 use Rattle.and_code.specs.Written.{all_written}
-use Rattle.and_branch.specs.Rebuilding.{weights_of}
-use Rattle.and_branch.proofs.LoadedPrograms.{is_loaded}
-use Rattle.and_branch.proofs.PassedGoals.{given_left, given_right, given_watched}
+use Rattle.and_branch_parts.specs.Weights.{weights_of}
+use Rattle.and_branch_parts.proofs.LoadedPrograms.{is_loaded}
+use Rattle.and_branch_parts.proofs.PassedGoals.{given_left, given_right, given_watched}
 use Rattle.and_branch.proofs.RebuiltBranches.{grown_fits, made_named, rebuilt}
 use Rattle.and_branch.proofs.branch.Branch.rebuild.Goals as goal
 

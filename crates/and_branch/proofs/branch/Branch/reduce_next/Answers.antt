@@ -6,12 +6,12 @@ use Rattle.and_pending.specs.Pending.{goals_of}
 use Rattle.and_reduction.specs.Items.{AreItemsOf, IsHeadOf}
 use Rattle.and_branch_laws.specs.Kept.{goal_of}
 use Rattle.and_branch_laws.specs.Reducing.{body_goals}
-use Rattle.and_branch.specs.Branches.{Held}
-use Rattle.and_branch.specs.Next.{HasNextCall, HasPut}
-use Rattle.and_branch.proofs.KeptOrigins.{reduced_back}
-use Rattle.and_branch.proofs.LoadedPrograms.{is_loaded}
-use Rattle.and_branch.proofs.NextReduced.{next_judged, next_lives, next_dies}
-use Rattle.and_branch.proofs.PassedGoals.{first_goal, put_left, put_right, put_watched}
+use Rattle.and_branch_parts.specs.Branches.{Held}
+use Rattle.and_branch_parts.specs.Next.{HasNextCall, HasPut}
+use Rattle.and_branch_parts.proofs.KeptOrigins.{reduced_back}
+use Rattle.and_branch_parts.proofs.LoadedPrograms.{is_loaded}
+use Rattle.and_branch_parts.proofs.NextReduced.{next_judged, next_lives, next_dies}
+use Rattle.and_branch_parts.proofs.PassedGoals.{first_goal, put_left, put_right, put_watched}
 use Rattle.and_branch.proofs.branch.Branch.reduce_next.Goals as goal
 
 pub take-requires-clause-goal : goal.take-requires-clause-goal

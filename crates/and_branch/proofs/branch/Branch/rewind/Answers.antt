@@ -1,7 +1,7 @@
 use Rattle.std.proofs.Common.{refl, ap}
 use Rattle.std.proofs.lemmas.Result.{on_ok_weaker}
 use Rattle.and_pending.specs.Pending.{Pending, goals_of}
-use Rattle.and_branch.proofs.PassedGoals.{all_rewound}
+use Rattle.and_branch_parts.proofs.PassedGoals.{all_rewound}
 use Rattle.and_branch.proofs.branch.Branch.rewind.Goals as goal
 
 pub returns-clause-moved : goal.returns-clause-moved

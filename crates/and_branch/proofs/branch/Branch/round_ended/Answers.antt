@@ -1,7 +1,7 @@
 use Rattle.std.proofs.Common.{refl}
-use Rattle.and_branch.proofs.LoadedPrograms.{is_loaded}
-use Rattle.and_branch.proofs.RoundsKept.{still_found, idle_asleep, same_still}
-use Rattle.and_branch.proofs.WatchedGoals.{left_asleep}
+use Rattle.and_branch_parts.proofs.LoadedPrograms.{is_loaded}
+use Rattle.and_branch_parts.proofs.RoundsKept.{still_found, idle_asleep, same_still}
+use Rattle.and_branch_parts.proofs.WatchedGoals.{left_asleep}
 use Rattle.and_branch.proofs.branch.Branch.round_ended.Goals as goal
 
 pub returns-then-not-changed-clause-still : goal.returns-then-not-changed-clause-still

@@ -1,7 +1,7 @@
 use Rattle.std.proofs.Common.{subst}
 use Rattle.and_reduction.specs.Runs.{IsWaiting, HasRun, CannotHold, WaitsFor}
-use Rattle.and_branch.specs.Branches.{Held}
-use Rattle.and_branch.proofs.KeptOrigins.{ran_back}
+use Rattle.and_branch_parts.specs.Branches.{Held}
+use Rattle.and_branch_parts.proofs.KeptOrigins.{ran_back}
 use Rattle.and_branch.proofs.branch.Branch.run_next.Goals as goal
 
 pub returns-clause-done : goal.returns-clause-done

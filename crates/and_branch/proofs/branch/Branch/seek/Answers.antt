@@ -1,6 +1,6 @@
 use Rattle.std.proofs.Common.{refl, ◌∙◌, rules}
-use Rattle.and_branch.proofs.SoughtGoals.{there_last, still_before, some_last, there_back, come_to}
-use Rattle.and_branch.proofs.MovedBranches.{moved_twice, moved_nowhere}
+use Rattle.and_branch_parts.proofs.SoughtGoals.{there_last, still_before, some_last, there_back, come_to}
+use Rattle.and_branch_parts.proofs.MovedBranches.{moved_twice, moved_nowhere}
 use Rattle.and_branch.proofs.branch.Branch.seek.Goals as goal
 
 pub loop-goal-init : goal.loop-goal-init

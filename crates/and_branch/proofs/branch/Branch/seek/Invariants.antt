@@ -1,7 +1,7 @@
 use Rattle.std.proofs.Common.{length}
-use Rattle.and_branch.specs.Branches.{SameKey}
-use Rattle.and_branch.specs.Next.{IsMoved}
-use Rattle.and_branch.proofs.SoughtGoals.{IsBefore}
+use Rattle.and_branch_parts.specs.Branches.{SameKey}
+use Rattle.and_branch_parts.specs.Next.{IsMoved}
+use Rattle.and_branch_parts.proofs.SoughtGoals.{IsBefore}
 use Rattle.and_branch.proofs.branch.Branch.seek.Given as goal
 
 abbrev pub invariant-loop-goal : goal.invariant-loop-goal

@@ -1,5 +1,5 @@
-use Rattle.and_branch.proofs.LoadedPrograms.{is_loaded}
-use Rattle.and_branch.proofs.StandingBranches.{branch_stands}
+use Rattle.and_branch_parts.proofs.LoadedPrograms.{is_loaded}
+use Rattle.and_branch_parts.proofs.StandingBranches.{branch_stands}
 use Rattle.and_branch.proofs.branch.Branch.stands.Goals as goal
 
 pub returns : goal.returns

@@ -1,6 +1,6 @@
 use Rattle.std.proofs.Common.{ap, sym, subst}
 use Rattle.and_cells.specs.Parts.{named}
-use Rattle.and_branch.specs.Branches.{Held, IsBranch, IsBranchOf}
+use Rattle.and_branch_parts.specs.Branches.{Held, IsBranch, IsBranchOf}
 use Rattle.and_branch.proofs.LinesTold.{made_there, code_is, told_there}
 use Rattle.and_branch.proofs.branch.Branch.tell_code.Goals as goal
 

@@ -1,7 +1,7 @@
 use Rattle.std.proofs.Common.{subst}
-use Rattle.and_branch.specs.Finding.{HasFound}
-use Rattle.and_branch.specs.declared.finding.RoundSoFar.{RoundSoFar}
-use Rattle.and_branch.proofs.LoadedPrograms.{is_loaded}
+use Rattle.and_branch_parts.specs.Finding.{HasFound}
+use Rattle.and_branch_parts.specs.declared.finding.RoundSoFar.{RoundSoFar}
+use Rattle.and_branch_parts.proofs.LoadedPrograms.{is_loaded}
 use Rattle.and_branch.proofs.StatesFound.{told_heavy}
 use Rattle.and_branch.proofs.branch.Branch.told.Goals as goal
 

@@ -1,8 +1,9 @@
 use Rattle.std.proofs.Common.{ℕ, List, Ok, ap, sym, subst}
 use Rattle.std.specs.Prelude.{Option, IfSome}
 use Rattle.and_determinacy.specs.Watching.{TwoStayWhile, RestsOn}
-use Rattle.and_branch.specs.Branches.{Held}
-use Rattle.and_branch.proofs.WatchedGoals.{call_asleep, gained_alone, two_stay}
+use Rattle.and_branch_parts.specs.Branches.{Held}
+use Rattle.and_branch_parts.proofs.WatchedGoals.{gained_alone}
+use Rattle.and_branch.proofs.CallsWatched.{call_asleep, two_stay}
 use Rattle.and_branch.proofs.branch.Branch.watch_call.Goals as goal
 
 pub watch_goal-requires-clause-asleep : goal.watch_goal-requires-clause-asleep

@@ -1,6 +1,6 @@
 use Rattle.std.proofs.Common.{refl}
 use Rattle.std.proofs.lemmas.Result.{on_ok_weaker}
-use Rattle.and_branch.proofs.WatchedGoals.{next_there, next_watched}
+use Rattle.and_branch_parts.proofs.WatchedGoals.{next_there, next_watched}
 use Rattle.and_branch.proofs.branch.Branch.watch_goal.Goals as goal
 
 pub watch-requires : goal.watch-requires

@@ -1,9 +1,9 @@
 use Rattle.std.proofs.Common.{length, ap, arith, ◌≡◌, ◌+◌, ◌∷◌, drop, refl, subst}
 use Rattle.std.proofs.lemmas.List.{length-drop, length-map}
 use Rattle.and_model.specs.declared.numbers.ClauseNo.{ClauseNo}
-use Rattle.and_branch.specs.Children.{Fork}
-use Rattle.and_branch.specs.States.{numbers}
-use Rattle.and_branch.proofs.ForkReduced.{next_clause, later_clause}
+use Rattle.and_branch_parts.specs.Children.{Fork}
+use Rattle.and_branch_parts.specs.Forking.{numbers}
+use Rattle.and_branch_parts.proofs.ForkReduced.{next_clause, later_clause}
 use Rattle.and_branch.proofs.choicepoint.Choicepoint.clause_left.Goals as goal
 
 pub overflow_add-self-inside : goal.overflow_add-self-inside

@@ -1,10 +1,10 @@
 use Rattle.std.proofs.Common.{sym, subst}
 use Rattle.std.specs.Prelude.{IfOk}
 use Rattle.and_cells.specs.Rows.{IsSound}
-use Rattle.and_branch.specs.Children.{Fork}
-use Rattle.and_branch.specs.Copies.{IsBackAt}
-use Rattle.and_branch.specs.Origins.{GoesBack}
-use Rattle.and_branch.proofs.ForkReduced.{parent_sound}
+use Rattle.and_branch_parts.specs.Children.{Fork}
+use Rattle.and_branch_parts.specs.Copies.{IsBackAt}
+use Rattle.and_branch_parts.specs.Origins.{GoesBack}
+use Rattle.and_branch_parts.proofs.ForkReduced.{parent_sound}
 use Rattle.and_branch.proofs.choicepoint.Choicepoint.copied.Goals as goal
 
 pub copied_back-requires-clause-sound : goal.copied_back-requires-clause-sound

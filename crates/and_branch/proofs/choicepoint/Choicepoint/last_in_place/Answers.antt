@@ -1,10 +1,10 @@
 use Rattle.std.proofs.Common.{[], ◌+◌, ◌≢◌, drop, ap, sym, subst}
 use Rattle.and_cells.specs.Rows.{IsSound}
-use Rattle.and_branch.specs.Branches.{Held}
-use Rattle.and_branch.specs.Children.{Fork}
-use Rattle.and_branch.specs.Origins.{GoesBack, KeepsBack}
-use Rattle.and_branch.proofs.ForkReduced.{again_by, child_by, kept_fork, parent_sound, some_left}
-use Rattle.and_branch.proofs.KeptOrigins.{kept_same, kept_then}
+use Rattle.and_branch_parts.specs.Branches.{Held}
+use Rattle.and_branch_parts.specs.Children.{Fork}
+use Rattle.and_branch_parts.specs.Origins.{GoesBack, KeepsBack}
+use Rattle.and_branch_parts.proofs.ForkReduced.{again_by, child_by, kept_fork, parent_sound, some_left}
+use Rattle.and_branch_parts.proofs.KeptOrigins.{kept_same, kept_then}
 use Rattle.and_branch.proofs.choicepoint.Choicepoint.last_in_place.Goals as goal
 
 pub at-clause-requires : goal.at-clause-requires

@@ -1,8 +1,8 @@
 use Rattle.std.proofs.Common.{length, ap, arith}
 use Rattle.std.proofs.lemmas.List.{length-drop, length-map}
 use Rattle.and_model.specs.declared.numbers.ClauseNo.{ClauseNo}
-use Rattle.and_branch.specs.Children.{Fork}
-use Rattle.and_branch.specs.States.{numbers}
+use Rattle.and_branch_parts.specs.Children.{Fork}
+use Rattle.and_branch_parts.specs.Forking.{numbers}
 use Rattle.and_branch.proofs.choicepoint.Choicepoint.left.Goals as goal
 
 pub returns : goal.returns

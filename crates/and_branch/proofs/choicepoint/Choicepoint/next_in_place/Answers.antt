@@ -1,11 +1,11 @@
 use Rattle.std.proofs.Common.{[], ◌≢◌, ap, sym, subst}
 use Rattle.and_cells.specs.Rows.{IsSound}
-use Rattle.and_branch.specs.Branches.{Held}
-use Rattle.and_branch.specs.Children.{Fork}
-use Rattle.and_branch.specs.Making.{noted_from}
-use Rattle.and_branch.specs.Origins.{GoesBack}
-use Rattle.and_branch.proofs.ForkReduced.{again_by, child_by, kept_fork, parent_sound, some_left}
-use Rattle.and_branch.proofs.KeptOrigins.{goes_nowhere}
+use Rattle.and_branch_parts.specs.Branches.{Held}
+use Rattle.and_branch_parts.specs.Children.{Fork}
+use Rattle.and_branch_parts.specs.Making.{noted_from}
+use Rattle.and_branch_parts.specs.Origins.{GoesBack}
+use Rattle.and_branch_parts.proofs.ForkReduced.{again_by, child_by, kept_fork, parent_sound, some_left}
+use Rattle.and_branch_parts.proofs.KeptOrigins.{goes_nowhere}
 use Rattle.and_branch.proofs.choicepoint.Choicepoint.next_in_place.Goals as goal
 
 pub at-clause-requires : goal.at-clause-requires

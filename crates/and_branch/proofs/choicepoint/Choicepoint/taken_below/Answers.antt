@@ -1,9 +1,9 @@
 use Rattle.std.proofs.Common.{sym, subst}
 use Rattle.and_cells.specs.Rows.{IsSound}
-use Rattle.and_branch.specs.Children.{Fork}
-use Rattle.and_branch.specs.Copies.{IsBackAt}
-use Rattle.and_branch.specs.Origins.{GoesBack}
-use Rattle.and_branch.proofs.ForkReduced.{parent_sound}
+use Rattle.and_branch_parts.specs.Children.{Fork}
+use Rattle.and_branch_parts.specs.Copies.{IsBackAt}
+use Rattle.and_branch_parts.specs.Origins.{GoesBack}
+use Rattle.and_branch_parts.proofs.ForkReduced.{parent_sound}
 use Rattle.and_branch.proofs.choicepoint.Choicepoint.taken_below.Goals as goal
 
 pub go_below-requires-clause-sound : goal.go_below-requires-clause-sound

@@ -1,6 +1,6 @@
 use Rattle.std.proofs.Common.{◌∙◌}
 use Rattle.and_branch.specs.Parts.{held_of}
-use Rattle.and_branch.proofs.PassedGoals.{given_left, given_right, given_watched, remade}
+use Rattle.and_branch_parts.proofs.PassedGoals.{given_left, given_right, given_watched, remade}
 use Rattle.and_branch.proofs.parts.Parts.into_branch.Goals as goal
 
 pub returns-clause-branch : goal.returns-clause-branch

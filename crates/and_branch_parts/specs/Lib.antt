@@ -1,0 +1,14 @@
+pub mod Branches
+pub mod Children
+pub mod Copies
+pub mod Ended
+pub mod Finding
+pub mod Forking
+pub mod Making
+pub mod Next
+pub mod Origins
+pub mod Resting
+pub mod Rounds
+pub mod Watching
+pub mod Ways
+pub mod Weights
