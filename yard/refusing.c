@@ -1,7 +1,10 @@
 /* Refuses what a program asks of the system, one call at a time. Loaded before the program (LD_PRELOAD) by
-   yard/hostile.py; the variables of the environment say which call:
+   yard/hostile.py and yard/runs.py; the variables of the environment say which call:
    REFUSE_MEMORY=N, REFUSE_THREAD=N, REFUSE_READ=N, REFUSE_WRITE=N: call N (from 0 on) is refused; N and all
    behind it where the value ends with +. PIECE=N: reads and writes do at most N bytes.
+   ROOM=N: writes take N bytes in all, each as many as there is room for; one that finds no room is refused.
+   HOLD=N: the second look at the clock lasts N thousandths of a second, and then ten seconds have passed. With
+   ANDORRA_PROGRESS=1 that is the look of the first reduction, which tells then how many reductions there were.
    REFUSE_COUNTS=FILE: the file holds how often each of the four was called (four numbers of 64 bits). */
 #define _GNU_SOURCE
 #include <dlfcn.h>
@@ -12,6 +15,7 @@
 #include <stdlib.h>
 #include <string.h>
 #include <sys/mman.h>
+#include <time.h>
 #include <unistd.h>
 
 enum { MEMORY, THREAD, READ, WRITE, KINDS };
@@ -21,6 +25,10 @@ static atomic_long *counts = own;
 static long refused[KINDS];
 static int and_more[KINDS];
 static size_t piece;
+static atomic_long room;
+static int is_bounded;
+static long hold;
+static atomic_long looks;
 static int ready;
 static void *(*real_malloc)(size_t);
 static void *(*real_realloc)(void *, size_t);
@@ -29,6 +37,7 @@ static int (*real_posix)(void **, size_t, size_t);
 static int (*real_thread)(pthread_t *, const pthread_attr_t *, void *(*)(void *), void *);
 static ssize_t (*real_read)(int, void *, size_t);
 static ssize_t (*real_write)(int, const void *, size_t);
+static int (*real_clock)(clockid_t, struct timespec *);
 
 static void begin(void)
 {
@@ -42,6 +51,11 @@ static void begin(void)
     }
     const char *told = getenv("PIECE");
     piece = told ? (size_t)atol(told) : 0;
+    told = getenv("ROOM");
+    is_bounded = told != NULL;
+    room = told ? atol(told) : 0;
+    told = getenv("HOLD");
+    hold = told ? atol(told) : 0;
     const char *file = getenv("REFUSE_COUNTS");
     if (file) {
         int open_file = open(file, O_RDWR | O_CREAT, 0600);
@@ -55,6 +69,7 @@ static void begin(void)
     real_thread = dlsym(RTLD_NEXT, "pthread_create");
     real_read = dlsym(RTLD_NEXT, "read");
     real_write = dlsym(RTLD_NEXT, "write");
+    real_clock = dlsym(RTLD_NEXT, "clock_gettime");
 }
 
 static int refuse(int kind)
@@ -101,14 +116,37 @@ ssize_t read(int file, void *into, size_t size)
     return real_read(file, into, piece && size > piece ? piece : size);
 }
 
+/* How many bytes of a write are taken; -1 where there is no room for any. */
+static long taken(size_t size)
+{
+    if (!is_bounded)
+        return piece && size > piece ? piece : size;
+    long take = size < (size_t)room ? (long)size : room;
+    room -= take;
+    return take || !size ? take : -1;
+}
+
 ssize_t write(int file, const void *from, size_t size)
 {
     begin();
     if (file != 1)
         return real_write(file, from, size);
-    if (refuse(WRITE)) {
+    long take = refuse(WRITE) ? -1 : taken(size);
+    if (take < 0) {
         errno = EIO;
         return -1;
     }
-    return real_write(file, from, piece && size > piece ? piece : size);
+    return real_write(file, from, take);
+}
+
+int clock_gettime(clockid_t clock, struct timespec *now)
+{
+    begin();
+    long number = hold ? atomic_fetch_add(&looks, 1) : 0;
+    if (number == 1)
+        usleep(hold * 1000);
+    int status = real_clock(clock, now);
+    if (number)
+        now->tv_sec += 10;
+    return status;
 }
