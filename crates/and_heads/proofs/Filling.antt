@@ -50,3 +50,10 @@ pub compared_from : (P : NamedProgram) (s : Seen) (left right to : Ref) (parts l
 compared_from P s left right to parts longer bound r leads =
     meets_led P left right to right s s s parts longer bound bound r
     (record { reads = reads_nothing s; left_leads = leads; right_leads = here right })
+
+-- What the right one leads to was met.
+pub met_beyond : (P : NamedProgram) (s new : Seen) (left right to : Ref) (parts longer : List Part) (bound last : List ℕ) (r : Entered) → LeadsTo s right to
+    → Meets P (pair_of left to) s new parts longer bound last r → Meets P (pair_of left right) s new parts longer bound last r
+met_beyond P s new left right to parts longer bound last r leads =
+    meets_led P left right left to s s new parts longer bound last r
+    (record { reads = reads_nothing s; left_leads = here left; right_leads = leads })

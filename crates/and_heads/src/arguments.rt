@@ -148,6 +148,63 @@ fn join<N: Naming>(
     if is_free(cells, cell) {
         fill_from(loaded, cells, from, cell, floor, bound, owed, parts)
     } else {
+        join_set(loaded, cells, from, cell, floor, bound, owed, parts)
+    }
+}
+
+/// The same, where the right cell is mostly set: that of a variable that occurs for the second time. What it is set to
+/// is met.
+#[inline(always)]
+fn join_set<N: Naming>(
+    loaded: &Loaded,
+    cells: &mut PlainCells<N>,
+    from: u32,
+    cell: u32,
+    floor: u32,
+    bound: &mut Vec<u32>,
+    owed: &mut Owed,
+    parts: &mut Vec<Part>,
+) -> Entered
+    requires program { N.program ≡ named loaded.now }
+    requires in_range { IsInRange N.program (length cells.old) (Ref.Cell from)
+        × IsInRange N.program (length cells.old) (Ref.Cell cell) }
+    ensures meets { Meets N.program (record { left = Ref.Cell from; right = Ref.Cell cell })
+        (plain cells.old) (plain cells.new) parts.old.items parts.new.items bound.old.items bound.new.items result }
+    ensures owed { AreOwed N.program floor cells.old bound.old.items owed.old
+        → AreOwed N.program floor cells.new bound.new.items owed.new }
+{
+    match cells.word(cell) {
+        Ref::Node { node, base } => {
+            enter_from(loaded, cells, from, node, base, floor, bound, owed, parts)
+        }
+        Ref::Cell(beyond) => join_beyond(loaded, cells, from, beyond, floor, bound, owed, parts),
+        _ => ends_of_cells(loaded, cells, from, cell, floor, bound, owed, parts),
+    }
+}
+
+/// The same, where the right cell is one to which that of a variable is set. Mostly it is free.
+#[inline(always)]
+fn join_beyond<N: Naming>(
+    loaded: &Loaded,
+    cells: &mut PlainCells<N>,
+    from: u32,
+    cell: u32,
+    floor: u32,
+    bound: &mut Vec<u32>,
+    owed: &mut Owed,
+    parts: &mut Vec<Part>,
+) -> Entered
+    requires program { N.program ≡ named loaded.now }
+    requires in_range { IsInRange N.program (length cells.old) (Ref.Cell from)
+        × IsInRange N.program (length cells.old) (Ref.Cell cell) }
+    ensures meets { Meets N.program (record { left = Ref.Cell from; right = Ref.Cell cell })
+        (plain cells.old) (plain cells.new) parts.old.items parts.new.items bound.old.items bound.new.items result }
+    ensures owed { AreOwed N.program floor cells.old bound.old.items owed.old
+        → AreOwed N.program floor cells.new bound.new.items owed.new }
+{
+    if is_free(cells, cell) {
+        fill_from(loaded, cells, from, cell, floor, bound, owed, parts)
+    } else {
         ends_of_cells(loaded, cells, from, cell, floor, bound, owed, parts)
     }
 }
