@@ -110,6 +110,7 @@ pub fn begin<N: Naming>(
 /// Puts the frame of the clause, which has this weight, this head and these items, behind the row, and settles in it
 /// what a reduction of the call by this clause asks: that the call is its head, and the `=` items of its body. What is
 /// set in the row is noted. An error is want of memory, and the cells are spent.
+#[inline(always)]
 pub fn take<N: Naming>(
     loaded: &Loaded,
     cells: &mut PlainCells<N>,
