@@ -100,6 +100,7 @@ impl Predicate {
     }
 
     /// The clauses that serve a first argument of which this is known. Takes no memory.
+    #[inline(always)]
     fn tried(&self, first: NodeKind) -> &[ClauseNo]
         ensures { result.now ≡ tried (Some self.now) first }
     {
