@@ -318,6 +318,7 @@ pub fn judge<N: Naming>(
 }
 
 /// The first place, from one on, of a clause that a look does not tell apart from the call.
+#[inline(always)]
 fn next_left(table: &Determinacy, look: &Look, clauses: &[ClauseNo], from: usize) -> Option<usize>
     requires { All (λ (c : ClauseNo). c.0 < length table.now.prints.items) clauses.now }
     ensures after { (place : ℕ) → result ≡ Some place → from ≤ place }

@@ -85,6 +85,7 @@ impl Trials {
     }
 
     /// The same of what the prints of the heads of its predicate tell.
+    #[inline(always)]
     pub(crate) fn look_at_asked<N: Naming>(
         &mut self,
         table: &Determinacy,
