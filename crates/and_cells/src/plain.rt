@@ -4,13 +4,13 @@ ghost use Rattle.std.specs.Prelude.{◌≡◌, ◌≢◌, ◌<◌, ◌≤◌, �
 ghost use Rattle.std.specs.Prelude.{IsTrue, IfOk, OnOk, OnErr};
 ghost use Rattle.and_model.specs.declared.reference.Ref.{Ref};
 ghost use Rattle.and_model.specs.Store.{is_half};
-ghost use Rattle.and_model.specs.Words.{HasWord};
+ghost use Rattle.and_model.specs.Words.{HasWord, word_of};
 ghost use Rattle.and_cells.specs.Ranges.{CanHold, IsInRange, IsPairInRange};
 ghost use Rattle.and_cells.specs.Parts.{named};
 ghost use Rattle.and_cells.specs.Ground.{EndsGround};
 ghost use Rattle.and_cells.specs.Seen.{word_at};
 ghost use Rattle.and_cells.specs.Numbers.{number_of};
-ghost use Rattle.and_cells.specs.Rows.{IsSound, AreWords, row_of, taken_back, all_set};
+ghost use Rattle.and_cells.specs.Rows.{IsSound, AreWords, ref_of, row_of, taken_back, all_set};
 ghost use Rattle.and_model.specs.declared.limits.TheConstants.{MAX_WORDS};
 
 use crate::cells::{Bound, Cells};
@@ -22,6 +22,9 @@ use and_model::{NodeNo, Ref};
 use and_program::Loaded;
 use std::alloc::{AllocError, Global};
 use std::marker::{Model, PhantomData};
+
+/// How many bases a word can tell apart.
+const BASES: u64 = 1 << 23;
 
 /// A row of words that one thread alone sets, so that contracts see the row itself. It takes 8 bytes
 /// a word, and keeps the allocator that it was made with. References that were seen to be ground are known until
@@ -63,6 +66,26 @@ pub fn is_unset(word: Ref) -> bool
     ensures { IsTrue result ↔ (word ≡ Ref.Free) }
 {
     matches!(word, Ref::Free)
+}
+
+/// The reference that is kept in a word of a row. It is the commonest step of all, so that nothing is looked at that
+/// holds of each such word anyway. Takes no memory.
+#[inline(always)]
+fn kept_in(word: u64) -> Ref
+    requires { HasWord (ref_of word) × (word_of (ref_of word) ≡ word) }
+    ensures { result ≡ ref_of word }
+{
+    let named = word / 8;
+    match word % 8 {
+        1 => Ref::Cell(named as u32),
+        2 => Ref::Node {
+            node: NodeNo((named / BASES) as u32),
+            base: (named % BASES) as u32,
+        },
+        3 => Ref::Number(named as u32),
+        4 => Ref::Half(named as u32),
+        _ => Ref::Free,
+    }
 }
 
 /// Makes the words of these cells free, as far as they are there.
@@ -207,10 +230,7 @@ impl<N: Naming> PlainCells<N> {
         ensures named { HasWord result }
         ensures sound { IsSound N.program self.now }
     {
-        match Ref::of_word(self.words[place as usize]) {
-            Some(word) => word,
-            None => unreachable!(),
-        }
+        kept_in(self.words[place as usize])
     }
 
     /// The number that a pair of words holds; a word that is no half counts as 0. Takes no memory.
