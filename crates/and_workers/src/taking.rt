@@ -48,6 +48,16 @@ pub(crate) fn add_pairs(all: &mut PairList, pairs: &PairList) -> Result<(), Allo
     Ok(())
 }
 
+/// The place of the first call among items; where there is none, that behind the last of them.
+fn first_call(items: &[ItemNode]) -> usize {
+    for place in 0..items.len() {
+        if let ItemNode::Call { .. } = items[place] {
+            return place;
+        }
+    }
+    items.len()
+}
+
 impl<'a, N: Naming> Reducer<StoreCells<'a, N>> {
     /// Reduces a call, whose node is given, if it has one candidate alone.
     pub(crate) fn look_at_call<G: Gate>(
@@ -248,16 +258,45 @@ impl<'a, N: Naming> Reducer<StoreCells<'a, N>> {
         }
     }
 
-    /// Puts the calls of a body into the hand, and its arithmetic beside it.
+    /// Puts the calls of a body into the hand but for the first, and beside it that one and the arithmetic, which is
+    /// looked at first. So a worker leads a call to its end, and others take what stands behind it.
     fn put_body(&mut self, loaded: &Loaded, clause: ClauseNo, node: u32)
         requires { clause.0 ≤ length (program_of loaded.now).clauses }
         ensures { (self.new.told ≡ self.old.told) × (self.new.suspended ≡ self.old.suspended) }
     {
         let items = loaded.items(clause);
+        let first = first_call(items);
+        self.put_first(items, first, clause, node);
         for place in 0..items.len() {
-            if let Ok(number) = u32::try_from(place) {
-                self.put_item(items[place], number, clause, node);
+            if place != first {
+                self.put_at(items, place, clause, node);
             }
+        }
+    }
+
+    /// Puts the goal of the item at that place, if there is one, beside the hand.
+    fn put_first(&mut self, items: &[ItemNode], place: usize, clause: ClauseNo, node: u32)
+        ensures { (self.new.told ≡ self.old.told) × (self.new.suspended ≡ self.old.suspended) }
+    {
+        let Some(item) = items.get(place).copied() else {
+            return;
+        };
+        let Ok(number) = u32::try_from(place) else {
+            return;
+        };
+        let Some(goal) = goal_in(item, number, clause, node) else {
+            return;
+        };
+        self.put_own(goal);
+    }
+
+    /// Puts the goal of the item at that place.
+    fn put_at(&mut self, items: &[ItemNode], place: usize, clause: ClauseNo, node: u32)
+        requires { place < length items.now }
+        ensures { (self.new.told ≡ self.old.told) × (self.new.suspended ≡ self.old.suspended) }
+    {
+        if let Ok(number) = u32::try_from(place) {
+            self.put_item(items[place], number, clause, node);
         }
     }
 

@@ -76,7 +76,8 @@ impl Beginning {
 pub(crate) struct Reducer<C: Cells> {
     pub number: u32,
     pub hand: Hand,
-    /// Arithmetic of frames that this worker took, which no other may run.
+    /// What this worker goes on with itself, the next one last: arithmetic of frames that it took, which no other may
+    /// run, and first calls of bodies.
     pub own: Vec<Goal>,
     pub suspended: Suspended,
     pub told: HandedOn,
@@ -274,6 +275,25 @@ impl<'a, N: Naming> Reducer<StoreCells<'a, N>> {
         if failed {
             return (cells, Ok(Turn::Over));
         }
+        match self.take_own() {
+            Some(goal) => self.look(shared, cells, goal),
+            None => self.look_at_woken(shared, cells),
+        }
+    }
+
+    /// Does what can be done for the next goal that hung on a cell which this worker set, or for the next of the others.
+    fn look_at_woken<G: Gate>(
+        &mut self,
+        shared: &Shared<'a, N, G>,
+        cells: StoreCells<'a, N>,
+    ) -> Turned<'a, N>
+        requires program { N.program ≡ named shared.now.loaded.now }
+        requires table { IsTableOf N.program shared.now.table.now }
+        requires store { cells.pass.store ≡ shared.now.store.now }
+        requires at_work { IsAtWork N.program self.old.told [] self.old.suspended cells.pass }
+        ensures store { result.0.pass.store ≡ cells.entry.pass.store }
+        ensures turned { IsTurned N.program self.new.told self.new.suspended result.0.pass result.1 }
+    {
         let (cells, goal) = woken(shared.store, cells);
         match goal {
             Some(goal) => self.look(shared, cells, goal),
@@ -301,7 +321,7 @@ impl<'a, N: Naming> Reducer<StoreCells<'a, N>> {
         }
     }
 
-    /// The next goal: arithmetic of its own, one of the hands, or one that waited.
+    /// The next goal of the hands, or one that waited.
     fn next(&mut self, cells: &mut StoreCells<'a, N>) -> Option<Goal>
         requires { IsAtWork N.program self.old.told [] self.old.suspended cells.old.pass }
         ensures store { cells.new.pass.store ≡ cells.old.pass.store }
@@ -313,14 +333,18 @@ impl<'a, N: Naming> Reducer<StoreCells<'a, N>> {
         }
     }
 
-    /// Takes arithmetic of its own or, where there is none, a goal of the hands.
+    /// Takes what it goes on with itself: a call that it began is led to its end before others that it woke.
+    fn take_own(&mut self) -> Option<Goal>
+        ensures { (self.new.told ≡ self.old.told) × (self.new.suspended ≡ self.old.suspended) }
+    {
+        self.own.pop()
+    }
+
+    /// Takes a goal of the hands.
     fn take(&mut self) -> Option<Goal>
         ensures { (self.new.told ≡ self.old.told) × (self.new.suspended ≡ self.old.suspended) }
     {
-        match self.own.pop() {
-            Some(goal) => Some(goal),
-            None => self.hand.take(),
-        }
+        self.hand.take()
     }
 
     /// Does what can be done for a goal.
@@ -379,8 +403,8 @@ impl<'a, N: Naming> Reducer<StoreCells<'a, N>> {
         let _refused = self.hand.put(goal);
     }
 
-    /// Puts arithmetic of a frame that this worker took beside the hand, where no other takes it. Where there is no
-    /// room it is left over.
+    /// Puts a goal of a frame that this worker took beside the hand, where no other takes it. Where there is no room it
+    /// is left over.
     pub(crate) fn put_own(&mut self, goal: Goal)
         ensures { (self.new.told ≡ self.old.told) × (self.new.suspended ≡ self.old.suspended)
             × (self.new.pairs ≡ self.old.pairs) }

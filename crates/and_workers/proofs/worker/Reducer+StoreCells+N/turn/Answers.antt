@@ -1,7 +1,9 @@
-use Rattle.std.proofs.Common.{[], sym, ◌∙◌}
+use Rattle.std.proofs.Common.{List, [], subst, sym, ◌∙◌}
+use Rattle.and_handed.specs.declared.told.HandedOn.{HandedOn}
+use Rattle.and_workers.specs.Waiting.{Waiting}
+use Rattle.and_workers.specs.AtWork.{IsAtWork}
 use Rattle.and_workers.proofs.AtWork.{work_is_handed_on}
-use Rattle.and_workers.proofs.Working.{failed_at_work, handed_at_work, same_at_work, some_holds, none_holds}
-use Rattle.and_store.specs.Calls.{HandsOut}
+use Rattle.and_workers.proofs.Working.{failed_at_work}
 use Rattle.and_workers.proofs.worker.Reducer+StoreCells+N.turn.Goals as goal
 
 pub returns-then-failed-clause-turned : goal.returns-then-failed-clause-turned
@@ -21,23 +23,20 @@ look-requires-clause-at_work g c κs within =
     let told = c.args.self.now.told in
     let waiting = c.args.self.now.suspended in
     let q = c.has_failed-cells.result.0.pass in
-    let r = c.woken-cells.result.0.pass in
-    handed_at_work P told [] waiting c.args.shared.now.store.now.about.words c.in-Some.goal q r (c.woken-cells.ensures.store
-    ∙ sym c.has_failed-cells.ensures.same.0)
-    (some_holds (λ goal. HandsOut P c.args.shared.now.store.now.about.words goal q r) c.woken-cells.result.1 c.in-Some.goal c.in-Some.is
-    c.woken-cells.ensures.some)
+    subst (λ (t : HandedOn). IsAtWork P t [] c.take_own.new.self.suspended q) (sym c.take_own.ensures.0)
+    (subst (λ (ws : List Waiting). IsAtWork P told [] ws q) (sym c.take_own.ensures.1)
     (failed_at_work P told [] waiting c.has_failed-cells.result.1 c.args.cells.pass q (c.has_failed-cells.ensures.same.0
     ∙ sym c.requires.store) c.has_failed-cells.ensures.found
-    c.requires.at_work)
+    c.requires.at_work))
 
-pub look_at_next-requires-clause-at_work : goal.look_at_next-requires-clause-at_work
-look_at_next-requires-clause-at_work g c κs within =
+pub look_at_woken-requires-clause-at_work : goal.look_at_woken-requires-clause-at_work
+look_at_woken-requires-clause-at_work g c κs within =
     let P = g.N.Naming.program in
     let told = c.args.self.now.told in
     let waiting = c.args.self.now.suspended in
     let q = c.has_failed-cells.result.0.pass in
-    let r = c.woken-cells.result.0.pass in
-    same_at_work P told [] waiting q r (none_holds _ c.woken-cells.result.1 c.in-None.is c.woken-cells.ensures.none).1
+    subst (λ (t : HandedOn). IsAtWork P t [] c.take_own.new.self.suspended q) (sym c.take_own.ensures.0)
+    (subst (λ (ws : List Waiting). IsAtWork P told [] ws q) (sym c.take_own.ensures.1)
     (failed_at_work P told [] waiting c.has_failed-cells.result.1 c.args.cells.pass q (c.has_failed-cells.ensures.same.0
     ∙ sym c.requires.store) c.has_failed-cells.ensures.found
-    c.requires.at_work)
+    c.requires.at_work))
