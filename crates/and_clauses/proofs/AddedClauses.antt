@@ -22,14 +22,15 @@ use Rattle.and_program.specs.Skeletons.{Shape, AllFall}
 use Rattle.and_program.specs.Kept.{AllWithin, IsEntry, AllEntries}
 use Rattle.and_program.specs.Nodes.{entry_clause}
 use Rattle.and_program.specs.declared.entry.ClauseEntry.{ClauseEntry}
-use Rattle.and_clauses.specs.declared.data.Called.{Called}
-use Rattle.and_clauses.specs.declared.judging.Used.{Used}
-use Rattle.and_clauses.specs.Marks.{Mark, close, open_mark, next, calls_in_marks}
-use Rattle.and_clauses.specs.Bodies.{marks_at, choices_at}
+use Rattle.and_judging.specs.declared.data.Called.{Called}
+use Rattle.and_judging.specs.declared.judging.Used.{Used}
+use Rattle.and_judging.specs.Marks.{Mark, close, open_mark, next, calls_in_marks}
+use Rattle.and_judging.specs.Bodies.{marks_at, choices_at}
 use Rattle.and_clauses.specs.Copied.{Grown}
 use Rattle.and_clauses.specs.Lifts.{AreLifted}
-use Rattle.and_clauses.specs.Kept.{IsKept, call_at}
-use Rattle.and_clauses.proofs.LiftedNames.{disjunctions-le}
+use Rattle.and_judging.specs.Unknown.{call_at}
+use Rattle.and_clauses.specs.Kept.{IsKept}
+use Rattle.and_judging.proofs.LiftedNames.{disjunctions-le}
 use Rattle.and_clauses.proofs.Placing.{begins_all}
 use Rattle.and_clauses.proofs.Keeping.{sized_table, calls_with, kept_clause, kept_query}
 

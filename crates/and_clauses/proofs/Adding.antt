@@ -1,21 +1,19 @@
--- What was added last, and the sizes of disjunctions.
-use Rattle.std.proofs.Common.{ℕ, suc, ◌+◌, ◌*◌, length, ◌≡◌, ◌≤◌, Bool, true, false, List, [], ◌∷◌, ◌++◌, map, Option, Some, None, refl, ap, ◌∙◌, arith}
+-- What was added last, drafts that are one term, and whether there is a query.
+use Rattle.std.proofs.Common.{ℕ, suc, ◌+◌, length, ◌≡◌, ◌≤◌, Bool, true, false, List, [], ◌∷◌, ◌++◌, map, Option, Some, None, refl, ap, ◌∙◌, arith}
 use Rattle.std.specs.Prelude.{IsTrue, is_some}
-use Rattle.and_source.specs.Source.{Alternatives, distinct_variables}
 use Rattle.and_syntax.specs.Written.{Written}
 use Rattle.and_source.specs.Source.{SourceClause}
 use Rattle.and_syntax.specs.Clauses.{body_of, alternatives_of}
-use Rattle.and_syntax.specs.Tables.{Table, count_of, lifted_nodes, empty, with_clause, with_query, term_with, is_asked}
+use Rattle.and_syntax.specs.Tables.{Table, empty, with_clause, with_query, term_with, is_asked}
 use Rattle.and_program.specs.Skeletons.{Shape}
 use Rattle.and_program.specs.declared.entry.ClauseEntry.{ClauseEntry}
-use Rattle.and_clauses.specs.Drafts.{draft_of}
+use Rattle.and_drafts.specs.Drafts.{draft_of}
 use Rattle.and_clauses.specs.Kept.{IsAsked}
 use Rattle.and_clauses.specs.Views.{is_query}
-use Rattle.and_clauses.specs.Parts.{part_shapes, written_at}
-use Rattle.and_clauses.specs.Sorted.{local_of, locals_size}
+use Rattle.and_drafts.specs.Parts.{part_shapes, written_at}
 use Rattle.and_clauses.specs.Adds.{term_of, first_of, with_added, with_all}
-use Rattle.and_clauses.specs.declared.draft.ClauseDraft.{ClauseDraft}
-use Rattle.and_clauses.specs.declared.data.Added.{Added}
+use Rattle.and_drafts.specs.declared.draft.ClauseDraft.{ClauseDraft}
+use Rattle.and_clauses.specs.declared.added.Added.{Added}
 
 -- a table with one thing more behind all the others
 pub added_last : (T : Table) (xs : List Added) (a : Added) → with_all T (xs ++ a ∷ []) ≡ with_added (with_all T xs) a
@@ -29,14 +27,6 @@ one_term d w e = by d.finished.items e
     by : (ns : List ℕ) → map (written_at (part_shapes d.parts.items)) ns ≡ w ∷ [] → first_of d ns ≡ w
     by [] f = absurd cc
     by (n ∷ ns) f = cc
-
-abbrev weight : ℕ × Alternatives → ℕ
-weight d = suc (count_of d.1) * suc (length (distinct_variables d.1))
-
--- the nodes of the calls and heads of disjunctions, as they are counted
-pub locals_size_is : (ds : List (ℕ × Alternatives)) → locals_size (map (λ (d : ℕ × Alternatives). local_of d.1) ds) ≡ lifted_nodes ds
-locals_size_is [] = refl
-locals_size_is (d ∷ ds) = ap (λ n. weight d + n) (locals_size_is ds)
 
 -- ---- One thing more in a table.
 pub added_table : (xs ys : List Added) (a : Added) → ys ≡ xs ++ a ∷ [] → with_all empty ys ≡ with_added (with_all empty xs) a

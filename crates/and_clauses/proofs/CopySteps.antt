@@ -18,21 +18,21 @@ use Rattle.and_program.specs.Skeletons
 use Rattle.and_program.specs.Skeletons.{Shape, node_term, shape_term, terms_behind, term_list, Falls, IsFalling, AllFall}
 use Rattle.and_program.specs.Kept.{IsWithin, AllWithin}
 use Rattle.and_program.proofs.NodeTerms.{node_term_front}
-use Rattle.and_clauses.specs.Parts.{part_shape, part_shapes, PartsFall, AllNarrow}
-use Rattle.and_clauses.specs.Sorts.{shapes_under}
-use Rattle.and_clauses.specs.Outlined.{size_of}
+use Rattle.and_drafts.specs.Parts.{part_shape, part_shapes, PartsFall, AllNarrow}
+use Rattle.and_judging.specs.Sorts.{shapes_under}
+use Rattle.and_judging.specs.Outlined.{size_of}
 use Rattle.and_clauses.specs.Copied.{Task, term, name, finish, Fits, tasks_size, tasks_work, tasks_variables, AreTasks, Grown}
 use Rattle.and_clauses.specs.Copies.{Copies, IsNode, IsPut, task_in, tasks_in, numbers_in}
 use Rattle.and_clauses.specs.Lifts.{IsNamed, AllNamed}
 use Rattle.and_clauses.specs.declared.lifting.Copying.{Copying}
 use Rattle.and_model.specs.declared.numbers.NodeNo.{NodeNo}
-use Rattle.and_clauses.specs.declared.draft.DraftPart.{DraftPart}
-use Rattle.and_clauses.specs.declared.draft.DraftPart.TheVariants.{Variable, Integer, Compound}
-use Rattle.and_clauses.proofs.Noticing.{part_term}
-use Rattle.and_clauses.proofs.Drafting.{Falls-more}
-use Rattle.and_clauses.proofs.Noting.{Falls-append, part_falls}
-use Rattle.and_clauses.proofs.Meeting.{few_arguments}
-use Rattle.and_clauses.proofs.ConjunctLemmas.{first_part, part_of}
+use Rattle.and_drafts.specs.declared.draft.DraftPart.{DraftPart}
+use Rattle.and_drafts.specs.declared.draft.DraftPart.TheVariants.{Variable, Integer, Compound}
+use Rattle.and_judging.proofs.Noticing.{part_term}
+use Rattle.and_drafts.proofs.Drafting.{Falls-more}
+use Rattle.and_drafts.proofs.Noting.{Falls-append, part_falls}
+use Rattle.and_drafts.proofs.Meeting.{few_arguments}
+use Rattle.and_judging.proofs.ConjunctLemmas.{first_part, part_of}
 use Rattle.and_clauses.proofs.Copying.{name_next, Fits-name, name_size, name_work, name_variables, name_there, grown_push, pushed_term, found_term}
 use Rattle.and_clauses.proofs.Copying.{terms_stay, take-le}
 

@@ -11,8 +11,8 @@ use Rattle.and_program.specs.Skeletons
 use Rattle.and_program.specs.Skeletons.{Shape, node_term, shape_term, terms_behind, term_list, Falls, IsFalling, AllFall}
 use Rattle.and_program.specs.Kept.{IsWithin, AllWithin}
 use Rattle.and_program.proofs.NodeTerms.{node_term_front, node_term_at}
-use Rattle.and_clauses.proofs.SortingSteps.{get-last}
-use Rattle.and_clauses.specs.Outlined.{size_of, size_in}
+use Rattle.and_judging.proofs.SortingSteps.{get-last}
+use Rattle.and_judging.specs.Outlined.{size_of, size_in}
 use Rattle.and_clauses.specs.Copied.{Task, term, name, finish, Fits, tasks_size, tasks_work, tasks_variables, AreTasks, Grown}
 
 module _ (ss : List Shape) (new : Numbering) where

@@ -5,8 +5,8 @@ use Rattle.and_syntax.specs.Tables.{Table}
 use Rattle.and_program.specs.Skeletons.{Shape}
 use Rattle.and_program.specs.Nodes.{shapes_of, names_of}
 use Rattle.and_program.specs.declared.entry.ClauseEntry.{ClauseEntry}
-use Rattle.and_clauses.specs.declared.data.Called.{Called}
-use Rattle.and_clauses.specs.declared.judging.Used.{Used}
+use Rattle.and_judging.specs.declared.data.Called.{Called}
+use Rattle.and_judging.specs.declared.judging.Used.{Used}
 use Rattle.and_clauses.specs.declared.making.Lists.{Lists}
 use Rattle.and_clauses.specs.declared.making.Lengths.{Lengths}
 use Rattle.and_clauses.specs.Kept.{IsKept}

@@ -19,18 +19,18 @@ use Rattle.and_program.specs.Skeletons.{Shape, variable, number, compound}
 use Rattle.and_program.specs.Kept.{begins_with_true}
 use Rattle.and_program.proofs.NodeTerms.{node_term_front}
 use Rattle.and_model.specs.declared.numbers.NameNo.{NameNo}
-use Rattle.and_clauses.specs.Sorted as sorted
-use Rattle.and_clauses.specs.Sorted.{local_of, locals_of, locals_in, pieces_of, outlines_of, kept, called}
-use Rattle.and_clauses.specs.Sorts.{AreItemsThere, AreOutlinesThere, piece_in, outline_in, outlines_in}
-use Rattle.and_clauses.specs.Outlined.{Named, named_in, clause_in, outline_clause, own_clause}
+use Rattle.and_judging.specs.Sorted as sorted
+use Rattle.and_judging.specs.Sorted.{local_of, locals_of, locals_in, pieces_of, outlines_of, kept, called}
+use Rattle.and_judging.specs.Sorts.{AreItemsThere, AreOutlinesThere, piece_in, outline_in, outlines_in}
+use Rattle.and_judging.specs.Outlined.{Named, named_in, clause_in, outline_clause, own_clause}
 use Rattle.and_clauses.specs.Copies.{named_by, IsNode}
 use Rattle.and_clauses.specs.Lifts.{named_under, nodes_under, IsLifting, ArePiecesThere, IsScope, AreAlternatives, HaveOwn, clause_under, AreOutlines}
 use Rattle.and_clauses.specs.declared.lifting.Lifting.{Lifting}
-use Rattle.and_clauses.specs.declared.sorting.Disjunction.{Disjunction}
-use Rattle.and_clauses.specs.declared.sorting.Piece.{Piece}
-use Rattle.and_clauses.specs.declared.sorting.Piece.TheVariants as code
-use Rattle.and_clauses.specs.declared.sorting.Outline.{Outline}
-use Rattle.and_clauses.proofs.Outlining.{stand-all, same_length_of, outlines_are, own_is}
+use Rattle.and_judging.specs.declared.sorting.Disjunction.{Disjunction}
+use Rattle.and_judging.specs.declared.sorting.Piece.{Piece}
+use Rattle.and_judging.specs.declared.sorting.Piece.TheVariants as code
+use Rattle.and_judging.specs.declared.sorting.Outline.{Outline}
+use Rattle.and_judging.proofs.Outlining.{stand-all, same_length_of, outlines_are, own_is}
 
 -- ---- A term of a clause's own variables is not changed by their numbers.
 mutual

@@ -18,10 +18,11 @@ use Rattle.and_program.specs.Loaded.{program_in}
 use Rattle.and_program.specs.declared.entry.ClauseEntry.{ClauseEntry}
 use Rattle.and_program.proofs.NodeTerms.{node_term_front}
 use Rattle.and_model.specs.OwnVariables.{HasOwnVariables}
-use Rattle.and_clauses.specs.declared.data.Called.{Called}
-use Rattle.and_clauses.specs.declared.judging.Used.{Used}
+use Rattle.and_judging.specs.declared.data.Called.{Called}
+use Rattle.and_judging.specs.declared.judging.Used.{Used}
 use Rattle.and_clauses.specs.Same.{same_clause}
-use Rattle.and_clauses.specs.Kept.{asked_clauses, lifted_of, call_at, calls_of, asked_calls, called_of, IsAsked, IsKept}
+use Rattle.and_judging.specs.Unknown.{call_at, calls_of}
+use Rattle.and_clauses.specs.Kept.{asked_clauses, lifted_of, asked_calls, called_of, IsAsked, IsKept}
 use Rattle.and_clauses.proofs.Sameness.{clause-is, clause-same, clauses-are, clauses-same}
 
 -- ---- Entries among more nodes.

@@ -22,18 +22,19 @@ use Rattle.and_program.specs.declared.entry.ClauseEntry.{ClauseEntry}
 use Rattle.and_program.specs.declared.item.ItemNode.{ItemNode}
 use Rattle.and_model.specs.declared.numbers.NameNo.{NameNo}
 use Rattle.and_model.specs.declared.numbers.NodeNo.{NodeNo}
-use Rattle.and_clauses.specs.Sorts.{own, locals_in, outline_in, outlines_in, AreNarrow}
-use Rattle.and_clauses.specs.Outlined.{Named, named_at, call_of, head_of, numbering_by, pieces_items, outline_clause, clause_in, outline_size, outlines_size}
+use Rattle.and_judging.specs.Sorts.{own, locals_in, outline_in, outlines_in, AreNarrow}
+use Rattle.and_judging.specs.Outlined.{Named, named_at, call_of, head_of, numbering_by, pieces_items, outline_clause, clause_in, outline_size, outlines_size}
 use Rattle.and_clauses.specs.Copied.{Grown}
 use Rattle.and_clauses.specs.Copies.{named_by, numbers_in, IsNode, IsPut}
 use Rattle.and_source.specs.Lifted.{Numbering, renumbered, as_terms, numbered_variables}
 use Rattle.and_clauses.specs.Lifts.{HaveRoom, ArePiecesThere, IsScope, AreAlternatives, HaveOwn, AreLifted}
-use Rattle.and_clauses.specs.declared.sorting.Disjunction.{Disjunction}
-use Rattle.and_clauses.specs.declared.sorting.Outline.{Outline}
+use Rattle.and_judging.specs.declared.sorting.Disjunction.{Disjunction}
+use Rattle.and_judging.specs.declared.sorting.Outline.{Outline}
 use Rattle.and_clauses.proofs.CopySteps.{grown_again}
-use Rattle.and_clauses.proofs.Placing.{begins_all, begins_self, as_variables, IsRow, row_put, row_named, row_taken, called_row, head_row, numbers_last, numbers-length}
+use Rattle.and_clauses.proofs.Placing.{begins_all, begins_self, as_variables, IsRow, row_put, row_named, row_taken, called_row, head_row}
+use Rattle.and_clauses.proofs.Placing.{numbers_last, numbers-length}
 use Rattle.and_clauses.proofs.LiftSteps.{grown_more}
-use Rattle.and_clauses.proofs.Altering.{variables_few}
+use Rattle.and_judging.proofs.Altering.{variables_few}
 use Rattle.and_clauses.proofs.Keeping.{entries_front, are_entries_front, entries_append}
 
 -- a disjunction with the number of its name

@@ -16,14 +16,14 @@ use Rattle.and_program.specs.declared.item.ItemNode.{ItemNode}
 use Rattle.and_program.specs.declared.item.ItemNode.TheVariants.{Call, Equal, Is, Compare}
 use Rattle.and_model.specs.declared.numbers.NodeNo.{NodeNo}
 use Rattle.and_model.specs.declared.relation.Relation.{Relation}
-use Rattle.and_clauses.specs.Sorts.{piece_in}
-use Rattle.and_clauses.specs.Sorted
-use Rattle.and_clauses.specs.Outlined.{Named, item_size, piece_size, pieces_size, piece_item, pieces_items, named_at, call_of}
+use Rattle.and_judging.specs.Sorts.{piece_in}
+use Rattle.and_judging.specs.Sorted
+use Rattle.and_judging.specs.Outlined.{Named, item_size, piece_size, pieces_size, piece_item, pieces_items, named_at, call_of}
 use Rattle.and_clauses.specs.Copied.{Grown}
 use Rattle.and_clauses.specs.Copies.{IsNode, Begins}
 use Rattle.and_clauses.specs.Lifts.{HaveRoom, IsPieceThere, ArePiecesThere}
-use Rattle.and_clauses.specs.declared.sorting.Piece.{Piece}
-use Rattle.and_clauses.specs.declared.sorting.Piece.TheVariants.{Disjunction}
+use Rattle.and_judging.specs.declared.sorting.Piece.{Piece}
+use Rattle.and_judging.specs.declared.sorting.Piece.TheVariants.{Disjunction}
 use Rattle.and_clauses.proofs.Copying.{take-le}
 use Rattle.and_clauses.proofs.CopySteps.{grown_again, size-some}
 use Rattle.and_clauses.proofs.Placing.{begins_all, begins_self}

@@ -12,15 +12,15 @@ use Rattle.and_program.specs.Items.{node_item}
 use Rattle.and_program.specs.Nodes.{entry_clause}
 use Rattle.and_program.specs.declared.entry.ClauseEntry.{ClauseEntry}
 use Rattle.and_program.specs.declared.item.ItemNode.{ItemNode}
-use Rattle.and_clauses.specs.Parts.{part_shapes}
-use Rattle.and_clauses.specs.Numbered.{met_by}
-use Rattle.and_clauses.specs.Sorted as sorted
-use Rattle.and_clauses.specs.Sorts.{piece_in, outline_in, outlines_in}
-use Rattle.and_clauses.specs.Outlined.{Named, outline_clause, own_clause, pieces_items, pieces_size, outline_size, outlines_size, scope_size}
+use Rattle.and_drafts.specs.Parts.{part_shapes}
+use Rattle.and_drafts.specs.Numbered.{met_by}
+use Rattle.and_judging.specs.Sorted as sorted
+use Rattle.and_judging.specs.Sorts.{piece_in, outline_in, outlines_in}
+use Rattle.and_judging.specs.Outlined.{Named, outline_clause, own_clause, pieces_items, pieces_size, outline_size, outlines_size, scope_size}
 use Rattle.and_clauses.specs.Copies.{IsNode, Begins}
 use Rattle.and_clauses.specs.Lifts.{named_under, nodes_under, IsLifting, AreLifted, head_term, clause_under, AreOutlines}
 use Rattle.and_clauses.specs.declared.lifting.Lifting.{Lifting}
-use Rattle.and_clauses.specs.declared.sorting.Outline.{Outline}
+use Rattle.and_judging.specs.declared.sorting.Outline.{Outline}
 use Rattle.and_clauses.proofs.Placing.{begins_again}
 use Rattle.and_clauses.proofs.LiftSteps.{node_kept, items_kept, all_there_kept}
 use Rattle.and_clauses.proofs.LiftClauses.{entry_is, entry_there, items_few, head_few}

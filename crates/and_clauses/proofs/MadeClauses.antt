@@ -18,14 +18,15 @@ use Rattle.and_syntax.proofs.OwnVariables.{place-below, clause_own, query_own}
 use Rattle.and_syntax.proofs.Numbering.{items_names}
 use Rattle.and_program.specs.Skeletons.{Shape, variable, number, compound}
 use Rattle.and_program.specs.Kept.{AllWithin}
-use Rattle.and_clauses.specs.Parts.{part_shapes, PartsFall, AllNarrow}
-use Rattle.and_clauses.specs.Numbered.{met_by}
-use Rattle.and_clauses.specs.Sorted as sorted
-use Rattle.and_clauses.specs.Sorted.{local_of, locals_of, locals_size, pieces_of, outlines_of}
-use Rattle.and_clauses.specs.Sorts.{shapes_under, local_in, locals_in, outlines_in, AreNarrow, AreOutlinesThere}
-use Rattle.and_clauses.specs.Outlined.{Named, named_of, named_in, size_of, outlines_size}
+use Rattle.and_drafts.specs.Parts.{part_shapes, PartsFall, AllNarrow}
+use Rattle.and_drafts.specs.Numbered.{met_by}
+use Rattle.and_judging.specs.Sorted as sorted
+use Rattle.and_judging.specs.Sorted.{local_of, locals_of, locals_size, pieces_of, outlines_of}
+use Rattle.and_judging.specs.Sorts.{shapes_under, local_in, locals_in, outlines_in, AreNarrow, AreOutlinesThere}
+use Rattle.and_judging.specs.Outlined.{Named, named_of, named_in, size_of, outlines_size}
 use Rattle.and_clauses.specs.Copies.{named_by}
-use Rattle.and_clauses.specs.Lifts.{places_from, places_in, AllNamed, names_under, nodes_under, named_under, IsLifting, HaveRoom, head_term, head_size}
+use Rattle.and_judging.specs.Places.{places_from, places_in}
+use Rattle.and_clauses.specs.Lifts.{AllNamed, names_under, nodes_under, named_under, IsLifting, HaveRoom, head_term, head_size}
 use Rattle.and_clauses.specs.Lifts.{clause_under}
 use Rattle.and_clauses.specs.Lifts.{AreOutlines, AreLifted}
 use Rattle.and_clauses.specs.Copied.{Grown}
@@ -33,20 +34,19 @@ use Rattle.and_source.specs.Lifted.{lifted_clause, clauses_of_items}
 use Rattle.and_clauses.specs.declared.making.Made.{Made}
 use Rattle.and_clauses.proofs.LiftSteps.{grown_more}
 use Rattle.and_clauses.specs.Makes.{AreSides, IsReady, IsMade, clause_judged}
-use Rattle.and_clauses.specs.declared.draft.ClauseDraft.{ClauseDraft}
-use Rattle.and_clauses.specs.declared.draft.DraftPart.{DraftPart}
-use Rattle.and_clauses.specs.declared.judging.Judged.{Judged}
+use Rattle.and_drafts.specs.declared.draft.ClauseDraft.{ClauseDraft}
+use Rattle.and_drafts.specs.declared.draft.DraftPart.{DraftPart}
+use Rattle.and_judging.specs.declared.judging.Judged.{Judged}
 use Rattle.and_clauses.specs.declared.lifting.Lifting.{Lifting}
-use Rattle.and_clauses.specs.declared.sorting.Disjunction.{Disjunction}
-use Rattle.and_clauses.specs.declared.sorting.Outline.{Outline}
-use Rattle.and_clauses.proofs.Telling.{all_fall}
-use Rattle.and_clauses.proofs.Outlining.{stand-all, whole_size}
-use Rattle.and_clauses.proofs.Sizes.{parts_size, numbered_size, clause_size, query_size, written_size}
-use Rattle.and_clauses.proofs.Sizing.{same_locals, locals_narrow, narrow_more}
-use Rattle.and_clauses.proofs.Adding.{locals_size_is}
-use Rattle.and_clauses.proofs.Rooted.{met_is}
+use Rattle.and_judging.specs.declared.sorting.Disjunction.{Disjunction}
+use Rattle.and_judging.specs.declared.sorting.Outline.{Outline}
+use Rattle.and_drafts.proofs.Telling.{all_fall}
+use Rattle.and_judging.proofs.Outlining.{stand-all, whole_size}
+use Rattle.and_judging.proofs.Sizes.{parts_size, numbered_size, clause_size, query_size, written_size}
+use Rattle.and_judging.proofs.Sizing.{same_locals, locals_narrow, narrow_more, locals_size_is}
+use Rattle.and_judging.proofs.Rooted.{met_is}
 use Rattle.and_clauses.proofs.SameNames.{same_shapes}
-use Rattle.and_clauses.proofs.LiftedNames.{AreThere, has-included, disjunctions-le}
+use Rattle.and_judging.proofs.LiftedNames.{AreThere, has-included, disjunctions-le}
 use Rattle.and_clauses.proofs.Under.{all_named, named_with, has_disjunctions}
 use Rattle.and_clauses.proofs.Placing.{numbers-length}
 

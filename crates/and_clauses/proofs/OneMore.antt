@@ -12,26 +12,28 @@ use Rattle.and_syntax.specs.Tables.{Table, names_with, term_with, all_names_with
 use Rattle.and_syntax.specs.Tables.{clause_fault, query_fault, with_clause, with_query}
 use Rattle.and_program.specs.Skeletons.{Shape, node_term}
 use Rattle.and_program.specs.declared.entry.ClauseEntry.{ClauseEntry}
-use Rattle.and_clauses.specs.Drafts.{draft_of}
-use Rattle.and_clauses.specs.Parts.{part_shapes, written_at}
-use Rattle.and_clauses.specs.Kept.{IsKept, IsAsked, call_at}
-use Rattle.and_clauses.specs.Marks.{marks_in, calls_in_marks}
-use Rattle.and_clauses.specs.Bodies.{marks_at}
-use Rattle.and_clauses.specs.Sorts.{shapes_under}
+use Rattle.and_drafts.specs.Drafts.{draft_of}
+use Rattle.and_drafts.specs.Parts.{part_shapes, written_at}
+use Rattle.and_judging.specs.Unknown.{call_at}
+use Rattle.and_clauses.specs.Kept.{IsKept, IsAsked}
+use Rattle.and_judging.specs.Marks.{marks_in, calls_in_marks}
+use Rattle.and_judging.specs.Bodies.{marks_at}
+use Rattle.and_judging.specs.Sorts.{shapes_under}
 use Rattle.and_clauses.specs.Lifts.{AreLifted}
-use Rattle.and_clauses.specs.Makes.{HasRoom, IsUnder, IsJudged, AreSides, IsReady, IsMade, clause_judged}
-use Rattle.and_clauses.specs.declared.body.BodyToken.{BodyToken}
-use Rattle.and_clauses.specs.declared.data.Called.{Called}
-use Rattle.and_clauses.specs.declared.draft.ClauseDraft.{ClauseDraft}
-use Rattle.and_clauses.specs.declared.draft.DraftPart.{DraftPart}
-use Rattle.and_clauses.specs.declared.judging.Used.{Used}
-use Rattle.and_clauses.specs.declared.judging.Judged.{Judged}
+use Rattle.and_judging.specs.Verdicts.{IsUnder, IsJudged}
+use Rattle.and_clauses.specs.Makes.{HasRoom, AreSides, IsReady, IsMade, clause_judged}
+use Rattle.and_judging.specs.declared.body.BodyToken.{BodyToken}
+use Rattle.and_judging.specs.declared.data.Called.{Called}
+use Rattle.and_drafts.specs.declared.draft.ClauseDraft.{ClauseDraft}
+use Rattle.and_drafts.specs.declared.draft.DraftPart.{DraftPart}
+use Rattle.and_judging.specs.declared.judging.Used.{Used}
+use Rattle.and_judging.specs.declared.judging.Judged.{Judged}
 use Rattle.and_clauses.specs.declared.making.Made.{Made}
 use Rattle.and_clauses.proofs.AddedClauses.{calls_are, named-le, clause_kept, query_kept}
 use Rattle.and_clauses.proofs.MadeClauses.{within_more, count_few}
 use Rattle.and_clauses.proofs.Keeping.{sized_table}
-use Rattle.and_clauses.proofs.LiftedNames.{disjunctions-le}
-use Rattle.and_clauses.proofs.Rooted.{root_written}
+use Rattle.and_judging.proofs.LiftedNames.{disjunctions-le}
+use Rattle.and_judging.proofs.Rooted.{root_written}
 use Rattle.and_clauses.proofs.SameNames.{same_shapes}
 
 -- what grew twice
@@ -106,6 +108,12 @@ calls_same d xs T w ps qs c line names ts us calls more same one noted tokens ma
     ∙ ap (λ ms. calls ++ map (call_at line) (calls_in_marks ms)) marks
     ∙ ap (λ gs. calls ++ map (call_at line) gs) (calls_are _ c T.disjunctions ps)
     ∙ ap (λ rs. calls ++ map (call_at line) (calls_in_items (items_with T w c rs))) is
+
+-- calls that were added on that line
+pub calls_on : (calls more : List Called) (ss : List Shape) (ts : List BodyToken) (n line : ℕ) → n ≡ line
+    → more ≡ calls ++ map (call_at n) (calls_in_marks (marks_in ss ts))
+    → more ≡ calls ++ map (call_at line) (calls_in_marks (marks_in ss ts))
+calls_on calls more ss ts n line is added = added ∙ ap (λ k. calls ++ map (call_at k) (calls_in_marks (marks_in ss ts))) is
 
 -- a table without a query
 pub unasked_table : (ss : List Shape) (q : Option SourceClause) (k : ℕ) → IsAsked ss None q k → q ≡ None

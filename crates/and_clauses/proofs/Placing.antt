@@ -16,12 +16,12 @@ use Rattle.and_program.specs.Kept.{AllWithin}
 use Rattle.and_program.specs.Nodes.{shape_of, shapes_of}
 use Rattle.and_program.specs.declared.node.Node.{Node}
 use Rattle.and_program.proofs.NodeTerms.{node_term_whole}
-use Rattle.and_clauses.specs.Sorts.{own}
+use Rattle.and_judging.specs.Sorts.{own}
 use Rattle.and_clauses.specs.Copied.{Grown}
 use Rattle.and_clauses.specs.Copies.{IsNode, IsPut, Begins}
 use Rattle.and_clauses.proofs.Copying.{grown_push, pushed_term, found_term, terms_stay, take-le}
-use Rattle.and_clauses.proofs.Drafting.{Falls-more}
-use Rattle.and_clauses.proofs.Noting.{Falls-append}
+use Rattle.and_drafts.proofs.Drafting.{Falls-more}
+use Rattle.and_drafts.proofs.Noting.{Falls-append}
 
 -- ---- A place.
 pub place_here : (k : ℕ) (vs : List ℕ) (i x : ℕ) → i < length vs → x ≡ get_or vs i x → x ≡ k → place_of ([], k) (own (drop i vs)) ≡ 0

@@ -21,15 +21,15 @@ use Rattle.and_program.specs.declared.loaded.Loaded.{Loaded}
 use Rattle.and_program.specs.declared.predicates.Predicate.{Predicate}
 use Rattle.and_clauses.specs.Asking.{Ground, ground_by, asked_ground, asked_table, IsSetSo, StandsOn}
 use Rattle.and_clauses.specs.Copies.{Begins}
-use Rattle.and_clauses.specs.Drafts.{draft_of}
+use Rattle.and_drafts.specs.Drafts.{draft_of}
 use Rattle.and_clauses.specs.Kept.{IsKept}
 use Rattle.and_clauses.specs.Makes.{Keeps, Grows}
-use Rattle.and_clauses.specs.Sealing.{Seals}
-use Rattle.and_clauses.specs.Unknown.{unknown_at, first_called}
+use Rattle.and_judging.specs.Sealing.{Seals}
+use Rattle.and_judging.specs.Unknown.{unknown_at, first_called}
 use Rattle.and_clauses.specs.declared.asked.Asked.{Asked}
-use Rattle.and_clauses.specs.declared.data.Called.{Called}
-use Rattle.and_clauses.specs.declared.draft.ClauseDraft.{ClauseDraft}
-use Rattle.and_clauses.specs.declared.judging.Used.{Used}
+use Rattle.and_judging.specs.declared.data.Called.{Called}
+use Rattle.and_drafts.specs.declared.draft.ClauseDraft.{ClauseDraft}
+use Rattle.and_judging.specs.declared.judging.Used.{Used}
 use Rattle.and_clauses.specs.declared.making.Lengths.{Lengths}
 use Rattle.and_clauses.specs.declared.making.Lists.{Lists}
 use Rattle.and_clauses.proofs.Adding.{one_term}

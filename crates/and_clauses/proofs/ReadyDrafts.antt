@@ -6,14 +6,15 @@ use Rattle.and_syntax.specs.Clauses.{Parts}
 use Rattle.and_syntax.specs.Tables.{Table, empty}
 use Rattle.and_program.specs.Skeletons.{Shape}
 use Rattle.and_program.specs.declared.entry.ClauseEntry.{ClauseEntry}
-use Rattle.and_clauses.specs.Drafts.{draft_of}
-use Rattle.and_clauses.specs.Numbered.{Extends}
+use Rattle.and_drafts.specs.Drafts.{draft_of}
+use Rattle.and_drafts.specs.Numbered.{Extends}
 use Rattle.and_clauses.specs.Kept.{IsKept}
-use Rattle.and_clauses.specs.Makes.{HasRoom, IsUnder, IsJudged, AreSides, IsReady}
-use Rattle.and_clauses.specs.declared.data.Called.{Called}
-use Rattle.and_clauses.specs.declared.draft.ClauseDraft.{ClauseDraft}
-use Rattle.and_clauses.specs.declared.judging.Judged.{Judged}
-use Rattle.and_clauses.specs.declared.judging.Used.{Used}
+use Rattle.and_judging.specs.Verdicts.{IsUnder, IsJudged}
+use Rattle.and_clauses.specs.Makes.{HasRoom, AreSides, IsReady}
+use Rattle.and_judging.specs.declared.data.Called.{Called}
+use Rattle.and_drafts.specs.declared.draft.ClauseDraft.{ClauseDraft}
+use Rattle.and_judging.specs.declared.judging.Judged.{Judged}
+use Rattle.and_judging.specs.declared.judging.Used.{Used}
 use Rattle.and_clauses.proofs.AddedClauses.{named-le}
 use Rattle.and_clauses.proofs.Keeping.{sized_table}
 use Rattle.and_clauses.proofs.MadeClauses.{within_more}

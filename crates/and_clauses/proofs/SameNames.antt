@@ -8,13 +8,13 @@ use Rattle.and_syntax.specs.Clauses as clauses
 use Rattle.and_syntax.specs.Tables.{Table, names_with, all_names_with}
 use Rattle.and_syntax.proofs.Names.{Grows, grows-named_all, grows-disjunctions, including-has}
 use Rattle.and_program.specs.Skeletons
-use Rattle.and_clauses.specs.Parts.{PartShape, variable, integer, compound, part_shapes, postfix, postfix_all, roots}
-use Rattle.and_clauses.specs.Drafts.{draft_of}
-use Rattle.and_clauses.specs.Sorts.{shapes_under}
-use Rattle.and_clauses.specs.declared.draft.ClauseDraft.{ClauseDraft}
-use Rattle.and_clauses.specs.declared.draft.DraftPart.{DraftPart}
-use Rattle.and_clauses.specs.declared.draft.DraftPart.TheVariants.{Variable, Integer, Compound}
-use Rattle.and_clauses.proofs.Rooted.{parts_are}
+use Rattle.and_drafts.specs.Parts.{PartShape, variable, integer, compound, part_shapes, postfix, postfix_all, roots}
+use Rattle.and_drafts.specs.Drafts.{draft_of}
+use Rattle.and_judging.specs.Sorts.{shapes_under}
+use Rattle.and_drafts.specs.declared.draft.ClauseDraft.{ClauseDraft}
+use Rattle.and_drafts.specs.declared.draft.DraftPart.{DraftPart}
+use Rattle.and_drafts.specs.declared.draft.DraftPart.TheVariants.{Variable, Integer, Compound}
+use Rattle.and_judging.proofs.Rooted.{parts_are}
 
 -- the names of parts are some of these
 abbrev AllHas : List Bytes → List PartShape → Type 0

@@ -8,7 +8,7 @@ use Rattle.and_model.specs.Arithmetic.{Relation, less, greater, at_most, at_leas
 use Rattle.and_model.specs.Programs.{Arithmetic, is, compare, Item, call, equal, arithmetic, fail, Clause}
 use Rattle.and_model.specs.Lines.{same_path}
 use Rattle.and_clauses.specs.Same.{same_term, same_terms, code_of, same_goal, same_item, same_list, same_clause, same_clauses}
-use Rattle.and_clauses.proofs.SortingSteps.{same_path-is}
+use Rattle.and_judging.proofs.SortingSteps.{same_path-is}
 
 both : (a b : Bool) → a && b ≡ true → (a ≡ true) × (b ≡ true)
 both true b e = (refl, e)

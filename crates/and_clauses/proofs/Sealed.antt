@@ -16,16 +16,16 @@ use Rattle.and_program.specs.declared.node.Node.{Node}
 use Rattle.and_program.specs.declared.entry.ClauseEntry.{ClauseEntry}
 use Rattle.and_program.specs.declared.predicates.Predicate.{Predicate}
 use Rattle.and_clauses.specs.Kept.{IsKept}
-use Rattle.and_clauses.specs.Sealing.{IsUnknown, Refuses}
-use Rattle.and_clauses.specs.Unknown.{unknown_at, first_called}
+use Rattle.and_judging.specs.Sealing.{IsUnknown, Refuses}
+use Rattle.and_judging.specs.Unknown.{unknown_at, first_called}
 use Rattle.and_clauses.specs.Views.{table_of}
-use Rattle.and_clauses.specs.declared.data.Called.{Called}
-use Rattle.and_clauses.specs.declared.data.SealFault.{SealFault}
-use Rattle.and_clauses.specs.declared.data.SealFault.TheVariants.{NoQuery, Unknown, Memory}
+use Rattle.and_judging.specs.declared.data.Called.{Called}
+use Rattle.and_judging.specs.declared.data.SealFault.{SealFault}
+use Rattle.and_judging.specs.declared.data.SealFault.TheVariants.{NoQuery, Unknown, Memory}
 use Rattle.and_clauses.specs.declared.table.ClauseTable.{ClauseTable}
 use Rattle.and_clauses.proofs.Keeping.{kept_program, kept_lifted}
 use Rattle.and_clauses.proofs.TableCalls.{TableFits, all_fit, empty_fits, called_narrow, first_of_table}
-use Rattle.and_clauses.proofs.UnknownLemmas.{AreCalls, first_narrow}
+use Rattle.and_judging.proofs.UnknownLemmas.{AreCalls, first_narrow}
 
 pub Finds-same : {Z S : Type 0} (found : HashMap Predicate (Vec ClauseNo Z) S) (ns nodes : List Node) (cs es : List ClauseEntry) → ns ≡ nodes → cs ≡ es
     → Finds found (map (entry_clause (shapes_of ns)) cs) → Finds found (map (entry_clause (shapes_of nodes)) es)

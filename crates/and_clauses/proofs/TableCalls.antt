@@ -19,16 +19,16 @@ use Rattle.and_syntax.specs.Clauses.{Parts, no_parts, item, impure, Choices, no_
 use Rattle.and_syntax.specs.Clauses.{binary_reading, compare_or, relation_of, reading_of, parts_of, alternatives_of, alternatives_in, disjunctions_of}
 use Rattle.and_syntax.specs.Clauses.{disjunctions_within, numbered, numbered_in, body_of, asked_of}
 use Rattle.and_syntax.specs.Tables.{Table, Unknown, empty, with_clause, with_query, term_with, unknown_in}
-use Rattle.and_clauses.specs.Parts
-use Rattle.and_clauses.specs.Parts.{PartShape, part_shapes, written_at, many, postfix, postfix_all, roots, AllNarrow, IsNarrow}
+use Rattle.and_drafts.specs.Parts
+use Rattle.and_drafts.specs.Parts.{PartShape, part_shapes, written_at, many, postfix, postfix_all, roots, AllNarrow, IsNarrow}
 use Rattle.and_clauses.specs.Adds.{first_of, term_of, with_added, with_all}
-use Rattle.and_clauses.specs.Kept.{calls_of, asked_calls, called_of}
-use Rattle.and_clauses.specs.Unknown.{unknown_at, first_called}
-use Rattle.and_clauses.specs.declared.draft.ClauseDraft.{ClauseDraft}
-use Rattle.and_clauses.specs.declared.data.Added.{Added}
-use Rattle.and_clauses.specs.declared.data.Added.TheVariants.{Clause as ClauseAdded, Query as QueryAdded}
-use Rattle.and_clauses.specs.declared.data.Called.{Called}
-use Rattle.and_clauses.proofs.UnknownLemmas.{IsCall, CallsFit, AreCalls, calls_append, calls_narrow, all_narrow, first_of_text}
+use Rattle.and_judging.specs.Unknown.{calls_of, unknown_at, first_called}
+use Rattle.and_clauses.specs.Kept.{asked_calls, called_of}
+use Rattle.and_drafts.specs.declared.draft.ClauseDraft.{ClauseDraft}
+use Rattle.and_clauses.specs.declared.added.Added.{Added}
+use Rattle.and_clauses.specs.declared.added.Added.TheVariants.{Clause as ClauseAdded, Query as QueryAdded}
+use Rattle.and_judging.specs.declared.data.Called.{Called}
+use Rattle.and_judging.proofs.UnknownLemmas.{IsCall, CallsFit, AreCalls, calls_append, calls_narrow, all_narrow, first_of_text}
 
 -- ---- Terms whose names have at most 255 arguments.
 abbrev mutual

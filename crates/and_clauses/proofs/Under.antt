@@ -5,10 +5,10 @@ use Rattle.and_model.specs.Lines.{Bytes}
 use Rattle.and_syntax.specs.Written
 use Rattle.and_syntax.specs.Written.{Written, Many, has, including, named, named_all}
 use Rattle.and_syntax.specs.Tables.{disjunction_name, with_disjunctions}
-use Rattle.and_clauses.specs.Parts
-use Rattle.and_clauses.specs.Parts.{PartShape, written_at, many, postfix, postfix_all, roots, before_last, IsFormed}
+use Rattle.and_drafts.specs.Parts
+use Rattle.and_drafts.specs.Parts.{PartShape, written_at, many, postfix, postfix_all, roots, before_last, IsFormed}
 use Rattle.and_clauses.specs.Lifts.{AllNamed}
-use Rattle.and_clauses.proofs.LiftedNames.{has-including, has-included}
+use Rattle.and_judging.proofs.LiftedNames.{has-including, has-included}
 
 -- The parts are those of one term.
 pub one_formed : (ps : List PartShape) (ns : List ℕ) (w : Written) → IsFormed ps ns → map (written_at ps) ns ≡ w ∷ []

@@ -5,9 +5,9 @@ use Rattle.std.specs.Option.{IfSome}
 use Rattle.and_model.specs.declared.numbers.ClauseNo.{ClauseNo}
 use Rattle.and_syntax.specs.Written.{Written}
 use Rattle.and_syntax.specs.Tables.{Table, clause_fault, query_fault, with_clause, with_query}
-use Rattle.and_clauses.specs.Drafts.{Draft}
-use Rattle.and_clauses.specs.Faults.{fault_of}
-use Rattle.and_clauses.specs.declared.data.TableFault.{TableFault}
+use Rattle.and_drafts.specs.Drafts.{Draft}
+use Rattle.and_judging.specs.Faults.{fault_of}
+use Rattle.and_judging.specs.declared.data.TableFault.{TableFault}
 
 -- Where the draft's term is answered as a clause, it has no fault, the one table with it is the other, and the answer
 -- is its number.

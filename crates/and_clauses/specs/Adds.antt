@@ -2,10 +2,10 @@
 use Rattle.std.specs.Prelude.{ℕ, pos, List, [], ◌∷◌}
 use Rattle.and_syntax.specs.Written.{Written}
 use Rattle.and_syntax.specs.Tables.{Table, with_clause, with_query}
-use Rattle.and_clauses.specs.Parts.{part_shapes, written_at}
-use Rattle.and_clauses.specs.declared.draft.ClauseDraft.{ClauseDraft}
-use Rattle.and_clauses.specs.declared.data.Added.{Added}
-use Rattle.and_clauses.specs.declared.data.Added.TheVariants.{Clause, Query}
+use Rattle.and_drafts.specs.Parts.{part_shapes, written_at}
+use Rattle.and_drafts.specs.declared.draft.ClauseDraft.{ClauseDraft}
+use Rattle.and_clauses.specs.declared.added.Added.{Added}
+use Rattle.and_clauses.specs.declared.added.Added.TheVariants.{Clause, Query}
 
 -- the first finished term of a draft
 abbrev pub first_of : ClauseDraft → List ℕ → Written

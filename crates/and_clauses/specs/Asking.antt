@@ -10,14 +10,14 @@ use Rattle.and_program.specs.Skeletons.{Shape}
 use Rattle.and_program.specs.declared.entry.ClauseEntry.{ClauseEntry}
 use Rattle.and_program.specs.declared.loaded.Loaded.{Loaded}
 use Rattle.and_clauses.specs.Adds.{with_all}
-use Rattle.and_clauses.specs.Drafts.{Draft}
+use Rattle.and_drafts.specs.Drafts.{Draft}
 use Rattle.and_clauses.specs.Makes.{Keeps}
-use Rattle.and_clauses.specs.Sealing.{Seals}
+use Rattle.and_judging.specs.Sealing.{Seals}
 use Rattle.and_clauses.specs.declared.asked.Clauses.{Clauses}
 use Rattle.and_clauses.specs.declared.asked.Asked.{Asked}
 use Rattle.and_clauses.specs.declared.asked.Asking.{Asking}
 use Rattle.and_clauses.specs.declared.asked.Asking.TheVariants.{Put, Left}
-use Rattle.and_clauses.specs.declared.judging.Used.{Used}
+use Rattle.and_judging.specs.declared.judging.Used.{Used}
 use Rattle.and_clauses.specs.declared.making.Lists.{Lists}
 
 -- the table of the clauses

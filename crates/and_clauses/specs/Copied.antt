@@ -4,7 +4,7 @@ use Rattle.and_model.specs.Terms.{Path, Term, compound, variables_of}
 use Rattle.and_source.specs.Lifted.{Numbering, renumbered}
 use Rattle.and_program.specs.Skeletons.{Shape, node_term, term_list, AllFall}
 use Rattle.and_program.specs.Kept.{AllWithin}
-use Rattle.and_clauses.specs.Outlined.{size_of}
+use Rattle.and_judging.specs.Outlined.{size_of}
 
 -- What comes next: the term of a node, or a name with the last terms that were copied, so many, as its arguments.
 pub data Task : Type 0 where

@@ -11,13 +11,13 @@ use Rattle.and_syntax.specs.Written.{place}
 use Rattle.and_program.specs.Skeletons
 use Rattle.and_program.specs.Skeletons.{Shape, node_term}
 use Rattle.and_clauses.specs.Copied.{Task, term, name}
-use Rattle.and_clauses.specs.Outlined.{Named}
-use Rattle.and_clauses.specs.Sorts.{own}
-use Rattle.and_clauses.specs.declared.draft.DraftPart.{DraftPart}
-use Rattle.and_clauses.specs.declared.draft.DraftPart.TheVariants.{Variable, Integer, Compound}
+use Rattle.and_judging.specs.Outlined.{Named}
+use Rattle.and_judging.specs.Sorts.{own}
+use Rattle.and_drafts.specs.declared.draft.DraftPart.{DraftPart}
+use Rattle.and_drafts.specs.declared.draft.DraftPart.TheVariants.{Variable, Integer, Compound}
 use Rattle.and_clauses.specs.declared.lifting.Copying.{Copying}
 use Rattle.and_clauses.specs.declared.lifting.Copying.TheVariants.{Term as TermTask, Name as NameTask}
-use Rattle.and_clauses.specs.declared.sorting.Disjunction.{Disjunction}
+use Rattle.and_judging.specs.declared.sorting.Disjunction.{Disjunction}
 
 -- new numbers for variables: as in the clause itself, or by their places in a disjunction
 abbrev pub numbering_at : Option (Bor (List ℕ)) → Numbering

@@ -1,12 +1,10 @@
 -- What holds of every table: its lists are the lifted clauses of what was added to it.
-use Rattle.std.specs.Prelude.{ℕ, ◌+◌, ◌≤◌, ◌≡◌, true, List, [], ◌∷◌, ◌++◌, map, length, Option, Some, None}
+use Rattle.std.specs.Prelude.{ℕ, ◌+◌, ◌≤◌, ◌≡◌, true, List, [], ◌++◌, map, length, Option, Some, None}
 use Rattle.std.proofs.Props.{props}
 use Rattle.and_model.specs.Lines.{Bytes}
-use Rattle.and_model.specs.Terms.{Term}
 use Rattle.and_model.specs.Programs.{Clause, builtin_names}
 use Rattle.and_source.specs.Source.{SourceClause, calls_in_items}
 use Rattle.and_source.specs.Lifted.{lifted_clause, clauses_of, clauses_of_items}
-use Rattle.and_syntax.specs.Clauses.{name_of, arity_of}
 use Rattle.and_syntax.specs.Tables.{Table}
 use Rattle.and_program.specs.Skeletons.{Shape, AllFall}
 use Rattle.and_program.specs.Kept.{begins_with_true, AllWithin, IsEntry, AllEntries}
@@ -14,8 +12,9 @@ use Rattle.and_program.specs.Once.{AllFall-prop, AllWithin-prop, IsEntry-prop, A
 use Rattle.and_program.specs.Nodes.{entry_clause}
 use Rattle.and_program.specs.declared.entry.ClauseEntry.{ClauseEntry}
 use Rattle.and_clauses.specs.Same.{same_clause, same_clauses}
-use Rattle.and_clauses.specs.declared.data.Called.{Called}
-use Rattle.and_clauses.specs.declared.judging.Used.{Used}
+use Rattle.and_judging.specs.Unknown.{call_at, calls_of}
+use Rattle.and_judging.specs.declared.data.Called.{Called}
+use Rattle.and_judging.specs.declared.judging.Used.{Used}
 use Rattle.and_model.specs.declared.limits.TheConstants.{MAX_CLAUSES, MAX_NODES}
 
 -- the clauses of the query's alternatives, if it was set
@@ -27,14 +26,7 @@ asked_clauses (Some q) = clauses_of_items q q.body
 abbrev pub lifted_of : Table → List Clause
 lifted_of T = clauses_of T.earlier ++ asked_clauses T.asked ++ clauses_of T.later
 
--- what a goal calls, on that line
-abbrev pub call_at : ℕ → Term → Called
-call_at line g = record { predicate = record { name = record { 0 = name_of g }; arity = arity_of g }; line = line }
-
-abbrev pub calls_of : List SourceClause → List Called
-calls_of [] = []
-calls_of (k ∷ ks) = map (call_at k.line) (calls_in_items k.body) ++ calls_of ks
-
+-- what the query calls, if it was set
 abbrev pub asked_calls : Option SourceClause → List Called
 asked_calls None = []
 asked_calls (Some q) = map (call_at q.line) (calls_in_items q.body)

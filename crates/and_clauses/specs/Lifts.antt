@@ -1,5 +1,5 @@
 -- What clauses are lifted by.
-use Rattle.std.specs.Prelude.{ℕ, zero, suc, ◌+◌, ◌^◌, ◌≡◌, ◌<◌, ◌≤◌, true, List, [], ◌∷◌, map, length, Option, Some}
+use Rattle.std.specs.Prelude.{ℕ, ◌+◌, ◌^◌, ◌≡◌, ◌<◌, ◌≤◌, true, List, [], ◌∷◌, map, length, Option, Some}
 use Rattle.std.specs.Prelude.{None}
 use Rattle.std.specs.Prelude.{All}
 use Rattle.and_model.specs.Lines.{Bytes}
@@ -11,31 +11,22 @@ use Rattle.and_model.specs.declared.numbers.NameNo.{NameNo}
 use Rattle.and_model.specs.declared.limits.TheConstants.{MAX_NODES, MAX_VARIABLES}
 use Rattle.and_model.specs.declared.builtins.TheConstants.{TRUE}
 use Rattle.and_source.specs.Source.{SourceItems, SourceClause, HasOwnSourceVariables}
-use Rattle.and_syntax.specs.Written.{has, place}
-use Rattle.and_syntax.specs.Tables.{disjunction_name}
+use Rattle.and_syntax.specs.Written.{has}
 use Rattle.and_program.specs.Skeletons.{Shape, node_term, AllFall}
 use Rattle.and_program.specs.Kept.{AllWithin, AllEntries}
 use Rattle.and_program.specs.Nodes.{names_of, entry_clause}
 use Rattle.and_program.specs.declared.entry.ClauseEntry.{ClauseEntry}
-use Rattle.and_clauses.specs.Parts
-use Rattle.and_clauses.specs.Parts.{PartShape, part_shapes, PartsFall, AllNarrow}
-use Rattle.and_clauses.specs.Numbered.{met_by}
-use Rattle.and_clauses.specs.Sorted as sorted
-use Rattle.and_clauses.specs.Sorts.{shapes_under, ItemThere, AreNarrow, AreOutlinesThere, locals_in, outlines_in}
-use Rattle.and_clauses.specs.Outlined.{Named, named_in, size_of}
+use Rattle.and_drafts.specs.Parts
+use Rattle.and_drafts.specs.Parts.{PartShape, part_shapes, PartsFall, AllNarrow}
+use Rattle.and_drafts.specs.Numbered.{met_by}
+use Rattle.and_judging.specs.Sorted as sorted
+use Rattle.and_judging.specs.Sorts.{shapes_under, ItemThere, AreNarrow, AreOutlinesThere, locals_in, outlines_in}
+use Rattle.and_judging.specs.Outlined.{Named, named_in, size_of}
 use Rattle.and_clauses.specs.Copies.{named_by}
 use Rattle.and_clauses.specs.declared.lifting.Lifting.{Lifting}
-use Rattle.and_clauses.specs.declared.sorting.Piece.{Piece}
-use Rattle.and_clauses.specs.declared.sorting.Piece.TheVariants as pieces
-use Rattle.and_clauses.specs.declared.sorting.Outline.{Outline}
-
--- the numbers of the names of n disjunctions from d on, among these names
-abbrev pub places_from : List Bytes → (d n : ℕ) → List ℕ
-places_from names d zero = []
-places_from names d (suc n) = place (disjunction_name d) names ∷ places_from names (suc d) n
-
-abbrev pub places_in : List NameNo → List ℕ
-places_in ns = map (λ n. n.0) ns
+use Rattle.and_judging.specs.declared.sorting.Piece.{Piece}
+use Rattle.and_judging.specs.declared.sorting.Piece.TheVariants as pieces
+use Rattle.and_judging.specs.declared.sorting.Outline.{Outline}
 
 -- each name of a part is one of these
 abbrev pub IsNamed : List Bytes → PartShape → Type 0

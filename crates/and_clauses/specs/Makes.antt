@@ -4,29 +4,28 @@ use Rattle.and_model.specs.Lines.{Bytes}
 use Rattle.and_model.specs.Programs.{builtin_names}
 use Rattle.and_source.specs.Source.{SourceClause}
 use Rattle.and_source.specs.Lifted.{lifted_clause, clauses_of_items}
-use Rattle.and_syntax.specs.Written.{Written, nodes_of, met_after}
-use Rattle.and_syntax.specs.Clauses.{Parts, disjunctions_of, numbered, head_of, body_of, asked_of}
+use Rattle.and_syntax.specs.Written.{Written, nodes_of}
+use Rattle.and_syntax.specs.Clauses.{Parts, head_of, body_of, asked_of}
 use Rattle.and_syntax.specs.Tables.{Table, names_with, term_with, all_names_with, items_with, nodes_with, clause_of}
 use Rattle.and_program.specs.Skeletons.{Shape, node_term, AllFall}
 use Rattle.and_program.specs.Kept.{begins_with_true, AllWithin}
 use Rattle.and_program.specs.Nodes.{shapes_of, names_of}
 use Rattle.and_program.specs.declared.entry.ClauseEntry.{ClauseEntry}
-use Rattle.and_clauses.specs.Drafts.{draft_of}
-use Rattle.and_clauses.specs.Numbered.{Extends}
-use Rattle.and_clauses.specs.Marks.{marks_in}
-use Rattle.and_clauses.specs.Bodies.{marks_at}
-use Rattle.and_clauses.specs.Sorts.{shapes_under, TokensThere, AreOutlinesThere, IsSorted}
+use Rattle.and_drafts.specs.Drafts.{draft_of}
+use Rattle.and_drafts.specs.Numbered.{Extends}
+use Rattle.and_judging.specs.Sorts.{shapes_under}
+use Rattle.and_judging.specs.Verdicts.{IsJudged}
 use Rattle.and_clauses.specs.Copied.{Grown}
 use Rattle.and_clauses.specs.Copies.{Begins}
 use Rattle.and_clauses.specs.Lifts.{head_term, AreLifted}
 use Rattle.and_clauses.specs.Kept.{IsKept}
-use Rattle.and_clauses.specs.declared.draft.ClauseDraft.{ClauseDraft}
-use Rattle.and_clauses.specs.declared.draft.DraftPart.{DraftPart}
+use Rattle.and_drafts.specs.declared.draft.ClauseDraft.{ClauseDraft}
+use Rattle.and_drafts.specs.declared.draft.DraftPart.{DraftPart}
 use Rattle.and_clauses.specs.declared.making.Lists.{Lists}
 use Rattle.and_clauses.specs.declared.making.Made.{Made}
-use Rattle.and_clauses.specs.declared.judging.Used.{Used}
-use Rattle.and_clauses.specs.declared.judging.Judged.{Judged}
-use Rattle.and_model.specs.declared.limits.TheConstants.{MAX_CLAUSES, MAX_NODES, MAX_VARIABLES}
+use Rattle.and_judging.specs.declared.judging.Used.{Used}
+use Rattle.and_judging.specs.declared.judging.Judged.{Judged}
+use Rattle.and_model.specs.declared.limits.TheConstants.{MAX_CLAUSES, MAX_NODES}
 
 -- The lists are those of that table, which has so much.
 abbrev pub Keeps : Lists → Option ClauseEntry → Used → Table → Type 0
@@ -50,29 +49,6 @@ pub record Grows (old new : Lists) : Type 0 where
   pub names : Extends (names_of old.names.keys) (names_of new.names.keys)
   pub clauses : take (length old.clauses.items) new.clauses.items ≡ old.clauses.items
   pub calls : take (length old.calls.items) new.calls.items ≡ old.calls.items
-
--- so much is used, and a table that has so much has these names with those of the term
-pub record IsUnder (T : Table) (w : Written) (names : List Bytes) (used : Used) : Type 0 where
-  pub names_are : names ≡ names_with T w
-  pub nodes : used.nodes ≡ T.nodes
-  pub numbers : used.numbers ≡ T.numbers
-  pub disjunctions : used.disjunctions ≡ T.disjunctions
-
--- What is judged of a term with that body, whose alternatives are numbered from c on: the tokens, what they fall into,
--- and what the table has with it, which takes n numbers.
-pub record IsJudged (T : Table) (w : Written) (parts : List DraftPart) (ps : Parts) (c n : ℕ) (j : Judged)
-    : Type 0 where
-  pub marks : marks_in (shapes_under (names_with T w) parts) j.tokens.items ≡ marks_at c T.disjunctions ps
-  pub there : TokensThere (length parts) j.tokens.items
-  pub sorted : (name : ℕ → ℕ)
-      → IsSorted (shapes_under (names_with T w) parts) (numbered name c T.disjunctions ps) j.sorted
-  pub placed : AreOutlinesThere (length parts) j.sorted.outlines.items
-  pub nodes : j.used.nodes ≡ T.nodes + nodes_with T w ps
-  pub numbers : j.used.numbers ≡ T.numbers + n
-  pub disjunctions : j.used.disjunctions ≡ T.disjunctions + disjunctions_of ps
-  pub few_variables : length (met_after [] w) ≤ MAX_VARIABLES
-  pub few_nodes : j.used.nodes ≤ MAX_NODES
-  pub few_clauses : j.used.numbers ≤ MAX_CLAUSES
 
 -- The term's head and that body are those of a clause, where the head is a part, and else the body is that of a query.
 abbrev pub AreSides : Table → Written → List DraftPart → Option ℕ → Parts → Type 0

@@ -9,12 +9,12 @@ ghost use Rattle.and_program.specs.Predicates.{Finds};
 ghost use Rattle.and_clauses.specs.Adds.{with_all};
 ghost use Rattle.and_clauses.specs.Kept.{IsKept, IsKept-prop};
 
+use crate::added::Added;
 use crate::asking::{is_plain, set};
-use crate::data::{Added, Called};
-use crate::draft::ClauseDraft;
-use crate::judging::Used;
 use crate::making::{Lengths, Lists};
 use crate::scratch::Scratch;
+use and_drafts::ClauseDraft;
+use and_judging::{Called, Used};
 use and_program::{ClauseNumbers, Loaded, LoadedParts};
 use std::alloc::{AllocError, Global};
 
@@ -90,7 +90,7 @@ pub enum Asking {
 impl Clauses {
     ghost use Rattle.std.specs.Prelude.{IfOk, IsTrue};
     ghost use Rattle.and_clauses.specs.Asking.{clauses_table, ground_of, IsAsking, IsOnGround};
-    ghost use Rattle.and_clauses.specs.Drafts.{draft_of};
+    ghost use Rattle.and_drafts.specs.Drafts.{draft_of};
     ghost use Rattle.and_clauses.specs.Views.{is_query};
 
     /// Puts the query of a draft, the one argument of a compound `?-`, to the clauses, where it is not refused, has no

@@ -7,16 +7,14 @@ ghost use Rattle.and_model.specs.Programs.{Clause};
 ghost use Rattle.and_program.specs.Nodes.{shapes_of, names_of};
 ghost use Rattle.and_program.specs.Predicates.{Finds};
 ghost use Rattle.and_clauses.specs.Asking.{IsSetSo};
-ghost use Rattle.and_clauses.specs.Drafts.{draft_of};
+ghost use Rattle.and_drafts.specs.Drafts.{draft_of};
 ghost use Rattle.and_clauses.specs.Makes.{Keeps, HasRoom, Grows};
-ghost use Rattle.and_clauses.specs.Unknown.{first_called};
+ghost use Rattle.and_judging.specs.Unknown.{first_called};
 
-use crate::data::TableFault;
-use crate::draft::ClauseDraft;
-use crate::judging::Used;
 use crate::making::{Lengths, Lists, query_added};
 use crate::scratch::Scratch;
-use crate::unknown::first_unknown_call;
+use and_drafts::ClauseDraft;
+use and_judging::{TableFault, Used, first_unknown_call};
 use and_program::{ClauseEntry, ClauseNumbers};
 use std::alloc::{AllocError, Global};
 

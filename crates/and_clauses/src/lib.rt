@@ -5,28 +5,21 @@
 //! a `Loaded` program, in which each disjunction is a predicate of its own.
 #![tactic(auto)]
 
+mod added;
 mod asked;
 mod asking;
-mod body;
-pub mod data;
-pub mod draft;
-mod guesses;
-mod items;
-mod judging;
 mod known;
 mod lifting;
 mod making;
-mod numbering;
 mod scratch;
-mod sorting;
 pub mod table;
-mod unknown;
-mod variables;
 
 pub use asked::{Asked, Asking, Clauses};
-pub use data::{SealFault, TableFault, What};
-pub use draft::{ClauseDraft, Part};
 pub use table::ClauseTable;
+
+// What a table takes, and why it refuses it.
+pub use and_drafts::{ClauseDraft, Part};
+pub use and_judging::{SealFault, TableFault, What};
 
 // What a sealed table is read by.
 pub use and_program::{ItemNode, Loaded, NodeKind};

@@ -11,13 +11,13 @@ ghost use Rattle.and_syntax.specs.Tables.{Table, clause_fault, query_fault, with
 ghost use Rattle.and_program.specs.Nodes.{shapes_of, names_of};
 ghost use Rattle.and_program.specs.Kept.{begins_with_true};
 ghost use Rattle.and_program.specs.declared.entry.ClauseEntry.{ClauseEntry};
-ghost use Rattle.and_clauses.specs.Parts.{part_shapes};
-ghost use Rattle.and_clauses.specs.Numbered.{met_by, Extends};
-ghost use Rattle.and_clauses.specs.Variables.{AllNumbered};
-ghost use Rattle.and_clauses.specs.Drafts.{draft_of};
+ghost use Rattle.and_drafts.specs.Parts.{part_shapes};
+ghost use Rattle.and_drafts.specs.Numbered.{met_by, Extends};
+ghost use Rattle.and_drafts.specs.Variables.{AllNumbered};
+ghost use Rattle.and_drafts.specs.Drafts.{draft_of};
 ghost use Rattle.and_clauses.specs.Added.{RefusesClause, RefusesQuery};
-ghost use Rattle.and_clauses.specs.Sorts.{outlines_in};
-ghost use Rattle.and_clauses.specs.Outlined.{outlines_size};
+ghost use Rattle.and_judging.specs.Sorts.{outlines_in};
+ghost use Rattle.and_judging.specs.Outlined.{outlines_size};
 ghost use Rattle.and_clauses.specs.Copied.{Grown};
 ghost use Rattle.and_clauses.specs.Copies.{Begins, IsNode};
 ghost use Rattle.and_clauses.specs.Lifts.{names_under, nodes_under, named_under, IsLifting, HaveRoom, AreLifted};
@@ -25,16 +25,13 @@ ghost use Rattle.and_clauses.specs.Lifts.{head_term, head_size, clause_under, Ar
 ghost use Rattle.and_clauses.specs.Makes.{Keeps, HasRoom, Grows, IsReady, IsMade};
 ghost use Rattle.and_model.specs.declared.limits.TheConstants.{MAX_VARIABLES};
 
-use crate::body::BodyToken;
-use crate::data::{Called, TableFault};
-use crate::draft::ClauseDraft;
-use crate::guesses::Guesses;
-use crate::judging::{Judged, Used, judge_clause, judge_query};
 use crate::lifting::{Lifting, alternatives, copied, lifted_items};
-use crate::numbering::{note_disjunctions, note_names, written_names};
 use crate::scratch::{CopyLists, Scratch};
-use crate::sorting::{Outline, Sorted};
-use crate::unknown::append_calls;
+use and_drafts::ClauseDraft;
+use and_judging::{
+    BodyToken, Called, Guesses, Judged, Outline, Sorted, TableFault, Used, append_calls,
+    judge_clause, judge_query, note_disjunctions, note_names, written_names,
+};
 use and_model::NodeNo;
 use and_program::{ClauseEntry, Node};
 use indexmap::IndexSet;
@@ -129,7 +126,7 @@ pub(crate) fn clause_added(
         &mut lists.names,
         guesses,
         parts,
-        &draft.parts,
+        draft.parts(),
         draft.root(),
     )?;
     let judged = judge_clause(alloc, &lists.names, guesses, draft, used)?;
@@ -157,9 +154,9 @@ pub(crate) fn clause_added(
         &mut lists.calls,
         &lists.names,
         guesses,
-        &draft.parts,
+        draft.parts(),
         &tokens,
-        draft.line,
+        draft.line(),
     )?;
     Ok(used)
 }
@@ -192,7 +189,7 @@ pub(crate) fn query_added(
         &mut lists.names,
         guesses,
         parts,
-        &draft.parts,
+        draft.parts(),
         draft.root(),
     )?;
     let judged = judge_query(alloc, &lists.names, guesses, draft, used)?;
@@ -218,9 +215,9 @@ pub(crate) fn query_added(
         &mut lists.calls,
         &lists.names,
         guesses,
-        &draft.parts,
+        draft.parts(),
         &tokens,
-        draft.line,
+        draft.line(),
     )?;
     Ok((entry, used))
 }
@@ -272,7 +269,7 @@ fn made_of(
         alloc,
         names,
         guesses,
-        parts: &draft.parts,
+        parts: draft.parts(),
         disjunctions: &disjunctions,
         numbers: &numbers,
     };
@@ -282,7 +279,7 @@ fn made_of(
         copying,
         &outlines,
         head,
-        draft.line,
+        draft.line(),
         draft.variable_count(),
     )?;
     Ok(Made {

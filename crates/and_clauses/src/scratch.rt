@@ -1,8 +1,8 @@
 //! Lists that are used again for each clause.
 
-use crate::guesses::Guesses;
 use crate::known::{CallNodes, VariableNodes};
 use crate::lifting::Copying;
+use and_judging::Guesses;
 use and_model::NodeNo;
 use std::alloc::Global;
 

@@ -7,18 +7,16 @@ ghost use Rattle.and_program.specs.Nodes.{shapes_of, names_of};
 ghost use Rattle.and_program.specs.declared.entry.ClauseEntry.{ClauseEntry};
 ghost use Rattle.and_clauses.specs.Added.{RefusesClause, RefusesQuery};
 ghost use Rattle.and_clauses.specs.Adds.{with_all};
-ghost use Rattle.and_clauses.specs.Drafts.{draft_of};
+ghost use Rattle.and_drafts.specs.Drafts.{draft_of};
 ghost use Rattle.and_clauses.specs.Kept.{IsKept, IsKept-prop};
 ghost use Rattle.and_clauses.specs.Makes.{Keeps, HasRoom, Grows};
 
+use crate::added::Added;
 use crate::asked::Clauses;
-use crate::data::{Added, SealFault, TableFault};
-use crate::draft::ClauseDraft;
-use crate::judging::Used;
 use crate::making::{Lists, clause_added, query_added};
-use crate::numbering::built_in_names;
 use crate::scratch::Scratch;
-use crate::unknown::{first_unknown_call, unknown_fault};
+use and_drafts::ClauseDraft;
+use and_judging::{SealFault, TableFault, Used, built_in_names, first_unknown_call, unknown_fault};
 use and_model::{ClauseNo, NameNo};
 use and_program::{ClauseEntry, Loaded, Node, clause_numbers};
 use std::alloc::{AllocError, Global};
@@ -59,7 +57,7 @@ impl ClauseTable {
     ghost use Rattle.and_clauses.specs.Added.{AddsClause, SetsQuery};
     ghost use Rattle.and_clauses.specs.Views.{table_of, is_query};
     ghost use Rattle.and_program.specs.Loaded.{program_of};
-    ghost use Rattle.and_clauses.specs.Sealing.{Seals, Refuses};
+    ghost use Rattle.and_judging.specs.Sealing.{Seals, Refuses};
 
     /// A table without clauses. An error is want of memory.
     pub fn new(alloc: Global) -> Result<ClauseTable, AllocError>

@@ -11,9 +11,9 @@ use Rattle.and_syntax.specs.Written as written
 use Rattle.and_program.specs.Skeletons.{Falls}
 use Rattle.and_translation.specs.Bodies.{elements}
 use Rattle.and_translation.specs.Translation.{list_before, with_states, joined}
-use Rattle.and_clauses.specs.Parts.{many}
-use Rattle.and_clauses.specs.Drafts.{Draft, draft_of}
-use Rattle.and_clauses.specs.declared.draft.ClauseDraft.{ClauseDraft}
+use Rattle.and_drafts.specs.Parts.{many}
+use Rattle.and_drafts.specs.Drafts.{Draft, draft_of}
+use Rattle.and_drafts.specs.declared.draft.ClauseDraft.{ClauseDraft}
 use Rattle.and_grammar.specs.declared.copying.Copy.{Copy}
 use Rattle.and_grammar.specs.declared.copying.Copy.TheVariants.{Term, Name}
 use Rattle.and_grammar.specs.Views.{term_at, arguments_at, Becomes, Adds, is_nil}

@@ -3,7 +3,7 @@ use Rattle.std.proofs.Common.{ℕ, suc, ◌≡◌, Bool, true, false, cond, List
 use Rattle.and_syntax.specs.Written.{Written}
 use Rattle.and_translation.specs.Bodies.{Body, Alternatives, nothing, terminals, either, or, behind_first, alternatives}
 use Rattle.and_translation.specs.Translation.{walk}
-use Rattle.and_clauses.specs.declared.draft.ClauseDraft.{ClauseDraft}
+use Rattle.and_drafts.specs.declared.draft.ClauseDraft.{ClauseDraft}
 use Rattle.and_grammar.specs.declared.bodies.BodyPart.TheVariants.{Both, Either}
 use Rattle.and_grammar.specs.declared.counting.Counted.{Counted}
 use Rattle.and_grammar.specs.declared.threading.Task.{Task}

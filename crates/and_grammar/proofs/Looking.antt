@@ -6,12 +6,12 @@ use Rattle.std.proofs.lemmas.List.{reverse-append, length-map}
 use Rattle.std.proofs.lemmas.Bool.Decides.{nat_tests}
 use Rattle.std.specs.Str.{bytes_eq}
 use Rattle.and_model.specs.Lines.{Bytes}
-use Rattle.and_clauses.specs.Parts.{many}
+use Rattle.and_drafts.specs.Parts.{many}
 use Rattle.and_syntax.specs.Written as written
 use Rattle.and_syntax.specs.Written.{Written, compound, nodes_of}
 use Rattle.and_translation.specs.Bodies.{Body, nothing, terminals, goals, nonterminal, both, either, impure, alternatives, has_impure}
 use Rattle.and_translation.specs.Bodies.{has_impure_alternative, has_wide, has_wide_alternative, is_wide_head, is_head, count}
-use Rattle.and_clauses.specs.declared.draft.ClauseDraft.{ClauseDraft}
+use Rattle.and_drafts.specs.declared.draft.ClauseDraft.{ClauseDraft}
 use Rattle.and_grammar.specs.declared.checking.Found.{Found}
 use Rattle.and_grammar.specs.declared.bodies.BodyPart.TheVariants.{Both, Either}
 use Rattle.and_grammar.specs.Views.{term_at, body_at, Holds, IsBody, IsCall}

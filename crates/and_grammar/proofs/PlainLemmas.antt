@@ -3,7 +3,7 @@ use Rattle.std.proofs.Common.{ℕ, suc, ◌≡◌, Bool, true, false, ◌||◌, 
 use Rattle.and_syntax.specs.Written.{Written}
 use Rattle.and_translation.specs.Bodies.{Body, nothing, goals, terminals, nonterminal, both, behind_first, has_impure, has_wide, is_wide_head, is_wide}
 use Rattle.and_translation.specs.Translation.{walk}
-use Rattle.and_clauses.specs.declared.draft.ClauseDraft.{ClauseDraft}
+use Rattle.and_drafts.specs.declared.draft.ClauseDraft.{ClauseDraft}
 use Rattle.and_grammar.specs.Views.{term_at, body_at, IsCall}
 use Rattle.and_grammar.specs.Plain.{Advances}
 

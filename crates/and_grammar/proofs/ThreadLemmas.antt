@@ -7,9 +7,9 @@ use Rattle.std.proofs.Math.Seq.{take-length}
 use Rattle.and_syntax.specs.Written.{Written, compound}
 use Rattle.and_translation.specs.Bodies.{Body, Alternatives, nothing, terminals, goals, both, either, last, or, behind_first, alternatives}
 use Rattle.and_translation.specs.Translation.{Walk, state, equation, list_before, walk}
-use Rattle.and_clauses.specs.Parts.{many}
-use Rattle.and_clauses.specs.Drafts.{Draft, draft_of}
-use Rattle.and_clauses.specs.declared.draft.ClauseDraft.{ClauseDraft}
+use Rattle.and_drafts.specs.Parts.{many}
+use Rattle.and_drafts.specs.Drafts.{Draft, draft_of}
+use Rattle.and_drafts.specs.declared.draft.ClauseDraft.{ClauseDraft}
 use Rattle.and_grammar.specs.declared.bodies.BodyPart.TheVariants.{Both, Either}
 use Rattle.and_grammar.specs.declared.threading.Task.{Task}
 use Rattle.and_grammar.specs.declared.threading.Task.TheVariants as tasks

@@ -9,11 +9,11 @@ use Rattle.and_model.specs.Lines.{Bytes}
 use Rattle.and_syntax.specs.Written as written
 use Rattle.and_syntax.specs.Written.{Written, Many, compound, none, more}
 use Rattle.and_syntax.specs.Tables.{Fault, first_of, not_pure, too_big, arguments}
-use Rattle.and_clauses.specs.Parts.{many}
-use Rattle.and_clauses.specs.Drafts.{Draft, draft_of}
-use Rattle.and_clauses.specs.declared.draft.ClauseDraft.{ClauseDraft}
+use Rattle.and_drafts.specs.Parts.{many}
+use Rattle.and_drafts.specs.Drafts.{Draft, draft_of}
+use Rattle.and_drafts.specs.declared.draft.ClauseDraft.{ClauseDraft}
 use Rattle.and_program.specs.Skeletons.{Falls}
-use Rattle.and_clauses.proofs.Telling.{last_term, arguments_fall}
+use Rattle.and_drafts.proofs.Telling.{last_term, arguments_fall}
 use Rattle.and_translation.specs.Bodies.{Body, body_of, has_impure, has_wide, is_head, is_wide_head, is_rule, is_arrow, first_terminals, behind_first}
 use Rattle.and_translation.specs.Translation.{Walk, state, list_before, with_states, head_between, joined, walk, rule_fault, rule_clause, translation_fault}
 use Rattle.and_translation.specs.Translation.{translated}

@@ -10,11 +10,11 @@ use Rattle.and_syntax.specs.Written.{Written, Many, compound, none, more, nodes_
 use Rattle.and_program.specs.Skeletons.{Falls}
 use Rattle.and_translation.specs.Bodies.{nothing, goals, nonterminal, both, either, impure, or, alternatives, body_of, elements, reserved}
 use Rattle.and_translation.specs.Bodies.{terminals_or_impure}
-use Rattle.and_clauses.specs.Parts.{PartShape, many, arguments_of}
-use Rattle.and_clauses.specs.Parts as shapes
-use Rattle.and_clauses.specs.Drafts.{draft_of, shapes_of, read_shape}
-use Rattle.and_clauses.specs.declared.draft.ClauseDraft.{ClauseDraft}
-use Rattle.and_clauses.proofs.Telling.{variable_read, integer_read, compound_read}
+use Rattle.and_drafts.specs.Parts.{PartShape, many, arguments_of}
+use Rattle.and_drafts.specs.Parts as shapes
+use Rattle.and_drafts.specs.Drafts.{draft_of, shapes_of, read_shape}
+use Rattle.and_drafts.specs.declared.draft.ClauseDraft.{ClauseDraft}
+use Rattle.and_drafts.proofs.Telling.{variable_read, integer_read, compound_read}
 use Rattle.and_grammar.specs.declared.bodies.BodyPart.{BodyPart}
 use Rattle.and_grammar.specs.declared.bodies.BodyPart.TheVariants.{Nothing, Goals, Nonterminal, Both, Either, Impure}
 use Rattle.and_grammar.specs.Views.{term_at, body_at, Holds, IsBody, arguments_at, atom_part, unary_part, binary_part, named_part, list_part, cell_part}

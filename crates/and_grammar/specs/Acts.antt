@@ -4,8 +4,8 @@ use Rattle.std.specs.Prelude.{take, drop, codes}
 use Rattle.and_syntax.specs.Written.{Written, compound, none, more, nodes_of}
 use Rattle.and_translation.specs.Bodies.{Body, Alternatives, behind_first, alternatives}
 use Rattle.and_translation.specs.Translation.{Walk, state, equation, joined, walk, choose}
-use Rattle.and_clauses.specs.Drafts.{draft_of}
-use Rattle.and_clauses.specs.declared.draft.ClauseDraft.{ClauseDraft}
+use Rattle.and_drafts.specs.Drafts.{draft_of}
+use Rattle.and_drafts.specs.declared.draft.ClauseDraft.{ClauseDraft}
 use Rattle.and_grammar.specs.Views.{term_at, body_at}
 use Rattle.and_grammar.specs.declared.threading.Task.{Task}
 use Rattle.and_grammar.specs.declared.threading.Task.TheVariants as tasks

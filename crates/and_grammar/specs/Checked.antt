@@ -4,11 +4,11 @@ use Rattle.std.specs.Str.{bytes_eq}
 use Rattle.and_model.specs.Lines.{Bytes}
 use Rattle.and_syntax.specs.Written.{nodes_of, has}
 use Rattle.and_program.specs.Skeletons.{Falls}
-use Rattle.and_clauses.specs.Drafts.{draft_of}
+use Rattle.and_drafts.specs.Drafts.{draft_of}
 use Rattle.and_grammar.specs.declared.checking.Found.{Found}
 use Rattle.and_syntax.specs.Tables.{Fault, not_pure, too_big, arguments}
 use Rattle.and_translation.specs.Bodies.{has_impure, has_wide}
-use Rattle.and_clauses.specs.declared.draft.ClauseDraft.{ClauseDraft}
+use Rattle.and_drafts.specs.declared.draft.ClauseDraft.{ClauseDraft}
 use Rattle.and_grammar.specs.Views.{term_at, body_at}
 use Rattle.and_grammar.specs.declared.fault.RuleFault.{RuleFault}
 use Rattle.and_grammar.specs.declared.fault.RuleFault.TheVariants.{NotPure, TooManyArguments, Memory}

@@ -2,10 +2,10 @@
 use Rattle.std.specs.Prelude.{ℕ, suc, ◌+◌, ◌-◌, ◌<◌, ◌≤◌, ◌≡◌, List, [], ◌∷◌, ◌++◌, map, length, take, drop, get_or}
 use Rattle.and_model.specs.Lines.{Bytes}
 use Rattle.and_syntax.specs.Written.{Written, compound, none, more, nodes_of}
-use Rattle.and_clauses.specs.Parts.{PartShape, many}
-use Rattle.and_clauses.specs.Parts as shapes
-use Rattle.and_clauses.specs.Drafts.{draft_of, shapes_of}
-use Rattle.and_clauses.specs.declared.draft.ClauseDraft.{ClauseDraft}
+use Rattle.and_drafts.specs.Parts.{PartShape, many}
+use Rattle.and_drafts.specs.Parts as shapes
+use Rattle.and_drafts.specs.Drafts.{draft_of, shapes_of}
+use Rattle.and_drafts.specs.declared.draft.ClauseDraft.{ClauseDraft}
 use Rattle.and_grammar.specs.Views.{term_at, arguments_at}
 use Rattle.and_grammar.specs.declared.copying.Copy.{Copy}
 use Rattle.and_grammar.specs.declared.copying.Copy.TheVariants.{Term, Name}

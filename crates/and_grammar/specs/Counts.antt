@@ -1,7 +1,7 @@
 -- The states of a body, which are counted before it is translated.
 use Rattle.std.specs.Prelude.{ℕ, ◌<◌, ◌≡◌, List, [], ◌∷◌}
 use Rattle.and_translation.specs.Translation.{walk, choose}
-use Rattle.and_clauses.specs.declared.draft.ClauseDraft.{ClauseDraft}
+use Rattle.and_drafts.specs.declared.draft.ClauseDraft.{ClauseDraft}
 use Rattle.and_grammar.specs.Acts.{Act, body, others, ends, join, resume, acts_of, AreTasksWithin, efforts}
 use Rattle.and_grammar.specs.declared.counting.Counted.{Counted}
 use Rattle.and_grammar.specs.declared.threading.Task.{Task}

@@ -3,8 +3,8 @@ use Rattle.std.specs.Prelude.{◌≡◌, List, [], ◌∷◌, None, Some, Result
 use Rattle.and_syntax.specs.Written.{Written}
 use Rattle.and_translation.specs.Translation.{translated, translation_fault, rule_clause, rule_fault}
 use Rattle.and_translation.specs.Bodies.{Body}
-use Rattle.and_clauses.specs.Drafts.{Draft, draft_of}
-use Rattle.and_clauses.specs.declared.draft.ClauseDraft.{ClauseDraft}
+use Rattle.and_drafts.specs.Drafts.{Draft, draft_of}
+use Rattle.and_drafts.specs.declared.draft.ClauseDraft.{ClauseDraft}
 use Rattle.and_grammar.specs.declared.fault.RuleFault.{RuleFault}
 use Rattle.and_grammar.specs.Checked.{fault_of}
 

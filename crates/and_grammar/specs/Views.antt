@@ -6,10 +6,10 @@ use Rattle.and_model.specs.Lines.{Bytes}
 use Rattle.and_syntax.specs.Written.{Written, Many, variable, integer, compound, none, more, nodes_of, has}
 use Rattle.and_translation.specs.Bodies.{Body, nothing, terminals, goals, nonterminal, both, either, impure, or}
 use Rattle.and_translation.specs.Bodies.{alternatives, body_of, elements, reserved}
-use Rattle.and_clauses.specs.Parts
-use Rattle.and_clauses.specs.Parts.{written_at, arguments_of}
-use Rattle.and_clauses.specs.Drafts.{draft_of, shapes_of}
-use Rattle.and_clauses.specs.declared.draft.ClauseDraft.{ClauseDraft}
+use Rattle.and_drafts.specs.Parts
+use Rattle.and_drafts.specs.Parts.{written_at, arguments_of}
+use Rattle.and_drafts.specs.Drafts.{draft_of, shapes_of}
+use Rattle.and_drafts.specs.declared.draft.ClauseDraft.{ClauseDraft}
 use Rattle.and_grammar.specs.declared.bodies.Cell.{Cell}
 use Rattle.and_grammar.specs.declared.bodies.BodyPart.{BodyPart}
 use Rattle.and_grammar.specs.declared.bodies.BodyPart.TheVariants.{Nothing, Terminals, Goals, Nonterminal, Both}

@@ -3,12 +3,12 @@
 ghost use Rattle.std.specs.Prelude.{◌≡◌, ◌<◌, [], ◌∷◌, All};
 ghost use Rattle.and_syntax.specs.Written.{has};
 ghost use Rattle.and_translation.specs.Bodies.{elements, reserved};
-ghost use Rattle.and_clauses.specs.Drafts.{draft_of};
+ghost use Rattle.and_drafts.specs.Drafts.{draft_of};
 ghost use Rattle.and_grammar.specs.Views.{body_at, term_at, IsBody, IsCell, is_nil};
 ghost use Rattle.and_grammar.specs.Views.{atom_part, unary_part, binary_part, named_part, list_part};
 ghost use Rattle.and_grammar.specs.Views.{cell_part, nil_part};
 
-use and_clauses::{ClauseDraft, Part};
+use and_drafts::{ClauseDraft, Part};
 
 /// What the term that ends at a part is as a body.
 #[derive(Clone, Copy)]

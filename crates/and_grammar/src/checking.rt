@@ -4,14 +4,14 @@ ghost use Rattle.std.specs.Prelude.{◌≡◌, ◌<◌, ◌∷◌, ◌||◌, not
 ghost use Rattle.std.specs.Prelude.{OnOk};
 ghost use Rattle.and_translation.specs.Bodies.{has_impure, has_wide, is_head, is_wide_head};
 ghost use Rattle.and_translation.specs.Translation.{rule_fault};
-ghost use Rattle.and_clauses.specs.Drafts.{draft_of};
+ghost use Rattle.and_drafts.specs.Drafts.{draft_of};
 ghost use Rattle.and_grammar.specs.Views.{body_at, term_at};
 ghost use Rattle.and_grammar.specs.Checked.{fault_of, LooksAt, head_part, pair_names};
 ghost use Rattle.and_syntax.specs.Written.{has};
 
 use crate::bodies::{BodyPart, body_part};
 use crate::fault::RuleFault;
-use and_clauses::{ClauseDraft, Part};
+use and_drafts::{ClauseDraft, Part};
 use std::alloc::{AllocError, Global};
 
 /// What is wrong with a head and a body, the gravest first.

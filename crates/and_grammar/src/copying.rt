@@ -5,15 +5,15 @@ ghost use Rattle.std.specs.Prelude.{All};
 ghost use Rattle.and_syntax.specs.Written.{Written, variable, integer, compound};
 ghost use Rattle.and_translation.specs.Bodies.{elements};
 ghost use Rattle.and_translation.specs.Translation.{state, list_before};
-ghost use Rattle.and_clauses.specs.Drafts.{draft_of};
-ghost use Rattle.and_clauses.specs.Parts.{many};
+ghost use Rattle.and_drafts.specs.Drafts.{draft_of};
+ghost use Rattle.and_drafts.specs.Parts.{many};
 ghost use Rattle.and_grammar.specs.Views.{term_at, arguments_at, Becomes, Adds};
 ghost use Rattle.and_grammar.specs.Copies.{AreEnough, IsWithin, Copies, chain, are_terms, taken, name_at};
 ghost use Rattle.and_grammar.specs.declared.copying.Copy.TheVariants.{Term, Name};
 
 use crate::bodies::cell_at;
 use crate::fault::RuleFault;
-use and_clauses::{ClauseDraft, Part};
+use and_drafts::{ClauseDraft, Part};
 use itoa::Buffer;
 use smallvec::SmallVec;
 use std::alloc::{AllocError, Global};

@@ -4,7 +4,7 @@ ghost use Rattle.std.specs.Prelude.{suc, ◌≡◌, ◌<◌, List, ◌∷◌, re
 ghost use Rattle.and_syntax.specs.Written.{Written};
 ghost use Rattle.and_translation.specs.Bodies.{behind_first};
 ghost use Rattle.and_translation.specs.Translation.{walk};
-ghost use Rattle.and_clauses.specs.Drafts.{draft_of};
+ghost use Rattle.and_drafts.specs.Drafts.{draft_of};
 ghost use Rattle.and_grammar.specs.Views.{body_at};
 ghost use Rattle.and_grammar.specs.Acts.{IsTaskWithin};
 ghost use Rattle.and_grammar.specs.Counts.{Counts};
@@ -13,7 +13,7 @@ ghost use Rattle.and_grammar.specs.declared.threading.Task.TheVariants.{Body};
 use crate::bodies::{BodyPart, body_part};
 use crate::fault::RuleFault;
 use crate::threading::{Task, one_more, push_alternatives, push_both, push_others};
-use and_clauses::ClauseDraft;
+use and_drafts::ClauseDraft;
 use std::alloc::Global;
 
 /// The states of a body as far as they are counted.

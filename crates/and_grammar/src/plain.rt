@@ -1,13 +1,13 @@
 //! Bodies that are one thing after another.
 
 ghost use Rattle.std.specs.Prelude.{suc, true, ◌≡◌, ◌<◌, IfSome};
-ghost use Rattle.and_clauses.specs.Drafts.{draft_of};
+ghost use Rattle.and_drafts.specs.Drafts.{draft_of};
 ghost use Rattle.and_grammar.specs.Views.{body_at, IsBody};
 ghost use Rattle.and_grammar.specs.Plain.{Advances};
 
 use crate::bodies::{BodyPart, body_part};
 use crate::checking::is_wide;
-use and_clauses::ClauseDraft;
+use and_drafts::ClauseDraft;
 
 /// The state behind a body with which nothing is wrong, at whose beginning terminals are left out; `None` where that is
 /// not seen at a look, as where it has alternatives. Takes no memory.

@@ -6,8 +6,8 @@ ghost use Rattle.and_model.specs.Lines.{Bytes};
 ghost use Rattle.and_syntax.specs.Written.{Written, Many, compound};
 ghost use Rattle.and_translation.specs.Bodies.{elements, behind_first};
 ghost use Rattle.and_translation.specs.Translation.{state, with_states, walk, joined};
-ghost use Rattle.and_clauses.specs.Drafts.{draft_of};
-ghost use Rattle.and_clauses.specs.Parts.{many};
+ghost use Rattle.and_drafts.specs.Drafts.{draft_of};
+ghost use Rattle.and_drafts.specs.Parts.{many};
 ghost use Rattle.and_grammar.specs.Views.{term_at, body_at, arguments_at, Adds, Becomes, IsBody, IsList};
 ghost use Rattle.and_grammar.specs.Acts.{acts_of, stand_of, done, AreBelow, IsTaskWithin};
 ghost use Rattle.and_grammar.specs.Acts.{Steps, Makes, Splits};
@@ -19,7 +19,7 @@ use crate::copying::{
     copy_arguments, copy_term, put_chain, put_compound, put_list_before, put_state,
 };
 use crate::fault::RuleFault;
-use and_clauses::{ClauseDraft, Part};
+use and_drafts::{ClauseDraft, Part};
 use std::alloc::{AllocError, Global};
 
 /// What is left to do of a body.

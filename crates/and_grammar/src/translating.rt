@@ -3,7 +3,7 @@
 ghost use Rattle.std.specs.Prelude.{◌≡◌, ◌<◌, ◌∷◌, [], length, true, None, Some, IsTrue, IfOk, OnOk, IfErr, IfSome};
 ghost use Rattle.and_translation.specs.Bodies.{first_terminals, behind_first, is_head, is_rule};
 ghost use Rattle.and_translation.specs.Translation.{state, list_before, head_between, rule_clause, rule_fault, walk};
-ghost use Rattle.and_clauses.specs.Drafts.{draft_of};
+ghost use Rattle.and_drafts.specs.Drafts.{draft_of};
 ghost use Rattle.and_grammar.specs.Views.{term_at, body_at, IsFirstList, Adds};
 ghost use Rattle.and_grammar.specs.Checked.{fault_of};
 ghost use Rattle.and_grammar.specs.Translated.{Answers, AnswersSides};
@@ -15,7 +15,7 @@ use crate::counting::state_behind;
 use crate::fault::RuleFault;
 use crate::plain::plain_state;
 use crate::threading::{Threaded, put_wider, thread};
-use and_clauses::ClauseDraft;
+use and_drafts::ClauseDraft;
 use std::alloc::Global;
 
 /// A draft of the clause for which the draft of a rule, a compound `-->` of two arguments, stands. It takes the memory

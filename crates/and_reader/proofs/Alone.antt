@@ -11,8 +11,8 @@ use Rattle.and_language.specs.Grammar.{Sort}
 use Rattle.and_language.specs.Refusals.{HasWords}
 use Rattle.and_automaton.specs.Machine.{State, start, over, is_over, step}
 use Rattle.and_beginnings.specs.Beginnings.{IsValidTo}
-use Rattle.and_clauses.specs.Drafts.{draft_of}
-use Rattle.and_clauses.specs.declared.draft.ClauseDraft.{ClauseDraft}
+use Rattle.and_drafts.specs.Drafts.{draft_of}
+use Rattle.and_drafts.specs.declared.draft.ClauseDraft.{ClauseDraft}
 use Rattle.and_lex.specs.declared.tokens.Token.{Token}
 use Rattle.and_lex.specs.Views.{token_of, kind_of}
 use Rattle.and_lex.specs.Reading

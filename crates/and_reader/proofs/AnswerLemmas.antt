@@ -15,7 +15,7 @@ use Rattle.and_language.specs.Grammar.{nil}
 use Rattle.and_automaton.specs.Machine
 use Rattle.and_automaton.specs.Machine.{Outermost, State, start, inside, opened_list, operand, wanted, in_part, nothing_pending, begins_query, closes_list}
 use Rattle.and_automaton.specs.Machine.{go, exceeds, step, take_operand, take_operator, operator_exceeds, comma_exceeds, depth, role}
-use Rattle.and_clauses.specs.declared.data.What.TheVariants as whats
+use Rattle.and_judging.specs.declared.data.What.TheVariants as whats
 use Rattle.and_reader.specs.declared.state.Bracket.{Bracket}
 use Rattle.and_reader.specs.declared.state.Bracket.TheVariants as brackets
 use Rattle.and_reader.specs.declared.state.Next.{Next}

@@ -10,9 +10,9 @@ use Rattle.and_language.specs.Grammar
 use Rattle.and_language.specs.Refusals
 use Rattle.and_language.specs.Refusals.{Refusal, at, Takes, HasWords, IsTaken, IsRefused, without_query, with_unknown, IsTextOf, IsLiftedFrom}
 use Rattle.and_clauses.specs.Views.{table_of}
-use Rattle.and_clauses.specs.Sealing.{Seals, Refuses}
-use Rattle.and_clauses.specs.declared.data.SealFault.{SealFault}
-use Rattle.and_clauses.specs.declared.data.SealFault.TheVariants as seals
+use Rattle.and_judging.specs.Sealing.{Seals, Refuses}
+use Rattle.and_judging.specs.declared.data.SealFault.{SealFault}
+use Rattle.and_judging.specs.declared.data.SealFault.TheVariants as seals
 use Rattle.and_reader.specs.declared.lines.Cursor.{Cursor}
 use Rattle.and_reader.specs.declared.reading.Begun.{Begun}
 use Rattle.and_reader.specs.declared.reading.Reader.{Reader}

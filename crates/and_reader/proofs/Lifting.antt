@@ -10,8 +10,8 @@ use Rattle.and_language.specs.Grammar.{Sort, Statement}
 use Rattle.and_language.specs.Refusals.{IsTextOf, IsLiftedFrom}
 use Rattle.and_automaton.proofs.Texts.{joined}
 use Rattle.and_clauses.specs.Asking.{IsPutTo}
-use Rattle.and_clauses.specs.Drafts.{draft_of}
-use Rattle.and_clauses.specs.declared.draft.ClauseDraft.{ClauseDraft}
+use Rattle.and_drafts.specs.Drafts.{draft_of}
+use Rattle.and_drafts.specs.declared.draft.ClauseDraft.{ClauseDraft}
 use Rattle.and_reader.specs.Beginning.{BeginsWith, IsBegunSo, IsQueryOf, IsGoneOn, IsPutOn, Had}
 use Rattle.and_reader.specs.declared.kept.GoneOn.{GoneOn}
 use Rattle.and_reader.specs.declared.kept.GoneOn.TheVariants as gone

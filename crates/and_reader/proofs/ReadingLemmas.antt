@@ -18,9 +18,9 @@ use Rattle.and_automaton.specs.Machine.{State, start, over, is_over, go, step, r
 use Rattle.and_automaton.proofs.Steps.{step_tells, run_more}
 use Rattle.and_automaton.proofs.Texts.{joined, one_clause, none_ends, begun_goes_on}
 use Rattle.and_automaton.proofs.Begun.{refused_word, word_over_limit}
-use Rattle.and_clauses.specs.Drafts.{draft_of}
+use Rattle.and_drafts.specs.Drafts.{draft_of}
 use Rattle.and_clauses.specs.Views.{table_of}
-use Rattle.and_clauses.specs.Faults.{what_of}
+use Rattle.and_judging.specs.Faults.{what_of}
 use Rattle.and_reader.specs.declared.reading.Begun.{Begun}
 use Rattle.and_reader.specs.declared.reading.Reader.{Reader}
 use Rattle.and_reader.specs.declared.refusal.Cause.{Cause}

@@ -10,7 +10,7 @@ use Rattle.and_syntax.specs.Written.{Written}
 use Rattle.and_language.specs.Grammar.{binary, unary, cell}
 use Rattle.and_automaton.specs.Machine
 use Rattle.and_automaton.specs.Machine.{Half, with_half, negated, conjunction, disjunction, list}
-use Rattle.and_clauses.specs.Parts.{many}
+use Rattle.and_drafts.specs.Parts.{many}
 use Rattle.and_reader.specs.Standing.{name_in, with_left}
 use Rattle.and_reader.specs.Answered.{paired}
 

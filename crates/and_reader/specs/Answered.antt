@@ -12,12 +12,12 @@ use Rattle.and_language.specs.Grammar
 use Rattle.and_language.specs.Grammar.{binary}
 use Rattle.and_automaton.specs.Machine
 use Rattle.and_automaton.specs.Machine.{Half, Outermost, State, over, is_over, depth}
-use Rattle.and_clauses.specs.Drafts.{draft_of}
+use Rattle.and_drafts.specs.Drafts.{draft_of}
 use Rattle.and_translation.specs.Bodies.{is_arrow}
 use Rattle.and_clauses.specs.Views.{is_asking}
-use Rattle.and_clauses.specs.Faults.{what_of}
-use Rattle.and_clauses.specs.declared.draft.ClauseDraft.{ClauseDraft}
-use Rattle.and_clauses.specs.declared.data.What.TheVariants as whats
+use Rattle.and_judging.specs.Faults.{what_of}
+use Rattle.and_drafts.specs.declared.draft.ClauseDraft.{ClauseDraft}
+use Rattle.and_judging.specs.declared.data.What.TheVariants as whats
 use Rattle.and_reader.specs.declared.state.Pending.{Pending}
 use Rattle.and_reader.specs.declared.state.Next.{Next}
 use Rattle.and_reader.specs.declared.state.Next.TheVariants as next

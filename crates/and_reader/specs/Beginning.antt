@@ -10,8 +10,8 @@ use Rattle.and_language.specs.Grammar.{Sort, Statement, IsText}
 use Rattle.and_language.specs.Refusals.{Takes, HasWords, IsLiftedFrom}
 use Rattle.and_beginnings.specs.Beginnings.{behind, IsValidTo}
 use Rattle.and_clauses.specs.Asking.{clauses_table, asked_table, IsPutTo, Ground, ground_of, asked_ground}
-use Rattle.and_clauses.specs.Drafts.{Draft, draft_of}
-use Rattle.and_clauses.specs.declared.draft.ClauseDraft.{ClauseDraft}
+use Rattle.and_drafts.specs.Drafts.{Draft, draft_of}
+use Rattle.and_drafts.specs.declared.draft.ClauseDraft.{ClauseDraft}
 use Rattle.and_reader.specs.Reading.{IsRead}
 use Rattle.and_reader.specs.declared.reading.Reader.{Reader}
 use Rattle.and_reader.specs.declared.kept.Beginning.{Beginning}

@@ -3,9 +3,9 @@ use Rattle.std.specs.Prelude.{ℕ, ◌≡◌, length, Option, Some, None}
 use Rattle.and_model.specs.Lines.{Bytes}
 use Rattle.and_language.specs.Refusals
 use Rattle.and_language.specs.Refusals.{at}
-use Rattle.and_clauses.specs.Faults.{what_of}
-use Rattle.and_clauses.specs.declared.data.SealFault.{SealFault}
-use Rattle.and_clauses.specs.declared.data.SealFault.TheVariants as seals
+use Rattle.and_judging.specs.Faults.{what_of}
+use Rattle.and_judging.specs.declared.data.SealFault.{SealFault}
+use Rattle.and_judging.specs.declared.data.SealFault.TheVariants as seals
 use Rattle.and_reader.specs.declared.refusal.Cause.{Cause}
 use Rattle.and_reader.specs.declared.refusal.Cause.TheVariants.{Syntax, NotText, TooWide, TooBig, NotPure, Redefines}
 use Rattle.and_reader.specs.declared.refusal.Cause.TheVariants.{Unknown, NoQuery, SecondQuery, Memory}

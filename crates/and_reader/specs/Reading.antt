@@ -9,7 +9,7 @@ use Rattle.and_language.specs.Words.{Word, Placed}
 use Rattle.and_language.specs.Grammar.{Sort, Statement, IsText}
 use Rattle.and_language.specs.Refusals.{Takes, Refusal, at, cause_of, rule_fault, statement_fault, with_statement}
 use Rattle.and_automaton.specs.Machine.{State, start, is_over, run, words_of}
-use Rattle.and_clauses.specs.Drafts.{Draft, draft_of}
+use Rattle.and_drafts.specs.Drafts.{Draft, draft_of}
 use Rattle.and_clauses.specs.Views.{table_of}
 use Rattle.and_reader.specs.declared.reading.Begun.{Begun}
 use Rattle.and_reader.specs.declared.reading.Reader.{Reader}

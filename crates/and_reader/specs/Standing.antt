@@ -11,11 +11,11 @@ use Rattle.and_language.specs.Refusals
 use Rattle.and_language.specs.Refusals.{limit_of}
 use Rattle.and_automaton.specs.Machine
 use Rattle.and_automaton.specs.Machine.{Half, Outermost, State, start, over, is_over, depth, go, exceeds, step}
-use Rattle.and_clauses.specs.Drafts.{draft_of}
+use Rattle.and_drafts.specs.Drafts.{draft_of}
 use Rattle.and_translation.specs.Bodies.{is_arrow}
 use Rattle.and_clauses.specs.Views.{is_asking}
-use Rattle.and_clauses.specs.Faults.{what_of}
-use Rattle.and_clauses.specs.declared.draft.ClauseDraft.{ClauseDraft}
+use Rattle.and_judging.specs.Faults.{what_of}
+use Rattle.and_drafts.specs.declared.draft.ClauseDraft.{ClauseDraft}
 use Rattle.and_reader.specs.declared.state.Pending.{Pending}
 use Rattle.and_reader.specs.declared.state.Bracket.{Bracket}
 use Rattle.and_reader.specs.declared.state.Bracket.TheVariants.{Plain, Braces, Arguments, Elements, Tail}

@@ -5,8 +5,8 @@ ghost use Rattle.std.specs.Option.{option_copied};
 ghost use Rattle.and_syntax.specs.Written.{Written, compound};
 ghost use Rattle.and_automaton.specs.Machine.{Half, with_half, negated, at400, at500, at700, at1100};
 ghost use Rattle.and_automaton.specs.Machine as machine;
-ghost use Rattle.and_clauses.specs.Parts.{many};
-ghost use Rattle.and_clauses.specs.Drafts.{draft_of};
+ghost use Rattle.and_drafts.specs.Parts.{many};
+ghost use Rattle.and_drafts.specs.Drafts.{draft_of};
 ghost use Rattle.and_reader.specs.Standing.{terms, name_in, IsPending, with_left, with_lefts};
 ghost use Rattle.and_reader.specs.Answered.{paired, HasInfix, HasOperand, HasAlternatives};
 

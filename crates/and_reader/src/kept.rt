@@ -63,7 +63,7 @@ pub enum GoneOn {
 
 impl Beginning {
     ghost use Rattle.std.specs.Prelude.{IfOk, IsTrue};
-    ghost use Rattle.and_clauses.specs.Drafts.{draft_of};
+    ghost use Rattle.and_drafts.specs.Drafts.{draft_of};
     ghost use Rattle.and_clauses.specs.Views.{is_query};
     ghost use Rattle.and_reader.specs.Beginning.{beginning_ground, had_of, IsPutOn, StaysOn};
 

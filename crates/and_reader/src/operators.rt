@@ -8,7 +8,7 @@ ghost use Rattle.and_automaton.specs.Machine.{operand, depth, wanted, nothing_pe
 ghost use Rattle.and_automaton.specs.Machine.{role, is_product, is_sum};
 ghost use Rattle.and_automaton.specs.Machine.{is_relation, list, at700, comma_exceeds};
 ghost use Rattle.and_automaton.specs.Machine.{operator_exceeds};
-ghost use Rattle.and_clauses.specs.Drafts.{draft_of};
+ghost use Rattle.and_drafts.specs.Drafts.{draft_of};
 ghost use Rattle.and_reader.specs.Views.{word_of, neck_of};
 ghost use Rattle.and_language.specs.Grammar.{symbol_of};
 ghost use Rattle.and_reader.specs.Standing.{IsState, Stands, terms};

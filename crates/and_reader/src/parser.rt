@@ -7,7 +7,7 @@ ghost use Rattle.and_automaton.specs.Machine.{State, Outermost, start, inside, o
 ghost use Rattle.and_automaton.specs.Machine.{operand, depth, wanted, nothing_pending};
 ghost use Rattle.and_automaton.specs.Machine.{operand_exceeds};
 ghost use Rattle.and_automaton.specs.Machine.{list};
-ghost use Rattle.and_clauses.specs.Drafts.{draft_of};
+ghost use Rattle.and_drafts.specs.Drafts.{draft_of};
 ghost use Rattle.and_reader.specs.Views.{word_of, name_of, before_of};
 ghost use Rattle.and_reader.specs.Standing.{IsState, IsFit, Answers, Stands, StandsFirst, terms};
 ghost use Rattle.and_reader.specs.Standing.{part_of, bracket_of, IsFrame, AreFrames, waiting};

@@ -9,7 +9,7 @@ ghost use Rattle.and_language.specs.Words.{Placed};
 ghost use Rattle.and_language.specs.Grammar.{Statement};
 ghost use Rattle.and_language.specs.Refusals.{IsLiftedFrom, IsRefused, HasWords};
 ghost use Rattle.and_translation.specs.Bodies.{is_rule};
-ghost use Rattle.and_clauses.specs.Drafts.{draft_of};
+ghost use Rattle.and_drafts.specs.Drafts.{draft_of};
 ghost use Rattle.and_clauses.specs.Views.{table_of, is_query as asks};
 ghost use Rattle.and_program.specs.Loaded.{program_of};
 ghost use Rattle.and_reader.specs.Views.{word_of as word_shown, sort_of};

@@ -4,8 +4,8 @@ ghost use Rattle.std.specs.Prelude.{◌≡◌, ◌<◌, ◌^◌, ◌-◌, ◌++�
 ghost use Rattle.std.specs.Option.{option_map};
 ghost use Rattle.and_language.specs.Refusals.{fault_at};
 ghost use Rattle.and_language.specs.Refusals.{cause_of as cause_of_fault};
-ghost use Rattle.and_clauses.specs.Faults.{what_of};
-ghost use Rattle.and_clauses.specs.Faults.{fault_of as fault_of_table};
+ghost use Rattle.and_judging.specs.Faults.{what_of};
+ghost use Rattle.and_judging.specs.Faults.{fault_of as fault_of_table};
 ghost use Rattle.and_lex.specs.Views.{fault_of};
 ghost use Rattle.and_reader.specs.Causes.{cause_of, refusal_of, IsSealRefusal};
 ghost use Rattle.and_reader.specs.RefusalLine.{what_text, predicate_text, cause_text, refusal_line};

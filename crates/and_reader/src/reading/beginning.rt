@@ -9,7 +9,7 @@ ghost use Rattle.and_lex.specs.Views.{answer_of, token_of};
 ghost use Rattle.and_language.specs.Words.{Placed};
 ghost use Rattle.and_language.specs.Refusals.{HasWords};
 ghost use Rattle.and_beginnings.specs.Beginnings.{IsValidTo};
-ghost use Rattle.and_clauses.specs.Drafts.{draft_of};
+ghost use Rattle.and_drafts.specs.Drafts.{draft_of};
 ghost use Rattle.and_clauses.specs.Views.{is_query};
 ghost use Rattle.and_reader.specs.Beginning.{IsReadTo, IsQueryOf, IsBeginning, IsGoneOn};
 ghost use Rattle.and_reader.specs.Beginning.{beginning_ground, StaysOn};

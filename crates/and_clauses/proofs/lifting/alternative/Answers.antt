@@ -6,8 +6,8 @@ use Rattle.std.proofs.Common.{All, map, subst}
 use Rattle.std.specs.Prelude.{flat_map}
 use Rattle.and_model.specs.OwnVariables.{AreOwn, terms_of_item}
 use Rattle.and_program.specs.Nodes.{shapes_of}
-use Rattle.and_clauses.specs.Outlined.{pieces_items, numbering_by}
-use Rattle.and_clauses.specs.Sorts.{own, piece_in}
+use Rattle.and_judging.specs.Outlined.{pieces_items, numbering_by}
+use Rattle.and_judging.specs.Sorts.{own, piece_in}
 use Rattle.and_clauses.specs.Lifts.{nodes_under, named_under}
 use Rattle.and_clauses.proofs.LiftSteps.{node_kept}
 use Rattle.and_clauses.proofs.LiftClauses.{few_read, variables_read, scope_below, no_clause, pieces_own, alternative_made}

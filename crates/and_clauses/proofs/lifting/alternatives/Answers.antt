@@ -1,10 +1,10 @@
 use Rattle.std.proofs.Common.{refl, sym, ◌+◌, length, subst}
 use Rattle.and_program.specs.Nodes.{shapes_of}
 use Rattle.and_model.specs.OwnVariables.{HasOwnVariables}
-use Rattle.and_clauses.specs.Sorts.{outline_in, outlines_in}
-use Rattle.and_clauses.specs.Outlined.{outlines_size, outline_clause}
+use Rattle.and_judging.specs.Sorts.{outline_in, outlines_in}
+use Rattle.and_judging.specs.Outlined.{outlines_size, outline_clause}
 use Rattle.and_clauses.specs.Lifts.{names_under, nodes_under, named_under, IsScope, ArePiecesThere}
-use Rattle.and_clauses.specs.declared.sorting.Outline.{Outline}
+use Rattle.and_judging.specs.declared.sorting.Outline.{Outline}
 use Rattle.and_clauses.proofs.LiftClauses.{scope_there, own_at, none_lifted, outline_room, one_lifted, all_lifted}
 use Rattle.and_clauses.proofs.lifting.alternatives.Goals as goal
 

@@ -1,7 +1,7 @@
 use Rattle.std.proofs.Common.{◌+◌, length}
 use Rattle.and_program.specs.Nodes.{shapes_of}
-use Rattle.and_clauses.specs.Sorts.{outlines_in}
-use Rattle.and_clauses.specs.Outlined.{outlines_size}
+use Rattle.and_judging.specs.Sorts.{outlines_in}
+use Rattle.and_judging.specs.Outlined.{outlines_size}
 use Rattle.and_clauses.specs.Lifts.{names_under, nodes_under, named_under}
 use Rattle.and_clauses.proofs.LiftClauses.{AreLiftedSoFar}
 use Rattle.and_clauses.proofs.lifting.alternatives.Given as goal

@@ -2,7 +2,7 @@ use Rattle.std.proofs.Common.{◌+◌, length, reverse}
 use Rattle.and_source.specs.Lifted.{renumbered}
 use Rattle.and_program.specs.Skeletons.{node_term}
 use Rattle.and_program.specs.Nodes.{shapes_of}
-use Rattle.and_clauses.specs.Outlined.{size_of}
+use Rattle.and_judging.specs.Outlined.{size_of}
 use Rattle.and_clauses.specs.Copied.{tasks_work}
 use Rattle.and_clauses.specs.Copies.{numbering_at, numbers_in, tasks_in}
 use Rattle.and_clauses.specs.Lifts.{names_under, nodes_under}

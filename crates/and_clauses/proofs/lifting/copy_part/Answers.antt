@@ -1,6 +1,6 @@
 use Rattle.std.proofs.Common.{arith}
 use Rattle.and_program.specs.Nodes.{names_of}
-use Rattle.and_clauses.proofs.Naming.{place-le}
+use Rattle.and_drafts.proofs.Naming.{place-le}
 use Rattle.and_clauses.proofs.lifting.copy_part.Goals as goal
 
 pub overflow_cast-number : goal.overflow_cast-number

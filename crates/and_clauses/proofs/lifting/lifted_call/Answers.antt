@@ -1,8 +1,8 @@
 use Rattle.std.proofs.Common.{ap, sym, ◌∙◌, length, arith}
 use Rattle.and_program.specs.Nodes.{shapes_of}
-use Rattle.and_clauses.specs.Sorts.{own}
+use Rattle.and_judging.specs.Sorts.{own}
 use Rattle.and_clauses.specs.Copies.{numbering_at}
-use Rattle.and_clauses.specs.Outlined.{named_at}
+use Rattle.and_judging.specs.Outlined.{named_at}
 use Rattle.and_clauses.specs.Lifts.{names_under, named_under}
 use Rattle.and_clauses.proofs.LiftClauses.{size_of_nodes, few_read, variables_read, count_read, call_more, call_end}
 use Rattle.and_clauses.proofs.lifting.lifted_call.Goals as goal

@@ -1,6 +1,6 @@
 use Rattle.std.proofs.Common.{◌≡◌, length, get_or, arith}
 use Rattle.and_program.specs.Nodes.{shapes_of}
-use Rattle.and_clauses.specs.Outlined.{named_at}
+use Rattle.and_judging.specs.Outlined.{named_at}
 use Rattle.and_clauses.specs.Lifts.{names_under, named_under}
 use Rattle.and_clauses.proofs.LiftClauses.{size_of_nodes, few_read, count_read, head_more, head_end}
 use Rattle.and_clauses.proofs.lifting.lifted_head.Goals as goal

@@ -2,12 +2,12 @@ use Rattle.std.proofs.Common.{refl, ap, ◌+◌, ◌≤◌, length, map, get_or,
 use Rattle.std.proofs.lemmas.List.{get_or_default}
 use Rattle.and_program.specs.Nodes.{shapes_of}
 use Rattle.and_program.specs.declared.item.ItemNode.TheVariants.{Call}
-use Rattle.and_clauses.specs.Sorts.{piece_in}
-use Rattle.and_clauses.specs.Outlined.{pieces_size}
+use Rattle.and_judging.specs.Sorts.{piece_in}
+use Rattle.and_judging.specs.Outlined.{pieces_size}
 use Rattle.and_clauses.specs.Copies.{numbering_at}
 use Rattle.and_clauses.specs.Lifts.{names_under, nodes_under, named_under}
-use Rattle.and_clauses.specs.declared.sorting.Piece.{Piece}
-use Rattle.and_clauses.specs.declared.sorting.Piece.TheVariants.{Item}
+use Rattle.and_judging.specs.declared.sorting.Piece.{Piece}
+use Rattle.and_judging.specs.declared.sorting.Piece.TheVariants.{Item}
 use Rattle.and_clauses.proofs.LiftSteps.{piece_there_at, piece_own_at, pieces_few, none_so_far, piece_room, one_more, so_far_few}
 use Rattle.and_clauses.proofs.lifting.lifted_items.Goals as goal
 

@@ -1,7 +1,7 @@
 use Rattle.std.proofs.Common.{◌+◌, length, map}
 use Rattle.and_program.specs.Nodes.{shapes_of}
-use Rattle.and_clauses.specs.Sorts.{piece_in}
-use Rattle.and_clauses.specs.Outlined.{pieces_size}
+use Rattle.and_judging.specs.Sorts.{piece_in}
+use Rattle.and_judging.specs.Outlined.{pieces_size}
 use Rattle.and_clauses.specs.Copies.{numbering_at}
 use Rattle.and_clauses.specs.Lifts.{names_under, nodes_under, named_under}
 use Rattle.and_clauses.proofs.LiftSteps.{AreSoFar}

@@ -1,6 +1,6 @@
 use Rattle.std.proofs.Common.{◌≡◌, ◌+◌, [], drop}
 use Rattle.and_model.specs.Lines.{place_of}
-use Rattle.and_clauses.specs.Sorts.{own}
+use Rattle.and_judging.specs.Sorts.{own}
 use Rattle.and_clauses.proofs.lifting.place_in.Given as goal
 
 abbrev pub invariant-loop-other : goal.invariant-loop-other

@@ -4,8 +4,8 @@ use Rattle.std.proofs.lemmas.List.{get_or_default}
 use Rattle.and_model.specs.OwnVariables.{AreOwn, terms_of_item}
 use Rattle.and_model.specs.declared.numbers.NodeNo.{NodeNo}
 use Rattle.and_program.specs.Nodes.{shapes_of}
-use Rattle.and_clauses.specs.Sorts.{piece_in, outlines_in}
-use Rattle.and_clauses.specs.Outlined.{pieces_items, pieces_size, outlines_size, outline_clause}
+use Rattle.and_judging.specs.Sorts.{piece_in, outlines_in}
+use Rattle.and_judging.specs.Outlined.{pieces_items, pieces_size, outlines_size, outline_clause}
 use Rattle.and_clauses.specs.Lifts.{names_under, nodes_under, named_under, ArePiecesThere, AreAlternatives, HaveOwn, AreLifted, head_size, clause_under}
 use Rattle.and_clauses.proofs.CopySteps.{tail_of}
 use Rattle.and_clauses.proofs.LiftSteps.{room_less, room_left, grown_both}

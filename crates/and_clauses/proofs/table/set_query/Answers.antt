@@ -2,7 +2,7 @@ use Rattle.std.proofs.Common.{◌∙◌, Some, sym, subst}
 use Rattle.and_syntax.specs.Tables.{empty}
 use Rattle.and_clauses.specs.Adds.{with_all}
 use Rattle.and_clauses.specs.Makes.{Keeps}
-use Rattle.and_clauses.specs.declared.data.Added.TheVariants.{Query}
+use Rattle.and_clauses.specs.declared.added.Added.TheVariants.{Query}
 use Rattle.and_clauses.proofs.Adding.{added_table, query_noted}
 use Rattle.and_clauses.proofs.table.set_query.Goals as goal
 

@@ -1,7 +1,7 @@
 use Rattle.std.proofs.Common.{ap, sym, ◌∙◌, subst, arith}
 use Rattle.and_translation.specs.Bodies.{body_of}
-use Rattle.and_clauses.specs.Drafts.{read_part}
-use Rattle.and_clauses.proofs.Telling.{variable_read, integer_read, compound_read, arguments_fall}
+use Rattle.and_drafts.specs.Drafts.{read_part}
+use Rattle.and_drafts.proofs.Telling.{variable_read, integer_read, compound_read, arguments_fall}
 use Rattle.and_grammar.specs.declared.bodies.BodyPart.{BodyPart}
 use Rattle.and_grammar.specs.Views.{body_at, IsBody, named_part}
 use Rattle.and_grammar.proofs.Viewing.{named_is_body, below_all, same_arguments}

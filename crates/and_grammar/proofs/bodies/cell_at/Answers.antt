@@ -1,7 +1,7 @@
 use Rattle.std.proofs.Common.{Option, refl, ap, sym, ◌∙◌, subst}
 use Rattle.and_syntax.specs.Written.{variable, integer}
-use Rattle.and_clauses.specs.Drafts.{read_part}
-use Rattle.and_clauses.proofs.Telling.{variable_read, integer_read, compound_read, arguments_fall}
+use Rattle.and_drafts.specs.Drafts.{read_part}
+use Rattle.and_drafts.proofs.Telling.{variable_read, integer_read, compound_read, arguments_fall}
 use Rattle.and_grammar.specs.declared.bodies.Cell.{Cell}
 use Rattle.and_grammar.specs.Views.{IsCell, cell_part}
 use Rattle.and_grammar.proofs.Viewing.{no_cell, named_is_cell}

@@ -1,6 +1,6 @@
 use Rattle.std.proofs.Common.{ap, sym, ◌∙◌}
-use Rattle.and_clauses.specs.Drafts.{read_part}
-use Rattle.and_clauses.proofs.Telling.{variable_read, integer_read, compound_read}
+use Rattle.and_drafts.specs.Drafts.{read_part}
+use Rattle.and_drafts.proofs.Telling.{variable_read, integer_read, compound_read}
 use Rattle.and_grammar.specs.Views.{is_nil, nil_part}
 use Rattle.and_grammar.proofs.Viewing.{named_is_nil}
 use Rattle.and_grammar.proofs.bodies.is_empty_list.Goals as goal

@@ -1,7 +1,7 @@
 use Rattle.std.proofs.Common.{◌<◌, ◌≡◌}
 use Rattle.and_syntax.specs.Written.{nodes_of}
 use Rattle.and_translation.specs.Bodies.{elements}
-use Rattle.and_clauses.specs.Drafts.{draft_of}
+use Rattle.and_drafts.specs.Drafts.{draft_of}
 use Rattle.and_grammar.specs.Views.{term_at, list_part}
 use Rattle.and_grammar.proofs.bodies.list_body.Given as goal
 

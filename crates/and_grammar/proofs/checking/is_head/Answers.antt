@@ -1,6 +1,6 @@
 use Rattle.std.proofs.Common.{ap, sym, ◌∙◌}
 use Rattle.and_translation.specs.Bodies.{is_head}
-use Rattle.and_clauses.proofs.Telling.{variable_read, integer_read, compound_read}
+use Rattle.and_drafts.proofs.Telling.{variable_read, integer_read, compound_read}
 use Rattle.and_grammar.specs.Checked.{head_part}
 use Rattle.and_grammar.proofs.Looking.{named_is_head}
 use Rattle.and_grammar.proofs.checking.is_head.Goals as goal

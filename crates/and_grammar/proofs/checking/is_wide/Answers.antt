@@ -1,6 +1,6 @@
 use Rattle.std.proofs.Common.{ap, sym}
 use Rattle.and_translation.specs.Bodies.{is_wide_head}
-use Rattle.and_clauses.proofs.Telling.{variable_read, integer_read, compound_read}
+use Rattle.and_drafts.proofs.Telling.{variable_read, integer_read, compound_read}
 use Rattle.and_grammar.proofs.Looking.{named_is_wide}
 use Rattle.and_grammar.proofs.checking.is_wide.Goals as goal
 

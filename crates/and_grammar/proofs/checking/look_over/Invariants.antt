@@ -1,7 +1,7 @@
 use Rattle.std.proofs.Common.{◌≡◌, ◌||◌, reverse}
 use Rattle.and_program.specs.Skeletons.{Falls}
 use Rattle.and_translation.specs.Bodies.{has_impure, has_wide}
-use Rattle.and_clauses.specs.Drafts.{draft_of}
+use Rattle.and_drafts.specs.Drafts.{draft_of}
 use Rattle.and_grammar.specs.Views.{body_at}
 use Rattle.and_grammar.specs.Checked.{are_impure, are_wide, sizes}
 use Rattle.and_grammar.proofs.checking.look_over.Given as goal

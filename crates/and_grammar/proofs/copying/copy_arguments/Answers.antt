@@ -1,7 +1,7 @@
 use Rattle.std.proofs.Common.{◌∙◌, List, ap, ◌++◌, ◌∷◌, [], get_or, arith}
 use Rattle.and_syntax.specs.Written.{Written}
-use Rattle.and_clauses.specs.Drafts.{draft_of}
-use Rattle.and_clauses.proofs.Telling.{arguments_fall}
+use Rattle.and_drafts.specs.Drafts.{draft_of}
+use Rattle.and_drafts.proofs.Telling.{arguments_fall}
 use Rattle.and_grammar.specs.Views.{term_at, arguments_at}
 use Rattle.and_grammar.proofs.Viewing.{below_all, same_arguments}
 use Rattle.and_grammar.proofs.CopyLemmas.{argument_copied, all_copied}

@@ -1,5 +1,5 @@
 use Rattle.std.proofs.Common.{◌≡◌, ◌++◌, map, take}
-use Rattle.and_clauses.specs.Drafts.{draft_of}
+use Rattle.and_drafts.specs.Drafts.{draft_of}
 use Rattle.and_grammar.specs.Views.{term_at, arguments_at}
 use Rattle.and_grammar.proofs.copying.copy_arguments.Given as goal
 

@@ -1,7 +1,7 @@
 use Rattle.std.proofs.Common.{rules, ◌+◌, ◌≡◌, ap, arith, subst, length, [], ◌∷◌}
 use Rattle.std.proofs.lemmas.List.{length-append}
 use Rattle.and_translation.specs.Bodies.{elements}
-use Rattle.and_clauses.specs.Drafts.{draft_of}
+use Rattle.and_drafts.specs.Drafts.{draft_of}
 use Rattle.and_grammar.specs.Views.{term_at, IsCell, IsCellOf}
 use Rattle.and_grammar.proofs.CopyLemmas.{left_first, left_more, left_none}
 use Rattle.and_grammar.proofs.copying.copy_elements.Goals as goal

@@ -1,7 +1,7 @@
 use Rattle.std.proofs.Common.{◌<◌, ◌≤◌, ◌≡◌, List, Some, length}
 use Rattle.and_syntax.specs.Written.{Written, nodes_of}
 use Rattle.and_translation.specs.Bodies.{elements}
-use Rattle.and_clauses.specs.Drafts.{draft_of}
+use Rattle.and_drafts.specs.Drafts.{draft_of}
 use Rattle.and_grammar.specs.Views.{term_at}
 use Rattle.and_grammar.proofs.CopyLemmas.{Left}
 use Rattle.and_grammar.proofs.copying.copy_elements.Given as goal

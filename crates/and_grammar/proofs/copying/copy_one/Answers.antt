@@ -1,5 +1,5 @@
 use Rattle.std.proofs.Common.{List, ◌∷◌, reverse, refl, length, OnOk, subst, sym}
-use Rattle.and_clauses.specs.Drafts.{draft_of}
+use Rattle.and_drafts.specs.Drafts.{draft_of}
 use Rattle.and_grammar.specs.declared.copying.Copy.{Copy}
 use Rattle.and_grammar.specs.declared.copying.Copy.TheVariants.{Name}
 use Rattle.and_grammar.specs.Views.{Becomes, arguments_at}

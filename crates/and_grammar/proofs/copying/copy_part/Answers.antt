@@ -2,8 +2,8 @@ use Rattle.std.specs.Prelude.{FitsSigned}
 use Rattle.std.proofs.lemmas.Int.{ints, to_z-of_z}
 use Rattle.std.proofs.Common.{rules, ℤ, to_z, of_z, w64, List, [], ◌∷◌, ◌++◌, reverse, refl, ap, sym, ◌∙◌, ◌≡◌}
 use Rattle.and_syntax.specs.Written.{variable, integer}
-use Rattle.and_clauses.specs.Drafts.{read_part}
-use Rattle.and_clauses.proofs.Telling.{variable_read, integer_read, compound_read, arguments_fall}
+use Rattle.and_drafts.specs.Drafts.{read_part}
+use Rattle.and_drafts.proofs.Telling.{variable_read, integer_read, compound_read, arguments_fall}
 use Rattle.and_grammar.specs.declared.copying.Copy.{Copy}
 use Rattle.and_grammar.specs.declared.copying.Copy.TheVariants.{Term, Name}
 use Rattle.and_grammar.specs.Views.{Adds}

@@ -1,5 +1,5 @@
 use Rattle.std.proofs.Common.{rules, ◌≡◌, List, [], ◌∷◌, length, reverse, refl, sym, ap, ◌∙◌, arith, subst}
-use Rattle.and_clauses.specs.Drafts.{draft_of}
+use Rattle.and_drafts.specs.Drafts.{draft_of}
 use Rattle.and_grammar.specs.declared.copying.Copy.{Copy}
 use Rattle.and_grammar.specs.declared.copying.Copy.TheVariants.{Term}
 use Rattle.and_grammar.specs.Copies.{copied, AreEnough, AreWithin, work}

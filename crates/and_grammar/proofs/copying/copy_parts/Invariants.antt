@@ -1,5 +1,5 @@
 use Rattle.std.proofs.Common.{◌≡◌, [], ◌∷◌, ◌++◌, length, reverse}
-use Rattle.and_clauses.specs.Drafts.{draft_of}
+use Rattle.and_drafts.specs.Drafts.{draft_of}
 use Rattle.and_grammar.specs.Views.{term_at}
 use Rattle.and_grammar.specs.Copies.{copied, AreEnough, AreWithin, work}
 use Rattle.and_grammar.proofs.copying.copy_parts.Given as goal

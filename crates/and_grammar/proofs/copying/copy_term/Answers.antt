@@ -3,8 +3,8 @@ use Rattle.std.proofs.lemmas.Int.{ints, to_z-of_z}
 use Rattle.std.proofs.Common.{rules, ℤ, to_z, of_z, w64, List, [], ◌∷◌, refl, ap, sym, subst, ◌∙◌, ◌≡◌, OnOk}
 use Rattle.std.proofs.lemmas.List.{append-nil}
 use Rattle.and_syntax.specs.Written.{Written, integer, compound, none}
-use Rattle.and_clauses.specs.Drafts.{draft_of, read_part}
-use Rattle.and_clauses.proofs.Telling.{variable_read, integer_read, compound_read}
+use Rattle.and_drafts.specs.Drafts.{draft_of, read_part}
+use Rattle.and_drafts.proofs.Telling.{variable_read, integer_read, compound_read}
 use Rattle.and_grammar.specs.Views.{Adds, term_at, arguments_at}
 use Rattle.and_grammar.proofs.CopyLemmas.{atom_read}
 use Rattle.and_grammar.proofs.copying.copy_term.Goals as goal

@@ -1,6 +1,6 @@
 use Rattle.std.proofs.Common.{◌≤◌, ◌≡◌, List, [], ◌∷◌, ◌++◌, length, take, drop}
 use Rattle.and_syntax.specs.Written.{Written}
-use Rattle.and_clauses.specs.Drafts.{draft_of}
+use Rattle.and_drafts.specs.Drafts.{draft_of}
 use Rattle.and_grammar.specs.Copies.{chain}
 use Rattle.and_grammar.proofs.copying.put_chain.Given as goal
 

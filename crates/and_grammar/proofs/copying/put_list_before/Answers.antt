@@ -1,7 +1,7 @@
 use Rattle.std.proofs.Common.{ap, arith, length, [], ◌∷◌}
 use Rattle.std.proofs.lemmas.List.{length-append}
 use Rattle.and_translation.specs.Translation.{state}
-use Rattle.and_clauses.specs.Drafts.{draft_of}
+use Rattle.and_drafts.specs.Drafts.{draft_of}
 use Rattle.and_grammar.proofs.CopyLemmas.{list_put_or}
 use Rattle.and_grammar.proofs.copying.put_list_before.Goals as goal
 

@@ -1,8 +1,8 @@
 use Rattle.std.proofs.Common.{ℕ, List, ◌-◌, length, take, drop, ap, sym, ◌∙◌, ◌≡◌, ◌≤◌, arith, subst, OnOk}
 use Rattle.and_model.specs.Lines.{Bytes}
 use Rattle.and_syntax.specs.Written.{Written}
-use Rattle.and_clauses.specs.Drafts.{draft_of, read_part}
-use Rattle.and_clauses.proofs.Telling.{compound_read}
+use Rattle.and_drafts.specs.Drafts.{draft_of, read_part}
+use Rattle.and_drafts.proofs.Telling.{compound_read}
 use Rattle.and_grammar.specs.Views.{Becomes, arguments_at}
 use Rattle.and_grammar.specs.Copies.{taken, name_at, name_of}
 use Rattle.and_grammar.proofs.CopyLemmas.{split_there}

@@ -1,5 +1,5 @@
 use Rattle.std.proofs.Common.{ℕ, ◌<◌, true}
-use Rattle.and_clauses.specs.Drafts.{draft_of}
+use Rattle.and_drafts.specs.Drafts.{draft_of}
 use Rattle.and_syntax.specs.Written.{nodes_of}
 use Rattle.and_grammar.specs.Views.{term_at, body_at}
 use Rattle.and_grammar.specs.Plain.{Advances}

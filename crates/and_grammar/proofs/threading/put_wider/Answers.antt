@@ -2,8 +2,8 @@ use Rattle.std.proofs.Common.{ℕ, ◌≡◌, ◌+◌, ◌++◌, [], ◌∷◌, 
 use Rattle.std.proofs.lemmas.List.{length-map}
 use Rattle.and_model.specs.Lines.{Bytes}
 use Rattle.and_syntax.specs.Written.{compound}
-use Rattle.and_clauses.specs.Parts.{many}
-use Rattle.and_clauses.proofs.Telling.{compound_read}
+use Rattle.and_drafts.specs.Parts.{many}
+use Rattle.and_drafts.proofs.Telling.{compound_read}
 use Rattle.and_grammar.specs.Views.{term_at, arguments_at, Becomes}
 use Rattle.and_grammar.proofs.CopyLemmas.{same_count}
 use Rattle.and_grammar.proofs.threading.put_wider.Goals as goal

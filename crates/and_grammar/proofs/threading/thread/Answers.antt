@@ -2,7 +2,7 @@ use Rattle.std.proofs.Common.{◌≡◌, List, [], ◌∷◌, rules, true, lengt
 use Rattle.and_translation.specs.Bodies.{behind_first}
 use Rattle.and_translation.specs.Translation.{walk}
 use Rattle.and_syntax.specs.Written.{Written}
-use Rattle.and_clauses.specs.Drafts.{draft_of}
+use Rattle.and_drafts.specs.Drafts.{draft_of}
 use Rattle.and_grammar.specs.declared.threading.Task.{Task}
 use Rattle.and_grammar.specs.declared.threading.Task.TheVariants as tasks
 use Rattle.and_grammar.specs.Views.{body_at}

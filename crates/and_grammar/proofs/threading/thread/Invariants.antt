@@ -1,6 +1,6 @@
 use Rattle.std.proofs.Common.{◌≤◌, ◌≡◌, [], ◌∷◌, length, reverse}
 use Rattle.and_translation.specs.Bodies.{behind_first}
-use Rattle.and_clauses.specs.Drafts.{draft_of}
+use Rattle.and_drafts.specs.Drafts.{draft_of}
 use Rattle.and_grammar.specs.Views.{body_at}
 use Rattle.and_grammar.specs.Acts.{body, acts_of, stand_of, all_done, AreBelow, AreTasksWithin, efforts}
 use Rattle.and_grammar.proofs.Standing.{stand}

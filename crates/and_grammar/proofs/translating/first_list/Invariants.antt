@@ -1,7 +1,7 @@
 use Rattle.std.proofs.Common.{◌<◌, ◌≡◌}
 use Rattle.and_syntax.specs.Written.{nodes_of}
 use Rattle.and_translation.specs.Bodies.{first_terminals}
-use Rattle.and_clauses.specs.Drafts.{draft_of}
+use Rattle.and_drafts.specs.Drafts.{draft_of}
 use Rattle.and_grammar.specs.Views.{term_at, body_at}
 use Rattle.and_grammar.proofs.translating.first_list.Given as goal
 

@@ -1,6 +1,6 @@
 use Rattle.std.proofs.Common.{ℕ, [], ◌∷◌, ◌++◌, codes, ap, ◌∙◌, subst}
 use Rattle.and_syntax.specs.Written.{compound, more, none}
-use Rattle.and_clauses.specs.Drafts.{Draft}
+use Rattle.and_drafts.specs.Drafts.{Draft}
 use Rattle.and_translation.specs.Bodies.{first_terminals, behind_first}
 use Rattle.and_translation.specs.Translation.{state, list_before, head_between, joined, walk}
 use Rattle.and_grammar.specs.Views.{term_at, body_at, Adds}

@@ -1,5 +1,5 @@
 use Rattle.std.proofs.Common.{arith, get_or}
-use Rattle.and_clauses.specs.Drafts.{draft_of}
+use Rattle.and_drafts.specs.Drafts.{draft_of}
 use Rattle.and_grammar.specs.Views.{term_at}
 use Rattle.and_grammar.proofs.TranslateLemmas.{whole_term, rule_whole, rule_sides, sides_answer}
 use Rattle.and_grammar.proofs.translating.translate.Goals as goal

@@ -1,5 +1,5 @@
 use Rattle.std.proofs.Common.{ap}
-use Rattle.and_clauses.specs.Drafts.{Draft, draft_of}
+use Rattle.and_drafts.specs.Drafts.{Draft, draft_of}
 use Rattle.and_reader.proofs.TermLemmas.{on_ok, finished_one}
 use Rattle.and_reader.proofs.emitting.finish.Goals as goal
 

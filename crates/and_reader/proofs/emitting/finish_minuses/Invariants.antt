@@ -1,7 +1,7 @@
 use Rattle.std.proofs.Common.{◌≡◌, List, ◌∷◌}
 use Rattle.and_syntax.specs.Written.{Written}
 use Rattle.and_automaton.specs.Machine.{negated}
-use Rattle.and_clauses.specs.Drafts.{draft_of}
+use Rattle.and_drafts.specs.Drafts.{draft_of}
 use Rattle.and_reader.specs.Standing.{terms}
 use Rattle.and_reader.proofs.emitting.finish_minuses.Given as goal
 

@@ -1,6 +1,6 @@
 use Rattle.std.proofs.Common.{◌≡◌, ◌+◌, List, ◌∷◌, ◌++◌, length}
 use Rattle.and_syntax.specs.Written.{Written}
-use Rattle.and_clauses.specs.Drafts.{draft_of}
+use Rattle.and_drafts.specs.Drafts.{draft_of}
 use Rattle.and_reader.specs.Standing.{terms}
 use Rattle.and_reader.specs.Answered.{paired}
 use Rattle.and_reader.proofs.emitting.finish_pairs.Given as goal

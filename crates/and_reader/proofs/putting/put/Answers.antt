@@ -1,8 +1,8 @@
 use Rattle.std.proofs.Common.{ap, ◌∙◌}
 use Rattle.and_language.specs.Grammar
 use Rattle.and_clauses.specs.Views.{table_of}
-use Rattle.and_clauses.specs.Drafts.{draft_of}
-use Rattle.and_clauses.specs.Faults.{fault_of}
+use Rattle.and_drafts.specs.Drafts.{draft_of}
+use Rattle.and_judging.specs.Faults.{fault_of}
 use Rattle.and_reader.specs.Views.{sort_of}
 use Rattle.and_reader.proofs.TermLemmas.{on_ok}
 use Rattle.and_reader.proofs.Puts.{clause_added, rule_added, fault_of_sort}

@@ -1,8 +1,8 @@
 use Rattle.std.proofs.Common.{ap, length}
 use Rattle.and_translation.specs.Translation.{translated}
 use Rattle.and_clauses.specs.Views.{table_of}
-use Rattle.and_clauses.specs.Drafts.{draft_of}
-use Rattle.and_clauses.specs.Faults.{fault_of}
+use Rattle.and_drafts.specs.Drafts.{draft_of}
+use Rattle.and_judging.specs.Faults.{fault_of}
 use Rattle.and_grammar.specs.Checked.{fault_of as fault_in_rule}
 use Rattle.and_reader.proofs.TermLemmas.{on_ok}
 use Rattle.and_reader.proofs.Puts.{rule_alone, rule_put, rule_unput, rule_wrong}

@@ -3,7 +3,7 @@ use Rattle.and_program.specs.Loaded.{program_of}
 use Rattle.and_program.specs.Nodes.{entry_clause, shapes_of, names_of}
 use Rattle.and_syntax.specs.Tables.{empty, with_query}
 use Rattle.and_clauses.specs.Asking.{clauses_table}
-use Rattle.and_clauses.specs.Drafts.{draft_of}
+use Rattle.and_drafts.specs.Drafts.{draft_of}
 use Rattle.and_clauses.proofs.Adding.{one_query}
 use Rattle.and_clauses.proofs.Keeping.{kept_program}
 use Rattle.and_clauses.proofs.Questions.{asked_fits_too, asked_kept, found_asked, put_seals, set_so}

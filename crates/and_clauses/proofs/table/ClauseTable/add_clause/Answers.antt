@@ -1,5 +1,5 @@
 use Rattle.std.proofs.Common.{arith}
-use Rattle.and_clauses.specs.Drafts.{draft_of}
+use Rattle.and_drafts.specs.Drafts.{draft_of}
 use Rattle.and_clauses.specs.Views.{table_of}
 use Rattle.and_syntax.specs.Tables.{empty}
 use Rattle.and_clauses.specs.Adds.{with_all}

@@ -1,5 +1,5 @@
 use Rattle.std.proofs.Common.{subst}
-use Rattle.and_clauses.specs.Drafts.{draft_of}
+use Rattle.and_drafts.specs.Drafts.{draft_of}
 use Rattle.and_clauses.specs.Makes.{Keeps}
 use Rattle.and_clauses.specs.Views.{table_of}
 use Rattle.and_clauses.proofs.Adding.{one_query, unasked}

@@ -2,7 +2,7 @@ use Rattle.std.proofs.Common.{[], ◌∷◌, ◌++◌, List, length, refl, sym, 
 use Rattle.std.proofs.lemmas.List.{append_assoc, length-append}
 use Rattle.and_syntax.specs.Written.{Written}
 use Rattle.and_translation.specs.Translation.{state, equation}
-use Rattle.and_clauses.specs.Drafts.{draft_of}
+use Rattle.and_drafts.specs.Drafts.{draft_of}
 use Rattle.and_grammar.specs.Views.{Adds}
 use Rattle.and_grammar.specs.Acts.{stand_of}
 use Rattle.and_grammar.proofs.CopyLemmas.{two_taken, two_there, chained_goals}

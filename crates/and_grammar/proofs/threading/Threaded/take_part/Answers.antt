@@ -1,6 +1,6 @@
 use Rattle.std.proofs.Common.{ap, arith, refl, reverse, List, ◌∷◌}
 use Rattle.and_translation.specs.Bodies.{Body, nothing, goals, nonterminal, impure}
-use Rattle.and_clauses.specs.Drafts.{Draft, draft_of}
+use Rattle.and_drafts.specs.Drafts.{Draft, draft_of}
 use Rattle.and_grammar.specs.declared.threading.Task.{Task}
 use Rattle.and_grammar.specs.declared.threading.Task.TheVariants as tasks
 use Rattle.and_grammar.specs.declared.threading.Threaded.{Threaded}

@@ -1,6 +1,6 @@
 use Rattle.std.proofs.Common.{refl, subst}
 use Rattle.and_clauses.specs.Asking.{IsAsking, IsOnGround, clauses_table, ground_of}
-use Rattle.and_clauses.specs.Drafts.{draft_of}
+use Rattle.and_drafts.specs.Drafts.{draft_of}
 use Rattle.and_reader.proofs.kept.Beginning.put.Goals as goal
 
 pub returns-in-Put-clause-put : goal.returns-in-Put-clause-put

@@ -5,7 +5,7 @@ use Rattle.and_syntax.specs.Written.{Written}
 use Rattle.and_language.specs.Grammar.{binary, unary, Sort, symbol_of}
 use Rattle.and_automaton.specs.Machine
 use Rattle.and_automaton.specs.Machine.{over, at1100}
-use Rattle.and_clauses.specs.Drafts.{draft_of}
+use Rattle.and_drafts.specs.Drafts.{draft_of}
 use Rattle.and_reader.specs.Views.{neck_of}
 use Rattle.and_reader.specs.Standing.{terms, head_in}
 use Rattle.and_reader.proofs.StandLemmas.{is_head, is_body, is_query, no_query_behind, rule_behind, some_frames, no_frames, whole, ended, alternatives_there}

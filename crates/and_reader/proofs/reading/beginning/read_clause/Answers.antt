@@ -13,7 +13,7 @@ use Rattle.and_reader.specs.declared.state.Next.{Next}
 use Rattle.and_reader.specs.declared.state.Next.TheVariants.{Inside, Over}
 use Rattle.and_reader.specs.declared.state.Sort.TheVariants.{Query}
 use Rattle.and_automaton.specs.Machine.{over}
-use Rattle.and_clauses.specs.Drafts.{draft_of}
+use Rattle.and_drafts.specs.Drafts.{draft_of}
 use Rattle.and_reader.specs.Beginning.{IsQueryOf}
 use Rattle.and_reader.proofs.Alone.{alone_so, first_within, further_within, query_alone}
 use Rattle.and_reader.proofs.Going.{comes_at}

@@ -1,4 +1,0 @@
-use Rattle.and_clauses.proofs.sorting.open.Goals as goal
-
-pub returns-clause-there : goal.returns-clause-there
-returns-clause-there c = λ n all. c.in_ok-add_piece.ensures.there n tt all

@@ -1,0 +1,4 @@
+pub mod Parts
+pub mod Numbered
+pub mod Variables
+pub mod Drafts

@@ -1,0 +1,12 @@
+pub mod Marks
+pub mod Conjuncts
+pub mod Sorted
+pub mod Outlined
+pub mod Sorts
+pub mod Bodies
+pub mod Faults
+pub mod Judged
+pub mod Places
+pub mod Unknown
+pub mod Sealing
+pub mod Verdicts
