@@ -3,30 +3,29 @@ use Rattle.std.proofs.Common.{◌≡◌, ℕ, zero, suc, ◌+◌, ◌<◌, ◌�
 use Rattle.std.proofs.Common.{ap, ◌∙◌, subst, arith, rules, take, append-nil, append_assoc, length-append}
 use Rattle.std.specs.Result.{is_err, OnOk}
 use Rattle.std.specs.Prelude.{All, Option, Some, None, slice_get, Result, Ok, Err, IfOk}
-use Rattle.std.specs.List.{list_any}
 use Rattle.std.proofs.lemmas.Bool.{false≢true}
 use Rattle.std.proofs.lemmas.Option.{get_or_from_slice_get, slice_get_within}
 use Rattle.std.proofs.lemmas.List.{length-take-le, take_all, take_more}
 use Rattle.and_model.specs.Lines.{Bytes}
 use Rattle.and_source.specs.Source.{SourceProgram}
-use Rattle.and_language.specs.Refusals.{Refusal, IsRefused, Reads}
+use Rattle.and_language.specs.Refusals.{Refusal, Reads}
 use Rattle.and_reader.specs.Causes.{refusal_of}
 use Rattle.and_reader.specs.RefusalLine.{refusal_line}
 use Rattle.and_reader.specs.declared.refusal.ReadRefusal.{ReadRefusal}
 use Rattle.and_reader.proofs.Judgement.{read_not_refused}
 use Rattle.and_batch.specs.Working.{IsDueAtEach}
 use Rattle.and_batch_text.specs.Queries.{Span}
-use Rattle.and_batch_text.specs.Refused.{AreRead, IsBatch, IsBatchRefused}
+use Rattle.and_batch_text.specs.Refused.{IsBatch, IsBatchRefused}
 use Rattle.and_batch_text.specs.Singles.{single}
 use Rattle.and_batch_text.specs.Views.{spans_of}
 use Rattle.and_batch_text.specs.declared.span.Span as values
 use Rattle.and_batch_reader.specs.Opened.{IsRefusedAs}
-use Rattle.and_replies.specs.Batched.{Part, AreParts, IsBatched, IsPart, WasBatched, batch_status, joined, query_line, some_part, status_by, has_met_limit}
-use Rattle.and_replies.specs.Batched.{has_floundered, has_no_line}
+use Rattle.and_questions.specs.Batched.{Part, IsBatched, IsPart, WasBatched, batch_status, joined, query_line, some_part, status_by, has_met_limit}
+use Rattle.and_questions.specs.Batched.{has_floundered, has_no_line}
 use Rattle.and_replies.specs.Handed.{IsDue, IsHanded, handed, joined_texts, number_of, some_text, status_of_texts}
-use Rattle.and_replies.specs.Top.{IsLineOf, WasAnswered, WasReplied}
-use Rattle.and_replies.specs.declared.answering.Reply.{Reply}
-use Rattle.and_replies.specs.declared.question.Question.{Question}
+use Rattle.and_questions.specs.Replied.{IsLineOf, WasAnswered, WasReplied}
+use Rattle.and_questions.specs.declared.reply.Reply.{Reply}
+use Rattle.and_questions.specs.declared.question.Question.{Question}
 use Rattle.and_status.specs.declared.status.Status.{Status}
 use Rattle.and_status.specs.declared.status.Status.TheVariants.{Answers, NoAnswer, Usage, Refused, ReadFault, WriteFault, Limit, Memory, Floundered}
 

@@ -24,10 +24,11 @@ use Rattle.and_answers.specs.declared.found.Found.{Found}
 use Rattle.and_search_laws.specs.Found.{IsEnd, IsFound, FindsFirst}
 use Rattle.and_search_laws.specs.Found as walks
 use Rattle.and_proof.specs.Proofs.{HasProof, ProofText}
-use Rattle.and_replies.specs.Explained.{IsAt}
-use Rattle.and_replies.specs.Lifted.{IsLifted}
-use Rattle.and_replies.specs.Top.{Documents, WasExplained, lacking_status}
-use Rattle.and_replies.specs.declared.answering.Reply.{Reply}
+use Rattle.and_questions.specs.Explained.{IsAt}
+use Rattle.and_questions.specs.Lifted.{IsLifted}
+use Rattle.and_questions.specs.Explained.{Documents, lacking_status}
+use Rattle.and_questions.specs.Replied.{WasExplained}
+use Rattle.and_questions.specs.declared.reply.Reply.{Reply}
 use Rattle.and_status.specs.declared.status.Status.{Status}
 use Rattle.and_status.specs.declared.status.Status.TheVariants.{Answers}
 

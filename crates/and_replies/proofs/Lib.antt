@@ -1,9 +1,7 @@
 pub mod BatchLemmas
-pub mod CheckingLemmas
+pub mod CheckLemmas
 pub mod ExplainLemmas
 pub mod LintLemmas
-pub mod ObeyLemmas
 pub mod PartLemmas
-pub mod ShowingLemmas
 pub mod TopLemmas
 pub mod VerifyLemmas

@@ -4,7 +4,7 @@ use Rattle.std.proofs.lemmas.Bool.{ne_eqb}
 use Rattle.and_model.specs.Lines.{Bytes}
 use Rattle.and_model.specs.Programs.{Program}
 use Rattle.and_lint.specs.Findings.{IsLint}
-use Rattle.and_replies.specs.Linted.{WasLinted, status_found}
+use Rattle.and_questions.specs.Linted.{WasLinted, status_found}
 use Rattle.and_status.specs.declared.status.Status.{Status}
 
 found_so : (P : Program) (count : ℕ) (out : Bytes) → IsLint P out count → WasLinted P (status_found count) out

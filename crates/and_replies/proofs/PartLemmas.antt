@@ -1,5 +1,5 @@
 -- What queries are answered with, one after another.
-use Rattle.std.proofs.Common.{ℕ, ◌≡◌, ◌<◌, List, length, Option, Some, Result, Ok, Err, sym, subst}
+use Rattle.std.proofs.Common.{ℕ, ◌≡◌, ◌<◌, List, length, Some, Result, Ok, Err, sym, subst}
 use Rattle.std.specs.Option.{IfSome}
 use Rattle.std.specs.Result.{IfOk}
 use Rattle.and_model.specs.Lines.{Bytes}
@@ -20,12 +20,12 @@ use Rattle.and_reader.specs.declared.kept.GoneOn.TheVariants as gone
 use Rattle.and_reader.specs.declared.kept.Whole.{Whole}
 use Rattle.and_replies.specs.Handed.{IsDue, IsHanded, IsHandedFor, handed}
 use Rattle.and_replies.specs.Keeping.{IsKept}
-use Rattle.and_replies.specs.Lifted.{IsLifted}
-use Rattle.and_replies.specs.Top.{IsReply, WasAnswered, WasReplied}
-use Rattle.and_replies.specs.declared.answering.Reply.{Reply}
+use Rattle.and_questions.specs.Lifted.{IsLifted}
+use Rattle.and_questions.specs.Replied.{IsReply, WasAnswered, WasReplied}
+use Rattle.and_questions.specs.declared.reply.Reply.{Reply}
 use Rattle.and_replies.specs.declared.parts.Kept.{Kept}
 use Rattle.and_replies.specs.declared.parts.Part.{Part}
-use Rattle.and_replies.specs.declared.question.Question.{Question}
+use Rattle.and_questions.specs.declared.question.Question.{Question}
 use Rattle.and_status.specs.declared.status.Status.{Status}
 use Rattle.and_replies.proofs.BatchLemmas.{part_given}
 use Rattle.and_replies.proofs.TopLemmas.{answered_by}

@@ -1,5 +1,5 @@
 -- What a document is answered with.
-use Rattle.std.proofs.Common.{ℕ, ◌≡◌, ◌≤◌, ◌<◌, ◌↔◌, Bool, true, false, List, length, take, drop, Option, Some, None, IsNone, IfSome, IfOk, Result, Ok, Err}
+use Rattle.std.proofs.Common.{ℕ, ◌≡◌, ◌≤◌, ◌↔◌, Bool, true, false, List, length, take, Option, Some, None, IsNone, IfSome, IfOk, Result, Ok, Err}
 use Rattle.std.proofs.Common.{refl, sym, ap, subst, arith, rules, inl, inr}
 use Rattle.std.specs.List.{between}
 use Rattle.std.proofs.lemmas.Bool.{cases_lt}
@@ -10,10 +10,10 @@ use Rattle.and_language.specs.Refusals.{IsLiftedFrom, Refusal, IsRefused}
 use Rattle.and_proof.specs.Documents.{IsMark}
 use Rattle.and_proof.specs.Proofs.{ProofText}
 use Rattle.and_proof.proofs.Marks.{none_at_end}
-use Rattle.and_replies.specs.Top.{IsLineOf}
-use Rattle.and_replies.specs.Verified.{IsDivided, IsDocument, IsDocumentRefused, IsProved, WasVerified, by_program, line_of, program_part, status_of}
-use Rattle.and_replies.specs.declared.answering.Reply.{Reply}
-use Rattle.and_replies.specs.declared.question.TheConstants.{MAX_DOCUMENT}
+use Rattle.and_questions.specs.Replied.{IsLineOf}
+use Rattle.and_questions.specs.Verified.{IsDivided, IsDocument, IsDocumentRefused, IsProved, WasVerified, by_program, line_of, program_part, status_of}
+use Rattle.and_questions.specs.declared.reply.Reply.{Reply}
+use Rattle.and_questions.specs.declared.question.TheConstants.{MAX_DOCUMENT}
 use Rattle.and_status.specs.declared.status.Status.TheVariants.{Refused}
 
 -- what was found is where the document is divided

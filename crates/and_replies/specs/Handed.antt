@@ -4,7 +4,7 @@ use Rattle.std.specs.List.{list_any}
 use Rattle.and_model.specs.Lines.{Bytes}
 use Rattle.and_batch_text.specs.Queries.{Span}
 use Rattle.and_batch_text.specs.Refused.{IsBatch}
-use Rattle.and_replies.specs.Batched.{Part, IsPart, query_line, status_by}
+use Rattle.and_questions.specs.Batched.{Part, IsPart, query_line, status_by}
 use Rattle.and_status.specs.declared.status.Status.{Status}
 use Rattle.and_status.specs.declared.status.Status.TheVariants.{Answers, NoAnswer, Usage, Refused}
 use Rattle.and_status.specs.declared.status.Status.TheVariants.{ReadFault, WriteFault}

@@ -1,13 +1,3 @@
-pub mod Lifted
-pub mod Explained
-pub mod Batched
 pub mod Handed
 pub mod Keeping
 pub mod Finding
-pub mod Forked
-pub mod Linted
-pub mod Shown
-pub mod Checked
-pub mod Verified
-pub mod Top
-pub mod Obeyed

@@ -1,70 +1,25 @@
 //! What a program is answered with.
 
 ghost use Rattle.std.specs.Prelude.{◌≡◌, ◌≤◌, ℕ, IfOk};
-ghost use Rattle.and_answers.specs.Kept.{listed};
 ghost use Rattle.and_program.specs.Loaded.{program_of};
 ghost use Rattle.and_model.specs.declared.limits.TheConstants.{MAX_LIMIT};
 ghost use Rattle.and_reader.specs.Causes.{refusal_of};
 ghost use Rattle.and_search_laws.specs.Found.{FindsFirst};
 ghost use Rattle.and_replies.specs.Finding.{Finds};
-ghost use Rattle.and_replies.specs.Lifted.{IsLifted};
-ghost use Rattle.and_replies.specs.Top.{IsLineOf, TellsFirst, WasChecked};
-ghost use Rattle.and_replies.specs.Top.{WasRun};
-ghost use Rattle.and_replies.specs.Top.{status_for, status_seen, status_told, told_status};
+ghost use Rattle.and_questions.specs.Lifted.{IsLifted};
+ghost use Rattle.and_questions.specs.Replied.{IsLineOf, TellsFirst, WasChecked, WasRun};
 
-use crate::checking::{judged, verdict_line};
-use crate::showing::{Show, written};
 use and_answers::Found;
-use and_first::{End, First, are_floundered, first_by};
-use and_model::Text;
-use and_modes::verdicts::Verdict;
+use and_first::first_by;
 use and_program::Loaded;
+use and_questions::Reply;
 use and_reader::{ReadRefusal, refusal_text};
+use and_reports::{
+    Show, judged, status_of, status_of_first, status_of_verdict, verdict_line, written,
+};
 use and_status::Status;
 use std::alloc::{AllocError, Global};
 use std::snapshot::Snapshot;
-
-/// What a text is answered with, and the status of that.
-#[derive(Drop)]
-pub struct Reply {
-    /// What is due.
-    pub text: Text,
-    /// The status, where all of it is written.
-    pub status: Status,
-    /// Why the text is refused, where it is.
-    pub refusal: Option<ReadRefusal>,
-}
-
-/// The status of a search that found this.
-pub(crate) fn status_of(found: &Found) -> Status
-    ensures { result ≡ status_for found.now.cut (listed found.now) }
-{
-    if found.cut.is_some() {
-        return Status::Limit;
-    }
-    let entries = found.entries();
-    if entries.is_empty() {
-        Status::NoAnswer
-    } else if are_floundered(entries) {
-        Status::Floundered
-    } else {
-        Status::Answers
-    }
-}
-
-/// The status of a verdict.
-fn status_of_verdict(verdict: Verdict) -> Status
-    ensures { result ≡ status_told verdict }
-{
-    match verdict {
-        Verdict::Safe => Status::Answers,
-        Verdict::Waits {
-            clause: _,
-            item: _,
-            variable: _,
-        } => Status::NoAnswer,
-    }
-}
 
 /// What a check tells of a program. An error is want of memory.
 pub fn told_of(alloc: Global, loaded: &Loaded) -> Result<Reply, AllocError>
@@ -103,34 +58,6 @@ pub fn found_in<F: Fn(&Loaded, u32, Option<u32>) -> Result<Found, AllocError>>(
         status,
         refusal: None,
     })
-}
-
-/// The status of lines that are told.
-fn status_of_lines(floundered: bool) -> Status
-    ensures { result ≡ told_status floundered }
-{
-    if floundered {
-        Status::Floundered
-    } else {
-        Status::Answers
-    }
-}
-
-/// The status of the first answers.
-fn status_of_first(first: &First) -> Status
-    ensures { result ≡ status_seen first.now.end first.now.lines first.now.floundered }
-{
-    match first.end {
-        End::Within(_) => status_of_lines(first.floundered),
-        End::Complete => {
-            if first.lines == 0 {
-                Status::NoAnswer
-            } else {
-                status_of_lines(first.floundered)
-            }
-        }
-        End::LimitMet => Status::Limit,
-    }
 }
 
 /// The first answers of a program. An error is want of memory.

@@ -7,15 +7,16 @@ ghost use Rattle.and_model.specs.declared.limits.TheConstants.{MAX_LIMIT};
 ghost use Rattle.and_program.specs.Loaded.{program_of};
 ghost use Rattle.and_proof.specs.Proofs.{HasProof};
 ghost use Rattle.and_search_laws.specs.Found.{FindsFirst};
-ghost use Rattle.and_replies.specs.Explained as specs;
-ghost use Rattle.and_replies.specs.Lifted.{IsLifted};
-ghost use Rattle.and_replies.specs.Top.{Documents, WasExplained, lacking_status};
+ghost use Rattle.and_questions.specs.Explained as specs;
+ghost use Rattle.and_questions.specs.Lifted.{IsLifted};
+ghost use Rattle.and_questions.specs.Explained.{Documents, lacking_status};
+ghost use Rattle.and_questions.specs.Replied.{WasExplained};
 
-use crate::answering::Reply;
 use and_answers::{Found, Latest};
 use and_model::{Code, Text};
 use and_program::Loaded;
 use and_proof::proof_text;
+use and_questions::Reply;
 use and_status::Status;
 use std::alloc::{AllocError, Global};
 

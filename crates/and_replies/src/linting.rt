@@ -2,11 +2,11 @@
 
 ghost use Rattle.std.specs.Prelude.{◌≡◌, IfOk};
 ghost use Rattle.and_program.specs.Loaded.{program_of};
-ghost use Rattle.and_replies.specs.Linted.{WasLinted, status_found};
+ghost use Rattle.and_questions.specs.Linted.{WasLinted, status_found};
 
-use crate::answering::Reply;
 use and_lint::lint;
 use and_program::Loaded;
+use and_questions::Reply;
 use and_status::Status;
 use std::alloc::{AllocError, Global};
 

@@ -16,19 +16,19 @@ ghost use Rattle.and_search_laws.specs.Found.{IsFound};
 ghost use Rattle.and_replies.specs.Handed as specs;
 ghost use Rattle.and_replies.specs.Handed.{IsHanded, IsHandedFor};
 ghost use Rattle.and_replies.specs.Keeping.{IsKept};
-ghost use Rattle.and_replies.specs.Lifted.{IsLifted};
-ghost use Rattle.and_replies.specs.Top.{IsRunOf, WasAnswered, WasRun};
+ghost use Rattle.and_questions.specs.Lifted.{IsLifted};
+ghost use Rattle.and_questions.specs.Replied.{IsRunOf, WasAnswered, WasRun};
 
-use crate::answering::{Reply, refused, status_of};
-use crate::question::Question;
-use crate::showing::{Show, written};
+use crate::answering::refused;
 use and_answers::Found;
 use and_batch_text::{Span, single};
 use and_clause_index::{Determinacy, compile};
 use and_kept_table::{KeptTable, table_for};
 use and_model::Text;
 use and_program::Loaded;
+use and_questions::{Question, Reply};
 use and_reader::{Beginning, GoneOn, Whole, read_program};
+use and_reports::{Show, status_of, written};
 use std::alloc::{AllocError, Global};
 
 /// What is kept from one query to the next: the beginning that their texts have, and what is compiled of its clauses.

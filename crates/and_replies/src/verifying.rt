@@ -3,14 +3,14 @@
 ghost use Rattle.std.specs.Prelude.{◌≡◌, ◌↔◌, ◌<◌, true, length, IfOk, IfSome};
 ghost use Rattle.and_program.specs.Loaded.{program_of};
 ghost use Rattle.and_reader.specs.Causes.{refusal_of};
-ghost use Rattle.and_replies.specs.Verified as specs;
-ghost use Rattle.and_replies.specs.Verified.{IsDivided, IsDocumentRefused, IsProved, WasVerified};
+ghost use Rattle.and_questions.specs.Verified as specs;
+ghost use Rattle.and_questions.specs.Verified.{IsDivided, IsDocumentRefused, IsProved, WasVerified};
 
-use crate::answering::{Reply, refused};
-use crate::question::MAX_DOCUMENT;
+use crate::answering::refused;
 use and_model::Text;
 use and_program::Loaded;
 use and_proof::{check_proof, split_document};
+use and_questions::{MAX_DOCUMENT, Reply};
 use and_reader::{Cause, ReadRefusal, What, line_at, read_program};
 use and_status::Status;
 use std::alloc::{AllocError, Global};

@@ -1,8 +1,6 @@
-//! How a run ended, and who is told of a refusal.
+//! How a run ended.
 #![tactic(auto)]
 
 mod status;
-mod watching;
 
 pub use status::Status;
-pub use watching::Watcher;

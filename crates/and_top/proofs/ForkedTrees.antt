@@ -8,7 +8,7 @@ use Rattle.and_model.specs.Programs.{Program}
 use Rattle.and_model.specs.Trees.{blank, query_agenda}
 use Rattle.and_search_laws.specs.Found.{kept_count}
 use Rattle.and_fork_texts.specs.Texts.{Line, TreeText, text_of, count_of, is_answer, is_floundered}
-use Rattle.and_replies.specs.Forked.{WasForked, tree_status}
+use Rattle.and_questions.specs.Forked.{WasForked, tree_status}
 use Rattle.and_status.specs.declared.status.Status.{Status}
 use Rattle.and_status.specs.declared.status.Status.TheVariants.{Answers, NoAnswer, Floundered}
 

@@ -3,14 +3,14 @@
 ghost use Rattle.std.specs.Prelude.{◌≡◌, ◌≤◌, IfOk};
 ghost use Rattle.and_model.specs.declared.limits.TheConstants.{MAX_LIMIT};
 ghost use Rattle.and_program.specs.Loaded.{program_of};
-ghost use Rattle.and_replies.specs.Forked.{WasForked, tree_status};
+ghost use Rattle.and_questions.specs.Forked.{WasForked, tree_status};
 
 use and_clause_index::compile;
 use and_forks::{Walk, fork_tree};
 use and_gate::Gate;
 use and_model::Text;
 use and_program::Loaded;
-use and_replies::Reply;
+use and_questions::Reply;
 use and_status::Status;
 use std::alloc::{AllocError, Global};
 

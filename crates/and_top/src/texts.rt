@@ -4,16 +4,17 @@ ghost use Rattle.std.specs.Prelude.{◌≤◌, ℕ, IfOk};
 ghost use Rattle.and_program.specs.Loaded.{program_of};
 ghost use Rattle.and_model.specs.declared.limits.TheConstants.{MAX_LIMIT};
 ghost use Rattle.and_replies.specs.Finding.{Finds};
-ghost use Rattle.and_replies.specs.Lifted.{IsLifted};
-ghost use Rattle.and_replies.specs.Top.{IsBounded, IsReply, WasAnswered, WasExplained};
+ghost use Rattle.and_questions.specs.Lifted.{IsLifted};
+ghost use Rattle.and_questions.specs.Replied.{IsBounded, IsReply, WasAnswered, WasExplained};
 
 use crate::forks::forked;
 use crate::searching::found_to;
 use and_answers::Found;
 use and_gate::Gate;
 use and_program::Loaded;
+use and_questions::{Question, Reply};
 use and_reader::read_program;
-use and_replies::{Question, Reply, explained, first_in, found_in, linted, refused, told_of};
+use and_replies::{explained, first_in, found_in, linted, refused, told_of};
 use std::alloc::{AllocError, Global};
 use std::mem::forget;
 

@@ -3,16 +3,18 @@
 ghost use Rattle.std.specs.Prelude.{◌≡◌, ◌↔◌, IfOk, IfSome, IsNone, map, string_bytes};
 ghost use Rattle.and_command.specs.Commands.{IsInRange};
 ghost use Rattle.and_model.specs.Limits.{AreInRange};
-ghost use Rattle.and_replies.specs.Obeyed.{Obeys};
-ghost use Rattle.and_replies.specs.Top.{IsAllowed, IsAnswer};
+ghost use Rattle.and_obeying.specs.Obeyed.{Obeys};
+ghost use Rattle.and_questions.specs.Replied.{IsAllowed, IsAnswer};
 
 use crate::replying::{answered_alone, answered_by};
 use and_command::{Command, command_of};
 use and_gate::Gate;
 use and_io::{Sink, Source};
 use and_model::limits::Hands;
-use and_replies::{Request, obey};
-use and_status::{Status, Watcher};
+use and_obeying::obey;
+use and_questions::Request;
+use and_status::Status;
+use and_watcher::Watcher;
 use std::alloc::{AllocError, Global};
 use std::sync::Wait;
 use std::thread::Threads;

@@ -2,7 +2,8 @@
 
 use crate::hints::{about_end, about_refusal};
 use and_reader::ReadRefusal;
-use and_status::{Status, Watcher};
+use and_status::Status;
+use and_watcher::Watcher;
 use std::alloc::{AllocError, Global};
 use std::env;
 use std::io::IsTerminal;

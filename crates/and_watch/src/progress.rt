@@ -3,7 +3,8 @@
 use crate::advice::Advice;
 use and_gate::Gate;
 use and_reader::ReadRefusal;
-use and_status::{Status, Watcher};
+use and_status::Status;
+use and_watcher::Watcher;
 use std::fmt::{Display, Formatter};
 use std::io::Write;
 use std::sync::atomic::{AtomicBool, AtomicU64, Ordering};

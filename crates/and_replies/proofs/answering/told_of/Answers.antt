@@ -1,5 +1,6 @@
 use Rattle.and_program.specs.Loaded.{program_of}
-use Rattle.and_replies.proofs.CheckingLemmas.{has_clause, was_told}
+use Rattle.and_reports.proofs.CheckingLemmas.{has_clause}
+use Rattle.and_replies.proofs.CheckLemmas.{was_told}
 use Rattle.and_replies.proofs.answering.told_of.Goals as goal
 
 pub verdict_line-requires : goal.verdict_line-requires

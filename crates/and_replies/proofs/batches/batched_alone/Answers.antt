@@ -1,7 +1,7 @@
 use Rattle.std.proofs.Common.{arith, refl, sym, subst, ◌∙◌}
 use Rattle.and_batch_text.specs.Views.{spans_of}
 use Rattle.and_batch_reader.specs.Opened.{IsBegun, IsOpened}
-use Rattle.and_replies.specs.Top.{IsRunOf}
+use Rattle.and_questions.specs.Replied.{IsRunOf}
 use Rattle.and_replies.proofs.BatchLemmas.{each_told, joined_opened, refused_batch, spans_count}
 use Rattle.and_replies.proofs.batches.batched_alone.Goals as goal
 

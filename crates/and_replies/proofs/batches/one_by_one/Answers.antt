@@ -1,7 +1,7 @@
 use Rattle.std.proofs.Common.{◌≡◌, [], ◌∷◌, ◌++◌, ◌∙◌, sym}
 use Rattle.and_batch_text.specs.Views.{spans_of}
 use Rattle.and_replies.specs.Handed.{IsDue}
-use Rattle.and_replies.specs.Top.{IsRunOf}
+use Rattle.and_questions.specs.Replied.{IsRunOf}
 use Rattle.and_replies.proofs.BatchLemmas.{went_well, count_pushed, due_pushed}
 use Rattle.and_replies.proofs.batches.one_by_one.Goals as goal
 

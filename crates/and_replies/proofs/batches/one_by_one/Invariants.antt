@@ -4,7 +4,7 @@ use Rattle.and_batch.specs.Working.{IsDueAtEach}
 use Rattle.and_batch_text.specs.Views.{spans_of}
 use Rattle.and_replies.specs.Handed.{IsDue}
 use Rattle.and_replies.specs.Keeping.{IsKept}
-use Rattle.and_replies.specs.Top.{IsRunOf}
+use Rattle.and_questions.specs.Replied.{IsRunOf}
 use Rattle.and_replies.proofs.batches.one_by_one.Given as goal
 
 abbrev pub invariant-loop-number : goal.invariant-loop-number

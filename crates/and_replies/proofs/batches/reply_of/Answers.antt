@@ -1,5 +1,5 @@
 use Rattle.std.proofs.Common.{◌∙◌, ◌++◌, ◌||◌, ap, drop, get_or, nat_eq}
-use Rattle.and_replies.specs.Batched.{query_line}
+use Rattle.and_questions.specs.Batched.{query_line}
 use Rattle.and_replies.specs.declared.batches.Seen.{Seen}
 use Rattle.and_replies.proofs.BatchLemmas.{text_more, some_more}
 use Rattle.and_replies.proofs.batches.reply_of.Goals as goal

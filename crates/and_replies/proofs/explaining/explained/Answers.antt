@@ -5,7 +5,7 @@ use Rattle.and_model.specs.Programs.{Program}
 use Rattle.and_program.specs.Loaded.{program_of}
 use Rattle.and_answers.specs.Kept.{entry_of, finish_of, listed}
 use Rattle.and_answers.specs.declared.found.Found.{Found}
-use Rattle.and_replies.specs.Top.{lacking_status}
+use Rattle.and_questions.specs.Explained.{lacking_status}
 use Rattle.and_replies.proofs.ExplainLemmas.{has_proof_at, explains, lacks, no_last}
 use Rattle.and_replies.proofs.explaining.explained.Goals as goal
 

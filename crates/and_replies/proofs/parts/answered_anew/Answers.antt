@@ -1,8 +1,8 @@
 use Rattle.std.proofs.Common.{false}
 use Rattle.and_program.specs.Loaded.{program_of}
 use Rattle.and_reader.specs.Causes.{refusal_of}
-use Rattle.and_replies.specs.declared.question.Question.TheVariants.{Run}
-use Rattle.and_replies.specs.declared.showing.Show.TheVariants.{Whole}
+use Rattle.and_questions.specs.declared.question.Question.TheVariants.{Run}
+use Rattle.and_reports.specs.declared.showing.Show.TheVariants.{Whole}
 use Rattle.and_replies.proofs.TopLemmas.{refused_by, answered_by}
 use Rattle.and_replies.proofs.parts.answered_anew.Goals as goal
 

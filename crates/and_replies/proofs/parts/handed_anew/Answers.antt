@@ -1,7 +1,7 @@
 use Rattle.std.proofs.Common.{false}
-use Rattle.and_replies.specs.Top.{WasAnswered}
-use Rattle.and_replies.specs.declared.question.Question.TheVariants.{Run}
-use Rattle.and_replies.specs.declared.showing.Show.TheVariants.{Whole}
+use Rattle.and_questions.specs.Replied.{WasAnswered}
+use Rattle.and_questions.specs.declared.question.Question.TheVariants.{Run}
+use Rattle.and_reports.specs.declared.showing.Show.TheVariants.{Whole}
 use Rattle.and_replies.proofs.PartLemmas.{handed_for}
 use Rattle.and_replies.proofs.parts.handed_anew.Goals as goal
 

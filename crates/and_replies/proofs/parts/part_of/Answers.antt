@@ -1,8 +1,8 @@
 use Rattle.std.proofs.Common.{false, arith, ◌∙◌}
 use Rattle.and_batch_text.specs.Singles.{single}
 use Rattle.and_batch_text.specs.Views.{spans_of}
-use Rattle.and_replies.specs.declared.question.Question.TheVariants.{Run}
-use Rattle.and_replies.specs.declared.showing.Show.TheVariants.{Whole}
+use Rattle.and_questions.specs.declared.question.Question.TheVariants.{Run}
+use Rattle.and_reports.specs.declared.showing.Show.TheVariants.{Whole}
 use Rattle.and_replies.proofs.BatchLemmas.{spans_count}
 use Rattle.and_replies.proofs.PartLemmas.{part_handed}
 use Rattle.and_replies.proofs.parts.part_of.Goals as goal

@@ -3,8 +3,8 @@ use Rattle.and_cells.specs.Parts.{named}
 use Rattle.and_clause_index.specs.Tables.{IsTableOf}
 use Rattle.and_program.specs.Loaded.{program_of}
 use Rattle.and_reader.specs.Beginning.{whole_ground}
-use Rattle.and_replies.specs.declared.question.Question.TheVariants.{Run}
-use Rattle.and_replies.specs.declared.showing.Show.TheVariants.{Whole}
+use Rattle.and_questions.specs.declared.question.Question.TheVariants.{Run}
+use Rattle.and_reports.specs.declared.showing.Show.TheVariants.{Whole}
 use Rattle.and_replies.proofs.PartLemmas.{handed_by, kept_again}
 use Rattle.and_replies.proofs.parts.part_of_whole.Goals as goal
 

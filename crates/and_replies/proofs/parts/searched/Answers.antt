@@ -1,5 +1,5 @@
 use Rattle.std.proofs.Common.{false, Ok}
-use Rattle.and_replies.specs.declared.showing.Show.TheVariants.{Whole}
+use Rattle.and_reports.specs.declared.showing.Show.TheVariants.{Whole}
 use Rattle.and_replies.proofs.TopLemmas.{was_run}
 use Rattle.and_replies.proofs.parts.searched.Goals as goal
 

@@ -1,6 +1,6 @@
 use Rattle.std.proofs.Common.{ap, sym}
 use Rattle.std.proofs.lemmas.List.{length-take-le}
-use Rattle.and_replies.specs.Verified as specs
+use Rattle.and_questions.specs.Verified as specs
 use Rattle.and_replies.proofs.VerifyLemmas.{divided_within, part_before}
 use Rattle.and_replies.proofs.verifying.program_part.Goals as goal
 

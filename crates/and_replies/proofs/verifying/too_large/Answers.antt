@@ -1,8 +1,7 @@
-use Rattle.std.proofs.Common.{ℕ, ◌≤◌, ◌∙◌, min, sym, subst, arith}
+use Rattle.std.proofs.Common.{ℕ, sym, subst, arith}
 use Rattle.and_language.specs.Refusals
 use Rattle.and_syntax.specs.Tables.{source}
-use Rattle.and_replies.specs.Verified.{IsDocumentRefused, too_long}
-use Rattle.and_replies.specs.declared.question.TheConstants.{MAX_DOCUMENT}
+use Rattle.and_questions.specs.Verified.{IsDocumentRefused, too_long}
 use Rattle.and_replies.proofs.verifying.too_large.Goals as goal
 
 pub line_at-requires : goal.line_at-requires

@@ -5,7 +5,7 @@ use Rattle.and_batch_text.specs.Refused.{IsBatch, IsBatchRefused}
 use Rattle.and_batch_text.specs.Views.{spans_of}
 use Rattle.and_batch_reader.specs.Opened.{AreFew, IsRefusedAs}
 use Rattle.and_replies.specs.Handed.{IsDue}
-use Rattle.and_replies.specs.Top.{IsRunOf}
+use Rattle.and_questions.specs.Replied.{IsRunOf}
 use Rattle.and_replies.proofs.BatchLemmas.{each_told, joined_opened, refused_batch, spans_count}
 use Rattle.and_top.proofs.jobs.side_by_side.Goals as goal
 

@@ -1,5 +1,5 @@
 use Rattle.and_batch_text.specs.Views.{spans_of}
-use Rattle.and_replies.specs.Top.{IsRunOf}
+use Rattle.and_questions.specs.Replied.{IsRunOf}
 use Rattle.and_replies.proofs.PartLemmas.{part_due}
 use Rattle.and_top.proofs.jobs.QueryJob.answer.Goals as goal
 

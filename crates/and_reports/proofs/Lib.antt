@@ -1,0 +1,3 @@
+pub mod CheckingLemmas
+pub mod ShowingLemmas
+pub mod StatusLemmas
