@@ -4,11 +4,8 @@
 //! return; it answers with the same bytes.
 #![tactic(auto)]
 
-mod forks;
-mod jobs;
 mod replying;
 mod searching;
-mod texts;
 pub mod top;
 
 pub use top::{andorra, andorra_alone};

@@ -6,7 +6,8 @@ ghost use Rattle.and_model.specs.Limits.{AreInRange};
 ghost use Rattle.and_obeying.specs.Obeyed.{Obeys};
 ghost use Rattle.and_questions.specs.Replied.{IsAllowed, IsAnswer};
 
-use crate::replying::{answered_alone, answered_by};
+use crate::replying::answered_by;
+use and_alone::answered_alone;
 use and_command::{Command, command_of};
 use and_gate::Gate;
 use and_io::{Sink, Source};

@@ -1,4 +1,4 @@
-use Rattle.and_top.proofs.texts.explained_in.Goals as goal
+use Rattle.and_alone.proofs.texts.explained_in.Goals as goal
 
 pub explained-requires : goal.explained-requires
 explained-requires g c = record {

@@ -3,8 +3,8 @@ use Rattle.and_model.specs.Lines.{Bytes}
 use Rattle.and_model.specs.Output.{complete, last_lines}
 use Rattle.and_program.specs.Loaded.{program_of}
 use Rattle.and_forks.specs.Trees.{IsForkTree}
-use Rattle.and_top.proofs.ForkedTrees.{forked_whole}
-use Rattle.and_top.proofs.forks.forked.Goals as goal
+use Rattle.and_alone.proofs.ForkedTrees.{forked_whole}
+use Rattle.and_alone.proofs.forks.forked.Goals as goal
 
 pub returns-in-Whole : goal.returns-in-Whole
 returns-in-Whole g c =

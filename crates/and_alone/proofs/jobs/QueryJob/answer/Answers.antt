@@ -1,7 +1,7 @@
 use Rattle.and_batch_text.specs.Views.{spans_of}
 use Rattle.and_questions.specs.Replied.{IsRunOf}
 use Rattle.and_replies.proofs.PartLemmas.{part_due}
-use Rattle.and_top.proofs.jobs.QueryJob.answer.Goals as goal
+use Rattle.and_alone.proofs.jobs.QueryJob.answer.Goals as goal
 
 pub returns-clause-due : goal.returns-clause-due
 returns-clause-due c =

@@ -1,7 +1,7 @@
 use Rattle.and_program.specs.Loaded.{program_of}
 use Rattle.and_reader.specs.Causes.{refusal_of}
 use Rattle.and_replies.proofs.TopLemmas.{refused_by, answered_by}
-use Rattle.and_top.proofs.texts.answer_to.Goals as goal
+use Rattle.and_alone.proofs.texts.answer_to.Goals as goal
 
 pub returns-in-Err : goal.returns-in-Err
 returns-in-Err g c =

@@ -7,7 +7,7 @@ use Rattle.and_batch_reader.specs.Opened.{AreFew, IsRefusedAs}
 use Rattle.and_replies.specs.Handed.{IsDue}
 use Rattle.and_questions.specs.Replied.{IsRunOf}
 use Rattle.and_replies.proofs.BatchLemmas.{each_told, joined_opened, refused_batch, spans_count}
-use Rattle.and_top.proofs.jobs.side_by_side.Goals as goal
+use Rattle.and_alone.proofs.jobs.side_by_side.Goals as goal
 
 pub reply_of-requires-clause-few : goal.reply_of-requires-clause-few
 reply_of-requires-clause-few g c =

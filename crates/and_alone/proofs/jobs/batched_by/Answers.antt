@@ -1,7 +1,7 @@
 use Rattle.std.proofs.Common.{sym, subst}
 use Rattle.and_batch_text.specs.Views.{spans_of}
 use Rattle.and_batch_reader.specs.Opened.{AreFew, IsSought}
-use Rattle.and_top.proofs.jobs.batched_by.Goals as goal
+use Rattle.and_alone.proofs.jobs.batched_by.Goals as goal
 
 pub side_by_side-requires-clause-few : goal.side_by_side-requires-clause-few
 side_by_side-requires-clause-few g c κs within =

@@ -2,7 +2,7 @@ use Rattle.std.proofs.Common.{IfOk, sym, subst}
 use Rattle.and_questions.specs.Forked.{WasForked}
 use Rattle.and_questions.specs.Linted.{WasLinted}
 use Rattle.and_questions.specs.Replied.{IsReply, WasChecked}
-use Rattle.and_top.proofs.texts.reply_to.Goals as goal
+use Rattle.and_alone.proofs.texts.reply_to.Goals as goal
 
 pub returns-in-Run : goal.returns-in-Run
 returns-in-Run g c = λ program lifted.
