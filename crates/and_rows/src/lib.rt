@@ -109,12 +109,6 @@ pub fn answers<D: Desk>(alloc: Global, desk: &mut D, lines: &str) -> Result<Stri
     Ok(out)
 }
 
-/// What tells of blocks.
-pub trait Teller {
-    /// What is told of a block: whole lines.
-    fn tell(&self, alloc: Global, block: &Block) -> Result<String, Untold>;
-}
-
 /// A block without lines, of the line that begins it.
 fn begun(alloc: Global, head: &str) -> Result<Block, AllocError> {
     let (kind, name) = head.split_once(' ').unwrap_or((head, ""));
@@ -133,7 +127,7 @@ fn push_line(block: &mut Block, line: &str) -> Result<(), AllocError> {
 }
 
 /// The blocks of a text. What stands before the first is of none. An error is want of memory.
-pub fn blocks(alloc: Global, text: &str) -> Result<Vec<Block>, AllocError> {
+fn blocks(alloc: Global, text: &str) -> Result<Vec<Block>, AllocError> {
     let mut blocks = Vec::new(alloc);
     for line in text.lines() {
         if let Some(head) = line.strip_prefix("# ") {
@@ -146,8 +140,14 @@ pub fn blocks(alloc: Global, text: &str) -> Result<Vec<Block>, AllocError> {
 }
 
 /// What is told of a block behind its first line. An error is want of memory.
-fn told<T: Teller>(alloc: Global, teller: &T, block: &Block) -> Result<String, AllocError> {
-    match teller.tell(alloc, block) {
+fn told<F: Fn(&Block) -> Result<String, Untold>>(
+    alloc: Global,
+    tell: &F,
+    block: &Block,
+) -> Result<String, AllocError>
+    requires { F.IsAlwaysCallable tell.now }
+{
+    match tell(block) {
         Ok(text) => Ok(text),
         Err(Untold::Memory) => Err(AllocError),
         Err(Untold::Malformed) => String::from_str(alloc, "malformed\n"),
@@ -155,45 +155,62 @@ fn told<T: Teller>(alloc: Global, teller: &T, block: &Block) -> Result<String, A
 }
 
 /// What is told of a line as of a block of that kind. An error is want of memory.
-fn told_of_line<T: Teller>(
+fn told_of_line<F: Fn(&Block) -> Result<String, Untold>>(
     alloc: Global,
-    teller: &T,
+    tell: &F,
     kind: &str,
     line: &str,
-) -> Result<String, AllocError> {
+) -> Result<String, AllocError>
+    requires { F.IsAlwaysCallable tell.now }
+{
     let mut block = begun(alloc, kind)?;
     block.lines.push_str(line)?;
-    told(alloc, teller, &block)
+    told(alloc, tell, &block)
 }
 
 /// What is told of each of these lines as of a block of that kind. An error is want of memory.
-fn told_of_each<T: Teller>(
+fn told_of_each<F: Fn(&Block) -> Result<String, Untold>>(
     alloc: Global,
-    teller: &T,
+    tell: &F,
     kind: &str,
     lines: &str,
-) -> Result<String, AllocError> {
+) -> Result<String, AllocError>
+    requires { F.IsAlwaysCallable tell.now }
+{
     let mut out = String::new(alloc);
     for line in lines.lines() {
-        let told = told_of_line(alloc, teller, kind, line)?;
+        let told = told_of_line(alloc, tell, kind, line)?;
         out.push_str(&told)?;
     }
     Ok(out)
 }
 
 /// What is told of a block, or of each of its lines. An error is want of memory.
-fn told_of<T: Teller>(alloc: Global, teller: &T, block: &Block) -> Result<String, AllocError> {
+fn told_of<F: Fn(&Block) -> Result<String, Untold>>(
+    alloc: Global,
+    tell: &F,
+    block: &Block,
+) -> Result<String, AllocError>
+    requires { F.IsAlwaysCallable tell.now }
+{
     match block.kind.strip_prefix("each-") {
-        Some(kind) => told_of_each(alloc, teller, kind, &block.lines),
-        None => told(alloc, teller, block),
+        Some(kind) => told_of_each(alloc, tell, kind, &block.lines),
+        None => told(alloc, tell, block),
     }
 }
 
-/// What is told of all blocks of a text. An error is want of memory.
-pub fn tell_all<T: Teller>(alloc: Global, teller: &T, text: &str) -> Result<String, AllocError> {
+/// What is told of all blocks of a text, where this tells of a block behind its first line: whole lines. An error is
+/// want of memory.
+pub fn tell_all<F: Fn(&Block) -> Result<String, Untold>>(
+    alloc: Global,
+    tell: &F,
+    text: &str,
+) -> Result<String, AllocError>
+    requires { F.IsAlwaysCallable tell.now }
+{
     let mut out = String::new(alloc);
     for block in blocks(alloc, text)? {
-        let told = told_of(alloc, teller, &block)?;
+        let told = told_of(alloc, tell, &block)?;
         let Block { kind, name, .. } = block;
         let part = format!(in alloc; "# {kind} {name}\n{told}")?;
         out.push_str(&part)?;

@@ -4,9 +4,10 @@ ghost use Rattle.std.specs.Prelude.{◌≡◌, [], ◌∷◌, ◌++◌, map, OnO
 ghost use Rattle.and_answers.specs.Kept.{listed};
 ghost use Rattle.and_answers.specs.Order.{HasDistinctCodes};
 
+use crate::hands::goal;
 use crate::saying::say;
 use and_answers::{Coded, Found};
-use and_model::{ClauseNo, Code, Cut, Goal, ReductionList, Text};
+use and_model::{ClauseNo, Code, Cut, ReductionList, Text};
 use and_rows::Untold;
 use std::alloc::{AllocError, Global};
 
@@ -50,12 +51,7 @@ fn cut_at_query(alloc: Global) -> Cut {
     Cut {
         partial: ReductionList::new(alloc),
         clause: ClauseNo(0),
-        goal: Goal {
-            node: 0,
-            item: 0,
-            clause: ClauseNo(0),
-            base: 0,
-        },
+        goal: goal(0),
     }
 }
 

@@ -31,7 +31,7 @@ fn with(hands: HandList, hand: Hand) -> Result<HandList, Untold>
 }
 
 /// The goal with a number.
-fn goal(number: u32) -> Goal {
+pub(crate) fn goal(number: u32) -> Goal {
     Goal {
         node: number,
         item: 0,

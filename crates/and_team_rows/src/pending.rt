@@ -1,8 +1,9 @@
 //! Goals that are passed over while they sleep, in a row of ten cells.
 
+use crate::hands::goal;
 use crate::saying::say;
 use and_cells::PlainCells;
-use and_model::{ClauseNo, Goal, Ref};
+use and_model::{Goal, Ref};
 use and_pending::PendingGoals;
 use and_rows::Untold;
 use std::alloc::{AllocError, Global};
@@ -10,25 +11,27 @@ use std::marker::Brand;
 
 type Row = PlainCells<Brand>;
 
-/// The goal with a number.
-fn goal(number: u32) -> Goal {
-    Goal {
-        node: number,
-        item: 0,
-        clause: ClauseNo(0),
-        base: number,
+/// The number of a goal, as a digit.
+fn digit(goal: Goal) -> char {
+    (b'0' + (goal.node % 10) as u8) as char
+}
+
+/// Puts the numbers of these goals at the end of a line.
+fn push_digits(line: &mut String, goals: &[Goal]) -> Result<(), AllocError> {
+    for goal in goals {
+        line.push(digit(*goal))?;
     }
+    Ok(())
 }
 
 /// Puts the numbers of all goals at the end of a line, whether those before the place of work sleep, and the number
 /// of the next one.
 fn tell(goals: &PendingGoals, row: &Row, line: &mut String) -> Result<(), AllocError> {
-    for goal in &goals.all(goals.allocator())? {
-        line.push((b'0' + (goal.node % 10) as u8) as char)?;
-    }
+    let all = goals.all(goals.allocator())?;
+    push_digits(line, &all)?;
     line.push(if goals.are_asleep(row) { '.' } else { '!' })?;
     match goals.next() {
-        Some(goal) => line.push((b'0' + (goal.node % 10) as u8) as char),
+        Some(goal) => line.push(digit(goal)),
         None => line.push('-'),
     }
 }

@@ -1,14 +1,16 @@
 //! Answers as lines.
 
-use std::alloc::{AllocError, Global};
+use and_rows::{Untold, line};
+use std::alloc::Global;
 use std::fmt::Debug;
 
-/// Puts a line of a value at the end of a text.
+/// Puts the line of a value at the end of a text.
 pub(crate) fn say<T: Debug + Drop>(
     alloc: Global,
     out: &mut String,
     value: T,
-) -> Result<(), AllocError> {
-    let line = format!(in alloc; "{value:?}\n")?;
-    out.push_str(&line)
+) -> Result<(), Untold> {
+    let told = line(alloc, &value)?;
+    out.push_str(&told)?;
+    Ok(())
 }

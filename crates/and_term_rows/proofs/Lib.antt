@@ -1,2 +1,3 @@
 pub mod Glimpses
+pub mod Small
 pub mod Structures

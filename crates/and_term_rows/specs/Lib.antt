@@ -1,2 +1,3 @@
-pub mod Late
 pub mod Growing
+pub mod Late
+pub mod Small

@@ -10,12 +10,9 @@ mod texts;
 mod tokens;
 mod writes;
 
-use and_rows::{Block, Teller, Untold, tell_all};
+use and_rows::{Block, Untold, tell_all};
 use std::alloc::Global;
 use std::io;
-
-/// Tells of blocks by their kinds.
-struct Rows;
 
 /// What is told of bytes.
 fn tell_of_bytes(alloc: Global, kind: &str, bytes: &[u8]) -> Result<String, Untold> {
@@ -38,26 +35,26 @@ fn tell_of_written(alloc: Global, kind: &str, lines: &str) -> Result<String, Unt
     }
 }
 
-impl Teller for Rows {
-    fn tell(&self, alloc: Global, block: &Block) -> Result<String, Untold> {
-        let kind = block.kind.as_str();
-        let lines = block.lines.as_str();
-        match kind {
-            "quoted-tokens" => tokens::quoted(alloc),
-            "command" => texts::command(alloc, lines),
-            "generated" => texts::generated(alloc, lines),
-            "last-generated" => texts::last_generated(alloc, lines),
-            "program" => programs::tell(alloc, lines),
-            "reads" => reads::tell(alloc, lines),
-            "writes" => writes::tell(alloc, lines),
-            _ => tell_of_written(alloc, kind, lines),
-        }
+/// What is told of a block, by its kind.
+fn tell(alloc: Global, block: &Block) -> Result<String, Untold> {
+    let kind = block.kind.as_str();
+    let lines = block.lines.as_str();
+    match kind {
+        "quoted-tokens" => tokens::quoted(alloc),
+        "command" => texts::command(alloc, lines),
+        "generated" => texts::generated(alloc, lines),
+        "last-generated" => texts::last_generated(alloc, lines),
+        "program" => programs::tell(alloc, lines),
+        "reads" => reads::tell(alloc, lines),
+        "writes" => writes::tell(alloc, lines),
+        _ => tell_of_written(alloc, kind, lines),
     }
 }
 
 fn main(rt: HostRuntime) -> io::Result<()> {
     let alloc = rt.alloc();
     let text = io::read_to_string(alloc, rt.stdin())?;
-    let told = tell_all(alloc, &Rows, &text)?;
+    let of_block = |block: &Block| tell(alloc, block);
+    let told = tell_all(alloc, &of_block, &text)?;
     print!(rt; "{told}")
 }

@@ -1,5 +1,0 @@
-use Rattle.std.proofs.Common.{◌≡◌}
-use Rattle.and_shared_rows.proofs.stores.answers.Given as goal
-
-abbrev pub invariant-loop-words : goal.invariant-loop-words
-invariant-loop-words l = (l.first.store ≡ l.store) × (l.second.store ≡ l.store)

@@ -1,5 +1,0 @@
-use Rattle.and_shared_rows.proofs.Small.{goal_in_range}
-use Rattle.and_shared_rows.proofs.trials.goal.Goals as goal
-
-pub returns : goal.returns
-returns c = λ words. goal_in_range words c.args.number c.requires
