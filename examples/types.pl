@@ -1,5 +1,6 @@
 % The types of terms of the lambda calculus. A variable is written v(N), where N counts the `fn` between it and its own, from 0.
-% What to see: nothing is searched; the type of `self` would be part of itself, so it has none: the occurs check refuses it.
+% What to see: the one choice is which term; its type is found without a search. That of `self` would be part of itself, so it has none: the occurs
+% check refuses it.
 % Of the two `is` of `at` the first counts down where N is known, and the second finds N where a term is asked for.
 
 type(Known, v(N), T) :- at(N, Known, T).
