@@ -39,6 +39,8 @@ STATUSES = "Answers", "NoAnswer", "Usage", "Refused", "ReadFault", "WriteFault",
 # for how many thousandths of a second the first reduction is held, first and where no other one came
 HOLDS = 100, 1_000, 20_000
 PROGRESS = re.compile(rb"\r *\d+ s +(\d+) reductions .* (\d+) shared")
+# what yard/refusing.c counts
+COUNTS = struct.Struct("4q")
 FRONT, END = 1_000, 30
 
 
@@ -100,9 +102,12 @@ class Program:
         call, room = numbers.split()
         with tempfile.NamedTemporaryFile(dir=self.folder) as counts:
             ran = self.run(words, text, PIECE="10", REFUSE_READ=str(int(call) - 1), ROOM=room, REFUSE_COUNTS=counts.name)
-            _, _, reads, writes = struct.unpack("4q", counts.read(32))
+            told = counts.read(COUNTS.size)
+        if len(told) < COUNTS.size:
+            return "nothing was counted\n"
+        _, _, reads, writes = COUNTS.unpack(told)
         front, end = ran.stdout[:FRONT], ran.stdout[FRONT:][-END:]
-        return f"(({STATUSES[ran.returncode]}, {reads}, {writes}), {len(ran.stdout)}, {quoted(front)}, {quoted(end)})\n"
+        return f"(({status_name(ran.returncode)}, {reads}, {writes}), {len(ran.stdout)}, {quoted(front)}, {quoted(end)})\n"
 
     def held(self, words, text):
         """What the words come to where the first reduction is held until another comes, or for long."""
@@ -134,6 +139,11 @@ class Program:
 
 def truth(holds):
     return "true" if holds else "false"
+
+
+def status_name(code):
+    """The name of a status; of what is none, as where a signal ended the run, its number."""
+    return STATUSES[code] if 0 <= code < len(STATUSES) else str(code)
 
 
 def shown(written):
