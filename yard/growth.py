@@ -4,8 +4,9 @@
     yard/growth.py [--only WORD] [--runs N] [--program FILE] [--skip-swi]
 
 Writes for each size the processor time (the least of the runs, without that of a query that is true at once) and the peak of memory, the
-exponent with which time grows from n to 4n (1 is linear in n; what is written grows as the column says), and SWI-Prolog's time. Behind that,
-for programs that find answers without an end, the peak of memory after so many seconds of a processor. docs/figures.md has what was measured.
+exponent with which time grows from n to 4n (1 is linear in n; what is written grows as the column says), SWI-Prolog's time without its start, and
+what its search and writing alone took. Behind that, for programs that find answers without an end, the peak of memory after so many seconds of a
+processor. docs/figures.md has what was measured.
 """
 import argparse
 import math
@@ -117,18 +118,25 @@ def least(command, text, runs):
     return min(found)
 
 
+def swi_once(words):
+    """Seconds of a processor that SWI-Prolog took, and of them those of its search and writing; None where it did not end well."""
+    with tempfile.TemporaryFile() as told, open(os.devnull, "wb") as nowhere:
+        process = subprocess.Popen(words, stdin=subprocess.DEVNULL, stdout=nowhere, stderr=told)
+        _, _, used = os.wait4(process.pid, 0)
+        told.seek(0)
+        try:
+            return used.ru_utime + used.ru_stime, float(told.read().split()[-1]) / 1000
+        except (ValueError, IndexError):
+            return None
+
+
 def swi(text, waits, runs):
-    """Seconds of the search in SWI-Prolog; None where it is not here or did not end well."""
+    """The least seconds of SWI-Prolog, and of its search alone; None where it did not end well."""
     with common.swi_words(text, waits) as words:
-        best = None
-        for _ in range(runs):
-            done = subprocess.run(words, capture_output=True, text=True, check=False)
-            try:
-                seconds = float(done.stderr.strip().splitlines()[-1]) / 1000
-            except (ValueError, IndexError):
-                return None
-            best = seconds if best is None else min(best, seconds)
-        return best
+        found = [swi_once(words) for _ in range(runs)]
+    if None in found:
+        return None
+    return min(whole for whole, _ in found), min(alone for _, alone in found)
 
 
 def main():
@@ -139,7 +147,9 @@ def main():
     options.add_argument("--skip-swi", action="store_true")
     given = options.parse_args()
     with_swi = not given.skip_swi and shutil.which("swipl") is not None
-    print("| Program | Size | One team, s | MB | Two teams, s | MB | Growth | SWI-Prolog, s |\n|---|---:|---:|---:|---:|---:|---:|---:|")
+    start = (swi(EMPTY, False, given.runs) or (0, 0))[0] if with_swi else 0
+    print("| Program | Size | One team, s | MB | Two teams, s | MB | Growth | SWI-Prolog, s | Its search alone, s |")
+    print("|---|---:|---:|---:|---:|---:|---:|---:|---:|")
     for name, text_of, sizes, words_of, waits in PROGRAMS:
         if given.only not in name:
             continue
@@ -156,8 +166,9 @@ def main():
                 if teams == "1":
                     times.append(max(0.001, seconds - idle))
             other = swi(text_of(size), waits, given.runs) if with_swi and waits is not None else None
+            beside = f"{max(0.0, other[0] - start):.2f} | {other[1]:.2f}" if other else " | "
             growth = f"{math.log(times[-1] / times[0], sizes[-1] / sizes[0]):.2f}" if size == sizes[-1] else ""
-            print(f"| {name} | {size:,} | {' | '.join(cells)} | {growth} | {'' if other is None else f'{other:.2f}'} |", flush=True)
+            print(f"| {name} | {size:,} | {' | '.join(cells)} | {growth} | {beside} |", flush=True)
     print("\n| Without an end | Seconds | One team, MB | Two teams, MB |\n|---|---:|---:|---:|")
     for name, text, stops in ENDLESS:
         if given.only not in name:
