@@ -22,31 +22,31 @@ TREE = os.path.dirname(HERE)
 MEASURE = os.path.join(HERE, "measure")
 
 
-def lay_out(folder):
-    """Lays the tree's crates and the programs that measure into a folder, over what lies there."""
+def lay_out(folder, own=MEASURE):
+    """Lays the tree's crates, and programs whose files have `.txt` behind their names, into a folder, over what lies there."""
     crates = os.path.join(folder, "crates")
     left_out = shutil.ignore_patterns("out", "must-fail")
     shutil.copytree(os.path.join(TREE, "crates"), crates, ignore=left_out, dirs_exist_ok=True)
     shutil.copy(os.path.join(TREE, "HANDLES"), folder)
     with open(os.path.join(folder, "crates.txt"), "w", encoding="utf-8") as lines:
-        for listed in (os.path.join(TREE, "crates.txt"), os.path.join(MEASURE, "listed.txt")):
+        for listed in (os.path.join(TREE, "crates.txt"), os.path.join(own, "listed.txt")):
             with open(listed, encoding="utf-8") as part:
                 lines.write(part.read())
-    for place, _, names in os.walk(MEASURE):
+    for place, _, names in os.walk(own):
         for name in names:
-            if name.endswith(".txt") and place != MEASURE:
-                into = os.path.join(crates, os.path.relpath(place, MEASURE))
+            if name.endswith(".txt") and place != own:
+                into = os.path.join(crates, os.path.relpath(place, own))
                 os.makedirs(into, exist_ok=True)
                 shutil.copy(os.path.join(place, name), os.path.join(into, name[: -len(".txt")]))
 
 
 @contextlib.contextmanager
-def laid_out(copy):
+def laid_out(copy, own=MEASURE):
     """The folder where all crates lie: the one that is given, or one that is removed at the end."""
     with contextlib.ExitStack() as until_end:
         folder = copy or until_end.enter_context(tempfile.TemporaryDirectory(prefix="measure-"))
         os.makedirs(folder, exist_ok=True)
-        lay_out(folder)
+        lay_out(folder, own)
         yield folder
 
 
