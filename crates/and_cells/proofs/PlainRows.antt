@@ -1,9 +1,9 @@
 -- Rows as they are kept in words of 64 bits, and the steps on a row that is told.
-use Rattle.std.proofs.Common.{ℕ, ℤ, zero, suc, ◌≡◌, ◌≢◌, ◌+◌, ◌*◌, ◌/◌, ◌%◌, ◌^◌, ◌<◌, ◌≤◌, List, [], ◌∷◌, ◌++◌, length, set, replicate, refl, sym, ap, subst}
+use Rattle.std.proofs.Common.{ℕ, ℤ, zero, suc, ◌≡◌, ◌≢◌, ◌+◌, ◌*◌, ◌/◌, ◌%◌, ◌^◌, ◌<◌, ◌≤◌, List, [], ◌∷◌, ◌++◌, length, get_or, set, replicate, refl, sym, ap, subst}
 use Rattle.std.proofs.Common.{◌∙◌, ◌⊎◌, inl, inr, arith, false}
 use Rattle.std.proofs.lemmas.Bool.{cases_eq}
-use Rattle.std.proofs.lemmas.List.{map-append, map-set}
-use Rattle.std.proofs.lemmas.List.Elements.{All-set, All-append, All-replicate, All-nil}
+use Rattle.std.proofs.lemmas.List.{map-append, map-set, length-map, get_or-map}
+use Rattle.std.proofs.lemmas.List.Elements.{All-set, All-append, All-replicate, All-nil, All-get_or}
 use Rattle.std.proofs.Math.ListN.{length-set}
 use Rattle.and_model.specs.Words.{HasWord, word_of}
 use Rattle.and_model.specs.Store.{Known}
@@ -12,7 +12,7 @@ use Rattle.and_model.specs.declared.reference.Ref.TheVariants.{Free, Cell, Node,
 use Rattle.and_cells.specs.Ranges.{NamedProgram, CanHold, IsInRange}
 use Rattle.and_cells.specs.Numbers.{number_of}
 use Rattle.and_cells.specs.Seen.{word_at, Knows, IsKnownWritten, Finds, Sets, Fills, ReadsNumber, OnlyReads}
-use Rattle.and_cells.specs.Rows.{plain, IsSound, ref_of, row_of, AreWords}
+use Rattle.and_cells.specs.Rows.{plain, IsSound, IsBelow, ref_of, row_of, AreWords}
 use Rattle.and_cells.proofs.Keeping.{free_or_set, word_set_here, word_set_other, sound_set, sound_extend, sound_free}
 
 pub ref_of_word : (r : Ref) → HasWord r → ref_of (word_of r) ≡ r
@@ -153,6 +153,44 @@ pub kept_set : (P : NamedProgram) (ws : List ℕ) (place : ℕ) (r : Ref) → Ar
     → AreWords (set ws place (word_of r)) × IsSound P (row_of (set ws place (word_of r)))
 kept_set P ws place r kept below has free fits written =
     (words_set ws place r has kept.0, subst (IsSound P) (sym (row_set ws place r has)) (sound_set P (row_of ws) place r kept.1 below free fits written))
+
+-- the same, where the row and the word have names of their own
+pub named_set : (P : NamedProgram) (ws : List ℕ) (row : List Ref) (place w : ℕ) (r : Ref) → row_of ws ≡ row → w ≡ word_of r → AreWords ws × IsSound P (row_of ws)
+    → place < length row → HasWord r → word_at row place ≡ Free
+    → CanHold P (length row) place r → ((pair : ℕ) → r ≡ Number pair → (word_at row pair ≢ Free) × (word_at row (suc pair) ≢ Free))
+    → (AreWords (set ws place w) × IsSound P (row_of (set ws place w))) × (row_of (set ws place w) ≡ set row place r)
+named_set P ws row place w r is word kept below has free fits written =
+    subst (λ v. (AreWords (set ws place v) × IsSound P (row_of (set ws place v))) × (row_of (set ws place v) ≡ set row place r)) (sym word)
+    (all row is below free fits written)
+  where
+    all : (row : List Ref) → row_of ws ≡ row → place < length row → word_at row place ≡ Free → CanHold P (length row) place r
+        → ((pair : ℕ) → r ≡ Number pair → (word_at row pair ≢ Free) × (word_at row (suc pair) ≢ Free))
+        → (AreWords (set ws place (word_of r)) × IsSound P (row_of (set ws place (word_of r)))) × (row_of (set ws place (word_of r)) ≡ set row place r)
+    all row is = subst (λ row. place < length row → word_at row place ≡ Free → CanHold P (length row) place r
+        → ((pair : ℕ) → r ≡ Number pair → (word_at row pair ≢ Free) × (word_at row (suc pair) ≢ Free))
+        → (AreWords (set ws place (word_of r)) × IsSound P (row_of (set ws place (word_of r)))) × (row_of (set ws place (word_of r)) ≡ set row place r)) is
+        (λ below free fits written. (kept_set P ws place r kept below has free fits written, row_set ws place r has))
+
+-- The word in which the reference at a place is kept.
+pub word_read : (ws : List ℕ) (row : List Ref) (place w : ℕ) → row_of ws ≡ row → AreWords ws → place < length row → w ≡ get_or ws place w
+    → (word_at row place ≡ ref_of w) × HasWord (ref_of w) × (word_of (ref_of w) ≡ w)
+word_read ws row place w is are below read =
+    let long : length row ≡ length ws = sym (ap (λ (r : List Ref). length r) is) ∙ length-map ws ref_of in
+    let there : place < length ws = omega (arith, long, below) in
+    let P : ℕ → Type 0 = λ v. HasWord (ref_of v) × (word_of (ref_of v) ≡ v) in
+    let kept : P w = subst P (sym read) (All-get_or P ws place w there are) in
+    (ap (λ r. word_at r place) (sym is) ∙ get_or-map ref_of ws place w Free there ∙ ap ref_of (sym read), kept.0, kept.1)
+
+-- It is that of `Free` where it is 0 and nowhere else.
+pub free_where_zero : (w : ℕ) → word_of (ref_of w) ≡ w → (w ≡ 0 → ref_of w ≡ Free) × (ref_of w ≡ Free → w ≡ 0)
+free_where_zero w kept = (λ none. ap ref_of none, λ free. sym kept ∙ ap word_of free)
+
+-- A structure or a number begins below the floor.
+pub below_word : (w floor : ℕ) → w % 8 / 2 ≡ 1 → w / 8 % 2 ^ 23 < floor → IsBelow floor (ref_of w)
+below_word w floor ends below = elim (cases_eq (w % 8) 2) [
+  | inl structure ↦ rw structure below
+  | inr other ↦ let number : w % 8 ≡ 3 = omega arith in rw number tt
+]
 
 -- in a sound row, a pair that is known to be written has both its words set
 pub written_in_row : (P : NamedProgram) (row : List Ref) (pair : ℕ) → IsSound P row → IsKnownWritten (plain row) pair

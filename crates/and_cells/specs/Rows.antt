@@ -36,6 +36,14 @@ row_of ws = map ref_of ws
 abbrev pub AreWords : List ℕ → Type 0
 AreWords ws = All (λ w. HasWord (ref_of w) × (word_of (ref_of w) ≡ w)) ws
 
+-- The reference is a structure whose frame begins below the floor, or a number.
+abbrev pub IsBelow : (floor : ℕ) → Ref → Type 0
+IsBelow floor Free = ⊥
+IsBelow floor (Cell cell) = ⊥
+IsBelow floor (Node node base) = base < floor
+IsBelow floor (Number pair) = Unit {0}
+IsBelow floor (Half bits) = ⊥
+
 -- a list in which this value stands at each of these places
 abbrev pub all_set : {X : Type 0} → X → (places : List ℕ) → List X → List X
 all_set x [] xs = xs

@@ -10,7 +10,7 @@ ghost use Rattle.and_cells.specs.Parts.{named};
 ghost use Rattle.and_cells.specs.Ground.{EndsGround};
 ghost use Rattle.and_cells.specs.Seen.{word_at};
 ghost use Rattle.and_cells.specs.Numbers.{number_of};
-ghost use Rattle.and_cells.specs.Rows.{IsSound, AreWords, ref_of, row_of, taken_back, all_set};
+ghost use Rattle.and_cells.specs.Rows.{IsSound, IsBelow, AreWords, ref_of, row_of, taken_back, all_set};
 ghost use Rattle.and_model.specs.declared.limits.TheConstants.{MAX_WORDS};
 
 use crate::cells::{Bound, Cells};
@@ -86,6 +86,25 @@ fn kept_in(word: u64) -> Ref
         4 => Ref::Half(named as u32),
         _ => Ref::Free,
     }
+}
+
+/// Whether the reference that is kept in a word is `Free`. Takes no memory.
+#[inline(always)]
+fn is_free_word(word: u64) -> bool
+    requires { HasWord (ref_of word) × (word_of (ref_of word) ≡ word) }
+    ensures { IsTrue result ↔ (ref_of word ≡ Ref.Free) }
+{
+    word == 0
+}
+
+/// Whether the reference that is kept in a word is a structure or a number, and begins below the floor. Takes no memory.
+#[inline(always)]
+fn is_word_below(word: u64, floor: u32) -> bool
+    ensures { result ≡ true → IsBelow floor (ref_of word) }
+{
+    // Structures are of kind 2, and numbers of kind 3.
+    let ends = word % 8 / 2 == 1;
+    ends && word / 8 % BASES < floor as u64
 }
 
 /// Makes the words of these cells free, as far as they are there.
@@ -253,6 +272,40 @@ impl<N: Naming> PlainCells<N> {
         ensures { self.new ≡ slice_set self.old place to }
     {
         self.words[place as usize] = to.to_word();
+    }
+
+    /// Whether the word at a place is free. Takes no memory.
+    #[inline(always)]
+    pub fn is_free(&self, place: u32) -> bool
+        requires { place < length self.now }
+        ensures { IsTrue result ↔ (word_at self.now place ≡ Ref.Free) }
+    {
+        is_free_word(self.words[place as usize])
+    }
+
+    /// Whether the word at a place is a structure whose frame begins below the floor, or a number. `false` says
+    /// nothing. Takes no memory.
+    #[inline(always)]
+    pub fn is_below(&self, place: u32, floor: u32) -> bool
+        requires { place < length self.now }
+        ensures below { result ≡ true → IsBelow floor (word_at self.now place) }
+        ensures sound { IsSound N.program self.now }
+    {
+        is_word_below(self.words[place as usize], floor)
+    }
+
+    /// Sets the word at a place, which is free, to that of another. Takes no memory.
+    #[inline(always)]
+    pub fn set_as(&mut self, place: u32, from: u32)
+        requires place { place < length self.old }
+        requires from { from < length self.old }
+        requires free { word_at self.old place ≡ Ref.Free }
+        requires fits { CanHold N.program (length self.old) place (word_at self.old from) }
+        requires written { (pair : ℕ) → word_at self.old from ≡ Ref.Number pair
+            → (word_at self.old pair ≢ Ref.Free) × (word_at self.old (suc pair) ≢ Ref.Free) }
+        ensures { self.new ≡ slice_set self.old place (word_at self.old from) }
+    {
+        self.words[place as usize] = self.words[from as usize];
     }
 
     /// Sets the word at a place to a half, if it is free, and answers what the word is then. Takes no

@@ -18,6 +18,10 @@ use Rattle.and_heads.specs.declared.owing.Owed.TheVariants.{Nothing, One, Severa
 use Rattle.and_heads.specs.Owing.{EndsAt, EndsAtWord, with_one, Owes, AreOwed}
 use Rattle.and_heads.proofs.Looking.{number_word, cell_word, node_word}
 
+-- A list that was made room on, and is longer by one.
+pub one_longer : (xs ys zs : List ℕ) (cell : ℕ) → zs ≡ ys ++ cell ∷ [] → ys ≡ xs → zs ≡ xs ++ cell ∷ []
+one_longer xs ys zs cell put same = put ∙ ap (λ (ns : List ℕ). ns ++ cell ∷ []) same
+
 module _ (P : NamedProgram) (floor : ℕ) where
   module _ (row : List Ref) (cell : ℕ) (to : Ref) (below : cell < length row) (free : word_at row cell ≡ Free) where
     -- A cell that ends at its word does so when another one was set,

@@ -1,23 +1,21 @@
 //! Two arguments that are met at a look, as most are: a cell is free, or both are structures.
 
-ghost use Rattle.std.specs.Prelude.{◌≡◌, ◌<◌, ◌^◌, length, slice_get, Some};
+ghost use Rattle.std.specs.Prelude.{◌≡◌, ◌<◌, ◌^◌, length};
 ghost use Rattle.and_model.specs.declared.reference.Ref.{Ref};
-ghost use Rattle.and_program.specs.Loaded.{skeleton_of, arguments_at};
+ghost use Rattle.and_program.specs.Loaded.{skeleton_of};
 ghost use Rattle.and_cells.specs.Ranges.{IsInRange};
 ghost use Rattle.and_cells.specs.Rows.{plain};
 ghost use Rattle.and_cells.specs.Seen.{IsWrittenIfNumber, word_at};
-ghost use Rattle.and_cells.specs.Parts.{named, parts_of};
-ghost use Rattle.and_heads.specs.Parts.{named_by};
+ghost use Rattle.and_cells.specs.Parts.{named, part_at};
 ghost use Rattle.and_heads.specs.Entering.{Meets};
 ghost use Rattle.and_heads.specs.Owing.{AreOwed};
 
-use crate::entering::{Entered, compare, enter_ends, take};
+use crate::entering::{Entered, compare, enter_ends, take, take_as};
 use crate::owing::Owed;
 use crate::parts::{Part, is_free};
 use and_cells::{Naming, PlainCells};
 use and_model::{NodeNo, Ref};
 use and_program::Loaded;
-use and_unify::structures::{Structure, argument_at};
 
 /// Makes an argument of a structure and a reference the same, at a look where that tells it, and else by what they lead
 /// to. Structures of one shape go on the list of parts. Arguments are cells and structures, so of others nothing is
@@ -26,8 +24,8 @@ use and_unify::structures::{Structure, argument_at};
 pub(crate) fn enter_argument<N: Naming>(
     loaded: &Loaded,
     cells: &mut PlainCells<N>,
-    left: Structure,
-    place: u8,
+    left: NodeNo,
+    base: u32,
     right: Ref,
     floor: u32,
     bound: &mut Vec<u32>,
@@ -35,26 +33,24 @@ pub(crate) fn enter_argument<N: Naming>(
     parts: &mut Vec<Part>,
 ) -> Entered
     requires program { N.program ≡ named loaded.now }
-    requires there { left.node.0 < length (skeleton_of loaded.now).nodes }
-    requires base { left.base < 2 ^ 23 }
-    requires place { place < length (arguments_at (skeleton_of loaded.now) left.node.0) }
-    requires left_fits { (from : Ref) → slice_get (parts_of (named loaded.now) (named_by left)) place ≡ Some from
-        → IsInRange N.program (length cells.old) from × IsWrittenIfNumber (plain cells.old) from }
-    requires right_fits { IsInRange N.program (length cells.old) right }
-    ensures meets { (from : Ref) × (slice_get (parts_of (named loaded.now) (named_by left)) place ≡ Some from)
-        × Meets N.program (record { left = from; right = right }) (plain cells.old) (plain cells.new)
-        parts.old.items parts.new.items bound.old.items bound.new.items result }
+    requires there { left.0 < length (skeleton_of loaded.now).nodes }
+    requires base { base < 2 ^ 23 }
+    requires fits { IsInRange N.program (length cells.old) (part_at (named loaded.now) base left.0)
+        × IsInRange N.program (length cells.old) right }
+    requires written { IsWrittenIfNumber (plain cells.old) (part_at (named loaded.now) base left.0) }
+    ensures meets { Meets N.program (record { left = part_at (named loaded.now) base left.0; right = right })
+        (plain cells.old) (plain cells.new) parts.old.items parts.new.items bound.old.items bound.new.items result }
     ensures owed { AreOwed N.program floor cells.old bound.old.items owed.old
         → AreOwed N.program floor cells.new bound.new.items owed.new }
 {
     match right {
         Ref::Cell(cell) => {
-            let from = argument_at(loaded, left, place);
+            let from = loaded.resolve(left, base);
             enter_variable(loaded, cells, from, cell, floor, bound, owed, parts)
         }
-        Ref::Node { node, base } => {
-            let from = argument_at(loaded, left, place);
-            enter_structure(loaded, cells, from, node, base, floor, bound, owed, parts)
+        Ref::Node { node, base: by } => {
+            let from = loaded.resolve(left, base);
+            enter_structure(loaded, cells, from, node, by, floor, bound, owed, parts)
         }
         _ => Entered::GivenUp,
     }
@@ -230,6 +226,9 @@ fn fill_from<N: Naming>(
     ensures owed { AreOwed N.program floor cells.old bound.old.items owed.old
         → AreOwed N.program floor cells.new bound.new.items owed.new }
 {
+    if floor <= cell && cells.is_below(from, floor) {
+        return take_as(cells, bound, cell, from);
+    }
     match cells.word(from) {
         Ref::Node { node, base } => take(
             loaded,
@@ -331,8 +330,8 @@ fn enter_from<N: Naming>(
     ensures owed { AreOwed N.program floor cells.old bound.old.items owed.old
         → AreOwed N.program floor cells.new bound.new.items owed.new }
 {
-    match cells.word(from) {
-        Ref::Free => take(
+    if is_free(cells, from) {
+        return take(
             loaded,
             cells,
             floor,
@@ -340,7 +339,9 @@ fn enter_from<N: Naming>(
             owed,
             from,
             Ref::Node { node, base },
-        ),
+        );
+    }
+    match cells.word(from) {
         Ref::Node {
             node: there,
             base: by,

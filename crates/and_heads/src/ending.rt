@@ -381,8 +381,9 @@ fn parts_end<N: Naming>(
     ensures { result ≡ true → (k : ℕ) → k < count
         → Ends N.program cells.now floor false (argument_part N.program node base k) }
 {
+    let nodes = loaded.arguments(node);
     for place in 0..count {
-        let part = loaded.resolve(loaded.argument(node, place), base);
+        let part = loaded.resolve(nodes[place as usize], base);
         if !part_ends(loaded, cells, floor, part) {
             return false;
         }
@@ -413,6 +414,9 @@ fn word_ends<N: Naming>(loaded: &Loaded, cells: &PlainCells<N>, floor: u32, cell
     requires in_row { cell < length cells.now }
     ensures { result ≡ true → Ends N.program cells.now floor false (Ref.Cell cell) }
 {
+    if is_free(cells, cell) {
+        return true;
+    }
     match cells.word(cell) {
         Ref::Free => true,
         Ref::Number(_) => true,

@@ -1,16 +1,17 @@
 //! A call and the head of a clause, met argument by argument.
 
-ghost use Rattle.std.specs.Prelude.{◌≡◌, ◌≢◌, ◌<◌, [], ◌∷◌, ◌++◌, ℕ, List, length, All, IfSome};
+ghost use Rattle.std.specs.Prelude.{◌≡◌, ◌≢◌, ◌<◌, ◌≤◌, [], ◌∷◌, ◌++◌, ℕ, List, length, All, IfSome};
 ghost use Rattle.and_model.specs.declared.reference.Ref.{Ref};
 ghost use Rattle.and_program.specs.Skeletons.{AllFall};
 ghost use Rattle.and_cells.specs.Ranges.{IsInRange, IsInRangeOrHalf};
-ghost use Rattle.and_cells.specs.Rows.{plain};
+ghost use Rattle.and_cells.specs.Rows.{plain, IsBelow};
 ghost use Rattle.and_cells.specs.Seen.{IsWrittenIfNumber, OnlyReads, Sets, word_at};
 ghost use Rattle.and_cells.specs.Parts.{named};
 ghost use Rattle.and_unify.specs.Pairs.{AreInRange, AreWritten};
 ghost use Rattle.and_unify.specs.Running.{arguments_of_both};
 ghost use Rattle.and_heads.specs.Entering.{Meets, ComesToParts, Begins};
 ghost use Rattle.and_heads.specs.Owing.{AreOwed};
+ghost use Rattle.and_heads.specs.declared.owing.Owed.{Owed};
 ghost use Rattle.and_heads.specs.Parts.{HasShape, Puts, both_of, arguments_of_parts};
 
 use crate::arguments::enter_argument;
@@ -21,7 +22,7 @@ use and_model::Ref;
 use and_program::Loaded;
 use and_unify::cases::{Case, case_of};
 use and_unify::noting::make_room;
-use and_unify::structures::{Structure, argument_at, argument_count};
+use and_unify::structures::Structure;
 use and_unify::{Pair, PairList};
 
 /// So many parts are met at most.
@@ -314,10 +315,20 @@ fn enter_arguments<N: Naming>(
     ensures owed { AreOwed N.program floor cells.old bound.old.items owed.old
         → AreOwed N.program floor cells.new bound.new.items owed.new }
 {
-    for place in 0..argument_count(loaded, part.left.node) {
-        let right = argument_at(loaded, part.right, place);
+    let lefts = loaded.arguments(part.left.node);
+    let rights = loaded.arguments(part.right.node);
+    for place in 0..lefts.len() {
+        let right = loaded.resolve(rights[place], part.right.base);
         match enter_argument(
-            loaded, cells, part.left, place, right, floor, bound, owed, parts,
+            loaded,
+            cells,
+            lefts[place],
+            part.left.base,
+            right,
+            floor,
+            bound,
+            owed,
+            parts,
         ) {
             Entered::Done => {}
             Entered::Apart => return Entered::Apart,
@@ -418,6 +429,36 @@ pub(crate) fn take<N: Naming>(
     let _words = cells.len();
     owe(loaded, floor, cell, to, owed);
     cells.set(cell, to);
+    bound.push_reserved(cell);
+    Entered::Done
+}
+
+/// Sets a free cell to the structure or number that another one is set to. It goes on the list. Where there is no room
+/// on the list, nothing is set.
+#[inline(always)]
+pub(crate) fn take_as<N: Naming>(
+    cells: &mut PlainCells<N>,
+    bound: &mut Vec<u32>,
+    cell: u32,
+    from: u32,
+) -> Entered
+    requires in_row { cell < length cells.old × from < length cells.old }
+    requires free { word_at cells.old cell ≡ Ref.Free }
+    requires below { (floor : ℕ) × IsBelow floor (word_at cells.old from) }
+    ensures done { result ≡ Entered.Done → Sets cell (word_at cells.old from) (plain cells.old) (plain cells.new)
+        × (bound.new.items ≡ bound.old.items ++ cell ∷ []) }
+    ensures apart { result ≢ Entered.Apart }
+    ensures given_up { result ≡ Entered.GivenUp → OnlyReads (plain cells.old) (plain cells.new)
+        × (bound.new.items ≡ bound.old.items) }
+    ensures owed { (floor : ℕ) (owed : Owed) → floor ≤ cell → IsBelow floor (word_at cells.old from)
+        → AreOwed N.program floor cells.old bound.old.items owed
+        → AreOwed N.program floor cells.new bound.new.items owed }
+{
+    if make_room(bound).is_err() {
+        return Entered::GivenUp;
+    }
+    let _words = cells.len();
+    cells.set_as(cell, from);
     bound.push_reserved(cell);
     Entered::Done
 }

@@ -3,17 +3,18 @@
 ghost use Rattle.std.specs.Prelude.{◌≡◌, ◌≢◌, ◌<◌, ℕ, length, Some, None, IfSome, true, false};
 ghost use Rattle.and_model.specs.Store.{is_half};
 ghost use Rattle.and_model.specs.declared.reference.Ref.{Ref};
+ghost use Rattle.and_program.specs.Loaded.{skeleton_of};
 ghost use Rattle.and_cells.specs.Ranges.{IsInRange, IsInRangeOrHalf};
 ghost use Rattle.and_cells.specs.Rows.{plain};
-ghost use Rattle.and_cells.specs.Seen.{word_at, IsWrittenIfNumber, LeadsTo};
+ghost use Rattle.and_cells.specs.Seen.{Seen, word_at, IsWrittenIfNumber, LeadsTo};
 ghost use Rattle.and_cells.specs.Parts.{named};
 ghost use Rattle.and_unify.specs.Heads.{HasHead};
 ghost use Rattle.and_heads.specs.Parts.{arguments_in};
 
 use and_cells::{Naming, PlainCells};
-use and_model::Ref;
-use and_program::Loaded;
-use and_unify::heads::{Head, node_head};
+use and_model::{NodeNo, Ref};
+use and_program::{Loaded, NodeKind};
+use and_unify::heads::Head;
 use and_unify::structures::Structure;
 
 /// Two structures of one name and number of arguments, which are to be made the same.
@@ -43,11 +44,12 @@ pub(crate) fn end_of<N: Naming>(cells: &PlainCells<N>, from: Ref) -> Ref
 }
 
 /// Whether a cell is free.
+#[inline(always)]
 pub(crate) fn is_free<N: Naming>(cells: &PlainCells<N>, cell: u32) -> bool
     requires { cell < length cells.now }
     ensures { result ≡ true → word_at cells.now cell ≡ Ref.Free }
 {
-    matches!(cells.word(cell), Ref::Free)
+    cells.is_free(cell)
 }
 
 /// What a reference begins with, if it is a node or a number.
@@ -60,11 +62,25 @@ pub(crate) fn head_at<N: Naming>(loaded: &Loaded, cells: &PlainCells<N>, at: Ref
     ensures whole { IfSome result (λ head. is_half at ≡ false) }
 {
     match at {
-        Ref::Node { node, .. } => Some(node_head(loaded, node)),
+        Ref::Node { node, .. } => head_of(loaded, node),
         Ref::Number(pair) => Some(Head::Number(cells.held_number(pair))),
         Ref::Cell(_) => None,
         Ref::Free => None,
         Ref::Half(_) => None,
+    }
+}
+
+/// What the term of a node begins with, if the node is no variable.
+#[inline(always)]
+fn head_of(loaded: &Loaded, node: NodeNo) -> Option<Head>
+    requires { node.0 < length (skeleton_of loaded.now).nodes }
+    ensures { IfSome result (λ head. (s : Seen) (base : ℕ)
+        → HasHead (named loaded.now) s (Ref.Node node base) head) }
+{
+    match loaded.kind(node) {
+        NodeKind::Number(value) => Some(Head::Number(value)),
+        NodeKind::Compound { name, count } => Some(Head::Name { name, count }),
+        NodeKind::Variable(_) => None,
     }
 }
 

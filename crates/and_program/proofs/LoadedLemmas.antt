@@ -163,6 +163,13 @@ argument_read nodes n p node c ns r lt read is there argument =
     ∙ sym (get_or-map number ns.items p r 0 (omega (arith, length-map ns.items number)))
     ∙ sym (ap (λ (s : Shape). get_or (arguments_in s) p 0) at)
 
+-- the nodes of all arguments of a node that was read
+pub arguments_read : (nodes : List Node) (n : ℕ) (node : Node) → n < length (shapes_of nodes) → node ≡ get_or nodes n node
+    → arguments_in (shape_of node) ≡ arguments_in (get_or (shapes_of nodes) n (Skeletons.number (pos 0)))
+arguments_read nodes n node lt read =
+    ap arguments_in
+    (ap shape_of read ∙ sym (get_or-map shape_of nodes n node (Skeletons.number (pos 0)) (omega (arith, length-map nodes shape_of))))
+
 pub has_functor-key : (p : Predicate) (h : Term) → is_key_of (predicate_in h) p ≡ has_functor p.name.0 p.arity h
 has_functor-key p (Terms.variable q k) = refl
 has_functor-key p (Terms.number z) = refl

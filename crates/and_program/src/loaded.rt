@@ -186,6 +186,19 @@ impl Loaded {
         }
     }
 
+    /// The nodes of the arguments of a node, of which a variable and a number have none.
+    #[inline(always)]
+    pub fn arguments(&self, node: NodeNo) -> &[NodeNo]
+        requires { node.0 < length (skeleton_of self.now).nodes }
+        ensures { map (λ (argument : NodeNo). argument.0) result.now ≡ arguments_at (skeleton_of self.now) node.0 }
+    {
+        match &self.nodes[node.0 as usize] {
+            Node::Compound { arguments, .. } => arguments,
+            Node::Variable(_) => &[],
+            Node::Number(_) => &[],
+        }
+    }
+
     /// The clauses whose heads have that name and number of arguments, in the order of the text.
     pub fn clauses_of(&self, name: NameNo, arity: u8) -> &[ClauseNo]
         ensures clauses { result.now ≡ clauses_with name.0 arity 1 (program_of self.now).clauses }

@@ -6,14 +6,14 @@ use Rattle.and_cells.specs.Rows.{plain}
 use Rattle.and_heads.proofs.Filling.{set_leads, filled_left, compared_from}
 use Rattle.and_heads.proofs.arguments.enter_from.Goals as goal
 
+pub is_free-requires : goal.is_free-requires
+is_free-requires g c = c.requires.in_range.0
+
 pub word-requires : goal.word-requires
 word-requires g c = c.requires.in_range.0
 
 pub take-requires-clause-in_row : goal.take-requires-clause-in_row
 take-requires-clause-in_row g c = c.requires.in_range.0
-
-pub take-requires-clause-free : goal.take-requires-clause-free
-take-requires-clause-free g c = sym c.word.ensures.value ∙ c.in-Free.is
 
 pub take-requires-clause-in_range : goal.take-requires-clause-in_range
 take-requires-clause-in_range g c = c.requires.in_range.1
@@ -24,8 +24,8 @@ take-requires-clause-falls g c = λ other e. absurd (cc)
 pub take-requires-clause-written : goal.take-requires-clause-written
 take-requires-clause-written g c = λ pair e. absurd (cc)
 
-pub returns-in-Free-clause-meets : goal.returns-in-Free-clause-meets
-returns-in-Free-clause-meets g c =
+pub returns-then-is_free-clause-meets : goal.returns-then-is_free-clause-meets
+returns-then-is_free-clause-meets g c =
     let to : Ref = Node c.args.node c.args.base in
     filled_left g.N.Naming.program (plain c.args.cells.now) (plain c.take.new.cells) (Cell c.args.from) to c.args.from to c.args.parts.now.items
     c.args.bound.now.items c.take.new.bound.items c.take.result c.take.ensures.apart c.take.ensures.given_up c.take.ensures.done refl refl refl

@@ -5,8 +5,26 @@ use Rattle.and_cells.specs.Ranges.{CanHold}
 use Rattle.and_cells.specs.Rows.{plain}
 use Rattle.and_cells.specs.Seen.{IsSetTo}
 use Rattle.and_cells.proofs.Chains.{written_since_known}
-use Rattle.and_heads.proofs.Filling.{set_leads, filled}
+use Rattle.and_heads.proofs.Filling.{set_leads, filled, filled_as}
 use Rattle.and_heads.proofs.arguments.fill_from.Goals as goal
+
+pub is_below-requires : goal.is_below-requires
+is_below-requires g c = c.requires.in_range.0
+
+pub take_as-requires-clause-in_row : goal.take_as-requires-clause-in_row
+take_as-requires-clause-in_row g c = (c.requires.in_range.1, c.requires.in_range.0)
+
+pub take_as-requires-clause-below : goal.take_as-requires-clause-below
+take_as-requires-clause-below g c = (c.args.floor, c.is_below.ensures.below c.if-is_below.true)
+
+pub returns-then-is_below-clause-meets : goal.returns-then-is_below-clause-meets
+returns-then-is_below-clause-meets g c =
+    filled_as g.N.Naming.program c.args.cells.now (plain c.take_as.new.cells) c.args.floor c.args.from c.args.cell c.args.parts.now.items
+    c.args.bound.now.items c.take_as.new.bound.items c.take_as.result c.take_as.ensures.apart c.take_as.ensures.given_up c.take_as.ensures.done
+    (c.is_below.ensures.below c.if-is_below.true) c.is_below.ensures.sound c.requires.in_range.1
+
+pub returns-then-is_below-clause-owed : goal.returns-then-is_below-clause-owed
+returns-then-is_below-clause-owed g c = c.take_as.ensures.owed c.args.floor c.args.owed.now c.if-floor-cell.true (c.is_below.ensures.below c.if-is_below.true)
 
 pub word-requires : goal.word-requires
 word-requires g c = c.requires.in_range.0

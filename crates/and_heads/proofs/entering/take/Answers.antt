@@ -1,4 +1,4 @@
-use Rattle.std.proofs.Common.{ℕ, ◌≡◌, List, [], ◌∷◌, ◌++◌, length, set, sym, subst, ap, ◌∙◌}
+use Rattle.std.proofs.Common.{ℕ, List, [], ◌∷◌, ◌++◌, length, set, sym, subst, ap, ◌∙◌}
 use Rattle.and_model.specs.declared.reference.Ref.{Ref}
 use Rattle.and_cells.specs.Rows.{plain}
 use Rattle.and_cells.specs.Seen.{Sets}
@@ -6,7 +6,7 @@ use Rattle.and_cells.proofs.Chains.{reads_nothing}
 use Rattle.and_cells.proofs.PlainRows.{has_word, can_hold, written_in_row, plain_sets, in_range_is_set}
 use Rattle.and_cells.specs.Ranges.{IsInRange}
 use Rattle.and_heads.specs.Owing.{Owes, AreOwed}
-use Rattle.and_heads.proofs.Noting.{one_more}
+use Rattle.and_heads.proofs.Noting.{one_more, one_longer}
 use Rattle.and_heads.proofs.entering.take.Goals as goal
 
 pub returns-then-is_err-clause-given_up : goal.returns-then-is_err-clause-given_up
@@ -39,10 +39,6 @@ owe-requires g c =
 pub returns-then-is_err-clause-owed : goal.returns-then-is_err-clause-owed
 returns-then-is_err-clause-owed g c = λ owed.
     subst (λ (xs : List ℕ). AreOwed g.N.Naming.program c.args.floor c.args.cells.now xs c.args.owed.now) (sym c.make_room.ensures.items) owed
-
--- A list that was made room on, and is longer by one.
-one_longer : (xs ys zs : List ℕ) (cell : ℕ) → zs ≡ ys ++ cell ∷ [] → ys ≡ xs → zs ≡ xs ++ cell ∷ []
-one_longer xs ys zs cell put same = put ∙ ap (λ (ns : List ℕ). ns ++ cell ∷ []) same
 
 pub returns-clause-owed : goal.returns-clause-owed
 returns-clause-owed g c = λ owed.
