@@ -242,6 +242,7 @@ impl PendingGoals {
     }
 
     /// Whether there is a goal that was passed last, which is watched and does not sleep in a row. Takes no memory.
+    #[inline(always)]
     fn last_is_woken<N: Naming>(&self, row: &PlainCells<N>) -> bool {
         let count = self.left.len();
         if count == 0 {
@@ -428,10 +429,21 @@ fn sleeps<N: Naming>(cells: &[u32], row: &PlainCells<N>, pending: PendingGoal) -
         Watch::Unwatched => false,
         Watch::One { cell } => is_free(row, cell),
         Watch::Two { one, other } => is_free(row, one) && is_free(row, other),
-        Watch::Listed { range } => {
-            all_free(row, &cells[range.first as usize..range.past as usize])
-        }
+        _ => sleeps_by_list(cells, row, pending),
     }
+}
+
+/// The same, of a goal that is watched by cells in a list. This is a call of its own, since most are not watched, or
+/// by one cell or two. Takes no memory.
+#[inline(never)]
+fn sleeps_by_list<N: Naming>(cells: &[u32], row: &PlainCells<N>, pending: PendingGoal) -> bool
+    requires { IsWithin cells.now pending }
+    ensures { result ≡ true → Sleeps row.now (watched_in cells.now pending) }
+{
+    let Watch::Listed { range } = pending.watch else {
+        return false;
+    };
+    all_free(row, &cells[range.first as usize..range.past as usize])
 }
 
 /// Whether all of these goals sleep in a row. Takes no memory.

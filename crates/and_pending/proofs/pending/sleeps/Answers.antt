@@ -1,5 +1,4 @@
 use Rattle.std.proofs.Common.{ℕ, ◌≡◌, [], ◌∷◌, ap}
-use Rattle.std.specs.Prelude.{slice_range}
 use Rattle.std.proofs.lemmas.List.Elements.{All-nil, All-cons}
 use Rattle.and_model.specs.declared.reference.Ref.TheVariants.{Free}
 use Rattle.and_cells.specs.Seen.{word_at}
@@ -26,9 +25,3 @@ returns-then-is_free g c = λ yes.
       All-cons IsFree one (other ∷ []) (c.is_free-in-Two.ensures c.if-is_free.true)
           (All-cons IsFree other [] (c.is_free-then-is_free.ensures yes) (All-nil IsFree)),
     )
-
-pub returns-in-Listed : goal.returns-in-Listed
-returns-in-Listed g c = λ yes.
-    let cells = c.args.cells.now in
-    let range = c.in-Listed.range in
-    (slice_range cells range.first range.past, ap (λ (w : Watch). cells_at cells w) c.in-Listed.is, c.all_free.ensures yes)
