@@ -5,8 +5,10 @@ pub use Rattle.and_branch_parts.proofs.LookedGoals
 pub use Rattle.and_branch_parts.proofs.MovedBranches
 pub use Rattle.and_branch_parts.proofs.RoundsKept
 pub use Rattle.and_branch_parts.proofs.SeenGoals
+pub mod BodiesRun
 pub mod CallsWatched
 pub mod LinesTold
+pub mod LookedItems
 pub mod OutlinedBranches
 pub mod RebuiltBranches
 pub mod StatesFound

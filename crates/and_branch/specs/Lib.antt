@@ -11,6 +11,7 @@ pub use Rattle.and_branch_parts.specs.Resting
 pub use Rattle.and_branch_parts.specs.Rounds
 pub use Rattle.and_branch_parts.specs.Watching
 pub use Rattle.and_branch_parts.specs.Ways
+pub mod Bodies
 pub mod States
 pub mod Outlines
 pub mod Parts

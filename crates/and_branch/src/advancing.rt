@@ -9,12 +9,14 @@ ghost use Rattle.and_model.specs.declared.goal.Goal.{Goal};
 ghost use Rattle.and_cells.specs.Meaning.{IsSettled};
 ghost use Rattle.and_cells.specs.Parts.{named};
 ghost use Rattle.and_guards.specs.Goals.{CanBeJudged};
+ghost use Rattle.and_program.specs.Items.{node_item};
 ghost use Rattle.and_determinacy.specs.Candidates.{IsJudged, IsNarrowed};
 ghost use Rattle.and_clause_index.specs.Tables.{IsTableOf};
 ghost use Rattle.and_determinacy.specs.Watching.{TwoStayWhile};
-ghost use Rattle.and_reduction.specs.Runs.{CanBeRun, IsWaiting, HasRun, CannotHold, WaitsFor};
+ghost use Rattle.and_reduction.specs.Runs.{IsWaiting, HasRun, CannotHold, WaitsFor};
+ghost use Rattle.and_step_laws.specs.Running.{IsRunnable};
 ghost use Rattle.and_branch_laws.specs.Judging.{CandidateInCells};
-ghost use Rattle.and_branch_laws.specs.Kept.{item_at};
+ghost use Rattle.and_branch_laws.specs.Kept.{item_at, node_item_at};
 ghost use Rattle.and_branch_parts.specs.Branches.{IsBranch, SameKey};
 ghost use Rattle.and_branch_parts.specs.Finding.{HasFound, HasHeavy};
 ghost use Rattle.and_branch_parts.specs.Origins.{KeepsBack};
@@ -25,15 +27,15 @@ ghost use Rattle.and_branch_parts.specs.declared.finding.RoundSoFar.{RoundSoFar}
 use crate::branch::Branch;
 use crate::workspace::Workspace;
 use and_branch_parts::{
-    HeavyCall, Looked, Round, RoundSoFar, Seen, Share, Way, first_call, is_call, turns_back,
+    HeavyCall, Looked, Round, RoundSoFar, Seen, Share, Way, first_call, item_of, turns_back,
 };
 use and_cells::Naming;
 use and_clause_index::Determinacy;
 use and_determinacy::{Judged, Narrowed, judge, narrow};
 use and_gate::Gate;
 use and_model::{ClauseNo, Goal};
-use and_program::Loaded;
-use and_reduction::{Ran, run};
+use and_program::{ItemNode, Loaded};
+use and_reduction::{Entered, Ran, run_item};
 use std::alloc::AllocError;
 
 /// How many reductions the first round has for each goal that stands at its beginning. Each later one has twice
@@ -211,10 +213,11 @@ impl<N: Naming> Branch<N> {
         ensures came_to { IfOk result (λ l. LookIs N.program may self.old self.new l) }
     {
         loaded.skeleton_is_of_the_program();
-        if is_call(loaded, goal) {
+        let item = item_of(loaded, goal);
+        if item.is_call() {
             self.look_at_call(loaded, table, gate, goal, may, workspace)
         } else {
-            self.look_at_arithmetic(loaded, goal, may, workspace)
+            self.look_at_arithmetic(loaded, goal, item, may, workspace)
         }
     }
 
@@ -246,10 +249,11 @@ impl<N: Naming> Branch<N> {
                 self.look_at_last(loaded, table, gate, goal, clause, may, workspace)
             }
             Narrowed::Several => {
-                self.watch_call(loaded, goal, workspace)?;
+                let passed = goal;
+                self.watch_call(loaded, passed, workspace)?;
                 self.pass()?;
                 Ok(Looked::Passed {
-                    goal,
+                    goal: passed,
                     seen: Seen::Several,
                 })
             }
@@ -285,13 +289,23 @@ impl<N: Naming> Branch<N> {
                 seen: Seen::NotJudged,
             });
         }
-        if !self.has_room(loaded.weight(clause)) {
-            return self.look_at_heavy(loaded, table, goal, clause, workspace);
+        let weight = loaded.weight(clause);
+        if !self.has_room(weight) {
+            let heavy = goal;
+            return self.look_at_heavy(loaded, table, heavy, clause, workspace);
         }
+        let head = loaded.head(clause);
+        let items = loaded.items(clause);
         gate.reduce(LEADER);
-        self.reduce_next(loaded, clause, workspace)?;
-        self.goals_are_few();
-        Ok(Looked::Reduced)
+        let node = self.used;
+        match self.enter_next(loaded, clause, weight, head, items, workspace)? {
+            Entered::Solved => {
+                self.run_body(loaded, items, clause, node, workspace)?;
+                self.goals_are_few();
+                Ok(Looked::Reduced)
+            }
+            Entered::NoSolution => Ok(Looked::Failed),
+        }
     }
 
     /// The same, where there is no room for that clause. It has to be tried here, since a clause that
@@ -331,29 +345,32 @@ impl<N: Naming> Branch<N> {
         }
     }
 
-    /// The same, where the next goal is this one, arithmetic.
+    /// The same, where the next goal is this one, arithmetic, and has this item.
     #[inline(always)]
     fn look_at_arithmetic(
         &mut self,
         loaded: &Loaded,
         goal: Goal,
+        item: ItemNode,
         may: bool,
         workspace: &mut Workspace,
     ) -> Result<Looked, AllocError>
         requires program { N.program ≡ named loaded.now }
         requires at { IsAt N.program self.old goal }
         requires arithmetic { (a : Arithmetic) × (item_at N.program.program goal ≡ arithmetic a) }
+        requires item { node_item_at N.program goal ≡ node_item item }
         ensures same { SameKey self.old self.new }
         ensures steps { OnOk result (StepsOn N.program self.old self.new) }
         ensures came_to { IfOk result (λ l. LookIs N.program may self.old self.new l) }
     {
         loaded.skeleton_is_of_the_program();
-        match self.run_next(loaded, goal, workspace)? {
+        match self.run_next(loaded, goal, item, workspace)? {
             Ran::Waits { cell } => {
-                self.watch_arithmetic(goal, cell)?;
+                let passed = goal;
+                self.watch_arithmetic(passed, cell)?;
                 self.pass()?;
                 Ok(Looked::Passed {
-                    goal,
+                    goal: passed,
                     seen: Seen::Arithmetic,
                 })
             }
@@ -428,19 +445,20 @@ impl<N: Naming> Branch<N> {
         judge(table, loaded, &mut self.cells, goal, &mut workspace.trials)
     }
 
-    /// Runs the next goal, arithmetic, and leaves it there. An error is want of memory, and the branch
-    /// is spent.
+    /// Runs the next goal, arithmetic, which has this item, and leaves it there. An error is want of memory, and the
+    /// branch is spent.
     #[inline(always)]
-    fn run_next(
+    pub(crate) fn run_next(
         &mut self,
         loaded: &Loaded,
         goal: Goal,
+        item: ItemNode,
         workspace: &mut Workspace,
     ) -> Result<Ran, AllocError>
         requires program { N.program ≡ named loaded.now }
         requires settled { IsSettled N.program self.old.row }
         requires short { length self.old.row ≤ MAX_LIMIT }
-        requires goal { CanBeRun N.program self.old.row goal }
+        requires item { IsRunnable N.program self.old.row goal (node_item item) }
         ensures same { SameKey self.old self.new }
         ensures others { self.new ≡ record self.old { row = self.new.row; trail = self.new.trail } }
         ensures back { OnOk result (KeepsBack self.old self.new) }
@@ -451,7 +469,7 @@ impl<N: Naming> Branch<N> {
         ensures fails { result ≡ Ok Ran.False → CannotHold N.program self.old.row goal }
     {
         let tools = &mut workspace.tools;
-        run(loaded, &mut self.cells, goal, &mut self.trail, tools)
+        run_item(loaded, &mut self.cells, goal, item, &mut self.trail, tools)
     }
 
     /// What a round came to that went over all goals, of which this was seen. Takes no memory.
@@ -509,7 +527,7 @@ impl<N: Naming> Branch<N> {
     }
 
     /// Marks the branch failed. Takes no memory.
-    fn mark_failed(&mut self)
+    pub(crate) fn mark_failed(&mut self)
         ensures { self.new ≡ record self.old { is_failed = true } }
     {
         self.is_failed = true;

@@ -11,13 +11,9 @@ use Rattle.and_program.specs.Skeletons
 use Rattle.and_program.specs.Skeletons.{Shape, NodeItem, item_of}
 use Rattle.and_program.specs.declared.item.ItemNode.{ItemNode}
 use Rattle.and_branch_laws.specs.Kept.{goal_of}
-use Rattle.and_branch_laws.specs.Reducing.{goal_at, body_goals}
+use Rattle.and_branch_laws.specs.Reducing.{goal_at}
 use Rattle.and_pending.specs.Pending.{Pending, unwatched}
-use Rattle.and_branch_parts.specs.Next.{is_goal_item, HasPut}
-
--- the goals of a body from an item on
-abbrev pub goals_from : (c n i : ℕ) → List Item → List Goal
-goals_from c n i items = map goal_of (body_goals c n [] i items)
+use Rattle.and_branch_parts.specs.Next.{goals_from, is_goal_item, HasPut}
 
 -- With an item before them there is a goal more, or there is not.
 pub one_item : (ss : List Shape) (c n i : ℕ) (x : NodeItem) (items : List Item) → is_goal_item x ≡ true
@@ -58,7 +54,13 @@ module _ (ss : List Shape) (xs : List ItemNode) (c n i : ℕ) (d : ItemNode) (be
       (get_or-map (item_of ss) (map node_item xs) i item (item_of ss item) long
       ∙ ap (item_of ss) (get_or-map node_item xs i d item below))
 
-  -- An item that is a goal was put before those after it.
+  -- An item that is a goal comes before those after it.
+  pub goal_first : is_goal_item (node_item (get_or xs i d)) ≡ true
+      → goals_from c n i (drop i (body_of ss xs)) ≡ goal_of (goal_at c n [] i) ∷ goals_from c n (suc i) (drop (suc i) (body_of ss xs))
+  goal_first is =
+      ap (λ (l : List Item). goals_from c n i l) rest_is ∙ one_item ss c n i item (drop (suc i) (body_of ss xs)) is
+
+  -- It was put before them.
   pushed : (place : ℕ) → suc i ≡ place → (old goals new : Pending) → is_goal_item (node_item (get_or xs i d)) ≡ true
       → HasPut (goals_from c n place (drop place (body_of ss xs))) old goals
       → HasPut (goal_of (goal_at c n [] i) ∷ []) goals new
@@ -67,9 +69,7 @@ module _ (ss : List Shape) (xs : List ItemNode) (c n i : ℕ) (d : ItemNode) (be
       let tail : List Item = drop (suc i) (body_of ss xs) in
       let behind : HasPut (goals_from c n (suc i) tail) old goals =
       subst (λ (k : ℕ). HasPut (goals_from c n k (drop k (body_of ss xs))) old goals) (sym e) before in
-      let more : goals_from c n i (drop i (body_of ss xs)) ≡ goal_of (goal_at c n [] i) ∷ goals_from c n (suc i) tail =
-      ap (λ (l : List Item). goals_from c n i l) rest_is ∙ one_item ss c n i item tail is in
-      subst (λ (gs : List Goal). HasPut gs old new) (sym more)
+      subst (λ (gs : List Goal). HasPut gs old new) (sym (goal_first is))
       (put_twice (goals_from c n (suc i) tail) (goal_of (goal_at c n [] i)) old goals new behind put)
 
   passed : (place : ℕ) → suc i ≡ place → (old goals new : Pending) → is_goal_item (node_item (get_or xs i d)) ≡ false

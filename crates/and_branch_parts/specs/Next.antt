@@ -1,7 +1,7 @@
 -- The next goal, reduced by a clause.
-use Rattle.std.specs.Prelude.{ℕ, ◌≡◌, ◌+◌, ◌≤◌, Bool, true, false, List, ◌∷◌, ◌++◌, length, map, Contains}
+use Rattle.std.specs.Prelude.{ℕ, ◌≡◌, ◌+◌, ◌≤◌, Bool, true, false, List, [], ◌∷◌, ◌++◌, length, map, Contains}
 use Rattle.and_model.specs.Terms.{Term}
-use Rattle.and_model.specs.Programs.{Of, call, clause_at, clause_weight}
+use Rattle.and_model.specs.Programs.{Item, Of, call, clause_at, clause_weight}
 use Rattle.and_model.specs.Trees.{QueryTree, Open, call_of, reduce}
 use Rattle.and_model.specs.Reached.{ReachedBy}
 use Rattle.and_model.specs.declared.goal.Goal.{Goal}
@@ -9,7 +9,8 @@ use Rattle.and_model.specs.declared.limits.TheConstants.{MAX_LIMIT}
 use Rattle.and_program.specs.Skeletons
 use Rattle.and_program.specs.Skeletons.{NodeItem}
 use Rattle.and_cells.specs.Ranges.{NamedProgram}
-use Rattle.and_branch_laws.specs.Kept.{item_at}
+use Rattle.and_branch_laws.specs.Kept.{goal_of, item_at}
+use Rattle.and_branch_laws.specs.Reducing.{body_goals}
 use Rattle.and_branch_parts.specs.Branches.{Held, Lives, IsBranchOf, IsOpenGoal}
 use Rattle.and_branch_parts.specs.Origins.{KeepsBack}
 use Rattle.and_pending.specs.Pending.{Pending, unwatched}
@@ -71,3 +72,7 @@ pub record HasItem (gs : List Goal) (h : Goal) : Type 0 where
   pub back : List Goal
   pub is : gs ≡ front ++ goal ∷ back
   pub same : IsSameItem goal h
+
+-- the goals of a body from an item on, in the frame of the clause at the node
+abbrev pub goals_from : (clause node item : ℕ) → List Item → List Goal
+goals_from c n i items = map goal_of (body_goals c n [] i items)

@@ -1,16 +1,16 @@
 //! The goals of a body, put where the next goals are.
 
-ghost use Rattle.std.specs.Prelude.{◌≡◌, ◌≤◌, ◌⊎◌, ℕ, true, false, [], ◌∷◌, ◌++◌, map, reverse, length, OnOk, IfOk};
+ghost use Rattle.std.specs.Prelude.{◌≡◌, ◌≤◌, ◌⊎◌, ℕ, true, false, [], ◌∷◌, ◌++◌, drop, map, length, OnOk, IfOk};
 ghost use Rattle.and_model.specs.Terms.{Term};
 ghost use Rattle.and_model.specs.Programs.{call, arithmetic, Arithmetic, clause_at};
 ghost use Rattle.and_cells.specs.Ranges.{IsGoalInRange};
 ghost use Rattle.and_cells.specs.Parts.{named};
 ghost use Rattle.and_program.specs.Loaded.{program_of, skeleton_of};
-ghost use Rattle.and_program.specs.Items.{node_item};
-ghost use Rattle.and_program.specs.Skeletons.{item_of};
-ghost use Rattle.and_branch_laws.specs.Kept.{goal_of, item_at};
+ghost use Rattle.and_program.specs.Items.{is_call_node, node_item};
+ghost use Rattle.and_program.specs.Skeletons;
+ghost use Rattle.and_branch_laws.specs.Kept.{goal_of, item_at, node_item_at};
 ghost use Rattle.and_branch_laws.specs.Reducing.{goal_at, body_goals};
-ghost use Rattle.and_branch_parts.specs.Next.{is_goal_item, HasPut};
+ghost use Rattle.and_branch_parts.specs.Next.{goals_from, is_goal_item, HasPut};
 
 use and_model::{ClauseNo, Goal, GoalList};
 use and_pending::PendingGoals;
@@ -18,7 +18,7 @@ use and_program::{ItemNode, Loaded};
 use std::alloc::{AllocError, Global};
 
 /// Puts the calls and the arithmetic of a clause's body, which has these items and whose frame begins at the node, at
-/// the place of work. An error is want of memory.
+/// the place of work. An error is want of memory. (There is none for a body of 2^32 items.)
 pub fn push_body(
     goals: &mut PendingGoals,
     _loaded: &Loaded,
@@ -26,16 +26,38 @@ pub fn push_body(
     clause: ClauseNo,
     node: u32,
 ) -> Result<(), AllocError>
-    requires { map (item_of (skeleton_of _loaded.now).nodes) (map node_item items.now)
+    requires { map (Skeletons.item_of (skeleton_of _loaded.now).nodes) (map node_item items.now)
         ≡ (clause_at (program_of _loaded.now) clause.0).body }
     ensures { OnOk result (HasPut
         (map goal_of (body_goals clause.0 node [] 0 (clause_at (program_of _loaded.now) clause.0).body))
         goals.old goals.new) }
 {
-    let mut place = items.len();
-    while place > 0 {
+    push_body_from(goals, _loaded, items, 0, clause, node)
+}
+
+/// The same of the items from a place on.
+pub fn push_body_from(
+    goals: &mut PendingGoals,
+    _loaded: &Loaded,
+    items: &[ItemNode],
+    from: u32,
+    clause: ClauseNo,
+    node: u32,
+) -> Result<(), AllocError>
+    requires items { map (Skeletons.item_of (skeleton_of _loaded.now).nodes) (map node_item items.now)
+        ≡ (clause_at (program_of _loaded.now) clause.0).body }
+    requires from { from ≤ length items.now }
+    ensures { OnOk result (HasPut
+        (goals_from clause.0 node from (drop from (clause_at (program_of _loaded.now) clause.0).body))
+        goals.old goals.new) }
+{
+    let Ok(count) = u32::try_from(items.len()) else {
+        return Err(AllocError);
+    };
+    let mut place = count;
+    while place > from {
         place -= 1;
-        push_item(goals, items[place], clause, node, place)?;
+        push_item(goals, items[place as usize], clause, node, place)?;
     }
     Ok(())
 }
@@ -46,7 +68,7 @@ fn push_item(
     item: ItemNode,
     clause: ClauseNo,
     node: u32,
-    place: usize,
+    place: u32,
 ) -> Result<(), AllocError>
     ensures goal { is_goal_item (node_item item) ≡ true
         → OnOk result (HasPut (goal_of (goal_at clause.0 node [] place) ∷ []) goals.old goals.new) }
@@ -56,6 +78,20 @@ fn push_item(
         push_goal(goals, clause, node, place)
     } else {
         Ok(())
+    }
+}
+
+/// Whether the item is arithmetic. Takes no memory.
+pub fn is_arithmetic_item(item: ItemNode) -> bool
+    ensures goal { result ≡ true → is_goal_item (node_item item) ≡ true }
+    ensures other { result ≡ true → is_call_node (node_item item) ≡ false }
+{
+    match item {
+        ItemNode::Call { .. } => false,
+        ItemNode::Equal { .. } => false,
+        ItemNode::Is { .. } => true,
+        ItemNode::Compare { .. } => true,
+        ItemNode::Fail => false,
     }
 }
 
@@ -72,22 +108,18 @@ fn is_goal(item: ItemNode) -> bool
     }
 }
 
-/// Puts an item as a goal at the place of work. An error is want of memory. (There is none for a body of 2^32
-/// items.)
+/// Puts an item as a goal at the place of work. An error is want of memory.
 fn push_goal(
     goals: &mut PendingGoals,
     clause: ClauseNo,
     node: u32,
-    place: usize,
+    place: u32,
 ) -> Result<(), AllocError>
     ensures { OnOk result (HasPut (goal_of (goal_at clause.0 node [] place) ∷ []) goals.old goals.new) }
 {
-    let Ok(item) = u32::try_from(place) else {
-        return Err(AllocError);
-    };
     goals.push(Goal {
         node,
-        item,
+        item: place,
         clause,
         base: node,
     })
@@ -102,6 +134,14 @@ pub fn is_call(loaded: &Loaded, goal: Goal) -> bool
     ensures arithmetic { result ≡ false → (a : Arithmetic) × (item_at (program_of loaded.now) goal ≡ arithmetic a) }
 {
     loaded.items(goal.clause)[goal.item as usize].is_call()
+}
+
+/// The item of a goal that is in range. Takes no memory.
+pub fn item_of(loaded: &Loaded, goal: Goal) -> ItemNode
+    requires { (words : ℕ) × IsGoalInRange (named loaded.now) words goal }
+    ensures { node_item result ≡ node_item_at (named loaded.now) goal }
+{
+    loaded.items(goal.clause)[goal.item as usize]
 }
 
 /// Puts a goal at the end. An error is want of memory.

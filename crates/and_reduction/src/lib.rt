@@ -9,6 +9,6 @@ mod sides;
 pub mod taking;
 pub mod trail;
 
-pub use running::{Ran, run};
+pub use running::{Ran, run, run_item};
 pub use taking::{Entered, Tools, begin, take};
 pub use trail::Trail;

@@ -64,26 +64,28 @@ pub fn run<N: Naming>(
     ensures fails { result ≡ Ok Ran.False → CannotHold N.program cells.old goal }
     ensures noted { OnOk result (KeepsNoted trail.old trail.new cells.old cells.new) }
 {
-    run_item(loaded, cells, goal, trail, tools)
+    let item = runnable_item(loaded, cells, goal);
+    run_item(loaded, cells, goal, item, trail, tools)
 }
 
-/// The same, as the goal's item has it.
+/// The same, of a goal whose item is given.
 #[inline(always)]
-fn run_item<N: Naming>(
+pub fn run_item<N: Naming>(
     loaded: &Loaded,
     cells: &mut PlainCells<N>,
     goal: Goal,
+    item: ItemNode,
     trail: &mut Trail,
     tools: &mut Tools,
 ) -> Result<Ran, AllocError>
     requires program { N.program ≡ named loaded.now }
     requires settled { IsSettled N.program cells.old }
     requires short { length cells.old ≤ MAX_LIMIT }
-    requires goal { CanBeRun N.program cells.old goal }
+    requires item { IsRunnable N.program cells.old goal (node_item item) }
     ensures ran { IfOk result (RunsTo N.program cells.old cells.new goal) }
     ensures noted { OnOk result (KeepsNoted trail.old trail.new cells.old cells.new) }
 {
-    match runnable_item(loaded, cells, goal) {
+    match item {
         ItemNode::Compare {
             relation,
             left,

@@ -1,5 +1,7 @@
 use Rattle.std.proofs.Common.{Ok, List, ap, sym, ◌∙◌, subst}
 use Rattle.and_model.specs.declared.reference.Ref.{Ref}
+use Rattle.and_program.specs.Items.{node_item}
+use Rattle.and_step_laws.proofs.Goals.{runnable}
 use Rattle.and_reduction.specs.Runs.{IsWaiting, WaitsFor}
 use Rattle.and_branch_parts.specs.declared.finding.Seen.TheVariants.{Arithmetic}
 use Rattle.and_branch_parts.proofs.LoadedPrograms.{is_loaded}
@@ -9,12 +11,14 @@ use Rattle.and_branch.proofs.branch.Branch.look_at_arithmetic.Goals as goal
 pub run_next-requires-clause-short : goal.run_next-requires-clause-short
 run_next-requires-clause-short g c = is_short g.N.Naming.program c.args.self.now c.args.goal c.requires.at
 
-pub run_next-requires-clause-goal : goal.run_next-requires-clause-goal
-run_next-requires-clause-goal g c =
+pub run_next-requires-clause-item : goal.run_next-requires-clause-item
+run_next-requires-clause-item g c =
     let P = g.N.Naming.program in
     let says = c.skeleton_is_of_the_program.ensures in
     let loaded = is_loaded P c.args.loaded.now c.requires.program says.skeleton says.own_variables says.few in
-    run_ready P c.args.self.now c.args.goal c.requires.at loaded c.requires.arithmetic.0 c.requires.arithmetic.1
+    runnable P loaded c.args.self.now.row c.args.goal
+    (run_ready P c.args.self.now c.args.goal c.requires.at loaded c.requires.arithmetic.0 c.requires.arithmetic.1)
+    (node_item c.args.item) c.requires.item
 
 pub watch_arithmetic-requires-clause-waits : goal.watch_arithmetic-requires-clause-waits
 watch_arithmetic-requires-clause-waits g c =

@@ -1,84 +1,59 @@
-use Rattle.std.proofs.Common.{◌+◌, [], map, refl, ap, sym, ◌∙◌, subst, Ok}
+use Rattle.std.proofs.Common.{sym, ap, ◌∙◌, subst, Ok}
 use Rattle.std.proofs.lemmas.Result.{on_ok_weaker}
 use Rattle.and_model.specs.Programs.{clause_at, clause_weight}
 use Rattle.and_cells.specs.Ranges.{NamedProgram}
-use Rattle.and_pending.specs.Pending.{goals_of}
 use Rattle.and_reduction.specs.Items.{AreItemsOf, IsHeadOf}
-use Rattle.and_branch_laws.specs.Kept.{goal_of}
-use Rattle.and_branch_laws.specs.Reducing.{body_goals}
+use Rattle.and_branch_parts.proofs.KeptOrigins.{kept_then}
 use Rattle.and_branch_parts.specs.Branches.{Held}
-use Rattle.and_branch_parts.specs.Next.{HasNextCall, HasPut}
-use Rattle.and_branch_parts.proofs.KeptOrigins.{reduced_back}
-use Rattle.and_branch_parts.proofs.LoadedPrograms.{is_loaded}
-use Rattle.and_branch_parts.proofs.NextReduced.{next_judged, next_lives, next_dies}
-use Rattle.and_branch_parts.proofs.PassedGoals.{first_goal, put_left, put_right, put_watched}
+use Rattle.and_branch.specs.Bodies.{with_body}
+use Rattle.and_branch.proofs.BodiesRun.{entered_at, kept_to, reduced_moved}
 use Rattle.and_branch.proofs.branch.Branch.reduce_next.Goals as goal
 
-pub take-requires-clause-goal : goal.take-requires-clause-goal
-take-requires-clause-goal g c =
-    let P = g.N.Naming.program in
-    let says = c.skeleton_is_of_the_program.ensures in
-    let loaded = is_loaded P c.args.loaded.now c.requires.program says.skeleton says.own_variables says.few in
-    let (w, rest, next, same, popped) = c.in-Some.ensures.some in
-    let has = subst (λ (b : Held). HasNextCall P b c.args.clause.0) (sym c.self.view_is) c.requires.next in
-    next_judged P loaded _ c.args.clause.0 c.in-Some.goal (goals_of rest) has
-    (first_goal c.self.inside.goals.right rest w c.in-Some.goal next same)
-
-pub take-requires-clause-weight : goal.take-requires-clause-weight
-take-requires-clause-weight g c =
+pub enter_next-requires-clause-weight : goal.enter_next-requires-clause-weight
+enter_next-requires-clause-weight g c =
     c.weight-weight.ensures ∙ ap (λ (p : NamedProgram). clause_weight (clause_at p.program c.args.clause.0)) (sym c.requires.program)
 
-pub take-requires-clause-head : goal.take-requires-clause-head
-take-requires-clause-head g c =
+pub enter_next-requires-clause-head : goal.enter_next-requires-clause-head
+enter_next-requires-clause-head g c =
     subst (λ (p : NamedProgram). IsHeadOf p c.args.clause.0 c.head-head.result.0) (sym c.requires.program)
     (c.head-head.ensures.node, c.head-head.ensures.there)
 
-pub take-requires-clause-items : goal.take-requires-clause-items
-take-requires-clause-items g c =
+pub enter_next-requires-clause-items : goal.enter_next-requires-clause-items
+enter_next-requires-clause-items g c =
     subst (λ (p : NamedProgram). AreItemsOf p c.args.clause.0 c.items-items.result.now) (sym c.requires.program)
     (record { nodes = c.items-items.ensures.items; body = c.items-items.ensures.body })
+
+pub put_body-requires-clause-items : goal.put_body-requires-clause-items
+put_body-requires-clause-items g c =
+    subst (λ (p : NamedProgram). AreItemsOf p c.args.clause.0 c.items-items.result.now) (sym c.requires.program)
+    (record { nodes = c.items-items.ensures.items; body = c.items-items.ensures.body })
+
+pub returns-in-Solved-clause-used : goal.returns-in-Solved-clause-used
+returns-in-Solved-clause-used g c =
+    on_ok_weaker c.put_body.result (λ moved. moved.used ∙ c.in_ok-enter_next.ensures.used) c.put_body.ensures.moved
 
 pub returns-in-Solved-clause-reduced : goal.returns-in-Solved-clause-reduced
 returns-in-Solved-clause-reduced g c =
     let P = g.N.Naming.program in
-    let says = c.skeleton_is_of_the_program.ensures in
-    let loaded = is_loaded P c.args.loaded.now c.requires.program says.skeleton says.own_variables says.few in
-    let (w, rest, next, same, popped) = c.in-Some.ensures.some in
-    let has = subst (λ (b : Held). HasNextCall P b c.args.clause.0) (sym c.self.view_is) c.requires.next in
-    let weight = c.weight-weight.ensures ∙ ap (λ (p : NamedProgram). clause_weight (clause_at p.program c.args.clause.0))
-    (sym c.requires.program) in
-    on_ok_weaker c.push_body.result (λ one.
-    (let put = subst (λ (p : NamedProgram).
-    HasPut (map goal_of (body_goals c.args.clause.0 c.self.inside.used [] 0 (clause_at p.program c.args.clause.0).body)) c.pop.new.self
-    c.push_body.new.goals) (sym c.requires.program) one in
-    next_lives P loaded _ _ _ c.self.view_is c.args.clause.0 c.in-Some.goal (goals_of rest) has
-    (first_goal c.self.inside.goals.right rest w c.in-Some.goal next same)
-    (record { key = refl; limit = refl }) c.in_ok-push_reduction.ensures (ap (λ w. c.self.inside.used + w) weight)
-    (c.take.ensures.solved (c.in_ok-take.was ∙ ap Ok c.in-Solved.is)) refl
-    (put_left c.self.inside.goals c.pop.new.self w rest next popped c.push_body.new.goals _ put)
-    (put_right c.self.inside.goals c.pop.new.self w rest next popped c.push_body.new.goals _ put)
-    (put_watched c.self.inside.goals c.pop.new.self w rest next popped c.push_body.new.goals _ put)))
-    c.push_body.ensures
-
-pub returns-in-NoSolution-clause-reduced : goal.returns-in-NoSolution-clause-reduced
-returns-in-NoSolution-clause-reduced g c =
-    let P = g.N.Naming.program in
-    let says = c.skeleton_is_of_the_program.ensures in
-    let loaded = is_loaded P c.args.loaded.now c.requires.program says.skeleton says.own_variables says.few in
-    let (w, rest, next, same, popped) = c.in-Some.ensures.some in
-    let has = subst (λ (b : Held). HasNextCall P b c.args.clause.0) (sym c.self.view_is) c.requires.next in
-    let weight = c.weight-weight.ensures ∙ ap (λ (p : NamedProgram). clause_weight (clause_at p.program c.args.clause.0))
-    (sym c.requires.program) in
-    next_dies P loaded _ _ _ c.self.view_is c.args.clause.0 c.in-Some.goal (goals_of rest) has
-    (first_goal c.self.inside.goals.right rest w c.in-Some.goal next same)
-    (record { key = refl; limit = refl }) c.in_ok-push_reduction.ensures (ap (λ w. c.self.inside.used + w) weight)
-    (c.take.ensures.unsolved (c.in_ok-take.was ∙ ap Ok c.in-NoSolution.is)) refl
+    let node = c.self.inside.used in
+    let mid = c.enter_next.new.self in
+    let whole = with_body P c.args.clause.0 node 0 mid in
+    let entered = entered_at P c.args.clause.0 c.args.self.now.used node c.args.self.now mid (sym (ap (λ (b : Held). b.used) c.self.view_is))
+    (c.enter_next.ensures.entered (c.in_ok-enter_next.was ∙ ap Ok c.in-Solved.is)) in
+    on_ok_weaker c.put_body.result
+    (λ moved. reduced_moved P c.args.self.now whole c.put_body.new.self c.args.clause.0 entered moved)
+    c.put_body.ensures.moved
 
 pub returns-in-Solved-clause-back : goal.returns-in-Solved-clause-back
 returns-in-Solved-clause-back g c =
-    on_ok_weaker c.push_body.result
-    (λ put. reduced_back _ c.args.self.now c.self.view_is _ _ c.in_ok-push_reduction.ensures c.in_ok-take.ensures.noted) c.push_body.ensures
+    let P = g.N.Naming.program in
+    let node = c.self.inside.used in
+    let mid = c.enter_next.new.self in
+    on_ok_weaker c.put_body.result
+    (λ moved. kept_then c.args.self.now (with_body P c.args.clause.0 node 0 mid) c.put_body.new.self
+    (kept_to P c.args.clause.0 node 0 c.args.self.now mid c.in_ok-enter_next.ensures.back) moved.back)
+    c.put_body.ensures.moved
 
-pub returns-in-NoSolution-clause-back : goal.returns-in-NoSolution-clause-back
-returns-in-NoSolution-clause-back g c =
-    reduced_back _ c.args.self.now c.self.view_is _ _ c.in_ok-push_reduction.ensures c.in_ok-take.ensures.noted
+pub returns-in-NoSolution-clause-reduced : goal.returns-in-NoSolution-clause-reduced
+returns-in-NoSolution-clause-reduced g c =
+    (c.enter_next.ensures.fails (c.in_ok-enter_next.was ∙ ap Ok c.in-NoSolution.is)).0

@@ -1,12 +1,13 @@
 use Rattle.std.proofs.Common.{◌≤◌, drop, length}
 use Rattle.and_program.specs.Loaded.{skeleton_of}
-use Rattle.and_branch_parts.specs.Next.{HasPut}
-use Rattle.and_branch_parts.proofs.BodyStacks.{goals_from, body_of}
-use Rattle.and_branch_parts.proofs.goals.push_body.Given as goal
+use Rattle.and_branch_parts.specs.Next.{goals_from, HasPut}
+use Rattle.and_branch_parts.proofs.BodyStacks.{body_of}
+use Rattle.and_branch_parts.proofs.goals.push_body_from.Given as goal
 
 abbrev pub invariant-loop-place : goal.invariant-loop-place
 invariant-loop-place l = record {
   within : l.place ≤ length l.items;
+  from : l.from ≤ l.place;
   stacked : HasPut (goals_from l.clause.0 l.node l.place (drop l.place (body_of (skeleton_of l._loaded).nodes l.items))) l.initial.goals l.goals;
 }
 

@@ -1,0 +1,57 @@
+use Rattle.std.proofs.Common.{◌+◌, refl, ap, sym, ◌∙◌, subst, Ok}
+use Rattle.and_pending.specs.Pending.{goals_of}
+use Rattle.and_branch_parts.specs.Branches.{Held}
+use Rattle.and_branch_parts.specs.Next.{HasNextCall}
+use Rattle.and_branch_parts.proofs.KeptOrigins.{reduced_back}
+use Rattle.and_branch_parts.proofs.LoadedPrograms.{is_loaded}
+use Rattle.and_branch_parts.proofs.NextReduced.{next_judged, next_dies}
+use Rattle.and_branch_parts.proofs.PassedGoals.{first_goal, popped_left, popped_right, popped_watched}
+use Rattle.and_branch.proofs.BodiesRun.{next_entered}
+use Rattle.and_branch.proofs.branch.Branch.enter_next.Goals as goal
+
+pub take-requires-clause-goal : goal.take-requires-clause-goal
+take-requires-clause-goal g c =
+    let P = g.N.Naming.program in
+    let says = c.skeleton_is_of_the_program.ensures in
+    let loaded = is_loaded P c.args.loaded.now c.requires.program says.skeleton says.own_variables says.few in
+    let (w, rest, next, same, popped) = c.in-Some.ensures.some in
+    let has = subst (λ (b : Held). HasNextCall P b c.args.clause.0) (sym c.self.view_is) c.requires.next in
+    next_judged P loaded _ c.args.clause.0 c.in-Some.goal (goals_of rest) has
+    (first_goal c.self.inside.goals.right rest w c.in-Some.goal next same)
+
+pub returns-in-Solved-clause-entered : goal.returns-in-Solved-clause-entered
+returns-in-Solved-clause-entered g c = λ _.
+    let P = g.N.Naming.program in
+    let says = c.skeleton_is_of_the_program.ensures in
+    let loaded = is_loaded P c.args.loaded.now c.requires.program says.skeleton says.own_variables says.few in
+    let (w, rest, next, same, popped) = c.in-Some.ensures.some in
+    let has = subst (λ (b : Held). HasNextCall P b c.args.clause.0) (sym c.self.view_is) c.requires.next in
+    next_entered P loaded c.args.self.now _ _ c.self.view_is c.args.clause.0 c.in-Some.goal (goals_of rest) has
+    (first_goal c.self.inside.goals.right rest w c.in-Some.goal next same)
+    (record { key = refl; limit = refl }) c.in_ok-push_reduction.ensures (ap (λ w. c.self.inside.used + w) c.requires.weight)
+    (c.take.ensures.solved (c.in_ok-take.was ∙ ap Ok c.in-Solved.is)) refl
+    (popped_left c.self.inside.goals c.pop.new.self w rest next popped)
+    (popped_right c.self.inside.goals c.pop.new.self w rest next popped)
+    (popped_watched c.self.inside.goals c.pop.new.self w rest next popped)
+
+pub returns-in-NoSolution-clause-fails : goal.returns-in-NoSolution-clause-fails
+returns-in-NoSolution-clause-fails g c = λ _.
+    let P = g.N.Naming.program in
+    let says = c.skeleton_is_of_the_program.ensures in
+    let loaded = is_loaded P c.args.loaded.now c.requires.program says.skeleton says.own_variables says.few in
+    let (w, rest, next, same, popped) = c.in-Some.ensures.some in
+    let has = subst (λ (b : Held). HasNextCall P b c.args.clause.0) (sym c.self.view_is) c.requires.next in (
+      next_dies P loaded _ _ _ c.self.view_is c.args.clause.0 c.in-Some.goal (goals_of rest) has
+          (first_goal c.self.inside.goals.right rest w c.in-Some.goal next same)
+          (record { key = refl; limit = refl }) c.in_ok-push_reduction.ensures (ap (λ w. c.self.inside.used + w) c.requires.weight)
+          (c.take.ensures.unsolved (c.in_ok-take.was ∙ ap Ok c.in-NoSolution.is)) refl,
+      refl,
+    )
+
+pub returns-in-Solved-clause-back : goal.returns-in-Solved-clause-back
+returns-in-Solved-clause-back g c =
+    reduced_back _ c.args.self.now c.self.view_is _ _ c.in_ok-push_reduction.ensures c.in_ok-take.ensures.noted
+
+pub returns-in-NoSolution-clause-back : goal.returns-in-NoSolution-clause-back
+returns-in-NoSolution-clause-back g c =
+    reduced_back _ c.args.self.now c.self.view_is _ _ c.in_ok-push_reduction.ensures c.in_ok-take.ensures.noted
