@@ -11,7 +11,7 @@ use Rattle.and_model.specs.Store.{all_hung, all_took, mark, Asked, is_half}
 use Rattle.and_cells.specs.Ranges.{CanHold}
 use Rattle.and_store_laws.specs.AtWork.{Opening, Member, Seat, Held, Works, AtWork, AreSeated, Rule, IsPlaced, WasHung, IsAtRest, AtClose, number_of, pass_of}
 use Rattle.and_store_laws.specs.AtWork.{place_at, all_members, to_close}
-use Rattle.and_store_laws.proofs.Pairwise.{all_none, all_pairs_none, all_first, all_rest, all_pairs_first, all_pairs_rest}
+use Rattle.and_laws.proofs.Pairwise.{all_none, all_pairs_none, all_first, all_rest, all_pairs_first, all_pairs_rest}
 use Rattle.and_store_laws.proofs.Lists.{contains_cases, contains_none, contains_others, all_of, map_append, contains_map, map_contains, contains_flat}
 use Rattle.and_store_laws.proofs.Lists.{flat_contains, distinct_flat, distinct_back, same_by}
 use Rattle.and_store_laws.proofs.Journal.{made_settings, made_hung, made_in, made_by, one_maker, own_distinct}

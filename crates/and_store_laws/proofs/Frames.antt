@@ -10,7 +10,7 @@ use Rattle.and_model.specs.Store.{Frame, HungGoal, gives, fails, JournalEntry, A
 use Rattle.and_cells.specs.Ranges.{IsGoalInRange}
 use Rattle.and_store_laws.specs.AtWork.{Opening, Member, Seat, Held, AtWork, Rule, IsPlaced, over, most, frames_end}
 use Rattle.and_store_laws.specs.Steps.{entry, asked_for, frame_at, given, refused, TakesFrame, failed_as, Fails}
-use Rattle.and_store_laws.proofs.Pairwise.{all_none}
+use Rattle.and_laws.proofs.Pairwise.{all_none}
 use Rattle.and_store_laws.proofs.Lists.{all_push}
 use Rattle.and_store_laws.proofs.Journal.{made_hung, AreBy}
 use Rattle.and_store_laws.proofs.Going.{known_later, fits_own, placed_on, goes_on, was_hung_later, took_later, ordered_later, made_frames, made_fails}

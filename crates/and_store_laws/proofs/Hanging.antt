@@ -16,7 +16,7 @@ use Rattle.and_model.specs.declared.reference.Ref.TheVariants.{Free}
 use Rattle.and_store_laws.specs.AtWork.{Opening, Member, Seat, Held, Works, Holds, AtWork, Rule, IsPlaced, WasHung, IsOwnWaiter, place_at, word_at, to_close}
 use Rattle.and_store_laws.specs.AtWork.{frames_end}
 use Rattle.and_store_laws.specs.Steps.{entry, next_waiter, goal_of, hung_as, not_hung, Hangs, waiter_in, taken, TakesPlace}
-use Rattle.and_store_laws.proofs.Pairwise.{all_none}
+use Rattle.and_laws.proofs.Pairwise.{all_none}
 use Rattle.and_store_laws.proofs.Lists.{contains_none, contains_cases, all_push, map_contains, contains_flat, flat_contains, map_append, distinct_push}
 use Rattle.and_store_laws.proofs.Lists.{distinct_back}
 use Rattle.and_store_laws.proofs.Journal.{made_settings, made_hung, made_in, made_by, one_maker, AreBy}

@@ -12,7 +12,7 @@ use Rattle.and_model.specs.declared.reference.Ref.TheVariants.{Free}
 use Rattle.and_store_laws.specs.AtWork.{Opening, Member, Seat, Held, Works, AtWork, AreSeated, Rule, IsPlaced, WasHung, number_of, asked_by, over, place_at}
 use Rattle.and_store_laws.specs.AtWork.{word_at, all_members}
 use Rattle.and_store_laws.specs.Steps.{seat, blank, Splits, Joins}
-use Rattle.and_store_laws.proofs.Pairwise.{all_none, all_pairs_none, all_first, all_rest}
+use Rattle.and_laws.proofs.Pairwise.{all_none, all_pairs_none, all_first, all_rest}
 use Rattle.and_store_laws.proofs.Lists.{contains_there, contains_cases, contains_none, all_push, all_middle, sum_middle, map_append, contains_map}
 use Rattle.and_store_laws.proofs.Lists.{map_contains, distinct_push, distinct_front, distinct_back, distinct_apart, distinct_join}
 use Rattle.and_store_laws.proofs.Journal.{entries_of}

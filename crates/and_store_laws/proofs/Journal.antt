@@ -5,7 +5,7 @@ use Rattle.std.proofs.lemmas.Bool.{cases_eq}
 use Rattle.std.proofs.lemmas.List.Elements.{filter-append, Contains-append_left, Contains-append_right, Contains-append_cases}
 use Rattle.std.proofs.lemmas.List.Concat.{flat_map-append}
 use Rattle.and_model.specs.Store.{Setting, HungGoal, sets, gives, fails, hangs, JournalEntry, Pass, AreDistinct, entries_by}
-use Rattle.and_store_laws.proofs.Pairwise.{all_first, all_rest}
+use Rattle.and_laws.proofs.Pairwise.{all_first, all_rest}
 use Rattle.and_store_laws.proofs.Lists.{contains_first, contains_more, contains_cases, contains_none, contains_map, map_contains, contains_flat}
 use Rattle.and_store_laws.proofs.Lists.{distinct_apart, distinct_front, distinct_back, distinct_join, map_append}
 

@@ -1,4 +1,4 @@
-pub mod Pairwise
+pub use Rattle.and_laws.proofs.Pairwise
 pub mod Lists
 pub mod Journal
 pub mod Going

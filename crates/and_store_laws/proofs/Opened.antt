@@ -17,7 +17,7 @@ use Rattle.and_model.specs.declared.reference.Ref.TheVariants.{Free}
 use Rattle.and_store_laws.specs.AtWork.{Opening, Member, Seat, Held, Works, AtWork, Rule, IsPlaced, IsOwnWaiter, CanOpen, opened, first_place, word_at}
 use Rattle.and_store_laws.specs.AtWork.{place_at, number_of, over, longer, journal_of, all_members}
 use Rattle.and_store_laws.specs.Steps.{setting, seat, blank}
-use Rattle.and_store_laws.proofs.Pairwise.{all_none, all_pairs_none, all_first, all_rest}
+use Rattle.and_laws.proofs.Pairwise.{all_none, all_pairs_none, all_first, all_rest}
 use Rattle.and_store_laws.proofs.Lists.{contains_first, contains_cases, contains_none, contains_map, map_contains, all_of}
 use Rattle.and_store_laws.proofs.Words.{set_from_is, set_in_is, set_in_has}
 use Rattle.and_store_laws.proofs.Journal.{entries_more}

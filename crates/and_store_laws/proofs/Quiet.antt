@@ -9,7 +9,7 @@ use Rattle.and_model.specs.declared.reference.Ref.{Ref}
 use Rattle.and_model.specs.declared.reference.Ref.TheVariants.{Free}
 use Rattle.and_store_laws.specs.AtWork.{IsOrdered, Opening, Member, Seat, Held, Works, AtWork, Rule, IsPlaced, WasHung, over, word_at}
 use Rattle.and_store_laws.specs.Steps.{setting, knows_place, learnt, looked, Looks, asks_failed, LooksFailed}
-use Rattle.and_store_laws.proofs.Pairwise.{all_none}
+use Rattle.and_laws.proofs.Pairwise.{all_none}
 use Rattle.and_store_laws.proofs.Lists.{contains_there, split_end}
 use Rattle.and_store_laws.proofs.Going.{known_later, fits_own, took_later, ordered_later, placed_on, goes_on}
 use Rattle.and_store_laws.proofs.Words.{set_in_has, learnt_all, learnt_own, learnt_once}

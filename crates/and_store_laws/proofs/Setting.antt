@@ -14,7 +14,7 @@ use Rattle.and_model.specs.declared.reference.Ref.TheVariants.{Free, Number}
 use Rattle.and_store_laws.specs.AtWork.{IsOrdered, Opening, Member, Seat, Held, Holds, AtWork, Rule, IsPlaced, IsOwnWaiter, place_at, word_at, to_close}
 use Rattle.and_store_laws.specs.AtWork.{frames_end}
 use Rattle.and_store_laws.specs.Steps.{setting, entry, own_entry, set_as, SetsWord, KnowsWritten}
-use Rattle.and_store_laws.proofs.Pairwise.{all_none}
+use Rattle.and_laws.proofs.Pairwise.{all_none}
 use Rattle.and_store_laws.proofs.Lists.{all_push, contains_map, map_contains, flat_contains, contains_none, contains_cases, contains_split, split_end}
 use Rattle.and_store_laws.proofs.Lists.{map_append, distinct_push}
 use Rattle.and_store_laws.proofs.Journal.{made_settings, made_hung, AreBy}

@@ -5,7 +5,7 @@ use Rattle.std.specs.Prelude.{flat_map}
 use Rattle.std.specs.List.{IsDistinct, AllByRecursion, list_any}
 use Rattle.std.proofs.lemmas.Bool.{cases_eq}
 use Rattle.std.proofs.lemmas.Map.Steps.{length-le_from_distinct_below}
-use Rattle.and_store_laws.proofs.Pairwise.{all_first, all_rest, all_pairs_first, all_pairs_rest}
+use Rattle.and_laws.proofs.Pairwise.{all_first, all_rest, all_pairs_first, all_pairs_rest}
 use Rattle.std.proofs.lemmas.Nat.{row_fits}
 use Rattle.std.proofs.lemmas.List.Elements.{All-contains}
 use Rattle.and_model.specs.Store.{Setting, HungGoal, JournalEntry, Took, AreDistinct, settings_of, hung_of, set_in, is_half}
