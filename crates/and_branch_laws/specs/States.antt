@@ -46,7 +46,7 @@ abbrev pub IsFirst : (ℕ → Type 0) → Option ℕ → Type 0
 IsFirst A None = (c : ℕ) → A c → ⊥
 IsFirst A (Some c) = A c × ((d : ℕ) → A d → c ≤ d)
 
--- the eight cases of a state
+-- the cases of a state
 pub data State {P : Program} (t : QueryTree P) : Type 0 where
   failed : State t
   -- the goal's one candidate
