@@ -8,13 +8,14 @@ use Rattle.std.proofs.lemmas.Option.{slice_get-get_or, slice_get_within}
 use Rattle.and_model.specs.Terms.{Path, variables_of}
 use Rattle.and_model.specs.Programs
 use Rattle.and_model.specs.Programs.{Program, Item, Clause, clause_at, clause_weight, is_goals}
+use Rattle.and_model.specs.OwnVariables.{IsOwn}
 use Rattle.and_model.specs.declared.goal.Goal.{Goal}
 use Rattle.and_program.specs.Skeletons
 use Rattle.and_program.specs.Skeletons.{Shape, NodeItem, NodeClause, node_term, item_of, IsThere, AllThere, after, IsClause, AllClauses}
 use Rattle.and_program.specs.Skeletons.{IsSkeleton}
 use Rattle.and_program.specs.Loaded.{nodes_at}
 use Rattle.and_cells.specs.Ranges.{NamedProgram, IsNodeInRange, IsItemInRange, IsGoalInRange}
-use Rattle.and_branch_laws.specs.OwnVariables.{IsOwn, IsLoaded}
+use Rattle.and_branch_laws.specs.OwnVariables.{IsLoaded}
 use Rattle.and_branch_laws.specs.Variables.{SpeaksOf}
 use Rattle.and_branch_laws.proofs.Growing.{body_is_own}
 use Rattle.and_branch_laws.proofs.Owning.{ItemSpeaksOf, item_speaks}

@@ -10,16 +10,17 @@ use Rattle.and_model.specs.Candidates.{In}
 use Rattle.and_model.specs.Trees.{Agenda, Tree, QueryTree, end, done, left, by, equate, reckon, equations, arithmetics, Open, path, call_of}
 use Rattle.and_model.specs.Trees.{fresh, reduce}
 use Rattle.and_model.specs.Reductions.{Reduction, query, Makes, none, one_more}
+use Rattle.and_model.specs.OwnVariables.{terms_of_item, AreOwn}
 use Rattle.and_laws.proofs.Bodies.{fresh_blank}
 use Rattle.and_laws.proofs.Placing.{place_more}
-use Rattle.and_laws.proofs.Ordered.{contains_none}
+use Rattle.and_laws.proofs.Ordered.{contains_none, middle_has}
 use Rattle.and_cells.specs.Ranges.{NamedProgram}
-use Rattle.and_branch_laws.specs.OwnVariables.{terms_of_item, AreOwn, OwnVariables}
+use Rattle.and_branch_laws.specs.OwnVariables.{OwnVariables}
 use Rattle.and_branch_laws.specs.Variables.{SpeaksOf, EquationsSpeakOf, ArithmeticSpeaksOf, IsVariable}
 use Rattle.and_branch_laws.specs.Tasks.{Task, take, run, tasks, Drops, here, behind, RanAmong}
 use Rattle.and_branch_laws.proofs.Speaking.{speaks_more, arithmetic_speaks_more, equations_speak_join, own_framed, added_speak}
 use Rattle.and_branch_laws.proofs.Naming.{OneMore, before, after, still_contains, new_place}
-use Rattle.and_branch_laws.proofs.Places.{clause_more, middle_has}
+use Rattle.and_branch_laws.proofs.Places.{clause_more}
 
 -- All terms of the tree speak of these variables.
 abbrev pub TreeSpeaksOf : (Path × ℕ → Type 0) → {P : Program} {ag : Agenda} → Tree P ag → Type 0

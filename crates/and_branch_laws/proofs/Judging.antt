@@ -22,6 +22,7 @@ use Rattle.and_laws.proofs.Order.{none_whole}
 use Rattle.and_laws.proofs.Ordered.{contains_first, contains_more, contains_cases, contains_none}
 use Rattle.and_laws.proofs.Picking.{candidate_falls}
 use Rattle.and_laws.proofs.Substitutions.{then}
+use Rattle.and_laws.proofs.OpenPaths.{one_open}
 use Rattle.and_cells.specs.Ranges.{NamedProgram}
 use Rattle.and_branch_laws.specs.OwnVariables.{IsLoaded}
 use Rattle.and_branch_laws.specs.Tasks.{Task, take, tasks, calls_among, arithmetic_among}
@@ -29,7 +30,6 @@ use Rattle.and_branch_laws.specs.States.{IsBefore, IsSole, Fits, Lives, IsFirst,
 use Rattle.and_branch_laws.specs.States.{StateOf}
 use Rattle.and_branch_laws.specs.Judging.{outside, CandidateInCells, SoleInCells, FitsBehind, NoneIsGround, EachHasOne, EachHasTwo, NoCall}
 use Rattle.and_branch_laws.specs.Kept.{item_at, task_in, task_of, is_call, IsCall, Kept}
-use Rattle.and_branch_laws.proofs.Places.{one_open}
 use Rattle.and_branch_laws.proofs.Tasks.{tree_ran, ran_calls, ran_replaced, Replaced, open_at, OpenAt}
 use Rattle.and_branch_laws.proofs.Keeping
 use Rattle.and_branch_laws.proofs.Keeping.{task_is}

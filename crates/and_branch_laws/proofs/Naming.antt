@@ -8,11 +8,11 @@ use Rattle.and_model.specs.Reductions.{Reduction, PlaceHas, query, reduced, Call
 use Rattle.and_model.specs.Stands.{ClauseHas}
 use Rattle.and_laws.proofs.Equality.{path_or}
 use Rattle.and_laws.proofs.Placing.{place_more, place_once}
-use Rattle.and_laws.proofs.Ordered.{contains_none}
+use Rattle.and_laws.proofs.Ordered.{contains_none, middle_more, middle_has}
 use Rattle.and_cells.specs.Ranges.{NamedProgram}
 use Rattle.and_cells.specs.Meaning.{cell_variable}
 use Rattle.and_branch_laws.specs.Variables.{IsVariable, AreNames}
-use Rattle.and_branch_laws.proofs.Places.{middle_more, middle_has, place_clause, clause_place, clause_cases, frame_within, place_not_open}
+use Rattle.and_branch_laws.proofs.Places.{place_clause, clause_place, clause_cases, frame_within, place_not_open}
 
 -- A clause's variables fit in its frame, behind the first word.
 pub variables_fit : (k : Clause) → 1 + k.variables ≤ clause_weight k

@@ -4,10 +4,11 @@ use Rattle.std.proofs.lemmas.List.Elements.{All-contains, Contains-append_cases}
 use Rattle.and_model.specs.Terms.{Path, Term, none, more, variables_of, variables_in}
 use Rattle.and_model.specs.Programs.{Item, call, equal, arithmetic, fail, is, compare, clause_at}
 use Rattle.and_model.specs.Stands.{term_of, item_term}
+use Rattle.and_model.specs.OwnVariables.{IsOwn, AreOwn}
 use Rattle.and_model.specs.declared.goal.Goal.{Goal}
 use Rattle.and_laws.proofs.Ordered.{contains_none}
 use Rattle.and_cells.specs.Ranges.{NamedProgram}
-use Rattle.and_branch_laws.specs.OwnVariables.{IsOwn, AreOwn, OwnVariables}
+use Rattle.and_branch_laws.specs.OwnVariables.{OwnVariables}
 use Rattle.and_branch_laws.specs.Variables.{SpeaksOf, EquationsSpeakOf, ArithmeticSpeaksOf}
 use Rattle.and_branch_laws.specs.Reducing.{body_equations}
 use Rattle.and_branch_laws.proofs.Growing.{BodyIsOwn, body_is_own, nothing_said}

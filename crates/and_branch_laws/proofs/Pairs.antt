@@ -18,7 +18,7 @@ use Rattle.and_program.specs.Skeletons.{NodeItem}
 use Rattle.and_program.specs.Loaded.{nodes_at}
 use Rattle.and_laws.specs.Naming.{under}
 use Rattle.and_laws.proofs.Deciding.{of_bounds}
-use Rattle.and_laws.proofs.Ordered.{contains_none}
+use Rattle.and_laws.proofs.Ordered.{contains_none, middle_cases}
 use Rattle.and_cells.specs.Ranges.{NamedProgram, pair_of}
 use Rattle.and_cells.specs.Rows.{IsSound}
 use Rattle.and_cells.specs.Seen.{word_at}
@@ -27,7 +27,7 @@ use Rattle.and_branch_laws.specs.OwnVariables.{IsLoaded}
 use Rattle.and_branch_laws.specs.Variables.{SpeaksOf, EquationsSpeakOf, IsVariable, AreNames}
 use Rattle.and_branch_laws.specs.Kept.{HasFreePair}
 use Rattle.and_branch_laws.proofs.Speaking.{speaks_variable, equations_speak_under}
-use Rattle.and_branch_laws.proofs.Places.{middle_cases, clause_once, frames_apart}
+use Rattle.and_branch_laws.proofs.Places.{clause_once, frames_apart}
 use Rattle.and_branch_laws.proofs.Naming.{variables_fit}
 use Rattle.and_branch_laws.proofs.Clauses.{clause_weighs_more, number_is, numbers_apart}
 use Rattle.and_branch_laws.proofs.Unnamed.{IsOther, unnamed_is_free}

@@ -1,103 +1,21 @@
 -- The places of a tree that is written down: their clauses, their frames, and the paths of its open goals.
-use Rattle.std.proofs.Common.{ℕ, ◌≡◌, ◌+◌, ◌≤◌, ◌<◌, List, [], ◌∷◌, ◌++◌, append-nil, refl, ap, sym, ◌∙◌, subst, inl, inr, ◌⊎◌, arith, suc}
+use Rattle.std.proofs.Common.{ℕ, ◌≡◌, ◌+◌, ◌≤◌, ◌<◌, List, [], ◌∷◌, ◌++◌, refl, ap, sym, ◌∙◌, subst, inl, inr, ◌⊎◌, arith, suc}
 use Rattle.std.proofs.Common.{Contains}
-use Rattle.std.proofs.lemmas.List.Elements.{Contains-append_left, Contains-append_right, Contains-append_cases}
-use Rattle.and_model.specs.Terms.{Path, Term}
+use Rattle.and_model.specs.Terms.{Path}
 use Rattle.and_model.specs.Programs.{Program, Item, call, equal, arithmetic, fail, clause_at, clause_weight}
 use Rattle.and_model.specs.Trees.{Agenda, end, goal, equation, reckoning, agenda, Tree, QueryTree, done, left, by, equate, reckon, Open}
 use Rattle.and_model.specs.Trees.{path, reduce, weight}
-use Rattle.and_model.specs.Prefixes.{IsPrefix}
 use Rattle.and_model.specs.Reductions.{Reduction, PlaceHas, query, reduced, Makes, none, one_more}
 use Rattle.and_model.specs.Stands.{ClauseHas}
 use Rattle.and_laws.specs.Paths.{At}
-use Rattle.and_laws.proofs.PrefixLemmas.{prefix_front, not_empty}
-use Rattle.and_laws.proofs.Agreement.{Under, Apart, apart_body, own_body, query_apart}
+use Rattle.and_laws.proofs.PrefixLemmas.{not_empty}
+use Rattle.and_laws.proofs.Agreement.{query_apart}
 use Rattle.and_laws.proofs.Placing.{Writes, writes_made, place_more, node_bounds, node_once}
 use Rattle.and_laws.proofs.Order.{reduce_weight, clause_weighs}
-use Rattle.and_laws.proofs.Ordered.{contains_first, contains_more, contains_none, contains_cases}
-
--- ---- Open goals have paths of their own
-
-under_body : (q : Path) (i : ℕ) (items : List Item) (rest : Agenda) (p : Path) → Under (agenda q i items rest) p
-    → ((j : ℕ) × IsPrefix (q ++ j ∷ []) p) ⊎ Under rest p
-under_body q i [] rest p u = inr u
-under_body q i (call g ∷ items) rest p (inl b) = inl (i, b)
-under_body q i (call g ∷ items) rest p (inr u) = under_body q (suc i) items rest p u
-under_body q i (equal a b ∷ items) rest p u = under_body q (suc i) items rest p u
-under_body q i (arithmetic a ∷ items) rest p u = under_body q (suc i) items rest p u
-under_body q i (fail ∷ items) rest p u = under_body q (suc i) items rest p u
-
-open_under : {P : Program} {ag : Agenda} (t : Tree P ag) (o : Open t) → Under ag (path t o)
-open_under done o = elim o [ ]
-open_under (left {q = q} t) (inl u) = inl ([], sym (append-nil q))
-open_under (left t) (inr o) = inr (open_under t o)
-open_under {P} (by {q = q} {rest = rest} c h t) o =
-    elim (under_body q 0 (clause_at P c).body rest (path t o) (open_under t o))
-    [ inl x ↦ inl (prefix_front q (x.0 ∷ []) (path t o) x.1) | inr v ↦ inr v ]
-open_under (equate t) o = open_under t o
-open_under (reckon t) o = open_under t o
-
-longer : (xs : List ℕ) (j : ℕ) (ys : List ℕ) → xs ≡ (xs ++ j ∷ []) ++ ys → ⊥
-longer [] j ys e = cc
-longer (x ∷ xs) j ys e = longer xs j ys (cc)
-
--- a body's agenda does not go through the body's own path
-pub own_not_under : (q : Path) (g : Term) (rest : Agenda) (items : List Item) → Apart (goal q g rest) → Under (agenda q 0 items rest) q → ⊥
-own_not_under q g rest items a u = elim (under_body q 0 items rest q u) [
-  | inl y ↦ longer q y.0 y.1.0 y.1.1
-  | inr v ↦ a.0 q ([], sym (append-nil q)) v
-]
-
--- and where it goes, the goal's does
-pub body_under : (q : Path) (g : Term) (rest : Agenda) (items : List Item) (p : Path) → Under (agenda q 0 items rest) p
-    → Under (goal q g rest) p
-body_under q g rest items p u = elim (under_body q 0 items rest p u) [ inl x ↦ inl (prefix_front q (x.0 ∷ []) p x.1) | inr v ↦ inr v ]
-
-own_open : {P : Program} (q : Path) (g : Term) (rest : Agenda) (items : List Item) (t : Tree P (agenda q 0 items rest)) (o : Open t)
-    → Apart (goal q g rest) → path t o ≡ q → ⊥
-own_open q g rest items t o a e = own_not_under q g rest items a (subst (λ x. Under (agenda q 0 items rest) x) e (open_under t o))
-
--- At the path of an open goal stands no clause,
-pub open_free : {P : Program} {ag : Agenda} (t : Tree P ag) (o : Open t) (d : ℕ) → Apart ag → At t (path t o) d → ⊥
-open_free done o d a x = elim o [ ]
-open_free (left {q = q} {g = g} {rest = rest} t) (inl u) d a x = own_body q g rest [] t d a x
-open_free (left t) (inr o) d a x = open_free t o d a.1 x
-open_free {P} (by {q = q} {g = g} {rest = rest} c h t) o d a x = elim x [
-  | inl e ↦ own_open q g rest (clause_at P c).body t o a e.0
-  | inr y ↦ open_free t o d (apart_body q 0 (clause_at P c).body rest a.0 a.1) y
-]
-open_free (equate t) o d a x = open_free t o d a x
-open_free (reckon t) o d a x = open_free t o d a x
-
--- and no other open goal has that path.
-pub one_open : {P : Program} {ag : Agenda} (t : Tree P ag) (o p : Open t) → Apart ag → path t o ≡ path t p → o ≡ p
-one_open done o p a e = elim o [ ]
-one_open (left t) (inl u) (inl v) a e = refl
-one_open (left {q = q} {rest = rest} t) (inl u) (inr p) a e =
-    absurd (a.0 q ([], sym (append-nil q)) (subst (λ x. Under rest x) (sym e) (open_under t p)))
-one_open (left {q = q} {rest = rest} t) (inr o) (inl v) a e =
-    absurd (a.0 q ([], sym (append-nil q)) (subst (λ x. Under rest x) e (open_under t o)))
-one_open (left t) (inr o) (inr p) a e = ap inr (one_open t o p a.1 e)
-one_open {P} (by {q = q} {g = g} {rest = rest} c h t) o p a e = one_open t o p (apart_body q 0 (clause_at P c).body rest a.0 a.1) e
-one_open (equate t) o p a e = one_open t o p a e
-one_open (reckon t) o p a e = one_open t o p a e
+use Rattle.and_laws.proofs.OpenPaths.{open_free}
+use Rattle.and_laws.proofs.Ordered.{contains_none, middle_cases, middle_more}
 
 -- ---- Places and their clauses
-
-pub middle_cases : {X : Type 0} (front back : List X) (x y : X) → Contains (front ++ x ∷ back) y → (y ≡ x) ⊎ Contains (front ++ back) y
-middle_cases front back x y h = elim (Contains-append_cases front (x ∷ back) y h) [
-  | inl i ↦ inr (Contains-append_left front back y i)
-  | inr i ↦ elim (contains_cases x y back i) [ inl e ↦ inl e | inr j ↦ inr (Contains-append_right front back y j) ]
-]
-
-pub middle_more : {X : Type 0} (front back : List X) (x y : X) → Contains (front ++ back) y → Contains (front ++ x ∷ back) y
-middle_more front back x y h = elim (Contains-append_cases front back y h) [
-  | inl i ↦ Contains-append_left front (x ∷ back) y i
-  | inr i ↦ Contains-append_right front (x ∷ back) y (contains_more x y back i)
-]
-
-pub middle_has : {X : Type 0} (front back : List X) (x : X) → Contains (front ++ x ∷ back) x
-middle_has front back x = Contains-append_right front (x ∷ back) x (contains_first x back)
 
 -- Each place has a clause,
 pub place_clause : (rs : List Reduction) (n : ℕ) (q : Path) → PlaceHas rs n q → (c : ℕ) × ClauseHas rs n c

@@ -12,6 +12,7 @@ use Rattle.and_model.specs.Reached.{Dead}
 use Rattle.and_model.specs.Reductions.{PlaceHas}
 use Rattle.and_model.specs.Stands.{ClauseHas, Framed, IsFramed, in_tree, term_of}
 use Rattle.and_model.specs.Store.{is_half}
+use Rattle.and_model.specs.OwnVariables.{IsOwn, AreOwn}
 use Rattle.and_model.specs.declared.goal.Goal.{Goal}
 use Rattle.and_model.specs.declared.reference.Ref.{Ref}
 use Rattle.and_model.specs.declared.reference.Ref.TheVariants.{Free}
@@ -21,14 +22,16 @@ use Rattle.and_laws.proofs.Placing.{place_more}
 use Rattle.and_laws.proofs.Running.{reduce_entails}
 use Rattle.and_laws.proofs.Solving.{solves_join, solves_front, solves_back}
 use Rattle.and_laws.proofs.Substitutions.{then, apply_then}
-use Rattle.and_laws.proofs.Ordered.{contains_first, contains_more}
+use Rattle.and_laws.proofs.Ordered.{contains_first, contains_more, middle_has}
 use Rattle.and_laws.proofs.Agreement.{query_apart}
 use Rattle.and_laws.proofs.Deciding.{of_bounds}
+use Rattle.and_laws.proofs.OpenPaths.{one_open}
+use Rattle.and_laws.proofs.Reducing.{reduce_body, reduce_all}
 use Rattle.and_cells.specs.Ranges.{NamedProgram, IsGoalInRange, pair_of}
 use Rattle.and_cells.specs.Seen.{word_at}
 use Rattle.and_cells.specs.Meaning.{equations_of}
 use Rattle.and_cells.proofs.Keeping.{sound_extend}
-use Rattle.and_branch_laws.specs.OwnVariables.{IsLoaded, IsOwn, AreOwn}
+use Rattle.and_branch_laws.specs.OwnVariables.{IsLoaded}
 use Rattle.and_branch_laws.specs.Variables.{SpeaksOf, EquationsSpeakOf, IsVariable, placed, cells_from, IsWholeCell}
 use Rattle.and_branch_laws.specs.Tasks.{Task, take, tasks, body_tasks, RanAmong}
 use Rattle.and_branch_laws.specs.Reducing.{body_equations, reduction_equations, reduction_in_cells, goal_at, body_goals}
@@ -36,12 +39,12 @@ use Rattle.and_branch_laws.specs.Settling.{widened, Settled}
 use Rattle.and_branch_laws.specs.Kept.{task_of, IsCall, node_item_at, HasFreePair, Kept, Unsettled}
 use Rattle.and_branch_laws.proofs.Lists.{all_replaced, pairs_replaced}
 use Rattle.and_branch_laws.proofs.Speaking.{speaks_agree, speaks_solves, under_then, then_under, speaks_applied, speaks_variable}
-use Rattle.and_branch_laws.proofs.Places.{one_open, clause_more, frame_within, place_not_open, middle_has}
+use Rattle.and_branch_laws.proofs.Places.{clause_more, frame_within, place_not_open}
 use Rattle.and_branch_laws.proofs.Naming.{OneMore, before, after, more_made, still_contains, new_place, place_cases, extended}
 use Rattle.and_branch_laws.proofs.Naming.{extended_other, names_more, variables_fit}
 use Rattle.and_branch_laws.proofs.Growing.{body_is_own, head_is_own}
 use Rattle.and_branch_laws.proofs.Owning.{own_speaks, term_speaks, body_equations_speak}
-use Rattle.and_branch_laws.proofs.Tasks.{ran_replaced, Replaced, Again, open_at, OpenAt, reduce_body, reduce_all}
+use Rattle.and_branch_laws.proofs.Tasks.{ran_replaced, Replaced, Again, open_at, OpenAt}
 use Rattle.and_branch_laws.proofs.Keeping
 use Rattle.and_branch_laws.proofs.Keeping.{names_place, task_is}
 use Rattle.and_branch_laws.proofs.Rows.{widened_words, widened_states, widened_stated}

@@ -10,6 +10,7 @@ use Rattle.and_model.specs.Reached.{Dead}
 use Rattle.and_model.specs.Reductions.{query, none}
 use Rattle.and_model.specs.Stands.{Framed, IsFramed}
 use Rattle.and_model.specs.Store.{is_half}
+use Rattle.and_model.specs.OwnVariables.{IsOwn, AreOwn}
 use Rattle.and_model.specs.declared.reference.Ref.{Ref}
 use Rattle.and_model.specs.declared.reference.Ref.TheVariants.{Free}
 use Rattle.and_laws.specs.Naming.{under}
@@ -17,11 +18,12 @@ use Rattle.and_laws.proofs.Bodies.{fresh_blank}
 use Rattle.and_laws.proofs.Order.{blank_weighs}
 use Rattle.and_laws.proofs.Solving.{solves_join, solves_back}
 use Rattle.and_laws.proofs.Substitutions.{then, apply_then}
+use Rattle.and_laws.proofs.Reducing.{fresh_body, fresh_all}
 use Rattle.and_cells.specs.Ranges.{NamedProgram, IsGoalInRange, pair_of}
 use Rattle.and_cells.specs.Seen.{word_at}
 use Rattle.and_cells.specs.Meaning.{equations_of}
 use Rattle.and_cells.proofs.Keeping.{sound_free}
-use Rattle.and_branch_laws.specs.OwnVariables.{IsLoaded, IsOwn, AreOwn}
+use Rattle.and_branch_laws.specs.OwnVariables.{IsLoaded}
 use Rattle.and_branch_laws.specs.Variables.{SpeaksOf, AreNames, placed, cells_from, IsWholeCell}
 use Rattle.and_branch_laws.specs.Tasks.{Task, tasks, body_tasks, RanAmong, none_yet}
 use Rattle.and_branch_laws.specs.Reducing.{body_equations, goal_at, body_goals}
@@ -30,7 +32,7 @@ use Rattle.and_branch_laws.specs.Kept.{task_of, node_item_at, HasFreePair, Kept,
 use Rattle.and_branch_laws.proofs.Speaking.{speaks_applied, speaks_variable, under_then, then_under}
 use Rattle.and_branch_laws.proofs.Naming.{some_names, variables_fit}
 use Rattle.and_branch_laws.proofs.Growing.{body_is_own}
-use Rattle.and_branch_laws.proofs.Tasks.{fresh_body, fresh_all, fresh_tasks}
+use Rattle.and_branch_laws.proofs.Tasks.{fresh_tasks}
 use Rattle.and_branch_laws.proofs.Owning.{own_speaks, body_equations_speak}
 use Rattle.and_branch_laws.proofs.Keeping.{names_place}
 use Rattle.and_branch_laws.proofs.Rows.{free_words, row_solved}

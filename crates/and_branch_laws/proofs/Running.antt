@@ -11,6 +11,7 @@ use Rattle.and_model.specs.Trees.{Agenda, Tree, QueryTree, done, left, by, equat
 use Rattle.and_model.specs.Reached.{Dead}
 use Rattle.and_model.specs.Reductions.{Reduction}
 use Rattle.and_model.specs.Stands.{Framed}
+use Rattle.and_model.specs.OwnVariables.{IsOwn}
 use Rattle.and_model.specs.declared.reference.Ref.{Ref}
 use Rattle.and_model.specs.declared.reference.Ref.TheVariants.{Cell}
 use Rattle.and_laws.proofs.Closing.{known_more, closes_anyhow, closing_ran, closed_entails_ran}
@@ -21,7 +22,7 @@ use Rattle.and_cells.specs.Ranges.{NamedProgram}
 use Rattle.and_cells.specs.Meaning.{StandsFor, equations_of}
 use Rattle.and_cells.proofs.OneTerm.{apply_agree}
 use Rattle.and_cell_laws.proofs.TermsOfRows.{value_of_term}
-use Rattle.and_branch_laws.specs.OwnVariables.{OwnVariables, IsOwn}
+use Rattle.and_branch_laws.specs.OwnVariables.{OwnVariables}
 use Rattle.and_branch_laws.specs.Variables.{SpeaksOf, ArithmeticSpeaksOf, IsVariable, placed, cells_from}
 use Rattle.and_branch_laws.specs.Tasks.{Task, take, run, tasks, arithmetic_among}
 use Rattle.and_branch_laws.specs.Running.{IsRead, AreRead}

@@ -1,9 +1,7 @@
 -- Each tree has a state.
-use Rattle.std.proofs.Common.{ℕ, zero, suc, ◌+◌, ◌≡◌, ◌<◌, ◌≤◌, List, [], ◌∷◌, ◌++◌, length, Option, Some, None, refl, sym, ◌∙◌, subst, inl}
-use Rattle.std.proofs.Common.{inr, ◌⊎◌, arith, Contains, AllPairs}
-use Rattle.std.specs.Prelude.{All}
+use Rattle.std.proofs.Common.{ℕ, zero, suc, ◌+◌, ◌≡◌, ◌<◌, ◌≤◌, List, [], ◌∷◌, length, Option, Some, None, refl, sym, ◌∙◌, subst, inl}
+use Rattle.std.proofs.Common.{inr, ◌⊎◌, arith, Contains}
 use Rattle.std.proofs.lemmas.Bool.{cases_lt}
-use Rattle.std.proofs.lemmas.List.Elements.{All-nil, All-cons, Contains-append_left, Contains-append_right, Contains-append_cases}
 use Rattle.and_model.specs.Solutions.{Equation, Solvable}
 use Rattle.and_model.specs.Programs.{Program, Arithmetic, clause_at, clause_weight}
 use Rattle.and_model.specs.Trees.{Agenda, Tree, QueryTree, done, left, by, equate, reckon, Open, IsLeftmost, IsWhole, Closed, path, call_of}
@@ -11,15 +9,13 @@ use Rattle.and_model.specs.Trees.{weight, equations, arithmetics}
 use Rattle.and_model.specs.Reached.{CandidateOf, Shut}
 use Rattle.and_laws.proofs.Deciding.{closes_total, candidate_or, others, of_bounds}
 use Rattle.and_laws.proofs.Equality.{number_or}
+use Rattle.and_laws.proofs.Numbering.{Listed, listed}
 use Rattle.and_laws.proofs.Order.{open_or_whole}
-use Rattle.and_laws.proofs.Ordered.{contains_first, contains_cases, contains_none}
-use Rattle.and_laws.proofs.Pairwise.{all_pairs_none, all_pairs_join}
-use Rattle.std.proofs.lemmas.List.Kept.{AllPairs-cons}
+use Rattle.and_laws.proofs.Ordered.{contains_none}
 use Rattle.and_laws.proofs.Splitting.{leftmost}
 use Rattle.and_laws.proofs.Unifying.{unify}
 use Rattle.and_branch_laws.specs.States.{IsBefore, IsSole, Fits, Lives, IsFirst, State, failed, determinate, over_one, over_all, fork}
 use Rattle.and_branch_laws.specs.States.{floundered, answer, StateOf}
-use Rattle.and_branch_laws.proofs.Lists.{all_of}
 
 -- ---- Searches that end
 
@@ -52,44 +48,6 @@ least A f (suc n) = elim (least A f n) [
 
 abbrev Least : (ℕ → Type 0) → ℕ → Type 0
 Least A n = ((c : ℕ) × (c < n) × A c × ((d : ℕ) → A d → c ≤ d)) ⊎ ((c : ℕ) → c < n → A c → ⊥)
-
--- The numbers below n of which something holds, in order
-record Listed (A : ℕ → Type 0) (n : ℕ) : Type 0 where
-  pub numbers : List ℕ
-  pub rising : AllPairs (λ (c d : ℕ). c < d) numbers
-  pub has : (c : ℕ) → Contains numbers c → A c × (c < n)
-  pub all : (c : ℕ) → A c → c < n → Contains numbers c
-
-listed : (A : ℕ → Type 0) → ((c : ℕ) → A c ⊎ (A c → ⊥)) → (n : ℕ) → Listed A n
-listed A f zero = record {
-  numbers = [];
-  rising = all_pairs_none (λ (c d : ℕ). c < d);
-  has = λ c h. absurd (contains_none c h);
-  all = λ c a l. absurd (omega arith);
-}
-listed A f (suc n) = go (listed A f n) (f n)
-  where
-    go : Listed A n → A n ⊎ (A n → ⊥) → Listed A (suc n)
-    go x (inl a) =
-        let R : ℕ → ℕ → Type 0 = λ c d. c < d in record {
-          numbers = x.numbers ++ n ∷ [];
-          rising = all_pairs_join R x.numbers (n ∷ []) x.rising (AllPairs-cons R n [] (All-nil (R n)) (all_pairs_none R))
-              (all_of (λ (c : ℕ). All (R c) (n ∷ [])) x.numbers (λ c h. All-cons (R c) n [] (x.has c h).1 (All-nil (R c))));
-          has = λ c h. elim (Contains-append_cases x.numbers (n ∷ []) c h) [
-            | inl i ↦ let k = x.has c i in (k.0, (let l = k.1 in omega arith))
-            | inr i ↦ elim (contains_cases n c [] i) [ inl e ↦ (subst A (sym e) a, omega arith) | inr none ↦ absurd (contains_none c none) ]
-          ];
-          all = λ c b l. elim (number_or c n) [
-            | inl e ↦ Contains-append_right x.numbers (n ∷ []) c (subst (λ (y : ℕ). Contains (n ∷ []) y) (sym e) (contains_first n []))
-            | inr other ↦ Contains-append_left x.numbers (n ∷ []) c (x.all c b (omega arith))
-          ];
-        }
-    go x (inr na) = record {
-      numbers = x.numbers;
-      rising = x.rising;
-      has = λ c h. let k = x.has c h in (k.0, (let l = k.1 in omega arith));
-      all = λ c b l. elim (number_or c n) [ inl e ↦ absurd (na (subst A e b)) | inr other ↦ x.all c b (omega arith) ];
-    }
 
 -- ---- The state
 

@@ -9,11 +9,11 @@ use Rattle.and_model.specs.Solutions.{Equation, Solves, falsehood}
 use Rattle.and_model.specs.Arithmetic.{value, holds}
 use Rattle.and_model.specs.Programs.{Arithmetic, is, compare}
 use Rattle.and_model.specs.Closure.{equals, added}
+use Rattle.and_model.specs.OwnVariables.{IsOwn, AreOwn}
 use Rattle.and_laws.specs.Naming.{Variables, IsOver, AreOver, EquationsOver, under}
 use Rattle.and_laws.proofs.Ordered.{contains_first, contains_cases, contains_none}
 use Rattle.and_laws.proofs.Substitutions.{then, apply_then, same, apply_same}
 use Rattle.and_cells.proofs.OneTerm.{apply_agree}
-use Rattle.and_branch_laws.specs.OwnVariables.{IsOwn, AreOwn}
 use Rattle.and_branch_laws.specs.Variables.{SpeaksOf, EquationsSpeakOf, ArithmeticSpeaksOf}
 
 -- a variable speaks of itself

@@ -16,6 +16,7 @@ use Rattle.and_laws.proofs.Deciding.{closes_total}
 use Rattle.and_laws.proofs.Picking.{candidate_falls}
 use Rattle.and_laws.proofs.Solving.{solves_back}
 use Rattle.and_laws.proofs.Ordered.{contains_first, contains_cases, contains_none}
+use Rattle.and_laws.proofs.OpenPaths.{one_open}
 use Rattle.and_cells.specs.Ranges.{NamedProgram}
 use Rattle.and_cells.specs.Meaning.{equations_of}
 use Rattle.and_branch_laws.specs.OwnVariables.{IsLoaded}
@@ -24,7 +25,6 @@ use Rattle.and_branch_laws.specs.Tasks.{Task, arithmetic_among}
 use Rattle.and_branch_laws.specs.Reducing.{body_equations, reduction_in_cells, reduction_by, body_goals}
 use Rattle.and_branch_laws.specs.Settling.{widened, Settled}
 use Rattle.and_branch_laws.specs.Kept.{task_of, IsCall, Kept}
-use Rattle.and_branch_laws.proofs.Places.{one_open}
 use Rattle.and_branch_laws.proofs.Naming.{OneMore}
 use Rattle.and_branch_laws.proofs.Tasks.{tree_ran}
 use Rattle.and_branch_laws.proofs.Keeping

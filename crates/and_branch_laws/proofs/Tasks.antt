@@ -1,7 +1,7 @@
 -- What is left to do in a tree, while its arithmetic is run and its calls are reduced.
 use Rattle.std.proofs.Common.{ℕ, suc, ◌≡◌, List, [], ◌∷◌, ◌++◌, append_assoc, refl, ap, sym, ◌∙◌, subst, inl, inr, Contains}
-use Rattle.and_model.specs.Terms.{Path, Term, Terms, framed, Substitution}
-use Rattle.and_model.specs.Solutions.{Equation, Solves, Entails}
+use Rattle.and_model.specs.Terms.{Path, Term, Terms, framed}
+use Rattle.and_model.specs.Solutions.{Equation, Entails}
 use Rattle.and_model.specs.Programs.{Program, Item, call, equal, arithmetic, fail, Arithmetic, arithmetic_in, clause_at, Of}
 use Rattle.and_model.specs.Closure.{added, Known, Ran, Without}
 use Rattle.and_model.specs.Trees.{Agenda, Tree, done, left, by, equate, reckon, equations, arithmetics, Open, path, call_of, fresh, reduce}
@@ -12,7 +12,6 @@ use Rattle.and_laws.proofs.Ordered.{contains_first, contains_more, contains_case
 use Rattle.and_branch_laws.specs.Tasks.{Task, take, run, tasks, body_tasks, calls_among, arithmetic_among, Drops, here, behind, RanAmong}
 use Rattle.and_branch_laws.specs.Tasks.{none_yet, one}
 use Rattle.and_branch_laws.specs.States.{IsBefore}
-use Rattle.and_branch_laws.specs.Reducing.{body_equations, reduction_equations}
 
 -- The calls among a tree's tasks are those that are left,
 pub tasks_calls : {P : Program} {ag : Agenda} (t : Tree P ag) → calls_among (tasks t) ≡ calls_left t
@@ -258,42 +257,3 @@ open_at {P} (reckon {a = a} t) q g (x ∷ front) back e =
           ∙ ap (λ (y : Task). y ∷ (front ++ (body_tasks q 0 (clause_at P c).body ++ back))) first;
       before = λ p b. subst (λ (y : Task). Contains (calls_among (y ∷ front)) (path t p, call_of t p)) first (i.before p b);
     }
-
--- ---- The equations of a reduction
-
-pub fresh_body : {P : Program} (q : Path) (i : ℕ) (items : List Item) {rest : Agenda} (t : Tree P rest) (s : Substitution)
-    → Solves s (equations (fresh q i items t)) → Solves s (body_equations (framed q) items)
-fresh_body q i [] t s p = tt
-fresh_body q i (call g ∷ items) t s p = fresh_body q (suc i) items t s p
-fresh_body q i (equal a b ∷ items) t s p = (p.0, fresh_body q (suc i) items t s p.1)
-fresh_body q i (arithmetic a ∷ items) t s p = fresh_body q (suc i) items t s p
-fresh_body q i (fail ∷ items) t s p = (p.0, fresh_body q (suc i) items t s p.1)
-
-pub fresh_all : {P : Program} (q : Path) (i : ℕ) (items : List Item) {rest : Agenda} (t : Tree P rest) (s : Substitution)
-    → Solves s (body_equations (framed q) items) → Solves s (equations t) → Solves s (equations (fresh q i items t))
-fresh_all q i [] t s b p = p
-fresh_all q i (call g ∷ items) t s b p = fresh_all q (suc i) items t s b p
-fresh_all q i (equal a c ∷ items) t s b p = (b.0, fresh_all q (suc i) items t s b.1 p)
-fresh_all q i (arithmetic a ∷ items) t s b p = fresh_all q (suc i) items t s b p
-fresh_all q i (fail ∷ items) t s b p = (b.0, fresh_all q (suc i) items t s b.1 p)
-
--- The reduced tree has them,
-pub reduce_body : {P : Program} {ag : Agenda} (t : Tree P ag) (o : Open t) (c : ℕ) (h : Of P (call_of t o) c) (s : Substitution)
-    → Solves s (equations (reduce t o c h)) → Solves s (reduction_equations P (path t o) (call_of t o) c)
-reduce_body done o c h s p = elim o [ ]
-reduce_body {P} (left {q = q} t) (inl u) c h s p = (p.0, fresh_body q 0 (clause_at P c).body t s p.1)
-reduce_body (left t) (inr o) c h s p = reduce_body t o c h s p
-reduce_body (by d k t) o c h s p = reduce_body t o c h s p.1
-reduce_body (equate t) o c h s p = reduce_body t o c h s p.1
-reduce_body (reckon t) o c h s p = reduce_body t o c h s p
-
--- and with those of the tree these are all.
-pub reduce_all : {P : Program} {ag : Agenda} (t : Tree P ag) (o : Open t) (c : ℕ) (h : Of P (call_of t o) c) (s : Substitution)
-    → Solves s (reduction_equations P (path t o) (call_of t o) c) → Solves s (equations t)
-    → Solves s (equations (reduce t o c h))
-reduce_all done o c h s b p = elim o [ ]
-reduce_all {P} (left {q = q} t) (inl u) c h s b p = (b.0, fresh_all q 0 (clause_at P c).body t s b.1 p)
-reduce_all (left t) (inr o) c h s b p = reduce_all t o c h s b p
-reduce_all (by d k t) o c h s b p = (p.0, reduce_all t o c h s b p.1)
-reduce_all (equate t) o c h s b p = (p.0, reduce_all t o c h s b p.1)
-reduce_all (reckon t) o c h s b p = reduce_all t o c h s b p

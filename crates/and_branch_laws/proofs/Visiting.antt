@@ -10,6 +10,7 @@ use Rattle.and_laws.specs.Paths.{At}
 use Rattle.and_laws.proofs.PrefixLemmas.{same_last}
 use Rattle.and_laws.proofs.Agreement.{Under, Apart, apart_body, own_body, query_apart}
 use Rattle.and_laws.proofs.Placing.{Writes, writes_made, made_writes}
+use Rattle.and_laws.proofs.OpenPaths.{own_not_under, body_under}
 use Rattle.and_cells.specs.Meaning.{cell_variable}
 use Rattle.and_branch_laws.specs.Visits.{Visit, item_visited, onward, into, at_query, Decides, ended, past, other, taken, not_taken}
 use Rattle.std.proofs.Common.{append-nil}
@@ -17,7 +18,6 @@ use Rattle.std.proofs.lemmas.List.{get_or_past}
 use Rattle.std.proofs.Math.Seq.{drop-cons}
 use Rattle.std.proofs.Math.ListN.{drop_of_length-le}
 use Rattle.and_branch_laws.proofs.Naming.{some_names}
-use Rattle.and_branch_laws.proofs.Places.{own_not_under, body_under}
 
 -- A whole tree has decided its code.
 pub whole_decided : {P : Program} {ag : Agenda} (t : Tree P ag) → IsWhole t → decided t ≡ code t

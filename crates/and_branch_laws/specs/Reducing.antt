@@ -1,26 +1,15 @@
 -- What a reduction adds to a tree, and what it asks of the cells.
 use Rattle.std.specs.Prelude.{ℕ, suc, List, [], ◌∷◌}
-use Rattle.and_model.specs.Terms.{Path, Term, framed}
-use Rattle.and_model.specs.Solutions.{Equation, falsehood}
-use Rattle.and_model.specs.Programs.{Program, Item, call, equal, arithmetic, fail, clause_at, head_in}
+use Rattle.and_model.specs.Terms.{Path}
+use Rattle.and_model.specs.Solutions.{Equation}
+use Rattle.and_model.specs.Programs.{Program, Item, call, equal, arithmetic, fail, clause_at}
 use Rattle.and_model.specs.Reductions.{Reduction}
 use Rattle.and_model.specs.Stands.{Framed, term_of}
 use Rattle.and_model.specs.declared.goal.Goal.{Goal}
+pub use Rattle.and_laws.specs.Reducing.{body_equations, reduction_equations}
 use Rattle.and_branch_laws.specs.Variables.{placed}
 
--- the equations of a body, with its terms put somewhere: its `=` items, and 0 = 1 for each `fail`
-abbrev pub body_equations : (Term → Term) → List Item → List Equation
-body_equations put [] = []
-body_equations put (call g ∷ items) = body_equations put items
-body_equations put (equal a b ∷ items) = (put a, put b) ∷ body_equations put items
-body_equations put (arithmetic a ∷ items) = body_equations put items
-body_equations put (fail ∷ items) = falsehood ∷ body_equations put items
-
--- the equations of a reduction: the call with the head that took it, and those of the body
-abbrev pub reduction_equations : Program → Path → Term → (clause : ℕ) → List Equation
-reduction_equations P p g c = (g, head_in P p c) ∷ body_equations (framed p) (clause_at P c).body
-
--- the same in the cells: the call in its frame, and the clause in the frame that begins at the base
+-- the equations of a reduction in the cells: the call in its frame, and the clause in the frame that begins at the base
 abbrev pub reduction_in_cells : Program → Goal → (clause base : ℕ) → List Equation
 reduction_in_cells P g c base =
     (placed g.base (term_of P g), placed base (clause_at P c).head) ∷ body_equations (placed base) (clause_at P c).body

@@ -12,9 +12,9 @@ use Rattle.and_laws.proofs.PrefixLemmas.{same_last, not_empty}
 use Rattle.and_laws.proofs.Agreement.{Apart, apart_body, own_body, query_apart}
 use Rattle.and_laws.proofs.Placing.{Writes, made_writes, writes_made, place_more, place_once, parent_below}
 use Rattle.and_laws.proofs.Order.{clause_weighs}
-use Rattle.and_laws.proofs.Ordered.{contains_none}
+use Rattle.and_laws.proofs.Ordered.{contains_none, middle_cases, middle_more, middle_has}
 use Rattle.and_branch_laws.proofs.Places.{clause_once, place_clause, clause_cases, frame_within}
-use Rattle.and_branch_laws.proofs.Places.{place_not_open, middle_cases, middle_more, middle_has}
+use Rattle.and_branch_laws.proofs.Places.{place_not_open}
 
 -- ---- Items
 

@@ -12,6 +12,7 @@ use Rattle.and_model.specs.Stands.{Framed, term_of}
 use Rattle.and_model.specs.declared.goal.Goal.{Goal}
 use Rattle.and_model.specs.declared.reference.Ref.{Ref}
 use Rattle.and_laws.proofs.Order.{reduce_weight}
+use Rattle.and_laws.proofs.ClausesOf.{of_applied}
 use Rattle.and_cells.specs.Ranges.{NamedProgram}
 use Rattle.and_branch_laws.specs.OwnVariables.{OwnVariables, IsLoaded}
 use Rattle.and_branch_laws.specs.Judging.{outside, CandidateInCells}
@@ -25,7 +26,6 @@ use Rattle.and_branch_parts.specs.Branches.{Held, Lives, IsBranchOf, IsOpenGoal,
 use Rattle.and_branch_parts.specs.Next.{IsReduced}
 use Rattle.and_branch_parts.specs.Rounds.{IsAtMost}
 use Rattle.and_branch_parts.specs.Watching.{Watched}
-use Rattle.and_branch_parts.proofs.ClausesOf.{of_applied}
 use Rattle.and_branch_parts.proofs.GrownRows.{run_grows, sleeps_on}
 use Rattle.and_branch_parts.proofs.LivingGoals.{Found, found, is_kept, is_framed, is_called, free_pair}
 use Rattle.and_branch_parts.proofs.CallItems.{open_is_call}

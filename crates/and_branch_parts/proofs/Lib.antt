@@ -3,7 +3,6 @@ pub mod ArithmeticRuns
 pub mod BodyStacks
 pub mod CallItems
 pub mod CandidatesParted
-pub mod ClausesOf
 pub mod CopiedBranches
 pub mod ForkReduced
 pub mod GoalsFound

@@ -8,11 +8,11 @@ use Rattle.and_model.specs.Stands.{Framed, IsFramed, term_of}
 use Rattle.and_model.specs.Store.{is_half}
 use Rattle.and_model.specs.declared.goal.Goal.{Goal}
 use Rattle.and_laws.proofs.Placing.{place_once}
+use Rattle.and_laws.proofs.Ordered.{middle_has}
 use Rattle.and_cells.specs.Ranges.{NamedProgram, IsGoalInRange}
 use Rattle.and_cells.specs.Seen.{word_at}
 use Rattle.and_branch_laws.specs.OwnVariables.{IsLoaded}
 use Rattle.and_branch_laws.specs.Kept.{item_at, node_item_at, task_in, is_call, IsCall, HasFreePair, goal_of, Kept}
-use Rattle.and_branch_laws.proofs.Places.{middle_has}
 use Rattle.and_branch_laws.proofs.Asking
 use Rattle.and_branch_laws.specs.Goals.{CanBeJudged}
 use Rattle.and_reduction.specs.Runs.{CanBeRun, HasUnnamedPair}

@@ -1,27 +1,28 @@
 -- What is prepared for a trial meets what unification asks, and what its answers say of the clause.
-use Rattle.std.proofs.Common.{ℕ, ◌+◌, ◌≡◌, ◌<◌, ◌≤◌, Bool, true, false, true≢false, not, ◌&&◌, leb, ltb, nat_eq, List, [], ◌∷◌, length, map, refl, sym, ap}
+use Rattle.std.proofs.Common.{ℕ, ◌+◌, ◌≡◌, ◌<◌, ◌≤◌, Bool, true, false, true≢false, not, List, [], ◌∷◌, length, map, refl, sym, ap}
 use Rattle.std.proofs.Common.{◌∙◌, subst, inl, inr, arith}
 use Rattle.std.specs.Prelude.{◌↔◌}
 use Rattle.std.proofs.lemmas.List.Elements.{All-weaker}
-use Rattle.and_model.specs.Terms.{Path, Term, Terms, variable, number, compound, none, more, variables_of, Substitution, apply, apply_all}
+use Rattle.and_model.specs.Terms.{Path, variables_of}
 use Rattle.and_model.specs.Solutions.{Solvable}
-use Rattle.and_model.specs.Programs.{Program, Of, clause_at, same_count, same_predicate}
+use Rattle.and_model.specs.Programs.{Of, clause_at}
 use Rattle.and_model.specs.Candidates.{Candidate}
 use Rattle.and_model.specs.Store.{is_half}
+use Rattle.and_model.specs.OwnVariables.{IsOwn, AreOwn}
 use Rattle.and_model.specs.declared.limits.TheConstants.{MAX_LIMIT}
 use Rattle.and_model.specs.declared.reference.Ref.{Ref}
 use Rattle.and_model.specs.declared.reference.Ref.TheVariants.{Free}
 use Rattle.and_program.specs.Skeletons.{NodeItem, call, equal, is, compare, fail, node_term, item_of, AllThere}
 use Rattle.and_program.specs.Loaded.{nodes_at}
+use Rattle.and_laws.proofs.ClausesOf.{of_applied}
 use Rattle.and_laws.proofs.Equality.{bool_cases}
-use Rattle.and_laws.proofs.Substitutions.{and_left, and_right}
 use Rattle.and_cells.specs.Ranges.{NamedProgram, IsNodeInRange}
 use Rattle.and_cells.specs.Rows.{IsSound, OnlySet, plain}
 use Rattle.and_cells.specs.Seen.{word_at, Keeps}
 use Rattle.and_cells.specs.Meaning.{IsSettled, equations_of}
 use Rattle.and_cells.specs.Parts.{part_at}
 use Rattle.and_cells.specs.Solved.{IsMostGeneral}
-use Rattle.and_branch_laws.specs.OwnVariables.{IsLoaded, IsOwn, AreOwn}
+use Rattle.and_branch_laws.specs.OwnVariables.{IsLoaded}
 use Rattle.and_branch_laws.specs.Variables.{placed, cells_from}
 use Rattle.and_branch_laws.specs.Settling.{widened}
 use Rattle.and_branch_laws.specs.Judging.{outside}
@@ -38,28 +39,6 @@ use Rattle.and_determinacy.specs.Trials.{IsPrepared}
 use Rattle.and_guards.proofs.Widening.{widened_length, free_behind, settled_still}
 use Rattle.and_determinacy.proofs.TakenBack.{only_these}
 use Rattle.and_determinacy.proofs.TriedClauses.{asked_in_range, asked_whole, asked_new, unsolved, solved, refuted}
-
--- A call's clauses are those of what it is placed from.
-same_count_applied : (r : Substitution) (ts us : Terms) → same_count (apply_all r ts) us ≡ same_count ts us
-same_count_applied r none none = refl
-same_count_applied r none (more u us) = refl
-same_count_applied r (more t ts) none = refl
-same_count_applied r (more t ts) (more u us) = same_count_applied r ts us
-
-same_predicate_applied : (r : Substitution) (g h : Term) → same_predicate g h ≡ true → same_predicate (apply r g) h ≡ true
-same_predicate_applied r (variable q k) h e = absurd (true≢false (sym e))
-same_predicate_applied r (number z) h e = absurd (true≢false (sym e))
-same_predicate_applied r (compound c ts) (variable q k) e = absurd (true≢false (sym e))
-same_predicate_applied r (compound c ts) (number z) e = absurd (true≢false (sym e))
-same_predicate_applied r (compound c ts) (compound d us) e = ap (λ b. nat_eq c d && b) (same_count_applied r ts us) ∙ e
-
-pub of_applied : (P : Program) (r : Substitution) (g : Term) (c : ℕ) → Of P g c → Of P (apply r g) c
-of_applied P r g c e =
-    let there : Bool = ltb 0 c && leb c (length P.clauses) in
-    let one : there ≡ true = and_left there (same_predicate g (clause_at P c).head) e in
-    let two : same_predicate (apply r g) (clause_at P c).head ≡ true =
-    same_predicate_applied r g (clause_at P c).head (and_right there (same_predicate g (clause_at P c).head) e) in
-    rw (one, two) refl
 
 module _ (P : NamedProgram) (loaded : IsLoaded P) (row : List Ref) (short : length row ≤ MAX_LIMIT) (n b c : ℕ)
     (reads : CanBeRead P row b n) (of : Of P.program (node_term P.skeleton.nodes n) c) (wide : List Ref) (pairs : List Pair) (floor : ℕ)

@@ -15,6 +15,7 @@ use Rattle.and_program.specs.Skeletons.{NodeItem, call, equal, is, compare, fail
 use Rattle.and_program.specs.Loaded.{nodes_at}
 use Rattle.and_laws.proofs.Solving.{solves_front, solves_back}
 use Rattle.and_laws.proofs.Substitutions.{and_left, and_right}
+use Rattle.and_laws.proofs.ClausesOf.{of_applied}
 use Rattle.and_cells.specs.Ranges.{NamedProgram}
 use Rattle.and_cells.specs.Rows.{IsSound}
 use Rattle.and_cells.specs.Seen.{word_at, Grows, AreFree}
@@ -37,7 +38,6 @@ use Rattle.and_determinacy.specs.Trials.{IsPrepared}
 use Rattle.and_determinacy.specs.Watching.{StaysWhile, HaveWhatWasSet}
 use Rattle.and_determinacy.proofs.Fitted.{Tried, both, both_solve, both_ground, both_wait}
 use Rattle.and_clause_index.proofs.ClauseLists.{clause_there}
-use Rattle.and_determinacy.proofs.Prepared.{of_applied}
 use Rattle.and_guards.proofs.Refuting.{not_true}
 use Rattle.and_guards.proofs.Widening.{widened_length, free_behind}
 

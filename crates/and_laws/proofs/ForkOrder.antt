@@ -1,5 +1,5 @@
 -- Forks rise by key: what is forked behind a split has keys that begin with what was decided there and the split's clause, and splits go by rising clauses.
-use Rattle.std.proofs.Common.{ℕ, ◌≡◌, ◌<◌, List, [], ◌∷◌, ◌++◌, refl, ap, sym, subst, ◌∙◌, inl, inr, arith, append_assoc, append-nil, get_or, All, AllPairs}
+use Rattle.std.proofs.Common.{ℕ, ◌<◌, List, [], ◌∷◌, ◌++◌, ap, sym, subst, ◌∙◌, inl, inr, append_assoc, append-nil, get_or, All, AllPairs}
 use Rattle.std.proofs.lemmas.List.Elements.{All-append, All-cons}
 use Rattle.std.proofs.lemmas.List.Kept.{AllPairs-cons}
 use Rattle.and_model.specs.Programs.{Program}

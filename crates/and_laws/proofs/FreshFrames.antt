@@ -1,15 +1,16 @@
 -- A clause is tried in a frame that nothing speaks of; whichever that is, and whatever names the other variables have.
-use Rattle.std.proofs.Common.{ℕ, ◌≡◌, Bool, true, false, true≢false, ◌&&◌, ltb, leb, length, nat_eq, List, [], ◌∷◌, refl, ap, sym, ◌∙◌, subst}
+use Rattle.std.proofs.Common.{ℕ, ◌≡◌, true, List, [], ◌∷◌, refl, ap, sym, ◌∙◌, subst}
 use Rattle.std.proofs.Common.{inl, inr}
 use Rattle.and_model.specs.Terms.{Path, Term, Terms, variable, number, compound, none, more, Substitution, apply, apply_all, framed}
 use Rattle.and_model.specs.Solutions.{Equation, Solves, falsehood}
 use Rattle.and_model.specs.Arithmetic.{Relation}
-use Rattle.and_model.specs.Programs.{Program, Item, call, equal, arithmetic, fail, Arithmetic, is, compare, clause_at, head_in, same_count, same_predicate, Of}
+use Rattle.and_model.specs.Programs.{Program, Item, call, equal, arithmetic, fail, Arithmetic, is, compare, clause_at, head_in, Of}
 use Rattle.and_model.specs.Closure.{needs, refutes}
 use Rattle.and_model.specs.Candidates.{In, guard, Candidate}
 use Rattle.and_laws.specs.Naming.{Variables, IsOver, EquationsOver, others, Agree, under}
 use Rattle.and_laws.proofs.AgreeOn.{agree_term, agree_solves, patched, patched_agrees, patched_others, over_framed}
-use Rattle.and_laws.proofs.Substitutions.{then, apply_then, and_left, and_right}
+use Rattle.and_laws.proofs.ClausesOf.{of_applied}
+use Rattle.and_laws.proofs.Substitutions.{then, apply_then}
 
 abbrev first_in : List Equation → Equation
 first_in [] = falsehood
@@ -59,29 +60,6 @@ twin_of q p (arithmetic (compare m b c) ∷ items) a (inl e) = subst (λ x. Twin
 twin_of q p (arithmetic (compare m b c) ∷ items) a (inr i) =
     let t : Twin q p items a = twin_of q p items a i in
     record { twin = t.twin; is_in = inr t.is_in; refuted = t.refuted; same = t.same }
-
--- the call's name and number of arguments are those of the call that it was made of
-same_count_applied : (r : Substitution) (ts us : Terms) → same_count (apply_all r ts) us ≡ same_count ts us
-same_count_applied r none none = refl
-same_count_applied r none (more u us) = refl
-same_count_applied r (more t ts) none = refl
-same_count_applied r (more t ts) (more u us) = same_count_applied r ts us
-
-same_predicate_applied : (r : Substitution) (g h : Term) → same_predicate g h ≡ true → same_predicate (apply r g) h ≡ true
-same_predicate_applied r (variable q k) h e = absurd (true≢false (sym e))
-same_predicate_applied r (number z) h e = absurd (true≢false (sym e))
-same_predicate_applied r (compound c ts) (variable q k) e = absurd (true≢false (sym e))
-same_predicate_applied r (compound c ts) (number z) e = absurd (true≢false (sym e))
-same_predicate_applied r (compound c ts) (compound d us) e = ap (λ b. nat_eq c d && b) (same_count_applied r ts us) ∙ e
-
-both_true : (a b : Bool) → a ≡ true → b ≡ true → a && b ≡ true
-both_true a b e f = rw (e, f) refl
-
-of_applied : (P : Program) (r : Substitution) (g : Term) (c : ℕ) → Of P g c → Of P (apply r g) c
-of_applied P r g c e =
-    let there : Bool = ltb 0 c && leb c (length P.clauses) in
-    both_true there (same_predicate (apply r g) (clause_at P c).head) (and_left there (same_predicate g (clause_at P c).head) e)
-    (same_predicate_applied r g (clause_at P c).head (and_right there (same_predicate g (clause_at P c).head) e))
 
 -- What solves the one equations makes something that solves the others, and gives the new clause's variables the same.
 abbrev Goes : List Equation → List Equation → Path → Path → Type 0

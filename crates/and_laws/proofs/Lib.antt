@@ -24,6 +24,10 @@ pub mod Codes
 pub mod Members
 pub mod Exploring
 pub mod Unfolding
+pub mod OpenPaths
+pub mod Reducing
+pub mod ClausesOf
+pub mod Numbering
 pub mod Agreement
 pub mod Placing
 pub mod ForkOrder

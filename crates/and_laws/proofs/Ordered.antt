@@ -1,6 +1,6 @@
 -- Lists in order, and what they contain.
-use Rattle.std.proofs.Common.{ℕ, ◌≡◌, ◌<◌, List, [], ◌∷◌, refl, sym, ◌∙◌, subst, inl, inr, ◌⊎◌, arith, zero, suc, length, AllPairs, Contains, get_or}
-use Rattle.std.proofs.lemmas.List.Elements.{All-contains}
+use Rattle.std.proofs.Common.{ℕ, ◌≡◌, ◌<◌, List, [], ◌∷◌, ◌++◌, refl, sym, ◌∙◌, subst, inl, inr, ◌⊎◌, arith, zero, suc, length, AllPairs, Contains, get_or}
+use Rattle.std.proofs.lemmas.List.Elements.{All-contains, Contains-append_left, Contains-append_right, Contains-append_cases}
 use Rattle.and_laws.proofs.Pairwise.{all_pairs_first, all_pairs_rest}
 
 -- what a list with a first element contains
@@ -19,6 +19,22 @@ contains_cases x y xs h = contains_at x y xs h.0 h.1 h.2
 
 pub contains_none : {X : Type 0} (y : X) → Contains [] y → ⊥
 contains_none y h = let k = h.1 in absurd (omega arith)
+
+-- one more element in the middle
+pub middle_cases : {X : Type 0} (front back : List X) (x y : X) → Contains (front ++ x ∷ back) y → (y ≡ x) ⊎ Contains (front ++ back) y
+middle_cases front back x y h = elim (Contains-append_cases front (x ∷ back) y h) [
+  | inl i ↦ inr (Contains-append_left front back y i)
+  | inr i ↦ elim (contains_cases x y back i) [ inl e ↦ inl e | inr j ↦ inr (Contains-append_right front back y j) ]
+]
+
+pub middle_more : {X : Type 0} (front back : List X) (x y : X) → Contains (front ++ back) y → Contains (front ++ x ∷ back) y
+middle_more front back x y h = elim (Contains-append_cases front back y h) [
+  | inl i ↦ Contains-append_left front (x ∷ back) y i
+  | inr i ↦ Contains-append_right front (x ∷ back) y (contains_more x y back i)
+]
+
+pub middle_has : {X : Type 0} (front back : List X) (x : X) → Contains (front ++ x ∷ back) x
+middle_has front back x = Contains-append_right front (x ∷ back) x (contains_first x back)
 
 -- Lists in a strict order that contain the same elements are the same.
 module _ {X : Type 0} (R : X → X → Type 0) (strict : (x y : X) → R x y → R y x → ⊥) where

@@ -1,9 +1,9 @@
 -- What was run stays run along a Step: the goals that were run are known under the larger tree's equations too.
-use Rattle.std.proofs.Common.{ℕ, suc, ◌≡◌, List, [], ◌∷◌, ◌++◌, refl, ap, sym, ◌∙◌, subst, inl, inr, append_assoc}
-use Rattle.and_model.specs.Terms.{Path, Terms}
-use Rattle.and_model.specs.Solutions.{Equation, Solves, Entails}
+use Rattle.std.proofs.Common.{ℕ, suc, ◌≡◌, List, [], ◌∷◌, ◌++◌, refl, sym, ◌∙◌, subst, inl, inr, append_assoc}
+use Rattle.and_model.specs.Terms.{Path}
+use Rattle.and_model.specs.Solutions.{Equation, Entails}
 use Rattle.and_model.specs.Programs.{Program, Item, call, equal, arithmetic, fail, Arithmetic, arithmetic_in, clause_at, Of}
-use Rattle.and_model.specs.Closure.{added, Known, Ran, none_yet, one, Without, here, there}
+use Rattle.and_model.specs.Closure.{added, Ran, none_yet, one, Without, here, there}
 use Rattle.and_model.specs.Trees.{Agenda, Tree, done, left, by, equate, reckon, equations, arithmetics, Open, path, call_of, fresh, reduce}
 use Rattle.and_laws.specs.Weaving.{Woven, none, old, new, body_arithmetic}
 use Rattle.and_laws.proofs.Bodies.{fresh_equations}

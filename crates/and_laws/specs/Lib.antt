@@ -5,5 +5,6 @@ pub mod Explorations
 pub mod Paths
 pub mod Outcomes
 pub mod Weaving
+pub mod Reducing
 pub mod Naming
 pub mod Sizes

@@ -9,13 +9,14 @@ use Rattle.and_model.specs.Programs
 use Rattle.and_model.specs.Programs.{Item, Arithmetic, clause_at}
 use Rattle.and_model.specs.Stands.{item_term}
 use Rattle.and_model.specs.Store.{is_half}
+use Rattle.and_model.specs.OwnVariables.{IsOwn}
 use Rattle.and_model.specs.declared.goal.Goal.{Goal}
 use Rattle.and_model.specs.declared.reference.Ref.{Ref}
 use Rattle.and_program.specs.Skeletons
 use Rattle.and_program.specs.Skeletons.{NodeItem, Shape, node_term, item_of}
 use Rattle.and_cells.specs.Ranges.{NamedProgram, IsItemInRange, IsGoalInRange, pair_of}
 use Rattle.and_cells.specs.Seen.{word_at}
-use Rattle.and_branch_laws.specs.OwnVariables.{IsLoaded, IsOwn}
+use Rattle.and_branch_laws.specs.OwnVariables.{IsLoaded}
 use Rattle.and_branch_laws.specs.Kept.{item_at, node_item_at, HasFreePair}
 use Rattle.and_branch_laws.proofs.Clauses.{goal_clause_there}
 use Rattle.and_branch_laws.proofs.Growing.{body_is_own}

@@ -8,6 +8,7 @@ use Rattle.and_model.specs.Programs
 use Rattle.and_model.specs.Programs.{Item, clause_at, clause_weight}
 use Rattle.and_model.specs.Stands.{term_of}
 use Rattle.and_model.specs.Store.{is_half}
+use Rattle.and_model.specs.OwnVariables.{IsOwn, AreOwn}
 use Rattle.and_model.specs.declared.goal.Goal.{Goal}
 use Rattle.and_model.specs.declared.limits.TheConstants.{MAX_LIMIT}
 use Rattle.and_model.specs.declared.reference.Ref.{Ref}
@@ -21,7 +22,7 @@ use Rattle.and_cells.specs.Rows.{IsSound}
 use Rattle.and_cells.specs.Seen.{word_at}
 use Rattle.and_cells.specs.Meaning.{IsSettled, shallow_cells}
 use Rattle.and_cells.specs.Parts.{part_at}
-use Rattle.and_branch_laws.specs.OwnVariables.{IsLoaded, IsOwn, AreOwn}
+use Rattle.and_branch_laws.specs.OwnVariables.{IsLoaded}
 use Rattle.and_branch_laws.specs.Reducing.{body_equations}
 use Rattle.and_branch_laws.specs.Settling.{widened}
 use Rattle.and_branch_laws.proofs.Clauses.{clause_nodes, item_in_range, clause_weighs_more, goal_range_more}

@@ -1,17 +1,17 @@
 -- The journal that the acts are read as, and the tree that it builds.
-use Rattle.std.proofs.Common.{ℕ, suc, ◌+◌, ◌≡◌, Bool, true, true≢false, ◌&&◌, leb, ltb, nat_eq, List, [], ◌∷◌, ◌++◌, length, map, Contains}
+use Rattle.std.proofs.Common.{ℕ, suc, ◌+◌, ◌≡◌, List, [], ◌∷◌, ◌++◌, length, map, Contains}
 use Rattle.std.proofs.Common.{refl, ap, sym, subst, ◌∙◌, inl, inr}
 use Rattle.std.proofs.lemmas.List.Elements.{Contains-append_left, Contains-append_right, Contains-append_cases}
-use Rattle.and_model.specs.Terms.{Path, Term, Terms, variable, number, compound, none, more, Substitution, apply, apply_all, framed}
-use Rattle.and_model.specs.Programs.{Program, Of, clause_at, clause_weight, same_count, same_predicate}
+use Rattle.and_model.specs.Terms.{Path, variable, apply, framed}
+use Rattle.and_model.specs.Programs.{Program, clause_at, clause_weight}
 use Rattle.and_model.specs.Trees.{QueryTree, query_agenda, weight}
 use Rattle.and_model.specs.Reductions.{Reduction, PlaceHas, CallHas, Makes}
 use Rattle.and_model.specs.Stands.{Framed, term_of}
 use Rattle.and_model.specs.declared.goal.Goal.{Goal}
 use Rattle.and_model.specs.declared.reference.Ref.{Ref}
 use Rattle.and_cells.specs.Ranges.{NamedProgram}
+use Rattle.and_laws.proofs.ClausesOf.{of_applied}
 use Rattle.and_laws.proofs.Placing.{place_more}
-use Rattle.and_laws.proofs.Substitutions.{and_left, and_right}
 use Rattle.and_phase_laws.specs.Journals.{Entry, frame, setting, failing, Journal, NotTaken, Opening, Builds, WellPlaced}
 use Rattle.and_phase_laws.specs.Weaving.{Run, entry_of, woven}
 use Rattle.and_phase_laws.specs.Writing.{weights, Written}
@@ -27,29 +27,6 @@ use Rattle.and_worker_laws.specs.Reading.{AreReadAs}
 use Rattle.and_worker_laws.specs.Standing.{Stands}
 use Rattle.and_worker_laws.proofs.Taking.{reduction_taken, read_more, weights_read}
 use Rattle.and_worker_laws.proofs.Standing.{standing}
-
--- ---- A call's predicate is that of its instances.
-
-count_applied : (s : Substitution) (ts us : Terms) → same_count (apply_all s ts) us ≡ same_count ts us
-count_applied s none none = refl
-count_applied s none (more u us) = refl
-count_applied s (more t ts) none = refl
-count_applied s (more t ts) (more u us) = count_applied s ts us
-
-predicate_applied : (s : Substitution) (g h : Term) → same_predicate g h ≡ true → same_predicate (apply s g) h ≡ true
-predicate_applied s (variable q k) h e = absurd (true≢false (sym e))
-predicate_applied s (number z) h e = absurd (true≢false (sym e))
-predicate_applied s (compound c ts) (variable q k) e = e
-predicate_applied s (compound c ts) (number z) e = e
-predicate_applied s (compound c ts) (compound d us) e = ap (λ (x : Bool). nat_eq c d && x) (count_applied s ts us) ∙ e
-
-of_applied : (P : Program) (s : Substitution) (g : Term) (c : ℕ) → Of P g c → Of P (apply s g) c
-of_applied P s g c e =
-    let there : Bool = ltb 0 c && leb c (length P.clauses) in
-    let one : there ≡ true = and_left there (same_predicate g (clause_at P c).head) e in
-    let two : same_predicate (apply s g) (clause_at P c).head ≡ true =
-    predicate_applied s g (clause_at P c).head (and_right there (same_predicate g (clause_at P c).head) e) in
-    rw (one, two) refl
 
 -- ---- The journal
 

@@ -6,6 +6,7 @@ use Rattle.and_model.specs.Solutions.{Equation, Solves, Entails}
 use Rattle.and_model.specs.Programs.{Program}
 use Rattle.and_model.specs.Candidates.{Candidate}
 use Rattle.and_model.specs.Lines.{same_path}
+use Rattle.and_model.specs.OwnVariables.{IsOwn, AreOwn}
 use Rattle.and_laws.specs.Naming.{Variables, IsOver, EquationsOver, others, under}
 use Rattle.and_laws.proofs.Equality.{bool_cases}
 use Rattle.and_laws.proofs.Printing.{same_path_true, same_path_self}
@@ -13,7 +14,6 @@ use Rattle.and_laws.proofs.Substitutions.{then, apply_then}
 use Rattle.and_laws.proofs.FreshFrames.{candidate_fresh, candidate_renamed}
 use Rattle.and_laws.proofs.Picking.{candidate_falls}
 use Rattle.and_branch_laws.specs.Variables.{SpeaksOf, EquationsSpeakOf, cells_from, placed}
-use Rattle.and_branch_laws.specs.OwnVariables.{IsOwn, AreOwn}
 use Rattle.and_branch_laws.proofs.Owning.{own_speaks}
 use Rattle.and_branch_laws.proofs.Speaking.{speaks_agree, speaks_solves, speaks_over, equations_speak_over, speaks_applied, speaks_variable, back_again}
 use Rattle.and_branch_laws.proofs.Speaking.{equations_back_again, under_then, then_under}

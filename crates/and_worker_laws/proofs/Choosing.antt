@@ -8,6 +8,7 @@ use Rattle.and_model.specs.Candidates.{Candidate}
 use Rattle.and_model.specs.Trees.{query_agenda}
 use Rattle.and_model.specs.Reductions.{PlaceHas}
 use Rattle.and_model.specs.Stands.{ClauseHas, term_of}
+use Rattle.and_model.specs.OwnVariables.{IsOwn, AreOwn}
 use Rattle.and_model.specs.declared.goal.Goal.{Goal}
 use Rattle.and_laws.specs.Naming.{under}
 use Rattle.and_laws.proofs.PrefixLemmas.{not_empty}
@@ -15,7 +16,6 @@ use Rattle.and_cells.specs.Ranges.{NamedProgram}
 use Rattle.and_cells.specs.Meaning.{equations_of}
 use Rattle.and_phase_laws.specs.Journals.{Journal, Opening, known}
 use Rattle.and_phase_laws.specs.Weaving.{Run, woven}
-use Rattle.and_branch_laws.specs.OwnVariables.{IsOwn, AreOwn}
 use Rattle.and_branch_laws.specs.Judging.{outside}
 use Rattle.and_branch_laws.proofs.Speaking.{then_under}
 use Rattle.and_branch_laws.proofs.Owning.{term_speaks}

@@ -14,10 +14,10 @@ use Rattle.and_model.specs.declared.reference.Ref.{Ref}
 use Rattle.and_laws.specs.Paths.{At}
 use Rattle.and_laws.proofs.Agreement.{query_apart}
 use Rattle.and_laws.proofs.Placing.{Writes, writes_made, place_more}
+use Rattle.and_laws.proofs.OpenPaths.{open_free}
 use Rattle.and_cells.specs.Ranges.{NamedProgram}
 use Rattle.and_phase_laws.specs.Journals.{Journal, Opening, Builds, TakenOut, goals_run, goals_of_runs, StillWait}
 use Rattle.and_phase_laws.specs.Weaving.{Run, woven}
-use Rattle.and_phase_laws.proofs.Places.{open_free}
 use Rattle.and_phase_laws.proofs.Reducing.{builds_above}
 use Rattle.and_branch_laws.specs.OwnVariables.{OwnVariables}
 use Rattle.and_branch_laws.specs.Tasks.{Task, tasks, arithmetic_among, RanAmong}

@@ -7,14 +7,14 @@ use Rattle.and_model.specs.Programs.{Item, call, equal, arithmetic, fail, Arithm
 use Rattle.and_model.specs.Closure.{needs, equals, added}
 use Rattle.and_model.specs.Reductions.{Reduction, PlaceHas}
 use Rattle.and_model.specs.Stands.{ClauseHas, term_of}
+use Rattle.and_model.specs.OwnVariables.{IsOwn}
 use Rattle.and_model.specs.declared.goal.Goal.{Goal}
 use Rattle.and_laws.proofs.Substitutions.{then, apply_then}
 use Rattle.and_cells.specs.Ranges.{NamedProgram}
 use Rattle.and_cells.specs.Meaning.{cell_variable}
-use Rattle.and_phase_laws.specs.Journals as Journals
-use Rattle.and_branch_laws.specs.OwnVariables.{IsOwn, OwnVariables}
+use Rattle.and_branch_laws.specs.OwnVariables.{OwnVariables}
 use Rattle.and_branch_laws.specs.Variables.{SpeaksOf, ArithmeticSpeaksOf, IsVariable, AreNames, cells_from, placed}
-use Rattle.and_branch_laws.specs.Reducing.{body_equations, reduction_in_cells}
+use Rattle.and_branch_laws.specs.Reducing.{body_equations, reduction_equations, reduction_in_cells}
 use Rattle.and_branch_laws.proofs.Speaking.{speaks_agree}
 use Rattle.and_branch_laws.proofs.Growing.{BodyIsOwn, head_is_own, body_is_own}
 use Rattle.and_branch_laws.proofs.Owning.{own_speaks, term_speaks}
@@ -88,7 +88,7 @@ module _ (P : NamedProgram) (rs : List Reduction) (names : Substitution) (named 
     added_same (compare o a b) (more x (more y ts)) own = refuted_same s of_cells (holds o x y)
 
     pub body_same : (items : List Item) → BodyIsOwn (clause_at P.program c).variables items
-        → AreSame s of_cells (Journals.body_equations q items) (body_equations (placed n) items)
+        → AreSame s of_cells (body_equations (framed q) items) (body_equations (placed n) items)
     body_same [] own = tt
     body_same (call g ∷ items) own = body_same items own.1
     body_same (equal a b ∷ items) own = let m = (clause_at P.program c).variables in
@@ -100,7 +100,7 @@ module _ (P : NamedProgram) (rs : List Reduction) (names : Substitution) (named 
   -- A reduction asks in the tree what it asks in the cells.
   pub reduction_same : OwnVariables P → (g : Goal) (p : Path) → PlaceHas rs g.node p → ClauseHas rs g.node g.clause.0 → g.base ≡ g.node
       → (n c : ℕ) (q : Path) → PlaceHas rs n q → ClauseHas rs n c
-      → AreSame s of_cells (Journals.reduction_equations P.program q (framed p (term_of P.program g)) c) (reduction_in_cells P.program g c n)
+      → AreSame s of_cells (reduction_equations P.program q (framed p (term_of P.program g)) c) (reduction_in_cells P.program g c n)
   reduction_same own g p place clause based n c q new_place new_clause = (
     term_same g.node g.clause.0 p place clause (term_of P.program g) (term_speaks P own g)
         ∙ ap (λ b. apply of_cells (placed b (term_of P.program g))) (sym based),

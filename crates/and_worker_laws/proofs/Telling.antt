@@ -8,6 +8,7 @@ use Rattle.and_model.specs.Closure.{added}
 use Rattle.and_model.specs.Trees.{query_agenda}
 use Rattle.and_model.specs.Reductions.{Reduction, PlaceHas, reduced}
 use Rattle.and_model.specs.Stands.{term_of}
+use Rattle.and_model.specs.OwnVariables.{IsOwn}
 use Rattle.and_model.specs.declared.goal.Goal.{Goal}
 use Rattle.and_laws.specs.Naming.{under}
 use Rattle.and_laws.proofs.Substitutions.{then}
@@ -17,7 +18,6 @@ use Rattle.and_cells.specs.Meaning.{equations_of}
 use Rattle.and_phase_laws.specs.Journals.{Entry, Journal, reduction_equations, settings, made, made_by, Opening, known}
 use Rattle.and_phase_laws.specs.Weaving.{Run, entry_of, woven}
 use Rattle.and_phase_laws.proofs.Weaving.{woven_settings}
-use Rattle.and_branch_laws.specs.OwnVariables.{IsOwn}
 use Rattle.and_branch_laws.specs.Variables.{ArithmeticSpeaksOf}
 use Rattle.and_branch_laws.specs.Reducing.{reduction_in_cells}
 use Rattle.and_branch_laws.specs.Kept.{goal_of, item_at}

@@ -11,6 +11,7 @@ use Rattle.and_model.specs.Solutions.{Equation, Solves, falsehood}
 use Rattle.and_model.specs.Programs.{Item, clause_at, clause_weight}
 use Rattle.and_model.specs.Stands.{item_term}
 use Rattle.and_model.specs.Store.{is_half}
+use Rattle.and_model.specs.OwnVariables.{IsOwn, AreOwn}
 use Rattle.and_model.specs.declared.goal.Goal.{Goal}
 use Rattle.and_model.specs.declared.limits.TheConstants.{MAX_LIMIT}
 use Rattle.and_program.specs.Skeletons
@@ -22,7 +23,7 @@ use Rattle.and_cells.specs.Ranges.{NamedProgram, IsInRange, IsNodeInRange, IsIte
 use Rattle.and_cells.specs.Seen.{Seen, IsWrittenIfNumber}
 use Rattle.and_cells.specs.Meaning.{Words, shallow_cells, equations_between}
 use Rattle.and_cells.specs.Parts.{part_at}
-use Rattle.and_branch_laws.specs.OwnVariables.{IsLoaded, IsOwn, AreOwn}
+use Rattle.and_branch_laws.specs.OwnVariables.{IsLoaded}
 use Rattle.and_branch_laws.specs.Reducing.{body_equations, reduction_in_cells}
 use Rattle.and_branch_laws.specs.Variables.{SpeaksOf, placed}
 use Rattle.and_branch_laws.proofs.Clauses.{clause_nodes, item_of_nodes, item_in_range, clause_weighs_more}

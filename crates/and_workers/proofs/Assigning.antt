@@ -8,6 +8,7 @@ use Rattle.and_model.specs.Programs.{Arithmetic, is, clause_at}
 use Rattle.and_model.specs.Solutions.{Equation, Solves}
 use Rattle.and_model.specs.Store.{is_half}
 use Rattle.and_model.specs.Terms.{Term, Terms, Substitution, none, more, number, apply, is_ground}
+use Rattle.and_model.specs.OwnVariables.{IsOwn}
 use Rattle.and_model.specs.declared.goal.Goal.{Goal}
 use Rattle.and_model.specs.declared.reference.Ref.{Ref}
 use Rattle.and_model.specs.declared.reference.Ref.TheVariants.{Number}
@@ -22,7 +23,7 @@ use Rattle.and_unify.specs.declared.pairs.Pair.{Pair}
 use Rattle.and_unify.specs.Pairs.{NameNoHalf, AreInRange, AreWritten, equations_of_pairs}
 use Rattle.and_guards.proofs.Resolved as tried
 use Rattle.and_branch_laws.specs.Kept.{item_at}
-use Rattle.and_branch_laws.specs.OwnVariables.{IsLoaded, IsOwn}
+use Rattle.and_branch_laws.specs.OwnVariables.{IsLoaded}
 use Rattle.and_branch_laws.specs.Variables.{placed}
 use Rattle.and_branch_laws.proofs.Growing.{body_is_own}
 use Rattle.and_branch_laws.proofs.Owning.{ItemSpeaksOf, item_speaks}

@@ -1,9 +1,9 @@
 use Rattle.std.proofs.Common.{◌∙◌, map}
 use Rattle.and_model.specs.Trees.{equations}
 use Rattle.and_laws.proofs.Agreement.{query_apart}
+use Rattle.and_laws.proofs.OpenPaths.{one_open}
 use Rattle.and_branch_laws.specs.Tasks.{tasks}
 use Rattle.and_branch_laws.specs.Kept.{task_of}
-use Rattle.and_branch_laws.proofs.Places
 use Rattle.and_branch_laws.proofs.Tasks
 use Rattle.and_branch_laws.proofs.Keeping
 use Rattle.and_branch_laws.proofs.Reading
@@ -20,4 +20,4 @@ pub returns-clause-open : goal.returns-clause-open
 returns-clause-open c = λ P rs row kept t f own k h called. Keeping.kept_open P own rs row kept t k f h called
 
 pub returns-clause-one : goal.returns-clause-one
-returns-clause-one c = λ P t o p e. Places.one_open t o p (query_apart P.program) e
+returns-clause-one c = λ P t o p e. one_open t o p (query_apart P.program) e
