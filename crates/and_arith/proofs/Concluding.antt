@@ -14,6 +14,7 @@ use Rattle.and_program.specs.Skeletons.{AllFall}
 use Rattle.and_cells.specs.Ranges.{NamedProgram, IsInRange}
 use Rattle.and_cells.specs.Seen.{Seen, Knows, IsAmong, LeadsTo, here, onward, FoundFree, Misses, IsWrittenIfNumber, IsCoherent}
 use Rattle.and_cells.proofs.Chains.{reads_nothing, reads_more}
+use Rattle.and_cells.proofs.Among.{among_none, among_first, among_cases, among_map, map_among}
 use Rattle.and_value_laws.specs.Values.{Reaches, whole, KnownAs, HasValue, IsGround, LacksValue, IsFirstFree}
 use Rattle.and_arith.specs.Sizes.{size_of, parts_with, AreOpened, AreAllOpened, IsSettledAnswer, Spends}
 use Rattle.and_arith.specs.Taken.{Listed, cells_of}
@@ -22,7 +23,6 @@ use Rattle.and_arith.specs.declared.walk.Task.{Task}
 use Rattle.and_arith.specs.declared.walk.Task.TheVariants.{Enter, Keep}
 use Rattle.and_arith.specs.declared.values.Valued.{Valued}
 use Rattle.and_arith.specs.declared.values.Valued.TheVariants as valued
-use Rattle.and_arith.proofs.Members.{none_in, first_in, first_or_later, image_in, from_image}
 use Rattle.and_value_laws.proofs.KnownTerms.{IsOnce, Extends, cell_cases}
 use Rattle.and_arith.proofs.Yielding.{Yields, leads_same}
 use Rattle.and_arith.proofs.Owing.{Ahead, begins}
@@ -36,15 +36,15 @@ use Rattle.and_arith.proofs.Turning.{Goes}
 once_listed : (known : List Known) → AreDistinct (map (λ (k : Known). k.setting.place) known) → (place : ℕ) (q r : Ref)
     → Contains (map (λ (k : Known). k.setting) known) (record { place = place; value = q })
     → Contains (map (λ (k : Known). k.setting) known) (record { place = place; value = r }) → q ≡ r
-once_listed [] distinct place q r a b = absurd (none_in (record { place = place; value = q }) a)
+once_listed [] distinct place q r a b = absurd (among_none (record { place = place; value = q }) a)
 once_listed (k ∷ known) distinct place q r a b =
-    elim (first_or_later (map (λ (k : Known). k.setting) known) k.setting (record { place = place; value = q }) a) [
-      | inl e ↦ elim (first_or_later (map (λ (k : Known). k.setting) known) k.setting (record { place = place; value = r }) b) [
-        | inl f ↦ ap (λ (s : Setting). s.value) (sym e ∙ f)
-        | inr later ↦ absurd (apart later (ap (λ (s : Setting). s.place) e))
+    elim (among_cases k.setting (record { place = place; value = q }) (map (λ (k : Known). k.setting) known) a) [
+      | inl e ↦ elim (among_cases k.setting (record { place = place; value = r }) (map (λ (k : Known). k.setting) known) b) [
+        | inl f ↦ ap (λ (s : Setting). s.value) (e ∙ sym f)
+        | inr later ↦ absurd (apart later (ap (λ (s : Setting). s.place) (sym e)))
       ]
-      | inr first ↦ elim (first_or_later (map (λ (k : Known). k.setting) known) k.setting (record { place = place; value = r }) b) [
-        | inl f ↦ absurd (apart first (ap (λ (s : Setting). s.place) f))
+      | inr first ↦ elim (among_cases k.setting (record { place = place; value = r }) (map (λ (k : Known). k.setting) known) b) [
+        | inl f ↦ absurd (apart first (ap (λ (s : Setting). s.place) (sym f)))
         | inr later ↦ once_listed known (all_pairs_rest (λ n m. n ≢ m) k.setting.place (map (λ (k : Known). k.setting.place) known) distinct)
             place q r first later
       ]
@@ -52,8 +52,8 @@ once_listed (k ∷ known) distinct place q r a b =
   where
     apart : {x : Ref} → Contains (map (λ (k : Known). k.setting) known) (record { place = place; value = x }) → k.setting.place ≡ place → ⊥
     apart {x} c e =
-        let w = from_image (λ (k : Known). k.setting) known (record { place = place; value = x }) c in
-        let among : Contains (map (λ (k : Known). k.setting.place) known) w.0.setting.place = image_in (λ (k : Known). k.setting.place) known w.0 w.1 in
+        let w = map_among (λ (k : Known). k.setting) (record { place = place; value = x }) known c in
+        let among : Contains (map (λ (k : Known). k.setting.place) known) w.0.setting.place = among_map (λ (k : Known). k.setting.place) w.0 known w.1 in
         All-contains (λ m. k.setting.place ≢ m) (map (λ (k : Known). k.setting.place) known) w.0.setting.place
         (all_pairs_first (λ n m. n ≢ m) k.setting.place (map (λ (k : Known). k.setting.place) known) distinct) among
         (e ∙ sym (ap (λ (s : Setting). s.place) w.2))
@@ -83,7 +83,7 @@ module _ (P : NamedProgram) (fall : AllFall 0 P.skeleton.nodes) (first : Seen) (
     reads = reads_nothing first;
     once = once;
     in_range = λ r c. (subst (IsInRange P first.words) (own r c) fits, subst (IsWrittenIfNumber first) (own r c) written);
-    kept = λ cell c. elim (first_or_later [] (Enter root) (Keep cell) c) [ inl e ↦ absurd (cc) | inr later ↦ absurd (none_in (Keep cell) later) ];
+    kept = λ cell c. elim (among_cases (Enter root) (Keep cell) [] c) [ inl e ↦ absurd (cc) | inr later ↦ absurd (among_none (Keep cell) later) ];
     counted = refl;
     led = λ r c. whole r (sym (own r c));
     cells = refl;
@@ -91,13 +91,13 @@ module _ (P : NamedProgram) (fall : AllFall 0 P.skeleton.nodes) (first : Seen) (
       distinct = all_pairs_none (λ n m. n ≢ m);
       reached = All-nil (λ (k : Setting). Reaches P first root (Cell k.place) × Knows first k.place k.value);
     };
-    root_covered = waiting root (first_in [] (Enter root) (Enter root) refl);
-    covered = λ k c. absurd (none_in k c);
+    root_covered = waiting root (among_first (Enter root) []);
+    covered = λ k c. absurd (among_none k c);
     later = λ t more. begins P t more.once root;
   }
     where
       own : (r : Ref) → Contains (Enter root ∷ []) (Enter r) → root ≡ r
-      own r c = elim (first_or_later [] (Enter root) (Enter r) c) [ inl e ↦ cc | inr later ↦ absurd (none_in (Enter r) later) ]
+      own r c = elim (among_cases (Enter root) (Enter r) [] c) [ inl e ↦ cc | inr later ↦ absurd (among_none (Enter r) later) ]
 
   pub paid_first : (began : ℕ) → Paid P root [] began (Enter root ∷ []) began
   paid_first began = record { spent = 0; began_with = omega arith; balance = omega arith }
@@ -139,7 +139,7 @@ module _ (P : NamedProgram) (fall : AllFall 0 P.skeleton.nodes) (first : Seen) (
     below : (cell : ℕ) (node : NodeNo) (base : ℕ) → Contains (cells_of taken) cell → Knows now cell (Node node base)
         → Covered P now [] (cells_of taken) (Node node base)
     below cell node base among knows =
-        let w = from_image (λ (k : Setting). k.place) settings cell (subst (λ xs. Contains xs cell) (sym h.cells) among) in
+        let w = map_among (λ (k : Setting). k.place) cell settings (subst (λ xs. Contains xs cell) (sym h.cells) among) in
         let both = All-contains (λ (k : Setting). Reaches P now root (Cell k.place) × Knows now k.place k.value) settings w.0 h.opened.reached w.1 in
         let same : w.0.value ≡ Node node base = h.once cell w.0.value (Node node base) (subst (λ c. Knows now c w.0.value) w.2 both.1) knows in
         subst (Covered P now [] (cells_of taken)) same (h.covered w.0 w.1)
@@ -183,7 +183,7 @@ module _ (P : NamedProgram) (fall : AllFall 0 P.skeleton.nodes) (first : Seen) (
     opened_or_one cell r (on_half c bits k) knows = inr (ap (size_of P) (h.once c r (Half bits) knows k))
     opened_or_one cell r (on_literal c node base z k at) knows = inr (ap (size_of P) (h.once c r (Node node base) knows k) ∙ literal_size P node base z fall at)
     opened_or_one cell r (on_taken c node base k among) knows =
-        let w = from_image (λ (k : Setting). k.place) settings c (subst (λ xs. Contains xs c) (sym h.cells) among) in
+        let w = map_among (λ (k : Setting). k.place) c settings (subst (λ xs. Contains xs c) (sym h.cells) among) in
         let both = All-contains (λ (k : Setting). Reaches P now root (Cell k.place) × Knows now k.place k.value) settings w.0 h.opened.reached w.1 in
         let same : w.0.value ≡ r = h.once c w.0.value r (subst (λ x. Knows now x w.0.value) w.2 both.1) knows in
         let is : w.0 ≡ record { place = c; value = r } = ap (λ (x : ℕ). record { place = x; value = w.0.value }) w.2
@@ -208,7 +208,7 @@ module _ (P : NamedProgram) (fall : AllFall 0 P.skeleton.nodes) (first : Seen) (
         (subst (λ x. Stands P first root settings old.seen x old.values old.taken) s.next h)
 
     pub waits_reached : Reaches P new.seen root (Cell cell)
-    waits_reached = reaches_on P new.seen root s.part (Cell cell) s.leads (stood.led s.part (first_in s.rest (Enter s.part) (Enter s.part) refl))
+    waits_reached = reaches_on P new.seen root s.part (Cell cell) s.leads (stood.led s.part (among_first (Enter s.part) s.rest))
 
     pub waits_free : FoundFree shared cell first new.seen
     waits_free = record { before = s.free.before; reads = reads_more first old.seen s.free.before h.reads s.free.reads; misses = s.free.misses }

@@ -10,11 +10,11 @@ use Rattle.and_program.specs.Loaded.{shape_at}
 use Rattle.and_cells.specs.Ranges.{NamedProgram}
 use Rattle.and_cells.specs.Seen.{Seen, Knows, LeadsTo, here, onward}
 use Rattle.and_cells.specs.Parts.{part_at, parts_of}
+use Rattle.and_cells.proofs.Among.{among_none}
 use Rattle.and_value_laws.specs.Values.{Reaches, whole, set, part}
 use Rattle.and_arith.specs.Turns.{IsEnd, of_pair, of_half, of_literal}
 use Rattle.and_arith.specs.declared.walk.Task.{Task}
 use Rattle.and_arith.specs.declared.walk.Task.TheVariants.{Enter}
-use Rattle.and_arith.proofs.Members.{none_in}
 
 -- A cell that was passed: it is known to be set to what was passed.
 pub data Passed (P : NamedProgram) (s : Seen) (taken : List ℕ) : ℕ → Type 0 where
@@ -41,7 +41,7 @@ Onward s t = (place : ℕ) (r : Ref) → Knows s place r → Knows t place r
 -- a node that is a number has no parts
 pub literal_no_parts : (P : NamedProgram) (node : NodeNo) (base : ℕ) (z : ℤ) (r : Ref) → shape_at P.skeleton node.0 ≡ shapes.number z
     → Contains (parts_of P (Node node base)) r → ⊥
-literal_no_parts P node base z r at c = none_in r (subst (λ s. Contains (map (part_at P base) (arguments_in s)) r) at c)
+literal_no_parts P node base z r at c = among_none r (subst (λ s. Contains (map (part_at P base) (arguments_in s)) r) at c)
 
 module _ (P : NamedProgram) where
   pub passed_on : (s t : Seen) (taken more : List ℕ) → Onward s t → ((c : ℕ) → Contains taken c → Contains more c) → (cell : ℕ) → Passed P s taken cell
@@ -105,7 +105,7 @@ module _ (P : NamedProgram) where
   covered_parts s taken node base r covered c = at (Node node base) covered refl
     where
       at : (q : Ref) → Covered P s [] taken q → q ≡ Node node base → Covered P s [] taken r
-      at q (waiting x none) e = absurd (none_in (Enter x) none)
+      at q (waiting x none) e = absurd (among_none (Enter x) none)
       at q (at_cell cell p) e = absurd (cc)
       at q (at_pair pair high low a b) e = absurd (cc)
       at q (at_half bits) e = absurd (cc)
@@ -115,7 +115,7 @@ module _ (P : NamedProgram) where
   covered_cell s taken cell covered = at (Cell cell) covered refl
     where
       at : (q : Ref) → Covered P s [] taken q → q ≡ Cell cell → Passed P s taken cell
-      at q (waiting x none) e = absurd (none_in (Enter x) none)
+      at q (waiting x none) e = absurd (among_none (Enter x) none)
       at q (at_cell c p) e = let same : c ≡ cell = cc in subst (Passed P s taken) same p
       at q (at_pair pair high low a b) e = absurd (cc)
       at q (at_half bits) e = absurd (cc)
@@ -126,7 +126,7 @@ module _ (P : NamedProgram) where
   covered_pair s taken pair covered = at (Number pair) covered refl
     where
       at : (q : Ref) → Covered P s [] taken q → q ≡ Number pair → ((high : Ref) × Knows s pair high) × ((low : Ref) × Knows s (suc pair) low)
-      at q (waiting x none) e = absurd (none_in (Enter x) none)
+      at q (waiting x none) e = absurd (among_none (Enter x) none)
       at q (at_cell c p) e = absurd (cc)
       at q (at_pair p high low a b) e = let same : p ≡ pair = cc in ((high, subst (λ x. Knows s x high) same a), (low, subst (λ x. Knows s (suc x) low) same b))
       at q (at_half bits) e = absurd (cc)

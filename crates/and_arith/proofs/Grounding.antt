@@ -10,8 +10,8 @@ use Rattle.and_program.specs.Shown.{arguments_in}
 use Rattle.and_cells.specs.Ranges.{NamedProgram}
 use Rattle.and_cells.specs.Seen.{Seen, Knows, LeadsTo, here, onward}
 use Rattle.and_cells.specs.Parts.{part_at}
+use Rattle.and_cells.proofs.Among.{among_first, among_more}
 use Rattle.and_value_laws.specs.Values.{whole, set, part, KnownAs, AllKnownAs, unbound, bound, integer, literal, structure, no_parts, more_parts, IsGround}
-use Rattle.and_arith.proofs.Members.{first_in, later_in}
 use Rattle.and_arith.proofs.Yielding.{AreSome, operated_some}
 use Rattle.and_arith.proofs.Solving.{ground_below}
 
@@ -51,5 +51,5 @@ module _ (P : NamedProgram) (s : Seen) where
     all_known_ground : (rs : List Ref) (ts : Terms) → AllKnownAs P s rs ts → ((q : Ref) → Contains rs q → IsGround P s q) → are_ground ts ≡ true
     all_known_ground rs ts no_parts each = refl
     all_known_ground rs ts (more_parts r t rest others first more) each =
-        ap (λ b. b && are_ground others) (ground_known_ground r t first (each r (first_in rest r r refl)))
-        ∙ all_known_ground rest others more (λ q c. each q (later_in rest r q c))
+        ap (λ b. b && are_ground others) (ground_known_ground r t first (each r (among_first r rest)))
+        ∙ all_known_ground rest others more (λ q c. each q (among_more r q rest c))

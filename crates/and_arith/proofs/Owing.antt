@@ -12,13 +12,13 @@ use Rattle.and_model.specs.declared.reference.Ref.TheVariants.{Cell, Node}
 use Rattle.and_cells.specs.Ranges.{NamedProgram}
 use Rattle.and_cells.specs.Seen.{Seen}
 use Rattle.and_cells.specs.Parts.{parts_of}
+use Rattle.and_cells.proofs.Among.{among_none, among_first, among_more, among_cases}
 use Rattle.and_value_laws.specs.Values.{KnownAs, AllKnownAs, no_parts, more_parts}
 use Rattle.and_laws.specs.Sizes.{size}
 use Rattle.and_arith.specs.Taken.{Listed, Gives}
 use Rattle.and_arith.specs.Turns.{IsStructureAt, tasks_of}
 use Rattle.and_arith.specs.declared.walk.Task.{Task}
 use Rattle.and_arith.specs.declared.walk.Task.TheVariants.{Enter, Leave, Keep}
-use Rattle.and_arith.proofs.Members.{none_in, first_in, later_in, first_or_later}
 use Rattle.and_value_laws.proofs.KnownTerms.{IsOnce, one_known}
 use Rattle.and_arith.proofs.Yielding.{Yields, AllYield, all_append, all_counted, structure_yields, AreSame, same_yields, nothing_yields, made_of_parts}
 use Rattle.and_arith.proofs.Yielding.{smaller, parts_are}
@@ -28,7 +28,7 @@ Variables = List (Path × ℕ)
 
 -- what is kept of a list whose first task is another
 pub keep_later : (t : Task) (cell : ℕ) (ts : List Task) → t ≢ Keep cell → Contains (t ∷ ts) (Keep cell) → Contains ts (Keep cell)
-keep_later t cell ts other c = elim (first_or_later ts t (Keep cell) c) [ inl e ↦ absurd (other e) | inr later ↦ later ]
+keep_later t cell ts other c = elim (among_cases t (Keep cell) ts c) [ inl e ↦ absurd (other (sym e)) | inr later ↦ later ]
 
 -- what is kept behind parts
 pub keep_behind : (rs : List Ref) (cell : ℕ) (ts : List Task) → Contains (map Enter rs ++ ts) (Keep cell) → Contains ts (Keep cell)
@@ -37,7 +37,7 @@ keep_behind (r ∷ rs) cell ts c = keep_behind rs cell ts (keep_later (Enter r) 
 
 pub keep_kept : (rs : List Ref) (cell : ℕ) (ts : List Task) → Contains ts (Keep cell) → Contains (map Enter rs ++ ts) (Keep cell)
 keep_kept [] cell ts c = c
-keep_kept (r ∷ rs) cell ts c = later_in (map Enter rs ++ ts) (Enter r) (Keep cell) (keep_kept rs cell ts c)
+keep_kept (r ∷ rs) cell ts c = among_more (Enter r) (Keep cell) (map Enter rs ++ ts) (keep_kept rs cell ts c)
 
 -- lists of one length that are joined with others to the same
 joined : (xs ys us vs : List (Option ℤ)) → xs ++ ys ≡ us ++ vs → length xs ≡ length us → (xs ≡ us) × (ys ≡ vs)
@@ -140,8 +140,8 @@ module _ (P : NamedProgram) (s : Seen) (once : IsOnce s) where
       → Nested (map Enter rs ++ ts)
   nested_parts ts nested [] inside = nested
   nested_parts ts nested (r ∷ rs) inside = (
-    (λ cell c. inside r cell (first_in rs r r refl) (keep_behind rs cell ts c)),
-    nested_parts ts nested rs (λ x cell i k. inside x cell (later_in rs r x i) k),
+    (λ cell c. inside r cell (among_first r rs) (keep_behind rs cell ts c)),
+    nested_parts ts nested rs (λ x cell i k. inside x cell (among_more r x rs i) k),
   )
 
   -- A part of a structure is inside what the structure is, and inside what that is inside.
@@ -174,7 +174,7 @@ module _ (P : NamedProgram) (s : Seen) (once : IsOnce s) where
       → Stays root (Enter p ∷ ts) values taken → Stays root (tasks_of P node base is.name (length is.arguments) ts) values taken
   opened root p node base is ts values taken same h = record {
     facts = λ cell w c. elim (h.facts cell w c) [
-      | inl waits ↦ inl (waits.0, keep_kept parts cell (leave ∷ ts) (later_in ts leave (Keep cell) (keep_later (Enter p) cell ts (λ e. cc) waits.1)))
+      | inl waits ↦ inl (waits.0, keep_kept parts cell (leave ∷ ts) (among_more leave (Keep cell) ts (keep_later (Enter p) cell ts (λ e. cc) waits.1)))
       | inr yields ↦ inr yields
     ];
     nested = nested_parts (leave ∷ ts) h.nested.1 parts (λ r cell among k.
@@ -200,18 +200,19 @@ module _ (P : NamedProgram) (s : Seen) (once : IsOnce s) where
         | inl waits ↦ inl (
           waits.0,
           keep_kept parts c (leave ∷ Keep cell ∷ ts)
-              (later_in (Keep cell ∷ ts) leave (Keep c) (later_in ts (Keep cell) (Keep c) (keep_later (Enter p) c ts (λ e. cc) waits.1))),
+              (among_more leave (Keep c) (Keep cell ∷ ts) (among_more (Keep cell) (Keep c) ts (keep_later (Enter p) c ts (λ e. cc) waits.1))),
         )
         | inr yields ↦ inr yields
       ]
       | inr e ↦ inl (
         sym (ap (λ (x : ℕ × Option ℤ). x.1) e),
         keep_kept parts c (leave ∷ Keep cell ∷ ts)
-            (later_in (Keep cell ∷ ts) leave (Keep c) (first_in ts (Keep cell) (Keep c) (ap (λ (x : ℕ × Option ℤ). Keep x.0) e))),
+            (among_more leave (Keep c) (Keep cell ∷ ts)
+            (subst (λ (t : Task). Contains (Keep cell ∷ ts) t) (ap (λ (x : ℕ × Option ℤ). Keep x.0) e) (among_first (Keep cell) ts))),
       )
     ];
     nested = nested_parts (leave ∷ Keep cell ∷ ts) h.nested.1 parts (λ r c among k.
-        elim (first_or_later ts (Keep cell) (Keep c) (keep_later leave c (Keep cell ∷ ts) (λ e. cc) k)) [
+        elim (among_cases (Keep cell) (Keep c) ts (keep_later leave c (Keep cell ∷ ts) (λ e. cc) k)) [
           | inl e ↦ let own : cell ≡ c = cc in subst (λ x. Inside (Cell x) r) own (own_inside (Cell cell) node base is r to_node among)
           | inr later ↦ part_inside (Cell c) p node base is r same among (h.nested.0 c later)
         ]);
@@ -275,8 +276,8 @@ module _ (P : NamedProgram) (s : Seen) (once : IsOnce s) where
   -- At first the expression is to be entered.
   pub begins : (root : Ref) → Stays root (Enter root ∷ []) [] []
   begins root = record {
-    facts = λ cell v c. absurd (none_in (cell, v) c);
-    nested = ((λ cell c. absurd (none_in (Keep cell) c)), tt);
+    facts = λ cell v c. absurd (among_none (cell, v) c);
+    nested = ((λ cell c. absurd (among_none (Keep cell) c)), tt);
     owes = λ v y. (v, refl, y);
     ahead = λ t known. (t, [], known, sym (append-nil (variables_of t)), refl);
   }

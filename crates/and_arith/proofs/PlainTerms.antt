@@ -21,10 +21,10 @@ use Rattle.and_cells.specs.Meaning as meaning
 use Rattle.and_cells.specs.Meaning.{StandsFor, cell_variable}
 use Rattle.and_cells.specs.Solved.{HasTerm}
 use Rattle.and_cells.specs.Parts.{part_at, parts_of}
+use Rattle.and_cells.proofs.Among.{among_none, among_first, among_more, among_cases}
 use Rattle.and_cell_laws.proofs.Structures.{node_term_shape}
 use Rattle.and_cell_laws.proofs.TermsOfStructures.{structure_has_term}
 use Rattle.and_value_laws.specs.Values.{KnownAs, AllKnownAs, unbound, bound, integer, literal, structure, no_parts, more_parts}
-use Rattle.and_arith.proofs.Members.{none_in, first_in, later_in, first_or_later}
 use Rattle.and_value_laws.proofs.KnownTerms.{IsOnce, one_known}
 use Rattle.and_arith.proofs.Ranging.{argument_below, part_in_range}
 
@@ -51,8 +51,8 @@ module _ (P : NamedProgram) (fall : AllFall 0 P.skeleton.nodes) (row : List Ref)
       let others : List (Path × ℕ) = variables_in (term_list (map (nth (terms_behind [] P.skeleton.nodes)) ms)) in
       more_parts (part_at P base m) (apply u (node_term P.skeleton.nodes m)) (map (part_at P base) ms)
       (apply_all u (term_list (map (nth (terms_behind [] P.skeleton.nodes)) ms)))
-      (each m (first_in ms m m refl) (λ v c. cells v (Contains-append_left first others v c)))
-      (all_found ms (λ k c. each k (later_in ms m k c)) (λ v c. cells v (Contains-append_right first others v c)))
+      (each m (among_first m ms) (λ v c. cells v (Contains-append_left first others v c)))
+      (all_found ms (λ k c. each k (among_more m k ms c)) (λ v c. cells v (Contains-append_right first others v c)))
 
   found_by : (m : ℕ) (shape : Shape) → shape_at P.skeleton m ≡ shape → m < length P.skeleton.nodes → ((k : ℕ) → k < m → Found k)
       → CellsKnown P row base u (variables_of (node_term P.skeleton.nodes m))
@@ -61,7 +61,7 @@ module _ (P : NamedProgram) (fall : AllFall 0 P.skeleton.nodes) (row : List Ref)
       let own : node_term P.skeleton.nodes m ≡ terms.variable [] k =
       node_term_shape P.skeleton.nodes m fall ∙ ap (shape_term (terms_behind [] P.skeleton.nodes)) at in
       subst (λ (t : Term). KnownAs P (plain row) (Cell (base + 1 + k)) (apply u t)) (sym own)
-      (cells ([], k) (subst (λ (t : Term). Contains (variables_of t) ([], k)) (sym own) (first_in [] ([], k) ([], k) refl)))
+      (cells ([], k) (subst (λ (t : Term). Contains (variables_of t) ([], k)) (sym own) (among_first ([], k) [])))
   found_by m (shapes.number z) at there below cells =
       let own : node_term P.skeleton.nodes m ≡ terms.number z =
       node_term_shape P.skeleton.nodes m fall ∙ ap (shape_term (terms_behind [] P.skeleton.nodes)) at in
@@ -153,7 +153,7 @@ module _ (P : NamedProgram) (fall : AllFall 0 P.skeleton.nodes) (row : List Ref)
         node_term_shape P.skeleton.nodes node.0 fall ∙ ap (shape_term (terms_behind [] P.skeleton.nodes)) at in
         let free : Substitution = λ q k. terms.variable q k in
         subst (λ (x : Term). StandsFor P row (Node node base) (apply free x)) own
-        (meaning.structure node base free (λ v c. absurd (none_in v (subst (λ (x : Term). Contains (variables_of x) v) own c))))
+        (meaning.structure node base free (λ v c. absurd (among_none v (subst (λ (x : Term). Contains (variables_of x) v) own c))))
     known_stands r t (structure node base name arguments ts at parts) fits =
         let parts_are_so : parts_of P (Node node base) ≡ map (part_at P base) arguments = ap (λ (x : Shape). map (part_at P base) (arguments_in x)) at in
         let has = all_have (map (part_at P base) arguments) ts parts
@@ -166,8 +166,8 @@ module _ (P : NamedProgram) (fall : AllFall 0 P.skeleton.nodes) (row : List Ref)
 
     all_have : (rs : List Ref) (ts : Terms) → AllKnownAs P (plain row) rs ts → ((q : Ref) → Contains rs q → IsInRange P (length row) q) → (q : Ref)
         → Contains rs q → HasTerm P row q
-    all_have rs ts no_parts fits q c = absurd (none_in q c)
-    all_have rs ts (more_parts r t rest others first more) fits q c = elim (first_or_later rest r q c) [
-      | inl e ↦ subst (HasTerm P row) e (t, known_stands r t first (fits r (first_in rest r r refl)))
-      | inr later ↦ all_have rest others more (λ x k. fits x (later_in rest r x k)) q later
+    all_have rs ts no_parts fits q c = absurd (among_none q c)
+    all_have rs ts (more_parts r t rest others first more) fits q c = elim (among_cases r q rest c) [
+      | inl e ↦ subst (HasTerm P row) (sym e) (t, known_stands r t first (fits r (among_first r rest)))
+      | inr later ↦ all_have rest others more (λ x k. fits x (among_more r x rest k)) q later
     ]

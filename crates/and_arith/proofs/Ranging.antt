@@ -15,33 +15,36 @@ use Rattle.and_cells.specs.Ranges.{NamedProgram, IsNodeInRange, IsInRange}
 use Rattle.and_cells.specs.Seen.{Seen, IsWrittenIfNumber}
 use Rattle.and_cells.specs.Parts.{part_at, parts_of}
 use Rattle.and_cells.proofs.Frames.{no_variable}
+use Rattle.and_cells.proofs.Among.{among_none, among_first, among_cases, map_among}
 use Rattle.and_cell_laws.proofs.Structures.{node_term_shape}
-use Rattle.and_arith.proofs.Members.{none_in, first_in, first_or_later, from_image}
 
 -- what is among arguments that fall is below their node
 falls_below : (n : ℕ) (ms : List ℕ) (m : ℕ) → Falls n ms → Contains ms m → m < n
-falls_below n [] m falls c = absurd (none_in m c)
-falls_below n (k ∷ ms) m falls c = elim (first_or_later ms k m c) [ inl e ↦ subst (λ (a : ℕ). a < n) e falls.0 | inr later ↦ falls_below n ms m falls.1 later ]
+falls_below n [] m falls c = absurd (among_none m c)
+falls_below n (k ∷ ms) m falls c = elim (among_cases k m ms c) [
+  | inl e ↦ subst (λ (a : ℕ). a < n) (sym e) falls.0
+  | inr later ↦ falls_below n ms m falls.1 later
+]
 
 argument_falls : (n m : ℕ) (s : Shape) → IsFalling n s → Contains (arguments_in s) m → m < n
-argument_falls n m (shapes.variable k) falls c = absurd (none_in m c)
-argument_falls n m (shapes.number z) falls c = absurd (none_in m c)
+argument_falls n m (shapes.variable k) falls c = absurd (among_none m c)
+argument_falls n m (shapes.number z) falls c = absurd (among_none m c)
 argument_falls n m (shapes.compound name ms) falls c = falls_below n ms m falls c
 
 -- a term of a list has its variables in the list
 among_arguments : (ts : List Term) (ms : List ℕ) (m : ℕ) (v : Path × ℕ) → Contains ms m → Contains (variables_of (nth ts m)) v
     → Contains (variables_in (term_list (map (nth ts) ms))) v
-among_arguments ts [] m v c at = absurd (none_in m c)
-among_arguments ts (k ∷ ms) m v c at = elim (first_or_later ms k m c) [
+among_arguments ts [] m v c at = absurd (among_none m c)
+among_arguments ts (k ∷ ms) m v c at = elim (among_cases k m ms c) [
   | inl e ↦ Contains-append_left (variables_of (nth ts k)) (variables_in (term_list (map (nth ts) ms))) v
-      (subst (λ (a : ℕ). Contains (variables_of (nth ts a)) v) (sym e) at)
+      (subst (λ (a : ℕ). Contains (variables_of (nth ts a)) v) e at)
   | inr later ↦ Contains-append_right (variables_of (nth ts k)) (variables_in (term_list (map (nth ts) ms))) v (among_arguments ts ms m v later at)
 ]
 
 among_shape : (ts : List Term) (s : Shape) (m : ℕ) (v : Path × ℕ) → Contains (arguments_in s) m → Contains (variables_of (nth ts m)) v
     → Contains (variables_of (shape_term ts s)) v
-among_shape ts (shapes.variable k) m v c at = absurd (none_in m c)
-among_shape ts (shapes.number z) m v c at = absurd (none_in m c)
+among_shape ts (shapes.variable k) m v c at = absurd (among_none m c)
+among_shape ts (shapes.number z) m v c at = absurd (among_none m c)
 among_shape ts (shapes.compound name ms) m v c at = among_arguments ts ms m v c at
 
 module _ (P : NamedProgram) (fall : AllFall 0 P.skeleton.nodes) where
@@ -71,7 +74,7 @@ module _ (P : NamedProgram) (fall : AllFall 0 P.skeleton.nodes) where
   argument_in_range words base node m (shapes.variable k) fits c below at =
       let own : node_term P.skeleton.nodes m ≡ Rattle.and_model.specs.Terms.variable [] k =
       node_term_shape P.skeleton.nodes m fall ∙ ap (shape_term (terms_behind [] P.skeleton.nodes)) at in
-      let there = among_node node m ([], k) c (subst (λ (u : Term). Contains (variables_of u) ([], k)) (sym own) (first_in [] ([], k) ([], k) refl)) in
+      let there = among_node node m ([], k) c (subst (λ (u : Term). Contains (variables_of u) ([], k)) (sym own) (among_first ([], k) [])) in
       All-contains (λ (u : Path × ℕ). base + 1 + u.1 < words) (variables_of (node_term P.skeleton.nodes node)) ([], k) fits.cells there
   argument_in_range words base node m (shapes.number z) fits c below at =
       (node_fits words base node m fits c below, no_variable P m (λ k e. let both = sym at ∙ e in cc))
@@ -89,7 +92,7 @@ module _ (P : NamedProgram) (fall : AllFall 0 P.skeleton.nodes) where
   pub part_in_range : (words : ℕ) (node : NodeNo) (base : ℕ) (q : Ref) → IsInRange P words (Node node base) → Contains (parts_of P (Node node base)) q
       → IsInRange P words q
   part_in_range words node base q fits c =
-      let w = from_image (part_at P base) (arguments_at P.skeleton node.0) q c in
+      let w = map_among (part_at P base) q (arguments_at P.skeleton node.0) c in
       subst (IsInRange P words) w.2
       (argument_in_range words base node.0 w.0 (shape_at P.skeleton w.0) fits.0 w.1 (argument_below node.0 w.0 fits.0.there w.1) refl)
 
@@ -101,5 +104,5 @@ resolved_written s (shapes.compound c ns) node base pair e = absurd (cc)
 
 pub part_written : (P : NamedProgram) (s : Seen) (node : NodeNo) (base : ℕ) (q : Ref) → Contains (parts_of P (Node node base)) q → IsWrittenIfNumber s q
 part_written P s node base q c =
-    let w = from_image (part_at P base) (arguments_at P.skeleton node.0) q c in
+    let w = map_among (part_at P base) q (arguments_at P.skeleton node.0) c in
     subst (IsWrittenIfNumber s) w.2 (resolved_written s (shape_at P.skeleton w.0) (record { 0 = w.0 }) base)

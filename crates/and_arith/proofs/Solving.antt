@@ -24,10 +24,10 @@ use Rattle.and_cells.specs.Meaning.{Words, shallow_cells}
 use Rattle.and_cells.specs.Joined.{value}
 use Rattle.and_cells.specs.Parts.{IsStructure, part_at, parts_of}
 use Rattle.and_cells.proofs.Chains.{held_in_range}
+use Rattle.and_cells.proofs.Among.{among_first, among_more, among_map, map_among}
 use Rattle.and_cell_laws.proofs.Between.{one_value, names_no_half}
 use Rattle.and_cell_laws.proofs.Structures.{node_term_shape, in_frame, value_of_node, HaveValues, value_of_structure}
 use Rattle.and_value_laws.specs.Values.{Reaches, whole, set, part, KnownAs, AllKnownAs, unbound, bound, integer, literal, structure, no_parts, more_parts, IsGround}
-use Rattle.and_arith.proofs.Members.{first_in, later_in, image_in, from_image}
 use Rattle.and_arith.proofs.Covering.{reaches_on}
 use Rattle.and_arith.proofs.Counting.{size_some}
 use Rattle.and_arith.proofs.Ranging.{among_node, part_in_range}
@@ -106,7 +106,7 @@ module _ (P : NamedProgram) (fall : AllFall 0 P.skeleton.nodes) (s : Seen) (w : 
   leads_value : (r end : Ref) → LeadsTo s r end → NamesNoHalf r → (value P w u r ≡ value P w u end) × NamesNoHalf end
   leads_value r end (here x) no_half = (refl, no_half)
   leads_value r end (onward cell x to knows leads) no_half =
-      let own : is_half x ≡ false = ap is_half (sym (has cell x knows)) ∙ no_half cell (first_in [] cell cell refl) in
+      let own : is_half x ≡ false = ap is_half (sym (has cell x knows)) ∙ no_half cell (among_first cell []) in
       let solved = solves cell x knows own in
       let rest = leads_value x to leads
       (λ c among. names_no_half P w u (Cell cell) x solved c (Contains-append_right (cell ∷ []) (shallow_cells P x) c among)) in
@@ -147,14 +147,14 @@ part_cells : (P : NamedProgram) → AllFall 0 P.skeleton.nodes → (node : NodeN
     → Contains (shallow_cells P (Node node base)) cell
 part_cells P fall node base q cell among at =
     let f : Path × ℕ → ℕ = λ v. base + 1 + v.1 in
-    let m = from_image (part_at P base) (arguments_at P.skeleton node.0) q among in
+    let m = map_among (part_at P base) q (arguments_at P.skeleton node.0) among in
     let found = cells_of_resolved P (terms_behind [] P.skeleton.nodes) (shape_at P.skeleton m.0) (record { 0 = m.0 }) base
     (node_term_shape P.skeleton.nodes m.0 fall) in
     let own : Contains (map f (variables_of (node_term P.skeleton.nodes m.0))) cell =
     subst (λ xs. Contains xs cell) found (subst (λ x. Contains (shallow_cells P x) cell) (sym m.2) at) in
-    let v = from_image f (variables_of (node_term P.skeleton.nodes m.0)) cell own in
+    let v = map_among f cell (variables_of (node_term P.skeleton.nodes m.0)) own in
     subst (Contains (shallow_cells P (Node node base))) v.2
-    (image_in f (variables_of (node_term P.skeleton.nodes node.0)) v.0 (among_node P fall node.0 m.0 v.0 m.1 v.1))
+    (among_map f v.0 (variables_of (node_term P.skeleton.nodes node.0)) (among_node P fall node.0 m.0 v.0 m.1 v.1))
 
 module _ (P : NamedProgram) (fall : AllFall 0 P.skeleton.nodes) (s : Seen) (w : Words) (u : Substitution) (has : HasKnown s w) (solves : SolvesKnown P w s u)
     (holds : (place : ℕ) (r : Ref) → Knows s place r → CanHold P s.words place r) where
@@ -175,9 +175,9 @@ module _ (P : NamedProgram) (fall : AllFall 0 P.skeleton.nodes) (s : Seen) (w : 
   all_ground n below [] (terms.more t us) have few each = absurd have
   all_ground n below (r ∷ rs) terms.none have few each = absurd have
   all_ground n below (r ∷ rs) (terms.more t us) have few each =
-      let own = each r (first_in rs r r refl) in
+      let own = each r (among_first r rs) in
       more_parts r t rs us (below r t (omega (arith, few)) have.0 own.0 own.1 own.2)
-      (all_ground n below rs us have.1 (omega (arith, few)) (λ q c. each q (later_in rs r q c)))
+      (all_ground n below rs us have.1 (omega (arith, few)) (λ q c. each q (among_more r q rs c)))
 
   node_known : (n : ℕ) → Claim n → (node : NodeNo) (base : ℕ) (t : Term) (shape : Shape) → shape_at P.skeleton node.0 ≡ shape → size t ≤ suc n
       → value P w u (Node node base) ≡ Some t

@@ -1,5 +1,5 @@
 -- What holds while a walk takes turns.
-use Rattle.std.proofs.Common.{ℕ, ℤ, suc, ◌≡◌, ◌≢◌, ◌<◌, ◌+◌, ◌⊎◌, List, [], ◌∷◌, ◌++◌, map, length, get_or, reverse, Option, None, refl, ap, sym, ◌∙◌, subst}
+use Rattle.std.proofs.Common.{ℕ, ℤ, suc, ◌≡◌, ◌≢◌, ◌<◌, ◌+◌, ◌⊎◌, List, [], ◌∷◌, ◌++◌, map, length, get_or, reverse, Option, None, ap, sym, ◌∙◌, subst}
 use Rattle.std.proofs.Common.{arith, inl, inr}
 use Rattle.std.specs.Prelude.{Contains}
 use Rattle.std.proofs.lemmas.List.{length-map, length-append, map-append}
@@ -15,13 +15,13 @@ use Rattle.and_cells.specs.Ranges.{NamedProgram, IsInRange}
 use Rattle.and_cells.specs.Seen.{Seen, OnlyReads, LeadsTo, Knows, IsWrittenIfNumber}
 use Rattle.and_cells.specs.Parts.{part_at, parts_of}
 use Rattle.and_cells.proofs.Chains.{reads_more, written_later, leads_later}
+use Rattle.and_cells.proofs.Among.{among_first, among_more, among_cases, among_map, map_among}
 use Rattle.and_value_laws.specs.Values.{Reaches, set, part}
 use Rattle.and_arith.specs.Sizes.{AreOpened}
 use Rattle.and_arith.specs.Taken.{Listed, cells_of, IsNew, Gives}
 use Rattle.and_arith.specs.Turns.{AreCounted, IsStructureAt, tasks_of}
 use Rattle.and_arith.specs.declared.walk.Task.{Task}
 use Rattle.and_arith.specs.declared.walk.Task.TheVariants.{Enter, Leave, Keep}
-use Rattle.and_arith.proofs.Members.{first_in, later_in, first_or_later, image_in, from_image}
 use Rattle.and_value_laws.proofs.KnownTerms.{IsOnce, Extends}
 use Rattle.and_arith.proofs.Yielding.{set_same, leads_same, parts_are}
 use Rattle.and_arith.proofs.Listing.{any_default}
@@ -51,11 +51,11 @@ pub record Stands (P : NamedProgram) (first : Seen) (root : Ref) (settings : Lis
 -- a cell among those that were taken has an entry, and the other way round
 pub entry_of_cell : (taken : Listed) (cell : ℕ) → Contains (cells_of taken) cell → IsNew taken cell → ⊥
 entry_of_cell taken cell c new =
-    let w = from_image (λ (e : ℕ × Option ℤ). e.0) taken cell c in
+    let w = map_among (λ (e : ℕ × Option ℤ). e.0) cell taken c in
     new w.0.1 (subst (λ x. Contains taken (x, w.0.1)) w.2 w.1)
 
 pub cell_of_entry : (taken : Listed) (cell : ℕ) (v : Option ℤ) → Contains taken (cell, v) → Contains (cells_of taken) cell
-cell_of_entry taken cell v c = image_in (λ (e : ℕ × Option ℤ). e.0) taken (cell, v) c
+cell_of_entry taken cell v c = among_map (λ (e : ℕ × Option ℤ). e.0) (cell, v) taken c
 
 cells_push : (taken : Listed) (cell : ℕ) (v : Option ℤ) → cells_of (taken ++ (cell, v) ∷ []) ≡ cells_of taken ++ cell ∷ []
 cells_push taken cell v = map-append (λ (e : ℕ × Option ℤ). e.0) taken ((cell, v) ∷ [])
@@ -63,13 +63,13 @@ cells_push taken cell v = map-append (λ (e : ℕ × Option ℤ). e.0) taken ((c
 -- a task of parts that come to do
 enters_cases : (rs : List Ref) (r : Ref) (rest : List Task) → Contains (map Enter rs ++ rest) (Enter r) → Contains rs r ⊎ Contains rest (Enter r)
 enters_cases [] r rest c = inr c
-enters_cases (x ∷ rs) r rest c = elim (first_or_later (map Enter rs ++ rest) (Enter x) (Enter r) c) [
-  | inl e ↦ inl (first_in rs x r (cc))
-  | inr later ↦ elim (enters_cases rs r rest later) [ inl i ↦ inl (later_in rs x r i) | inr o ↦ inr o ]
+enters_cases (x ∷ rs) r rest c = elim (among_cases (Enter x) (Enter r) (map Enter rs ++ rest) c) [
+  | inl e ↦ let same : x ≡ r = cc in inl (subst (λ (y : Ref). Contains (x ∷ rs) y) same (among_first x rs))
+  | inr later ↦ elim (enters_cases rs r rest later) [ inl i ↦ inl (among_more x r rs i) | inr o ↦ inr o ]
 ]
 
 enter_there : (rs : List Ref) (r : Ref) (rest : List Task) → Contains rs r → Contains (map Enter rs ++ rest) (Enter r)
-enter_there rs r rest c = Contains-append_left (map Enter rs) rest (Enter r) (image_in Enter rs r c)
+enter_there rs r rest c = Contains-append_left (map Enter rs) rest (Enter r) (among_map Enter r rs c)
 
 enter_behind : (rs : List Ref) (t : Task) (rest : List Task) → Contains rest t → Contains (map Enter rs ++ rest) t
 enter_behind rs t rest c = Contains-append_right (map Enter rs) rest t c
@@ -110,7 +110,7 @@ module _ (P : NamedProgram) (fall : AllFall 0 P.skeleton.nodes) (first : Seen) (
       → ((t : Task) → Contains rest t → Contains tasks t) → (q : Ref) → Covered P now (Enter p ∷ rest) taken q → Covered P now tasks more q
   entered_covered now p rest tasks taken more covered kept later q c =
       covered_on P now now (Enter p ∷ rest) tasks taken more (λ x y k. k) kept
-      (λ r i. elim (first_or_later rest (Enter p) (Enter r) i) [
+      (λ r i. elim (among_cases (Enter p) (Enter r) rest i) [
         | inl e ↦ let same : p ≡ r = cc in subst (λ x. Covered P now tasks more x) same covered
         | inr there ↦ waiting r (later (Enter r) there)
       ]) q c
@@ -123,10 +123,10 @@ module _ (P : NamedProgram) (fall : AllFall 0 P.skeleton.nodes) (first : Seen) (
   passed_stands settings now p v rest values taken covered pass h = record {
     reads = h.reads;
     once = h.once;
-    in_range = λ r c. h.in_range r (later_in rest (Enter p) (Enter r) c);
-    kept = λ cell c. h.kept cell (later_in rest (Enter p) (Keep cell) c);
+    in_range = λ r c. h.in_range r (among_more (Enter p) (Enter r) rest c);
+    kept = λ cell c. h.kept cell (among_more (Enter p) (Keep cell) rest c);
     counted = h.counted;
-    led = λ r c. h.led r (later_in rest (Enter p) (Enter r) c);
+    led = λ r c. h.led r (among_more (Enter p) (Enter r) rest c);
     cells = h.cells;
     opened = h.opened;
     root_covered = on root h.root_covered;
@@ -147,13 +147,13 @@ module _ (P : NamedProgram) (fall : AllFall 0 P.skeleton.nodes) (first : Seen) (
     once = h.once;
     in_range = λ r c. elim (enters_cases parts r (leave ∷ rest) c) [
       | inl i ↦ (part_in_range P fall now.words node base r own.0 i, part_written P now node base r i)
-      | inr o ↦ h.in_range r (later_in rest (Enter whole) (Enter r) (not_leave r o))
+      | inr o ↦ h.in_range r (among_more (Enter whole) (Enter r) rest (not_leave r o))
     ];
-    kept = λ cell c. h.kept cell (later_in rest (Enter whole) (Keep cell) (keep_later leave cell rest (λ e. cc) (keep_behind parts cell (leave ∷ rest) c)));
+    kept = λ cell c. h.kept cell (among_more (Enter whole) (Keep cell) rest (keep_later leave cell rest (λ e. cc) (keep_behind parts cell (leave ∷ rest) c)));
     counted = counted_parts parts (leave ∷ rest) (length values) (length values, ap (λ n. n + length values) parts_long, h.counted);
     led = λ r c. elim (enters_cases parts r (leave ∷ rest) c) [
-      | inl i ↦ part node base r (h.led whole (first_in rest (Enter whole) (Enter whole) refl)) i
-      | inr o ↦ h.led r (later_in rest (Enter whole) (Enter r) (not_leave r o))
+      | inl i ↦ part node base r (h.led whole (among_first (Enter whole) rest)) i
+      | inr o ↦ h.led r (among_more (Enter whole) (Enter r) rest (not_leave r o))
     ];
     cells = h.cells;
     opened = h.opened;
@@ -173,18 +173,18 @@ module _ (P : NamedProgram) (fall : AllFall 0 P.skeleton.nodes) (first : Seen) (
       leave = Leave (record { 0 = is.name }) (length is.arguments)
 
       own : IsInRange P now.words (Node node base) × IsWrittenIfNumber now (Node node base)
-      own = h.in_range whole (first_in rest (Enter whole) (Enter whole) refl)
+      own = h.in_range whole (among_first (Enter whole) rest)
 
       parts_long : length parts ≡ length is.arguments
       parts_long = ap length (parts_are P node base is) ∙ length-map is.arguments (part_at P base)
 
       not_leave : (r : Ref) → Contains (leave ∷ rest) (Enter r) → Contains rest (Enter r)
-      not_leave r c = elim (first_or_later rest leave (Enter r) c) [ inl e ↦ absurd (cc) | inr later ↦ later ]
+      not_leave r c = elim (among_cases leave (Enter r) rest c) [ inl e ↦ absurd (cc) | inr later ↦ later ]
 
       on : (q : Ref) → Covered P now (Enter whole ∷ rest) (cells_of taken) q → Covered P now (map Enter parts ++ leave ∷ rest) (cells_of taken) q
       on = entered_covered now whole rest (map Enter parts ++ leave ∷ rest) (cells_of taken) (cells_of taken)
           (at_node node base (λ r among. waiting r (enter_there parts r (leave ∷ rest) among))) (λ c i. i)
-          (λ t i. enter_behind parts t (leave ∷ rest) (later_in rest leave t i))
+          (λ t i. enter_behind parts t (leave ∷ rest) (among_more leave t rest i))
 
   -- A structure is opened, and the cell that is set to it taken.
   pub taken_stands : (settings : List Setting) (now : Seen) (p : Ref) (cell : ℕ) (node : NodeNo) (base : ℕ) (is : IsStructureAt P node) (rest : List Task)
@@ -198,11 +198,11 @@ module _ (P : NamedProgram) (fall : AllFall 0 P.skeleton.nodes) (first : Seen) (
     once = h.once;
     in_range = λ r c. elim (enters_cases parts r (leave ∷ Keep cell ∷ rest) c) [
       | inl i ↦ (part_in_range P fall now.words node base r fits i, part_written P now node base r i)
-      | inr o ↦ h.in_range r (later_in rest (Enter p) (Enter r) (not_these r o))
+      | inr o ↦ h.in_range r (among_more (Enter p) (Enter r) rest (not_these r o))
     ];
     kept = λ c k. elim (keep_cases c k) [
       | inl e ↦ subst (λ x. Contains (cells_of more) x) e new_there
-      | inr o ↦ old_kept c (h.kept c (later_in rest (Enter p) (Keep c) o))
+      | inr o ↦ old_kept c (h.kept c (among_more (Enter p) (Keep c) rest o))
     ];
     counted = counted_parts parts (leave ∷ Keep cell ∷ rest) (length values) (
       length values,
@@ -211,7 +211,7 @@ module _ (P : NamedProgram) (fall : AllFall 0 P.skeleton.nodes) (first : Seen) (
     );
     led = λ r c. elim (enters_cases parts r (leave ∷ Keep cell ∷ rest) c) [
       | inl i ↦ part node base r (set cell (Node node base) cell_led knows) i
-      | inr o ↦ h.led r (later_in rest (Enter p) (Enter r) (not_these r o))
+      | inr o ↦ h.led r (among_more (Enter p) (Enter r) rest (not_these r o))
     ];
     cells = map-append (λ (k : Setting). k.place) settings (own ∷ []) ∙ ap (λ xs. xs ++ cell ∷ []) h.cells ∙ sym (cells_push taken cell None);
     opened = record {
@@ -248,13 +248,13 @@ module _ (P : NamedProgram) (fall : AllFall 0 P.skeleton.nodes) (first : Seen) (
       parts_long = ap length (parts_are P node base is) ∙ length-map is.arguments (part_at P base)
 
       not_these : (r : Ref) → Contains (leave ∷ Keep cell ∷ rest) (Enter r) → Contains rest (Enter r)
-      not_these r c = elim (first_or_later (Keep cell ∷ rest) leave (Enter r) c) [
+      not_these r c = elim (among_cases leave (Enter r) (Keep cell ∷ rest) c) [
         | inl e ↦ absurd (cc)
-        | inr later ↦ elim (first_or_later rest (Keep cell) (Enter r) later) [ inl e ↦ absurd (cc) | inr o ↦ o ]
+        | inr later ↦ elim (among_cases (Keep cell) (Enter r) rest later) [ inl e ↦ absurd (cc) | inr o ↦ o ]
       ]
 
       keep_cases : (c : ℕ) → Contains tasks (Keep c) → (cell ≡ c) ⊎ Contains rest (Keep c)
-      keep_cases c k = elim (first_or_later rest (Keep cell) (Keep c)
+      keep_cases c k = elim (among_cases (Keep cell) (Keep c) rest
           (keep_later leave c (Keep cell ∷ rest) (λ e. cc) (keep_behind parts c (leave ∷ Keep cell ∷ rest) k))) [
             | inl e ↦ inl (cc)
             | inr o ↦ inr o
@@ -270,7 +270,7 @@ module _ (P : NamedProgram) (fall : AllFall 0 P.skeleton.nodes) (first : Seen) (
       apart i d below e = entry_of_cell taken cell (subst (λ xs. Contains xs cell) h.cells (i, below, (any_default (places settings) i cell d below ∙ e))) new
 
       cell_led : Reaches P now root (Cell cell)
-      cell_led = reaches_on P now root p (Cell cell) leads (h.led p (first_in rest (Enter p) (Enter p) refl))
+      cell_led = reaches_on P now root p (Cell cell) leads (h.led p (among_first (Enter p) rest))
 
       node_covered : Covered P now tasks (cells_of more) (Node node base)
       node_covered = at_node node base (λ r among. waiting r (enter_there parts r (leave ∷ Keep cell ∷ rest) among))
@@ -278,14 +278,14 @@ module _ (P : NamedProgram) (fall : AllFall 0 P.skeleton.nodes) (first : Seen) (
       on : (q : Ref) → Covered P now (Enter p ∷ rest) (cells_of taken) q → Covered P now tasks (cells_of more) q
       on = entered_covered now p rest tasks (cells_of taken) (cells_of more)
           (chain_covered P now tasks (cells_of more) p cell leads (on_taken cell node base knows new_there)) old_kept
-          (λ t i. enter_behind parts t (leave ∷ Keep cell ∷ rest) (later_in (Keep cell ∷ rest) leave t (later_in rest (Keep cell) t i)))
+          (λ t i. enter_behind parts t (leave ∷ Keep cell ∷ rest) (among_more leave t (Keep cell ∷ rest) (among_more (Keep cell) t rest i)))
 
   -- what is covered stays so where a task that enters nothing is gone
   other_covered : (now : Seen) (t : Task) (rest : List Task) (taken more : List ℕ) → ((r : Ref) → t ≢ Enter r) → ((c : ℕ) → Contains taken c → Contains more c)
       → (q : Ref) → Covered P now (t ∷ rest) taken q → Covered P now rest more q
   other_covered now t rest taken more other kept q c =
       covered_on P now now (t ∷ rest) rest taken more (λ x y k. k) kept
-      (λ r i. elim (first_or_later rest t (Enter r) i) [ inl e ↦ absurd (other r e) | inr there ↦ waiting r there ]) q c
+      (λ r i. elim (among_cases t (Enter r) rest i) [ inl e ↦ absurd (other r (sym e)) | inr there ↦ waiting r there ]) q c
 
   -- A structure whose parts have their values is left.
   pub left_stands : (settings : List Setting) (now : Seen) (name count : ℕ) (rest : List Task) (values last others : List (Option ℤ)) (taken : Listed)
@@ -295,13 +295,13 @@ module _ (P : NamedProgram) (fall : AllFall 0 P.skeleton.nodes) (first : Seen) (
   left_stands settings now name count rest values last others taken given counted h = record {
     reads = h.reads;
     once = h.once;
-    in_range = λ r c. h.in_range r (later_in rest leave (Enter r) c);
-    kept = λ cell c. h.kept cell (later_in rest leave (Keep cell) c);
+    in_range = λ r c. h.in_range r (among_more leave (Enter r) rest c);
+    kept = λ cell c. h.kept cell (among_more leave (Keep cell) rest c);
     counted =
         let (n, sum, next) = h.counted in
         let e : n ≡ length others = omega (arith, sum, ap length given, length-append last others, counted) in
         subst (λ m. AreCounted rest (suc m)) e next;
-    led = λ r c. h.led r (later_in rest leave (Enter r) c);
+    led = λ r c. h.led r (among_more leave (Enter r) rest c);
     cells = h.cells;
     opened = h.opened;
     root_covered = on root h.root_covered;
@@ -322,10 +322,10 @@ module _ (P : NamedProgram) (fall : AllFall 0 P.skeleton.nodes) (first : Seen) (
   kept_stands settings now cell rest values others v taken more given gives h = record {
     reads = h.reads;
     once = h.once;
-    in_range = λ r c. h.in_range r (later_in rest (Keep cell) (Enter r) c);
-    kept = λ c k. subst (λ xs. Contains xs c) (sym gives.cells) (h.kept c (later_in rest (Keep cell) (Keep c) k));
+    in_range = λ r c. h.in_range r (among_more (Keep cell) (Enter r) rest c);
+    kept = λ c k. subst (λ xs. Contains xs c) (sym gives.cells) (h.kept c (among_more (Keep cell) (Keep c) rest k));
     counted = h.counted.1;
-    led = λ r c. h.led r (later_in rest (Keep cell) (Enter r) c);
+    led = λ r c. h.led r (among_more (Keep cell) (Enter r) rest c);
     cells = h.cells ∙ sym gives.cells;
     opened = h.opened;
     root_covered = on root h.root_covered;

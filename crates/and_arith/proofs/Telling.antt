@@ -17,11 +17,11 @@ use Rattle.and_cells.specs.Seen.{Seen, LeadsTo, IsWrittenIfNumber, word_at}
 use Rattle.and_cells.specs.Numbers.{number_of}
 use Rattle.and_cells.specs.Parts.{part_at, parts_of}
 use Rattle.and_cells.proofs.PlainRows.{plain_reads_number}
+use Rattle.and_cells.proofs.Among.{among_first, among_more}
 use Rattle.and_value_laws.specs.Values.{Reaches, whole, set, part, KnownAs, AllKnownAs, IsFirstFree, HasValue}
 use Rattle.and_arith.specs.Glances.{IsNumber, IsTold, IsGivenBy, IsOfTwo}
 use Rattle.and_arith.specs.declared.values.Valued.{Valued}
 use Rattle.and_arith.specs.declared.values.Valued.TheVariants as valued
-use Rattle.and_arith.proofs.Members.{first_in, later_in}
 use Rattle.and_value_laws.proofs.KnownTerms.{IsOnce, cell_cases, all_first, all_none}
 use Rattle.and_arith.proofs.Yielding.{Yields, AllYield, made_of_parts, structure_yields, same_yields, leads_same, end_yields}
 use Rattle.and_arith.proofs.Stepping.{literal_ends, pair_ends, structure_shown}
@@ -77,7 +77,7 @@ module _ (P : NamedProgram) (row : List Ref) (node : NodeNo) (base name : ℕ) (
   left_told valued.NoValue other_than told = tt
   left_told (valued.Waits cell) other_than told = (
     told.0,
-    part_reached one cell (first_in (other ∷ []) one one refl) told.1,
+    part_reached one cell (among_first one (other ∷ [])) told.1,
     (λ t known.
         let k = parts_known t known in
         let own = told.2 k.0 k.2 in
@@ -93,7 +93,7 @@ module _ (P : NamedProgram) (row : List Ref) (node : NodeNo) (base name : ℕ) (
   right_told x first valued.NoValue other_than told = tt
   right_told x first (valued.Waits cell) other_than told = (
     told.0,
-    part_reached other cell (later_in (other ∷ []) one other (first_in [] other other refl)) told.1,
+    part_reached other cell (among_more one other (other ∷ []) (among_first other [])) told.1,
     (λ t known.
         let k = parts_known t known in
         let own = told.2 k.1 k.3 in (
@@ -125,9 +125,9 @@ pub parts_fit : (P : NamedProgram) (row : List Ref) (expression : Ref) (node : N
     → (IsInRange P (length row) one × IsWrittenIfNumber (plain row) one) × (IsInRange P (length row) other × IsWrittenIfNumber (plain row) other)
 parts_fit P row expression node base name one other fall two is fits =
     let here = subst (IsInRange P (length row)) is fits in
-    let left : Contains (parts_of P (reference.Node node base)) one = subst (λ rs. Contains rs one) (sym two.both) (first_in (other ∷ []) one one refl) in
+    let left : Contains (parts_of P (reference.Node node base)) one = subst (λ rs. Contains rs one) (sym two.both) (among_first one (other ∷ [])) in
     let right : Contains (parts_of P (reference.Node node base)) other =
-    subst (λ rs. Contains rs other) (sym two.both) (later_in (other ∷ []) one other (first_in [] other other refl)) in (
+    subst (λ rs. Contains rs other) (sym two.both) (among_more one other (other ∷ []) (among_first other [])) in (
       (part_in_range P fall (length row) node base one here left, part_written P (plain row) node base one left),
       (part_in_range P fall (length row) node base other here right, part_written P (plain row) node base other right),
     )

@@ -13,10 +13,10 @@ use Rattle.and_cells.specs.Seen.{Seen, Knows, LeadsTo, here, onward}
 use Rattle.and_cells.specs.Numbers.{number_of}
 use Rattle.and_cells.specs.Parts.{part_at, parts_of}
 use Rattle.and_cells.proofs.Chains.{leads_later}
+use Rattle.and_cells.proofs.Among.{among_none, among_cases}
 use Rattle.and_value_laws.specs.Values.{KnownAs, AllKnownAs, bound, integer, literal, structure, no_parts, more_parts}
 use Rattle.and_laws.specs.Sizes.{size, sizes}
 use Rattle.and_arith.specs.Turns.{IsEnd, of_pair, of_half, of_literal, IsStructureAt, IsComeTo}
-use Rattle.and_arith.proofs.Members.{none_in, first_or_later}
 use Rattle.and_value_laws.proofs.KnownTerms.{IsOnce, node_cases, cell_cases, pair_cases, half_has_none, all_first, all_none}
 
 -- the parts of a structure, by its shape
@@ -54,9 +54,9 @@ operated_some name (Some a ∷ Some b ∷ c ∷ vs) z e = absurd (cc)
 module _ (P : NamedProgram) (s : Seen) where
   -- A part is known as a smaller term.
   pub smaller : (rs : List Ref) (ts : Terms) (q : Ref) → AllKnownAs P s rs ts → Contains rs q → (u : Term) × KnownAs P s q u × (size u ≤ sizes ts)
-  smaller rs ts q no_parts c = absurd (none_in q c)
-  smaller rs ts q (more_parts r t rest others first more) c = elim (first_or_later rest r q c) [
-    | inl e ↦ (t, subst (λ (x : Ref). KnownAs P s x t) e first, omega (arith))
+  smaller rs ts q no_parts c = absurd (among_none q c)
+  smaller rs ts q (more_parts r t rest others first more) c = elim (among_cases r q rest c) [
+    | inl e ↦ (t, subst (λ (x : Ref). KnownAs P s x t) (sym e) first, omega (arith))
     | inr later ↦ let w = smaller rest others q more later in (w.0, w.1, omega (arith, w.2))
   ]
 

@@ -1,4 +1,3 @@
-pub mod Members
 pub mod Marking
 pub mod Stamps
 pub mod Keeping

@@ -18,8 +18,8 @@ use Rattle.and_cells.specs.Ranges.{NamedProgram, IsNoVariable, IsInRange, CanHol
 use Rattle.and_cells.specs.Rows.{IsSound}
 use Rattle.and_cells.specs.Meaning.{Holds, here, onward, inside}
 use Rattle.and_cells.specs.Parts.{part_at, parts_of}
+use Rattle.and_cells.proofs.Among.{among_none, among_first, among_more, among_cases, map_among}
 use Rattle.and_circles.specs.Walks.{IsStep, height}
-use Rattle.and_circles.proofs.Members.{none_in, first_in, later_in, first_or_later, from_image}
 
 -- a variable of a term, by its path and number, and those of the term of a node
 abbrev pub Variable : Type 0
@@ -30,26 +30,29 @@ variables_at ss n = variables_of (node_term ss n)
 
 -- what is among arguments that fall is below their node
 falls_below : (n : ℕ) (ms : List ℕ) (m : ℕ) → Falls n ms → Contains ms m → m < n
-falls_below n [] m falls c = absurd (none_in m c)
-falls_below n (k ∷ ms) m falls c = elim (first_or_later ms k m c) [ inl e ↦ subst (λ (a : ℕ). a < n) e falls.0 | inr later ↦ falls_below n ms m falls.1 later ]
+falls_below n [] m falls c = absurd (among_none m c)
+falls_below n (k ∷ ms) m falls c = elim (among_cases k m ms c) [
+  | inl e ↦ subst (λ (a : ℕ). a < n) (sym e) falls.0
+  | inr later ↦ falls_below n ms m falls.1 later
+]
 
 -- a term of a list has its variables in the list
 arguments_has : (f : ℕ → Term) (ms : List ℕ) (m : ℕ) (v : Variable) → Contains ms m → Contains (variables_of (f m)) v
     → Contains (variables_in (term_list (map f ms))) v
-arguments_has f [] m v c in_part = absurd (none_in m c)
-arguments_has f (k ∷ ms) m v c in_part = elim (first_or_later ms k m c) [
+arguments_has f [] m v c in_part = absurd (among_none m c)
+arguments_has f (k ∷ ms) m v c in_part = elim (among_cases k m ms c) [
   | inl e ↦ Contains-append_left (variables_of (f k)) (variables_in (term_list (map f ms))) v
-      (subst (λ (a : ℕ). Contains (variables_of (f a)) v) (sym e) in_part)
+      (subst (λ (a : ℕ). Contains (variables_of (f a)) v) e in_part)
   | inr later ↦ Contains-append_right (variables_of (f k)) (variables_in (term_list (map f ms))) v (arguments_has f ms m v later in_part)
 ]
 
 -- and each variable of a list of terms is in one of them
 arguments_gives : (f : ℕ → Term) (ms : List ℕ) (v : Variable) → Contains (variables_in (term_list (map f ms))) v
     → (m : ℕ) × Contains ms m × Contains (variables_of (f m)) v
-arguments_gives f [] v c = absurd (none_in v c)
+arguments_gives f [] v c = absurd (among_none v c)
 arguments_gives f (k ∷ ms) v c = elim (Contains-append_cases (variables_of (f k)) (variables_in (term_list (map f ms))) v c) [
-  | inl first ↦ (k, first_in ms k k refl, first)
-  | inr later ↦ let w : (m : ℕ) × Contains ms m × Contains (variables_of (f m)) v = arguments_gives f ms v later in (w.0, later_in ms k w.0 w.1, w.2)
+  | inl first ↦ (k, among_first k ms, first)
+  | inr later ↦ let w : (m : ℕ) × Contains ms m × Contains (variables_of (f m)) v = arguments_gives f ms v later in (w.0, among_more k w.0 ms w.1, w.2)
 ]
 
 module _ (ss : List Shape) (fall : AllFall 0 ss) where
@@ -64,8 +67,8 @@ module _ (ss : List Shape) (fall : AllFall 0 ss) where
 
   -- an argument comes before its node
   argument_falls : (n m : ℕ) (s : Shape) → IsFalling n s → Contains (arguments_in s) m → m < n
-  argument_falls n m (Skeletons.variable k) falls c = absurd (none_in m c)
-  argument_falls n m (Skeletons.number z) falls c = absurd (none_in m c)
+  argument_falls n m (Skeletons.variable k) falls c = absurd (among_none m c)
+  argument_falls n m (Skeletons.number z) falls c = absurd (among_none m c)
   argument_falls n m (Skeletons.compound name ms) falls c = falls_below n ms m falls c
 
   -- so it is of the arguments at a node
@@ -75,8 +78,8 @@ module _ (ss : List Shape) (fall : AllFall 0 ss) where
   -- what an argument's variables are, those of the shape are
   shape_has : (s : Shape) (m : ℕ) (v : Variable) → Contains (arguments_in s) m → Contains (variables_at ss m) v
       → Contains (variables_of (shape_term (terms_behind [] ss) s)) v
-  shape_has (Skeletons.variable k) m v c in_part = absurd (none_in m c)
-  shape_has (Skeletons.number z) m v c in_part = absurd (none_in m c)
+  shape_has (Skeletons.variable k) m v c in_part = absurd (among_none m c)
+  shape_has (Skeletons.number z) m v c in_part = absurd (among_none m c)
   shape_has (Skeletons.compound name ms) m v c in_part = arguments_has (nth (terms_behind [] ss)) ms m v c in_part
 
   -- what an argument's variables are, the node's are
@@ -89,7 +92,7 @@ module _ (ss : List Shape) (fall : AllFall 0 ss) where
   shape_gives : (s : Shape) (v : Variable) → ((k : ℕ) → s ≢ Skeletons.variable k) → Contains (variables_of (shape_term (terms_behind [] ss) s)) v
       → (m : ℕ) × Contains (arguments_in s) m × Contains (variables_at ss m) v
   shape_gives (Skeletons.variable k) v apart c = absurd (apart k refl)
-  shape_gives (Skeletons.number z) v apart c = absurd (none_in v c)
+  shape_gives (Skeletons.number z) v apart c = absurd (among_none v c)
   shape_gives (Skeletons.compound name ms) v apart c = arguments_gives (nth (terms_behind [] ss)) ms v c
 
   -- and each variable of a node that is none is an argument's
@@ -132,7 +135,7 @@ module _ (P : NamedProgram) (fall : AllFall 0 P.skeleton.nodes) where
 
   -- what a part of a structure is
   pub part_is : (node : NodeNo) (base : ℕ) (to : Ref) → node.0 < length P.skeleton.nodes → Contains (parts_of P (Node node base)) to → IsPart node.0 base to
-  part_is node base to there c = by_argument (from_image (part_at P base) (arguments_at P.skeleton node.0) to c)
+  part_is node base to there c = by_argument (map_among (part_at P base) to (arguments_at P.skeleton node.0) c)
     where
       by_shape : (m : ℕ) → Contains (arguments_at P.skeleton node.0) m → m < node.0 → part_at P base m ≡ to
           → ((k : ℕ) × (shape_at P.skeleton m ≡ Skeletons.variable k) × (part_at P base m ≡ Cell (base + 1 + k)))
@@ -142,7 +145,7 @@ module _ (P : NamedProgram) (fall : AllFall 0 P.skeleton.nodes) where
           at_variable variable.0 (sym is ∙ variable.2)
           (has_variables P.skeleton.nodes fall node.0 m ([], variable.0) there argument
           (subst (λ (vs : List Variable). Contains vs ([], variable.0)) (sym (own_variable P.skeleton.nodes fall m variable.0 (omega arith) variable.1))
-          (first_in [] ([], variable.0) ([], variable.0) refl)))
+          (among_first ([], variable.0) [])))
       by_shape m argument below is (inr other) =
           at_node (record { 0 = m }) (sym is ∙ other.1) below (no_variable m (omega arith) other.0)
           (λ v in_part. has_variables P.skeleton.nodes fall node.0 m v there argument in_part)

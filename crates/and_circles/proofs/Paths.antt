@@ -20,8 +20,8 @@ use Rattle.and_cells.specs.Meaning.{Holds, IsCircle}
 use Rattle.and_cells.specs.Parts.{part_at, parts_of}
 use Rattle.and_cells.specs.Ends.{Ends}
 use Rattle.and_cells.proofs.References.{nothing_below}
+use Rattle.and_cells.proofs.Among.{among_none, among_cases, among_map}
 use Rattle.and_circles.specs.Walks.{IsStep}
-use Rattle.and_circles.proofs.Members.{none_in, first_or_later, image_in}
 use Rattle.and_circles.proofs.Parts.{Variable, variables_at, falls, gives_variables, own_variable, resolved_cases, no_variable, step_holds, step_in_range}
 
 -- From one reference another is reached, by steps.
@@ -186,7 +186,7 @@ module _ (P : NamedProgram) (fall : AllFall 0 P.skeleton.nodes) (row : List Ref)
           let only : Contains (([], variable.0) ∷ []) v =
           subst (λ (vs : List Variable). Contains vs v) (own_variable P.skeleton.nodes fall m variable.0 (omega arith) variable.1) of_part in
           let same : variable.0 ≡ v.1 =
-          elim (first_or_later [] ([], variable.0) v only) [ inl e ↦ ap (λ (u : Variable). u.1) e | inr later ↦ absurd (none_in v later) ] in
+          elim (among_cases ([], variable.0) v [] only) [ inl e ↦ ap (λ (u : Variable). u.1) (sym e) | inr later ↦ absurd (among_none v later) ] in
           goes (Node node base) (part_at P base m) (Cell (base + 1 + v.1)) step
           (subst (λ (r : Ref). Path P row r (Cell (base + 1 + v.1))) (sym (variable.2 ∙ ap (λ (k : ℕ). Cell (base + 1 + k)) same))
           (arrived (Cell (base + 1 + v.1))))
@@ -197,7 +197,7 @@ module _ (P : NamedProgram) (fall : AllFall 0 P.skeleton.nodes) (row : List Ref)
 
       by_argument : (m : ℕ) × Contains (arguments_at P.skeleton node.0) m × Contains (variables_at P.skeleton.nodes m) v
           → Path P row (Node node base) (Cell (base + 1 + v.1))
-      by_argument w = by_shape w.0 (falls P.skeleton.nodes fall node.0 w.0 there w.1) (image_in (part_at P base) (arguments_at P.skeleton node.0) w.0 w.1) w.2
+      by_argument w = by_shape w.0 (falls P.skeleton.nodes fall node.0 w.0 there w.1) (among_map (part_at P base) w.0 (arguments_at P.skeleton node.0) w.1) w.2
           (resolved_cases (shape_at P.skeleton w.0) (record { 0 = w.0 }) base)
 
   -- and for all

@@ -18,8 +18,8 @@ use Rattle.and_cells.specs.Seen.{word_at}
 use Rattle.and_cells.specs.Parts.{named, part_at}
 use Rattle.and_cells.specs.Ends.{Ends}
 use Rattle.and_cells.specs.Ground.{EndsGround}
+use Rattle.and_cells.proofs.Among.{among_map, map_among}
 use Rattle.and_circles.specs.Following.{argument_part, Suffice, Puts, LeadsOn, step_beyond}
-use Rattle.and_circles.proofs.Members.{image_in, from_image}
 use Rattle.and_circles.proofs.Parts.{part_in_range, step_in_range}
 
 -- from what is ground each path ends
@@ -57,13 +57,13 @@ module _ (P : NamedProgram) (row : List Ref) (node : NodeNo) (base : ℕ) where
       → IsInRange P (length row) (argument_part P node base place)
   part_fits falls fits place below =
       part_in_range P falls (length row) node base (argument_part P node base place) fits
-      (image_in (part_at P base) (arguments_at P.skeleton node.0) (get_or (arguments_at P.skeleton node.0) place 0)
+      (among_map (part_at P base) (get_or (arguments_at P.skeleton node.0) place 0) (arguments_at P.skeleton node.0)
       (Contains-get_or (arguments_at P.skeleton node.0) place 0 below))
 
   -- and where each path from each of them ends, so does each from the structure.
   pub structure_ends : (floor : ℕ) → ((place : ℕ) → place < length (arguments_at P.skeleton node.0) → Ends P row floor false (argument_part P node base place))
       → Ends P row floor false (Node node base)
-  structure_ends floor each = Ends.parts node base (λ r c. by_argument r (from_image (part_at P base) (arguments_at P.skeleton node.0) r c))
+  structure_ends floor each = Ends.parts node base (λ r c. by_argument r (map_among (part_at P base) r (arguments_at P.skeleton node.0) c))
     where
       by_argument : (r : Ref) → (m : ℕ) × Contains (arguments_at P.skeleton node.0) m × (part_at P base m ≡ r) → Ends P row floor false r
       by_argument r w =

@@ -14,6 +14,7 @@ use Rattle.and_cells.specs.Seen.{word_at}
 use Rattle.and_cells.specs.Meaning.{IsCircle, Holds, here}
 use Rattle.and_cells.specs.Parts.{parts_of}
 use Rattle.and_cells.specs.Ends.{Ends}
+use Rattle.and_cells.proofs.Among.{among_none, among_first, among_cases}
 use Rattle.and_circles.specs.Marked.{Listed, mark_at, unmarked}
 use Rattle.and_circles.specs.Explored.{AreFinished, finished, done_from}
 use Rattle.and_circles.specs.Walks.{IsStep, IsTaking, IsWalking, Walks, Opens, AreEnded, Goes, Answers, Stays, visits_left, weight, weights}
@@ -23,7 +24,6 @@ use Rattle.and_circles.specs.declared.explorer.Explored.TheVariants as explored
 use Rattle.and_circles.specs.declared.walk.Visit.{Visit}
 use Rattle.and_circles.specs.declared.walk.Visit.TheVariants.{Enter, Leave}
 use Rattle.and_circles.specs.declared.walk.Walk.{Walk}
-use Rattle.and_circles.proofs.Members.{none_in, first_in, first_or_later}
 use Rattle.and_circles.proofs.Parts.{step_in_range, part_in_range, part_is_lower}
 use Rattle.and_circles.proofs.Marking.{Opened, Left, cell_opened, cell_left, none_opened, none_left, one_fewer, no_more}
 use Rattle.and_circles.proofs.Weights.{weight_positive, lighter_word, lighter_parts, height_in_range}
@@ -112,15 +112,15 @@ module _ (P : NamedProgram) (row : List Ref) where
       → word_at row c ≡ word → word ≢ Free → is_half word ≡ false → Goes P row (Enter (Cell c)) old new (Ok explored.Ends)
   goes_to c word old new opened marked none there is is_set whole =
       goes_below (Cell c) (word ∷ []) old new opened (subst (Opened (Cell c) old.marks) (sym marked) (cell_opened old.marks c there)) steps fewer
-      (λ all. Ends.set c word (is, is_set) (all word (first_in [] word word refl)))
+      (λ all. Ends.set c word (is, is_set) (all word (among_first word [])))
     where
       steps : (root : Ref) → IsTaking P row root (Enter (Cell c)) old → (r : Ref) → Contains (word ∷ []) r
           → IsStep P row (Cell c) r × IsInRange P (length row) r
       steps root taking r only =
-          elim (first_or_later [] word r only) [
-            | inl e ↦ let step : IsStep P row (Cell c) r = (is ∙ e, λ free. is_set (e ∙ free)) in
-                (step, step_in_range P taking.falls row taking.sound (Cell c) r taking.path.1 step (ap is_half (sym e) ∙ whole))
-            | inr later ↦ absurd (none_in r later)
+          elim (among_cases word r [] only) [
+            | inl e ↦ let step : IsStep P row (Cell c) r = (is ∙ sym e, λ free. is_set (sym e ∙ free)) in
+                (step, step_in_range P taking.falls row taking.sound (Cell c) r taking.path.1 step (ap is_half e ∙ whole))
+            | inr later ↦ absurd (among_none r later)
           ]
 
       fewer : (root : Ref) → IsTaking P row root (Enter (Cell c)) old
@@ -219,4 +219,4 @@ module _ (P : NamedProgram) (row : List Ref) where
       subst (λ (floor : ℕ). All (Ends P row floor old.halves) w.structures) stays.0
       (subst (λ (halves : Bool). All (Ends P row w.floor halves) w.structures) stays.1 ended) in
       let done : All (Ends P row old.floor old.halves) (done_from 0 w.marks) = ends_all P row old.floor old.halves root w.marks ends.done in
-      (All-append (Ends P row old.floor old.halves) (done_from 0 w.marks) w.structures done kept, (λ c is. none_in (Cell c) (ends.opened c is)), ends.owes)
+      (All-append (Ends P row old.floor old.halves) (done_from 0 w.marks) w.structures done kept, (λ c is. among_none (Cell c) (ends.opened c is)), ends.owes)

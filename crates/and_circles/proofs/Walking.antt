@@ -10,13 +10,13 @@ use Rattle.and_cells.specs.Ranges.{NamedProgram, IsInRange}
 use Rattle.and_cells.specs.Rows.{IsSound}
 use Rattle.and_cells.specs.Meaning.{Holds, IsCircle}
 use Rattle.and_cells.specs.Ends.{Ends}
+use Rattle.and_cells.proofs.Among.{among_none, among_first, among_more, among_cases}
 use Rattle.and_circles.specs.Marked.{Listed, mark_at}
 use Rattle.and_circles.specs.Explored.{done_from}
 use Rattle.and_circles.specs.Walks.{IsStep, Follows, AreOnPath, left_in, Owes, nearest_cell, Walks, height}
 use Rattle.and_circles.specs.declared.marks.Mark.TheVariants.{Open, Done}
 use Rattle.and_circles.specs.declared.walk.Visit.{Visit}
 use Rattle.and_circles.specs.declared.walk.Visit.TheVariants.{Enter, Leave}
-use Rattle.and_circles.proofs.Members.{none_in, first_in, later_in, first_or_later}
 use Rattle.and_circles.proofs.Marking.{Opened, Left, done_listed, all_done}
 use Rattle.and_circles.proofs.Parts.{part_is_lower, step_holds}
 use Rattle.and_circles.proofs.Paths.{Path, arrived, goes, joined, and_step, ring_is_circle}
@@ -52,15 +52,15 @@ module _ (P : NamedProgram) (row : List Ref) (floor : ℕ) (halves : Bool) (root
       → AreOnPath P row root visits → AreOnPath P row root (entered rs visits)
   path_entered [] visits follow path = path
   path_entered (r ∷ rs) visits follow path =
-      let first : Follows P row root visits r × IsInRange P (length row) r = follow r (first_in rs r r refl) in
-      path_entered rs (Enter r ∷ visits) (λ q c. follow q (later_in rs r q c)) (first.0, first.1, path)
+      let first : Follows P row root visits r × IsInRange P (length row) r = follow r (among_first r rs) in
+      path_entered rs (Enter r ∷ visits) (λ q c. follow q (among_more r q rs c)) (first.0, first.1, path)
 
   -- what is owed once all of these end is owed while they are entered
   owes_entered : (E : Ref → Type 0) (rs : List Ref) (visits : List Visit) → (((r : Ref) → Contains rs r → E r) → Owes E root visits)
       → Owes E root (entered rs visits)
-  owes_entered E [] visits owes = owes (λ r c. absurd (none_in r c))
+  owes_entered E [] visits owes = owes (λ r c. absurd (among_none r c))
   owes_entered E (r ∷ rs) visits owes = owes_entered E rs (Enter r ∷ visits)
-      (λ all ends. owes (λ q c. elim (first_or_later rs r q c) [ inl e ↦ subst E e ends | inr later ↦ all q later ]))
+      (λ all ends. owes (λ q c. elim (among_cases r q rs c) [ inl e ↦ subst E (sym e) ends | inr later ↦ all q later ]))
 
   -- what ends need not be entered
   pub passed : (marks : Listed) (at : Ref) (visits : List Visit) → Walks P row floor halves root marks (Enter at ∷ visits) → Ends P row floor halves at
@@ -85,8 +85,8 @@ module _ (P : NamedProgram) (row : List Ref) (floor : ℕ) (halves : Bool) (root
   }
     where
       was_open : (c : ℕ) → (at ≡ Cell c) ⊎ (mark_at marks c ≡ Some Open) → Contains (at ∷ left_in visits) (Cell c)
-      was_open c (inl new_one) = first_in (left_in visits) at (Cell c) new_one
-      was_open c (inr old) = later_in (left_in visits) at (Cell c) (w.opened c old)
+      was_open c (inl new_one) = subst (λ (r : Ref). Contains (at ∷ left_in visits) r) new_one (among_first at (left_in visits))
+      was_open c (inr old) = among_more at (Cell c) (left_in visits) (w.opened c old)
 
   -- a place is left, and done
   pub leaves : (marks new : Listed) (at : Ref) (visits : List Visit) → Walks P row floor halves root marks (Leave at ∷ visits) → Left at marks new
@@ -106,7 +106,7 @@ module _ (P : NamedProgram) (row : List Ref) (floor : ℕ) (halves : Bool) (root
       was_done c (inr old) = w.done c old
 
       was_open : (c : ℕ) → (at ≢ Cell c) × (mark_at marks c ≡ Some Open) → Contains (left_in visits) (Cell c)
-      was_open c old = elim (first_or_later (left_in visits) at (Cell c) (w.opened c old.1)) [ inl same ↦ absurd (old.0 same) | inr later ↦ later ]
+      was_open c old = elim (among_cases at (Cell c) (left_in visits) (w.opened c old.1)) [ inl same ↦ absurd (old.0 (sym same)) | inr later ↦ later ]
 
   -- what a visited reference holds, the root holds
   pub root_holds : AllFall 0 P.skeleton.nodes → (visits : List Visit) (at : Ref) (c : ℕ) → AreOnPath P row root visits → Follows P row root visits at
@@ -118,13 +118,13 @@ module _ (P : NamedProgram) (row : List Ref) (floor : ℕ) (halves : Bool) (root
   -- from each place that is still to be left a step and a path lead to what is visited
   from_left : (visits : List Visit) (at r : Ref) → AreOnPath P row root visits → Follows P row root visits at → Contains (left_in visits) r
       → (next : Ref) × IsStep P row r next × Path P row next at
-  from_left [] at r path follows c = absurd (none_in r c)
+  from_left [] at r path follows c = absurd (among_none r c)
   from_left (Enter q ∷ visits) at r path follows c = from_left visits at r path.2 follows c
-  from_left (Leave q ∷ visits) at r path follows c = by_place (from_left visits q r path.2 path.0) (first_or_later (left_in visits) q r c)
+  from_left (Leave q ∷ visits) at r path follows c = by_place (from_left visits q r path.2 path.0) (among_cases q r (left_in visits) c)
     where
-      by_place : (Contains (left_in visits) r → (next : Ref) × IsStep P row r next × Path P row next q) → (q ≡ r) ⊎ Contains (left_in visits) r
+      by_place : (Contains (left_in visits) r → (next : Ref) × IsStep P row r next × Path P row next q) → (r ≡ q) ⊎ Contains (left_in visits) r
           → (next : Ref) × IsStep P row r next × Path P row next at
-      by_place again (inl same) = (at, subst (λ (a : Ref). IsStep P row a at) same follows, arrived at)
+      by_place again (inl same) = (at, subst (λ (a : Ref). IsStep P row a at) (sym same) follows, arrived at)
       by_place again (inr later) = let w : (next : Ref) × IsStep P row r next × Path P row next q =
           again later in (w.0, w.1, and_step P row w.0 q at w.2 follows)
 
@@ -135,20 +135,20 @@ module _ (P : NamedProgram) (row : List Ref) (floor : ℕ) (halves : Bool) (root
   -- The last of the cells that are open is on the ring: below it are only structures, whose parts come before them.
   ring : AllFall 0 P.skeleton.nodes → (visits : List Visit) (at r : Ref) → AreOnPath P row root visits → Follows P row root visits at → Path P row at r
       → height r ≤ height at → Contains (left_in visits) r → Ring visits
-  ring fall [] at r path follows back higher c = absurd (none_in r c)
+  ring fall [] at r path follows back higher c = absurd (among_none r c)
   ring fall (Enter q ∷ visits) at r path follows back higher c = ring fall visits at r path.2 follows back higher c
   ring fall (Leave Free ∷ visits) at r path follows back higher c = absurd follows
   ring fall (Leave (Cell cell) ∷ visits) at r path follows back higher c =
-      (cell, refl, path.1, at, follows, joined P row at r (Cell cell) back (to_cell (first_or_later (left_in visits) (Cell cell) r c)))
+      (cell, refl, path.1, at, follows, joined P row at r (Cell cell) back (to_cell (among_cases (Cell cell) r (left_in visits) c)))
     where
-      to_cell : (Cell cell ≡ r) ⊎ Contains (left_in visits) r → Path P row r (Cell cell)
-      to_cell (inl same) = subst (λ (a : Ref). Path P row a (Cell cell)) same (arrived (Cell cell))
+      to_cell : (r ≡ Cell cell) ⊎ Contains (left_in visits) r → Path P row r (Cell cell)
+      to_cell (inl same) = subst (λ (a : Ref). Path P row a (Cell cell)) (sym same) (arrived (Cell cell))
       to_cell (inr later) = let w : (next : Ref) × IsStep P row r next × Path P row next (Cell cell) =
           from_left visits (Cell cell) r path.2 path.0 later in goes r w.0 (Cell cell) w.1 w.2
   ring fall (Leave (Node node base) ∷ visits) at r path follows back higher c =
       let lower : height at < suc node.0 = part_is_lower P fall row node base at path.1.0.there follows in
       ring fall visits (Node node base) r path.2 path.0 (goes (Node node base) at r follows back) (omega arith)
-      (elim (first_or_later (left_in visits) (Node node base) r c) [ inl same ↦ absurd (omega (arith, ap height same)) | inr later ↦ later ])
+      (elim (among_cases (Node node base) r (left_in visits) c) [ inl same ↦ absurd (omega (arith, ap height same)) | inr later ↦ later ])
   ring fall (Leave (Number pair) ∷ visits) at r path follows back higher c = absurd follows
   ring fall (Leave (Half bits) ∷ visits) at r path follows back higher c = absurd follows
 

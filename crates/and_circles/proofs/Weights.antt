@@ -1,5 +1,5 @@
 -- Bounds on the visits that are left: each visit makes them fewer.
-use Rattle.std.proofs.Common.{ℕ, zero, suc, ◌≡◌, ◌<◌, ◌≤◌, ◌+◌, ◌*◌, ◌^◌, List, [], ◌∷◌, length, refl, ap, sym, ◌∙◌, arith}
+use Rattle.std.proofs.Common.{ℕ, zero, suc, ◌≡◌, ◌<◌, ◌≤◌, ◌+◌, ◌*◌, ◌^◌, List, [], ◌∷◌, length, ap, sym, ◌∙◌, arith}
 use Rattle.std.specs.Prelude.{Contains}
 use Rattle.std.proofs.Math.Nat.{one-le-pow, pow-le-pow_right, mul-suc, suc-mul}
 use Rattle.std.proofs.lemmas.Grind.{pow_more}
@@ -7,10 +7,10 @@ use Rattle.and_model.specs.declared.numbers.NodeNo.{NodeNo}
 use Rattle.and_model.specs.declared.reference.Ref.{Ref}
 use Rattle.and_model.specs.declared.reference.Ref.TheVariants.{Free, Cell, Node, Number, Half}
 use Rattle.and_cells.specs.Ranges.{NamedProgram, IsInRange}
+use Rattle.and_cells.proofs.Among.{among_first, among_more}
 use Rattle.and_circles.specs.Walks.{height, weight, weights}
 use Rattle.and_circles.specs.declared.walk.Visit.{Visit}
 use Rattle.and_circles.specs.declared.walk.Visit.TheVariants.{Enter, Leave}
-use Rattle.and_circles.proofs.Members.{first_in, later_in}
 use Rattle.and_circles.proofs.Walking.{entered}
 
 -- a power of 512 is not 0
@@ -61,8 +61,8 @@ weights_entered n h [] visits few low = omega arith
 weights_entered zero h (r ∷ rs) visits few low = absurd (omega arith)
 weights_entered (suc n) h (r ∷ rs) visits few low =
     let again : weights (entered rs (Enter r ∷ visits)) ≤ n * 512 ^ h + (512 ^ height r + weights visits) =
-    weights_entered n h rs (Enter r ∷ visits) (omega arith) (λ q c. low q (later_in rs r q c)) in
-    let first : 512 ^ height r ≤ 512 ^ h = power_grows (height r) h (low r (first_in rs r r refl)) in
+    weights_entered n h rs (Enter r ∷ visits) (omega arith) (λ q c. low q (among_more r q rs c)) in
+    let first : 512 ^ height r ≤ 512 ^ h = power_grows (height r) h (low r (among_first r rs)) in
     let product : suc n * 512 ^ h ≡ n * 512 ^ h + 512 ^ h = suc-mul n (512 ^ h) in
     bounds (weights (entered rs (Enter r ∷ visits))) (n * 512 ^ h) (suc n * 512 ^ h) (512 ^ height r) (512 ^ h) (weights visits) again first product
   where
