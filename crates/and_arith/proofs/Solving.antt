@@ -33,7 +33,7 @@ use Rattle.and_arith.proofs.Counting.{size_some}
 use Rattle.and_arith.proofs.Ranging.{among_node, part_in_range}
 
 -- a node with this shape is there, since only names of no node count as numbers
-structure_there : (P : NamedProgram) (node : NodeNo) (base name : ℕ) (arguments : List ℕ) → shape_at P.skeleton node.0 ≡ shapes.compound name arguments
+pub structure_there : (P : NamedProgram) (node : NodeNo) (base name : ℕ) (arguments : List ℕ) → shape_at P.skeleton node.0 ≡ shapes.compound name arguments
     → IsStructure P (Node node base) name (length arguments)
 structure_there P node base name arguments at = record {
   node = node;
@@ -48,7 +48,7 @@ structure_there P node base name arguments at = record {
 }
 
 -- references have these values in one way
-one_list : (P : NamedProgram) (w : Words) (u : Substitution) (rs : List Ref) (us vs : Terms) → HaveValues P w u rs us → HaveValues P w u rs vs → us ≡ vs
+pub one_list : (P : NamedProgram) (w : Words) (u : Substitution) (rs : List Ref) (us vs : Terms) → HaveValues P w u rs us → HaveValues P w u rs vs → us ≡ vs
 one_list P w u [] terms.none terms.none a b = refl
 one_list P w u [] terms.none (terms.more v vs) a b = absurd b
 one_list P w u [] (terms.more t us) vs a b = absurd a

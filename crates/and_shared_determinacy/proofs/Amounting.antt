@@ -21,7 +21,7 @@ use Rattle.and_cells.specs.Seen.{Seen, Knows, LeadsTo, here, onward}
 use Rattle.and_cells.specs.Numbers.{number_of}
 use Rattle.and_cells.specs.Meaning.{Words}
 use Rattle.and_cells.specs.Joined.{value}
-use Rattle.and_cells.specs.Parts.{IsStructure, part_at, parts_of}
+use Rattle.and_cells.specs.Parts.{part_at, parts_of}
 use Rattle.and_cells.proofs.Frames.{no_variable}
 use Rattle.and_cell_laws.proofs.Images.{contains_origin}
 use Rattle.and_cell_laws.proofs.Structures.{node_term_shape, in_frame, value_of_node, value_of_part, HaveValues, value_of_structure}
@@ -33,36 +33,11 @@ use Rattle.and_arith.specs.declared.values.Valued.TheVariants as valued
 use Rattle.and_arith.proofs.Covering.{reaches_on}
 use Rattle.and_arith.proofs.Counting.{size_some}
 use Rattle.and_arith.proofs.Grounding.{value_ground, ground_known_ground}
-use Rattle.and_arith.proofs.Solving.{ground_below}
+use Rattle.and_arith.proofs.Solving.{structure_there, one_list, ground_below}
 use Rattle.and_unify.proofs.TurnParts.{cells_of_parts}
 use Rattle.and_shared_determinacy.specs.Truths.{Denotes, IsNamed, AreTrue}
 use Rattle.and_shared_determinacy.specs.Weighing.{NamesNoHalf, Amounts}
 use Rattle.and_shared_determinacy.proofs.Truths.{number_is, leads_true}
-
--- a node with this shape is there, since only names of no node count as numbers
-structure_there : (P : NamedProgram) (node : NodeNo) (base name : ℕ) (arguments : List ℕ) → shape_at P.skeleton node.0 ≡ shapes.compound name arguments
-    → IsStructure P (Node node base) name (length arguments)
-structure_there P node base name arguments at = record {
-  node = node;
-  base = base;
-  arguments = arguments;
-  reference = refl;
-  shape = elim (cases_lt node.0 (length P.skeleton.nodes)) [
-    | inl below ↦ slice_get-get_or P.skeleton.nodes node.0 (shapes.number (pos 0)) below ∙ ap (λ (s : Shape). Some s) at
-    | inr past ↦ let both = sym (get_or_past P.skeleton.nodes node.0 (shapes.number (pos 0)) past) ∙ at in absurd (cc)
-  ];
-  counted = refl;
-}
-
--- references have these values in one way
-one_list : (P : NamedProgram) (w : Words) (u : Substitution) (rs : List Ref) (us vs : Terms) → HaveValues P w u rs us → HaveValues P w u rs vs → us ≡ vs
-one_list P w u [] terms.none terms.none a b = refl
-one_list P w u [] terms.none (terms.more v vs) a b = absurd b
-one_list P w u [] (terms.more t us) vs a b = absurd a
-one_list P w u (r ∷ rs) terms.none vs a b = absurd a
-one_list P w u (r ∷ rs) (terms.more t us) terms.none a b = absurd b
-one_list P w u (r ∷ rs) (terms.more t us) (terms.more v vs) a b =
-    ap (λ x. terms.more x us) (same_Some t v (sym a.0 ∙ b.0)) ∙ ap (λ xs. terms.more v xs) (one_list P w u rs us vs a.1 b.1)
 
 -- an argument is no node that is a variable
 resolved_named : (P : NamedProgram) (n base : ℕ) (s : Shape) → shape_at P.skeleton n ≡ s → IsNamed P (resolved s (record { 0 = n }) base)
