@@ -1,10 +1,10 @@
 -- Entries are cut into runs.
 use Rattle.std.proofs.Common.{◌≡◌, ◌≢◌, ◌≤◌, ℕ, zero, suc, List, [], ◌∷◌, ◌++◌, length, take, drop, map, reverse, refl, sym, ap, ◌∙◌, subst}
-use Rattle.std.proofs.Common.{arith, length-append, append-nil, append_assoc, slice_index_or}
+use Rattle.std.proofs.Common.{arith, length-append, append-nil, append_assoc}
 use Rattle.std.specs.List.Sorted.{IsPermutation}
 use Rattle.std.proofs.lemmas.List.Sorted.{IsPermutation-refl, IsPermutation-sym, IsPermutation-trans, IsPermutation-append, IsPermutation-append_comm}
 use Rattle.std.proofs.lemmas.List.Sorted.{IsPermutation-map, IsPermutation-reverse}
-use Rattle.std.proofs.lemmas.List.{nil_from_length, reverse-append}
+use Rattle.std.proofs.lemmas.List.{nil_from_length, reverse-append, same_from_push}
 use Rattle.and_model.specs.Listing
 use Rattle.and_answers.specs.Kept.{entry_of}
 use Rattle.and_answers.specs.Tails.{MayFollow}
@@ -63,22 +63,6 @@ put_all ts new left t rs more is more_is none =
 
 -- ---- one entry and its piece are taken
 
-head_same : {X : Type 0} (x y : X) (xs ys : List X) → x ∷ xs ≡ y ∷ ys → x ≡ y
-head_same x y xs ys e = ap (λ l. slice_index_or l 0 x) e
-
-tail_same : {X : Type 0} (x y : X) (xs ys : List X) → x ∷ xs ≡ y ∷ ys → xs ≡ ys
-tail_same x y xs ys e = ap (drop 1) e
-
--- Two lists with one item more are the same.
-same_but_last : {X : Type 0} (xs ys : List X) (x y : X) → xs ++ x ∷ [] ≡ ys ++ y ∷ [] → (xs ≡ ys) × (x ≡ y)
-same_but_last [] [] x y e = (refl, head_same x y [] [] e)
-same_but_last [] (b ∷ ys) x y e = let f = ap length e in let long = length-append ys (y ∷ []) in absurd (omega (arith, f, long))
-same_but_last (a ∷ xs) [] x y e = let f = ap length e in let long = length-append xs (x ∷ []) in absurd (omega (arith, f, long))
-same_but_last (a ∷ xs) (b ∷ ys) x y e =
-    let (rest, last) = same_but_last xs ys x y (tail_same a b (xs ++ x ∷ []) (ys ++ y ∷ []) e) in
-    let first : a ≡ b = head_same a b (xs ++ x ∷ []) (ys ++ y ∷ []) e in
-    ((λ i. first i ∷ rest i), last)
-
 -- the codes of entries
 abbrev pub codes_of : List Entry → List (List ℕ)
 codes_of es = map (λ (e : Listing.Entry). e.code) (map entry_of es)
@@ -119,7 +103,7 @@ last_taken all old es qs ps ts rs e p t old_is qs_is entry common rest cut =
     let last : List ℕ = last_from [] ps in
     let both : codes_of es ++ e.code.value ∷ [] ≡ codes_from [] ps ++ code_behind last p ∷ [] =
     sym (codes_of_more es e) ∙ ap codes_of (sym old_is) ∙ cut.codes ∙ ap (codes_from []) qs_is ∙ codes_more [] ps p in
-    let (front, here) = same_but_last (codes_of es) (codes_from [] ps) e.code.value (code_behind last p) both in
+    let (front, here) = same_from_push (codes_of es) (codes_from [] ps) e.code.value (code_behind last p) both in
     let (places, place) = places_parted [] ps p (subst (λ l. AreInPlace [] l) qs_is cut.places) in
     let code : code_of t ≡ code_behind last p = ap (λ (d : Entry). d.code.value) entry ∙ here in
     let clauses : clauses_of t ≡ p.rest = ap (λ n. drop n t.rest) rest.0 ∙ rest.1 in

@@ -1,9 +1,9 @@
 -- Teams that have done nothing, and what they are when they have worked.
 use Rattle.std.proofs.Common.{ℕ, zero, suc, ◌+◌, ◌≡◌, ◌<◌, false, List, [], ◌∷◌, ◌++◌}
-use Rattle.std.proofs.Common.{reverse, length, length-append, refl, sym, ap, subst, ◌∙◌, arith, All, slice_index_or, drop}
+use Rattle.std.proofs.Common.{reverse, length, refl, sym, ap, subst, ◌∙◌, arith, All, slice_index_or}
 use Rattle.std.proofs.Common.{Result, Ok, Err, IfOk, OnOk, is_err, true≢false}
 use Rattle.std.specs.Prelude.{None}
-use Rattle.std.proofs.lemmas.List.{length-reverse, reverse-append}
+use Rattle.std.proofs.lemmas.List.{length-reverse, reverse-append, same_from_push}
 use Rattle.std.proofs.lemmas.List.Elements.{All-cons}
 use mathlib.Core.List.{reverse-cons}
 use Rattle.and_model.specs.Programs.{Program}
@@ -45,29 +45,13 @@ pub fresh_long : (tree : TreeId) (team count : ℕ) → length (fresh_from tree 
 fresh_long tree team zero = refl
 fresh_long tree team (suc count) = let rest = fresh_long tree (suc team) count in omega (arith, rest)
 
-head_same : {X : Type 0} (x y : X) (xs ys : List X) → x ∷ xs ≡ y ∷ ys → x ≡ y
-head_same x y xs ys e = ap (λ l. slice_index_or l 0 x) e
-
-tail_same : {X : Type 0} (x y : X) (xs ys : List X) → x ∷ xs ≡ y ∷ ys → xs ≡ ys
-tail_same x y xs ys e = ap (drop 1) e
-
--- Two lists with one item more are the same.
-same_but_last : {X : Type 0} (xs ys : List X) (x y : X) → xs ++ x ∷ [] ≡ ys ++ y ∷ [] → (xs ≡ ys) × (x ≡ y)
-same_but_last [] [] x y e = (refl, head_same x y [] [] e)
-same_but_last [] (b ∷ ys) x y e = let f = ap length e in let long = length-append ys (y ∷ []) in absurd (omega (arith, f, long))
-same_but_last (a ∷ xs) [] x y e = let f = ap length e in let long = length-append xs (x ∷ []) in absurd (omega (arith, f, long))
-same_but_last (a ∷ xs) (b ∷ ys) x y e =
-    let (rest, last) = same_but_last xs ys x y (tail_same a b (xs ++ x ∷ []) (ys ++ y ∷ []) e) in
-    let first : a ≡ b = head_same a b (xs ++ x ∷ []) (ys ++ y ∷ []) e in
-    ((λ i. first i ∷ rest i), last)
-
 -- The last of the passes of so many teams.
 pub last_fresh : (tree : TreeId) (count : ℕ) (rest : List PassSeen) (pass : PassSeen) → fresh_from tree 0 count ≡ rest ++ pass ∷ []
     → (less : ℕ) × (count ≡ suc less) × (rest ≡ fresh_from tree 0 less) × (pass ≡ fresh tree less)
 last_fresh tree zero [] pass e = let f = ap length e in absurd (omega (arith, f))
 last_fresh tree zero (p ∷ rest) pass e = let f = ap length e in absurd (omega (arith, f))
 last_fresh tree (suc count) rest pass e =
-    let both = same_but_last rest (fresh_from tree 0 count) pass (fresh tree (0 + count)) (sym e ∙ fresh_more tree 0 count) in
+    let both = same_from_push rest (fresh_from tree 0 count) pass (fresh tree (0 + count)) (sym e ∙ fresh_more tree 0 count) in
     (count, refl, both.0, both.1 ∙ ap (fresh tree) (omega arith))
 
 -- Its team is as many as are left.
