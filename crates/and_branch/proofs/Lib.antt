@@ -3,6 +3,7 @@ pub use Rattle.and_branch_parts.proofs.KeptOrigins
 pub use Rattle.and_branch_parts.proofs.LoadedPrograms
 pub use Rattle.and_branch_parts.proofs.LookedGoals
 pub use Rattle.and_branch_parts.proofs.MovedBranches
+pub use Rattle.and_branch_parts.proofs.OtherChildren
 pub use Rattle.and_branch_parts.proofs.RoundsKept
 pub use Rattle.and_branch_parts.proofs.SeenGoals
 pub mod BodiesRun

@@ -25,6 +25,7 @@ use Rattle.and_branch_laws.specs.States.{StateOf, IsFirst, IsCut}
 use Rattle.and_branch_laws.specs.States as laws
 use Rattle.and_branch_laws.proofs.Judging
 use Rattle.and_branch_laws.proofs.Keeping
+use Rattle.and_branch_laws.proofs.Lists.{Parts, parted}
 use Rattle.and_code.specs.Written.{all_written}
 use Rattle.and_branch_parts.specs.Branches.{Held, is_arithmetic, Lives, IsBranchOf, IsOpenGoal}
 use Rattle.and_branch_parts.specs.Forking.{numbers}
@@ -35,7 +36,6 @@ use Rattle.and_branch_parts.specs.Watching.{HasTwo}
 use Rattle.and_branch_parts.specs.Finding.{IsCallGoal, AllCalls, HasOne, HasNoSole, HasNoFitting, IsCallAmong, IsSeveral, IsHeavy, IsSeen}
 use Rattle.and_branch_parts.specs.Forking.{fits_in, first_other, HasCutBy}
 use Rattle.and_branch_parts.specs.Resting.{IsResting}
-use Rattle.and_branch_parts.proofs.LivingGoals.{Parts, parted}
 use Rattle.and_branch_parts.proofs.ArithmeticRuns.{called, calls, lives, all_seen, can_be_judged}
 use Rattle.and_branch_parts.proofs.CandidatesParted.{fitting_are, fitting_rising, first_is, number_in}
 

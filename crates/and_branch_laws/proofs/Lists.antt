@@ -1,5 +1,5 @@
--- Lists in which one element gives place to others.
-use Rattle.std.proofs.Common.{Bool, true, false, cond, List, [], ◌∷◌, ◌++◌, sym, subst, inl, inr, Contains}
+-- Lists in which one element gives place to others, or stands between others.
+use Rattle.std.proofs.Common.{◌≡◌, Bool, true, false, cond, List, [], ◌∷◌, ◌++◌, map, refl, sym, subst, inl, inr, Contains}
 use Rattle.std.specs.Prelude.{All, AllPairs, filter}
 use Rattle.std.proofs.lemmas.List.Elements.{All-nil, All-cons, All-append, All-contains, All-tail, Contains-append_left}
 use Rattle.std.proofs.lemmas.List.Elements.{Contains-append_right}
@@ -67,3 +67,31 @@ kept_cases false y xs ys x h f = contains_more y x ys (f x h)
 pub filter_contains : {X : Type 0} (p : X → Bool) (xs : List X) (x : X) → Contains (filter p xs) x → Contains xs x
 filter_contains p [] x h = h
 filter_contains p (y ∷ xs) x h = kept_cases (p y) y (filter p xs) xs x h (filter_contains p xs)
+
+-- a list that a map makes of two parts
+pub record Parts {X Y : Type 0} (f : X → Y) (xs : List X) (ys : List Y) (y : Y) (zs : List Y) : Type 0 where
+  pub front : List X
+  pub middle : X
+  pub back : List X
+  pub is : xs ≡ front ++ middle ∷ back
+  pub front_is : map f front ≡ ys
+  pub middle_is : f middle ≡ y
+  pub back_is : map f back ≡ zs
+
+pub parted : {X Y : Type 0} (f : X → Y) (xs : List X) (ys : List Y) (y : Y) (zs : List Y) → map f xs ≡ ys ++ y ∷ zs → Parts f xs ys y zs
+parted f [] [] y zs e = absurd (cc)
+parted f [] (w ∷ ys) y zs e = absurd (cc)
+parted f (x ∷ xs) [] y zs e = let one : f x ≡ y = cc in let rest : map f xs ≡ zs = cc in
+    record { front = []; middle = x; back = xs; is = refl; front_is = refl; middle_is = one; back_is = rest }
+parted f (x ∷ xs) (w ∷ ys) y zs e =
+    let one : f x ≡ w = cc in
+    let rest : map f xs ≡ ys ++ y ∷ zs = cc in
+    let p = parted f xs ys y zs rest in record {
+      front = x ∷ p.front;
+      middle = p.middle;
+      back = p.back;
+      is = let inner = p.is in cc;
+      front_is = let behind = p.front_is in cc;
+      middle_is = p.middle_is;
+      back_is = p.back_is;
+    }

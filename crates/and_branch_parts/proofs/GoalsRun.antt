@@ -20,8 +20,8 @@ use Rattle.and_branch_laws.specs.Kept.{item_at, task_in, is_call, goal_of, IsCal
 use Rattle.and_branch_laws.proofs.Asking
 use Rattle.and_branch_laws.proofs.Keeping
 use Rattle.and_branch_laws.proofs.Stepping
-use Rattle.and_reduction.specs.Runs.{HasRun, compared, assigned, CannotHold}
-use Rattle.and_reduction.specs.Runs as runs
+use Rattle.and_reduction.specs.Runs.{HasRun, CannotHold}
+use Rattle.and_reduction.proofs.KeptRuns.{run_keeps, cannot_dies}
 use Rattle.and_branch_parts.specs.Branches.{Held, Lives, IsBranchOf, IsOpenGoal, SameKey}
 use Rattle.and_branch_parts.specs.Next.{IsReduced}
 use Rattle.and_branch_parts.specs.Rounds.{IsAtMost}
@@ -56,27 +56,6 @@ pub kind_of_kept : (P : NamedProgram) (own : OwnVariables P) (rs : List Reductio
 kind_of_kept P own rs row kept t k f h = kind_by P own rs row kept t k f h (item_at P.program f.goal) refl
 
 -- ---- Runs
-
-run_keeps : (P : NamedProgram) (loaded : IsLoaded P) (rs : List Reduction) (row new : List Ref) (front : List Framed) (f : Framed)
-    (back : List Framed) (t : QueryTree P.program) → Kept P rs row (front ++ f ∷ back) t → HasRun P row new f.goal
-    → Kept P rs new (front ++ back) t
-run_keeps P loaded rs row new front f back t k (compared r a b u v item one other first second is_true same) =
-    subst (λ (l : List Ref). Kept P rs l (front ++ back) t) (sym same)
-    (Asking.comparison_keeps P loaded rs row front f back t k r a b u v item one other first second is_true)
-run_keeps P loaded rs row new front f back t k (assigned l r u z left right pair mid item node read ground valued sound written settled) =
-    Asking.assignment_keeps P loaded rs row front f back t k l r u z left right pair item node read ground valued mid sound written new
-    settled
-
-cannot_dies : (P : NamedProgram) (loaded : IsLoaded P) (rs : List Reduction) (row : List Ref) (front : List Framed) (f : Framed)
-    (back : List Framed) (t : QueryTree P.program) → Kept P rs row (front ++ f ∷ back) t → Contains (front ++ f ∷ back) f
-    → CannotHold P row f.goal → Dead t
-cannot_dies P loaded rs row front f back t k h (runs.CannotHold.compared r a b u v item one other first second is_false) =
-    Asking.comparison_fails P loaded rs row (front ++ f ∷ back) t k f h r a b u v item one other first second is_false
-cannot_dies P loaded rs row front f back t k h (runs.CannotHold.no_value l r u item read ground none_is) =
-    Asking.no_value_fails P loaded rs row (front ++ f ∷ back) t k f h l r u item read ground none_is
-cannot_dies P loaded rs row front f back t k h
-    (runs.CannotHold.assigned l r u z left right pair mid item node read ground valued sound written none_is) =
-    Asking.assignment_fails P loaded rs row front f back t k l r u z left right pair item node read ground valued mid sound written none_is
 
 -- A branch that only was marked failed, where its tree is dead.
 pub marked_branch : (P : NamedProgram) (old new : Held) (t : QueryTree P.program) → IsBranchOf P old t → SameKey old new

@@ -17,6 +17,7 @@ pub mod LookedGoals
 pub mod MovedBranches
 pub mod NextReduced
 pub mod NodeItems
+pub mod OtherChildren
 pub mod PassedGoals
 pub mod RootedBranches
 pub mod RoundsDone

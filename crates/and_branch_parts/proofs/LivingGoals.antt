@@ -1,5 +1,5 @@
 -- The goals of a branch that is not failed, and what it keeps of each.
-use Rattle.std.proofs.Common.{ℕ, ◌≡◌, ◌+◌, false, List, [], ◌∷◌, ◌++◌, length, map, refl, ap, sym, ◌∙◌, subst, Contains}
+use Rattle.std.proofs.Common.{ℕ, ◌≡◌, ◌+◌, false, List, [], ◌∷◌, ◌++◌, length, map, ap, sym, ◌∙◌, subst, Contains}
 use Rattle.std.proofs.lemmas.List.Elements.{All-contains}
 use Rattle.and_model.specs.Terms.{Path, Term, variables_of}
 use Rattle.and_model.specs.Programs.{Item, call, arithmetic, Arithmetic}
@@ -14,39 +14,11 @@ use Rattle.and_cells.specs.Seen.{word_at}
 use Rattle.and_branch_laws.specs.OwnVariables.{IsLoaded}
 use Rattle.and_branch_laws.specs.Kept.{item_at, node_item_at, task_in, is_call, IsCall, HasFreePair, goal_of, Kept}
 use Rattle.and_branch_laws.proofs.Asking
+use Rattle.and_branch_laws.proofs.Lists.{parted}
 use Rattle.and_branch_laws.specs.Goals.{CanBeJudged}
 use Rattle.and_reduction.specs.Runs.{CanBeRun, HasUnnamedPair}
 use Rattle.and_reduction.proofs.KeptGoals.{kept_pair_is_unnamed}
 use Rattle.and_branch_parts.specs.Branches.{Held, Lives, IsOpenGoal}
-
--- ---- Lists that a map makes of two parts
-
-pub record Parts {X Y : Type 0} (f : X → Y) (xs : List X) (ys : List Y) (y : Y) (zs : List Y) : Type 0 where
-  pub front : List X
-  pub middle : X
-  pub back : List X
-  pub is : xs ≡ front ++ middle ∷ back
-  pub front_is : map f front ≡ ys
-  pub middle_is : f middle ≡ y
-  pub back_is : map f back ≡ zs
-
-pub parted : {X Y : Type 0} (f : X → Y) (xs : List X) (ys : List Y) (y : Y) (zs : List Y) → map f xs ≡ ys ++ y ∷ zs → Parts f xs ys y zs
-parted f [] [] y zs e = absurd (cc)
-parted f [] (w ∷ ys) y zs e = absurd (cc)
-parted f (x ∷ xs) [] y zs e = let one : f x ≡ y = cc in let rest : map f xs ≡ zs = cc in
-    record { front = []; middle = x; back = xs; is = refl; front_is = refl; middle_is = one; back_is = rest }
-parted f (x ∷ xs) (w ∷ ys) y zs e =
-    let one : f x ≡ w = cc in
-    let rest : map f xs ≡ ys ++ y ∷ zs = cc in
-    let p = parted f xs ys y zs rest in record {
-      front = x ∷ p.front;
-      middle = p.middle;
-      back = p.back;
-      is = let inner = p.is in cc;
-      front_is = let behind = p.front_is in cc;
-      middle_is = p.middle_is;
-      back_is = p.back_is;
-    }
 
 -- ---- A goal that is kept
 

@@ -1,10 +1,9 @@
 -- Arithmetic that is run in a whole tree.
-use Rattle.std.proofs.Common.{◌≡◌, List, [], ◌∷◌, ◌++◌, map, refl, ap, sym, ◌∙◌, subst, inl, inr, arith}
+use Rattle.std.proofs.Common.{◌≡◌, List, [], ◌∷◌, ◌++◌, map, ap, sym, ◌∙◌, subst, inl, inr, arith}
 use Rattle.std.proofs.Common.{Contains}
 use Rattle.std.proofs.lemmas.List.{map-append}
 use Rattle.std.proofs.lemmas.List.Elements.{Contains-append_left, Contains-append_right, Contains-append_cases}
 use Rattle.and_model.specs.Trees.{QueryTree, HasOutcome}
-use Rattle.and_model.specs.Reached.{Dead}
 use Rattle.and_model.specs.Reductions.{Reduction}
 use Rattle.and_model.specs.Stands.{Framed}
 use Rattle.and_model.specs.declared.goal.Goal.{Goal}
@@ -17,64 +16,12 @@ use Rattle.and_cells.specs.Meaning.{IsSettled}
 use Rattle.and_branch_laws.specs.OwnVariables.{IsLoaded}
 use Rattle.and_branch_laws.specs.Judging.{NoCall}
 use Rattle.and_branch_laws.specs.Kept.{goal_of, Kept}
-use Rattle.and_branch_laws.proofs.Asking
-use Rattle.and_step_laws.specs.Runs.{CanBeRun, IsWaiting, HasRun, CannotHold, compared, assigned}
-use Rattle.and_step_laws.specs.Runs as runs
+use Rattle.and_branch_laws.proofs.Lists.{Parts, parted}
+use Rattle.and_step_laws.specs.Runs.{CanBeRun, IsWaiting, HasRun, CannotHold}
 use Rattle.and_proof.specs.Unfolding.{IsWholeIn, AllWait}
 use Rattle.and_step_laws.proofs.KeptGoals.{kept_can_be_run}
+use Rattle.and_step_laws.proofs.KeptRuns.{run_keeps, cannot_dies}
 use Rattle.and_proof.proofs.Stepped.{is_arithmetic}
-
--- ---- Lists that a map makes of two parts
-
-record Parts {X Y : Type 0} (f : X → Y) (xs : List X) (ys : List Y) (y : Y) (zs : List Y) : Type 0 where
-  pub front : List X
-  pub middle : X
-  pub back : List X
-  pub is : xs ≡ front ++ middle ∷ back
-  pub front_is : map f front ≡ ys
-  pub middle_is : f middle ≡ y
-  pub back_is : map f back ≡ zs
-
-parted : {X Y : Type 0} (f : X → Y) (xs : List X) (ys : List Y) (y : Y) (zs : List Y) → map f xs ≡ ys ++ y ∷ zs → Parts f xs ys y zs
-parted f [] [] y zs e = absurd (cc)
-parted f [] (w ∷ ys) y zs e = absurd (cc)
-parted f (x ∷ xs) [] y zs e = let one : f x ≡ y = cc in let rest : map f xs ≡ zs = cc in
-    record { front = []; middle = x; back = xs; is = refl; front_is = refl; middle_is = one; back_is = rest }
-parted f (x ∷ xs) (w ∷ ys) y zs e =
-    let one : f x ≡ w = cc in
-    let rest : map f xs ≡ ys ++ y ∷ zs = cc in
-    let p = parted f xs ys y zs rest in record {
-      front = x ∷ p.front;
-      middle = p.middle;
-      back = p.back;
-      is = let inner = p.is in cc;
-      front_is = let behind = p.front_is in cc;
-      middle_is = p.middle_is;
-      back_is = p.back_is;
-    }
-
--- ---- Runs
-
-run_keeps : (P : NamedProgram) (loaded : IsLoaded P) (rs : List Reduction) (row new : List Ref) (front : List Framed) (f : Framed)
-    (back : List Framed) (t : QueryTree P.program) → Kept P rs row (front ++ f ∷ back) t → HasRun P row new f.goal
-    → Kept P rs new (front ++ back) t
-run_keeps P loaded rs row new front f back t k (compared r a b u v item one other first second is_true same) =
-    subst (λ (l : List Ref). Kept P rs l (front ++ back) t) (sym same)
-    (Asking.comparison_keeps P loaded rs row front f back t k r a b u v item one other first second is_true)
-run_keeps P loaded rs row new front f back t k (assigned l r u z left right pair mid item node read ground valued sound written settled) =
-    Asking.assignment_keeps P loaded rs row front f back t k l r u z left right pair item node read ground valued mid sound written new
-    settled
-
-cannot_dies : (P : NamedProgram) (loaded : IsLoaded P) (rs : List Reduction) (row : List Ref) (front : List Framed) (f : Framed)
-    (back : List Framed) (t : QueryTree P.program) → Kept P rs row (front ++ f ∷ back) t → Contains (front ++ f ∷ back) f
-    → CannotHold P row f.goal → Dead t
-cannot_dies P loaded rs row front f back t k h (runs.CannotHold.compared r a b u v item one other first second is_false) =
-    Asking.comparison_fails P loaded rs row (front ++ f ∷ back) t k f h r a b u v item one other first second is_false
-cannot_dies P loaded rs row front f back t k h (runs.CannotHold.no_value l r u item read ground none_is) =
-    Asking.no_value_fails P loaded rs row (front ++ f ∷ back) t k f h l r u item read ground none_is
-cannot_dies P loaded rs row front f back t k h
-    (runs.CannotHold.assigned l r u z left right pair mid item node read ground valued sound written none_is) =
-    Asking.assignment_fails P loaded rs row front f back t k l r u z left right pair item node read ground valued mid sound written none_is
 
 module _ (P : NamedProgram) (loaded : IsLoaded P) (rs : List Reduction) (row : List Ref) (all before : List Goal) (g : Goal) (behind : List Goal)
     (t : QueryTree P.program) (x : IsWholeIn P rs row all t) (is : all ≡ before ++ g ∷ behind) where

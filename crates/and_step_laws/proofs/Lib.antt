@@ -4,6 +4,7 @@ pub mod Numbers
 pub mod Goals
 pub mod Outcomes
 pub mod KeptGoals
+pub mod KeptRuns
 pub mod AskedPairs
 pub mod SettledPairs
 pub mod AskedNumbers

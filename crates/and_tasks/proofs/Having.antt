@@ -1,7 +1,7 @@
 -- What keeps the keys in a team's hand and its tasks together: tasks in another order, a task that ends, joins, leaves or is forked, and a
 -- child that is parted from the others. The hand is told by sums, so no order of keys matters.
 use Rattle.std.proofs.Common.{ℕ, ◌+◌, ◌*◌, ◌^◌, ◌≡◌, ◌≢◌, ◌<◌, ◌≤◌, Bool, get_or, drop, List, [], ◌∷◌, ◌++◌, length, refl, sym, ap, subst}
-use Rattle.std.proofs.Common.{◌∙◌, arith, Contains, Vec, append_assoc, append-nil}
+use Rattle.std.proofs.Common.{◌∙◌, arith, Contains, Vec, append-nil}
 use Rattle.std.specs.Prelude.{sum_by, flat_map}
 use Rattle.std.specs.List.{remove}
 use Rattle.std.specs.declared.alloc.Global.{Global}
@@ -10,14 +10,14 @@ use Rattle.std.proofs.lemmas.List.Elements.{Contains-append_left, Contains-appen
 use Rattle.std.proofs.lemmas.List.Sums.{sum_by-append, sum_by-cons}
 use Rattle.std.proofs.lemmas.List.Concat.{flat_map-append}
 use Rattle.and_model.specs.Trees.{QueryTree}
-use Rattle.and_model.specs.declared.goal.Goal.{Goal}
 use Rattle.and_laws.proofs.Ordered.{contains_first}
 use Rattle.and_cells.specs.Ranges.{NamedProgram}
 use Rattle.and_branch_laws.specs.States.{StateOf, fork}
 use Rattle.and_code.specs.Telling.{IsTold}
 use Rattle.and_code.specs.declared.telling.CodeSoFar.{CodeSoFar}
-use Rattle.and_branch.specs.Branches.{Held, IsBranchOf, IsOpenGoal}
+use Rattle.and_branch.specs.Branches.{Held}
 use Rattle.and_branch.specs.Children.{Fork, AreChildren, IsChild}
+use Rattle.and_branch.proofs.OtherChildren.{others_stand}
 use Rattle.and_histories.specs.PlainTree as plain
 use Rattle.and_histories.specs.PlainTree.{Key, Ending, children}
 use Rattle.and_tree.specs.Passes.{TreeId, PassSeen, Makes, Takes}
@@ -81,7 +81,7 @@ module _ {N : Type 0} (P : NamedProgram) (limit : ℕ) where
       omega (arith, whole, one, few, rest)
 
 module _ (P : NamedProgram) (limit : ℕ) where
-  -- The branch is the next child of the fork: it stands for a tree,
+  -- The branch is the next child of the fork: it stands for a tree.
   child_stands : (f g : Fork) (b : Held) (t : QueryTree P.program) → IsChild P f g b → AreChildren P f t → f.parent.limit ≡ limit
       → StandsWithin P limit b
   child_stands f g b t is x limited =
@@ -93,33 +93,14 @@ module _ (P : NamedProgram) (limit : ℕ) where
       let (next, split) = candidate_splits t x.open_goal s.0 s.1 s.2 is.clause k.0 in
       record { tree = next; branch = is.stands t next x split; limited = is.limit ∙ limited }
 
-  -- and the others are its children too.
-  others_stand : (f g : Fork) (b : Held) (t : QueryTree P.program) → IsChild P f g b → AreChildren P f t → AreChildren P g t
-  others_stand f g b t is x =
-      let made : List ℕ = x.made ++ is.clause ∷ [] in
-      let clauses : x.made ++ f.clauses ≡ made ++ g.clauses =
-      ap (λ cs. x.made ++ cs) is.next ∙ sym (append_assoc x.made (is.clause ∷ []) g.clauses) in
-      let here : StateOf P.program f.parent.limit t (fork x.open_goal (made ++ g.clauses) x.cut) =
-      subst (λ cs. StateOf P.program f.parent.limit t (fork x.open_goal cs x.cut)) clauses x.state in
-      record {
-        branch = subst (λ (d : Held). IsBranchOf P d t) (sym is.parent) x.branch;
-        open_goal = x.open_goal;
-        made = made;
-        cut = x.cut;
-        goal_is = subst (λ (h : Goal). IsOpenGoal P g.parent.reductions t x.open_goal h) (sym is.goal)
-            (subst (λ (d : Held). IsOpenGoal P d.reductions t x.open_goal f.goal) (sym is.parent) x.goal_is);
-        state = subst (λ (d : Held). StateOf P.program d.limit t (fork x.open_goal (made ++ g.clauses) x.cut)) (sym is.parent) here;
-        longer = is.longer ∙ x.longer;
-      }
-
-  -- So what is told of them stays.
+  -- What is told of the others stays.
   pub others_come : {N : Type 0} (l m : Level N) (b : Held) → IsChild P l.point m.point b → m.told ≡ l.told → m.longer.value ≡ l.longer.value
       → m.point.clauses ≢ [] → AreToCome P limit l → AreToCome P limit m
   others_come l m b is told longer some x =
       let fewer = ap (λ (cs : List ℕ). length cs) is.next in
       let few = x.few in record {
         tree = x.tree;
-        children = others_stand l.point m.point b x.tree is x.children;
+        children = others_stand P l.point m.point b x.tree is x.children;
         limited = ap (λ (d : Held). d.limit) is.parent ∙ x.limited;
         some = some;
         few = omega (arith, few, fewer);

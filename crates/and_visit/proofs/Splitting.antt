@@ -18,6 +18,7 @@ use Rattle.and_branch.specs.States.{numbers, IsState, IsCutOf}
 use Rattle.and_branch.specs.declared.state.BranchState.TheVariants as told
 use Rattle.and_branch.specs.Children.{Fork, AreChildren, IsChild, IsForkOf}
 use Rattle.and_search_laws.proofs.Splitting.{split_grows, candidate_splits}
+use Rattle.and_branch.proofs.OtherChildren.{others_stand}
 use Rattle.and_branch.proofs.StatesTold.{state_within}
 use Rattle.and_traces.specs.Traces
 use Rattle.and_traces.specs.Traces.{Report, CutOff, TracesSplits, cut_report}
@@ -87,25 +88,6 @@ module _ (P : NamedProgram) (limit : ℕ) where
       let (o, first, goal_is, is_cut, s) = state x.tree x.branch in
       (x.tree, o, first, x.branch, goal_is, s)
 
-  -- (the others are its children too)
-  others_stand : (f g : Fork) (b : Held) (t : QueryTree P.program) → IsChild P f g b → AreChildren P f t → AreChildren P g t
-  others_stand f g b t is x =
-      let made : List ℕ = x.made ++ is.clause ∷ [] in
-      let clauses : x.made ++ f.clauses ≡ made ++ g.clauses =
-      ap (λ cs. x.made ++ cs) is.next ∙ sym (append_assoc x.made (is.clause ∷ []) g.clauses) in
-      let here : StateOf P.program f.parent.limit t (fork x.open_goal (made ++ g.clauses) x.cut) =
-      subst (λ cs. StateOf P.program f.parent.limit t (fork x.open_goal cs x.cut)) clauses x.state in
-      record {
-        branch = subst (λ (d : Held). IsBranchOf P d t) (sym is.parent) x.branch;
-        open_goal = x.open_goal;
-        made = made;
-        cut = x.cut;
-        goal_is = subst (λ (h : Goal). IsOpenGoal P g.parent.reductions t x.open_goal h) (sym is.goal)
-            (subst (λ (d : Held). IsOpenGoal P d.reductions t x.open_goal f.goal) (sym is.parent) x.goal_is);
-        state = subst (λ (d : Held). StateOf P.program d.limit t (fork x.open_goal (made ++ g.clauses) x.cut)) (sym is.parent) here;
-        longer = is.longer ∙ x.longer;
-      }
-
   -- A child is taken: the split that it stands for.
   record Child (d : ℕ) (f g : Fork) (b : Held) (t : QueryTree P.program) : Type 0 where
     pub next : QueryTree P.program
@@ -150,7 +132,7 @@ module _ (P : NamedProgram) (limit : ℕ) where
           deep = y.deep;
           rest = λ more text. record {
             tree = x.tree;
-            children = others_stand f g b x.tree is x.children;
+            children = others_stand P f g b x.tree is x.children;
             limited = ap (λ (h : Held). h.limit) is.parent ∙ x.limited;
             deep = omega (arith, x.deep, ap (λ (h : Held). h.used) is.parent);
             some = λ none. absurd (omega (arith, as_many, many, ap (λ (cs : List ℕ). length cs) none));
