@@ -6,6 +6,7 @@ pub use Rattle.and_branch_parts.proofs.MovedBranches
 pub use Rattle.and_branch_parts.proofs.OtherChildren
 pub use Rattle.and_branch_parts.proofs.RoundsKept
 pub use Rattle.and_branch_parts.proofs.SeenGoals
+mod AllFitting
 pub mod BodiesRun
 pub mod CallsWatched
 pub mod LinesTold

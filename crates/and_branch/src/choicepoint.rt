@@ -288,6 +288,7 @@ impl<N: Naming> Choicepoint<N> {
             made,
         } = self;
         let clause = *clauses.at(made);
+        workspace.put_by(clauses);
         branch.become_first(&parent, outline);
         branch.become_child(loaded, goal, decided, clause, workspace)?;
         Ok(())

@@ -1,31 +1,33 @@
 //! The state of a branch: what its tree allows next.
 
-ghost use Rattle.std.specs.Prelude.{ℕ, ◌≡◌, ◌≢◌, ◌≤◌, [], Some, false, OnOk, IfOk, IsSome};
+ghost use Rattle.std.specs.Prelude.{ℕ, ◌≡◌, ◌≢◌, ◌≤◌, [], Some, None, true, false, length, filter, All, OnOk, IfOk, IsSome};
 ghost use Rattle.and_model.specs.Trees.{QueryTree, Open};
 ghost use Rattle.and_model.specs.Reached.{Steps};
 ghost use Rattle.and_model.specs.declared.goal.Cut.{Cut};
+ghost use Rattle.and_model.specs.declared.numbers.ClauseNo.{ClauseNo};
 ghost use Rattle.and_cells.specs.Parts.{named};
 ghost use Rattle.and_code.specs.Written.{all_written};
 ghost use Rattle.and_clause_index.specs.Tables.{IsTableOf};
 ghost use Rattle.and_branch_parts.specs.Branches.{IsBranch, IsBranchOf, SameKey};
 ghost use Rattle.and_branch_laws.specs.States.{StateOf, determinate};
 ghost use Rattle.and_branch_parts.specs.Finding.{AllCalls, IsSeveral, HasFound};
-ghost use Rattle.and_branch_parts.specs.Forking.{HasCutBy};
+ghost use Rattle.and_branch_parts.specs.Forking.{HasCutBy, fits_in, first_other};
 ghost use Rattle.and_branch_parts.specs.Origins.{KeepsBack};
 ghost use Rattle.and_branch_parts.specs.Resting.{SameTree, IsResting};
 ghost use Rattle.and_branch.specs.States.{IsState, IsAtRest};
 
 use crate::advancing::FIRST_ROUND;
 use crate::branch::Branch;
-use crate::workspace::Workspace;
-use and_branch_parts::{RoundSoFar, part};
-use and_cells::Naming;
+use crate::workspace::{Workspace, spare_list};
+use and_branch_parts::{Parted, RoundSoFar, fits, part};
+use and_cells::{Naming, PlainCells};
 use and_clause_index::Determinacy;
 use and_determinacy::candidates_of_several;
 use and_gate::Gate;
 use and_model::{ClauseList, ClauseNo, Cut, Goal};
 use and_program::Loaded;
-use std::alloc::AllocError;
+use std::alloc::{AllocError, Global};
+use std::mem::replace;
 
 /// What a branch's tree allows next.
 #[derive(Drop)]
@@ -201,7 +203,8 @@ impl<N: Naming> Branch<N> {
             &mut workspace.trials,
             candidates,
         )?;
-        let parted = part(alloc, loaded, &self.cells, candidates, self.limit)?;
+        let spares = &mut workspace.spares;
+        let parted = part_list(alloc, loaded, &self.cells, candidates, spares, self.limit)?;
         let cut = self.cut_if(goal, parted.heavy)?;
         Ok(fork_of(goal, parted.fitting, cut))
     }
@@ -218,6 +221,55 @@ impl<N: Naming> Branch<N> {
             }
         }
     }
+}
+
+/// Whether the row with a frame for each of these clauses is within the limit.
+fn all_fit<N: Naming>(
+    loaded: &Loaded,
+    cells: &PlainCells<N>,
+    clauses: &ClauseList,
+    limit: u32,
+) -> bool
+    requires program { N.program ≡ named loaded.now }
+    requires clauses { All (λ (c : ClauseNo). c.0 ≤ length N.program.program.clauses) clauses.now }
+    requires room { length cells.now ≤ limit }
+    ensures fitting { result ≡ true → clauses.now ≡ filter (fits_in N.program limit cells.now) clauses.now }
+    ensures heavy { result ≡ true → None ≡ first_other (fits_in N.program limit cells.now) clauses.now }
+{
+    for place in 0..clauses.len() {
+        let clause = *clauses.at(place);
+        let passes = fits(loaded, cells, clause, limit);
+        if !passes {
+            return false;
+        }
+    }
+    true
+}
+
+/// Parts clauses by their weight. Where all fit, they are given away with their list, which has one that was put by in
+/// its place. An error is want of memory.
+#[inline(always)]
+fn part_list<N: Naming>(
+    alloc: Global,
+    loaded: &Loaded,
+    cells: &PlainCells<N>,
+    clauses: &mut ClauseList,
+    spares: &mut Vec<ClauseList>,
+    limit: u32,
+) -> Result<Parted, AllocError>
+    requires program { N.program ≡ named loaded.now }
+    requires clauses { All (λ (c : ClauseNo). c.0 ≤ length N.program.program.clauses) clauses.old }
+    requires room { length cells.now ≤ limit }
+    ensures fitting { IfOk result (λ parted. parted.fitting ≡ filter (fits_in N.program limit cells.now) clauses.old) }
+    ensures heavy { IfOk result (λ parted. parted.heavy ≡ first_other (fits_in N.program limit cells.now) clauses.old) }
+{
+    if all_fit(loaded, cells, clauses, limit) {
+        return Ok(Parted {
+            fitting: replace(clauses, spare_list(spares, alloc)),
+            heavy: None,
+        });
+    }
+    part(alloc, loaded, cells, clauses, limit)
 }
 
 /// A fork by these clauses, or over the limit where there is none. Takes no memory.

@@ -37,12 +37,12 @@ candidates_of_several-requires-clause-several g c =
     let several = subst (λ (b : Held). IsSeveral P b.row b.left c.args.goal) (sym c.self.view_is) c.requires.several in
     two_there P _ _ c.args.goal several
 
-pub part-requires-clause-clauses : goal.part-requires-clause-clauses
-part-requires-clause-clauses g c =
+pub part_list-requires-clause-clauses : goal.part_list-requires-clause-clauses
+part_list-requires-clause-clauses g c =
     candidates_there g.N.Naming.program c.self.inside.cells c.args.goal c.candidates_of_several.new.out c.in_ok-candidates_of_several.ensures.candidates
 
-pub part-requires-clause-room : goal.part-requires-clause-room
-part-requires-clause-room g c =
+pub part_list-requires-clause-room : goal.part_list-requires-clause-room
+part_list-requires-clause-room g c =
     let P = g.N.Naming.program in
     let says = c.skeleton_is_of_the_program.ensures in
     let loaded = is_loaded P c.args.loaded.now c.requires.program says.skeleton says.own_variables says.few in
