@@ -36,6 +36,7 @@ pub fn push_body(
 }
 
 /// The same of the items from a place on.
+#[inline(always)]
 pub fn push_body_from(
     goals: &mut PendingGoals,
     _loaded: &Loaded,
