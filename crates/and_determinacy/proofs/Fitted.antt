@@ -62,7 +62,7 @@ free_variable P row r t (Meaning.structure node base s all) v c =
 free_variable P row r t (Meaning.integer pair) v c = absurd (contains_none v c)
 
 -- a free cell stays a variable
-variable_given : (P : NamedProgram) (row : List Ref) (es : List Equation) (g : IsMostGeneral P row es) (cell : ℕ) → cell < length row
+pub variable_given : (P : NamedProgram) (row : List Ref) (es : List Equation) (g : IsMostGeneral P row es) (cell : ℕ) → cell < length row
     → word_at row cell ≡ Free → g.solution [] cell ≡ cell_variable cell
 variable_given P row es g cell below free =
     one_term P row (Cell cell) (g.solution [] cell) (cell_variable cell) (g.of_cells cell below (ap is_half free))

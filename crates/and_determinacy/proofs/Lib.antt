@@ -1,4 +1,5 @@
 pub mod Fitted
+pub mod FreeCalls
 pub mod Growing
 pub mod Picking
 pub mod Prepared

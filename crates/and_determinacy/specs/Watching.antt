@@ -1,5 +1,5 @@
 -- What is judged of a goal while some cells are free.
-use Rattle.std.specs.Prelude.{ℕ, ◌≡◌, ◌≢◌, ◌<◌, ◌++◌, ◌⊎◌, ◌∷◌, [], List, length, drop, All, Contains}
+use Rattle.std.specs.Prelude.{ℕ, ◌≡◌, ◌≢◌, ◌<◌, ◌++◌, ◌⊎◌, ◌∷◌, [], List, length, drop, map, All, Contains}
 use Rattle.std.specs.Prelude.{Bool, true, false, Option, Some, None}
 use Rattle.and_model.specs.Terms.{Term}
 use Rattle.and_model.specs.Candidates.{Candidate}
@@ -8,7 +8,7 @@ use Rattle.and_model.specs.declared.goal.Goal.{Goal}
 use Rattle.and_model.specs.declared.reference.Ref.{Ref}
 use Rattle.and_model.specs.declared.reference.Ref.TheVariants.{Free, Cell}
 use Rattle.and_cells.specs.Ranges.{NamedProgram, IsInRange}
-use Rattle.and_cells.specs.Parts.{parts_of}
+use Rattle.and_cells.specs.Parts.{part_at, parts_of}
 use Rattle.and_cells.specs.Rows.{IsSound}
 use Rattle.and_cells.specs.Seen.{word_at, Grows, AreFree}
 use Rattle.and_cells.specs.Meaning.{IsSettled, Holds, equations_of}
@@ -103,3 +103,17 @@ pub record AreListed (P : NamedProgram) (row : List Ref) (bound : List ℕ) (flo
   pub here : (b : ℕ) → Contains bound b → b < floor → Contains new b
   pub suffices : Suffice P row floor 0 new visits (λ cells. (b : ℕ) → Contains bound b → b < floor
       → IsWatched P row floor cells (Cell b))
+
+-- ---- Arguments that are free
+
+-- No two of these cells are one.
+abbrev pub AreApart : List ℕ → Type 0
+AreApart [] = Unit {0}
+AreApart (cell ∷ cells) = All (λ (other : ℕ). other ≢ cell) cells × AreApart cells
+
+-- The arguments are these cells, which are free, and no two are one.
+pub record AreFreeArguments (P : NamedProgram) (row : List Ref) (base : ℕ) (arguments cells : List ℕ) : Type 0 where
+  pub parts : map (part_at P base) arguments ≡ map (λ (cell : ℕ). Cell cell) cells
+  pub below : All (λ (cell : ℕ). cell < length row) cells
+  pub free : AreFree row cells
+  pub apart : AreApart cells

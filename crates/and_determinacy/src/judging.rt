@@ -1,7 +1,7 @@
 //! The candidates of goals.
 
 ghost use Rattle.std.specs.Prelude.{◌≡◌, ◌≢◌, ◌≤◌, ◌<◌, ◌++◌, ◌∷◌, [], ℕ, Some, None, Ok, length, slice_get, All, OnOk};
-ghost use Rattle.std.specs.Prelude.{IfOk, IfSome};
+ghost use Rattle.std.specs.Prelude.{true, IfOk, IfSome};
 ghost use Rattle.and_model.specs.Programs.{Of};
 ghost use Rattle.and_model.specs.declared.limits.TheConstants.{MAX_LIMIT};
 ghost use Rattle.and_model.specs.declared.numbers.ClauseNo.{ClauseNo};
@@ -347,8 +347,8 @@ fn narrowed_from(judged: Judged) -> Narrowed
 
 /// Tells whether a goal has no candidate, at most one, or more. A clause is tried only where a look at
 /// the goal leaves two or more, and the last that is left only where another one is a candidate, so that a call that is
-/// left one clause costs no unification. The cells are as before. An error is want of memory. Where it has two,
-/// [`Trials::told`] tells on which cells these rest.
+/// left one clause costs no unification; nor does a call of free cells, each another one, which any head fits. The cells
+/// are as before. An error is want of memory. Where it has two, [`Trials::told`] tells on which cells these rest.
 #[inline(always)]
 pub fn narrow<N: Naming>(
     table: &Determinacy,
@@ -372,6 +372,44 @@ pub fn narrow<N: Naming>(
         return Ok(narrowed_to(clauses));
     }
     narrow_by_prints(table, loaded, cells, goal, node, clauses, trials)
+}
+
+/// Whether a goal is a call whose arguments are free cells, each another one, and the first two clauses that serve it
+/// have no guard: then both are candidates. An error is want of memory.
+#[inline(always)]
+fn fit_at_once<N: Naming>(
+    loaded: &Loaded,
+    cells: &PlainCells<N>,
+    goal: Goal,
+    node: NodeNo,
+    clauses: &[ClauseNo],
+    trials: &mut Trials,
+) -> Result<bool, AllocError>
+    requires program { N.program ≡ named loaded.now }
+    requires settled { IsSettled N.program cells.now }
+    requires node { IsNodeOf N.program cells.now goal node.0 }
+    requires served { AreServed N.program cells.now node.0 goal.base clauses.now }
+    ensures narrowed { result ≡ Ok true → IsNarrowed N.program cells.now goal Narrowed.Several }
+    ensures told { result ≡ Ok true → IfSome trials.new.rests (TwoStayWhile N.program cells.now goal) }
+{
+    loaded.skeleton_is_of_the_program();
+    let _words = cells.len();
+    if clauses.len() < 2 {
+        return Ok(false);
+    }
+    let are_free = trials.rests.tell_free(loaded, cells, node, goal.base)?;
+    if !are_free {
+        return Ok(false);
+    }
+    let first = loaded.guard(clauses[0]);
+    if first > 0 {
+        return Ok(false);
+    }
+    let second = loaded.guard(clauses[1]);
+    if second > 0 {
+        return Ok(false);
+    }
+    Ok(true)
 }
 
 /// What is told of a goal that these clauses alone serve, of which there are no two.
@@ -409,6 +447,10 @@ fn narrow_by_prints<N: Naming>(
     ensures told { result ≡ Ok Narrowed.Several → IfSome trials.new.rests (TwoStayWhile N.program cells.old goal) }
     ensures unchanged { cells.new ≡ cells.old }
 {
+    let are_two = fit_at_once(loaded, cells, goal, node, clauses, trials)?;
+    if are_two {
+        return Ok(Narrowed::Several);
+    }
     trials.look_at_asked(table, loaded, cells, node, goal.base);
     let left = sifted(table, cells, &trials.look, goal, node, clauses);
     match next_left(table, &trials.look, left, 0) {

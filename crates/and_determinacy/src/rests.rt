@@ -1,16 +1,21 @@
 //! The cells on which candidates rest that were tried.
 
-ghost use Rattle.std.specs.Prelude.{◌≡◌, ◌<◌, ◌≤◌, ℕ, [], Some, None, length, All, OnOk, IfSome};
+ghost use Rattle.std.specs.Prelude.{◌≡◌, ◌≢◌, ◌<◌, ◌≤◌, ◌^◌, ℕ, List, [], Some, None, Ok, true, length, All, OnOk, IfSome};
 ghost use Rattle.std.specs.Prelude.{option_copied};
 ghost use Rattle.and_model.specs.Candidates.{guard};
 ghost use Rattle.and_model.specs.Programs.{clause_at};
 ghost use Rattle.and_program.specs.Skeletons.{AllFall};
 ghost use Rattle.and_cells.specs.Parts.{named};
-ghost use Rattle.and_determinacy.specs.Watching.{HaveWhatWasSet, HadBefore, AreListed};
+ghost use Rattle.and_determinacy.specs.Watching.{HaveWhatWasSet, HadBefore, AreListed, AreFreeArguments};
+ghost use Rattle.and_model.specs.declared.reference.Ref.{Ref};
+ghost use Rattle.and_program.specs.Loaded.{arguments_at, skeleton_of};
+ghost use Rattle.and_cells.specs.Ranges.{IsInRange};
+ghost use Rattle.and_cells.specs.Seen.{word_at};
 
 use crate::watching::{MOST_PLACES, follow_cell, gather, list_cell};
 use and_cells::{Naming, PlainCells};
-use and_model::{ClauseNo, Ref};
+use and_clause_index::count_in;
+use and_model::{ClauseNo, NodeNo, Ref};
 use and_program::Loaded;
 use std::alloc::{AllocError, Global};
 use std::marker::Model;
@@ -81,6 +86,27 @@ impl Rests {
         }
     }
 
+    /// Whether the arguments of a call, whose node is given, are free cells in the frame at the base, each another one.
+    /// Then these are told. An error is want of memory.
+    #[inline(always)]
+    pub(crate) fn tell_free<N: Naming>(
+        &mut self,
+        loaded: &Loaded,
+        cells: &PlainCells<N>,
+        node: NodeNo,
+        base: u32,
+    ) -> Result<bool, AllocError>
+        requires program { N.program ≡ named loaded.now }
+        requires falls { AllFall 0 N.program.skeleton.nodes }
+        requires in_range { IsInRange N.program (length cells.now) (Ref.Node node base) }
+        ensures { result ≡ Ok true → (has : List ℕ) × (self.new ≡ Some has)
+            × AreFreeArguments N.program cells.now base (arguments_at N.program.skeleton node.0) has }
+    {
+        self.cells.clear();
+        self.are_told = true;
+        list_free(loaded, cells, node, base, &mut self.cells)
+    }
+
     /// Adds the cells on which a clause rests that was tried and fitted: of those below the floor, where
     /// its frame begins, these that were set for it, and the free ones that what they were set to holds.
     /// An error is want of memory.
@@ -120,6 +146,73 @@ impl Rests {
         self.are_told = gather(loaded, cells, floor, 0, &mut self.visits, &mut self.cells)?;
         Ok(())
     }
+}
+
+/// Whether the arguments of a call, whose node is given, are free cells in the frame at the base, each another one,
+/// which are then on a list that was empty. An error is want of memory.
+#[inline(always)]
+fn list_free<N: Naming>(
+    loaded: &Loaded,
+    cells: &PlainCells<N>,
+    node: NodeNo,
+    base: u32,
+    out: &mut Vec<u32>,
+) -> Result<bool, AllocError>
+    requires program { N.program ≡ named loaded.now }
+    requires falls { AllFall 0 N.program.skeleton.nodes }
+    requires in_range { IsInRange N.program (length cells.now) (Ref.Node node base) }
+    requires there { node.0 < length (skeleton_of loaded.now).nodes }
+    requires base { base < 2 ^ 23 }
+    requires empty { out.old.items ≡ [] }
+    ensures { result ≡ Ok true → AreFreeArguments N.program cells.now base
+        (arguments_at N.program.skeleton node.0) out.new.items }
+{
+    for place in 0..count_in(loaded.kind(node)) {
+        let part = loaded.resolve(loaded.argument(node, place), base);
+        match part {
+            Ref::Cell(cell) => {
+                let is_new = is_another(cells, cell, out);
+                if !is_new {
+                    return Ok(false);
+                }
+                out.push(cell)?;
+            }
+            Ref::Node { node: _, base: _ } => return Ok(false),
+            Ref::Number(_) => return Ok(false),
+            Ref::Free => return Ok(false),
+            Ref::Half(_) => return Ok(false),
+        }
+    }
+    Ok(true)
+}
+
+/// Whether a cell is free and none of these.
+#[inline(always)]
+fn is_another<N: Naming>(cells: &PlainCells<N>, cell: u32, others: &[u32]) -> bool
+    requires { cell < length cells.now }
+    ensures free { result ≡ true → word_at cells.now cell ≡ Ref.Free }
+    ensures another { result ≡ true → All (λ (other : ℕ). other ≢ cell) others.now }
+{
+    match cells.word(cell) {
+        Ref::Free => lacks_cell(others, cell),
+        Ref::Cell(_) => false,
+        Ref::Node { node: _, base: _ } => false,
+        Ref::Number(_) => false,
+        Ref::Half(_) => false,
+    }
+}
+
+/// Whether a cell is none of these.
+#[inline(always)]
+fn lacks_cell(others: &[u32], cell: u32) -> bool
+    ensures { result ≡ true → All (λ (other : ℕ). other ≢ cell) others.now }
+{
+    for other in others {
+        if *other == cell {
+            return false;
+        }
+    }
+    true
 }
 
 /// Puts those of these cells that are below the floor on a list, on which none stands twice, and what else they lead

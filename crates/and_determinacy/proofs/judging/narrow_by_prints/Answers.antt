@@ -1,4 +1,4 @@
-use Rattle.std.proofs.Common.{length, sym, subst}
+use Rattle.std.proofs.Common.{Ok, length, ap, sym, subst}
 use Rattle.std.specs.Prelude.{IfOk, IfSome}
 use Rattle.and_guards.specs.Goals.{IsNodeOf}
 use Rattle.and_clause_index.specs.Served.{NodeHas, AreServed}
@@ -7,6 +7,12 @@ use Rattle.and_determinacy.specs.Searches.{NoneFrom}
 use Rattle.and_determinacy.specs.Watching.{TwoStayWhile}
 use Rattle.and_determinacy.proofs.Searching.{none_seen, served_printed, none_left}
 use Rattle.and_determinacy.proofs.judging.narrow_by_prints.Goals as goal
+
+pub returns-then-are_two-clause-narrowed : goal.returns-then-are_two-clause-narrowed
+returns-then-are_two-clause-narrowed g c = c.in_ok-are_two.ensures.narrowed (ap (λ b. Ok b) c.if-are_two.true)
+
+pub returns-then-are_two-clause-told : goal.returns-then-are_two-clause-told
+returns-then-are_two-clause-told g c = λ is. c.in_ok-are_two.ensures.told (ap (λ b. Ok b) c.if-are_two.true)
 
 pub sifted-left-requires-clause-node : goal.sifted-left-requires-clause-node
 sifted-left-requires-clause-node g c =
