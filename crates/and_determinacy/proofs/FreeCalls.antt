@@ -1,7 +1,7 @@
 -- A call whose arguments are free cells, each another one, can be made one with each head of its predicate.
 use Rattle.std.proofs.Common.{ℕ, ◌+◌, ◌≡◌, ◌≢◌, ◌<◌, ◌≤◌, Bool, true, false, true≢false, cond, ◌&&◌, ltb, leb, nat_eq, List, [], ◌∷◌, ◌++◌, length, map}
 use Rattle.std.proofs.Common.{refl, sym, ap, ◌∙◌, subst, inl, inr, arith, eqb, Some, get_or}
-use Rattle.std.specs.Prelude.{All, Contains, slice_get, pos, Option, IfSome}
+use Rattle.std.specs.Prelude.{All, Contains, pos, Option, IfSome}
 use Rattle.std.proofs.lemmas.Bool.{eq-eqb, eqb-true}
 use Rattle.std.proofs.lemmas.List.Elements.{All-contains, All-weaker, All-head, All-tail, All-nil, All-push}
 use Rattle.std.proofs.lemmas.List.{map-append}
@@ -15,7 +15,7 @@ use Rattle.and_model.specs.Candidates.{Candidate, guard}
 use Rattle.and_model.specs.declared.goal.Goal.{Goal}
 use Rattle.and_model.specs.declared.numbers.ClauseNo.{ClauseNo}
 use Rattle.and_model.specs.declared.reference.Ref.{Ref}
-use Rattle.and_model.specs.declared.reference.Ref.TheVariants.{Free, Cell, Node}
+use Rattle.and_model.specs.declared.reference.Ref.TheVariants.{Free, Cell}
 use Rattle.and_program.specs.Skeletons
 use Rattle.and_program.specs.Skeletons.{Shape, term_list, nth, node_term, shape_term, terms_behind, AllFall}
 use Rattle.and_program.specs.Loaded.{shape_at, arguments_at, program_of}

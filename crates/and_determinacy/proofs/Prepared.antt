@@ -35,19 +35,26 @@ use Rattle.and_unify.specs.declared.settling.Settled.TheVariants.{Solved}
 use Rattle.and_unify.specs.declared.pairs.Pair.{Pair}
 use Rattle.and_clause_index.proofs.ClauseLists.{clause_there}
 use Rattle.and_guards.specs.Guards.{CanBeRead, GuardCanBeRead, IsGuardFalse}
+use Rattle.and_heads.specs.Calls.{call_and_head}
 use Rattle.and_determinacy.specs.Trials.{IsPrepared}
 use Rattle.and_guards.proofs.Widening.{widened_length, free_behind, settled_still}
 use Rattle.and_determinacy.proofs.TakenBack.{only_these}
-use Rattle.and_determinacy.proofs.TriedClauses.{asked_in_range, asked_whole, asked_new, unsolved, solved, refuted}
+use Rattle.and_determinacy.proofs.TriedClauses.{node_wide, head_wide, asked_in_range, asked_whole, asked_new, unsolved, solved, refuted}
 
 module _ (P : NamedProgram) (loaded : IsLoaded P) (row : List Ref) (short : length row ≤ MAX_LIMIT) (n b c : ℕ)
-    (reads : CanBeRead P row b n) (of : Of P.program (node_term P.skeleton.nodes n) c) (wide : List Ref) (pairs : List Pair) (floor : ℕ)
-    (made : IsPrepared P row wide pairs n b c floor) where
+    (reads : CanBeRead P row b n) (of : Of P.program (node_term P.skeleton.nodes n) c) (wide : List Ref) (asked floor : ℕ)
+    (made : IsPrepared P row wide asked c floor) where
   abbrev variables : ℕ
   variables = (clause_at P.program c).variables
 
   abbrev head : ℕ
   head = (nodes_at P.skeleton c).head
+
+  abbrev pairs : List Pair
+  pairs = call_and_head P b n floor asked
+
+  pair_is : pairs ≡ call_and_head P b n floor head
+  pair_is = ap (call_and_head P b n floor) made.head_is
 
   there : c ≤ length P.program.clauses
   there = clause_there P.program (node_term P.skeleton.nodes n) c of
@@ -79,21 +86,31 @@ module _ (P : NamedProgram) (loaded : IsLoaded P) (row : List Ref) (short : leng
       subst (λ (m : ℕ). Q (widened row (1 + variables)) (record { left = part_at P b n; right = part_at P m head } ∷ []) m)
       (sym made.behind) q in
       let two : Q (widened row (1 + variables)) pairs floor =
-      subst (λ (ps : List Pair). Q (widened row (1 + variables)) ps floor) (sym made.asked) one in
+      subst (λ (ps : List Pair). Q (widened row (1 + variables)) ps floor) (sym pair_is) one in
       subst (λ (r : List Ref). Q r pairs floor) (sym made.wide_is) two
 
   abbrev by : ℕ
   by = 1 + variables
 
-  pub made_in_range : AreInRange P (length wide) pairs
+  -- The call and the head are in range,
+  pub made_call : IsNodeInRange P (length wide) n b
+  made_call = as_made (λ r ps m. IsNodeInRange P (length r) n b) (node_wide P loaded.skeleton.0 row by made.sound n b reads head head_in_range)
+
+  pub made_head : IsNodeInRange P (length wide) asked floor
+  made_head =
+      subst (λ (h : ℕ). IsNodeInRange P (length wide) h floor) (sym made.head_is)
+      (as_made (λ r ps m. IsNodeInRange P (length r) head m) (head_wide P loaded.skeleton.0 row by made.sound n b reads head head_in_range))
+
+  -- and the pair is as unification asks.
+  pub made_in_range : AreInRange P (length wide) (call_and_head P b n floor asked)
   made_in_range =
       as_made (λ r ps m. AreInRange P (length r) ps) (asked_in_range P loaded.skeleton.0 row by made.sound n b reads head head_in_range)
 
-  pub made_whole : NameNoHalf P (word_at wide) pairs
+  pub made_whole : NameNoHalf P (word_at wide) (call_and_head P b n floor asked)
   made_whole =
       as_made (λ r ps m. NameNoHalf P (word_at r) ps) (asked_whole P loaded.skeleton.0 row by made.sound n b reads head head_in_range)
 
-  pub made_new : AreNewFrom P wide pairs floor
+  pub made_new : AreNewFrom P wide (call_and_head P b n floor asked) floor
   made_new = as_made (λ r ps m. AreNewFrom P r ps m) (asked_new P loaded.skeleton.0 row by made.sound n b reads head head_in_range)
 
   pub made_settled : IsSettled P row → IsSettled P wide
@@ -150,17 +167,17 @@ module _ (P : NamedProgram) (loaded : IsLoaded P) (row : List Ref) (short : leng
   from_made Q q =
       let one : Q (widened row (1 + variables)) pairs = subst (λ (r : List Ref). Q r pairs) made.wide_is q in
       let two : Q (widened row (1 + variables)) (record { left = part_at P b n; right = part_at P floor head } ∷ []) =
-      subst (λ (ps : List Pair). Q (widened row (1 + variables)) ps) made.asked one in
+      subst (λ (ps : List Pair). Q (widened row (1 + variables)) ps) pair_is one in
       subst (λ (m : ℕ). Q (widened row (1 + variables)) (record { left = part_at P b n; right = part_at P m head } ∷ [])) made.behind two
 
-  pub no_candidate : (Solvable (equations_with P wide pairs) → ⊥)
+  pub no_candidate : (Solvable (equations_with P wide (call_and_head P b n floor asked)) → ⊥)
       → Candidate P.program (equations_of P row) outside (placed b (node_term P.skeleton.nodes n)) c → ⊥
   no_candidate none_is =
       unsolved P loaded.skeleton.0 row by made.sound n b reads head head_in_range c (clause_nodes P loaded c there).head
       (from_made (λ r ps. Solvable (equations_with P r ps) → ⊥) none_is)
 
   -- A clause whose head was made one with the call is a candidate exactly where its guard is not false.
-  pub guard_tells : (new : List Ref) → IsMostGeneral P new (equations_with P wide pairs)
+  pub guard_tells : (new : List Ref) → IsMostGeneral P new (equations_with P wide (call_and_head P b n floor asked))
       → GuardCanBeRead P new floor (nodes_at P.skeleton c).items
       → (false_in : Bool) → (false_in ≡ true) ↔ IsGuardFalse P new floor (nodes_at P.skeleton c).items
       → (not false_in ≡ true) ↔ Candidate P.program (equations_of P row) outside (placed b (node_term P.skeleton.nodes n)) c
@@ -186,7 +203,7 @@ module _ (P : NamedProgram) (loaded : IsLoaded P) (row : List Ref) (short : leng
       not_both false e f = true≢false (sym e)
 
   -- So it is one exactly where nothing was found that refutes it.
-  pub tried : (new : List Ref) → Settles P wide new pairs Solved → (items : List NodeItem) → items ≡ (nodes_at P.skeleton c).items → (found : Bool)
+  pub tried : (new : List Ref) → Settles P wide new (call_and_head P b n floor asked) Solved → (items : List NodeItem) → items ≡ (nodes_at P.skeleton c).items → (found : Bool)
       → (found ≡ true) ↔ IsGuardFalse P new floor items → (answer : Bool) → not found ≡ answer
       → (answer ≡ true) ↔ Candidate P.program (equations_of P row) outside (placed b (node_term P.skeleton.nodes n)) c
   tried new settles items own found told answer same =
@@ -195,7 +212,7 @@ module _ (P : NamedProgram) (loaded : IsLoaded P) (row : List Ref) (short : leng
       (subst (λ (ns : List NodeItem). (found ≡ true) ↔ IsGuardFalse P new floor ns) own told))
 
 -- What was set there is told, and nothing else of the row was.
-pub only_tried : (P : NamedProgram) (row wide new now : List Ref) (pairs : List Pair) (n b c floor : ℕ) (set : List ℕ) → IsPrepared P row wide pairs n b c floor
+pub only_tried : (P : NamedProgram) (row wide new now : List Ref) (asked c floor : ℕ) (set : List ℕ) → IsPrepared P row wide asked c floor
     → HaveBeenSet wide new set → now ≡ new → OnlySet set row now
-only_tried P row wide new now pairs n b c floor set made was same =
+only_tried P row wide new now asked c floor set made was same =
     subst (OnlySet set row) (sym same) (only_these row wide new (1 + (clause_at P.program c).variables) set made.wide_is was)

@@ -34,6 +34,7 @@ use Rattle.and_unify.specs.Setting.{HaveBeenSet}
 use Rattle.and_unify.specs.Settling.{equations_with}
 use Rattle.and_unify.specs.declared.pairs.Pair.{Pair}
 use Rattle.and_guards.specs.Guards.{CanBeRead, IsFalseIn, IsGuardFalse}
+use Rattle.and_heads.specs.Calls.{call_and_head}
 use Rattle.and_determinacy.specs.Trials.{IsPrepared}
 use Rattle.and_determinacy.specs.Watching.{StaysWhile, HaveWhatWasSet}
 use Rattle.and_determinacy.proofs.Fitted.{Tried, both, both_solve, both_ground, both_wait}
@@ -148,14 +149,17 @@ module _ (P : NamedProgram) (row wide new : List Ref) (bound cells : List ℕ) (
 
 -- ---- The law
 
-module _ (P : NamedProgram) (loaded : IsLoaded P) (row wide new : List Ref) (pairs : List Pair) (node base clause floor : ℕ)
-    (bound cells : List ℕ) (made : IsPrepared P row wide pairs node base clause floor) (settled : IsSettled P row)
+module _ (P : NamedProgram) (loaded : IsLoaded P) (row wide new : List Ref) (asked node base clause floor : ℕ)
+    (bound cells : List ℕ) (made : IsPrepared P row wide asked clause floor) (settled : IsSettled P row)
     (reads : CanBeRead P row base node) (of : Of P.program (node_term P.skeleton.nodes node) clause) where
   abbrev by : ℕ
   by = 1 + (clause_at P.program clause).variables
 
   abbrev head : ℕ
   head = (nodes_at P.skeleton clause).head
+
+  abbrev pairs : List Pair
+  pairs = call_and_head P base node floor asked
 
   abbrev term : Term
   term = node_term P.skeleton.nodes node
@@ -176,12 +180,13 @@ module _ (P : NamedProgram) (loaded : IsLoaded P) (row wide new : List Ref) (pai
   made_one : (s : Substitution) → Solves s (equations_of_pairs P (word_at wide) pairs)
       → apply s (placed base term) ≡ apply s (placed (length row) (clause_at P.program clause).head)
   made_one s solves =
-      let asked : Pair = record { left = part_at P base node; right = part_at P floor head } in
+      let pair : Pair = record { left = part_at P base node; right = part_at P floor head } in
       let fall : AllFall 0 P.skeleton.nodes = loaded.skeleton.0 in
-      let one : Solves s (equations_of_pairs P (word_at wide) (asked ∷ [])) =
-      subst (λ (ps : List Pair). Solves s (equations_of_pairs P (word_at wide) ps)) made.asked solves in
-      let between : equations_of_pairs P (word_at wide) (asked ∷ []) ≡ (placed base term, placed floor (node_term P.skeleton.nodes head)) ∷ [] =
-      append-nil (equations_between P (word_at wide) asked.left asked.right)
+      let one : Solves s (equations_of_pairs P (word_at wide) (pair ∷ [])) =
+      subst (λ (ps : List Pair). Solves s (equations_of_pairs P (word_at wide) ps))
+      (ap (call_and_head P base node floor) made.head_is) solves in
+      let between : equations_of_pairs P (word_at wide) (pair ∷ []) ≡ (placed base term, placed floor (node_term P.skeleton.nodes head)) ∷ [] =
+      append-nil (equations_between P (word_at wide) pair.left pair.right)
       ∙ nodes_ask P (word_at wide) base node floor head fall
       (λ v c. ap is_half (made_words (base + 1 + v.1)) ∙ reads.whole v c)
       (λ v c. ap is_half (ap (λ (r : List Ref). word_at r (floor + 1 + v.1)) made.wide_is
@@ -217,24 +222,24 @@ module _ (P : NamedProgram) (loaded : IsLoaded P) (row wide new : List Ref) (pai
       }
 
 -- A clause that fitted, and whose guard is watched, stays a candidate while the cells are free that the trial set, and those that what it set them to holds.
-pub guarded_stays : (P : NamedProgram) → IsLoaded P → (row wide new : List Ref) (pairs : List Pair) (node base clause floor : ℕ)
+pub guarded_stays : (P : NamedProgram) → IsLoaded P → (row wide new : List Ref) (asked node base clause floor : ℕ)
     (bound cells : List ℕ)
-    → IsPrepared P row wide pairs node base clause floor → IsSettled P row → CanBeRead P row base node
+    → IsPrepared P row wide asked clause floor → IsSettled P row → CanBeRead P row base node
     → Of P.program (node_term P.skeleton.nodes node) clause
     → HaveBeenSet wide new bound → ((cell : ℕ) → is_half (word_at new cell) ≡ true → is_half (word_at wide cell) ≡ true)
-    → IsMostGeneral P new (equations_with P wide pairs)
+    → IsMostGeneral P new (equations_with P wide (call_and_head P base node floor asked))
     → (IsGuardFalse P new floor (nodes_at P.skeleton clause).items → ⊥) → IsGuardWatched P new floor cells (nodes_at P.skeleton clause).items
     → HaveWhatWasSet P new floor bound cells
     → StaysWhile P row base (node_term P.skeleton.nodes node) cells clause
-guarded_stays P loaded row wide new pairs node base clause floor bound cells made settled reads of set halves general holds_in watched has
+guarded_stays P loaded row wide new asked node base clause floor bound cells made settled reads of set halves general holds_in watched has
     later grows later_sound later_settled free =
     let term : Term = node_term P.skeleton.nodes node in
     let head : Term = (clause_at P.program clause).head in
-    let es : List Equation = equations_with P wide pairs in
+    let es : List Equation = equations_with P wide (call_and_head P base node floor asked) in
     let items : List NodeItem = (nodes_at P.skeleton clause).items in
     let k = clause_nodes P loaded clause (clause_there P.program term clause of) in
     let tried : Tried P row wide new bound cells es base term head =
-    was_tried P loaded row wide new pairs node base clause floor bound cells made settled reads of set halves general has in (
+    was_tried P loaded row wide new asked node base clause floor bound cells made settled reads of set halves general has in (
       of_applied P.program (cells_from base) term clause of,
       (
         both P row wide new bound cells es base term head tried later grows later_sound later_settled free,
@@ -248,17 +253,17 @@ guarded_stays P loaded row wide new pairs node base clause floor bound cells mad
     )
 
 -- So does one without a guard.
-pub stays : (P : NamedProgram) → IsLoaded P → (row wide new : List Ref) (pairs : List Pair) (node base clause floor : ℕ) (bound cells : List ℕ)
-    → IsPrepared P row wide pairs node base clause floor → IsSettled P row → CanBeRead P row base node
+pub stays : (P : NamedProgram) → IsLoaded P → (row wide new : List Ref) (asked node base clause floor : ℕ) (bound cells : List ℕ)
+    → IsPrepared P row wide asked clause floor → IsSettled P row → CanBeRead P row base node
     → Of P.program (node_term P.skeleton.nodes node) clause
     → HaveBeenSet wide new bound → ((cell : ℕ) → is_half (word_at new cell) ≡ true → is_half (word_at wide cell) ≡ true)
-    → IsMostGeneral P new (equations_with P wide pairs)
+    → IsMostGeneral P new (equations_with P wide (call_and_head P base node floor asked))
     → guard [] (clause_at P.program clause).body ≡ []
     → HaveWhatWasSet P new floor bound cells
     → StaysWhile P row base (node_term P.skeleton.nodes node) cells clause
-stays P loaded row wide new pairs node base clause floor bound cells made settled reads of set halves general empty has =
+stays P loaded row wide new asked node base clause floor bound cells made settled reads of set halves general empty has =
     let items : List NodeItem = (nodes_at P.skeleton clause).items in
     let k = clause_nodes P loaded clause (clause_there P.program (node_term P.skeleton.nodes node) clause of) in
     let of_items : guard [] (map (item_of P.skeleton.nodes) items) ≡ [] = ap (guard []) k.body ∙ empty in
-    guarded_stays P loaded row wide new pairs node base clause floor bound cells made settled reads of set halves general
+    guarded_stays P loaded row wide new asked node base clause floor bound cells made settled reads of set halves general
     (none_false P new floor items of_items) (none_watched P new floor cells items of_items) has

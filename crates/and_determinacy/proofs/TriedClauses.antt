@@ -51,7 +51,7 @@ module _ (P : NamedProgram) (fall : AllFall 0 P.skeleton.nodes) (row : List Ref)
   one_pair : (Q : Pair → Type 0) → Q pair → All Q (pair ∷ [])
   one_pair Q q = All-cons Q pair [] q (All-nil Q)
 
-  node_wide : IsNodeInRange P (length wide) n b
+  pub node_wide : IsNodeInRange P (length (widened row by)) n b
   node_wide =
       let long = widened_length row by in
       let r = reads.in_range in
@@ -63,7 +63,7 @@ module _ (P : NamedProgram) (fall : AllFall 0 P.skeleton.nodes) (row : List Ref)
             (λ v low. omega arith) (variables_of (node_term P.skeleton.nodes n)) r.cells;
       }
 
-  head_wide : IsNodeInRange P (length wide) h floor
+  pub head_wide : IsNodeInRange P (length (widened row by)) h (length row)
   head_wide = subst (λ (words : ℕ). IsNodeInRange P words h floor) (sym (widened_length row by)) head
 
   pub asked_in_range : AreInRange P (length (widened row by)) (pair ∷ [])

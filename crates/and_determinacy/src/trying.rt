@@ -26,7 +26,7 @@ use and_guards::is_guard_false;
 use and_heads::HeadSolver;
 use and_model::{ClauseNo, NodeNo};
 use and_program::Loaded;
-use and_unify::{PairList, Settled};
+use and_unify::Settled;
 use std::alloc::{AllocError, Global};
 
 /// What trials of clauses work with, kept by their caller and used again.
@@ -173,7 +173,6 @@ impl Trials {
 /// What clauses are tried with.
 struct Tools {
     solver: HeadSolver,
-    pairs: PairList,
     values: WorkList,
 }
 
@@ -182,7 +181,6 @@ impl Drop for Tools {
     fn drop(self) {
         let Tools {
             solver: _,
-            pairs: _,
             values: _,
         } = self;
     }
@@ -193,7 +191,6 @@ impl Tools {
     fn new(alloc: Global) -> Tools {
         Tools {
             solver: HeadSolver::new(alloc),
-            pairs: PairList::new(alloc),
             values: WorkList::new(alloc),
         }
     }
@@ -257,10 +254,10 @@ impl Tools {
         ensures same { result ≡ Ok false → rests.new ≡ rests.old }
     {
         loaded.skeleton_is_of_the_program();
-        let floor = self.prepare(loaded, cells, node, base, clause)?;
+        let (floor, head) = prepare(loaded, cells, clause)?;
         match self
             .solver
-            .settle_further(loaded, cells, floor, &mut self.pairs)
+            .settle_call(loaded, cells, floor, node, base, head)
         {
             Settled::Solved => {
                 let items = loaded.items(clause);
@@ -275,34 +272,25 @@ impl Tools {
             Settled::Memory => Err(AllocError),
         }
     }
+}
 
-    /// Puts a frame for the clause behind the cells, and asks that the clause's head be made one there
-    /// with the call. It answers where the frame begins. An error is want of memory, and the cells are then as
-    /// before.
-    fn prepare<N: Naming>(
-        &mut self,
-        loaded: &Loaded,
-        cells: &mut PlainCells<N>,
-        node: NodeNo,
-        base: u32,
-        clause: ClauseNo,
-    ) -> Result<u32, AllocError>
-        requires program { N.program ≡ named loaded.now }
-        requires short { length cells.old ≤ MAX_LIMIT }
-        requires node { IsNodeInRange N.program (length cells.old) node.0 base }
-        requires clause { clause.0 ≤ length N.program.program.clauses }
-        ensures prepared { IfOk result (IsPrepared N.program cells.old cells.new self.new.pairs node.0 base clause.0) }
-        ensures unchanged { OnErr result (cells.new ≡ cells.old) }
-        ensures same { self.new.solver ≡ self.old.solver }
-    {
-        let floor = cells.len();
-        let call = loaded.resolve(node, base);
-        let variables = u32::from(loaded.variables(clause));
-        let head = loaded.resolve(loaded.head(clause), floor);
-        self.pairs.clear();
-        self.pairs.push(call, head)?;
-        cells.extend(1 + variables)?;
-        let _words = cells.len();
-        Ok(floor)
-    }
+/// Puts a frame for the clause behind the cells. It answers where the frame begins, and the node of the clause's head,
+/// which is to be made one there with the call. An error is want of memory, and the cells are then as before.
+fn prepare<N: Naming>(
+    loaded: &Loaded,
+    cells: &mut PlainCells<N>,
+    clause: ClauseNo,
+) -> Result<(u32, NodeNo), AllocError>
+    requires program { N.program ≡ named loaded.now }
+    requires short { length cells.old ≤ MAX_LIMIT }
+    requires clause { clause.0 ≤ length N.program.program.clauses }
+    ensures prepared { IfOk result (λ made. IsPrepared N.program cells.old cells.new made.1.0 clause.0 made.0) }
+    ensures unchanged { OnErr result (cells.new ≡ cells.old) }
+{
+    let floor = cells.len();
+    let variables = u32::from(loaded.variables(clause));
+    let head = loaded.head(clause);
+    cells.extend(1 + variables)?;
+    let _words = cells.len();
+    Ok((floor, head))
 }

@@ -1,6 +1,7 @@
 mod Becoming
 mod Beginning
 mod Begins
+pub mod Calls
 mod Comparing
 mod Filling
 mod Looking

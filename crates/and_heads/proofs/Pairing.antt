@@ -1,6 +1,5 @@
 -- Pairs of a list that are met one after the other.
-use Rattle.std.proofs.Common.{ℕ, suc, ◌+◌, ◌≡◌, ◌≤◌, List, [], ◌∷◌, ◌++◌, length, drop, slice_get, Some, None, refl, sym, ap, subst, ◌∙◌, append-nil, arith}
-use Rattle.std.specs.Prelude.{Option, IfSome}
+use Rattle.std.proofs.Common.{ℕ, suc, ◌+◌, ◌≡◌, ◌≤◌, List, [], ◌∷◌, ◌++◌, length, drop, slice_get, Some, sym, ap, subst, ◌∙◌, append-nil, arith}
 use Rattle.std.proofs.Math.Seq.{drop-cons}
 use Rattle.std.proofs.lemmas.List.{drop_all}
 use Rattle.std.proofs.lemmas.Option.{get_or_from_slice_get, slice_get_within}
@@ -9,11 +8,10 @@ use Rattle.and_cells.specs.Ranges.{NamedProgram}
 use Rattle.and_cells.specs.Seen.{Seen}
 use Rattle.and_unify.specs.declared.pairs.Pair.{Pair}
 use Rattle.and_unify.specs.Pairs.{AreInRange, AreWritten}
-use Rattle.and_unify.proofs.TurnPlaces.{IsFit}
 use Rattle.and_unify.specs.Running.{Runs, start}
 use Rattle.and_unify.proofs.DescentRuns.{PairTurn, asked_turn}
 use Rattle.and_heads.specs.declared.parts.Part.{Part}
-use Rattle.and_heads.specs.Parts.{HasShape, both_of, arguments_of_parts}
+use Rattle.and_heads.specs.Parts.{arguments_of_parts}
 
 module _ (P : NamedProgram) (old s : Seen) (asked : List Pair) (began bound : List ℕ) where
   -- Nothing was met yet.
@@ -38,23 +36,3 @@ module _ (P : NamedProgram) (old s : Seen) (asked : List Pair) (began bound : Li
         ∙ ap (λ (p : Pair). p ∷ drop (suc k) asked) (get_or_from_slice_get asked k pair pair at)
         ∙ ap (λ (n : ℕ). pair ∷ drop n asked) next)
         runs)
-
--- The first of the pairs that are asked for fits.
-pub first_fits : (P : NamedProgram) (s : Seen) (asked : List Pair) (pair : Pair) → slice_get asked 0 ≡ Some pair → AllFall 0 P.skeleton.nodes
-    → AreInRange P s.words asked → AreWritten s asked → IsFit P s.words s pair
-first_fits P s asked pair at fall range written =
-    let t = pair_turn P s s asked [] [] [] pair 0 at (none_met P s s asked [] [] [] refl) fall range written in t.fit
-
--- A list of one pair is that pair.
-pub only_one : (asked : List Pair) (pair : Pair) → length asked ≡ 1 → slice_get asked 0 ≡ Some pair → asked ≡ pair ∷ []
-only_one [] pair one at = absurd (omega (arith, one))
-only_one (p ∷ []) pair one at = let same : p ≡ pair = cc in ap (λ (q : Pair). q ∷ []) same
-only_one (p ∷ (q ∷ rest)) pair one at = absurd (omega (arith, one))
-
--- So a part of the one pair is all that is asked for.
-pub one_whole : (P : NamedProgram) (words : ℕ) (asked : List Pair) (pair : Pair) (found : Option Part) → length asked ≡ 1 → slice_get asked 0 ≡ Some pair
-    → IfSome found (λ whole. (both_of whole ≡ pair) × HasShape P words whole)
-    → IfSome found (λ part. (asked ≡ both_of part ∷ []) × HasShape P words part)
-one_whole P words asked pair None one at whole = tt
-one_whole P words asked pair (Some part) one at whole =
-    (only_one asked pair one at ∙ ap (λ (q : Pair). q ∷ []) (sym whole.0), whole.1)

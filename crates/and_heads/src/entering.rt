@@ -2,13 +2,15 @@
 
 ghost use Rattle.std.specs.Prelude.{◌≡◌, ◌≢◌, ◌<◌, ◌≤◌, [], ◌∷◌, ◌++◌, ℕ, List, length, All, IfSome};
 ghost use Rattle.and_model.specs.declared.reference.Ref.{Ref};
+ghost use Rattle.and_program.specs.Loaded.{skeleton_of};
 ghost use Rattle.and_program.specs.Skeletons.{AllFall};
-ghost use Rattle.and_cells.specs.Ranges.{IsInRange, IsInRangeOrHalf};
+ghost use Rattle.and_cells.specs.Ranges.{IsInRange, IsInRangeOrHalf, IsNodeInRange};
 ghost use Rattle.and_cells.specs.Rows.{plain, IsBelow};
 ghost use Rattle.and_cells.specs.Seen.{IsWrittenIfNumber, OnlyReads, Sets, word_at};
 ghost use Rattle.and_cells.specs.Parts.{named};
 ghost use Rattle.and_unify.specs.Pairs.{AreInRange, AreWritten};
 ghost use Rattle.and_unify.specs.Running.{arguments_of_both};
+ghost use Rattle.and_heads.specs.Calls.{call_and_head, IsCallPart};
 ghost use Rattle.and_heads.specs.Entering.{Meets, ComesToParts, Begins};
 ghost use Rattle.and_heads.specs.Owing.{AreOwed};
 ghost use Rattle.and_heads.specs.declared.owing.Owed.{Owed};
@@ -18,8 +20,8 @@ use crate::arguments::enter_argument;
 use crate::owing::{Owed, owe};
 use crate::parts::{Part, arguments_of_both, end_of, head_at};
 use and_cells::{Naming, PlainCells};
-use and_model::Ref;
-use and_program::Loaded;
+use and_model::{NodeNo, Ref};
+use and_program::{Loaded, NodeKind};
 use and_unify::cases::{Case, case_of};
 use and_unify::noting::make_room;
 use and_unify::structures::Structure;
@@ -68,37 +70,68 @@ pub(crate) fn enter<N: Naming>(
         → AreOwed N.program floor cells.new bound.new.items owed.new }
 {
     parts.clear();
-    match alone(loaded, cells, pairs) {
-        Some(part) => enter_parts(loaded, cells, part, floor, bound, owed, parts),
-        None => enter_several(loaded, cells, pairs, floor, bound, owed, parts),
+    match begin(loaded, cells, pairs, floor, bound, owed, parts) {
+        Begun::At(part) => enter_parts(loaded, cells, part, floor, bound, owed, parts),
+        Begun::Ended(entered) => entered,
     }
 }
 
-/// The same, where it is not one pair of structures. That is seldom, so it is a call of its own.
-#[cold]
-#[inline(never)]
-fn enter_several<N: Naming>(
+/// The same of a node in the frame at a base and one in the frame at the floor, where they are structures of one name
+/// and number of arguments. Others are given up.
+#[inline(always)]
+pub(crate) fn enter_call<N: Naming>(
     loaded: &Loaded,
     cells: &mut PlainCells<N>,
-    pairs: &PairList,
     floor: u32,
+    call: NodeNo,
+    base: u32,
+    head: NodeNo,
     bound: &mut Vec<u32>,
     owed: &mut Owed,
     parts: &mut Vec<Part>,
 ) -> Entered
     requires program { N.program ≡ named loaded.now }
     requires falls { AllFall 0 N.program.skeleton.nodes }
-    requires in_range { AreInRange N.program (length cells.old) pairs.now }
-    requires written { AreWritten (plain cells.old) pairs.now }
-    requires none { parts.old.items ≡ [] }
-    ensures comes { ComesToParts N.program (plain cells.old) (plain cells.new) pairs.now [] bound.old.items
-        bound.new.items result }
+    requires call { IsNodeInRange N.program (length cells.old) call.0 base }
+    requires head { IsNodeInRange N.program (length cells.old) head.0 floor }
+    ensures comes { ComesToParts N.program (plain cells.old) (plain cells.new)
+        (call_and_head N.program base call.0 floor head.0) [] bound.old.items bound.new.items result }
     ensures owed { AreOwed N.program floor cells.old bound.old.items owed.old
         → AreOwed N.program floor cells.new bound.new.items owed.new }
 {
-    match begin(loaded, cells, pairs, floor, bound, owed, parts) {
-        Begun::At(part) => enter_parts(loaded, cells, part, floor, bound, owed, parts),
-        Begun::Ended(entered) => entered,
+    parts.clear();
+    match part_of(loaded, floor, call, base, head) {
+        Some(part) => enter_parts(loaded, cells, part, floor, bound, owed, parts),
+        None => Entered::GivenUp,
+    }
+}
+
+/// A node in the frame at a base and one in the frame at the floor as a part, where they are structures of one name and
+/// number of arguments.
+#[inline(always)]
+fn part_of(loaded: &Loaded, floor: u32, call: NodeNo, base: u32, head: NodeNo) -> Option<Part>
+    requires call { call.0 < length (skeleton_of loaded.now).nodes }
+    requires head { head.0 < length (skeleton_of loaded.now).nodes }
+    ensures { IfSome result (IsCallPart (named loaded.now) base call.0 floor head.0) }
+{
+    match loaded.kind(call) {
+        NodeKind::Compound { name, count } => match loaded.kind(head) {
+            NodeKind::Compound {
+                name: called,
+                count: many,
+            } if called.0 == name.0 && many == count => Some(Part {
+                left: Structure { node: call, base },
+                right: Structure {
+                    node: head,
+                    base: floor,
+                },
+            }),
+            NodeKind::Compound { .. } => None,
+            NodeKind::Number(_) => None,
+            NodeKind::Variable(_) => None,
+        },
+        NodeKind::Number(_) => None,
+        NodeKind::Variable(_) => None,
     }
 }
 
@@ -128,22 +161,6 @@ fn begin<N: Naming>(
         Entered::Apart => Begun::Ended(Entered::Apart),
         Entered::GivenUp => Begun::Ended(Entered::GivenUp),
     }
-}
-
-/// The one pair of a list as a part, where it is two structures of one name and number of arguments.
-#[inline(always)]
-fn alone<N: Naming>(loaded: &Loaded, cells: &PlainCells<N>, pairs: &PairList) -> Option<Part>
-    requires program { N.program ≡ named loaded.now }
-    requires falls { AllFall 0 N.program.skeleton.nodes }
-    requires in_range { AreInRange N.program (length cells.now) pairs.now }
-    requires written { AreWritten (plain cells.now) pairs.now }
-    ensures { IfSome result (λ part. (pairs.now ≡ both_of part ∷ []) × HasShape N.program (length cells.now) part) }
-{
-    if pairs.len() != 1 {
-        return None;
-    }
-    let pair = *pairs.at(0);
-    whole_of(loaded, cells, pair.left, pair.right)
 }
 
 /// Takes the last part from the list.

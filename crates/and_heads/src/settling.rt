@@ -3,7 +3,7 @@
 ghost use Rattle.std.specs.Prelude.{◌≡◌, ◌≢◌, [], true, length, IfSome};
 ghost use Rattle.and_model.specs.declared.reference.Ref.{Ref};
 ghost use Rattle.and_program.specs.Skeletons.{AllFall};
-ghost use Rattle.and_cells.specs.Ranges.{IsInRange};
+ghost use Rattle.and_cells.specs.Ranges.{IsInRange, IsNodeInRange};
 ghost use Rattle.and_cells.specs.Rows.{plain, IsSound};
 ghost use Rattle.and_cells.specs.Seen.{word_at, IsWrittenIfNumber};
 ghost use Rattle.and_cells.specs.Meaning.{IsSettled};
@@ -12,13 +12,14 @@ ghost use Rattle.and_unify.specs.Pairs.{AreInRange, AreWritten, NameNoHalf};
 ghost use Rattle.and_unify.specs.Setting.{HaveBeenSet};
 ghost use Rattle.and_unify.specs.Settling.{AreNewFrom, Settles};
 ghost use Rattle.and_unify.specs.declared.settling.Settled.{Settled};
+ghost use Rattle.and_heads.specs.Calls.{call_and_head};
 
 use crate::ending::owed_end;
-use crate::entering::{Entered, enter};
+use crate::entering::{Entered, enter, enter_call};
 use crate::owing::Owed;
 use crate::parts::Part;
 use and_cells::{Naming, PlainCells};
-use and_model::Ref;
+use and_model::{NodeNo, Ref};
 use and_program::Loaded;
 use and_unify::{PairList, Settled, Solver};
 use std::alloc::Global;
@@ -37,6 +38,8 @@ pub struct HeadSolver {
     visits: Vec<Ref>,
     /// Places that were followed.
     met: Vec<Ref>,
+    /// The pair of a call and a head for the solver.
+    pair: PairList,
 }
 
 // By hand, so that it is proved once, here.
@@ -49,6 +52,7 @@ impl Drop for HeadSolver {
             parts: _,
             visits: _,
             met: _,
+            pair: _,
         } = self;
     }
 }
@@ -73,6 +77,7 @@ impl HeadSolver {
             parts: Vec::new(alloc),
             visits: Vec::new(alloc),
             met: Vec::new(alloc),
+            pair: PairList::new(alloc),
         }
     }
 
@@ -140,6 +145,94 @@ impl HeadSolver {
         self.is_solved = true;
         settle_by_solver(&mut self.solver, loaded, cells, floor, pairs)
     }
+
+    /// The same of one pair, as most have it: a node in the frame at the base, as a call is one, and a node in the frame
+    /// at the floor, as the head of a clause is one. Only where the solver is needed a list is made of it.
+    pub fn settle_call<N: Naming>(
+        &mut self,
+        loaded: &Loaded,
+        cells: &mut PlainCells<N>,
+        floor: u32,
+        call: NodeNo,
+        base: u32,
+        head: NodeNo,
+    ) -> Settled
+        requires program { N.program ≡ named loaded.now }
+        requires call { IsNodeInRange N.program (length cells.old) call.0 base }
+        requires head { IsNodeInRange N.program (length cells.old) head.0 floor }
+        requires in_range { AreInRange N.program (length cells.old)
+            (call_and_head N.program base call.0 floor head.0) }
+        requires written { AreWritten (plain cells.old) (call_and_head N.program base call.0 floor head.0) }
+        requires settled { IsSettled N.program cells.old }
+        requires no_half { NameNoHalf N.program (word_at cells.old)
+            (call_and_head N.program base call.0 floor head.0) }
+        requires new { AreNewFrom N.program cells.old (call_and_head N.program base call.0 floor head.0) floor }
+        ensures settles { Settles N.program cells.old cells.new
+            (call_and_head N.program base call.0 floor head.0) result }
+        ensures bound { HaveBeenSet cells.old cells.new self.new }
+    {
+        let _before = cells.len();
+        self.bound.clear();
+        self.is_solved = false;
+        match settle_call_directly(
+            loaded,
+            cells,
+            floor,
+            call,
+            base,
+            head,
+            &mut self.bound,
+            &mut self.parts,
+            &mut self.visits,
+            &mut self.met,
+        ) {
+            Entered::Done => return Settled::Solved,
+            Entered::Apart => return Settled::NoSolution,
+            Entered::GivenUp => {}
+        }
+        let words = cells.len();
+        cells.take_back(&self.bound, words);
+        self.settle_call_by_solver(loaded, cells, floor, call, base, head)
+    }
+
+    /// The same by the solver, as is seldom needed.
+    #[cold]
+    #[inline(never)]
+    fn settle_call_by_solver<N: Naming>(
+        &mut self,
+        loaded: &Loaded,
+        cells: &mut PlainCells<N>,
+        floor: u32,
+        call: NodeNo,
+        base: u32,
+        head: NodeNo,
+    ) -> Settled
+        requires program { N.program ≡ named loaded.now }
+        requires call { IsNodeInRange N.program (length cells.old) call.0 base }
+        requires head { IsNodeInRange N.program (length cells.old) head.0 floor }
+        requires in_range { AreInRange N.program (length cells.old)
+            (call_and_head N.program base call.0 floor head.0) }
+        requires written { AreWritten (plain cells.old) (call_and_head N.program base call.0 floor head.0) }
+        requires settled { IsSettled N.program cells.old }
+        requires no_half { NameNoHalf N.program (word_at cells.old)
+            (call_and_head N.program base call.0 floor head.0) }
+        requires new { AreNewFrom N.program cells.old (call_and_head N.program base call.0 floor head.0) floor }
+        ensures settles { Settles N.program cells.old cells.new
+            (call_and_head N.program base call.0 floor head.0) result }
+        ensures bound { HaveBeenSet cells.old cells.new self.new }
+    {
+        let left = loaded.resolve(call, base);
+        let right = loaded.resolve(head, floor);
+        self.forget();
+        self.pair.clear();
+        match self.pair.push(left, right) {
+            Ok(()) => {
+                self.is_solved = true;
+                settle_by_solver(&mut self.solver, loaded, cells, floor, &mut self.pair)
+            }
+            Err(_) => Settled::Memory,
+        }
+    }
 }
 
 /// The same by the solver, as is seldom needed: a call of its own, so that none of its code stands among what is done
@@ -191,6 +284,45 @@ fn settle_directly<N: Naming>(
     laws_of_rows(loaded, cells);
     let mut owed = Owed::Nothing;
     match enter(loaded, cells, pairs, floor, bound, &mut owed, parts) {
+        Entered::Done => ended(owed_end(loaded, cells, floor, owed, bound, visits, met)),
+        Entered::Apart => Entered::Apart,
+        Entered::GivenUp => Entered::GivenUp,
+    }
+}
+
+/// The same of a call and a head, which are nodes in the frames at the base and at the floor.
+fn settle_call_directly<N: Naming>(
+    loaded: &Loaded,
+    cells: &mut PlainCells<N>,
+    floor: u32,
+    call: NodeNo,
+    base: u32,
+    head: NodeNo,
+    bound: &mut Vec<u32>,
+    parts: &mut Vec<Part>,
+    visits: &mut Vec<Ref>,
+    met: &mut Vec<Ref>,
+) -> Entered
+    requires program { N.program ≡ named loaded.now }
+    requires call { IsNodeInRange N.program (length cells.old) call.0 base }
+    requires head { IsNodeInRange N.program (length cells.old) head.0 floor }
+    requires in_range { AreInRange N.program (length cells.old) (call_and_head N.program base call.0 floor head.0) }
+    requires written { AreWritten (plain cells.old) (call_and_head N.program base call.0 floor head.0) }
+    requires settled { IsSettled N.program cells.old }
+    requires no_half { NameNoHalf N.program (word_at cells.old) (call_and_head N.program base call.0 floor head.0) }
+    requires new { AreNewFrom N.program cells.old (call_and_head N.program base call.0 floor head.0) floor }
+    requires empty { bound.old.items ≡ [] }
+    ensures done { result ≡ Entered.Done → Settles N.program cells.old cells.new
+        (call_and_head N.program base call.0 floor head.0) Settled.Solved }
+    ensures apart { result ≡ Entered.Apart → Settles N.program cells.old cells.new
+        (call_and_head N.program base call.0 floor head.0) Settled.NoSolution }
+    ensures bound { HaveBeenSet cells.old cells.new bound.new.items }
+{
+    laws_of_rows(loaded, cells);
+    let mut owed = Owed::Nothing;
+    match enter_call(
+        loaded, cells, floor, call, base, head, bound, &mut owed, parts,
+    ) {
         Entered::Done => ended(owed_end(loaded, cells, floor, owed, bound, visits, met)),
         Entered::Apart => Entered::Apart,
         Entered::GivenUp => Entered::GivenUp,

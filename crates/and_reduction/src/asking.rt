@@ -7,23 +7,25 @@ ghost use Rattle.and_model.specs.Stands.{term_of};
 ghost use Rattle.and_program.specs.Items.{node_item};
 ghost use Rattle.and_program.specs.Loaded.{nodes_at, program_of, skeleton_of};
 ghost use Rattle.and_program.specs.Skeletons.{call, equal, item_of};
+ghost use Rattle.and_cells.specs.Ranges.{IsNodeInRange};
 ghost use Rattle.and_cells.specs.Parts.{named};
 ghost use Rattle.and_cells.specs.Seen.{word_at};
 ghost use Rattle.and_unify.specs.Pairs.{equations_of_pairs};
 ghost use Rattle.and_branch_laws.specs.Reducing.{body_equations};
 ghost use Rattle.and_branch_laws.specs.Variables.{placed};
 ghost use Rattle.and_step_laws.specs.Asking.{AreReady, Ask, CanBeAsked};
-ghost use Rattle.and_step_laws.specs.Frames.{IsCallBelow, IsFrame};
-ghost use Rattle.and_reduction.specs.Items.{AreItemsOf, IsHeadOf};
+ghost use Rattle.and_step_laws.specs.Frames.{IsFrame};
+ghost use Rattle.and_heads.specs.Calls.{call_and_head};
+ghost use Rattle.and_reduction.specs.Items.{AreItemsOf, AsksNothing};
 
 use and_cells::{Naming, PlainCells};
-use and_model::{ClauseNo, Goal, NodeNo};
+use and_model::{ClauseNo, NodeNo};
 use and_program::{ItemNode, Loaded};
 use and_unify::PairList;
 use std::alloc::AllocError;
 
 /// The node of a call, by its place in the body of a clause.
-fn call_at(loaded: &Loaded, clause: ClauseNo, item: u32) -> NodeNo
+pub(crate) fn call_at(loaded: &Loaded, clause: ClauseNo, item: u32) -> NodeNo
     requires clause { clause.0 ≤ length (program_of loaded.now).clauses }
     requires call { (node : ℕ)
         × (slice_get (nodes_at (skeleton_of loaded.now) clause.0).items item ≡ Some (call node)) }
@@ -46,40 +48,66 @@ fn call_at(loaded: &Loaded, clause: ClauseNo, item: u32) -> NodeNo
     }
 }
 
-/// Asks that the call be made one with the head of the clause, which is this node, in its frame, and nothing else. An
-/// error is want of memory.
-#[inline(always)]
+/// Asks that a node in the frame at the base, which is a call, be made one with a node in the frame at the floor, and
+/// nothing else. An error is want of memory.
 pub(crate) fn ask_call<N: Naming>(
     loaded: &Loaded,
     cells: &PlainCells<N>,
-    goal: Goal,
-    _clause: ClauseNo,
-    head: NodeNo,
     floor: u32,
+    call: NodeNo,
+    base: u32,
+    head: NodeNo,
     pairs: &mut PairList,
 ) -> Result<(), AllocError>
     requires program { N.program ≡ named loaded.now }
-    requires clause { _clause.0 ≤ length N.program.program.clauses }
-    requires head { IsHeadOf N.program _clause.0 head.0 }
-    requires frame { IsFrame N.program cells.now _clause.0 floor }
-    requires call { IsCallBelow N.program cells.now floor goal }
-    ensures { OnOk result (Ask N.program cells.now floor pairs.new
-        ((
-          placed goal.base (term_of N.program.program goal),
-          placed floor (clause_at N.program.program _clause.0).head,
-        ) ∷ [])) }
+    requires call { IsNodeInRange N.program (length cells.now) call.0 base }
+    requires head { IsNodeInRange N.program (length cells.now) head.0 floor }
+    ensures { OnOk result (pairs.new ≡ call_and_head N.program base call.0 floor head.0) }
 {
-    loaded.skeleton_is_of_the_program();
-    let call = loaded.resolve(call_at(loaded, goal.clause, goal.item), goal.base);
+    let call = loaded.resolve(call, base);
     let head = loaded.resolve(head, floor);
     pairs.clear();
     pairs.push(call, head)?;
     Ok(())
 }
 
+/// Whether none of the items of a body asks for anything: none is `=` or `fail`.
+#[inline(always)]
+pub(crate) fn ask_nothing(items: &[ItemNode]) -> bool
+    ensures { result ≡ true → AsksNothing items.now }
+{
+    for item in items {
+        if asks(item) {
+            return false;
+        }
+    }
+    true
+}
+
+/// Whether an item asks for something: it is `=` or `fail`.
+#[inline(always)]
+fn asks(item: &ItemNode) -> bool
+    ensures { result ≡ false → AsksNothing (item.now ∷ []) }
+{
+    match item {
+        ItemNode::Call { goal: _ } => false,
+        ItemNode::Is {
+            left: _,
+            right: _,
+            pair: _,
+        } => false,
+        ItemNode::Compare {
+            relation: _,
+            left: _,
+            right: _,
+        } => false,
+        ItemNode::Equal { left: _, right: _ } => true,
+        ItemNode::Fail => true,
+    }
+}
+
 /// Asks for what the `=` items of the clause's body, which has these items, say in its frame, and answers whether no
 /// item is `fail`. An error is want of memory.
-#[inline(always)]
 pub(crate) fn ask_items<N: Naming>(
     loaded: &Loaded,
     cells: &PlainCells<N>,

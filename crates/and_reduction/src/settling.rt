@@ -5,12 +5,13 @@ ghost use Rattle.and_model.specs.declared.reference.Ref.{Ref};
 ghost use Rattle.and_cells.specs.Meaning.{IsSettled};
 ghost use Rattle.and_cells.specs.Parts.{named, part_at};
 ghost use Rattle.and_branch_laws.specs.Goals.{CanBeRead};
-ghost use Rattle.and_cells.specs.Ranges.{IsInRange, IsInRangeOrHalf, IsPairInRange};
+ghost use Rattle.and_cells.specs.Ranges.{IsInRange, IsInRangeOrHalf, IsNodeInRange, IsPairInRange};
 ghost use Rattle.and_cells.specs.Rows.{plain, IsSound};
 ghost use Rattle.and_cells.specs.Seen.{word_at, IsWrittenIfNumber, LeadsTo};
 ghost use Rattle.and_unify.specs.Pairs.{AreInRange, AreWritten, NameNoHalf};
 ghost use Rattle.and_unify.specs.Settling.{AreNewFrom, Settles};
 ghost use Rattle.and_unify.specs.declared.settling.Settled.TheVariants.{Memory, NoSolution};
+ghost use Rattle.and_heads.specs.Calls.{call_and_head};
 ghost use Rattle.and_reduction.specs.Trails.{AreNoted, KeepsNoted};
 ghost use Rattle.and_reduction.specs.Asked.{the_pair};
 
@@ -43,6 +44,39 @@ pub(crate) fn settle_noted<N: Naming>(
     let answer = tools
         .solver
         .settle_further(loaded, cells, floor, &mut tools.pairs);
+    match trail.note(tools.solver.bound()) {
+        Ok(()) => answer,
+        Err(_) => Answer::Memory,
+    }
+}
+
+/// The same of the one pair of a call and a head, which are nodes in the frames at the base and at the floor.
+#[inline(always)]
+pub(crate) fn settle_call_noted<N: Naming>(
+    loaded: &Loaded,
+    cells: &mut PlainCells<N>,
+    floor: u32,
+    call: NodeNo,
+    base: u32,
+    head: NodeNo,
+    trail: &mut Trail,
+    tools: &mut Tools,
+) -> Answer
+    requires program { N.program ≡ named loaded.now }
+    requires call { IsNodeInRange N.program (length cells.old) call.0 base }
+    requires head { IsNodeInRange N.program (length cells.old) head.0 floor }
+    requires in_range { AreInRange N.program (length cells.old) (call_and_head N.program base call.0 floor head.0) }
+    requires written { AreWritten (plain cells.old) (call_and_head N.program base call.0 floor head.0) }
+    requires settled { IsSettled N.program cells.old }
+    requires no_half { NameNoHalf N.program (word_at cells.old) (call_and_head N.program base call.0 floor head.0) }
+    requires new { AreNewFrom N.program cells.old (call_and_head N.program base call.0 floor head.0) floor }
+    ensures settles { Settles N.program cells.old cells.new
+        (call_and_head N.program base call.0 floor head.0) result }
+    ensures noted { result ≢ Memory → KeepsNoted trail.old trail.new cells.old cells.new }
+{
+    let answer = tools
+        .solver
+        .settle_call(loaded, cells, floor, call, base, head);
     match trail.note(tools.solver.bound()) {
         Ok(()) => answer,
         Err(_) => Answer::Memory,

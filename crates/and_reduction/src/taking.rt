@@ -1,15 +1,18 @@
 //! Clauses that are entered: the query, and a clause that takes a call.
 
-ghost use Rattle.std.specs.Prelude.{◌≡◌, ◌≤◌, ◌+◌, ◌++◌, [], length, replicate, Ok, IfOk, OnOk};
+ghost use Rattle.std.specs.Prelude.{◌≡◌, ◌≢◌, ◌≤◌, ◌+◌, ◌++◌, [], length, replicate, Ok, IfOk, OnOk};
 ghost use Rattle.and_model.specs.Programs.{clause_at, clause_weight};
 ghost use Rattle.and_model.specs.Solutions.{Solvable};
 ghost use Rattle.and_model.specs.declared.limits.TheConstants.{MAX_LIMIT};
 ghost use Rattle.and_model.specs.declared.reference.Ref.{Ref};
 ghost use Rattle.and_cells.specs.Meaning.{IsSettled, equations_of};
 ghost use Rattle.and_cells.specs.Parts.{named};
+ghost use Rattle.and_cells.specs.Ranges.{IsNodeInRange};
 ghost use Rattle.and_cells.specs.Rows.{IsSound};
 ghost use Rattle.and_cells.specs.Seen.{word_at};
 ghost use Rattle.and_unify.specs.Pairs.{equations_of_pairs};
+ghost use Rattle.and_unify.specs.declared.settling.Settled.TheVariants.{Memory, NoSolution, Solved};
+ghost use Rattle.and_heads.specs.Calls.{call_and_head};
 ghost use Rattle.and_branch_laws.specs.Reducing.{body_equations, reduction_in_cells};
 ghost use Rattle.and_branch_laws.specs.Settling.{Settled, widened};
 ghost use Rattle.and_branch_laws.specs.Variables.{placed};
@@ -19,8 +22,8 @@ ghost use Rattle.and_step_laws.specs.Frames.{IsFrame};
 ghost use Rattle.and_reduction.specs.Items.{AreItemsOf, IsHeadOf};
 ghost use Rattle.and_reduction.specs.Trails.{KeepsNoted};
 
-use crate::asking::{ask_call, ask_items};
-use crate::settling::settle_noted;
+use crate::asking::{ask_call, ask_items, ask_nothing, call_at};
+use crate::settling::{settle_call_noted, settle_noted};
 use crate::trail::Trail;
 use and_arith::WorkList;
 use and_cells::{Naming, PlainCells};
@@ -140,8 +143,10 @@ pub fn take<N: Naming>(
 {
     loaded.skeleton_is_of_the_program();
     let floor = open_frame(cells, clause, weight)?;
-    ask_call(loaded, cells, goal, clause, head, floor, &mut tools.pairs)?;
-    settle_frame(loaded, cells, clause, items, floor, trail, tools)
+    let call = call_at(loaded, goal.clause, goal.item);
+    settle_head(
+        loaded, cells, clause, call, goal.base, head, items, floor, trail, tools,
+    )
 }
 
 /// Puts a frame of the clause, which has this weight, behind the row, and answers where it begins. An error is want of
@@ -167,9 +172,80 @@ fn open_frame<N: Naming>(
     Ok(floor)
 }
 
+/// Settles in a new frame of the clause, which has these items, that a call, a node in the frame at the base, is its
+/// head, and the `=` items of its body, and notes what is set. An error is want of memory, and the cells are spent.
+#[inline(always)]
+fn settle_head<N: Naming>(
+    loaded: &Loaded,
+    cells: &mut PlainCells<N>,
+    clause: ClauseNo,
+    call: NodeNo,
+    base: u32,
+    head: NodeNo,
+    items: &[ItemNode],
+    floor: u32,
+    trail: &mut Trail,
+    tools: &mut Tools,
+) -> Result<Entered, AllocError>
+    requires program { N.program ≡ named loaded.now }
+    requires clause { clause.0 ≤ length N.program.program.clauses }
+    requires items { AreItemsOf N.program clause.0 items.now }
+    requires frame { IsFrame N.program cells.old clause.0 floor }
+    requires call { IsNodeInRange N.program (length cells.old) call.0 base }
+    requires head { IsNodeInRange N.program (length cells.old) head.0 floor }
+    requires ready { AreReady N.program cells.old floor (call_and_head N.program base call.0 floor head.0) }
+    ensures solved { result ≡ Ok Entered.Solved → Settled N.program cells.old cells.new
+        (equations_of_pairs N.program (word_at cells.old) (call_and_head N.program base call.0 floor head.0)
+        ++ body_equations (placed floor) (clause_at N.program.program clause.0).body) }
+    ensures unsolved { result ≡ Ok Entered.NoSolution → Solvable (equations_of N.program cells.old
+        ++ (equations_of_pairs N.program (word_at cells.old) (call_and_head N.program base call.0 floor head.0)
+        ++ body_equations (placed floor) (clause_at N.program.program clause.0).body)) → ⊥ }
+    ensures noted { OnOk result (KeepsNoted trail.old trail.new cells.old cells.new) }
+{
+    if !ask_nothing(items) {
+        return settle_head_and_items(
+            loaded, cells, clause, call, base, head, items, floor, trail, tools,
+        );
+    }
+    let answer = settle_call_noted(loaded, cells, floor, call, base, head, trail, tools);
+    outcome_of(cells, answer)
+}
+
+/// The same where the body has `=` items or `fail`, as is seldom so: a call of its own, which makes a list of pairs.
+#[inline(never)]
+fn settle_head_and_items<N: Naming>(
+    loaded: &Loaded,
+    cells: &mut PlainCells<N>,
+    clause: ClauseNo,
+    call: NodeNo,
+    base: u32,
+    head: NodeNo,
+    items: &[ItemNode],
+    floor: u32,
+    trail: &mut Trail,
+    tools: &mut Tools,
+) -> Result<Entered, AllocError>
+    requires program { N.program ≡ named loaded.now }
+    requires clause { clause.0 ≤ length N.program.program.clauses }
+    requires items { AreItemsOf N.program clause.0 items.now }
+    requires frame { IsFrame N.program cells.old clause.0 floor }
+    requires call { IsNodeInRange N.program (length cells.old) call.0 base }
+    requires head { IsNodeInRange N.program (length cells.old) head.0 floor }
+    requires ready { AreReady N.program cells.old floor (call_and_head N.program base call.0 floor head.0) }
+    ensures solved { result ≡ Ok Entered.Solved → Settled N.program cells.old cells.new
+        (equations_of_pairs N.program (word_at cells.old) (call_and_head N.program base call.0 floor head.0)
+        ++ body_equations (placed floor) (clause_at N.program.program clause.0).body) }
+    ensures unsolved { result ≡ Ok Entered.NoSolution → Solvable (equations_of N.program cells.old
+        ++ (equations_of_pairs N.program (word_at cells.old) (call_and_head N.program base call.0 floor head.0)
+        ++ body_equations (placed floor) (clause_at N.program.program clause.0).body)) → ⊥ }
+    ensures noted { OnOk result (KeepsNoted trail.old trail.new cells.old cells.new) }
+{
+    ask_call(loaded, cells, floor, call, base, head, &mut tools.pairs)?;
+    settle_frame(loaded, cells, clause, items, floor, trail, tools)
+}
+
 /// Settles in a new frame of the clause, which has these items, what the pairs ask, and the `=` items of its body, and
 /// notes what is set. An error is want of memory, and the cells are spent.
-#[inline(always)]
 fn settle_frame<N: Naming>(
     loaded: &Loaded,
     cells: &mut PlainCells<N>,
@@ -195,11 +271,21 @@ fn settle_frame<N: Naming>(
     if !ask_items(loaded, cells, clause, items, floor, &mut tools.pairs)? {
         return Ok(Entered::NoSolution);
     }
-    match settle_noted(loaded, cells, floor, trail, tools) {
-        Answer::Solved => {
-            let _words = cells.len();
-            Ok(Entered::Solved)
-        }
+    let answer = settle_noted(loaded, cells, floor, trail, tools);
+    outcome_of(cells, answer)
+}
+
+/// What a clause comes to by what its pairs come to.
+#[inline(always)]
+fn outcome_of<N: Naming>(cells: &PlainCells<N>, answer: Answer) -> Result<Entered, AllocError>
+    ensures solved { result ≡ Ok Entered.Solved → answer ≡ Solved }
+    ensures unsolved { result ≡ Ok Entered.NoSolution → answer ≡ NoSolution }
+    ensures memory { OnOk result (answer ≢ Memory) }
+    ensures sound { IsSound N.program cells.now }
+{
+    let _words = cells.len();
+    match answer {
+        Answer::Solved => Ok(Entered::Solved),
         Answer::NoSolution => Ok(Entered::NoSolution),
         Answer::Memory => Err(AllocError),
     }
