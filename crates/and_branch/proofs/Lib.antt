@@ -11,6 +11,7 @@ pub mod BodiesRun
 pub mod CallsWatched
 pub mod LinesTold
 pub mod LookedItems
+pub mod NextNodes
 pub mod OutlinedBranches
 pub mod RebuiltBranches
 pub mod StatesFound

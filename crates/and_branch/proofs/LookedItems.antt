@@ -1,17 +1,20 @@
 -- Goals by the items that they are.
-use Rattle.std.proofs.Common.{ℕ, ◌≡◌, ◌⊎◌, true, false, List, refl, sym, ap, ◌∙◌, inl, inr}
+use Rattle.std.proofs.Common.{ℕ, ◌≡◌, ◌⊎◌, true, false, List, Some, refl, sym, ap, ◌∙◌, inl, inr}
+use Rattle.std.specs.Prelude.{slice_get}
 use Rattle.std.proofs.lemmas.Bool.{true≢false}
+use Rattle.std.proofs.lemmas.Option.{slice_get-get_or}
 use Rattle.and_model.specs.Terms.{Term}
 use Rattle.and_model.specs.Programs
 use Rattle.and_model.specs.Programs.{Arithmetic}
 use Rattle.and_model.specs.declared.goal.Goal.{Goal}
 use Rattle.and_program.specs.Items.{is_call_node}
+use Rattle.and_program.specs.Loaded.{nodes_at}
 use Rattle.and_program.specs.Skeletons
 use Rattle.and_program.specs.Skeletons.{NodeItem, Shape, node_term, item_of}
 use Rattle.and_cells.specs.Ranges.{NamedProgram, IsGoalInRange}
 use Rattle.and_branch_laws.specs.Kept.{item_at, node_item_at}
 use Rattle.and_branch_laws.specs.OwnVariables.{IsLoaded}
-use Rattle.and_branch_laws.proofs.Nodes.{item_here}
+use Rattle.and_branch_laws.proofs.Nodes.{item_here, item_there}
 
 -- an item that is a call by its nodes has a node
 call_of_item : (i : NodeItem) → is_call_node i ≡ true → (n : ℕ) × (i ≡ Skeletons.call n)
@@ -45,3 +48,9 @@ module _ (P : NamedProgram) (loaded : IsLoaded P) (words : ℕ) (g : Goal) (in_r
   is_arithmetic_then other (inl (term, e)) =
       absurd (true≢false (sym (item_of_call P.skeleton.nodes i term (sym here ∙ e)) ∙ other))
   is_arithmetic_then other (inr found) = found
+
+  -- and the node of a call stands there in the body
+  pub node_there : (n : ℕ) → i ≡ Skeletons.call n → slice_get (nodes_at P.skeleton g.clause.0).items g.item ≡ Some (Skeletons.call n)
+  node_there n e =
+      slice_get-get_or (nodes_at P.skeleton g.clause.0).items g.item Skeletons.fail (item_there P loaded words g in_range)
+      ∙ ap (λ (x : NodeItem). Some x) (item_is ∙ e)

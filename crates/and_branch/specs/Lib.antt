@@ -13,6 +13,7 @@ pub use Rattle.and_branch_parts.specs.Watching
 pub use Rattle.and_branch_parts.specs.Ways
 pub mod Bodies
 pub mod States
+pub mod Nodes
 pub mod Outlines
 pub mod Parts
 pub mod Rebuilding

@@ -1,15 +1,17 @@
 //! Determinate goals, reduced until there are none.
 
 ghost use Rattle.std.specs.Prelude.{◌≡◌, ◌≢◌, ◌≤◌, ◌+◌, ◌⊎◌, [], ◌∷◌, ℕ, true, false, List, length, Ok, OnOk, IfOk};
-ghost use Rattle.std.specs.Prelude.{IfSome};
+ghost use Rattle.std.specs.Prelude.{IfSome, Some, None};
+ghost use Rattle.and_model.specs.declared.numbers.NodeNo.{NodeNo};
 ghost use Rattle.and_model.specs.Terms.{Term};
 ghost use Rattle.and_model.specs.Programs.{call, Arithmetic, arithmetic, clause_at, clause_weight};
 ghost use Rattle.and_model.specs.declared.limits.TheConstants.{MAX_LIMIT};
 ghost use Rattle.and_model.specs.declared.goal.Goal.{Goal};
 ghost use Rattle.and_cells.specs.Meaning.{IsSettled};
 ghost use Rattle.and_cells.specs.Parts.{named};
-ghost use Rattle.and_guards.specs.Goals.{CanBeJudged};
-ghost use Rattle.and_program.specs.Items.{node_item};
+ghost use Rattle.and_guards.specs.Goals.{CanBeJudged, IsNodeOf};
+ghost use Rattle.and_program.specs.Items.{is_call_node, node_item};
+ghost use Rattle.and_program.specs.Skeletons;
 ghost use Rattle.and_determinacy.specs.Candidates.{IsJudged, IsNarrowed};
 ghost use Rattle.and_clause_index.specs.Tables.{IsTableOf};
 ghost use Rattle.and_determinacy.specs.Watching.{TwoStayWhile};
@@ -33,9 +35,9 @@ use and_cells::Naming;
 use and_clause_index::Determinacy;
 use and_determinacy::{Judged, Narrowed, judge, narrow};
 use and_gate::Gate;
-use and_model::{ClauseNo, Goal};
+use and_model::{ClauseNo, Goal, NodeNo};
 use and_program::{ItemNode, Loaded};
-use and_reduction::{Entered, Ran, run_item};
+use and_reduction::{Entered, Ran, node_of, run_item};
 use std::alloc::AllocError;
 
 /// How many reductions the first round has for each goal that stands at its beginning. Each later one has twice
@@ -54,6 +56,28 @@ enum Next {
     Nothing,
     /// This goal.
     Goal(Goal),
+}
+
+/// The node of an item, if it is a call.
+fn called_by(item: ItemNode) -> Option<NodeNo>
+    ensures call { (node : NodeNo) → result ≡ Some node → node_item item ≡ Skeletons.call node.0 }
+    ensures other { result ≡ None → is_call_node (node_item item) ≡ false }
+{
+    match item {
+        ItemNode::Call { goal } => Some(goal),
+        ItemNode::Equal { left: _, right: _ } => None,
+        ItemNode::Is {
+            left: _,
+            right: _,
+            pair: _,
+        } => None,
+        ItemNode::Compare {
+            relation: _,
+            left: _,
+            right: _,
+        } => None,
+        ItemNode::Fail => None,
+    }
 }
 
 impl<N: Naming> Branch<N> {
@@ -214,20 +238,20 @@ impl<N: Naming> Branch<N> {
     {
         loaded.skeleton_is_of_the_program();
         let item = item_of(loaded, goal);
-        if item.is_call() {
-            self.look_at_call(loaded, table, gate, goal, may, workspace)
-        } else {
-            self.look_at_arithmetic(loaded, goal, item, may, workspace)
+        match called_by(item) {
+            Some(node) => self.look_at_call(loaded, table, gate, goal, node, may, workspace),
+            None => self.look_at_arithmetic(loaded, goal, item, may, workspace),
         }
     }
 
-    /// The same, where the next goal is this one, a call.
+    /// The same, where the next goal is this one, a call whose node this is.
     fn look_at_call<G: Gate>(
         &mut self,
         loaded: &Loaded,
         table: &Determinacy,
         gate: &G,
         goal: Goal,
+        node: NodeNo,
         may: bool,
         workspace: &mut Workspace,
     ) -> Result<Looked, AllocError>
@@ -235,20 +259,22 @@ impl<N: Naming> Branch<N> {
         requires table { IsTableOf N.program table.now }
         requires at { IsAt N.program self.old goal }
         requires call { (term : Term) × (item_at N.program.program goal ≡ call term) }
+        requires node { IsNodeOf N.program self.old.row goal node.0 }
         ensures same { SameKey self.old self.new }
         ensures steps { OnOk result (StepsOn N.program self.old self.new) }
         ensures came_to { IfOk result (λ l. LookIs N.program may self.old self.new l) }
     {
         loaded.skeleton_is_of_the_program();
-        match self.narrow_goal(loaded, table, goal, workspace)? {
+        match self.narrow_call(loaded, table, goal, node, workspace)? {
             Narrowed::Nothing => {
                 self.mark_failed();
                 Ok(Looked::Failed)
             }
             Narrowed::AtMost(clause) => {
-                self.look_at_last(loaded, table, gate, goal, clause, may, workspace)
+                self.look_at_last(loaded, table, gate, goal, node, clause, may, workspace)
             }
             Narrowed::Several => {
+                // A copy of its own: what is handed on from here stays out of memory on the other ways.
                 let passed = goal;
                 self.watch_call(loaded, passed, workspace)?;
                 self.pass()?;
@@ -268,6 +294,7 @@ impl<N: Naming> Branch<N> {
         table: &Determinacy,
         gate: &G,
         goal: Goal,
+        called: NodeNo,
         clause: ClauseNo,
         may: bool,
         workspace: &mut Workspace,
@@ -276,6 +303,7 @@ impl<N: Naming> Branch<N> {
         requires table { IsTableOf N.program table.now }
         requires at { IsAt N.program self.old goal }
         requires call { (term : Term) × (item_at N.program.program goal ≡ call term) }
+        requires node { IsNodeOf N.program self.old.row goal called.0 }
         requires last { IsAtMost N.program self.old.row goal clause.0 }
         ensures same { SameKey self.old self.new }
         ensures steps { OnOk result (StepsOn N.program self.old self.new) }
@@ -298,7 +326,7 @@ impl<N: Naming> Branch<N> {
         let items = loaded.items(clause);
         gate.reduce(LEADER);
         let node = self.used;
-        match self.enter_next(loaded, clause, weight, head, items, workspace)? {
+        match self.enter_next(loaded, called, clause, weight, head, items, workspace)? {
             Entered::Solved => {
                 self.run_body(loaded, items, clause, node, workspace)?;
                 self.goals_are_few();
@@ -366,6 +394,7 @@ impl<N: Naming> Branch<N> {
         loaded.skeleton_is_of_the_program();
         match self.run_next(loaded, goal, item, workspace)? {
             Ran::Waits { cell } => {
+                // A copy of its own: what is handed on from here stays out of memory on the other ways.
                 let passed = goal;
                 self.watch_arithmetic(passed, cell)?;
                 self.pass()?;
@@ -422,7 +451,39 @@ impl<N: Naming> Branch<N> {
             → IfSome workspace.new.trials.rests (TwoStayWhile N.program self.old.row goal) }
         ensures unchanged { self.new ≡ self.old }
     {
-        narrow(table, loaded, &mut self.cells, goal, &mut workspace.trials)
+        let node = node_of(loaded, &self.cells, goal);
+        self.narrow_call(loaded, table, goal, node, workspace)
+    }
+
+    /// The same of a goal whose node this is.
+    #[inline(always)]
+    fn narrow_call(
+        &mut self,
+        loaded: &Loaded,
+        table: &Determinacy,
+        goal: Goal,
+        node: NodeNo,
+        workspace: &mut Workspace,
+    ) -> Result<Narrowed, AllocError>
+        requires program { N.program ≡ named loaded.now }
+        requires table { IsTableOf N.program table.now }
+        requires settled { IsSettled N.program self.old.row }
+        requires short { length self.old.row ≤ MAX_LIMIT }
+        requires node { IsNodeOf N.program self.old.row goal node.0 }
+        ensures same { SameKey self.old self.new }
+        ensures narrowed { IfOk result (IsNarrowed N.program self.old.row goal) }
+        ensures told { result ≡ Ok Narrowed.Several
+            → IfSome workspace.new.trials.rests (TwoStayWhile N.program self.old.row goal) }
+        ensures unchanged { self.new ≡ self.old }
+    {
+        narrow(
+            table,
+            loaded,
+            &mut self.cells,
+            goal,
+            node,
+            &mut workspace.trials,
+        )
     }
 
     /// Judges the next goal, a call. The branch is as before. An error is want of memory.

@@ -16,7 +16,7 @@ ghost use Rattle.and_branch.specs.Parts.{held_of, unnoted};
 
 use crate::parts::Parts;
 use crate::workspace::Workspace;
-use and_branch_parts::push_body;
+use and_branch_parts::push_body_from;
 use and_cells::{Naming, PlainCells};
 use and_model::{ClauseNo, Code, Cut, Goal, ReductionList};
 use and_pending::PendingGoals;
@@ -210,7 +210,7 @@ fn begun<N: Naming>(
     let mut cells = PlainCells::with(alloc, 0)?;
     let entered = begin(loaded, &mut cells, &mut workspace.tools)?;
     let mut goals = PendingGoals::new(alloc);
-    push_body(&mut goals, loaded, loaded.items(QUERY), QUERY, 0)?;
+    push_body_from(&mut goals, loaded, loaded.items(QUERY), 0, QUERY, 0)?;
     Ok(Branch {
         key: Code::new(alloc),
         limit,

@@ -1,6 +1,6 @@
 //! The next goal, reduced.
 
-ghost use Rattle.std.specs.Prelude.{◌≡◌, ◌≤◌, ◌+◌, ◌<◌, true, false, [], length, suc, Ok, OnOk};
+ghost use Rattle.std.specs.Prelude.{◌≡◌, ◌≤◌, ◌+◌, ◌<◌, ℕ, true, false, [], length, suc, Ok, OnOk};
 ghost use Rattle.and_model.specs.Programs.{clause_at, clause_weight};
 ghost use Rattle.and_cells.specs.Parts.{named};
 ghost use Rattle.and_branch_laws.specs.Kept.{goal_of};
@@ -11,6 +11,7 @@ ghost use Rattle.and_branch_parts.specs.Next.{HasNextCall, IsMoved, IsReduced};
 ghost use Rattle.and_branch_parts.specs.Origins.{KeepsBack};
 ghost use Rattle.and_branch_parts.specs.Rounds.{StepsOn};
 ghost use Rattle.and_branch.specs.Bodies.{with_body};
+ghost use Rattle.and_branch.specs.Nodes.{IsNextNode};
 
 use crate::branch::Branch;
 use crate::workspace::Workspace;
@@ -18,7 +19,7 @@ use and_branch_parts::{is_arithmetic_item, push_body_from, push_reduction};
 use and_cells::Naming;
 use and_model::{ClauseNo, Goal, NodeNo};
 use and_program::{ItemNode, Loaded};
-use and_reduction::{Entered, Ran, take};
+use and_reduction::{Entered, Ran, node_of, take};
 use std::alloc::AllocError;
 
 /// What came of an item of a body that comes next.
@@ -66,18 +67,33 @@ impl<N: Naming> Branch<N> {
         let head = loaded.head(clause);
         let items = loaded.items(clause);
         let node = self.used;
-        match self.enter_next(loaded, clause, weight, head, items, workspace)? {
+        let call = self.next_node(loaded);
+        match self.enter_next(loaded, call, clause, weight, head, items, workspace)? {
             Entered::Solved => self.put_body(loaded, items, 0, clause, node),
             Entered::NoSolution => Ok(()),
         }
     }
 
-    /// The same by a clause that has this weight, this head and these items, where the goals of the body are still to
-    /// be put.
+    /// The node of the next goal, a call. Takes no memory.
+    fn next_node(&self, loaded: &Loaded) -> NodeNo
+        requires program { N.program ≡ named loaded.now }
+        requires next { (clause : ℕ) × HasNextCall N.program self.now clause }
+        ensures { IsNextNode N.program self.now result.0 }
+    {
+        loaded.skeleton_is_of_the_program();
+        let Some(goal) = self.goals.next() else {
+            unreachable!()
+        };
+        node_of(loaded, &self.cells, goal)
+    }
+
+    /// The same by a clause that has this weight, this head and these items, of a call whose node this is, where the
+    /// goals of the body are still to be put.
     #[inline(always)]
     pub(crate) fn enter_next(
         &mut self,
         loaded: &Loaded,
+        call: NodeNo,
         clause: ClauseNo,
         weight: u32,
         head: NodeNo,
@@ -86,6 +102,7 @@ impl<N: Naming> Branch<N> {
     ) -> Result<Entered, AllocError>
         requires program { N.program ≡ named loaded.now }
         requires next { HasNextCall N.program self.old clause.0 }
+        requires call { IsNextNode N.program self.old call.0 }
         requires weight { weight ≡ clause_weight (clause_at N.program.program clause.0) }
         requires head { IsHeadOf N.program clause.0 head.0 }
         requires items { AreItemsOf N.program clause.0 items.now }
@@ -111,6 +128,7 @@ impl<N: Naming> Branch<N> {
             loaded,
             &mut self.cells,
             goal,
+            call,
             clause,
             weight,
             head,

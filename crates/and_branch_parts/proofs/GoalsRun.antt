@@ -17,7 +17,6 @@ use Rattle.and_cells.specs.Ranges.{NamedProgram}
 use Rattle.and_branch_laws.specs.OwnVariables.{OwnVariables, IsLoaded}
 use Rattle.and_branch_laws.specs.Judging.{outside, CandidateInCells}
 use Rattle.and_branch_laws.specs.Kept.{item_at, task_in, is_call, goal_of, IsCall, Kept}
-use Rattle.and_branch_laws.proofs.Asking
 use Rattle.and_branch_laws.proofs.Keeping
 use Rattle.and_branch_laws.proofs.Stepping
 use Rattle.and_reduction.specs.Runs.{HasRun, CannotHold}

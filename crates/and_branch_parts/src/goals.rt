@@ -18,24 +18,8 @@ use and_program::{ItemNode, Loaded};
 use std::alloc::{AllocError, Global};
 
 /// Puts the calls and the arithmetic of a clause's body, which has these items and whose frame begins at the node, at
-/// the place of work. An error is want of memory. (There is none for a body of 2^32 items.)
-pub fn push_body(
-    goals: &mut PendingGoals,
-    _loaded: &Loaded,
-    items: &[ItemNode],
-    clause: ClauseNo,
-    node: u32,
-) -> Result<(), AllocError>
-    requires { map (Skeletons.item_of (skeleton_of _loaded.now).nodes) (map node_item items.now)
-        ≡ (clause_at (program_of _loaded.now) clause.0).body }
-    ensures { OnOk result (HasPut
-        (map goal_of (body_goals clause.0 node [] 0 (clause_at (program_of _loaded.now) clause.0).body))
-        goals.old goals.new) }
-{
-    push_body_from(goals, _loaded, items, 0, clause, node)
-}
-
-/// The same of the items from a place on.
+/// the place of work: those of the items from a place on. An error is want of memory. (There is none for a body of 2^32
+/// items.)
 #[inline(always)]
 pub fn push_body_from(
     goals: &mut PendingGoals,

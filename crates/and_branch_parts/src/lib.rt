@@ -14,7 +14,7 @@ pub mod ways;
 
 pub use finding::{HeavyCall, RoundSoFar, Seen, first_call, is_arithmetic, with_passed};
 pub use forking::{Parted, fits, part};
-pub use goals::{is_arithmetic_item, is_call, item_of, list_of, push_body, push_body_from};
+pub use goals::{is_arithmetic_item, is_call, item_of, list_of, push_body_from};
 pub use reductions::{add_all, cut_off, push_reduction};
 pub use rounds::{Looked, Round};
 pub use settling::is_dead;

@@ -253,11 +253,14 @@ pub fn clauses_by_first<'a, C: Cells>(
     ensures served { (row : List Ref) → IsSeenIn (C.seen cells.new) row
         → AreServed C.program row node.0 base result.now }
 {
-    if !table.has_keys(node) {
-        return table.clauses(node, NodeKind::Variable(0));
+    let Some(predicate) = table.predicate(node) else {
+        return &[];
+    };
+    if !predicate.has_keys() {
+        return predicate.tried(NodeKind::Variable(0));
     }
     let first = known_first(loaded, cells, node, base);
-    table.clauses(node, first)
+    predicate.tried(first)
 }
 
 impl Look {

@@ -1,6 +1,7 @@
 //! What is compiled of a program, once.
 
 ghost use Rattle.std.specs.Prelude.{◌≡◌, ◌≢◌, ◌<◌, ◌≤◌, ◌^◌, ℕ, [], Some, get_or, length, slice_get, OnOk, IfOk, All};
+ghost use Rattle.std.specs.Option.{option_copied};
 ghost use Rattle.and_model.specs.Programs.{Program, clause_at};
 ghost use Rattle.and_program.specs.Items.{node_item};
 ghost use Rattle.and_program.specs.Loaded.{nodes_at, program_of, skeleton_of};
@@ -19,7 +20,7 @@ use and_program::{ItemNode, Loaded, NodeKind};
 use std::alloc::{AllocError, Global};
 
 /// What is kept of a predicate.
-struct Predicate {
+pub(crate) struct Predicate {
     /// Its clauses, in textual order.
     clauses: Vec<ClauseNo>,
     /// Those of them that serve a first argument, if a table of them pays.
@@ -88,6 +89,12 @@ fn put_number(numbers: &mut Vec<usize>, place: usize, number: usize) -> Result<(
 }
 
 impl Predicate {
+    /// Whether first arguments tell its clauses apart.
+    #[inline(always)]
+    pub(crate) fn has_keys(&self) -> bool {
+        self.by_first.is_some()
+    }
+
     /// The clauses that serve a key of first arguments. Takes no memory.
     #[inline(always)]
     fn under(&self, key: Key) -> &[ClauseNo]
@@ -101,7 +108,7 @@ impl Predicate {
 
     /// The clauses that serve a first argument of which this is known. Takes no memory.
     #[inline(always)]
-    fn tried(&self, first: NodeKind) -> &[ClauseNo]
+    pub(crate) fn tried(&self, first: NodeKind) -> &[ClauseNo]
         ensures { result.now ≡ tried (Some self.now) first }
     {
         match first {
@@ -139,16 +146,13 @@ impl Determinacy {
         }
     }
 
-    /// Whether first arguments tell the clauses apart of the predicate that a node calls.
+    /// The predicate that a node calls, if it is known.
     #[inline(always)]
-    pub(crate) fn has_keys(&self, node: NodeNo) -> bool {
-        match self
-            .predicates
+    pub(crate) fn predicate(&self, node: NodeNo) -> Option<&Predicate>
+        ensures { option_copied result ≡ entry_at self.now node.0 }
+    {
+        self.predicates
             .get(number_at(&self.numbers, node.0 as usize))
-        {
-            Some(predicate) => predicate.by_first.is_some(),
-            None => false,
-        }
     }
 
     /// What is to be looked at in a call, whose node is given: at each place a mark, if one of the heads of its

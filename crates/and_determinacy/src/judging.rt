@@ -355,18 +355,18 @@ pub fn narrow<N: Naming>(
     loaded: &Loaded,
     cells: &mut PlainCells<N>,
     goal: Goal,
+    node: NodeNo,
     trials: &mut Trials,
 ) -> Result<Narrowed, AllocError>
     requires program { N.program ≡ named loaded.now }
     requires table { IsTableOf N.program table.now }
     requires settled { IsSettled N.program cells.old }
     requires short { length cells.old ≤ MAX_LIMIT }
-    requires goal { CanBeJudged N.program cells.old goal }
+    requires node { IsNodeOf N.program cells.old goal node.0 }
     ensures narrowed { IfOk result (IsNarrowed N.program cells.old goal) }
     ensures told { result ≡ Ok Narrowed.Several → IfSome trials.new.rests (TwoStayWhile N.program cells.old goal) }
     ensures unchanged { cells.new ≡ cells.old }
 {
-    let node = node_of(loaded, cells, goal);
     let clauses = clauses_for(table, loaded, cells, node, goal.base);
     if clauses.len() < 2 {
         return Ok(narrowed_to(clauses));

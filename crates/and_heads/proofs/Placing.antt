@@ -72,7 +72,8 @@ module _ (P Q : NamedProgram) (part : Part) (lefts rights : List NodeNo) (same :
   -- Structures of one shape have as many arguments,
   pub as_long : (words : ℕ) → HasShape P words part → length lefts ≡ length rights
   as_long words shape =
-      let many = as_many P Q words (named_by part.left) (named_by part.right) part.left.node part.right.node part.left.base part.right.base same shape refl refl in
+      let many = as_many P Q words (named_by part.left) (named_by part.right)
+      part.left.node part.right.node part.left.base part.right.base same shape refl refl in
       let first = as_many_nodes (arguments_at Q.skeleton part.left.node.0) lefts all_left in
       let second = as_many_nodes (arguments_at Q.skeleton part.right.node.0) rights all_right in
       omega (arith, many, first, second)

@@ -146,8 +146,8 @@ impl HeadSolver {
         settle_by_solver(&mut self.solver, loaded, cells, floor, pairs)
     }
 
-    /// The same of one pair, as most have it: a node in the frame at the base, as a call is one, and a node in the frame
-    /// at the floor, as the head of a clause is one. Only where the solver is needed a list is made of it.
+    /// The same of one pair, as most have it: a node in the frame at the base, as a call is, and one in the frame at the
+    /// floor, as the head of a clause is. A list is made of it only where the solver is needed.
     pub fn settle_call<N: Naming>(
         &mut self,
         loaded: &Loaded,

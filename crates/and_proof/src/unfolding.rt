@@ -19,7 +19,7 @@ use and_cells::{Naming, PlainCells};
 use and_model::limits::MAX_LIMIT;
 use and_model::{ClauseNo, Code, Goal, NameNo, NodeNo};
 use and_program::{Loaded, NodeKind};
-use and_reduction::{Entered, begin, take};
+use and_reduction::{Entered, begin, node_of, take};
 use std::alloc::AllocError;
 
 /// The number of the query among the clauses.
@@ -168,6 +168,7 @@ fn enter<N: Naming>(
 {
     loaded.skeleton_is_of_the_program();
     let node = cells.len();
+    let call = node_of(loaded, cells, next.goal);
     let weight = loaded.weight(clause);
     let head = loaded.head(clause);
     let items = loaded.items(clause);
@@ -175,6 +176,7 @@ fn enter<N: Naming>(
         loaded,
         cells,
         next.goal,
+        call,
         clause,
         weight,
         head,

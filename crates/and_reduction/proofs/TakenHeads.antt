@@ -16,7 +16,7 @@ use Rattle.and_cells.specs.Ranges.{NamedProgram, IsNodeInRange}
 use Rattle.and_cells.specs.Seen.{word_at}
 use Rattle.and_cells.specs.Parts.{named, part_at}
 use Rattle.and_unify.specs.Pairs.{equations_of_pairs}
-use Rattle.and_branch_laws.specs.Goals.{CanBeJudged}
+use Rattle.and_branch_laws.specs.Goals.{CanBeJudged, IsNodeOf}
 use Rattle.and_branch_laws.specs.Reducing.{body_equations, reduction_in_cells}
 use Rattle.and_branch_laws.specs.Settling.{widened}
 use Rattle.and_branch_laws.specs.Variables.{placed}
@@ -40,13 +40,14 @@ module _ (P : NamedProgram) (l : Loaded) (same : P ≡ named l) (skeleton : IsSk
     (own : HaveOwnVariables (program_of l)) (few : length (skeleton_of l).nodes ≤ MAX_NODES + 1) (row wide : List Ref) (c floor : ℕ) (g : Goal)
     (node head : ℕ) (there : c ≤ length P.program.clauses) (is_wide : wide ≡ widened row (clause_weight (clause_at P.program c)))
     (behind : floor ≡ length row) (can : CanBeJudged P row g) (frame : IsFrame P wide c floor)
-    (read : slice_get (nodes_at (skeleton_of l) g.clause.0).items g.item ≡ Some (Skeletons.call node)) (is_head : IsHeadOf P c head) where
+    (is_node : IsNodeOf P row g node) (is_head : IsHeadOf P c head) where
   pub head_asked : IsHeadAsked P wide c floor g node head
   head_asked =
       let facts = loaded_is P l same skeleton own few in
       let below : IsCallBelow P wide floor g =
       subst (λ (n : ℕ). IsCallBelow P wide n g) (sym behind)
       (call_below P row wide (clause_weight (clause_at P.program c)) g is_wide can (call_cells P facts row g can)) in
+      let read = subst (λ (Q : NamedProgram). slice_get (nodes_at Q.skeleton g.clause.0).items g.item ≡ Some (Skeletons.call node)) same is_node.there in
       let is = found_node P l wide g node same skeleton own few below.judged read in
       record {
         call_in_range = is.reads.in_range;

@@ -13,19 +13,20 @@ ghost use Rattle.and_cells.specs.Seen.{word_at};
 ghost use Rattle.and_unify.specs.Pairs.{equations_of_pairs};
 ghost use Rattle.and_branch_laws.specs.Reducing.{body_equations};
 ghost use Rattle.and_branch_laws.specs.Variables.{placed};
+ghost use Rattle.and_branch_laws.specs.Goals.{CanBeJudged, IsNodeOf};
 ghost use Rattle.and_step_laws.specs.Asking.{AreReady, Ask, CanBeAsked};
 ghost use Rattle.and_step_laws.specs.Frames.{IsFrame};
 ghost use Rattle.and_heads.specs.Calls.{call_and_head};
 ghost use Rattle.and_reduction.specs.Items.{AreItemsOf, AsksNothing};
 
 use and_cells::{Naming, PlainCells};
-use and_model::{ClauseNo, NodeNo};
+use and_model::{ClauseNo, Goal, NodeNo};
 use and_program::{ItemNode, Loaded};
 use and_unify::PairList;
 use std::alloc::AllocError;
 
 /// The node of a call, by its place in the body of a clause.
-pub(crate) fn call_at(loaded: &Loaded, clause: ClauseNo, item: u32) -> NodeNo
+fn call_at(loaded: &Loaded, clause: ClauseNo, item: u32) -> NodeNo
     requires clause { clause.0 ≤ length (program_of loaded.now).clauses }
     requires call { (node : ℕ)
         × (slice_get (nodes_at (skeleton_of loaded.now) clause.0).items item ≡ Some (call node)) }
@@ -46,6 +47,16 @@ pub(crate) fn call_at(loaded: &Loaded, clause: ClauseNo, item: u32) -> NodeNo
         } => unreachable!(),
         ItemNode::Fail => unreachable!(),
     }
+}
+
+/// The node of a goal, which is a call. Takes no memory.
+pub fn node_of<N: Naming>(loaded: &Loaded, cells: &PlainCells<N>, goal: Goal) -> NodeNo
+    requires program { N.program ≡ named loaded.now }
+    requires goal { CanBeJudged N.program cells.now goal }
+    ensures { IsNodeOf N.program cells.now goal result.0 }
+{
+    loaded.skeleton_is_of_the_program();
+    call_at(loaded, goal.clause, goal.item)
 }
 
 /// Asks that a node in the frame at the base, which is a call, be made one with a node in the frame at the floor, and

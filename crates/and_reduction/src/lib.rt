@@ -2,13 +2,14 @@
 //! of arithmetic that is run.
 #![tactic(auto)]
 
-mod asking;
+pub mod asking;
 pub mod running;
 mod settling;
 mod sides;
 pub mod taking;
 pub mod trail;
 
+pub use asking::node_of;
 pub use running::{Ran, run, run_item};
 pub use taking::{Entered, Tools, begin, take};
 pub use trail::Trail;

@@ -98,12 +98,15 @@ pub(crate) fn settle_number<N: Naming>(
 ) -> Answer
     requires program { N.program ≡ named loaded.now }
     requires node { CanBeRead N.program cells.old base node.0 }
-    requires in_range { AreInRange N.program (length cells.old) (the_pair (part_at N.program base node.0) (Ref.Number pair)) }
+    requires in_range { AreInRange N.program (length cells.old)
+        (the_pair (part_at N.program base node.0) (Ref.Number pair)) }
     requires written { AreWritten (plain cells.old) (the_pair (part_at N.program base node.0) (Ref.Number pair)) }
     requires settled { IsSettled N.program cells.old }
-    requires no_half { NameNoHalf N.program (word_at cells.old) (the_pair (part_at N.program base node.0) (Ref.Number pair)) }
+    requires no_half { NameNoHalf N.program (word_at cells.old)
+        (the_pair (part_at N.program base node.0) (Ref.Number pair)) }
     requires new { AreNewFrom N.program cells.old (the_pair (part_at N.program base node.0) (Ref.Number pair)) floor }
-    ensures settles { Settles N.program cells.old cells.new (the_pair (part_at N.program base node.0) (Ref.Number pair)) result }
+    ensures settles { Settles N.program cells.old cells.new (the_pair (part_at N.program base node.0) (Ref.Number pair))
+        result }
     ensures noted { result ≢ Memory → KeepsNoted trail.old trail.new cells.old cells.new }
 {
     loaded.skeleton_is_of_the_program();
@@ -130,12 +133,15 @@ fn settle_pair<N: Naming>(
 ) -> Answer
     requires program { N.program ≡ named loaded.now }
     requires node { CanBeRead N.program cells.old base node.0 }
-    requires in_range { AreInRange N.program (length cells.old) (the_pair (part_at N.program base node.0) (Ref.Number pair)) }
+    requires in_range { AreInRange N.program (length cells.old)
+        (the_pair (part_at N.program base node.0) (Ref.Number pair)) }
     requires written { AreWritten (plain cells.old) (the_pair (part_at N.program base node.0) (Ref.Number pair)) }
     requires settled { IsSettled N.program cells.old }
-    requires no_half { NameNoHalf N.program (word_at cells.old) (the_pair (part_at N.program base node.0) (Ref.Number pair)) }
+    requires no_half { NameNoHalf N.program (word_at cells.old)
+        (the_pair (part_at N.program base node.0) (Ref.Number pair)) }
     requires new { AreNewFrom N.program cells.old (the_pair (part_at N.program base node.0) (Ref.Number pair)) floor }
-    ensures settles { Settles N.program cells.old cells.new (the_pair (part_at N.program base node.0) (Ref.Number pair)) result }
+    ensures settles { Settles N.program cells.old cells.new (the_pair (part_at N.program base node.0) (Ref.Number pair))
+        result }
     ensures noted { result ≢ Memory → KeepsNoted trail.old trail.new cells.old cells.new }
 {
     loaded.skeleton_is_of_the_program();

@@ -16,13 +16,13 @@ ghost use Rattle.and_heads.specs.Calls.{call_and_head};
 ghost use Rattle.and_branch_laws.specs.Reducing.{body_equations, reduction_in_cells};
 ghost use Rattle.and_branch_laws.specs.Settling.{Settled, widened};
 ghost use Rattle.and_branch_laws.specs.Variables.{placed};
-ghost use Rattle.and_branch_laws.specs.Goals.{CanBeJudged};
+ghost use Rattle.and_branch_laws.specs.Goals.{CanBeJudged, IsNodeOf};
 ghost use Rattle.and_step_laws.specs.Asking.{AreReady};
 ghost use Rattle.and_step_laws.specs.Frames.{IsFrame};
 ghost use Rattle.and_reduction.specs.Items.{AreItemsOf, IsHeadOf};
 ghost use Rattle.and_reduction.specs.Trails.{KeepsNoted};
 
-use crate::asking::{ask_call, ask_items, ask_nothing, call_at};
+use crate::asking::{ask_call, ask_items, ask_nothing};
 use crate::settling::{settle_call_noted, settle_noted};
 use crate::trail::Trail;
 use and_arith::WorkList;
@@ -111,13 +111,14 @@ pub fn begin<N: Naming>(
 }
 
 /// Puts the frame of the clause, which has this weight, this head and these items, behind the row, and settles in it
-/// what a reduction of the call by this clause asks: that the call is its head, and the `=` items of its body. What is
-/// set in the row is noted. An error is want of memory, and the cells are spent.
+/// what a reduction of the call, which has this node, by this clause asks: that the call is its head, and the `=` items
+/// of its body. What is set in the row is noted. An error is want of memory, and the cells are spent.
 #[inline(always)]
 pub fn take<N: Naming>(
     loaded: &Loaded,
     cells: &mut PlainCells<N>,
     goal: Goal,
+    call: NodeNo,
     clause: ClauseNo,
     weight: u32,
     head: NodeNo,
@@ -128,6 +129,7 @@ pub fn take<N: Naming>(
     requires program { N.program ≡ named loaded.now }
     requires settled { IsSettled N.program cells.old }
     requires goal { CanBeJudged N.program cells.old goal }
+    requires call { IsNodeOf N.program cells.old goal call.0 }
     requires clause { clause.0 ≤ length N.program.program.clauses }
     requires weight { weight ≡ clause_weight (clause_at N.program.program clause.0) }
     requires head { IsHeadOf N.program clause.0 head.0 }
@@ -143,7 +145,6 @@ pub fn take<N: Naming>(
 {
     loaded.skeleton_is_of_the_program();
     let floor = open_frame(cells, clause, weight)?;
-    let call = call_at(loaded, goal.clause, goal.item);
     settle_head(
         loaded, cells, clause, call, goal.base, head, items, floor, trail, tools,
     )

@@ -9,21 +9,21 @@ use Rattle.and_determinacy.proofs.judging.narrow.Goals as goal
 
 pub clauses_for-clauses-requires-clause-known : goal.clauses_for-clauses-requires-clause-known
 clauses_for-clauses-requires-clause-known g c =
-    c.requires.table.calls c.args.goal.clause.0 c.args.goal.item c.node_of-node.result.0 c.node_of-node.ensures.there
+    c.requires.table.calls c.args.goal.clause.0 c.args.goal.item c.args.node.0 c.requires.node.there
 
 pub returns-then-clauses-lt2-clause-narrowed : goal.returns-then-clauses-lt2-clause-narrowed
 returns-then-clauses-lt2-clause-narrowed g c =
-    few_left g.N.Naming.program c.args.cells.now c.args.goal c.node_of-node.result.0 c.node_of-node.ensures c.clauses_for-clauses.result.now
+    few_left g.N.Naming.program c.args.cells.now c.args.goal c.args.node.0 c.requires.node c.clauses_for-clauses.result.now
     c.clauses_for-clauses.ensures.served c.narrowed_to.result c.narrowed_to.ensures.nothing c.narrowed_to.ensures.one
     c.narrowed_to.ensures.never
 
 pub narrow_by_prints-requires-clause-node : goal.narrow_by_prints-requires-clause-node
 narrow_by_prints-requires-clause-node g c =
-    subst (λ r. IsNodeOf g.N.Naming.program r c.args.goal c.node_of-node.result.0) (sym c.clauses_for-clauses.ensures.unchanged) c.node_of-node.ensures
+    subst (λ r. IsNodeOf g.N.Naming.program r c.args.goal c.args.node.0) (sym c.clauses_for-clauses.ensures.unchanged) c.requires.node
 
 pub narrow_by_prints-requires-clause-served : goal.narrow_by_prints-requires-clause-served
 narrow_by_prints-requires-clause-served g c =
-    subst (λ r. AreServed g.N.Naming.program r c.node_of-node.result.0 c.args.goal.base c.clauses_for-clauses.result.now)
+    subst (λ r. AreServed g.N.Naming.program r c.args.node.0 c.args.goal.base c.clauses_for-clauses.result.now)
     (sym c.clauses_for-clauses.ensures.unchanged) c.clauses_for-clauses.ensures.served
 
 pub returns-clause-narrowed : goal.returns-clause-narrowed

@@ -32,7 +32,8 @@ part_ends-requires-clause-in_range g c =
     let at = node_at P (named c.args.loaded.now) c.args.node.0 c.args.count c.loop-place.place nodes c.requires.program c.arguments-nodes.ensures
     c.requires.count c.loop-place-test.true in
     let node = node_read _ nodes c.arguments-nodes.ensures c.loop-place.place at in
-    let is = part_found P row c.args.node c.args.base c.args.loaded.now (node_in nodes c.loop-place.place).0 c.loop-place.place c.resolve-part.result c.requires.program
+    let is = part_found P row c.args.node c.args.base c.args.loaded.now (node_in nodes c.loop-place.place).0 c.loop-place.place c.resolve-part.result
+    c.requires.program
     c.resolve-part.ensures node in
     subst (IsInRange P (length row)) (sym is) (part_fits P row c.args.node c.args.base c.requires.falls c.requires.in_range c.loop-place.place below)
 
@@ -44,7 +45,8 @@ loop-place-preserved g c = λ k below.
     let at = node_at P (named c.args.loaded.now) c.args.node.0 c.args.count c.loop-place.place nodes c.requires.program c.arguments-nodes.ensures
     c.requires.count c.loop-place-test.true in
     let node = node_read _ nodes c.arguments-nodes.ensures c.loop-place.place at in
-    let is = part_found P row c.args.node c.args.base c.args.loaded.now (node_in nodes c.loop-place.place).0 c.loop-place.place c.resolve-part.result c.requires.program
+    let is = part_found P row c.args.node c.args.base c.args.loaded.now (node_in nodes c.loop-place.place).0 c.loop-place.place c.resolve-part.result
+    c.requires.program
     c.resolve-part.ensures node in
     let here = subst (Ends P row c.args.floor false) is (c.part_ends.ensures c.if-not-part_ends.false) in
     elim (cases_lt k c.loop-place.place) [

@@ -13,6 +13,18 @@ use Rattle.and_proof.proofs.unfolding.enter.Goals as goal
 pub take-requires-clause-settled : goal.take-requires-clause-settled
 take-requires-clause-settled g c = let x = c.requires.enters.1 in let u = x.called.unfolded in let k = u.keeps in k.settled
 
+pub node_of-call-requires-clause-goal : goal.node_of-call-requires-clause-goal
+node_of-call-requires-clause-goal g c =
+    let P = g.N.Naming.program in
+    let facts = loaded_is P c.args.loaded.now c.requires.program c.skeleton_is_of_the_program.ensures.skeleton
+    c.skeleton_is_of_the_program.ensures.own_variables c.skeleton_is_of_the_program.ensures.few in
+    let (cs, x) = c.requires.enters in
+    next_can P facts c.args.cells.now x.called.before cs c.args.goals.now.ahead.items c.args.next x.called.term x.called.unfolded
+    x.called.ahead x.called.is_call
+
+pub take-requires-clause-call : goal.take-requires-clause-call
+take-requires-clause-call g c = c.node_of-call.ensures
+
 pub take-requires-clause-goal : goal.take-requires-clause-goal
 take-requires-clause-goal g c =
     let P = g.N.Naming.program in

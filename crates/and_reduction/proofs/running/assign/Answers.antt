@@ -42,7 +42,8 @@ settle_number-requires-clause-new g c =
     let P = g.N.Naming.program in
     let asked = subst (λ (z : ℤ). IsAskedFor P c.args.cells.now c.ask_number.new.cells c.args.base c.args.node.0 c.args.pair z
     (the_pair (part_at g.N.Naming.program c.args.base c.args.node.0) (Number c.args.pair))) (to_z-of_z w64 c.args.value c.ranges.value) c.ask_number.ensures in
-    number_new P c.args.cells.now c.ask_number.new.cells c.args.base c.args.node.0 c.args.pair c.args.value (the_pair (part_at g.N.Naming.program c.args.base c.args.node.0) (Number c.args.pair)) asked
+    number_new P c.args.cells.now c.ask_number.new.cells c.args.base c.args.node.0 c.args.pair c.args.value
+    (the_pair (part_at g.N.Naming.program c.args.base c.args.node.0) (Number c.args.pair)) asked
     c.len-words.result c.len-words.ensures.value
 
 pub returns-in-Solved-clause-assigned : goal.returns-in-Solved-clause-assigned
@@ -50,7 +51,8 @@ returns-in-Solved-clause-assigned g c =
     let P = g.N.Naming.program in
     let asked = subst (λ (z : ℤ). IsAskedFor P c.args.cells.now c.ask_number.new.cells c.args.base c.args.node.0 c.args.pair z
     (the_pair (part_at g.N.Naming.program c.args.base c.args.node.0) (Number c.args.pair))) (to_z-of_z w64 c.args.value c.ranges.value) c.ask_number.ensures in
-    number_assigned P c.args.cells.now c.ask_number.new.cells c.args.base c.args.node.0 c.args.pair c.args.value (the_pair (part_at g.N.Naming.program c.args.base c.args.node.0) (Number c.args.pair)) asked
+    number_assigned P c.args.cells.now c.ask_number.new.cells c.args.base c.args.node.0 c.args.pair c.args.value
+    (the_pair (part_at g.N.Naming.program c.args.base c.args.node.0) (Number c.args.pair)) asked
     c.settle_number.new.cells c.len-words-in-Solved.ensures.sound c.in-Solved.ensures.settles
 
 pub returns-in-NoSolution-clause-assigned : goal.returns-in-NoSolution-clause-assigned
@@ -58,7 +60,8 @@ returns-in-NoSolution-clause-assigned g c =
     let P = g.N.Naming.program in
     let asked = subst (λ (z : ℤ). IsAskedFor P c.args.cells.now c.ask_number.new.cells c.args.base c.args.node.0 c.args.pair z
     (the_pair (part_at g.N.Naming.program c.args.base c.args.node.0) (Number c.args.pair))) (to_z-of_z w64 c.args.value c.ranges.value) c.ask_number.ensures in
-    number_refused P c.args.cells.now c.ask_number.new.cells c.args.base c.args.node.0 c.args.pair c.args.value (the_pair (part_at g.N.Naming.program c.args.base c.args.node.0) (Number c.args.pair)) asked
+    number_refused P c.args.cells.now c.ask_number.new.cells c.args.base c.args.node.0 c.args.pair c.args.value
+    (the_pair (part_at g.N.Naming.program c.args.base c.args.node.0) (Number c.args.pair)) asked
     c.settle_number.new.cells c.in-NoSolution.ensures.settles
 
 pub returns-in-Solved-clause-noted : goal.returns-in-Solved-clause-noted

@@ -38,7 +38,8 @@ set_to_number-requires-clause-pair g c =
 
 pub set_to_number-requires-clause-written : goal.set_to_number-requires-clause-written
 set_to_number-requires-clause-written g c =
-    pair_written g.N.Naming.program c.args.cells.now (part_at g.N.Naming.program c.args.base c.args.node.0) c.args.pair c.end_of.new.cells c.end_of.ensures.unchanged c.len-words.ensures.sound
+    pair_written g.N.Naming.program c.args.cells.now (part_at g.N.Naming.program c.args.base c.args.node.0) c.args.pair c.end_of.new.cells
+    c.end_of.ensures.unchanged c.len-words.ensures.sound
     c.requires.written
 
 pub returns-in-Cell-clause-settles : goal.returns-in-Cell-clause-settles
@@ -49,7 +50,8 @@ returns-in-Cell-clause-settles g c =
     let found = resolved_is P c.args.loaded.now c.args.node c.args.base c.resolve-left.result c.requires.program c.resolve-left.ensures in
     let leads = subst (λ (r : Ref). LeadsTo (plain row) r (Cell c.in-Cell.cell)) found c.in-Cell.ensures.leads in
     let is = c.set_to_number.ensures.set ∙ ap (λ r. set r c.in-Cell.cell (Number c.args.pair)) c.end_of.ensures.unchanged in
-    number_settles P row c.set_to_number.new.cells (part_at g.N.Naming.program c.args.base c.args.node.0) c.in-Cell.cell c.args.pair c.args.floor (the_pair (part_at g.N.Naming.program c.args.base c.args.node.0) (Number c.args.pair)) refl fall
+    number_settles P row c.set_to_number.new.cells (part_at g.N.Naming.program c.args.base c.args.node.0) c.in-Cell.cell c.args.pair c.args.floor
+    (the_pair (part_at g.N.Naming.program c.args.base c.args.node.0) (Number c.args.pair)) refl fall
     c.len-words.ensures.sound c.requires.in_range c.requires.written leads c.in-Cell.ensures.in_range
     (c.in-Cell.ensures.free c.in-Cell.cell refl) is c.requires.settled c.requires.no_half c.requires.new c.set_to_number.ensures.sound
     c.set_to_number.result c.set_to_number.ensures.solved
@@ -62,17 +64,20 @@ returns-in-Cell-clause-noted g c = λ other.
     let found = resolved_is P c.args.loaded.now c.args.node c.args.base c.resolve-left.result c.requires.program c.resolve-left.ensures in
     let leads = subst (λ (r : Ref). LeadsTo (plain row) r (Cell c.in-Cell.cell)) found c.in-Cell.ensures.leads in
     let is = c.set_to_number.ensures.set ∙ ap (λ r. set r c.in-Cell.cell (Number c.args.pair)) c.end_of.ensures.unchanged in
-    number_noted P row c.set_to_number.new.cells (part_at g.N.Naming.program c.args.base c.args.node.0) c.in-Cell.cell c.args.pair c.args.floor (the_pair (part_at g.N.Naming.program c.args.base c.args.node.0) (Number c.args.pair)) refl fall
+    number_noted P row c.set_to_number.new.cells (part_at g.N.Naming.program c.args.base c.args.node.0) c.in-Cell.cell c.args.pair c.args.floor
+    (the_pair (part_at g.N.Naming.program c.args.base c.args.node.0) (Number c.args.pair)) refl fall
     c.len-words.ensures.sound c.requires.in_range c.requires.written leads c.in-Cell.ensures.in_range
     (c.in-Cell.ensures.free c.in-Cell.cell refl) is c.args.trail.now c.set_to_number.new.trail (c.set_to_number.ensures.noted other)
 
 pub settle_pair-requires-clause-in_range : goal.settle_pair-requires-clause-in_range
 settle_pair-requires-clause-in_range g c =
-    subst (λ (r : List Ref). AreInRange g.N.Naming.program (length r) (the_pair (part_at g.N.Naming.program c.args.base c.args.node.0) (Number c.args.pair))) (sym c.end_of.ensures.unchanged) c.requires.in_range
+    subst (λ (r : List Ref). AreInRange g.N.Naming.program (length r) (the_pair (part_at g.N.Naming.program c.args.base c.args.node.0) (Number c.args.pair)))
+    (sym c.end_of.ensures.unchanged) c.requires.in_range
 
 pub settle_pair-requires-clause-written : goal.settle_pair-requires-clause-written
 settle_pair-requires-clause-written g c =
-    subst (λ (r : List Ref). AreWritten (plain r) (the_pair (part_at g.N.Naming.program c.args.base c.args.node.0) (Number c.args.pair))) (sym c.end_of.ensures.unchanged) c.requires.written
+    subst (λ (r : List Ref). AreWritten (plain r) (the_pair (part_at g.N.Naming.program c.args.base c.args.node.0) (Number c.args.pair)))
+    (sym c.end_of.ensures.unchanged) c.requires.written
 
 pub settle_pair-requires-clause-settled : goal.settle_pair-requires-clause-settled
 settle_pair-requires-clause-settled g c =
@@ -80,15 +85,18 @@ settle_pair-requires-clause-settled g c =
 
 pub settle_pair-requires-clause-no_half : goal.settle_pair-requires-clause-no_half
 settle_pair-requires-clause-no_half g c =
-    subst (λ (r : List Ref). NameNoHalf g.N.Naming.program (word_at r) (the_pair (part_at g.N.Naming.program c.args.base c.args.node.0) (Number c.args.pair))) (sym c.end_of.ensures.unchanged) c.requires.no_half
+    subst (λ (r : List Ref). NameNoHalf g.N.Naming.program (word_at r) (the_pair (part_at g.N.Naming.program c.args.base c.args.node.0) (Number c.args.pair)))
+    (sym c.end_of.ensures.unchanged) c.requires.no_half
 
 pub settle_pair-requires-clause-new : goal.settle_pair-requires-clause-new
 settle_pair-requires-clause-new g c =
-    subst (λ (r : List Ref). AreNewFrom g.N.Naming.program r (the_pair (part_at g.N.Naming.program c.args.base c.args.node.0) (Number c.args.pair)) c.args.floor) (sym c.end_of.ensures.unchanged) c.requires.new
+    subst (λ (r : List Ref). AreNewFrom g.N.Naming.program r (the_pair (part_at g.N.Naming.program c.args.base c.args.node.0) (Number c.args.pair))
+    c.args.floor) (sym c.end_of.ensures.unchanged) c.requires.new
 
 pub returns-clause-settles : goal.returns-clause-settles
 returns-clause-settles g c =
-    subst (λ (r : List Ref). Settles g.N.Naming.program r c.settle_pair.new.cells (the_pair (part_at g.N.Naming.program c.args.base c.args.node.0) (Number c.args.pair)) c.settle_pair.result)
+    subst (λ (r : List Ref). Settles g.N.Naming.program r c.settle_pair.new.cells
+    (the_pair (part_at g.N.Naming.program c.args.base c.args.node.0) (Number c.args.pair)) c.settle_pair.result)
     c.end_of.ensures.unchanged c.settle_pair.ensures.settles
 
 pub returns-clause-noted : goal.returns-clause-noted

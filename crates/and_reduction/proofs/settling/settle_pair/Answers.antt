@@ -64,4 +64,6 @@ returns-in-Ok-clause-settles g c =
     c.settle_noted.ensures.settles
 
 pub returns-in-Err-clause-settles : goal.returns-in-Err-clause-settles
-returns-in-Err-clause-settles g c = nothing_settled g.N.Naming.program c.args.cells.now (the_pair (part_at g.N.Naming.program c.args.base c.args.node.0) (Number c.args.pair))
+returns-in-Err-clause-settles g c =
+    nothing_settled g.N.Naming.program c.args.cells.now
+    (the_pair (part_at g.N.Naming.program c.args.base c.args.node.0) (Number c.args.pair))

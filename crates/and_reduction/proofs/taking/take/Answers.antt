@@ -1,36 +1,21 @@
-use Rattle.std.proofs.Common.{ℕ, ◌≡◌, Some, List, ◌++◌, subst}
-use Rattle.std.specs.Prelude.{slice_get}
+use Rattle.std.proofs.Common.{List, ◌++◌}
 use Rattle.std.proofs.lemmas.Result.{on_ok_weaker}
 use Rattle.and_model.specs.Programs.{clause_at, clause_weight}
 use Rattle.and_model.specs.Solutions.{Equation, Solvable}
 use Rattle.and_model.specs.declared.reference.Ref.{Ref}
-use Rattle.and_program.specs.Loaded.{nodes_at}
-use Rattle.and_program.specs.Skeletons.{call}
-use Rattle.and_cells.specs.Ranges.{NamedProgram}
 use Rattle.and_cells.specs.Meaning.{equations_of}
 use Rattle.and_branch_laws.specs.Settling.{Settled}
-use Rattle.and_branch_laws.proofs.Nodes.{has_node}
-use Rattle.and_branch_laws.proofs.Loading.{loaded_is}
 use Rattle.and_reduction.proofs.NotedSteps.{framed_noted}
 use Rattle.and_reduction.proofs.TakenHeads.{head_asked, reduced}
 use Rattle.and_reduction.proofs.taking.take.Goals as goal
-
-pub call_at-call-requires-clause-call : goal.call_at-call-requires-clause-call
-call_at-call-requires-clause-call g c =
-    let P = g.N.Naming.program in
-    let goal = c.args.goal in
-    let facts = loaded_is P c.args.loaded.now c.requires.program c.skeleton_is_of_the_program.ensures.skeleton
-    c.skeleton_is_of_the_program.ensures.own_variables c.skeleton_is_of_the_program.ensures.few in
-    subst (λ (Q : NamedProgram). (n : ℕ) × (slice_get (nodes_at Q.skeleton goal.clause.0).items goal.item ≡ Some (call n)))
-    c.requires.program (has_node P facts c.args.cells.now goal c.requires.goal)
 
 pub settle_head-requires-clause-call : goal.settle_head-requires-clause-call
 settle_head-requires-clause-call g c =
     let P = g.N.Naming.program in
     let asked = head_asked P c.args.loaded.now c.requires.program c.skeleton_is_of_the_program.ensures.skeleton
     c.skeleton_is_of_the_program.ensures.own_variables c.skeleton_is_of_the_program.ensures.few c.args.cells.now c.open_frame.new.cells
-    c.args.clause.0 c.in_ok-floor.floor c.args.goal c.call_at-call.result.0 c.args.head.0 c.requires.clause c.in_ok-floor.ensures.widened
-    c.in_ok-floor.ensures.floor c.requires.goal c.in_ok-floor.ensures.frame c.call_at-call.ensures c.requires.head in
+    c.args.clause.0 c.in_ok-floor.floor c.args.goal c.args.call.0 c.args.head.0 c.requires.clause c.in_ok-floor.ensures.widened
+    c.in_ok-floor.ensures.floor c.requires.goal c.in_ok-floor.ensures.frame c.requires.call c.requires.head in
     asked.call_in_range
 
 pub settle_head-requires-clause-head : goal.settle_head-requires-clause-head
@@ -38,8 +23,8 @@ settle_head-requires-clause-head g c =
     let P = g.N.Naming.program in
     let asked = head_asked P c.args.loaded.now c.requires.program c.skeleton_is_of_the_program.ensures.skeleton
     c.skeleton_is_of_the_program.ensures.own_variables c.skeleton_is_of_the_program.ensures.few c.args.cells.now c.open_frame.new.cells
-    c.args.clause.0 c.in_ok-floor.floor c.args.goal c.call_at-call.result.0 c.args.head.0 c.requires.clause c.in_ok-floor.ensures.widened
-    c.in_ok-floor.ensures.floor c.requires.goal c.in_ok-floor.ensures.frame c.call_at-call.ensures c.requires.head in
+    c.args.clause.0 c.in_ok-floor.floor c.args.goal c.args.call.0 c.args.head.0 c.requires.clause c.in_ok-floor.ensures.widened
+    c.in_ok-floor.ensures.floor c.requires.goal c.in_ok-floor.ensures.frame c.requires.call c.requires.head in
     asked.head_in_range
 
 pub settle_head-requires-clause-ready : goal.settle_head-requires-clause-ready
@@ -47,8 +32,8 @@ settle_head-requires-clause-ready g c =
     let P = g.N.Naming.program in
     let asked = head_asked P c.args.loaded.now c.requires.program c.skeleton_is_of_the_program.ensures.skeleton
     c.skeleton_is_of_the_program.ensures.own_variables c.skeleton_is_of_the_program.ensures.few c.args.cells.now c.open_frame.new.cells
-    c.args.clause.0 c.in_ok-floor.floor c.args.goal c.call_at-call.result.0 c.args.head.0 c.requires.clause c.in_ok-floor.ensures.widened
-    c.in_ok-floor.ensures.floor c.requires.goal c.in_ok-floor.ensures.frame c.call_at-call.ensures c.requires.head in
+    c.args.clause.0 c.in_ok-floor.floor c.args.goal c.args.call.0 c.args.head.0 c.requires.clause c.in_ok-floor.ensures.widened
+    c.in_ok-floor.ensures.floor c.requires.goal c.in_ok-floor.ensures.frame c.requires.call c.requires.head in
     asked.ask.ready
 
 pub returns-clause-solved : goal.returns-clause-solved
@@ -56,8 +41,8 @@ returns-clause-solved g c = λ e.
     let P = g.N.Naming.program in
     reduced P c.args.loaded.now c.requires.program c.skeleton_is_of_the_program.ensures.skeleton
     c.skeleton_is_of_the_program.ensures.own_variables c.skeleton_is_of_the_program.ensures.few c.args.cells.now c.open_frame.new.cells
-    c.args.clause.0 c.in_ok-floor.floor c.args.goal c.call_at-call.result.0 c.args.head.0 c.requires.clause c.in_ok-floor.ensures.widened
-    c.in_ok-floor.ensures.floor c.requires.goal c.in_ok-floor.ensures.frame c.call_at-call.ensures c.requires.head
+    c.args.clause.0 c.in_ok-floor.floor c.args.goal c.args.call.0 c.args.head.0 c.requires.clause c.in_ok-floor.ensures.widened
+    c.in_ok-floor.ensures.floor c.requires.goal c.in_ok-floor.ensures.frame c.requires.call c.requires.head
     (λ (r : List Ref) (es : List Equation). Settled P r c.settle_head.new.cells es) (c.settle_head.ensures.solved e)
 
 pub returns-clause-unsolved : goal.returns-clause-unsolved
@@ -65,8 +50,8 @@ returns-clause-unsolved g c = λ e.
     let P = g.N.Naming.program in
     reduced P c.args.loaded.now c.requires.program c.skeleton_is_of_the_program.ensures.skeleton
     c.skeleton_is_of_the_program.ensures.own_variables c.skeleton_is_of_the_program.ensures.few c.args.cells.now c.open_frame.new.cells
-    c.args.clause.0 c.in_ok-floor.floor c.args.goal c.call_at-call.result.0 c.args.head.0 c.requires.clause c.in_ok-floor.ensures.widened
-    c.in_ok-floor.ensures.floor c.requires.goal c.in_ok-floor.ensures.frame c.call_at-call.ensures c.requires.head
+    c.args.clause.0 c.in_ok-floor.floor c.args.goal c.args.call.0 c.args.head.0 c.requires.clause c.in_ok-floor.ensures.widened
+    c.in_ok-floor.ensures.floor c.requires.goal c.in_ok-floor.ensures.frame c.requires.call c.requires.head
     (λ (r : List Ref) (es : List Equation). Solvable (equations_of P r ++ es) → ⊥) (c.settle_head.ensures.unsolved e)
 
 pub returns-clause-noted : goal.returns-clause-noted

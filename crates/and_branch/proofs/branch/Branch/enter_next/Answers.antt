@@ -6,6 +6,7 @@ use Rattle.and_branch_parts.proofs.KeptOrigins.{reduced_back}
 use Rattle.and_branch_parts.proofs.LoadedPrograms.{is_loaded}
 use Rattle.and_branch_parts.proofs.NextReduced.{next_judged, next_dies}
 use Rattle.and_branch_parts.proofs.PassedGoals.{first_goal, popped_left, popped_right, popped_watched}
+use Rattle.and_branch.specs.Nodes.{IsNextNode}
 use Rattle.and_branch.proofs.BodiesRun.{next_entered}
 use Rattle.and_branch.proofs.branch.Branch.enter_next.Goals as goal
 
@@ -18,6 +19,13 @@ take-requires-clause-goal g c =
     let has = subst (λ (b : Held). HasNextCall P b c.args.clause.0) (sym c.self.view_is) c.requires.next in
     next_judged P loaded _ c.args.clause.0 c.in-Some.goal (goals_of rest) has
     (first_goal c.self.inside.goals.right rest w c.in-Some.goal next same)
+
+pub take-requires-clause-call : goal.take-requires-clause-call
+take-requires-clause-call g c =
+    let P = g.N.Naming.program in
+    let (w, rest, next, same, popped) = c.in-Some.ensures.some in
+    let needs = subst (λ (b : Held). IsNextNode P b c.args.call.0) (sym c.self.view_is) c.requires.call in
+    needs c.in-Some.goal (goals_of rest) (first_goal c.self.inside.goals.right rest w c.in-Some.goal next same)
 
 pub returns-in-Solved-clause-entered : goal.returns-in-Solved-clause-entered
 returns-in-Solved-clause-entered g c = λ _.

@@ -11,6 +11,7 @@ use Rattle.and_branch_parts.proofs.LookedGoals.{next_ready, passed, reduced_step
 use Rattle.and_branch_parts.proofs.WatchedGoals.{watches_still}
 use Rattle.and_branch.specs.Bodies.{with_body}
 use Rattle.and_branch.proofs.BodiesRun.{entered_at, kept_to}
+use Rattle.and_branch.proofs.NextNodes.{next_node}
 use Rattle.and_branch.proofs.branch.Branch.look_at_last.Goals as goal
 
 pub look_at_heavy-requires-clause-no_room : goal.look_at_heavy-requires-clause-no_room
@@ -32,6 +33,10 @@ enter_next-requires-clause-next g c =
     let room = subst (λ (w : ℕ). c.args.self.now.used + w ≤ c.args.self.now.limit) weight
     (c.has_room.ensures.room c.if-not-has_room.false) in
     next_ready P c.args.self.now c.args.goal c.requires.at c.args.clause.0 c.requires.call.0 c.requires.call.1 c.requires.last.0 room
+
+pub enter_next-requires-clause-call : goal.enter_next-requires-clause-call
+enter_next-requires-clause-call g c =
+    next_node g.N.Naming.program c.args.self.now c.args.goal c.requires.at c.args.called.0 c.requires.node
 
 pub enter_next-requires-clause-weight : goal.enter_next-requires-clause-weight
 enter_next-requires-clause-weight g c =

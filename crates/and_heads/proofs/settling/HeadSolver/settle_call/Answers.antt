@@ -47,7 +47,8 @@ settle_call_by_solver-requires-clause-written g c =
     let set = c.settle_call_directly.ensures.bound in
     let many : c.len-words.result ≡ length c.args.cells.now = c.len-words.ensures.value ∙ set.words in
     let same = back c.args.cells.now _ _ _ _ _ many c.deref.ensures.value set c.take_back.ensures in
-    subst (λ (r : List Ref). AreWritten (plain r) (call_and_head g.N.Naming.program c.args.base c.args.call.0 c.args.floor c.args.head.0)) (sym same) c.requires.written
+    subst (λ (r : List Ref). AreWritten (plain r) (call_and_head g.N.Naming.program c.args.base c.args.call.0 c.args.floor c.args.head.0)) (sym same)
+    c.requires.written
 
 pub settle_call_by_solver-requires-clause-settled : goal.settle_call_by_solver-requires-clause-settled
 settle_call_by_solver-requires-clause-settled g c =
@@ -77,7 +78,8 @@ returns-clause-settles g c =
     let set = c.settle_call_directly.ensures.bound in
     let many : c.len-words.result ≡ length c.args.cells.now = c.len-words.ensures.value ∙ set.words in
     let same = back c.args.cells.now _ _ _ _ _ many c.deref.ensures.value set c.take_back.ensures in
-    subst (λ (r : List Ref). Settles g.N.Naming.program r c.settle_call_by_solver.new.cells (call_and_head g.N.Naming.program c.args.base c.args.call.0 c.args.floor c.args.head.0)
+    subst (λ (r : List Ref). Settles g.N.Naming.program r c.settle_call_by_solver.new.cells
+    (call_and_head g.N.Naming.program c.args.base c.args.call.0 c.args.floor c.args.head.0)
     c.settle_call_by_solver.result) same c.settle_call_by_solver.ensures.settles
 
 pub returns-clause-bound : goal.returns-clause-bound

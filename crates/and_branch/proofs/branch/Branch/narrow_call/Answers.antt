@@ -3,7 +3,7 @@ use Rattle.std.specs.Prelude.{IfSome}
 use Rattle.and_determinacy.specs.Candidates.{IsNarrowed}
 use Rattle.and_determinacy.specs.Watching.{TwoStayWhile}
 use Rattle.and_branch_parts.specs.Branches.{Held}
-use Rattle.and_branch.proofs.branch.Branch.narrow_goal.Goals as goal
+use Rattle.and_branch.proofs.branch.Branch.narrow_call.Goals as goal
 
 pub returns-clause-narrowed : goal.returns-clause-narrowed
 returns-clause-narrowed g c =
