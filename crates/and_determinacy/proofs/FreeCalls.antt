@@ -1,6 +1,6 @@
 -- A call whose arguments are free cells, each another one, can be made one with each head of its predicate.
 use Rattle.std.proofs.Common.{ℕ, ◌+◌, ◌≡◌, ◌≢◌, ◌<◌, ◌≤◌, Bool, true, false, true≢false, cond, ◌&&◌, ltb, leb, nat_eq, List, [], ◌∷◌, ◌++◌, length, map}
-use Rattle.std.proofs.Common.{refl, sym, ap, ◌∙◌, subst, inl, inr, arith, eqb, Some, get_or}
+use Rattle.std.proofs.Common.{refl, sym, ap, ◌∙◌, subst, arith, eqb, Some, get_or}
 use Rattle.std.specs.Prelude.{All, Contains, pos, Option, IfSome}
 use Rattle.std.proofs.lemmas.Bool.{eq-eqb, eqb-true}
 use Rattle.std.proofs.lemmas.List.Elements.{All-contains, All-weaker, All-head, All-tail, All-nil, All-push}
@@ -21,7 +21,6 @@ use Rattle.and_program.specs.Skeletons.{Shape, term_list, nth, node_term, shape_
 use Rattle.and_program.specs.Loaded.{shape_at, arguments_at, program_of}
 use Rattle.and_program.specs.declared.loaded.Loaded.{Loaded}
 use Rattle.and_program.specs.Shown.{arguments_in, resolved}
-use Rattle.and_laws.proofs.Equality.{bool_cases}
 use Rattle.and_laws.proofs.Ordered.{contains_first, contains_more}
 use Rattle.and_laws.proofs.Solving.{solves_then}
 use Rattle.and_laws.proofs.Substitutions.{then, apply_then, and_left, and_right}
@@ -46,6 +45,7 @@ use Rattle.and_determinacy.specs.declared.judging.Narrowed.TheVariants as narrow
 use Rattle.and_determinacy.specs.declared.judging.Judged.TheVariants.{Several}
 use Rattle.and_determinacy.specs.Watching.{AreApart, AreFreeArguments, StaysWhile, TwoStayWhile}
 use Rattle.and_determinacy.proofs.Fitted.{variable_given}
+use Rattle.and_determinacy.proofs.SureHeads.{is_other}
 use Rattle.and_laws.proofs.ClausesOf.{of_applied}
 use Rattle.and_determinacy.proofs.Searching.{next_found, counted, as_judged}
 use Rattle.and_determinacy.proofs.Told.{two_stay}
@@ -69,9 +69,6 @@ given (c ∷ cs) (more h hs) n = cond (eqb n c) (framed outside h) (given cs hs 
 
 given_first : (c : ℕ) (cs : List ℕ) (h : Term) (hs : Terms) → given (c ∷ cs) (more h hs) c ≡ framed outside h
 given_first c cs h hs = ap (λ (b : Bool). cond b (framed outside h) (given cs hs c)) (eq-eqb c c refl)
-
-is_other : (n c : ℕ) → n ≢ c → eqb n c ≡ false
-is_other n c other = elim (bool_cases (eqb n c)) [ inl e ↦ absurd (other (eqb-true n c e)) | inr e ↦ e ]
 
 given_other : (c : ℕ) (cs : List ℕ) (h : Term) (hs : Terms) (n : ℕ) → n ≢ c → given (c ∷ cs) (more h hs) n ≡ given cs hs n
 given_other c cs h hs n other = ap (λ (b : Bool). cond b (framed outside h) (given cs hs n)) (is_other n c other)
@@ -98,7 +95,7 @@ head_of name ts (compound d hs) e =
     (hs, ap (λ (n : ℕ). compound n hs) (sym same), and_right (nat_eq name d) (same_count ts hs) e)
 
 -- where a body has no guard, it has none in any frame
-no_guard : (q : Path) (items : List Item) → guard [] items ≡ [] → guard q items ≡ []
+pub no_guard : (q : Path) (items : List Item) → guard [] items ≡ [] → guard q items ≡ []
 no_guard q [] e = refl
 no_guard q (Programs.arithmetic (Programs.compare r a b) ∷ items) e = absurd (cc)
 no_guard q (Programs.arithmetic (Programs.is l r) ∷ items) e = refl

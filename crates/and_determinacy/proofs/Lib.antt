@@ -6,6 +6,10 @@ pub mod Prepared
 pub mod Resting
 pub mod Searching
 pub mod Staying
+pub mod SureCalls
+pub mod SureHeads
+pub mod SureParts
+pub mod SureSteps
 pub mod TakenBack
 pub mod Told
 pub mod TriedClauses

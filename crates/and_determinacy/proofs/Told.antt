@@ -19,7 +19,7 @@ use Rattle.and_clause_index.specs.Served.{NodeHas, AreServed}
 use Rattle.and_determinacy.specs.Searches.{NodeKeeps, IsNextOf, IsCount}
 use Rattle.and_determinacy.specs.declared.judging.Found.{Found}
 use Rattle.and_determinacy.specs.declared.judging.Judged.TheVariants.{Several}
-use Rattle.and_determinacy.specs.Watching.{IsWatched, IsListed, IsFollowed, StaysWhile, TwoStayWhile, HaveWhatWasSet, HadBefore, AreListed, told_if}
+use Rattle.and_determinacy.specs.Watching.{IsWatched, IsListed, IsFollowed, StaysWhile, TwoStayWhile, HaveWhatWasSet, HadBefore, AreListed, AreAllListed, told_if}
 use Rattle.and_determinacy.proofs.Searching.{none_fewer, two_rise}
 
 -- What holds of the cells if they are told holds where they are.
@@ -124,6 +124,32 @@ module _ (P : NamedProgram) (row : List Ref) (floor : ℕ) (bound had listed : L
       λ cell c. subst (λ (xs : List ℕ). Contains xs cell) (sym longer) (Contains-append_left listed gained cell
           (subst (λ (xs : List ℕ). Contains xs cell) (sym are.longer) (Contains-append_left had are.gained cell c))),
     )
+
+-- ---- Cells that are put on a list
+
+pub none_listed : (old : List ℕ) → AreAllListed [] old old
+none_listed old = record { gained = []; longer = sym (append-nil old); there = λ cell c. absurd (contains_none cell c) }
+
+pub another_listed : (cells old mid new : List ℕ) (cell : ℕ) → AreAllListed cells old mid → IsListed cell 0 mid new
+    → AreAllListed (cells ++ cell ∷ []) old new
+another_listed cells old mid new cell are one = record {
+  gained = are.gained ++ one.gained;
+  longer = one.longer ∙ ap (λ (xs : List ℕ). xs ++ one.gained) are.longer ∙ append_assoc old are.gained one.gained;
+  there = λ other c. elim (Contains-append_cases cells (cell ∷ []) other c) [
+    | inl before ↦ subst (λ (xs : List ℕ). Contains xs other) (sym one.longer) (Contains-append_left mid one.gained other (are.there other before))
+    | inr last ↦ elim (contains_cases cell other [] last) [
+      | inl e ↦ subst (Contains new) (sym e) one.there
+      | inr none ↦ absurd (contains_none other none)
+    ]
+  ];
+}
+
+pub all_had : (cells old new : List ℕ) → AreAllListed cells old new → (told : Option (List ℕ)) → told ≡ Some old → HadBefore told new
+all_had cells old new are told is = (
+  old,
+  is,
+  λ cell c. subst (λ (xs : List ℕ). Contains xs cell) (sym are.longer) (Contains-append_left old are.gained cell c),
+)
 
 -- ---- What stays
 

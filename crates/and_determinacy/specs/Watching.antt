@@ -104,6 +104,12 @@ pub record AreListed (P : NamedProgram) (row : List Ref) (bound : List ℕ) (flo
   pub suffices : Suffice P row floor 0 new visits (λ cells. (b : ℕ) → Contains bound b → b < floor
       → IsWatched P row floor cells (Cell b))
 
+-- Each of these cells is on a list, which may be longer than it was.
+pub record AreAllListed (cells old new : List ℕ) : Type 0 where
+  pub gained : List ℕ
+  pub longer : new ≡ old ++ gained
+  pub there : (cell : ℕ) → Contains cells cell → Contains new cell
+
 -- ---- Arguments that are free
 
 -- No two of these cells are one.

@@ -9,6 +9,7 @@
 
 pub mod judging;
 mod rests;
+mod seeing;
 mod trying;
 pub mod watching;
 

@@ -1,17 +1,23 @@
 //! The cells on which candidates rest that were tried.
 
-ghost use Rattle.std.specs.Prelude.{◌≡◌, ◌≢◌, ◌<◌, ◌≤◌, ◌^◌, ℕ, List, [], Some, None, Ok, true, length, All, OnOk, IfSome};
+ghost use Rattle.std.specs.Prelude.{◌≡◌, ◌≢◌, ◌<◌, ◌≤◌, ◌^◌, ℕ, List, [], Some, None, Ok, true, false, length, All, OnOk, IfSome};
 ghost use Rattle.std.specs.Prelude.{option_copied};
-ghost use Rattle.and_model.specs.Candidates.{guard};
-ghost use Rattle.and_model.specs.Programs.{clause_at};
-ghost use Rattle.and_program.specs.Skeletons.{AllFall};
+ghost use Rattle.and_model.specs.Candidates.{Candidate, guard};
+ghost use Rattle.and_model.specs.Programs.{Of, clause_at};
+ghost use Rattle.and_program.specs.Skeletons.{AllFall, node_term};
+ghost use Rattle.and_cells.specs.Meaning.{IsSettled, equations_of};
 ghost use Rattle.and_cells.specs.Parts.{named};
-ghost use Rattle.and_determinacy.specs.Watching.{HaveWhatWasSet, HadBefore, AreListed, AreFreeArguments};
+ghost use Rattle.and_branch_laws.specs.Judging.{outside};
+ghost use Rattle.and_branch_laws.specs.Variables.{placed};
+ghost use Rattle.and_guards.specs.Guards.{CanBeRead};
+ghost use Rattle.and_determinacy.specs.Watching.{HaveWhatWasSet, HadBefore, StaysWhile, AreListed, AreAllListed};
+ghost use Rattle.and_determinacy.specs.Watching.{AreFreeArguments};
 ghost use Rattle.and_model.specs.declared.reference.Ref.{Ref};
 ghost use Rattle.and_program.specs.Loaded.{arguments_at, skeleton_of};
 ghost use Rattle.and_cells.specs.Ranges.{IsInRange};
 ghost use Rattle.and_cells.specs.Seen.{word_at};
 
+use crate::seeing::is_seen;
 use crate::watching::{MOST_PLACES, follow_cell, gather, list_cell};
 use and_cells::{Naming, PlainCells};
 use and_clause_index::count_in;
@@ -26,6 +32,7 @@ pub(crate) struct Rests {
     cells: Vec<u32>,
     are_told: bool,
     visits: Vec<Ref>,
+    held: Vec<u32>,
 }
 
 // By hand, so that it is proved once, here.
@@ -35,6 +42,7 @@ impl Drop for Rests {
             cells: _,
             are_told: _,
             visits: _,
+            held: _,
         } = self;
     }
 }
@@ -57,6 +65,7 @@ impl Rests {
             cells: Vec::new(alloc),
             are_told: false,
             visits: Vec::new(alloc),
+            held: Vec::new(alloc),
         }
     }
 
@@ -105,6 +114,49 @@ impl Rests {
         self.cells.clear();
         self.are_told = true;
         list_free(loaded, cells, node, base, &mut self.cells)
+    }
+
+    /// Whether a clause is seen to be a candidate of the call whose node is given, in the frame at the base, without a
+    /// trial: `false` says nothing. If it is, the cells are added on which this rests. An error is want of memory.
+    #[inline(always)]
+    pub(crate) fn add_seen<N: Naming>(
+        &mut self,
+        loaded: &Loaded,
+        cells: &PlainCells<N>,
+        node: NodeNo,
+        base: u32,
+        clause: ClauseNo,
+    ) -> Result<bool, AllocError>
+        requires program { N.program ≡ named loaded.now }
+        requires settled { IsSettled N.program cells.now }
+        requires node { CanBeRead N.program cells.now base node.0 }
+        requires of { Of N.program.program (node_term N.program.skeleton.nodes node.0) clause.0 }
+        ensures fits { result ≡ Ok true → Candidate N.program.program (equations_of N.program cells.now) outside
+            (placed base (node_term N.program.skeleton.nodes node.0)) clause.0 }
+        ensures before { result ≡ Ok true → IfSome self.new (HadBefore self.old) }
+        ensures stays { result ≡ Ok true → IfSome self.new (λ has.
+            StaysWhile N.program cells.now base (node_term N.program.skeleton.nodes node.0) has clause.0) }
+        ensures same { result ≡ Ok false → self.new ≡ self.old }
+    {
+        self.held.clear();
+        self.visits.clear();
+        let seen = is_seen(
+            loaded,
+            cells,
+            node,
+            base,
+            clause,
+            &mut self.held,
+            &mut self.visits,
+        )?;
+        if !seen {
+            return Ok(false);
+        }
+        if !self.are_told {
+            return Ok(true);
+        }
+        list_all(&self.held, &mut self.cells)?;
+        Ok(true)
     }
 
     /// Adds the cells on which a clause rests that was tried and fitted: of those below the floor, where
@@ -188,7 +240,7 @@ fn list_free<N: Naming>(
 
 /// Whether a cell is free and none of these.
 #[inline(always)]
-fn is_another<N: Naming>(cells: &PlainCells<N>, cell: u32, others: &[u32]) -> bool
+pub(crate) fn is_another<N: Naming>(cells: &PlainCells<N>, cell: u32, others: &[u32]) -> bool
     requires { cell < length cells.now }
     ensures free { result ≡ true → word_at cells.now cell ≡ Ref.Free }
     ensures another { result ≡ true → All (λ (other : ℕ). other ≢ cell) others.now }
@@ -237,6 +289,17 @@ fn list_below<N: Naming>(
             list_cell(*cell, 0, out)?;
             follow_cell(loaded, cells, *cell, floor, 0, visits, out)?;
         }
+    }
+    Ok(())
+}
+
+/// Puts these cells on a list, unless they are there. An error is want of memory.
+#[inline(always)]
+fn list_all(cells: &[u32], out: &mut Vec<u32>) -> Result<(), AllocError>
+    ensures { OnOk result (AreAllListed cells.now out.old.items out.new.items) }
+{
+    for cell in cells {
+        list_cell(*cell, 0, out)?;
     }
     Ok(())
 }

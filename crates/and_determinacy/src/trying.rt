@@ -165,6 +165,10 @@ impl Trials {
         if self.look.is_doubled_apart(loaded, clause) {
             return Ok(false);
         }
+        let is_seen = self.rests.add_seen(loaded, cells, node, base, clause)?;
+        if is_seen {
+            return Ok(true);
+        }
         self.tools
             .fits(loaded, cells, node, base, clause, &mut self.rests)
     }

@@ -1,4 +1,4 @@
-use Rattle.std.proofs.Common.{◌≡◌, ◌≤◌, false, true≢false, length, sym, subst, ◌∙◌}
+use Rattle.std.proofs.Common.{◌≡◌, ◌≤◌, Ok, false, true, true≢false, length, sym, ap, subst, ◌∙◌, rules}
 use Rattle.and_cells.specs.Ranges.{NamedProgram}
 use Rattle.and_clause_index.proofs.ClauseLists.{clause_there}
 use Rattle.and_program.specs.Skeletons.{node_term}
@@ -17,3 +17,9 @@ returns-then-is_doubled_apart-clause-fits g c = λ b e.
       (λ has. absurd (c.is_doubled_apart.ensures c.if-is_doubled_apart.true g.N.Naming.program c.args.cells.now c.args.node.0 c.args.base
           c.requires.program c.requires.look has)),
     )
+
+pub returns-then-is_seen-clause-fits : goal.returns-then-is_seen-clause-fits
+returns-then-is_seen-clause-fits g c = λ b e.
+    let same : true ≡ b = cc in
+    let seen : c.in_ok-is_seen.is_seen ≡ true = search rules in
+    ((λ is. c.in_ok-is_seen.ensures.fits (ap (λ x. Ok x) seen)), (λ has. sym same))

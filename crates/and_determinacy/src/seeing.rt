@@ -1,0 +1,421 @@
+//! Clauses that are seen to fit a call, without a trial.
+
+ghost use Rattle.std.specs.Prelude.{◌≡◌, ◌≢◌, ◌<◌, ◌^◌, ◌++◌, ◌∷◌, ◌⊎◌, ℕ, [], Ok, All, Contains, true, length};
+ghost use Rattle.and_model.specs.Candidates.{Candidate};
+ghost use Rattle.and_model.specs.Programs.{Of};
+ghost use Rattle.and_model.specs.Terms.{framed, variable};
+ghost use Rattle.and_model.specs.declared.reference.Ref.{Ref};
+ghost use Rattle.and_program.specs.Loaded.{arguments_at, shape_at, skeleton_of};
+ghost use Rattle.and_program.specs.Shown.{shown};
+ghost use Rattle.and_program.specs.Skeletons;
+ghost use Rattle.and_program.specs.Skeletons.{AllFall, node_term};
+ghost use Rattle.and_cells.specs.Meaning.{IsSettled, cell_variable, equations_of};
+ghost use Rattle.and_cells.specs.Parts.{named};
+ghost use Rattle.and_cells.specs.Ranges.{IsInRange, IsInRangeOrHalf};
+ghost use Rattle.and_cells.specs.Rows.{plain};
+ghost use Rattle.and_cells.specs.Seen.{LeadsTo};
+ghost use Rattle.and_branch_laws.specs.Judging.{outside};
+ghost use Rattle.and_branch_laws.specs.Variables.{placed};
+ghost use Rattle.and_guards.specs.Guards.{CanBeRead};
+ghost use Rattle.and_determinacy.specs.Seeing.{Meets, AreLacking, IsPart, IsUsable, argument_pairs, ref_term};
+ghost use Rattle.and_determinacy.specs.Watching.{StaysWhile};
+
+use crate::rests::is_another;
+use and_cells::{Naming, PlainCells};
+use and_clause_index::count_in;
+use and_model::{ClauseNo, NodeNo, Ref};
+use and_program::{Loaded, NodeKind};
+use std::alloc::AllocError;
+
+/// Whether a clause is seen to be a candidate of the call whose node is given, in the frame at the base, without a trial:
+/// `false` says nothing. On a list that was empty are then the cells on which this rests. An error is want of memory.
+#[inline(always)]
+pub(crate) fn is_seen<N: Naming>(
+    loaded: &Loaded,
+    cells: &PlainCells<N>,
+    node: NodeNo,
+    base: u32,
+    clause: ClauseNo,
+    held: &mut Vec<u32>,
+    given: &mut Vec<Ref>,
+) -> Result<bool, AllocError>
+    requires program { N.program ≡ named loaded.now }
+    requires settled { IsSettled N.program cells.now }
+    requires node { CanBeRead N.program cells.now base node.0 }
+    requires of { Of N.program.program (node_term N.program.skeleton.nodes node.0) clause.0 }
+    requires nothing_held { held.old.items ≡ [] }
+    requires nothing_given { given.old.items ≡ [] }
+    ensures fits { result ≡ Ok true → Candidate N.program.program (equations_of N.program cells.now) outside
+        (placed base (node_term N.program.skeleton.nodes node.0)) clause.0 }
+    ensures stays { result ≡ Ok true → StaysWhile N.program cells.now base
+        (node_term N.program.skeleton.nodes node.0) held.new.items clause.0 }
+{
+    loaded.skeleton_is_of_the_program();
+    let _words = cells.len();
+    let guard = loaded.guard(clause);
+    if guard > 0 {
+        return Ok(false);
+    }
+    let head = loaded.head(clause);
+    arguments_meet(loaded, cells, node, base, head, held, given)
+}
+
+/// Whether the arguments of a call, read in the frame at the base, are seen to be made one with those of a head. What
+/// the variables of the head are given is noted, and the free cells of the call on which this rests are put on a list.
+/// An error is want of memory.
+fn arguments_meet<N: Naming>(
+    loaded: &Loaded,
+    cells: &PlainCells<N>,
+    node: NodeNo,
+    base: u32,
+    head: NodeNo,
+    held: &mut Vec<u32>,
+    given: &mut Vec<Ref>,
+) -> Result<bool, AllocError>
+    requires program { N.program ≡ named loaded.now }
+    requires falls { AllFall 0 N.program.skeleton.nodes }
+    requires in_range { IsInRange N.program (length cells.now) (Ref.Node node base) }
+    requires there { head.0 < length (skeleton_of loaded.now).nodes }
+    requires as_many { length (arguments_at (skeleton_of loaded.now) node.0)
+        ≡ length (arguments_at (skeleton_of loaded.now) head.0) }
+    requires usable { All (IsUsable N.program (length cells.now)) given.old.items }
+    ensures { result ≡ Ok true → Meets N.program cells.now held.old.items held.new.items given.old.items given.new.items
+        (argument_pairs N.program base (arguments_at N.program.skeleton node.0)
+        (arguments_at N.program.skeleton head.0)) }
+{
+    for place in 0..count_in(loaded.kind(head)) {
+        let part = loaded.resolve(loaded.argument(node, place), base);
+        let asked = loaded.argument(head, place);
+        let met = argument_meets(loaded, cells, part, asked, held, given)?;
+        if !met {
+            return Ok(false);
+        }
+    }
+    Ok(true)
+}
+
+/// Whether one of them is.
+#[inline(always)]
+fn argument_meets<N: Naming>(
+    loaded: &Loaded,
+    cells: &PlainCells<N>,
+    part: Ref,
+    asked: NodeNo,
+    held: &mut Vec<u32>,
+    given: &mut Vec<Ref>,
+) -> Result<bool, AllocError>
+    requires program { N.program ≡ named loaded.now }
+    requires falls { AllFall 0 N.program.skeleton.nodes }
+    requires in_range { IsPart N.program (length cells.now) part }
+    requires there { asked.0 < length (skeleton_of loaded.now).nodes }
+    requires usable { All (IsUsable N.program (length cells.now)) given.old.items }
+    ensures { result ≡ Ok true → Meets N.program cells.now held.old.items held.new.items given.old.items given.new.items
+        ((ref_term N.program part, framed outside (node_term N.program.skeleton.nodes asked.0)) ∷ []) }
+{
+    match loaded.kind(asked) {
+        NodeKind::Variable(number) => take(loaded, cells, part, asked, number, held, given),
+        NodeKind::Number(_) => term_meets(loaded, cells, part, asked, held, given),
+        NodeKind::Compound { name: _, count: _ } => term_meets(
+            loaded, cells, part, asked, held, given,
+        ),
+    }
+}
+
+/// Whether a part of the call is seen to be made one with a term of the head that is no variable.
+#[inline(always)]
+fn term_meets<N: Naming>(
+    loaded: &Loaded,
+    cells: &PlainCells<N>,
+    part: Ref,
+    asked: NodeNo,
+    held: &mut Vec<u32>,
+    given: &mut Vec<Ref>,
+) -> Result<bool, AllocError>
+    requires program { N.program ≡ named loaded.now }
+    requires falls { AllFall 0 N.program.skeleton.nodes }
+    requires in_range { IsPart N.program (length cells.now) part }
+    requires there { asked.0 < length (skeleton_of loaded.now).nodes }
+    requires solid { (k : ℕ) → shape_at N.program.skeleton asked.0 ≢ Skeletons.variable k }
+    requires usable { All (IsUsable N.program (length cells.now)) given.old.items }
+    ensures { result ≡ Ok true → Meets N.program cells.now held.old.items held.new.items given.old.items given.new.items
+        ((ref_term N.program part, framed outside (node_term N.program.skeleton.nodes asked.0)) ∷ []) }
+{
+    match end_of(cells, part) {
+        Ref::Cell(cell) => fill(loaded, cells, cell, asked, held, given),
+        Ref::Node { node, base } => structure_meets(loaded, cells, node, base, asked, held, given),
+        Ref::Number(_) => Ok(false),
+        Ref::Free => Ok(false),
+        Ref::Half(_) => Ok(false),
+    }
+}
+
+/// Whether a structure of the call is.
+#[inline(always)]
+fn structure_meets<N: Naming>(
+    loaded: &Loaded,
+    cells: &PlainCells<N>,
+    node: NodeNo,
+    base: u32,
+    asked: NodeNo,
+    held: &mut Vec<u32>,
+    given: &mut Vec<Ref>,
+) -> Result<bool, AllocError>
+    requires program { N.program ≡ named loaded.now }
+    requires falls { AllFall 0 N.program.skeleton.nodes }
+    requires in_range { IsInRange N.program (length cells.now) (Ref.Node node base) }
+    requires there { asked.0 < length (skeleton_of loaded.now).nodes }
+    requires solid { (k : ℕ) → shape_at N.program.skeleton asked.0 ≢ Skeletons.variable k }
+    requires usable { All (IsUsable N.program (length cells.now)) given.old.items }
+    ensures { result ≡ Ok true → Meets N.program cells.now held.old.items held.new.items given.old.items given.new.items
+        ((ref_term N.program (Ref.Node node base), framed outside (node_term N.program.skeleton.nodes asked.0)) ∷ []) }
+{
+    let kind = loaded.kind(node);
+    let wanted = loaded.kind(asked);
+    if kind != wanted {
+        return Ok(false);
+    }
+    parts_meet(loaded, cells, node, base, asked, held, given)
+}
+
+/// Whether the arguments of a structure of the call are seen to be made one with those of one of the head, which are
+/// variables and constants.
+#[inline(always)]
+fn parts_meet<N: Naming>(
+    loaded: &Loaded,
+    cells: &PlainCells<N>,
+    node: NodeNo,
+    base: u32,
+    asked: NodeNo,
+    held: &mut Vec<u32>,
+    given: &mut Vec<Ref>,
+) -> Result<bool, AllocError>
+    requires program { N.program ≡ named loaded.now }
+    requires falls { AllFall 0 N.program.skeleton.nodes }
+    requires in_range { IsInRange N.program (length cells.now) (Ref.Node node base) }
+    requires there { asked.0 < length (skeleton_of loaded.now).nodes }
+    requires as_many { length (arguments_at (skeleton_of loaded.now) node.0)
+        ≡ length (arguments_at (skeleton_of loaded.now) asked.0) }
+    requires usable { All (IsUsable N.program (length cells.now)) given.old.items }
+    ensures { result ≡ Ok true → Meets N.program cells.now held.old.items held.new.items given.old.items given.new.items
+        (argument_pairs N.program base (arguments_at N.program.skeleton node.0)
+        (arguments_at N.program.skeleton asked.0)) }
+{
+    for place in 0..count_in(loaded.kind(asked)) {
+        let part = loaded.resolve(loaded.argument(node, place), base);
+        let wanted = loaded.argument(asked, place);
+        let met = part_meets(loaded, cells, part, wanted, held, given)?;
+        if !met {
+            return Ok(false);
+        }
+    }
+    Ok(true)
+}
+
+/// Whether one of them is.
+#[inline(always)]
+fn part_meets<N: Naming>(
+    loaded: &Loaded,
+    cells: &PlainCells<N>,
+    part: Ref,
+    asked: NodeNo,
+    held: &mut Vec<u32>,
+    given: &mut Vec<Ref>,
+) -> Result<bool, AllocError>
+    requires program { N.program ≡ named loaded.now }
+    requires falls { AllFall 0 N.program.skeleton.nodes }
+    requires in_range { IsPart N.program (length cells.now) part }
+    requires there { asked.0 < length (skeleton_of loaded.now).nodes }
+    requires usable { All (IsUsable N.program (length cells.now)) given.old.items }
+    ensures { result ≡ Ok true → Meets N.program cells.now held.old.items held.new.items given.old.items given.new.items
+        ((ref_term N.program part, framed outside (node_term N.program.skeleton.nodes asked.0)) ∷ []) }
+{
+    match loaded.kind(asked) {
+        NodeKind::Variable(number) => take(loaded, cells, part, asked, number, held, given),
+        NodeKind::Number(_) => constant_meets(loaded, cells, part, asked, held, given),
+        NodeKind::Compound { name: _, count: _ } => constant_meets(
+            loaded, cells, part, asked, held, given,
+        ),
+    }
+}
+
+/// Whether a part of the call is seen to be made one with a term of the head that is no variable: a free cell, or the
+/// same constant.
+#[inline(always)]
+fn constant_meets<N: Naming>(
+    loaded: &Loaded,
+    cells: &PlainCells<N>,
+    part: Ref,
+    asked: NodeNo,
+    held: &mut Vec<u32>,
+    given: &mut Vec<Ref>,
+) -> Result<bool, AllocError>
+    requires program { N.program ≡ named loaded.now }
+    requires falls { AllFall 0 N.program.skeleton.nodes }
+    requires in_range { IsPart N.program (length cells.now) part }
+    requires there { asked.0 < length (skeleton_of loaded.now).nodes }
+    requires solid { (k : ℕ) → shape_at N.program.skeleton asked.0 ≢ Skeletons.variable k }
+    ensures { result ≡ Ok true → Meets N.program cells.now held.old.items held.new.items given.old.items given.new.items
+        ((ref_term N.program part, framed outside (node_term N.program.skeleton.nodes asked.0)) ∷ []) }
+{
+    match end_of(cells, part) {
+        Ref::Cell(cell) => fill(loaded, cells, cell, asked, held, given),
+        Ref::Node { node, base: _ } => Ok(are_one_constant(loaded, node, asked)),
+        Ref::Number(_) => Ok(false),
+        Ref::Free => Ok(false),
+        Ref::Half(_) => Ok(false),
+    }
+}
+
+/// Whether two nodes have no arguments and are of one kind.
+#[inline(always)]
+fn are_one_constant(loaded: &Loaded, node: NodeNo, other: NodeNo) -> bool
+    requires node { node.0 < length (skeleton_of loaded.now).nodes }
+    requires other { other.0 < length (skeleton_of loaded.now).nodes }
+    ensures kind { result ≡ true
+        → shown (shape_at (skeleton_of loaded.now) node.0) ≡ shown (shape_at (skeleton_of loaded.now) other.0) }
+    ensures none { result ≡ true → arguments_at (skeleton_of loaded.now) node.0 ≡ [] }
+    ensures others { result ≡ true → arguments_at (skeleton_of loaded.now) other.0 ≡ [] }
+{
+    let kind = loaded.kind(node);
+    let wanted = loaded.kind(other);
+    if kind != wanted {
+        return false;
+    }
+    count_in(wanted) == 0
+}
+
+/// Notes that a variable of the head, seen for the first time, is given a part of the call.
+#[inline(always)]
+fn take<N: Naming>(
+    loaded: &Loaded,
+    cells: &PlainCells<N>,
+    part: Ref,
+    asked: NodeNo,
+    number: u8,
+    held: &mut Vec<u32>,
+    given: &mut Vec<Ref>,
+) -> Result<bool, AllocError>
+    requires program { N.program ≡ named loaded.now }
+    requires in_range { IsPart N.program (length cells.now) part }
+    requires asked { node_term N.program.skeleton.nodes asked.0 ≡ variable [] number }
+    ensures { result ≡ Ok true → Meets N.program cells.now held.old.items held.new.items given.old.items given.new.items
+        ((ref_term N.program part, framed outside (node_term N.program.skeleton.nodes asked.0)) ∷ []) }
+{
+    if number as usize == given.len() {
+        given.push(part)?;
+        return Ok(true);
+    }
+    Ok(false)
+}
+
+/// Fills a free cell of the call, which is none of those on the list, by a term of the head that is no variable, and
+/// whose arguments are variables and constants.
+#[inline(always)]
+fn fill<N: Naming>(
+    loaded: &Loaded,
+    cells: &PlainCells<N>,
+    cell: u32,
+    asked: NodeNo,
+    held: &mut Vec<u32>,
+    given: &mut Vec<Ref>,
+) -> Result<bool, AllocError>
+    requires program { N.program ≡ named loaded.now }
+    requires falls { AllFall 0 N.program.skeleton.nodes }
+    requires in_range { cell < length cells.now }
+    requires there { asked.0 < length (skeleton_of loaded.now).nodes }
+    requires solid { (k : ℕ) → shape_at N.program.skeleton asked.0 ≢ Skeletons.variable k }
+    ensures { result ≡ Ok true → Meets N.program cells.now held.old.items held.new.items given.old.items given.new.items
+        ((cell_variable cell, framed outside (node_term N.program.skeleton.nodes asked.0)) ∷ []) }
+{
+    let another = is_another(cells, cell, held);
+    if !another {
+        return Ok(false);
+    }
+    held.push(cell)?;
+    parts_lack(loaded, cells, asked, held, given)
+}
+
+/// Whether the arguments of a term of the head are seen to lack the cells on the list.
+#[inline(always)]
+fn parts_lack<N: Naming>(
+    loaded: &Loaded,
+    cells: &PlainCells<N>,
+    asked: NodeNo,
+    held: &mut Vec<u32>,
+    given: &mut Vec<Ref>,
+) -> Result<bool, AllocError>
+    requires program { N.program ≡ named loaded.now }
+    requires falls { AllFall 0 N.program.skeleton.nodes }
+    requires there { asked.0 < length (skeleton_of loaded.now).nodes }
+    ensures { result ≡ Ok true → AreLacking N.program cells.now held.old.items held.new.items given.old.items
+        given.new.items (arguments_at N.program.skeleton asked.0) }
+{
+    for place in 0..count_in(loaded.kind(asked)) {
+        let lacks = part_lacks(loaded, cells, loaded.argument(asked, place), held, given)?;
+        if !lacks {
+            return Ok(false);
+        }
+    }
+    Ok(true)
+}
+
+/// Whether one of them is.
+#[inline(always)]
+fn part_lacks<N: Naming>(
+    loaded: &Loaded,
+    cells: &PlainCells<N>,
+    asked: NodeNo,
+    held: &mut Vec<u32>,
+    given: &mut Vec<Ref>,
+) -> Result<bool, AllocError>
+    requires program { N.program ≡ named loaded.now }
+    requires falls { AllFall 0 N.program.skeleton.nodes }
+    requires there { asked.0 < length (skeleton_of loaded.now).nodes }
+    ensures { result ≡ Ok true → AreLacking N.program cells.now held.old.items held.new.items given.old.items
+        given.new.items (asked.0 ∷ []) }
+{
+    match loaded.kind(asked) {
+        NodeKind::Variable(number) => variable_lacks(loaded, cells, asked, number, held, given),
+        NodeKind::Number(_) => Ok(true),
+        NodeKind::Compound { name: _, count } => Ok(count == 0),
+    }
+}
+
+/// Whether what a variable of the head was given is, if it was given anything.
+#[inline(always)]
+fn variable_lacks<N: Naming>(
+    loaded: &Loaded,
+    cells: &PlainCells<N>,
+    asked: NodeNo,
+    number: u8,
+    held: &mut Vec<u32>,
+    given: &mut Vec<Ref>,
+) -> Result<bool, AllocError>
+    requires program { N.program ≡ named loaded.now }
+    requires asked { node_term N.program.skeleton.nodes asked.0 ≡ variable [] number }
+    ensures { result ≡ Ok true → AreLacking N.program cells.now held.old.items held.new.items given.old.items
+        given.new.items (asked.0 ∷ []) }
+{
+    if number as usize == given.len() {
+        given.push(Ref::Free)?;
+        return Ok(true);
+    }
+    Ok(false)
+}
+
+/// What a reference leads to: a node, a number, or a cell that is set to no reference.
+#[inline(always)]
+fn end_of<N: Naming>(cells: &PlainCells<N>, from: Ref) -> Ref
+    requires in_range { IsInRange N.program (length cells.now) from }
+    ensures leads { LeadsTo (plain cells.now) from result }
+    ensures in_range { IsInRangeOrHalf N.program (length cells.now) result }
+{
+    let mut at = from;
+    while let Ref::Cell(cell) = at {
+        match cells.word(cell) {
+            Ref::Free => break,
+            set => at = set,
+        }
+    }
+    at
+}
